@@ -1,0 +1,15 @@
+-- What a reader from left to right has found.
+use Rattle.std.specs.Prelude.{◌≡◌, ℕ, false, List, ◌++◌}
+use Rattle.plc_lex.specs.declared.token.Token.{Token}
+use Rattle.plc_lex.specs.declared.rest.Rest.{Rest}
+use Rattle.plc_lex.specs.Spelling.{Refusal, is_blank, is_comment, Spells, Stops}
+
+-- neither a space nor a comment begins here
+pub record IsAtToken (bytes : List ℕ) : Type 0 where
+  pub no_space : is_blank bytes ≡ false
+  pub no_comment : is_comment bytes ≡ false
+
+-- what is spelled from here on is spelled, behind the tokens between, from an earlier place, and a text that stops from here on stops from there
+pub record Reads (at line : ℕ) (bytes : List ℕ) (between : List Token) (here : Rest) : Type 0 where
+  pub spells : (ts : List Token) → Spells here.at here.line here.bytes.now ts → Spells at line bytes (between ++ ts)
+  pub stops : (why : Refusal) (place : ℕ) → Stops here.at here.bytes.now why place → Stops at bytes why place
