@@ -1,0 +1,6 @@
+pub mod Tables
+pub mod SetLemmas
+pub mod Closures
+pub mod Histories
+pub mod Letters
+pub mod Growth

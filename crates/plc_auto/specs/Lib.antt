@@ -1,0 +1,4 @@
+pub mod Table
+pub mod Location
+pub mod Sets
+pub mod Laws

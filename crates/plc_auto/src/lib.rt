@@ -1,0 +1,20 @@
+//! When a reclaimer may free what: events, the three observers with their tables of locations, and
+//! sets of locations, on ids and masks alone. `step` is the written table, and the sets are what
+//! their definitions say.
+#![tactic(auto)]
+
+mod event;
+mod laws;
+mod observer;
+mod sets;
+mod table;
+#[cfg(test)]
+mod tests;
+
+pub use event::{EvKind, Event};
+pub use laws::{
+    closures_are_least, frees_follow_retirements, histories_are_judged_by_the_last, letters_turn,
+    locations_follow_histories, null_is_other, retired_for_all_threads, sets_grow,
+    sets_of_locations,
+};
+pub use observer::Observer;
