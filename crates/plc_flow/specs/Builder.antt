@@ -1,0 +1,40 @@
+-- What a call of the lowering adds to what was made before it.
+use Rattle.std.specs.Prelude.{◌≡◌, ℕ, ◌+◌, ◌<◌, ◌≤◌, List, [], ◌∷◌, ◌++◌, Result, Ok, Err}
+use Rattle.plc_base.specs.declared.ids.PointId.{PointId}
+use Rattle.plc_lang.specs.declared.syntax.Primitive.{Primitive}
+use Rattle.plc_flow.specs.declared.flow.Gate.{Gate}
+use Rattle.plc_flow.specs.declared.flow.FlowFault.{FlowFault}
+use Rattle.plc_flow.specs.declared.flow.FlowFault.TheVariants as faults
+use Rattle.plc_flow.specs.declared.lowering.Builder.{Builder}
+use Rattle.plc_flow.specs.declared.lowering.Here.{Here}
+use Rattle.plc_flow.specs.Lowering.{Made, MadeOps, from_to, most_points}
+
+-- one point, from which it goes on
+abbrev pub a_point : ℕ → Made
+a_point n = record { points = 1; steps = []; last = n }
+
+-- one step, which goes on from its last point
+abbrev pub a_step : Here → ℕ → ℕ → List Primitive → Made
+a_step h a b prims = record { points = 0; steps = from_to h a b prims ∷ []; last = b }
+
+-- what was made before, and this behind it
+pub record Grown (old new : Builder) (m : Made) : Type 0 where
+  pub points : new.points ≡ old.points + m.points
+  pub few : new.points ≤ most_points
+  pub steps : new.steps ≡ old.steps ++ m.steps
+
+-- exactly where there would be too many points
+abbrev pub Passes : Builder → ℕ → ℕ → Type 0
+Passes old points count = (count ≡ most_points + 1) × (most_points < old.points + points)
+
+-- it grows by what is made, and the answer is the point that it goes on from
+abbrev pub Makes : Builder → Builder → Result PointId FlowFault → Made → Type 0
+Makes old new (Ok last) m = Grown old new m × (last.0 ≡ m.last)
+Makes old new (Err (faults.TooManyPoints count)) m = Passes old m.points count
+Makes old new (Err faults.Memory) m = Unit {0}
+
+-- the same of all operations, with the gates as the answer
+abbrev pub MakesGates : Builder → Builder → Result (List Gate) FlowFault → MadeOps → Type 0
+MakesGates old new (Ok gates) m = Grown old new (record { points = m.points; steps = m.steps; last = 0 }) × (gates ≡ m.gates)
+MakesGates old new (Err (faults.TooManyPoints count)) m = Passes old m.points count
+MakesGates old new (Err faults.Memory) m = Unit {0}

@@ -1,0 +1,3 @@
+pub mod Builder
+pub mod Lowering
+pub mod WellFormed

@@ -1,0 +1,31 @@
+-- What every flow that was lowered keeps: later layers ask it of the flows that they are given.
+use Rattle.std.specs.Prelude.{◌≡◌, ℕ, ◌+◌, ◌<◌, ◌≤◌, List, [], ◌∷◌, length, slice_get, Some}
+use Rattle.plc_flow.specs.declared.flow.Step.{Step}
+use Rattle.plc_flow.specs.declared.flow.Gate.{Gate}
+use Rattle.plc_flow.specs.declared.flow.Flow.{Flow}
+
+-- a point of an operation
+abbrev pub IsPointOf : Gate → ℕ → Type 0
+IsPointOf g p = (g.first ≤ p) × (p < g.after)
+
+-- both ends of a step are points of its operation
+abbrev pub StepWithin : Flow → Step → Type 0
+StepWithin flow s = (g : Gate) × (slice_get flow.gates s.op.0 ≡ Some g) × IsPointOf g s.from.0 × IsPointOf g s.to.0
+
+-- one gate behind the other, from a point on
+abbrev pub GatesFrom : ℕ → List Gate → ℕ → Type 0
+GatesFrom n [] end = n ≡ end
+GatesFrom n (g ∷ gs) end = (g.first ≡ n) × (g.entry.0 ≡ n) × (g.exit.0 ≡ n + 1) × (n + 2 ≤ g.after) × GatesFrom g.after gs end
+
+-- an atomic block has at most 64 primitives, and a claim for each of at most 48 pointers may be put in front
+abbrev pub most_primitives : ℕ
+most_primitives = 112
+
+-- what every flow that was lowered keeps
+pub record IsWellFormed (flow : Flow) : Type 0 where
+  pub few : flow.points ≤ 4096
+  pub gates : length flow.gates ≡ length flow.file.ops
+  pub ranges : GatesFrom 0 flow.gates flow.points
+  pub steps : (k : ℕ) (s : Step) → slice_get flow.steps k ≡ Some s → StepWithin flow s
+  pub few_steps : length flow.steps < 65536
+  pub short : (k : ℕ) (s : Step) → slice_get flow.steps k ≡ Some s → length s.prims ≤ most_primitives

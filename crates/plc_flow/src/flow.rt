@@ -1,0 +1,79 @@
+// Points are the places between steps; a step is a list of primitives that is taken whole. Points
+// and steps are counted over the file in order of creation, and each operation has its own run of
+// points, which begins with its entry and its exit.
+use plc_base::{Items, OpId, PointId};
+use plc_lang::{File, Prim};
+use std::alloc::{AllocError, AllocFailed};
+
+/// A step of an operation.
+#[derive(Debug, Drop)]
+pub struct Step {
+    pub op: OpId,
+    pub from: PointId,
+    pub to: PointId,
+    pub prims: Items<Prim>,
+    /// The line of the first token of its statement; the closing step has that of its operation.
+    pub line: u32,
+}
+
+/// The points of an operation: from `first` to below `after`.
+#[derive(Clone, Copy, Debug, PartialEq, Eq)]
+pub struct Gate {
+    pub entry: PointId,
+    pub exit: PointId,
+    pub first: u16,
+    pub after: u16,
+}
+
+/// A file with its control flow, one gate for each operation.
+#[derive(Drop)]
+pub struct Flow {
+    pub file: File,
+    pub gates: Items<Gate>,
+    pub steps: Items<Step>,
+    pub points: u16,
+}
+
+/// Why a file has no flow.
+#[derive(Debug, Drop)]
+pub enum FlowFault {
+    /// It has more than 4,096 points; the count is 4,097.
+    TooManyPoints { count: u32 },
+    /// Memory was wanting.
+    Memory,
+}
+
+impl From<AllocError> for FlowFault {
+    ghost use Rattle.std.specs.Prelude.{◌≡◌};
+    ghost use Rattle.plc_flow.specs.declared.flow.FlowFault.{FlowFault};
+
+    ghost from_gives = { λ _ e. e ≡ FlowFault.Memory };
+
+    fn from(_error: AllocError) -> FlowFault {
+        FlowFault::Memory
+    }
+}
+
+impl<T: Drop> From<AllocFailed<T>> for FlowFault {
+    ghost use Rattle.std.specs.Prelude.{◌≡◌};
+    ghost use Rattle.plc_flow.specs.declared.flow.FlowFault.{FlowFault};
+
+    ghost from_gives = { λ _ e. e ≡ FlowFault.Memory };
+
+    fn from(_error: AllocFailed<T>) -> FlowFault {
+        FlowFault::Memory
+    }
+}
+
+/// A move of a run.
+#[derive(Debug, Drop)]
+pub enum Move {
+    /// Thread `t`, which is idle, starts an operation with one number for each parameter.
+    Start { t: u32, op: OpId, args: Items<u32> },
+    /// Thread `t` takes the `nth` of the steps that leave its point; the address is that of its `new`.
+    Step { t: u32, nth: u16, addr: Option<u32> },
+    /// Thread `t`, which is at the exit of its operation, returns.
+    Return { t: u32 },
+    /// The reclaimer frees an address.
+    Free { a: u32 },
+}
