@@ -1,0 +1,38 @@
+-- Runs begin and go on, each move leads to one configuration, and a race is the last move.
+use Rattle.std.specs.Prelude.{◌≡◌, ℕ, ◌<◌, ◌++◌, ◌∷◌, [], List, Option, Some, None, length, count_by, slice_get}
+use Rattle.plc_lang.specs.declared.syntax.Op.{Op}
+use Rattle.plc_lang.specs.Locals.{is_parameter}
+use Rattle.plc_auto.specs.declared.event.Event.{Event}
+use Rattle.plc_auto.specs.declared.event.Event.TheVariants.{Free as Freed}
+use Rattle.plc_auto.specs.declared.observer.Observer.{Observer}
+use Rattle.plc_auto.specs.Location.{Allowed}
+use Rattle.plc_base.specs.declared.ids.OpId.{OpId}
+use Rattle.plc_flow.specs.declared.flow.Step.{Step}
+use Rattle.plc_flow.specs.declared.flow.Gate.{Gate}
+use Rattle.plc_flow.specs.declared.flow.Flow.{Flow}
+use Rattle.plc_flow.specs.declared.flow.Move.{Move}
+use Rattle.plc_flow.specs.declared.flow.Move.TheVariants.{Start, Step as Take, Return, Free}
+use Rattle.plc_mem.specs.declared.cell.RaceKind.{RaceKind}
+use Rattle.plc_mem.specs.State.{State}
+use Rattle.plc_run.specs.Run.{Configuration, Point, Run, Moves, Races, Fine, MayTake, taken, point_of, first_configuration}
+
+-- some configuration is reached by the move
+abbrev pub MayMove : Flow → Observer → ℕ → Configuration → Move → Type 0
+MayMove flow o threads c move = (d : Configuration) × Moves flow o threads c move d
+
+-- what every flow's runs do
+pub record RunLaws (flow : Flow) (o : Observer) (threads : ℕ) : Type 0 where
+  pub begins : Run flow o threads 0 (first_configuration flow threads)
+  pub starts : (c : Configuration) (t : ℕ) (op : OpId) (args : List ℕ) (operation : Op) (gate : Gate)
+      → t < threads → point_of c t ≡ None → slice_get flow.file.ops op.0 ≡ Some operation → slice_get flow.gates op.0 ≡ Some gate → length args ≡ count_by is_parameter operation.locals
+      → MayMove flow o threads c (Start t op args)
+  pub steps : (c : Configuration) (t nth : ℕ) (addr : Option ℕ) (p : Point) (step : Step) (s : State) (h : List Event)
+      → MayTake flow threads c t nth addr p step → taken c t addr step ≡ Fine s h → MayMove flow o threads c (Take t nth addr)
+  pub returns : (c : Configuration) (t : ℕ) (p : Point) (gate : Gate)
+      → t < threads → point_of c t ≡ Some p → slice_get flow.gates p.op ≡ Some gate → p.at ≡ gate.exit.0 → MayMove flow o threads c (Return t)
+  pub frees : (c : Configuration) (a : ℕ) → 0 < a → Allowed o threads (c.history ++ Freed a ∷ []) → MayMove flow o threads c (Free a)
+  pub frees_allowed : (c : Configuration) (a : ℕ) → MayMove flow o threads c (Free a) → Allowed o threads (c.history ++ Freed a ∷ [])
+  pub frees_no_null : (c : Configuration) → MayMove flow o threads c (Free 0) → ⊥
+  pub one_end : (c d e : Configuration) (move : Move) → Moves flow o threads c move d → Moves flow o threads c move e → d ≡ e
+  pub race_is_last : (c d : Configuration) (move : Move) (kind : RaceKind) (k : ℕ) → Races flow threads c move kind k → Moves flow o threads c move d → ⊥
+  pub one_race : (c : Configuration) (move : Move) (kind other : RaceKind) (k n : ℕ) → Races flow threads c move kind k → Races flow threads c move other n → (kind ≡ other) × (k ≡ n)

@@ -1,0 +1,141 @@
+-- Configurations, moves and runs, and the races of a move.
+use Rattle.std.specs.Prelude.{◌≡◌, ℕ, suc, ◌+◌, ◌<◌, Bool, true, false, ◌==◌, List, [], ◌∷◌, ◌++◌, length, get_or, slice_get, filter, count_by, Option, Some, None, is_some}
+use Rattle.std.specs.List.{list_any}
+use Rattle.plc_lang.specs.declared.syntax.Primitive.{Primitive}
+use Rattle.plc_lang.specs.declared.syntax.Primitive.TheVariants.{Null, Copy, New, Load, Store, StoreNull, DataSet, DataLoad, DataStore}
+use Rattle.plc_lang.specs.declared.syntax.Op.{Op}
+use Rattle.plc_lang.specs.Locals.{is_pointer, is_parameter, is_other_data}
+use Rattle.plc_auto.specs.declared.event.Event.{Event}
+use Rattle.plc_auto.specs.declared.event.Event.TheVariants.{Free as Freed}
+use Rattle.plc_auto.specs.declared.observer.Observer.{Observer}
+use Rattle.plc_auto.specs.Location.{Allowed}
+use Rattle.plc_flow.specs.declared.flow.Step.{Step}
+use Rattle.plc_flow.specs.declared.flow.Gate.{Gate}
+use Rattle.plc_flow.specs.declared.flow.Flow.{Flow}
+use Rattle.plc_flow.specs.declared.flow.Move.{Move}
+use Rattle.plc_flow.specs.declared.flow.Move.TheVariants.{Start, Step as Take, Return, Free}
+use Rattle.plc_mem.specs.declared.cell.RaceKind.{RaceKind}
+use Rattle.plc_mem.specs.State.{State, Locals, put_at, with_locals, freed, fresh_state, started}
+use Rattle.plc_mem.specs.Primitives.{race_of, goes, after, event_of}
+
+-- how a list of primitives ends: all succeeded, one is blocked, or primitive k is a race
+pub data Ending : Type 0 where
+  Fine : State → List Event → Ending
+  Stuck : Ending
+  Raced : RaceKind → ℕ → Ending
+
+-- a history with an event behind it, if there is one
+abbrev pub recorded : List Event → Option Event → List Event
+recorded h None = h
+recorded h (Some e) = h ++ e ∷ []
+
+-- a primitive that is a race ends the step there, also where it or a later one is blocked
+abbrev pub turn : Option RaceKind → Bool → ℕ → Ending → Ending
+turn (Some kind) unblocked k next = Raced kind k
+turn None true k next = next
+turn None false k next = Stuck
+
+-- the primitives of thread t in order, the first of them number k; a is the address that a `new` takes
+abbrev pub execute : State → List Event → ℕ → ℕ → ℕ → List Primitive → Ending
+execute s h t a k [] = Fine s h
+execute s h t a k (p ∷ ps) = turn (race_of s t p) (goes s t a p) k (execute (after s t a p) (recorded h (event_of s t p)) t a (k + 1) ps)
+
+-- where a busy thread stands
+pub record Point : Type 0 where
+  pub op : ℕ
+  pub at : ℕ
+
+-- what memory holds, what happened, and where each thread stands: None where it is idle
+pub record Configuration : Type 0 where
+  pub state : State
+  pub history : List Event
+  pub points : List (Option Point)
+
+-- the point where thread t stands, None for an idle thread
+abbrev pub point_of : Configuration → ℕ → Option Point
+point_of c t = get_or c.points t None
+
+-- the locals with which a thread starts an operation
+abbrev pub starting : Op → List ℕ → Locals
+starting o args = started (count_by is_pointer o.locals) (count_by is_other_data o.locals) args
+
+-- the step leaves the point
+abbrev pub leaves : ℕ → Step → Bool
+leaves p s = s.from.0 == p
+
+-- the steps that leave a point, in order
+abbrev pub steps_from : Flow → ℕ → List Step
+steps_from flow p = filter (leaves p) flow.steps
+
+-- the primitive allocates
+abbrev pub is_new : Primitive → Bool
+is_new (New p) = true
+is_new (Null p) = false
+is_new (Copy p q) = false
+is_new (Load p q f) = false
+is_new (Store p f q) = false
+is_new (StoreNull p f) = false
+is_new (DataSet x e) = false
+is_new (DataLoad x q f) = false
+is_new (DataStore p f e) = false
+
+-- a move that takes a step names an address exactly where the step has a `new`
+abbrev pub Names : Option ℕ → Step → Type 0
+Names addr s = is_some addr ≡ list_any is_new s.prims
+
+-- the address that is named, or null
+abbrev pub address_or_null : Option ℕ → ℕ
+address_or_null None = 0
+address_or_null (Some a) = a
+
+-- thread t is at a point of an operation from which this step leaves, and the move is of the step's shape
+pub record MayTake (flow : Flow) (threads : ℕ) (c : Configuration) (t nth : ℕ) (addr : Option ℕ) (p : Point) (s : Step) : Type 0 where
+  pub known : t < threads
+  pub busy : point_of c t ≡ Some p
+  pub leaves_there : slice_get (steps_from flow p.at) nth ≡ Some s
+  pub shape : Names addr s
+
+-- what the step of thread t comes to
+abbrev pub taken : Configuration → ℕ → Option ℕ → Step → Ending
+taken c t addr s = execute c.state c.history t (address_or_null addr) 0 s.prims
+
+-- one move that is no race leads from c to d
+abbrev pub Moves : Flow → Observer → ℕ → Configuration → Move → Configuration → Type 0
+Moves flow o threads c (Start t op args) d =
+    (operation : Op) × (gate : Gate) × (t < threads) × (point_of c t ≡ None)
+    × (slice_get flow.file.ops op.0 ≡ Some operation) × (slice_get flow.gates op.0 ≡ Some gate) × (length args ≡ count_by is_parameter operation.locals)
+    × (d ≡ record c { state = with_locals c.state t (Some (starting operation args)); points = put_at None c.points t (Some (record { op = op.0; at = gate.entry.0 })) })
+Moves flow o threads c (Take t nth addr) d =
+    (p : Point) × (step : Step) × (s : State) × (h : List Event) × MayTake flow threads c t nth addr p step
+    × (taken c t addr step ≡ Fine s h)
+    × (d ≡ record { state = s; history = h; points = put_at None c.points t (Some (record p { at = step.to.0 })) })
+Moves flow o threads c (Return t) d =
+    (p : Point) × (gate : Gate) × (t < threads) × (point_of c t ≡ Some p) × (slice_get flow.gates p.op ≡ Some gate) × (p.at ≡ gate.exit.0)
+    × (d ≡ record c { state = with_locals c.state t None; points = put_at None c.points t None })
+Moves flow o threads c (Free a) d =
+    (0 < a) × Allowed o threads (c.history ++ Freed a ∷ [])
+    × (d ≡ record c { state = freed c.state a; history = c.history ++ Freed a ∷ [] })
+
+-- a move is a race at primitive k of the step that it takes; it is the last move of its run
+abbrev pub Races : Flow → ℕ → Configuration → Move → RaceKind → ℕ → Type 0
+Races flow threads c (Start t op args) kind k = ⊥
+Races flow threads c (Take t nth addr) kind k = (p : Point) × (step : Step) × MayTake flow threads c t nth addr p step × (taken c t addr step ≡ Raced kind k)
+Races flow threads c (Return t) kind k = ⊥
+Races flow threads c (Free a) kind k = ⊥
+
+-- where a run begins: what `init` leaves (a file of straight-line operations has none), and an empty history
+abbrev pub first_state : Flow → ℕ → State
+first_state flow threads = fresh_state (length flow.file.fields) (length flow.file.shared) threads
+
+-- no thread is in an operation, and nothing was heard
+abbrev pub first_configuration : Flow → ℕ → Configuration
+first_configuration flow threads = record { state = first_state flow threads; history = []; points = [] }
+
+-- n moves without a race lead from the beginning to a configuration
+pub data Run (flow : Flow) (o : Observer) (threads : ℕ) : ℕ → Configuration → Type 0 where
+  begin : Run flow o threads 0 (first_configuration flow threads)
+  more : {n : ℕ} {c d : Configuration} → Run flow o threads n c → (move : Move) → Moves flow o threads c move d → Run flow o threads (suc n) d
+
+-- in no run of the flow, with any number of threads, any interleaving, any reuse of addresses and any allowed free, is a step a pointer race or a second retire
+abbrev pub NeverRaces : Flow → Observer → Type 0
+NeverRaces flow o = (threads n : ℕ) (c : Configuration) → 0 < threads → Run flow o threads n c → (move : Move) (kind : RaceKind) (k : ℕ) → Races flow threads c move kind k → ⊥
