@@ -1,0 +1,5 @@
+pub mod Rows
+pub mod Closures
+pub mod Facts
+pub mod Keeps
+pub mod Order
