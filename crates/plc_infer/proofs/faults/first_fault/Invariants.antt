@@ -1,0 +1,7 @@
+use Rattle.plc_infer.specs.Skeletons.{skeleton_of}
+use Rattle.plc_infer.specs.Graphs.{graph_of}
+use Rattle.plc_infer.specs.Iteration.{HoldBelow}
+use Rattle.plc_infer.proofs.faults.first_fault.Given as goal
+
+abbrev pub invariant-loop-k : goal.invariant-loop-k
+invariant-loop-k l = HoldBelow (graph_of l.observer (skeleton_of l.flow)) l.envs l.k

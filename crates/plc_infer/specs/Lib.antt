@@ -1,0 +1,4 @@
+pub mod Skeletons
+pub mod Starts
+pub mod Iteration
+pub mod Graphs

@@ -1,0 +1,64 @@
+// The first condition that fails as the steps run from the environments of their first points.
+ghost use Rattle.std.specs.Prelude.{◌≡◌, ◌<◌, ℕ, Some, None, IfOk, MatchOption, length};
+ghost use Rattle.plc_flow.specs.WellFormed.{IsWellFormed};
+ghost use Rattle.plc_xfer.specs.Typings.{fault_at, env_at};
+ghost use Rattle.plc_infer.specs.Skeletons.{skeleton_of};
+ghost use Rattle.plc_infer.specs.Graphs.{graph_of, passage_at};
+ghost use Rattle.plc_infer.specs.Iteration.{Shaped, HoldBelow, IsFirstFailing};
+
+use crate::fixpoint::copied;
+use plc_auto::Observer;
+use plc_base::StepId;
+use plc_flow::Flow;
+use plc_lang::Prim;
+use plc_type::Env;
+use plc_xfer::{TypeFault, apply, condition};
+use std::alloc::{AllocError, Global};
+
+/// The first step and primitive whose condition fails, with the fault.
+pub(crate) fn first_fault(
+    alloc: Global,
+    flow: &Flow,
+    observer: &Observer,
+    envs: &[Env],
+) -> Result<Option<(StepId, u16, TypeFault)>, AllocError>
+    requires flow { IsWellFormed flow.now }
+    requires shaped { Shaped (graph_of observer.now (skeleton_of flow.now)) envs.now }
+    ensures { IfOk result (λ found. MatchOption found
+        (HoldBelow (graph_of observer.now (skeleton_of flow.now)) envs.now (length flow.now.steps))
+        (λ at. IsFirstFailing (graph_of observer.now (skeleton_of flow.now)) envs.now at.0.0 at.1
+        × (fault_at observer.now (env_at envs.now (passage_at (skeleton_of flow.now) at.0.0).from) (passage_at (skeleton_of flow.now) at.0.0).prims at.1 ≡ Some at.2))) }
+{
+    for k in 0..flow.steps.len() {
+        let step = &flow.steps.as_slice()[k];
+        let env = &envs[step.from.0 as usize];
+        match fault_in_step(alloc, observer, step.prims.as_slice(), env)? {
+            Some((prim, fault)) => return Ok(Some((StepId(k as u16), prim, fault))),
+            None => {}
+        }
+    }
+    Ok(None)
+}
+
+/// The first primitive of a step whose condition fails as the step runs from an environment.
+fn fault_in_step(
+    alloc: Global,
+    observer: &Observer,
+    prims: &[Prim],
+    env: &Env,
+) -> Result<Option<(u16, TypeFault)>, AllocError>
+    requires { length prims.now < 65536 }
+    ensures { IfOk result (λ found. MatchOption found
+        ((i : ℕ) → i < length prims.now → fault_at observer.now env.now prims.now i ≡ None)
+        (λ at. (at.0 < length prims.now) × (fault_at observer.now env.now prims.now at.0 ≡ Some at.1)
+        × ((i : ℕ) → i < at.0 → fault_at observer.now env.now prims.now i ≡ None))) }
+{
+    let mut env = copied(alloc, env)?;
+    for (i, prim) in prims.iter().enumerate() {
+        if let Err(fault) = condition(&env, prim, observer) {
+            return Ok(Some((i as u16, fault)));
+        }
+        apply(&mut env, prim, observer);
+    }
+    Ok(None)
+}
