@@ -1,0 +1,9 @@
+pub mod Again
+pub mod Exact
+pub mod Laws
+pub mod Meaning
+pub mod Rows
+pub mod Samples
+pub mod Tails
+pub mod Places
+pub mod Steps

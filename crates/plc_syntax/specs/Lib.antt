@@ -1,0 +1,6 @@
+pub mod Answer
+pub mod Machine
+pub mod Nesting
+pub mod Syntax
+pub mod Table
+pub mod Trees

@@ -1,0 +1,33 @@
+// Why tokens are refused. Want of memory is the one answer that no contract ties to a cause.
+ghost use Rattle.std.specs.Prelude.{◌≡◌};
+ghost use Rattle.plc_syntax.specs.declared.fault.SyntaxFault.TheVariants.{Memory};
+
+use std::alloc::{AllocError, AllocFailed};
+
+/// Why tokens are refused. A place counts tokens from 0.
+#[derive(Clone, Copy, Debug, PartialEq, Eq)]
+pub enum SyntaxFault {
+    /// No file's tokens begin with those up to and with this one; the number of tokens where they
+    /// begin a file and are none.
+    Syntax { at: u32 },
+    /// This brace begins the first block that stands within 64 others.
+    Nesting { at: u32 },
+    /// Memory was wanting.
+    Memory,
+}
+
+impl From<AllocError> for SyntaxFault {
+    ghost from_gives = { λ _ e. e ≡ Memory };
+
+    fn from(_e: AllocError) -> SyntaxFault {
+        SyntaxFault::Memory
+    }
+}
+
+impl<T: Drop> From<AllocFailed<T>> for SyntaxFault {
+    ghost from_gives = { λ _ e. e ≡ Memory };
+
+    fn from(_e: AllocFailed<T>) -> SyntaxFault {
+        SyntaxFault::Memory
+    }
+}

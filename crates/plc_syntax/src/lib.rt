@@ -1,0 +1,17 @@
+//! The syntax of a file: its grammar as trees with their spelling, over `plc_lex`'s tokens. The layer
+//! above uses `syntax`: tokens that it accepts have a tree, and a fault is at the least token with
+//! which no file begins any more, or at the brace of the first block that stands within 64 others.
+#![tactic(auto)]
+
+mod expected;
+mod fault;
+mod machine;
+mod nesting;
+mod recognizer;
+mod table;
+
+pub use fault::SyntaxFault;
+pub use recognizer::syntax;
+
+#[cfg(test)]
+mod tests;

@@ -1,0 +1,80 @@
+// How deep blocks stand within one another, counted on the tokens as they are read. The depth
+// could be read off the machine's stack too, but then the limit would be stated of the machine.
+ghost use Rattle.std.specs.Prelude.{◌≡◌, ◌+◌, ◌-◌, ◌<◌, ◌^◌, ◌↔◌, ◌∷◌, [], IsTrue, length, take};
+ghost use Rattle.std.specs.List.{count_by};
+ghost use Rattle.plc_syntax.specs.Nesting.{is_open_brace, is_close_brace, HasCounted, OpensBlockAt, TooDeepAt};
+ghost use Rattle.plc_syntax.specs.Syntax.{kinds};
+
+use plc_lex::{Keyword, Symbol, Token, TokenKind};
+
+/// How many blocks may stand within one another.
+const NESTING_LIMIT: u32 = 64;
+
+/// How many braces of each kind are read. Both are counted, since tokens that are no file may close
+/// more than they opened.
+#[derive(Clone, Copy)]
+pub struct Braces {
+    opened: u32,
+    closed: u32,
+}
+
+impl Braces {
+    /// The braces of no tokens.
+    pub fn none() -> Braces
+        ensures { HasCounted result [] }
+    {
+        Braces {
+            opened: 0,
+            closed: 0,
+        }
+    }
+
+    /// Counts one token more.
+    pub fn count(&mut self, kind: &TokenKind)
+        requires opened { self.old.opened + 1 < 2 ^ 32 }
+        requires closed { self.old.closed + 1 < 2 ^ 32 }
+        ensures opened { self.new.opened ≡ self.old.opened + count_by is_open_brace (kind.now ∷ []) }
+        ensures closed { self.new.closed ≡ self.old.closed + count_by is_close_brace (kind.now ∷ []) }
+    {
+        match kind {
+            TokenKind::Symbol(Symbol::OpenBrace) => self.opened += 1,
+            TokenKind::Symbol(Symbol::CloseBrace) => self.closed += 1,
+            _ => {}
+        }
+    }
+
+    fn open(&self) -> u32
+        ensures { result ≡ self.now.opened - self.now.closed }
+    {
+        self.opened.saturating_sub(self.closed)
+    }
+}
+
+/// Whether the token at a place begins a block that stands too deep; the braces before it are
+/// counted.
+pub fn is_too_deep(tokens: &[Token], place: usize, before: &Braces) -> bool
+    requires within { place < length tokens.now }
+    requires counted { HasCounted before.now (take place (kinds tokens.now)) }
+    ensures { IsTrue result ↔ TooDeepAt (kinds tokens.now) place }
+{
+    before.open() > NESTING_LIMIT && opens_block(tokens, place)
+}
+
+fn opens_block(tokens: &[Token], place: usize) -> bool
+    requires { place < length tokens.now }
+    ensures { IsTrue result ↔ OpensBlockAt (kinds tokens.now) place }
+{
+    is_open_brace(&tokens[place]) && !(place > 0 && is_atomic(&tokens[place - 1]))
+}
+
+fn is_open_brace(token: &Token) -> bool
+    ensures { IsTrue result ↔ (token.now.kind ≡ TokenKind.Symbol Symbol.OpenBrace) }
+{
+    matches!(token.kind, TokenKind::Symbol(Symbol::OpenBrace))
+}
+
+fn is_atomic(token: &Token) -> bool
+    ensures { IsTrue result ↔ (token.now.kind ≡ TokenKind.Word Keyword.Atomic) }
+{
+    matches!(token.kind, TokenKind::Word(Keyword::Atomic))
+}
