@@ -1,0 +1,15 @@
+use Rattle.std.proofs.Common.{◌≡◌, length}
+use Rattle.plc_syntax.specs.Syntax.{kinds}
+use Rattle.plc_parse.specs.Answers.{GrowsByLocals, Within}
+use Rattle.plc_parse.specs.Reading.{locals_in}
+use Rattle.plc_parse.proofs.declaration.read_locals.Given as goal
+
+abbrev pub invariant-loop-declaration : goal.invariant-loop-declaration
+invariant-loop-declaration l = record {
+  names : GrowsByLocals l.fn.scope l.scope;
+  place : Within l.fn.start l.rest;
+  read : locals_in (l.scope, l.rest.at) (kinds l.rest.tokens.now) ≡ locals_in (l.fn.scope, l.fn.start.at) (kinds l.fn.start.tokens.now);
+}
+
+abbrev pub decreases-loop-declaration : goal.decreases-loop-declaration
+decreases-loop-declaration l = length l.rest.tokens.now

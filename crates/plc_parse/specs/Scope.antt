@@ -1,0 +1,186 @@
+-- Which names are in reach, and what they stand for.
+use Rattle.std.specs.Prelude.{◌==◌, ◌+◌, ℕ, Bool, true, false, if◌then◌else◌, List, [], ◌∷◌, ◌++◌, length, slice_get, codes, Option, Some, None, Result, Ok, Err}
+use Rattle.std.specs.List.{list_any}
+use Rattle.plc_base.specs.Names.{NameList, place_of}
+use Rattle.plc_base.specs.declared.ids.FieldId.{FieldId}
+use Rattle.plc_base.specs.declared.limits.What1.TheVariants as limits
+use Rattle.plc_lang.specs.declared.syntax.Local.{Local}
+use Rattle.plc_lang.specs.declared.syntax.Var.{Var}
+use Rattle.plc_lang.specs.declared.syntax.Var.TheVariants.{Shared as SharedVar, Local as LocalVar}
+use Rattle.plc_parse.specs.declared.fault.ParseFault.{ParseFault}
+use Rattle.plc_parse.specs.declared.fault.ParseFault.TheVariants as faults
+use Rattle.plc_parse.specs.declared.scope.Scope.{Scope}
+use Rattle.plc_parse.specs.declared.scope.Thing.{Thing}
+use Rattle.plc_parse.specs.declared.scope.Thing.TheVariants.{Taken, Shared, PointerField, DataField, LocalOnly}
+use Rattle.plc_parse.specs.declared.scope.Role.{Role}
+use Rattle.plc_parse.specs.declared.scope.Role.TheVariants.{PointerVariable as pointer_variable, DataLocal as data_local, PointerField as pointer_field, DataField as data_field, NoValue as no_value}
+
+infixl 10 ◌>>=◌
+-- the first fault from the left is the answer
+abbrev pub ◌>>=◌ : {A B : Type 0} → Result A ParseFault → (A → Result B ParseFault) → Result B ParseFault
+(Ok x) >>= f = f x
+(Err e) >>= f = Err e
+
+-- far more than the limits of a file let it have
+abbrev pub most_names : ℕ
+most_names = 65535
+
+-- `retire` is declared from the start
+abbrev pub first_scope : Scope
+first_scope = record { names = record { names = codes "retire" ∷ []; limit = most_names }; things = Taken ∷ []; locals = [] }
+
+-- ---- declarations
+
+-- one more name at the end
+abbrev pub with_last : NameList → List ℕ → NameList
+with_last names name = record { names = names.names ++ name ∷ []; limit = names.limit }
+
+-- one more name, with what it stands for outside operations
+abbrev pub with_name : Scope → List ℕ → Thing → Scope
+with_name s name thing = record s { names = with_last s.names name; things = s.things ++ thing ∷ [] }
+
+-- the struct, fields, shared pointers and operations differ from all names before
+abbrev pub if_new : {A : Type 0} → Option ℕ → ℕ → A → Result A ParseFault
+if_new None at x = Ok x
+if_new (Some i) at x = Err (faults.Duplicate at)
+
+-- a name that is declared for the whole file
+abbrev pub declared : Scope → List ℕ → ℕ → Thing → Result Scope ParseFault
+declared s name at thing = if_new (place_of name s.names.names) at (with_name s name thing)
+
+-- whether a name is a local of the present operation
+abbrev pub has_local : List Local → ℕ → Bool
+has_local locals number = list_any (λ (l : Local). l.name == number) locals
+
+-- a local may have the name of another operation's local, and of nothing else
+abbrev pub may_name_local : Option Thing → Bool → Bool
+may_name_local (Some LocalOnly) false = true
+may_name_local (Some LocalOnly) true = false
+may_name_local (Some Taken) b = false
+may_name_local (Some (Shared k)) b = false
+may_name_local (Some (PointerField f)) b = false
+may_name_local (Some (DataField f)) b = false
+may_name_local None b = false
+
+-- the number of a local's name, and the names with it
+abbrev pub local_number : Option ℕ → Scope → List ℕ → ℕ → Result (ℕ × Scope) ParseFault
+local_number None s name at = Ok (length s.names.names, with_name s name LocalOnly)
+local_number (Some i) s name at = if may_name_local (slice_get s.things i) (has_local s.locals i) then Ok (i, s) else Err (faults.Duplicate at)
+
+-- one more local
+abbrev pub with_local : Scope → ℕ → Bool → Bool → Scope
+with_local s number is_pointer is_parameter = record s { locals = s.locals ++ record { name = number; pointer = is_pointer; param = is_parameter } ∷ [] }
+
+-- behind an operation
+abbrev pub without_locals : Scope → Scope
+without_locals s = record s { locals = [] }
+
+-- parameters are counted too
+abbrev pub most_locals : ℕ
+most_locals = 32
+
+-- no further local at the limit
+abbrev pub local_limit : {A : Type 0} → Scope → Result A ParseFault → Result A ParseFault
+local_limit s next = if length s.locals == most_locals then Err (faults.Limit limits.Locals 33) else next
+
+-- a local at its name; the limit's place is the first token of its declaration, so a parameter is first asked whether it is new
+unfoldable pub declared_local : Scope → List ℕ → ℕ → Bool → Result Scope ParseFault
+declared_local s name at is_pointer = local_limit s (local_number (place_of name s.names.names) s name at >>= λ x. Ok (with_local x.1 x.0 is_pointer false))
+
+-- a parameter is its name alone, so a name that is there is the fault before the limit
+unfoldable pub declared_parameter : Scope → List ℕ → ℕ → Result Scope ParseFault
+declared_parameter s name at = local_number (place_of name s.names.names) s name at >>= λ x. local_limit s (Ok (with_local x.1 x.0 false true))
+
+-- ---- uses
+
+-- what a name is in an operation, by what it is outside
+abbrev pub role_outside : Thing → Option Role
+role_outside Taken = Some no_value
+role_outside (Shared k) = Some (pointer_variable (SharedVar k))
+role_outside (PointerField f) = Some (pointer_field f)
+role_outside (DataField f) = Some (data_field f)
+role_outside LocalOnly = None
+
+-- the local with a name's number; pointers and data are counted apart
+abbrev pub role_inside : ℕ → ℕ → List Local → ℕ → Option Role
+role_inside pointers values [] number = None
+role_inside pointers values (l ∷ ls) number =
+    if l.name == number then Some (if l.pointer then pointer_variable (LocalVar pointers) else data_local values)
+    else (if l.pointer then role_inside (pointers + 1) values ls number else role_inside pointers (values + 1) ls number)
+
+-- a local goes before what its name is outside, which is nothing
+abbrev pub role_or : Option Role → Option Thing → Option Role
+role_or (Some r) thing = Some r
+role_or None (Some thing) = role_outside thing
+role_or None None = None
+
+-- what the name with a number is
+abbrev pub role_at : Scope → Option ℕ → Option Role
+role_at s None = None
+role_at s (Some i) = role_or (role_inside 0 0 s.locals i) (slice_get s.things i)
+
+-- None where the name has no declaration in reach
+unfoldable pub role_of : Scope → List ℕ → Option Role
+role_of s name = role_at s (place_of name s.names.names)
+
+-- a name at a place, of the wanted kind
+abbrev pub if_fits : {A : Type 0} → ℕ → Option A → Result A ParseFault
+if_fits at (Some x) = Ok x
+if_fits at None = Err (faults.WrongSort at)
+
+-- a name without a declaration is a fault before one of the wrong kind
+abbrev pub needed : {A : Type 0} → (Role → Option A) → ℕ → Option Role → Result A ParseFault
+needed wanted at None = Err (faults.Undeclared at)
+needed wanted at (Some r) = if_fits at (wanted r)
+
+-- any kind
+abbrev pub any_role : Role → Option Role
+any_role r = Some r
+
+-- a pointer variable
+abbrev pub as_pointer : Role → Option Var
+as_pointer (pointer_variable v) = Some v
+as_pointer (data_local x) = None
+as_pointer (pointer_field f) = None
+as_pointer (data_field f) = None
+as_pointer no_value = None
+
+-- a data local
+abbrev pub as_data : Role → Option ℕ
+as_data (data_local x) = Some x
+as_data (pointer_variable v) = None
+as_data (pointer_field f) = None
+as_data (data_field f) = None
+as_data no_value = None
+
+-- a pointer field
+abbrev pub as_pointer_field : Role → Option FieldId
+as_pointer_field (pointer_field f) = Some f
+as_pointer_field (pointer_variable v) = None
+as_pointer_field (data_local x) = None
+as_pointer_field (data_field f) = None
+as_pointer_field no_value = None
+
+-- a data field
+abbrev pub as_data_field : Role → Option FieldId
+as_data_field (data_field f) = Some f
+as_data_field (pointer_variable v) = None
+as_data_field (data_local x) = None
+as_data_field (pointer_field f) = None
+as_data_field no_value = None
+
+-- the pointer variable that is named at a place
+unfoldable pub pointer_at : Scope → List ℕ → ℕ → Result Var ParseFault
+pointer_at s name at = needed as_pointer at (role_of s name)
+
+-- the data local
+unfoldable pub data_at : Scope → List ℕ → ℕ → Result ℕ ParseFault
+data_at s name at = needed as_data at (role_of s name)
+
+-- the pointer field
+unfoldable pub pointer_field_at : Scope → List ℕ → ℕ → Result FieldId ParseFault
+pointer_field_at s name at = needed as_pointer_field at (role_of s name)
+
+-- the data field
+unfoldable pub data_field_at : Scope → List ℕ → ℕ → Result FieldId ParseFault
+data_field_at s name at = needed as_data_field at (role_of s name)

@@ -1,0 +1,44 @@
+-- Which unit tokens spell, and what else they are answered with.
+use Rattle.std.specs.Prelude.{◌≡◌, ℕ, List, map, Result, Ok, Err}
+use Rattle.plc_lex.specs.declared.token.Token.{Token}
+use Rattle.plc_lex.specs.declared.token.TokenKind.{TokenKind}
+use Rattle.plc_base.specs.declared.limits.What1.TheVariants as limits
+use Rattle.plc_syntax.specs.Trees.{FileTree, file_tokens}
+use Rattle.plc_syntax.specs.Syntax.{kinds, IsFile}
+use Rattle.plc_syntax.specs.Nesting.{NoneTooDeep, SyntaxFaultAt, NestingFaultAt}
+use Rattle.plc_parse.specs.declared.fault.ParseFault.{ParseFault}
+use Rattle.plc_parse.specs.declared.fault.ParseFault.TheVariants as faults
+use Rattle.plc_parse.specs.declared.unit.Unit.{Unit as FileUnit}
+use Rattle.plc_parse.specs.Meaning.{file_means}
+
+-- the lines on which the tokens stand
+abbrev pub lines_of : List Token → List ℕ
+lines_of ts = map (λ (t : Token). t.line) ts
+
+-- the tokens are those of a tree with this meaning
+abbrev pub Means : List Token → Result FileUnit ParseFault → Type 0
+Means ts meaning = (f : FileTree) × (file_tokens f ≡ kinds ts) × (file_means (lines_of ts) f ≡ meaning)
+
+-- the tokens are a file's, in which no block stands too deep
+abbrev pub IsShallowFile : List TokenKind → Type 0
+IsShallowFile ts = IsFile ts × NoneTooDeep ts
+
+-- the same, and they mean this
+pub record AreRead (ts : List Token) (meaning : Result FileUnit ParseFault) : Type 0 where
+  pub shallow : NoneTooDeep (kinds ts)
+  pub means : Means ts meaning
+
+-- the unit that tokens spell
+abbrev pub IsUnitOf : List Token → FileUnit → Type 0
+IsUnitOf ts u = AreRead ts (Ok u)
+
+-- the fault that tokens are answered with; memory may be wanting anywhere
+pub data IsFaultOf (ts : List Token) (e : ParseFault) : Type 0 where
+  no_file : (at : ℕ) → e ≡ faults.Syntax at → SyntaxFaultAt (kinds ts) at → IsFaultOf ts e
+  too_deep : (at : ℕ) → e ≡ faults.Limit limits.Nesting 65 → NestingFaultAt (kinds ts) at → IsFaultOf ts e
+  no_unit : AreRead ts (Err e) → IsFaultOf ts e
+  no_memory : e ≡ faults.Memory → IsFaultOf ts e
+
+-- tokens mean one thing, so they spell at most one unit
+abbrev pub UnitsAreUnique : Type 0
+UnitsAreUnique = (ts : List Token) (a b : Result FileUnit ParseFault) → Means ts a → Means ts b → a ≡ b

@@ -1,0 +1,21 @@
+//! From tokens to the unit that they spell, on `plc_syntax`'s trees, over which the meaning is defined;
+//! the layer above uses that `parse` answers the one unit that the tokens spell, or their fault at the
+//! least token.
+#![tactic(auto)]
+
+mod assignment;
+mod declaration;
+mod fault;
+mod forms;
+mod operation;
+mod reading;
+mod rest;
+mod scope;
+mod unit;
+
+pub use fault::ParseFault;
+pub use reading::{parse, units_are_unique};
+pub use unit::Unit;
+
+#[cfg(test)]
+mod tests;
