@@ -1,0 +1,4 @@
+pub mod Appending
+pub mod FailureCounts
+pub mod Pieces
+pub mod ReadAnswers

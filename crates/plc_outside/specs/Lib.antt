@@ -1,0 +1,6 @@
+pub mod Counts
+pub mod Failures
+pub mod Outside
+pub mod Real
+pub mod StoredBytes
+pub mod StoredFiles

@@ -1,0 +1,46 @@
+-- What a read and a write may answer, and why.
+use Rattle.std.specs.Prelude.{◌≡◌, ℕ, ◌<◌, ◌≤◌, ◌⊎◌, List, ◌++◌, length, take, Option, Some, Vec, Result, IfOk, IfSome, IsErrOf}
+use Rattle.plc_outside.specs.Counts.{last_count, one_more}
+use Rattle.plc_outside.specs.declared.files.FileFault.{FileFault}
+use Rattle.plc_outside.specs.declared.files.FileFault.TheVariants as file
+use Rattle.plc_outside.specs.declared.sinks.SinkFault.{SinkFault}
+use Rattle.plc_outside.specs.declared.sinks.SinkFault.TheVariants as sink
+
+-- ---- reads
+
+-- The cause of a read's fault: `Failed` comes only where the count of the name rose, from `before` to `now`, and `TooLong` only where more than `max` bytes were taken. The count never falls.
+pub record ReadHasCause {T : Type 0} (before now taken max : ℕ) (result : Result T FileFault) : Type 0 where
+  pub later : before ≤ now
+  pub failed : IsErrOf result file.Failed → before < now
+  pub long : IsErrOf result file.TooLong → max < taken
+
+-- The answer goes by the content, where that is told: `Ok` has at most `max` bytes and is the content, and of the answers other than `Failed` and `Memory` it is `TooLong` exactly where the content is longer.
+pub record AgreesWith {Z : Type 0} (told : Option (List ℕ)) (max : ℕ) (result : Result (Vec ℕ Z) FileFault) : Type 0 where
+  pub bound : IfOk result (λ bytes. length bytes.items ≤ max)
+  pub same : IfSome told (λ content. IfOk result (λ bytes. bytes.items ≡ content))
+  pub long : IfSome told (λ content. IsErrOf result file.TooLong → max < length content)
+  pub exact : IfSome told (λ content. max < length content → ¬ IsErrOf result file.Failed → ¬ IsErrOf result file.Memory → IsErrOf result file.TooLong)
+
+-- ---- writes
+
+-- a count rose, or stands at its last value
+abbrev pub Rose : ℕ → ℕ → Type 0
+Rose before now = (before < now) ⊎ (now ≡ last_count)
+
+-- The cause of a write's fault: `Failed` comes only where the count of faults rose, from `before` to `now`, or can rise no more. The count never falls.
+pub record PutHasCause {T : Type 0} (before now : ℕ) (result : Result T SinkFault) : Type 0 where
+  pub later : before ≤ now
+  pub failed : IsErrOf result sink.Failed → Rose before now
+
+-- A count that a sink keeps as a u64: `Failed` raises it by one, up to its last value, and no other answer changes it.
+pub record CountsFault {T : Type 0} (old new : ℕ) (result : Result T SinkFault) : Type 0 where
+  pub failed : IsErrOf result sink.Failed → new ≡ one_more old
+  pub other : ¬ IsErrOf result sink.Failed → new ≡ old
+
+-- these bytes and no others were appended, where it is told what was written
+abbrev pub Appends : Option (List ℕ) → Option (List ℕ) → List ℕ → Type 0
+Appends old new text = IfSome old (λ written. new ≡ Some (written ++ text))
+
+-- a prefix of the text was appended that is shorter than the text
+abbrev pub AppendsPart : Option (List ℕ) → Option (List ℕ) → List ℕ → Type 0
+AppendsPart old new text = (n : ℕ) × (n < length text) × Appends old new (take n text)

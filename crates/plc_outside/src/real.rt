@@ -1,0 +1,197 @@
+// The edge to the system: its files, and any writer of std. What lies in a file, and what becomes
+// of the bytes that are written, no clause can say; what is proved is that each fault has a cause
+// and that no more is taken than was asked for. This module alone is trusted to do what it says.
+ghost use Rattle.std.specs.Prelude.{◌≡◌, ◌≢◌, ◌≤◌, ◌<◌, ◌+◌, ◌++◌, [], ℕ, List, Some, None, IfOk, IfErr, IfSome, OnOk, OnErr, IsErrOf, length, take, drop};
+ghost use Rattle.plc_outside.specs.Outside.{ReadHasCause, AgreesWith, PutHasCause, CountsFault, Appends};
+ghost use Rattle.plc_outside.specs.Failures.{times, NotesFailure};
+
+use crate::failures::FailedReads;
+use crate::files::{FileFault, Files};
+use crate::sinks::{Sink, SinkFault};
+use std::alloc::Global;
+use std::io::{Read, Write};
+use std::marker::Model;
+use std::{fs, rt};
+
+// How many bytes one call takes from the system at most.
+const BUFFER: usize = 4096;
+
+/// The files of the system, reached through the handle that `main` is given.
+///
+/// It tells no content. A file that is not there and each error of the system is `Failed`, and adds
+/// the name to the list of failed reads; where that list cannot grow, or there is no room for the
+/// bytes, the answer is `Memory`. A read takes at most one byte more than was asked for.
+#[derive(Drop)]
+pub struct RealFiles<R: rt::Files + Drop> {
+    alloc: Global,
+    host: R,
+    failed: FailedReads,
+    taken: usize,
+}
+
+impl<R: rt::Files + Drop> Model for RealFiles<R> {
+    ghost use Rattle.plc_outside.specs.Real.{RealReads};
+
+    ghost Value = { RealReads };
+
+    ghost view = { λ s. record { failed = s.failed; taken = s.taken } };
+}
+
+impl<R: rt::Files + Drop> RealFiles<R> {
+    /// The files that the handle reaches. It takes no memory.
+    pub fn new(alloc: Global, host: R) -> RealFiles<R>
+        ensures { result ≡ record { failed = []; taken = 0 } }
+    {
+        RealFiles {
+            alloc,
+            host,
+            failed: FailedReads::new(alloc),
+            taken: 0,
+        }
+    }
+}
+
+// Why a file was not read on: the system's error, or no room for what it would give.
+enum Stop {
+    Error,
+    Memory,
+}
+
+// Takes one more piece of a file, of at most `most` bytes, and answers how many there were. Room is
+// made first, so that no byte is taken and lost.
+fn read_piece<R: Read>(file: &mut R, most: usize, bytes: &mut Vec<u8>) -> Result<usize, Stop>
+    ensures bound { IfOk result (λ n. n ≤ most) }
+    ensures count { IfOk result (λ n. length bytes.new.items ≡ length bytes.old.items + n) }
+    ensures bytes { IfOk result (λ n. IfSome (R.remaining file.old) (λ left.
+        (bytes.new.items ≡ bytes.old.items ++ take n left) × (R.remaining file.new ≡ Some (drop n left)))) }
+    ensures end { IfOk result (λ n. n ≡ 0 → 0 < most → IfSome (R.remaining file.old) (λ left. left ≡ [])) }
+    ensures err { OnErr result (bytes.new.items ≡ bytes.old.items) }
+{
+    let mut buffer = [0u8; BUFFER];
+    let room = most.min(BUFFER);
+    if bytes.reserve(room).is_err() {
+        return Err(Stop::Memory);
+    }
+    match file.read(&mut buffer[..room]) {
+        Ok(count) => {
+            bytes.extend_from_slice(&buffer[..count]).unwrap();
+            Ok(count)
+        }
+        Err(_) => Err(Stop::Error),
+    }
+}
+
+// Reads to the end, but at most one byte more than `max`.
+fn read_start<R: Read>(file: &mut R, max: usize, bytes: &mut Vec<u8>) -> Result<(), Stop>
+    requires { bytes.old.items ≡ [] }
+    ensures bound { length bytes.new.items ≤ max + 1 }
+    ensures bytes { OnOk result (IfSome (R.remaining file.old) (λ left. bytes.new.items ≡ take (max + 1) left)) }
+{
+    while bytes.len() <= max {
+        let most = (max - bytes.len()).saturating_add(1);
+        if read_piece(file, most, bytes)? == 0 {
+            return Ok(());
+        }
+    }
+    Ok(())
+}
+
+// The first bytes of a file, as far as `read_start` goes.
+fn read_file<R: rt::Files>(
+    host: &R,
+    name: &str,
+    max: usize,
+    bytes: &mut Vec<u8>,
+) -> Result<(), Stop>
+    requires { bytes.old.items ≡ [] }
+    ensures { length bytes.new.items ≤ max + 1 }
+{
+    match fs::open(host, name) {
+        Ok(mut file) => read_start(&mut file, max, bytes),
+        Err(_) => Err(Stop::Error),
+    }
+}
+
+impl<R: rt::Files + Drop> Files for RealFiles<R> {
+    ghost content = { λ _ _. None };
+
+    ghost faults = { λ s name. times s.failed name };
+
+    ghost taken = { λ s. s.taken };
+
+    fn read(&mut self, name: &str, max: usize) -> Result<Vec<u8>, FileFault>
+        ensures others { (other : List ℕ) → other ≢ name.now → times self.new.failed other ≡ times self.old.failed other }
+        ensures cause { ReadHasCause (times self.old.failed name.now) (times self.new.failed name.now) self.new.taken max result }
+        ensures told { AgreesWith None max result }
+
+        // The list of failed reads, and how much is taken.
+        ensures noted { NotesFailure self.old.failed self.new.failed name.now result }
+        ensures taken { self.new.taken ≤ max + 1 }
+        ensures whole { IfOk result (λ bytes. length bytes.items ≡ self.new.taken) }
+        ensures long { IsErrOf result FileFault.TooLong → self.new.taken ≡ max + 1 }
+    {
+        let mut bytes = Vec::new(self.alloc);
+        let end = read_file(&self.host, name, max, &mut bytes);
+        self.taken = bytes.len();
+        match end {
+            Err(Stop::Error) => Err(self.failed.note(name)),
+            Err(Stop::Memory) => Err(FileFault::Memory),
+            Ok(()) if bytes.len() > max => Err(FileFault::TooLong),
+            Ok(()) => Ok(bytes),
+        }
+    }
+}
+
+/// A sink over any writer of std, as the standard output.
+///
+/// Each error of the writer is `Failed` and raises the count, up to the last value of a `u64`, and
+/// so is a write that takes nothing of a piece with bytes. It never answers `Memory`.
+#[derive(Drop)]
+pub struct OutSink<W: Write + Drop> {
+    out: W,
+    faults: u64,
+}
+
+impl<W: Write + Drop> Model for OutSink<W> {
+    ghost use Rattle.plc_outside.specs.Real.{RealWrites};
+
+    ghost Value = { RealWrites };
+
+    ghost view = { λ s. record { written = W.contents s.out; faults = s.faults } };
+}
+
+impl<W: Write + Drop> OutSink<W> {
+    /// A sink that writes to this writer. What was written begins as what the writer holds, which
+    /// the standard output does not tell.
+    pub fn new(out: W) -> OutSink<W>
+        ensures { result ≡ record { written = W.contents out; faults = 0 } }
+    {
+        OutSink { out, faults: 0 }
+    }
+}
+
+impl<W: Write + Drop> Sink for OutSink<W> {
+    ghost written = { λ s. s.written };
+
+    ghost faults = { λ s. s.faults };
+
+    fn put(&mut self, piece: &[u8]) -> Result<usize, SinkFault>
+        ensures appends { IfOk result (λ n. Appends self.old.written self.new.written (take n piece.now)) }
+        ensures bound { IfOk result (λ n. n ≤ length piece.now) }
+        ensures goes_on { IfOk result (λ n. 0 < length piece.now → 0 < n) }
+        ensures err { OnErr result (Appends self.old.written self.new.written []) }
+        ensures cause { PutHasCause self.old.faults self.new.faults result }
+
+        // Each fault is `Failed`, and counted.
+        ensures fault { IfErr result (λ fault. fault ≡ SinkFault.Failed) }
+        ensures counted { CountsFault self.old.faults self.new.faults result }
+    {
+        match self.out.write(piece) {
+            Ok(count) if count > 0 || piece.is_empty() => Ok(count),
+            _ => {
+                self.faults = self.faults.saturating_add(1);
+                Err(SinkFault::Failed)
+            }
+        }
+    }
+}

@@ -1,0 +1,59 @@
+// Sinks, to which the program writes. As with a file of the system, one call takes as much of a
+// piece as it likes, but never nothing of a piece that has bytes: a caller that goes on with the
+// rest comes to an end. What was written is known to proofs where the sink tells it, and a fault
+// raises a count, so that no sink can refuse without a cause.
+ghost use Rattle.std.specs.Prelude.{◌≡◌, ◌≤◌, ◌<◌, ℕ, List, [], Option, IfOk, OnErr, length, take};
+ghost use Rattle.plc_outside.specs.Outside.{PutHasCause, Appends};
+ghost use Rattle.plc_outside.specs.declared.sinks.SinkFault.TheVariants.{Memory};
+
+use std::alloc::{AllocError, AllocFailed};
+use thiserror::Error;
+
+/// Why nothing of a piece was written.
+#[derive(Clone, Copy, Debug, PartialEq, Eq, Error)]
+pub enum SinkFault {
+    /// The write failed, or the sink takes no more.
+    #[error("failed")]
+    Failed,
+    /// Memory was wanting.
+    #[error("no memory")]
+    Memory,
+}
+
+impl From<AllocError> for SinkFault {
+    ghost from_gives = { λ _ fault. fault ≡ Memory };
+
+    fn from(_e: AllocError) -> SinkFault {
+        SinkFault::Memory
+    }
+}
+
+impl<T: Drop> From<AllocFailed<T>> for SinkFault {
+    ghost from_gives = { λ _ fault. fault ≡ Memory };
+
+    fn from(_e: AllocFailed<T>) -> SinkFault {
+        SinkFault::Memory
+    }
+}
+
+/// A sink takes bytes, piece by piece.
+pub trait Sink {
+    /// What was written, where it is told. No call takes written bytes back.
+    ghost written: { Self → Option (List ℕ) };
+
+    /// How many writes failed. The count never falls.
+    ghost faults: { Self → ℕ };
+
+    /// Writes the first bytes of the piece and answers how many they are, which is at least 1 where
+    /// the piece is not empty.
+    ///
+    /// After `Failed` and `Memory` nothing more is written. `Failed` comes only where the count of
+    /// faults rose in this call or stands at the last value of a `u64`: a sink that takes nothing of
+    /// a piece with bytes counts a fault too.
+    fn put(&mut self, piece: &[u8]) -> Result<usize, SinkFault>
+        ensures appends { IfOk result (λ n. Appends (written self.old) (written self.new) (take n piece.now)) }
+        ensures bound { IfOk result (λ n. n ≤ length piece.now) }
+        ensures goes_on { IfOk result (λ n. 0 < length piece.now → 0 < n) }
+        ensures err { OnErr result (Appends (written self.old) (written self.new) []) }
+        ensures cause { PutHasCause (faults self.old) (faults self.new) result };
+}
