@@ -1,0 +1,74 @@
+-- From the answer that is due to what a 0 says, and when it comes: the bytes spell one unit, which has a typing or is stuck, and not both.
+use Rattle.std.proofs.Common.{◌≡◌, ◌⊎◌, inl, inr, ℕ, List, Option, Some, None, IfSome, sym, ap, subst, ◌∙◌}
+use Rattle.plc_parse.specs.declared.unit.Unit.{Unit as FileUnit}
+use Rattle.plc_auto.specs.declared.observer.Observer.{Observer}
+use Rattle.plc_flow.specs.Lowering.{flow_of}
+use Rattle.plc_xfer.specs.declared.fault.TypeFault.{TypeFault}
+use Rattle.plc_xfer.specs.Typings.{Skeleton, HasTyping, IsStuckAt}
+use Rattle.plc_infer.specs.Skeletons.{skeleton_of}
+use Rattle.plc_sound.proofs.StraightLines.{straight_lines_are_safe}
+use Rattle.plc_check.specs.Loading.{IsFileOf}
+use Rattle.plc_check.proofs.Unique.{one_file}
+use Rattle.plc_cli.specs.Answer.{KnownFiles, IsAnswerTo, IsDueFor, IsJudged, file_of}
+use Rattle.plc_cli.specs.Headline.{Headline, IsSafeProgram}
+
+-- bytes that a read answered, where the content is told
+told_is : (told : Option (List ℕ)) (bytes content : List ℕ) → IfSome told (λ c. bytes ≡ c) → told ≡ Some content → bytes ≡ content
+told_is None bytes content h e = absurd cc
+told_is (Some c) bytes content h e = cc
+
+stuck_or_typed : (o : Observer) (s : Skeleton) (k i : ℕ) (fault : TypeFault) → IsStuckAt o s k i fault → HasTyping o s → ⊥
+stuck_or_typed o s k i fault stuck typed = stuck.fails typed.0 typed.1.pretyping (typed.1.holding k i)
+
+module _ (bytes : List ℕ) (status : ℕ) (text : List ℕ) where
+  pub safe_at_0 : IsAnswerTo bytes status text → status ≡ 0 → IsSafeProgram bytes
+  safe_at_0 (inl refused) zero = let is = refused.status_is in absurd cc
+  safe_at_0 (inr (inl safe)) zero = record { unit = safe.unit; spelled = safe.spelled; safe = straight_lines_are_safe (flow_of safe.unit.file) safe.unit.observer }
+  safe_at_0 (inr (inr untyped)) zero = let is = untyped.status_is in absurd cc
+
+  module _ (u : FileUnit) (spelled : IsFileOf bytes u) where
+    pub typed_at_0 : IsAnswerTo bytes status text → status ≡ 0 → HasTyping u.observer (skeleton_of (flow_of u.file))
+    typed_at_0 (inl refused) zero = let is = refused.status_is in absurd cc
+    typed_at_0 (inr (inl safe)) zero = subst (λ (x : FileUnit). HasTyping x.observer (skeleton_of (flow_of x.file))) (one_file bytes safe.unit u safe.spelled spelled) safe.typed
+    typed_at_0 (inr (inr untyped)) zero = let is = untyped.status_is in absurd cc
+
+    pub at_0_where_typed : IsAnswerTo bytes status text → HasTyping u.observer (skeleton_of (flow_of u.file)) → status ≡ 0
+    at_0_where_typed (inl refused) typed = absurd (refused.none u spelled)
+    at_0_where_typed (inr (inl safe)) typed = safe.status_is
+    at_0_where_typed (inr (inr untyped)) typed = absurd (stuck_or_typed u.observer (skeleton_of (flow_of u.file)) untyped.step untyped.primitive untyped.fault
+        (subst (λ (x : FileUnit). IsStuckAt x.observer (skeleton_of (flow_of x.file)) untyped.step untyped.primitive untyped.fault) (one_file bytes untyped.unit u untyped.spelled spelled) untyped.stuck) typed)
+
+module _ (files : KnownFiles) (status : ℕ) (text : List ℕ) (name : List ℕ) where
+  -- what is judged is the content that is told
+  content_of : (content : List ℕ) → files.content name ≡ Some content → (j : IsJudged files name status text) → j.bytes ≡ content
+  content_of content told j = told_is (files.content name) j.bytes content j.told told
+
+  answer_of : (content : List ℕ) → files.content name ≡ Some content → IsJudged files name status text → IsAnswerTo content status text
+  answer_of content told j = subst (λ (b : List ℕ). IsAnswerTo b status text) (content_of content told j) j.answer
+
+  sound_for : (content : List ℕ) → files.content name ≡ Some content → IsDueFor files (Some name) status text → status ≡ 0 → IsSafeProgram content
+  sound_for content told (inl failed) zero = let is = failed.status_is in absurd cc
+  sound_for content told (inr (inl long)) zero = let is = long.status_is in absurd cc
+  sound_for content told (inr (inr judged)) zero = safe_at_0 content status text (answer_of content told judged) zero
+
+  module _ (content : List ℕ) (told : files.content name ≡ Some content) (u : FileUnit) (spelled : IsFileOf content u) where
+    typed_for : IsDueFor files (Some name) status text → status ≡ 0 → HasTyping u.observer (skeleton_of (flow_of u.file))
+    typed_for (inl failed) zero = let is = failed.status_is in absurd cc
+    typed_for (inr (inl long)) zero = let is = long.status_is in absurd cc
+    typed_for (inr (inr judged)) zero = typed_at_0 content status text u spelled (answer_of content told judged) zero
+
+    complete_for : IsDueFor files (Some name) status text → HasTyping u.observer (skeleton_of (flow_of u.file)) → (status ≡ 0) ⊎ ((status ≡ 4) ⊎ ((status ≡ 5) ⊎ (status ≡ 6)))
+    complete_for (inl failed) typed = inr (inl failed.status_is)
+    complete_for (inr (inl long)) typed = inr (inl long.status_is)
+    complete_for (inr (inr judged)) typed = inl (at_0_where_typed content status text u spelled (answer_of content told judged) typed)
+
+module _ (files : KnownFiles) (words : List (List ℕ)) (status : ℕ) (text : List ℕ) (due : IsDueFor files (file_of words) status text) where
+  due_for : (name : List ℕ) → file_of words ≡ Some name → IsDueFor files (Some name) status text
+  due_for name named = subst (λ (n : Option (List ℕ)). IsDueFor files n status text) named due
+
+  pub headline_of : Headline files.content words status
+  headline_of = record {
+    sound = λ name bytes named told zero. sound_for files status text name bytes told (due_for name named) zero;
+    complete = λ name bytes named told u spelled typed. complete_for files status text name bytes told u spelled (due_for name named) typed;
+    only_typed = λ name bytes named told u spelled zero. typed_for files status text name bytes told u spelled (due_for name named) zero;
+  }
