@@ -1,0 +1,78 @@
+-- Which variables and fields the primitives of an operation may name: those that are there.
+use Rattle.std.specs.Prelude.{ℕ, ◌+◌, ◌<◌, List, [], ◌∷◌, length, count_by}
+use Rattle.plc_lang.specs.declared.syntax.Var.{Var}
+use Rattle.plc_lang.specs.declared.syntax.Var.TheVariants.{Shared, Local}
+use Rattle.plc_lang.specs.declared.syntax.Num.{Num}
+use Rattle.plc_lang.specs.declared.syntax.Num.TheVariants.{Lit, Local as DataLocal}
+use Rattle.plc_lang.specs.declared.syntax.Arg.{Arg}
+use Rattle.plc_lang.specs.declared.syntax.Arg.TheVariants as args
+use Rattle.plc_lang.specs.declared.syntax.Primitive.{Primitive}
+use Rattle.plc_lang.specs.declared.syntax.Primitive.TheVariants.{Null, Copy, New, Load, Store, StoreNull, DataSet, DataLoad, DataStore, Eq, Ne, IsNull, NotNull, DataTest, Refresh, RefreshLoad, RefreshStore, Call, Done, Active, Ghost}
+use Rattle.plc_lang.specs.declared.syntax.Op.{Op}
+use Rattle.plc_lang.specs.declared.syntax.File.{File}
+use Rattle.plc_lang.specs.Locals.{is_pointer, is_parameter, is_other_data}
+
+-- how many shared pointers, pointer locals, data locals and fields there are
+pub record Shape : Type 0 where
+  pub shared : ℕ
+  pub pointers : ℕ
+  pub values : ℕ
+  pub fields : ℕ
+
+-- what an operation of the file may name
+abbrev pub shape_of : File → Op → Shape
+shape_of file o = record {
+  shared = length file.shared;
+  pointers = count_by is_pointer o.locals;
+  values = count_by is_parameter o.locals + count_by is_other_data o.locals;
+  fields = length file.fields;
+}
+
+-- what `init` may name
+abbrev pub init_shape : File → Shape
+init_shape file = record { shared = length file.shared; pointers = 0; values = 0; fields = length file.fields }
+
+-- a pointer variable that is there
+abbrev pub VarIn : Shape → Var → Type 0
+VarIn h (Shared i) = i < h.shared
+VarIn h (Local v) = v < h.pointers
+
+-- a number, or a data local that is there
+abbrev pub NumIn : Shape → Num → Type 0
+NumIn h (Lit n) = Unit {0}
+NumIn h (DataLocal x) = x < h.values
+
+-- an argument that is there, if it is a variable
+abbrev pub ArgIn : Shape → Arg → Type 0
+ArgIn h args.None = Unit {0}
+ArgIn h args.Null = Unit {0}
+ArgIn h (args.Var p) = VarIn h p
+
+-- all that a primitive names is there
+abbrev pub PrimitiveIn : Shape → Primitive → Type 0
+PrimitiveIn h (Null p) = VarIn h p
+PrimitiveIn h (Copy p q) = VarIn h p × VarIn h q
+PrimitiveIn h (New p) = VarIn h p
+PrimitiveIn h (Load p q f) = VarIn h p × VarIn h q × (f.0 < h.fields)
+PrimitiveIn h (Store p f q) = VarIn h p × (f.0 < h.fields) × VarIn h q
+PrimitiveIn h (StoreNull p f) = VarIn h p × (f.0 < h.fields)
+PrimitiveIn h (DataSet x e) = (x < h.values) × NumIn h e
+PrimitiveIn h (DataLoad x q f) = (x < h.values) × VarIn h q × (f.0 < h.fields)
+PrimitiveIn h (DataStore p f e) = VarIn h p × (f.0 < h.fields) × NumIn h e
+PrimitiveIn h (Eq p q) = VarIn h p × VarIn h q
+PrimitiveIn h (Ne p q) = VarIn h p × VarIn h q
+PrimitiveIn h (IsNull p) = VarIn h p
+PrimitiveIn h (NotNull p) = VarIn h p
+PrimitiveIn h (DataTest r x e) = (x < h.values) × NumIn h e
+PrimitiveIn h (Refresh p q) = (p < h.pointers) × VarIn h q
+PrimitiveIn h (RefreshLoad p q f) = (p < h.pointers) × VarIn h q × (f.0 < h.fields)
+PrimitiveIn h (RefreshStore p f q) = VarIn h p × (f.0 < h.fields) × VarIn h q
+PrimitiveIn h (Call f a) = ArgIn h a
+PrimitiveIn h (Done f) = Unit {0}
+PrimitiveIn h (Active p) = VarIn h p
+PrimitiveIn h (Ghost p g v) = VarIn h p
+
+-- the same of each primitive
+abbrev pub PrimitivesIn : Shape → List Primitive → Type 0
+PrimitivesIn h [] = Unit {0}
+PrimitivesIn h (k ∷ ks) = PrimitiveIn h k × PrimitivesIn h ks
