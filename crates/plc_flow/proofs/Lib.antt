@@ -1,2 +1,6 @@
+pub mod Each
+pub mod Fitting
 pub mod Remaining
+pub mod Short
+pub mod Sizes
 pub mod Within

@@ -1,27 +1,36 @@
 -- What a call of the lowering adds to what was made before it.
-use Rattle.std.specs.Prelude.{◌≡◌, ℕ, ◌+◌, ◌<◌, ◌≤◌, List, [], ◌∷◌, ◌++◌, Result, Ok, Err}
+use Rattle.std.specs.Prelude.{◌≡◌, ℕ, ◌+◌, ◌<◌, ◌≤◌, List, [], ◌∷◌, ◌++◌, Option, Result, Ok, Err}
 use Rattle.plc_base.specs.declared.ids.PointId.{PointId}
 use Rattle.plc_lang.specs.declared.syntax.Primitive.{Primitive}
 use Rattle.plc_flow.specs.declared.flow.Gate.{Gate}
 use Rattle.plc_flow.specs.declared.flow.FlowFault.{FlowFault}
 use Rattle.plc_flow.specs.declared.flow.FlowFault.TheVariants as faults
-use Rattle.plc_flow.specs.declared.lowering.Builder.{Builder}
-use Rattle.plc_flow.specs.declared.lowering.Here.{Here}
-use Rattle.plc_flow.specs.Lowering.{Made, MadeOps, from_to, most_points}
+use Rattle.plc_flow.specs.declared.builder.Builder.{Builder}
+use Rattle.plc_flow.specs.declared.builder.Here.{Here}
+use Rattle.plc_flow.specs.Lowering.{Made, MadeOps, Branches, from_to, joins, during_made, most_points}
 
 -- one point, from which it goes on
 abbrev pub a_point : ℕ → Made
-a_point n = record { points = 1; steps = []; last = n }
+a_point n = record { points = 1; steps = []; labels = []; last = n }
 
 -- one step, which goes on from its last point
 abbrev pub a_step : Here → ℕ → ℕ → List Primitive → Made
-a_step h a b prims = record { points = 0; steps = from_to h a b prims ∷ []; last = b }
+a_step h a b prims = record { points = 0; steps = from_to h a b prims ∷ []; labels = []; last = b }
+
+-- the label that a call may have between its steps
+abbrev pub a_during : Option ℕ → ℕ → Made
+a_during during m = record { points = 0; steps = []; labels = during_made during m; last = m }
+
+-- a step from each end to the point where they join
+abbrev pub a_join : Here → List PointId → ℕ → Made
+a_join h ends j = record { points = 0; steps = joins h ends j; labels = []; last = j }
 
 -- what was made before, and this behind it
 pub record Grown (old new : Builder) (m : Made) : Type 0 where
   pub points : new.points ≡ old.points + m.points
   pub few : new.points ≤ most_points
   pub steps : new.steps ≡ old.steps ++ m.steps
+  pub labels : new.labels ≡ old.labels ++ m.labels
 
 -- exactly where there would be too many points
 abbrev pub Passes : Builder → ℕ → ℕ → Type 0
@@ -33,8 +42,14 @@ Makes old new (Ok last) m = Grown old new m × (last.0 ≡ m.last)
 Makes old new (Err (faults.TooManyPoints count)) m = Passes old m.points count
 Makes old new (Err faults.Memory) m = Unit {0}
 
+-- the same of blocks side by side, with their ends as the answer
+abbrev pub MakesBranches : Builder → Builder → Result (List PointId) FlowFault → Branches → Type 0
+MakesBranches old new (Ok ends) m = Grown old new (record { points = m.points; steps = m.steps; labels = m.labels; last = 0 }) × (ends ≡ m.ends)
+MakesBranches old new (Err (faults.TooManyPoints count)) m = Passes old m.points count
+MakesBranches old new (Err faults.Memory) m = Unit {0}
+
 -- the same of all operations, with the gates as the answer
 abbrev pub MakesGates : Builder → Builder → Result (List Gate) FlowFault → MadeOps → Type 0
-MakesGates old new (Ok gates) m = Grown old new (record { points = m.points; steps = m.steps; last = 0 }) × (gates ≡ m.gates)
+MakesGates old new (Ok gates) m = Grown old new (record { points = m.points; steps = m.steps; labels = m.labels; last = 0 }) × (gates ≡ m.gates)
 MakesGates old new (Err (faults.TooManyPoints count)) m = Passes old m.points count
 MakesGates old new (Err faults.Memory) m = Unit {0}

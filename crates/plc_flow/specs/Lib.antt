@@ -1,3 +1,4 @@
 pub mod Builder
 pub mod Lowering
+pub mod Sides
 pub mod WellFormed

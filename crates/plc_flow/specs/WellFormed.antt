@@ -1,5 +1,6 @@
 -- What every flow that was lowered keeps: later layers ask it of the flows that they are given.
 use Rattle.std.specs.Prelude.{◌≡◌, ℕ, ◌+◌, ◌<◌, ◌≤◌, List, [], ◌∷◌, length, slice_get, Some}
+use Rattle.plc_base.specs.declared.ids.PointId.{PointId}
 use Rattle.plc_flow.specs.declared.flow.Step.{Step}
 use Rattle.plc_flow.specs.declared.flow.Gate.{Gate}
 use Rattle.plc_flow.specs.declared.flow.Flow.{Flow}
@@ -29,3 +30,4 @@ pub record IsWellFormed (flow : Flow) : Type 0 where
   pub steps : (k : ℕ) (s : Step) → slice_get flow.steps k ≡ Some s → StepWithin flow s
   pub few_steps : length flow.steps < 65536
   pub short : (k : ℕ) (s : Step) → slice_get flow.steps k ≡ Some s → length s.prims ≤ most_primitives
+  pub labels : (k : ℕ) (p : PointId) → slice_get flow.labels k ≡ Some p → p.0 < flow.points

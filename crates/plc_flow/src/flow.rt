@@ -1,7 +1,7 @@
 // Points are the places between steps; a step is a list of primitives that is taken whole. Points
 // and steps are counted over the file in order of creation, and each operation has its own run of
 // points, which begins with its entry and its exit.
-use plc_base::{Items, OpId, PointId};
+use plc_base::{FieldId, Items, OpId, PointId};
 use plc_lang::{File, Prim};
 use std::alloc::{AllocError, AllocFailed};
 
@@ -32,6 +32,8 @@ pub struct Flow {
     pub gates: Items<Gate>,
     pub steps: Items<Step>,
     pub points: u16,
+    /// The labelled points, in the order in which the labels stand in the text.
+    pub labels: Items<PointId>,
 }
 
 /// Why a file has no flow.
@@ -76,4 +78,46 @@ pub enum Move {
     Return { t: u32 },
     /// The reclaimer frees an address.
     Free { a: u32 },
+}
+
+/// A place of the memory that holds a number.
+#[derive(Clone, Copy, Debug, PartialEq, Eq)]
+pub enum Place {
+    /// A shared pointer.
+    Shared(u16),
+    /// A field of the node at an address.
+    Cell { a: u32, f: FieldId },
+    /// A pointer local of the operation that thread `t` is in.
+    Local { t: u32, v: u16 },
+}
+
+/// Why there is no state in which a run starts.
+#[derive(Debug, Drop)]
+pub enum StartFault {
+    /// The file's `init` is blocked.
+    NoStart,
+    /// Memory was wanting.
+    Memory,
+}
+
+impl From<AllocError> for StartFault {
+    ghost use Rattle.std.specs.Prelude.{◌≡◌};
+    ghost use Rattle.plc_flow.specs.declared.flow.StartFault.{StartFault};
+
+    ghost from_gives = { λ _ e. e ≡ StartFault.Memory };
+
+    fn from(_error: AllocError) -> StartFault {
+        StartFault::Memory
+    }
+}
+
+impl<T: Drop> From<AllocFailed<T>> for StartFault {
+    ghost use Rattle.std.specs.Prelude.{◌≡◌};
+    ghost use Rattle.plc_flow.specs.declared.flow.StartFault.{StartFault};
+
+    ghost from_gives = { λ _ e. e ≡ StartFault.Memory };
+
+    fn from(_error: AllocFailed<T>) -> StartFault {
+        StartFault::Memory
+    }
 }
