@@ -1,3 +1,7 @@
-pub mod Tables
+pub mod Coherence
+pub mod Joined
 pub mod Nodes
+pub mod Outcomes
+pub mod Places
+pub mod Tables
 pub mod Views

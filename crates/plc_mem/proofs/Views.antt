@@ -1,10 +1,11 @@
 -- What each change of memory leaves at each place: the only file that opens `at` and `put`.
-use Rattle.std.proofs.Common.{◌⊎◌, ◌≡◌, ℕ, ◌<◌, Bool, true, false, not, ◌||◌, ◌==◌, List, [], ◌∷◌, ◌++◌, Option, Some, None, get_or, map, filter, refl, sym, ap, ◌∙◌, subst, arith, inl, inr}
+use Rattle.std.proofs.Common.{◌⊎◌, ◌≡◌, ℕ, ◌<◌, Bool, true, false, not, ◌||◌, ◌==◌, List, [], ◌∷◌, ◌++◌, Option, Some, None, length, get_or, map, filter, refl, sym, ap, ◌∙◌, subst, arith, inl, inr}
+use Rattle.std.specs.List.{list_any}
 use Rattle.std.proofs.lemmas.Bool.{cases_eq, ne_eqb}
 use Rattle.std.proofs.lemmas.List.Folds.{list_any-append}
 use Rattle.plc_mem.specs.declared.cell.Cell.{Cell}
-use Rattle.plc_mem.specs.State.{State, Place, at_shared, at_local, at_field, Node, Locals, null_cell, put_at, locals_or_none, locals_of, with_locals, node_of, put_node, is_used, is_retired, at, put, value_at, put_value, field_value, put_field_value, fresh_node, with_node, cut, cut_node, cut_locals, freed, fresh_state}
-use Rattle.plc_mem.specs.Laws.{is_there, SameAddresses, Wrote, WroteLocal, WroteField, WasMade, WasFreed, HasLocals, MemoryLaws}
+use Rattle.plc_mem.specs.State.{State, Place, at_shared, at_local, at_field, Node, Locals, null_cell, put_at, locals_or_none, locals_of, with_locals, node_of, put_node, is_used, is_retired, at, put, value_at, put_value, field_value, put_field_value, fresh_node, with_node, with_retired, cut, cut_node, cut_locals, freed, fresh_state}
+use Rattle.plc_mem.specs.Laws.{is_there, SameAddresses, Wrote, WroteLocal, WroteField, WasMade, WasRetired, WasFreed, HasLocals, MemoryLaws}
 use Rattle.plc_mem.proofs.Tables.{get-put_same, get-put_other, get-map, get-replicate, any-without, any-map}
 use Rattle.plc_mem.proofs.Nodes.{has_node, address-node_of, node-put_same, node-put_other, has-put, put-absent, node-absent, node-push_same, node-push_other, node-gone, node-stays}
 
@@ -176,16 +177,21 @@ pub writes_no_field : (s : State) (a f n : ℕ) → is_used s a ≡ false → pu
 unfolding put_field_value is_used
 writes_no_field s a f v absent = ap (λ ns. record s { nodes = ns }) (put-absent s.nodes a (record (node_of s.nodes a) { values = put_at 0 (node_of s.nodes a).values f v }) absent)
 
+or_none : (x y : Bool) → (x || (y || false)) ≡ (x || y)
+or_none true y = refl
+or_none false true = refl
+or_none false false = refl
+
 -- ---- a new node
 
 pub makes : (s : State) (a : ℕ) → is_used s a ≡ false → WasMade s a (with_node s a)
 unfolding at value_at field_value is_used is_retired with_node
 makes s a unused =
-    let m = fresh_node s.fields a in
+    let m = fresh_node (length s.fields) a in
     let new = node-push_same s.nodes m a refl unused in
     let old = node-absent s.nodes a unused in
-    let null : (f : ℕ) → get_or (node_of (s.nodes ++ m ∷ []) a).cells f null_cell ≡ null_cell = λ f. ap (λ (n : Node). get_or n.cells f null_cell) new ∙ get-replicate null_cell s.fields f in
-    let nought : (f : ℕ) → get_or (node_of (s.nodes ++ m ∷ []) a).values f 0 ≡ 0 = λ f. ap (λ (n : Node). get_or n.values f 0) new ∙ get-replicate 0 s.fields f in
+    let null : (f : ℕ) → get_or (node_of (s.nodes ++ m ∷ []) a).cells f null_cell ≡ null_cell = λ f. ap (λ (n : Node). get_or n.cells f null_cell) new ∙ get-replicate null_cell (length s.fields) f in
+    let nought : (f : ℕ) → get_or (node_of (s.nodes ++ m ∷ []) a).values f 0 ≡ 0 = λ f. ap (λ (n : Node). get_or n.values f 0) new ∙ get-replicate 0 (length s.fields) f in
     record {
       null = null;
       nought = nought;
@@ -207,11 +213,21 @@ makes s a unused =
       used = λ b. list_any-append (λ n. n.address == b) s.nodes (m ∷ []) ∙ or_none (has_node s.nodes b) (a == b);
       retired = λ b. refl;
     }
-  where
-    or_none : (x y : Bool) → (x || (y || false)) ≡ (x || y)
-    or_none true y = refl
-    or_none false true = refl
-    or_none false false = refl
+
+-- ---- a retirement
+
+pub retires : (s : State) (a : ℕ) → WasRetired s a (with_retired s a)
+unfolding at value_at field_value is_used is_retired with_retired
+retires s a = record {
+  pointers = elim [
+    | at_shared i ↦ refl
+    | at_local t v ↦ refl
+    | at_field b f ↦ refl
+  ];
+  data_kept = record { locals = λ t x. refl; fields = λ b f. refl };
+  used = λ b. refl;
+  retired = λ b. list_any-append (λ x. x == b) s.retired (a ∷ []) ∙ or_none (list_any (λ x. x == b) s.retired) (a == b);
+}
 
 -- ---- a free
 
@@ -245,17 +261,17 @@ frees s a pos = record {
 
 -- ---- the first state
 
-pub fresh_is_null : (fields shared threads : ℕ) (p : Place) → at (fresh_state fields shared threads) p ≡ null_cell
+pub fresh_is_null : (fields : List Bool) (shared threads : ℕ) (p : Place) → at (fresh_state fields shared threads) p ≡ null_cell
 unfolding locals_of at
 fresh_is_null fields shared threads (at_shared i) = get-replicate null_cell shared i
 fresh_is_null fields shared threads (at_local t v) = ap (λ l. get_or (locals_or_none l).pointers v null_cell) (get-replicate None threads t)
 fresh_is_null fields shared threads (at_field a f) = refl
 
-pub fresh_is_unused : (fields shared threads a : ℕ) → is_used (fresh_state fields shared threads) a ≡ false
+pub fresh_is_unused : (fields : List Bool) (shared threads a : ℕ) → is_used (fresh_state fields shared threads) a ≡ false
 unfolding is_used
 fresh_is_unused fields shared threads a = refl
 
-pub fresh_is_unretired : (fields shared threads a : ℕ) → is_retired (fresh_state fields shared threads) a ≡ false
+pub fresh_is_unretired : (fields : List Bool) (shared threads a : ℕ) → is_retired (fresh_state fields shared threads) a ≡ false
 unfolding is_retired
 fresh_is_unretired fields shared threads a = refl
 
@@ -280,6 +296,7 @@ memory_laws = record {
   writes_field = writes_field;
   writes_no_field = writes_no_field;
   makes = makes;
+  retires = retires;
   frees = frees;
   gives = gives;
   first = λ fields shared threads. record { null = fresh_is_null fields shared threads; unused = fresh_is_unused fields shared threads; unretired = fresh_is_unretired fields shared threads };

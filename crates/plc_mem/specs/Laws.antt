@@ -1,7 +1,7 @@
 -- What each change of memory leaves at each place, and which addresses stay used and retired.
-use Rattle.std.specs.Prelude.{◌≡◌, ℕ, Bool, true, false, not, ◌&&◌, ◌||◌, ◌==◌, ◌<◌, Option, get_or}
+use Rattle.std.specs.Prelude.{◌≡◌, ℕ, Bool, true, false, not, ◌&&◌, ◌||◌, ◌==◌, ◌<◌, List, Option, get_or}
 use Rattle.plc_mem.specs.declared.cell.Cell.{Cell}
-use Rattle.plc_mem.specs.State.{State, Place, at_shared, at_local, at_field, Locals, null_cell, cut, at, put, value_at, put_value, field_value, put_field_value, is_used, is_retired, with_node, with_locals, locals_or_none, freed, fresh_state}
+use Rattle.plc_mem.specs.State.{State, Place, at_shared, at_local, at_field, Locals, null_cell, cut, at, put, value_at, put_value, field_value, put_field_value, is_used, is_retired, with_node, with_retired, with_locals, locals_or_none, freed, fresh_state}
 
 -- a field is there where its address is used; other places are always there
 abbrev pub is_there : State → Place → Bool
@@ -55,6 +55,13 @@ pub record WasMade (s : State) (a : ℕ) (new : State) : Type 0 where
   pub used : (b : ℕ) → is_used new b ≡ (is_used s b || a == b)
   pub retired : (b : ℕ) → is_retired new b ≡ is_retired s b
 
+-- an address is retired now, and nothing else changed
+pub record WasRetired (s : State) (a : ℕ) (new : State) : Type 0 where
+  pub pointers : SamePointers s new
+  pub data_kept : SameData s new
+  pub used : (b : ℕ) → is_used new b ≡ is_used s b
+  pub retired : (b : ℕ) → is_retired new b ≡ (is_retired s b || a == b)
+
 -- numbers stay; invalid are now exactly the places that were so and those that hold the address; the fields of the address are gone
 pub record WasFreed (s : State) (a : ℕ) (new : State) : Type 0 where
   pub shared : (i : ℕ) → at new (at_shared i) ≡ cut a (at s (at_shared i))
@@ -92,6 +99,7 @@ pub record MemoryLaws : Type 0 where
   pub writes_field : (s : State) (a f n : ℕ) → is_used s a ≡ true → WroteField s a f n (put_field_value s a f n)
   pub writes_no_field : (s : State) (a f n : ℕ) → is_used s a ≡ false → put_field_value s a f n ≡ s
   pub makes : (s : State) (a : ℕ) → is_used s a ≡ false → WasMade s a (with_node s a)
+  pub retires : (s : State) (a : ℕ) → WasRetired s a (with_retired s a)
   pub frees : (s : State) (a : ℕ) → 0 < a → WasFreed s a (freed s a)
   pub gives : (s : State) (t : ℕ) (l : Option Locals) → HasLocals s t l (with_locals s t l)
-  pub first : (fields shared threads : ℕ) → IsFirst (fresh_state fields shared threads)
+  pub first : (fields : List Bool) (shared threads : ℕ) → IsFirst (fresh_state fields shared threads)

@@ -1,3 +1,6 @@
-pub mod State
-pub mod Primitives
+pub mod Coherence
+pub mod Fit
 pub mod Laws
+pub mod Outcomes
+pub mod Primitives
+pub mod State

@@ -1,10 +1,16 @@
 -- A state of memory: what shared pointers, locals and fields hold, and which addresses are used and retired.
-use Rattle.std.specs.Prelude.{ℕ, zero, suc, Bool, true, not, ◌&&◌, ◌==◌, if◌then◌else◌, List, [], ◌∷◌, ◌++◌, get_or, map, filter, replicate, Option, Some, None}
+use Rattle.std.specs.Prelude.{ℕ, zero, suc, Bool, true, false, not, ◌&&◌, ◌==◌, nat_lt, if◌then◌else◌, List, [], ◌∷◌, ◌++◌, length, get_or, map, filter, replicate, count_by, Option, Some, None}
 use Rattle.std.specs.List.{list_any}
 use Rattle.plc_lang.specs.declared.syntax.Var.{Var}
 use Rattle.plc_lang.specs.declared.syntax.Var.TheVariants.{Shared, Local}
 use Rattle.plc_lang.specs.declared.syntax.Num.{Num}
 use Rattle.plc_lang.specs.declared.syntax.Num.TheVariants.{Lit, Local as DataLocal}
+use Rattle.plc_lang.specs.declared.syntax.Op.{Op}
+use Rattle.plc_lang.specs.declared.syntax.Field.{Field}
+use Rattle.plc_lang.specs.Locals.{is_pointer, is_other_data}
+use Rattle.plc_flow.specs.declared.flow.Flow.{Flow}
+use Rattle.plc_flow.specs.declared.flow.Place.{Place as NamedPlace}
+use Rattle.plc_flow.specs.declared.flow.Place.TheVariants as named
 use Rattle.plc_mem.specs.declared.cell.Cell.{Cell}
 
 -- the node at a used address: a cell and a number for each field, of which a pointer field has the cell and a data field the number
@@ -18,9 +24,9 @@ pub record Locals : Type 0 where
   pub pointers : List Cell
   pub values : List ℕ
 
--- nodes are listed for the used addresses; locals for the threads, None for an idle one
+-- nodes are listed for the used addresses; locals for the threads, None for an idle one; of each field it is known whether it is a pointer field
 pub record State : Type 0 where
-  pub fields : ℕ
+  pub fields : List Bool
   pub shared : List Cell
   pub locals : List (Option Locals)
   pub nodes : List Node
@@ -43,6 +49,10 @@ fresh_cell a = record { number = a; valid = true }
 -- the cell holds null
 abbrev pub is_null : Cell → Bool
 is_null c = c.number == 0
+
+-- two cells hold the same pointer
+abbrev pub same_pointer : Cell → Cell → Bool
+same_pointer c d = c.number == d.number
 
 -- a list as a table with a default past its end
 abbrev pub put_at : {A : Type 0} → A → List A → ℕ → A → List A
@@ -138,7 +148,11 @@ fresh_node fields a = record { address = a; cells = replicate fields null_cell; 
 
 -- the state with a fresh node
 unfoldable pub with_node : State → ℕ → State
-with_node s a = record s { nodes = s.nodes ++ fresh_node s.fields a ∷ [] }
+with_node s a = record s { nodes = s.nodes ++ fresh_node (length s.fields) a ∷ [] }
+
+-- the state in which the address was handed to the reclaimer too
+unfoldable pub with_retired : State → ℕ → State
+with_retired s a = record s { retired = s.retired ++ a ∷ [] }
 
 -- a free of a: the address is neither used nor retired any more, and every place that holds it is invalid
 abbrev pub cut : ℕ → Cell → Cell
@@ -164,9 +178,46 @@ freed s a = record {
 }
 
 -- nothing used, shared pointers null, every thread idle
-abbrev pub fresh_state : ℕ → ℕ → ℕ → State
+abbrev pub fresh_state : List Bool → ℕ → ℕ → State
 fresh_state fields shared threads = record { fields = fields; shared = replicate shared null_cell; locals = replicate threads None; nodes = []; retired = [] }
+
+-- the field is a pointer field
+abbrev pub holds_pointer : Field → Bool
+holds_pointer f = f.pointer
+
+-- the memory of a flow before its `init`
+abbrev pub first_state : Flow → ℕ → State
+first_state flow threads = fresh_state (map holds_pointer flow.file.fields) (length flow.file.shared) threads
 
 -- the locals at the start of an operation: pointers null, parameters as given, other data 0
 abbrev pub started : ℕ → ℕ → List ℕ → Locals
 started pointers others args = record { pointers = replicate pointers null_cell; values = args ++ replicate others 0 }
+
+-- the locals with which a thread starts this operation
+abbrev pub starting : Op → List ℕ → Locals
+starting o args = started (count_by is_pointer o.locals) (count_by is_other_data o.locals) args
+
+-- a pointer place that there is: a shared pointer, a pointer local of a busy thread, a pointer field of a used address
+unfoldable pub has_place : State → Place → Bool
+unfolding locals_of is_used
+has_place s (at_shared i) = nat_lt i (length s.shared)
+has_place s (at_local t v) = nat_lt v (length (locals_of s t).pointers)
+has_place s (at_field a f) = is_used s a && get_or s.fields f false
+
+-- what a pointer place holds, if there is such a place
+abbrev pub cell_of : State → Place → Option Cell
+cell_of s p = if has_place s p then Some (at s p) else None
+
+-- the number of a pointer place, if there is such a place
+abbrev pub number_at : State → Place → Option ℕ
+number_at s p = if has_place s p then Some (at s p).number else None
+
+-- there is such a place, and it is valid
+abbrev pub valid_at : State → Place → Bool
+valid_at s p = has_place s p && (at s p).valid
+
+-- the place that the program names
+abbrev pub place_of : NamedPlace → Place
+place_of (named.Shared i) = at_shared i
+place_of (named.Cell a f) = at_field a f.0
+place_of (named.Local t v) = at_local t v

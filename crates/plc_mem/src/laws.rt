@@ -1,5 +1,6 @@
 // The laws stand over the definitions, so that proofs above never open them.
 ghost use Rattle.plc_mem.specs.Laws.{MemoryLaws};
+ghost use Rattle.plc_mem.specs.Coherence.{CoherenceIsKept};
 
 /// What is written at a place that is there is read back, and no other place, number, use or
 /// retirement changes with it; a node that was just allocated is null; a free leaves each number,
@@ -7,4 +8,11 @@ ghost use Rattle.plc_mem.specs.Laws.{MemoryLaws};
 /// retired addresses.
 pub fn memory_reads_back()
     ensures { MemoryLaws }
+{}
+
+/// A state is coherent where each valid pointer that isn't null holds a used address, null is valid
+/// and unused, and what isn't used isn't retired. The first state is so, and each primitive that is
+/// no race, each free, each start and each return keeps it so.
+pub fn coherence_is_kept()
+    ensures { CoherenceIsKept }
 {}

@@ -1,9 +1,17 @@
-//! Memory in which addresses are used again: the definitions by which a primitive is a race, is
-//! blocked, or leads to a next state, over the syntax and the observers' events.
+//! Memory in which addresses are used again, with the validity of each pointer: what each primitive
+//! does to it, over the syntax and the observers' events. A primitive is a race, is blocked, or leads
+//! to a next state exactly as the table of the primitives says.
 #![tactic(auto)]
 
+mod apply;
 mod cell;
+mod cells;
 mod laws;
+mod locals;
+mod memory;
+mod node;
 
-pub use cell::{Cell, RaceKind};
-pub use laws::memory_reads_back;
+pub use cell::{Cell, Outcome, RaceKind};
+pub use laws::{coherence_is_kept, memory_reads_back};
+pub use locals::Locals;
+pub use memory::Memory;

@@ -1,0 +1,147 @@
+-- The tables and nodes of the definitions against std's lists: what is written at a place in range, and where the node of an address stands.
+use Rattle.std.proofs.Common.{◌≡◌, ℕ, zero, suc, ◌+◌, ◌<◌, ◌≤◌, List, [], ◌∷◌, ◌++◌, Bool, true, false, not, ◌&&◌, ◌==◌, cond, length, set, get_or, take, drop, map, filter, Some, None, Vec, refl, sym, ap, ◌∙◌, arith, add-one, length-set}
+use Rattle.std.specs.Vec.{with_items}
+use Rattle.std.specs.List.{position, position_or_len}
+use Rattle.std.proofs.lemmas.Bool.{eq-eqb, ne_eqb}
+use Rattle.std.proofs.lemmas.Bool.Decides.{nat_tests}
+use Rattle.std.proofs.lemmas.List.{length-map, with_items_is, get_or_default, get_or_past}
+use Rattle.plc_mem.specs.declared.cell.Cell.{Cell}
+use Rattle.plc_mem.specs.State.{Node, null_cell, put_at, node_of, put_node, empty_node, cut, cut_node}
+use Rattle.plc_mem.specs.Fit.{NodesFit}
+
+-- ---- a table
+
+pub put_is_set : {A : Type 0} (d : A) (xs : List A) (i : ℕ) (v : A) → i < length xs → put_at d xs i v ≡ set xs i v
+put_is_set d [] i v h = absurd (omega arith)
+put_is_set d (x ∷ xs) zero v h = refl
+put_is_set d (x ∷ xs) (suc i) v h = ap (λ ys. x ∷ ys) (put_is_set d xs i v (omega arith))
+
+pub put_put : {A : Type 0} (d : A) (xs : List A) (i : ℕ) (v w : A) → put_at d (put_at d xs i v) i w ≡ put_at d xs i w
+put_put d [] zero v w = refl
+put_put d [] (suc i) v w = ap (λ ys. d ∷ ys) (put_put d [] i v w)
+put_put d (x ∷ xs) zero v w = refl
+put_put d (x ∷ xs) (suc i) v w = ap (λ ys. x ∷ ys) (put_put d xs i v w)
+
+pub length_put : {A : Type 0} (d : A) (xs : List A) (i : ℕ) (v : A) → i < length xs → length (put_at d xs i v) ≡ length xs
+length_put d xs i v h = ap length (put_is_set d xs i v h) ∙ length-set xs i v
+
+set_past : {A : Type 0} (xs : List A) (i : ℕ) (v : A) → length xs ≤ i → set xs i v ≡ xs
+set_past [] i v h = refl
+set_past (x ∷ xs) zero v h = absurd (omega arith)
+set_past (x ∷ xs) (suc i) v h = ap (λ zs. x ∷ zs) (set_past xs i v (omega arith))
+
+-- a loop that writes each item in place
+pub mapped_more : {A : Type 0} (f : A → A) (xs ys zs : List A) (i : ℕ) (d : A) → i < length xs → ys ≡ map f (take i xs) ++ drop i xs → zs ≡ set ys i (f (get_or ys i d)) → zs ≡ map f (take (i + 1) xs) ++ drop (i + 1) xs
+mapped_more {A = A} f xs ys zs i d h e k = k ∙ ap (λ us. set us i (f (get_or us i d))) e ∙ rw add-one (go xs i h)
+  where
+    go : (xs : List A) (i : ℕ) → i < length xs → set (map f (take i xs) ++ drop i xs) i (f (get_or (map f (take i xs) ++ drop i xs) i d)) ≡ map f (take (suc i) xs) ++ drop (suc i) xs
+    go [] i h = absurd (omega arith)
+    go (x ∷ xs) zero h = refl
+    go (x ∷ xs) (suc i) h = ap (λ zs. f x ∷ zs) (go xs i (omega arith))
+
+-- a list that was lent as a slice
+pub items_kept : {X Z : Type 0} (v : Vec X Z) (ws : List X) → length ws ≡ length v.items → (with_items v ws).items ≡ ws
+items_kept v ws h = with_items_is v ws (h ∙ sym v.ok.0)
+
+pub items_mapped : {X Z : Type 0} (v : Vec X Z) (ws : List X) (f : X → X) → ws ≡ map f v.items → (with_items v ws).items ≡ map f v.items
+items_mapped v ws f e = items_kept v ws (ap length e ∙ length-map v.items f) ∙ e
+
+-- ---- a cell that a free passes by
+
+pub cut_keeps : (a : ℕ) (c : Cell) → (c.number ≡ a → ⊥) → cut a c ≡ c
+cut_keeps a c ne = ap (λ b. record { number = c.number; valid = c.valid && not b }) (ne_eqb c.number a ne) ∙ ap (λ b. record { number = c.number; valid = b }) (and_true c.valid)
+  where
+    and_true : (b : Bool) → (b && true) ≡ b
+    and_true true = refl
+    and_true false = refl
+
+pub cut_clears : (a : ℕ) (c : Cell) → c.number ≡ a → cut a c ≡ record { number = c.number; valid = false }
+cut_clears a c e = ap (λ b. record { number = c.number; valid = c.valid && not b }) (eq-eqb c.number a e) ∙ ap (λ b. record { number = c.number; valid = b }) (and_false c.valid)
+  where
+    and_false : (b : Bool) → (b && false) ≡ false
+    and_false true = refl
+    and_false false = refl
+
+-- ---- the node of an address by its place
+
+node_place : (ns : List Node) (a : ℕ) → node_of ns a ≡ get_or ns (position_or_len (λ n. n.address == a) ns) (empty_node a)
+node_place [] a = refl
+node_place (n ∷ ns) a = go (node_place ns a) (n.address == a)
+  where
+    go : (node_of ns a ≡ get_or ns (position_or_len (λ m. m.address == a) ns) (empty_node a)) → (b : Bool) → cond b n (node_of ns a) ≡ get_or (n ∷ ns) (cond (not b) (1 + position_or_len (λ m. m.address == a) ns) 0) (empty_node a)
+    go rest true = refl
+    go rest false = let e : 1 + position_or_len (λ (m : Node). m.address == a) ns ≡ suc (position_or_len (λ (m : Node). m.address == a) ns) = omega arith in rw e rest
+
+put_node_place : (ns : List Node) (a : ℕ) (r : Node) → put_node ns a r ≡ set ns (position_or_len (λ n. n.address == a) ns) r
+put_node_place [] a r = refl
+put_node_place (n ∷ ns) a r = go (put_node_place ns a r) (n.address == a)
+  where
+    go : (put_node ns a r ≡ set ns (position_or_len (λ m. m.address == a) ns) r) → (b : Bool) → cond b (r ∷ ns) (n ∷ put_node ns a r) ≡ set (n ∷ ns) (cond (not b) (1 + position_or_len (λ m. m.address == a) ns) 0) r
+    go rest true = refl
+    go rest false = let e : 1 + position_or_len (λ (m : Node). m.address == a) ns ≡ suc (position_or_len (λ (m : Node). m.address == a) ns) = omega arith in rw e (ap (λ zs. n ∷ zs) rest)
+
+position_some : {X : Type 0} (p : X → Bool) (xs : List X) (i : ℕ) → position p xs ≡ Some i → (i ≡ position_or_len p xs) × (i < length xs)
+position_some p xs i e = grind (arith, nat_tests)
+
+position_none : {X : Type 0} (p : X → Bool) (xs : List X) → position p xs ≡ None → length xs ≤ position_or_len p xs
+position_none p xs e = grind (arith, nat_tests)
+
+pub node_at : (ns : List Node) (a i : ℕ) (d : Node) → position (λ n. n.address == a) ns ≡ Some i → (i < length ns) × (get_or ns i d ≡ node_of ns a)
+node_at ns a i d e =
+    let p = position_some (λ (n : Node). n.address == a) ns i e in
+    (p.1, get_or_default ns i d (empty_node a) p.1 ∙ ap (λ j. get_or ns j (empty_node a)) p.0 ∙ sym (node_place ns a))
+
+pub no_node : (ns : List Node) (a : ℕ) → position (λ n. n.address == a) ns ≡ None → node_of ns a ≡ empty_node a
+no_node ns a e = node_place ns a ∙ get_or_past ns _ (empty_node a) (position_none (λ (n : Node). n.address == a) ns e)
+
+pub put_node_at : (ns : List Node) (a i : ℕ) (r : Node) → position (λ n. n.address == a) ns ≡ Some i → put_node ns a r ≡ set ns i r
+put_node_at ns a i r e =
+    let p = position_some (λ (n : Node). n.address == a) ns i e in
+    put_node_place ns a r ∙ ap (λ j. set ns j r) (sym p.0)
+
+pub put_no_node : (ns : List Node) (a : ℕ) (r : Node) → position (λ n. n.address == a) ns ≡ None → put_node ns a r ≡ ns
+put_no_node ns a r e = put_node_place ns a r ∙ set_past ns _ r (position_none (λ (n : Node). n.address == a) ns e)
+
+pub length_put_node : (ns : List Node) (a : ℕ) (r : Node) → length (put_node ns a r) ≡ length ns
+length_put_node ns a r = ap length (put_node_place ns a r) ∙ length-set ns _ r
+
+-- ---- nodes with a cell and a number for each field
+
+pub nodes_fit_at : (k : ℕ) (ns : List Node) (i : ℕ) (d : Node) → NodesFit k ns → i < length ns → (length (get_or ns i d).cells ≡ k) × (length (get_or ns i d).values ≡ k)
+nodes_fit_at k [] i d fit h = absurd (omega arith)
+nodes_fit_at k (n ∷ ns) zero d fit h = (fit.0, fit.1)
+nodes_fit_at k (n ∷ ns) (suc i) d fit h = nodes_fit_at k ns i d fit.2 (omega arith)
+
+pub nodes_fit_push : (k : ℕ) (ns : List Node) (r : Node) → NodesFit k ns → length r.cells ≡ k → length r.values ≡ k → NodesFit k (ns ++ r ∷ [])
+nodes_fit_push k [] r fit c v = (c, v, tt)
+nodes_fit_push k (n ∷ ns) r fit c v = (fit.0, fit.1, nodes_fit_push k ns r fit.2 c v)
+
+pub nodes_fit_filter : (k : ℕ) (p : Node → Bool) (ns : List Node) → NodesFit k ns → NodesFit k (filter p ns)
+nodes_fit_filter k p [] fit = tt
+nodes_fit_filter k p (n ∷ ns) fit = go (p n) (nodes_fit_filter k p ns fit.2)
+  where
+    go : (b : Bool) → NodesFit k (filter p ns) → NodesFit k (cond b (n ∷ filter p ns) (filter p ns))
+    go true rest = (fit.0, fit.1, rest)
+    go false rest = rest
+
+pub nodes_fit_cut : (k a : ℕ) (ns : List Node) → NodesFit k ns → NodesFit k (map (cut_node a) ns)
+nodes_fit_cut k a [] fit = tt
+nodes_fit_cut k a (n ∷ ns) fit = (length-map n.cells (cut a) ∙ fit.0, fit.1, nodes_fit_cut k a ns fit.2)
+
+pub nodes_fit_put : (k : ℕ) (ns : List Node) (a f : ℕ) (c : Cell) → NodesFit k ns → f < k → NodesFit k (put_node ns a (record (node_of ns a) { cells = put_at null_cell (node_of ns a).cells f c }))
+nodes_fit_put k [] a f c fit h = tt
+nodes_fit_put k (n ∷ ns) a f c fit h = go (n.address == a) (nodes_fit_put k ns a f c fit.2 h)
+  where
+    go : (b : Bool) → NodesFit k (put_node ns a (record (node_of ns a) { cells = put_at null_cell (node_of ns a).cells f c }))
+        → NodesFit k (cond b (record (cond b n (node_of ns a)) { cells = put_at null_cell (cond b n (node_of ns a)).cells f c } ∷ ns) (n ∷ put_node ns a (record (cond b n (node_of ns a)) { cells = put_at null_cell (cond b n (node_of ns a)).cells f c })))
+    go true rest = (length_put null_cell n.cells f c (omega (arith, fit.0)) ∙ fit.0, fit.1, fit.2)
+    go false rest = (fit.0, fit.1, rest)
+
+pub nodes_fit_put_value : (k : ℕ) (ns : List Node) (a f c : ℕ) → NodesFit k ns → f < k → NodesFit k (put_node ns a (record (node_of ns a) { values = put_at 0 (node_of ns a).values f c }))
+nodes_fit_put_value k [] a f c fit h = tt
+nodes_fit_put_value k (n ∷ ns) a f c fit h = go (n.address == a) (nodes_fit_put_value k ns a f c fit.2 h)
+  where
+    go : (b : Bool) → NodesFit k (put_node ns a (record (node_of ns a) { values = put_at 0 (node_of ns a).values f c }))
+        → NodesFit k (cond b (record (cond b n (node_of ns a)) { values = put_at 0 (cond b n (node_of ns a)).values f c } ∷ ns) (n ∷ put_node ns a (record (cond b n (node_of ns a)) { values = put_at 0 (cond b n (node_of ns a)).values f c })))
+    go true rest = (fit.0, length_put 0 n.values f c (omega (arith, fit.1)) ∙ fit.1, fit.2)
+    go false rest = (fit.0, fit.1, rest)

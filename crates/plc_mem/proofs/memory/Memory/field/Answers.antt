@@ -1,0 +1,7 @@
+use Rattle.std.proofs.Common.{refl}
+use Rattle.plc_mem.specs.State.{at}
+use Rattle.plc_mem.proofs.memory.Memory.field.Goals as goal
+
+pub returns : goal.returns
+unfolding at
+returns c = rw (c.cell_in.ensures, c.deref.ensures.value, ← c.self.view_is) refl

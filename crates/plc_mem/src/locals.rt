@@ -1,0 +1,212 @@
+// The locals of a thread that is in an operation. Between steps they lie in the memory; the acting
+// thread takes its own out, so that a primitive writes them and the memory side by side.
+ghost use Rattle.std.specs.Prelude.{◌≡◌, ℕ, ◌<◌, ◌+◌, get_or, set, map, replicate, length, nat_lt, if◌then◌else◌, count_by, IfOk, OnOk, Some, None};
+ghost use Rattle.plc_lang.specs.Locals.{is_pointer, is_parameter, is_other_data};
+ghost use Rattle.plc_mem.specs.State.{State, Locals, null_cell, no_locals, locals_or_none, started, starting, with_locals, at, at_local, value_at, number_of, cut_locals};
+
+use crate::cell::Cell;
+use crate::cells::{cell_or_null, cut_cells, value_or_0};
+use plc_base::NoMemory;
+use plc_lang::{Local, Num, Op};
+use std::alloc::Global;
+use std::marker::Model;
+
+/// The pointer locals and the data locals of a thread.
+#[derive(Drop)]
+pub struct Locals {
+    pointers: Vec<Cell>,
+    values: Vec<u32>,
+}
+
+impl Model for Locals {
+    ghost use Rattle.plc_mem.specs.State.{Locals};
+
+    ghost Value = { Locals };
+
+    ghost view = { λ l. record { pointers = l.pointers.items; values = l.values.items } };
+}
+
+// How many of the locals are pointers.
+fn count_pointers(locals: &[Local]) -> usize
+    ensures { result ≡ count_by is_pointer locals.now }
+{
+    locals.iter().filter(|l| l.pointer).count()
+}
+
+// How many of the locals are data and no parameters.
+fn count_other_data(locals: &[Local]) -> usize
+    ensures { result ≡ count_by is_other_data locals.now }
+{
+    locals.iter().filter(|l| !l.pointer && !l.param).count()
+}
+
+// Null pointers, the arguments, and zeros.
+fn start(alloc: Global, pointers: usize, others: usize, args: &[u32]) -> Result<Locals, NoMemory>
+    ensures { IfOk result (λ l. l ≡ started pointers others args.now) }
+{
+    let null = Cell::null();
+    let mut values = Vec::from_slice(alloc, args)?;
+    let zeros = vec![in alloc; 0; others]?;
+    values.extend_from_slice(&zeros)?;
+    Ok(Locals {
+        pointers: vec![in alloc; null; pointers]?,
+        values,
+    })
+}
+
+impl Locals {
+    /// The locals at the start of an operation, with one number for each parameter: pointers null,
+    /// other data 0.
+    pub fn new(alloc: Global, op: &Op, args: &[u32]) -> Result<Locals, NoMemory>
+        requires { length args.now ≡ count_by is_parameter op.now.locals }
+        ensures { IfOk result (λ l. l ≡ starting op.now args.now) }
+    {
+        let locals = op.locals.as_slice();
+        start(
+            alloc,
+            count_pointers(locals),
+            count_other_data(locals),
+            args,
+        )
+    }
+
+    /// The locals of `init`, which has none.
+    pub fn none(alloc: Global) -> Result<Locals, NoMemory>
+        ensures { IfOk result (λ l. l ≡ no_locals) }
+    {
+        Ok(Locals {
+            pointers: Vec::new(alloc),
+            values: Vec::new(alloc),
+        })
+    }
+
+    /// A copy, equal to these.
+    pub fn copy(&self) -> Result<Locals, NoMemory>
+        ensures { IfOk result (λ l. l ≡ self.now) }
+    {
+        Ok(Locals {
+            pointers: self.pointers.clone()?,
+            values: self.values.clone()?,
+        })
+    }
+
+    // The pointer local, if there is one of this number.
+    fn find(&self, v: u16) -> Option<Cell>
+        ensures { result ≡ (if nat_lt v (length self.now.pointers) then Some (get_or self.now.pointers v null_cell) else None) }
+    {
+        let v = v as usize;
+        if v < self.pointers.len() {
+            Some(self.pointers[v])
+        } else {
+            None
+        }
+    }
+
+    // The pointer local, or null.
+    pub(crate) fn pointer(&self, v: u16) -> Cell
+        ensures { result ≡ get_or self.now.pointers v null_cell }
+    {
+        cell_or_null(&self.pointers, v as usize)
+    }
+
+    // Puts a cell into a pointer local.
+    pub(crate) fn set_pointer(&mut self, v: u16, c: Cell)
+        requires { v < length self.old.pointers }
+        ensures { self.new ≡ record self.old { pointers = set self.old.pointers v c } }
+    {
+        self.pointers[v as usize] = c;
+    }
+
+    // The data local.
+    pub(crate) fn value(&self, x: u16) -> u32
+        ensures { (s : State) (t : ℕ) → result ≡ value_at (with_locals s t (Some self.now)) t x }
+    {
+        value_or_0(&self.values, x as usize)
+    }
+
+    // Puts a number into a data local.
+    pub(crate) fn set_value(&mut self, x: u16, n: u32)
+        requires { x < length self.old.values }
+        ensures { self.new ≡ record self.old { values = set self.old.values x n } }
+    {
+        self.values[x as usize] = n;
+    }
+
+    // The number that is put into data.
+    pub(crate) fn number(&self, e: Num) -> u32
+        ensures { (s : State) (t : ℕ) → result ≡ number_of (with_locals s t (Some self.now)) t e }
+    {
+        match e {
+            Num::Lit(n) => n,
+            Num::Local(x) => self.value(x),
+        }
+    }
+}
+
+// A pointer local of a thread, if there is one of this number.
+pub fn local_of(locals: &[Option<Locals>], t: u32, v: u16) -> Option<Cell>
+    ensures { let l = locals_or_none (get_or locals.now t None) in result ≡ (if nat_lt v (length l.pointers) then Some (get_or l.pointers v null_cell) else None) }
+{
+    let t = t as usize;
+    if t >= locals.len() {
+        return None;
+    }
+    match &locals[t] {
+        Some(l) => l.find(v),
+        None => None,
+    }
+}
+
+// A copy of the locals of a thread, if it has any.
+fn copy_held(held: &Option<Locals>) -> Result<Option<Locals>, NoMemory>
+    ensures { IfOk result (λ copy. copy ≡ held.now) }
+{
+    match held {
+        Some(l) => Ok(Some(l.copy()?)),
+        None => Ok(None),
+    }
+}
+
+// Copies of the locals of all threads.
+pub fn copy_locals(
+    alloc: Global,
+    locals: &[Option<Locals>],
+) -> Result<Vec<Option<Locals>>, NoMemory>
+    ensures { IfOk result (λ copy. copy.items ≡ locals.now) }
+{
+    let mut copy = Vec::new(alloc);
+    for held in locals {
+        copy.push(copy_held(held)?)?;
+    }
+    Ok(copy)
+}
+
+// So many idle threads.
+pub fn idle_threads(alloc: Global, threads: usize) -> Result<Vec<Option<Locals>>, NoMemory>
+    ensures { IfOk result (λ locals. locals.items ≡ replicate threads None) }
+{
+    let mut locals = Vec::new(alloc);
+    for t in 0..threads {
+        let _done = t;
+        locals.push(None)?;
+    }
+    Ok(locals)
+}
+
+// Makes the pointers of a thread invalid that hold an address.
+fn cut_held(held: &mut Option<Locals>, a: u32)
+    ensures { held.new ≡ cut_locals a held.old }
+{
+    if let Some(l) = held {
+        cut_cells(&mut l.pointers, a);
+    }
+}
+
+// Makes the pointers of all threads invalid that hold an address.
+pub fn cut_threads(locals: &mut [Option<Locals>], a: u32)
+    ensures { locals.new ≡ map (cut_locals a) locals.old }
+{
+    for held in locals.iter_mut() {
+        cut_held(held, a);
+    }
+}

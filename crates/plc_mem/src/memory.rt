@@ -1,0 +1,292 @@
+// The memory that programs run on. Its nodes and retired addresses are lists that are searched: what
+// it is seen as is the state of the definitions, and every read is total, so that nothing here rests
+// on how an address came to be used.
+ghost use Rattle.std.specs.Prelude.{◌≡◌, ℕ, ◌<◌, ◌==◌, not, length, nat_lt, get_or, slice_set, filter, map, false, if◌then◌else◌, is_ok, IfOk, IfSome, Some, None};
+ghost use Rattle.plc_lang.specs.Shape.{VarIn};
+ghost use Rattle.plc_mem.specs.State.{State, null_cell, at, put, at_field, place, field_value, put_field_value, with_node, with_retired, with_locals, is_used, is_retired, freed, fresh_state, first_state, holds_pointer, cell_of, number_at, valid_at, place_of};
+ghost use Rattle.plc_mem.specs.Primitives.{cell_at};
+ghost use Rattle.plc_mem.specs.Fit.{shape, Kept};
+ghost use Rattle.plc_mem.specs.Coherence.{IsCoherent, LocalsCoherent};
+
+use crate::cell::Cell;
+use crate::cells::{cell_or_null, cut_cells};
+use crate::locals::{Locals, copy_locals, cut_threads, idle_threads, local_of};
+use crate::node::{
+    Node, cell_in, copy_nodes, cut_nodes, drop_node, holds_node, set_cell, set_value, value_in,
+};
+use plc_base::{FieldId, NoMemory};
+use plc_flow::{Flow, Place};
+use plc_lang::{Field, Var};
+use std::alloc::Global;
+use std::marker::Model;
+
+/// What shared pointers, locals and nodes hold, and which addresses are used and retired.
+#[derive(Drop)]
+pub struct Memory {
+    alloc: Global,
+    fields: Vec<bool>,
+    shared: Vec<Cell>,
+    locals: Vec<Option<Locals>>,
+    nodes: Vec<Node>,
+    retired: Vec<u32>,
+}
+
+impl Model for Memory {
+    ghost use Rattle.std.specs.Prelude.{length};
+    ghost use Rattle.plc_mem.specs.State.{State};
+    ghost use Rattle.plc_mem.specs.Fit.{NodesFit};
+
+    ghost Value = { State };
+
+    ghost view = { λ m. record { fields = m.fields.items; shared = m.shared.items; locals = m.locals.items; nodes = m.nodes.items; retired = m.retired.items } };
+
+    ghost invariant = { λ m. NodesFit (length m.fields.items) m.nodes.items };
+}
+
+// Which of the fields are pointer fields.
+fn kinds(alloc: Global, fields: &[Field]) -> Result<Vec<bool>, NoMemory>
+    ensures { IfOk result (λ kinds. kinds.items ≡ map holds_pointer fields.now) }
+{
+    let mut kinds = Vec::new(alloc);
+    for f in fields {
+        kinds.push(f.pointer)?;
+    }
+    Ok(kinds)
+}
+
+// Takes an address out of a list.
+fn drop_address(addresses: &mut Vec<u32>, a: u32)
+    ensures { addresses.new.items ≡ filter (λ x. not (x == a)) addresses.old.items }
+{
+    addresses.retain(|x| *x != a);
+}
+
+impl Memory {
+    /// The memory of a flow for so many threads, before its `init`: nothing used, shared pointers
+    /// null, no locals.
+    pub fn new(alloc: Global, flow: &Flow, threads: u32) -> Result<Memory, NoMemory>
+        ensures fresh { IfOk result (λ m. m ≡ first_state flow.now threads) }
+        ensures coherent { IfOk result (λ m. IsCoherent m) }
+    {
+        let fields = kinds(alloc, flow.file.fields.as_slice())?;
+        Memory::fresh(alloc, fields, flow.file.shared.len(), threads as usize)
+    }
+
+    // Nothing used, shared pointers null, no locals.
+    fn fresh(
+        alloc: Global,
+        fields: Vec<bool>,
+        shared: usize,
+        threads: usize,
+    ) -> Result<Memory, NoMemory>
+        ensures { IfOk result (λ m. m ≡ fresh_state fields.items shared threads) }
+    {
+        let null = Cell::null();
+        Ok(Memory {
+            alloc,
+            fields,
+            shared: vec![in alloc; null; shared]?,
+            locals: idle_threads(alloc, threads)?,
+            nodes: Vec::new(alloc),
+            retired: Vec::new(alloc),
+        })
+    }
+
+    /// A copy, equal to this memory.
+    pub fn copy(&self) -> Result<Memory, NoMemory>
+        ensures { IfOk result (λ m. m ≡ self.now) }
+    {
+        Ok(Memory {
+            alloc: self.alloc,
+            fields: self.fields.clone()?,
+            shared: self.shared.clone()?,
+            locals: copy_locals(self.alloc, &self.locals)?,
+            nodes: copy_nodes(self.alloc, &self.nodes)?,
+            retired: self.retired.clone()?,
+        })
+    }
+
+    /// Hands out the locals of a thread, and `None` exactly where none are held.
+    pub fn take(&mut self, t: u32) -> Option<Locals>
+        ensures taken { result ≡ get_or self.old.locals t None }
+        ensures rest { self.new ≡ record self.old { locals = slice_set self.old.locals t None } }
+        ensures coherent { IsCoherent self.old → IsCoherent self.new × IfSome result (λ l. LocalsCoherent self.new l) }
+    {
+        let t = t as usize;
+        if t < self.locals.len() {
+            self.locals[t].take()
+        } else {
+            None
+        }
+    }
+
+    /// Gives the locals of a thread back, of which none are held.
+    pub fn put(&mut self, t: u32, l: Locals)
+        requires below { t < length self.old.locals }
+        requires none { get_or self.old.locals t None ≡ None }
+        ensures given { self.new ≡ with_locals self.old t (Some l) }
+        ensures coherent { LocalsCoherent self.old l → IsCoherent self.old → IsCoherent self.new }
+    {
+        self.locals[t as usize] = Some(l);
+    }
+
+    /// The reclaimer frees an address: it is neither used nor retired any more, and every pointer
+    /// that holds it is invalid.
+    pub fn free(&mut self, a: u32)
+        requires { 0 < a }
+        ensures freed { self.new ≡ freed self.old a }
+        ensures coherent { IsCoherent self.old → IsCoherent self.new }
+    {
+        drop_node(&mut self.nodes, a);
+        cut_nodes(&mut self.nodes, a);
+        cut_cells(&mut self.shared, a);
+        cut_threads(&mut self.locals, a);
+        drop_address(&mut self.retired, a);
+    }
+
+    /// Whether an address is used.
+    pub fn used(&self, a: u32) -> bool
+        ensures { result ≡ is_used self.now a }
+    {
+        holds_node(&self.nodes, a)
+    }
+
+    /// Whether an address is retired.
+    pub fn retired(&self, a: u32) -> bool
+        ensures { result ≡ is_retired self.now a }
+    {
+        self.retired.contains(&a)
+    }
+
+    /// The number of a pointer place, and `None` exactly where the memory has no such place: a shared
+    /// pointer or a local past the last, a local of a thread without locals, a field of an address
+    /// that isn't used (null has none), a data field.
+    pub fn number(&self, place: &Place) -> Option<u32>
+        ensures { result ≡ number_at self.now (place_of place.now) }
+    {
+        match self.cell(place) {
+            Some(c) => Some(c.number),
+            None => None,
+        }
+    }
+
+    /// Whether a pointer place is valid; false where the memory has no such place.
+    pub fn valid(&self, place: &Place) -> bool
+        ensures { result ≡ valid_at self.now (place_of place.now) }
+    {
+        match self.cell(place) {
+            Some(c) => c.valid,
+            None => false,
+        }
+    }
+
+    // What a pointer place holds, if there is such a place.
+    fn cell(&self, place: &Place) -> Option<Cell>
+        ensures { result ≡ cell_of self.now (place_of place.now) }
+    {
+        match *place {
+            Place::Shared(i) => self.shared_pointer(i),
+            Place::Cell { a, f } => {
+                if self.used(a) && self.is_pointer(f) {
+                    Some(self.field(a, f))
+                } else {
+                    None
+                }
+            }
+            Place::Local { t, v } => local_of(&self.locals, t, v),
+        }
+    }
+
+    // The shared pointer, if there is one of this number.
+    fn shared_pointer(&self, i: u16) -> Option<Cell>
+        ensures { result ≡ (if nat_lt i (length self.now.shared) then Some (get_or self.now.shared i null_cell) else None) }
+    {
+        let i = i as usize;
+        if i < self.shared.len() {
+            Some(self.shared[i])
+        } else {
+            None
+        }
+    }
+
+    // Whether a field is a pointer field.
+    fn is_pointer(&self, f: FieldId) -> bool
+        ensures { result ≡ get_or self.now.fields f.0 false }
+    {
+        let f = f.0 as usize;
+        if f < self.fields.len() {
+            self.fields[f]
+        } else {
+            false
+        }
+    }
+
+    // What a variable of the acting thread holds.
+    pub(crate) fn read(&self, me: &Locals, v: Var) -> Cell
+        ensures { (t : ℕ) → result ≡ cell_at (with_locals self.now t (Some me.now)) t v }
+    {
+        match v {
+            Var::Shared(i) => cell_or_null(&self.shared, i as usize),
+            Var::Local(i) => me.pointer(i),
+        }
+    }
+
+    // Puts a cell into a variable of the acting thread.
+    pub(crate) fn write(&mut self, me: &mut Locals, v: Var, c: Cell)
+        requires { VarIn (shape self.old me.old) v }
+        ensures written { (t : ℕ) → with_locals self.new t (Some me.new) ≡ put (with_locals self.old t (Some me.old)) (place t v) c }
+        ensures kept { Kept self.old me.old self.new me.new }
+    {
+        match v {
+            Var::Shared(i) => self.shared[i as usize] = c,
+            Var::Local(i) => me.set_pointer(i, c),
+        }
+    }
+
+    // What a field of a node holds.
+    pub(crate) fn field(&self, a: u32, f: FieldId) -> Cell
+        ensures { result ≡ at self.now (at_field a f.0) }
+    {
+        cell_in(&self.nodes, a, f.0 as usize)
+    }
+
+    // Puts a cell into a field of a node.
+    pub(crate) fn set_field(&mut self, a: u32, f: FieldId, c: Cell)
+        requires { f.0 < length self.old.fields }
+        ensures { self.new ≡ put self.old (at_field a f.0) c }
+    {
+        set_cell(&mut self.nodes, a, f.0 as usize, c);
+    }
+
+    // The number of a data field of a node.
+    pub(crate) fn field_value(&self, a: u32, f: FieldId) -> u32
+        ensures { result ≡ field_value self.now a f.0 }
+    {
+        value_in(&self.nodes, a, f.0 as usize)
+    }
+
+    // Puts a number into a data field of a node.
+    pub(crate) fn set_field_value(&mut self, a: u32, f: FieldId, n: u32)
+        requires { f.0 < length self.old.fields }
+        ensures { self.new ≡ put_field_value self.old a f.0 n }
+    {
+        set_value(&mut self.nodes, a, f.0 as usize, n);
+    }
+
+    // A fresh node of an address.
+    pub(crate) fn add_node(&mut self, a: u32) -> Result<(), NoMemory>
+        ensures { self.new ≡ (if is_ok result then with_node self.old a else self.old) }
+    {
+        let node = Node::fresh(self.alloc, self.fields.len(), a)?;
+        self.nodes.push(node)?;
+        Ok(())
+    }
+
+    // An address is handed to the reclaimer.
+    pub(crate) fn retire(&mut self, a: u32) -> Result<(), NoMemory>
+        ensures { self.new ≡ (if is_ok result then with_retired self.old a else self.old) }
+    {
+        self.retired.push(a)?;
+        Ok(())
+    }
+}
