@@ -10,7 +10,8 @@ use Rattle.plc_flow.specs.declared.flow.Move.TheVariants.{Start, Step as Take, R
 use Rattle.plc_mem.specs.declared.cell.RaceKind.{RaceKind}
 use Rattle.plc_mem.specs.State.{State}
 use Rattle.plc_mem.specs.Primitives.{race_of, goes, after, event_of}
-use Rattle.plc_run.specs.Run.{Ending, Fine, Stuck, Raced, turn, recorded, execute, Point, Configuration, steps_from, MayTake, taken, Moves, Races, begin}
+use Rattle.plc_run.specs.declared.point.Point.{Point}
+use Rattle.plc_run.specs.Run.{Ending, Fine, Stuck, Raced, turn, recorded, execute, Configuration, steps_from, MayTake, taken, Moves, Races, begin}
 use Rattle.plc_run.specs.Laws.{RunLaws}
 
 -- two ways to take a step from one configuration are one
@@ -68,7 +69,7 @@ one_race flow threads c (Free x) kind other k n a b = absurd a
 
 pub run_laws : (flow : Flow) (o : Observer) (threads : ℕ) → RunLaws flow o threads
 run_laws flow o threads = record {
-  begins = begin;
+  begins = λ c e. begin e;
   starts = λ c t op args operation gate small idle there opens counted. (_, (operation, gate, small, idle, there, opens, counted, refl));
   steps = λ c t nth addr p step s h may fine. (_, (p, step, s, h, may, fine, refl));
   returns = λ c t p gate small busy there at_exit. (_, (p, gate, small, busy, there, at_exit, refl));

@@ -14,7 +14,8 @@ use Rattle.plc_flow.specs.declared.flow.Move.{Move}
 use Rattle.plc_flow.specs.declared.flow.Move.TheVariants.{Start, Step as Take, Return, Free}
 use Rattle.plc_mem.specs.declared.cell.RaceKind.{RaceKind}
 use Rattle.plc_mem.specs.State.{State}
-use Rattle.plc_run.specs.Run.{Configuration, Point, Run, Moves, Races, Fine, MayTake, taken, point_of, first_configuration}
+use Rattle.plc_run.specs.declared.point.Point.{Point}
+use Rattle.plc_run.specs.Run.{Configuration, Run, Moves, Races, Fine, MayTake, taken, point_of, first_configuration}
 
 -- some configuration is reached by the move
 abbrev pub MayMove : Flow → Observer → ℕ → Configuration → Move → Type 0
@@ -22,7 +23,7 @@ MayMove flow o threads c move = (d : Configuration) × Moves flow o threads c mo
 
 -- what every flow's runs do
 pub record RunLaws (flow : Flow) (o : Observer) (threads : ℕ) : Type 0 where
-  pub begins : Run flow o threads 0 (first_configuration flow threads)
+  pub begins : (c : Configuration) → first_configuration flow threads ≡ Some c → Run flow o threads 0 c
   pub starts : (c : Configuration) (t : ℕ) (op : OpId) (args : List ℕ) (operation : Op) (gate : Gate)
       → t < threads → point_of c t ≡ None → slice_get flow.file.ops op.0 ≡ Some operation → slice_get flow.gates op.0 ≡ Some gate → length args ≡ count_by is_parameter operation.locals
       → MayMove flow o threads c (Start t op args)

@@ -1,10 +1,10 @@
 -- Configurations, moves and runs, and the races of a move.
-use Rattle.std.specs.Prelude.{◌≡◌, ℕ, suc, ◌+◌, ◌<◌, Bool, true, false, ◌==◌, List, [], ◌∷◌, ◌++◌, length, get_or, slice_get, filter, count_by, Option, Some, None, is_some}
+use Rattle.std.specs.Prelude.{◌≡◌, ℕ, suc, ◌+◌, ◌<◌, Bool, true, false, ◌==◌, List, [], ◌∷◌, ◌++◌, length, get_or, slice_get, filter, count_by, replicate, Option, Some, None, is_some}
 use Rattle.std.specs.List.{list_any}
 use Rattle.plc_lang.specs.declared.syntax.Primitive.{Primitive}
-use Rattle.plc_lang.specs.declared.syntax.Primitive.TheVariants.{Null, Copy, New, Load, Store, StoreNull, DataSet, DataLoad, DataStore}
+use Rattle.plc_lang.specs.declared.syntax.Primitive.TheVariants.{Null, Copy, New, Load, Store, StoreNull, DataSet, DataLoad, DataStore, Eq, Ne, IsNull, NotNull, DataTest, Refresh, RefreshLoad, RefreshStore, Call, Done, Active, Ghost}
 use Rattle.plc_lang.specs.declared.syntax.Op.{Op}
-use Rattle.plc_lang.specs.Locals.{is_pointer, is_parameter, is_other_data}
+use Rattle.plc_lang.specs.Locals.{is_parameter}
 use Rattle.plc_auto.specs.declared.event.Event.{Event}
 use Rattle.plc_auto.specs.declared.event.Event.TheVariants.{Free as Freed}
 use Rattle.plc_auto.specs.declared.observer.Observer.{Observer}
@@ -15,8 +15,10 @@ use Rattle.plc_flow.specs.declared.flow.Flow.{Flow}
 use Rattle.plc_flow.specs.declared.flow.Move.{Move}
 use Rattle.plc_flow.specs.declared.flow.Move.TheVariants.{Start, Step as Take, Return, Free}
 use Rattle.plc_mem.specs.declared.cell.RaceKind.{RaceKind}
-use Rattle.plc_mem.specs.State.{State, Locals, put_at, with_locals, freed, fresh_state, started}
+use Rattle.plc_run.specs.declared.point.Point.{Point}
+use Rattle.plc_mem.specs.State.{State, put_at, with_locals, freed, first_state, no_locals, starting}
 use Rattle.plc_mem.specs.Primitives.{race_of, goes, after, event_of}
+use Rattle.plc_mem.specs.Outcomes.{address_or_null}
 
 -- how a list of primitives ends: all succeeded, one is blocked, or primitive k is a race
 pub data Ending : Type 0 where
@@ -40,11 +42,6 @@ abbrev pub execute : State → List Event → ℕ → ℕ → ℕ → List Primi
 execute s h t a k [] = Fine s h
 execute s h t a k (p ∷ ps) = turn (race_of s t p) (goes s t a p) k (execute (after s t a p) (recorded h (event_of s t p)) t a (k + 1) ps)
 
--- where a busy thread stands
-pub record Point : Type 0 where
-  pub op : ℕ
-  pub at : ℕ
-
 -- what memory holds, what happened, and where each thread stands: None where it is idle
 pub record Configuration : Type 0 where
   pub state : State
@@ -54,10 +51,6 @@ pub record Configuration : Type 0 where
 -- the point where thread t stands, None for an idle thread
 abbrev pub point_of : Configuration → ℕ → Option Point
 point_of c t = get_or c.points t None
-
--- the locals with which a thread starts an operation
-abbrev pub starting : Op → List ℕ → Locals
-starting o args = started (count_by is_pointer o.locals) (count_by is_other_data o.locals) args
 
 -- the step leaves the point
 abbrev pub leaves : ℕ → Step → Bool
@@ -78,15 +71,22 @@ is_new (StoreNull p f) = false
 is_new (DataSet x e) = false
 is_new (DataLoad x q f) = false
 is_new (DataStore p f e) = false
+is_new (Eq p q) = false
+is_new (Ne p q) = false
+is_new (IsNull p) = false
+is_new (NotNull p) = false
+is_new (DataTest r x e) = false
+is_new (Refresh p q) = false
+is_new (RefreshLoad p q f) = false
+is_new (RefreshStore p f q) = false
+is_new (Call f r) = false
+is_new (Done f) = false
+is_new (Active p) = false
+is_new (Ghost p g v) = false
 
 -- a move that takes a step names an address exactly where the step has a `new`
 abbrev pub Names : Option ℕ → Step → Type 0
 Names addr s = is_some addr ≡ list_any is_new s.prims
-
--- the address that is named, or null
-abbrev pub address_or_null : Option ℕ → ℕ
-address_or_null None = 0
-address_or_null (Some a) = a
 
 -- thread t is at a point of an operation from which this step leaves, and the move is of the step's shape
 pub record MayTake (flow : Flow) (threads : ℕ) (c : Configuration) (t nth : ℕ) (addr : Option ℕ) (p : Point) (s : Step) : Type 0 where
@@ -123,17 +123,25 @@ Races flow threads c (Take t nth addr) kind k = (p : Point) × (step : Step) × 
 Races flow threads c (Return t) kind k = ⊥
 Races flow threads c (Free a) kind k = ⊥
 
--- where a run begins: what `init` leaves (a file of straight-line operations has none), and an empty history
-abbrev pub first_state : Flow → ℕ → State
-first_state flow threads = fresh_state (length flow.file.fields) (length flow.file.shared) threads
+-- ---- where runs begin
 
--- no thread is in an operation, and nothing was heard
-abbrev pub first_configuration : Flow → ℕ → Configuration
-first_configuration flow threads = record { state = first_state flow threads; history = []; points = [] }
+-- `init` is taken by thread 0 before all, without locals; its `new` takes the address 1
+abbrev pub initialised : Flow → ℕ → Ending
+initialised flow threads = execute (with_locals (first_state flow threads) 0 (Some no_locals)) [] 0 1 0 flow.file.init
+
+-- no thread is in an operation; `init` has no call, so that nothing was heard
+abbrev pub beginning : ℕ → Ending → Option Configuration
+beginning threads (Fine s h) = Some (record { state = with_locals s 0 None; history = h; points = replicate threads None })
+beginning threads Stuck = None
+beginning threads (Raced kind k) = None
+
+-- where a run begins: in what `init` leaves; where that is blocked there is no run
+abbrev pub first_configuration : Flow → ℕ → Option Configuration
+first_configuration flow threads = beginning threads (initialised flow threads)
 
 -- n moves without a race lead from the beginning to a configuration
 pub data Run (flow : Flow) (o : Observer) (threads : ℕ) : ℕ → Configuration → Type 0 where
-  begin : Run flow o threads 0 (first_configuration flow threads)
+  begin : {c : Configuration} → first_configuration flow threads ≡ Some c → Run flow o threads 0 c
   more : {n : ℕ} {c d : Configuration} → Run flow o threads n c → (move : Move) → Moves flow o threads c move d → Run flow o threads (suc n) d
 
 -- in no run of the flow, with any number of threads, any interleaving, any reuse of addresses and any allowed free, is a step a pointer race or a second retire

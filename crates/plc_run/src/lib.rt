@@ -2,6 +2,13 @@
 //! interleaving, any reuse of addresses, and any frees that the observer allows.
 #![tactic(auto)]
 
+mod config;
+mod execute;
+mod judge;
 mod laws;
+mod moved;
+mod point;
 
-pub use laws::runs_go_on;
+pub use config::Config;
+pub use laws::{runs_are_observed, runs_go_on, threads_hold_their_locals};
+pub use moved::Moved;

@@ -1,0 +1,104 @@
+-- After an allowed history a free is judged by its own address alone, for all threads.
+use Rattle.std.proofs.Common.{length, get_or, drop, ◌≡◌, ℕ, zero, suc, ◌+◌, ◌<◌, Bool, true, false, List, [], ◌∷◌, ◌++◌, Option, Some, None, is_some, refl, sym, ◌∙◌, subst, arith, inl, inr}
+use Rattle.std.proofs.lemmas.Bool.{and_parts, and_from, cases_eq, cases_Bool}
+use Rattle.plc_lang.specs.declared.syntax.Primitive.{Primitive}
+use Rattle.plc_auto.specs.declared.event.Event.{Event}
+use Rattle.plc_auto.specs.declared.event.Event.TheVariants.{Free as Freed}
+use Rattle.plc_auto.specs.declared.observer.Observer.{Observer}
+use Rattle.std.proofs.lemmas.List.{at_drop_more}
+use Rattle.plc_auto.specs.Location.{location, location_from, step_by, advance, Allowed}
+use Rattle.plc_auto.proofs.Histories.{location_longer, allowed_empty, allowed_free, allowed_last}
+use Rattle.plc_flow.specs.declared.flow.Flow.{Flow}
+use Rattle.plc_flow.specs.declared.flow.Move.{Move}
+use Rattle.plc_flow.specs.declared.flow.Move.TheVariants.{Start, Step as Take, Return, Free}
+use Rattle.plc_mem.specs.declared.cell.RaceKind.{RaceKind}
+use Rattle.plc_mem.specs.State.{State}
+use Rattle.plc_mem.specs.Primitives.{race_of, goes, after, event_of}
+use Rattle.plc_run.specs.Run.{Ending, Fine, Stuck, Raced, turn, recorded, execute, Configuration, Moves, Run, begin, more, beginning, initialised, first_configuration}
+use Rattle.plc_run.specs.Reach.{may_free}
+use Rattle.plc_run.proofs.Observed.{recorded_allowed}
+
+-- ---- a free
+
+is_some_of : {A : Type 0} (q : Option A) → is_some q ≡ true → q ≡ None → ⊥
+is_some_of None e n = cc
+is_some_of (Some x) e n = cc
+
+some_if : {A : Type 0} (q : Option A) → (q ≡ None → ⊥) → is_some q ≡ true
+some_if None f = absurd (f refl)
+some_if (Some x) f = refl
+
+free_at : (o : Observer) (h : List Event) (a n t : ℕ) → may_free o h a n ≡ true → t < n → advance o t a (Freed a) (location o h t a) ≡ None → ⊥
+free_at o h a zero t may l bad = absurd (omega arith)
+free_at o h a (suc n) t may l bad =
+    let parts = and_parts (may_free o h a n) (is_some (advance o n a (Freed a) (location o h n a))) may in
+    elim (cases_eq t n) [
+      | inl e ↦ is_some_of (advance o n a (Freed a) (location o h n a)) parts.1 (subst (λ u. advance o u a (Freed a) (location o h u a) ≡ None) e bad)
+      | inr ne ↦ free_at o h a n t parts.0 (omega arith) bad
+    ]
+
+free_from : (o : Observer) (h : List Event) (a n : ℕ) → ((t : ℕ) → t < n → advance o t a (Freed a) (location o h t a) ≡ None → ⊥) → may_free o h a n ≡ true
+free_from o h a zero f = refl
+free_from o h a (suc n) f =
+    and_from (may_free o h a n) (is_some (advance o n a (Freed a) (location o h n a))) (free_from o h a n (λ t l. f t (omega arith))) (some_if _ (f n (omega arith)))
+
+pub judged_allowed : (o : Observer) (threads : ℕ) (h : List Event) (a : ℕ) → Allowed o threads h → may_free o h a threads ≡ true → Allowed o threads (h ++ Freed a ∷ [])
+judged_allowed o threads h a fine may = allowed_free o threads h a fine (λ t small bad. free_at o h a threads t may small (sym (location_longer o h (Freed a) t a) ∙ bad))
+
+pub judged_forbidden : (o : Observer) (threads : ℕ) (h : List Event) (a : ℕ) → 0 < a → may_free o h a threads ≡ false → Allowed o threads (h ++ Freed a ∷ []) → ⊥
+judged_forbidden o threads h a pos may fine =
+    let contrary : may_free o h a threads ≡ true = free_from o h a threads (λ t small bad. allowed_last o threads (h ++ Freed a ∷ []) t a fine small pos (location_longer o h (Freed a) t a ∙ bad)) in
+    cc
+
+-- ---- every history of a run is allowed
+
+abbrev EndsAllowed : Observer → ℕ → Ending → Type 0
+EndsAllowed o threads (Fine s h) = Allowed o threads h
+EndsAllowed o threads Stuck = Unit {0}
+EndsAllowed o threads (Raced kind k) = Unit {0}
+
+execute_allowed : (o : Observer) (threads : ℕ) (s : State) (h : List Event) (t a k : ℕ) (ps : List Primitive) → Allowed o threads h → EndsAllowed o threads (execute s h t a k ps)
+execute_allowed o threads s h t a k [] fine = fine
+execute_allowed o threads s h t a k (p ∷ ps) fine =
+    go (race_of s t p) (goes s t a p) (execute (after s t a p) (recorded h (event_of s t p)) t a (k + 1) ps) (execute_allowed o threads (after s t a p) (recorded h (event_of s t p)) t a (k + 1) ps (recorded_allowed o threads s h t p fine))
+  where
+    go : (r : Option RaceKind) (g : Bool) (rest : Ending) → EndsAllowed o threads rest → EndsAllowed o threads (turn r g k rest)
+    go (Some kind) g rest j = tt
+    go None true rest j = j
+    go None false rest j = tt
+
+move_allowed : (flow : Flow) (o : Observer) (threads : ℕ) (c d : Configuration) (move : Move) → Moves flow o threads c move d → Allowed o threads c.history → Allowed o threads d.history
+move_allowed flow o threads c d (Start t op args) m fine = subst (λ (d : Configuration). Allowed o threads d.history) (sym m.7) fine
+move_allowed flow o threads c d (Take t nth addr) m fine =
+    subst (λ (d : Configuration). Allowed o threads d.history) (sym m.6) (subst (EndsAllowed o threads) m.5 (execute_allowed o threads c.state c.history t _ 0 m.1.prims fine))
+move_allowed flow o threads c d (Return t) m fine = subst (λ (d : Configuration). Allowed o threads d.history) (sym m.6) fine
+move_allowed flow o threads c d (Free a) m fine = subst (λ (d : Configuration). Allowed o threads d.history) (sym m.2) m.1
+
+begun_allowed : (flow : Flow) (o : Observer) (threads : ℕ) (c : Configuration) → first_configuration flow threads ≡ Some c → Allowed o threads c.history
+begun_allowed flow o threads c e = go (initialised flow threads) e (execute_allowed o threads _ [] 0 1 0 flow.file.init (allowed_empty o threads))
+  where
+    go : (end : Ending) → beginning threads end ≡ Some c → EndsAllowed o threads end → Allowed o threads c.history
+    go (Fine s h) is fine = (let same : h ≡ c.history = cc in subst (Allowed o threads) same fine)
+    go Stuck is fine = cc
+    go (Raced kind k) is fine = cc
+
+pub run_allowed : (flow : Flow) (o : Observer) (threads n : ℕ) (c : Configuration) → Run flow o threads n c → Allowed o threads c.history
+run_allowed flow o threads n c (begin e) = begun_allowed flow o threads c e
+run_allowed flow o threads n d (more {n = m} {c = c} run move moved) = move_allowed flow o threads c d move moved (run_allowed flow o threads m c run)
+
+-- ---- judging in code
+
+none_if_not : {A : Type 0} (q : Option A) → is_some q ≡ false → q ≡ None
+none_if_not None e = refl
+none_if_not (Some x) e = cc
+
+-- one thread that doesn't bear the free is enough
+pub not_free : (o : Observer) (h : List Event) (a n t : ℕ) → t < n → is_some (advance o t a (Freed a) (location o h t a)) ≡ false → may_free o h a n ≡ false
+not_free o h a n t small none = elim (cases_Bool (may_free o h a n)) [
+  | inl may ↦ absurd (free_at o h a n t may small (none_if_not (advance o t a (Freed a) (location o h t a)) none))
+  | inr kept ↦ kept
+]
+
+-- one event more from a location on the way
+pub location_next : (o : Observer) (t a l i : ℕ) (h : List Event) (d : Event) → i < length h → location_from o t a (Some l) (drop i h) ≡ location_from o t a (step_by o t a (get_or h i d) l) (drop (i + 1) h)
+location_next o t a l i h d small = at_drop_more (location_from o t a (Some l)) h i d small

@@ -1,0 +1,182 @@
+-- What the code's parts of a move make together.
+use Rattle.std.proofs.Common.{Result, Ok, Err, IfOk, OnOk, OnErr, ◌≡◌, ℕ, zero, suc, ◌+◌, ◌<◌, Bool, true, false, cond, List, [], ◌∷◌, ◌++◌, Option, Some, None, is_some, length, get_or, set, slice_get, replicate, refl, sym, ap, ◌∙◌, subst, arith, append_assoc}
+use Rattle.std.specs.List.{list_any}
+use Rattle.std.specs.Prelude.{nat_lt, is_none, count_by}
+use Rattle.std.proofs.lemmas.List.{length-replicate}
+use Rattle.std.proofs.lemmas.Bool.{and_parts, eq-eqb, ltb-true}
+use Rattle.plc_lang.specs.Locals.{is_parameter}
+use Rattle.plc_base.specs.declared.ids.OpId.{OpId}
+use Rattle.plc_base.specs.declared.memory.NoMemory.{NoMemory}
+use Rattle.plc_flow.specs.declared.flow.Gate.{Gate}
+use Rattle.plc_run.specs.Fit.{ConfigurationFits}
+use Rattle.plc_run.proofs.Shapes.{held_below}
+use Rattle.plc_lang.specs.declared.syntax.Op.{Op}
+use Rattle.plc_lang.specs.declared.syntax.Primitive.{Primitive}
+use Rattle.plc_auto.specs.declared.event.Event.{Event}
+use Rattle.plc_auto.specs.declared.observer.Observer.{Observer}
+use Rattle.plc_flow.specs.declared.flow.Step.{Step}
+use Rattle.plc_flow.specs.declared.flow.Flow.{Flow}
+use Rattle.plc_flow.specs.declared.flow.Move.{Move}
+use Rattle.plc_flow.specs.declared.flow.Move.TheVariants.{Start, Step as Take, Return, Free}
+use Rattle.plc_mem.specs.declared.cell.RaceKind.{RaceKind}
+use Rattle.plc_mem.specs.State.{State, Locals, put_at, with_locals, starting}
+use Rattle.plc_mem.specs.Primitives.{race_of, goes, after, event_of}
+use Rattle.plc_mem.specs.Outcomes.{address_or_null}
+use Rattle.plc_mem.proofs.Places.{put_is_set, put_put, length_put}
+use Rattle.plc_run.specs.declared.point.Point.{Point}
+use Rattle.plc_run.specs.Run.{Ending, Fine, Stuck, Raced, turn, recorded, execute, Configuration, point_of, steps_from, is_new, taken, Moves, Run, begin, more, beginning, initialised, first_configuration}
+use Rattle.plc_run.specs.Reach.{Reached, Goes, Blocks, Forbids, Breaks, is_idle, start_op, start_from, return_to, return_from, ended_as, same_bool, take_step, step_from, free_of, reach}
+use Rattle.plc_run.specs.declared.moved.Moved.{Moved}
+use Rattle.plc_run.specs.Position.{Position, threads_of, IsOfRun, Answers, answer, reached}
+use Rattle.plc_run.proofs.Reaching.{LeadsTo, reach_leads}
+use Rattle.plc_run.proofs.Judged.{run_allowed}
+
+-- ---- events that are gathered beside the history
+
+-- the same end with a history before its own
+abbrev pub behind : List Event → Ending → Ending
+behind h (Fine s g) = Fine s (h ++ g)
+behind h Stuck = Stuck
+behind h (Raced kind k) = Raced kind k
+
+recorded_behind : (h g : List Event) (e : Option Event) → recorded (h ++ g) e ≡ h ++ recorded g e
+recorded_behind h g None = refl
+recorded_behind h g (Some e) = append_assoc h g (e ∷ [])
+
+execute_behind : (s : State) (h g : List Event) (t a k : ℕ) (ps : List Primitive) → execute s (h ++ g) t a k ps ≡ behind h (execute s g t a k ps)
+execute_behind s h g t a k [] = refl
+execute_behind s h g t a k (p ∷ ps) =
+    ap (λ x. turn (race_of s t p) (goes s t a p) k (execute (after s t a p) x t a (k + 1) ps)) (recorded_behind h g (event_of s t p))
+    ∙ ap (turn (race_of s t p) (goes s t a p) k) (execute_behind (after s t a p) h (recorded g (event_of s t p)) t a (k + 1) ps)
+    ∙ go (race_of s t p) (goes s t a p) (execute (after s t a p) (recorded g (event_of s t p)) t a (k + 1) ps)
+  where
+    go : (r : Option RaceKind) (b : Bool) (next : Ending) → turn r b k (behind h next) ≡ behind h (turn r b k next)
+    go (Some kind) b next = refl
+    go None true next = refl
+    go None false next = refl
+
+append_none : (h : List Event) → h ++ [] ≡ h
+append_none [] = refl
+append_none (e ∷ h) = ap (λ x. e ∷ x) (append_none h)
+
+-- a step that may be taken
+pub stepped : (flow : Flow) (c : Configuration) (t nth : ℕ) (addr : Option ℕ) (p : Point) (step : Step) (end : Ending) → point_of c t ≡ Some p → slice_get (steps_from flow p.at) nth ≡ Some step → same_bool (is_some addr) (list_any is_new step.prims) ≡ true
+    → end ≡ execute c.state [] t (address_or_null addr) 0 step.prims → step_from flow c t nth addr (point_of c t) ≡ ended_as c t p step.to.0 (behind c.history end)
+stepped flow c t nth addr p step end busy at shaped ran =
+    ap (step_from flow c t nth addr) busy ∙ ap (take_step c t addr p) at ∙ ap (λ b. cond b (ended_as c t p step.to.0 (taken c t addr step)) Blocks) shaped
+    ∙ ap (ended_as c t p step.to.0) (ap (λ h. execute c.state h t (address_or_null addr) 0 step.prims) (sym (append_none c.history)) ∙ execute_behind c.state c.history [] t (address_or_null addr) 0 step.prims ∙ ap (behind c.history) (sym ran))
+
+-- ---- where runs begin
+
+put_first : (threads : ℕ) → 0 < threads → (xs : List (Option Locals)) → xs ≡ replicate threads None → (l : Locals) → put_at None (put_at None xs 0 (Some l)) 0 None ≡ xs
+put_first zero some xs e l = absurd (omega arith)
+put_first (suc n) some xs e l = put_put None xs 0 (Some l) None ∙ ap (λ ys. put_at None ys 0 None) e ∙ sym e
+
+pub begun_with : (flow : Flow) (threads : ℕ) (m : State) (l : Locals) (h : List Event) (points : List (Option Point)) → 0 < threads → m.locals ≡ replicate threads None → points ≡ replicate threads None
+    → Fine (with_locals m 0 (Some l)) h ≡ initialised flow threads → first_configuration flow threads ≡ Some (record { state = m; history = h; points = points })
+unfolding with_locals
+begun_with flow threads m l h points some idle same e =
+    sym (ap (beginning threads) e) ∙ ap (λ xs. Some (record { state = record m { locals = xs }; history = h; points = replicate threads None })) (put_first threads some m.locals idle l) ∙ ap (λ ps. Some (record { state = m; history = h; points = ps })) (sym same)
+
+-- ---- moves
+
+move_threads : (flow : Flow) (o : Observer) (c d : Configuration) (move : Move) → Moves flow o (length c.points) c move d → length d.points ≡ length c.points
+move_threads flow o c d (Start t op args) m = ap (λ (x : Configuration). length x.points) m.7 ∙ length_put None c.points t _ m.2
+move_threads flow o c d (Take t nth addr) m = ap (λ (x : Configuration). length x.points) m.6 ∙ length_put None c.points t _ m.4.known
+move_threads flow o c d (Return t) m = ap (λ (x : Configuration). length x.points) m.6 ∙ length_put None c.points t _ m.2
+move_threads flow o c d (Free a) m = ap (λ (x : Configuration). length x.points) m.2
+
+pub of_run_more : (flow : Flow) (o : Observer) (p : Position) (d : Configuration) (move : Move) → IsOfRun flow o p → Moves flow o (length p.here.points) p.here move d → IsOfRun flow o (record p { here = d })
+of_run_more flow o p d move run m = (suc run.0, subst (λ n. Run flow o n (suc run.0) d) (sym (move_threads flow o p.here d move m)) (more run.1 move m))
+
+-- what each result of a move says of the answer
+answers_so : (flow : Flow) (o : Observer) (p : Position) (move : Move) (r : Reached) → p.ended ≡ false → LeadsTo flow o (threads_of p) p.here move r → Answers flow o p move (answer r) (reached r p)
+answers_so flow o p move (Goes d) live leads = (live, live, leads)
+answers_so flow o p move Blocks live leads = (λ e. leads, refl)
+answers_so flow o p move Forbids live leads = (live, leads, refl)
+answers_so flow o p move (Breaks kind k) live leads = (live, leads, refl)
+
+run_so : (flow : Flow) (o : Observer) (p : Position) (move : Move) (r : Reached) → IsOfRun flow o p → LeadsTo flow o (threads_of p) p.here move r → IsOfRun flow o (reached r p)
+run_so flow o p move (Goes d) run leads = of_run_more flow o p d move run leads
+run_so flow o p move Blocks run leads = run
+run_so flow o p move Forbids run leads = run
+run_so flow o p move (Breaks kind k) run leads = run
+
+pub answered : (flow : Flow) (o : Observer) (p q : Position) (move : Move) (r : Moved) → p.ended ≡ false → IsOfRun flow o p → r ≡ answer (reach flow o p.here move) → q ≡ reached (reach flow o p.here move) p → Answers flow o p move r q
+answered flow o p q move r live run e f =
+    rw (e, f) (answers_so flow o p move (reach flow o p.here move) live (reach_leads flow o p.here move (run_allowed flow o (threads_of p) run.0 p.here run.1)))
+
+pub run_answered : (flow : Flow) (o : Observer) (p q : Position) (move : Move) → IsOfRun flow o p → q ≡ reached (reach flow o p.here move) p → IsOfRun flow o q
+run_answered flow o p q move run f =
+    rw f (run_so flow o p move (reach flow o p.here move) run (reach_leads flow o p.here move (run_allowed flow o (threads_of p) run.0 p.here run.1)))
+
+-- ---- starts and returns in code
+
+begun_threads : (threads : ℕ) (end : Ending) (c : Configuration) → beginning threads end ≡ Some c → length c.points ≡ threads
+begun_threads threads (Fine s h) c e = (let same : replicate threads None ≡ c.points = cc in sym (ap length same) ∙ length-replicate threads None)
+begun_threads threads Stuck c e = cc
+begun_threads threads (Raced kind k) c e = cc
+
+pub begun_run : (flow : Flow) (o : Observer) (threads : ℕ) (p : Position) → first_configuration flow threads ≡ Some p.here → IsOfRun flow o p × (threads_of p ≡ threads)
+begun_run flow o threads p e =
+    let many = begun_threads threads (initialised flow threads) p.here e in
+    ((0, subst (λ n. Run flow o n 0 p.here) (sym many) (begin e)), many)
+
+pub returned : (flow : Flow) (c : Configuration) (t : ℕ) (p : Point) (g : Gate) (s : State) (ps : List (Option Point)) → ConfigurationFits flow (length c.points) c → point_of c t ≡ Some p → slice_get flow.gates p.op ≡ Some g → p.at ≡ g.exit.0
+    → s ≡ record c.state { locals = set c.state.locals t None } → ps ≡ set c.points t None → return_from flow c t (point_of c t) ≡ Goes (record c { state = s; points = ps })
+unfolding with_locals
+returned flow c t p g s ps fits busy opens at_exit new points =
+    let small = held_below c.points t p busy in
+    let gone : with_locals c.state t None ≡ s = ap (λ xs. record c.state { locals = xs }) (put_is_set None c.state.locals t None (omega (arith, fits.locals, small))) ∙ sym new in
+    let left : put_at None c.points t None ≡ ps = put_is_set None c.points t None small ∙ sym points in
+    ap (return_from flow c t) busy ∙ ap (return_to c t p) opens
+    ∙ ap (λ b. cond b (Goes (record c { state = with_locals c.state t None; points = put_at None c.points t None })) Blocks) (eq-eqb p.at g.exit.0 at_exit)
+    ∙ ap (λ s. Goes (record c { state = s; points = put_at None c.points t None })) gone ∙ ap (λ ps. Goes (record c { state = s; points = ps })) left
+
+pub started_so : (flow : Flow) (c : Configuration) (t op : ℕ) (args : List ℕ) (o : Op) (g : Gate) (s : State) (ps : List (Option Point)) → is_idle c.points t ≡ true → slice_get flow.file.ops op ≡ Some o → slice_get flow.gates op ≡ Some g → length args ≡ count_by is_parameter o.locals
+    → s ≡ with_locals c.state t (Some (starting o args)) → ps ≡ set c.points t (Some (record { op = op; at = g.entry.0 })) → start_from flow c t op args ≡ Goes (record c { state = s; points = ps })
+started_so flow c t op args o g s ps idle named opens counted new points =
+    let small = ltb-true t (length c.points) (and_parts (nat_lt t (length c.points)) (is_none (get_or c.points t None)) idle).0 in
+    let to : Option Point = Some (record { op = op; at = g.entry.0 }) in
+    let there : put_at None c.points t to ≡ ps = put_is_set None c.points t to small ∙ sym points in
+    ap (λ b. cond b (start_op c t op args (slice_get flow.file.ops op) (slice_get flow.gates op)) Blocks) idle
+    ∙ ap (λ x. start_op c t op args x (slice_get flow.gates op)) named ∙ ap (start_op c t op args (Some o)) opens
+    ∙ ap (λ b. cond b (Goes (record c { state = with_locals c.state t (Some (starting o args)); points = put_at None c.points t to })) Blocks) (eq-eqb (length args) (count_by is_parameter o.locals) counted)
+    ∙ ap (λ s. Goes (record c { state = s; points = put_at None c.points t to })) (sym new) ∙ ap (λ ps. Goes (record c { state = s; points = ps })) there
+
+-- ---- the kinds of moves
+
+pub reach_start : (flow : Flow) (o : Observer) (c : Configuration) (t : ℕ) (op : OpId) (args : List ℕ) → reach flow o c (Start t op args) ≡ start_from flow c t op.0 args
+unfolding reach
+reach_start flow o c t op args = refl
+
+pub reach_take : (flow : Flow) (o : Observer) (c : Configuration) (t nth : ℕ) (addr : Option ℕ) → reach flow o c (Take t nth addr) ≡ step_from flow c t nth addr (point_of c t)
+unfolding reach
+reach_take flow o c t nth addr = refl
+
+pub reach_return : (flow : Flow) (o : Observer) (c : Configuration) (t : ℕ) → reach flow o c (Return t) ≡ return_from flow c t (point_of c t)
+unfolding reach
+reach_return flow o c t = refl
+
+pub reach_free : (flow : Flow) (o : Observer) (c : Configuration) (a : ℕ) → reach flow o c (Free a) ≡ free_of o c a
+unfolding reach
+reach_free flow o c a = refl
+
+-- ---- the answer of a move, or want of memory
+
+pub step_answers : (flow : Flow) (o : Observer) (p q : Position) (move : Move) (r : Result Moved NoMemory) → p.ended ≡ false → IsOfRun flow o p → IfOk r (λ m. m ≡ answer (reach flow o p.here move)) → OnOk r (q ≡ reached (reach flow o p.here move) p) → IfOk r (λ m. Answers flow o p move m q)
+step_answers flow o p q move (Ok m) live run e f = answered flow o p q move m live run e f
+step_answers flow o p q move (Err x) live run e f = tt
+
+pub step_run : (flow : Flow) (o : Observer) (p q : Position) (move : Move) (r : Result Moved NoMemory) → IsOfRun flow o p → OnOk r (q ≡ reached (reach flow o p.here move) p) → OnErr r (q ≡ p) → IsOfRun flow o q
+step_run flow o p q move (Ok m) run f g = run_answered flow o p q move run f
+step_run flow o p q move (Err x) run f g = subst (IsOfRun flow o) (sym g) run
+
+-- a step that was taken, with its events behind the history
+pub stepped_on : (flow : Flow) (c : Configuration) (t nth : ℕ) (addr : Option ℕ) (p : Point) (step : Step) (s : State) (g h : List Event) (ps : List (Option Point)) → point_of c t ≡ Some p → slice_get (steps_from flow p.at) nth ≡ Some step → same_bool (is_some addr) (list_any is_new step.prims) ≡ true
+    → Fine s g ≡ execute c.state [] t (address_or_null addr) 0 step.prims → h ≡ c.history ++ g → ps ≡ set c.points t (Some (record p { at = step.to.0 })) → step_from flow c t nth addr (point_of c t) ≡ Goes (record { state = s; history = h; points = ps })
+stepped_on flow c t nth addr p step s g h ps busy at shaped ran longer points =
+    let to : Option Point = Some (record p { at = step.to.0 }) in
+    let there : put_at None c.points t to ≡ ps = put_is_set None c.points t to (held_below c.points t p busy) ∙ sym points in
+    stepped flow c t nth addr p step (Fine s g) busy at shaped ran
+    ∙ ap (λ h. Goes (record { state = s; history = h; points = put_at None c.points t to })) (sym longer) ∙ ap (λ ps. Goes (record { state = s; history = h; points = ps })) there

@@ -1,0 +1,211 @@
+-- In every configuration of a run each busy thread holds the locals of its operation, and stands at one of its points.
+use Rattle.std.proofs.Common.{◌≡◌, ℕ, zero, suc, ◌+◌, ◌<◌, Bool, true, false, cond, List, [], ◌∷◌, ◌++◌, Option, Some, None, length, get_or, slice_get, filter, map, replicate, count_by, refl, sym, ap, ◌∙◌, subst, arith, inl, inr, length-append}
+use Rattle.std.proofs.lemmas.List.{length-map, length-replicate}
+use Rattle.std.proofs.lemmas.Bool.{cases_eq, eqb-true}
+use Rattle.plc_lang.specs.declared.syntax.Op.{Op}
+use Rattle.plc_lang.specs.Locals.{is_pointer, is_parameter, is_other_data}
+use Rattle.plc_lang.specs.Shape.{Shape, shape_of, init_shape, PrimitivesIn}
+use Rattle.plc_auto.specs.declared.observer.Observer.{Observer}
+use Rattle.plc_flow.specs.declared.flow.Step.{Step}
+use Rattle.plc_flow.specs.declared.flow.Gate.{Gate}
+use Rattle.plc_flow.specs.declared.flow.Flow.{Flow}
+use Rattle.plc_flow.specs.declared.flow.Move.{Move}
+use Rattle.plc_flow.specs.declared.flow.Move.TheVariants.{Start, Step as Take, Return, Free}
+use Rattle.plc_flow.specs.WellFormed.{IsPointOf}
+use Rattle.plc_auto.specs.declared.event.Event.{Event}
+use Rattle.plc_mem.specs.State.{State, Locals, null_cell, put_at, holds_pointer, cut, cut_locals, freed, with_locals, first_state, no_locals, starting}
+use Rattle.plc_mem.specs.Fit.{shape}
+use Rattle.plc_mem.proofs.Tables.{get-put_same, get-put_other, get-map, get-replicate}
+use Rattle.plc_mem.proofs.Places.{length_put}
+use Rattle.plc_run.specs.declared.point.Point.{Point}
+use Rattle.plc_run.specs.Run.{Ending, Fine, Stuck, Raced, Configuration, point_of, leaves, steps_from, Moves, Run, begin, more, beginning, initialised, first_configuration}
+use Rattle.plc_run.specs.Fit.{FlowFits, IsBusyAt, ThreadFits, ConfigurationFits}
+use Rattle.plc_run.proofs.Gates.{gate_from, one_gate}
+use Rattle.plc_run.proofs.Shapes.{EndsKept, same_shape, execute_keeps}
+
+-- ---- the step that a busy thread takes
+
+filter_member : {A : Type 0} (p : A → Bool) (xs : List A) (n : ℕ) (x : A) → slice_get (filter p xs) n ≡ Some x → (k : ℕ) × (slice_get xs k ≡ Some x) × (p x ≡ true)
+filter_member p [] n x at = cc
+filter_member {A = A} p (y ∷ ys) n x at = go (p y) refl n (λ m there. filter_member p ys m x there) at
+  where
+    go : (b : Bool) → p y ≡ b → (n : ℕ) → ((m : ℕ) → slice_get (filter p ys) m ≡ Some x → (k : ℕ) × (slice_get ys k ≡ Some x) × (p x ≡ true)) → slice_get (cond b (y ∷ filter p ys) (filter p ys)) n ≡ Some x → (k : ℕ) × (slice_get (y ∷ ys) k ≡ Some x) × (p x ≡ true)
+    go true is zero later at = (0, at, subst (λ (z : A). p z ≡ true) (let e : y ≡ x = cc in e) is)
+    go true is (suc n) later at = let r = later n at in (suc r.0, r.1, r.2)
+    go false is n later at = let r = later n at in (suc r.0, r.1, r.2)
+
+-- what it leads to, and that its primitives name what is there
+pub record StepFits (flow : Flow) (gate : Gate) (h : Shape) (step : Step) : Type 0 where
+  pub leads : IsPointOf gate step.to.0
+  pub names : PrimitivesIn h step.prims
+  pub short : length step.prims < 65536
+
+pub step_fits : (flow : Flow) → FlowFits flow → (s : State) (t : ℕ) (p : Point) (step : Step) (nth : ℕ) → (b : IsBusyAt flow s t p) → slice_get (steps_from flow p.at) nth ≡ Some step → StepFits flow b.gate (shape s b.locals) step
+step_fits flow fits s t p step nth b at =
+    let m = filter_member (leaves p.at) flow.steps nth step at in
+    let w = fits.well.steps m.0 step m.1 in
+    let from : step.from.0 ≡ p.at = eqb-true step.from.0 p.at m.2 in
+    let same : step.op.0 ≡ p.op = one_gate 0 flow.points flow.gates step.op.0 p.op w.0 b.gate p.at fits.well.ranges w.1 b.opens (subst (IsPointOf w.0) from w.2) b.within in
+    let gate : w.0 ≡ b.gate = (let e = subst (λ i. slice_get flow.gates i ≡ Some w.0) same w.1 in let f = b.opens in cc) in
+    let short = fits.well.short m.0 step m.1 in
+    record {
+      leads = subst (λ g. IsPointOf g step.to.0) gate w.3;
+      names = subst (λ h. PrimitivesIn h step.prims) (sym b.shape) (fits.steps m.0 step b.operation m.1 (subst (λ i. slice_get flow.file.ops i ≡ Some b.operation) (sym same) b.named));
+      short = omega arith;
+    }
+
+-- ---- a thread whose locals and point stay
+
+thread_stays : (flow : Flow) (s new : State) (t : ℕ) (q : Option Point) → new.fields ≡ s.fields → length new.shared ≡ length s.shared → get_or new.locals t None ≡ get_or s.locals t None → ThreadFits flow s t q → ThreadFits flow new t q
+thread_stays flow s new t None f h e k = e ∙ k
+thread_stays flow s new t (Some p) f h e k = record {
+  operation = k.operation;
+  gate = k.gate;
+  locals = k.locals;
+  named = k.named;
+  opens = k.opens;
+  within = k.within;
+  held = e ∙ k.held;
+  shape = (let same : shape new k.locals ≡ shape s k.locals = (let a = ap length f in cc) in same ∙ k.shape);
+}
+
+-- ---- moves
+
+started_shape : (flow : Flow) (s : State) (o : Op) (args : List ℕ) → length s.shared ≡ length flow.file.shared → length s.fields ≡ length flow.file.fields → length args ≡ count_by is_parameter o.locals → shape s (starting o args) ≡ shape_of flow.file o
+started_shape flow s o args h f counted =
+    let a = length-replicate (count_by is_pointer o.locals) null_cell in
+    let b : length (args ++ replicate (count_by is_other_data o.locals) 0) ≡ count_by is_parameter o.locals + count_by is_other_data o.locals = omega (arith, length-append args (replicate (count_by is_other_data o.locals) 0), length-replicate {A = ℕ} (count_by is_other_data o.locals) 0, counted) in
+    cc
+
+-- thread t comes to a point, or becomes idle, with these locals
+came : (flow : Flow) (threads : ℕ) (c : Configuration) (t : ℕ) (l : Option Locals) (q : Option Point) → t < threads → ConfigurationFits flow threads c
+    → ThreadFits flow (with_locals c.state t l) t q → ConfigurationFits flow threads (record c { state = with_locals c.state t l; points = put_at None c.points t q })
+unfolding with_locals
+came flow threads c t l q small k mine = record {
+  shared = k.shared;
+  fields = k.fields;
+  locals = length_put None c.state.locals t l (omega (arith, k.locals)) ∙ k.locals;
+  points = length_put None c.points t q (omega (arith, k.points)) ∙ k.points;
+  each = λ u. elim (cases_eq u t) [
+    | inl e ↦ subst (λ u. ThreadFits flow (with_locals c.state t l) u (get_or (put_at None c.points t q) u None)) (sym e) (subst (ThreadFits flow (with_locals c.state t l) t) (sym (get-put_same None c.points t q)) mine)
+    | inr ne ↦ subst (ThreadFits flow (with_locals c.state t l) u) (sym (get-put_other None c.points t q u ne))
+        (thread_stays flow c.state (with_locals c.state t l) u (point_of c u) refl refl (get-put_other None c.state.locals t l u ne) (k.each u))
+  ];
+}
+
+start_fits : (flow : Flow) → FlowFits flow → (threads : ℕ) (c : Configuration) (t op : ℕ) (o : Op) (g : Gate) (args : List ℕ) → t < threads → slice_get flow.file.ops op ≡ Some o → slice_get flow.gates op ≡ Some g → length args ≡ count_by is_parameter o.locals → ConfigurationFits flow threads c
+    → ConfigurationFits flow threads (record c { state = with_locals c.state t (Some (starting o args)); points = put_at None c.points t (Some (record { op = op; at = g.entry.0 })) })
+unfolding with_locals
+start_fits flow fits threads c t op o g args small named opens counted k =
+    came flow threads c t (Some (starting o args)) (Some (record { op = op; at = g.entry.0 })) small k (record {
+      operation = o;
+      gate = g;
+      locals = starting o args;
+      named = named;
+      opens = opens;
+      within = (gate_from 0 flow.points flow.gates op g fits.well.ranges opens).entry;
+      held = get-put_same None c.state.locals t (Some (starting o args));
+      shape = started_shape flow (with_locals c.state t (Some (starting o args))) o args k.shared k.fields counted;
+    })
+
+return_fits : (flow : Flow) (threads : ℕ) (c : Configuration) (t : ℕ) → t < threads → ConfigurationFits flow threads c → ConfigurationFits flow threads (record c { state = with_locals c.state t None; points = put_at None c.points t None })
+unfolding with_locals
+return_fits flow threads c t small k = came flow threads c t None None small k (get-put_same None c.state.locals t None)
+
+pub busy_at : (flow : Flow) (threads : ℕ) (c : Configuration) (t : ℕ) (p : Point) → ConfigurationFits flow threads c → point_of c t ≡ Some p → IsBusyAt flow c.state t p
+busy_at flow threads c t p k busy = subst (ThreadFits flow c.state t) busy (k.each t)
+
+take_fits : (flow : Flow) (threads : ℕ) (c : Configuration) (t : ℕ) (p : Point) (to : ℕ) (s : State) (h : List Event) (b : IsBusyAt flow c.state t p) → t < threads → IsPointOf b.gate to → EndsKept t c.state b.locals (Fine s h) → ConfigurationFits flow threads c
+    → ConfigurationFits flow threads (record { state = s; history = h; points = put_at None c.points t (Some (record p { at = to })) })
+take_fits flow threads c t p to s h b small leads kept k = record {
+  shared = kept.1.shared ∙ k.shared;
+  fields = ap length kept.1.fields ∙ k.fields;
+  locals = kept.1.threads ∙ k.locals;
+  points = length_put None c.points t _ (omega (arith, k.points)) ∙ k.points;
+  each = λ u. elim (cases_eq u t) [
+    | inl e ↦ subst (λ u. ThreadFits flow s u (get_or (put_at None c.points t (Some (record p { at = to }))) u None)) (sym e) (subst (ThreadFits flow s t) (sym (get-put_same None c.points t (Some (record p { at = to })))) mine)
+    | inr ne ↦ subst (ThreadFits flow s u) (sym (get-put_other None c.points t (Some (record p { at = to })) u ne))
+        (thread_stays flow c.state s u (point_of c u) kept.1.fields kept.1.shared (kept.1.others u ne) (k.each u))
+  ];
+}
+  where
+    mine : ThreadFits flow s t (Some (record p { at = to }))
+    mine = record { operation = b.operation; gate = b.gate; locals = kept.0; named = b.named; opens = b.opens; within = leads; held = kept.1.held; shape = same_shape kept.1 ∙ b.shape }
+
+freed_thread : (flow : Flow) (s : State) (a t : ℕ) (q : Option Point) → ThreadFits flow s t q → ThreadFits flow (freed s a) t q
+unfolding freed
+freed_thread flow s a t None k = get-map (cut_locals a) s.locals t None ∙ ap (cut_locals a) k
+freed_thread flow s a t (Some p) k = record {
+  operation = k.operation;
+  gate = k.gate;
+  locals = record { pointers = map (cut a) k.locals.pointers; values = k.locals.values };
+  named = k.named;
+  opens = k.opens;
+  within = k.within;
+  held = get-map (cut_locals a) s.locals t None ∙ ap (cut_locals a) k.held;
+  shape = (let e = length-map k.locals.pointers (cut a) in let f = length-map s.shared (cut a) in let g = k.shape in cc);
+}
+
+free_fits : (flow : Flow) (threads : ℕ) (c : Configuration) (a : ℕ) (h : List Event) → ConfigurationFits flow threads c → ConfigurationFits flow threads (record c { state = freed c.state a; history = h })
+unfolding freed
+free_fits flow threads c a h k = record {
+  shared = length-map c.state.shared (cut a) ∙ k.shared;
+  fields = k.fields;
+  locals = length-map c.state.locals (cut_locals a) ∙ k.locals;
+  points = k.points;
+  each = λ t. freed_thread flow c.state a t (point_of c t) (k.each t);
+}
+
+move_fits : (flow : Flow) → FlowFits flow → (o : Observer) (threads : ℕ) (c d : Configuration) (move : Move) → Moves flow o threads c move d → ConfigurationFits flow threads c → ConfigurationFits flow threads d
+move_fits flow fits o threads c d (Start t op args) m k = subst (ConfigurationFits flow threads) (sym m.7) (start_fits flow fits threads c t op.0 m.0 m.1 args m.2 m.4 m.5 m.6 k)
+move_fits flow fits o threads c d (Take t nth addr) m k =
+    let b = busy_at flow threads c t m.0 k m.4.busy in
+    let w = step_fits flow fits c.state t m.0 m.1 nth b m.4.leaves_there in
+    subst (ConfigurationFits flow threads) (sym m.6) (take_fits flow threads c t m.0 m.1.to.0 m.2 m.3 b m.4.known w.leads (subst (EndsKept t c.state b.locals) m.5 (execute_keeps t c.state b.locals c.history _ 0 m.1.prims b.held w.names)) k)
+move_fits flow fits o threads c d (Return t) m k = subst (ConfigurationFits flow threads) (sym m.6) (return_fits flow threads c t m.2 k)
+move_fits flow fits o threads c d (Free a) m k = subst (ConfigurationFits flow threads) (sym m.2) (free_fits flow threads c a _ k)
+
+-- ---- where runs begin
+
+-- the memory of a flow, with `init` about to run
+ready : Flow → ℕ → State
+ready flow threads = with_locals (first_state flow threads) 0 (Some no_locals)
+
+ready_held : (flow : Flow) (threads : ℕ) → get_or (ready flow threads).locals 0 None ≡ Some no_locals
+unfolding with_locals ready
+ready_held flow threads = get-put_same None (replicate threads None) 0 (Some no_locals)
+
+ready_shape : (flow : Flow) (threads : ℕ) → shape (ready flow threads) no_locals ≡ init_shape flow.file
+unfolding with_locals ready
+ready_shape flow threads = (let a = length-replicate (length flow.file.shared) null_cell in let b = length-map flow.file.fields holds_pointer in cc)
+
+begun : (flow : Flow) (threads : ℕ) (s : State) (h : List Event) → 0 < threads → EndsKept 0 (ready flow threads) no_locals (Fine s h) → ConfigurationFits flow threads (record { state = with_locals s 0 None; history = h; points = replicate threads None })
+unfolding with_locals ready
+begun flow threads s h some kept =
+    let all : length (put_at None (replicate threads None) 0 (Some no_locals)) ≡ threads = length_put None (replicate threads None) 0 (Some no_locals) (omega (arith, length-replicate {A = Option Locals} threads None)) ∙ length-replicate threads None in
+    record {
+      shared = kept.1.shared ∙ length-replicate (length flow.file.shared) null_cell;
+      fields = ap length kept.1.fields ∙ length-map flow.file.fields holds_pointer;
+      locals = length_put None s.locals 0 None (omega (arith, kept.1.threads, all)) ∙ kept.1.threads ∙ all;
+      points = length-replicate threads None;
+      each = λ t. subst (ThreadFits flow (with_locals s 0 None) t) (sym (get-replicate None threads t)) (elim (cases_eq t 0) [
+        | inl e ↦ subst (λ t. get_or (put_at None s.locals 0 None) t None ≡ None) (sym e) (get-put_same None s.locals 0 None)
+        | inr ne ↦ get-put_other None s.locals 0 None t ne ∙ kept.1.others t ne ∙ get-put_other None (replicate threads None) 0 (Some no_locals) t ne ∙ get-replicate None threads t
+      ]);
+    }
+
+pub begun_fits : (flow : Flow) → FlowFits flow → (threads : ℕ) → 0 < threads → (c : Configuration) → first_configuration flow threads ≡ Some c → ConfigurationFits flow threads c
+unfolding ready
+begun_fits flow fits threads some c e =
+    go (initialised flow threads) e (execute_keeps 0 (ready flow threads) no_locals [] 1 0 flow.file.init (ready_held flow threads) (subst (λ h. PrimitivesIn h flow.file.init) (sym (ready_shape flow threads)) fits.init))
+  where
+    go : (end : Ending) → beginning threads end ≡ Some c → EndsKept 0 (ready flow threads) no_locals end → ConfigurationFits flow threads c
+    go (Fine s h) is kept =
+        let same : record { state = with_locals s 0 None; history = h; points = replicate threads None } ≡ c = cc in
+        subst (ConfigurationFits flow threads) same (begun flow threads s h some kept)
+    go Stuck is kept = cc
+    go (Raced kind k) is kept = cc
+
+pub run_fits : (flow : Flow) → FlowFits flow → (o : Observer) (threads : ℕ) → 0 < threads → (n : ℕ) (c : Configuration) → Run flow o threads n c → ConfigurationFits flow threads c
+run_fits flow fits o threads some n c (begin e) = begun_fits flow fits threads some c e
+run_fits flow fits o threads some n d (more {n = m} {c = c} run move moved) = move_fits flow fits o threads c d move moved (run_fits flow fits o threads some m c run)

@@ -1,0 +1,88 @@
+-- What a move leads to, as a function: the code answers by it, and the law beside it says that it is what `Moves` and `Races` say.
+use Rattle.std.specs.Prelude.{ℕ, zero, suc, Bool, true, false, ◌&&◌, ◌==◌, nat_lt, if◌then◌else◌, List, [], ◌∷◌, ◌++◌, length, get_or, slice_get, count_by, Option, Some, None, is_some, is_none}
+use Rattle.std.specs.List.{list_any}
+use Rattle.plc_lang.specs.declared.syntax.Op.{Op}
+use Rattle.plc_lang.specs.Locals.{is_parameter}
+use Rattle.plc_auto.specs.declared.event.Event.{Event}
+use Rattle.plc_auto.specs.declared.event.Event.TheVariants.{Free as Freed}
+use Rattle.plc_auto.specs.declared.observer.Observer.{Observer}
+use Rattle.plc_auto.specs.Location.{location, advance}
+use Rattle.plc_flow.specs.declared.flow.Step.{Step}
+use Rattle.plc_flow.specs.declared.flow.Gate.{Gate}
+use Rattle.plc_flow.specs.declared.flow.Flow.{Flow}
+use Rattle.plc_flow.specs.declared.flow.Move.{Move}
+use Rattle.plc_flow.specs.declared.flow.Move.TheVariants.{Start, Step as Take, Return, Free}
+use Rattle.plc_mem.specs.declared.cell.RaceKind.{RaceKind}
+use Rattle.plc_mem.specs.State.{put_at, with_locals, freed, starting}
+use Rattle.plc_run.specs.declared.point.Point.{Point}
+use Rattle.plc_run.specs.Run.{Ending, Fine, Stuck, Raced, Configuration, point_of, steps_from, is_new, taken}
+
+-- a configuration, none, a free that the observer forbids, or a race
+pub data Reached : Type 0 where
+  Goes : Configuration → Reached
+  Blocks : Reached
+  Forbids : Reached
+  Breaks : RaceKind → ℕ → Reached
+
+-- there is such a thread, and it is idle
+abbrev pub is_idle : List (Option Point) → ℕ → Bool
+is_idle ps t = nat_lt t (length ps) && is_none (get_or ps t None)
+
+abbrev pub start_op : Configuration → ℕ → ℕ → List ℕ → Option Op → Option Gate → Reached
+start_op c t op args None g = Blocks
+start_op c t op args (Some o) None = Blocks
+start_op c t op args (Some o) (Some g) =
+    if length args == count_by is_parameter o.locals
+    then Goes (record c { state = with_locals c.state t (Some (starting o args)); points = put_at None c.points t (Some (record { op = op; at = g.entry.0 })) })
+    else Blocks
+
+-- a start
+abbrev pub start_from : Flow → Configuration → ℕ → ℕ → List ℕ → Reached
+start_from flow c t op args = if is_idle c.points t then start_op c t op args (slice_get flow.file.ops op) (slice_get flow.gates op) else Blocks
+
+abbrev pub ended_as : Configuration → ℕ → Point → ℕ → Ending → Reached
+ended_as c t p to (Fine s h) = Goes (record { state = s; history = h; points = put_at None c.points t (Some (record p { at = to })) })
+ended_as c t p to Stuck = Blocks
+ended_as c t p to (Raced kind k) = Breaks kind k
+
+-- an address is named exactly where the step has a `new`
+abbrev pub same_bool : Bool → Bool → Bool
+same_bool true b = b
+same_bool false true = false
+same_bool false false = true
+
+abbrev pub take_step : Configuration → ℕ → Option ℕ → Point → Option Step → Reached
+take_step c t addr p None = Blocks
+take_step c t addr p (Some s) = if same_bool (is_some addr) (list_any is_new s.prims) then ended_as c t p s.to.0 (taken c t addr s) else Blocks
+
+-- a step
+abbrev pub step_from : Flow → Configuration → ℕ → ℕ → Option ℕ → Option Point → Reached
+step_from flow c t nth addr None = Blocks
+step_from flow c t nth addr (Some p) = take_step c t addr p (slice_get (steps_from flow p.at) nth)
+
+abbrev pub return_to : Configuration → ℕ → Point → Option Gate → Reached
+return_to c t p None = Blocks
+return_to c t p (Some g) = if p.at == g.exit.0 then Goes (record c { state = with_locals c.state t None; points = put_at None c.points t None }) else Blocks
+
+-- a return
+abbrev pub return_from : Flow → Configuration → ℕ → Option Point → Reached
+return_from flow c t None = Blocks
+return_from flow c t (Some p) = return_to c t p (slice_get flow.gates p.op)
+
+-- for no thread below n does a free of the address lead to `bad`
+abbrev pub may_free : Observer → List Event → ℕ → ℕ → Bool
+may_free o h a zero = true
+may_free o h a (suc n) = may_free o h a n && is_some (advance o n a (Freed a) (location o h n a))
+
+-- a free
+abbrev pub free_of : Observer → Configuration → ℕ → Reached
+free_of o c a =
+    if a == 0 then Blocks else
+    if may_free o c.history a (length c.points) then Goes (record c { state = freed c.state a; history = c.history ++ Freed a ∷ [] }) else Forbids
+
+-- each kind of move
+unfoldable pub reach : Flow → Observer → Configuration → Move → Reached
+reach flow o c (Start t op args) = start_from flow c t op.0 args
+reach flow o c (Take t nth addr) = step_from flow c t nth addr (point_of c t)
+reach flow o c (Return t) = return_from flow c t (point_of c t)
+reach flow o c (Free a) = free_of o c a

@@ -1,0 +1,326 @@
+// A configuration of a run in code. What a move leads to is computed beside it: nothing of the
+// configuration is touched before the last call that may lack memory, so that a move that is
+// blocked or forbidden, and want of memory, leave it as it was.
+ghost use Rattle.std.specs.Prelude.{◌≡◌, ℕ, ◌<◌, length, get_or, slice_get, set, replicate, count_by, IfOk, OnOk, OnErr, Some, None, is_some};
+ghost use Rattle.std.specs.Option.{option_copied};
+ghost use Rattle.std.specs.List.{list_any};
+ghost use Rattle.plc_mem.specs.State.{Locals, with_locals};
+ghost use Rattle.plc_run.specs.Run.{steps_from, is_new, point_of, first_configuration};
+ghost use Rattle.plc_run.specs.Fit.{FlowFits, ConfigurationFits};
+ghost use Rattle.plc_run.specs.Reach.{is_idle, same_bool, start_from, step_from, return_from, free_of, reach};
+ghost use Rattle.plc_run.specs.Position.{threads_of, IsOfRun, Answers, Starts, Begins, answer, reached};
+ghost use Rattle.plc_lang.specs.Locals.{is_parameter};
+
+use crate::execute::{Ended, execute, take_step};
+use crate::judge::may_free;
+use crate::moved::Moved;
+use crate::point::Point;
+use plc_auto::{Event, Observer};
+use plc_base::{NoMemory, OpId};
+use plc_flow::{Flow, Move, StartFault, Step};
+use plc_lang::{Local, Prim};
+use plc_mem::{Locals, Memory};
+use std::alloc::Global;
+use std::marker::Model;
+
+/// The configuration of a run: memory, history, and where each thread stands.
+#[derive(Drop)]
+pub struct Config {
+    alloc: Global,
+    memory: Memory,
+    history: Vec<Event>,
+    points: Vec<Option<Point>>,
+    ended: bool,
+}
+
+impl Model for Config {
+    ghost use Rattle.std.specs.Prelude.{◌<◌, ◌^◌, length};
+    ghost use Rattle.plc_run.specs.Position.{Position};
+
+    ghost Value = { Position };
+
+    ghost view = { λ c. record { here = record { state = c.memory; history = c.history.items; points = c.points.items }; ended = c.ended } };
+
+    ghost invariant = { λ c. (0 < length c.points.items) × (length c.points.items < 2 ^ 32) };
+}
+
+// So many idle threads.
+fn idle_points(alloc: Global, threads: u32) -> Result<Vec<Option<Point>>, NoMemory>
+    ensures { IfOk result (λ points. points.items ≡ replicate threads None) }
+{
+    let mut points = Vec::new(alloc);
+    for t in 0..threads {
+        let _done = t;
+        points.push(None)?;
+    }
+    Ok(points)
+}
+
+// The point where a thread stands.
+fn point_at(points: &[Option<Point>], t: u32) -> Option<Point>
+    ensures { result ≡ get_or points.now t None }
+{
+    let t = t as usize;
+    if t < points.len() { points[t] } else { None }
+}
+
+// Whether there is such a thread, and it is idle.
+fn is_idle(points: &[Option<Point>], t: u32) -> bool
+    ensures { result ≡ is_idle points.now t }
+{
+    let t = t as usize;
+    t < points.len() && points[t].is_none()
+}
+
+// Puts a thread at a point.
+fn set_point(points: &mut Vec<Option<Point>>, t: u32, p: Option<Point>)
+    requires { t < length points.old.items }
+    ensures { points.new.items ≡ set points.old.items t p }
+{
+    points[t as usize] = p;
+}
+
+// Whether the step allocates.
+fn has_new(prims: &[Prim]) -> bool
+    ensures { result ≡ list_any is_new prims.now }
+{
+    prims.iter().any(|p| matches!(p, Prim::New { .. }))
+}
+
+// Whether an address is named exactly where the step has a `new`.
+fn names_rightly(prims: &[Prim], addr: Option<u32>) -> bool
+    ensures { result ≡ same_bool (is_some addr) (list_any is_new prims.now) }
+{
+    if addr.is_some() {
+        has_new(prims)
+    } else {
+        !has_new(prims)
+    }
+}
+
+// The nth of the steps that leave a point.
+fn nth_step(flow: &Flow, at: u16, nth: u16) -> Option<&Step>
+    ensures { option_copied result ≡ slice_get (steps_from flow.now at) nth }
+{
+    let mut left = nth;
+    for step in flow.steps.as_slice() {
+        if step.from.0 == at {
+            if left == 0 {
+                return Some(step);
+            }
+            left -= 1;
+        }
+    }
+    None
+}
+
+impl Config {
+    /// The configuration in which the runs of a flow begin, with so many threads, from 1: what
+    /// `init` leaves, and every thread idle. `NoStart` comes exactly where `init` is blocked, so that
+    /// the flow has no run. The observer is the one by which frees will be judged.
+    pub fn start(
+        alloc: Global,
+        flow: &Flow,
+        observer: &Observer,
+        threads: u32,
+    ) -> Result<Config, StartFault>
+        requires fits { FlowFits flow.now }
+        requires some { 0 < threads }
+        ensures starts { Starts flow.now threads result }
+        ensures of_run { IfOk result (λ c. IsOfRun flow.now observer.now c × (threads_of c ≡ threads)) }
+    {
+        match Config::began(alloc, flow, threads) {
+            Ok(Some(c)) => Ok(c),
+            Ok(None) => Err(StartFault::NoStart),
+            Err(_) => Err(StartFault::Memory),
+        }
+    }
+
+    // What `init` leaves, or nothing where it is blocked.
+    fn began(alloc: Global, flow: &Flow, threads: u32) -> Result<Option<Config>, NoMemory>
+        requires fits { FlowFits flow.now }
+        requires some { 0 < threads }
+        ensures { IfOk result (λ c. Begins flow.now threads c) }
+    {
+        let mut memory = Memory::new(alloc, flow, threads)?;
+        let mut me = Locals::none(alloc)?;
+        let mut history = Vec::new(alloc);
+        let init = flow.file.init.as_slice();
+        match execute(&mut memory, &mut me, &mut history, init, 0, Some(1))? {
+            Ended::Fine => Ok(Some(Config {
+                alloc,
+                memory,
+                history,
+                points: idle_points(alloc, threads)?,
+                ended: false,
+            })),
+            Ended::Stuck => Ok(None),
+            Ended::Raced { .. } => Ok(None),
+        }
+    }
+
+    /// The events so far.
+    pub fn history(&self) -> &[Event]
+        ensures { result.now ≡ self.now.here.history }
+    {
+        &self.history
+    }
+
+    /// The memory.
+    pub fn memory(&self) -> &Memory
+        ensures { result.now ≡ self.now.here.state }
+    {
+        &self.memory
+    }
+
+    /// One move, with the flow and the observer of the start. After `Blocked`, `Forbidden` and want of
+    /// memory the configuration is as it was. After a race it is ended, with its history as before
+    /// the step, and every further move is `Blocked`.
+    pub fn step(&mut self, flow: &Flow, observer: &Observer, m: &Move) -> Result<Moved, NoMemory>
+        requires fits { FlowFits flow.now }
+        requires of_run { IsOfRun flow.now observer.now self.old }
+        ensures answers { IfOk result (λ r. Answers flow.now observer.now self.old m.now r self.new) }
+        ensures of_run { IsOfRun flow.now observer.now self.new }
+        ensures err { OnErr result (self.new ≡ self.old) }
+    {
+        if self.ended {
+            return Ok(Moved::Blocked);
+        }
+        self.advance(flow, observer, m)
+    }
+
+    // One move of a run that no race has ended.
+    fn advance(&mut self, flow: &Flow, observer: &Observer, m: &Move) -> Result<Moved, NoMemory>
+        requires flow { FlowFits flow.now }
+        requires fits { ConfigurationFits flow.now (threads_of self.old) self.old.here }
+        ensures answer { IfOk result (λ r. r ≡ answer (reach flow.now observer.now self.old.here m.now)) }
+        ensures after { OnOk result (self.new ≡ reached (reach flow.now observer.now self.old.here m.now) self.old) }
+        ensures err { OnErr result (self.new ≡ self.old) }
+    {
+        match m {
+            Move::Start { t, op, args } => self.start_move(flow, *t, *op, args.as_slice()),
+            Move::Step { t, nth, addr } => self.step_move(flow, *t, *nth, *addr),
+            Move::Return { t } => Ok(self.return_move(flow, *t)),
+            Move::Free { a } => self.free_move(observer, *a),
+        }
+    }
+
+    // A start: the thread gets the locals of the operation.
+    fn start_move(&mut self, flow: &Flow, t: u32, op: OpId, args: &[u32]) -> Result<Moved, NoMemory>
+        requires { ConfigurationFits flow.now (threads_of self.old) self.old.here }
+        ensures answer { IfOk result (λ r. r ≡ answer (start_from flow.now self.old.here t op.0 args.now)) }
+        ensures after { OnOk result (self.new ≡ reached (start_from flow.now self.old.here t op.0 args.now) self.old) }
+        ensures err { OnErr result (self.new ≡ self.old) }
+    {
+        if !is_idle(&self.points, t) {
+            return Ok(Moved::Blocked);
+        }
+        let Some(operation) = flow.file.ops.get(op.0 as usize) else {
+            return Ok(Moved::Blocked);
+        };
+        let Some(gate) = flow.gates.get(op.0 as usize) else {
+            return Ok(Moved::Blocked);
+        };
+        if args.len() != count_parameters(operation.locals.as_slice()) {
+            return Ok(Moved::Blocked);
+        }
+        let l = Locals::new(self.alloc, operation, args)?;
+        self.memory.put(t, l);
+        let to = Point {
+            op: op.0,
+            at: gate.entry.0,
+        };
+        set_point(&mut self.points, t, Some(to));
+        Ok(Moved::Done)
+    }
+
+    // A step: it is taken on a copy of the memory, which then takes the place of the memory.
+    fn step_move(
+        &mut self,
+        flow: &Flow,
+        t: u32,
+        nth: u16,
+        addr: Option<u32>,
+    ) -> Result<Moved, NoMemory>
+        requires flow { FlowFits flow.now }
+        requires fits { ConfigurationFits flow.now (threads_of self.old) self.old.here }
+        ensures answer { IfOk result (λ r. r ≡ answer (step_from flow.now self.old.here t nth addr (point_of self.old.here t))) }
+        ensures after { OnOk result (self.new ≡ reached (step_from flow.now self.old.here t nth addr (point_of self.old.here t)) self.old) }
+        ensures err { OnErr result (self.new ≡ self.old) }
+    {
+        let Some(point) = point_at(&self.points, t) else {
+            return Ok(Moved::Blocked);
+        };
+        let Some(step) = nth_step(flow, point.at, nth) else {
+            return Ok(Moved::Blocked);
+        };
+        let prims = step.prims.as_slice();
+        if !names_rightly(prims, addr) {
+            return Ok(Moved::Blocked);
+        }
+        let mut memory = self.memory.copy()?;
+        let mut events = Vec::new(self.alloc);
+        match take_step(&mut memory, &mut events, prims, t, addr)? {
+            Ended::Stuck => Ok(Moved::Blocked),
+            Ended::Raced { kind, prim } => {
+                self.ended = true;
+                Ok(Moved::Race { kind, prim })
+            }
+            Ended::Fine => {
+                self.history.extend_from_slice(&events)?;
+                self.memory = memory;
+                let to = Point {
+                    op: point.op,
+                    at: step.to.0,
+                };
+                set_point(&mut self.points, t, Some(to));
+                Ok(Moved::Done)
+            }
+        }
+    }
+
+    // A return: the thread's locals are gone.
+    fn return_move(&mut self, flow: &Flow, t: u32) -> Moved
+        requires { ConfigurationFits flow.now (threads_of self.old) self.old.here }
+        ensures answer { result ≡ answer (return_from flow.now self.old.here t (point_of self.old.here t)) }
+        ensures after { self.new ≡ reached (return_from flow.now self.old.here t (point_of self.old.here t)) self.old }
+    {
+        let Some(point) = point_at(&self.points, t) else {
+            return Moved::Blocked;
+        };
+        let Some(gate) = flow.gates.get(point.op as usize) else {
+            return Moved::Blocked;
+        };
+        if point.at != gate.exit.0 {
+            return Moved::Blocked;
+        }
+        let _gone = self.memory.take(t);
+        set_point(&mut self.points, t, None);
+        Moved::Done
+    }
+
+    // A free, judged for each thread.
+    fn free_move(&mut self, observer: &Observer, a: u32) -> Result<Moved, NoMemory>
+        ensures answer { IfOk result (λ r. r ≡ answer (free_of observer.now self.old.here a)) }
+        ensures after { OnOk result (self.new ≡ reached (free_of observer.now self.old.here a) self.old) }
+        ensures err { OnErr result (self.new ≡ self.old) }
+    {
+        if a == 0 {
+            return Ok(Moved::Blocked);
+        }
+        let threads = self.points.len() as u32;
+        if !may_free(observer, &self.history, threads, a) {
+            return Ok(Moved::Forbidden);
+        }
+        self.history.push(Event::Free { a })?;
+        self.memory.free(a);
+        Ok(Moved::Done)
+    }
+}
+
+// How many of the locals are parameters.
+fn count_parameters(locals: &[Local]) -> usize
+    ensures { result ≡ count_by is_parameter locals.now }
+{
+    locals.iter().filter(|l| l.param).count()
+}

@@ -1,0 +1,104 @@
+// The primitives of a step in order. They run on a memory that may be thrown away, so that a step
+// that is blocked, or is a race, has changed nothing.
+ghost use Rattle.std.specs.Prelude.{◌≡◌, ℕ, ◌<◌, get_or, length, IfOk, OnOk, Some, None};
+ghost use Rattle.plc_lang.specs.Shape.{PrimitiveIn, PrimitivesIn};
+ghost use Rattle.plc_mem.specs.State.{Locals, with_locals};
+ghost use Rattle.plc_mem.specs.Outcomes.{outcome_of, next_of, address_or_null};
+ghost use Rattle.plc_mem.specs.Fit.{shape, Kept};
+ghost use Rattle.plc_run.specs.Run.{execute};
+ghost use Rattle.plc_run.specs.Ended.{heard, ending};
+
+use plc_auto::Event;
+use plc_base::NoMemory;
+use plc_lang::Prim;
+use plc_mem::{Locals, Memory, Outcome, RaceKind};
+
+/// How primitives in order ended.
+#[derive(Clone, Copy, Debug, PartialEq, Eq)]
+pub enum Ended {
+    /// All succeeded.
+    Fine,
+    /// One is blocked.
+    Stuck,
+    /// This one is a race.
+    Raced { kind: RaceKind, prim: u16 },
+}
+
+// One primitive, whose event joins the events.
+fn one(
+    memory: &mut Memory,
+    me: &mut Locals,
+    events: &mut Vec<Event>,
+    prim: &Prim,
+    t: u32,
+    addr: Option<u32>,
+) -> Result<Outcome, NoMemory>
+    requires { PrimitiveIn (shape memory.old me.old) prim.now }
+    ensures outcome { IfOk result (λ o. o ≡ outcome_of (with_locals memory.old t (Some me.old)) t (address_or_null addr) prim.now) }
+    ensures next { OnOk result (with_locals memory.new t (Some me.new) ≡ next_of (with_locals memory.old t (Some me.old)) t (address_or_null addr) prim.now) }
+    ensures events { IfOk result (λ o. events.new.items ≡ heard events.old.items o) }
+    ensures kept { OnOk result (Kept memory.old me.old memory.new me.new) }
+{
+    match memory.apply(prim, me, t, addr)? {
+        Outcome::Next(Some(event)) => {
+            events.push(event)?;
+            Ok(Outcome::Next(Some(event)))
+        }
+        Outcome::Next(None) => Ok(Outcome::Next(None)),
+        Outcome::Blocked => Ok(Outcome::Blocked),
+        Outcome::Race(kind) => Ok(Outcome::Race(kind)),
+    }
+}
+
+/// Primitives in order, by a thread that lends its locals.
+pub fn execute(
+    memory: &mut Memory,
+    me: &mut Locals,
+    events: &mut Vec<Event>,
+    prims: &[Prim],
+    t: u32,
+    addr: Option<u32>,
+) -> Result<Ended, NoMemory>
+    requires fit { PrimitivesIn (shape memory.old me.old) prims.now }
+    requires few { length prims.now < 65536 }
+    ensures ends { IfOk result (λ e. ending e (with_locals memory.new t (Some me.new)) events.new.items ≡ execute (with_locals memory.old t (Some me.old)) events.old.items t (address_or_null addr) 0 prims.now) }
+    ensures kept { OnOk result (Kept memory.old me.old memory.new me.new) }
+{
+    for k in 0..prims.len() {
+        let prim = &prims[k];
+        match one(memory, me, events, prim, t, addr)? {
+            Outcome::Next(_) => {}
+            Outcome::Blocked => return Ok(Ended::Stuck),
+            Outcome::Race(kind) => return Ok(Ended::Raced {
+                kind,
+                prim: k as u16,
+            }),
+        }
+    }
+    Ok(Ended::Fine)
+}
+
+/// A step of a thread whose locals the memory holds.
+pub fn take_step(
+    memory: &mut Memory,
+    events: &mut Vec<Event>,
+    prims: &[Prim],
+    t: u32,
+    addr: Option<u32>,
+) -> Result<Ended, NoMemory>
+    requires busy { (l : Locals) × (get_or memory.old.locals t None ≡ Some l) × PrimitivesIn (shape memory.old l) prims.now }
+    requires few { length prims.now < 65536 }
+    ensures { IfOk result (λ e. ending e memory.new events.new.items ≡ execute memory.old events.old.items t (address_or_null addr) 0 prims.now) }
+{
+    let Some(mut me) = memory.take(t) else {
+        return Ok(Ended::Stuck);
+    };
+    match execute(memory, &mut me, events, prims, t, addr)? {
+        Ended::Fine => {
+            memory.put(t, me);
+            Ok(Ended::Fine)
+        }
+        Ended::Stuck => Ok(Ended::Stuck),
+        Ended::Raced { kind, prim } => Ok(Ended::Raced { kind, prim }),
+    }
+}
