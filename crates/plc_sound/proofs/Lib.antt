@@ -1,2 +1,2 @@
+pub mod NoRetire
 pub mod Valid
-pub mod StraightLines

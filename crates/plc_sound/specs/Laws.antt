@@ -1,8 +1,51 @@
 -- The laws of soundness.
+use Rattle.std.specs.Prelude.{◌≡◌, Bool, false, List}
+use Rattle.std.specs.List.{list_any}
+use Rattle.plc_lang.specs.declared.syntax.Primitive.{Primitive}
+use Rattle.plc_lang.specs.declared.syntax.Primitive.TheVariants.{Null, Copy, New, Load, Store, StoreNull, DataSet, DataLoad, DataStore, Eq, Ne, IsNull, NotNull, DataTest, Refresh, RefreshLoad, RefreshStore, Call, Done, Active, Ghost}
 use Rattle.plc_auto.specs.declared.observer.Observer.{Observer}
+use Rattle.plc_auto.specs.Table.{is_retire}
+use Rattle.plc_flow.specs.declared.flow.Step.{Step}
 use Rattle.plc_flow.specs.declared.flow.Flow.{Flow}
 use Rattle.plc_run.specs.Run.{NeverRaces}
 
--- straight-line operations hand nothing to the reclaimer, so no observer allows a free, and no place is ever invalid
-abbrev pub StraightLinesAreSafe : Type 0
-StraightLinesAreSafe = (flow : Flow) (o : Observer) → NeverRaces flow o
+-- the primitive calls `retire`
+abbrev pub calls_retire : Primitive → Bool
+calls_retire (Null p) = false
+calls_retire (Copy p q) = false
+calls_retire (New p) = false
+calls_retire (Load p q f) = false
+calls_retire (Store p f q) = false
+calls_retire (StoreNull p f) = false
+calls_retire (DataSet x e) = false
+calls_retire (DataLoad x q f) = false
+calls_retire (DataStore p f e) = false
+calls_retire (Eq p q) = false
+calls_retire (Ne p q) = false
+calls_retire (IsNull p) = false
+calls_retire (NotNull p) = false
+calls_retire (DataTest r x e) = false
+calls_retire (Refresh p q) = false
+calls_retire (RefreshLoad p q f) = false
+calls_retire (RefreshStore p f q) = false
+calls_retire (Call f r) = is_retire f
+calls_retire (Done f) = false
+calls_retire (Active p) = false
+calls_retire (Ghost p g v) = false
+
+-- one of the primitives does
+abbrev pub some_retire : List Primitive → Bool
+some_retire ks = list_any calls_retire ks
+
+-- the step does
+abbrev pub retires : Step → Bool
+retires s = some_retire s.prims
+
+-- no step of the flow calls `retire`, and its `init` doesn't either
+pub record NeverRetires (flow : Flow) : Type 0 where
+  pub init : some_retire flow.file.init ≡ false
+  pub steps : list_any retires flow.steps ≡ false
+
+-- where nothing is handed to the reclaimer no observer allows a free, so that no place is ever invalid
+abbrev pub NoRetireIsSafe : Type 0
+NoRetireIsSafe = (flow : Flow) (o : Observer) → NeverRetires flow → NeverRaces flow o

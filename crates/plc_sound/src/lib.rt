@@ -1,7 +1,7 @@
-//! Laws over the definitions alone, which the headline of the program cites: no run of straight-line
-//! operations races.
+//! Laws over the definitions alone, which the headline of the program cites: no run of a flow that
+//! never calls `retire` races.
 #![tactic(auto)]
 
 mod laws;
 
-pub use laws::straight_lines_are_safe;
+pub use laws::no_retire_is_safe;
