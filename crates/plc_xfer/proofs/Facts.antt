@@ -1,51 +1,44 @@
 -- The facts on environments, which the rules and interference keep.
-use Rattle.std.proofs.Common.{◌≡◌, ℕ, zero, suc, ◌+◌, Bool, true, false, ◌&&◌, ◌||◌, List, [], ◌∷◌, length, get_or, map, replicate, refl, sym, ap, subst, arith, inl, inr, min}
+use Rattle.std.proofs.Common.{◌≡◌, ℕ, zero, suc, ◌+◌, Bool, true, false, ◌&&◌, List, [], ◌∷◌, length, get_or, map, replicate, refl, sym, ap, ◌∙◌, subst, arith, inl, inr, ◌⊎◌, min, max}
 use Rattle.std.specs.Prelude.{if◌then◌else◌}
-use Rattle.std.proofs.lemmas.Bool.{and_parts, and_from, leb-true, or_cases, eqb-true}
+use Rattle.std.proofs.lemmas.Bool.{and_parts, and_from, leb-true, leb-false, or_cases, cases_Bool, eqb-true}
+use Rattle.plc_base.specs.declared.ids.FuncId.{FuncId}
 use Rattle.plc_base.specs.Mask.{within, meet}
-use Rattle.plc_base.proofs.MaskLemmas.{within_self, within_trans, empty_within, meet_within_left, meet_within_right}
+use Rattle.plc_base.proofs.MaskLemmas.{within_self, within_trans, empty_within, meet_within_left, meet_within_right, within_union_left, union_least}
 use Rattle.plc_lang.specs.declared.syntax.Var.{Var}
 use Rattle.plc_lang.specs.declared.syntax.Var.TheVariants.{Shared, Local}
 use Rattle.plc_lang.specs.declared.syntax.Primitive.{Primitive}
-use Rattle.plc_lang.specs.declared.syntax.Primitive.TheVariants.{Null, Copy, New, Load, Store, StoreNull, DataSet, DataLoad, DataStore}
+use Rattle.plc_auto.specs.declared.event.EvKind.{EvKind}
+use Rattle.plc_auto.specs.declared.event.EvKind.TheVariants.{Call}
 use Rattle.plc_auto.specs.declared.observer.Observer.{Observer}
+use Rattle.plc_auto.specs.Table.{is_retire}
 use Rattle.plc_auto.specs.Sets.{all_locations, unretired, safe, closure}
+use Rattle.plc_auto.specs.Laws.{is_retirement}
+use Rattle.plc_auto.proofs.SetLemmas.{step_set_live}
 use Rattle.plc_type.specs.declared.guarantee.Guar.{Guar}
 use Rattle.plc_type.specs.declared.env.PtrType.{PtrType}
 use Rattle.plc_type.specs.declared.env.Env.{Env}
-use Rattle.plc_type.specs.Guarantees.{numbered, nothing, safe_only, active_safe, active_local_safe, is_guarantee_set, is_safe, is_active, is_local, without_local}
+use Rattle.plc_type.specs.Guarantees.{numbered, nothing, safe_only, active_safe, active_local_safe, is_guarantee_set, is_safe, is_active, is_local, without_local, without_active, either}
 use Rattle.plc_type.specs.Types.{bare, null_type}
-use Rattle.plc_xfer.specs.Rules.{type_of, is_variable, table, remade, env_after, env_after_all, effect, effect_anywhere, shared_type, new_type, interfered, interfered_local, all_within, FitsObserver}
+use Rattle.plc_type.proofs.Ordered.{le-leb}
+use Rattle.plc_xfer.specs.Calls.{on_this, on_other, on_either, other_type, argument_type, beside_type}
+use Rattle.plc_xfer.specs.Rules.{type_of, table, remade, env_after, env_after_all, effect, effect_anywhere, shared_type, new_type, equal_type, refreshed_type, placed_type, active_type, interfered, interfered_local, all_within, FitsObserver}
 use Rattle.plc_xfer.specs.Typings.{is_type, all_types, IsWellFormed}
-use Rattle.plc_xfer.proofs.Closures.{closure_keeps, closure_more, closure_in}
+use Rattle.plc_xfer.proofs.Kept.{KeepsAnywhere, KeepsTypes, anywhere_kept, effect_kept}
+use Rattle.plc_xfer.proofs.Locations.{closure_keeps, closure_more, closure_in, step_keeps, either_keeps, either_in, step_unretired}
+
+and-false : (b : Bool) → (b && false) ≡ false
+and-false true = refl
+and-false false = refl
+
+and-true : (b : Bool) → (b && true) ≡ b
+and-true true = refl
+and-true false = refl
 
 -- what holds of both choices holds of the one that is made
 pub if_holds : (P : PtrType → Type 0) (c : Bool) (t u : PtrType) → P t → P u → P (if c then t else u)
 if_holds P true t u h k = h
 if_holds P false t u h k = k
-
-pub anywhere_same : (o : Observer) (e : Env) (k : Primitive) → effect_anywhere o e k ≡ e.w
-anywhere_same o e (Null p) = refl
-anywhere_same o e (Copy p q) = refl
-anywhere_same o e (New p) = refl
-anywhere_same o e (Load p q f) = refl
-anywhere_same o e (Store p f q) = refl
-anywhere_same o e (StoreNull p f) = refl
-anywhere_same o e (DataSet x n) = refl
-anywhere_same o e (DataLoad x q f) = refl
-anywhere_same o e (DataStore p f n) = refl
-
--- what a primitive makes of a type keeps what null, new and loaded pointers have, and what is kept without L
-pub effect_has : (P : PtrType → Type 0) (o : Observer) (e : Env) (k : Primitive) → P null_type → P (new_type o e) → P (bare e.w) → ((v : Var) → P (type_of e v)) → ((v : Var) → P (shared_type (type_of e v))) → (v : Var) → P (effect o e k v)
-effect_has P o e (Null p) null new loaded held shared v = if_holds P (is_variable v p) _ _ null (held v)
-effect_has P o e (Copy p q) null new loaded held shared v = if_holds P (is_variable v p || is_variable v q) _ _ (shared q) (held v)
-effect_has P o e (New p) null new loaded held shared v = if_holds P (is_variable v p) _ _ new (held v)
-effect_has P o e (Load p q f) null new loaded held shared v = if_holds P (is_variable v p) _ _ loaded (held v)
-effect_has P o e (Store p f q) null new loaded held shared v = if_holds P (is_variable v q) _ _ (shared q) (held v)
-effect_has P o e (StoreNull p f) null new loaded held shared v = held v
-effect_has P o e (DataSet x n) null new loaded held shared v = held v
-effect_has P o e (DataLoad x q f) null new loaded held shared v = held v
-effect_has P o e (DataStore p f n) null new loaded held shared v = held v
 
 -- ---- lists
 
@@ -70,10 +63,6 @@ get_within : (m : ℕ) (x : List PtrType) (i : ℕ) (d : PtrType) → all_within
 get_within m [] i d h k = k
 get_within m (t ∷ x) zero d h k = (and_parts _ _ h).0
 get_within m (t ∷ x) (suc i) d h k = get_within m x i d (and_parts _ _ h).1 k
-
-pub map_length : (f : PtrType → PtrType) (x : List PtrType) → length (map f x) ≡ length x
-map_length f [] = refl
-map_length f (t ∷ x) = ap suc (map_length f x)
 
 pub map_same : (t : PtrType) (x : List PtrType) → map (λ (u : PtrType). t) x ≡ replicate (length x) t
 map_same t [] = refl
@@ -137,12 +126,105 @@ new_is_type o e = type_from o e.w (new_type o e) (record { guarantees = refl; in
 active_without : (g : Guar) → is_active (without_local g) ≡ true → is_active g ≡ true
 active_without g h = grind (arith, leb-true 3 (min g.0 3) h)
 
+local_removed : (g : Guar) → is_guarantee_set g ≡ true → is_guarantee_set (without_local g) ≡ true
+local_removed = guarantees_all (λ g. is_guarantee_set (without_local g) ≡ true) refl refl refl refl
+
+active_removed : (g : Guar) → is_guarantee_set g ≡ true → is_guarantee_set (without_active g) ≡ true
+active_removed = guarantees_all (λ g. is_guarantee_set (without_active g) ≡ true) refl refl refl refl
+
+not_active : (g : Guar) → is_active (without_active g) ≡ true → ⊥
+not_active g h = let x = leb-true 3 (min g.0 1) h in omega arith
+
+either_guarantees : (g : Guar) → is_guarantee_set g ≡ true → (h : Guar) → is_guarantee_set h ≡ true → is_guarantee_set (either g h) ≡ true
+either_guarantees = guarantees_all (λ g. (h : Guar) → is_guarantee_set h ≡ true → is_guarantee_set (either g h) ≡ true)
+    (guarantees_all (λ h. is_guarantee_set (either nothing h) ≡ true) refl refl refl refl)
+    (guarantees_all (λ h. is_guarantee_set (either safe_only h) ≡ true) refl refl refl refl)
+    (guarantees_all (λ h. is_guarantee_set (either active_safe h) ≡ true) refl refl refl refl)
+    (guarantees_all (λ h. is_guarantee_set (either active_local_safe h) ≡ true) refl refl refl refl)
+
+-- A of two sets together is A of one
+active_of : (g h : Guar) → is_active (either g h) ≡ true → (is_active g ≡ true) ⊎ (is_active h ≡ true)
+active_of g h a = elim (cases_Bool (is_active g)) [
+  | inl x ↦ inl x
+  | inr n ↦ (let small = leb-false 3 g.0 n in let large = leb-true 3 (max g.0 h.0) a in inr (le-leb 3 h.0 (omega arith)))
+]
+
 shared_is_type : (o : Observer) (w : ℕ) (t : PtrType) → is_type o w t ≡ true → is_type o w (shared_type t) ≡ true
 shared_is_type o w t h = let f = type_facts o w t h in type_from o w (shared_type t) (record {
-  guarantees = guarantees_all (λ g. is_guarantee_set (without_local g) ≡ true) refl refl refl refl t.g f.guarantees;
+  guarantees = local_removed t.g f.guarantees;
   inside = f.inside;
   active = λ a. f.active (active_without t.g a);
 })
+
+equal_is_type : (o : Observer) (w : ℕ) (t u : PtrType) → is_type o w t ≡ true → is_type o w u ≡ true → is_type o w (equal_type t u) ≡ true
+equal_is_type o w t u h k =
+    let x = type_facts o w t h in
+    let y = type_facts o w u k in
+    type_from o w (equal_type t u) (record {
+      guarantees = either_guarantees t.g x.guarantees u.g y.guarantees;
+      inside = within_trans _ _ _ (meet_within_left t.m u.m) x.inside;
+      active = λ a. elim (active_of t.g u.g a) [
+        | inl p ↦ within_trans _ _ _ (meet_within_left t.m u.m) (x.active p)
+        | inr q ↦ within_trans _ _ _ (meet_within_right t.m u.m) (y.active q)
+      ];
+    })
+
+refreshed_is_type : (o : Observer) (w : ℕ) (t u : PtrType) → is_type o w t ≡ true → is_type o w u ≡ true → is_type o w (refreshed_type t u) ≡ true
+refreshed_is_type o w t u h k =
+    let x = type_facts o w t h in
+    let y = type_facts o w u k in
+    type_from o w (refreshed_type t u) (record {
+      guarantees = local_removed u.g y.guarantees;
+      inside = within_trans _ _ _ (meet_within_left t.m u.m) x.inside;
+      active = λ a. within_trans _ _ _ (meet_within_right t.m u.m) (y.active (active_without u.g a));
+    })
+
+placed_is_type : (o : Observer) (w : ℕ) (t : PtrType) → is_type o w t ≡ true → is_type o w (placed_type t) ≡ true
+placed_is_type o w t h = let f = type_facts o w t h in type_from o w (placed_type t) (record { guarantees = refl; inside = f.inside; active = λ a. cc })
+
+active_is_type : (o : Observer) (w : ℕ) (t : PtrType) → is_type o w t ≡ true → is_type o w (active_type o t) ≡ true
+active_is_type o w t h = let f = type_facts o w t h in type_from o w (active_type o t) (record {
+  guarantees = either_guarantees t.g f.guarantees active_safe refl;
+  inside = within_trans _ _ _ (meet_within_left t.m (unretired o)) f.inside;
+  active = λ a. meet_within_right t.m (unretired o);
+})
+
+other_is_type : (o : Observer) (kind : EvKind) (w : ℕ) (t : PtrType) → is_type o w t ≡ true → is_type o (on_other o kind w) (other_type o kind t) ≡ true
+other_is_type o kind w t h = let f = type_facts o w t h in type_from o (on_other o kind w) (other_type o kind t) (record {
+  guarantees = f.guarantees;
+  inside = step_keeps o kind false t.m w f.inside;
+  active = λ a. step_unretired o kind false t.m (and-false (is_retirement kind)) (f.active a);
+})
+
+argument_is_type : (o : Observer) (f : FuncId) (w : ℕ) (t : PtrType) → is_type o w t ≡ true → is_type o (on_either o (Call f) w) (argument_type o f t) ≡ true
+argument_is_type o f w t h = go (is_retire f) refl
+  where
+    x : TypeFacts o w t
+    x = type_facts o w t h
+
+    inside : within (on_this o (Call f) t.m) (on_either o (Call f) w) ≡ true
+    inside = within_trans _ _ _ (step_keeps o (Call f) true t.m w x.inside) (within_union_left (on_this o (Call f) w) (on_other o (Call f) w))
+
+    go : (r : Bool) → is_retire f ≡ r → is_type o (on_either o (Call f) w) (if r then record { g = without_active t.g; m = on_this o (Call f) t.m } else record { g = t.g; m = on_this o (Call f) t.m }) ≡ true
+    go true r = type_from o _ _ (record { guarantees = active_removed t.g x.guarantees; inside = inside; active = λ a. absurd (not_active t.g a) })
+    go false r = type_from o _ _ (record { guarantees = x.guarantees; inside = inside; active = λ a. step_unretired o (Call f) true t.m (and-true (is_retire f) ∙ r) (x.active a) })
+
+beside_is_type : (o : Observer) (f : FuncId) (w : ℕ) (t : PtrType) → is_type o w t ≡ true → is_type o (on_either o (Call f) w) (beside_type o f t) ≡ true
+beside_is_type o f w t h = go (is_retire f) (is_local t.g) refl
+  where
+    x : TypeFacts o w t
+    x = type_facts o w t h
+
+    inside : within (on_either o (Call f) t.m) (on_either o (Call f) w) ≡ true
+    inside = either_keeps o (Call f) t.m w x.inside
+
+    stays : is_retire f ≡ false → within t.m (unretired o) ≡ true → within (on_either o (Call f) t.m) (unretired o) ≡ true
+    stays r u = union_least _ _ (unretired o) (step_unretired o (Call f) true t.m (and-true (is_retire f) ∙ r) u) (step_unretired o (Call f) false t.m (and-false (is_retire f)) u)
+
+    go : (r l : Bool) → is_retire f ≡ r → is_type o (on_either o (Call f) w) (if r then (if l then record { g = t.g; m = meet (on_either o (Call f) t.m) (unretired o) } else record { g = without_active t.g; m = on_either o (Call f) t.m }) else record { g = t.g; m = on_either o (Call f) t.m }) ≡ true
+    go true true r = type_from o (on_either o (Call f) w) (record { g = t.g; m = meet (on_either o (Call f) t.m) (unretired o) }) (record { guarantees = x.guarantees; inside = within_trans _ _ _ (meet_within_left (on_either o (Call f) t.m) (unretired o)) inside; active = λ a. meet_within_right (on_either o (Call f) t.m) (unretired o) })
+    go true false r = type_from o (on_either o (Call f) w) (record { g = without_active t.g; m = on_either o (Call f) t.m }) (record { guarantees = active_removed t.g x.guarantees; inside = inside; active = λ a. absurd (not_active t.g a) })
+    go false l r = type_from o (on_either o (Call f) w) (record { g = t.g; m = on_either o (Call f) t.m }) (record { guarantees = x.guarantees; inside = inside; active = λ a. stays r (x.active a) })
 
 -- ---- the rules keep the facts
 
@@ -151,19 +233,48 @@ unfolding type_of
 variable_is_type o e x (Shared i) = get_type o e.w e.shared i (bare e.w) x.shared_types (bare_is_type o e.w)
 variable_is_type o e x (Local i) = get_type o e.w e.locals i (bare e.w) x.local_types (bare_is_type o e.w)
 
-effect_is_type : (o : Observer) (e : Env) (k : Primitive) → IsWellFormed o e → (v : Var) → is_type o e.w (effect o e k v) ≡ true
-effect_is_type o e k x = effect_has (λ t. is_type o e.w t ≡ true) o e k (null_is_type o e.w) (new_is_type o e) (bare_is_type o e.w) (variable_is_type o e x)
-    (λ v. shared_is_type o e.w (type_of e v) (variable_is_type o e x v))
+-- the locations of an environment, and a type beside where any address may stand
+abbrev IsInside : Observer → ℕ → ℕ → Type 0
+IsInside o v w = within v (all_locations o) ≡ true
+
+abbrev IsType : Observer → ℕ → PtrType → ℕ → PtrType → Type 0
+IsType o v t w u = is_type o v t ≡ true
+
+anywhere_inside : (o : Observer) → KeepsAnywhere o (IsInside o)
+anywhere_inside o = record {
+  other = λ kind v w h. step_set_live o v kind true false h;
+  named = λ kind v w h. either_in o kind v h;
+}
+
+types_are_types : (o : Observer) → KeepsTypes o (IsInside o) (IsType o)
+types_are_types o = record {
+  null = λ v w. null_is_type o v;
+  bare_one = λ v w h. bare_is_type o v;
+  new_one = λ a b h. new_is_type o a;
+  shared = λ v w t u h. shared_is_type o v t h;
+  equal = λ v w t u x y h k. equal_is_type o v t x h k;
+  refreshed = λ v w t u x y h k. refreshed_is_type o v t x h k;
+  placed = λ v w t u h. placed_is_type o v t h;
+  active = λ v w t u h. active_is_type o v t h;
+  other = λ kind v w t u h. other_is_type o kind v t h;
+  argument = λ f v w t u h. argument_is_type o f v t h;
+  beside = λ f v w t u h. beside_is_type o f v t h;
+}
+
+effect_is_type : (o : Observer) (e : Env) (k : Primitive) → IsWellFormed o e → (v : Var) → is_type o (effect_anywhere o e k) (effect o e k v) ≡ true
+effect_is_type o e k x = effect_kept o (IsInside o) (IsType o) (types_are_types o) e e k x.anywhere (variable_is_type o e x)
+
+after_anywhere : (o : Observer) (e : Env) (k : Primitive) → within e.w (all_locations o) ≡ true → within (effect_anywhere o e k) (all_locations o) ≡ true
+after_anywhere o e k h = anywhere_kept o (IsInside o) (anywhere_inside o) e e k h
 
 pub after_well_formed : (o : Observer) (e : Env) (k : Primitive) → IsWellFormed o e → IsWellFormed o (env_after o e k)
 unfolding env_after remade
 after_well_formed o e k x =
-    let same = anywhere_same o e k in
     let types = effect_is_type o e k x in
     record {
-      anywhere = subst (λ (w : ℕ). within w (all_locations o) ≡ true) (sym same) x.anywhere;
-      shared_types = subst (λ (w : ℕ). all_types o w (table 0 (length e.shared) (λ i. effect o e k (Shared i))) ≡ true) (sym same) (table_types o e.w 0 (length e.shared) (λ i. effect o e k (Shared i)) (λ j. types (Shared j)));
-      local_types = subst (λ (w : ℕ). all_types o w (table 0 (length e.locals) (λ i. effect o e k (Local i))) ≡ true) (sym same) (table_types o e.w 0 (length e.locals) (λ i. effect o e k (Local i)) (λ j. types (Local j)));
+      anywhere = after_anywhere o e k x.anywhere;
+      shared_types = table_types o (effect_anywhere o e k) 0 (length e.shared) (λ i. effect o e k (Shared i)) (λ j. types (Shared j));
+      local_types = table_types o (effect_anywhere o e k) 0 (length e.locals) (λ i. effect o e k (Local i)) (λ j. types (Local j));
     }
 
 pub after_all_well_formed : (o : Observer) (e : Env) (ks : List Primitive) → IsWellFormed o e → IsWellFormed o (env_after_all o e ks)
@@ -217,19 +328,48 @@ well_formed_fits o e x = record {
   locals = types_within o e.w e.locals x.anywhere x.local_types;
 }
 
-variable_within : (o : Observer) (e : Env) → FitsObserver o e → (v : Var) → within (type_of e v).m (all_locations o) ≡ true
+pub variable_within : (o : Observer) (e : Env) → FitsObserver o e → (v : Var) → within (type_of e v).m (all_locations o) ≡ true
 unfolding type_of
 variable_within o e x (Shared i) = get_within (all_locations o) e.shared i (bare e.w) x.shared x.anywhere
 variable_within o e x (Local i) = get_within (all_locations o) e.locals i (bare e.w) x.locals x.anywhere
 
+abbrev HasLocations : Observer → ℕ → PtrType → ℕ → PtrType → Type 0
+HasLocations o v t w u = within t.m (all_locations o) ≡ true
+
+argument_inside : (o : Observer) (f : FuncId) (t : PtrType) → within t.m (all_locations o) ≡ true → within (argument_type o f t).m (all_locations o) ≡ true
+argument_inside o f t h = if_holds (λ u. within u.m (all_locations o) ≡ true) (is_retire f) _ _ this this
+  where
+    this : within (on_this o (Call f) t.m) (all_locations o) ≡ true
+    this = step_set_live o t.m (Call f) true true h
+
+beside_inside : (o : Observer) (f : FuncId) (t : PtrType) → within t.m (all_locations o) ≡ true → within (beside_type o f t).m (all_locations o) ≡ true
+beside_inside o f t h =
+    let P : PtrType → Type 0 = λ u. within u.m (all_locations o) ≡ true in
+    let both = either_in o (Call f) t.m h in
+    if_holds P (is_retire f) _ _ (if_holds P (is_local t.g) _ _ (within_trans _ _ _ (meet_within_left (on_either o (Call f) t.m) (unretired o)) both) both) both
+
+types_inside : (o : Observer) → KeepsTypes o (IsInside o) (HasLocations o)
+types_inside o = record {
+  null = λ v w. empty_within (all_locations o);
+  bare_one = λ v w h. h;
+  new_one = λ a b h. within_trans _ _ _ (meet_within_left a.w (unretired o)) h;
+  shared = λ v w t u h. h;
+  equal = λ v w t u x y h k. within_trans _ _ _ (meet_within_left t.m x.m) h;
+  refreshed = λ v w t u x y h k. within_trans _ _ _ (meet_within_left t.m x.m) h;
+  placed = λ v w t u h. h;
+  active = λ v w t u h. within_trans _ _ _ (meet_within_left t.m (unretired o)) h;
+  other = λ kind v w t u h. step_set_live o t.m kind true false h;
+  argument = λ f v w t u h. argument_inside o f t h;
+  beside = λ f v w t u h. beside_inside o f t h;
+}
+
 effect_within : (o : Observer) (e : Env) (k : Primitive) → FitsObserver o e → (v : Var) → within (effect o e k v).m (all_locations o) ≡ true
-effect_within o e k x = effect_has (λ t. within t.m (all_locations o) ≡ true) o e k (empty_within (all_locations o))
-    (within_trans _ _ _ (meet_within_left e.w (unretired o)) x.anywhere) x.anywhere (variable_within o e x) (variable_within o e x)
+effect_within o e k x = effect_kept o (IsInside o) (HasLocations o) (types_inside o) e e k x.anywhere (variable_within o e x)
 
 pub after_fits : (o : Observer) (e : Env) (k : Primitive) → FitsObserver o e → FitsObserver o (env_after o e k)
 unfolding env_after remade
 after_fits o e k x = let inside = effect_within o e k x in record {
-  anywhere = subst (λ (w : ℕ). within w (all_locations o) ≡ true) (sym (anywhere_same o e k)) x.anywhere;
+  anywhere = after_anywhere o e k x.anywhere;
   shared = table_within (all_locations o) 0 (length e.shared) (λ i. effect o e k (Shared i)) (λ j. inside (Shared j));
   locals = table_within (all_locations o) 0 (length e.locals) (λ i. effect o e k (Local i)) (λ j. inside (Local j));
 }

@@ -1,27 +1,35 @@
 -- A smaller environment leads to a smaller one, and meets each condition that a larger one meets.
-use Rattle.std.proofs.Common.{◌≡◌, ℕ, zero, suc, ◌+◌, ◌≤◌, Bool, true, false, ◌&&◌, ◌||◌, List, [], ◌∷◌, length, get_or, map, Some, None, refl, sym, ◌∙◌, subst, arith}
+use Rattle.std.proofs.Common.{◌≡◌, ℕ, zero, suc, ◌+◌, ◌≤◌, Bool, true, false, ◌&&◌, List, [], ◌∷◌, length, get_or, map, Some, None, refl, sym, ◌∙◌, subst, arith}
 use Rattle.std.specs.Prelude.{if◌then◌else◌}
 use Rattle.std.proofs.lemmas.Bool.{and_parts, and_from, leb-true, both_ways}
+use Rattle.plc_base.specs.declared.ids.FuncId.{FuncId}
 use Rattle.plc_base.specs.Mask.{within, meet}
 use Rattle.plc_base.proofs.MaskLemmas.{within_self, within_trans, meet_within_left, meet_monotone}
 use Rattle.plc_lang.specs.declared.syntax.Var.{Var}
 use Rattle.plc_lang.specs.declared.syntax.Var.TheVariants.{Shared, Local}
+use Rattle.plc_lang.specs.declared.syntax.Arg.{Arg}
+use Rattle.plc_lang.specs.declared.syntax.Arg.TheVariants as args
 use Rattle.plc_lang.specs.declared.syntax.Primitive.{Primitive}
-use Rattle.plc_lang.specs.declared.syntax.Primitive.TheVariants.{Null, Copy, New, Load, Store, StoreNull, DataSet, DataLoad, DataStore}
+use Rattle.plc_lang.specs.declared.syntax.Primitive.TheVariants.{Null, Copy, New, Load, Store, StoreNull, DataSet, DataLoad, DataStore, Eq, Ne, IsNull, NotNull, DataTest, Refresh, RefreshLoad, RefreshStore, Call, Done, Active, Ghost}
+use Rattle.plc_auto.specs.declared.event.EvKind.{EvKind}
+use Rattle.plc_auto.specs.declared.event.EvKind.TheVariants as events
 use Rattle.plc_auto.specs.declared.observer.Observer.{Observer}
+use Rattle.plc_auto.specs.Table.{is_retire}
 use Rattle.plc_auto.specs.Sets.{unretired, safe, closure}
 use Rattle.plc_type.specs.declared.env.PtrType.{PtrType}
 use Rattle.plc_type.specs.declared.env.Env.{Env}
-use Rattle.plc_type.specs.Guarantees.{nothing, safe_only, is_safe, is_local}
+use Rattle.plc_type.specs.Guarantees.{nothing, safe_only, is_safe, is_active, is_local, without_active}
 use Rattle.plc_type.specs.Types.{bare, null_type, type_below}
 use Rattle.plc_type.specs.Environments.{types_below, env_below, SameShape}
 use Rattle.plc_type.proofs.Ordered.{le-leb, type_same, env_parts, env_from}
 use Rattle.plc_xfer.specs.declared.fault.TypeFault.{TypeFault}
-use Rattle.plc_xfer.specs.declared.fault.TypeFault.TheVariants.{DerefNotSafe}
-use Rattle.plc_xfer.specs.Rules.{type_of, is_variable, table, remade, env_after, env_after_all, effect, shared_type, new_type, access_fault, fault_of, interfered, interfered_local}
+use Rattle.plc_xfer.specs.declared.fault.TypeFault.TheVariants.{DerefNotSafe, CompareNotSafe, RetireNotActive}
+use Rattle.plc_xfer.specs.Calls.{on_this, on_either, other_type, argument_type, beside_retired, beside_type}
+use Rattle.plc_xfer.specs.Rules.{type_of, table, remade, env_after, env_after_all, effect, shared_type, new_type, equal_type, refreshed_type, placed_type, active_type, access_fault, compare_fault, retire_fault, call_fault, fault_of, interfered, interfered_local}
 use Rattle.plc_xfer.specs.Typings.{fault_at}
-use Rattle.plc_xfer.proofs.Closures.{closure_keeps, closure_more}
-use Rattle.plc_xfer.proofs.Facts.{anywhere_same, table_length}
+use Rattle.plc_xfer.proofs.Kept.{KeepsAnywhere, KeepsTypes, anywhere_kept, effect_kept}
+use Rattle.plc_xfer.proofs.Locations.{closure_keeps, closure_more, step_keeps, either_keeps}
+use Rattle.plc_xfer.proofs.Facts.{table_length}
 
 -- ---- types
 
@@ -40,9 +48,65 @@ bare_below v w h = below_from (bare v) (bare w) (omega arith) h
 shared_below : (t u : PtrType) → type_below t u ≡ true → type_below (shared_type t) (shared_type u) ≡ true
 shared_below t u h = let g = fewer t u h in below_from (shared_type t) (shared_type u) (omega arith) (inside t u h)
 
+equal_below : (t u x y : PtrType) → type_below t u ≡ true → type_below x y ≡ true → type_below (equal_type t x) (equal_type u y) ≡ true
+equal_below t u x y h k =
+    let g = fewer t u h in
+    let f = fewer x y k in
+    below_from (equal_type t x) (equal_type u y) (omega arith) (meet_monotone t.m x.m u.m y.m (inside t u h) (inside x y k))
+
+refreshed_below : (t u x y : PtrType) → type_below t u ≡ true → type_below x y ≡ true → type_below (refreshed_type t x) (refreshed_type u y) ≡ true
+refreshed_below t u x y h k =
+    let f = fewer x y k in
+    below_from (refreshed_type t x) (refreshed_type u y) (omega arith) (meet_monotone t.m x.m u.m y.m (inside t u h) (inside x y k))
+
+active_below : (o : Observer) (t u : PtrType) → type_below t u ≡ true → type_below (active_type o t) (active_type o u) ≡ true
+active_below o t u h =
+    let g = fewer t u h in
+    below_from (active_type o t) (active_type o u) (omega arith) (meet_monotone t.m (unretired o) u.m (unretired o) (inside t u h) (within_self (unretired o)))
+
+new_below : (o : Observer) (a b : Env) → within a.w b.w ≡ true → type_below (new_type o a) (new_type o b) ≡ true
+new_below o a b h = below_from (new_type o a) (new_type o b) (omega arith) (meet_monotone a.w (unretired o) b.w (unretired o) h (within_self (unretired o)))
+
 if_below : (c : Bool) (t u x y : PtrType) → type_below t u ≡ true → type_below x y ≡ true → type_below (if c then t else x) (if c then u else y) ≡ true
 if_below true t u x y h k = h
 if_below false t u x y h k = k
+
+-- ---- calls and returns
+
+other_below : (o : Observer) (kind : EvKind) (t u : PtrType) → type_below t u ≡ true → type_below (other_type o kind t) (other_type o kind u) ≡ true
+other_below o kind t u h = below_from (other_type o kind t) (other_type o kind u) (fewer t u h) (step_keeps o kind false t.m u.m (inside t u h))
+
+argument_below : (o : Observer) (f : FuncId) (t u : PtrType) → type_below t u ≡ true → type_below (argument_type o f t) (argument_type o f u) ≡ true
+argument_below o f t u h =
+    let g = fewer t u h in
+    let this = step_keeps o (events.Call f) true t.m u.m (inside t u h) in
+    if_below (is_retire f) _ _ _ _
+    (below_from (record { g = without_active t.g; m = on_this o (events.Call f) t.m }) (record { g = without_active u.g; m = on_this o (events.Call f) u.m }) (omega arith) this)
+    (below_from (record { g = t.g; m = on_this o (events.Call f) t.m }) (record { g = u.g; m = on_this o (events.Call f) u.m }) g this)
+
+retired_below : (o : Observer) (f : FuncId) (t u : PtrType) → type_below t u ≡ true → type_below (beside_retired o f t) (beside_retired o f u) ≡ true
+retired_below o f t u h = go (is_local u.g) (is_local t.g) refl refl
+  where
+    g : u.g.0 ≤ t.g.0
+    g = fewer t u h
+
+    both : within (on_either o (events.Call f) t.m) (on_either o (events.Call f) u.m) ≡ true
+    both = either_keeps o (events.Call f) t.m u.m (inside t u h)
+
+    local_too : is_local u.g ≡ true → is_local t.g ≡ true
+    local_too k = let x = leb-true 7 u.g.0 k in le-leb 7 t.g.0 (omega (arith, g))
+
+    go : (local_u local_t : Bool) → is_local u.g ≡ local_u → is_local t.g ≡ local_t
+        → type_below (if local_t then record { g = t.g; m = meet (on_either o (events.Call f) t.m) (unretired o) } else record { g = without_active t.g; m = on_either o (events.Call f) t.m })
+        (if local_u then record { g = u.g; m = meet (on_either o (events.Call f) u.m) (unretired o) } else record { g = without_active u.g; m = on_either o (events.Call f) u.m }) ≡ true
+    go true true a b = below_from _ _ g (meet_monotone _ _ _ _ both (within_self (unretired o)))
+    go true false a b = absurd (both_ways _ b (local_too a))
+    go false true a b = below_from _ _ (omega (arith, g)) (within_trans _ _ _ (meet_within_left _ (unretired o)) both)
+    go false false a b = below_from _ _ (omega (arith, g)) both
+
+beside_below : (o : Observer) (f : FuncId) (t u : PtrType) → type_below t u ≡ true → type_below (beside_type o f t) (beside_type o f u) ≡ true
+beside_below o f t u h = if_below (is_retire f) _ _ _ _ (retired_below o f t u h)
+    (below_from (record { g = t.g; m = on_either o (events.Call f) t.m }) (record { g = u.g; m = on_either o (events.Call f) u.m }) (fewer t u h) (either_keeps o (events.Call f) t.m u.m (inside t u h)))
 
 -- ---- lists
 
@@ -69,19 +133,35 @@ unfolding type_of
 variable_below a b s h (Shared i) = let p = env_parts a b h in get_below a.shared b.shared i (bare a.w) (bare b.w) s.0 (bare_below a.w b.w p.0) p.1
 variable_below a b s h (Local i) = let p = env_parts a b h in get_below a.locals b.locals i (bare a.w) (bare b.w) s.1 (bare_below a.w b.w p.0) p.2
 
-new_below : (o : Observer) (a b : Env) → within a.w b.w ≡ true → type_below (new_type o a) (new_type o b) ≡ true
-new_below o a b h = below_from (new_type o a) (new_type o b) (omega arith) (meet_monotone a.w (unretired o) b.w (unretired o) h (within_self (unretired o)))
+abbrev IsSmaller : ℕ → ℕ → Type 0
+IsSmaller v w = within v w ≡ true
+
+abbrev IsBelow : ℕ → PtrType → ℕ → PtrType → Type 0
+IsBelow v t w u = type_below t u ≡ true
+
+anywhere_smaller : (o : Observer) → KeepsAnywhere o IsSmaller
+anywhere_smaller o = record {
+  other = λ kind v w h. step_keeps o kind false v w h;
+  named = λ kind v w h. either_keeps o kind v w h;
+}
+
+types_stay_below : (o : Observer) → KeepsTypes o IsSmaller IsBelow
+types_stay_below o = record {
+  null = λ v w. type_same null_type;
+  bare_one = λ v w h. bare_below v w h;
+  new_one = λ a b h. new_below o a b h;
+  shared = λ v w t u h. shared_below t u h;
+  equal = λ v w t u x y h k. equal_below t u x y h k;
+  refreshed = λ v w t u x y h k. refreshed_below t u x y h k;
+  placed = λ v w t u h. below_from (placed_type t) (placed_type u) (omega arith) (inside t u h);
+  active = λ v w t u h. active_below o t u h;
+  other = λ kind v w t u h. other_below o kind t u h;
+  argument = λ f v w t u h. argument_below o f t u h;
+  beside = λ f v w t u h. beside_below o f t u h;
+}
 
 effect_below : (o : Observer) (a b : Env) (k : Primitive) → SameShape a b → env_below a b ≡ true → (v : Var) → type_below (effect o a k v) (effect o b k v) ≡ true
-effect_below o a b (Null p) s h v = if_below (is_variable v p) null_type null_type (type_of a v) (type_of b v) (type_same null_type) (variable_below a b s h v)
-effect_below o a b (Copy p q) s h v = if_below (is_variable v p || is_variable v q) (shared_type (type_of a q)) (shared_type (type_of b q)) (type_of a v) (type_of b v) (shared_below (type_of a q) (type_of b q) (variable_below a b s h q)) (variable_below a b s h v)
-effect_below o a b (New p) s h v = if_below (is_variable v p) (new_type o a) (new_type o b) (type_of a v) (type_of b v) (new_below o a b (env_parts a b h).0) (variable_below a b s h v)
-effect_below o a b (Load p q f) s h v = if_below (is_variable v p) (bare a.w) (bare b.w) (type_of a v) (type_of b v) (bare_below a.w b.w (env_parts a b h).0) (variable_below a b s h v)
-effect_below o a b (Store p f q) s h v = if_below (is_variable v q) (shared_type (type_of a q)) (shared_type (type_of b q)) (type_of a v) (type_of b v) (shared_below (type_of a q) (type_of b q) (variable_below a b s h q)) (variable_below a b s h v)
-effect_below o a b (StoreNull p f) s h v = variable_below a b s h v
-effect_below o a b (DataSet x n) s h v = variable_below a b s h v
-effect_below o a b (DataLoad x q f) s h v = variable_below a b s h v
-effect_below o a b (DataStore p f n) s h v = variable_below a b s h v
+effect_below o a b k s h = effect_kept o IsSmaller IsBelow (types_stay_below o) a b k (env_parts a b h).0 (variable_below a b s h)
 
 pub after_shape : (o : Observer) (e : Env) (k : Primitive) → SameShape (env_after o e k) e
 unfolding env_after remade
@@ -97,10 +177,8 @@ pub after_below : (o : Observer) (a b : Env) (k : Primitive) → SameShape a b �
 unfolding env_after remade
 after_below o a b k s h =
     let below = effect_below o a b k s h in
-    let u = anywhere_same o a k in
-    let v = anywhere_same o b k in
     env_from (env_after o a k) (env_after o b k)
-    (rw (u, v) (env_parts a b h).0)
+    (anywhere_kept o IsSmaller (anywhere_smaller o) a b k (env_parts a b h).0)
     (subst (λ (n : ℕ). types_below (table 0 (length a.shared) (λ i. effect o a k (Shared i))) (table 0 n (λ i. effect o b k (Shared i))) ≡ true) s.0 (table_below 0 (length a.shared) (λ i. effect o a k (Shared i)) (λ i. effect o b k (Shared i)) (λ j. below (Shared j))))
     (subst (λ (n : ℕ). types_below (table 0 (length a.locals) (λ i. effect o a k (Local i))) (table 0 n (λ i. effect o b k (Local i))) ≡ true) s.1 (table_below 0 (length a.locals) (λ i. effect o a k (Local i)) (λ i. effect o b k (Local i)) (λ j. below (Local j))))
 
@@ -179,17 +257,44 @@ interfered_below o a b h =
 
 -- ---- conditions
 
-access_sooner : (a b : Env) → SameShape a b → env_below a b ≡ true → (v : Var) → access_fault b v ≡ None → access_fault a v ≡ None
-access_sooner a b s h v k =
+-- a test that no fault comes from
+passed : (c : Bool) (f : TypeFault) → (if c then None else Some f) ≡ None → c ≡ true
+passed true f e = refl
+passed false f e = cc
+
+safe_too : (a b : Env) → SameShape a b → env_below a b ≡ true → (v : Var) → is_safe (type_of b v).g ≡ true → is_safe (type_of a v).g ≡ true
+safe_too a b s h v k =
     let g = fewer (type_of a v) (type_of b v) (variable_below a b s h v) in
-    let safe_b : is_safe (type_of b v).g ≡ true = tested (is_safe (type_of b v).g) (DerefNotSafe v) k in
-    let more = leb-true 1 (type_of b v).g.0 safe_b in
-    let safe_a : is_safe (type_of a v).g ≡ true = le-leb 1 (type_of a v).g.0 (omega arith) in
-    rw safe_a refl
+    let more = leb-true 1 (type_of b v).g.0 k in
+    le-leb 1 (type_of a v).g.0 (omega arith)
+
+access_sooner : (a b : Env) → SameShape a b → env_below a b ≡ true → (v : Var) → access_fault b v ≡ None → access_fault a v ≡ None
+access_sooner a b s h v k = rw (safe_too a b s h v (passed (is_safe (type_of b v).g) (DerefNotSafe v) k)) refl
+
+compare_sooner : (a b : Env) → SameShape a b → env_below a b ≡ true → (p q : Var) → compare_fault b p q ≡ None → compare_fault a p q ≡ None
+compare_sooner a b s h p q k =
+    let both = passed_both (is_safe (type_of b p).g) (is_safe (type_of b q).g) k in
+    rw (safe_too a b s h p both.0, safe_too a b s h q both.1) refl
   where
-    tested : (c : Bool) (f : TypeFault) → (if c then None else Some f) ≡ None → c ≡ true
-    tested true f e = refl
-    tested false f e = cc
+    passed_both : (c d : Bool) → (if c then (if d then None else Some (CompareNotSafe q)) else Some (CompareNotSafe p)) ≡ None → (c ≡ true) × (d ≡ true)
+    passed_both true d e = (refl, passed d (CompareNotSafe q) e)
+    passed_both false d e = cc
+
+retire_sooner : (a b : Env) → SameShape a b → env_below a b ≡ true → (v : Var) → retire_fault b v ≡ None → retire_fault a v ≡ None
+retire_sooner a b s h v k =
+    let g = fewer (type_of a v) (type_of b v) (variable_below a b s h v) in
+    let more = leb-true 3 (type_of b v).g.0 (passed (is_active (type_of b v).g) (RetireNotActive v) k) in
+    let active_a : is_active (type_of a v).g ≡ true = le-leb 3 (type_of a v).g.0 (omega arith) in
+    rw active_a refl
+
+call_sooner : (a b : Env) (f : FuncId) (arg : Arg) → SameShape a b → env_below a b ≡ true → call_fault b f arg ≡ None → call_fault a f arg ≡ None
+call_sooner a b f args.None s h e = refl
+call_sooner a b f args.Null s h e = refl
+call_sooner a b f (args.Var p) s h e = go (is_retire f) e
+  where
+    go : (r : Bool) → (if r then retire_fault b p else None) ≡ None → (if r then retire_fault a p else None) ≡ None
+    go true e = retire_sooner a b s h p e
+    go false e = refl
 
 pub fault_sooner : (a b : Env) (k : Primitive) → SameShape a b → env_below a b ≡ true → fault_of b k ≡ None → fault_of a k ≡ None
 fault_sooner a b (Null p) s h e = refl
@@ -201,6 +306,18 @@ fault_sooner a b (StoreNull p f) s h e = access_sooner a b s h p e
 fault_sooner a b (DataSet x n) s h e = refl
 fault_sooner a b (DataLoad x q f) s h e = access_sooner a b s h q e
 fault_sooner a b (DataStore p f n) s h e = access_sooner a b s h p e
+fault_sooner a b (Eq p q) s h e = compare_sooner a b s h p q e
+fault_sooner a b (Ne p q) s h e = compare_sooner a b s h p q e
+fault_sooner a b (IsNull p) s h e = refl
+fault_sooner a b (NotNull p) s h e = refl
+fault_sooner a b (DataTest r x n) s h e = refl
+fault_sooner a b (Refresh p q) s h e = refl
+fault_sooner a b (RefreshLoad p q f) s h e = access_sooner a b s h q e
+fault_sooner a b (RefreshStore p f q) s h e = access_sooner a b s h p e
+fault_sooner a b (Call f arg) s h e = call_sooner a b f arg s h e
+fault_sooner a b (Done f) s h e = refl
+fault_sooner a b (Active p) s h e = refl
+fault_sooner a b (Ghost p g n) s h e = refl
 
 pub at_sooner : (o : Observer) (a b : Env) (ks : List Primitive) (i : ℕ) → SameShape a b → env_below a b ≡ true → fault_at o b ks i ≡ None → fault_at o a ks i ≡ None
 at_sooner o a b [] i s h e = refl

@@ -1,5 +1,6 @@
 pub mod Rows
-pub mod Closures
+pub mod Kept
+pub mod Locations
 pub mod Facts
 pub mod Keeps
 pub mod Order

@@ -19,8 +19,9 @@ use Rattle.plc_type.proofs.Ordered.{le-leb, env_from, types_length}
 use Rattle.plc_xfer.specs.Rules.{env_after_all, interfered}
 use Rattle.plc_xfer.specs.Typings.{is_type, all_types, IsEnvironment, IsWellFormed, led, fault_at}
 use Rattle.plc_xfer.specs.Laws.{RulesKeepOrder}
-use Rattle.plc_xfer.proofs.Closures.{closure_in}
-use Rattle.plc_xfer.proofs.Facts.{type_facts, type_from, guarantees_all, null_is_type, bare_is_type, replicate_types, map_same, map_length, after_all_well_formed, interfered_well_formed}
+use Rattle.plc_xfer.proofs.Locations.{closure_in}
+use Rattle.plc_xfer.proofs.Facts.{type_facts, type_from, guarantees_all, null_is_type, bare_is_type, replicate_types, map_same, after_all_well_formed, interfered_well_formed}
+use Rattle.plc_xfer.proofs.Rows.{map_length}
 use Rattle.plc_xfer.proofs.Keeps.{after_all_shape, after_all_below, interfered_below, at_sooner}
 
 -- ---- bottom and entry

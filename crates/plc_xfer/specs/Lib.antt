@@ -1,3 +1,4 @@
+pub mod Calls
 pub mod Rules
 pub mod Writes
 pub mod Typings

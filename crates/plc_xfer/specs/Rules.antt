@@ -1,18 +1,24 @@
 -- The typing rules. All parts of a row are read in the environment before the primitive.
 use Rattle.std.specs.Prelude.{◌≡◌, ◌==◌, ◌&&◌, ◌||◌, ◌+◌, ℕ, zero, suc, Bool, true, false, if◌then◌else◌, List, [], ◌∷◌, length, get_or, map, Option, Some, None}
+use Rattle.plc_base.specs.declared.ids.FuncId.{FuncId}
 use Rattle.plc_base.specs.Mask.{meet, within}
 use Rattle.plc_lang.specs.declared.syntax.Var.{Var}
 use Rattle.plc_lang.specs.declared.syntax.Var.TheVariants.{Shared, Local}
+use Rattle.plc_lang.specs.declared.syntax.Arg.{Arg}
+use Rattle.plc_lang.specs.declared.syntax.Arg.TheVariants as args
 use Rattle.plc_lang.specs.declared.syntax.Primitive.{Primitive}
-use Rattle.plc_lang.specs.declared.syntax.Primitive.TheVariants.{Null, Copy, New, Load, Store, StoreNull, DataSet, DataLoad, DataStore}
+use Rattle.plc_lang.specs.declared.syntax.Primitive.TheVariants.{Null, Copy, New, Load, Store, StoreNull, DataSet, DataLoad, DataStore, Eq, Ne, IsNull, NotNull, DataTest, Refresh, RefreshLoad, RefreshStore, Call, Done, Active, Ghost}
+use Rattle.plc_auto.specs.declared.event.EvKind.TheVariants as events
 use Rattle.plc_auto.specs.declared.observer.Observer.{Observer}
+use Rattle.plc_auto.specs.Table.{is_retire}
 use Rattle.plc_auto.specs.Sets.{all_locations, unretired, safe, closure}
 use Rattle.plc_type.specs.declared.env.PtrType.{PtrType}
 use Rattle.plc_type.specs.declared.env.Env.{Env}
-use Rattle.plc_type.specs.Guarantees.{nothing, safe_only, active_local_safe, is_safe, is_local, without_local}
+use Rattle.plc_type.specs.Guarantees.{nothing, safe_only, active_safe, active_local_safe, is_safe, is_active, is_local, without_local, either}
 use Rattle.plc_type.specs.Types.{bare, null_type}
 use Rattle.plc_xfer.specs.declared.fault.TypeFault.{TypeFault}
-use Rattle.plc_xfer.specs.declared.fault.TypeFault.TheVariants.{DerefNotSafe}
+use Rattle.plc_xfer.specs.declared.fault.TypeFault.TheVariants.{DerefNotSafe, CompareNotSafe, RetireNotActive}
+use Rattle.plc_xfer.specs.Calls.{on_other, on_either, other_type, argument_type, beside_type}
 
 -- the type of a variable; a variable that the environment lacks may stand where any address may
 unfoldable pub type_of : Env → Var → PtrType
@@ -30,6 +36,22 @@ is_variable (Local i) (Shared j) = false
 abbrev pub access_fault : Env → Var → Option TypeFault
 access_fault e p = if is_safe (type_of e p).g then None else Some (DerefNotSafe p)
 
+-- a comparison asks that both pointers are safe, the first before the second
+abbrev pub compare_fault : Env → Var → Var → Option TypeFault
+compare_fault e p q =
+    if is_safe (type_of e p).g then (if is_safe (type_of e q).g then None else Some (CompareNotSafe q))
+    else Some (CompareNotSafe p)
+
+-- a retirement asks that the pointer is active
+abbrev pub retire_fault : Env → Var → Option TypeFault
+retire_fault e p = if is_active (type_of e p).g then None else Some (RetireNotActive p)
+
+-- of calls only a retirement of a pointer asks anything
+abbrev pub call_fault : Env → FuncId → Arg → Option TypeFault
+call_fault e f args.None = None
+call_fault e f args.Null = None
+call_fault e f (args.Var p) = if is_retire f then retire_fault e p else None
+
 -- the condition of a primitive: the fault where it fails
 abbrev pub fault_of : Env → Primitive → Option TypeFault
 fault_of e (Null p) = None
@@ -38,9 +60,21 @@ fault_of e (New p) = None
 fault_of e (Load p q f) = access_fault e q
 fault_of e (Store p f q) = access_fault e p
 fault_of e (StoreNull p f) = access_fault e p
-fault_of e (DataSet x v) = None
+fault_of e (DataSet x n) = None
 fault_of e (DataLoad x q f) = access_fault e q
-fault_of e (DataStore p f v) = access_fault e p
+fault_of e (DataStore p f n) = access_fault e p
+fault_of e (Eq p q) = compare_fault e p q
+fault_of e (Ne p q) = compare_fault e p q
+fault_of e (IsNull p) = None
+fault_of e (NotNull p) = None
+fault_of e (DataTest r x n) = None
+fault_of e (Refresh p q) = None
+fault_of e (RefreshLoad p q f) = access_fault e q
+fault_of e (RefreshStore p f q) = access_fault e p
+fault_of e (Call f a) = call_fault e f a
+fault_of e (Done f) = None
+fault_of e (Active p) = None
+fault_of e (Ghost p g n) = None
 
 -- the same type without L
 abbrev pub shared_type : PtrType → PtrType
@@ -49,6 +83,28 @@ shared_type t = record { g = without_local t.g; m = t.m }
 -- a pointer to a node that was just allocated
 abbrev pub new_type : Observer → Env → PtrType
 new_type o e = record { g = active_local_safe; m = meet e.w (unretired o) }
+
+-- two pointers that are equal and valid
+abbrev pub equal_type : PtrType → PtrType → PtrType
+equal_type t u = record { g = either t.g u.g; m = meet t.m u.m }
+
+-- a pointer that was assigned another one with the same address
+abbrev pub refreshed_type : PtrType → PtrType → PtrType
+refreshed_type t u = record { g = without_local u.g; m = meet t.m u.m }
+
+-- a pointer of which no more is known than its locations
+abbrev pub placed_type : PtrType → PtrType
+placed_type t = record { g = nothing; m = t.m }
+
+-- a pointer that is claimed to be active
+abbrev pub active_type : Observer → PtrType → PtrType
+active_type o t = record { g = either t.g active_safe; m = meet t.m (unretired o) }
+
+-- the effect of a call on the variable v
+abbrev pub call_effect : Observer → Env → FuncId → Arg → Var → PtrType
+call_effect o e f args.None v = other_type o (events.Call f) (type_of e v)
+call_effect o e f args.Null v = other_type o (events.Call f) (type_of e v)
+call_effect o e f (args.Var p) v = if is_variable v p then argument_type o f (type_of e p) else beside_type o f (type_of e v)
 
 -- the effect of a primitive on the variable v
 abbrev pub effect : Observer → Env → Primitive → Var → PtrType
@@ -61,6 +117,24 @@ effect o e (StoreNull p f) v = type_of e v
 effect o e (DataSet x n) v = type_of e v
 effect o e (DataLoad x q f) v = type_of e v
 effect o e (DataStore p f n) v = type_of e v
+effect o e (Eq p q) v = if is_variable v p || is_variable v q then equal_type (type_of e p) (type_of e q) else type_of e v
+effect o e (Ne p q) v = type_of e v
+effect o e (IsNull p) v = if is_variable v p then null_type else type_of e v
+effect o e (NotNull p) v = type_of e v
+effect o e (DataTest r x n) v = type_of e v
+effect o e (Refresh p q) v = if is_variable v (Local p) || is_variable v q then refreshed_type (type_of e (Local p)) (type_of e q) else type_of e v
+effect o e (RefreshLoad p q f) v = if is_variable v (Local p) then placed_type (type_of e (Local p)) else type_of e v
+effect o e (RefreshStore p f q) v = if is_variable v q then shared_type (type_of e q) else type_of e v
+effect o e (Call f a) v = call_effect o e f a v
+effect o e (Done f) v = other_type o (events.Done f) (type_of e v)
+effect o e (Active p) v = if is_variable v p then active_type o (type_of e p) else type_of e v
+effect o e (Ghost p g n) v = type_of e v
+
+-- the effect of a call on where any address may stand
+abbrev pub call_anywhere : Observer → Env → FuncId → Arg → ℕ
+call_anywhere o e f args.None = on_other o (events.Call f) e.w
+call_anywhere o e f args.Null = on_other o (events.Call f) e.w
+call_anywhere o e f (args.Var p) = on_either o (events.Call f) e.w
 
 -- the effect on where any address may stand
 abbrev pub effect_anywhere : Observer → Env → Primitive → ℕ
@@ -73,6 +147,18 @@ effect_anywhere o e (StoreNull p f) = e.w
 effect_anywhere o e (DataSet x n) = e.w
 effect_anywhere o e (DataLoad x q f) = e.w
 effect_anywhere o e (DataStore p f n) = e.w
+effect_anywhere o e (Eq p q) = e.w
+effect_anywhere o e (Ne p q) = e.w
+effect_anywhere o e (IsNull p) = e.w
+effect_anywhere o e (NotNull p) = e.w
+effect_anywhere o e (DataTest r x n) = e.w
+effect_anywhere o e (Refresh p q) = e.w
+effect_anywhere o e (RefreshLoad p q f) = e.w
+effect_anywhere o e (RefreshStore p f q) = e.w
+effect_anywhere o e (Call f a) = call_anywhere o e f a
+effect_anywhere o e (Done f) = on_other o (events.Done f) e.w
+effect_anywhere o e (Active p) = e.w
+effect_anywhere o e (Ghost p g n) = e.w
 
 -- f i, f (i + 1), .. of n numbers
 abbrev pub table : {A : Type 0} → ℕ → ℕ → (ℕ → A) → List A

@@ -3,14 +3,18 @@
 //! call is the written rule, and the rules keep the order of environments.
 #![tactic(auto)]
 
+mod calls;
+mod conditions;
+mod effects;
 mod fault;
 mod interference;
 mod laws;
-mod rules;
 #[cfg(test)]
 mod tests;
+mod types;
 
+pub use conditions::condition;
+pub use effects::apply;
 pub use fault::TypeFault;
 pub use interference::interfere;
 pub use laws::rules_keep_order;
-pub use rules::{apply, condition};
