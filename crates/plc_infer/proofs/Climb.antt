@@ -1,10 +1,9 @@
 -- One step after another keeps what is known of the environments on the way to the strongest.
-use Rattle.std.proofs.Common.{◌≡◌, ◌≢◌, ℕ, ◌+◌, ◌*◌, ◌-◌, ◌<◌, ◌≤◌, zero, suc, [], ◌∷◌, Bool, true, false, below_more, List, length, get_or, set, refl, sym, ap, subst, ◌∙◌, arith, inl, inr, get_or-set_same, get_or-set_other, length-set}
-use Rattle.std.specs.List.{sum_by}
+use Rattle.std.proofs.Common.{◌≡◌, ◌≢◌, ℕ, ◌+◌, ◌*◌, ◌<◌, ◌≤◌, Bool, true, false, below_more, List, length, get_or, set, refl, sym, ap, subst, ◌∙◌, arith, inl, inr, get_or-set_same, get_or-set_other, length-set}
 use Rattle.std.proofs.lemmas.List.Sums.{sum_by-set, sum_by-le}
 use Rattle.std.proofs.lemmas.Bool.{cases_eq}
 use Rattle.std.proofs.lemmas.List.Elements.{All-from_get_or}
-use Rattle.plc_infer.specs.Iteration.{Graph, Laws, env_at, Shaped, Stays, IsPretyping, IsStrongest, Rising, Relaxed, Progress, Rounds, Rounded, total, Holds, HoldBelow, IsFirstFailing, IsStuckAt, IsEarlier, IsTyping}
+use Rattle.plc_infer.specs.Iteration.{Graph, Laws, env_at, Shaped, Stays, IsStrongest, Rising, Relaxed, Progress, Rounds, Rounded, total, Holds, IsFirstFailing, IsStuckAt, IsEarlier}
 
 -- what holds of the written element and of the others
 at_set : {E : Type 0} (Q : ℕ → E → Type 0) (xs : List E) (i : ℕ) (v d : E) → i < length xs → Q i v → ((p : ℕ) → p ≢ i → Q p (get_or xs p d)) → (p : ℕ) → Q p (get_or (set xs i v) p d)

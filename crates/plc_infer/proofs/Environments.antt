@@ -1,15 +1,12 @@
 -- The test of an environment is the definition.
-use Rattle.std.proofs.Common.{◌≡◌, ℕ, zero, suc, Bool, true, false, ◌&&◌, cond, List, [], ◌∷◌, length, replicate, refl, sym, ap, ◌∙◌, arith, eqb}
-use Rattle.std.specs.Prelude.{◌==◌}
+use Rattle.std.proofs.Common.{◌≡◌, ℕ, zero, suc, true, List, [], ◌∷◌, length, replicate, refl, ap, ◌∙◌}
 use Rattle.std.proofs.lemmas.Bool.{and_parts, and_from, eq-eqb, eqb-true}
-use Rattle.plc_base.specs.Mask.{within}
 use Rattle.plc_auto.specs.declared.observer.Observer.{Observer}
-use Rattle.plc_auto.specs.Sets.{all_locations}
 use Rattle.plc_type.specs.declared.env.PtrType.{PtrType}
 use Rattle.plc_type.specs.declared.env.Env.{Env}
 use Rattle.plc_type.specs.Guarantees.{numbered, nothing}
 use Rattle.plc_type.specs.Types.{bare}
-use Rattle.plc_xfer.specs.Typings.{IsEnvironment, all_types}
+use Rattle.plc_xfer.specs.Typings.{IsEnvironment}
 use Rattle.plc_infer.specs.Graphs.{all_bare, fits}
 
 bare_list : (w : ℕ) (ts : List PtrType) → all_bare w ts ≡ true → ts ≡ replicate (length ts) (bare w)

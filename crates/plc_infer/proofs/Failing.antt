@@ -1,5 +1,5 @@
 -- The first fault of a step, found by running it, and of a flow, step by step.
-use Rattle.std.proofs.Common.{◌≡◌, ℕ, zero, suc, ◌+◌, ◌<◌, ◌≤◌, Bool, true, false, List, [], ◌∷◌, length, get_or, drop, Option, Some, None, refl, sym, ap, subst, ◌∙◌, arith, below_more, drop-cons}
+use Rattle.std.proofs.Common.{◌≡◌, ℕ, suc, ◌+◌, ◌<◌, true, false, List, ◌∷◌, length, get_or, drop, Option, Some, None, sym, ap, subst, ◌∙◌, arith, below_more, drop-cons}
 use Rattle.std.specs.Prelude.{slice_get, is_none}
 use Rattle.plc_lang.specs.declared.syntax.Primitive.{Primitive}
 use Rattle.plc_auto.specs.declared.observer.Observer.{Observer}

@@ -1,19 +1,18 @@
 -- A well-formed flow's skeleton is one, and the iteration's starts are its starts.
-use Rattle.std.proofs.Common.{◌≡◌, ℕ, zero, suc, ◌+◌, ◌-◌, ◌<◌, ◌≤◌, List, [], ◌∷◌, length, get_or, map, Option, Some, None, refl, sym, ap, subst, ◌∙◌, arith, inl, inr}
+use Rattle.std.proofs.Common.{◌≡◌, ℕ, ◌-◌, ◌<◌, List, [], length, get_or, map, Option, Some, refl, sym, ap, subst, ◌∙◌, arith, inl, inr}
 use Rattle.std.specs.Prelude.{slice_get, slice_set, option_map, true, false, ◌⊎◌}
 use Rattle.std.proofs.lemmas.List.{length-map}
 use Rattle.std.proofs.lemmas.Option.{slice_get-map, slice_get_read, slice_get-get_or, get_or_from_slice_get}
 use Rattle.plc_auto.specs.declared.observer.Observer.{Observer}
 use Rattle.plc_auto.specs.Sets.{all_locations}
 use Rattle.plc_flow.specs.declared.flow.Step.{Step}
-use Rattle.plc_flow.specs.declared.flow.Gate.{Gate}
 use Rattle.plc_flow.specs.declared.flow.Flow.{Flow}
-use Rattle.plc_flow.specs.WellFormed.{IsWellFormed, IsPointOf}
+use Rattle.plc_flow.specs.WellFormed.{IsWellFormed}
 use Rattle.plc_type.specs.declared.env.Env.{Env}
 use Rattle.plc_type.specs.Environments.{bottom, entry, env_below, env_join, SameShape}
 use Rattle.plc_type.proofs.Ordered.{ordered}
 use Rattle.plc_xfer.specs.Rules.{FitsObserver}
-use Rattle.plc_xfer.specs.Typings.{Skeleton, Passage, locals_at, env_at, led, IsEnvironment}
+use Rattle.plc_xfer.specs.Typings.{Passage, locals_at, env_at, led, IsEnvironment}
 use Rattle.plc_xfer.proofs.Order.{kept, well_formed, same_shape, led_is}
 use Rattle.plc_xfer.proofs.Facts.{well_formed_fits}
 use Rattle.plc_infer.specs.Skeletons.{skeleton_of, passage_of, locals_of}

@@ -4,3 +4,4 @@ pub mod Skeletal
 pub mod Points
 pub mod Flows
 pub mod Failing
+pub mod Blocks

@@ -1,7 +1,6 @@
 -- A skeleton as a graph of environments, and what its pre-typings are.
-use Rattle.std.proofs.Common.{◌≡◌, ℕ, zero, suc, ◌+◌, ◌*◌, ◌<◌, ◌≤◌, Bool, true, false, List, [], ◌∷◌, length, get_or, replicate, Option, Some, None, refl, sym, ap, subst, ◌∙◌, arith, inl, inr, cond}
-use Rattle.std.specs.Prelude.{◌==◌, if◌then◌else◌, slice_get, sum, is_none, ◌⊎◌}
-use Rattle.std.specs.List.{list_any}
+use Rattle.std.proofs.Common.{◌≡◌, ℕ, zero, suc, ◌+◌, ◌*◌, ◌<◌, ◌≤◌, true, List, [], ◌∷◌, length, get_or, replicate, Option, Some, None, refl, sym, ap, subst, ◌∙◌, arith, inl, inr}
+use Rattle.std.specs.Prelude.{slice_get, is_none, ◌⊎◌}
 use Rattle.std.proofs.lemmas.Bool.{cases_lt}
 use Rattle.std.proofs.lemmas.Option.{slice_get-get_or, slice_get_within, get_or_from_slice_get, slice_get_past}
 use Rattle.plc_lang.specs.declared.syntax.Primitive.{Primitive}
@@ -9,14 +8,14 @@ use Rattle.plc_auto.specs.declared.observer.Observer.{Observer}
 use Rattle.plc_auto.specs.Sets.{all_locations}
 use Rattle.plc_type.specs.declared.env.Env.{Env}
 use Rattle.plc_type.specs.Types.{bare}
-use Rattle.plc_type.specs.Environments.{env_below, env_join, bottom, entry, SameShape}
-use Rattle.plc_type.specs.Laws.{env_size, InRange, EnvironmentsAreOrdered}
+use Rattle.plc_type.specs.Environments.{env_below, bottom, entry, SameShape}
+use Rattle.plc_type.specs.Laws.{env_size, EnvironmentsAreOrdered}
 use Rattle.plc_xfer.specs.declared.fault.TypeFault.{TypeFault}
 use Rattle.plc_xfer.specs.Rules.{env_after}
 use Rattle.plc_xfer.specs.Typings.{Skeleton, Passage, locals_at, IsEnvironment, env_at, led, fault_at, fault_in, fault_under, IsPretyping, IsTyping, IsStrongest, IsStuckAt}
 use Rattle.plc_xfer.specs.Laws.{RulesKeepOrder}
 use Rattle.plc_infer.specs.Iteration as graph
-use Rattle.plc_infer.specs.Graphs.{passage_at, some_passage, total, graph_of, fits}
+use Rattle.plc_infer.specs.Graphs.{passage_at, some_passage, total, graph_of}
 use Rattle.plc_infer.proofs.Environments.{fits_is, is_fits, length_of}
 use Rattle.plc_infer.proofs.Climb.{stuck_at}
 

@@ -1,19 +1,19 @@
 // The first condition that fails as the steps run from the environments of their first points.
 ghost use Rattle.std.specs.Prelude.{◌≡◌, ◌<◌, ℕ, Some, None, IfOk, MatchOption, length};
 ghost use Rattle.plc_flow.specs.WellFormed.{IsWellFormed};
+ghost use Rattle.plc_xfer.specs.Rules.{FitsObserver};
 ghost use Rattle.plc_xfer.specs.Typings.{fault_at, env_at};
 ghost use Rattle.plc_infer.specs.Skeletons.{skeleton_of};
 ghost use Rattle.plc_infer.specs.Graphs.{graph_of, passage_at};
 ghost use Rattle.plc_infer.specs.Iteration.{Shaped, HoldBelow, IsFirstFailing};
 
-use crate::fixpoint::copied;
 use plc_auto::Observer;
-use plc_base::StepId;
+use plc_base::{NoMemory, StepId};
 use plc_flow::Flow;
 use plc_lang::Prim;
 use plc_type::Env;
 use plc_xfer::{TypeFault, apply, condition};
-use std::alloc::{AllocError, Global};
+use std::alloc::Global;
 
 /// The first step and primitive whose condition fails, with the fault.
 pub(crate) fn first_fault(
@@ -21,7 +21,7 @@ pub(crate) fn first_fault(
     flow: &Flow,
     observer: &Observer,
     envs: &[Env],
-) -> Result<Option<(StepId, u16, TypeFault)>, AllocError>
+) -> Result<Option<(StepId, u16, TypeFault)>, NoMemory>
     requires flow { IsWellFormed flow.now }
     requires shaped { Shaped (graph_of observer.now (skeleton_of flow.now)) envs.now }
     ensures { IfOk result (λ found. MatchOption found
@@ -46,14 +46,15 @@ fn fault_in_step(
     observer: &Observer,
     prims: &[Prim],
     env: &Env,
-) -> Result<Option<(u16, TypeFault)>, AllocError>
-    requires { length prims.now < 65536 }
+) -> Result<Option<(u16, TypeFault)>, NoMemory>
+    requires short { length prims.now < 65536 }
+    requires fits { FitsObserver observer.now env.now }
     ensures { IfOk result (λ found. MatchOption found
         ((i : ℕ) → i < length prims.now → fault_at observer.now env.now prims.now i ≡ None)
         (λ at. (at.0 < length prims.now) × (fault_at observer.now env.now prims.now at.0 ≡ Some at.1)
         × ((i : ℕ) → i < at.0 → fault_at observer.now env.now prims.now i ≡ None))) }
 {
-    let mut env = copied(alloc, env)?;
+    let mut env = env.copy(alloc)?;
     for (i, prim) in prims.iter().enumerate() {
         if let Err(fault) = condition(&env, prim, observer) {
             return Ok(Some((i as u16, fault)));

@@ -14,12 +14,12 @@ ghost use Rattle.plc_infer.specs.Starts.{starts_of};
 
 use crate::starts::starts;
 use plc_auto::Observer;
-use plc_base::{Items, NoMemory};
+use plc_base::NoMemory;
 use plc_flow::Flow;
 use plc_lang::Prim;
-use plc_type::{Env, PtrType, env_below, env_join};
+use plc_type::{Env, env_below, env_join};
 use plc_xfer::{apply, interfere};
-use std::alloc::{AllocError, Global};
+use std::alloc::Global;
 
 /// The strongest pre-typing of a flow.
 pub(crate) fn strongest(
@@ -83,36 +83,14 @@ fn relax(
 }
 
 /// What the primitives of a step, and then interference, make of an environment.
-fn led_from(
-    alloc: Global,
-    observer: &Observer,
-    prims: &[Prim],
-    env: &Env,
-) -> Result<Env, AllocError>
+fn led_from(alloc: Global, observer: &Observer, prims: &[Prim], env: &Env) -> Result<Env, NoMemory>
     requires { FitsObserver observer.now env.now }
     ensures { IfOk result (λ reached. reached ≡ led observer.now env.now prims.now) }
 {
-    let mut reached = copied(alloc, env)?;
+    let mut reached = env.copy(alloc)?;
     for prim in prims {
         apply(&mut reached, prim, observer);
     }
     interfere(&mut reached, observer);
     Ok(reached)
-}
-
-/// The same environment.
-pub(crate) fn copied(alloc: Global, env: &Env) -> Result<Env, AllocError>
-    ensures { IfOk result (λ copy. copy ≡ env.now) }
-{
-    Ok(Env {
-        shared: copied_types(alloc, env.shared.as_slice())?,
-        locals: copied_types(alloc, env.locals.as_slice())?,
-        w: env.w,
-    })
-}
-
-fn copied_types(alloc: Global, types: &[PtrType]) -> Result<Items<PtrType>, AllocError>
-    ensures { IfOk result (λ copy. copy ≡ types.now) }
-{
-    Ok(Items::from_vec(Vec::from_slice(alloc, types)?))
 }

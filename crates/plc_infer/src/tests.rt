@@ -1,15 +1,15 @@
 // Typings counted by hand from the written rules, and the places of the first faults, which count
 // over all operations. That there is memory for an answer is what no contract can say.
 ghost use Rattle.std.specs.Prelude.{◌≡◌, ◌≤◌, All, IfOk, length};
-ghost use Rattle.plc_lang.specs.declared.syntax.Op.{Op as AnOp};
-ghost use Rattle.plc_lang.specs.Fit.{FileFits};
+ghost use Rattle.plc_lang.specs.Fit.{FileFits, OpFits, StatementFits, StatementsFit};
+ghost use Rattle.plc_lang.specs.Views.{statement_of};
 ghost use Rattle.plc_flow.specs.WellFormed.{IsWellFormed};
 
 use crate::{InferFault, infer};
 use plc_auto::Observer;
-use plc_base::{FieldId, FuncId, Items, LocId, Mask, Names, NoMemory, StepId};
+use plc_base::{FieldId, FuncId, Items, LocId, Mask, Names, NoMemory};
 use plc_flow::{Flow, lower};
-use plc_lang::{Field, File, Line, Local, Num, Op, Prim, Stmt, Var};
+use plc_lang::{Arg, Block, File, Line, Local, Num, Op, Prim, Stmt, Var};
 use plc_type::{Guar, PtrType};
 use plc_xfer::TypeFault;
 use std::alloc::{AllocError, Global};
@@ -28,82 +28,87 @@ const FILL: Prim = Prim::DataStore {
 
 const PUBLISH: Prim = Prim::Copy { p: TOP, q: NODE };
 
-const READ: Prim = Prim::Copy { p: NODE, q: TOP };
-
-// An operation with a data parameter v and a pointer local n.
-fn op(alloc: Global, prims: &[Prim]) -> Result<Op, AllocError>
-    ensures { IfOk result (λ op. length op.locals ≤ 32) }
-{
-    let mut body = Items::new(alloc);
-    for prim in prims {
-        body.push(Line {
-            line: 2,
-            stmt: Stmt::One(*prim),
-        })?;
+fn local(name: u16, pointer: bool) -> Local {
+    Local {
+        name,
+        pointer,
+        param: !pointer,
     }
+}
+
+fn statement(stmt: Stmt) -> Line
+    ensures { result.stmt ≡ stmt }
+{
+    Line { line: 2, stmt }
+}
+
+// Primitives, each a step of its own.
+fn straight(alloc: Global, prims: &[Prim]) -> Result<Block, AllocError>
+    ensures { IfOk result StatementsFit }
+{
+    let mut lines = Vec::new(alloc);
+    for prim in prims {
+        lines.push(statement(Stmt::One(*prim)))?;
+    }
+    Ok(Block::new(lines))
+}
+
+// An operation with a data parameter and three pointer locals.
+fn op(alloc: Global, body: Block) -> Result<Op, AllocError>
+    requires { StatementsFit body }
+    ensures { IfOk result OpFits }
+{
     let locals = vec![in alloc;
-        Local {
-            name: 5,
-            pointer: false,
-            param: true,
-        },
-        Local {
-            name: 6,
-            pointer: true,
-            param: false,
-        },
+        local(4, false),
+        local(5, true),
+        local(6, true),
+        local(7, true),
     ]?;
     Ok(Op {
-        name: 4,
+        name: 3,
         locals: Items::from_vec(locals),
         body,
         line: 1,
     })
 }
 
-fn ops_of(alloc: Global, bodies: &[&[Prim]]) -> Result<Items<Op>, AllocError>
-    ensures count { IfOk result (λ ops. length ops ≡ length bodies.now) }
-    ensures small { IfOk result (λ ops. All (λ (o : AnOp). length o.locals ≤ 32) ops) }
-{
-    let mut ops = Items::new(alloc);
-    for prims in bodies {
-        ops.push(op(alloc, prims)?)?;
-    }
-    Ok(ops)
-}
-
-// The file `struct Node { ptr next; data val; } shared Top;` with these operations.
-fn file(alloc: Global, bodies: &[&[Prim]]) -> Result<File, AllocError>
-    requires { length bodies.now ≤ 2 }
+// A file with one shared pointer and these operations.
+fn file(alloc: Global, ops: Vec<Op>) -> Result<File, AllocError>
+    requires few { length ops.items ≤ 2 }
+    requires fit { All OpFits ops.items }
     ensures { IfOk result FileFits }
 {
-    let fields = vec![in alloc;
-        Field {
-            name: 1,
-            pointer: true,
-        },
-        Field {
-            name: 2,
-            pointer: false,
-        },
-    ]?;
     Ok(File {
         names: Names::new(alloc, 8),
-        fields: Items::from_vec(fields),
-        shared: Items::from_vec(vec![in alloc; 3u16]?),
-        ops: ops_of(alloc, bodies)?,
+        fields: Items::new(alloc),
+        shared: Items::from_vec(vec![in alloc; 1u16]?),
+        funcs: Items::new(alloc),
+        ghosts: Items::new(alloc),
+        init: Items::new(alloc),
+        ops: Items::from_vec(ops),
+        labels: Items::new(alloc),
     })
 }
 
-fn flow_of(alloc: Global, bodies: &[&[Prim]]) -> Result<Flow, NoMemory>
-    requires { length bodies.now ≤ 2 }
+fn flow_of(file: File, alloc: Global) -> Result<Flow, NoMemory>
+    requires { FileFits file }
     ensures well_formed { IfOk result IsWellFormed }
     ensures file { IfOk result (λ flow. FileFits flow.file) }
 {
-    match lower(alloc, file(alloc, bodies)?) {
+    match lower(alloc, file) {
         Ok(flow) => Ok(flow),
         Err(_) => Err(NoMemory),
     }
+}
+
+// The flow of a file with one operation.
+fn one(alloc: Global, body: Block) -> Result<Flow, NoMemory>
+    requires { StatementsFit body }
+    ensures well_formed { IfOk result IsWellFormed }
+    ensures file { IfOk result (λ flow. FileFits flow.file) }
+{
+    let ops = vec![in alloc; op(alloc, body)?]?;
+    flow_of(file(alloc, ops)?, alloc)
 }
 
 fn typed(g: Guar, locations: &[u16]) -> PtrType {
@@ -116,9 +121,25 @@ fn typed(g: Guar, locations: &[u16]) -> PtrType {
     PtrType { g, m }
 }
 
+// Where the first fault is, if there is one.
+fn place(
+    alloc: Global,
+    flow: &Flow,
+    observer: &Observer,
+) -> Result<Option<(u16, u16, TypeFault)>, NoMemory>
+    requires well_formed { IsWellFormed flow.now }
+    requires file { FileFits flow.now.file }
+{
+    match infer(alloc, flow, observer) {
+        Ok(_) => Ok(None),
+        Err(InferFault::Stuck { step, prim, fault }) => Ok(Some((step.0, prim, fault))),
+        Err(InferFault::Memory) => Err(NoMemory),
+    }
+}
+
 #[test]
 fn each_point_has_its_strongest_types(rt: HostRuntime) -> Result<(), InferFault> {
-    let flow = flow_of(rt.alloc(), &[&[MAKE, FILL, PUBLISH]])?;
+    let flow = one(rt.alloc(), straight(rt.alloc(), &[MAKE, FILL, PUBLISH])?)?;
     let local = Guar::active_local_safe();
     let nothing = Guar::nothing();
     let plain = [
@@ -142,7 +163,10 @@ fn each_point_has_its_strongest_types(rt: HostRuntime) -> Result<(), InferFault>
         let typing = infer(rt.alloc(), &flow, &observer)?;
         assert_eq!(rt; typing.env.len(), 5);
         for (env, node) in typing.env.as_slice().iter().zip(nodes) {
-            assert_eq!(rt; env.locals.as_slice(), [*node].as_slice());
+            assert_eq!(rt;
+                env.locals.as_slice(),
+                [*node, PtrType::null(), PtrType::null()].as_slice()
+            );
             assert_eq!(rt;
                 env.shared.as_slice(),
                 [PtrType::bare(observer.all())].as_slice()
@@ -155,36 +179,9 @@ fn each_point_has_its_strongest_types(rt: HostRuntime) -> Result<(), InferFault>
 
 #[test]
 fn no_operation_is_typed_by_no_environment(rt: HostRuntime) -> Result<(), InferFault> {
-    let flow = flow_of(rt.alloc(), &[])?;
-    let typing = infer(rt.alloc(), &flow, &Observer::Plain)?;
+    let alloc = rt.alloc();
+    let flow = flow_of(file(alloc, Vec::new(alloc))?, alloc)?;
+    let typing = infer(alloc, &flow, &Observer::Plain)?;
     assert!(rt; typing.env.is_empty());
-    Ok(())
-}
-
-#[test]
-fn the_first_fault_has_its_place(rt: HostRuntime) -> Result<(), InferFault> {
-    let good = [MAKE, FILL, PUBLISH];
-    let bad = [MAKE, PUBLISH, FILL];
-    let worse = [READ, FILL, FILL];
-    for (first, second, wanted) in [
-        (good, bad, 6),
-        (bad, good, 2),
-        (bad, worse, 2),
-        (worse, bad, 1),
-    ] {
-        let flow = flow_of(rt.alloc(), &[&first, &second])?;
-        match infer(rt.alloc(), &flow, &Observer::Plain) {
-            Err(InferFault::Stuck { step, prim, fault }) => {
-                assert_eq!(rt; step, StepId(wanted));
-                assert_eq!(rt; prim, 0, "step {wanted}");
-                assert_eq!(rt;
-                    fault,
-                    TypeFault::DerefNotSafe { var: NODE },
-                    "step {wanted}"
-                );
-            }
-            answer => assert!(rt; false, "{answer:?} for step {wanted}"),
-        }
-    }
     Ok(())
 }

@@ -10,6 +10,7 @@ returns-in-Err c = (
 
 pub loop-i-preserved : goal.loop-i-preserved
 loop-i-preserved c = record {
+  fits = c.apply.ensures.fits;
   none_before = passed c.args.observer.now c.args.env.now c.loop-i.env c.args.prims.now c.loop-i.i _ c.loop-i-test.true c.loop-i.invariant.from_here c.loop-i.invariant.none_before c.in_default.ensures;
   from_here = goes_on c.args.observer.now c.args.env.now c.loop-i.env c.args.prims.now c.loop-i.i _ c.loop-i-test.true c.loop-i.invariant.from_here c.apply.new.env c.apply.ensures.effect;
 }

@@ -1,9 +1,9 @@
-use Rattle.std.proofs.Common.{◌≡◌, ℕ, ◌<◌, length, Some, None, List, arith, ap, below_more}
+use Rattle.std.proofs.Common.{ℕ, ◌<◌, length, List, arith, ap, below_more}
 use Rattle.plc_lang.specs.declared.syntax.Primitive.{Primitive}
 use Rattle.plc_infer.specs.Skeletons.{skeleton_of}
 use Rattle.plc_infer.specs.Graphs.{passage_at, graph_of}
 use Rattle.plc_infer.specs.Iteration.{Holds}
-use Rattle.plc_infer.proofs.Flows.{step_there, ends_in}
+use Rattle.plc_infer.proofs.Flows.{step_there, ends_in, from_fits}
 use Rattle.plc_infer.proofs.Failing.{holds_here, first_failing}
 use Rattle.plc_infer.proofs.faults.first_fault.Goals as goal
 
@@ -13,12 +13,18 @@ bounds-envs-step c =
     let there = step_there c.args.flow.now c.loop-k.k c.index-as_slice-k.result small (rw c.as_slice.ensures at c.index-as_slice-k.is) in
     (ends_in c.args.observer.now c.args.flow.now c.args.envs.now c.loop-k.k c.index-as_slice-k.result c.requires.flow c.requires.shaped there).0
 
-pub fault_in_step-requires : goal.fault_in_step-requires
-fault_in_step-requires c =
+pub fault_in_step-requires-clause-short : goal.fault_in_step-requires-clause-short
+fault_in_step-requires-clause-short c =
     let small : c.loop-k.k < length c.args.flow.now.steps = omega arith in
     let there = step_there c.args.flow.now c.loop-k.k c.index-as_slice-k.result small (rw c.as_slice.ensures at c.index-as_slice-k.is) in
     let short = c.requires.flow.short c.loop-k.k c.index-as_slice-k.result there in
     omega (arith, short, ap (λ (ks : List Primitive). length ks) c.as_slice-in-loop-k.ensures)
+
+pub fault_in_step-requires-clause-fits : goal.fault_in_step-requires-clause-fits
+fault_in_step-requires-clause-fits c =
+    let small : c.loop-k.k < length c.args.flow.now.steps = omega arith in
+    let there = step_there c.args.flow.now c.loop-k.k c.index-as_slice-k.result small (rw c.as_slice.ensures at c.index-as_slice-k.is) in
+    from_fits c.args.observer.now c.args.flow.now c.args.envs.now c.loop-k.k c.index-as_slice-k.result c.index-envs-step.result c.requires.flow c.requires.shaped there c.index-envs-step.is
 
 pub returns-in-Some : goal.returns-in-Some
 returns-in-Some c =

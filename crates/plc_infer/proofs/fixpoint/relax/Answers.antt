@@ -1,5 +1,4 @@
-use Rattle.std.proofs.Common.{◌≡◌, ℕ, ◌<◌, true, false, refl, sym, ap, ◌∙◌, arith}
-use Rattle.plc_flow.specs.declared.flow.Step.{Step}
+use Rattle.std.proofs.Common.{◌≡◌, true, false, refl, sym, ap, ◌∙◌, arith}
 use Rattle.plc_type.specs.declared.env.Env.{Env}
 use Rattle.plc_type.specs.Environments.{env_below, env_join}
 use Rattle.plc_xfer.specs.Typings.{led}

@@ -1,7 +1,6 @@
-use Rattle.std.proofs.Common.{◌≡◌, ℕ, ◌+◌, ◌*◌, ◌-◌, ◌<◌, ◌≤◌, true, length, subst, sym, arith}
+use Rattle.std.proofs.Common.{arith}
 use Rattle.plc_infer.specs.Skeletons.{skeleton_of}
 use Rattle.plc_infer.specs.Graphs.{graph_of}
-use Rattle.plc_infer.specs.Iteration.{total, Rounds, Rising}
 use Rattle.plc_infer.proofs.Climb.{total_most, rising_start}
 use Rattle.plc_infer.proofs.Flows.{flow_laws, flow_starts, starts}
 use Rattle.plc_infer.proofs.fixpoint.strongest.Goals as goal

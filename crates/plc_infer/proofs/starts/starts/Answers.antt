@@ -1,4 +1,4 @@
-use Rattle.std.proofs.Common.{◌≡◌, ◌<◌, List, length, ap, arith}
+use Rattle.std.proofs.Common.{◌<◌, List, length, ap, arith}
 use Rattle.std.proofs.lemmas.Option.{slice_get-get_or}
 use Rattle.plc_lang.specs.declared.syntax.Op.{Op}
 use Rattle.plc_infer.proofs.Points.{gate_wide}

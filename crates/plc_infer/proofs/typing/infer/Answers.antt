@@ -1,4 +1,4 @@
-use Rattle.std.proofs.Common.{◌≡◌, ℕ, length, subst, sym, arith}
+use Rattle.std.proofs.Common.{◌≡◌, length, subst, sym}
 use Rattle.plc_type.proofs.Ordered.{ordered}
 use Rattle.plc_xfer.proofs.Order.{kept}
 use Rattle.plc_infer.specs.Skeletons.{skeleton_of}
