@@ -1,0 +1,2 @@
+pub mod FormsOfTrees
+pub mod Shrinks

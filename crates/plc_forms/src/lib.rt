@@ -1,0 +1,31 @@
+//! The forms at the front of tokens, over `plc_syntax`'s trees; the layer above uses that each reader
+//! answers the form whose tree is read there by the definitions, and what is left behind as many tokens
+//! as the tree has.
+#![tactic(auto)]
+
+mod assignment;
+mod condition;
+mod declaration;
+mod form;
+mod front;
+mod primitive;
+mod rest;
+mod statement;
+
+pub use condition::condition_at;
+pub use declaration::{
+    closing_at, comma_name_at, declaration_at, first_value_at, function_at, ghost_at, head_at,
+    init_at, opening_at, parenthesis_at, semicolon_at, shared_at, struct_at, thread_at,
+    values_end_at, watch_at,
+};
+pub use form::{
+    Argument, Atom, Call, Cas, Condition, Declaration, Function, GhostSet, GhostValue, Initial,
+    Place, Primitive, Refresh, Relation, Set, Test, Value, Watch,
+};
+pub use front::{holds_word, name_at};
+pub use primitive::{initial_line_at, primitive_line_at};
+pub use rest::Rest;
+pub use statement::{
+    atomic_at, break_at, call_at, choose_at, during_at, else_at, if_at, label_at, loop_at, or_at,
+    return_at,
+};

@@ -1,0 +1,79 @@
+// Primitives, and the assignments of `init`.
+ghost use Rattle.std.specs.Prelude.{◌≡◌, ◌+◌, IfSome, MatchOption, Some, None};
+ghost use Rattle.plc_syntax.specs.Syntax.{kinds};
+ghost use Rattle.plc_forms.specs.Forms.{named_of, primitive_of, primitive_line_of, initial_of, initial_line_of};
+ghost use Rattle.plc_forms.specs.Sizes.{primitive_size, initial_size};
+ghost use Rattle.plc_forms.specs.Views.{Behind, primitive_tree, initial_tree};
+
+use crate::assignment::{ghost_set_at, refresh_at, set_at};
+use crate::condition::test_at;
+use crate::declaration::semicolon_at;
+use crate::form::{Initial, Primitive};
+use crate::front::{first, name_at};
+use crate::rest::Rest;
+use plc_lex::{Keyword, TokenKind};
+
+// A primitive that begins with a name.
+fn named_at<'a>(rest: Rest<'a>) -> Option<(Primitive<'a>, Rest<'a>)>
+    ensures read { MatchOption result (named_of (kinds rest.entry.tokens.now) ≡ None) (λ r. named_of (kinds rest.entry.tokens.now) ≡ Some (primitive_tree r.0, kinds r.1.tokens.now)) }
+    ensures behind { IfSome result (λ r. Behind rest.entry (primitive_size (primitive_tree r.0)) r.1) }
+{
+    if let Some((set, behind)) = set_at(rest) {
+        return Some((Primitive::Set(set), behind));
+    }
+    let (refresh, behind) = refresh_at(rest)?;
+    Some((Primitive::Refresh(refresh), behind))
+}
+
+// A primitive, without its semicolon.
+fn primitive_at<'a>(rest: Rest<'a>) -> Option<(Primitive<'a>, Rest<'a>)>
+    ensures read { MatchOption result (primitive_of (kinds rest.entry.tokens.now) ≡ None) (λ r. primitive_of (kinds rest.entry.tokens.now) ≡ Some (primitive_tree r.0, kinds r.1.tokens.now)) }
+    ensures behind { IfSome result (λ r. Behind rest.entry (primitive_size (primitive_tree r.0)) r.1) }
+{
+    match first(rest)? {
+        (TokenKind::Word(Keyword::Skip), behind) => Some((Primitive::Skip, behind)),
+        (TokenKind::Word(Keyword::Active), behind) => {
+            let (name, behind) = name_at(behind)?;
+            Some((Primitive::Active(name), behind))
+        }
+        (TokenKind::Word(Keyword::Assume), behind) => {
+            let (test, behind) = test_at(behind)?;
+            Some((Primitive::Assume(test), behind))
+        }
+        (TokenKind::Word(Keyword::Ghost), _) => {
+            let (set, behind) = ghost_set_at(rest)?;
+            Some((Primitive::Ghost(set), behind))
+        }
+        _ => named_at(rest),
+    }
+}
+
+/// A primitive and its semicolon.
+pub fn primitive_line_at<'a>(rest: Rest<'a>) -> Option<(Primitive<'a>, Rest<'a>)>
+    ensures read { MatchOption result (primitive_line_of (kinds rest.entry.tokens.now) ≡ None) (λ r. primitive_line_of (kinds rest.entry.tokens.now) ≡ Some (primitive_tree r.0, kinds r.1.tokens.now)) }
+    ensures behind { IfSome result (λ r. Behind rest.entry (primitive_size (primitive_tree r.0) + 1) r.1) }
+{
+    let (primitive, behind) = primitive_at(rest)?;
+    Some((primitive, semicolon_at(behind)?))
+}
+
+// An assignment of `init`, without its semicolon.
+fn initial_at<'a>(rest: Rest<'a>) -> Option<(Initial<'a>, Rest<'a>)>
+    ensures read { MatchOption result (initial_of (kinds rest.entry.tokens.now) ≡ None) (λ r. initial_of (kinds rest.entry.tokens.now) ≡ Some (initial_tree r.0, kinds r.1.tokens.now)) }
+    ensures behind { IfSome result (λ r. Behind rest.entry (initial_size (initial_tree r.0)) r.1) }
+{
+    if let Some((set, behind)) = set_at(rest) {
+        return Some((Initial::Set(set), behind));
+    }
+    let (set, behind) = ghost_set_at(rest)?;
+    Some((Initial::Ghost(set), behind))
+}
+
+/// An assignment of `init` and its semicolon.
+pub fn initial_line_at<'a>(rest: Rest<'a>) -> Option<(Initial<'a>, Rest<'a>)>
+    ensures read { MatchOption result (initial_line_of (kinds rest.entry.tokens.now) ≡ None) (λ r. initial_line_of (kinds rest.entry.tokens.now) ≡ Some (initial_tree r.0, kinds r.1.tokens.now)) }
+    ensures behind { IfSome result (λ r. Behind rest.entry (initial_size (initial_tree r.0) + 1) r.1) }
+{
+    let (initial, behind) = initial_at(rest)?;
+    Some((initial, semicolon_at(behind)?))
+}

@@ -1,0 +1,139 @@
+// Statements other than primitives.
+ghost use Rattle.std.specs.Prelude.{◌≡◌, ◌+◌, IfSome, MatchOption, Some, None};
+ghost use Rattle.plc_syntax.specs.Syntax.{kinds};
+ghost use Rattle.plc_forms.specs.Forms.{atomic_of, if_of, else_of, choose_of, or_of, loop_of, break_of, return_of, label_of, active_name_of, argument_of, call_of, during_name_of, during_of};
+ghost use Rattle.plc_forms.specs.Sizes.{argument_size, call_size, during_size};
+ghost use Rattle.plc_forms.specs.Views.{Behind, text_or_none, argument_tree, call_tree};
+
+use crate::declaration::parenthesis_at;
+use crate::form::{Argument, Call};
+use crate::front::{name_at, name_symbol_at, word_at, word_name_at, word_symbol_at};
+use crate::rest::Rest;
+use plc_lex::{Keyword, Symbol};
+
+/// The first word of a step of several primitives, and its opening brace.
+pub fn atomic_at<'a>(rest: Rest<'a>) -> Option<Rest<'a>>
+    ensures read { MatchOption result (atomic_of (kinds rest.entry.tokens.now) ≡ None) (λ r. atomic_of (kinds rest.entry.tokens.now) ≡ Some (kinds r.tokens.now)) }
+    ensures behind { IfSome result (λ r. Behind rest.entry 2 r) }
+{
+    word_symbol_at(rest, Keyword::Atomic, Symbol::OpenBrace)
+}
+
+/// The first word of an `if` and its opening parenthesis.
+pub fn if_at<'a>(rest: Rest<'a>) -> Option<Rest<'a>>
+    ensures read { MatchOption result (if_of (kinds rest.entry.tokens.now) ≡ None) (λ r. if_of (kinds rest.entry.tokens.now) ≡ Some (kinds r.tokens.now)) }
+    ensures behind { IfSome result (λ r. Behind rest.entry 2 r) }
+{
+    word_symbol_at(rest, Keyword::If, Symbol::OpenParen)
+}
+
+/// The word before the second block of an `if`, and its opening brace.
+pub fn else_at<'a>(rest: Rest<'a>) -> Option<Rest<'a>>
+    ensures read { MatchOption result (else_of (kinds rest.entry.tokens.now) ≡ None) (λ r. else_of (kinds rest.entry.tokens.now) ≡ Some (kinds r.tokens.now)) }
+    ensures behind { IfSome result (λ r. Behind rest.entry 2 r) }
+{
+    word_symbol_at(rest, Keyword::Else, Symbol::OpenBrace)
+}
+
+/// The first word of a choice and its opening brace.
+pub fn choose_at<'a>(rest: Rest<'a>) -> Option<Rest<'a>>
+    ensures read { MatchOption result (choose_of (kinds rest.entry.tokens.now) ≡ None) (λ r. choose_of (kinds rest.entry.tokens.now) ≡ Some (kinds r.tokens.now)) }
+    ensures behind { IfSome result (λ r. Behind rest.entry 2 r) }
+{
+    word_symbol_at(rest, Keyword::Choose, Symbol::OpenBrace)
+}
+
+/// The word before a further block of a choice, and its opening brace.
+pub fn or_at<'a>(rest: Rest<'a>) -> Option<Rest<'a>>
+    ensures read { MatchOption result (or_of (kinds rest.entry.tokens.now) ≡ None) (λ r. or_of (kinds rest.entry.tokens.now) ≡ Some (kinds r.tokens.now)) }
+    ensures behind { IfSome result (λ r. Behind rest.entry 2 r) }
+{
+    word_symbol_at(rest, Keyword::Or, Symbol::OpenBrace)
+}
+
+/// The first word of a loop and its opening brace.
+pub fn loop_at<'a>(rest: Rest<'a>) -> Option<Rest<'a>>
+    ensures read { MatchOption result (loop_of (kinds rest.entry.tokens.now) ≡ None) (λ r. loop_of (kinds rest.entry.tokens.now) ≡ Some (kinds r.tokens.now)) }
+    ensures behind { IfSome result (λ r. Behind rest.entry 2 r) }
+{
+    word_symbol_at(rest, Keyword::Loop, Symbol::OpenBrace)
+}
+
+/// A `break` and its semicolon.
+pub fn break_at<'a>(rest: Rest<'a>) -> Option<Rest<'a>>
+    ensures read { MatchOption result (break_of (kinds rest.entry.tokens.now) ≡ None) (λ r. break_of (kinds rest.entry.tokens.now) ≡ Some (kinds r.tokens.now)) }
+    ensures behind { IfSome result (λ r. Behind rest.entry 2 r) }
+{
+    word_symbol_at(rest, Keyword::Break, Symbol::Semicolon)
+}
+
+/// A `return` and its semicolon.
+pub fn return_at<'a>(rest: Rest<'a>) -> Option<Rest<'a>>
+    ensures read { MatchOption result (return_of (kinds rest.entry.tokens.now) ≡ None) (λ r. return_of (kinds rest.entry.tokens.now) ≡ Some (kinds r.tokens.now)) }
+    ensures behind { IfSome result (λ r. Behind rest.entry 2 r) }
+{
+    word_symbol_at(rest, Keyword::Return, Symbol::Semicolon)
+}
+
+/// A label's name.
+pub fn label_at<'a>(rest: Rest<'a>) -> Option<(&'a [u8], Rest<'a>)>
+    ensures read { MatchOption result (label_of (kinds rest.entry.tokens.now) ≡ None) (λ r. label_of (kinds rest.entry.tokens.now) ≡ Some (r.0.now, kinds r.1.tokens.now)) }
+    ensures behind { IfSome result (λ r. Behind rest.entry 3 r.1) }
+{
+    word_name_at(rest, Keyword::Label, Symbol::Semicolon)
+}
+
+// A name that is claimed to be active.
+fn active_name_at<'a>(rest: Rest<'a>) -> Option<(&'a [u8], Rest<'a>)>
+    ensures read { MatchOption result (active_name_of (kinds rest.entry.tokens.now) ≡ None) (λ r. active_name_of (kinds rest.entry.tokens.now) ≡ Some (r.0.now, kinds r.1.tokens.now)) }
+    ensures behind { IfSome result (λ r. Behind rest.entry 2 r.1) }
+{
+    name_at(word_at(rest, Keyword::Active)?)
+}
+
+// What stands between the parentheses of a call.
+fn argument_at<'a>(rest: Rest<'a>) -> (Argument<'a>, Rest<'a>)
+    ensures read { argument_of (kinds rest.entry.tokens.now) ≡ (argument_tree result.0, kinds result.1.tokens.now) }
+    ensures behind { Behind rest.entry (argument_size (argument_tree result.0)) result.1 }
+{
+    if let Some(behind) = word_at(rest, Keyword::Null) {
+        return (Argument::Null, behind);
+    }
+    if let Some((name, behind)) = name_at(rest) {
+        return (Argument::Name(name), behind);
+    }
+    match active_name_at(rest) {
+        Some((name, behind)) => (Argument::Active(name), behind),
+        None => (Argument::None, rest),
+    }
+}
+
+/// A call of a function, up to its closing parenthesis.
+pub fn call_at<'a>(rest: Rest<'a>) -> Option<(Call<'a>, Rest<'a>)>
+    ensures read { MatchOption result (call_of (kinds rest.entry.tokens.now) ≡ None) (λ r. call_of (kinds rest.entry.tokens.now) ≡ Some (call_tree r.0, kinds r.1.tokens.now)) }
+    ensures behind { IfSome result (λ r. Behind rest.entry (call_size (call_tree r.0).1) r.1) }
+{
+    let (name, behind) = name_symbol_at(rest, Symbol::OpenParen)?;
+    let (argument, behind) = argument_at(behind);
+    let behind = parenthesis_at(behind)?;
+    Some((Call { name, argument }, behind))
+}
+
+// A label behind its word.
+fn during_name_at<'a>(rest: Rest<'a>) -> Option<(&'a [u8], Rest<'a>)>
+    ensures read { MatchOption result (during_name_of (kinds rest.entry.tokens.now) ≡ None) (λ r. during_name_of (kinds rest.entry.tokens.now) ≡ Some (r.0.now, kinds r.1.tokens.now)) }
+    ensures behind { IfSome result (λ r. Behind rest.entry 2 r.1) }
+{
+    name_at(word_at(rest, Keyword::During)?)
+}
+
+/// The label between a call and its return, which may be left out.
+pub fn during_at<'a>(rest: Rest<'a>) -> (Option<&'a [u8]>, Rest<'a>)
+    ensures read { during_of (kinds rest.entry.tokens.now) ≡ (text_or_none result.0, kinds result.1.tokens.now) }
+    ensures behind { Behind rest.entry (during_size (text_or_none result.0)) result.1 }
+{
+    match during_name_at(rest) {
+        Some((name, behind)) => (Some(name), behind),
+        None => (None, rest),
+    }
+}
