@@ -1,0 +1,4 @@
+pub mod Scope
+pub mod Primitives
+pub mod Answers
+pub mod Views

@@ -1,0 +1,330 @@
+-- Which names are in reach, and what they stand for.
+use Rattle.std.specs.Prelude.{◌==◌, ◌&&◌, not, ◌+◌, ℕ, Bool, true, false, if◌then◌else◌, List, [], ◌∷◌, ◌++◌, length, slice_get, codes, Option, Some, None, Result, Ok, Err}
+use Rattle.std.specs.List.{list_any}
+use Rattle.plc_base.specs.Names.{NameList, place_of}
+use Rattle.plc_base.specs.declared.ids.FieldId.{FieldId}
+use Rattle.plc_base.specs.declared.ids.FuncId.{FuncId}
+use Rattle.plc_base.specs.declared.limits.What1.TheVariants as limits
+use Rattle.plc_lang.specs.declared.syntax.Local.{Local}
+use Rattle.plc_lang.specs.declared.syntax.Var.{Var}
+use Rattle.plc_lang.specs.declared.syntax.Var.TheVariants.{Shared as SharedVar, Local as LocalVar}
+use Rattle.plc_scope.specs.declared.fault.ParseFault.{ParseFault}
+use Rattle.plc_scope.specs.declared.fault.ParseFault.TheVariants as faults
+use Rattle.plc_scope.specs.declared.scope.Scope.{Scope}
+use Rattle.plc_scope.specs.declared.binding.Binding.{Binding}
+use Rattle.plc_scope.specs.declared.binding.Binding.TheVariants.{Taken, Shared, PointerField, DataField, Function, Auxiliary, Value, LocalOnly}
+use Rattle.plc_scope.specs.declared.binding.Role.{Role}
+use Rattle.plc_scope.specs.declared.binding.Role.TheVariants.{PointerVariable as pointer_variable, DataLocal as data_local, PointerField as pointer_field, DataField as data_field, Function as function, Auxiliary as auxiliary, Value as value, NoValue as no_value}
+
+infixl 10 ◌>>=◌
+-- the first fault from the left is the answer
+abbrev pub ◌>>=◌ : {A B : Type 0} → Result A ParseFault → (A → Result B ParseFault) → Result B ParseFault
+(Ok x) >>= f = f x
+(Err e) >>= f = Err e
+
+-- far more than the limits of a file let it have
+abbrev pub most_names : ℕ
+most_names = 65535
+
+-- `retire` is declared from the start
+abbrev pub first_scope : Scope
+first_scope = record { names = record { names = codes "retire" ∷ []; limit = most_names }; bindings = Function (record { 0 = 0 }) true ∷ []; locals = []; labels = [] }
+
+-- ---- declarations
+
+-- one more name at the end
+abbrev pub with_last : NameList → List ℕ → NameList
+with_last names name = record { names = names.names ++ name ∷ []; limit = names.limit }
+
+-- one more name, with what it stands for outside operations
+abbrev pub with_name : Scope → List ℕ → Binding → Scope
+with_name s name binding = record s { names = with_last s.names name; bindings = s.bindings ++ binding ∷ [] }
+
+-- the struct, fields, shared pointers and operations differ from all names before
+abbrev pub if_new : {A : Type 0} → Option ℕ → ℕ → A → Result A ParseFault
+if_new None at x = Ok x
+if_new (Some i) at x = Err (faults.Duplicate at)
+
+-- a name that is declared for the whole file
+abbrev pub declared : Scope → List ℕ → ℕ → Binding → Result Scope ParseFault
+declared s name at binding = if_new (place_of name s.names.names) at (with_name s name binding)
+
+-- whether a name is a local of the present operation
+abbrev pub has_local : List Local → ℕ → Bool
+has_local locals number = list_any (λ (l : Local). l.name == number) locals
+
+-- a local may have the name of another operation's local, and of nothing else
+abbrev pub may_name_local : Option Binding → Bool → Bool
+may_name_local (Some LocalOnly) false = true
+may_name_local (Some LocalOnly) true = false
+may_name_local (Some Taken) b = false
+may_name_local (Some (Shared k)) b = false
+may_name_local (Some (PointerField f)) b = false
+may_name_local (Some (DataField f)) b = false
+may_name_local (Some (Function f p)) b = false
+may_name_local (Some (Auxiliary g t)) b = false
+may_name_local (Some (Value g v)) b = false
+may_name_local None b = false
+
+-- the number of a local's name, and the names with it
+abbrev pub local_number : Option ℕ → Scope → List ℕ → ℕ → Result (ℕ × Scope) ParseFault
+local_number None s name at = Ok (length s.names.names, with_name s name LocalOnly)
+local_number (Some i) s name at = if may_name_local (slice_get s.bindings i) (has_local s.locals i) then Ok (i, s) else Err (faults.Duplicate at)
+
+-- one more local
+abbrev pub with_local : Scope → ℕ → Bool → Bool → Scope
+with_local s number is_pointer is_parameter = record s { locals = s.locals ++ record { name = number; pointer = is_pointer; param = is_parameter } ∷ [] }
+
+-- one more label, by the number of its name
+abbrev pub with_label : Scope → ℕ → Scope
+with_label s number = record s { labels = s.labels ++ number ∷ [] }
+
+-- a label at its name, which is new as any name of the file; it has the number of the labels before
+abbrev pub declared_label : Scope → List ℕ → ℕ → Result Scope ParseFault
+declared_label s name at = do
+  t ← declared s name at Taken
+  Ok (with_label t (length s.names.names))
+
+-- behind an operation
+abbrev pub without_locals : Scope → Scope
+without_locals s = record s { locals = [] }
+
+-- parameters are counted too
+abbrev pub most_locals : ℕ
+most_locals = 32
+
+-- no further local at the limit
+abbrev pub local_limit : {A : Type 0} → Scope → Result A ParseFault → Result A ParseFault
+local_limit s next = if length s.locals == most_locals then Err (faults.Limit limits.Locals 33) else next
+
+-- a local at its name; the limit's place is the first token of its declaration, so a parameter is first asked whether it is new
+unfoldable pub declared_local : Scope → List ℕ → ℕ → Bool → Result Scope ParseFault
+declared_local s name at is_pointer = local_limit s (local_number (place_of name s.names.names) s name at >>= λ x. Ok (with_local x.1 x.0 is_pointer false))
+
+-- a parameter is its name alone, so a name that is there is the fault before the limit
+unfoldable pub declared_parameter : Scope → List ℕ → ℕ → Result Scope ParseFault
+declared_parameter s name at = local_number (place_of name s.names.names) s name at >>= λ x. local_limit s (Ok (with_local x.1 x.0 false true))
+
+-- ---- uses
+
+-- what a name is in an operation, by what it is outside
+abbrev pub role_outside : Binding → Option Role
+role_outside Taken = Some no_value
+role_outside (Shared k) = Some (pointer_variable (SharedVar k))
+role_outside (PointerField f) = Some (pointer_field f)
+role_outside (DataField f) = Some (data_field f)
+role_outside (Function f p) = Some (function f p)
+role_outside (Auxiliary g t) = Some (auxiliary g t)
+role_outside (Value g v) = Some (value g v)
+role_outside LocalOnly = None
+
+-- the local with a name's number; pointers and data are counted apart
+abbrev pub role_inside : ℕ → ℕ → List Local → ℕ → Option Role
+role_inside pointers values [] number = None
+role_inside pointers values (l ∷ ls) number =
+    if l.name == number then Some (if l.pointer then pointer_variable (LocalVar pointers) else data_local values)
+    else (if l.pointer then role_inside (pointers + 1) values ls number else role_inside pointers (values + 1) ls number)
+
+-- a local goes before what its name is outside, which is nothing
+abbrev pub role_or : Option Role → Option Binding → Option Role
+role_or (Some r) binding = Some r
+role_or None (Some binding) = role_outside binding
+role_or None None = None
+
+-- what the name with a number is
+abbrev pub role_at : Scope → Option ℕ → Option Role
+role_at s None = None
+role_at s (Some i) = role_or (role_inside 0 0 s.locals i) (slice_get s.bindings i)
+
+-- None where the name has no declaration in reach
+unfoldable pub role_of : Scope → List ℕ → Option Role
+role_of s name = role_at s (place_of name s.names.names)
+
+-- a name at a place, of the wanted kind
+abbrev pub if_fits : {A : Type 0} → ℕ → Option A → Result A ParseFault
+if_fits at (Some x) = Ok x
+if_fits at None = Err (faults.WrongSort at)
+
+-- a name without a declaration is a fault before one of the wrong kind
+abbrev pub needed : {A : Type 0} → (Role → Option A) → ℕ → Option Role → Result A ParseFault
+needed wanted at None = Err (faults.Undeclared at)
+needed wanted at (Some r) = if_fits at (wanted r)
+
+-- any kind
+abbrev pub any_role : Role → Option Role
+any_role r = Some r
+
+-- a pointer variable
+abbrev pub as_pointer : Role → Option Var
+as_pointer (pointer_variable v) = Some v
+as_pointer (data_local x) = None
+as_pointer (pointer_field f) = None
+as_pointer (data_field f) = None
+as_pointer (function f p) = None
+as_pointer (auxiliary g t) = None
+as_pointer (value g v) = None
+as_pointer no_value = None
+
+-- a local of the two kinds of pointer variables
+abbrev pub as_local : Var → Option ℕ
+as_local (SharedVar k) = None
+as_local (LocalVar k) = Some k
+
+-- a pointer local
+abbrev pub as_pointer_local : Role → Option ℕ
+as_pointer_local (pointer_variable v) = as_local v
+as_pointer_local (data_local x) = None
+as_pointer_local (pointer_field f) = None
+as_pointer_local (data_field f) = None
+as_pointer_local (function f p) = None
+as_pointer_local (auxiliary g t) = None
+as_pointer_local (value g v) = None
+as_pointer_local no_value = None
+
+-- a data local
+abbrev pub as_data : Role → Option ℕ
+as_data (pointer_variable v) = None
+as_data (data_local x) = Some x
+as_data (pointer_field f) = None
+as_data (data_field f) = None
+as_data (function f p) = None
+as_data (auxiliary g t) = None
+as_data (value g v) = None
+as_data no_value = None
+
+-- a pointer field
+abbrev pub as_pointer_field : Role → Option FieldId
+as_pointer_field (pointer_variable v) = None
+as_pointer_field (data_local x) = None
+as_pointer_field (pointer_field f) = Some f
+as_pointer_field (data_field f) = None
+as_pointer_field (function f p) = None
+as_pointer_field (auxiliary g t) = None
+as_pointer_field (value g v) = None
+as_pointer_field no_value = None
+
+-- a data field
+abbrev pub as_data_field : Role → Option FieldId
+as_data_field (pointer_variable v) = None
+as_data_field (data_local x) = None
+as_data_field (pointer_field f) = None
+as_data_field (data_field f) = Some f
+as_data_field (function f p) = None
+as_data_field (auxiliary g t) = None
+as_data_field (value g v) = None
+as_data_field no_value = None
+
+-- a function, and whether it takes a pointer
+abbrev pub as_function : Role → Option (FuncId × Bool)
+as_function (pointer_variable v) = None
+as_function (data_local x) = None
+as_function (pointer_field f) = None
+as_function (data_field f) = None
+as_function (function f p) = Some (f, p)
+as_function (auxiliary g t) = None
+as_function (value g v) = None
+as_function no_value = None
+
+-- a function with a pointer that isn't `retire`
+abbrev pub protecting : FuncId → Bool → Option FuncId
+protecting f p = if p && not (f.0 == 0) then Some f else None
+
+-- the same of a name
+abbrev pub as_protecting : Role → Option FuncId
+as_protecting (pointer_variable v) = None
+as_protecting (data_local x) = None
+as_protecting (pointer_field f) = None
+as_protecting (data_field f) = None
+as_protecting (function f p) = protecting f p
+as_protecting (auxiliary g t) = None
+as_protecting (value g v) = None
+as_protecting no_value = None
+
+-- a function without a pointer
+abbrev pub without_pointer : FuncId → Bool → Option FuncId
+without_pointer f p = if p then None else Some f
+
+-- the same of a name
+abbrev pub as_without_pointer : Role → Option FuncId
+as_without_pointer (pointer_variable v) = None
+as_without_pointer (data_local x) = None
+as_without_pointer (pointer_field f) = None
+as_without_pointer (data_field f) = None
+as_without_pointer (function f p) = without_pointer f p
+as_without_pointer (auxiliary g t) = None
+as_without_pointer (value g v) = None
+as_without_pointer no_value = None
+
+-- an auxiliary field, and whether it holds a thread
+abbrev pub as_auxiliary : Role → Option (ℕ × Bool)
+as_auxiliary (pointer_variable v) = None
+as_auxiliary (data_local x) = None
+as_auxiliary (pointer_field f) = None
+as_auxiliary (data_field f) = None
+as_auxiliary (function f p) = None
+as_auxiliary (auxiliary g t) = Some (g, t)
+as_auxiliary (value g v) = None
+as_auxiliary no_value = None
+
+-- a value of auxiliary field h
+abbrev pub value_of_field : ℕ → ℕ → ℕ → Option ℕ
+value_of_field h g v = if g == h then Some v else None
+
+-- the same of a name
+abbrev pub as_value_of : ℕ → Role → Option ℕ
+as_value_of h (pointer_variable v) = None
+as_value_of h (data_local x) = None
+as_value_of h (pointer_field f) = None
+as_value_of h (data_field f) = None
+as_value_of h (function f p) = None
+as_value_of h (auxiliary g t) = None
+as_value_of h (value g v) = value_of_field h g v
+as_value_of h no_value = None
+
+-- no name is a thread
+abbrev pub as_thread : Role → Option ℕ
+as_thread r = None
+
+-- the pointer variable that is named at a place
+unfoldable pub pointer_at : Scope → List ℕ → ℕ → Result Var ParseFault
+pointer_at s name at = needed as_pointer at (role_of s name)
+
+-- the data local
+unfoldable pub data_at : Scope → List ℕ → ℕ → Result ℕ ParseFault
+data_at s name at = needed as_data at (role_of s name)
+
+-- the pointer field
+unfoldable pub pointer_field_at : Scope → List ℕ → ℕ → Result FieldId ParseFault
+pointer_field_at s name at = needed as_pointer_field at (role_of s name)
+
+-- the data field
+unfoldable pub data_field_at : Scope → List ℕ → ℕ → Result FieldId ParseFault
+data_field_at s name at = needed as_data_field at (role_of s name)
+
+-- the pointer local
+unfoldable pub pointer_local_at : Scope → List ℕ → ℕ → Result ℕ ParseFault
+pointer_local_at s name at = needed as_pointer_local at (role_of s name)
+
+-- the function, and whether it takes a pointer
+unfoldable pub function_at : Scope → List ℕ → ℕ → Result (FuncId × Bool) ParseFault
+function_at s name at = needed as_function at (role_of s name)
+
+-- the function of a hazard pointer
+unfoldable pub protecting_at : Scope → List ℕ → ℕ → Result FuncId ParseFault
+protecting_at s name at = needed as_protecting at (role_of s name)
+
+-- a function of an epoch
+unfoldable pub without_pointer_at : Scope → List ℕ → ℕ → Result FuncId ParseFault
+without_pointer_at s name at = needed as_without_pointer at (role_of s name)
+
+-- the auxiliary field, and whether it holds a thread
+unfoldable pub auxiliary_at : Scope → List ℕ → ℕ → Result (ℕ × Bool) ParseFault
+auxiliary_at s name at = needed as_auxiliary at (role_of s name)
+
+-- the value of an auxiliary field
+unfoldable pub value_at : Scope → ℕ → List ℕ → ℕ → Result ℕ ParseFault
+value_at s h name at = needed (as_value_of h) at (role_of s name)
+
+-- a name can't stand where a thread is wanted, but it has to be declared
+unfoldable pub thread_at : Scope → List ℕ → ℕ → Result ℕ ParseFault
+thread_at s name at = needed as_thread at (role_of s name)

@@ -1,0 +1,24 @@
+//! Which names are in reach, and what primitives, conditions and calls mean, over `plc_forms`'s forms;
+//! the layer above uses that each answer is the one that the definitions give for the form's tree, or
+//! their fault at the least token.
+#![tactic(auto)]
+
+mod assignments;
+mod binding;
+mod calls;
+mod conditions;
+mod fault;
+mod lookup;
+mod primitives;
+mod refreshes;
+mod scope;
+
+pub use binding::{Binding, Role};
+pub use calls::{Called, call};
+pub use conditions::condition;
+pub use fault::ParseFault;
+pub use primitives::{initial, primitive};
+pub use scope::Scope;
+
+#[cfg(test)]
+mod tests;

@@ -1,0 +1,224 @@
+// What names mean in an operation: each is looked up among the present locals first, and then among
+// the names of the file; a name without a declaration is a fault before one of the wrong kind.
+ghost use Rattle.std.specs.Prelude.{◌≡◌, ◌<◌, ◌≤◌, if◌then◌else◌, length};
+ghost use Rattle.plc_scope.specs.Answers.{Gives};
+ghost use Rattle.plc_scope.specs.Scope.{most_locals, any_role, needed, role_of, role_at, role_outside, role_inside, pointer_at, data_at, pointer_field_at, data_field_at, pointer_local_at, function_at, protecting_at, without_pointer_at, auxiliary_at, value_at, thread_at};
+
+use crate::binding::{Binding, Role};
+use crate::fault::ParseFault;
+use crate::scope::Scope;
+use plc_base::{FieldId, FuncId};
+use plc_lang::{Local, Var};
+
+fn role_outside(binding: Binding) -> Option<Role>
+    ensures { result ≡ role_outside binding }
+{
+    match binding {
+        Binding::Taken => Some(Role::NoValue),
+        Binding::Shared(k) => Some(Role::PointerVariable(Var::Shared(k))),
+        Binding::PointerField(f) => Some(Role::PointerField(f)),
+        Binding::DataField(f) => Some(Role::DataField(f)),
+        Binding::Function(f, takes_pointer) => Some(Role::Function(f, takes_pointer)),
+        Binding::Auxiliary(g, of_threads) => Some(Role::Auxiliary(g, of_threads)),
+        Binding::Value(g, v) => Some(Role::Value(g, v)),
+        Binding::LocalOnly => None,
+    }
+}
+
+// The local with a name's number; pointers and data are counted apart.
+fn role_inside(locals: &[Local], number: u16) -> Option<Role>
+    requires { length locals.now < 65536 }
+    ensures { result ≡ role_inside 0 0 locals.now number }
+{
+    let mut pointers = 0;
+    let mut values = 0;
+    for local in locals {
+        if local.name == number {
+            return Some(local_role(*local, pointers, values));
+        }
+        if local.pointer {
+            pointers += 1;
+        } else {
+            values += 1;
+        }
+    }
+    None
+}
+
+fn local_role(local: Local, pointers: u16, values: u16) -> Role
+    ensures { result ≡ (if local.pointer then Role.PointerVariable (Var.Local pointers) else Role.DataLocal values) }
+{
+    if local.pointer {
+        Role::PointerVariable(Var::Local(pointers))
+    } else {
+        Role::DataLocal(values)
+    }
+}
+
+impl Scope {
+    fn role_at(&self, number: u16) -> Option<Role>
+        requires { length self.now.locals ≤ most_locals }
+        ensures { result ≡ role_at self.now (Some number) }
+    {
+        if let Some(role) = role_inside(self.locals.as_slice(), number) {
+            return Some(role);
+        }
+        match self.bindings.get(number as usize) {
+            Some(binding) => role_outside(*binding),
+            None => None,
+        }
+    }
+
+    /// What a name is in the present operation, or `None` where it has no declaration in reach.
+    #[tactic(auto, unfolding(crate::specs::Scope::role_of))]
+    pub fn role_of(&self, name: &[u8]) -> Option<Role>
+        requires { length self.now.locals ≤ most_locals }
+        ensures { result ≡ role_of self.now name.now }
+    {
+        match self.names.find(name) {
+            Some(number) => self.role_at(number),
+            None => None,
+        }
+    }
+
+    /// What a name at a place is. `Undeclared` where it has no declaration in reach.
+    pub fn role(&self, name: &[u8], at: u32) -> Result<Role, ParseFault>
+        requires { length self.now.locals ≤ most_locals }
+        ensures { Gives (λ role. role) result (needed any_role at (role_of self.now name.now)) }
+    {
+        match self.role_of(name) {
+            Some(role) => Ok(role),
+            None => Err(ParseFault::Undeclared { at }),
+        }
+    }
+
+    /// The pointer variable that a name at a place is; `Undeclared`, or `WrongSort` for another thing.
+    #[tactic(auto, unfolding(crate::specs::Scope::pointer_at))]
+    pub fn pointer_at(&self, name: &[u8], at: u32) -> Result<Var, ParseFault>
+        requires { length self.now.locals ≤ most_locals }
+        ensures { Gives (λ variable. variable) result (pointer_at self.now name.now at) }
+    {
+        match self.role(name, at)? {
+            Role::PointerVariable(variable) => Ok(variable),
+            _ => Err(ParseFault::WrongSort { at }),
+        }
+    }
+
+    /// The data local that a name at a place is, with the same faults.
+    #[tactic(auto, unfolding(crate::specs::Scope::data_at))]
+    pub fn data_at(&self, name: &[u8], at: u32) -> Result<u16, ParseFault>
+        requires { length self.now.locals ≤ most_locals }
+        ensures { Gives (λ local. local) result (data_at self.now name.now at) }
+    {
+        match self.role(name, at)? {
+            Role::DataLocal(local) => Ok(local),
+            _ => Err(ParseFault::WrongSort { at }),
+        }
+    }
+
+    /// The pointer field that a name at a place is, with the same faults.
+    #[tactic(auto, unfolding(crate::specs::Scope::pointer_field_at))]
+    pub fn pointer_field_at(&self, name: &[u8], at: u32) -> Result<FieldId, ParseFault>
+        requires { length self.now.locals ≤ most_locals }
+        ensures { Gives (λ field. field) result (pointer_field_at self.now name.now at) }
+    {
+        match self.role(name, at)? {
+            Role::PointerField(field) => Ok(field),
+            _ => Err(ParseFault::WrongSort { at }),
+        }
+    }
+
+    /// The data field that a name at a place is, with the same faults.
+    #[tactic(auto, unfolding(crate::specs::Scope::data_field_at))]
+    pub fn data_field_at(&self, name: &[u8], at: u32) -> Result<FieldId, ParseFault>
+        requires { length self.now.locals ≤ most_locals }
+        ensures { Gives (λ field. field) result (data_field_at self.now name.now at) }
+    {
+        match self.role(name, at)? {
+            Role::DataField(field) => Ok(field),
+            _ => Err(ParseFault::WrongSort { at }),
+        }
+    }
+
+    /// The pointer local, with the same faults.
+    #[tactic(auto, unfolding(crate::specs::Scope::pointer_local_at))]
+    pub fn pointer_local_at(&self, name: &[u8], at: u32) -> Result<u16, ParseFault>
+        requires { length self.now.locals ≤ most_locals }
+        ensures { Gives (λ found. found) result (pointer_local_at self.now name.now at) }
+    {
+        match self.role(name, at)? {
+            Role::PointerVariable(Var::Local(local)) => Ok(local),
+            _ => Err(ParseFault::WrongSort { at }),
+        }
+    }
+
+    /// The reclaimer function, and whether it takes a pointer, with the same faults.
+    #[tactic(auto, unfolding(crate::specs::Scope::function_at))]
+    pub fn function_at(&self, name: &[u8], at: u32) -> Result<(FuncId, bool), ParseFault>
+        requires { length self.now.locals ≤ most_locals }
+        ensures { Gives (λ found. (found.0, found.1)) result (function_at self.now name.now at) }
+    {
+        match self.role(name, at)? {
+            Role::Function(function, takes_pointer) => Ok((function, takes_pointer)),
+            _ => Err(ParseFault::WrongSort { at }),
+        }
+    }
+
+    /// The function that sets a hazard pointer: it takes a pointer and isn't `retire`; with the same faults.
+    #[tactic(auto, unfolding(crate::specs::Scope::protecting_at))]
+    pub fn protecting_at(&self, name: &[u8], at: u32) -> Result<FuncId, ParseFault>
+        requires { length self.now.locals ≤ most_locals }
+        ensures { Gives (λ found. found) result (protecting_at self.now name.now at) }
+    {
+        match self.role(name, at)? {
+            Role::Function(function, true) if function.0 != 0 => Ok(function),
+            _ => Err(ParseFault::WrongSort { at }),
+        }
+    }
+
+    /// The function that takes no pointer, such as those of an epoch; with the same faults.
+    #[tactic(auto, unfolding(crate::specs::Scope::without_pointer_at))]
+    pub fn without_pointer_at(&self, name: &[u8], at: u32) -> Result<FuncId, ParseFault>
+        requires { length self.now.locals ≤ most_locals }
+        ensures { Gives (λ found. found) result (without_pointer_at self.now name.now at) }
+    {
+        match self.role(name, at)? {
+            Role::Function(function, false) => Ok(function),
+            _ => Err(ParseFault::WrongSort { at }),
+        }
+    }
+
+    /// The auxiliary field, and whether it holds a thread, with the same faults.
+    #[tactic(auto, unfolding(crate::specs::Scope::auxiliary_at))]
+    pub fn auxiliary_at(&self, name: &[u8], at: u32) -> Result<(u16, bool), ParseFault>
+        requires { length self.now.locals ≤ most_locals }
+        ensures { Gives (λ found. (found.0, found.1)) result (auxiliary_at self.now name.now at) }
+    {
+        match self.role(name, at)? {
+            Role::Auxiliary(field, of_threads) => Ok((field, of_threads)),
+            _ => Err(ParseFault::WrongSort { at }),
+        }
+    }
+
+    /// The value of an auxiliary field, by its number, with the same faults.
+    #[tactic(auto, unfolding(crate::specs::Scope::value_at))]
+    pub fn value_at(&self, field: u16, name: &[u8], at: u32) -> Result<u16, ParseFault>
+        requires { length self.now.locals ≤ most_locals }
+        ensures { Gives (λ found. found) result (value_at self.now field name.now at) }
+    {
+        match self.role(name, at)? {
+            Role::Value(of, value) if of == field => Ok(value),
+            _ => Err(ParseFault::WrongSort { at }),
+        }
+    }
+
+    /// Where a thread is wanted no name can stand: `Undeclared`, or else `WrongSort`.
+    #[tactic(auto, unfolding(crate::specs::Scope::thread_at))]
+    pub fn thread_at(&self, name: &[u8], at: u32) -> Result<u16, ParseFault>
+        requires { length self.now.locals ≤ most_locals }
+        ensures { Gives (λ found. found) result (thread_at self.now name.now at) }
+    {
+        let _role = self.role(name, at)?;
+        Err(ParseFault::WrongSort { at })
+    }
+}

@@ -1,0 +1,181 @@
+// The names that are in reach. All names of a file, of every operation's locals too, have one
+// numbering, in order of first declaration; beside each name stands what it is outside operations.
+// Locals of the present operation are listed apart, so that those of two operations may share a name.
+//
+// A file's limits leave so few names that the list of names is never full: each declaration asks for
+// room, and says how much it took.
+ghost use Rattle.std.specs.Prelude.{◌≡◌, ◌<◌, IfOk, IfErr, length, slice_get};
+ghost use Rattle.plc_base.specs.Names.{place_of};
+ghost use Rattle.plc_scope.specs.Answers.{Gives, HasRoom, GrowsBy, HasRoomForLocals, GrowsByLocals};
+ghost use Rattle.plc_scope.specs.Scope.{first_scope, if_new, declared, declared_label, declared_local, declared_parameter, with_last, local_number, may_name_local, has_local, with_local, without_locals};
+
+use crate::binding::Binding;
+use crate::fault::ParseFault;
+use plc_base::{FuncId, Items, NameFault, Names, What1};
+use plc_lang::Local;
+use std::alloc::Global;
+
+/// How many names the list of names may have.
+const MOST_NAMES: u16 = 65535;
+
+/// How many locals an operation may have.
+const MOST_LOCALS: usize = 32;
+
+/// The names in reach.
+#[derive(Drop)]
+pub struct Scope {
+    pub names: Names,
+    /// One for each name.
+    pub bindings: Items<Binding>,
+    /// The locals of the present operation.
+    pub locals: Items<Local>,
+    /// The numbers of the names of the labels.
+    pub labels: Items<u16>,
+}
+
+// A name that differs from all before.
+fn add_name(names: &mut Names, name: &[u8], at: u32) -> Result<u16, ParseFault>
+    requires { length names.old.names < names.old.limit }
+    ensures number { IfOk result (λ number. number ≡ length names.old.names) }
+    ensures read { Gives (λ _. names.new) result (if_new (place_of name.now names.old.names) at (with_last names.old name.now)) }
+{
+    match names.add(name) {
+        Ok(number) => Ok(number),
+        Err(NameFault::Duplicate { .. }) => Err(ParseFault::Duplicate { at }),
+        Err(NameFault::Full { .. }) => unreachable!(),
+        Err(NameFault::Memory) => Err(ParseFault::Memory),
+    }
+}
+
+fn has_local(locals: &[Local], number: u16) -> bool
+    ensures { result ≡ has_local locals.now number }
+{
+    locals.iter().any(|local| local.name == number)
+}
+
+impl Scope {
+    /// The names in reach before a file: `retire`.
+    pub fn new(alloc: Global) -> Result<Scope, ParseFault>
+        ensures ok { IfOk result (λ scope. scope ≡ first_scope) }
+        ensures err { IfErr result (λ e. e ≡ ParseFault.Memory) }
+    {
+        let mut scope = Scope {
+            names: Names::new(alloc, MOST_NAMES),
+            bindings: Items::new(alloc),
+            locals: Items::new(alloc),
+            labels: Items::new(alloc),
+        };
+        scope.declare(b"retire", 0, Binding::Function(FuncId(0), true))?;
+        Ok(scope)
+    }
+
+    /// Declares a name that differs from all before, and answers its number. `Duplicate` where it
+    /// doesn't.
+    pub fn declare(&mut self, name: &[u8], at: u32, binding: Binding) -> Result<u16, ParseFault>
+        requires { HasRoom self.old 1 }
+        ensures number { IfOk result (λ number. number ≡ length self.old.names.names) }
+        ensures read { Gives (λ _. self.new) result (declared self.old name.now at binding) }
+        ensures names { IfOk result (λ _. GrowsBy self.old self.new 1) }
+        ensures locals { self.new.locals ≡ self.old.locals }
+    {
+        let number = add_name(&mut self.names, name, at)?;
+        self.bindings.push(binding)?;
+        Ok(number)
+    }
+
+    /// Declares a label, which is as new as any name of the file. `Duplicate` where it isn't.
+    pub fn declare_label(&mut self, name: &[u8], at: u32) -> Result<(), ParseFault>
+        requires { HasRoom self.old 1 }
+        ensures read { Gives (λ _. self.new) result (declared_label self.old name.now at) }
+        ensures names { IfOk result (λ _. GrowsBy self.old self.new 1) }
+        ensures locals { self.new.locals ≡ self.old.locals }
+    {
+        let number = self.declare(name, at, Binding::Taken)?;
+        self.labels.push(number)?;
+        Ok(())
+    }
+
+    // Whether a name that is there may be a local's: it is one of another operation, and nothing else.
+    fn may_name_local(&self, number: u16) -> bool
+        ensures { result ≡ may_name_local (slice_get self.now.bindings number) (has_local self.now.locals number) }
+    {
+        match self.bindings.get(number as usize) {
+            Some(Binding::LocalOnly) => !has_local(self.locals.as_slice(), number),
+            _ => false,
+        }
+    }
+
+    // The number of a local's name, which is declared if it isn't there.
+    fn local_number(&mut self, name: &[u8], at: u32) -> Result<u16, ParseFault>
+        requires { HasRoom self.old 1 }
+        ensures read { Gives (λ number. (number, self.new)) result (local_number (place_of name.now self.old.names.names) self.old name.now at) }
+        ensures names { IfOk result (λ _. GrowsBy self.old self.new 1) }
+        ensures locals { self.new.locals ≡ self.old.locals }
+    {
+        match self.names.find(name) {
+            None => self.declare(name, at, Binding::LocalOnly),
+            Some(number) if self.may_name_local(number) => Ok(number),
+            Some(_) => Err(ParseFault::Duplicate { at }),
+        }
+    }
+
+    fn add_local(&mut self, name: u16, pointer: bool, param: bool) -> Result<(), ParseFault>
+        ensures { Gives (λ _. self.new) result (Ok (with_local self.old name pointer param)) }
+    {
+        let local = Local {
+            name,
+            pointer,
+            param,
+        };
+        self.locals.push(local)?;
+        Ok(())
+    }
+
+    /// Declares a local of the present operation. `Limit` where it has 32 before; `Duplicate` where
+    /// the name is not new, but for a local of another operation.
+    #[tactic(auto, unfolding(crate::specs::Scope::declared_local))]
+    pub fn declare_local(&mut self, name: &[u8], at: u32, pointer: bool) -> Result<(), ParseFault>
+        requires { HasRoomForLocals self.old }
+        ensures read { Gives (λ _. self.new) result (declared_local self.old name.now at pointer) }
+        ensures names { IfOk result (λ _. GrowsByLocals self.old self.new) }
+    {
+        if self.locals.len() == MOST_LOCALS {
+            return Err(too_many_locals());
+        }
+        let number = self.local_number(name, at)?;
+        self.add_local(number, pointer, false)
+    }
+
+    /// Declares a parameter of the present operation, with the same faults; the name is judged
+    /// before the limit.
+    #[tactic(auto, unfolding(crate::specs::Scope::declared_parameter))]
+    pub fn declare_parameter(&mut self, name: &[u8], at: u32) -> Result<(), ParseFault>
+        requires { HasRoomForLocals self.old }
+        ensures read { Gives (λ _. self.new) result (declared_parameter self.old name.now at) }
+        ensures names { IfOk result (λ _. GrowsByLocals self.old self.new) }
+    {
+        let is_full = self.locals.len() == MOST_LOCALS;
+        let number = self.local_number(name, at)?;
+        if is_full {
+            return Err(too_many_locals());
+        }
+        self.add_local(number, false, true)
+    }
+
+    /// Ends an operation: its locals, which are in reach no longer.
+    pub fn take_locals(&mut self, alloc: Global) -> Items<Local>
+        ensures locals { result ≡ self.old.locals }
+        ensures scope { self.new ≡ without_locals self.old }
+    {
+        std::mem::replace(&mut self.locals, Items::new(alloc))
+    }
+}
+
+fn too_many_locals() -> ParseFault
+    ensures { result ≡ ParseFault.Limit What1.Locals 33 }
+{
+    ParseFault::Limit {
+        what: What1::Locals,
+        count: 33,
+    }
+}
