@@ -1,30 +1,47 @@
 -- From what was read to what the tokens spell.
-use Rattle.std.proofs.Common.{◌≡◌, List, Result, Ok, Err, IfOk, IfErr, refl, ap, sym, ◌∙◌}
+use Rattle.std.proofs.Common.{◌≡◌, false, List, None, Result, Ok, Err, IfOk, IfErr, refl, ap, sym, ◌∙◌}
 use Rattle.plc_lex.specs.declared.token.Token.{Token}
 use Rattle.plc_lang.specs.Fit.{FileFits}
+use Rattle.plc_syntax.specs.Trees.{FileTree, file_tokens}
 use Rattle.plc_syntax.specs.Syntax.{kinds}
-use Rattle.plc_parse.specs.declared.fault.ParseFault.{ParseFault}
-use Rattle.plc_parse.specs.declared.fault.ParseFault.TheVariants as faults
+use Rattle.plc_lex.specs.declared.token.Keyword.TheVariants.{Outline}
+use Rattle.plc_forms.specs.Forms.{hold_word}
+use Rattle.plc_scope.specs.declared.fault.ParseFault.{ParseFault}
+use Rattle.plc_scope.specs.declared.fault.ParseFault.TheVariants as faults
 use Rattle.plc_parse.specs.declared.unit.Unit.{Unit as FileUnit}
-use Rattle.plc_parse.specs.Answers.{Gives}
+use Rattle.plc_scope.specs.Answers.{Gives}
 use Rattle.plc_parse.specs.Reading.{file_in}
-use Rattle.plc_parse.specs.Units.{lines_of, IsUnitOf, IsFaultOf, no_unit, no_memory, IsShallowFile, UnitsAreUnique}
+use Rattle.plc_parse.specs.Units.{lines_of, Means, IsUnitOf, IsFaultOf, no_unit, no_memory, IsShallowFile, UnitsAreUnique}
 use Rattle.plc_parse.proofs.Law.{file_read}
+use Rattle.plc_parse.proofs.Ends.{no_outline}
 use Rattle.plc_parse.proofs.Fits.{file_fits}
 
-module _ (ts : List Token) where
+-- where no token is `outline` the tree has none
+outline_out : (ts : List Token) (f : FileTree) → file_tokens f ≡ kinds ts → hold_word Outline (kinds ts) ≡ false → f.outlined ≡ None
+outline_out ts f e h = no_outline f (ap (hold_word Outline) e ∙ h)
+
+module _ (ts : List Token) (absent : hold_word Outline (kinds ts) ≡ false) where
+  -- what is read is what the tree means
+  read_is : (s : IsShallowFile (kinds ts)) (r : Result FileUnit ParseFault) → file_in (lines_of ts) (kinds ts) ≡ r → Means ts r
+  read_is s r e = let none = outline_out ts s.0.0 s.0.1 absent in record {
+    tree = s.0.0;
+    tokens = s.0.1;
+    no_outline = none;
+    is = sym (file_read (lines_of ts) s.0.0 none) ∙ ap (file_in (lines_of ts)) s.0.1 ∙ e;
+  }
+
   pub unit_is : (r : Result FileUnit ParseFault) → Gives (λ u. u) r (file_in (lines_of ts) (kinds ts)) → IsShallowFile (kinds ts) → IfOk r (λ u. IsUnitOf ts u)
-  unit_is (Ok u) g s = record { shallow = s.1; means = (s.0.0, s.0.1, sym (file_read (lines_of ts) s.0.0) ∙ ap (file_in (lines_of ts)) s.0.1 ∙ g) }
+  unit_is (Ok u) g s = record { shallow = s.1; means = read_is s _ g }
   unit_is (Err e) g s = tt
 
   pub fault_is : (r : Result FileUnit ParseFault) → Gives (λ u. u) r (file_in (lines_of ts) (kinds ts)) → IsShallowFile (kinds ts) → IfErr r (λ e. IsFaultOf ts e)
   fault_is (Ok u) g s = tt
   fault_is (Err faults.Memory) g s = no_memory refl
-  fault_is (Err e) g s = no_unit (record { shallow = s.1; means = (s.0.0, s.0.1, sym (file_read (lines_of ts) s.0.0) ∙ ap (file_in (lines_of ts)) s.0.1 ∙ g) })
+  fault_is (Err e) g s = no_unit (record { shallow = s.1; means = read_is s _ g })
 
   -- what is spelled is read
   said : (u : FileUnit) → IsUnitOf ts u → file_in (lines_of ts) (kinds ts) ≡ Ok u
-  said u h = ap (file_in (lines_of ts)) (sym h.means.1) ∙ file_read (lines_of ts) h.means.0 ∙ h.means.2
+  said u h = ap (file_in (lines_of ts)) (sym h.means.tokens) ∙ file_read (lines_of ts) h.means.tree h.means.no_outline ∙ h.means.is
 
   pub no_other_fault : (r : Result FileUnit ParseFault) (u : FileUnit) → Gives (λ x. x) r (file_in (lines_of ts) (kinds ts)) → IsUnitOf ts u → IfErr r (λ e. e ≡ faults.Memory)
   no_other_fault (Ok x) u g h = tt
@@ -32,9 +49,10 @@ module _ (ts : List Token) where
   no_other_fault (Err e) u g h = let is = said u h in absurd cc
 
   pub unit_fits : (r : Result FileUnit ParseFault) → Gives (λ u. u) r (file_in (lines_of ts) (kinds ts)) → IsShallowFile (kinds ts) → IfOk r (λ u. FileFits u.file)
-  unit_fits (Ok u) g s = file_fits (lines_of ts) s.0.0 u (sym (file_read (lines_of ts) s.0.0) ∙ ap (file_in (lines_of ts)) s.0.1 ∙ g)
+  unit_fits (Ok u) g s = let m = read_is s (Ok u) g in file_fits (lines_of ts) m.tree u m.is
   unit_fits (Err e) g s = tt
 
 -- tokens mean one thing
 pub one_meaning : UnitsAreUnique
-one_meaning ts a b m n = sym m.2 ∙ sym (file_read (lines_of ts) m.0) ∙ ap (file_in (lines_of ts)) (m.1 ∙ sym n.1) ∙ file_read (lines_of ts) n.0 ∙ n.2
+one_meaning ts a b m n =
+    sym m.is ∙ sym (file_read (lines_of ts) m.tree m.no_outline) ∙ ap (file_in (lines_of ts)) (m.tokens ∙ sym n.tokens) ∙ file_read (lines_of ts) n.tree n.no_outline ∙ n.is

@@ -1,24 +1,27 @@
 -- A file with a meaning passes no limit.
-use Rattle.std.proofs.Common.{◌≡◌, ◌==◌, ℕ, zero, suc, ◌+◌, ◌≤◌, ◌<◌, Bool, true, false, if◌then◌else◌, Option, Some, None, Result, Ok, Err, List, [], ◌∷◌, ◌++◌, length, slice_get, refl, ◌∙◌, ap, subst, arith}
+use Rattle.std.proofs.Common.{◌≡◌, ◌==◌, ℕ, zero, suc, ◌+◌, ◌≤◌, ◌<◌, Bool, true, false, ◌&&◌, ◌||◌, if◌then◌else◌, Option, Some, None, Result, Ok, Err, List, [], ◌∷◌, ◌++◌, length, slice_get, refl, ◌∙◌, ap, subst, arith}
 use Rattle.std.proofs.lemmas.Bool.{eqb-false}
 use Rattle.std.proofs.lemmas.List.{length-append}
 use Rattle.plc_base.specs.declared.limits.What1.{What1}
 use Rattle.plc_base.specs.Names.{place_of}
-use Rattle.plc_lang.specs.Fit.{FileFits}
-use Rattle.plc_lang.specs.declared.syntax.Op.{Op}
+use Rattle.plc_lang.specs.Fit.{OpFits, FileFits, StatementFits, StatementsFit, BlocksFit}
+use Rattle.plc_lang.specs.declared.syntax.Primitive.{Primitive}
+use Rattle.plc_lang.specs.declared.syntax.Ghost.{Ghost}
 use Rattle.plc_lang.specs.declared.syntax.Local.{Local}
-use Rattle.plc_syntax.specs.Trees.{Text, FieldTree, PointerField, DataField, OpTree, Operates, FileTree}
-use Rattle.plc_parse.specs.declared.fault.ParseFault.{ParseFault}
-use Rattle.plc_parse.specs.declared.scope.Scope.{Scope}
-use Rattle.plc_parse.specs.declared.fault.ParseFault.TheVariants as faults
-use Rattle.plc_parse.specs.declared.scope.Thing.{Thing}
-use Rattle.plc_parse.specs.declared.scope.Thing.TheVariants.{Taken}
+use Rattle.plc_syntax.specs.Trees.{Text, FieldTree, PointerField, DataField, FunctionTree, Declares, GhostTree, Auxiliary, OneOf, OfThreads, InitialTree, StatementTree, PrimitiveStatement, AtomicStatement, CallStatement, IfStatement, ChooseStatement, LoopStatement, BreakStatement, ReturnStatement, LabelStatement, BlockTree, NoStatement, Then, ElseTree, NoElse, ElseBlock, OrTree, NoOr, OrBlock, OpTree, Operates, FileTree}
+use Rattle.plc_forms.specs.Sizes.{initial_size, primitive_size, condition_size, call_size}
+use Rattle.plc_scope.specs.declared.fault.ParseFault.{ParseFault}
+use Rattle.plc_scope.specs.declared.fault.ParseFault.TheVariants as faults
+use Rattle.plc_scope.specs.declared.scope.Scope.{Scope}
+use Rattle.plc_scope.specs.declared.binding.Binding.{Binding}
+use Rattle.plc_scope.specs.declared.binding.Binding.TheVariants.{Taken, Value}
+use Rattle.plc_scope.specs.Scope.{◌>>=◌, if_new, first_scope, with_name, with_label, declared, declared_label, has_local, may_name_local, local_number, with_local, declared_local, declared_parameter}
+use Rattle.plc_scope.specs.Primitives.{primitive_means, initial_means, condition_means, call_means}
 use Rattle.plc_parse.specs.declared.unit.Unit.{Unit as FileUnit}
-use Rattle.plc_parse.specs.Scope.{◌>>=◌, if_new, first_scope, with_name, declared, has_local, may_name_local, local_number, with_local, declared_local, declared_parameter}
-use Rattle.plc_parse.specs.Meaning.{within_limit, field_means, fields_mean, shared_means, shared_mean, others_mean, parameters_mean, local_means, locals_mean, statements_mean, op_means, ops_mean, none_of, not_there, file_means}
+use Rattle.plc_parse.specs.Meaning.{within_limit, stands_at, is_new, counted, count_of, before, allocates, forms_mean, atomic_means, initials_mean, one_or_skip, label_means, during_means, statement_means, statements_mean, else_means, or_means, field_means, shared_means, function_means, value_means, values_mean, ghost_means, listed, watch_means, init_means, others_mean, parameters_mean, local_means, locals_mean, op_means, file_means}
 
 -- what holds of an answer, if there is one
-abbrev Has : {A : Type 0} → (A → Type 0) → Result A ParseFault → Type 0
+abbrev pub Has : {A : Type 0} → (A → Type 0) → Result A ParseFault → Type 0
 Has P (Ok x) = P x
 Has P (Err e) = Unit {0}
 
@@ -38,136 +41,285 @@ if_below P n limit e r false is le h = h (omega (arith, eqb-false n limit is))
 below : {A : Type 0} (P : A → Type 0) (n limit : ℕ) (what : What1) (r : Result A ParseFault) → n ≤ limit → (n < limit → Has P r) → Has P (within_limit n limit what r)
 below P n limit what r le h = if_below P n limit _ r (n == limit) refl le h
 
-abbrev Keeps : Scope → Scope → Type 0
-Keeps s t = t.locals ≡ s.locals
-
-declared_keeps : (s : Scope) (name : Text) (at : ℕ) (thing : Thing) → Has (Keeps s) (declared s name at thing)
-declared_keeps s name at thing = new (place_of name s.names.names)
-  where
-    new : (o : Option ℕ) → Has (Keeps s) (if_new o at (with_name s name thing))
-    new None = refl
-    new (Some i) = tt
-
--- fewer than the limit were declared before, and no local
-record OneFits {Y : Type 0} (limit : ℕ) (s : Scope) (n : ℕ) (r : Y × Scope) : Type 0 where
-  before : n < limit
-  locals : Keeps s r.1
-
-record ManyFit {Y : Type 0} (limit : ℕ) (s : Scope) (n : ℕ) (r : List Y × Scope × ℕ) : Type 0 where
-  count : n + length r.0 ≤ limit
-  locals : Keeps s r.1
-
-field_fits : (s : Scope) (n at : ℕ) (f : FieldTree) → n ≤ 8 → Has (OneFits 8 s n) (field_means s n at f)
-field_fits s n at (PointerField name) le = below (OneFits 8 s n) n 8 _ _ le (λ h. next (Keeps s) (OneFits 8 s n) (declared s name (at + 1) _) _ (declared_keeps s name (at + 1) _) (λ t same. record { before = h; locals = same }))
-field_fits s n at (DataField name) le = below (OneFits 8 s n) n 8 _ _ le (λ h. next (Keeps s) (OneFits 8 s n) (declared s name (at + 1) _) _ (declared_keeps s name (at + 1) _) (λ t same. record { before = h; locals = same }))
-
-fields_fit : (s : Scope) (n at : ℕ) (fs : List FieldTree) → n ≤ 8 → Has (ManyFit 8 s n) (fields_mean s n at fs)
-fields_fit s n at [] le = record { count = omega arith; locals = refl }
-fields_fit s n at (f ∷ fs) le = next (OneFits 8 s n) (ManyFit 8 s n) (field_means s n at f) _ (field_fits s n at f le) (λ first h.
-    next (ManyFit 8 first.1 (n + 1)) (ManyFit 8 s n) (fields_mean first.1 (n + 1) (at + 3) fs) _ (fields_fit first.1 (n + 1) (at + 3) fs (omega (arith, h.before))) (λ others k.
-    record { count = omega (arith, k.count); locals = k.locals ∙ h.locals }))
-
-pointer_fits : (s : Scope) (n at : ℕ) (name : Text) → n ≤ 16 → Has (OneFits 16 s n) (shared_means s n at name)
-pointer_fits s n at name le = below (OneFits 16 s n) n 16 _ _ le (λ h. next (Keeps s) (OneFits 16 s n) (declared s name (at + 1) _) _ (declared_keeps s name (at + 1) _) (λ t same. record { before = h; locals = same }))
-
-shared_fit : (s : Scope) (n at : ℕ) (names : List Text) → n ≤ 16 → Has (ManyFit 16 s n) (shared_mean s n at names)
-shared_fit s n at [] le = record { count = omega arith; locals = refl }
-shared_fit s n at (name ∷ names) le = next (OneFits 16 s n) (ManyFit 16 s n) (shared_means s n at name) _ (pointer_fits s n at name le) (λ first h.
-    next (ManyFit 16 first.1 (n + 1)) (ManyFit 16 s n) (shared_mean first.1 (n + 1) (at + 3) names) _ (shared_fit first.1 (n + 1) (at + 3) names (omega (arith, h.before))) (λ others k.
-    record { count = omega (arith, k.count); locals = k.locals ∙ h.locals }))
-
--- ---- locals
-
-abbrev Few : Scope → Type 0
-Few t = length t.locals ≤ 32
-
 if_ok : {A : Type 0} (P : A → Type 0) (b : Bool) (x : A) (e : ParseFault) → P x → Has P (if b then Ok x else Err e)
 if_ok P true x e h = h
 if_ok P false x e h = tt
 
-number_keeps : (o : Option ℕ) (s : Scope) (name : Text) (at : ℕ) → Has (λ x. x.1.locals ≡ s.locals) (local_number o s name at)
-number_keeps None s name at = refl
-number_keeps (Some i) s name at = if_ok (λ x. x.1.locals ≡ s.locals) (may_name_local (slice_get s.things i) (has_local s.locals i)) (i, s) (faults.Duplicate at) refl
+if_err : {A : Type 0} (P : A → Type 0) (b : Bool) (x : A) (e : ParseFault) → P x → Has P (if b then Err e else Ok x)
+if_err P true x e h = tt
+if_err P false x e h = h
 
-one_more : (s : Scope) (number : ℕ) (p q : Bool) → length s.locals < 32 → Few (with_local s number p q)
-one_more s number p q h =
-    let l : Local = record { name = number; pointer = p; param = q } in
-    let count : length (s.locals ++ l ∷ []) ≡ length s.locals + 1 = length-append s.locals (l ∷ []) in omega arith
+both_err : {A : Type 0} (P : A → Type 0) (b c : Bool) (e f g : ParseFault) → Has P (if b then Err e else (if c then Err f else Err g))
+both_err P true c e f g = tt
+both_err P false true e f g = tt
+both_err P false false e f g = tt
 
-local_few : (s : Scope) (name : Text) (at : ℕ) (p : Bool) → Few s → Has Few (declared_local s name at p)
+-- ---- between declarations
+
+-- no local is in reach, and there are few labels
+record Between (s : Scope) : Type 0 where
+  locals : s.locals ≡ []
+  labels : length s.labels ≤ 256
+
+declared_between : (s : Scope) (name : Text) (at : ℕ) (b : Binding) → Between s → Has Between (declared s name at b)
+declared_between s name at b h = new (place_of name s.names.names)
+  where
+    new : (o : Option ℕ) → Has Between (if_new o at (with_name s name b))
+    new None = record { locals = h.locals; labels = h.labels }
+    new (Some i) = tt
+
+-- one more declaration
+record OneFits {Y : Type 0} (P : Y → Type 0) (limit n : ℕ) (r : Y × Scope × ℕ) : Type 0 where
+  before : n < limit
+  fits : P r.0
+  between : Between r.1
+
+record ManyFit {Y : Type 0} (P : Y → Type 0) (limit n : ℕ) (r : List Y × Scope × ℕ) : Type 0 where
+  count : n + length r.0 ≤ limit
+  each : (k : ℕ) (y : Y) → slice_get r.0 k ≡ Some y → P y
+  between : Between r.1
+
+each_of : {Y : Type 0} (P : Y → Type 0) (y : Y) (ys : List Y) → P y → ((k : ℕ) (z : Y) → slice_get ys k ≡ Some z → P z) → (k : ℕ) (z : Y) → slice_get (y ∷ ys) k ≡ Some z → P z
+each_of P y ys h others zero z e = let same : y ≡ z = cc in subst P same h
+each_of P y ys h others (suc k) z e = others k z e
+
+module _ {X Y : Type 0} (means : Scope → ℕ → ℕ → X → Result (Y × Scope × ℕ) ParseFault) (P : Y → Type 0) (limit : ℕ)
+    (one : (s : Scope) (n at : ℕ) (x : X) → n ≤ limit → Between s → Has (OneFits P limit n) (means s n at x)) where
+  listed_fit : (s : Scope) (n at : ℕ) (xs : List X) → n ≤ limit → Between s → Has (ManyFit P limit n) (listed means s n at xs)
+  listed_fit s n at [] le h = record { count = omega arith; each = λ k y e. absurd cc; between = h }
+  listed_fit s n at (x ∷ xs) le h = next (OneFits P limit n) (ManyFit P limit n) (means s n at x) _ (one s n at x le h) (λ first f.
+      next (ManyFit P limit (n + 1)) (ManyFit P limit n) (listed means first.1 (n + 1) first.2 xs) _ (listed_fit first.1 (n + 1) first.2 xs (omega (arith, f.before)) f.between) (λ others k.
+      record { count = omega (arith, k.count); each = each_of P first.0 others.0 f.fits k.each; between = k.between }))
+
+-- nothing is asked of it
+abbrev Free : {Y : Type 0} → Y → Type 0
+Free y = Unit {0}
+
+field_fits : (s : Scope) (n at : ℕ) (f : FieldTree) → n ≤ 8 → Between s → Has (OneFits Free 8 n) (field_means s n at f)
+field_fits s n at (PointerField name) le h = below (OneFits Free 8 n) n 8 _ _ le (λ less. next Between (OneFits Free 8 n) (declared s name (at + 1) _) _ (declared_between s name (at + 1) _ h) (λ t k. record { before = less; fits = tt; between = k }))
+field_fits s n at (DataField name) le h = below (OneFits Free 8 n) n 8 _ _ le (λ less. next Between (OneFits Free 8 n) (declared s name (at + 1) _) _ (declared_between s name (at + 1) _ h) (λ t k. record { before = less; fits = tt; between = k }))
+
+pointer_fits : (s : Scope) (n at : ℕ) (name : Text) → n ≤ 16 → Between s → Has (OneFits Free 16 n) (shared_means s n at name)
+pointer_fits s n at name le h = below (OneFits Free 16 n) n 16 _ _ le (λ less. next Between (OneFits Free 16 n) (declared s name (at + 1) _) _ (declared_between s name (at + 1) _ h) (λ t k. record { before = less; fits = tt; between = k }))
+
+function_fits : (s : Scope) (n at : ℕ) (f : FunctionTree) → n ≤ 16 → Between s → Has (OneFits Free 16 n) (function_means s n at f)
+function_fits s n at (Declares name p) le h = below (OneFits Free 16 n) n 16 _ _ le (λ less. next Between (OneFits Free 16 n) (declared s name (at + 1) _) _ (declared_between s name (at + 1) _ h) (λ t k. record { before = less; fits = tt; between = k }))
+
+-- ---- auxiliary fields
+
+record ValueFits (n : ℕ) (r : ℕ × Scope) : Type 0 where
+  before : n < 16
+  between : Between r.1
+
+record ValuesFit (n : ℕ) (r : List ℕ × Scope × ℕ) : Type 0 where
+  count : n + length r.0 ≤ 16
+  between : Between r.1
+
+value_fits : (s : Scope) (g n at : ℕ) (name : Text) → n ≤ 16 → Between s → Has (ValueFits n) (value_means s g n at name)
+value_fits s g n at name le h = next Between (ValueFits n) (declared s name at (Value g n)) _ (declared_between s name at (Value g n) h) (λ t k. below (ValueFits n) n 16 _ _ le (λ less. record { before = less; between = k }))
+
+values_fit : (s : Scope) (g n at : ℕ) (names : List Text) → n ≤ 16 → Between s → Has (ValuesFit n) (values_mean s g n at names)
+values_fit s g n at [] le h = record { count = omega arith; between = h }
+values_fit s g n at (name ∷ names) le h = next (ValueFits n) (ValuesFit n) (value_means s g n (at + 1) name) _ (value_fits s g n (at + 1) name le h) (λ first f.
+    next (ValuesFit (n + 1)) (ValuesFit n) (values_mean first.1 g (n + 1) (at + 2) names) _ (values_fit first.1 g (n + 1) (at + 2) names (omega (arith, f.before)) f.between) (λ others k.
+    record { count = omega (arith, k.count); between = k.between }))
+
+abbrev GhostFits : Ghost → Type 0
+GhostFits g = length g.values ≤ 16
+
+ghost_fits : (s : Scope) (n at : ℕ) (g : GhostTree) → n ≤ 4 → Between s → Has (OneFits GhostFits 4 n) (ghost_means s n at g)
+ghost_fits s n at (Auxiliary name OfThreads) le h = below (OneFits GhostFits 4 n) n 4 _ _ le (λ less. next Between (OneFits GhostFits 4 n) (declared s name (at + 1) _) _ (declared_between s name (at + 1) _ h) (λ t k. record { before = less; fits = omega arith; between = k }))
+ghost_fits s n at (Auxiliary name (OneOf v vs)) le h = below (OneFits GhostFits 4 n) n 4 _ _ le (λ less. next Between (OneFits GhostFits 4 n) (declared s name (at + 1) _) _ (declared_between s name (at + 1) _ h) (λ t k.
+    next (ValueFits 0) (OneFits GhostFits 4 n) (value_means t n 0 (at + 3) v) _ (value_fits t n 0 (at + 3) v (omega arith) k) (λ first f.
+    next (ValuesFit 1) (OneFits GhostFits 4 n) (values_mean first.1 n 1 (at + 4) vs) _ (values_fit first.1 n 1 (at + 4) vs (omega arith) f.between) (λ others m.
+    record { before = less; fits = omega (arith, m.count); between = m.between }))))
+
+-- ---- primitives of one step
+
+abbrev Fewer : ℕ → Option Primitive → Type 0
+Fewer n k = n + count_of k ≤ 64
+
+counted_fits : (n : ℕ) (has_new : Bool) (at : ℕ) (m : Result (Option Primitive) ParseFault) → n ≤ 64 → Has (Fewer n) (counted n has_new at m)
+counted_fits n has_new at (Ok None) le = omega arith
+counted_fits n has_new at (Ok (Some k)) le = below (Fewer n) n 64 _ _ le (λ less. if_err (Fewer n) (has_new && is_new k) (Some k) _ (omega arith))
+counted_fits n has_new at (Err e) le = both_err (Fewer n) (stands_at at e) (n == 64) e _ e
+
+abbrev FormsFit : ℕ → List Primitive × ℕ → Type 0
+FormsFit n r = n + length r.0 ≤ 64
+
+more_fits : (n : ℕ) (k : Option Primitive) (ks : List Primitive) → n + count_of k + length ks ≤ 64 → n + length (before k ks) ≤ 64
+more_fits n None ks h = omega arith
+more_fits n (Some k) ks h = omega arith
+
+forms_fit : {X : Type 0} (means : ℕ → X → Result (Option Primitive) ParseFault) (size : X → ℕ) (n : ℕ) (has_new : Bool) (at : ℕ) (xs : List X) → n ≤ 64 → Has (FormsFit n) (forms_mean means size n has_new at xs)
+forms_fit means size n has_new at [] le = omega arith
+forms_fit means size n has_new at (x ∷ xs) le = next (Fewer n) (FormsFit n) (counted n has_new at (means at x)) _ (counted_fits n has_new at (means at x) le) (λ k f.
+    next (FormsFit (n + count_of k)) (FormsFit n) (forms_mean means size (n + count_of k) (has_new || allocates k) (at + size x + 1) xs) _ (forms_fit means size (n + count_of k) (has_new || allocates k) (at + size x + 1) xs f) (λ others m.
+    more_fits n k others.0 m))
+
+-- ---- statements
+
+abbrev FewLabels : Scope → Type 0
+FewLabels s = length s.labels ≤ 256
+
+abbrev LabelFits : {Y : Type 0} → Y × Scope → Type 0
+LabelFits r = FewLabels r.1
+
+label_fits : (s : Scope) (at : ℕ) (n : Text) → FewLabels s → Has LabelFits (label_means s at n)
+label_fits s at n h = below LabelFits (length s.labels) 256 _ _ h (λ less. next FewLabels LabelFits (declared_label s n (at + 1)) _ (new (place_of n s.names.names) less) (λ t k. k))
+  where
+    new : (o : Option ℕ) → length s.labels < 256 → Has FewLabels (if_new o (at + 1) (with_name s n Taken) >>= λ t. Ok (with_label t (length s.names.names)))
+    new None less = omega (arith, length-append s.labels (length s.names.names ∷ []))
+    new (Some i) less = tt
+
+during_fits : (s : Scope) (at : ℕ) (d : Option Text) → FewLabels s → Has LabelFits (during_means s at d)
+during_fits s at None h = h
+during_fits s at (Some n) h = next LabelFits LabelFits (label_means s at n) _ (label_fits s at n h) (λ l k. k)
+
+record StatementRead {Y : Type 0} (P : Y → Type 0) (r : Y × Scope × ℕ) : Type 0 where
+  fits : P r.0
+  labels : FewLabels r.1
+
+one_fits : (k : Option Primitive) → StatementFits (one_or_skip k)
+one_fits None = tt
+one_fits (Some k) = tt
+
+module _ (lines : List ℕ) where
+  mutual
+    statement_fits : (s : Scope) (in_loop : Bool) (at : ℕ) (st : StatementTree) → FewLabels s → Has (StatementRead StatementFits) (statement_means lines s in_loop at st)
+    statement_fits s in_loop at (PrimitiveStatement p) h = any (StatementRead StatementFits) (primitive_means s at p) _ (λ k. record { fits = one_fits k; labels = h })
+    statement_fits s in_loop at (AtomicStatement ps) h = next (FormsFit 0) (StatementRead StatementFits) (atomic_means s (at + 2) ps) _ (forms_fit (primitive_means s) primitive_size 0 false (at + 2) ps (omega arith)) (λ b f. record { fits = omega (arith, f); labels = h })
+    statement_fits s in_loop at (CallStatement f a d) h = any (StatementRead StatementFits) (call_means s at f a) _ (λ c. next LabelFits (StatementRead StatementFits) (during_means s (at + call_size a) d) _ (during_fits s (at + call_size a) d h) (λ l k. record { fits = tt; labels = k }))
+    statement_fits s in_loop at (IfStatement c b e) h = any (StatementRead StatementFits) (condition_means s (at + 2) c) _ (λ k.
+        next (StatementRead StatementsFit) (StatementRead StatementFits) (statements_mean lines s in_loop (at + 2 + condition_size c + 2) b) _ (statements_fit s in_loop (at + 2 + condition_size c + 2) b h) (λ x f.
+        next (StatementRead StatementsFit) (StatementRead StatementFits) (else_means lines x.1 in_loop (x.2 + 1) e) _ (else_fits x.1 in_loop (x.2 + 1) e f.labels) (λ y g.
+        record { fits = (f.fits, g.fits); labels = g.labels })))
+    statement_fits s in_loop at (ChooseStatement a b os) h =
+        next (StatementRead StatementsFit) (StatementRead StatementFits) (statements_mean lines s in_loop (at + 2) a) _ (statements_fit s in_loop (at + 2) a h) (λ x f.
+        next (StatementRead StatementsFit) (StatementRead StatementFits) (statements_mean lines x.1 in_loop (x.2 + 3) b) _ (statements_fit x.1 in_loop (x.2 + 3) b f.labels) (λ y g.
+        next (StatementRead BlocksFit) (StatementRead StatementFits) (or_means lines y.1 in_loop (y.2 + 1) os) _ (ors_fit y.1 in_loop (y.2 + 1) os g.labels) (λ z k.
+        record { fits = (f.fits, (g.fits, k.fits)); labels = k.labels })))
+    statement_fits s in_loop at (LoopStatement b) h = next (StatementRead StatementsFit) (StatementRead StatementFits) (statements_mean lines s true (at + 2) b) _ (statements_fit s true (at + 2) b h) (λ x f. record { fits = f.fits; labels = f.labels })
+    statement_fits s true at BreakStatement h = record { fits = tt; labels = h }
+    statement_fits s false at BreakStatement h = tt
+    statement_fits s in_loop at ReturnStatement h = record { fits = tt; labels = h }
+    statement_fits s in_loop at (LabelStatement n) h = next LabelFits (StatementRead StatementFits) (label_means s at n) _ (label_fits s at n h) (λ l k. record { fits = tt; labels = k })
+
+    statements_fit : (s : Scope) (in_loop : Bool) (at : ℕ) (b : BlockTree) → FewLabels s → Has (StatementRead StatementsFit) (statements_mean lines s in_loop at b)
+    statements_fit s in_loop at NoStatement h = record { fits = tt; labels = h }
+    statements_fit s in_loop at (Then st b) h = next (StatementRead StatementFits) (StatementRead StatementsFit) (statement_means lines s in_loop at st) _ (statement_fits s in_loop at st h) (λ first f.
+        next (StatementRead StatementsFit) (StatementRead StatementsFit) (statements_mean lines first.1 in_loop first.2 b) _ (statements_fit first.1 in_loop first.2 b f.labels) (λ others g.
+        record { fits = (f.fits, g.fits); labels = g.labels }))
+
+    else_fits : (s : Scope) (in_loop : Bool) (at : ℕ) (e : ElseTree) → FewLabels s → Has (StatementRead StatementsFit) (else_means lines s in_loop at e)
+    else_fits s in_loop at NoElse h = record { fits = tt; labels = h }
+    else_fits s in_loop at (ElseBlock b) h = next (StatementRead StatementsFit) (StatementRead StatementsFit) (statements_mean lines s in_loop (at + 2) b) _ (statements_fit s in_loop (at + 2) b h) (λ x f. record { fits = f.fits; labels = f.labels })
+
+    ors_fit : (s : Scope) (in_loop : Bool) (at : ℕ) (os : OrTree) → FewLabels s → Has (StatementRead BlocksFit) (or_means lines s in_loop at os)
+    ors_fit s in_loop at NoOr h = record { fits = tt; labels = h }
+    ors_fit s in_loop at (OrBlock b os) h = next (StatementRead StatementsFit) (StatementRead BlocksFit) (statements_mean lines s in_loop (at + 2) b) _ (statements_fit s in_loop (at + 2) b h) (λ x f.
+        next (StatementRead BlocksFit) (StatementRead BlocksFit) (or_means lines x.1 in_loop (x.2 + 1) os) _ (ors_fit x.1 in_loop (x.2 + 1) os f.labels) (λ y g.
+        record { fits = (f.fits, g.fits); labels = g.labels }))
+
+-- ---- locals
+
+pub record Few (s t : Scope) : Type 0 where
+  pub locals : length t.locals ≤ 32
+  pub labels : t.labels ≡ s.labels
+
+record Kept (s : Scope) (x : ℕ × Scope) : Type 0 where
+  locals : x.1.locals ≡ s.locals
+  labels : x.1.labels ≡ s.labels
+
+number_keeps : (o : Option ℕ) (s : Scope) (name : Text) (at : ℕ) → Has (Kept s) (local_number o s name at)
+number_keeps None s name at = record { locals = refl; labels = refl }
+number_keeps (Some i) s name at = if_ok (Kept s) (may_name_local (slice_get s.bindings i) (has_local s.locals i)) (i, s) (faults.Duplicate at) (record { locals = refl; labels = refl })
+
+one_more : (s : Scope) (x : ℕ × Scope) (p q : Bool) → Kept s x → length s.locals < 32 → Few s (with_local x.1 x.0 p q)
+one_more s x p q k h =
+    let l : Local = record { name = x.0; pointer = p; param = q } in
+    let count : length (x.1.locals ++ l ∷ []) ≡ length x.1.locals + 1 = length-append x.1.locals (l ∷ []) in
+    let same : length x.1.locals ≡ length s.locals = ap length k.locals in
+    record { locals = omega arith; labels = k.labels }
+
+pub local_few : (s : Scope) (name : Text) (at : ℕ) (p : Bool) → length s.locals ≤ 32 → Has (Few s) (declared_local s name at p)
 unfolding declared_local
 local_few s name at p h =
-    if_below Few (length s.locals) 32 _ _ (length s.locals == 32) refl h (λ less.
-    next (λ x. x.1.locals ≡ s.locals) Few (local_number (place_of name s.names.names) s name at) _ (number_keeps (place_of name s.names.names) s name at) (λ x same.
-    one_more x.1 x.0 p false (let count : length x.1.locals ≡ length s.locals = ap length same in omega arith)))
+    if_below (Few s) (length s.locals) 32 _ _ (length s.locals == 32) refl h (λ less.
+    next (Kept s) (Few s) (local_number (place_of name s.names.names) s name at) _ (number_keeps (place_of name s.names.names) s name at) (λ x k. one_more s x p false k less))
 
-parameter_few : (s : Scope) (name : Text) (at : ℕ) → Few s → Has Few (declared_parameter s name at)
+pub parameter_few : (s : Scope) (name : Text) (at : ℕ) → length s.locals ≤ 32 → Has (Few s) (declared_parameter s name at)
 unfolding declared_parameter
 parameter_few s name at h =
-    next (λ x. x.1.locals ≡ s.locals) Few (local_number (place_of name s.names.names) s name at) _ (number_keeps (place_of name s.names.names) s name at) (λ x same.
-    if_below Few (length s.locals) 32 _ _ (length s.locals == 32) refl h (λ less.
-    one_more x.1 x.0 false true (let count : length x.1.locals ≡ length s.locals = ap length same in omega arith)))
+    next (Kept s) (Few s) (local_number (place_of name s.names.names) s name at) _ (number_keeps (place_of name s.names.names) s name at) (λ x k.
+    if_below (Few s) (length s.locals) 32 _ _ (length s.locals == 32) refl h (λ less. one_more s x false true k less))
 
-others_few : (s : Scope) (at : ℕ) (names : List Text) → Few s → Has (λ r. Few r.0) (others_mean s at names)
-others_few s at [] h = h
-others_few s at (n ∷ ns) h = next Few (λ r. Few r.0) (declared_parameter s n (at + 1)) _ (parameter_few s n (at + 1) h) (λ t few. others_few t (at + 2) ns few)
+abbrev FewBehind : Scope → Scope × ℕ → Type 0
+FewBehind s r = Few s r.0
 
-parameters_few : (s : Scope) (at : ℕ) (names : List Text) → Few s → Has (λ r. Few r.0) (parameters_mean s at names)
-parameters_few s at [] h = h
-parameters_few s at (n ∷ ns) h = next Few (λ r. Few r.0) (declared_parameter s n at) _ (parameter_few s n at h) (λ t few. others_few t (at + 1) ns few)
+few_then : (s t u : Scope) → Few s t → Few t u → Few s u
+few_then s t u f g = record { locals = g.locals; labels = g.labels ∙ f.labels }
 
-one_local_few : (s : Scope) (at : ℕ) (l : FieldTree) → Few s → Has Few (local_means s at l)
+others_few : (s t : Scope) (at : ℕ) (names : List Text) → Few s t → Has (FewBehind s) (others_mean t at names)
+others_few s t at [] h = h
+others_few s t at (n ∷ ns) h = next (Few t) (FewBehind s) (declared_parameter t n (at + 1)) _ (parameter_few t n (at + 1) h.locals) (λ u few. others_few s u (at + 2) ns (few_then s t u h few))
+
+parameters_few : (s t : Scope) (at : ℕ) (names : List Text) → Few s t → Has (FewBehind s) (parameters_mean t at names)
+parameters_few s t at [] h = h
+parameters_few s t at (n ∷ ns) h = next (Few t) (FewBehind s) (declared_parameter t n at) _ (parameter_few t n at h.locals) (λ u few. others_few s u (at + 1) ns (few_then s t u h few))
+
+pub one_local_few : (s : Scope) (at : ℕ) (l : FieldTree) → length s.locals ≤ 32 → Has (Few s) (local_means s at l)
 one_local_few s at (PointerField name) h = local_few s name (at + 1) true h
 one_local_few s at (DataField name) h = local_few s name (at + 1) false h
 
-locals_few : (s : Scope) (at : ℕ) (ls : List FieldTree) → Few s → Has (λ r. Few r.0) (locals_mean s at ls)
-locals_few s at [] h = h
-locals_few s at (l ∷ ls) h = next Few (λ r. Few r.0) (local_means s at l) _ (one_local_few s at l h) (λ t few. locals_few t (at + 3) ls few)
+locals_few : (s t : Scope) (at : ℕ) (ls : List FieldTree) → Few s t → Has (FewBehind s) (locals_mean t at ls)
+locals_few s t at [] h = h
+locals_few s t at (l ∷ ls) h = next (Few t) (FewBehind s) (local_means t at l) _ (one_local_few t at l h.locals) (λ u few. locals_few s u (at + 3) ls (few_then s t u h few))
 
 -- ---- operations
 
-record OpFits (n : ℕ) (r : Op × Scope × ℕ) : Type 0 where
-  before : n < 32
-  locals : length r.0.locals ≤ 32
-  behind : r.1.locals ≡ []
-
-op_fits : (lines : List ℕ) (s : Scope) (n at : ℕ) (o : OpTree) → n ≤ 32 → s.locals ≡ [] → Has (OpFits n) (op_means lines s n at o)
-op_fits lines s n at (Operates name ps ls b) le none =
-    below (OpFits n) n 32 _ _ le (λ h. next (Keeps s) (OpFits n) (declared s name (at + 1) Taken) _ (declared_keeps s name (at + 1) Taken) (λ t same.
-    let count : length t.locals ≡ 0 = ap length (same ∙ none) in
-    next (λ r. Few r.0) (OpFits n) (parameters_mean t (at + 3) ps) _ (parameters_few t (at + 3) ps (omega arith)) (λ p few.
-    next (λ r. Few r.0) (OpFits n) (locals_mean p.0 (p.1 + 2) ls) _ (locals_few p.0 (p.1 + 2) ls few) (λ l fewer.
-    any (OpFits n) (statements_mean lines l.0 l.1 b) _ (λ body. record { before = h; locals = fewer; behind = refl })))))
-
-record OpsFit (n : ℕ) (r : List Op × Scope × ℕ) : Type 0 where
-  count : n + length r.0 ≤ 32
-  locals : (k : ℕ) (o : Op) → slice_get r.0 k ≡ Some o → length o.locals ≤ 32
-
-each_op : (o : Op) (os : List Op) → length o.locals ≤ 32 → ((k : ℕ) (p : Op) → slice_get os k ≡ Some p → length p.locals ≤ 32) → (k : ℕ) (p : Op) → slice_get (o ∷ os) k ≡ Some p → length p.locals ≤ 32
-each_op o os h others zero p e = let same : o ≡ p = cc in rw (← same) h
-each_op o os h others (suc k) p e = others k p e
-
-ops_fit : (lines : List ℕ) (s : Scope) (n at : ℕ) (os : List OpTree) → n ≤ 32 → s.locals ≡ [] → Has (OpsFit n) (ops_mean lines s n at os)
-ops_fit lines s n at [] le none = record { count = omega arith; locals = λ k o e. absurd cc }
-ops_fit lines s n at (o ∷ os) le none = next (OpFits n) (OpsFit n) (op_means lines s n at o) _ (op_fits lines s n at o le none) (λ first h.
-    next (OpsFit (n + 1)) (OpsFit n) (ops_mean lines first.1 (n + 1) first.2 os) _ (ops_fit lines first.1 (n + 1) first.2 os (omega (arith, h.before)) h.behind) (λ others k.
-    record { count = omega (arith, k.count); locals = each_op first.0 others.0 h.locals k.locals }))
+op_fits : (lines : List ℕ) (s : Scope) (n at : ℕ) (o : OpTree) → n ≤ 32 → Between s → Has (OneFits OpFits 32 n) (op_means lines s n at o)
+op_fits lines s n at (Operates name ps ls b) le h =
+    below (OneFits OpFits 32 n) n 32 _ _ le (λ less. next Between (OneFits OpFits 32 n) (declared s name (at + 1) Taken) _ (declared_between s name (at + 1) Taken h) (λ t k.
+    let count : length t.locals ≡ 0 = ap length k.locals in
+    next (FewBehind t) (OneFits OpFits 32 n) (parameters_mean t (at + 3) ps) _ (parameters_few t t (at + 3) ps (record { locals = omega arith; labels = refl })) (λ p few.
+    next (FewBehind t) (OneFits OpFits 32 n) (locals_mean p.0 (p.1 + 2) ls) _ (locals_few t p.0 (p.1 + 2) ls few) (λ l fewer.
+    let same : length l.0.labels ≡ length t.labels = ap length fewer.labels in
+    next (StatementRead StatementsFit) (OneFits OpFits 32 n) (statements_mean lines l.0 false l.1 b) _ (statements_fit lines l.0 false l.1 b (omega (arith, k.labels))) (λ body f.
+    record { before = less; fits = record { locals = fewer.locals; body = f.fits }; between = record { locals = refl; labels = f.labels } })))))
 
 -- ---- the file
 
 abbrev Fits : FileUnit → Type 0
 Fits u = FileFits u.file
 
+init_fits : (s : Scope) (at : ℕ) (starts : Option (List InitialTree)) → Has (FormsFit 0) (init_means s at starts)
+init_fits s at None = omega arith
+init_fits s at (Some is) = next (FormsFit 0) (FormsFit 0) (initials_mean s (at + 2) is) _ (forms_fit (initial_means s) initial_size 0 false (at + 2) is (omega arith)) (λ b f. f)
+
 unit_fits : (lines : List ℕ) (f : FileTree) → Has Fits (file_means lines f)
 unfolding file_means
-unit_fits lines f = next (Keeps first_scope) Fits (declared first_scope f.name 1 Taken) _ (declared_keeps first_scope f.name 1 Taken) (λ s none.
-    next (ManyFit 8 s 0) Fits (fields_mean s 0 3 f.fields) _ (fields_fit s 0 3 f.fields (omega arith)) (λ fields h.
-    next (ManyFit 16 fields.1 0) Fits (shared_mean fields.1 0 (fields.2 + 1) f.pointers) _ (shared_fit fields.1 0 (fields.2 + 1) f.pointers (omega arith)) (λ pointers k.
-    any Fits (none_of pointers.2 f.functions) _ (λ a. any Fits (not_there a f.watched) _ (λ b. any Fits (none_of b f.ghosts) _ (λ c. any Fits (not_there c f.starts) _ (λ d.
-    next (OpsFit 0) Fits (ops_mean lines pointers.1 0 d f.ops) _ (ops_fit lines pointers.1 0 d f.ops (omega arith) (k.locals ∙ h.locals ∙ none)) (λ ops m.
-    any Fits (not_there ops.2 f.outlined) _ (λ e. record { fields = omega (arith, h.count); shared = omega (arith, k.count); ops = omega (arith, m.count); locals = m.locals })))))))))
+unit_fits lines f = next Between Fits (declared first_scope f.name 1 Taken) _ (declared_between first_scope f.name 1 Taken (record { locals = refl; labels = omega arith })) (λ s none.
+    next (ManyFit Free 8 0) Fits (listed field_means s 0 3 f.fields) _ (listed_fit field_means Free 8 field_fits s 0 3 f.fields (omega arith) none) (λ fields a.
+    next (ManyFit Free 16 0) Fits (listed shared_means fields.1 0 (fields.2 + 1) f.pointers) _ (listed_fit shared_means Free 16 pointer_fits fields.1 0 (fields.2 + 1) f.pointers (omega arith) a.between) (λ pointers b.
+    next (ManyFit Free 16 0) Fits (listed function_means pointers.1 0 pointers.2 f.functions) _ (listed_fit function_means Free 16 function_fits pointers.1 0 pointers.2 f.functions (omega arith) b.between) (λ functions c.
+    any Fits (watch_means functions.1 functions.2 f.watched) _ (λ observer.
+    next (ManyFit GhostFits 4 0) Fits (listed ghost_means functions.1 0 observer.1 f.ghosts) _ (listed_fit ghost_means GhostFits 4 ghost_fits functions.1 0 observer.1 f.ghosts (omega arith) c.between) (λ ghosts d.
+    next (FormsFit 0) Fits (init_means ghosts.1 ghosts.2 f.starts) _ (init_fits ghosts.1 ghosts.2 f.starts) (λ starts i.
+    next (ManyFit OpFits 32 0) Fits (listed (op_means lines) ghosts.1 0 starts.1 f.ops) _ (listed_fit (op_means lines) OpFits 32 (op_fits lines) ghosts.1 0 starts.1 f.ops (omega arith) d.between) (λ ops m.
+    record {
+      fields = omega (arith, a.count);
+      shared = omega (arith, b.count);
+      funcs = omega (arith, c.count);
+      ghosts = omega (arith, d.count);
+      values = d.each;
+      init = omega (arith, i);
+      ops = omega (arith, m.count);
+      each_op = m.each;
+      labels = m.between.labels;
+    }))))))))
 
-has_along : {A : Type 0} (P : A → Type 0) (r : Result A ParseFault) (x : A) → r ≡ Ok x → Has P r → P x
+pub has_along : {A : Type 0} (P : A → Type 0) (r : Result A ParseFault) (x : A) → r ≡ Ok x → Has P r → P x
 has_along P (Ok y) x e h = let same : y ≡ x = cc in subst P same h
 has_along P (Err f) x e h = absurd cc
 

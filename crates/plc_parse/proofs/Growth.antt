@@ -1,12 +1,64 @@
 -- What was declared before and what is declared next.
-use Rattle.std.proofs.Common.{◌+◌, ◌≤◌, ℕ, ◌∙◌, arith}
-use Rattle.plc_parse.specs.declared.rest.Rest.{Rest}
-use Rattle.plc_parse.specs.declared.scope.Scope.{Scope}
-use Rattle.plc_parse.specs.Answers.{GrowsBy, GrowsByLocals, Within, IsLeftOf}
-use Rattle.plc_parse.specs.Forms.{Behind}
+use Rattle.std.proofs.Common.{◌≡◌, ◌+◌, ◌≤◌, ◌<◌, ℕ, Bool, [], ◌∷◌, ◌++◌, length, Option, Some, None, Ok, ◌∙◌, refl, arith}
+use Rattle.std.proofs.lemmas.List.{length-append}
+use Rattle.plc_base.specs.Names.{place_of}
+use Rattle.plc_forms.specs.declared.rest.Rest.{Rest}
+use Rattle.plc_forms.specs.Views.{Behind}
+use Rattle.plc_syntax.specs.Trees.{Text}
+use Rattle.plc_scope.specs.declared.scope.Scope.{Scope}
+use Rattle.plc_scope.specs.declared.binding.Binding.{Binding}
+use Rattle.plc_scope.specs.declared.binding.Binding.TheVariants.{Taken}
+use Rattle.plc_scope.specs.Scope.{◌>>=◌, if_new, with_name, with_label, declared, declared_label, declared_local, declared_parameter}
+use Rattle.plc_scope.specs.Answers.{GrowsBy, HasRoomForLocals, GrowsByLocals}
+use Rattle.plc_parse.specs.Growth.{Within, IsLeftOf, KeepsLists, CanLabel, GrowsByLabels, GrowsByOps}
+use Rattle.plc_parse.proofs.Fits.{Few, has_along, parameter_few, local_few}
+
+-- a name's declaration is no local's and no label's
+pub declared_lists : (s t : Scope) (name : Text) (at : ℕ) (b : Binding) → declared s name at b ≡ Ok t → KeepsLists s t
+declared_lists s t name at b e = new (place_of name s.names.names) e
+  where
+    new : (o : Option ℕ) → if_new o at (with_name s name b) ≡ Ok t → KeepsLists s t
+    new None e = let same : with_name s name b ≡ t = cc in rw (← same) (record { locals = refl; labels = refl })
+    new (Some i) e = absurd cc
+
+-- a parameter is no label
+pub parameter_labels : (s t : Scope) (name : Text) (at : ℕ) → declared_parameter s name at ≡ Ok t → HasRoomForLocals s → t.labels ≡ s.labels
+parameter_labels s t name at e h = (has_along (Few s) (declared_parameter s name at) t e (parameter_few s name at h.locals)).labels
+
+-- nor is a local
+pub local_labels : (s t : Scope) (name : Text) (at : ℕ) (p : Bool) → declared_local s name at p ≡ Ok t → HasRoomForLocals s → t.labels ≡ s.labels
+local_labels s t name at p e h = (has_along (Few s) (declared_local s name at p) t e (local_few s name at p h.locals)).labels
+
+-- a label is one name
+pub labelled : (s t : Scope) (name : Text) (at : ℕ) → declared_label s name at ≡ Ok t → CanLabel s → length s.labels < 256 → GrowsByLabels s t
+labelled s t name at e h less = new (place_of name s.names.names) e
+  where
+    number : ℕ
+    number = length s.names.names
+
+    new : (o : Option ℕ) → (if_new o at (with_name s name Taken) >>= λ u. Ok (with_label u number)) ≡ Ok t → GrowsByLabels s t
+    new None e =
+        let same : with_label (with_name s name Taken) number ≡ t = cc in
+        let labels : length (s.labels ++ number ∷ []) ≡ length s.labels + 1 = length-append s.labels (number ∷ []) in
+        let names : length (s.names.names ++ name ∷ []) ≡ length s.names.names + 1 = length-append s.names.names (name ∷ []) in
+        rw (← same) (record { locals = refl; labels = omega arith; names = omega arith; limit = refl })
+    new (Some i) e = absurd cc
+
+-- labels one after the other
+pub labels_then : (a b c : Scope) → GrowsByLabels a b → GrowsByLabels b c → GrowsByLabels a c
+labels_then a b c g h = record { locals = h.locals ∙ g.locals; labels = h.labels; names = omega (arith, g.names, h.names); limit = h.limit ∙ g.limit }
+
+pub can_still_label : (a b : Scope) → CanLabel a → GrowsByLabels a b → CanLabel b
+can_still_label a b h g = record { locals = rw g.locals h.locals; labels = g.labels; names = omega (arith, h.names, g.names, g.limit) }
+
+pub ops_then : (a b c : Scope) (n k : ℕ) → n + 33 ≡ k → GrowsByOps a b n → GrowsByOps b c 33 → GrowsByOps a c k
+ops_then a b c n k e g h = record { locals = h.locals; labels = h.labels; names = omega (arith, g.names, h.names); limit = h.limit ∙ g.limit }
 
 pub grows_then : (a b c : Scope) (n m k : ℕ) → n + m ≤ k → GrowsBy a b n → GrowsBy b c m → GrowsBy a c k
 grows_then a b c n m k le g h = record { names = omega (arith, g.names, h.names); limit = h.limit ∙ g.limit }
+
+pub lists_then : (a b c : Scope) → KeepsLists a b → KeepsLists b c → KeepsLists a c
+lists_then a b c g h = record { locals = h.locals ∙ g.locals; labels = h.labels ∙ g.labels }
 
 pub locals_then : (a b c : Scope) → GrowsByLocals a b → GrowsByLocals b c → GrowsByLocals a c
 locals_then a b c g h = record { locals = h.locals; names = omega (arith, g.names, h.names); limit = h.limit ∙ g.limit }

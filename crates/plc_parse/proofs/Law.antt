@@ -1,75 +1,100 @@
 -- What is read of the tokens of a file's tree is what the tree means.
-use Rattle.std.proofs.Common.{◌≡◌, ◌==◌, ℕ, suc, ◌+◌, ◌-◌, ◌≤◌, ◌<◌, Bool, true, false, if◌then◌else◌, Option, Some, None, Result, Ok, Err, List, [], ◌∷◌, ◌++◌, length, refl, sym, ◌∙◌, ap, append_assoc, arith}
-use Rattle.std.proofs.lemmas.Bool.{eqb-false}
+use Rattle.std.proofs.Common.{◌≡◌, ◌==◌, ℕ, ◌+◌, true, false, Option, Some, None, Result, Ok, Err, List, [], ◌∷◌, ◌++◌, length, refl, sym, ◌∙◌, ap, add_assoc, append_assoc}
 use Rattle.std.proofs.lemmas.List.{append-nil, length-append}
 use Rattle.plc_lex.specs.declared.token.TokenKind.{TokenKind}
 use Rattle.plc_lex.specs.declared.token.TokenKind.TheVariants.{Symbol}
-use Rattle.plc_lex.specs.declared.token.Symbol.TheVariants.{CloseBrace, CloseParen, OpenBrace}
-use Rattle.plc_lang.specs.declared.syntax.Field.{Field}
-use Rattle.plc_lang.specs.declared.syntax.Line.{Line}
+use Rattle.plc_lex.specs.declared.token.Symbol.TheVariants.{CloseBrace, CloseParen, OpenBrace, Semicolon}
 use Rattle.plc_lang.specs.declared.syntax.Op.{Op}
-use Rattle.plc_lang.specs.declared.syntax.Primitive.{Primitive}
-use Rattle.plc_syntax.specs.Trees.{Text, each_then, comma_name_then, FieldTree, field_then, shared_then, parameters_then, FunctionTree, Declares, WatchTree, GhostTree, Auxiliary, InitialTree, RefreshName, RefreshField, SetGhost, SetPrimitive, RefreshPrimitive, GhostPrimitive, ActivePrimitive, AssumePrimitive, SkipPrimitive, PrimitiveStatement, AtomicStatement, CallStatement, IfStatement, ChooseStatement, LoopStatement, BreakStatement, ReturnStatement, LabelStatement, BlockTree, NoStatement, Then, statements_then, OpTree, Operates, op_then, OutlineTree, Outlined, FileTree, file_tokens}
-use Rattle.plc_parse.specs.declared.fault.ParseFault.{ParseFault}
-use Rattle.plc_parse.specs.declared.fault.ParseFault.TheVariants as faults
-use Rattle.plc_parse.specs.declared.scope.Scope.{Scope}
-use Rattle.plc_parse.specs.declared.unit.Unit.{Unit as FileUnit}
-use Rattle.plc_parse.specs.Forms.{field_of, shared_of, head_of, comma_name_of, set_line_of, opening_of, closing_of}
-use Rattle.plc_parse.specs.declared.scope.Thing.TheVariants.{Taken}
-use Rattle.plc_auto.specs.declared.observer.Observer.TheVariants.{Plain}
-use Rattle.plc_parse.specs.Scope.{◌>>=◌, first_scope, declared, declared_parameter, without_locals}
-use Rattle.plc_parse.specs.Meaning.{field_means, fields_mean, shared_means, shared_mean, others_mean, parameters_mean, local_means, locals_mean, set_means, line_at, one_line, statements_mean, op_means, ops_mean, none_of, not_there, file_means}
-use Rattle.plc_parse.specs.Reading.{wanted_at, field_step, shared_step, parameter_step, local_step, set_step, fields_in, shared_in, parameters_in, locals_in, all_locals_in, statements_in, body_in, op_in, ops_within, ops_in, struct_in, declarations_in, file_in}
-use Rattle.plc_parse.proofs.Loop.{bind_same, bind_joins, steps, each_goes, each_ends, each_reads}
-use Rattle.plc_parse.proofs.Shrinks.{field_shrinks, shared_shrinks, comma_name_shrinks, set_line_shrinks}
-use Rattle.plc_parse.proofs.OpSteps.{ops_goes, ops_ends, with_op}
-use Rattle.plc_parse.proofs.FormsOfTrees.{field_reads, shared_reads, comma_name_reads, set_reads, statements_no_field, outline_end, behind_shared, outline_no_op, behind_no_shared}
+use Rattle.plc_lang.specs.Statements.{Statements}
+use Rattle.plc_syntax.specs.Trees.{Text, each_then, maybe_then, comma_name_then, FieldTree, PointerField, DataField, field_then, shared_then, FunctionTree, Declares, function_then, WatchTree, watch_then, GhostTree, Auxiliary, OneOf, OfThreads, ghost_then, ghost_kind_then, InitialTree, init_then, parameters_then, statements_then, OpTree, Operates, op_then, OutlineTree, Outlined, FileTree, file_tokens}
+use Rattle.plc_forms.specs.Forms.{field_of, shared_of, function_of, watch_of, ghost_of, init_of, head_of, comma_name_of, opening_of}
+use Rattle.plc_scope.specs.declared.fault.ParseFault.{ParseFault}
+use Rattle.plc_scope.specs.declared.scope.Scope.{Scope}
+use Rattle.plc_scope.specs.declared.binding.Binding.TheVariants.{Taken, Auxiliary as AuxiliaryBinding}
+use Rattle.plc_scope.specs.Scope.{◌>>=◌, first_scope, declared, declared_parameter, without_locals}
+use Rattle.plc_parse.specs.Meaning.{listed, field_means, shared_means, function_means, value_means, values_mean, ghost_means, watch_means, init_means, initials_mean, others_mean, parameters_mean, local_means, locals_mean, line_at, statements_mean, op_means, file_means}
+use Rattle.plc_parse.specs.Reading.{ReadTo, wanted_at, judged, fields_in, shared_in, functions_in, value_step, values_in, of_threads_in, all_values_in, of_values_in, ghost_in, ghosts_in, parameter_step, local_step, parameters_in, locals_in, all_locals_in, block_in, op_in, ops_in, struct_in, declarations_in, watch_in, init_in, nothing_left, file_in}
+use Rattle.plc_parse.proofs.Loop.{bind_same, bind_joins, bind_within, read_within, read_same, limit_within, reads_this, reads_other, steps, each_goes, each_ends, each_reads}
+use Rattle.plc_parse.proofs.Listed.{IsFault, listed_read}
+use Rattle.plc_parse.proofs.Fronts.{outline_end, ops_end, starts_end, ghosts_end, watched_end, statements_no_local, not_at_outline, not_at_ops, not_at_starts, not_at_ghosts, not_at_watched}
+use Rattle.plc_parse.proofs.Weights.{block_light}
+use Rattle.plc_parse.proofs.Blocks.{initials_read, body_read}
+use Rattle.plc_forms.proofs.FormsOfTrees.{field_reads, shared_reads, function_reads, watch_reads, comma_name_reads}
+use Rattle.plc_forms.proofs.Shrinks.{field_shrinks, comma_name_shrinks}
 
 -- ---- declarations that are listed
 
-module _ {X Y : Type 0} (means : Scope → ℕ → ℕ → X → Result (Y × Scope) ParseFault) (all : Scope → ℕ → ℕ → List X → Result (List Y × Scope × ℕ) ParseFault)
-    (none : (s : Scope) (n at : ℕ) → all s n at [] ≡ Ok ([], s, at))
-    (more : (s : Scope) (n at : ℕ) (x : X) (xs : List X) → all s n at (x ∷ xs) ≡ (means s n at x >>= λ first. all first.1 (n + 1) (at + 3) xs >>= λ others. Ok (first.0 ∷ others.0, others.1, others.2))) where
-  abbrev listed : List Y × Scope × ℕ → X → Result (List Y × Scope × ℕ) ParseFault
-  listed s x = means s.1 (length s.0) s.2 x >>= λ r. Ok (s.0 ++ r.0 ∷ [], r.1, s.2 + 3)
+field_limit : (s : Scope) (at : ℕ) (f : FieldTree) → IsFault (field_means s 8 at f)
+field_limit s at (PointerField n) = tt
+field_limit s at (DataField n) = tt
 
-  -- behind what was declared before
-  abbrev behind : List Y → Result (List Y × Scope × ℕ) ParseFault → Result (List Y × Scope × ℕ) ParseFault
-  behind ys r = r >>= λ others. Ok (ys ++ others.0, others.1, others.2)
+fields_read : (s : Scope) (at : ℕ) (fs : List FieldTree) (rest : List TokenKind) → fields_in s at (each_then field_then fs (Symbol CloseBrace ∷ rest)) ≡ (listed field_means s 0 at fs >>= λ r. Ok (r, Symbol CloseBrace ∷ rest))
+fields_read s at fs rest = listed_read field_of (judged field_means) 8 field_means field_then (λ f. f) (λ f ts. ts) field_reads (λ t n p f ts. refl) field_limit s at fs (Symbol CloseBrace ∷ rest) refl
 
-  regroup : (ys : List Y) (y : Y) (r : Result (List Y × Scope × ℕ) ParseFault) → behind (ys ++ y ∷ []) r ≡ behind ys (r >>= λ others. Ok (y ∷ others.0, others.1, others.2))
-  regroup ys y (Ok r) = ap (λ (zs : List Y). Ok (zs, r.1, r.2)) (append_assoc ys (y ∷ []) r.0)
-  regroup ys y (Err e) = refl
+shared_read : (s : Scope) (at : ℕ) (names : List Text) (rest : List TokenKind) → shared_of rest ≡ None → shared_in s at (each_then shared_then names rest) ≡ (listed shared_means s 0 at names >>= λ r. Ok (r, rest))
+shared_read s at names rest e = listed_read shared_of (judged shared_means) 16 shared_means shared_then (λ n. n) (λ n ts. ts) shared_reads (λ t n p f ts. refl) (λ t p n. tt) s at names rest e
 
-  listed_next : (ys : List Y) (at : ℕ) (xs : List X) (m : Result (Y × Scope) ParseFault)
-      → ((zs : List Y) (s : Scope) (at : ℕ) → steps listed (zs, s, at) xs ≡ behind zs (all s (length zs) at xs))
-      → ((m >>= λ r. Ok (ys ++ r.0 ∷ [], r.1, at + 3)) >>= λ t. steps listed t xs) ≡ behind ys (m >>= λ first. all first.1 (length ys + 1) (at + 3) xs >>= λ others. Ok (first.0 ∷ others.0, others.1, others.2))
-  listed_next ys at xs (Err e) again = refl
-  listed_next ys at xs (Ok r) again =
-      again (ys ++ r.0 ∷ []) r.1 (at + 3)
-      ∙ ap (λ (n : ℕ). behind (ys ++ r.0 ∷ []) (all r.1 n (at + 3) xs)) (length-append ys (r.0 ∷ []))
-      ∙ regroup ys r.0 (all r.1 (length ys + 1) (at + 3) xs)
+function_limit : (s : Scope) (at : ℕ) (f : FunctionTree) → IsFault (function_means s 16 at f)
+function_limit s at (Declares n p) = tt
 
-  listed_all : (ys : List Y) (s : Scope) (at : ℕ) (xs : List X) → steps listed (ys, s, at) xs ≡ behind ys (all s (length ys) at xs)
-  listed_all ys s at [] = ap (λ (zs : List Y). Ok (zs, s, at)) (sym (append-nil ys)) ∙ ap (behind ys) (sym (none s (length ys) at))
-  listed_all ys s at (x ∷ xs) = listed_next ys at xs (means s (length ys) at x) (λ zs t place. listed_all zs t place xs) ∙ ap (behind ys) (sym (more s (length ys) at x xs))
+functions_read : (s : Scope) (at : ℕ) (fs : List FunctionTree) (rest : List TokenKind) → function_of rest ≡ None → functions_in s at (each_then function_then fs rest) ≡ (listed function_means s 0 at fs >>= λ r. Ok (r, rest))
+functions_read s at fs rest e = listed_read function_of (judged function_means) 16 function_means function_then (λ f. f) (λ f ts. ts) function_reads (λ t n p f ts. refl) function_limit s at fs rest e
 
-  first_listed : (r : Result (List Y × Scope × ℕ) ParseFault) → behind [] r ≡ r
-  first_listed (Ok r) = refl
-  first_listed (Err e) = refl
+-- ---- auxiliary fields
 
-  pub listed_from : (s : Scope) (at : ℕ) (xs : List X) → steps listed ([], s, at) xs ≡ all s 0 at xs
-  listed_from s at xs = listed_all [] s at xs ∙ first_listed (all s 0 at xs)
+module _ (g : ℕ) (rest : List TokenKind) where
+  abbrev values_behind : List ℕ → Result (List ℕ × Scope × ℕ) ParseFault → ReadTo (List ℕ × Scope × ℕ)
+  values_behind ys r = r >>= λ others. Ok ((ys ++ others.0, others.1, others.2), Symbol CloseBrace ∷ rest)
 
-pub fields_read : (s : Scope) (at : ℕ) (fs : List FieldTree) (rest : List TokenKind) → field_of rest ≡ None → fields_in ([], s, at) (each_then field_then fs rest) ≡ (fields_mean s 0 at fs >>= λ r. Ok (r, rest))
-fields_read s at fs rest e =
-    each_reads field_of field_step field_shrinks field_then field_reads ([], s, at) fs rest e
-    ∙ ap (λ r. r >>= λ t. Ok (t, rest)) (listed_from field_means fields_mean (λ t n p. refl) (λ t n p x xs. refl) s at fs)
+  regroup_values : (ys : List ℕ) (y : ℕ) (r : Result (List ℕ × Scope × ℕ) ParseFault) → values_behind (ys ++ y ∷ []) r ≡ values_behind ys (r >>= λ others. Ok (y ∷ others.0, others.1, others.2))
+  regroup_values ys y (Ok r) = ap (λ (zs : List ℕ). Ok ((zs, r.1, r.2), Symbol CloseBrace ∷ rest)) (append_assoc ys (y ∷ []) r.0)
+  regroup_values ys y (Err e) = refl
 
-pub shared_read : (s : Scope) (at : ℕ) (names : List Text) (rest : List TokenKind) → shared_of rest ≡ None → shared_in ([], s, at) (each_then shared_then names rest) ≡ (shared_mean s 0 at names >>= λ r. Ok (r, rest))
-shared_read s at names rest e =
-    each_reads shared_of shared_step shared_shrinks shared_then shared_reads ([], s, at) names rest e
-    ∙ ap (λ r. r >>= λ t. Ok (t, rest)) (listed_from shared_means shared_mean (λ t n p. refl) (λ t n p x xs. refl) s at names)
+  next_value : (ys : List ℕ) (at : ℕ) (names : List Text) (m : Result (ℕ × Scope) ParseFault)
+      → ((zs : List ℕ) (s : Scope) (p : ℕ) → values_in g (zs, s, p) (each_then comma_name_then names (Symbol CloseBrace ∷ rest)) ≡ values_behind zs (values_mean s g (length zs) p names))
+      → ((m >>= λ v. Ok (ys ++ v.0 ∷ [], v.1, at)) >>= λ t. values_in g t (each_then comma_name_then names (Symbol CloseBrace ∷ rest)))
+      ≡ values_behind ys (m >>= λ first. values_mean first.1 g (length ys + 1) at names >>= λ others. Ok (first.0 ∷ others.0, others.1, others.2))
+  next_value ys at names (Err e) again = refl
+  next_value ys at names (Ok v) again =
+      again (ys ++ v.0 ∷ []) v.1 at
+      ∙ ap (λ (n : ℕ). values_behind (ys ++ v.0 ∷ []) (values_mean v.1 g n at names)) (length-append ys (v.0 ∷ []))
+      ∙ regroup_values ys v.0 (values_mean v.1 g (length ys + 1) at names)
+
+  values_read : (ys : List ℕ) (s : Scope) (at : ℕ) (names : List Text) → values_in g (ys, s, at) (each_then comma_name_then names (Symbol CloseBrace ∷ rest)) ≡ values_behind ys (values_mean s g (length ys) at names)
+  values_read ys s at [] = each_ends comma_name_of (value_step g) comma_name_shrinks (ys, s, at) (Symbol CloseBrace ∷ rest) refl ∙ ap (λ (zs : List ℕ). Ok ((zs, s, at), Symbol CloseBrace ∷ rest)) (sym (append-nil ys))
+  values_read ys s at (name ∷ names) =
+      each_goes comma_name_of (value_step g) comma_name_shrinks (ys, s, at) _ (name, each_then comma_name_then names (Symbol CloseBrace ∷ rest)) (comma_name_reads name (each_then comma_name_then names (Symbol CloseBrace ∷ rest)))
+      ∙ next_value ys (at + 2) names (value_means s g (length ys) (at + 1) name) (λ zs t p. values_read zs t p names)
+
+abbrev ghost_front : GhostTree → Text
+ghost_front (Auxiliary n k) = n
+
+abbrev behind_ghost : GhostTree → List TokenKind → List TokenKind
+behind_ghost (Auxiliary n k) rest = ghost_kind_then k (Symbol Semicolon ∷ rest)
+
+ghost_begins : (g : GhostTree) (rest : List TokenKind) → ghost_of (ghost_then g rest) ≡ Some (ghost_front g, behind_ghost g rest)
+ghost_begins (Auxiliary n k) rest = refl
+
+ghost_limit : (s : Scope) (at : ℕ) (g : GhostTree) → IsFault (ghost_means s 4 at g)
+ghost_limit s at (Auxiliary n OfThreads) = tt
+ghost_limit s at (Auxiliary n (OneOf v vs)) = tt
+
+ghost_read : (s : Scope) (n at : ℕ) (g : GhostTree) (rest : List TokenKind) → ghost_in s n at (ghost_front g) (behind_ghost g rest) ≡ (ghost_means s n at g >>= λ r. Ok (r, rest))
+unfolding ghost_in of_threads_in of_values_in all_values_in
+ghost_read s n at (Auxiliary name OfThreads) rest = limit_within (n == 4) _ _ _ _ (bind_within (declared s name (at + 1) (AuxiliaryBinding n true)) _ _ _ (λ t. refl))
+ghost_read s n at (Auxiliary name (OneOf v vs)) rest =
+    limit_within (n == 4) _ _ _ _ (bind_within (declared s name (at + 1) (AuxiliaryBinding n false)) _ _ _ (λ t.
+    bind_joins (value_means t n 0 (at + 3) v) _ _
+    ∙ bind_within (value_means t n 0 (at + 3) v) _ _ _ (λ first.
+    bind_joins (values_in n (first.0 ∷ [], first.1, at + 3 + 1) us) _ _
+    ∙ read_within (values_in n (first.0 ∷ [], first.1, at + 3 + 1) us) (values_mean first.1 n 1 (at + 4) vs) (λ others. Ok ((first.0 ∷ others.0, others.1, others.2), Symbol CloseBrace ∷ Symbol Semicolon ∷ rest)) _ _ _
+    (ap (λ (p : ℕ). values_in n (first.0 ∷ [], first.1, p) us) (add_assoc at 3 1) ∙ values_read n (Symbol Semicolon ∷ rest) (first.0 ∷ []) first.1 (at + 4) vs) (λ others. refl))))
+  where
+    us : List TokenKind
+    us = each_then comma_name_then vs (Symbol CloseBrace ∷ Symbol Semicolon ∷ rest)
+
+ghosts_read : (s : Scope) (at : ℕ) (gs : List GhostTree) (rest : List TokenKind) → ghost_of rest ≡ None → ghosts_in s at (each_then ghost_then gs rest) ≡ (listed ghost_means s 0 at gs >>= λ r. Ok (r, rest))
+ghosts_read s at gs rest e = listed_read ghost_of ghost_in 4 ghost_means ghost_then ghost_front behind_ghost ghost_begins ghost_read ghost_limit s at gs rest e
 
 -- ---- the locals of an operation
 
@@ -84,10 +109,9 @@ locals_steps s at (l ∷ ls) = bind_joins (local_means s at l) _ _ ∙ bind_same
 parameters_read : (s : Scope) (at : ℕ) (ps : List Text) (rest : List TokenKind) → parameters_in s at (parameters_then ps (Symbol CloseParen ∷ rest)) ≡ (parameters_mean s at ps >>= λ r. Ok (r, Symbol CloseParen ∷ rest))
 parameters_read s at [] rest = refl
 parameters_read s at (p ∷ ps) rest =
-    bind_same (declared_parameter s p at) _ _ (λ t.
+    bind_within (declared_parameter s p at) _ _ _ (λ t.
     each_reads comma_name_of parameter_step comma_name_shrinks comma_name_then comma_name_reads (t, at + 1) ps (Symbol CloseParen ∷ rest) refl
     ∙ ap (λ r. r >>= λ u. Ok (u, Symbol CloseParen ∷ rest)) (others_steps t (at + 1) ps))
-    ∙ sym (bind_joins (declared_parameter s p at) _ _)
 
 locals_read : (s : Scope) (at : ℕ) (ls : List FieldTree) (rest : List TokenKind) → field_of rest ≡ None → locals_in (s, at) (each_then field_then ls rest) ≡ (locals_mean s at ls >>= λ r. Ok (r, rest))
 locals_read s at ls rest e =
@@ -101,173 +125,113 @@ all_locals_read s at ps ls rest e =
     ∙ bind_joins (parameters_mean s at ps) _ _
     ∙ bind_same (parameters_mean s at ps) _ _ (λ p. locals_read p.0 (p.1 + 2) ls rest e)
 
--- ---- statements
-
-module _ (lines : List ℕ) (s : Scope) (rest : List TokenKind) where
-  -- the statements read before, and the closing brace
-  abbrev closed : Result ((List Line × ℕ) × List TokenKind) ParseFault → Result ((List Line × ℕ) × List TokenKind) ParseFault
-  closed r = r >>= λ b. wanted_at b.0.1 (closing_of b.1) >>= λ us. Ok ((b.0.0, b.0.1 + 1), us)
-
-  abbrev closing : List Line → Result (List Line × ℕ) ParseFault → Result ((List Line × ℕ) × List TokenKind) ParseFault
-  closing ls r = r >>= λ b. Ok ((ls ++ b.0, b.1 + 1), rest)
-
-  abbrev Reads : BlockTree → Type 0
-  Reads b = (ls : List Line) (at : ℕ) → closed (statements_in lines s (ls, at) (statements_then b (Symbol CloseBrace ∷ rest))) ≡ closing ls (statements_mean lines s at b)
-
-  unread : (ls : List Line) (at : ℕ) (ts : List TokenKind) → set_line_of ts ≡ None → closing_of ts ≡ None → closed (statements_in lines s (ls, at) ts) ≡ Err (faults.NotYet at)
-  unread ls at ts e c =
-      ap closed (each_ends set_line_of (set_step lines s) set_line_shrinks (ls, at) ts e)
-      ∙ ap (λ o. wanted_at at o >>= λ us. Ok ((ls, at + 1), us)) c
-
-  regroup_lines : (ls : List Line) (l : Line) (r : Result (List Line × ℕ) ParseFault) → closing (ls ++ l ∷ []) r ≡ closing ls (r >>= λ others. Ok (l ∷ others.0, others.1))
-  regroup_lines ls l (Ok r) = ap (λ (ks : List Line). Ok ((ks, r.1 + 1), rest)) (append_assoc ls (l ∷ []) r.0)
-  regroup_lines ls l (Err e) = refl
-
-  abbrev made : ℕ → Primitive × ℕ → Result (Line × ℕ) ParseFault
-  made at k = Ok (one_line (line_at lines at) k.0, k.1 + 1)
-
-  set_next : (b : BlockTree) → Reads b → (ls : List Line) (at : ℕ) (m : Result (Primitive × ℕ) ParseFault)
-      → closed ((m >>= λ k. Ok (ls ++ one_line (line_at lines at) k.0 ∷ [], k.1 + 1)) >>= λ t. statements_in lines s t (statements_then b (Symbol CloseBrace ∷ rest)))
-      ≡ closing ls ((m >>= made at) >>= λ first. statements_mean lines s first.1 b >>= λ others. Ok (first.0 ∷ others.0, others.1))
-  set_next b again ls at (Err e) = refl
-  set_next b again ls at (Ok k) =
-      again (ls ++ one_line (line_at lines at) k.0 ∷ []) (k.1 + 1) ∙ regroup_lines ls (one_line (line_at lines at) k.0) (statements_mean lines s (k.1 + 1) b)
-
-  pub statements_read : (b : BlockTree) → Reads b
-  statements_read NoStatement ls at =
-      ap closed (each_ends set_line_of (set_step lines s) set_line_shrinks (ls, at) (Symbol CloseBrace ∷ rest) refl) ∙ ap (λ (ks : List Line). Ok ((ks, at + 1), rest)) (sym (append-nil ls))
-  statements_read (Then (PrimitiveStatement (SetPrimitive set)) b) ls at =
-      ap closed (each_goes set_line_of (set_step lines s) set_line_shrinks (ls, at) _ (set, statements_then b (Symbol CloseBrace ∷ rest)) (set_reads set (statements_then b (Symbol CloseBrace ∷ rest))))
-      ∙ set_next b (statements_read b) ls at (set_means s at set)
-  statements_read (Then (PrimitiveStatement (RefreshPrimitive (RefreshName n p))) b) ls at = unread ls at _ refl refl
-  statements_read (Then (PrimitiveStatement (RefreshPrimitive (RefreshField n f q))) b) ls at = unread ls at _ refl refl
-  statements_read (Then (PrimitiveStatement (GhostPrimitive (SetGhost n g v))) b) ls at = unread ls at _ refl refl
-  statements_read (Then (PrimitiveStatement (ActivePrimitive n)) b) ls at = unread ls at _ refl refl
-  statements_read (Then (PrimitiveStatement (AssumePrimitive t)) b) ls at = unread ls at _ refl refl
-  statements_read (Then (PrimitiveStatement SkipPrimitive) b) ls at = unread ls at _ refl refl
-  statements_read (Then (AtomicStatement ps) b) ls at = unread ls at _ refl refl
-  statements_read (Then (CallStatement f a d) b) ls at = unread ls at _ refl refl
-  statements_read (Then (IfStatement c x e) b) ls at = unread ls at _ refl refl
-  statements_read (Then (ChooseStatement x y os) b) ls at = unread ls at _ refl refl
-  statements_read (Then (LoopStatement x) b) ls at = unread ls at _ refl refl
-  statements_read (Then BreakStatement b) ls at = unread ls at _ refl refl
-  statements_read (Then ReturnStatement b) ls at = unread ls at _ refl refl
-  statements_read (Then (LabelStatement n) b) ls at = unread ls at _ refl refl
-
-body_read : (lines : List ℕ) (s : Scope) (at : ℕ) (b : BlockTree) (rest : List TokenKind)
-    → body_in lines s at (statements_then b (Symbol CloseBrace ∷ rest)) ≡ (statements_mean lines s at b >>= λ r. Ok ((r.0, r.1 + 1), rest))
-unfolding body_in
-body_read lines s at b rest = statements_read lines s rest b [] at
-
 -- ---- operations
 
-below_limit : (n : ℕ) → (n == 32) ≡ false → n ≤ 32 → n < 32
-below_limit n e le = omega (arith, eqb-false n 32 e)
+abbrev op_front : OpTree → Text
+op_front (Operates n ps ls b) = n
 
-bind_within : {A B C : Type 0} (r : Result A ParseFault) (F : A → Result C ParseFault) (G : A → Result B ParseFault) (f : B → Result C ParseFault) → ((x : A) → F x ≡ (G x >>= f)) → (r >>= F) ≡ ((r >>= G) >>= f)
-bind_within (Ok x) F G f h = h x
-bind_within (Err e) F G f h = refl
+abbrev behind_op : OpTree → List TokenKind → List TokenKind
+behind_op (Operates n ps ls b) rest = parameters_then ps (Symbol CloseParen ∷ Symbol OpenBrace ∷ each_then field_then ls (statements_then b (Symbol CloseBrace ∷ rest)))
 
-limit_within : {A B : Type 0} (past : Bool) (e : ParseFault) (a : Result B ParseFault) (r : Result A ParseFault) (f : A → Result B ParseFault) → a ≡ (r >>= f) → (if past then Err e else a) ≡ ((if past then Err e else r) >>= f)
-limit_within true e a r f h = refl
-limit_within false e a r f h = h
+op_begins : (o : OpTree) (rest : List TokenKind) → head_of (op_then o rest) ≡ Some (op_front o, behind_op o rest)
+op_begins (Operates n ps ls b) rest = refl
 
-op_read : (lines : List ℕ) (s : Scope) (n at : ℕ) (name : Text) (ps : List Text) (ls : List FieldTree) (b : BlockTree) (rest : List TokenKind)
-    → op_in lines s n at name (parameters_then ps (Symbol CloseParen ∷ Symbol OpenBrace ∷ each_then field_then ls (statements_then b (Symbol CloseBrace ∷ rest))))
-    ≡ (op_means lines s n at (Operates name ps ls b) >>= λ r. Ok (r, rest))
-unfolding op_in
-op_read lines s n at name ps ls b rest =
-    limit_within (n == 32) _ _ _ _ (bind_within (declared s name (at + 1) Taken) _ _ _ (λ t.
-    ap (λ r. r >>= λ l. body_in lines l.0.0 l.0.1 l.1 >>= λ o. Ok ((op_of l.0.0 o.0.0, without_locals l.0.0, o.0.1), o.1)) (all_locals_read t (at + 3) ps ls (statements_then b (Symbol CloseBrace ∷ rest)) (statements_no_field b rest))
-    ∙ bind_joins (parameters_mean t (at + 3) ps) _ _
-    ∙ bind_within (parameters_mean t (at + 3) ps) _ _ _ (λ p.
-    bind_joins (locals_mean p.0 (p.1 + 2) ls) _ _
-    ∙ bind_within (locals_mean p.0 (p.1 + 2) ls) _ _ _ (λ l.
-    ap (λ r. r >>= λ o. Ok ((op_of l.0 o.0.0, without_locals l.0, o.0.1), o.1)) (body_read lines l.0 l.1 b rest)
-    ∙ bind_joins (statements_mean lines l.0 l.1 b) _ _
-    ∙ bind_within (statements_mean lines l.0 l.1 b) _ _ _ (λ o. refl)))))
-  where
-    op_of : Scope → List Line → Op
-    op_of t body = record { name = length s.names.names; locals = t.locals; body = body; line = line_at lines at }
+module _ (lines : List ℕ) where
+  op_limit : (s : Scope) (at : ℕ) (o : OpTree) → IsFault (op_means lines s 32 at o)
+  op_limit s at (Operates n ps ls b) = tt
 
-module _ (lines : List ℕ) (rest : List TokenKind) where
-  -- behind the operations before
-  abbrev with_ops : List Op → Result (List Op × Scope × ℕ) ParseFault → Result ((List Op × Scope × ℕ) × List TokenKind) ParseFault
-  with_ops ops r = r >>= λ others. Ok ((ops ++ others.0, others.1, others.2), rest)
+  op_read : (s : Scope) (n at : ℕ) (o : OpTree) (rest : List TokenKind) → op_in lines s n at (op_front o) (behind_op o rest) ≡ (op_means lines s n at o >>= λ r. Ok (r, rest))
+  unfolding op_in
+  op_read s n at (Operates name ps ls b) rest =
+      limit_within (n == 32) _ _ _ _ (bind_within (declared s name (at + 1) Taken) _ _ _ (λ t.
+      ap (λ r. r >>= λ l. block_in lines (length l.1) l.0.0 false l.0.1 l.1 >>= λ o. Ok ((op_of l.0.0 o.0.0, without_locals o.0.1, o.0.2), o.1)) (all_locals_read t (at + 3) ps ls us (statements_no_local b rest))
+      ∙ bind_joins (parameters_mean t (at + 3) ps) _ _
+      ∙ bind_within (parameters_mean t (at + 3) ps) _ _ _ (λ p.
+      bind_joins (locals_mean p.0 (p.1 + 2) ls) _ _
+      ∙ bind_within (locals_mean p.0 (p.1 + 2) ls) _ _ _ (λ l.
+      read_within (block_in lines (length us) l.0 false l.1 us) (statements_mean lines l.0 false l.1 b) (λ x. Ok ((x.0, x.1, x.2 + 1), rest)) _ _ _ (body_read lines b (length us) l.0 l.1 rest (block_light b rest)) (λ x. refl)))))
+    where
+      us : List TokenKind
+      us = statements_then b (Symbol CloseBrace ∷ rest)
 
-  regroup_ops : (ops : List Op) (o : Op) (r : Result (List Op × Scope × ℕ) ParseFault) → with_ops (ops ++ o ∷ []) r ≡ with_ops ops (r >>= λ others. Ok (o ∷ others.0, others.1, others.2))
-  regroup_ops ops o (Ok r) = ap (λ (os : List Op). Ok ((os, r.1, r.2), rest)) (append_assoc ops (o ∷ []) r.0)
-  regroup_ops ops o (Err e) = refl
+      op_of : Scope → Statements → Op
+      op_of t body = record { name = length s.names.names; locals = t.locals; body = body; line = line_at lines at }
 
-  -- past the limit nothing follows
-  limit_next : {A B C : Type 0} (past : Bool) (e : ParseFault) (r : Result A ParseFault) (F : A → Result C ParseFault) (G : A → Result B ParseFault) (f : B → Result C ParseFault)
-      → (past ≡ false → (x : A) → F x ≡ (G x >>= f)) → ((if past then Err e else r) >>= F) ≡ (((if past then Err e else r) >>= G) >>= f)
-  limit_next true e r F G f h = refl
-  limit_next false e r F G f h = bind_within r F G f (h refl)
-
-  pub ops_read : (os : List OpTree) → head_of rest ≡ None → (k : ℕ) (ops : List Op) (s : Scope) (at : ℕ) → length ops + k ≡ 33 → length ops ≤ 32
-      → ops_within lines k (ops, s, at) (each_then op_then os rest) ≡ with_ops ops (ops_mean lines s (length ops) at os)
-  ops_read [] e k ops s at l le = ops_ends lines k (ops, s, at) rest e ∙ ap (λ (us : List Op). Ok ((us, s, at), rest)) (sym (append-nil ops))
-  ops_read (Operates name ps ls b ∷ os) e k ops s at l le =
-      let fuel : k ≡ suc (32 - length ops) = omega arith in
-      ops_goes lines k (32 - length ops) (ops, s, at) _ (name, parameters_then ps (Symbol CloseParen ∷ Symbol OpenBrace ∷ each_then field_then ls (statements_then b (Symbol CloseBrace ∷ each_then op_then os rest)))) fuel refl
-      ∙ ap (λ r. r >>= λ o. ops_within lines (32 - length ops) (with_op lines ops o.0) o.1) (op_read lines s (length ops) at name ps ls b (each_then op_then os rest))
-      ∙ bind_joins (op_means lines s (length ops) at (Operates name ps ls b)) _ _
-      ∙ limit_next (length ops == 32) _ _ _ _ _ (λ below r.
-      let count : length (ops ++ r.0 ∷ []) ≡ length ops + 1 = length-append ops (r.0 ∷ []) in
-      let less : length ops < 32 = below_limit (length ops) below le in
-      ops_read os e (32 - length ops) (ops ++ r.0 ∷ []) r.1 r.2 (omega arith) (omega arith)
-      ∙ ap (λ (n : ℕ). with_ops (ops ++ r.0 ∷ []) (ops_mean lines r.1 n r.2 os)) count
-      ∙ regroup_ops ops r.0 (ops_mean lines r.1 (length ops + 1) r.2 os))
+  ops_read : (s : Scope) (at : ℕ) (os : List OpTree) (rest : List TokenKind) → head_of rest ≡ None → ops_in lines s at (each_then op_then os rest) ≡ (listed (op_means lines) s 0 at os >>= λ r. Ok (r, rest))
+  ops_read s at os rest e = listed_read head_of (op_in lines) 32 (op_means lines) op_then op_front behind_op op_begins op_read op_limit s at os rest e
 
 -- ---- the file
 
-module _ {A : Type 0} (lines : List ℕ) (s : Scope) (at : ℕ) (next : List Op × Scope × ℕ → Result A ParseFault) where
-  -- the operations and what is behind them
-  abbrev to_end : Result ((List Op × Scope × ℕ) × List TokenKind) ParseFault → Result A ParseFault
-  to_end r = r >>= λ o. none_of o.0.2 o.1 >>= λ e. next o.0
+watch_read : (s : Scope) (at : ℕ) (w : Option WatchTree) (rest : List TokenKind) → watch_of rest ≡ None → watch_in s at (maybe_then watch_then w rest) ≡ (watch_means s at w >>= λ r. Ok (r, rest))
+unfolding watch_in
+watch_read s at None rest e = reads_other (watch_of rest) _ _ e
+watch_read s at (Some w) rest e = reads_this (watch_of (watch_then w rest)) (w, rest) _ _ (watch_reads w rest)
 
-  unread_behind : (t : TokenKind) (ts : List TokenKind) → head_of (t ∷ ts) ≡ None → to_end (ops_in lines s at (t ∷ ts)) ≡ Err (faults.NotYet at)
-  unfolding ops_in
-  unread_behind t ts e = ap to_end (ops_ends lines 33 ([], s, at) (t ∷ ts) e)
+init_read : (s : Scope) (at : ℕ) (starts : Option (List InitialTree)) (rest : List TokenKind) → init_of rest ≡ None → init_in s at (maybe_then init_then starts rest) ≡ (init_means s at starts >>= λ r. Ok (r, rest))
+unfolding init_in
+init_read s at None rest e = reads_other (init_of rest) _ _ e
+init_read s at (Some is) rest e = initials_read s (at + 2) is rest ∙ bind_within (initials_mean s (at + 2) is) _ _ _ (λ b. refl)
 
-  ended : (o : List Op × Scope × ℕ) (outlined : Option OutlineTree) → (none_of o.2 (outline_end outlined) >>= λ e. next o) ≡ (not_there o.2 outlined >>= λ e. next o)
-  ended o None = refl
-  ended o (Some (Outlined d items)) = refl
+ended : {A : Type 0} (at : ℕ) (outlined : Option OutlineTree) (unit : Result A ParseFault) → outlined ≡ None → (nothing_left at (outline_end outlined) >>= λ e. unit) ≡ unit
+ended at None unit e = refl
+ended at (Some o) unit e = absurd cc
 
-  pub behind_read : (functions : List FunctionTree) (watched : Option WatchTree) (ghosts : List GhostTree) (starts : Option (List InitialTree)) (ops : List OpTree) (outlined : Option OutlineTree)
-      → to_end (ops_in lines s at (behind_shared functions watched ghosts starts ops outlined))
-      ≡ (none_of at functions >>= λ a. not_there a watched >>= λ b. none_of b ghosts >>= λ c. not_there c starts >>= λ d. ops_mean lines s 0 d ops >>= λ o. not_there o.2 outlined >>= λ e. next o)
-  unfolding ops_in
-  behind_read (Declares n p ∷ fs) watched ghosts starts ops outlined = unread_behind _ _ refl
-  behind_read [] (Some w) ghosts starts ops outlined = unread_behind _ _ refl
-  behind_read [] None (Auxiliary n k ∷ gs) starts ops outlined = unread_behind _ _ refl
-  behind_read [] None [] (Some i) ops outlined = unread_behind _ _ refl
-  behind_read [] None [] None ops outlined =
-      ap to_end (ops_read lines (outline_end outlined) ops (outline_no_op outlined) 33 [] s at refl (omega arith))
-      ∙ bind_joins (ops_mean lines s 0 at ops) _ _
-      ∙ bind_same (ops_mean lines s 0 at ops) _ _ (λ o. ended o outlined)
-
-declarations_read : (s : Scope) (at : ℕ) (fs : List FieldTree) (ps : List Text) (rest : List TokenKind) → shared_of rest ≡ None
-    → declarations_in s at (each_then field_then fs (Symbol CloseBrace ∷ each_then shared_then ps rest)) ≡ (fields_mean s 0 at fs >>= λ a. shared_mean a.1 0 (a.2 + 1) ps >>= λ b. Ok ((a.0, b.0, b.1, b.2), rest))
-unfolding declarations_in
-declarations_read s at fs ps rest e =
-    ap (λ r. r >>= λ a. wanted_at a.0.2 (closing_of a.1) >>= λ us. shared_in ([], a.0.1, a.0.2 + 1) us >>= λ b. Ok ((a.0.0, b.0.0, b.0.1, b.0.2), b.1)) (fields_read s at fs (Symbol CloseBrace ∷ each_then shared_then ps rest) refl)
-    ∙ bind_joins (fields_mean s 0 at fs) _ _
-    ∙ bind_same (fields_mean s 0 at fs) _ _ (λ a.
-    ap (λ r. r >>= λ b. Ok ((a.0, b.0.0, b.0.1, b.0.2), b.1)) (shared_read a.1 (a.2 + 1) ps rest e) ∙ bind_joins (shared_mean a.1 0 (a.2 + 1) ps) _ _)
-
-pub file_read : (lines : List ℕ) (f : FileTree) → file_in lines (file_tokens f) ≡ file_means lines f
-unfolding file_in struct_in file_means
-file_read lines f =
+pub file_read : (lines : List ℕ) (f : FileTree) → f.outlined ≡ None → file_in lines (file_tokens f) ≡ file_means lines f
+unfolding file_in struct_in declarations_in file_means
+file_read lines f none =
     bind_joins (declared first_scope f.name 1 Taken) _ _
     ∙ bind_same (declared first_scope f.name 1 Taken) _ _ (λ s.
-    ap (λ r. r >>= λ d. ops_in lines d.0.2 d.0.3 d.1 >>= λ ops. none_of ops.0.2 ops.1 >>= λ end. unit d.0.0 d.0.1 ops.0)
-    (declarations_read s 3 f.fields f.pointers (behind_shared f.functions f.watched f.ghosts f.starts f.ops f.outlined) (behind_no_shared f.functions f.watched f.ghosts f.starts f.ops f.outlined))
-    ∙ bind_joins (fields_mean s 0 3 f.fields) _ _
-    ∙ bind_same (fields_mean s 0 3 f.fields) _ _ (λ a.
-    bind_joins (shared_mean a.1 0 (a.2 + 1) f.pointers) _ _
-    ∙ bind_same (shared_mean a.1 0 (a.2 + 1) f.pointers) _ _ (λ b. behind_read lines b.1 b.2 (unit a.0 b.0) f.functions f.watched f.ghosts f.starts f.ops f.outlined)))
+    bind_joins (fields_in s 3 (each_then field_then f.fields (Symbol CloseBrace ∷ behind_fields))) _ _
+    ∙ read_same (fields_in s 3 (each_then field_then f.fields (Symbol CloseBrace ∷ behind_fields))) (listed field_means s 0 3 f.fields) (λ r. Ok (r, Symbol CloseBrace ∷ behind_fields)) _ _ (fields_read s 3 f.fields behind_fields) (λ fields.
+    bind_joins (shared_in fields.1 (fields.2 + 1) behind_fields) _ _
+    ∙ read_same (shared_in fields.1 (fields.2 + 1) behind_fields) (listed shared_means fields.1 0 (fields.2 + 1) f.pointers) (λ r. Ok (r, behind_shared)) _ _ (shared_read fields.1 (fields.2 + 1) f.pointers behind_shared no_shared) (λ pointers.
+    bind_joins (functions_in pointers.1 pointers.2 behind_shared) _ _
+    ∙ read_same (functions_in pointers.1 pointers.2 behind_shared) (listed function_means pointers.1 0 pointers.2 f.functions) (λ r. Ok (r, behind_functions)) _ _ (functions_read pointers.1 pointers.2 f.functions behind_functions no_function) (λ functions.
+    read_same (watch_in functions.1 functions.2 behind_functions) (watch_means functions.1 functions.2 f.watched) (λ r. Ok (r, behind_watched)) _ _ (watch_read functions.1 functions.2 f.watched behind_watched no_watch) (λ observer.
+    read_same (ghosts_in functions.1 observer.1 behind_watched) (listed ghost_means functions.1 0 observer.1 f.ghosts) (λ r. Ok (r, behind_ghosts)) _ _ (ghosts_read functions.1 observer.1 f.ghosts behind_ghosts no_ghost) (λ ghosts.
+    read_same (init_in ghosts.1 ghosts.2 behind_ghosts) (init_means ghosts.1 ghosts.2 f.starts) (λ r. Ok (r, behind_starts)) _ _ (init_read ghosts.1 ghosts.2 f.starts behind_starts no_init) (λ starts.
+    read_same (ops_in lines ghosts.1 starts.1 behind_starts) (listed (op_means lines) ghosts.1 0 starts.1 f.ops) (λ r. Ok (r, behind_ops)) _ _ (ops_read lines ghosts.1 starts.1 f.ops behind_ops no_op) (λ ops.
+    ended ops.2 f.outlined _ none))))))))
   where
-    unit : List Field → List ℕ → List Op × Scope × ℕ → Result FileUnit ParseFault
-    unit fields shared ops = Ok (record { file = record { names = ops.1.names; fields = fields; shared = shared; ops = ops.0 }; observer = Plain })
+    behind_ops : List TokenKind
+    behind_ops = outline_end f.outlined
+
+    behind_starts : List TokenKind
+    behind_starts = ops_end f.ops f.outlined
+
+    behind_ghosts : List TokenKind
+    behind_ghosts = starts_end f.starts f.ops f.outlined
+
+    behind_watched : List TokenKind
+    behind_watched = ghosts_end f.ghosts f.starts f.ops f.outlined
+
+    behind_functions : List TokenKind
+    behind_functions = watched_end f.watched f.ghosts f.starts f.ops f.outlined
+
+    behind_shared : List TokenKind
+    behind_shared = each_then function_then f.functions behind_functions
+
+    behind_fields : List TokenKind
+    behind_fields = each_then shared_then f.pointers behind_shared
+
+    no_op : head_of behind_ops ≡ None
+    no_op = not_at_outline head_of refl (λ ts. refl) f.outlined
+
+    no_init : init_of behind_starts ≡ None
+    no_init = not_at_ops init_of refl (λ ts. refl) (λ ts. refl) f.ops f.outlined
+
+    no_ghost : ghost_of behind_ghosts ≡ None
+    no_ghost = not_at_starts ghost_of refl (λ ts. refl) (λ ts. refl) (λ ts. refl) f.starts f.ops f.outlined
+
+    no_watch : watch_of behind_watched ≡ None
+    no_watch = not_at_ghosts watch_of refl (λ ts. refl) (λ ts. refl) (λ ts. refl) (λ ts. refl) f.ghosts f.starts f.ops f.outlined
+
+    no_function : function_of behind_functions ≡ None
+    no_function = not_at_watched function_of refl (λ ts. refl) (λ ts. refl) (λ ts. refl) (λ ts. refl) (λ ts. refl) f.watched f.ghosts f.starts f.ops f.outlined
+
+    shared_list : (fs : List FunctionTree) → shared_of (each_then function_then fs behind_functions) ≡ None
+    shared_list [] = not_at_watched shared_of refl (λ ts. refl) (λ ts. refl) (λ ts. refl) (λ ts. refl) (λ ts. refl) f.watched f.ghosts f.starts f.ops f.outlined
+    shared_list (Declares n p ∷ fs) = refl
+
+    no_shared : shared_of behind_shared ≡ None
+    no_shared = shared_list f.functions

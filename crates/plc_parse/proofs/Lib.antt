@@ -1,8 +1,13 @@
 pub mod Loop
-pub mod Shrinks
-pub mod Growth
-pub mod OpSteps
-pub mod FormsOfTrees
+pub mod Listed
+pub mod Fronts
+pub mod Weights
+pub mod Blocks
 pub mod Law
 pub mod Fits
+pub mod Growth
+pub mod Stops
+pub mod FormLoop
+pub mod BlockLoop
 pub mod Answering
+pub mod Ends

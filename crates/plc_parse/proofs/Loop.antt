@@ -1,12 +1,10 @@
--- Forms that follow one another, as a loop takes them.
-use Rattle.std.proofs.Common.{◌≡◌, ℕ, zero, suc, ◌<◌, ◌≤◌, List, [], ◌∷◌, length, Option, Some, None, Result, Ok, Err, refl, sym, ap, ◌∙◌, arith}
+-- Readings in order, and forms that follow one another as a loop takes them.
+use Rattle.std.proofs.Common.{◌≡◌, ℕ, zero, suc, ◌<◌, ◌≤◌, Bool, true, false, if◌then◌else◌, List, [], ◌∷◌, length, Option, Some, None, Result, Ok, Err, refl, sym, ap, ◌∙◌, arith}
 use Rattle.plc_lex.specs.declared.token.TokenKind.{TokenKind}
 use Rattle.plc_syntax.specs.Trees.{each_then}
-use Rattle.plc_parse.specs.declared.fault.ParseFault.{ParseFault}
-use Rattle.plc_parse.specs.declared.fault.ParseFault.TheVariants as faults
-use Rattle.plc_parse.specs.Answers.{FailsAs}
-use Rattle.plc_parse.specs.Scope.{◌>>=◌}
-use Rattle.plc_parse.specs.Reading.{each, each_within, go_on}
+use Rattle.plc_scope.specs.declared.fault.ParseFault.{ParseFault}
+use Rattle.plc_scope.specs.Scope.{◌>>=◌}
+use Rattle.plc_parse.specs.Reading.{each, each_within, go_on, where_read}
 
 pub bind_same : {A B : Type 0} (r : Result A ParseFault) (f g : A → Result B ParseFault) → ((x : A) → f x ≡ g x) → (r >>= f) ≡ (r >>= g)
 bind_same (Ok x) f g h = h x
@@ -16,14 +14,32 @@ pub bind_joins : {A B C : Type 0} (r : Result A ParseFault) (f : A → Result B 
 bind_joins (Ok x) f g = refl
 bind_joins (Err e) f g = refl
 
--- a fault is passed on
-pub bind_stops : {A B : Type 0} (e : ParseFault) (r : Result A ParseFault) (f : A → Result B ParseFault) → FailsAs e r → FailsAs e (r >>= f)
-bind_stops faults.Memory r f h = tt
-bind_stops e r f h = ap (λ x. x >>= f) h
+-- what is read and means the same goes on
+pub bind_within : {A B C : Type 0} (r : Result A ParseFault) (F : A → Result C ParseFault) (G : A → Result B ParseFault) (f : B → Result C ParseFault) → ((x : A) → F x ≡ (G x >>= f)) → (r >>= F) ≡ ((r >>= G) >>= f)
+bind_within (Ok x) F G f h = h x
+bind_within (Err e) F G f h = refl
 
-pub fails_along : {A : Type 0} (e : ParseFault) (r s : Result A ParseFault) → r ≡ s → FailsAs e r → FailsAs e s
-fails_along faults.Memory r s p h = tt
-fails_along e r s p h = sym p ∙ h
+-- the same where tokens were read before
+pub read_within : {A B C D : Type 0} (r : Result A ParseFault) (m : Result D ParseFault) (k : D → Result A ParseFault) (F : A → Result C ParseFault) (G : D → Result B ParseFault) (f : B → Result C ParseFault)
+    → r ≡ (m >>= k) → ((x : D) → (k x >>= F) ≡ (G x >>= f)) → (r >>= F) ≡ ((m >>= G) >>= f)
+read_within r m k F G f e h = ap (λ s. s >>= F) e ∙ bind_joins m k F ∙ bind_within m (λ x. k x >>= F) G f h
+
+-- the same where nothing is behind
+pub read_same : {A C D : Type 0} (r : Result A ParseFault) (m : Result D ParseFault) (k : D → Result A ParseFault) (F : A → Result C ParseFault) (G : D → Result C ParseFault)
+    → r ≡ (m >>= k) → ((x : D) → (k x >>= F) ≡ G x) → (r >>= F) ≡ (m >>= G)
+read_same r m k F G e h = ap (λ s. s >>= F) e ∙ bind_joins m k F ∙ bind_same m (λ x. k x >>= F) G h
+
+-- within a limit
+pub limit_within : {A B : Type 0} (past : Bool) (e : ParseFault) (a : Result B ParseFault) (r : Result A ParseFault) (f : A → Result B ParseFault) → a ≡ (r >>= f) → (if past then Err e else a) ≡ ((if past then Err e else r) >>= f)
+limit_within true e a r f h = refl
+limit_within false e a r f h = h
+
+-- where a form stands, and where none does
+pub reads_this : {X A : Type 0} (o : Option X) (x : X) (next : X → A) (other : A) → o ≡ Some x → where_read o next other ≡ next x
+reads_this o x next other e = ap (λ p. where_read p next other) e
+
+pub reads_other : {X A : Type 0} (o : Option X) (next : X → A) (other : A) → o ≡ None → where_read o next other ≡ other
+reads_other o next other e = ap (λ p. where_read p next other) e
 
 -- each item in turn, over a state that goes on
 abbrev pub steps : {S X : Type 0} → (S → X → Result S ParseFault) → S → List X → Result S ParseFault
@@ -62,25 +78,10 @@ module _ {S X : Type 0} (item : List TokenKind → Option (X × List TokenKind))
   unfolding each
   each_ends s ts e = enough (length ts) (suc (length ts)) s ts (omega arith) (omega arith) ∙ ap (λ o. go_on (λ t us. each_within item step (length ts) t us) step s ts o) e
 
-  -- a turn of the loop: what is still to be read is the same
-  pub each_turns : (s t : S) (ts : List TokenKind) (x : X × List TokenKind) → item ts ≡ Some x → step s x.0 ≡ Ok t → each item step s ts ≡ each item step t x.1
-  each_turns s t ts x e h = each_goes s ts x e ∙ ap (λ r. r >>= λ u. each item step u x.1) h
-
-  -- a fault ends the loop
-  pub each_stops : (f : ParseFault) (s : S) (ts : List TokenKind) (x : X × List TokenKind) (total : Result (S × List TokenKind) ParseFault) → item ts ≡ Some x → FailsAs f (step s x.0)
-      → each item step s ts ≡ total → FailsAs f total
-  each_stops f s ts x total e h so_far = fails_along f _ total (sym (each_goes s ts x e) ∙ so_far) (bind_stops f (step s x.0) (λ t. each item step t x.1) h)
-
-  -- the same where a step is more than what failed
-  pub each_fails : {A : Type 0} (f : ParseFault) (s : S) (ts : List TokenKind) (x : X × List TokenKind) (total : Result (S × List TokenKind) ParseFault) (r : Result A ParseFault) (g : A → Result S ParseFault)
-      → item ts ≡ Some x → step s x.0 ≡ (r >>= g) → FailsAs f r → each item step s ts ≡ total → FailsAs f total
-  each_fails f s ts x total r g e is h so_far = each_stops f s ts x total e (fails_along f (r >>= g) (step s x.0) (sym is) (bind_stops f r g h)) so_far
-
   -- the tokens of trees are read into what the steps make of the trees
   pub each_reads : (x_then : X → List TokenKind → List TokenKind) → ((x : X) (rest : List TokenKind) → item (x_then x rest) ≡ Some (x, rest))
       → (s : S) (xs : List X) (rest : List TokenKind) → item rest ≡ None → each item step s (each_then x_then xs rest) ≡ (steps step s xs >>= λ t. Ok (t, rest))
   each_reads x_then reads s [] rest e = each_ends s rest e
   each_reads x_then reads s (x ∷ xs) rest e =
       each_goes s (x_then x (each_then x_then xs rest)) (x, each_then x_then xs rest) (reads x (each_then x_then xs rest))
-      ∙ bind_same (step s x) _ _ (λ t. each_reads x_then reads t xs rest e)
-      ∙ sym (bind_joins (step s x) (λ t. steps step t xs) (λ t. Ok (t, rest)))
+      ∙ bind_within (step s x) _ _ _ (λ t. each_reads x_then reads t xs rest e)

@@ -1,97 +1,105 @@
--- What the trees of the grammar mean. A tree stands at a place, the number of tokens before it; what it means comes with the place behind it.
--- Each name is looked up where it stands, from left to right, so the first fault is the one at the least token. Forms that aren't read yet are a fault at their first token.
-use Rattle.std.specs.Prelude.{◌==◌, ◌+◌, ℕ, true, false, if◌then◌else◌, List, [], ◌∷◌, length, get_or, Option, Some, None, Result, Ok, Err}
-use Rattle.plc_base.specs.declared.ids.FieldId.{FieldId}
+-- What the trees of a file mean. A tree stands at a place, the number of tokens before it; what it means comes with the place behind it.
+-- Each name is looked up where it stands, from left to right, so the first fault is the one at the least token. Outlines aren't read yet.
+use Rattle.std.specs.Prelude.{◌==◌, ◌&&◌, ◌||◌, ◌+◌, ℕ, Bool, true, false, if◌then◌else◌, List, [], ◌∷◌, length, get_or, Option, Some, None, Result, Ok, Err}
 use Rattle.plc_base.specs.declared.limits.What1.{What1}
 use Rattle.plc_base.specs.declared.limits.What1.TheVariants as limits
-use Rattle.plc_lang.specs.declared.syntax.Var.{Var}
-use Rattle.plc_lang.specs.declared.syntax.Num.TheVariants.{Lit, Local as DataLocal}
 use Rattle.plc_lang.specs.declared.syntax.Primitive.{Primitive}
-use Rattle.plc_lang.specs.declared.syntax.Primitive.TheVariants.{Null, Copy, New, Load, Store, StoreNull, DataSet, DataLoad, DataStore}
-use Rattle.plc_lang.specs.declared.syntax.Stmt.TheVariants.{One}
-use Rattle.plc_lang.specs.declared.syntax.Line.{Line}
+use Rattle.plc_lang.specs.declared.syntax.Primitive.TheVariants as primitives
 use Rattle.plc_lang.specs.declared.syntax.Op.{Op}
 use Rattle.plc_lang.specs.declared.syntax.Field.{Field}
-use Rattle.plc_auto.specs.declared.observer.Observer.TheVariants.{Plain}
-use Rattle.plc_syntax.specs.Trees.{FieldTree, PointerField as PointerFieldTree, DataField as DataFieldTree, PlaceOf, AtomTree, NullAtom, NumberAtom, NameAtom, ValueTree, NullValue, NewValue, NumberValue, PlaceValue, SetTree, SetName, SetField, PrimitiveTree, SetPrimitive, StatementTree, PrimitiveStatement, BlockTree, NoStatement, Then, OpTree, Operates, FileTree}
-use Rattle.plc_parse.specs.declared.fault.ParseFault.{ParseFault}
-use Rattle.plc_parse.specs.declared.fault.ParseFault.TheVariants as faults
-use Rattle.plc_parse.specs.declared.scope.Scope.{Scope}
-use Rattle.plc_parse.specs.declared.scope.Thing.TheVariants.{Taken, Shared, PointerField, DataField}
+use Rattle.plc_lang.specs.declared.syntax.Func.{Func}
+use Rattle.plc_lang.specs.declared.syntax.Ghost.{Ghost}
+use Rattle.plc_lang.specs.Statements.{Statement, One, Atomic, Call, If, Choose, Loop, Break, Return, Skip, Label, Statements, Empty, Then, Blocks, NoBlock, And}
+use Rattle.plc_auto.specs.declared.observer.Observer.{Observer}
+use Rattle.plc_auto.specs.declared.observer.Observer.TheVariants.{Plain, Hazard, Epoch}
+use Rattle.plc_syntax.specs.Trees.{Text, FieldTree, PointerField as PointerFieldTree, DataField as DataFieldTree, FunctionTree, Declares, WatchTree, UseHazard, UseEpoch, OneOf, OfThreads, GhostTree, Auxiliary as AuxiliaryTree, InitialTree, PrimitiveTree, StatementTree, PrimitiveStatement, AtomicStatement, CallStatement, IfStatement, ChooseStatement, LoopStatement, BreakStatement, ReturnStatement, LabelStatement, BlockTree, NoStatement, Then as ThenStatement, ElseTree, NoElse, ElseBlock, OrTree, NoOr, OrBlock, OpTree, Operates, FileTree}
+use Rattle.plc_forms.specs.Sizes.{initial_size, primitive_size, condition_size, call_size, during_size, function_size, watch_size}
+use Rattle.plc_scope.specs.declared.fault.ParseFault.{ParseFault}
+use Rattle.plc_scope.specs.declared.fault.ParseFault.TheVariants as faults
+use Rattle.plc_scope.specs.declared.scope.Scope.{Scope}
+use Rattle.plc_scope.specs.declared.binding.Binding.TheVariants.{Taken, Shared, PointerField, DataField, Function, Auxiliary, Value}
+use Rattle.plc_scope.specs.Scope.{◌>>=◌, first_scope, declared, declared_label, declared_local, declared_parameter, without_locals, protecting_at, without_pointer_at}
+use Rattle.plc_scope.specs.Primitives.{primitive_means, initial_means, condition_means, call_means}
 use Rattle.plc_parse.specs.declared.unit.Unit.{Unit as FileUnit}
-use Rattle.plc_parse.specs.Scope.{◌>>=◌, first_scope, declared, declared_local, declared_parameter, needed, role_of, pointer_at, data_at, pointer_field_at, data_field_at, any_role, without_locals}
-use Rattle.plc_parse.specs.declared.scope.Role.{Role}
-use Rattle.plc_parse.specs.declared.scope.Role.TheVariants.{PointerVariable as pointer_variable, DataLocal as data_local, PointerField as pointer_field, DataField as data_field, NoValue as no_value}
 
--- ---- assignments
+-- ---- limits
 
--- what is put into a pointer variable; null, new and a number are judged by the left side and are themselves the place
-abbrev pub pointer_value : Scope → Var → ℕ → ValueTree → Result (Primitive × ℕ) ParseFault
-pointer_value s p at NullValue = Ok (Null p, at + 1)
-pointer_value s p at NewValue = Ok (New p, at + 1)
-pointer_value s p at (NumberValue n) = Err (faults.WrongSort at)
-pointer_value s p at (PlaceValue (PlaceOf n None)) = do
-  q ← pointer_at s n at
-  Ok (Copy p q, at + 1)
-pointer_value s p at (PlaceValue (PlaceOf n (Some f))) = do
-  q ← pointer_at s n at
-  g ← pointer_field_at s f (at + 2)
-  Ok (Load p q g, at + 3)
+-- a form past the limit is the fault, at its first token; n forms are before
+abbrev pub within_limit : {A : Type 0} → ℕ → ℕ → What1 → Result A ParseFault → Result A ParseFault
+within_limit n limit what next = if n == limit then Err (faults.Limit what (limit + 1)) else next
 
--- what is put into a data local
-abbrev pub data_value : Scope → ℕ → ℕ → ValueTree → Result (Primitive × ℕ) ParseFault
-data_value s x at NullValue = Err (faults.WrongSort at)
-data_value s x at NewValue = Err (faults.WrongSort at)
-data_value s x at (NumberValue n) = Ok (DataSet x (Lit n), at + 1)
-data_value s x at (PlaceValue (PlaceOf n None)) = do
-  y ← data_at s n at
-  Ok (DataSet x (DataLocal y), at + 1)
-data_value s x at (PlaceValue (PlaceOf n (Some f))) = do
-  q ← pointer_at s n at
-  g ← data_field_at s f (at + 2)
-  Ok (DataLoad x q g, at + 3)
+-- the same where the form's first token may be at fault itself, which goes before the limit
+abbrev pub stands_at : ℕ → ParseFault → Bool
+stands_at at (faults.Undeclared k) = k == at
+stands_at at (faults.Duplicate k) = k == at
+stands_at at (faults.WrongSort k) = k == at
+stands_at at (faults.NoSuchCall k) = k == at
+stands_at at (faults.Syntax k) = false
+stands_at at (faults.Limit what k) = false
+stands_at at faults.Memory = false
 
--- the left side is any variable
-abbrev pub value_into : Scope → ℕ → ValueTree → Role → ℕ → Result (Primitive × ℕ) ParseFault
-value_into s at v (pointer_variable p) left = pointer_value s p at v
-value_into s at v (data_local x) left = data_value s x at v
-value_into s at v (pointer_field f) left = Err (faults.WrongSort left)
-value_into s at v (data_field f) left = Err (faults.WrongSort left)
-value_into s at v no_value left = Err (faults.WrongSort left)
+-- ---- atomic blocks and `init`
 
--- what is put into a pointer field
-abbrev pub pointer_atom : Scope → Var → FieldId → ℕ → AtomTree → Result (Primitive × ℕ) ParseFault
-pointer_atom s p f at NullAtom = Ok (StoreNull p f, at + 1)
-pointer_atom s p f at (NumberAtom n) = Err (faults.WrongSort at)
-pointer_atom s p f at (NameAtom n) = do
-  q ← pointer_at s n at
-  Ok (Store p f q, at + 1)
+-- the primitive allocates
+abbrev pub is_new : Primitive → Bool
+is_new (primitives.New p) = true
+is_new (primitives.Null p) = false
+is_new (primitives.Copy p q) = false
+is_new (primitives.Load p q f) = false
+is_new (primitives.Store p f q) = false
+is_new (primitives.StoreNull p f) = false
+is_new (primitives.DataSet x e) = false
+is_new (primitives.DataLoad x q f) = false
+is_new (primitives.DataStore p f e) = false
+is_new (primitives.Eq p q) = false
+is_new (primitives.Ne p q) = false
+is_new (primitives.IsNull p) = false
+is_new (primitives.NotNull p) = false
+is_new (primitives.DataTest r x e) = false
+is_new (primitives.Refresh p q) = false
+is_new (primitives.RefreshLoad p q f) = false
+is_new (primitives.RefreshStore p f q) = false
+is_new (primitives.Call f a) = false
+is_new (primitives.Done f) = false
+is_new (primitives.Active p) = false
+is_new (primitives.Ghost p g v) = false
 
--- what is put into a data field
-abbrev pub data_atom : Scope → Var → FieldId → ℕ → AtomTree → Result (Primitive × ℕ) ParseFault
-data_atom s p f at NullAtom = Err (faults.WrongSort at)
-data_atom s p f at (NumberAtom n) = Ok (DataStore p f (Lit n), at + 1)
-data_atom s p f at (NameAtom n) = do
-  y ← data_at s n at
-  Ok (DataStore p f (DataLocal y), at + 1)
+-- one primitive more, with the number of those before and whether one of them allocates: at most 64, and one `new`, whose place is the word
+abbrev pub counted : ℕ → Bool → ℕ → Result (Option Primitive) ParseFault → Result (Option Primitive) ParseFault
+counted n has_new at (Ok None) = Ok None
+counted n has_new at (Ok (Some k)) = within_limit n 64 limits.Prims (if has_new && is_new k then Err (faults.Limit limits.News 2) else Ok (Some k))
+counted n has_new at (Err e) = if stands_at at e then Err e else within_limit n 64 limits.Prims (Err e)
 
--- the field is a field
-abbrev pub atom_into : Scope → Var → ℕ → AtomTree → Role → ℕ → Result (Primitive × ℕ) ParseFault
-atom_into s p at a (pointer_field f) field = pointer_atom s p f at a
-atom_into s p at a (data_field f) field = data_atom s p f at a
-atom_into s p at a (pointer_variable v) field = Err (faults.WrongSort field)
-atom_into s p at a (data_local x) field = Err (faults.WrongSort field)
-atom_into s p at a no_value field = Err (faults.WrongSort field)
+-- how many primitives a form is
+abbrev pub count_of : Option Primitive → ℕ
+count_of None = 0
+count_of (Some k) = 1
 
--- the left side before the right
-unfoldable pub set_means : Scope → ℕ → SetTree → Result (Primitive × ℕ) ParseFault
-set_means s at (SetName n v) = do
-  left ← needed any_role at (role_of s n)
-  value_into s (at + 2) v left at
-set_means s at (SetField n f a) = do
-  p ← pointer_at s n at
-  field ← needed any_role (at + 2) (role_of s f)
-  atom_into s p (at + 4) a field (at + 2)
+-- whether one allocates
+abbrev pub allocates : Option Primitive → Bool
+allocates None = false
+allocates (Some k) = is_new k
+
+-- a primitive, if there is one, before others
+abbrev pub before : Option Primitive → List Primitive → List Primitive
+before None ks = ks
+before (Some k) ks = k ∷ ks
+
+-- forms in order, each with its semicolon; and the place behind the last
+abbrev pub forms_mean : {X : Type 0} → (ℕ → X → Result (Option Primitive) ParseFault) → (X → ℕ) → ℕ → Bool → ℕ → List X → Result (List Primitive × ℕ) ParseFault
+forms_mean means size n has_new at [] = Ok ([], at)
+forms_mean means size n has_new at (x ∷ xs) = do
+  k ← counted n has_new at (means at x)
+  others ← forms_mean means size (n + count_of k) (has_new || allocates k) (at + size x + 1) xs
+  Ok (before k others.0, others.1)
+
+-- the primitives of an atomic block; `skip` is none
+abbrev pub atomic_means : Scope → ℕ → List PrimitiveTree → Result (List Primitive × ℕ) ParseFault
+atomic_means s at ps = forms_mean (primitive_means s) primitive_size 0 false at ps
+
+-- the primitives of `init`
+abbrev pub initials_mean : Scope → ℕ → List InitialTree → Result (List Primitive × ℕ) ParseFault
+initials_mean s at is = forms_mean (initial_means s) initial_size 0 false at is
 
 -- ---- statements; the line of each is that of its first token
 
@@ -99,76 +107,165 @@ set_means s at (SetField n f a) = do
 abbrev pub line_at : List ℕ → ℕ → ℕ
 line_at lines at = get_or lines at 0
 
--- of the primitives, assignments
-abbrev pub primitive_means : Scope → ℕ → PrimitiveTree → Result (Primitive × ℕ) ParseFault
-primitive_means s at (SetPrimitive set) = set_means s at set
-primitive_means s at other = Err (faults.NotYet at)
+-- `skip` is a statement
+abbrev pub one_or_skip : Option Primitive → Statement
+one_or_skip None = Skip
+one_or_skip (Some k) = One k
 
--- a statement of one primitive
-abbrev pub one_line : ℕ → Primitive → Line
-one_line line k = record { line = line; stmt = One k }
+-- a label behind the word before it has the number of those before
+abbrev pub label_means : Scope → ℕ → Text → Result (ℕ × Scope) ParseFault
+label_means s at n = within_limit (length s.labels) 256 limits.Labels (do
+  t ← declared_label s n (at + 1)
+  Ok (length s.labels, t))
 
--- a primitive and its semicolon
-abbrev pub statement_means : List ℕ → Scope → ℕ → StatementTree → Result (Line × ℕ) ParseFault
-statement_means lines s at (PrimitiveStatement p) = do
-  k ← primitive_means s at p
-  Ok (one_line (line_at lines at) k.0, k.1 + 1)
-statement_means lines s at other = Err (faults.NotYet at)
+-- the label of a call, behind "during"
+abbrev pub during_means : Scope → ℕ → Option Text → Result (Option ℕ × Scope) ParseFault
+during_means s at None = Ok (None, s)
+during_means s at (Some n) = do
+  l ← label_means s at n
+  Ok (Some l.0, l.1)
 
--- statements in order
-abbrev pub statements_mean : List ℕ → Scope → ℕ → BlockTree → Result (List Line × ℕ) ParseFault
-statements_mean lines s at NoStatement = Ok ([], at)
-statements_mean lines s at (Then st b) = do
-  first ← statement_means lines s at st
-  others ← statements_mean lines s first.1 b
-  Ok (first.0 ∷ others.0, others.1)
+-- a statement within a loop or not, and blocks of statements; labels stay declared behind them
+abbrev mutual
+  pub statement_means : List ℕ → Scope → Bool → ℕ → StatementTree → Result (Statement × Scope × ℕ) ParseFault
+  statement_means lines s in_loop at (PrimitiveStatement p) = do
+    k ← primitive_means s at p
+    Ok (one_or_skip k, s, at + primitive_size p + 1)
+  statement_means lines s in_loop at (AtomicStatement ps) = do
+    b ← atomic_means s (at + 2) ps
+    Ok (Atomic b.0, s, b.1 + 1)
+  statement_means lines s in_loop at (CallStatement f a d) = do
+    c ← call_means s at f a
+    l ← during_means s (at + call_size a) d
+    Ok (Call c.0 c.1 c.2 l.0, l.1, at + call_size a + during_size d + 1)
+  statement_means lines s in_loop at (IfStatement c b e) = do
+    k ← condition_means s (at + 2) c
+    x ← statements_mean lines s in_loop (at + 2 + condition_size c + 2) b
+    y ← else_means lines x.1 in_loop (x.2 + 1) e
+    Ok (If k x.0 y.0, y.1, y.2)
+  statement_means lines s in_loop at (ChooseStatement a b os) = do
+    x ← statements_mean lines s in_loop (at + 2) a
+    y ← statements_mean lines x.1 in_loop (x.2 + 3) b
+    z ← or_means lines y.1 in_loop (y.2 + 1) os
+    Ok (Choose (And x.0 (And y.0 z.0)), z.1, z.2)
+  statement_means lines s in_loop at (LoopStatement b) = do
+    x ← statements_mean lines s true (at + 2) b
+    Ok (Loop x.0, x.1, x.2 + 1)
+  statement_means lines s true at BreakStatement = Ok (Break, s, at + 2)
+  statement_means lines s false at BreakStatement = Err (faults.Undeclared at)
+  statement_means lines s in_loop at ReturnStatement = Ok (Return, s, at + 2)
+  statement_means lines s in_loop at (LabelStatement n) = do
+    l ← label_means s at n
+    Ok (Label l.0, l.1, at + 3)
+
+  -- statements in order
+  pub statements_mean : List ℕ → Scope → Bool → ℕ → BlockTree → Result (Statements × Scope × ℕ) ParseFault
+  statements_mean lines s in_loop at NoStatement = Ok (Empty, s, at)
+  statements_mean lines s in_loop at (ThenStatement st b) = do
+    first ← statement_means lines s in_loop at st
+    others ← statements_mean lines first.1 in_loop first.2 b
+    Ok (Then (line_at lines at) first.0 others.0, others.1, others.2)
+
+  -- an absent `else` is an empty block
+  pub else_means : List ℕ → Scope → Bool → ℕ → ElseTree → Result (Statements × Scope × ℕ) ParseFault
+  else_means lines s in_loop at NoElse = Ok (Empty, s, at)
+  else_means lines s in_loop at (ElseBlock b) = do
+    x ← statements_mean lines s in_loop (at + 2) b
+    Ok (x.0, x.1, x.2 + 1)
+
+  -- the blocks of a choice behind its second
+  pub or_means : List ℕ → Scope → Bool → ℕ → OrTree → Result (Blocks × Scope × ℕ) ParseFault
+  or_means lines s in_loop at NoOr = Ok (NoBlock, s, at)
+  or_means lines s in_loop at (OrBlock b os) = do
+    x ← statements_mean lines s in_loop (at + 2) b
+    y ← or_means lines x.1 in_loop (x.2 + 1) os
+    Ok (And x.0 y.0, y.1, y.2)
 
 -- ---- declarations; n counts those before, and the limit's place is the first token of the declaration past it
 
--- a form past the limit is the fault
-abbrev pub within_limit : {A : Type 0} → ℕ → ℕ → What1 → Result A ParseFault → Result A ParseFault
-within_limit n limit what next = if n == limit then Err (faults.Limit what (limit + 1)) else next
-
 -- a field of the struct: three tokens, of which the name is the second
-abbrev pub field_means : Scope → ℕ → ℕ → FieldTree → Result (Field × Scope) ParseFault
+abbrev pub field_means : Scope → ℕ → ℕ → FieldTree → Result (Field × Scope × ℕ) ParseFault
 field_means s n at (PointerFieldTree name) = within_limit n 8 limits.Fields (do
   t ← declared s name (at + 1) (PointerField (record { 0 = n }))
-  Ok (record { name = length s.names.names; pointer = true }, t))
+  Ok (record { name = length s.names.names; pointer = true }, t, at + 3))
 field_means s n at (DataFieldTree name) = within_limit n 8 limits.Fields (do
   t ← declared s name (at + 1) (DataField (record { 0 = n }))
-  Ok (record { name = length s.names.names; pointer = false }, t))
-
--- each field has the number of those before
-abbrev pub fields_mean : Scope → ℕ → ℕ → List FieldTree → Result (List Field × Scope × ℕ) ParseFault
-fields_mean s n at [] = Ok ([], s, at)
-fields_mean s n at (f ∷ fs) = do
-  first ← field_means s n at f
-  others ← fields_mean first.1 (n + 1) (at + 3) fs
-  Ok (first.0 ∷ others.0, others.1, others.2)
+  Ok (record { name = length s.names.names; pointer = false }, t, at + 3))
 
 -- a shared pointer: three tokens, of which the name is the second
-abbrev pub shared_means : Scope → ℕ → ℕ → List ℕ → Result (ℕ × Scope) ParseFault
+abbrev pub shared_means : Scope → ℕ → ℕ → Text → Result (ℕ × Scope × ℕ) ParseFault
 shared_means s n at name = within_limit n 16 limits.Shared (do
   t ← declared s name (at + 1) (Shared n)
-  Ok (length s.names.names, t))
+  Ok (length s.names.names, t, at + 3))
 
--- each shared pointer has the number of those before
-abbrev pub shared_mean : Scope → ℕ → ℕ → List (List ℕ) → Result (List ℕ × Scope × ℕ) ParseFault
-shared_mean s n at [] = Ok ([], s, at)
-shared_mean s n at (name ∷ names) = do
-  first ← shared_means s n at name
-  others ← shared_mean first.1 (n + 1) (at + 3) names
+-- a function, whose number is one more than that of those before, since `retire` is the first of a file
+abbrev pub function_means : Scope → ℕ → ℕ → FunctionTree → Result (Func × Scope × ℕ) ParseFault
+function_means s n at (Declares name takes_pointer) = within_limit n 16 limits.Calls (do
+  t ← declared s name (at + 1) (Function (record { 0 = n + 1 }) takes_pointer)
+  Ok (record { name = length s.names.names; pointer = takes_pointer }, t, at + function_size (Declares name takes_pointer)))
+
+-- a value of auxiliary field g, with k before it; it is its name alone, so a name that is there is the fault before the limit
+abbrev pub value_means : Scope → ℕ → ℕ → ℕ → Text → Result (ℕ × Scope) ParseFault
+value_means s g k at name = do
+  t ← declared s name at (Value g k)
+  within_limit k 16 limits.Values (Ok (length s.names.names, t))
+
+-- the values behind the first, each behind its comma; and the place behind the last
+abbrev pub values_mean : Scope → ℕ → ℕ → ℕ → List Text → Result (List ℕ × Scope × ℕ) ParseFault
+values_mean s g k at [] = Ok ([], s, at)
+values_mean s g k at (name ∷ names) = do
+  first ← value_means s g k (at + 1) name
+  others ← values_mean first.1 g (k + 1) (at + 2) names
   Ok (first.0 ∷ others.0, others.1, others.2)
 
+-- an auxiliary field: a thread, or one of its values in braces
+abbrev pub ghost_means : Scope → ℕ → ℕ → GhostTree → Result (Ghost × Scope × ℕ) ParseFault
+ghost_means s n at (AuxiliaryTree name OfThreads) = within_limit n 4 limits.Ghosts (do
+  t ← declared s name (at + 1) (Auxiliary n true)
+  Ok (record { name = length s.names.names; values = [] }, t, at + 4))
+ghost_means s n at (AuxiliaryTree name (OneOf v vs)) = within_limit n 4 limits.Ghosts (do
+  t ← declared s name (at + 1) (Auxiliary n false)
+  first ← value_means t n 0 (at + 3) v
+  others ← values_mean first.1 n 1 (at + 4) vs
+  Ok (record { name = length s.names.names; values = first.0 ∷ others.0 }, others.1, others.2 + 2))
+
+-- declarations of one kind in order, each with the number of those before; and the place behind the last
+abbrev pub listed : {X Y : Type 0} → (Scope → ℕ → ℕ → X → Result (Y × Scope × ℕ) ParseFault) → Scope → ℕ → ℕ → List X → Result (List Y × Scope × ℕ) ParseFault
+listed means s n at [] = Ok ([], s, at)
+listed means s n at (x ∷ xs) = do
+  first ← means s n at x
+  others ← listed means first.1 (n + 1) first.2 xs
+  Ok (first.0 ∷ others.0, others.1, others.2)
+
+-- a function with a pointer for `hazard`, two without for `epoch`; `plain` where the file names none
+abbrev pub watch_means : Scope → ℕ → Option WatchTree → Result (Observer × ℕ) ParseFault
+watch_means s at None = Ok (Plain, at)
+watch_means s at (Some (UseHazard f)) = do
+  g ← protecting_at s f (at + 3)
+  Ok (Hazard g, at + watch_size (UseHazard f))
+watch_means s at (Some (UseEpoch e l)) = do
+  f ← without_pointer_at s e (at + 3)
+  g ← without_pointer_at s l (at + 5)
+  Ok (Epoch f g, at + watch_size (UseEpoch e l))
+
+-- nothing where no `init` stands
+abbrev pub init_means : Scope → ℕ → Option (List InitialTree) → Result (List Primitive × ℕ) ParseFault
+init_means s at None = Ok ([], at)
+init_means s at (Some is) = do
+  b ← initials_mean s (at + 2) is
+  Ok (b.0, b.1 + 1)
+
+-- ---- operations
+
 -- the parameters behind the first, each behind its comma; and the place behind the last
-abbrev pub others_mean : Scope → ℕ → List (List ℕ) → Result (Scope × ℕ) ParseFault
+abbrev pub others_mean : Scope → ℕ → List Text → Result (Scope × ℕ) ParseFault
 others_mean s at [] = Ok (s, at)
 others_mean s at (name ∷ names) = do
   t ← declared_parameter s name (at + 1)
   others_mean t (at + 2) names
 
 -- parameters, parted by commas: the place behind the last
-abbrev pub parameters_mean : Scope → ℕ → List (List ℕ) → Result (Scope × ℕ) ParseFault
+abbrev pub parameters_mean : Scope → ℕ → List Text → Result (Scope × ℕ) ParseFault
 parameters_mean s at [] = Ok (s, at)
 parameters_mean s at (name ∷ names) = do
   t ← declared_parameter s name at
@@ -192,39 +289,36 @@ op_means lines s n at (Operates name parameters locals body) = within_limit n 32
   t ← declared s name (at + 1) Taken
   p ← parameters_mean t (at + 3) parameters
   l ← locals_mean p.0 (p.1 + 2) locals
-  b ← statements_mean lines l.0 l.1 body
-  Ok (record { name = length s.names.names; locals = l.0.locals; body = b.0; line = line_at lines at }, without_locals l.0, b.1 + 1))
-
--- the names of the operations before stay, their locals don't
-abbrev pub ops_mean : List ℕ → Scope → ℕ → ℕ → List OpTree → Result (List Op × Scope × ℕ) ParseFault
-ops_mean lines s n at [] = Ok ([], s, at)
-ops_mean lines s n at (o ∷ os) = do
-  first ← op_means lines s n at o
-  others ← ops_mean lines first.1 (n + 1) first.2 os
-  Ok (first.0 ∷ others.0, others.1, others.2)
+  b ← statements_mean lines l.0 false l.1 body
+  Ok (record { name = length s.names.names; locals = l.0.locals; body = b.0; line = line_at lines at }, without_locals b.1, b.2 + 1))
 
 -- ---- the file
 
--- a form that isn't read yet is not there
-abbrev pub none_of : {A : Type 0} → ℕ → List A → Result ℕ ParseFault
-none_of at [] = Ok at
-none_of at (x ∷ xs) = Err (faults.NotYet at)
+-- `retire` is the first function of a file
+abbrev pub retire : Func
+retire = record { name = 0; pointer = true }
 
--- the same of a form that may stand once
-abbrev pub not_there : {A : Type 0} → ℕ → Option A → Result ℕ ParseFault
-not_there at None = Ok at
-not_there at (Some x) = Err (faults.NotYet at)
-
--- struct, shared pointers and operations in order; lines are those of the tokens
+-- the parts of a file in order, but for its outline; lines are those of the tokens
 unfoldable pub file_means : List ℕ → FileTree → Result FileUnit ParseFault
 file_means lines f = do
   s ← declared first_scope f.name 1 Taken
-  fields ← fields_mean s 0 3 f.fields
-  pointers ← shared_mean fields.1 0 (fields.2 + 1) f.pointers
-  a ← none_of pointers.2 f.functions
-  b ← not_there a f.watched
-  c ← none_of b f.ghosts
-  d ← not_there c f.starts
-  ops ← ops_mean lines pointers.1 0 d f.ops
-  e ← not_there ops.2 f.outlined
-  Ok (record { file = record { names = ops.1.names; fields = fields.0; shared = pointers.0; ops = ops.0 }; observer = Plain })
+  fields ← listed field_means s 0 3 f.fields
+  pointers ← listed shared_means fields.1 0 (fields.2 + 1) f.pointers
+  functions ← listed function_means pointers.1 0 pointers.2 f.functions
+  observer ← watch_means functions.1 functions.2 f.watched
+  ghosts ← listed ghost_means functions.1 0 observer.1 f.ghosts
+  starts ← init_means ghosts.1 ghosts.2 f.starts
+  ops ← listed (op_means lines) ghosts.1 0 starts.1 f.ops
+  Ok (record {
+    file = record {
+      names = ops.1.names;
+      fields = fields.0;
+      shared = pointers.0;
+      funcs = retire ∷ functions.0;
+      ghosts = ghosts.0;
+      init = starts.0;
+      ops = ops.0;
+      labels = ops.1.labels;
+    };
+    observer = observer.0;
+  })

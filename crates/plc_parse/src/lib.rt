@@ -3,17 +3,18 @@
 //! least token.
 #![tactic(auto)]
 
-mod assignment;
+mod auxiliary;
+mod block;
 mod declaration;
-mod fault;
-mod forms;
+mod lines;
+mod local;
 mod operation;
 mod reading;
-mod rest;
-mod scope;
+mod statement;
+mod step;
 mod unit;
 
-pub use fault::ParseFault;
+pub use plc_scope::ParseFault;
 pub use reading::{parse, units_are_unique};
 pub use unit::Unit;
 

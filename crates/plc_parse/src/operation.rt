@@ -1,78 +1,24 @@
-// The operations. A statement is judged as soon as it is read, and its line is that of its first
-// token, which the place finds among all tokens.
+// The operations: each is its name, its parameters, its locals and a block.
 ghost use Rattle.std.specs.Prelude.{◌≡◌, ◌+◌, ◌<◌, ◌≤◌, [], length, IfOk};
 ghost use Rattle.plc_syntax.specs.Syntax.{kinds};
-ghost use Rattle.plc_parse.specs.Answers.{Gives, HasRoom, GrowsBy, IsLeftOf};
-ghost use Rattle.plc_parse.specs.Meaning.{line_at};
-ghost use Rattle.plc_parse.specs.Reading.{statements_in, body_in, op_in, ops_in};
-ghost use Rattle.plc_parse.specs.Scope.{most_locals};
+ghost use Rattle.plc_scope.specs.Answers.{Gives, HasRoom};
+ghost use Rattle.plc_parse.specs.Growth.{IsLeftOf, CanOperate, GrowsByOps};
+ghost use Rattle.plc_parse.specs.Reading.{op_in, ops_in};
 ghost use Rattle.plc_parse.specs.Units.{lines_of};
 
-use crate::assignment::assignment;
-use crate::declaration::read_all_locals;
-use crate::fault::ParseFault;
-use crate::forms::{closing_at, head_at, set_line_at};
-use crate::rest::Rest;
-use crate::scope::{Scope, Thing};
+use crate::block::read_block;
+use crate::declaration::declare;
+use crate::lines::line_at;
+use crate::local::read_all_locals;
 use plc_base::{Items, What1};
-use plc_lang::{Line, Op, Stmt};
+use plc_forms::{Rest, head_at};
+use plc_lang::Op;
 use plc_lex::Token;
+use plc_scope::{Binding, ParseFault, Scope};
 use std::alloc::Global;
 
 /// How many operations a file may have.
 const MOST_OPS: usize = 32;
-
-fn line_at(tokens: &[Token], at: u32) -> u32
-    requires { at < length tokens.now }
-    ensures { result ≡ line_at (lines_of tokens.now) at }
-{
-    tokens[at as usize].line
-}
-
-// The assignments up to the first token that begins none.
-fn read_statements<'a>(
-    alloc: Global,
-    scope: &Scope,
-    tokens: &[Token],
-    start: Rest<'a>,
-) -> Result<(Items<Line>, Rest<'a>), ParseFault>
-    requires locals { length scope.now.locals ≤ most_locals }
-    requires place { IsLeftOf (length tokens.now) start }
-    ensures read { Gives (λ r. ((r.0, r.1.at), kinds r.1.tokens.now)) result (statements_in (lines_of tokens.now) scope.now ([], start.entry.at) (kinds start.entry.tokens.now)) }
-    ensures place { IfOk result (λ r. IsLeftOf (length tokens.now) r.1) }
-{
-    let mut lines = Items::new(alloc);
-    let mut rest = start;
-    while let Some((set, behind)) = set_line_at(rest) {
-        let primitive = assignment(scope, rest.at, set)?;
-        lines.push(Line {
-            line: line_at(tokens, rest.at),
-            stmt: Stmt::One(primitive),
-        })?;
-        rest = behind;
-    }
-    Ok((lines, rest))
-}
-
-// The statements of an operation and the brace behind them.
-#[tactic(auto, unfolding(crate::specs::Reading::body_in))]
-fn read_body<'a>(
-    alloc: Global,
-    scope: &Scope,
-    tokens: &[Token],
-    start: Rest<'a>,
-) -> Result<(Items<Line>, Rest<'a>), ParseFault>
-    requires locals { length scope.now.locals ≤ most_locals }
-    requires place { IsLeftOf (length tokens.now) start }
-    ensures read { Gives (λ r. ((r.0, r.1.at), kinds r.1.tokens.now)) result (body_in (lines_of tokens.now) scope.now start.entry.at (kinds start.entry.tokens.now)) }
-    ensures place { IfOk result (λ r. IsLeftOf (length tokens.now) r.1) }
-{
-    let (lines, rest) = read_statements(alloc, scope, tokens, start)?;
-    match closing_at(rest) {
-        Some(behind) => Ok((lines, behind)),
-        None => Err(ParseFault::NotYet { at: rest.at }),
-    }
-}
 
 // An operation at a place, with so many before it, from behind its name and `(`.
 #[tactic(auto, unfolding(crate::specs::Reading::op_in))]
@@ -86,14 +32,12 @@ fn read_op<'a>(
     start: Rest<'a>,
 ) -> Result<(Op, Rest<'a>), ParseFault>
     requires limit { count ≤ 32 }
-    requires room { HasRoom scope.old 34 }
-    requires locals { scope.old.locals ≡ [] }
+    requires room { CanOperate scope.old }
     requires place { IsLeftOf (length tokens.now) start }
     requires head { start.at ≡ at + 3 }
     ensures limit { IfOk result (λ _. count < 32) }
     ensures read { Gives (λ r. ((r.0, scope.new, r.1.at), kinds r.1.tokens.now)) result (op_in (lines_of tokens.now) scope.old count at name.now (kinds start.entry.tokens.now)) }
-    ensures names { IfOk result (λ _. GrowsBy scope.old scope.new 33) }
-    ensures locals { IfOk result (λ _. scope.new.locals ≡ []) }
+    ensures grows { IfOk result (λ _. GrowsByOps scope.old scope.new 33) }
     ensures place { IfOk result (λ r. IsLeftOf (length tokens.now) r.1) }
 {
     if count == MOST_OPS {
@@ -102,9 +46,9 @@ fn read_op<'a>(
             count: 33,
         });
     }
-    let number = scope.declare(name, at + 1, Thing::Taken)?;
+    let number = declare(scope, name, at + 1, Binding::Taken)?;
     let rest = read_all_locals(scope, start)?;
-    let (body, rest) = read_body(alloc, scope, tokens, rest)?;
+    let (body, rest) = read_block(alloc, scope, tokens, rest.tokens.len(), false, rest)?;
     let op = Op {
         name: number,
         locals: scope.take_locals(alloc),
@@ -121,8 +65,9 @@ pub fn read_ops<'a>(
     tokens: &[Token],
     start: Rest<'a>,
 ) -> Result<(Items<Op>, Rest<'a>), ParseFault>
-    requires room { HasRoom scope.old 1100 }
+    requires room { HasRoom scope.old 1400 }
     requires locals { scope.old.locals ≡ [] }
+    requires labels { scope.old.labels ≡ [] }
     requires place { IsLeftOf (length tokens.now) start }
     ensures { Gives (λ r. ((r.0, scope.new, r.1.at), kinds r.1.tokens.now)) result (ops_in (lines_of tokens.now) scope.old start.entry.at (kinds start.entry.tokens.now)) }
 {

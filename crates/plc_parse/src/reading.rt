@@ -1,27 +1,40 @@
 // The two passes. The first knows the grammar and no names; the second reads the forms again, where
 // they can stand in no other order, and looks each name up where it stands.
-ghost use Rattle.std.specs.Prelude.{◌≡◌, ◌<◌, ◌^◌, [], length, IfOk, IfErr};
+ghost use Rattle.std.specs.Prelude.{◌≡◌, ◌≤◌, ◌<◌, ◌^◌, ◌+◌, ◌∷◌, Some, Ok, [], false, length, IfOk, IfErr};
 ghost use Rattle.plc_lang.specs.Fit.{FileFits};
 ghost use Rattle.plc_lex.specs.declared.token.Token.{Token};
+ghost use Rattle.plc_lex.specs.declared.token.Keyword.TheVariants.{Outline};
 ghost use Rattle.plc_syntax.specs.Syntax.{kinds};
+ghost use Rattle.plc_forms.specs.Forms.{hold_word};
+ghost use Rattle.plc_forms.specs.Sizes.{watch_size};
+ghost use Rattle.plc_forms.specs.Views.{watch_tree};
+ghost use Rattle.plc_scope.specs.Answers.{Gives, HasRoom, GrowsBy};
+ghost use Rattle.plc_scope.specs.Scope.{most_locals};
 ghost use Rattle.plc_parse.specs.declared.unit.Unit.{Unit as FileUnit};
-ghost use Rattle.plc_parse.specs.Answers.{Gives, HasRoom, GrowsBy, Within, IsLeftOf};
-ghost use Rattle.plc_parse.specs.Reading.{struct_in, declarations_in, file_in};
+ghost use Rattle.plc_parse.specs.Growth.{Within, IsLeftOf, KeepsLists};
+ghost use Rattle.plc_parse.specs.Meaning.{retire, watch_means};
+ghost use Rattle.plc_parse.specs.Reading.{struct_in, declarations_in, watch_in, init_in, file_in};
 ghost use Rattle.plc_parse.specs.Units.{lines_of, IsUnitOf, IsFaultOf, IsShallowFile, UnitsAreUnique};
 
-use crate::declaration::{read_fields, read_shared};
-use crate::fault::ParseFault;
-use crate::forms::{closing_at, struct_at};
+use crate::auxiliary::read_ghosts;
+use crate::declaration::{declare, read_fields, read_functions, read_shared};
 use crate::operation::read_ops;
-use crate::rest::Rest;
-use crate::scope::{Scope, Thing};
+use crate::step::read_initials;
 use crate::unit::Unit;
 use plc_auto::Observer;
 use plc_base::{Items, What1};
-use plc_lang::{Field, File};
+use plc_forms::{Rest, Watch, closing_at, init_at, struct_at, watch_at};
+use plc_lang::{Field, File, Func, Prim};
 use plc_lex::Token;
+use plc_scope::{Binding, ParseFault, Scope};
 use plc_syntax::{SyntaxFault, syntax};
 use std::alloc::Global;
+
+/// `retire`, which is the first function of each file and takes a pointer.
+const RETIRE: Func = Func {
+    name: 0,
+    pointer: true,
+};
 
 // The struct's name, declared, and what is behind its opening brace.
 #[tactic(auto, unfolding(crate::specs::Reading::struct_in))]
@@ -30,35 +43,108 @@ fn read_struct(alloc: Global, tokens: &[Token]) -> Result<(Scope, Rest), ParseFa
     ensures read { Gives (λ r. ((r.0, r.1.at), kinds r.1.tokens.now)) result (struct_in (kinds tokens.now)) }
     ensures names { IfOk result (λ r. HasRoom r.0 65533) }
     ensures locals { IfOk result (λ r. r.0.locals ≡ []) }
+    ensures labels { IfOk result (λ r. r.0.labels ≡ []) }
     ensures place { IfOk result (λ r. IsLeftOf (length tokens.now) r.1) }
 {
     let Some((name, rest)) = struct_at(Rest { tokens, at: 0 }) else {
-        return Err(ParseFault::NotYet { at: 0 });
+        return Err(ParseFault::Syntax { at: 0 });
     };
     let mut scope = Scope::new(alloc)?;
-    scope.declare(name, 1, Thing::Taken)?;
+    declare(&mut scope, name, 1, Binding::Taken)?;
     Ok((scope, rest))
 }
 
-// The fields of the struct, and the shared pointers.
+/// The declarations of a file before those of auxiliary fields.
+#[derive(Drop)]
+struct Declared {
+    fields: Items<Field>,
+    shared: Items<u16>,
+    functions: Items<Func>,
+}
+
+// The fields of the struct, the shared pointers and the functions.
 #[tactic(auto, unfolding(crate::specs::Reading::declarations_in))]
 fn read_declarations<'a>(
     alloc: Global,
     scope: &mut Scope,
     start: Rest<'a>,
-) -> Result<(Items<Field>, Items<u16>, Rest<'a>), ParseFault>
-    requires { HasRoom scope.old 26 }
-    ensures read { Gives (λ r. ((r.0, r.1, scope.new, r.2.at), kinds r.2.tokens.now)) result (declarations_in scope.old start.entry.at (kinds start.entry.tokens.now)) }
-    ensures names { IfOk result (λ _. GrowsBy scope.old scope.new 24) }
-    ensures locals { IfOk result (λ _. scope.new.locals ≡ scope.old.locals) }
-    ensures place { IfOk result (λ r. Within start.entry r.2) }
+) -> Result<(Declared, Rest<'a>), ParseFault>
+    requires { HasRoom scope.old 50 }
+    ensures read { Gives (λ r. ((r.0.fields, r.0.shared, r.0.functions, scope.new, r.1.at), kinds r.1.tokens.now)) result (declarations_in scope.old start.entry.at (kinds start.entry.tokens.now)) }
+    ensures names { IfOk result (λ _. GrowsBy scope.old scope.new 40) }
+    ensures lists { IfOk result (λ _. KeepsLists scope.old scope.new) }
+    ensures place { IfOk result (λ r. Within start.entry r.1) }
 {
     let (fields, rest) = read_fields(alloc, scope, start)?;
     let Some(rest) = closing_at(rest) else {
-        return Err(ParseFault::NotYet { at: rest.at });
+        return Err(ParseFault::Syntax { at: rest.at });
     };
     let (shared, rest) = read_shared(alloc, scope, rest)?;
-    Ok((fields, shared, rest))
+    let (functions, rest) = read_functions(alloc, scope, rest)?;
+    let declared = Declared {
+        fields,
+        shared,
+        functions,
+    };
+    Ok((declared, rest))
+}
+
+// What a file says that is watched.
+fn observer(scope: &Scope, at: u32, watch: Watch) -> Result<Observer, ParseFault>
+    requires locals { length scope.now.locals ≤ most_locals }
+    requires place { at + watch_size (watch_tree watch) < 2 ^ 32 }
+    ensures { Gives (λ o. (o, at + watch_size (watch_tree watch.entry))) result (watch_means scope.now at (Some (watch_tree watch.entry))) }
+{
+    match watch {
+        Watch::Hazard(name) => Ok(Observer::Hazard(scope.protecting_at(name, at + 3)?)),
+        Watch::Epoch(enter, leave) => {
+            let enter = scope.without_pointer_at(enter, at + 3)?;
+            let leave = scope.without_pointer_at(leave, at + 5)?;
+            Ok(Observer::Epoch(enter, leave))
+        }
+    }
+}
+
+// The observer, which is plain where the file names none.
+#[tactic(auto, unfolding(crate::specs::Reading::watch_in))]
+fn read_watch<'a>(scope: &Scope, start: Rest<'a>) -> Result<(Observer, Rest<'a>), ParseFault>
+    requires { length scope.now.locals ≤ most_locals }
+    ensures read { Gives (λ r. ((r.0, r.1.at), kinds r.1.tokens.now)) result (watch_in scope.now start.entry.at (kinds start.entry.tokens.now)) }
+    ensures place { IfOk result (λ r. Within start.entry r.1) }
+{
+    match watch_at(start) {
+        Some((watch, behind)) => {
+            let observer = observer(scope, start.at, watch)?;
+            Ok((observer, behind))
+        }
+        None => Ok((Observer::Plain, start)),
+    }
+}
+
+// The primitives of `init`, which may be left out.
+#[tactic(auto, unfolding(crate::specs::Reading::init_in))]
+fn read_init<'a>(
+    alloc: Global,
+    scope: &Scope,
+    start: Rest<'a>,
+) -> Result<(Items<Prim>, Rest<'a>), ParseFault>
+    requires { length scope.now.locals ≤ most_locals }
+    ensures read { Gives (λ r. ((r.0, r.1.at), kinds r.1.tokens.now)) result (init_in scope.now start.entry.at (kinds start.entry.tokens.now)) }
+    ensures place { IfOk result (λ r. Within start.entry r.1) }
+{
+    match init_at(start) {
+        Some(behind) => read_initials(alloc, scope, behind),
+        None => Ok((Items::new(alloc), start)),
+    }
+}
+
+// The functions of a file: `retire`, and then those that it declares.
+fn with_retire(functions: Items<Func>) -> Result<Items<Func>, ParseFault>
+    ensures { Gives (λ all. all) result (Ok (retire ∷ functions)) }
+{
+    let mut all = functions.into_vec();
+    all.insert(0, RETIRE)?;
+    Ok(Items::from_vec(all))
 }
 
 // The unit of tokens that are a file's.
@@ -68,21 +154,25 @@ fn read_file(alloc: Global, tokens: &[Token]) -> Result<Unit, ParseFault>
     ensures { Gives (λ unit. unit) result (file_in (lines_of tokens.now) (kinds tokens.now)) }
 {
     let (mut scope, rest) = read_struct(alloc, tokens)?;
-    let (fields, shared, rest) = read_declarations(alloc, &mut scope, rest)?;
+    let (declared, rest) = read_declarations(alloc, &mut scope, rest)?;
+    let (observer, rest) = read_watch(&scope, rest)?;
+    let (ghosts, rest) = read_ghosts(alloc, &mut scope, rest)?;
+    let (init, rest) = read_init(alloc, &scope, rest)?;
     let (ops, rest) = read_ops(alloc, &mut scope, tokens, rest)?;
     if !rest.tokens.is_empty() {
-        return Err(ParseFault::NotYet { at: rest.at });
+        return Err(ParseFault::Syntax { at: rest.at });
     }
     let file = File {
         names: scope.names,
-        fields,
-        shared,
+        fields: declared.fields,
+        shared: declared.shared,
+        funcs: with_retire(declared.functions)?,
+        ghosts,
+        init,
         ops,
+        labels: scope.labels,
     };
-    Ok(Unit {
-        file,
-        observer: Observer::Plain,
-    })
+    Ok(Unit { file, observer })
 }
 
 fn check_syntax(alloc: Global, tokens: &[Token]) -> Result<(), ParseFault>
@@ -103,11 +193,11 @@ fn check_syntax(alloc: Global, tokens: &[Token]) -> Result<(), ParseFault>
 }
 
 /// The unit that tokens spell, or the fault at the least token; of two faults at one token the
-/// syntax goes first, then the order of [`ParseFault`]. There are fewer than 2^32 tokens. A form of
-/// the language beside the struct, the shared pointers and operations of assignments is `NotYet` at
-/// its first token.
+/// syntax goes first, then the order of [`ParseFault`]. There are fewer than 2^32 tokens, and none of
+/// them is the word `outline`, since outlines aren't read yet; [`plc_forms::holds_word`] tells.
 pub fn parse(alloc: Global, tokens: &[Token]) -> Result<Unit, ParseFault>
-    requires { length tokens.now < 2 ^ 32 }
+    requires few { length tokens.now < 2 ^ 32 }
+    requires no_outline { hold_word Outline (kinds tokens.now) ≡ false }
     ensures ok { IfOk result (λ unit. IsUnitOf tokens.now unit) }
     ensures spelled { (unit : FileUnit) → IsUnitOf tokens.now unit → IfErr result (λ e. e ≡ ParseFault.Memory) }
     ensures fault { IfErr result (IsFaultOf tokens.now) }

@@ -1,8 +1,11 @@
 // Files with what they mean, counted by hand, each case of each fault with its place, and each limit
 // at its count and at one more. That there is memory for a unit is what no contract can say.
 use super::*;
-use plc_lang::{Line, Local, Num, Prim, Stmt, Var};
-use plc_lex::tokens;
+use plc_auto::Observer;
+use plc_base::FuncId;
+use plc_forms::holds_word;
+use plc_lang::{File, GhostVal, Line, Local, Op, Prim, Stmt, Var};
+use plc_lex::{Keyword, tokens};
 use std::alloc::{AllocError, Global};
 
 /// The longest text that has tokens.
@@ -13,7 +16,13 @@ fn read(alloc: Global, text: &[u8]) -> Result<Unit, ParseFault> {
         return Err(ParseFault::Memory);
     }
     match tokens(alloc, text) {
-        Ok(tokens) => parse(alloc, &tokens),
+        Ok(tokens) => {
+            let tokens = tokens.as_slice();
+            if holds_word(tokens, Keyword::Outline) {
+                return Err(ParseFault::Memory);
+            }
+            parse(alloc, tokens)
+        }
         Err(_) => Err(ParseFault::Memory),
     }
 }
@@ -29,6 +38,13 @@ fn shown(alloc: Global, text: &[u8]) -> Result<String, AllocError> {
 fn with_statement(alloc: Global, statement: &str) -> Result<String, AllocError> {
     format!(in alloc;
         "struct Node {{ ptr next; data val; }} shared Top; op f(v) {{ ptr n; data x; {statement} }} op g() {{ }}"
+    )
+}
+
+// The same in a file with functions and auxiliary fields; it begins at place 45.
+fn with_functions(alloc: Global, statement: &str) -> Result<String, AllocError> {
+    format!(in alloc;
+        "struct Node {{ ptr next; }} shared Top; call enter(); call guard(ptr); ghost st {{ made, cut }}; ghost owner thread; op f(v) {{ ptr n; data x; {statement} }}"
     )
 }
 
@@ -49,22 +65,80 @@ fn with_many(
     Ok(text)
 }
 
+// The lines of an operation.
+fn lines(file: &File, op: usize) -> Option<&[Line]> {
+    let op: &Op = file.ops.get(op)?;
+    Some(op.body.lines())
+}
+
+// A stack whose pops protect what they read, with auxiliary fields.
+const STACK: &str = "struct Node { ptr next; data val; }
+shared Top;
+call protect(ptr);
+use hazard(protect);
+ghost st { made, linked, cut };
+ghost owner thread;
+op push(v) {
+ptr n; ptr t;
+atomic { n := new; ghost n.owner := me; }
+n.val := v;
+loop {
+t := Top;
+n.next := t;
+choose {
+atomic { n.next ?= Top; ghost n.st := linked; ghost n.owner := none; Top := n; n := null; }
+return;
+} or { }
+}
+}
+op pop() {
+ptr t; ptr s;
+loop {
+t := Top;
+if (t == null) { return; }
+protect(t);
+choose {
+atomic { t ?= Top; active t; }
+s := t.next;
+label d;
+choose {
+label e;
+atomic { active Top; assume Top == t; ghost t.st := cut; ghost t.owner := me; Top := s; }
+label f;
+retire(active t);
+return;
+} or {
+atomic { active Top; assume Top != t; }
+}
+} or { }
+}
+}
+";
+
 #[test]
-fn a_file_spells_a_unit(rt: HostRuntime) -> Result<(), ParseFault> {
-    let text =
-        b"struct Node { ptr next; data val; }\nshared Top;\nop f(v) {\n ptr n;\n n := new; n.val := v;\n Top := n;\n}";
-    let file = read(rt.alloc(), text)?.file;
-    assert_eq!(rt; file.names.len(), 8);
+fn a_file_declares_its_names(rt: HostRuntime) -> Result<(), ParseFault> {
+    let unit = read(rt.alloc(), STACK.as_bytes())?;
+    let file = unit.file;
+    assert_eq!(rt; unit.observer, Observer::Hazard(FuncId(1)));
+    assert_eq!(rt; file.names.len(), 20);
     assert_eq!(rt; file.fields.len(), 2);
     assert_eq!(rt; file.shared.len(), 1);
-    assert_eq!(rt; file.ops.len(), 1);
-    let Some(op) = file.ops.get(0) else {
+    assert_eq!(rt; file.funcs.len(), 2);
+    assert_eq!(rt; file.ghosts.len(), 2);
+    assert_eq!(rt; file.init.len(), 0);
+    assert_eq!(rt; file.ops.len(), 2);
+    assert_eq!(rt; file.labels.len(), 3);
+    let Some(ghost_st) = file.ghosts.get(0) else {
         return Err(ParseFault::Memory);
     };
-    assert_eq!(rt; op.line, 3);
-    let locals = [(6, false, true), (7, true, false)];
-    assert_eq!(rt; op.locals.len(), 2);
-    for (local, (name, pointer, param)) in op.locals.as_slice().iter().zip(locals) {
+    assert_eq!(rt; ghost_st.values.len(), 3);
+    let Some(push) = file.ops.get(0) else {
+        return Err(ParseFault::Memory);
+    };
+    assert_eq!(rt; push.line, 7);
+    let locals = [(12, false, true), (13, true, false), (14, true, false)];
+    assert_eq!(rt; push.locals.len(), 3);
+    for (local, (name, pointer, param)) in push.locals.as_slice().iter().zip(locals) {
         assert_eq!(rt;
             *local,
             Local {
@@ -74,35 +148,64 @@ fn a_file_spells_a_unit(rt: HostRuntime) -> Result<(), ParseFault> {
             }
         );
     }
+    Ok(())
+}
+
+#[test]
+fn an_atomic_block_is_its_primitives(rt: HostRuntime) -> Result<(), ParseFault> {
+    let file = read(rt.alloc(), STACK.as_bytes())?.file;
+    let Some([first, second, third]) = lines(&file, 0) else {
+        return Err(ParseFault::Memory);
+    };
+    assert_eq!(rt; (first.line, second.line, third.line), (9, 10, 11));
+    let Stmt::Atomic(primitives) = &first.stmt else {
+        return Err(ParseFault::Memory);
+    };
     let n = Var::Local(0);
-    let rows = [
-        (5, Prim::New { p: n }),
-        (
-            5,
-            Prim::DataStore {
-                p: n,
-                f: plc_base::FieldId(1),
-                e: Num::Local(0),
-            },
-        ),
-        (
-            6,
-            Prim::Copy {
-                p: Var::Shared(0),
-                q: n,
-            },
-        ),
-    ];
-    assert_eq!(rt; op.body.len(), 3);
-    for (line, (number, primitive)) in op.body.as_slice().iter().zip(rows) {
-        assert_eq!(rt;
-            *line,
-            Line {
-                line: number,
-                stmt: Stmt::One(primitive)
-            }
-        );
+    let owned = Prim::Ghost {
+        p: n,
+        g: 1,
+        v: GhostVal::Me,
+    };
+    assert_eq!(rt; primitives.len(), 2);
+    for (primitive, wanted) in primitives
+        .as_slice()
+        .iter()
+        .zip([Prim::New { p: n }, owned])
+    {
+        assert_eq!(rt; *primitive, wanted);
     }
+    Ok(())
+}
+
+#[test]
+fn blocks_stand_within_one_another(rt: HostRuntime) -> Result<(), ParseFault> {
+    let file = read(rt.alloc(), STACK.as_bytes())?.file;
+    let Some([line]) = lines(&file, 1) else {
+        return Err(ParseFault::Memory);
+    };
+    assert_eq!(rt; line.line, 22);
+    let Stmt::Loop(body) = &line.stmt else {
+        return Err(ParseFault::Memory);
+    };
+    let [load, test, guard, choice] = body.lines() else {
+        return Err(ParseFault::Memory);
+    };
+    assert_eq!(rt;
+        (load.line, test.line, guard.line, choice.line),
+        (23, 24, 25, 26)
+    );
+    let Stmt::If { yes, no, .. } = &test.stmt else {
+        return Err(ParseFault::Memory);
+    };
+    assert_eq!(rt; (yes.lines().len(), no.lines().len()), (1, 0));
+    let Stmt::Choose(blocks) = &choice.stmt else {
+        return Err(ParseFault::Memory);
+    };
+    let [some, none] = blocks.as_slice() else {
+        return Err(ParseFault::Memory);
+    };
+    assert_eq!(rt; (some.lines().len(), none.lines().len()), (4, 0));
     Ok(())
 }
 
@@ -117,42 +220,19 @@ fn statements_are_judged_at_their_tokens(rt: HostRuntime) -> Result<(), AllocErr
             "n.next := null; n.val := 3; n.val := v; x := 3; x := v; v := n.val;",
             "unit",
         ),
+        (
+            "active n; assume n == Top; skip; return; n ?= Top; n ?= Top.next; n.next ?= Top;",
+            "unit",
+        ),
         ("x := null;", "WrongSort { at: 27 }"),
-        ("x := new;", "WrongSort { at: 27 }"),
         ("n := 5;", "WrongSort { at: 27 }"),
-        ("x := n;", "WrongSort { at: 27 }"),
-        ("n := x;", "WrongSort { at: 27 }"),
-        ("x := v.val;", "WrongSort { at: 27 }"),
         ("x := n.next;", "WrongSort { at: 29 }"),
-        ("n := n.val;", "WrongSort { at: 29 }"),
-        ("n := n.Top;", "WrongSort { at: 29 }"),
-        ("n.next := 5;", "WrongSort { at: 29 }"),
-        ("n.next := v;", "WrongSort { at: 29 }"),
-        ("n.val := null;", "WrongSort { at: 29 }"),
-        ("n.val := n;", "WrongSort { at: 29 }"),
         ("n.x := n;", "WrongSort { at: 27 }"),
-        ("v.val := 1;", "WrongSort { at: 25 }"),
         ("next := n;", "WrongSort { at: 25 }"),
-        ("f := null;", "WrongSort { at: 25 }"),
         ("retire := null;", "WrongSort { at: 25 }"),
         ("y := null;", "Undeclared { at: 25 }"),
         ("n := g;", "Undeclared { at: 27 }"),
-        ("n := n.y;", "Undeclared { at: 29 }"),
         ("n := null; x := y; z := 1;", "Undeclared { at: 31 }"),
-        ("n ?= Top;", "NotYet { at: 25 }"),
-        ("n.next ?= Top;", "NotYet { at: 25 }"),
-        ("n := null; retire(n);", "NotYet { at: 29 }"),
-        ("atomic { n := null; }", "NotYet { at: 25 }"),
-        ("if (n == null) { }", "NotYet { at: 25 }"),
-        ("choose { } or { }", "NotYet { at: 25 }"),
-        ("loop { }", "NotYet { at: 25 }"),
-        ("break;", "NotYet { at: 25 }"),
-        ("return;", "NotYet { at: 25 }"),
-        ("label L;", "NotYet { at: 25 }"),
-        ("skip;", "NotYet { at: 25 }"),
-        ("active n;", "NotYet { at: 25 }"),
-        ("assume n == Top;", "NotYet { at: 25 }"),
-        ("ghost n.g := me;", "NotYet { at: 25 }"),
         ("n := null", "Syntax { at: 28 }"),
         ("y := ;", "Syntax { at: 27 }"),
     ];
@@ -168,12 +248,95 @@ fn statements_are_judged_at_their_tokens(rt: HostRuntime) -> Result<(), AllocErr
 }
 
 #[test]
+fn calls_and_auxiliary_fields_are_judged_at_their_tokens(
+    rt: HostRuntime,
+) -> Result<(), AllocError> {
+    let rows = [
+        (
+            "enter(); guard(n); guard(active n) during h; retire(n);",
+            "unit",
+        ),
+        ("guard(null);", "unit"),
+        ("retire(null);", "NoSuchCall { at: 45 }"),
+        ("enter(n);", "NoSuchCall { at: 45 }"),
+        ("guard();", "NoSuchCall { at: 45 }"),
+        ("free();", "Undeclared { at: 45 }"),
+        ("n();", "WrongSort { at: 45 }"),
+        ("guard(x);", "WrongSort { at: 47 }"),
+        ("guard(active x);", "WrongSort { at: 48 }"),
+        ("guard(y);", "Undeclared { at: 47 }"),
+        (
+            "ghost n.st := made; ghost n.owner := me; ghost n.owner := none;",
+            "unit",
+        ),
+        ("ghost n.st := me;", "WrongSort { at: 50 }"),
+        ("ghost n.owner := made;", "WrongSort { at: 50 }"),
+        ("ghost n.owner := y;", "Undeclared { at: 50 }"),
+        ("ghost n.next := made;", "WrongSort { at: 48 }"),
+        ("ghost x.st := made;", "WrongSort { at: 46 }"),
+    ];
+    for (statement, answer) in rows {
+        let text = with_functions(rt.alloc(), statement)?;
+        assert_eq!(rt;
+            shown(rt.alloc(), text.as_bytes())?.as_str(),
+            answer,
+            "{statement}"
+        );
+    }
+    Ok(())
+}
+
+#[test]
+fn blocks_and_labels_are_judged_at_their_tokens(rt: HostRuntime) -> Result<(), AllocError> {
+    let rows = [
+        ("if (n == null) { } else { } if (x < 3) { }", "unit"),
+        (
+            "if (n ?= Top) { } if (cas(Top, null, n)) { } if (cas(active Top, n, null)) { }",
+            "unit",
+        ),
+        ("if (n < Top) { }", "WrongSort { at: 48 }"),
+        ("if (cas(x, null, n)) { }", "WrongSort { at: 49 }"),
+        ("loop { choose { break; } or { } or { break; } }", "unit"),
+        ("break;", "Undeclared { at: 45 }"),
+        ("choose { } or { break; }", "Undeclared { at: 50 }"),
+        ("loop { } break;", "Undeclared { at: 48 }"),
+        ("label d; label d;", "Duplicate { at: 49 }"),
+        ("label n;", "Duplicate { at: 46 }"),
+        ("guard(n) during d; label d;", "Duplicate { at: 53 }"),
+        ("loop { label d; } label d;", "Duplicate { at: 52 }"),
+        ("if (n == d) { } label d;", "Undeclared { at: 49 }"),
+        ("label d; n := d;", "WrongSort { at: 50 }"),
+        ("atomic { skip; n := new; } n := new;", "unit"),
+        (
+            "atomic { n := new; n := new; }",
+            "Limit { what: News, count: 2 }",
+        ),
+        (
+            "if (n == null) { y := n; } else { }",
+            "Undeclared { at: 52 }",
+        ),
+        (
+            "if (n == null) { } else { y := n; }",
+            "Undeclared { at: 55 }",
+        ),
+    ];
+    for (statement, answer) in rows {
+        let text = with_functions(rt.alloc(), statement)?;
+        assert_eq!(rt;
+            shown(rt.alloc(), text.as_bytes())?.as_str(),
+            answer,
+            "{statement}"
+        );
+    }
+    Ok(())
+}
+
+#[test]
 fn declarations_are_judged_at_their_names(rt: HostRuntime) -> Result<(), AllocError> {
     let rows = [
         ("struct N { } op f(v) { } op g(v) { ptr w; }", "unit"),
         ("struct retire { }", "Duplicate { at: 1 }"),
         ("struct N { ptr N; }", "Duplicate { at: 4 }"),
-        ("struct N { ptr retire; }", "Duplicate { at: 4 }"),
         ("struct N { ptr a; data a; }", "Duplicate { at: 7 }"),
         ("struct N { ptr a; } shared a;", "Duplicate { at: 8 }"),
         ("struct N { ptr a; } op f(a) { }", "Duplicate { at: 10 }"),
@@ -185,21 +348,54 @@ fn declarations_are_judged_at_their_names(rt: HostRuntime) -> Result<(), AllocEr
             "Duplicate { at: 12 }",
         ),
         (
-            "struct N { } op f() { ptr g; x := g; } op f() { }",
-            "Undeclared { at: 12 }",
-        ),
-        (
             "struct N { } op f(v) { } op g() { v := 1; }",
             "Undeclared { at: 16 }",
         ),
-        ("struct N { } call enter(); op f(f) { }", "NotYet { at: 4 }"),
-        ("struct N { } use hazard(f);", "NotYet { at: 4 }"),
-        ("struct N { } ghost g thread;", "NotYet { at: 4 }"),
-        ("struct N { } init { }", "NotYet { at: 4 }"),
-        ("struct N { } op f() { } outline { }", "NotYet { at: 10 }"),
-        ("struct N { } op f() { } ;", "Syntax { at: 10 }"),
-        ("struct N { } op f() { x := y;", "Syntax { at: 13 }"),
+        (
+            "struct N { } call enter(); op f(f) { }",
+            "Duplicate { at: 12 }",
+        ),
+        ("struct N { } ghost g thread; init { }", "unit"),
+        ("struct N { } ghost g { a, a };", "Duplicate { at: 9 }"),
+        (
+            "struct N { ptr f; } shared T; init { T.f := null; }",
+            "unit",
+        ),
+        (
+            "struct N { } shared T; ghost g thread; init { ghost T.g := me; }",
+            "WrongSort { at: 18 }",
+        ),
+        ("struct N { } use hazard(f);", "Undeclared { at: 7 }"),
+        (
+            "struct N { } call a(ptr); use epoch(a, a);",
+            "WrongSort { at: 13 }",
+        ),
+        ("struct N { } call a(); call b(); use epoch(a, b);", "unit"),
+        ("struct N { } call a(ptr); use hazard(a);", "unit"),
+        (
+            "struct N { } call a ( ) ; use hazard ( a ) ;",
+            "WrongSort { at: 12 }",
+        ),
+        (
+            "struct N { } use hazard ( retire ) ;",
+            "WrongSort { at: 7 }",
+        ),
+        (
+            "struct N { } call a ( ptr ) ; use hazard ( a ) ; use hazard ( a ) ;",
+            "Syntax { at: 16 }",
+        ),
+        (
+            "struct N { } op f ( ) { ptr n ; m := n ; }",
+            "Undeclared { at: 12 }",
+        ),
+        (
+            "struct N { } op f ( ) { ptr n ; atomic { n := new ;",
+            "Syntax { at: 18 }",
+        ),
+        ("struct N { } }", "Syntax { at: 4 }"),
+        ("struct N { }", "unit"),
         ("", "Syntax { at: 0 }"),
+        ("struct N { } op f() { } ;", "Syntax { at: 10 }"),
     ];
     for (text, answer) in rows {
         assert_eq!(rt;
@@ -211,66 +407,131 @@ fn declarations_are_judged_at_their_names(rt: HostRuntime) -> Result<(), AllocEr
     Ok(())
 }
 
+// A text with the most of something, and the fault of one more.
+const LIMITS: [(u32, &str, &str, &str, &str, &str); 13] = [
+    (
+        8,
+        "struct N { ",
+        "ptr a",
+        "; ",
+        "}",
+        "Limit { what: Fields, count: 9 }",
+    ),
+    (
+        16,
+        "struct N { } ",
+        "shared a",
+        "; ",
+        "",
+        "Limit { what: Shared, count: 17 }",
+    ),
+    (
+        16,
+        "struct N { } ",
+        "call a",
+        "(); ",
+        "",
+        "Limit { what: Calls, count: 17 }",
+    ),
+    (
+        4,
+        "struct N { } ",
+        "ghost a",
+        " thread; ",
+        "",
+        "Limit { what: Ghosts, count: 5 }",
+    ),
+    (
+        15,
+        "struct N { } ghost g { v",
+        ", a",
+        "",
+        "};",
+        "Limit { what: Values, count: 17 }",
+    ),
+    (
+        32,
+        "struct N { } ",
+        "op a",
+        "() { } ",
+        "",
+        "Limit { what: Ops, count: 33 }",
+    ),
+    (
+        32,
+        "struct N { } op f() { ",
+        "data a",
+        "; ",
+        "}",
+        "Limit { what: Locals, count: 33 }",
+    ),
+    (
+        31,
+        "struct N { } op f(v",
+        ", a",
+        "",
+        ") { }",
+        "Limit { what: Locals, count: 33 }",
+    ),
+    (
+        31,
+        "struct N { } op f(v) { ",
+        "ptr a",
+        "; ",
+        "}",
+        "Limit { what: Locals, count: 33 }",
+    ),
+    (
+        256,
+        "struct N { } op f() { ",
+        "label a",
+        "; ",
+        "}",
+        "Limit { what: Labels, count: 257 }",
+    ),
+    (
+        255,
+        "struct N { } call e(); op f() { e() during l; ",
+        "label a",
+        "; ",
+        "}",
+        "Limit { what: Labels, count: 257 }",
+    ),
+    (
+        64,
+        "struct N { } op f() { data x; atomic { ",
+        "x := ",
+        "; skip; ",
+        "} }",
+        "Limit { what: Prims, count: 65 }",
+    ),
+    (
+        64,
+        "struct N { data d; } shared T; init { ",
+        "T.d := ",
+        "; ",
+        "}",
+        "Limit { what: Prims, count: 65 }",
+    ),
+];
+
 #[test]
 fn limits_are_passed_at_one_more(rt: HostRuntime) -> Result<(), AllocError> {
-    let rows = [
-        (
-            8,
-            "struct N { ",
-            "ptr a",
-            "; ",
-            "}",
-            "Limit { what: Fields, count: 9 }",
-        ),
-        (
-            16,
-            "struct N { } ",
-            "shared a",
-            "; ",
-            "",
-            "Limit { what: Shared, count: 17 }",
-        ),
-        (
-            32,
-            "struct N { } op f() { ",
-            "data a",
-            "; ",
-            "}",
-            "Limit { what: Locals, count: 33 }",
-        ),
-        (
-            31,
-            "struct N { } op f(v",
-            ", a",
-            "",
-            ") { }",
-            "Limit { what: Locals, count: 33 }",
-        ),
-        (
-            31,
-            "struct N { } op f(v) { ",
-            "ptr a",
-            "; ",
-            "}",
-            "Limit { what: Locals, count: 33 }",
-        ),
-        (
-            32,
-            "struct N { } ",
-            "op a",
-            "() { } ",
-            "",
-            "Limit { what: Ops, count: 33 }",
-        ),
-    ];
-    for (most, before, left, right, after, answer) in rows {
+    for (most, before, left, right, after, answer) in LIMITS {
         let text = with_many(rt.alloc(), most, before, left, right, after)?;
         assert_eq!(rt;
             shown(rt.alloc(), text.as_bytes())?.as_str(),
             "unit",
             "{left}"
         );
-        let text = with_many(rt.alloc(), most + 1, before, left, right, after)?;
+        let text = with_many(
+            rt.alloc(),
+            most.saturating_add(1),
+            before,
+            left,
+            right,
+            after,
+        )?;
         assert_eq!(rt;
             shown(rt.alloc(), text.as_bytes())?.as_str(),
             answer,
@@ -282,10 +543,7 @@ fn limits_are_passed_at_one_more(rt: HostRuntime) -> Result<(), AllocError> {
 
 #[test]
 fn blocks_nest_64_deep(rt: HostRuntime) -> Result<(), AllocError> {
-    for (depth, answer) in [
-        (64, "NotYet { at: 9 }"),
-        (65, "Limit { what: Nesting, count: 65 }"),
-    ] {
+    for (depth, answer) in [(64, "unit"), (65, "Limit { what: Nesting, count: 65 }")] {
         let mut text = String::from_str(rt.alloc(), "struct N { } op f() { ")?;
         for _ in 0..depth {
             text.push_str("loop { ")?;

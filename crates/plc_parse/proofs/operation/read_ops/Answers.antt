@@ -1,46 +1,37 @@
-use Rattle.std.proofs.Common.{◌≡◌, ◌∙◌, ◌+◌, ◌*◌, ◌-◌, ◌<◌, suc, List, [], ◌∷◌, length, refl, sym, ap, arith}
+use Rattle.std.proofs.Common.{◌≡◌, ◌∙◌, ◌+◌, ◌*◌, ◌-◌, ◌<◌, suc, List, [], ◌∷◌, length, sym, ap, arith}
 use Rattle.std.proofs.lemmas.List.{length-append}
 use Rattle.std.proofs.lemmas.Result.{err_from_is_err_and}
 use Rattle.plc_syntax.specs.Syntax.{kinds}
 use Rattle.plc_lang.specs.declared.syntax.Op.{Op}
-use Rattle.plc_parse.specs.Reading.{ops_in, ops_within}
+use Rattle.plc_forms.specs.Forms.{head_of}
+use Rattle.plc_parse.specs.Reading.{listed_within, op_in}
 use Rattle.plc_parse.specs.Units.{lines_of}
-use Rattle.plc_parse.proofs.OpSteps.{ops_turns, ops_stops, ops_ends}
-use Rattle.plc_parse.proofs.Growth.{grows_then}
+use Rattle.plc_parse.proofs.Stops.{listed_turns, listed_stops}
+use Rattle.plc_parse.proofs.Listed.{listed_ends}
+use Rattle.plc_parse.proofs.Growth.{ops_then}
 use Rattle.plc_parse.proofs.operation.read_ops.Goals as goal
-
-pub loop-name-init : goal.loop-name-init
-unfolding ops_in
-loop-name-init c = record {
-  count = omega (arith, ap length c.new-ops.ensures);
-  names = record { names = omega arith; limit = refl };
-  locals = c.requires.locals;
-  place = c.requires.place;
-  read = rw c.new-ops.ensures refl;
-}
 
 pub returns-in_err-op : goal.returns-in_err-op
 returns-in_err-op c =
     let p = err_from_is_err_and c.from_residual.result c.from_residual.ensures.1 in
-    let more : 33 - length c.loop-name.ops ≡ suc (32 - length c.loop-name.ops) = omega arith in
-    rw (p.1, p.2) (ops_stops (lines_of c.args.tokens.now) _ (33 - length c.loop-name.ops) (32 - length c.loop-name.ops) (c.loop-name.ops, c.loop-name.scope, c.loop-name.rest.at) _ (c.in-Some.name.now, kinds c.in-Some.behind.tokens.now) _ more
+    let more : 33 - length c.loop-name.ops ≡ suc (32 - length c.loop-name.ops) = omega (arith, c.loop-name.invariant.count) in
+    rw (p.1, p.2) (listed_stops head_of (op_in (lines_of c.args.tokens.now)) _ (33 - length c.loop-name.ops) (32 - length c.loop-name.ops) (c.loop-name.ops, c.loop-name.scope, c.loop-name.rest.at) _ (c.in-Some.name.now, kinds c.in-Some.behind.tokens.now) _ more
     c.in-Some.ensures.read (rw c.len.ensures at c.in_err-op.ensures.read) c.loop-name.invariant.read)
 
 pub loop-name-preserved : goal.loop-name-preserved
 loop-name-preserved c =
     let count : length c.push.new.self ≡ length c.loop-name.ops + 1 = ap length c.in_ok-push.ensures.ok ∙ length-append c.loop-name.ops (c.in_ok-op.op ∷ []) in
-    let limit : length c.loop-name.ops < 32 = omega (arith, c.in_ok-op.ensures.limit, c.len.ensures) in
+    let less : length c.loop-name.ops < 32 = omega (arith, c.in_ok-op.ensures.limit, c.len.ensures) in
     let more : 33 - length c.loop-name.ops ≡ suc (33 - length c.push.new.self) = omega arith in
     record {
       count = omega arith;
-      names = grows_then _ _ _ (33 * length c.loop-name.ops) 33 _ (omega arith) c.loop-name.invariant.names c.in_ok-op.ensures.names;
-      locals = c.in_ok-op.ensures.locals;
+      grows = ops_then _ _ _ (33 * length c.loop-name.ops) _ (omega arith) c.loop-name.invariant.grows c.in_ok-op.ensures.grows;
       place = c.in_ok-op.ensures.place;
-      read = ap (λ (ops : List Op). ops_within (lines_of c.args.tokens.now) (33 - length c.push.new.self) (ops, c.read_op.new.scope, c.in_ok-op.end.at) (kinds c.in_ok-op.end.tokens.now)) c.in_ok-push.ensures.ok
-          ∙ sym (ops_turns (lines_of c.args.tokens.now) (33 - length c.loop-name.ops) (33 - length c.push.new.self) (c.loop-name.ops, c.loop-name.scope, c.loop-name.rest.at) _ (c.in-Some.name.now, kinds c.in-Some.behind.tokens.now)
+      read = ap (λ (ops : List Op). listed_within head_of (op_in (lines_of c.args.tokens.now)) (33 - length c.push.new.self) (ops, c.read_op.new.scope, c.in_ok-op.end.at) (kinds c.in_ok-op.end.tokens.now)) c.in_ok-push.ensures.ok
+          ∙ sym (listed_turns head_of (op_in (lines_of c.args.tokens.now)) (33 - length c.loop-name.ops) (33 - length c.push.new.self) (c.loop-name.ops, c.loop-name.scope, c.loop-name.rest.at) _ (c.in-Some.name.now, kinds c.in-Some.behind.tokens.now)
           ((c.in_ok-op.op, c.read_op.new.scope, c.in_ok-op.end.at), kinds c.in_ok-op.end.tokens.now) more c.in-Some.ensures.read (rw c.len.ensures at c.in_ok-op.ensures.read))
           ∙ c.loop-name.invariant.read;
     }
 
 pub returns : goal.returns
-returns c = sym c.loop-name.invariant.read ∙ ops_ends (lines_of c.args.tokens.now) (33 - length c.loop-name.ops) _ _ c.in_default.ensures.read
+returns c = sym c.loop-name.invariant.read ∙ listed_ends head_of (op_in (lines_of c.args.tokens.now)) (33 - length c.loop-name.ops) _ _ c.in_default.ensures.read

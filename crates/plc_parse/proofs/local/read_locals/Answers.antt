@@ -1,0 +1,35 @@
+use Rattle.std.proofs.Common.{◌∙◌, ◌+◌, Result, Ok, refl, sym, ap}
+use Rattle.std.proofs.lemmas.Result.{err_from_is_err_and}
+use Rattle.plc_syntax.specs.Syntax.{kinds}
+use Rattle.plc_forms.specs.Forms.{field_of}
+use Rattle.plc_forms.specs.Views.{field_tree}
+use Rattle.plc_forms.proofs.Shrinks.{field_shrinks}
+use Rattle.plc_scope.specs.declared.fault.ParseFault.{ParseFault}
+use Rattle.plc_scope.specs.declared.scope.Scope.{Scope}
+use Rattle.plc_scope.specs.Scope.{◌>>=◌}
+use Rattle.plc_parse.specs.Meaning.{local_means}
+use Rattle.plc_parse.specs.Reading.{local_step}
+use Rattle.plc_parse.proofs.Loop.{each_ends}
+use Rattle.plc_parse.proofs.Stops.{each_turns, each_fails}
+use Rattle.plc_parse.proofs.Growth.{locals_then, within_then}
+use Rattle.plc_parse.proofs.local.read_locals.Goals as goal
+
+pub returns-in_err-declare_local-clause-read :
+    goal.returns-in_err-declare_local-clause-read
+returns-in_err-declare_local-clause-read c =
+    let p = err_from_is_err_and c.from_residual.result c.from_residual.ensures.1 in
+    rw (p.1, p.2) (each_fails field_of local_step field_shrinks _ _ _ (field_tree c.in-Some.declaration, kinds c.in-Some.behind.tokens.now) _ (local_means c.loop-declaration.scope c.loop-declaration.rest.at (field_tree c.in-Some.declaration)) (λ t. Ok (t, c.loop-declaration.rest.at + 3))
+    c.in-Some.ensures.read refl c.in_err-declare_local.ensures.read c.loop-declaration.invariant.read)
+
+pub loop-declaration-preserved : goal.loop-declaration-preserved
+loop-declaration-preserved c = record {
+  names = locals_then _ _ _ c.loop-declaration.invariant.names c.in_ok-declare_local.ensures.names;
+  labels = c.in_ok-declare_local.ensures.labels ∙ c.loop-declaration.invariant.labels;
+  place = within_then _ _ _ 3 c.loop-declaration.invariant.place c.in-Some.ensures.behind;
+  read = rw c.in-Some.ensures.behind.at
+      (sym (each_turns field_of local_step field_shrinks _ _ _ (field_tree c.in-Some.declaration, kinds c.in-Some.behind.tokens.now) c.in-Some.ensures.read
+      (ap (λ (r : Result Scope ParseFault). r >>= λ t. Ok (t, c.loop-declaration.rest.at + 3)) c.in_ok-declare_local.ensures.read)) ∙ c.loop-declaration.invariant.read);
+}
+
+pub returns-clause-read : goal.returns-clause-read
+returns-clause-read c = sym c.loop-declaration.invariant.read ∙ each_ends field_of local_step field_shrinks _ _ c.in_default.ensures.read

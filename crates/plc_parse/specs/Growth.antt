@@ -1,0 +1,48 @@
+-- What is left of the tokens, and how the names in reach grow.
+use Rattle.std.specs.Prelude.{◌≡◌, ◌+◌, ◌≤◌, ℕ, [], length}
+use Rattle.plc_forms.specs.declared.rest.Rest.{Rest}
+use Rattle.plc_scope.specs.declared.scope.Scope.{Scope}
+use Rattle.plc_scope.specs.Scope.{most_locals}
+
+-- what is left ends where that before ended
+pub record Within (before after : Rest) : Type 0 where
+  pub end : after.at + length after.tokens.now ≡ before.at + length before.tokens.now
+
+-- of so many tokens, this is left
+pub record IsLeftOf (total : ℕ) (rest : Rest) : Type 0 where
+  pub end : rest.at + length rest.tokens.now ≡ total
+
+-- neither locals nor labels were declared
+pub record KeepsLists (old new : Scope) : Type 0 where
+  pub locals : new.locals ≡ old.locals
+  pub labels : new.labels ≡ old.labels
+
+-- labels may be counted over the whole file
+abbrev pub most_labels : ℕ
+most_labels = 256
+
+-- each further label needs one further name
+pub record CanLabel (scope : Scope) : Type 0 where
+  pub locals : length scope.locals ≤ most_locals
+  pub labels : length scope.labels ≤ most_labels
+  pub names : length scope.names.names + most_labels ≤ scope.names.limit + length scope.labels
+
+-- labels were declared, and one name for each
+pub record GrowsByLabels (old new : Scope) : Type 0 where
+  pub locals : new.locals ≡ old.locals
+  pub labels : length new.labels ≤ most_labels
+  pub names : length new.names.names + length old.labels ≤ length old.names.names + length new.labels
+  pub limit : new.names.limit ≡ old.names.limit
+
+-- an operation can be read: it needs 33 names beside its labels, and locals of none before are in reach
+pub record CanOperate (scope : Scope) : Type 0 where
+  pub locals : scope.locals ≡ []
+  pub labels : length scope.labels ≤ most_labels
+  pub names : length scope.names.names + 290 ≤ scope.names.limit + length scope.labels
+
+-- so many names beside labels were declared, and no local is in reach
+pub record GrowsByOps (old new : Scope) (count : ℕ) : Type 0 where
+  pub locals : new.locals ≡ []
+  pub labels : length new.labels ≤ most_labels
+  pub names : length new.names.names + length old.labels ≤ length old.names.names + count + length new.labels
+  pub limit : new.names.limit ≡ old.names.limit

@@ -1,0 +1,201 @@
+// Auxiliary fields. One is a thread or one of its values, whose names are declared with it.
+ghost use Rattle.std.specs.Prelude.{◌≡◌, ◌+◌, ◌<◌, ◌≤◌, ◌^◌, IfOk, [], ◌∷◌, length};
+ghost use Rattle.plc_syntax.specs.Syntax.{kinds};
+ghost use Rattle.plc_scope.specs.Answers.{Gives, HasRoom, GrowsBy};
+ghost use Rattle.plc_parse.specs.Growth.{Within, KeepsLists};
+ghost use Rattle.plc_parse.specs.Meaning.{value_means};
+ghost use Rattle.plc_parse.specs.Reading.{values_in, of_threads_in, all_values_in, of_values_in, ghost_in, ghosts_in};
+
+use crate::declaration::declare;
+use plc_base::{Items, What1};
+use plc_forms::{Rest, comma_name_at, first_value_at, ghost_at, thread_at, values_end_at};
+use plc_lang::Ghost;
+use plc_scope::{Binding, ParseFault, Scope};
+use std::alloc::Global;
+
+/// How many auxiliary fields a file may have.
+const MOST_GHOSTS: usize = 4;
+
+/// How many values an auxiliary field may have.
+const MOST_VALUES: usize = 16;
+
+// One value of an auxiliary field, with so many before it; the number of its name.
+fn declare_value(
+    scope: &mut Scope,
+    owner: usize,
+    count: usize,
+    at: u32,
+    name: &[u8],
+) -> Result<u16, ParseFault>
+    requires owner { owner < 4 }
+    requires limit { count ≤ 16 }
+    requires room { HasRoom scope.old 1 }
+    ensures limit { IfOk result (λ _. count < 16) }
+    ensures read { Gives (λ number. (number, scope.new)) result (value_means scope.old owner count at name.now) }
+    ensures names { IfOk result (λ _. GrowsBy scope.old scope.new 1) }
+    ensures lists { IfOk result (λ _. KeepsLists scope.old scope.new) }
+{
+    let number = declare(scope, name, at, Binding::Value(owner as u16, count as u16))?;
+    if count == MOST_VALUES {
+        return Err(ParseFault::Limit {
+            what: What1::Values,
+            count: 17,
+        });
+    }
+    Ok(number)
+}
+
+// The values from behind the first one, which has this number.
+fn read_values<'a>(
+    alloc: Global,
+    scope: &mut Scope,
+    owner: usize,
+    first: u16,
+    start: Rest<'a>,
+) -> Result<(Items<u16>, Rest<'a>), ParseFault>
+    requires owner { owner < 4 }
+    requires room { HasRoom scope.old 16 }
+    ensures read { Gives (λ r. ((r.0, scope.new, r.1.at), kinds r.1.tokens.now)) result (values_in owner (first ∷ [], scope.old, start.entry.at) (kinds start.entry.tokens.now)) }
+    ensures names { IfOk result (λ _. GrowsBy scope.old scope.new 15) }
+    ensures lists { IfOk result (λ _. KeepsLists scope.old scope.new) }
+    ensures place { IfOk result (λ r. Within start.entry r.1) }
+{
+    let mut values = Items::new(alloc);
+    values.push(first)?;
+    let mut rest = start;
+    while let Some((name, behind)) = comma_name_at(rest) {
+        let number = declare_value(scope, owner, values.len(), rest.at + 1, name)?;
+        values.push(number)?;
+        rest = behind;
+    }
+    Ok((values, rest))
+}
+
+// All values, from behind the first one's name, which stands at a place.
+#[tactic(auto, unfolding(crate::specs::Reading::all_values_in))]
+fn read_all_values<'a>(
+    alloc: Global,
+    scope: &mut Scope,
+    owner: usize,
+    at: u32,
+    name: &[u8],
+    start: Rest<'a>,
+) -> Result<(Items<u16>, Rest<'a>), ParseFault>
+    requires owner { owner < 4 }
+    requires room { HasRoom scope.old 17 }
+    requires name { start.at ≡ at + 1 }
+    ensures read { Gives (λ r. ((r.0, scope.new, r.1.at), kinds r.1.tokens.now)) result (all_values_in owner scope.old at name.now (kinds start.entry.tokens.now)) }
+    ensures names { IfOk result (λ _. GrowsBy scope.old scope.new 16) }
+    ensures lists { IfOk result (λ _. KeepsLists scope.old scope.new) }
+    ensures place { IfOk result (λ r. Within start.entry r.1) }
+{
+    let first = declare_value(scope, owner, 0, at, name)?;
+    let (values, rest) = read_values(alloc, scope, owner, first, start)?;
+    match values_end_at(rest) {
+        Some(behind) => Ok((values, behind)),
+        None => Err(ParseFault::Syntax { at: rest.at }),
+    }
+}
+
+// An auxiliary field that is one of its values, with so many fields before it.
+#[tactic(auto, unfolding(crate::specs::Reading::of_values_in))]
+fn read_of_values<'a>(
+    alloc: Global,
+    scope: &mut Scope,
+    count: usize,
+    at: u32,
+    name: &[u8],
+    value: &[u8],
+    start: Rest<'a>,
+) -> Result<(Ghost, Rest<'a>), ParseFault>
+    requires limit { count < 4 }
+    requires room { HasRoom scope.old 18 }
+    requires value { start.at ≡ at + 4 }
+    ensures read { Gives (λ r. ((r.0, scope.new, r.1.at), kinds r.1.tokens.now)) result (of_values_in scope.old count at name.now value.now (kinds start.entry.tokens.now)) }
+    ensures names { IfOk result (λ _. GrowsBy scope.old scope.new 17) }
+    ensures lists { IfOk result (λ _. KeepsLists scope.old scope.new) }
+    ensures place { IfOk result (λ r. Within start.entry r.1) }
+{
+    let name = declare(scope, name, at + 1, Binding::Auxiliary(count as u16, false))?;
+    let (values, rest) = read_all_values(alloc, scope, count, at + 3, value, start)?;
+    Ok((Ghost { name, values }, rest))
+}
+
+// An auxiliary field that is a thread.
+#[tactic(auto, unfolding(crate::specs::Reading::of_threads_in))]
+fn read_of_threads<'a>(
+    alloc: Global,
+    scope: &mut Scope,
+    count: usize,
+    at: u32,
+    name: &[u8],
+    start: Rest<'a>,
+) -> Result<(Ghost, Rest<'a>), ParseFault>
+    requires limit { count < 4 }
+    requires room { HasRoom scope.old 1 }
+    requires kind { start.at ≡ at + 4 }
+    ensures read { Gives (λ r. ((r.0, scope.new, r.1.at), kinds r.1.tokens.now)) result (of_threads_in scope.old count at name.now (kinds start.entry.tokens.now)) }
+    ensures names { IfOk result (λ _. GrowsBy scope.old scope.new 1) }
+    ensures lists { IfOk result (λ _. KeepsLists scope.old scope.new) }
+    ensures place { IfOk result (λ r. Within start.entry r.1) }
+{
+    let name = declare(scope, name, at + 1, Binding::Auxiliary(count as u16, true))?;
+    let values = Items::new(alloc);
+    Ok((Ghost { name, values }, start))
+}
+
+// An auxiliary field at a place, from behind its name, with so many before it.
+#[tactic(auto, unfolding(crate::specs::Reading::ghost_in))]
+fn read_ghost<'a>(
+    alloc: Global,
+    scope: &mut Scope,
+    count: usize,
+    at: u32,
+    name: &[u8],
+    start: Rest<'a>,
+) -> Result<(Ghost, Rest<'a>), ParseFault>
+    requires limit { count ≤ 4 }
+    requires room { HasRoom scope.old 18 }
+    requires name { start.at ≡ at + 2 }
+    ensures limit { IfOk result (λ _. count < 4) }
+    ensures read { Gives (λ r. ((r.0, scope.new, r.1.at), kinds r.1.tokens.now)) result (ghost_in scope.old count at name.now (kinds start.entry.tokens.now)) }
+    ensures names { IfOk result (λ _. GrowsBy scope.old scope.new 17) }
+    ensures lists { IfOk result (λ _. KeepsLists scope.old scope.new) }
+    ensures place { IfOk result (λ r. Within start.entry r.1) }
+{
+    if count == MOST_GHOSTS {
+        return Err(ParseFault::Limit {
+            what: What1::Ghosts,
+            count: 5,
+        });
+    }
+    if let Some(behind) = thread_at(start) {
+        return read_of_threads(alloc, scope, count, at, name, behind);
+    }
+    match first_value_at(start) {
+        Some((value, behind)) => read_of_values(alloc, scope, count, at, name, value, behind),
+        None => Err(ParseFault::Syntax { at }),
+    }
+}
+
+/// Declares the auxiliary fields and their values.
+pub fn read_ghosts<'a>(
+    alloc: Global,
+    scope: &mut Scope,
+    start: Rest<'a>,
+) -> Result<(Items<Ghost>, Rest<'a>), ParseFault>
+    requires { HasRoom scope.old 90 }
+    ensures read { Gives (λ r. ((r.0, scope.new, r.1.at), kinds r.1.tokens.now)) result (ghosts_in scope.old start.entry.at (kinds start.entry.tokens.now)) }
+    ensures names { IfOk result (λ _. GrowsBy scope.old scope.new 68) }
+    ensures lists { IfOk result (λ _. KeepsLists scope.old scope.new) }
+    ensures place { IfOk result (λ r. Within start.entry r.1) }
+{
+    let mut ghosts = Items::new(alloc);
+    let mut rest = start;
+    while let Some((name, behind)) = ghost_at(rest) {
+        let (field, end) = read_ghost(alloc, scope, ghosts.len(), rest.at, name, behind)?;
+        ghosts.push(field)?;
+        rest = end;
+    }
+    Ok((ghosts, rest))
+}
