@@ -1,0 +1,46 @@
+-- The texts of refusals. Each line ends with a line feed.
+use Rattle.std.specs.Prelude.{ℕ, List, [], ◌++◌, codes, decimal}
+use Rattle.plc_base.specs.declared.limits.What1.{What1}
+use Rattle.plc_base.specs.Limits.{limit_name}
+use Rattle.plc_lex.specs.declared.fault.LexFault.{LexFault}
+use Rattle.plc_lex.specs.declared.fault.LexFault.TheVariants.{BadByte, LongName, BadNumber, Memory as LexMemory}
+use Rattle.plc_scope.specs.declared.fault.ParseFault.{ParseFault}
+use Rattle.plc_scope.specs.declared.fault.ParseFault.TheVariants.{Syntax, Undeclared, Duplicate, WrongSort, NoSuchCall, Limit, Memory}
+
+-- texts that are always the same
+abbrev pub words_refused : List ℕ
+words_refused = codes "words refused\n"
+
+abbrev pub read_failed : List ℕ
+read_failed = codes "read failed\n"
+
+abbrev pub read_too_long : List ℕ
+read_too_long = codes "read too long\n"
+
+abbrev pub refused_file : List ℕ
+refused_file = codes "refused file\n"
+
+-- refused byte at N, and the same of names and numbers; a want of memory has no text
+abbrev pub lex_text : LexFault → List ℕ
+lex_text (BadByte at) = codes "refused byte at " ++ decimal at ++ codes "\n"
+lex_text (LongName at) = codes "refused name at " ++ decimal at ++ codes "\n"
+lex_text (BadNumber at) = codes "refused number at " ++ decimal at ++ codes "\n"
+lex_text LexMemory = []
+
+-- refused KIND token K line N
+abbrev pub token_text : List ℕ → ℕ → ℕ → List ℕ
+token_text kind at line = codes "refused " ++ kind ++ codes " token " ++ decimal at ++ codes " line " ++ decimal line ++ codes "\n"
+
+-- refused limit WHAT COUNT
+abbrev pub limit_text : What1 → ℕ → List ℕ
+limit_text what count = codes "refused limit " ++ limit_name what ++ codes " " ++ decimal count ++ codes "\n"
+
+-- a fault of tokens, with the line of its place; a want of memory has no text
+abbrev pub parse_text : ParseFault → ℕ → List ℕ
+parse_text (Syntax at) line = token_text (codes "syntax") at line
+parse_text (Undeclared at) line = token_text (codes "undeclared") at line
+parse_text (Duplicate at) line = token_text (codes "duplicate") at line
+parse_text (WrongSort at) line = token_text (codes "sort") at line
+parse_text (NoSuchCall at) line = token_text (codes "call") at line
+parse_text (Limit what count) line = limit_text what count
+parse_text Memory line = []

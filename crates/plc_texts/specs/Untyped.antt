@@ -1,0 +1,37 @@
+-- The text of an untyped file.
+use Rattle.std.specs.Prelude.{ℕ, List, ◌++◌, codes, decimal, Option, Some, None, slice_get}
+use Rattle.plc_lang.specs.declared.syntax.Var.{Var}
+use Rattle.plc_flow.specs.declared.flow.Step.{Step}
+use Rattle.plc_flow.specs.declared.flow.Flow.{Flow}
+use Rattle.plc_xfer.specs.declared.fault.TypeFault.{TypeFault}
+use Rattle.plc_xfer.specs.declared.fault.TypeFault.TheVariants.{DerefNotSafe, CompareNotSafe, RetireNotActive}
+use Rattle.plc_texts.specs.Names.{variable_name}
+
+-- KIND
+abbrev pub fault_word : TypeFault → List ℕ
+fault_word (DerefNotSafe var) = codes "deref"
+fault_word (CompareNotSafe var) = codes "compare"
+fault_word (RetireNotActive var) = codes "retire"
+
+-- the variable that lacks what is asked
+abbrev pub fault_variable : TypeFault → Var
+fault_variable (DerefNotSafe var) = var
+fault_variable (CompareNotSafe var) = var
+fault_variable (RetireNotActive var) = var
+
+-- the line of a step
+abbrev pub step_line : Option Step → ℕ
+step_line None = 0
+step_line (Some s) = s.line
+
+-- the operation of a step
+abbrev pub step_operation : Option Step → ℕ
+step_operation None = 0
+step_operation (Some s) = s.op.0
+
+-- untyped step S prim K line N KIND VAR
+abbrev pub untyped_text : Flow → ℕ → ℕ → TypeFault → List ℕ
+untyped_text flow k i fault =
+    let step = slice_get flow.steps k in
+    codes "untyped step " ++ decimal k ++ codes " prim " ++ decimal i ++ codes " line " ++ decimal (step_line step)
+    ++ codes " " ++ fault_word fault ++ codes " " ++ variable_name flow.file (step_operation step) (fault_variable fault) ++ codes "\n"

@@ -1,0 +1,16 @@
+//! The texts of answers, on the types that they tell of. The layer above uses that each text is the
+//! written line, byte for byte.
+#![tactic(auto)]
+
+mod failing;
+mod names;
+mod push;
+mod refusals;
+mod typing;
+
+pub use failing::untyped;
+pub use refusals::{fixed, lexical, limit, parsed};
+pub use typing::safe;
+
+#[cfg(test)]
+mod tests;

@@ -1,0 +1,79 @@
+// Why bytes are refused, as texts.
+ghost use Rattle.std.specs.Prelude.{◌≡◌, ◌++◌, IfOk, codes, decimal};
+ghost use Rattle.plc_texts.specs.Refusals.{lex_text, limit_text, parse_text, token_text};
+
+use crate::push::{push, push_number};
+use plc_base::What1;
+use plc_lex::LexFault;
+use plc_scope::ParseFault;
+use std::alloc::{AllocError, Global};
+
+/// A text that is always the same.
+pub fn fixed(alloc: Global, text: &str) -> Result<Vec<u8>, AllocError>
+    ensures { IfOk result (λ v. v.items ≡ text.now) }
+{
+    Vec::from_slice(alloc, text.as_bytes())
+}
+
+// A number behind words, and the end of the line.
+fn numbered(alloc: Global, words: &str, number: u32) -> Result<Vec<u8>, AllocError>
+    ensures { IfOk result (λ v. v.items ≡ words.now ++ decimal number ++ codes "\n") }
+{
+    let mut out = fixed(alloc, words)?;
+    push_number(alloc, &mut out, u64::from(number))?;
+    push(&mut out, "\n")?;
+    Ok(out)
+}
+
+/// Bytes that spell no tokens: the place of the byte. A want of memory has no text.
+pub fn lexical(alloc: Global, fault: LexFault) -> Result<Vec<u8>, AllocError>
+    ensures { IfOk result (λ v. v.items ≡ lex_text fault) }
+{
+    match fault {
+        LexFault::BadByte { at } => numbered(alloc, "refused byte at ", at),
+        LexFault::LongName { at } => numbered(alloc, "refused name at ", at),
+        LexFault::BadNumber { at } => numbered(alloc, "refused number at ", at),
+        LexFault::Memory => Ok(Vec::new(alloc)),
+    }
+}
+
+/// A limit that is passed, with the limit plus one.
+pub fn limit(alloc: Global, what: What1, count: u32) -> Result<Vec<u8>, AllocError>
+    ensures { IfOk result (λ v. v.items ≡ limit_text what count) }
+{
+    let mut out = fixed(alloc, "refused limit ")?;
+    push(&mut out, what.name())?;
+    push(&mut out, " ")?;
+    push_number(alloc, &mut out, u64::from(count))?;
+    push(&mut out, "\n")?;
+    Ok(out)
+}
+
+// A fault at a token.
+fn token(alloc: Global, kind: &str, at: u32, line: u32) -> Result<Vec<u8>, AllocError>
+    ensures { IfOk result (λ v. v.items ≡ token_text kind.now at line) }
+{
+    let mut out = fixed(alloc, "refused ")?;
+    push(&mut out, kind)?;
+    push(&mut out, " token ")?;
+    push_number(alloc, &mut out, u64::from(at))?;
+    push(&mut out, " line ")?;
+    push_number(alloc, &mut out, u64::from(line))?;
+    push(&mut out, "\n")?;
+    Ok(out)
+}
+
+/// Tokens that spell no unit: the place among the tokens, and its line. A want of memory has no text.
+pub fn parsed(alloc: Global, fault: &ParseFault, line: u32) -> Result<Vec<u8>, AllocError>
+    ensures { IfOk result (λ v. v.items ≡ parse_text fault.now line) }
+{
+    match *fault {
+        ParseFault::Syntax { at } => token(alloc, "syntax", at, line),
+        ParseFault::Undeclared { at } => token(alloc, "undeclared", at, line),
+        ParseFault::Duplicate { at } => token(alloc, "duplicate", at, line),
+        ParseFault::WrongSort { at } => token(alloc, "sort", at, line),
+        ParseFault::NoSuchCall { at } => token(alloc, "call", at, line),
+        ParseFault::Limit { what, count } => limit(alloc, what, count),
+        ParseFault::Memory => Ok(Vec::new(alloc)),
+    }
+}
