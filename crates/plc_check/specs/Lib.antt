@@ -1,2 +1,4 @@
 pub mod Loading
+pub mod Refusals
+pub mod Unread
 pub mod Verdicts

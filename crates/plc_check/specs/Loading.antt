@@ -1,5 +1,5 @@
 -- Which file bytes spell, and how they are answered.
-use Rattle.std.specs.Prelude.{◌≡◌, ◌≢◌, ℕ, ◌<◌, ◌≤◌, ◌+◌, List, Result, Ok, Err}
+use Rattle.std.specs.Prelude.{◌≡◌, ◌≢◌, ◌⊎◌, ◌==◌, ℕ, true, false, ◌<◌, ◌≤◌, ◌+◌, List, get_or, count_by, Option, Some, None, Result, Ok, Err}
 use Rattle.plc_base.specs.declared.limits.What1.{What1}
 use Rattle.plc_base.specs.declared.limits.What1.TheVariants.{Points}
 use Rattle.plc_lex.specs.declared.token.Token.{Token}
@@ -7,19 +7,27 @@ use Rattle.plc_lex.specs.declared.fault.LexFault.{LexFault}
 use Rattle.plc_lex.specs.declared.fault.LexFault.TheVariants as lex
 use Rattle.plc_lex.specs.Spelling.{AreTokensOf}
 use Rattle.plc_lex.specs.Refused.{StopsWith}
-use Rattle.plc_parse.specs.declared.fault.ParseFault.{ParseFault}
-use Rattle.plc_parse.specs.declared.fault.ParseFault.TheVariants as parse
+use Rattle.plc_syntax.specs.Syntax.{kinds}
+use Rattle.plc_scope.specs.declared.fault.ParseFault.{ParseFault}
+use Rattle.plc_scope.specs.declared.fault.ParseFault.TheVariants as parse
 use Rattle.plc_parse.specs.declared.unit.Unit.{Unit as FileUnit}
-use Rattle.plc_parse.specs.Units.{IsUnitOf, IsFaultOf}
+use Rattle.plc_parse.specs.Units.{lines_of, IsUnitOf, IsFaultOf}
 use Rattle.plc_flow.specs.Lowering.{made_of, flow_of, most_points}
 use Rattle.plc_check.specs.declared.judged.Judged.{Judged}
 use Rattle.plc_check.specs.declared.judged.LoadFault.{LoadFault}
 use Rattle.plc_check.specs.declared.judged.LoadFault.TheVariants as faults
+use Rattle.plc_check.specs.declared.unread.Unread.{Unread}
+use Rattle.plc_check.specs.Unread.{unread_words, hold}
+
+-- the bytes spell these tokens, and none of them is a word of a form that isn't read
+pub record AreRead (unread : Unread) (bytes : List ℕ) (tokens : List Token) : Type 0 where
+  pub spelled : AreTokensOf bytes tokens
+  pub known : hold (kinds tokens) (unread_words unread) ≡ false
 
 -- the bytes spell tokens that spell the unit, and the unit's flow has no more points than it may
-pub record IsFileOf (bytes : List ℕ) (u : FileUnit) : Type 0 where
+pub record IsFileOf (unread : Unread) (bytes : List ℕ) (u : FileUnit) : Type 0 where
   pub tokens : List Token
-  pub spelled : AreTokensOf bytes tokens
+  pub read : AreRead unread bytes tokens
   pub unit : IsUnitOf tokens u
   pub few : (made_of u.file).points ≤ most_points
 
@@ -27,32 +35,52 @@ pub record IsFileOf (bytes : List ℕ) (u : FileUnit) : Type 0 where
 abbrev pub judged_of : FileUnit → Judged
 judged_of u = record { observer = u.observer; flow = flow_of u.file }
 
--- a lower call's fault, of which the want of memory is none
-abbrev pub lex_refusal : LexFault → LoadFault
-lex_refusal lex.Memory = faults.Memory
-lex_refusal fault = faults.Lex fault
-
--- the same of the parser's faults
-abbrev pub parse_refusal : ParseFault → LoadFault
-parse_refusal parse.Memory = faults.Memory
-parse_refusal fault = faults.Parse fault
+-- ---- refusals
 
 -- the bytes stop spelling tokens with this fault
 pub record HasLexFault (bytes : List ℕ) (fault : LexFault) : Type 0 where
   pub stops : StopsWith 0 bytes fault
   pub other : fault ≢ lex.Memory
 
--- the bytes spell tokens, which have this fault
-pub record HasParseFault (bytes : List ℕ) (fault : ParseFault) : Type 0 where
+-- the bytes spell tokens, of which one is a word of a form that isn't read
+pub record HasUnread (unread : Unread) (bytes : List ℕ) : Type 0 where
   pub tokens : List Token
   pub spelled : AreTokensOf bytes tokens
+  pub held : hold (kinds tokens) (unread_words unread) ≡ true
+
+-- the place of a fault among the tokens; limits are told without one
+abbrev pub place_of : ParseFault → Option ℕ
+place_of (parse.Syntax at) = Some at
+place_of (parse.Undeclared at) = Some at
+place_of (parse.Duplicate at) = Some at
+place_of (parse.WrongSort at) = Some at
+place_of (parse.NoSuchCall at) = Some at
+place_of (parse.Limit what count) = None
+place_of parse.Memory = None
+
+-- the line of a place: that of its token, and behind the last token that of the end of the bytes
+abbrev pub line_of : List ℕ → List Token → ℕ → ℕ
+line_of bytes tokens place = get_or (lines_of tokens) place (1 + count_by (λ b. b == 10) bytes)
+
+-- the bytes spell tokens that have this fault at a place, on this line
+pub record HasParseFault (unread : Unread) (bytes : List ℕ) (fault : ParseFault) (line : ℕ) : Type 0 where
+  pub tokens : List Token
+  pub read : AreRead unread bytes tokens
   pub is_fault : IsFaultOf tokens fault
-  pub other : fault ≢ parse.Memory
+  pub place : ℕ
+  pub placed : place_of fault ≡ Some place
+  pub line_is : line ≡ line_of bytes tokens place
+
+-- the bytes spell tokens that pass this limit
+pub record PassesLimit (unread : Unread) (bytes : List ℕ) (what : What1) (count : ℕ) : Type 0 where
+  pub tokens : List Token
+  pub read : AreRead unread bytes tokens
+  pub is_fault : IsFaultOf tokens (parse.Limit what count)
 
 -- the bytes spell a unit whose flow would have more points than it may
-pub record HasTooManyPoints (bytes : List ℕ) (what : What1) (count : ℕ) : Type 0 where
+pub record HasTooManyPoints (unread : Unread) (bytes : List ℕ) (what : What1) (count : ℕ) : Type 0 where
   pub tokens : List Token
-  pub spelled : AreTokensOf bytes tokens
+  pub read : AreRead unread bytes tokens
   pub unit : FileUnit
   pub of_tokens : IsUnitOf tokens unit
   pub many : most_points < (made_of unit.file).points
@@ -60,22 +88,23 @@ pub record HasTooManyPoints (bytes : List ℕ) (what : What1) (count : ℕ) : Ty
   pub count_is : count ≡ most_points + 1
 
 -- why bytes are refused; memory may be wanting anywhere
-abbrev pub HasFault : List ℕ → LoadFault → Type 0
-HasFault bytes (faults.Lex fault) = HasLexFault bytes fault
-HasFault bytes (faults.Parse fault) = HasParseFault bytes fault
-HasFault bytes (faults.Limit what count) = HasTooManyPoints bytes what count
-HasFault bytes faults.Memory = Unit {0}
+abbrev pub HasFault : Unread → List ℕ → LoadFault → Type 0
+HasFault unread bytes (faults.Lex fault) = HasLexFault bytes fault
+HasFault unread bytes faults.Unread = HasUnread unread bytes
+HasFault unread bytes (faults.Parse fault line) = HasParseFault unread bytes fault line
+HasFault unread bytes (faults.Limit what count) = PassesLimit unread bytes what count ⊎ HasTooManyPoints unread bytes what count
+HasFault unread bytes faults.Memory = Unit {0}
 
--- what other refusals than the want of memory say: the bytes spell nothing
-abbrev pub SpellsNothing : List ℕ → LoadFault → Type 0
-SpellsNothing bytes faults.Memory = Unit {0}
-SpellsNothing bytes other = (u : FileUnit) → IsFileOf bytes u → ⊥
+-- what other refusals than the want of memory say: the bytes spell no file that is read
+abbrev pub SpellsNothing : Unread → List ℕ → LoadFault → Type 0
+SpellsNothing unread bytes faults.Memory = Unit {0}
+SpellsNothing unread bytes other = (u : FileUnit) → IsFileOf unread bytes u → ⊥
 
 -- the answer to bytes: what they spell; or the fault that they have, and then they spell nothing
-abbrev pub IsLoaded : List ℕ → Result Judged LoadFault → Type 0
-IsLoaded bytes (Ok j) = (u : FileUnit) × IsFileOf bytes u × (j ≡ judged_of u)
-IsLoaded bytes (Err e) = HasFault bytes e × SpellsNothing bytes e
+abbrev pub IsLoaded : Unread → List ℕ → Result Judged LoadFault → Type 0
+IsLoaded unread bytes (Ok j) = (u : FileUnit) × IsFileOf unread bytes u × (j ≡ judged_of u)
+IsLoaded unread bytes (Err e) = HasFault unread bytes e × SpellsNothing unread bytes e
 
--- bytes spell at most one unit
+-- bytes spell at most one unit, whatever is read of them
 abbrev pub FilesAreUnique : Type 0
-FilesAreUnique = (bytes : List ℕ) (u v : FileUnit) → IsFileOf bytes u → IsFileOf bytes v → u ≡ v
+FilesAreUnique = (unread more : Unread) (bytes : List ℕ) (u v : FileUnit) → IsFileOf unread bytes u → IsFileOf more bytes v → u ≡ v

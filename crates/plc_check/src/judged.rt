@@ -6,7 +6,7 @@ use plc_auto::Observer;
 use plc_base::What1;
 use plc_flow::Flow;
 use plc_lex::LexFault;
-use plc_parse::ParseFault;
+use plc_scope::ParseFault;
 
 /// A file that was read and lowered.
 #[derive(Drop)]
@@ -22,9 +22,13 @@ pub struct Judged {
 pub enum LoadFault {
     /// The bytes spell no tokens.
     Lex(LexFault),
-    /// The tokens spell no unit.
-    Parse { fault: ParseFault },
-    /// A limit that is tested behind the parser is passed; the count is the limit plus one.
+    /// A token is a word of a form that isn't read yet.
+    Unread,
+    /// The tokens spell no unit: a fault at a place, with the line of the token there, or of the end
+    /// where the place is behind the last token. It is neither `Limit` nor `Memory`.
+    Parse { fault: ParseFault, line: u32 },
+    /// A limit on what a file may hold is passed, by the tokens or by the points of the flow; the count
+    /// is the limit plus one.
     Limit { what: What1, count: u32 },
     /// Memory was wanting.
     Memory,

@@ -4,10 +4,12 @@
 
 mod judged;
 mod loading;
+mod unread;
 mod verdict;
 
 pub use judged::{Judged, LoadFault};
 pub use loading::{files_are_unique, load};
+pub use unread::Unread;
 pub use verdict::{Verdict, check};
 
 #[cfg(test)]

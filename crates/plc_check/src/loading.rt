@@ -1,15 +1,17 @@
 // Bytes, tokens, unit, flow: the first refusal on this way is the answer.
-ghost use Rattle.std.specs.Prelude.{◌≡◌, ◌≤◌, length, IfOk};
+ghost use Rattle.std.specs.Prelude.{◌≡◌, ◌≤◌, ◌+◌, ◌==◌, count_by, length, IfOk};
 ghost use Rattle.plc_flow.specs.WellFormed.{IsWellFormed};
 ghost use Rattle.plc_lang.specs.Fit.{FileFits};
-ghost use Rattle.plc_check.specs.Loading.{IsLoaded, FilesAreUnique, lex_refusal, parse_refusal};
+ghost use Rattle.plc_check.specs.Loading.{IsLoaded, FilesAreUnique, line_of, place_of};
+ghost use Rattle.plc_check.specs.Refusals.{lex_refusal, parse_refusal, unplaced, IsLowered};
 
 use crate::judged::{Judged, LoadFault};
+use crate::unread::{Unread, hold_unread};
 use plc_base::What1;
-use plc_flow::{Flow, FlowFault, lower};
-use plc_lang::File;
+use plc_flow::{FlowFault, lower};
 use plc_lex::{LexFault, Token, tokens};
-use plc_parse::{ParseFault, Unit, parse};
+use plc_parse::{Unit, parse};
+use plc_scope::ParseFault;
 use std::alloc::Global;
 
 // A lower want of memory is the want of memory here.
@@ -22,32 +24,73 @@ fn lex_refusal(fault: LexFault) -> LoadFault
     }
 }
 
-fn parse_refusal(fault: ParseFault) -> LoadFault
-    ensures { result ≡ parse_refusal fault }
+// The line behind the last byte.
+fn end_line(bytes: &[u8]) -> u32
+    requires { length bytes.now ≤ 1048576 }
+    ensures { result ≡ 1 + count_by (λ b. b == 10) bytes.now }
 {
-    match fault {
-        ParseFault::Memory => LoadFault::Memory,
-        fault => LoadFault::Parse { fault },
+    let mut line = 1;
+    for byte in bytes {
+        if *byte == b'\n' {
+            line += 1;
+        }
+    }
+    line
+}
+
+// The line of a place among the tokens of the bytes.
+fn line_of(bytes: &[u8], tokens: &[Token], place: u32) -> u32
+    requires { length bytes.now ≤ 1048576 }
+    ensures { result ≡ line_of bytes.now tokens.now place }
+{
+    match tokens.get(place as usize) {
+        Some(token) => token.line,
+        None => end_line(bytes),
     }
 }
 
-/// Reads and lowers a file of at most 1 MiB. The first refusal on the way is the answer: `Lex` where
-/// the bytes spell no tokens, `Parse` where the tokens spell no unit, `Limit` where the flow would have
-/// more than 4,096 points; `Memory` may come anywhere.
-pub fn load(alloc: Global, bytes: &[u8]) -> Result<Judged, LoadFault>
-    requires { length bytes.now ≤ 1048576 }
-    ensures loaded { IsLoaded bytes.now result }
-    ensures fits { IfOk result (λ j. IsWellFormed j.flow) }
-    ensures file { IfOk result (λ j. FileFits j.flow.file) }
+// The place of a fault, if it is told with one.
+fn place_of(fault: &ParseFault) -> Option<u32>
+    ensures { result ≡ place_of fault.now }
 {
-    let found = match tokens(alloc, bytes) {
-        Ok(found) => found,
-        Err(fault) => return Err(lex_refusal(fault)),
-    };
-    let unit = match parse(alloc, &found) {
-        Ok(unit) => unit,
-        Err(fault) => return Err(parse_refusal(fault)),
-    };
+    match *fault {
+        ParseFault::Syntax { at }
+        | ParseFault::Undeclared { at }
+        | ParseFault::Duplicate { at }
+        | ParseFault::WrongSort { at }
+        | ParseFault::NoSuchCall { at } => Some(at),
+        ParseFault::Limit { .. } | ParseFault::Memory => None,
+    }
+}
+
+// A fault that is told without a place: a limit, or the want of memory.
+fn unplaced(fault: ParseFault) -> LoadFault
+    ensures { result ≡ unplaced fault }
+{
+    match fault {
+        ParseFault::Limit { what, count } => LoadFault::Limit { what, count },
+        _ => LoadFault::Memory,
+    }
+}
+
+// The same of the parser's faults; where one has a place its line is told with it.
+fn parse_refusal(bytes: &[u8], tokens: &[Token], fault: ParseFault) -> LoadFault
+    requires { length bytes.now ≤ 1048576 }
+    ensures { result ≡ parse_refusal bytes.now tokens.now fault }
+{
+    match place_of(&fault) {
+        Some(at) => LoadFault::Parse {
+            fault,
+            line: line_of(bytes, tokens, at),
+        },
+        None => unplaced(fault),
+    }
+}
+
+// The flow of a unit.
+fn lowered(alloc: Global, unit: Unit) -> Result<Judged, LoadFault>
+    ensures { IsLowered unit result }
+{
     let observer = unit.observer;
     match lower(alloc, unit.file) {
         Ok(flow) => Ok(Judged { observer, flow }),
@@ -56,6 +99,29 @@ pub fn load(alloc: Global, bytes: &[u8]) -> Result<Judged, LoadFault>
             count,
         }),
         Err(FlowFault::Memory) => Err(LoadFault::Memory),
+    }
+}
+
+/// Reads and lowers a file of at most 1 MiB. The first refusal on the way is the answer: `Lex` where
+/// the bytes spell no tokens, `Unread` where a token is a word of a form that isn't read, `Parse` or
+/// `Limit` where the tokens spell no unit, `Limit` where the flow would have more than 4,096 points;
+/// `Memory` may come anywhere.
+pub fn load(alloc: Global, bytes: &[u8], unread: Unread) -> Result<Judged, LoadFault>
+    requires { length bytes.now ≤ 1048576 }
+    ensures loaded { IsLoaded unread bytes.now result }
+    ensures fits { IfOk result (λ j. IsWellFormed j.flow) }
+    ensures file { IfOk result (λ j. FileFits j.flow.file) }
+{
+    let found = match tokens(alloc, bytes) {
+        Ok(found) => found,
+        Err(fault) => return Err(lex_refusal(fault)),
+    };
+    if hold_unread(unread, &found) {
+        return Err(LoadFault::Unread);
+    }
+    match parse(alloc, &found) {
+        Ok(unit) => lowered(alloc, unit),
+        Err(fault) => Err(parse_refusal(bytes, &found, fault)),
     }
 }
 

@@ -10,7 +10,7 @@ fn shown(alloc: Global, text: &str) -> Result<String, AllocError> {
     if bytes.len() > 1048576 {
         return Err(AllocError);
     }
-    match load(alloc, bytes) {
+    match load(alloc, bytes, Unread::ClaimsAndOutlines) {
         Ok(judged) => format!(in alloc; "{} points", judged.flow.points),
         Err(fault) => format!(in alloc; "{fault:?}"),
     }
@@ -27,11 +27,21 @@ fn bytes_are_loaded_or_refused(rt: HostRuntime) -> Result<(), AllocError> {
             "4 points",
         ),
         ("struct N { } $", "Lex(BadByte { at: 13 })"),
-        ("", "Parse { fault: Syntax { at: 0 } }"),
+        ("", "Parse { fault: Syntax { at: 0 }, line: 1 }"),
         (
-            "struct N { } op f() { n := null; }",
-            "Parse { fault: Undeclared { at: 9 } }",
+            "struct N { }\nop f() {\nn := null; }",
+            "Parse { fault: Undeclared { at: 9 }, line: 3 }",
         ),
+        (
+            "struct N { }\nop f() {\n",
+            "Parse { fault: Syntax { at: 9 }, line: 3 }",
+        ),
+        (
+            "struct N { } op f() { ptr n; atomic { n := new; n := new; } }",
+            "Limit { what: News, count: 2 }",
+        ),
+        ("struct N { } op f() { ptr n; active n; }", "Unread"),
+        ("outline", "Unread"),
     ] {
         assert_eq!(rt; shown(alloc, text)?.as_str(), want, "{text}");
     }
@@ -64,6 +74,7 @@ fn both_verdicts(rt: HostRuntime) -> Result<(), LoadFault> {
     let safe = load(
         alloc,
         b"struct N { data d; } shared T; op f() { ptr n; n := new; n.d := 1; T := n; }",
+        Unread::Outlines,
     )?;
     assert!(rt;
         matches!(
@@ -74,6 +85,7 @@ fn both_verdicts(rt: HostRuntime) -> Result<(), LoadFault> {
     let lost = load(
         alloc,
         b"struct N { data d; } shared T; op f() { ptr n; n := new; T := n; n.d := 1; }",
+        Unread::ClaimsAndOutlines,
     )?;
     assert!(rt;
         matches!(

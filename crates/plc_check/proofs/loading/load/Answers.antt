@@ -1,34 +1,33 @@
-use Rattle.std.proofs.Common.{◌≡◌, refl, ap, ◌∙◌, arith}
-use Rattle.plc_lex.specs.Spelling.{AreTokensOf}
-use Rattle.plc_parse.specs.declared.unit.Unit.{Unit as FileUnit}
-use Rattle.plc_flow.specs.Lowering.{made_of}
-use Rattle.plc_check.proofs.Refusals.{unit_of, lex_refused, parse_refused}
-use Rattle.plc_check.proofs.Unique.{one_unit}
+use Rattle.std.proofs.Common.{◌≡◌, false, ap, sym, ◌∙◌, List}
+use Rattle.plc_lex.specs.declared.token.Token.{Token}
+use Rattle.plc_syntax.specs.Syntax.{kinds}
+use Rattle.plc_check.specs.Unread.{unread_words, hold}
+use Rattle.plc_check.specs.Loading.{AreRead}
+use Rattle.plc_check.proofs.Refusals.{unit_of, parse_refused}
+use Rattle.plc_check.proofs.Unique.{no_outline_held, lowered_loaded}
 use Rattle.plc_check.proofs.loading.load.Goals as goal
 
-pub returns-in-Err : goal.returns-in-Err
-returns-in-Err c = record {
-  loaded = rw c.lex_refusal.ensures (lex_refused c.args.bytes.now c.in-Err.fault c.in-Err.ensures.fault (λ u f. c.in-Err.ensures.accepts f.tokens f.spelled));
-  fits = tt;
-  file = tt;
-}
+pub parse-requires-clause-no_outline : goal.parse-requires-clause-no_outline
+parse-requires-clause-no_outline c =
+    let same : c.deref-2.result.now ≡ c.deref.result.now = c.deref-2.ensures.value ∙ sym c.deref.ensures.value in
+    no_outline_held c.args.unread (kinds c.deref-2.result.now) (ap (λ (ts : List Token). hold (kinds ts) (unread_words c.args.unread)) same ∙ sym c.if-hold_unread.ensures)
 
-pub returns-in-Err-parse : goal.returns-in-Err-parse
-returns-in-Err-parse c = record {
-  loaded = rw c.parse_refusal.ensures (parse_refused c.args.bytes.now c.deref.result.now (rw c.deref.ensures.value c.in-Ok.ensures.spelled) c.in-Err-parse.fault c.in-Err-parse.ensures.fault (λ u f.
-      c.in-Err-parse.ensures.spelled u (unit_of c.args.bytes.now c.deref.result.now u f (c.deref.ensures.value ∙ c.in-Ok.ensures.accepts f.tokens f.spelled))));
-  fits = tt;
-  file = tt;
-}
+pub returns-in-Ok-parse-clause-loaded : goal.returns-in-Ok-parse-clause-loaded
+returns-in-Ok-parse-clause-loaded c =
+    let same : c.deref-2.result.now ≡ c.deref.result.now = c.deref-2.ensures.value ∙ sym c.deref.ensures.value in
+    let read : AreRead c.args.unread c.args.bytes.now c.deref-2.result.now = record {
+      spelled = rw c.deref-2.ensures.value c.in-Ok.ensures.spelled;
+      known = ap (λ (ts : List Token). hold (kinds ts) (unread_words c.args.unread)) same ∙ sym c.if-hold_unread.ensures;
+    } in
+    lowered_loaded c.args.unread c.args.bytes.now c.deref-2.result.now read c.in-Ok-parse.unit c.in-Ok-parse.ensures.ok c.lowered.result c.lowered.ensures
 
-pub returns-in-Err-TooManyPoints-clause-loaded : goal.returns-in-Err-TooManyPoints-clause-loaded
-returns-in-Err-TooManyPoints-clause-loaded c =
-    let many = rw c.in-Err-TooManyPoints.field-0-is at c.in-Err-TooManyPoints.ensures.lowered in
-    let spelled : AreTokensOf c.args.bytes.now c.deref.result.now = rw c.deref.ensures.value c.in-Ok.ensures.spelled in
-    rw c.in-Err-TooManyPoints.field-0-is (
-      record { tokens = c.deref.result.now; spelled = spelled; unit = c.in-Ok-parse.unit; of_tokens = c.in-Ok-parse.ensures.ok; many = many.1; what_is = refl; count_is = many.0 },
-      λ u f.
-          let same = c.deref.ensures.value ∙ c.in-Ok.ensures.accepts f.tokens f.spelled in
-          let is = one_unit c.deref.result.now c.in-Ok-parse.unit u c.in-Ok-parse.ensures.ok (unit_of c.args.bytes.now c.deref.result.now u f same) in
-          omega (arith, f.few, many.1, ap (λ (x : FileUnit). (made_of x.file).points) is),
-    )
+pub returns-clause-loaded : goal.returns-clause-loaded
+returns-clause-loaded c =
+    let same : c.deref-2.result.now ≡ c.deref.result.now = c.deref-2.ensures.value ∙ sym c.deref.ensures.value in
+    let read : AreRead c.args.unread c.args.bytes.now c.deref-2.result.now = record {
+      spelled = rw c.deref-2.ensures.value c.in-Ok.ensures.spelled;
+      known = ap (λ (ts : List Token). hold (kinds ts) (unread_words c.args.unread)) same ∙ sym c.if-hold_unread.ensures;
+    } in
+    rw (c.parse_refusal.ensures, c.deref-in-Err-parse.ensures.value, ← c.deref-2.ensures.value)
+    (parse_refused c.args.unread c.args.bytes.now c.deref-2.result.now read c.in-Err-parse.fault c.in-Err-parse.ensures.fault
+    (λ u f. c.in-Err-parse.ensures.spelled u (unit_of c.args.unread c.args.bytes.now c.deref-2.result.now u f (c.deref-2.ensures.value ∙ c.in-Ok.ensures.accepts f.tokens f.read.spelled))))

@@ -1,0 +1,52 @@
+-- What a lower call's answer is here.
+use Rattle.std.specs.Prelude.{◌≡◌, ◌<◌, ◌≤◌, ◌+◌, ℕ, List, Result, Ok, Err}
+use Rattle.plc_base.specs.declared.limits.What1.TheVariants.{Points}
+use Rattle.plc_lex.specs.declared.token.Token.{Token}
+use Rattle.plc_lex.specs.declared.fault.LexFault.{LexFault}
+use Rattle.plc_lex.specs.declared.fault.LexFault.TheVariants as lex
+use Rattle.plc_scope.specs.declared.fault.ParseFault.{ParseFault}
+use Rattle.plc_scope.specs.declared.fault.ParseFault.TheVariants as parse
+use Rattle.plc_parse.specs.declared.unit.Unit.{Unit as FileUnit}
+use Rattle.plc_lang.specs.Fit.{FileFits}
+use Rattle.plc_flow.specs.Lowering.{made_of, most_points}
+use Rattle.plc_flow.specs.WellFormed.{IsWellFormed}
+use Rattle.plc_check.specs.declared.judged.Judged.{Judged}
+use Rattle.plc_check.specs.declared.judged.LoadFault.{LoadFault}
+use Rattle.plc_check.specs.declared.judged.LoadFault.TheVariants as faults
+use Rattle.plc_check.specs.Loading.{judged_of, line_of}
+
+-- a lower call's fault, of which the want of memory is none
+abbrev pub lex_refusal : LexFault → LoadFault
+lex_refusal lex.Memory = faults.Memory
+lex_refusal (lex.BadByte at) = faults.Lex (lex.BadByte at)
+lex_refusal (lex.LongName at) = faults.Lex (lex.LongName at)
+lex_refusal (lex.BadNumber at) = faults.Lex (lex.BadNumber at)
+
+-- a fault without a place
+abbrev pub unplaced : ParseFault → LoadFault
+unplaced (parse.Limit what count) = faults.Limit what count
+unplaced other = faults.Memory
+
+-- the same of the parser's faults, with the line of the place
+abbrev pub parse_refusal : List ℕ → List Token → ParseFault → LoadFault
+parse_refusal bytes ts (parse.Syntax at) = faults.Parse (parse.Syntax at) (line_of bytes ts at)
+parse_refusal bytes ts (parse.Undeclared at) = faults.Parse (parse.Undeclared at) (line_of bytes ts at)
+parse_refusal bytes ts (parse.Duplicate at) = faults.Parse (parse.Duplicate at) (line_of bytes ts at)
+parse_refusal bytes ts (parse.WrongSort at) = faults.Parse (parse.WrongSort at) (line_of bytes ts at)
+parse_refusal bytes ts (parse.NoSuchCall at) = faults.Parse (parse.NoSuchCall at) (line_of bytes ts at)
+parse_refusal bytes ts (parse.Limit what count) = faults.Limit what count
+parse_refusal bytes ts parse.Memory = faults.Memory
+
+-- the points of a unit are too many
+pub record HasManyPoints (u : FileUnit) (e : LoadFault) : Type 0 where
+  pub many : most_points < (made_of u.file).points
+  pub fault : e ≡ faults.Limit Points (most_points + 1)
+
+-- the flow of a unit, or too many points; memory may be wanting
+abbrev pub IsLowered : FileUnit → Result Judged LoadFault → Type 0
+IsLowered u (Ok j) = (j ≡ judged_of u) × ((made_of u.file).points ≤ most_points) × (FileFits u.file → IsWellFormed j.flow)
+IsLowered u (Err faults.Memory) = Unit {0}
+IsLowered u (Err (faults.Limit what count)) = HasManyPoints u (faults.Limit what count)
+IsLowered u (Err faults.Unread) = ⊥
+IsLowered u (Err (faults.Lex f)) = ⊥
+IsLowered u (Err (faults.Parse f l)) = ⊥
