@@ -1,16 +1,18 @@
 -- From the answer that is due to what a 0 says, and when it comes: the bytes spell one unit, which has a typing or is stuck, and not both.
-use Rattle.std.proofs.Common.{◌≡◌, ◌⊎◌, inl, inr, ℕ, List, Option, Some, None, IfSome, sym, ap, subst, ◌∙◌}
+use Rattle.std.proofs.Common.{◌≡◌, ◌<◌, ◌≤◌, inl, inr, ℕ, List, length, Option, Some, None, IfSome, Result, Ok, Err, IfOk, ap, subst, arith}
 use Rattle.plc_parse.specs.declared.unit.Unit.{Unit as FileUnit}
 use Rattle.plc_auto.specs.declared.observer.Observer.{Observer}
 use Rattle.plc_flow.specs.Lowering.{flow_of}
 use Rattle.plc_xfer.specs.declared.fault.TypeFault.{TypeFault}
 use Rattle.plc_xfer.specs.Typings.{Skeleton, HasTyping, IsStuckAt}
 use Rattle.plc_infer.specs.Skeletons.{skeleton_of}
-use Rattle.plc_sound.proofs.StraightLines.{straight_lines_are_safe}
-use Rattle.plc_check.specs.Loading.{IsFileOf}
+use Rattle.plc_sound.proofs.NoRetire.{no_retire_is_safe}
+use Rattle.plc_check.specs.declared.unread.Unread.TheVariants.{ClaimsAndOutlines}
+use Rattle.plc_check.specs.declared.judged.Judged.{Judged}
+use Rattle.plc_check.specs.Loading.{IsLoaded, judged_of}
 use Rattle.plc_check.proofs.Unique.{one_file}
-use Rattle.plc_cli.specs.Answer.{KnownFiles, IsAnswerTo, IsDueFor, IsJudged, file_of}
-use Rattle.plc_cli.specs.Headline.{Headline, IsSafeProgram}
+use Rattle.plc_cli.specs.Answer.{KnownFiles, IsAnswerTo, IsDueFor, IsJudged, IsJudgedAs, file_of, largest, Spells}
+use Rattle.plc_cli.specs.Headline.{Headline, IsSafeProgram, IsTypable}
 
 -- bytes that a read answered, where the content is told
 told_is : (told : Option (List ℕ)) (bytes content : List ℕ) → IfSome told (λ c. bytes ≡ c) → told ≡ Some content → bytes ≡ content
@@ -23,20 +25,20 @@ stuck_or_typed o s k i fault stuck typed = stuck.fails typed.0 typed.1.pretyping
 module _ (bytes : List ℕ) (status : ℕ) (text : List ℕ) where
   pub safe_at_0 : IsAnswerTo bytes status text → status ≡ 0 → IsSafeProgram bytes
   safe_at_0 (inl refused) zero = let is = refused.status_is in absurd cc
-  safe_at_0 (inr (inl safe)) zero = record { unit = safe.unit; spelled = safe.spelled; safe = straight_lines_are_safe (flow_of safe.unit.file) safe.unit.observer }
+  safe_at_0 (inr (inl safe)) zero = record { unit = safe.unit; spelled = safe.spelled; safe = no_retire_is_safe (flow_of safe.unit.file) safe.unit.observer }
   safe_at_0 (inr (inr untyped)) zero = let is = untyped.status_is in absurd cc
 
-  module _ (u : FileUnit) (spelled : IsFileOf bytes u) where
-    pub typed_at_0 : IsAnswerTo bytes status text → status ≡ 0 → HasTyping u.observer (skeleton_of (flow_of u.file))
+  module _ (u : FileUnit) (spelled : Spells bytes u) where
+    pub typed_at_0 : IsAnswerTo bytes status text → status ≡ 0 → IsTypable u
     typed_at_0 (inl refused) zero = let is = refused.status_is in absurd cc
-    typed_at_0 (inr (inl safe)) zero = subst (λ (x : FileUnit). HasTyping x.observer (skeleton_of (flow_of x.file))) (one_file bytes safe.unit u safe.spelled spelled) safe.typed
+    typed_at_0 (inr (inl safe)) zero = subst IsTypable (one_file ClaimsAndOutlines ClaimsAndOutlines bytes safe.unit u safe.spelled spelled) (safe.envs, safe.typed.typing)
     typed_at_0 (inr (inr untyped)) zero = let is = untyped.status_is in absurd cc
 
-    pub at_0_where_typed : IsAnswerTo bytes status text → HasTyping u.observer (skeleton_of (flow_of u.file)) → status ≡ 0
+    pub at_0_where_typed : IsAnswerTo bytes status text → IsTypable u → status ≡ 0
     at_0_where_typed (inl refused) typed = absurd (refused.none u spelled)
     at_0_where_typed (inr (inl safe)) typed = safe.status_is
     at_0_where_typed (inr (inr untyped)) typed = absurd (stuck_or_typed u.observer (skeleton_of (flow_of u.file)) untyped.step untyped.primitive untyped.fault
-        (subst (λ (x : FileUnit). IsStuckAt x.observer (skeleton_of (flow_of x.file)) untyped.step untyped.primitive untyped.fault) (one_file bytes untyped.unit u untyped.spelled spelled) untyped.stuck) typed)
+        (subst (λ (x : FileUnit). IsStuckAt x.observer (skeleton_of (flow_of x.file)) untyped.step untyped.primitive untyped.fault) (one_file ClaimsAndOutlines ClaimsAndOutlines bytes untyped.unit u untyped.spelled spelled) untyped.stuck) typed)
 
 module _ (files : KnownFiles) (status : ℕ) (text : List ℕ) (name : List ℕ) where
   -- what is judged is the content that is told
@@ -51,24 +53,43 @@ module _ (files : KnownFiles) (status : ℕ) (text : List ℕ) (name : List ℕ)
   sound_for content told (inr (inl long)) zero = let is = long.status_is in absurd cc
   sound_for content told (inr (inr judged)) zero = safe_at_0 content status text (answer_of content told judged) zero
 
-  module _ (content : List ℕ) (told : files.content name ≡ Some content) (u : FileUnit) (spelled : IsFileOf content u) where
-    typed_for : IsDueFor files (Some name) status text → status ≡ 0 → HasTyping u.observer (skeleton_of (flow_of u.file))
+  module _ (content : List ℕ) (told : files.content name ≡ Some content) (u : FileUnit) (spelled : Spells content u) where
+    typed_for : IsDueFor files (Some name) status text → status ≡ 0 → IsTypable u
     typed_for (inl failed) zero = let is = failed.status_is in absurd cc
     typed_for (inr (inl long)) zero = let is = long.status_is in absurd cc
     typed_for (inr (inr judged)) zero = typed_at_0 content status text u spelled (answer_of content told judged) zero
 
-    complete_for : IsDueFor files (Some name) status text → HasTyping u.observer (skeleton_of (flow_of u.file)) → (status ≡ 0) ⊎ ((status ≡ 4) ⊎ ((status ≡ 5) ⊎ (status ≡ 6)))
-    complete_for (inl failed) typed = inr (inl failed.status_is)
-    complete_for (inr (inl long)) typed = inr (inl long.status_is)
-    complete_for (inr (inr judged)) typed = inl (at_0_where_typed content status text u spelled (answer_of content told judged) typed)
+    -- a content that isn't too long isn't told as one
+    long_told : (o : Option (List ℕ)) → IfSome o (λ c. largest < length c) → o ≡ Some content → length content ≤ largest → ⊥
+    long_told None h e short = absurd cc
+    long_told (Some c) h e short = let same : c ≡ content = cc in omega (arith, h, short, ap (λ (x : List ℕ). length x) same)
+
+    complete_for : IsDueFor files (Some name) status text → length content ≤ largest → files.faults_now name ≡ files.faults_before name → IsTypable u → status ≡ 0
+    complete_for (inl failed) short kept typed = absurd (omega (arith, failed.rose, kept))
+    complete_for (inr (inl long)) short kept typed = absurd (long_told (files.content name) long.told told short)
+    complete_for (inr (inr judged)) short kept typed = at_0_where_typed content status text u spelled (answer_of content told judged) typed
 
 module _ (files : KnownFiles) (words : List (List ℕ)) (status : ℕ) (text : List ℕ) (due : IsDueFor files (file_of words) status text) where
   due_for : (name : List ℕ) → file_of words ≡ Some name → IsDueFor files (Some name) status text
   due_for name named = subst (λ (n : Option (List ℕ)). IsDueFor files n status text) named due
 
-  pub headline_of : Headline files.content words status
+  pub headline_of : Headline files words status
   headline_of = record {
     sound = λ name bytes named told zero. sound_for files status text name bytes told (due_for name named) zero;
-    complete = λ name bytes named told u spelled typed. complete_for files status text name bytes told u spelled (due_for name named) typed;
+    complete = λ name bytes named told short kept u spelled typed. inl (complete_for files status text name bytes told u spelled (due_for name named) short kept typed);
     only_typed = λ name bytes named told u spelled zero. typed_for files status text name bytes told u spelled (due_for name named) zero;
   }
+
+-- what is judged of a flow that was loaded is the answer to its bytes
+answered : (bytes : List ℕ) (u : FileUnit) (status : ℕ) (text : List ℕ) → Spells bytes u → IsJudgedAs (judged_of u) status text → IsAnswerTo bytes status text
+answered bytes u status text f (inl safe) = inr (inl (record { unit = u; spelled = f; envs = safe.0; typed = safe.1; status_is = safe.2; text_is = safe.3 }))
+answered bytes u status text f (inr stuck) =
+    inr (inr (record { unit = u; spelled = f; step = stuck.0; primitive = stuck.1; fault = stuck.2; stuck = stuck.3; status_is = stuck.4; text_is = stuck.5 }))
+
+pub judged_answers : (bytes : List ℕ) (j : Judged) (status : ℕ) (text : List ℕ) → IsLoaded ClaimsAndOutlines bytes (Ok j) → IsJudgedAs j status text → IsAnswerTo bytes status text
+judged_answers bytes j status text loaded h = answered bytes loaded.0 status text loaded.1 (subst (λ (x : Judged). IsJudgedAs x status text) loaded.2 h)
+
+-- a fact on the value, where there is one, from another
+pub if_ok_from : {A E : Type 0} (r : Result A E) (P Q : A → Type 0) → ((a : A) → P a → Q a) → IfOk r P → IfOk r Q
+if_ok_from (Ok a) P Q f h = f a h
+if_ok_from (Err e) P Q f h = tt

@@ -4,12 +4,19 @@ use Rattle.std.specs.Str.{bytes_eq}
 use Rattle.plc_outside.specs.Outside.{Rose, Appends, AppendsPart}
 use Rattle.plc_parse.specs.declared.unit.Unit.{Unit as FileUnit}
 use Rattle.plc_flow.specs.Lowering.{flow_of}
+use Rattle.plc_type.specs.declared.env.Env.{Env}
 use Rattle.plc_xfer.specs.declared.fault.TypeFault.{TypeFault}
-use Rattle.plc_xfer.specs.Typings.{HasTyping, IsStuckAt}
+use Rattle.plc_xfer.specs.Typings.{IsTyping, IsStrongest, IsStuckAt}
 use Rattle.plc_infer.specs.Skeletons.{skeleton_of}
 use Rattle.plc_check.specs.declared.judged.Judged.{Judged}
-use Rattle.plc_check.specs.Loading.{IsFileOf}
-use Rattle.plc_cli.specs.Texts.{words_refused, read_failed, read_too_long, refused_file, safe_text, untyped_text}
+use Rattle.plc_check.specs.declared.judged.LoadFault.{LoadFault}
+use Rattle.plc_check.specs.declared.judged.LoadFault.TheVariants.{Memory}
+use Rattle.plc_check.specs.declared.unread.Unread.TheVariants.{ClaimsAndOutlines}
+use Rattle.plc_check.specs.Loading.{IsFileOf, HasFault, judged_of}
+use Rattle.plc_texts.specs.Refusals.{words_refused, read_failed, read_too_long}
+use Rattle.plc_texts.specs.Typings.{safe_text}
+use Rattle.plc_texts.specs.Untyped.{untyped_text}
+use Rattle.plc_cli.specs.Refusals.{load_text}
 
 -- the file that the words name: `check FILE` is the one form of words
 abbrev pub file_of : List (List ℕ) → Option (List ℕ)
@@ -22,24 +29,37 @@ largest = 1048576
 
 -- ---- the answer to the bytes of a file
 
--- the bytes spell no file of straight-line operations
-pub record IsRefusedFile (bytes : List ℕ) (status : ℕ) (text : List ℕ) : Type 0 where
-  pub none : (u : FileUnit) → IsFileOf bytes u → ⊥
-  pub status_is : status ≡ 2
-  pub text_is : text ≡ refused_file
+-- the unit that bytes spell, where none of their words is one of a claim or an outline
+abbrev pub Spells : List ℕ → FileUnit → Type 0
+Spells bytes u = IsFileOf ClaimsAndOutlines bytes u
 
--- the file has a typing
+-- the bytes have a fault that is told, and spell no file
+pub record IsRefusedFile (bytes : List ℕ) (status : ℕ) (text : List ℕ) : Type 0 where
+  pub fault : LoadFault
+  pub has : HasFault ClaimsAndOutlines bytes fault
+  pub told : fault ≢ Memory
+  pub none : (u : FileUnit) → Spells bytes u → ⊥
+  pub status_is : status ≡ 2
+  pub text_is : text ≡ load_text fault
+
+-- these environments are the strongest typing of a flow
+pub record IsStrongestTyping (j : Judged) (envs : List Env) : Type 0 where
+  pub typing : IsTyping j.observer (skeleton_of j.flow) envs
+  pub strongest : IsStrongest j.observer (skeleton_of j.flow) envs
+
+-- the file has a typing, of which the strongest is told
 pub record IsSafeFile (bytes : List ℕ) (status : ℕ) (text : List ℕ) : Type 0 where
   pub unit : FileUnit
-  pub spelled : IsFileOf bytes unit
-  pub typed : HasTyping unit.observer (skeleton_of (flow_of unit.file))
+  pub spelled : Spells bytes unit
+  pub envs : List Env
+  pub typed : IsStrongestTyping (judged_of unit) envs
   pub status_is : status ≡ 0
-  pub text_is : text ≡ safe_text (flow_of unit.file) unit.observer 0
+  pub text_is : text ≡ safe_text (flow_of unit.file) unit.observer envs 0
 
 -- a condition fails under every pre-typing, and this is the least
 pub record IsUntypedFile (bytes : List ℕ) (status : ℕ) (text : List ℕ) : Type 0 where
   pub unit : FileUnit
-  pub spelled : IsFileOf bytes unit
+  pub spelled : Spells bytes unit
   pub step : ℕ
   pub primitive : ℕ
   pub fault : TypeFault
@@ -50,7 +70,7 @@ pub record IsUntypedFile (bytes : List ℕ) (status : ℕ) (text : List ℕ) : T
 -- what is answered for a flow that was loaded
 abbrev pub IsJudgedAs : Judged → ℕ → List ℕ → Type 0
 IsJudgedAs j status text =
-    (HasTyping j.observer (skeleton_of j.flow) × (status ≡ 0) × (text ≡ safe_text j.flow j.observer 0))
+    ((envs : List Env) × IsStrongestTyping j envs × (status ≡ 0) × (text ≡ safe_text j.flow j.observer envs 0))
     ⊎ ((step : ℕ) × (primitive : ℕ) × (fault : TypeFault) × IsStuckAt j.observer (skeleton_of j.flow) step primitive fault × (status ≡ 1) × (text ≡ untyped_text j.flow step primitive fault))
 
 -- the answer to bytes: refused, safe or untyped

@@ -1,3 +1,3 @@
-pub mod Texts
+pub mod Refusals
 pub mod Answer
 pub mod Headline

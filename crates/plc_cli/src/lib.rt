@@ -11,13 +11,12 @@
 //! retired already.
 //!
 //! `run` promises, as the clause `headline`, that where it ends with 0 for the words `check` and a
-//! name, the bytes under that name spell a program of which no run has such a step; and it ends so
-//! exactly where a typing by the written rules exists. Where files tell no content, as the real ones
+//! name, the bytes under that name spell a program, and where no step of it calls `retire`, that no
+//! run of it has such a step; and it ends so exactly where a typing by the written rules exists. Where files tell no content, as the real ones
 //! do, the clause `outcome` still says that the answer is the one that is due for some bytes.
 #![tactic(auto)]
 
 mod program;
-mod texts;
 mod words;
 
 pub use plc_outside::{

@@ -3,15 +3,15 @@
 ghost use Rattle.std.specs.Prelude.{◌≡◌, ◌≤◌, IfOk, Some, map, string_bytes, length};
 ghost use Rattle.plc_flow.specs.WellFormed.{IsWellFormed};
 ghost use Rattle.plc_lang.specs.Fit.{FileFits};
-ghost use Rattle.plc_cli.specs.Texts.{refused_file};
+ghost use Rattle.plc_cli.specs.Refusals.{load_text};
 ghost use Rattle.plc_cli.specs.Answer.{IsAnswerTo, IsJudgedAs, IsDueFor, Outcome, file_of, largest};
 ghost use Rattle.plc_cli.specs.Headline.{Headline};
 
-use crate::texts::{fixed, safe, untyped};
 use crate::words::file_named;
 use plc_base::NoMemory;
-use plc_check::{Judged, LoadFault, Verdict, check, load};
+use plc_check::{Judged, LoadFault, Unread, Verdict, check, load};
 use plc_outside::{FileFault, Files, Sink, SinkFault, write_text};
+use plc_texts::{fixed, lexical, limit, parsed, safe, untyped};
 use std::alloc::{AllocError, Global};
 
 const LARGEST: usize = 1_048_576;
@@ -23,12 +23,26 @@ struct Answer {
     text: Vec<u8>,
 }
 
-fn refusal(alloc: Global) -> Result<Answer, AllocError>
-    ensures { IfOk result (λ answer. (answer.status ≡ 2) × (answer.text.items ≡ refused_file)) }
+// The text of a refusal; a want of memory has none.
+fn refusal_text(alloc: Global, fault: &LoadFault) -> Result<Vec<u8>, AllocError>
+    ensures { IfOk result (λ text. text.items ≡ load_text fault.now) }
+{
+    match fault {
+        LoadFault::Lex(fault) => lexical(alloc, *fault),
+        LoadFault::Unread => fixed(alloc, "refused file\n"),
+        LoadFault::Parse { fault, line } => parsed(alloc, fault, *line),
+        LoadFault::Limit { what, count } => limit(alloc, *what, *count),
+        LoadFault::Memory => Ok(Vec::new(alloc)),
+    }
+}
+
+// The answer to a file that is refused.
+fn refusal(alloc: Global, fault: &LoadFault) -> Result<Answer, AllocError>
+    ensures { IfOk result (λ answer. (answer.status ≡ 2) × (answer.text.items ≡ load_text fault.now)) }
 {
     Ok(Answer {
         status: 2,
-        text: fixed(alloc, "refused file\n")?,
+        text: refusal_text(alloc, fault)?,
     })
 }
 
@@ -39,9 +53,20 @@ fn judge(alloc: Global, judged: &Judged) -> Result<Answer, AllocError>
     ensures { IfOk result (λ answer. IsJudgedAs judged.now answer.status answer.text.items) }
 {
     match check(alloc, judged) {
-        Ok(Verdict::Safe { obligations, .. }) => Ok(Answer {
+        Ok(
+            Verdict::Safe {
+                typing,
+                obligations,
+            },
+        ) => Ok(Answer {
             status: 0,
-            text: safe(alloc, &judged.flow, &judged.observer, obligations)?,
+            text: safe(
+                alloc,
+                &judged.flow,
+                &judged.observer,
+                typing.env.as_slice(),
+                obligations,
+            )?,
         }),
         Ok(Verdict::Untyped { step, prim, fault }) => Ok(Answer {
             status: 1,
@@ -56,10 +81,10 @@ fn answer_to_bytes(alloc: Global, bytes: &[u8]) -> Result<Answer, AllocError>
     requires { length bytes.now ≤ largest }
     ensures { IfOk result (λ answer. IsAnswerTo bytes.now answer.status answer.text.items) }
 {
-    match load(alloc, bytes) {
+    match load(alloc, bytes, Unread::ClaimsAndOutlines) {
         Ok(judged) => judge(alloc, &judged),
         Err(LoadFault::Memory) => Err(AllocError),
-        Err(_) => refusal(alloc),
+        Err(fault) => refusal(alloc, &fault),
     }
 }
 
@@ -110,7 +135,9 @@ pub fn run<F: Files, S: Sink>(alloc: Global, words: &[String], files: &mut F, ou
     ensures outcome { Outcome
         (record { content = F.content files.old; faults_before = F.faults files.old; faults_now = F.faults files.new; taken = F.taken files.new })
         (map string_bytes words.now) result (S.faults out.old) (S.faults out.new) (S.written out.old) (S.written out.new) }
-    ensures headline { Headline (F.content files.old) (map string_bytes words.now) result }
+    ensures headline { Headline
+        (record { content = F.content files.old; faults_before = F.faults files.old; faults_now = F.faults files.new; taken = F.taken files.new })
+        (map string_bytes words.now) result }
 {
     match answer_to_words(alloc, words, files) {
         Err(AllocError) => 6,

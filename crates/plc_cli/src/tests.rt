@@ -9,6 +9,27 @@ const PUBLISH: &str =
 const LOST: &str =
     "struct Node { ptr next; data val; }\nshared Top;\nop f() {\nptr n; ptr m;\nn := new;\nm := n;\nTop := n;\nm.val := 1;\n}\n";
 
+// No step leads to the statements behind a `return`, or behind a loop without a `break`; they are typed all
+// the same.
+const DEAD: &str =
+    "struct N { ptr f; }\nshared T;\nop g() { ptr a; ptr b; return; a := T; b := a.f; }\n";
+
+const ENDLESS: &str =
+    "struct N { ptr f; }\nshared T;\nop g() { ptr a; ptr b; loop { skip; } a := T; b := a.f; }\n";
+
+// What is read of `T` comes to `c` in the third turn.
+const ROUNDS: &str =
+    "struct N { ptr f; }\nshared T;\nop g() { ptr a; ptr b; ptr c; ptr d; loop { d := c.f; c := b; b := a; a := T; } }\n";
+
+const LABELLED: &str =
+    "struct N { ptr f; }\nshared T;\nop g() { ptr a; ptr b; ptr c; loop { label l; c := b; b := a; a := T; } }\n";
+
+const PROTECTED: &str =
+    "struct Node { ptr next; }\nshared Top;\ncall protect(ptr);\nuse hazard(protect);\nop f() { ptr n; n := new; protect(n); label a; }\n";
+
+const TAKEN: &str =
+    "struct Node { ptr next; }\nshared Top;\ncall protect(ptr);\nuse hazard(protect);\nop put() { ptr n; n := new; Top := n; }\nop take() { ptr t; t := Top; Top := null; retire(t); }\n";
+
 const UNTYPED: &str = "untyped step 3 prim 0 line 8 deref m\n";
 
 const MOST: usize = 1_048_576;
@@ -24,6 +45,25 @@ fn some_files(alloc: Global, failing: &[u64]) -> Result<MemFiles, AllocError> {
         ("brace", "struct N { } }"),
         ("unknown", "struct N { } op f() { ptr n; n := m; }"),
         ("loop", "struct N { } op f() { loop { skip; } }"),
+        ("claim", "struct N { } op f() { ptr n; active n; }"),
+        (
+            "fields",
+            "struct N { ptr a; ptr b; ptr c; ptr d; ptr e; ptr f; ptr g; ptr h; ptr i; }",
+        ),
+        ("dead", DEAD),
+        ("endless", ENDLESS),
+        ("rounds", ROUNDS),
+        ("labelled", LABELLED),
+        ("protected", PROTECTED),
+        ("taken", TAKEN),
+        (
+            "twice",
+            "struct Node { ptr next; }\nop twice() { ptr t; t := new; retire(t); retire(t); }",
+        ),
+        (
+            "once",
+            "struct Node { ptr next; }\nop once() { ptr t; t := new; retire(t); }",
+        ),
     ] {
         let bytes = Vec::from_slice(alloc, text.as_bytes())?;
         files.push((String::from_str(alloc, name)?, bytes))?;
@@ -77,12 +117,38 @@ fn each_file_has_its_answer(rt: HostRuntime) -> Result<(), AllocError> {
             "safe points 0 steps 0 locations 2 obligations 0\n",
         ),
         ("lost", 1, UNTYPED),
-        ("empty", 2, "refused file\n"),
-        ("stray", 2, "refused file\n"),
-        ("brace", 2, "refused file\n"),
-        ("unknown", 2, "refused file\n"),
-        ("loop", 2, "refused file\n"),
-        ("most", 2, "refused file\n"),
+        ("empty", 2, "refused syntax token 0 line 1\n"),
+        ("stray", 2, "refused byte at 13\n"),
+        ("brace", 2, "refused syntax token 4 line 1\n"),
+        ("unknown", 2, "refused undeclared token 14 line 1\n"),
+        (
+            "loop",
+            0,
+            "safe points 5 steps 4 locations 2 obligations 0\n",
+        ),
+        ("claim", 2, "refused file\n"),
+        ("fields", 2, "refused limit fields 9\n"),
+        ("dead", 1, "untyped step 2 prim 0 line 3 deref a\n"),
+        ("endless", 1, "untyped step 4 prim 0 line 3 deref a\n"),
+        ("rounds", 1, "untyped step 1 prim 0 line 3 deref c\n"),
+        (
+            "labelled",
+            0,
+            "at l W {u r}\nat l a - {u r}\nat l b - {u r}\nat l c - {u r}\nsafe points 7 steps 6 locations 2 obligations 0\n",
+        ),
+        (
+            "protected",
+            0,
+            "at a W {u.idle u.held r.idle r.held r.kept}\nat a n ALS {u.held}\nsafe points 5 steps 4 locations 7 obligations 0\n",
+        ),
+        ("taken", 1, "untyped step 5 prim 0 line 6 retire t\n"),
+        ("twice", 1, "untyped step 3 prim 0 line 2 retire t\n"),
+        (
+            "once",
+            0,
+            "safe points 5 steps 4 locations 2 obligations 0\n",
+        ),
+        ("most", 2, "refused syntax token 0 line 1\n"),
         ("long", 4, "read too long\n"),
         ("absent", 4, "read failed\n"),
     ] {
