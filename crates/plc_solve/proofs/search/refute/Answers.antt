@@ -1,0 +1,5 @@
+use Rattle.plc_solve.proofs.Answering.{exact_from}
+use Rattle.plc_solve.proofs.search.refute.Goals as goal
+
+pub returns-clause-exact : goal.returns-clause-exact
+returns-clause-exact c = exact_from c.args.set.now c.in_ok-solve.field-0 c.in_ok-solve.ensures.open c.in_ok-solve.ensures.closed

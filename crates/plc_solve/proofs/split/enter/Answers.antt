@@ -1,0 +1,5 @@
+use Rattle.plc_solve.proofs.Searching.{model_here}
+use Rattle.plc_solve.proofs.split.enter.Goals as goal
+
+pub returns-in-None : goal.returns-in-None
+returns-in-None c = model_here c.args.set.now c.requires.well c.args.branch.items c.args.class.items c.requires.place (rw c.deref.ensures.value at c.in-None.ensures.none)

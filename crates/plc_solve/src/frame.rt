@@ -1,0 +1,86 @@
+// A split on the present branch. Its classes are the closure of the branch above it, so nothing has
+// to be undone: going back up is taking the frame below. The nodes of the children that are closed
+// stay with the frame until all are, so that a tree can be left out where it stands in place of its
+// split.
+ghost use Rattle.std.specs.Prelude.{◌≡◌, ◌<◌, ◌+◌, ◌∷◌, IfOk, OnOk, length};
+ghost use Rattle.plc_ground.specs.Model.{literals};
+ghost use Rattle.plc_ground.specs.declared.terms.Node.{Node};
+ghost use Rattle.plc_solve.specs.Search.{TakesLeaf, TakesTree};
+
+use plc_ground::{GroundSet, Lit, Node, clause};
+use std::alloc::{AllocError, Global};
+
+/// A split whose children before `next` are closed by `nodes`.
+#[derive(Drop)]
+pub(crate) struct Frame {
+    pub clause: u32,
+    pub next: usize,
+    pub nodes: Vec<Node>,
+    pub branch: Vec<Lit>,
+    pub class: Vec<u32>,
+}
+
+/// What became of the next child of a split.
+#[derive(Drop)]
+pub(crate) enum Step {
+    /// The classes are a model.
+    Open(Vec<u32>),
+    /// A leaf closes the child.
+    Closed,
+    /// The child is split in turn.
+    Deeper(Frame),
+    /// There is no further child.
+    Complete,
+}
+
+/// What an equation more makes of a branch.
+#[derive(Drop)]
+pub(crate) enum Descent {
+    /// Two terms come into one class that must not.
+    Conflict(u32, u32),
+    /// The longer branch, and its classes.
+    Place(Vec<Lit>, Vec<u32>),
+}
+
+/// Goes on to the child after the next.
+fn next_child(set: &GroundSet, top: &mut Frame)
+    requires known { top.old.clause < length set.now.clauses }
+    requires child { top.old.next < length (literals set.now top.old.clause) }
+    ensures { top.new ≡ record top.old { next = top.old.next + 1 } }
+{
+    if top.next < clause(set, top.clause as usize).len() {
+        top.next += 1;
+    }
+}
+
+/// Closes the next child by a leaf.
+pub(crate) fn take_leaf(set: &GroundSet, top: &mut Frame, a: u32, b: u32) -> Result<(), AllocError>
+    requires known { top.old.clause < length set.now.clauses }
+    requires child { top.old.next < length (literals set.now top.old.clause) }
+    ensures { OnOk result (TakesLeaf top.old top.new a b) }
+{
+    top.nodes.push(Node::Leaf(a, b))?;
+    next_child(set, top);
+    Ok(())
+}
+
+/// Closes the next child by a tree.
+pub(crate) fn take_tree(set: &GroundSet, top: &mut Frame, tree: &[Node]) -> Result<(), AllocError>
+    requires known { top.old.clause < length set.now.clauses }
+    requires child { top.old.next < length (literals set.now top.old.clause) }
+    ensures { OnOk result (TakesTree top.old top.new tree.now) }
+{
+    top.nodes.extend_from_slice(tree)?;
+    next_child(set, top);
+    Ok(())
+}
+
+/// The tree of a split whose children are all closed.
+pub(crate) fn whole(alloc: Global, clause: u32, nodes: &[Node]) -> Result<Vec<Node>, AllocError>
+    ensures { IfOk result (λ tree. tree.items ≡ Node.Split clause ∷ nodes.now) }
+{
+    let mut tree = Vec::new(alloc);
+    tree.push(Node::Split(clause))?;
+    tree.extend_from_slice(nodes)?;
+    Ok(tree)
+}

@@ -1,0 +1,18 @@
+//! The solver of ground sets: `refute` answers Open with a ground model exactly where one exists, and
+//! else Closed with a tree that closes the set.
+//!
+//! It stands on the definitions of `plc_ground` and on its table of classes, and knows nothing of how
+//! a tree is judged but the walk that it asks which splits are needless.
+#![tactic(auto)]
+
+mod apart;
+mod choice;
+mod frame;
+mod needless;
+mod search;
+mod split;
+mod survey;
+#[cfg(test)]
+mod tests;
+
+pub use search::{Answer, refute};

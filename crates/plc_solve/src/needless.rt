@@ -1,0 +1,41 @@
+// A tree that was found for one child of a split may not need the child's literal. The walk that
+// judges trees, begun on the branch above the split, tells; then the tree stands in place of the
+// whole split, and the split's other children are never looked at. This is what keeps trees near the
+// size of the reason why a set has no model, as jumping back does where reasons are kept.
+ghost use Rattle.std.specs.Prelude.{◌≡◌, ◌<◌, ◌≤◌, ℕ, [], IfOk, IfSome, None, Ok, reverse, vec_len};
+ghost use Rattle.plc_ground.specs.Fit.{IsWellFormed};
+ghost use Rattle.plc_solve.specs.Search.{IsSurvey, IsStack, ClosesTop};
+ghost use Rattle.plc_solve.specs.Measure.{left, left_below};
+
+use crate::frame::{Frame, take_tree};
+use crate::survey::Survey;
+use plc_ground::{GroundSet, Node, walk};
+use std::alloc::{AllocError, Global};
+
+/// Hands a tree to the splits above: those that it makes needless go, and the next takes it. What
+/// closes all is the answer.
+pub(crate) fn hand_up(
+    alloc: Global,
+    set: &GroundSet,
+    survey: &Survey,
+    frames: &mut Vec<Frame>,
+    tree: Vec<Node>,
+) -> Result<Option<Vec<Node>>, AllocError>
+    requires well { IsWellFormed set.now }
+    requires survey { IsSurvey set.now survey.now }
+    requires stack { IsStack set.now (reverse frames.old.items) }
+    requires closes { ClosesTop set.now (reverse frames.old.items) tree.items }
+    ensures stack { result ≡ Ok None → IsStack set.now (reverse frames.new.items) }
+    ensures less { result ≡ Ok None → (base : ℕ) → left set.now base (reverse frames.new.items) ≤ left_below set.now base (reverse frames.old.items) }
+    ensures nonempty { result ≡ Ok None → 0 < vec_len frames.new }
+    ensures closed { IfOk result (λ o. IfSome o (λ all. ClosesTop set.now [] all.items)) }
+{
+    while let Some(mut top) = frames.pop() {
+        if walk(alloc, set, &survey.table, &top.branch, &top.class, &tree)?.is_some() {
+            take_tree(set, &mut top, &tree)?;
+            frames.push(top)?;
+            return Ok(None);
+        }
+    }
+    Ok(Some(tree))
+}

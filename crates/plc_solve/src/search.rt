@@ -1,0 +1,113 @@
+// The search for a tree or a model. The closure of the branch is the candidate: where no clause is
+// false under it and no two constants come together that must differ, it is a model. Else a false
+// clause is split. The stack of splits is a list, so no depth is too great. A split above the
+// present branch has a true equation on it, so a clause that is false wasn't split: none is twice.
+ghost use Rattle.std.specs.Prelude.{◌≡◌, ◌↔◌, ◌<◌, ◌∷◌, ℕ, List, [], IfOk, length, reverse, vec_len};
+ghost use Rattle.plc_ground.specs.Fit.{IsWellFormed};
+ghost use Rattle.plc_ground.specs.Trees.{HasModel};
+ghost use Rattle.plc_solve.specs.Search.{IsSurvey, Enters, ClosesTop, IsStack};
+ghost use Rattle.plc_solve.specs.Answers.{IsOpen, CarriesModel, CarriesTree};
+
+use crate::frame::{Frame, Step, whole};
+use crate::needless::hand_up;
+use crate::split::{enter, take_child};
+use crate::survey::{Survey, take_survey};
+use plc_base::{Items, NoMemory};
+use plc_ground::{GroundModel, GroundSet, Tree, alone};
+use std::alloc::{AllocError, Global};
+
+/// What the solver finds.
+#[derive(Debug, Drop)]
+pub enum Answer {
+    /// A tree that closes the set, so that no model exists. No branch splits one clause twice.
+    Closed(Tree),
+    /// A model of the set.
+    Open(GroundModel),
+}
+
+/// The first split, or a model where no clause is false.
+fn begin(
+    alloc: Global,
+    set: &GroundSet,
+    survey: &Survey,
+    seen: &mut [usize],
+) -> Result<Step, AllocError>
+    requires well { IsWellFormed set.now }
+    requires survey { IsSurvey set.now survey.now }
+    requires seen { length seen.old ≡ length set.now.clauses }
+    ensures { IfOk result (λ r. (class : List ℕ) × Enters set.now [] class r) }
+{
+    let class = alone(alloc, set)?;
+    Ok(enter(alloc, set, survey, seen, Vec::new(alloc), class))
+}
+
+/// The answer that comes of the first split.
+fn find(
+    alloc: Global,
+    set: &GroundSet,
+    survey: &Survey,
+    seen: &mut [usize],
+    first: Frame,
+) -> Result<Answer, AllocError>
+    requires well { IsWellFormed set.now }
+    requires survey { IsSurvey set.now survey.now }
+    requires seen { length seen.old ≡ length set.now.clauses }
+    requires stack { IsStack set.now (first ∷ []) }
+    ensures open { IfOk result (CarriesModel set.now) }
+    ensures closed { IfOk result (CarriesTree set.now) }
+{
+    let mut frames = Vec::new(alloc);
+    frames.push(first)?;
+    'search: while let Some(mut top) = frames.pop() {
+        match take_child(alloc, set, survey, seen, &mut top)? {
+            Step::Open(class) => return Ok(open(class)),
+            Step::Closed => frames.push(top)?,
+            Step::Deeper(child) => {
+                frames.push(top)?;
+                frames.push(child)?;
+            }
+            Step::Complete => {
+                let tree = whole(alloc, top.clause, &top.nodes)?;
+                if let Some(nodes) = hand_up(alloc, set, survey, &mut frames, tree)? {
+                    return Ok(Answer::Closed(Tree {
+                        nodes: Items::from_vec(nodes),
+                    }));
+                }
+            }
+        }
+    }
+    unreachable!()
+}
+
+fn open(class: Vec<u32>) -> Answer
+    ensures { result ≡ Answer.Open (record { class = class.items }) }
+{
+    Answer::Open(GroundModel {
+        class: Items::from_vec(class),
+    })
+}
+
+fn solve(alloc: Global, set: &GroundSet) -> Result<Answer, AllocError>
+    requires { IsWellFormed set.now }
+    ensures open { IfOk result (CarriesModel set.now) }
+    ensures closed { IfOk result (CarriesTree set.now) }
+{
+    let survey = take_survey(alloc, set)?;
+    let mut seen = vec![in alloc; 0usize; set.clauses.len()]?;
+    match begin(alloc, set, &survey, &mut seen)? {
+        Step::Open(class) => Ok(open(class)),
+        Step::Deeper(first) => Ok(find(alloc, set, &survey, &mut seen, first)?),
+        _ => unreachable!(),
+    }
+}
+
+/// A model of the set, exactly where it has one, or else a tree that closes it. It doesn't recurse.
+/// The one error is want of memory.
+pub fn refute(alloc: Global, set: &GroundSet) -> Result<Answer, NoMemory>
+    requires { IsWellFormed set.now }
+    ensures open { IfOk result (CarriesModel set.now) }
+    ensures closed { IfOk result (CarriesTree set.now) }
+    ensures exact { IfOk result (λ answer. IsOpen answer ↔ HasModel set.now) }
+{
+    Ok(solve(alloc, set)?)
+}
