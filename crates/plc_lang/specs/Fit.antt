@@ -1,8 +1,9 @@
--- Limits of every file that was read.
+-- What every file keeps that was read: the limits, and that what its primitives name is there.
 use Rattle.std.specs.Prelude.{◌≡◌, ℕ, ◌≤◌, length, slice_get, Some}
 use Rattle.plc_lang.specs.declared.syntax.Ghost.{Ghost}
 use Rattle.plc_lang.specs.declared.syntax.File.{File}
 use Rattle.plc_lang.specs.declared.syntax.Op.{Op}
+use Rattle.plc_lang.specs.Shape.{shape_of, init_shape, PrimitivesIn, StatementsIn}
 use Rattle.plc_lang.specs.Statements.{Statement, One, Atomic, Call, If, Choose, Loop, Break, Return, Skip, Label, Statements, Empty, Then, Blocks, NoBlock, And}
 
 -- primitives of one step
@@ -47,3 +48,8 @@ pub record FileFits (file : File) : Type 0 where
   pub ops : length file.ops ≤ 32
   pub each_op : (k : ℕ) (o : Op) → slice_get file.ops k ≡ Some o → OpFits o
   pub labels : length file.labels ≤ 256
+
+-- `init` and the operations name what is there
+pub record NamesWhatIsThere (file : File) : Type 0 where
+  pub init : PrimitivesIn (init_shape file) file.init
+  pub each_op : (k : ℕ) (o : Op) → slice_get file.ops k ≡ Some o → StatementsIn (shape_of file o) o.body

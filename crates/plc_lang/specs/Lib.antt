@@ -1,3 +1,4 @@
+pub mod Allocation
 pub mod Falls
 pub mod Fit
 pub mod Locals

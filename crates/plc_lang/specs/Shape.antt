@@ -1,15 +1,18 @@
--- Which variables and fields the primitives of an operation may name: those that are there.
-use Rattle.std.specs.Prelude.{ℕ, ◌+◌, ◌<◌, List, [], ◌∷◌, length, count_by}
+-- Which variables and fields primitives and statements may name: those that are there.
+use Rattle.std.specs.Prelude.{ℕ, ◌+◌, ◌<◌, Option, Some, None, List, [], ◌∷◌, length, count_by}
 use Rattle.plc_lang.specs.declared.syntax.Var.{Var}
 use Rattle.plc_lang.specs.declared.syntax.Var.TheVariants.{Shared, Local}
 use Rattle.plc_lang.specs.declared.syntax.Num.{Num}
 use Rattle.plc_lang.specs.declared.syntax.Num.TheVariants.{Lit, Local as DataLocal}
 use Rattle.plc_lang.specs.declared.syntax.Arg.{Arg}
 use Rattle.plc_lang.specs.declared.syntax.Arg.TheVariants as args
+use Rattle.plc_lang.specs.declared.syntax.Cond.{Cond}
+use Rattle.plc_lang.specs.declared.syntax.Cond.TheVariants as conditions
 use Rattle.plc_lang.specs.declared.syntax.Primitive.{Primitive}
 use Rattle.plc_lang.specs.declared.syntax.Primitive.TheVariants.{Null, Copy, New, Load, Store, StoreNull, DataSet, DataLoad, DataStore, Eq, Ne, IsNull, NotNull, DataTest, Refresh, RefreshLoad, RefreshStore, Call, Done, Active, Ghost}
 use Rattle.plc_lang.specs.declared.syntax.Op.{Op}
 use Rattle.plc_lang.specs.declared.syntax.File.{File}
+use Rattle.plc_lang.specs.Statements.{Statement, One, Atomic, Call as CallStatement, If, Choose, Loop, Break, Return, Skip, Label, Statements, Empty, Then, Blocks, NoBlock, And}
 use Rattle.plc_lang.specs.Locals.{is_pointer, is_parameter, is_other_data}
 
 -- how many shared pointers, pointer locals, data locals and fields there are
@@ -76,3 +79,36 @@ PrimitiveIn h (Ghost p g v) = VarIn h p
 abbrev pub PrimitivesIn : Shape → List Primitive → Type 0
 PrimitivesIn h [] = Unit {0}
 PrimitivesIn h (k ∷ ks) = PrimitiveIn h k × PrimitivesIn h ks
+
+-- a pointer variable that is there, or null
+abbrev pub VarOrNullIn : Shape → Option Var → Type 0
+VarOrNullIn h (Some p) = VarIn h p
+VarOrNullIn h None = Unit {0}
+
+-- all that a condition names is there
+abbrev pub CondIn : Shape → Cond → Type 0
+CondIn h (conditions.Test k) = PrimitiveIn h k
+CondIn h (conditions.Refresh k) = PrimitiveIn h k
+CondIn h (conditions.Cas a p old new) = VarIn h p × VarOrNullIn h old × VarOrNullIn h new
+
+-- all that statements name is there
+abbrev mutual
+  pub StatementIn : Shape → Statement → Type 0
+  StatementIn h (One k) = PrimitiveIn h k
+  StatementIn h (Atomic ks) = PrimitivesIn h ks
+  StatementIn h (CallStatement f a b d) = ArgIn h a
+  StatementIn h (If c y n) = CondIn h c × StatementsIn h y × StatementsIn h n
+  StatementIn h (Choose bs) = BlocksIn h bs
+  StatementIn h (Loop b) = StatementsIn h b
+  StatementIn h Break = Unit {0}
+  StatementIn h Return = Unit {0}
+  StatementIn h Skip = Unit {0}
+  StatementIn h (Label l) = Unit {0}
+
+  pub StatementsIn : Shape → Statements → Type 0
+  StatementsIn h Empty = Unit {0}
+  StatementsIn h (Then l s b) = StatementIn h s × StatementsIn h b
+
+  pub BlocksIn : Shape → Blocks → Type 0
+  BlocksIn h NoBlock = Unit {0}
+  BlocksIn h (And b bs) = StatementsIn h b × BlocksIn h bs
