@@ -1,15 +1,16 @@
--- What the lowering promises of an answer makes it a well-formed flow.
+-- What the lowering promises of an answer makes it a flow that can be run.
 use Rattle.std.proofs.Common.{◌≤◌, Ok, sym, subst, arith}
 use Rattle.plc_lang.specs.declared.syntax.File.{File}
-use Rattle.plc_lang.specs.Fit.{FileFits}
+use Rattle.plc_lang.specs.Fit.{FileFits, NamesWhatIsThere}
 use Rattle.plc_flow.specs.declared.flow.Flow.{Flow}
 use Rattle.plc_flow.specs.Lowering.{made_of, flow_of, most_points, IsLowered}
-use Rattle.plc_flow.specs.WellFormed.{GatesFrom, IsWellFormed}
+use Rattle.plc_flow.specs.WellFormed.{GatesFrom, IsWellFormed, FlowFits}
 use Rattle.plc_flow.proofs.Within.{ops_few, ops_gates, ops_counted, flow_steps_within, flow_labels_within}
 use Rattle.plc_flow.proofs.Short.{flow_steps_short}
+use Rattle.plc_flow.proofs.Naming.{flow_steps_named}
 
 -- a file within the limits has a well-formed flow
-pub flow_is_well_formed : (file : File) → FileFits file → (made_of file).points ≤ most_points → IsWellFormed (flow_of file)
+flow_is_well_formed : (file : File) → FileFits file → (made_of file).points ≤ most_points → IsWellFormed (flow_of file)
 flow_is_well_formed file fits few = record {
   few = few;
   gates = ops_counted 0 file.ops 0;
@@ -20,5 +21,17 @@ flow_is_well_formed file fits few = record {
   labels = flow_labels_within file;
 }
 
+-- and where it names what is there, so does its flow
+flow_fits : (file : File) → FileFits file → NamesWhatIsThere file → (made_of file).points ≤ most_points → FlowFits (flow_of file)
+flow_fits file fits named few = record {
+  well = flow_is_well_formed file fits few;
+  init = named.init;
+  short_init = fits.init;
+  steps = flow_steps_named file named;
+}
+
 pub lowered_is_well_formed : (file : File) (flow : Flow) → FileFits file → IsLowered file (Ok flow) → IsWellFormed flow
 lowered_is_well_formed file flow fits l = subst IsWellFormed (sym l.0) (flow_is_well_formed file fits l.1)
+
+pub lowered_fits : (file : File) (flow : Flow) → FileFits file → NamesWhatIsThere file → IsLowered file (Ok flow) → FlowFits flow
+lowered_fits file flow fits named l = subst FlowFits (sym l.0) (flow_fits file fits named l.1)

@@ -1,5 +1,6 @@
 pub mod Each
 pub mod Fitting
+pub mod Naming
 pub mod Remaining
 pub mod Short
 pub mod Sizes

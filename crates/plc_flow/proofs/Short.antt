@@ -17,12 +17,12 @@ use Rattle.plc_flow.specs.declared.flow.Step.{Step}
 use Rattle.plc_flow.specs.declared.builder.Here.{Here}
 use Rattle.plc_flow.specs.Sides.{claim, equals, differs, becomes, true_side, false_side, call_side}
 use Rattle.plc_flow.specs.Lowering.{Branches, Lowered, joins, side_made, if_made, choose_made, loop_made, statement_made, statements_made, blocks_made, op_made, ops_made, made_of, flow_of}
-use Rattle.plc_flow.specs.WellFormed.{most_primitives}
+use Rattle.plc_flow.specs.WellFormed.{most_step_primitives}
 use Rattle.plc_flow.proofs.Each.{Each, each_get, each_both}
 
 -- a step of few primitives
 abbrev IsShort : Step → Type 0
-IsShort s = length s.prims ≤ most_primitives
+IsShort s = length s.prims ≤ most_step_primitives
 
 abbrev MakesShort : Lowered → Type 0
 MakesShort l = (h : Here) (n c : ℕ) → Each IsShort (l h n c).steps
@@ -34,17 +34,17 @@ claimed_short : (active : Bool) (p : Var) (ks : List Primitive) → length (clai
 claimed_short true p ks = omega arith
 claimed_short false p ks = omega arith
 
-true_short : (cond : Cond) → length (true_side cond) ≤ most_primitives
+true_short : (cond : Cond) → length (true_side cond) ≤ most_step_primitives
 true_short (conds.Test k) = omega arith
 true_short (conds.Refresh k) = omega arith
 true_short (conds.Cas active p old new) = omega (arith, claimed_short active p (equals p old ∷ becomes p new ∷ []))
 
-false_short : (cond : Cond) → length (false_side cond) ≤ most_primitives
+false_short : (cond : Cond) → length (false_side cond) ≤ most_step_primitives
 false_short (conds.Test k) = omega arith
 false_short (conds.Refresh k) = omega arith
 false_short (conds.Cas active p old new) = omega (arith, claimed_short active p (differs p old ∷ []))
 
-call_short : (active : Bool) (func : FuncId) (arg : Arg) → length (call_side active func arg) ≤ most_primitives
+call_short : (active : Bool) (func : FuncId) (arg : Arg) → length (call_side active func arg) ≤ most_step_primitives
 call_short active func (args.Var p) = omega (arith, claimed_short active p (prims.Call func (args.Var p) ∷ []))
 call_short active func args.Null = omega arith
 call_short active func args.None = omega arith
@@ -53,7 +53,7 @@ joins_short : (h : Here) (ends : List PointId) (j : ℕ) → Each IsShort (joins
 joins_short h [] j = tt
 joins_short h (d ∷ ends) j = (omega arith, joins_short h ends j)
 
-side_short : (prims : List Primitive) (block : Lowered) → length prims ≤ most_primitives → MakesShort block → MakesShort (side_made prims block)
+side_short : (prims : List Primitive) (block : Lowered) → length prims ≤ most_step_primitives → MakesShort block → MakesShort (side_made prims block)
 side_short prims block few b h n c = (few, b h (n + 1) n)
 
 if_short : (yes_side no_side : Lowered) → MakesShort yes_side → MakesShort no_side → MakesShort (if_made yes_side no_side)
@@ -110,5 +110,5 @@ ops_short id (o ∷ os) n f =
     each_both IsShort first.steps (ops_made (id + 1) os (n + first.points)).steps (op_short id o n (f 0 o refl).body) (ops_short (id + 1) os (n + first.points) (λ k p e. f (suc k) p e))
 
 -- each step of the flow of a file within the limits has few primitives
-pub flow_steps_short : (file : File) → FileFits file → (k : ℕ) (s : Step) → slice_get (flow_of file).steps k ≡ Some s → length s.prims ≤ most_primitives
+pub flow_steps_short : (file : File) → FileFits file → (k : ℕ) (s : Step) → slice_get (flow_of file).steps k ≡ Some s → length s.prims ≤ most_step_primitives
 flow_steps_short file fits = each_get IsShort (made_of file).steps (ops_short 0 file.ops 0 fits.each_op)

@@ -1,6 +1,9 @@
 -- What every flow that was lowered keeps: later layers ask it of the flows that they are given.
 use Rattle.std.specs.Prelude.{◌≡◌, ℕ, ◌+◌, ◌<◌, ◌≤◌, List, [], ◌∷◌, length, slice_get, Some}
 use Rattle.plc_base.specs.declared.ids.PointId.{PointId}
+use Rattle.plc_lang.specs.declared.syntax.Op.{Op}
+use Rattle.plc_lang.specs.Fit.{most_primitives}
+use Rattle.plc_lang.specs.Shape.{shape_of, init_shape, PrimitivesIn}
 use Rattle.plc_flow.specs.declared.flow.Step.{Step}
 use Rattle.plc_flow.specs.declared.flow.Gate.{Gate}
 use Rattle.plc_flow.specs.declared.flow.Flow.{Flow}
@@ -19,8 +22,8 @@ GatesFrom n [] end = n ≡ end
 GatesFrom n (g ∷ gs) end = (g.first ≡ n) × (g.entry.0 ≡ n) × (g.exit.0 ≡ n + 1) × (n + 2 ≤ g.after) × GatesFrom g.after gs end
 
 -- an atomic block has at most 64 primitives, and a claim for each of at most 48 pointers may be put in front
-abbrev pub most_primitives : ℕ
-most_primitives = 112
+abbrev pub most_step_primitives : ℕ
+most_step_primitives = 112
 
 -- what every flow that was lowered keeps
 pub record IsWellFormed (flow : Flow) : Type 0 where
@@ -29,5 +32,12 @@ pub record IsWellFormed (flow : Flow) : Type 0 where
   pub ranges : GatesFrom 0 flow.gates flow.points
   pub steps : (k : ℕ) (s : Step) → slice_get flow.steps k ≡ Some s → StepWithin flow s
   pub few_steps : length flow.steps < 65536
-  pub short : (k : ℕ) (s : Step) → slice_get flow.steps k ≡ Some s → length s.prims ≤ most_primitives
+  pub short : (k : ℕ) (s : Step) → slice_get flow.steps k ≡ Some s → length s.prims ≤ most_step_primitives
   pub labels : (k : ℕ) (p : PointId) → slice_get flow.labels k ≡ Some p → p.0 < flow.points
+
+-- the flow can be run: it is well formed, and its primitives name what is there
+pub record FlowFits (flow : Flow) : Type 0 where
+  pub well : IsWellFormed flow
+  pub init : PrimitivesIn (init_shape flow.file) flow.file.init
+  pub short_init : length flow.file.init ≤ most_primitives
+  pub steps : (k : ℕ) (s : Step) (o : Op) → slice_get flow.steps k ≡ Some s → slice_get flow.file.ops s.op.0 ≡ Some o → PrimitivesIn (shape_of flow.file o) s.prims

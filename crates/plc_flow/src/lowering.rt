@@ -1,10 +1,10 @@
 // The operations of a file one behind the other, each with a run of points of its own, which begins
 // with its entry and its exit.
 ghost use Rattle.std.specs.Prelude.{◌≡◌, ◌≤◌, ◌+◌, IfOk};
-ghost use Rattle.plc_lang.specs.Fit.{FileFits};
+ghost use Rattle.plc_lang.specs.Fit.{FileFits, NamesWhatIsThere};
 ghost use Rattle.plc_flow.specs.Lowering.{IsLowered, most_points, op_made, ops_made};
 ghost use Rattle.plc_flow.specs.Builder.{Makes, MakesGates};
-ghost use Rattle.plc_flow.specs.WellFormed.{IsWellFormed};
+ghost use Rattle.plc_flow.specs.WellFormed.{IsWellFormed, FlowFits};
 
 use crate::builder::{Builder, Here, point, step};
 use crate::flow::{Flow, FlowFault, Gate};
@@ -58,6 +58,7 @@ fn lower_ops(alloc: Global, ops: &[Op], out: &mut Builder) -> Result<Items<Gate>
 pub fn lower(alloc: Global, file: File) -> Result<Flow, FlowFault>
     ensures lowered { IsLowered file result }
     ensures fits { FileFits file → IfOk result IsWellFormed }
+    ensures named { FileFits file → NamesWhatIsThere file → IfOk result FlowFits }
 {
     let mut out = Builder {
         points: 0,
