@@ -17,7 +17,8 @@ use Rattle.plc_flow.specs.declared.flow.Move.{Move}
 use Rattle.plc_flow.specs.declared.flow.Move.TheVariants.{Start, Step as Take, Return, Free}
 use Rattle.plc_lang.specs.Locals.{is_parameter}
 use Rattle.plc_run.specs.declared.point.Point.{Point}
-use Rattle.plc_run.specs.Run.{Ending, Fine, Stuck, Raced, Configuration, point_of, steps_from, is_new, MayTake, taken, Moves, Races}
+use Rattle.plc_lang.specs.Allocation.{is_new}
+use Rattle.plc_run.specs.Run.{Ending, Fine, Stuck, Raced, Configuration, point_of, steps_from, MayTake, taken, Moves, Races}
 use Rattle.plc_run.specs.Position.{IsForbidden, HasNone}
 use Rattle.plc_run.specs.Reach.{Reached, Goes, Blocks, Forbids, Breaks, is_idle, start_op, start_from, ended_as, same_bool, take_step, step_from, return_to, return_from, may_free, free_of, reach}
 use Rattle.plc_run.proofs.Judged.{judged_allowed, judged_forbidden}

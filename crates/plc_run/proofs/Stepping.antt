@@ -24,7 +24,8 @@ use Rattle.plc_mem.specs.Primitives.{race_of, goes, after, event_of}
 use Rattle.plc_mem.specs.Outcomes.{address_or_null}
 use Rattle.plc_mem.proofs.Places.{put_is_set, put_put, length_put}
 use Rattle.plc_run.specs.declared.point.Point.{Point}
-use Rattle.plc_run.specs.Run.{Ending, Fine, Stuck, Raced, turn, recorded, execute, Configuration, point_of, steps_from, is_new, taken, Moves, Run, begin, more, beginning, initialised, first_configuration}
+use Rattle.plc_lang.specs.Allocation.{is_new}
+use Rattle.plc_run.specs.Run.{Ending, Fine, Stuck, Raced, turn, recorded, execute, Configuration, point_of, steps_from, taken, Moves, Run, begin, more, beginning, initialised, first_configuration}
 use Rattle.plc_run.specs.Reach.{Reached, Goes, Blocks, Forbids, Breaks, is_idle, start_op, start_from, return_to, return_from, ended_as, same_bool, take_step, step_from, free_of, reach}
 use Rattle.plc_run.specs.declared.moved.Moved.{Moved}
 use Rattle.plc_run.specs.Position.{Position, threads_of, IsOfRun, Answers, answer, reached}

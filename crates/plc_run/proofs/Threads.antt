@@ -11,7 +11,7 @@ use Rattle.plc_flow.specs.declared.flow.Gate.{Gate}
 use Rattle.plc_flow.specs.declared.flow.Flow.{Flow}
 use Rattle.plc_flow.specs.declared.flow.Move.{Move}
 use Rattle.plc_flow.specs.declared.flow.Move.TheVariants.{Start, Step as Take, Return, Free}
-use Rattle.plc_flow.specs.WellFormed.{IsPointOf}
+use Rattle.plc_flow.specs.WellFormed.{FlowFits, IsPointOf}
 use Rattle.plc_auto.specs.declared.event.Event.{Event}
 use Rattle.plc_mem.specs.State.{State, Locals, null_cell, put_at, holds_pointer, cut, cut_locals, freed, with_locals, first_state, no_locals, starting}
 use Rattle.plc_mem.specs.Fit.{shape}
@@ -19,13 +19,13 @@ use Rattle.plc_mem.proofs.Tables.{get-put_same, get-put_other, get-map, get-repl
 use Rattle.plc_mem.proofs.Places.{length_put}
 use Rattle.plc_run.specs.declared.point.Point.{Point}
 use Rattle.plc_run.specs.Run.{Ending, Fine, Stuck, Raced, Configuration, point_of, leaves, steps_from, Moves, Run, begin, more, beginning, initialised, first_configuration}
-use Rattle.plc_run.specs.Fit.{FlowFits, IsBusyAt, ThreadFits, ConfigurationFits}
+use Rattle.plc_run.specs.Fit.{IsBusyAt, ThreadFits, ConfigurationFits}
 use Rattle.plc_run.proofs.Gates.{gate_from, one_gate}
 use Rattle.plc_run.proofs.Shapes.{EndsKept, same_shape, execute_keeps}
 
 -- ---- the step that a busy thread takes
 
-filter_member : {A : Type 0} (p : A → Bool) (xs : List A) (n : ℕ) (x : A) → slice_get (filter p xs) n ≡ Some x → (k : ℕ) × (slice_get xs k ≡ Some x) × (p x ≡ true)
+pub filter_member : {A : Type 0} (p : A → Bool) (xs : List A) (n : ℕ) (x : A) → slice_get (filter p xs) n ≡ Some x → (k : ℕ) × (slice_get xs k ≡ Some x) × (p x ≡ true)
 filter_member p [] n x at = cc
 filter_member {A = A} p (y ∷ ys) n x at = go (p y) refl n (λ m there. filter_member p ys m x there) at
   where

@@ -1,22 +1,14 @@
--- Which flows have runs that can be taken in code, and what every configuration of such a run has: each busy thread holds the locals of its operation.
-use Rattle.std.specs.Prelude.{◌≡◌, ℕ, ◌≤◌, length, get_or, slice_get, Option, Some, None}
+-- What every configuration of a run of a flow has: each busy thread holds the locals of its operation.
+use Rattle.std.specs.Prelude.{◌≡◌, ℕ, length, get_or, slice_get, Option, Some, None}
 use Rattle.plc_lang.specs.declared.syntax.Op.{Op}
-use Rattle.plc_lang.specs.Shape.{shape_of, init_shape, PrimitivesIn}
-use Rattle.plc_flow.specs.declared.flow.Step.{Step}
+use Rattle.plc_lang.specs.Shape.{shape_of}
 use Rattle.plc_flow.specs.declared.flow.Gate.{Gate}
 use Rattle.plc_flow.specs.declared.flow.Flow.{Flow}
-use Rattle.plc_flow.specs.WellFormed.{IsWellFormed, IsPointOf, most_primitives}
+use Rattle.plc_flow.specs.WellFormed.{IsPointOf}
 use Rattle.plc_mem.specs.State.{State, Locals}
 use Rattle.plc_mem.specs.Fit.{shape}
 use Rattle.plc_run.specs.declared.point.Point.{Point}
 use Rattle.plc_run.specs.Run.{Configuration, point_of}
-
--- the flow is well formed, and its primitives name what is there
-pub record FlowFits (flow : Flow) : Type 0 where
-  pub well : IsWellFormed flow
-  pub init : PrimitivesIn (init_shape flow.file) flow.file.init
-  pub short_init : length flow.file.init ≤ most_primitives
-  pub steps : (k : ℕ) (s : Step) (o : Op) → slice_get flow.steps k ≡ Some s → slice_get flow.file.ops s.op.0 ≡ Some o → PrimitivesIn (shape_of flow.file o) s.prims
 
 -- a thread at this point holds the locals of the point's operation
 pub record IsBusyAt (flow : Flow) (s : State) (t : ℕ) (p : Point) : Type 0 where

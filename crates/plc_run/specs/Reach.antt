@@ -15,7 +15,8 @@ use Rattle.plc_flow.specs.declared.flow.Move.TheVariants.{Start, Step as Take, R
 use Rattle.plc_mem.specs.declared.cell.RaceKind.{RaceKind}
 use Rattle.plc_mem.specs.State.{put_at, with_locals, freed, starting}
 use Rattle.plc_run.specs.declared.point.Point.{Point}
-use Rattle.plc_run.specs.Run.{Ending, Fine, Stuck, Raced, Configuration, point_of, steps_from, is_new, taken}
+use Rattle.plc_lang.specs.Allocation.{is_new}
+use Rattle.plc_run.specs.Run.{Ending, Fine, Stuck, Raced, Configuration, point_of, steps_from, taken}
 
 -- a configuration, none, a free that the observer forbids, or a race
 pub data Reached : Type 0 where

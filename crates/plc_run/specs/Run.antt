@@ -2,7 +2,7 @@
 use Rattle.std.specs.Prelude.{◌≡◌, ℕ, suc, ◌+◌, ◌<◌, Bool, true, false, ◌==◌, List, [], ◌∷◌, ◌++◌, length, get_or, slice_get, filter, count_by, replicate, Option, Some, None, is_some}
 use Rattle.std.specs.List.{list_any}
 use Rattle.plc_lang.specs.declared.syntax.Primitive.{Primitive}
-use Rattle.plc_lang.specs.declared.syntax.Primitive.TheVariants.{Null, Copy, New, Load, Store, StoreNull, DataSet, DataLoad, DataStore, Eq, Ne, IsNull, NotNull, DataTest, Refresh, RefreshLoad, RefreshStore, Call, Done, Active, Ghost}
+use Rattle.plc_lang.specs.Allocation.{is_new}
 use Rattle.plc_lang.specs.declared.syntax.Op.{Op}
 use Rattle.plc_lang.specs.Locals.{is_parameter}
 use Rattle.plc_auto.specs.declared.event.Event.{Event}
@@ -59,30 +59,6 @@ leaves p s = s.from.0 == p
 -- the steps that leave a point, in order
 abbrev pub steps_from : Flow → ℕ → List Step
 steps_from flow p = filter (leaves p) flow.steps
-
--- the primitive allocates
-abbrev pub is_new : Primitive → Bool
-is_new (New p) = true
-is_new (Null p) = false
-is_new (Copy p q) = false
-is_new (Load p q f) = false
-is_new (Store p f q) = false
-is_new (StoreNull p f) = false
-is_new (DataSet x e) = false
-is_new (DataLoad x q f) = false
-is_new (DataStore p f e) = false
-is_new (Eq p q) = false
-is_new (Ne p q) = false
-is_new (IsNull p) = false
-is_new (NotNull p) = false
-is_new (DataTest r x e) = false
-is_new (Refresh p q) = false
-is_new (RefreshLoad p q f) = false
-is_new (RefreshStore p f q) = false
-is_new (Call f r) = false
-is_new (Done f) = false
-is_new (Active p) = false
-is_new (Ghost p g v) = false
 
 -- a move that takes a step names an address exactly where the step has a `new`
 abbrev pub Names : Option ℕ → Step → Type 0

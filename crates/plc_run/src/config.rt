@@ -5,10 +5,12 @@ ghost use Rattle.std.specs.Prelude.{◌≡◌, ℕ, ◌<◌, length, get_or, sli
 ghost use Rattle.std.specs.Option.{option_copied};
 ghost use Rattle.std.specs.List.{list_any};
 ghost use Rattle.plc_mem.specs.State.{Locals, with_locals};
-ghost use Rattle.plc_run.specs.Run.{steps_from, is_new, point_of, first_configuration};
-ghost use Rattle.plc_run.specs.Fit.{FlowFits, ConfigurationFits};
+ghost use Rattle.plc_run.specs.Run.{steps_from, point_of, first_configuration};
+ghost use Rattle.plc_run.specs.Fit.{ConfigurationFits};
+ghost use Rattle.plc_flow.specs.WellFormed.{FlowFits};
 ghost use Rattle.plc_run.specs.Reach.{is_idle, same_bool, start_from, step_from, return_from, free_of, reach};
 ghost use Rattle.plc_run.specs.Position.{threads_of, IsOfRun, Answers, Starts, Begins, answer, reached};
+ghost use Rattle.plc_lang.specs.Allocation.{is_new};
 ghost use Rattle.plc_lang.specs.Locals.{is_parameter};
 
 use crate::execute::{Ended, execute, take_step};
@@ -18,7 +20,7 @@ use crate::point::Point;
 use plc_auto::{Event, Observer};
 use plc_base::{NoMemory, OpId};
 use plc_flow::{Flow, Move, StartFault, Step};
-use plc_lang::{Local, Prim};
+use plc_lang::{Local, Prim, is_new};
 use plc_mem::{Locals, Memory};
 use std::alloc::Global;
 use std::marker::Model;
@@ -84,7 +86,7 @@ fn set_point(points: &mut Vec<Option<Point>>, t: u32, p: Option<Point>)
 fn has_new(prims: &[Prim]) -> bool
     ensures { result ≡ list_any is_new prims.now }
 {
-    prims.iter().any(|p| matches!(p, Prim::New { .. }))
+    prims.iter().any(|p| is_new(p))
 }
 
 // Whether an address is named exactly where the step has a `new`.

@@ -3,7 +3,8 @@ use Rattle.std.specs.Option.{option_copied}
 use Rattle.plc_mem.specs.State.{State}
 use Rattle.plc_mem.specs.Outcomes.{address_or_null}
 use Rattle.std.specs.List.{list_any}
-use Rattle.plc_run.specs.Run.{is_new, execute}
+use Rattle.plc_lang.specs.Allocation.{is_new}
+use Rattle.plc_run.specs.Run.{execute}
 use Rattle.plc_run.specs.Reach.{same_bool}
 use Rattle.plc_run.specs.Position.{answer, reached}
 use Rattle.plc_run.specs.contracts.config.Config.{the_view}
