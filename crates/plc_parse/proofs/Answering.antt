@@ -1,7 +1,8 @@
 -- From what was read to what the tokens spell.
-use Rattle.std.proofs.Common.{◌≡◌, false, List, None, Result, Ok, Err, IfOk, IfErr, refl, ap, sym, ◌∙◌}
+use Rattle.std.proofs.Common.{◌≡◌, true, false, List, None, Result, Ok, Err, IfOk, IfErr, refl, ap, sym, ◌∙◌}
 use Rattle.plc_lex.specs.declared.token.Token.{Token}
-use Rattle.plc_lang.specs.Fit.{FileFits}
+use Rattle.plc_lang.specs.Fit.{FileFits, NamesWhatIsThere}
+use Rattle.plc_auto.specs.Table.{is_well_formed}
 use Rattle.plc_syntax.specs.Trees.{FileTree, file_tokens}
 use Rattle.plc_syntax.specs.Syntax.{kinds}
 use Rattle.plc_lex.specs.declared.token.Keyword.TheVariants.{Outline}
@@ -14,6 +15,7 @@ use Rattle.plc_parse.specs.Reading.{file_in}
 use Rattle.plc_parse.specs.Units.{lines_of, Means, IsUnitOf, IsFaultOf, no_unit, no_memory, IsShallowFile, UnitsAreUnique}
 use Rattle.plc_parse.proofs.Law.{file_read}
 use Rattle.plc_parse.proofs.Ends.{no_outline}
+use Rattle.plc_parse.proofs.Naming.{file_named}
 use Rattle.plc_parse.proofs.Fits.{file_fits}
 
 -- where no token is `outline` the tree has none
@@ -51,6 +53,14 @@ module _ (ts : List Token) (absent : hold_word Outline (kinds ts) ≡ false) whe
   pub unit_fits : (r : Result FileUnit ParseFault) → Gives (λ u. u) r (file_in (lines_of ts) (kinds ts)) → IsShallowFile (kinds ts) → IfOk r (λ u. FileFits u.file)
   unit_fits (Ok u) g s = let m = read_is s (Ok u) g in file_fits (lines_of ts) m.tree u m.is
   unit_fits (Err e) g s = tt
+
+  pub unit_names : (r : Result FileUnit ParseFault) → Gives (λ u. u) r (file_in (lines_of ts) (kinds ts)) → IsShallowFile (kinds ts) → IfOk r (λ u. NamesWhatIsThere u.file)
+  unit_names (Ok u) g s = let m = read_is s (Ok u) g in (file_named (lines_of ts) m.tree u m.is).names
+  unit_names (Err e) g s = tt
+
+  pub unit_watches : (r : Result FileUnit ParseFault) → Gives (λ u. u) r (file_in (lines_of ts) (kinds ts)) → IsShallowFile (kinds ts) → IfOk r (λ u. is_well_formed u.observer ≡ true)
+  unit_watches (Ok u) g s = let m = read_is s (Ok u) g in (file_named (lines_of ts) m.tree u m.is).observer
+  unit_watches (Err e) g s = tt
 
 -- tokens mean one thing
 pub one_meaning : UnitsAreUnique

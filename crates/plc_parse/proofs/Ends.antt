@@ -2,12 +2,12 @@
 use Rattle.std.proofs.Common.{◌≡◌, Bool, true, false, ◌||◌, Option, Some, None, List, [], ◌∷◌, refl}
 use Rattle.std.specs.List.{list_any}
 use Rattle.plc_lex.specs.declared.token.TokenKind.{TokenKind}
-use Rattle.plc_lex.specs.declared.token.TokenKind.TheVariants.{Word, Name, Number, Symbol}
+use Rattle.plc_lex.specs.declared.token.TokenKind.TheVariants.{Word, Name, Symbol}
 use Rattle.plc_lex.specs.declared.token.Keyword.{Keyword}
 use Rattle.plc_lex.specs.declared.token.Keyword.TheVariants.{Active, Or, Outline}
 use Rattle.plc_lex.specs.declared.token.Symbol.TheVariants.{OpenBrace, CloseBrace, CloseParen, Semicolon, Comma}
 use Rattle.plc_forms.specs.Forms.{is_word, hold_word}
-use Rattle.plc_syntax.specs.Trees.{Text, each_then, maybe_then, word_if_then, comma_name_then, names_then, FieldTree, PointerField, DataField, field_then, struct_then, shared_then, FunctionTree, Declares, function_then, WatchTree, UseHazard, UseEpoch, watch_then, GhostKindTree, OneOf, OfThreads, ghost_kind_then, GhostTree, Auxiliary, ghost_then, dot_name_then, PlaceTree, PlaceOf, place_then, AtomTree, NullAtom, NumberAtom, NameAtom, atom_then, ValueTree, NullValue, NewValue, NumberValue, PlaceValue, value_then, SetTree, SetName, SetField, set_then, RefreshTree, RefreshName, RefreshField, refresh_then, GhostValueTree, NameGhost, MeGhost, NoneGhost, ghost_value_then, GhostSetTree, SetGhost, ghost_set_then, InitialTree, InitialSet, InitialGhost, initial_then, init_then, Comparison, TestTree, Compares, test_then, name_or_null_then, ConditionTree, TestCondition, RefreshCondition, CasCondition, condition_then, PrimitiveTree, SetPrimitive, RefreshPrimitive, GhostPrimitive, ActivePrimitive, AssumePrimitive, SkipPrimitive, primitive_then, primitive_line_then, ArgumentTree, NoArgument, NullArgument, NameArgument, ActiveArgument, argument_then, during_then, StatementTree, PrimitiveStatement, AtomicStatement, CallStatement, IfStatement, ChooseStatement, LoopStatement, BreakStatement, ReturnStatement, LabelStatement, BlockTree, NoStatement, Then, ElseTree, NoElse, ElseBlock, OrTree, NoOr, OrBlock, statement_then, statements_then, else_then, or_then, parameters_then, OpTree, Operates, op_then, OutlineTree, Outlined, outline_then, FileTree, file_tokens}
+use Rattle.plc_syntax.specs.Trees.{each_then, maybe_then, word_if_then, comma_name_then, PointerField, DataField, field_then, shared_then, Declares, function_then, UseHazard, UseEpoch, watch_then, OneOf, OfThreads, ghost_kind_then, Auxiliary, ghost_then, dot_name_then, PlaceOf, place_then, NullAtom, NumberAtom, NameAtom, atom_then, NullValue, NewValue, NumberValue, PlaceValue, value_then, SetName, SetField, set_then, RefreshName, RefreshField, refresh_then, NameGhost, MeGhost, NoneGhost, ghost_value_then, SetGhost, ghost_set_then, InitialSet, InitialGhost, initial_then, init_then, Compares, test_then, name_or_null_then, TestCondition, RefreshCondition, CasCondition, condition_then, SetPrimitive, RefreshPrimitive, GhostPrimitive, ActivePrimitive, AssumePrimitive, SkipPrimitive, primitive_then, primitive_line_then, NoArgument, NullArgument, NameArgument, ActiveArgument, argument_then, during_then, PrimitiveStatement, AtomicStatement, CallStatement, IfStatement, ChooseStatement, LoopStatement, BreakStatement, ReturnStatement, LabelStatement, NoStatement, Then, NoElse, ElseBlock, NoOr, OrBlock, statement_then, statements_then, else_then, or_then, parameters_then, Operates, op_then, OutlineTree, Outlined, outline_then, FileTree, file_tokens}
 
 -- the first list is the end of the second
 data IsEnd (rest : List TokenKind) : List TokenKind → Type 0 where

@@ -1,13 +1,13 @@
--- A file with a meaning passes no limit.
-use Rattle.std.proofs.Common.{◌≡◌, ◌==◌, ℕ, zero, suc, ◌+◌, ◌≤◌, ◌<◌, Bool, true, false, ◌&&◌, ◌||◌, if◌then◌else◌, Option, Some, None, Result, Ok, Err, List, [], ◌∷◌, ◌++◌, length, slice_get, refl, ◌∙◌, ap, subst, arith}
+-- A file with a meaning passes no limit, and names what is there.
+use Rattle.std.proofs.Common.{◌≡◌, ◌==◌, ℕ, ◌+◌, ◌≤◌, ◌<◌, Bool, true, false, ◌&&◌, ◌||◌, Option, Some, None, Result, Ok, Err, List, [], ◌∷◌, ◌++◌, length, slice_get, refl, ◌∙◌, ap, arith}
 use Rattle.std.proofs.lemmas.Bool.{eqb-false}
 use Rattle.std.proofs.lemmas.List.{length-append}
-use Rattle.plc_base.specs.declared.limits.What1.{What1}
 use Rattle.plc_base.specs.Names.{place_of}
 use Rattle.plc_lang.specs.Fit.{OpFits, FileFits, StatementFits, StatementsFit, BlocksFit}
 use Rattle.plc_lang.specs.declared.syntax.Primitive.{Primitive}
 use Rattle.plc_lang.specs.declared.syntax.Ghost.{Ghost}
 use Rattle.plc_lang.specs.declared.syntax.Local.{Local}
+use Rattle.plc_lang.specs.Allocation.{is_new}
 use Rattle.plc_syntax.specs.Trees.{Text, FieldTree, PointerField, DataField, FunctionTree, Declares, GhostTree, Auxiliary, OneOf, OfThreads, InitialTree, StatementTree, PrimitiveStatement, AtomicStatement, CallStatement, IfStatement, ChooseStatement, LoopStatement, BreakStatement, ReturnStatement, LabelStatement, BlockTree, NoStatement, Then, ElseTree, NoElse, ElseBlock, OrTree, NoOr, OrBlock, OpTree, Operates, FileTree}
 use Rattle.plc_forms.specs.Sizes.{initial_size, primitive_size, condition_size, call_size}
 use Rattle.plc_scope.specs.declared.fault.ParseFault.{ParseFault}
@@ -18,41 +18,8 @@ use Rattle.plc_scope.specs.declared.binding.Binding.TheVariants.{Taken, Value}
 use Rattle.plc_scope.specs.Scope.{◌>>=◌, if_new, first_scope, with_name, with_label, declared, declared_label, has_local, may_name_local, local_number, with_local, declared_local, declared_parameter}
 use Rattle.plc_scope.specs.Primitives.{primitive_means, initial_means, condition_means, call_means}
 use Rattle.plc_parse.specs.declared.unit.Unit.{Unit as FileUnit}
-use Rattle.plc_parse.specs.Meaning.{within_limit, stands_at, is_new, counted, count_of, before, allocates, forms_mean, atomic_means, initials_mean, one_or_skip, label_means, during_means, statement_means, statements_mean, else_means, or_means, field_means, shared_means, function_means, value_means, values_mean, ghost_means, listed, watch_means, init_means, others_mean, parameters_mean, local_means, locals_mean, op_means, file_means}
-
--- what holds of an answer, if there is one
-abbrev pub Has : {A : Type 0} → (A → Type 0) → Result A ParseFault → Type 0
-Has P (Ok x) = P x
-Has P (Err e) = Unit {0}
-
-next : {A B : Type 0} (P : A → Type 0) (Q : B → Type 0) (r : Result A ParseFault) (f : A → Result B ParseFault) → Has P r → ((x : A) → P x → Has Q (f x)) → Has Q (r >>= f)
-next P Q (Ok x) f h k = k x h
-next P Q (Err e) f h k = tt
-
-any : {A B : Type 0} (Q : B → Type 0) (r : Result A ParseFault) (f : A → Result B ParseFault) → ((x : A) → Has Q (f x)) → Has Q (r >>= f)
-any Q (Ok x) f k = k x
-any Q (Err e) f k = tt
-
--- within a limit fewer were declared before
-if_below : {A : Type 0} (P : A → Type 0) (n limit : ℕ) (e : ParseFault) (r : Result A ParseFault) (past : Bool) → (n == limit) ≡ past → n ≤ limit → (n < limit → Has P r) → Has P (if past then Err e else r)
-if_below P n limit e r true is le h = tt
-if_below P n limit e r false is le h = h (omega (arith, eqb-false n limit is))
-
-below : {A : Type 0} (P : A → Type 0) (n limit : ℕ) (what : What1) (r : Result A ParseFault) → n ≤ limit → (n < limit → Has P r) → Has P (within_limit n limit what r)
-below P n limit what r le h = if_below P n limit _ r (n == limit) refl le h
-
-if_ok : {A : Type 0} (P : A → Type 0) (b : Bool) (x : A) (e : ParseFault) → P x → Has P (if b then Ok x else Err e)
-if_ok P true x e h = h
-if_ok P false x e h = tt
-
-if_err : {A : Type 0} (P : A → Type 0) (b : Bool) (x : A) (e : ParseFault) → P x → Has P (if b then Err e else Ok x)
-if_err P true x e h = tt
-if_err P false x e h = h
-
-both_err : {A : Type 0} (P : A → Type 0) (b c : Bool) (e f g : ParseFault) → Has P (if b then Err e else (if c then Err f else Err g))
-both_err P true c e f g = tt
-both_err P false true e f g = tt
-both_err P false false e f g = tt
+use Rattle.plc_parse.specs.Meaning.{stands_at, counted, count_of, before, allocates, forms_mean, atomic_means, initials_mean, one_or_skip, label_means, during_means, statement_means, statements_mean, else_means, or_means, field_means, shared_means, function_means, value_means, values_mean, ghost_means, listed, watch_means, init_means, others_mean, parameters_mean, local_means, locals_mean, op_means, file_means}
+use Rattle.plc_parse.proofs.Holds.{Has, has_along, weaker, next, any, unless, if_ok, both_err, below, OneHas, EachHas, one_name, each_has, Free}
 
 -- ---- between declarations
 
@@ -68,42 +35,27 @@ declared_between s name at b h = new (place_of name s.names.names)
     new None = record { locals = h.locals; labels = h.labels }
     new (Some i) = tt
 
--- one more declaration
-record OneFits {Y : Type 0} (P : Y → Type 0) (limit n : ℕ) (r : Y × Scope × ℕ) : Type 0 where
-  before : n < limit
-  fits : P r.0
-  between : Between r.1
+-- within a limit
+record Room (limit n : ℕ) (s : Scope) : Type 0 where
+  count : n ≤ limit
+  between : Between s
 
-record ManyFit {Y : Type 0} (P : Y → Type 0) (limit n : ℕ) (r : List Y × Scope × ℕ) : Type 0 where
-  count : n + length r.0 ≤ limit
-  each : (k : ℕ) (y : Y) → slice_get r.0 k ≡ Some y → P y
-  between : Between r.1
+room_for : (limit n : ℕ) (s : Scope) (name : Text) (at : ℕ) (b : Binding) → Room limit n s → (n == limit) ≡ false → Has (Room limit (n + 1)) (declared s name at b)
+room_for limit n s name at b h few = weaker Between (Room limit (n + 1)) (declared s name at b) (declared_between s name at b h.between) (λ t k. record { count = omega (arith, h.count, eqb-false n limit few); between = k })
 
-each_of : {Y : Type 0} (P : Y → Type 0) (y : Y) (ys : List Y) → P y → ((k : ℕ) (z : Y) → slice_get ys k ≡ Some z → P z) → (k : ℕ) (z : Y) → slice_get (y ∷ ys) k ≡ Some z → P z
-each_of P y ys h others zero z e = let same : y ≡ z = cc in subst P same h
-each_of P y ys h others (suc k) z e = others k z e
+-- nothing was declared of a kind
+room : {limit : ℕ} {s : Scope} → Between s → Room limit 0 s
+room h = record { count = omega arith; between = h }
 
-module _ {X Y : Type 0} (means : Scope → ℕ → ℕ → X → Result (Y × Scope × ℕ) ParseFault) (P : Y → Type 0) (limit : ℕ)
-    (one : (s : Scope) (n at : ℕ) (x : X) → n ≤ limit → Between s → Has (OneFits P limit n) (means s n at x)) where
-  listed_fit : (s : Scope) (n at : ℕ) (xs : List X) → n ≤ limit → Between s → Has (ManyFit P limit n) (listed means s n at xs)
-  listed_fit s n at [] le h = record { count = omega arith; each = λ k y e. absurd cc; between = h }
-  listed_fit s n at (x ∷ xs) le h = next (OneFits P limit n) (ManyFit P limit n) (means s n at x) _ (one s n at x le h) (λ first f.
-      next (ManyFit P limit (n + 1)) (ManyFit P limit n) (listed means first.1 (n + 1) first.2 xs) _ (listed_fit first.1 (n + 1) first.2 xs (omega (arith, f.before)) f.between) (λ others k.
-      record { count = omega (arith, k.count); each = each_of P first.0 others.0 f.fits k.each; between = k.between }))
+field_fits : (s : Scope) (n at : ℕ) (f : FieldTree) → Room 8 n s → Has (OneHas Free (Room 8) n) (field_means s n at f)
+field_fits s n at (PointerField name) h = one_name Free (Room 8) n 8 _ s name (at + 1) _ _ _ tt (room_for 8 n s name (at + 1) _ h)
+field_fits s n at (DataField name) h = one_name Free (Room 8) n 8 _ s name (at + 1) _ _ _ tt (room_for 8 n s name (at + 1) _ h)
 
--- nothing is asked of it
-abbrev Free : {Y : Type 0} → Y → Type 0
-Free y = Unit {0}
+pointer_fits : (s : Scope) (n at : ℕ) (name : Text) → Room 16 n s → Has (OneHas Free (Room 16) n) (shared_means s n at name)
+pointer_fits s n at name h = one_name Free (Room 16) n 16 _ s name (at + 1) _ _ _ tt (room_for 16 n s name (at + 1) _ h)
 
-field_fits : (s : Scope) (n at : ℕ) (f : FieldTree) → n ≤ 8 → Between s → Has (OneFits Free 8 n) (field_means s n at f)
-field_fits s n at (PointerField name) le h = below (OneFits Free 8 n) n 8 _ _ le (λ less. next Between (OneFits Free 8 n) (declared s name (at + 1) _) _ (declared_between s name (at + 1) _ h) (λ t k. record { before = less; fits = tt; between = k }))
-field_fits s n at (DataField name) le h = below (OneFits Free 8 n) n 8 _ _ le (λ less. next Between (OneFits Free 8 n) (declared s name (at + 1) _) _ (declared_between s name (at + 1) _ h) (λ t k. record { before = less; fits = tt; between = k }))
-
-pointer_fits : (s : Scope) (n at : ℕ) (name : Text) → n ≤ 16 → Between s → Has (OneFits Free 16 n) (shared_means s n at name)
-pointer_fits s n at name le h = below (OneFits Free 16 n) n 16 _ _ le (λ less. next Between (OneFits Free 16 n) (declared s name (at + 1) _) _ (declared_between s name (at + 1) _ h) (λ t k. record { before = less; fits = tt; between = k }))
-
-function_fits : (s : Scope) (n at : ℕ) (f : FunctionTree) → n ≤ 16 → Between s → Has (OneFits Free 16 n) (function_means s n at f)
-function_fits s n at (Declares name p) le h = below (OneFits Free 16 n) n 16 _ _ le (λ less. next Between (OneFits Free 16 n) (declared s name (at + 1) _) _ (declared_between s name (at + 1) _ h) (λ t k. record { before = less; fits = tt; between = k }))
+function_fits : (s : Scope) (n at : ℕ) (f : FunctionTree) → Room 16 n s → Has (OneHas Free (Room 16) n) (function_means s n at f)
+function_fits s n at (Declares name p) h = one_name Free (Room 16) n 16 _ s name (at + 1) _ _ _ tt (room_for 16 n s name (at + 1) _ h)
 
 -- ---- auxiliary fields
 
@@ -127,12 +79,13 @@ values_fit s g n at (name ∷ names) le h = next (ValueFits n) (ValuesFit n) (va
 abbrev GhostFits : Ghost → Type 0
 GhostFits g = length g.values ≤ 16
 
-ghost_fits : (s : Scope) (n at : ℕ) (g : GhostTree) → n ≤ 4 → Between s → Has (OneFits GhostFits 4 n) (ghost_means s n at g)
-ghost_fits s n at (Auxiliary name OfThreads) le h = below (OneFits GhostFits 4 n) n 4 _ _ le (λ less. next Between (OneFits GhostFits 4 n) (declared s name (at + 1) _) _ (declared_between s name (at + 1) _ h) (λ t k. record { before = less; fits = omega arith; between = k }))
-ghost_fits s n at (Auxiliary name (OneOf v vs)) le h = below (OneFits GhostFits 4 n) n 4 _ _ le (λ less. next Between (OneFits GhostFits 4 n) (declared s name (at + 1) _) _ (declared_between s name (at + 1) _ h) (λ t k.
-    next (ValueFits 0) (OneFits GhostFits 4 n) (value_means t n 0 (at + 3) v) _ (value_fits t n 0 (at + 3) v (omega arith) k) (λ first f.
-    next (ValuesFit 1) (OneFits GhostFits 4 n) (values_mean first.1 n 1 (at + 4) vs) _ (values_fit first.1 n 1 (at + 4) vs (omega arith) f.between) (λ others m.
-    record { before = less; fits = omega (arith, m.count); between = m.between }))))
+ghost_fits : (s : Scope) (n at : ℕ) (g : GhostTree) → Room 4 n s → Has (OneHas GhostFits (Room 4) n) (ghost_means s n at g)
+ghost_fits s n at (Auxiliary name OfThreads) h = one_name GhostFits (Room 4) n 4 _ s name (at + 1) _ _ _ (omega arith) (room_for 4 n s name (at + 1) _ h)
+ghost_fits s n at (Auxiliary name (OneOf v vs)) h = unless (OneHas GhostFits (Room 4) n) (n == 4) _ _ (λ few.
+    next (Room 4 (n + 1)) (OneHas GhostFits (Room 4) n) (declared s name (at + 1) _) _ (room_for 4 n s name (at + 1) _ h few) (λ t k.
+    next (ValueFits 0) (OneHas GhostFits (Room 4) n) (value_means t n 0 (at + 3) v) _ (value_fits t n 0 (at + 3) v (omega arith) k.between) (λ first f.
+    next (ValuesFit 1) (OneHas GhostFits (Room 4) n) (values_mean first.1 n 1 (at + 4) vs) _ (values_fit first.1 n 1 (at + 4) vs (omega arith) f.between) (λ others m.
+    record { is = omega (arith, m.count); state = record { count = k.count; between = m.between } }))))
 
 -- ---- primitives of one step
 
@@ -141,7 +94,7 @@ Fewer n k = n + count_of k ≤ 64
 
 counted_fits : (n : ℕ) (has_new : Bool) (at : ℕ) (m : Result (Option Primitive) ParseFault) → n ≤ 64 → Has (Fewer n) (counted n has_new at m)
 counted_fits n has_new at (Ok None) le = omega arith
-counted_fits n has_new at (Ok (Some k)) le = below (Fewer n) n 64 _ _ le (λ less. if_err (Fewer n) (has_new && is_new k) (Some k) _ (omega arith))
+counted_fits n has_new at (Ok (Some k)) le = below (Fewer n) n 64 _ _ le (λ less. unless (Fewer n) (has_new && is_new k) _ (Ok (Some k)) (λ one. omega arith))
 counted_fits n has_new at (Err e) le = both_err (Fewer n) (stands_at at e) (n == 64) e _ e
 
 abbrev FormsFit : ℕ → List Primitive × ℕ → Type 0
@@ -245,14 +198,14 @@ one_more s x p q k h =
 pub local_few : (s : Scope) (name : Text) (at : ℕ) (p : Bool) → length s.locals ≤ 32 → Has (Few s) (declared_local s name at p)
 unfolding declared_local
 local_few s name at p h =
-    if_below (Few s) (length s.locals) 32 _ _ (length s.locals == 32) refl h (λ less.
+    below (Few s) (length s.locals) 32 _ _ h (λ less.
     next (Kept s) (Few s) (local_number (place_of name s.names.names) s name at) _ (number_keeps (place_of name s.names.names) s name at) (λ x k. one_more s x p false k less))
 
 pub parameter_few : (s : Scope) (name : Text) (at : ℕ) → length s.locals ≤ 32 → Has (Few s) (declared_parameter s name at)
 unfolding declared_parameter
 parameter_few s name at h =
     next (Kept s) (Few s) (local_number (place_of name s.names.names) s name at) _ (number_keeps (place_of name s.names.names) s name at) (λ x k.
-    if_below (Few s) (length s.locals) 32 _ _ (length s.locals == 32) refl h (λ less. one_more s x false true k less))
+    below (Few s) (length s.locals) 32 _ _ h (λ less. one_more s x false true k less))
 
 abbrev FewBehind : Scope → Scope × ℕ → Type 0
 FewBehind s r = Few s r.0
@@ -278,18 +231,20 @@ locals_few s t at (l ∷ ls) h = next (Few t) (FewBehind s) (local_means t at l)
 
 -- ---- operations
 
-op_fits : (lines : List ℕ) (s : Scope) (n at : ℕ) (o : OpTree) → n ≤ 32 → Between s → Has (OneFits OpFits 32 n) (op_means lines s n at o)
-op_fits lines s n at (Operates name ps ls b) le h =
-    below (OneFits OpFits 32 n) n 32 _ _ le (λ less. next Between (OneFits OpFits 32 n) (declared s name (at + 1) Taken) _ (declared_between s name (at + 1) Taken h) (λ t k.
-    let count : length t.locals ≡ 0 = ap length k.locals in
-    next (FewBehind t) (OneFits OpFits 32 n) (parameters_mean t (at + 3) ps) _ (parameters_few t t (at + 3) ps (record { locals = omega arith; labels = refl })) (λ p few.
-    next (FewBehind t) (OneFits OpFits 32 n) (locals_mean p.0 (p.1 + 2) ls) _ (locals_few t p.0 (p.1 + 2) ls few) (λ l fewer.
+op_fits : (lines : List ℕ) (s : Scope) (n at : ℕ) (o : OpTree) → Room 32 n s → Has (OneHas OpFits (Room 32) n) (op_means lines s n at o)
+op_fits lines s n at (Operates name ps ls b) h =
+    unless (OneHas OpFits (Room 32) n) (n == 32) _ _ (λ few.
+    next (Room 32 (n + 1)) (OneHas OpFits (Room 32) n) (declared s name (at + 1) Taken) _ (room_for 32 n s name (at + 1) Taken h few) (λ t k.
+    let count : length t.locals ≡ 0 = ap length k.between.locals in
+    next (FewBehind t) (OneHas OpFits (Room 32) n) (parameters_mean t (at + 3) ps) _ (parameters_few t t (at + 3) ps (record { locals = omega arith; labels = refl })) (λ p kept.
+    next (FewBehind t) (OneHas OpFits (Room 32) n) (locals_mean p.0 (p.1 + 2) ls) _ (locals_few t p.0 (p.1 + 2) ls kept) (λ l fewer.
     let same : length l.0.labels ≡ length t.labels = ap length fewer.labels in
-    next (StatementRead StatementsFit) (OneFits OpFits 32 n) (statements_mean lines l.0 false l.1 b) _ (statements_fit lines l.0 false l.1 b (omega (arith, k.labels))) (λ body f.
-    record { before = less; fits = record { locals = fewer.locals; body = f.fits }; between = record { locals = refl; labels = f.labels } })))))
+    next (StatementRead StatementsFit) (OneHas OpFits (Room 32) n) (statements_mean lines l.0 false l.1 b) _ (statements_fit lines l.0 false l.1 b (omega (arith, k.between.labels))) (λ body f.
+    record { is = record { locals = fewer.locals; body = f.fits }; state = record { count = k.count; between = record { locals = refl; labels = f.labels } } })))))
 
 -- ---- the file
 
+-- within the limits
 abbrev Fits : FileUnit → Type 0
 Fits u = FileFits u.file
 
@@ -299,29 +254,26 @@ init_fits s at (Some is) = next (FormsFit 0) (FormsFit 0) (initials_mean s (at +
 
 unit_fits : (lines : List ℕ) (f : FileTree) → Has Fits (file_means lines f)
 unfolding file_means
-unit_fits lines f = next Between Fits (declared first_scope f.name 1 Taken) _ (declared_between first_scope f.name 1 Taken (record { locals = refl; labels = omega arith })) (λ s none.
-    next (ManyFit Free 8 0) Fits (listed field_means s 0 3 f.fields) _ (listed_fit field_means Free 8 field_fits s 0 3 f.fields (omega arith) none) (λ fields a.
-    next (ManyFit Free 16 0) Fits (listed shared_means fields.1 0 (fields.2 + 1) f.pointers) _ (listed_fit shared_means Free 16 pointer_fits fields.1 0 (fields.2 + 1) f.pointers (omega arith) a.between) (λ pointers b.
-    next (ManyFit Free 16 0) Fits (listed function_means pointers.1 0 pointers.2 f.functions) _ (listed_fit function_means Free 16 function_fits pointers.1 0 pointers.2 f.functions (omega arith) b.between) (λ functions c.
+unit_fits lines f =
+    next Between Fits (declared first_scope f.name 1 Taken) _ (declared_between first_scope f.name 1 Taken (record { locals = refl; labels = omega arith })) (λ s none.
+    next (EachHas Free (Room 8) 0) Fits (listed field_means s 0 3 f.fields) _ (each_has field_means Free (Room 8) field_fits s 0 3 f.fields (room none)) (λ fields a.
+    next (EachHas Free (Room 16) 0) Fits (listed shared_means fields.1 0 (fields.2 + 1) f.pointers) _ (each_has shared_means Free (Room 16) pointer_fits fields.1 0 (fields.2 + 1) f.pointers (room a.state.between)) (λ pointers b.
+    next (EachHas Free (Room 16) 0) Fits (listed function_means pointers.1 0 pointers.2 f.functions) _ (each_has function_means Free (Room 16) function_fits pointers.1 0 pointers.2 f.functions (room b.state.between)) (λ functions c.
     any Fits (watch_means functions.1 functions.2 f.watched) _ (λ observer.
-    next (ManyFit GhostFits 4 0) Fits (listed ghost_means functions.1 0 observer.1 f.ghosts) _ (listed_fit ghost_means GhostFits 4 ghost_fits functions.1 0 observer.1 f.ghosts (omega arith) c.between) (λ ghosts d.
+    next (EachHas GhostFits (Room 4) 0) Fits (listed ghost_means functions.1 0 observer.1 f.ghosts) _ (each_has ghost_means GhostFits (Room 4) ghost_fits functions.1 0 observer.1 f.ghosts (room c.state.between)) (λ ghosts d.
     next (FormsFit 0) Fits (init_means ghosts.1 ghosts.2 f.starts) _ (init_fits ghosts.1 ghosts.2 f.starts) (λ starts i.
-    next (ManyFit OpFits 32 0) Fits (listed (op_means lines) ghosts.1 0 starts.1 f.ops) _ (listed_fit (op_means lines) OpFits 32 (op_fits lines) ghosts.1 0 starts.1 f.ops (omega arith) d.between) (λ ops m.
+    next (EachHas OpFits (Room 32) 0) Fits (listed (op_means lines) ghosts.1 0 starts.1 f.ops) _ (each_has (op_means lines) OpFits (Room 32) (op_fits lines) ghosts.1 0 starts.1 f.ops (room d.state.between)) (λ ops m.
     record {
-      fields = omega (arith, a.count);
-      shared = omega (arith, b.count);
-      funcs = omega (arith, c.count);
-      ghosts = omega (arith, d.count);
+      fields = omega (arith, a.state.count);
+      shared = omega (arith, b.state.count);
+      funcs = omega (arith, c.state.count);
+      ghosts = omega (arith, d.state.count);
       values = d.each;
       init = omega (arith, i);
-      ops = omega (arith, m.count);
+      ops = omega (arith, m.state.count);
       each_op = m.each;
-      labels = m.between.labels;
+      labels = m.state.between.labels;
     }))))))))
-
-pub has_along : {A : Type 0} (P : A → Type 0) (r : Result A ParseFault) (x : A) → r ≡ Ok x → Has P r → P x
-has_along P (Ok y) x e h = let same : y ≡ x = cc in subst P same h
-has_along P (Err f) x e h = absurd cc
 
 pub file_fits : (lines : List ℕ) (f : FileTree) (u : FileUnit) → file_means lines f ≡ Ok u → FileFits u.file
 file_fits lines f u e = has_along Fits (file_means lines f) u e (unit_fits lines f)

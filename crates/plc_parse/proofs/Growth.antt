@@ -11,7 +11,8 @@ use Rattle.plc_scope.specs.declared.binding.Binding.TheVariants.{Taken}
 use Rattle.plc_scope.specs.Scope.{◌>>=◌, if_new, with_name, with_label, declared, declared_label, declared_local, declared_parameter}
 use Rattle.plc_scope.specs.Answers.{GrowsBy, HasRoomForLocals, GrowsByLocals}
 use Rattle.plc_parse.specs.Growth.{Within, IsLeftOf, KeepsLists, CanLabel, GrowsByLabels, GrowsByOps}
-use Rattle.plc_parse.proofs.Fits.{Few, has_along, parameter_few, local_few}
+use Rattle.plc_parse.proofs.Holds.{has_along}
+use Rattle.plc_parse.proofs.Fits.{Few, parameter_few, local_few}
 
 -- a name's declaration is no local's and no label's
 pub declared_lists : (s t : Scope) (name : Text) (at : ℕ) (b : Binding) → declared s name at b ≡ Ok t → KeepsLists s t

@@ -6,7 +6,7 @@ use Rattle.plc_lex.specs.declared.token.TokenKind.TheVariants.{Symbol}
 use Rattle.plc_lex.specs.declared.token.Symbol.TheVariants.{CloseBrace, CloseParen, OpenBrace, Semicolon}
 use Rattle.plc_lang.specs.declared.syntax.Op.{Op}
 use Rattle.plc_lang.specs.Statements.{Statements}
-use Rattle.plc_syntax.specs.Trees.{Text, each_then, maybe_then, comma_name_then, FieldTree, PointerField, DataField, field_then, shared_then, FunctionTree, Declares, function_then, WatchTree, watch_then, GhostTree, Auxiliary, OneOf, OfThreads, ghost_then, ghost_kind_then, InitialTree, init_then, parameters_then, statements_then, OpTree, Operates, op_then, OutlineTree, Outlined, FileTree, file_tokens}
+use Rattle.plc_syntax.specs.Trees.{Text, each_then, maybe_then, comma_name_then, FieldTree, PointerField, DataField, field_then, shared_then, FunctionTree, Declares, function_then, WatchTree, watch_then, GhostTree, Auxiliary, OneOf, OfThreads, ghost_then, ghost_kind_then, InitialTree, init_then, parameters_then, statements_then, OpTree, Operates, op_then, OutlineTree, FileTree, file_tokens}
 use Rattle.plc_forms.specs.Forms.{field_of, shared_of, function_of, watch_of, ghost_of, init_of, head_of, comma_name_of, opening_of}
 use Rattle.plc_scope.specs.declared.fault.ParseFault.{ParseFault}
 use Rattle.plc_scope.specs.declared.scope.Scope.{Scope}

@@ -4,6 +4,9 @@ pub mod Fronts
 pub mod Weights
 pub mod Blocks
 pub mod Law
+pub mod Holds
+pub mod Reach
+pub mod Naming
 pub mod Fits
 pub mod Growth
 pub mod Stops

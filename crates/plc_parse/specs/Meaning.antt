@@ -4,7 +4,7 @@ use Rattle.std.specs.Prelude.{◌==◌, ◌&&◌, ◌||◌, ◌+◌, ℕ, Bool, 
 use Rattle.plc_base.specs.declared.limits.What1.{What1}
 use Rattle.plc_base.specs.declared.limits.What1.TheVariants as limits
 use Rattle.plc_lang.specs.declared.syntax.Primitive.{Primitive}
-use Rattle.plc_lang.specs.declared.syntax.Primitive.TheVariants as primitives
+use Rattle.plc_lang.specs.Allocation.{is_new}
 use Rattle.plc_lang.specs.declared.syntax.Op.{Op}
 use Rattle.plc_lang.specs.declared.syntax.Field.{Field}
 use Rattle.plc_lang.specs.declared.syntax.Func.{Func}
@@ -39,30 +39,6 @@ stands_at at (faults.Limit what k) = false
 stands_at at faults.Memory = false
 
 -- ---- atomic blocks and `init`
-
--- the primitive allocates
-abbrev pub is_new : Primitive → Bool
-is_new (primitives.New p) = true
-is_new (primitives.Null p) = false
-is_new (primitives.Copy p q) = false
-is_new (primitives.Load p q f) = false
-is_new (primitives.Store p f q) = false
-is_new (primitives.StoreNull p f) = false
-is_new (primitives.DataSet x e) = false
-is_new (primitives.DataLoad x q f) = false
-is_new (primitives.DataStore p f e) = false
-is_new (primitives.Eq p q) = false
-is_new (primitives.Ne p q) = false
-is_new (primitives.IsNull p) = false
-is_new (primitives.NotNull p) = false
-is_new (primitives.DataTest r x e) = false
-is_new (primitives.Refresh p q) = false
-is_new (primitives.RefreshLoad p q f) = false
-is_new (primitives.RefreshStore p f q) = false
-is_new (primitives.Call f a) = false
-is_new (primitives.Done f) = false
-is_new (primitives.Active p) = false
-is_new (primitives.Ghost p g v) = false
 
 -- one primitive more, with the number of those before and whether one of them allocates: at most 64, and one `new`, whose place is the word
 abbrev pub counted : ℕ → Bool → ℕ → Result (Option Primitive) ParseFault → Result (Option Primitive) ParseFault

@@ -1,7 +1,8 @@
 // The two passes. The first knows the grammar and no names; the second reads the forms again, where
 // they can stand in no other order, and looks each name up where it stands.
-ghost use Rattle.std.specs.Prelude.{◌≡◌, ◌≤◌, ◌<◌, ◌^◌, ◌+◌, ◌∷◌, Some, Ok, [], false, length, IfOk, IfErr};
-ghost use Rattle.plc_lang.specs.Fit.{FileFits};
+ghost use Rattle.std.specs.Prelude.{◌≡◌, ◌≤◌, ◌<◌, ◌^◌, ◌+◌, ◌∷◌, Some, Ok, [], true, false, length, IfOk, IfErr};
+ghost use Rattle.plc_lang.specs.Fit.{FileFits, NamesWhatIsThere};
+ghost use Rattle.plc_auto.specs.Table.{is_well_formed};
 ghost use Rattle.plc_lex.specs.declared.token.Token.{Token};
 ghost use Rattle.plc_lex.specs.declared.token.Keyword.TheVariants.{Outline};
 ghost use Rattle.plc_syntax.specs.Syntax.{kinds};
@@ -193,8 +194,9 @@ fn check_syntax(alloc: Global, tokens: &[Token]) -> Result<(), ParseFault>
 }
 
 /// The unit that tokens spell, or the fault at the least token; of two faults at one token the
-/// syntax goes first, then the order of [`ParseFault`]. There are fewer than 2^32 tokens, and none of
-/// them is the word `outline`, since outlines aren't read yet; [`plc_forms::holds_word`] tells.
+/// syntax goes first, then the order of [`ParseFault`]. The file is within the limits and names what
+/// it declares, and `retire` is no function that is watched. There are fewer than 2^32 tokens, and none
+/// of them is the word `outline`, since outlines aren't read yet; [`plc_forms::holds_word`] tells.
 pub fn parse(alloc: Global, tokens: &[Token]) -> Result<Unit, ParseFault>
     requires few { length tokens.now < 2 ^ 32 }
     requires no_outline { hold_word Outline (kinds tokens.now) ≡ false }
@@ -202,6 +204,8 @@ pub fn parse(alloc: Global, tokens: &[Token]) -> Result<Unit, ParseFault>
     ensures spelled { (unit : FileUnit) → IsUnitOf tokens.now unit → IfErr result (λ e. e ≡ ParseFault.Memory) }
     ensures fault { IfErr result (IsFaultOf tokens.now) }
     ensures fits { IfOk result (λ unit. FileFits unit.file) }
+    ensures named { IfOk result (λ unit. NamesWhatIsThere unit.file) }
+    ensures observer { IfOk result (λ unit. is_well_formed unit.observer ≡ true) }
 {
     check_syntax(alloc, tokens)?;
     read_file(alloc, tokens)

@@ -7,12 +7,12 @@ ghost use Rattle.plc_scope.specs.declared.fault.ParseFault.{ParseFault};
 ghost use Rattle.plc_scope.specs.Answers.{Gives};
 ghost use Rattle.plc_scope.specs.Scope.{most_locals};
 ghost use Rattle.plc_parse.specs.Growth.{Within};
-ghost use Rattle.plc_parse.specs.Meaning.{stands_at, is_new};
+ghost use Rattle.plc_parse.specs.Meaning.{stands_at};
 ghost use Rattle.plc_parse.specs.Reading.{with_form, primitives_in, initials_in};
 
 use plc_base::{Items, What1};
 use plc_forms::{Rest, closing_at, initial_line_at, primitive_line_at};
-use plc_lang::Prim;
+use plc_lang::{Prim, is_new};
 use plc_scope::{ParseFault, Scope, initial, primitive};
 use std::alloc::Global;
 
@@ -24,12 +24,6 @@ const MOST_PRIMITIVES: usize = 64;
 struct Step {
     primitives: Items<Prim>,
     has_new: bool,
-}
-
-fn is_new(primitive: Prim) -> bool
-    ensures { result ≡ is_new primitive }
-{
-    matches!(primitive, Prim::New { .. })
 }
 
 // The fault is at the first token of the form at this place.
@@ -72,13 +66,13 @@ impl Step {
         if self.primitives.len() == MOST_PRIMITIVES {
             return Err(too_many_primitives());
         }
-        if self.has_new && is_new(primitive) {
+        if self.has_new && is_new(&primitive) {
             return Err(ParseFault::Limit {
                 what: What1::News,
                 count: 2,
             });
         }
-        self.has_new = self.has_new || is_new(primitive);
+        self.has_new = self.has_new || is_new(&primitive);
         self.primitives.push(primitive)?;
         Ok(())
     }

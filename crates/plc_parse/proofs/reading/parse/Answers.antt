@@ -1,4 +1,4 @@
-use Rattle.plc_parse.proofs.Answering.{unit_is, fault_is, no_other_fault, unit_fits}
+use Rattle.plc_parse.proofs.Answering.{unit_is, fault_is, no_other_fault, unit_fits, unit_names, unit_watches}
 use Rattle.plc_parse.proofs.reading.parse.Goals as goal
 
 pub returns-clause-ok : goal.returns-clause-ok
@@ -12,3 +12,9 @@ returns-clause-fault c = fault_is c.args.tokens.now c.requires.no_outline c.read
 
 pub returns-clause-fits : goal.returns-clause-fits
 returns-clause-fits c = unit_fits c.args.tokens.now c.requires.no_outline c.read_file.result c.read_file.ensures c.in_ok-check_syntax.ensures.ok
+
+pub returns-clause-named : goal.returns-clause-named
+returns-clause-named c = unit_names c.args.tokens.now c.requires.no_outline c.read_file.result c.read_file.ensures c.in_ok-check_syntax.ensures.ok
+
+pub returns-clause-observer : goal.returns-clause-observer
+returns-clause-observer c = unit_watches c.args.tokens.now c.requires.no_outline c.read_file.result c.read_file.ensures c.in_ok-check_syntax.ensures.ok

@@ -1,0 +1,261 @@
+-- What is in reach is there: names stand for what was declared, so what is looked up is there too. Bindings number shared pointers and
+-- fields, of which no more are declared once an operation begins; locals number themselves by those before them, pointers and data apart.
+use Rattle.std.proofs.Common.{◌≡◌, ◌==◌, ◌&&◌, not, ℕ, ◌+◌, ◌≤◌, ◌<◌, Bool, true, false, cond, if◌then◌else◌, Option, Some, None, IfSome, Ok, List, [], ◌∷◌, All, length, count_by, slice_get, refl, subst, arith}
+use Rattle.std.proofs.lemmas.Bool.{ne_eqb}
+use Rattle.std.proofs.lemmas.List.Elements.{All-get_or, All-push, All-weaker, All-nil, All-cons}
+use Rattle.std.proofs.lemmas.List.Sums.{sum_by-cons}
+use Rattle.std.proofs.lemmas.Option.{slice_get_within, get_or_from_slice_get}
+use Rattle.plc_base.specs.declared.ids.FieldId.{FieldId}
+use Rattle.plc_base.specs.declared.ids.FuncId.{FuncId}
+use Rattle.plc_base.specs.Names.{place_of}
+use Rattle.plc_lang.specs.declared.syntax.Local.{Local}
+use Rattle.plc_lang.specs.declared.syntax.Var.TheVariants.{Shared as SharedVar, Local as LocalVar}
+use Rattle.plc_lang.specs.Locals.{is_pointer, is_parameter, is_other_data}
+use Rattle.plc_lang.specs.Shape.{Shape, VarIn}
+use Rattle.plc_auto.specs.Table.{is_retire}
+use Rattle.plc_syntax.specs.Trees.{Text}
+use Rattle.plc_scope.specs.declared.fault.ParseFault.TheVariants as faults
+use Rattle.plc_scope.specs.declared.scope.Scope.{Scope}
+use Rattle.plc_scope.specs.declared.binding.Binding.{Binding}
+use Rattle.plc_scope.specs.declared.binding.Binding.TheVariants.{Taken, Shared, PointerField, DataField, Function, Auxiliary, Value, LocalOnly}
+use Rattle.plc_scope.specs.declared.binding.Role.{Role}
+use Rattle.plc_scope.specs.declared.binding.Role.TheVariants.{PointerVariable as pointer_variable, DataLocal as data_local, PointerField as pointer_field, DataField as data_field, Function as function, Auxiliary as auxiliary, Value as value, NoValue as no_value}
+use Rattle.plc_scope.specs.Scope.{◌>>=◌, most_locals, first_scope, if_new, with_name, declared, declared_label, has_local, may_name_local, local_number, with_local, declared_local, declared_parameter, role_outside, role_inside, role_or, role_at, role_of, if_fits, needed, any_role, as_pointer, as_pointer_local, as_data, as_pointer_field, as_data_field, as_protecting, as_without_pointer, pointer_at, pointer_local_at, data_at, pointer_field_at, data_field_at, protecting_at, without_pointer_at}
+use Rattle.plc_parse.proofs.Holds.{Has, next, unless, if_ok}
+
+-- ---- what names stand for
+
+-- `retire` takes a pointer
+abbrev pub FunctionIn : FuncId → Bool → Type 0
+FunctionIn f p = p ≡ false → 0 < f.0
+
+-- of so many shared pointers and fields
+abbrev pub BindingIn : ℕ → ℕ → Binding → Type 0
+BindingIn shared fields Taken = Unit {0}
+BindingIn shared fields (Shared i) = i < shared
+BindingIn shared fields (PointerField f) = f.0 < fields
+BindingIn shared fields (DataField f) = f.0 < fields
+BindingIn shared fields (Function f p) = FunctionIn f p
+BindingIn shared fields (Auxiliary g t) = Unit {0}
+BindingIn shared fields (Value g v) = Unit {0}
+BindingIn shared fields LocalOnly = Unit {0}
+
+-- the same in an operation
+abbrev pub RoleIn : Shape → Role → Type 0
+RoleIn h (pointer_variable v) = VarIn h v
+RoleIn h (data_local x) = x < h.values
+RoleIn h (pointer_field f) = f.0 < h.fields
+RoleIn h (data_field f) = f.0 < h.fields
+RoleIn h (function f p) = FunctionIn f p
+RoleIn h (auxiliary g t) = Unit {0}
+RoleIn h (value g v) = Unit {0}
+RoleIn h no_value = Unit {0}
+
+-- all that has a binding is there
+abbrev pub Bound : ℕ → ℕ → Scope → Type 0
+Bound shared fields s = All (BindingIn shared fields) s.bindings
+
+-- all that is in reach is there
+pub record Reaches (h : Shape) (s : Scope) : Type 0 where
+  pub bound : Bound h.shared h.fields s
+  pub pointers : count_by is_pointer s.locals ≤ h.pointers
+  pub values : count_by is_parameter s.locals + count_by is_other_data s.locals ≤ h.values
+
+-- outside operations
+abbrev pub outside : ℕ → ℕ → Shape
+outside shared fields = record { shared = shared; pointers = 0; values = 0; fields = fields }
+
+-- in an operation with these locals
+abbrev pub inside : ℕ → ℕ → List Local → Shape
+inside shared fields locals = record { shared = shared; pointers = count_by is_pointer locals; values = count_by is_parameter locals + count_by is_other_data locals; fields = fields }
+
+-- ---- declarations
+
+more_in : (m n k l : ℕ) → m ≤ k → n ≤ l → (b : Binding) → BindingIn m n b → BindingIn k l b
+more_in m n k l a b Taken h = tt
+more_in m n k l a b (Shared i) h = omega (arith, a, h)
+more_in m n k l a b (PointerField f) h = omega (arith, b, h)
+more_in m n k l a b (DataField f) h = omega (arith, b, h)
+more_in m n k l a b (Function f p) h = h
+more_in m n k l a b (Auxiliary g t) h = tt
+more_in m n k l a b (Value g v) h = tt
+more_in m n k l a b LocalOnly h = tt
+
+-- further shared pointers and fields may follow
+pub reaches_more : (m n k l : ℕ) (s : Scope) → m ≤ k → n ≤ l → Reaches (outside m n) s → Reaches (outside k l) s
+reaches_more m n k l s a b r = record { bound = All-weaker (BindingIn m n) (BindingIn k l) (more_in m n k l a b) s.bindings r.bound; pointers = r.pointers; values = r.values }
+
+pub first_reaches : Reaches (outside 0 0) first_scope
+first_reaches = record { bound = All-cons (BindingIn 0 0) (Function (record { 0 = 0 }) true) [] (λ e. absurd cc) (All-nil (BindingIn 0 0)); pointers = omega arith; values = omega arith }
+
+pub declared_reaches : (h : Shape) (s : Scope) (name : Text) (at : ℕ) (b : Binding) → BindingIn h.shared h.fields b → Reaches h s → Has (Reaches h) (declared s name at b)
+declared_reaches h s name at b is r = new (place_of name s.names.names)
+  where
+    new : (o : Option ℕ) → Has (Reaches h) (if_new o at (with_name s name b))
+    new None = record { bound = All-push (BindingIn h.shared h.fields) s.bindings b r.bound is; pointers = r.pointers; values = r.values }
+    new (Some i) = tt
+
+pub label_reaches : (h : Shape) (s : Scope) (name : Text) (at : ℕ) → Reaches h s → Has (Reaches h) (declared_label s name at)
+label_reaches h s name at r = next (Reaches h) (Reaches h) (declared s name at Taken) _ (declared_reaches h s name at Taken tt r) (λ t k. record { bound = k.bound; pointers = k.pointers; values = k.values })
+
+module _ (m n : ℕ) where
+  number_bound : (o : Option ℕ) (s : Scope) (name : Text) (at : ℕ) → Bound m n s → Has (λ x. Bound m n x.1) (local_number o s name at)
+  number_bound None s name at h = All-push (BindingIn m n) s.bindings LocalOnly h tt
+  number_bound (Some i) s name at h = if_ok (λ x. Bound m n x.1) (may_name_local (slice_get s.bindings i) (has_local s.locals i)) (i, s) (faults.Duplicate at) h
+
+  pub local_bound : (s : Scope) (name : Text) (at : ℕ) (p : Bool) → Bound m n s → Has (Bound m n) (declared_local s name at p)
+  unfolding declared_local
+  local_bound s name at p h = unless (Bound m n) (length s.locals == most_locals) _ (local_number (place_of name s.names.names) s name at >>= λ x. Ok (with_local x.1 x.0 p false)) (λ few.
+      next (λ x. Bound m n x.1) (Bound m n) (local_number (place_of name s.names.names) s name at) _ (number_bound (place_of name s.names.names) s name at h) (λ x k. k))
+
+  pub parameter_bound : (s : Scope) (name : Text) (at : ℕ) → Bound m n s → Has (Bound m n) (declared_parameter s name at)
+  unfolding declared_parameter
+  parameter_bound s name at h = next (λ x. Bound m n x.1) (Bound m n) (local_number (place_of name s.names.names) s name at) _ (number_bound (place_of name s.names.names) s name at h) (λ x k.
+      unless (Bound m n) (length s.locals == most_locals) _ (Ok (with_local x.1 x.0 false true)) (λ few. k))
+
+-- ---- what a name is
+
+module _ (h : Shape) where
+  outside_in : (b : Binding) → BindingIn h.shared h.fields b → IfSome (role_outside b) (RoleIn h)
+  outside_in Taken is = tt
+  outside_in (Shared k) is = is
+  outside_in (PointerField f) is = is
+  outside_in (DataField f) is = is
+  outside_in (Function f p) is = is
+  outside_in (Auxiliary g t) is = tt
+  outside_in (Value g v) is = tt
+  outside_in LocalOnly is = tt
+
+  -- a local, or one behind it
+  local_in : (p v others_p others_v others_d : ℕ) (ls : List Local) (i : ℕ) (same pointer param : Bool)
+      → p + (cond pointer 1 0 + others_p) ≤ h.pointers → v + (cond param 1 0 + others_v + (cond (not pointer && not param) 1 0 + others_d)) ≤ h.values
+      → ((q w : ℕ) → q + others_p ≤ h.pointers → w + (others_v + others_d) ≤ h.values → IfSome (role_inside q w ls i) (RoleIn h))
+      → IfSome (if same then Some (if pointer then pointer_variable (LocalVar p) else data_local v) else (if pointer then role_inside (p + 1) v ls i else role_inside p (v + 1) ls i)) (RoleIn h)
+  local_in p v op ov od ls i true true param a b others = omega (arith, a)
+  local_in p v op ov od ls i true false true a b others = omega (arith, b)
+  local_in p v op ov od ls i true false false a b others = omega (arith, b)
+  local_in p v op ov od ls i false true param a b others = others (p + 1) v (omega (arith, a)) (omega (arith, b))
+  local_in p v op ov od ls i false false true a b others = others p (v + 1) (omega (arith, a)) (omega (arith, b))
+  local_in p v op ov od ls i false false false a b others = others p (v + 1) (omega (arith, a)) (omega (arith, b))
+
+  locals_in : (ls : List Local) (i p v : ℕ) → p + count_by is_pointer ls ≤ h.pointers → v + (count_by is_parameter ls + count_by is_other_data ls) ≤ h.values → IfSome (role_inside p v ls i) (RoleIn h)
+  locals_in [] i p v a b = tt
+  locals_in (l ∷ ls) i p v a b = local_in p v (count_by is_pointer ls) (count_by is_parameter ls) (count_by is_other_data ls) ls i (l.name == i) l.pointer l.param
+      (rw (← sum_by-cons (λ l. cond (is_pointer l) 1 0) l ls) a)
+      (rw (← sum_by-cons (λ l. cond (is_parameter l) 1 0) l ls, ← sum_by-cons (λ l. cond (is_other_data l) 1 0) l ls) b)
+      (λ q w. locals_in ls i q w)
+
+  either_in : (o : Option Role) (b : Option Binding) → IfSome o (RoleIn h) → IfSome b (BindingIn h.shared h.fields) → IfSome (role_or o b) (RoleIn h)
+  either_in (Some r) b is other = is
+  either_in None (Some b) is other = outside_in b other
+  either_in None None is other = tt
+
+  bound_in : (bs : List Binding) (i : ℕ) → All (BindingIn h.shared h.fields) bs → IfSome (slice_get bs i) (BindingIn h.shared h.fields)
+  bound_in bs i each = at_place (slice_get bs i) refl
+    where
+      at_place : (o : Option Binding) → slice_get bs i ≡ o → IfSome o (BindingIn h.shared h.fields)
+      at_place None e = tt
+      at_place (Some b) e = subst (BindingIn h.shared h.fields) (get_or_from_slice_get bs i b b e) (All-get_or (BindingIn h.shared h.fields) bs i b (slice_get_within bs i b e) each)
+
+  role_at_in : (s : Scope) (o : Option ℕ) → Reaches h s → IfSome (role_at s o) (RoleIn h)
+  role_at_in s None r = tt
+  role_at_in s (Some i) r = either_in (role_inside 0 0 s.locals i) (slice_get s.bindings i) (locals_in s.locals i 0 0 (omega (arith, r.pointers)) (omega (arith, r.values))) (bound_in s.bindings i r.bound)
+
+  role_in : (s : Scope) (name : Text) → Reaches h s → IfSome (role_of s name) (RoleIn h)
+  unfolding role_of
+  role_in s name r = role_at_in s (place_of name s.names.names) r
+
+-- ---- what is looked up
+
+-- a pointer local that is there
+abbrev pub PointerIn : Shape → ℕ → Type 0
+PointerIn h p = p < h.pointers
+
+-- a data local that is there
+abbrev pub ValueIn : Shape → ℕ → Type 0
+ValueIn h x = x < h.values
+
+-- a field that is there
+abbrev pub FieldIn : Shape → FieldId → Type 0
+FieldIn h f = f.0 < h.fields
+
+-- a function that isn't `retire`
+abbrev pub NotRetire : FuncId → Type 0
+NotRetire f = is_retire f ≡ false
+
+-- a name of the wanted kind
+module _ (h : Shape) {A : Type 0} (P : A → Type 0) (wanted : Role → Option A) (each : (k : Role) → RoleIn h k → IfSome (wanted k) P) where
+  fits_in : (at : ℕ) (o : Option A) → IfSome o P → Has P (if_fits at o)
+  fits_in at (Some x) is = is
+  fits_in at None is = tt
+
+  needed_in : (at : ℕ) (o : Option Role) → IfSome o (RoleIn h) → Has P (needed wanted at o)
+  needed_in at None is = tt
+  needed_in at (Some k) is = fits_in at (wanted k) (each k is)
+
+pointers_in : (h : Shape) (k : Role) → RoleIn h k → IfSome (as_pointer k) (VarIn h)
+pointers_in h (pointer_variable v) is = is
+pointers_in h k is = tt
+
+pointer_locals_in : (h : Shape) (k : Role) → RoleIn h k → IfSome (as_pointer_local k) (PointerIn h)
+pointer_locals_in h (pointer_variable (SharedVar i)) is = tt
+pointer_locals_in h (pointer_variable (LocalVar v)) is = is
+pointer_locals_in h k is = tt
+
+values_in : (h : Shape) (k : Role) → RoleIn h k → IfSome (as_data k) (ValueIn h)
+values_in h (data_local x) is = is
+values_in h k is = tt
+
+pointer_fields_in : (h : Shape) (k : Role) → RoleIn h k → IfSome (as_pointer_field k) (FieldIn h)
+pointer_fields_in h (pointer_field f) is = is
+pointer_fields_in h k is = tt
+
+data_fields_in : (h : Shape) (k : Role) → RoleIn h k → IfSome (as_data_field k) (FieldIn h)
+data_fields_in h (data_field f) is = is
+data_fields_in h k is = tt
+
+protects : (f : FuncId) (p zero : Bool) → (f.0 == 0) ≡ zero → IfSome (if p && not zero then Some f else None) NotRetire
+protects f false zero e = tt
+protects f true true e = tt
+protects f true false e = e
+
+protecting_in : (h : Shape) (k : Role) → RoleIn h k → IfSome (as_protecting k) NotRetire
+protecting_in h (function f p) is = protects f p (f.0 == 0) refl
+protecting_in h k is = tt
+
+without_pointer_in : (h : Shape) (k : Role) → RoleIn h k → IfSome (as_without_pointer k) NotRetire
+without_pointer_in h (function f true) is = tt
+without_pointer_in h (function f false) is = ne_eqb f.0 0 (λ e. omega (arith, e, is refl))
+without_pointer_in h k is = tt
+
+module _ (h : Shape) (s : Scope) (r : Reaches h s) (n : Text) (at : ℕ) where
+  pub any_in : Has (RoleIn h) (needed any_role at (role_of s n))
+  any_in = needed_in h (RoleIn h) any_role (λ k is. is) at (role_of s n) (role_in h s n r)
+
+  pub pointer_in : Has (VarIn h) (pointer_at s n at)
+  unfolding pointer_at
+  pointer_in = needed_in h (VarIn h) as_pointer (pointers_in h) at (role_of s n) (role_in h s n r)
+
+  pub pointer_local_in : Has (PointerIn h) (pointer_local_at s n at)
+  unfolding pointer_local_at
+  pointer_local_in = needed_in h (PointerIn h) as_pointer_local (pointer_locals_in h) at (role_of s n) (role_in h s n r)
+
+  pub value_in : Has (ValueIn h) (data_at s n at)
+  unfolding data_at
+  value_in = needed_in h (ValueIn h) as_data (values_in h) at (role_of s n) (role_in h s n r)
+
+  pub pointer_field_in : Has (FieldIn h) (pointer_field_at s n at)
+  unfolding pointer_field_at
+  pointer_field_in = needed_in h (FieldIn h) as_pointer_field (pointer_fields_in h) at (role_of s n) (role_in h s n r)
+
+  pub data_field_in : Has (FieldIn h) (data_field_at s n at)
+  unfolding data_field_at
+  data_field_in = needed_in h (FieldIn h) as_data_field (data_fields_in h) at (role_of s n) (role_in h s n r)
+
+  pub hazard_in : Has NotRetire (protecting_at s n at)
+  unfolding protecting_at
+  hazard_in = needed_in h NotRetire as_protecting (protecting_in h) at (role_of s n) (role_in h s n r)
+
+  pub epoch_in : Has NotRetire (without_pointer_at s n at)
+  unfolding without_pointer_at
+  epoch_in = needed_in h NotRetire as_without_pointer (without_pointer_in h) at (role_of s n) (role_in h s n r)
