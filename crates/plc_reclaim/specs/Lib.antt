@@ -1,0 +1,3 @@
+pub mod Waiting
+pub mod Rows
+pub mod Schemes

@@ -1,0 +1,47 @@
+-- What a reclaimer picks, by the schemes and all the events that it was handed: its row.
+use Rattle.std.specs.Prelude.{◌≡◌, ℕ, Bool, true, false, ◌==◌, ◌&&◌, not, if◌then◌else◌, List, [], ◌∷◌, fold, Option, Some, None}
+use Rattle.std.specs.List.{list_any}
+use Rattle.plc_auto.specs.declared.event.Event.{Event}
+use Rattle.plc_auto.specs.declared.event.Event.TheVariants.{Call as Called, Done as Returned, Free as Freed}
+use Rattle.plc_auto.specs.Table.{is_retire}
+use Rattle.plc_reclaim.specs.declared.reclaimer.Scheme.{Scheme}
+
+-- the event frees the address
+abbrev pub is_free_of : ℕ → Event → Bool
+is_free_of a (Called t f b) = false
+is_free_of a (Returned t f) = false
+is_free_of a (Freed b) = a == b
+
+-- the address that a call of `retire` names; null is none
+abbrev pub retired_by : Event → Option ℕ
+retired_by (Called t f None) = None
+retired_by (Called t f (Some a)) = if is_retire f && not (a == 0) then Some a else None
+retired_by (Returned t f) = None
+retired_by (Freed b) = None
+
+-- the address may be freed, and none of these events frees it
+abbrev pub waits : (ℕ → Bool) → List Event → ℕ → Bool
+waits may behind a = may a && not (list_any (is_free_of a) behind)
+
+-- the address, if there is one and it waits behind its retirement, or else another
+abbrev pub waits_or : (ℕ → Bool) → List Event → Option ℕ → Option ℕ → Option ℕ
+waits_or may behind None other = other
+waits_or may behind (Some a) other = if waits may behind a then Some a else other
+
+-- the address of the first retirement behind which it isn't freed, of those that may be freed
+abbrev pub first_waiting : (ℕ → Bool) → List Event → Option ℕ
+first_waiting may [] = None
+first_waiting may (e ∷ events) = waits_or may events (retired_by e) (first_waiting may events)
+
+-- `leak` frees nothing
+abbrev pub leak_row : List Scheme → List Event → Option ℕ
+leak_row schemes events = None
+
+-- `list` frees in the order of retirement
+abbrev pub list_row : List Scheme → List Event → Option ℕ
+list_row schemes events = first_waiting (λ a. true) events
+
+-- a box with these meanings acts as a row: a pick takes nothing out, and it is the row's address for all schemes and events
+pub record ActsAs (row : List Scheme → List Event → Option ℕ) (begun : List Scheme → List ℕ) (after : List ℕ → Event → List ℕ) (picked : List ℕ → List ℕ) (pick_of : List ℕ → Option ℕ) : Type 0 where
+  pub keeps : (held : List ℕ) → picked held ≡ held
+  pub picks : (schemes : List Scheme) (events : List Event) → pick_of (fold after (begun schemes) events) ≡ row schemes events
