@@ -1,0 +1,85 @@
+// Numbers within a range, as words. Only the one spelling that printing gives is read: the library
+// also reads a plus and leading zeros, which are refused here.
+ghost use Rattle.std.specs.Prelude.{◌≡◌, ◌≤◌, ◌∷◌, [], length, All, IfOk, IfErr};
+ghost use Rattle.plc_sched.specs.Numbers.{is_plain, IsNumberOf, IsNextNumber, IsLastNumber, AreNumbers};
+ghost use Rattle.plc_sched.specs.Words.{words_left};
+ghost use Rattle.plc_sched.specs.declared.fault.SchedFault.TheVariants.{Memory};
+
+use crate::fault::SchedFault;
+use crate::words::{Words, next_word};
+use plc_base::Items;
+use std::alloc::Global;
+
+// How many arguments a start may have.
+const ARGUMENT_LIMIT: usize = 32;
+
+// Whether printing a number could give these bytes, as far as the first of them tells.
+fn is_plain(word: &[u8]) -> bool
+    ensures { result ≡ is_plain word.now }
+{
+    match word {
+        [b'0', _, ..] | [b'+', ..] => false,
+        _ => true,
+    }
+}
+
+// The number that a word writes, from `least` to `most`.
+fn number_of(word: &[u8], least: u32, most: u32) -> Option<u32>
+    ensures { IsNumberOf word.now least most result }
+{
+    if !is_plain(word) {
+        return None;
+    }
+    let Ok(text) = str::from_utf8(word) else {
+        return None;
+    };
+    let Ok(number) = text.parse::<u32>() else {
+        return None;
+    };
+    if least <= number && number <= most {
+        Some(number)
+    } else {
+        None
+    }
+}
+
+/// The number that the next word writes, from `least` to `most`, and the words behind it.
+pub fn next_number<'a>(words: Words<'a>, least: u32, most: u32) -> Option<(u32, Words<'a>)>
+    ensures { IsNextNumber (words_left words.entry) least most result }
+{
+    let (word, rest) = next_word(words)?;
+    let number = number_of(word, least, most)?;
+    Some((number, rest))
+}
+
+/// The number that the one word that is left writes, from `least` to `most`.
+pub fn last_number(words: Words, least: u32, most: u32) -> Option<u32>
+    ensures { IsLastNumber (words_left words.entry) least most result }
+{
+    let (number, rest) = next_number(words, least, most)?;
+    if rest.left.is_none() {
+        Some(number)
+    } else {
+        None
+    }
+}
+
+/// The numbers that all words that are left write, at most 32.
+pub fn numbers(alloc: Global, words: Words) -> Result<Option<Items<u32>>, SchedFault>
+    ensures ok { IfOk result (AreNumbers (words_left words.entry)) }
+    ensures err { IfErr result (λ e. e ≡ Memory) }
+{
+    let mut numbers = Vec::new(alloc);
+    let mut rest = words;
+    while rest.left.is_some() {
+        if numbers.len() == ARGUMENT_LIMIT {
+            return Ok(None);
+        }
+        let Some((number, behind)) = next_number(rest, 0, u32::MAX) else {
+            return Ok(None);
+        };
+        numbers.push(number)?;
+        rest = behind;
+    }
+    Ok(Some(Items::from_vec(numbers)))
+}
