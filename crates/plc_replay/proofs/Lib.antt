@@ -1,0 +1,5 @@
+mod Growing
+mod Operations
+mod Taking
+mod OneEnd
+mod Coming
