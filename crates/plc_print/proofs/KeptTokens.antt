@@ -1,0 +1,229 @@
+-- What is asked of each token, and of the braces that are open at each block, holds of the normal tree's tokens where it holds of a tree's.
+use Rattle.std.proofs.Common.{◌≡◌, ℕ, suc, ◌-◌, Bool, true, false, Option, Some, None, List, [], ◌∷◌, map, filter, subst, arith}
+use Rattle.plc_lex.specs.declared.token.TokenKind.{TokenKind}
+use Rattle.plc_lex.specs.declared.token.TokenKind.TheVariants.{Word, Name, Number, Symbol}
+use Rattle.plc_lex.specs.declared.token.Keyword.{Keyword}
+use Rattle.plc_lex.specs.declared.token.Keyword.TheVariants.{Atomic}
+use Rattle.plc_lex.specs.declared.token.Symbol.TheVariants.{OpenBrace, CloseBrace}
+use Rattle.plc_syntax.specs.Trees.{Text, each_then, maybe_then, comma_name_then, names_then, FieldTree, PointerField, DataField, field_then, shared_then, FunctionTree, Declares, function_then, WatchTree, UseHazard, UseEpoch, watch_then, OneOf, OfThreads, GhostTree, Auxiliary, ghost_then, PlaceTree, PlaceOf, place_then, AtomTree, NullAtom, NumberAtom, NameAtom, atom_then, ValueTree, NullValue, NewValue, NumberValue, PlaceValue, value_then, SetTree, SetName, SetField, set_then, RefreshTree, RefreshName, RefreshField, refresh_then, GhostValueTree, NameGhost, MeGhost, NoneGhost, ghost_value_then, GhostSetTree, SetGhost, ghost_set_then, InitialTree, InitialSet, InitialGhost, initial_then, init_then, TestTree, Compares, SameAs, OtherThan, LessThan, NotLessThan, test_then, name_or_null_then, ConditionTree, TestCondition, RefreshCondition, CasCondition, condition_then, PrimitiveTree, SetPrimitive, RefreshPrimitive, GhostPrimitive, ActivePrimitive, AssumePrimitive, SkipPrimitive, primitive_then, primitive_line_then, ArgumentTree, NoArgument, NullArgument, NameArgument, ActiveArgument, argument_then, during_then, StatementTree, PrimitiveStatement, AtomicStatement, CallStatement, IfStatement, ChooseStatement, LoopStatement, BreakStatement, ReturnStatement, LabelStatement, BlockTree, NoStatement, Then, ElseTree, NoElse, ElseBlock, OrTree, NoOr, OrBlock, statement_then, statements_then, else_then, or_then, parameters_then, OpTree, Operates, op_then, FileTree, file_tokens}
+use Rattle.plc_print.proofs.NormalTrees.{stays, normal_statement, normal_block, normal_else, normal_or, normal_starts, normal_op, normal_file}
+
+-- the word behind which a brace begins no block
+abbrev pub is_atomic : Keyword → Bool
+is_atomic Atomic = true
+is_atomic _ = false
+
+module _ (K : TokenKind → Type 0) (D : ℕ → Type 0) where
+  -- so many braces were opened and closed before, and the token before may be `atomic`: names and numbers are as K asks, and the open braces at each block as D asks
+  abbrev pub Fine : ℕ → ℕ → Bool → List TokenKind → Type 0
+  Fine o c a [] = Unit {0}
+  Fine o c a (Name n ∷ ts) = K (Name n) × Fine o c false ts
+  Fine o c a (Number n ∷ ts) = K (Number n) × Fine o c false ts
+  Fine o c a (Word w ∷ ts) = Fine o c (is_atomic w) ts
+  Fine o c a (Symbol OpenBrace ∷ ts) = (a ≡ false → D (o - c)) × Fine (suc o) c false ts
+  Fine o c a (Symbol CloseBrace ∷ ts) = Fine o (suc c) false ts
+  Fine o c a (Symbol _ ∷ ts) = Fine o c false ts
+
+  -- one brace more of each kind is none
+  down : (o c : ℕ) (a : Bool) (ts : List TokenKind) → Fine (suc o) (suc c) a ts → Fine o c a ts
+  down o c a [] h = tt
+  down o c a (Name n ∷ ts) h = (h.0, down o c false ts h.1)
+  down o c a (Number n ∷ ts) h = (h.0, down o c false ts h.1)
+  down o c a (Word w ∷ ts) h = down o c (is_atomic w) ts h
+  down o c a (Symbol OpenBrace ∷ ts) h = let same : suc o - suc c ≡ o - c = omega arith in (λ e. subst D same (h.0 e), down (suc o) c false ts h.1)
+  down o c a (Symbol CloseBrace ∷ ts) h = down o (suc c) false ts h
+  down o c a (Symbol _ ∷ ts) h = down o c false ts h
+
+  up : (o c : ℕ) (a : Bool) (ts : List TokenKind) → Fine o c a ts → Fine (suc o) (suc c) a ts
+  up o c a [] h = tt
+  up o c a (Name n ∷ ts) h = (h.0, up o c false ts h.1)
+  up o c a (Number n ∷ ts) h = (h.0, up o c false ts h.1)
+  up o c a (Word w ∷ ts) h = up o c (is_atomic w) ts h
+  up o c a (Symbol OpenBrace ∷ ts) h = let same : o - c ≡ suc o - suc c = omega arith in (λ e. subst D same (h.0 e), up (suc o) c false ts h.1)
+  up o c a (Symbol CloseBrace ∷ ts) h = up o (suc c) false ts h
+  up o c a (Symbol _ ∷ ts) h = up o c false ts h
+
+  -- the second tree in place of the first, where what follows may be replaced
+  abbrev Kept : {X : Type 0} → (X → List TokenKind → List TokenKind) → X → X → Type 0
+  Kept x_then x y = (o c : ℕ) (r s : List TokenKind) → (Fine o c false r → Fine o c false s) → Fine o c false (x_then x r) → Fine o c false (x_then y s)
+
+  -- in braces, of a block or behind `atomic`
+  in_braces : {X : Type 0} (x_then : X → List TokenKind → List TokenKind) (x y : X) → Kept x_then x y → (a : Bool) (o c : ℕ) (r s : List TokenKind) → (Fine o c false r → Fine o c false s)
+      → Fine o c a (Symbol OpenBrace ∷ x_then x (Symbol CloseBrace ∷ r)) → Fine o c a (Symbol OpenBrace ∷ x_then y (Symbol CloseBrace ∷ s))
+  in_braces x_then x y kept a o c r s k h = (h.0, kept (suc o) c (Symbol CloseBrace ∷ r) (Symbol CloseBrace ∷ s) (λ g. up o c false s (k (down o c false r g))) h.1)
+
+  each_kept : {X : Type 0} (x_then : X → List TokenKind → List TokenKind) → ((x : X) → Kept x_then x x) → (xs : List X) → Kept (each_then x_then) xs xs
+  each_kept x_then one [] o c r s k h = k h
+  each_kept x_then one (x ∷ xs) o c r s k h = one x o c _ _ (each_kept x_then one xs o c r s k) h
+
+  maybe_kept : {X : Type 0} (x_then : X → List TokenKind → List TokenKind) → ((x : X) → Kept x_then x x) → (x : Option X) → Kept (maybe_then x_then) x x
+  maybe_kept x_then one None o c r s k h = k h
+  maybe_kept x_then one (Some x) o c r s k h = one x o c r s k h
+
+  -- ---- declarations
+
+  comma_name_kept : (n : Text) → Kept comma_name_then n n
+  comma_name_kept n o c r s k h = (h.0, k h.1)
+
+  names_kept : (n : Text) (ns : List Text) → Kept (names_then n) ns ns
+  names_kept n ns o c r s k h = (h.0, each_kept comma_name_then comma_name_kept ns o c r s k h.1)
+
+  field_kept : (f : FieldTree) → Kept field_then f f
+  field_kept (PointerField n) o c r s k h = (h.0, k h.1)
+  field_kept (DataField n) o c r s k h = (h.0, k h.1)
+
+  shared_kept : (n : Text) → Kept shared_then n n
+  shared_kept n o c r s k h = (h.0, k h.1)
+
+  function_kept : (f : FunctionTree) → Kept function_then f f
+  function_kept (Declares n true) o c r s k h = (h.0, k h.1)
+  function_kept (Declares n false) o c r s k h = (h.0, k h.1)
+
+  watch_kept : (w : WatchTree) → Kept watch_then w w
+  watch_kept (UseHazard f) o c r s k h = (h.0, k h.1)
+  watch_kept (UseEpoch f g) o c r s k h = (h.0, (h.1.0, k h.1.1))
+
+  ghost_kept : (g : GhostTree) → Kept ghost_then g g
+  ghost_kept (Auxiliary n OfThreads) o c r s k h = (h.0, k h.1)
+  ghost_kept (Auxiliary n (OneOf v vs)) o c r s k h = (h.0, in_braces (names_then v) vs vs (names_kept v vs) false o c _ _ k h.1)
+
+  -- ---- forms
+
+  place_kept : (p : PlaceTree) → Kept place_then p p
+  place_kept (PlaceOf n None) o c r s k h = (h.0, k h.1)
+  place_kept (PlaceOf n (Some f)) o c r s k h = (h.0, (h.1.0, k h.1.1))
+
+  atom_kept : (a : AtomTree) → Kept atom_then a a
+  atom_kept NullAtom o c r s k h = k h
+  atom_kept (NumberAtom n) o c r s k h = (h.0, k h.1)
+  atom_kept (NameAtom n) o c r s k h = (h.0, k h.1)
+
+  value_kept : (v : ValueTree) → Kept value_then v v
+  value_kept NullValue o c r s k h = k h
+  value_kept NewValue o c r s k h = k h
+  value_kept (NumberValue n) o c r s k h = (h.0, k h.1)
+  value_kept (PlaceValue p) o c r s k h = place_kept p o c r s k h
+
+  set_kept : (x : SetTree) → Kept set_then x x
+  set_kept (SetName n v) o c r s k h = (h.0, value_kept v o c r s k h.1)
+  set_kept (SetField n f a) o c r s k h = (h.0, (h.1.0, atom_kept a o c r s k h.1.1))
+
+  refresh_kept : (x : RefreshTree) → Kept refresh_then x x
+  refresh_kept (RefreshName n p) o c r s k h = (h.0, place_kept p o c r s k h.1)
+  refresh_kept (RefreshField n f q) o c r s k h = (h.0, (h.1.0, (h.1.1.0, k h.1.1.1)))
+
+  ghost_value_kept : (v : GhostValueTree) → Kept ghost_value_then v v
+  ghost_value_kept (NameGhost n) o c r s k h = (h.0, k h.1)
+  ghost_value_kept MeGhost o c r s k h = k h
+  ghost_value_kept NoneGhost o c r s k h = k h
+
+  ghost_set_kept : (x : GhostSetTree) → Kept ghost_set_then x x
+  ghost_set_kept (SetGhost n g v) o c r s k h = (h.0, (h.1.0, ghost_value_kept v o c r s k h.1.1))
+
+  initial_kept : (i : InitialTree) → Kept initial_then i i
+  initial_kept (InitialSet x) o c r s k h = set_kept x o c _ _ k h
+  initial_kept (InitialGhost x) o c r s k h = ghost_set_kept x o c _ _ k h
+
+  test_kept : (t : TestTree) → Kept test_then t t
+  test_kept (Compares n SameAs a) o c r s k h = (h.0, atom_kept a o c r s k h.1)
+  test_kept (Compares n OtherThan a) o c r s k h = (h.0, atom_kept a o c r s k h.1)
+  test_kept (Compares n LessThan a) o c r s k h = (h.0, atom_kept a o c r s k h.1)
+  test_kept (Compares n NotLessThan a) o c r s k h = (h.0, atom_kept a o c r s k h.1)
+
+  name_or_null_kept : (n : Option Text) → Kept name_or_null_then n n
+  name_or_null_kept None o c r s k h = k h
+  name_or_null_kept (Some n) o c r s k h = (h.0, k h.1)
+
+  condition_kept : (x : ConditionTree) → Kept condition_then x x
+  condition_kept (TestCondition t) o c r s k h = test_kept t o c r s k h
+  condition_kept (RefreshCondition n p) o c r s k h = (h.0, place_kept p o c r s k h.1)
+  condition_kept (CasCondition true n p q) o c r s k h = (h.0, name_or_null_kept p o c _ _ (λ g. name_or_null_kept q o c _ _ k g) h.1)
+  condition_kept (CasCondition false n p q) o c r s k h = (h.0, name_or_null_kept p o c _ _ (λ g. name_or_null_kept q o c _ _ k g) h.1)
+
+  primitive_kept : (p : PrimitiveTree) → Kept primitive_then p p
+  primitive_kept (SetPrimitive x) o c r s k h = set_kept x o c r s k h
+  primitive_kept (RefreshPrimitive x) o c r s k h = refresh_kept x o c r s k h
+  primitive_kept (GhostPrimitive x) o c r s k h = ghost_set_kept x o c r s k h
+  primitive_kept (ActivePrimitive n) o c r s k h = (h.0, k h.1)
+  primitive_kept (AssumePrimitive t) o c r s k h = test_kept t o c r s k h
+  primitive_kept SkipPrimitive o c r s k h = k h
+
+  argument_kept : (a : ArgumentTree) → Kept argument_then a a
+  argument_kept NoArgument o c r s k h = k h
+  argument_kept NullArgument o c r s k h = k h
+  argument_kept (NameArgument n) o c r s k h = (h.0, k h.1)
+  argument_kept (ActiveArgument n) o c r s k h = (h.0, k h.1)
+
+  during_kept : (n : Text) → Kept during_then n n
+  during_kept n o c r s k h = (h.0, k h.1)
+
+  -- ---- statements
+
+  primitives_kept : (ps : List PrimitiveTree) → Kept (each_then primitive_line_then) ps (filter stays ps)
+  primitives_kept [] o c r s k h = k h
+  primitives_kept (SkipPrimitive ∷ ps) o c r s k h = primitives_kept ps o c r s k h
+  primitives_kept (SetPrimitive x ∷ ps) o c r s k h = set_kept x o c _ _ (primitives_kept ps o c r s k) h
+  primitives_kept (RefreshPrimitive x ∷ ps) o c r s k h = refresh_kept x o c _ _ (primitives_kept ps o c r s k) h
+  primitives_kept (GhostPrimitive x ∷ ps) o c r s k h = ghost_set_kept x o c _ _ (primitives_kept ps o c r s k) h
+  primitives_kept (ActivePrimitive n ∷ ps) o c r s k h = (h.0, primitives_kept ps o c r s k h.1)
+  primitives_kept (AssumePrimitive t ∷ ps) o c r s k h = test_kept t o c _ _ (primitives_kept ps o c r s k) h
+
+  mutual
+    statement_kept : (x : StatementTree) → Kept statement_then x (normal_statement x)
+    statement_kept (PrimitiveStatement p) o c r s k h = primitive_kept p o c _ _ k h
+    statement_kept (AtomicStatement ps) o c r s k h = in_braces (each_then primitive_line_then) ps (filter stays ps) (primitives_kept ps) true o c r s k h
+    statement_kept (CallStatement n a d) o c r s k h = (h.0, argument_kept a o c _ _ (λ g. maybe_kept during_then during_kept d o c _ _ k g) h.1)
+    statement_kept (IfStatement x b e) o c r s k h = condition_kept x o c _ _ (λ g. in_braces statements_then b (normal_block b) (block_kept b) false o c _ _ (λ i. else_kept e o c r s k i) g) h
+    statement_kept (ChooseStatement a b os) o c r s k h =
+        in_braces statements_then a (normal_block a) (block_kept a) false o c _ _ (λ g. in_braces statements_then b (normal_block b) (block_kept b) false o c _ _ (λ i. or_kept os o c r s k i) g) h
+    statement_kept (LoopStatement b) o c r s k h = in_braces statements_then b (normal_block b) (block_kept b) false o c r s k h
+    statement_kept BreakStatement o c r s k h = k h
+    statement_kept ReturnStatement o c r s k h = k h
+    statement_kept (LabelStatement n) o c r s k h = (h.0, k h.1)
+
+    block_kept : (b : BlockTree) → Kept statements_then b (normal_block b)
+    block_kept NoStatement o c r s k h = k h
+    block_kept (Then x b) o c r s k h = statement_kept x o c _ _ (λ g. block_kept b o c r s k g) h
+
+    else_kept : (e : ElseTree) → Kept else_then e (normal_else e)
+    else_kept NoElse o c r s k h = k h
+    else_kept (ElseBlock NoStatement) o c r s k h = k (down o c false r h.1)
+    else_kept (ElseBlock (Then x b)) o c r s k h = in_braces statements_then (Then x b) (normal_block (Then x b)) (block_kept (Then x b)) false o c r s k h
+
+    or_kept : (os : OrTree) → Kept or_then os (normal_or os)
+    or_kept NoOr o c r s k h = k h
+    or_kept (OrBlock b os) o c r s k h = in_braces statements_then b (normal_block b) (block_kept b) false o c _ _ (λ g. or_kept os o c r s k g) h
+
+  -- ---- the file
+
+  parameters_kept : (ps : List Text) → Kept parameters_then ps ps
+  parameters_kept [] o c r s k h = k h
+  parameters_kept (n ∷ ns) o c r s k h = names_kept n ns o c r s k h
+
+  op_kept : (x : OpTree) → Kept op_then x (normal_op x)
+  op_kept (Operates n ps ls b) o c r s k h = (
+    h.0,
+    parameters_kept ps o c _ _ (λ g. in_braces (λ (x : BlockTree) (us : List TokenKind). each_then field_then ls (statements_then x us)) b (normal_block b)
+        (λ p q t u m i. each_kept field_then field_kept ls p q _ _ (λ j. block_kept b p q t u m j) i) false o c r s k g) h.1,
+  )
+
+  ops_kept : (xs : List OpTree) → Kept (each_then op_then) xs (map normal_op xs)
+  ops_kept [] o c r s k h = k h
+  ops_kept (x ∷ xs) o c r s k h = op_kept x o c _ _ (λ g. ops_kept xs o c r s k g) h
+
+  starts_kept : (x : Option (List InitialTree)) → Kept (maybe_then init_then) x (normal_starts x)
+  starts_kept None o c r s k h = k h
+  starts_kept (Some []) o c r s k h = k (down o c false r h.1)
+  starts_kept (Some (i ∷ is)) o c r s k h = in_braces (each_then initial_then) (i ∷ is) (i ∷ is) (each_kept initial_then initial_kept (i ∷ is)) false o c r s k h
+
+  pub file_kept : (f : FileTree) → Fine 0 0 false (file_tokens f) → Fine 0 0 false (file_tokens (normal_file f))
+  file_kept f h = (
+    h.0,
+    in_braces (each_then field_then) f.fields f.fields (each_kept field_then field_kept f.fields) false 0 0 _ _ (λ a.
+        each_kept shared_then shared_kept f.pointers 0 0 _ _ (λ b.
+        each_kept function_then function_kept f.functions 0 0 _ _ (λ d.
+        maybe_kept watch_then watch_kept f.watched 0 0 _ _ (λ w.
+        each_kept ghost_then ghost_kept f.ghosts 0 0 _ _ (λ g.
+        starts_kept f.starts 0 0 _ _ (λ i.
+        ops_kept f.ops 0 0 _ _ (λ o. tt) i) g) w) d) b) a) h.1,
+  )

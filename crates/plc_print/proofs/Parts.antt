@@ -1,0 +1,228 @@
+-- Tokens behind a form are those of the form with nothing behind it, and then these; so is their text.
+use Rattle.std.proofs.Common.{◌≡◌, ◌++◌, ◌∷◌, [], List, Option, Some, None, Bool, true, false, ℕ, refl, ap, sym, ◌∙◌, append_assoc}
+use Rattle.plc_lex.specs.declared.token.TokenKind.{TokenKind}
+use Rattle.plc_lex.specs.declared.token.TokenKind.TheVariants.{Word, Name, Symbol}
+use Rattle.plc_lex.specs.declared.token.Keyword.TheVariants.{Struct, Ghost, Init, Op, Atomic, If, Else, Loop, Choose, Or, Active, Cas}
+use Rattle.plc_lex.specs.declared.token.Symbol.TheVariants.{OpenBrace, CloseBrace, OpenParen, CloseParen, Semicolon, Comma}
+use Rattle.plc_syntax.specs.Trees.{each_then, maybe_then, word_if_then, comma_name_then, FieldTree, PointerField, DataField, field_then, struct_then, shared_then, FunctionTree, Declares, function_then, WatchTree, UseHazard, UseEpoch, watch_then, GhostKindTree, OneOf, OfThreads, ghost_kind_then, GhostTree, Auxiliary, ghost_then, Text, PlaceTree, PlaceOf, place_then, AtomTree, NullAtom, NumberAtom, NameAtom, atom_then, ValueTree, NullValue, NewValue, NumberValue, PlaceValue, value_then, SetTree, SetName, SetField, set_then, RefreshTree, RefreshName, RefreshField, refresh_then, GhostValueTree, NameGhost, MeGhost, NoneGhost, ghost_value_then, GhostSetTree, SetGhost, ghost_set_then, InitialTree, InitialSet, InitialGhost, initial_then, init_then, TestTree, Compares, test_then, name_or_null_then, ConditionTree, TestCondition, RefreshCondition, CasCondition, condition_then, PrimitiveTree, SetPrimitive, RefreshPrimitive, GhostPrimitive, ActivePrimitive, AssumePrimitive, SkipPrimitive, primitive_then, primitive_line_then, ArgumentTree, NoArgument, NullArgument, NameArgument, ActiveArgument, argument_then, during_then, StatementTree, PrimitiveStatement, AtomicStatement, CallStatement, IfStatement, ChooseStatement, LoopStatement, BreakStatement, ReturnStatement, LabelStatement, BlockTree, NoStatement, Then as ThenStatement, ElseTree, NoElse, ElseBlock, OrTree, NoOr, OrBlock, statement_then, statements_then, else_then, or_then, parameters_then, OpTree, Operates, op_then}
+use Rattle.plc_print.specs.Text.{token_text, behind, text_of}
+
+-- what a form adds stands before what is behind it
+abbrev pub Leads : (List TokenKind → List TokenKind) → Type 0
+Leads form = (rest : List TokenKind) → form rest ≡ form [] ++ rest
+
+-- the text of tokens one behind the other
+pub text_both : (xs ys : List TokenKind) → text_of (xs ++ ys) ≡ text_of xs ++ text_of ys
+text_both [] ys = refl
+text_both (x ∷ xs) ys = rw (text_both xs ys) (sym (append_assoc (token_text x) (behind x ∷ text_of xs) (text_of ys)))
+
+-- the text of a form and of what is behind it
+text_leads : (form : List TokenKind → List TokenKind) → Leads form → (rest : List TokenKind) → text_of (form rest) ≡ text_of (form []) ++ text_of rest
+text_leads form leads rest = ap text_of (leads rest) ∙ text_both (form []) rest
+
+-- a form behind what was printed before, and then what is behind it
+pub then_prints : (form : List TokenKind → List TokenKind) → Leads form → (rest : List TokenKind) → (old : List ℕ) → {mid new : List ℕ} → mid ≡ old ++ text_of (form []) → new ≡ mid ++ text_of rest → new ≡ old ++ text_of (form rest)
+then_prints form leads rest old e f = f ∙ ap (λ x. x ++ text_of rest) e ∙ append_assoc old (text_of (form [])) (text_of rest) ∙ ap (λ x. old ++ x) (sym (text_leads form leads rest))
+
+-- a form that was left to print has been printed
+pub then_left : (form : List TokenKind → List TokenKind) → Leads form → (rest : List TokenKind) → (mid : List ℕ) → {new whole : List ℕ} → mid ++ text_of (form rest) ≡ whole → new ≡ mid ++ text_of (form []) → new ++ text_of rest ≡ whole
+then_left form leads rest mid left e = ap (λ x. x ++ text_of rest) e ∙ append_assoc mid (text_of (form [])) (text_of rest) ∙ ap (λ x. mid ++ x) (sym (text_leads form leads rest)) ∙ left
+
+pub place_leads : (p : PlaceTree) → Leads (place_then p)
+place_leads (PlaceOf n None) rest = refl
+place_leads (PlaceOf n (Some f)) rest = refl
+
+pub value_leads : (v : ValueTree) → Leads (value_then v)
+value_leads NullValue rest = refl
+value_leads NewValue rest = refl
+value_leads (NumberValue n) rest = refl
+value_leads (PlaceValue p) rest = place_leads p rest
+
+pub atom_leads : (a : AtomTree) → Leads (atom_then a)
+atom_leads NullAtom rest = refl
+atom_leads (NumberAtom n) rest = refl
+atom_leads (NameAtom n) rest = refl
+
+pub set_leads : (s : SetTree) → Leads (set_then s)
+set_leads (SetName n v) rest = rw (value_leads v rest) refl
+set_leads (SetField n f a) rest = rw (atom_leads a rest) refl
+
+pub refresh_leads : (r : RefreshTree) → Leads (refresh_then r)
+refresh_leads (RefreshName n p) rest = rw (place_leads p rest) refl
+refresh_leads (RefreshField n f q) rest = refl
+
+pub ghost_value_leads : (v : GhostValueTree) → Leads (ghost_value_then v)
+ghost_value_leads (NameGhost n) rest = refl
+ghost_value_leads MeGhost rest = refl
+ghost_value_leads NoneGhost rest = refl
+
+pub ghost_set_leads : (g : GhostSetTree) → Leads (ghost_set_then g)
+ghost_set_leads (SetGhost n g v) rest = rw (ghost_value_leads v rest) refl
+
+pub test_leads : (t : TestTree) → Leads (test_then t)
+test_leads (Compares n c a) rest = rw (atom_leads a rest) refl
+
+pub primitive_leads : (p : PrimitiveTree) → Leads (primitive_then p)
+primitive_leads (SetPrimitive s) rest = set_leads s rest
+primitive_leads (RefreshPrimitive r) rest = refresh_leads r rest
+primitive_leads (GhostPrimitive g) rest = ghost_set_leads g rest
+primitive_leads (ActivePrimitive n) rest = refl
+primitive_leads (AssumePrimitive t) rest = rw (test_leads t rest) refl
+primitive_leads SkipPrimitive rest = refl
+
+-- ---- forms one behind the other
+
+leads_then : (first second : List TokenKind → List TokenKind) → Leads first → Leads second → Leads (λ rest. first (second rest))
+leads_then first second f s rest =
+    f (second rest) ∙ ap (λ ts. first [] ++ ts) (s rest) ∙ sym (append_assoc (first []) (second []) rest) ∙ ap (λ ts. ts ++ rest) (sym (f (second [])))
+
+before : (form : List TokenKind → List TokenKind) (t : TokenKind) → Leads form → Leads (λ rest. form (t ∷ rest))
+before form t f = leads_then form (λ rest. t ∷ rest) f (λ rest. refl)
+
+pub each_leads : {A : Type 0} → (x_then : A → List TokenKind → List TokenKind) → ((x : A) → Leads (x_then x)) → (xs : List A) → Leads (each_then x_then xs)
+each_leads x_then f [] rest = refl
+each_leads x_then f (x ∷ xs) rest = leads_then (x_then x) (each_then x_then xs) (f x) (each_leads x_then f xs) rest
+
+pub maybe_leads : {A : Type 0} → (x_then : A → List TokenKind → List TokenKind) → ((x : A) → Leads (x_then x)) → (x : Option A) → Leads (maybe_then x_then x)
+maybe_leads x_then f None rest = refl
+maybe_leads x_then f (Some x) rest = f x rest
+
+pub line_leads : (p : PrimitiveTree) → Leads (primitive_line_then p)
+line_leads p = before (primitive_then p) (Symbol Semicolon) (primitive_leads p)
+
+pub lines_leads : (ps : List PrimitiveTree) → Leads (each_then primitive_line_then ps)
+lines_leads = each_leads primitive_line_then line_leads
+
+-- ---- conditions
+
+pub name_or_null_leads : (n : Option Text) → Leads (name_or_null_then n)
+name_or_null_leads None rest = refl
+name_or_null_leads (Some n) rest = refl
+
+pub cas_leads : (n : Text) (old new : Option Text) → Leads (λ rest. Name n ∷ Symbol Comma ∷ name_or_null_then old (Symbol Comma ∷ name_or_null_then new (Symbol CloseParen ∷ rest)))
+cas_leads n None None rest = refl
+cas_leads n None (Some q) rest = refl
+cas_leads n (Some p) None rest = refl
+cas_leads n (Some p) (Some q) rest = refl
+
+pub condition_leads : (c : ConditionTree) → Leads (condition_then c)
+condition_leads (TestCondition t) rest = test_leads t rest
+condition_leads (RefreshCondition n p) rest = rw (place_leads p rest) refl
+condition_leads (CasCondition true n old new) rest = ap (λ ts. Word Cas ∷ Symbol OpenParen ∷ Word Active ∷ ts) (cas_leads n old new rest)
+condition_leads (CasCondition false n old new) rest = ap (λ ts. Word Cas ∷ Symbol OpenParen ∷ ts) (cas_leads n old new rest)
+
+-- a name or null that is one token
+null_token : (n : Option Text) (k : TokenKind) → name_or_null_then n [] ≡ k ∷ [] → (rest : List TokenKind) → name_or_null_then n rest ≡ k ∷ rest
+null_token n k e rest = name_or_null_leads n rest ∙ ap (λ ts. ts ++ rest) e
+
+pub cas_tokens : (active : Bool) (n : Text) (old new : Option Text) (k l : TokenKind) → name_or_null_then old [] ≡ k ∷ [] → name_or_null_then new [] ≡ l ∷ []
+    → condition_then (CasCondition active n old new) [] ≡ Word Cas ∷ Symbol OpenParen ∷ word_if_then Active active (Name n ∷ Symbol Comma ∷ k ∷ Symbol Comma ∷ l ∷ Symbol CloseParen ∷ [])
+cas_tokens active n old new k l e f =
+    ap (λ ts. Word Cas ∷ Symbol OpenParen ∷ word_if_then Active active (Name n ∷ Symbol Comma ∷ ts)) (null_token old k e (Symbol Comma ∷ name_or_null_then new (Symbol CloseParen ∷ []))
+    ∙ ap (λ ts. k ∷ Symbol Comma ∷ ts) (null_token new l f (Symbol CloseParen ∷ [])))
+
+-- ---- statements
+
+pub argument_leads : (a : ArgumentTree) → Leads (argument_then a)
+argument_leads NoArgument rest = refl
+argument_leads NullArgument rest = refl
+argument_leads (NameArgument n) rest = refl
+argument_leads (ActiveArgument n) rest = refl
+
+pub during_leads : (d : Option Text) → Leads (maybe_then during_then d)
+during_leads None rest = refl
+during_leads (Some n) rest = refl
+
+pub call_end_leads : (d : Option Text) → Leads (λ rest. Symbol CloseParen ∷ maybe_then during_then d (Symbol Semicolon ∷ rest))
+call_end_leads None rest = refl
+call_end_leads (Some n) rest = refl
+
+mutual
+  pub statement_leads : (s : StatementTree) → Leads (statement_then s)
+  statement_leads (PrimitiveStatement p) rest = line_leads p rest
+  statement_leads (AtomicStatement ps) rest = ap (λ ts. Word Atomic ∷ Symbol OpenBrace ∷ ts) (before (each_then primitive_line_then ps) (Symbol CloseBrace) (lines_leads ps) rest)
+  statement_leads (CallStatement f a d) rest = ap (λ ts. Name f ∷ Symbol OpenParen ∷ ts) (leads_then (argument_then a) (λ r. Symbol CloseParen ∷ maybe_then during_then d (Symbol Semicolon ∷ r)) (argument_leads a) (call_end_leads d) rest)
+  statement_leads (IfStatement c b e) rest =
+      ap (λ ts. Word If ∷ Symbol OpenParen ∷ ts) (leads_then (condition_then c) (λ r. Symbol CloseParen ∷ Symbol OpenBrace ∷ statements_then b (Symbol CloseBrace ∷ else_then e r)) (condition_leads c)
+      (λ r. ap (λ ts. Symbol CloseParen ∷ Symbol OpenBrace ∷ ts) (leads_then (statements_then b) (λ q. Symbol CloseBrace ∷ else_then e q) (statements_leads b) (λ q. ap (λ ts. Symbol CloseBrace ∷ ts) (else_leads e q)) r)) rest)
+  statement_leads (ChooseStatement a b os) rest =
+      ap (λ ts. Word Choose ∷ Symbol OpenBrace ∷ ts) (leads_then (statements_then a) (λ r. Symbol CloseBrace ∷ Word Or ∷ Symbol OpenBrace ∷ statements_then b (Symbol CloseBrace ∷ or_then os r)) (statements_leads a)
+      (λ r. ap (λ ts. Symbol CloseBrace ∷ Word Or ∷ Symbol OpenBrace ∷ ts) (leads_then (statements_then b) (λ q. Symbol CloseBrace ∷ or_then os q) (statements_leads b) (λ q. ap (λ ts. Symbol CloseBrace ∷ ts) (or_leads os q)) r)) rest)
+  statement_leads (LoopStatement b) rest = ap (λ ts. Word Loop ∷ Symbol OpenBrace ∷ ts) (before (statements_then b) (Symbol CloseBrace) (statements_leads b) rest)
+  statement_leads BreakStatement rest = refl
+  statement_leads ReturnStatement rest = refl
+  statement_leads (LabelStatement n) rest = refl
+
+  pub statements_leads : (b : BlockTree) → Leads (statements_then b)
+  statements_leads NoStatement rest = refl
+  statements_leads (ThenStatement s b) rest = leads_then (statement_then s) (statements_then b) (statement_leads s) (statements_leads b) rest
+
+  pub else_leads : (e : ElseTree) → Leads (else_then e)
+  else_leads NoElse rest = refl
+  else_leads (ElseBlock b) rest = ap (λ ts. Word Else ∷ Symbol OpenBrace ∷ ts) (before (statements_then b) (Symbol CloseBrace) (statements_leads b) rest)
+
+  pub or_leads : (os : OrTree) → Leads (or_then os)
+  or_leads NoOr rest = refl
+  or_leads (OrBlock b os) rest = ap (λ ts. Word Or ∷ Symbol OpenBrace ∷ ts) (leads_then (statements_then b) (λ r. Symbol CloseBrace ∷ or_then os r) (statements_leads b) (λ r. ap (λ ts. Symbol CloseBrace ∷ ts) (or_leads os r)) rest)
+
+-- a block in its braces
+abbrev pub braces_then : BlockTree → List TokenKind → List TokenKind
+braces_then b rest = Symbol OpenBrace ∷ statements_then b (Symbol CloseBrace ∷ rest)
+
+pub braces_leads : (b : BlockTree) → Leads (braces_then b)
+braces_leads b rest = ap (λ ts. Symbol OpenBrace ∷ ts) (before (statements_then b) (Symbol CloseBrace) (statements_leads b) rest)
+
+-- ---- declarations
+
+pub comma_name_leads : (n : Text) → Leads (comma_name_then n)
+comma_name_leads n rest = refl
+
+pub comma_names_leads : (ns : List Text) → Leads (each_then comma_name_then ns)
+comma_names_leads = each_leads comma_name_then comma_name_leads
+
+pub field_leads : (f : FieldTree) → Leads (field_then f)
+field_leads (PointerField n) rest = refl
+field_leads (DataField n) rest = refl
+
+pub fields_leads : (fs : List FieldTree) → Leads (each_then field_then fs)
+fields_leads = each_leads field_then field_leads
+
+pub struct_leads : (n : Text) (fs : List FieldTree) → Leads (struct_then n fs)
+struct_leads n fs rest = ap (λ ts. Word Struct ∷ Name n ∷ Symbol OpenBrace ∷ ts) (before (each_then field_then fs) (Symbol CloseBrace) (fields_leads fs) rest)
+
+pub shared_leads : (n : Text) → Leads (shared_then n)
+shared_leads n rest = refl
+
+pub function_leads : (f : FunctionTree) → Leads (function_then f)
+function_leads (Declares n true) rest = refl
+function_leads (Declares n false) rest = refl
+
+pub watch_leads : (w : WatchTree) → Leads (watch_then w)
+watch_leads (UseHazard f) rest = refl
+watch_leads (UseEpoch e l) rest = refl
+
+pub kind_leads : (k : GhostKindTree) → Leads (ghost_kind_then k)
+kind_leads (OneOf v vs) rest = ap (λ ts. Symbol OpenBrace ∷ Name v ∷ ts) (before (each_then comma_name_then vs) (Symbol CloseBrace) (comma_names_leads vs) rest)
+kind_leads OfThreads rest = refl
+
+pub ghost_leads : (g : GhostTree) → Leads (ghost_then g)
+ghost_leads (Auxiliary n k) rest = ap (λ ts. Word Ghost ∷ Name n ∷ ts) (before (ghost_kind_then k) (Symbol Semicolon) (kind_leads k) rest)
+
+pub initial_leads : (i : InitialTree) → Leads (initial_then i)
+initial_leads (InitialSet s) rest = before (set_then s) (Symbol Semicolon) (set_leads s) rest
+initial_leads (InitialGhost g) rest = before (ghost_set_then g) (Symbol Semicolon) (ghost_set_leads g) rest
+
+pub initials_leads : (is : List InitialTree) → Leads (each_then initial_then is)
+initials_leads = each_leads initial_then initial_leads
+
+pub init_leads : (is : List InitialTree) → Leads (init_then is)
+init_leads is rest = ap (λ ts. Word Init ∷ Symbol OpenBrace ∷ ts) (before (each_then initial_then is) (Symbol CloseBrace) (initials_leads is) rest)
+
+pub parameters_leads : (ns : List Text) → Leads (parameters_then ns)
+parameters_leads [] rest = refl
+parameters_leads (n ∷ ns) rest = ap (λ ts. Name n ∷ ts) (comma_names_leads ns rest)
+
+pub op_leads : (o : OpTree) → Leads (op_then o)
+op_leads (Operates n ps locals b) rest =
+    ap (λ ts. Word Op ∷ Name n ∷ Symbol OpenParen ∷ ts) (leads_then (parameters_then ps) (λ r. Symbol CloseParen ∷ Symbol OpenBrace ∷ each_then field_then locals (statements_then b (Symbol CloseBrace ∷ r))) (parameters_leads ps)
+    (λ r. ap (λ ts. Symbol CloseParen ∷ Symbol OpenBrace ∷ ts) (leads_then (each_then field_then locals) (λ q. statements_then b (Symbol CloseBrace ∷ q)) (fields_leads locals) (before (statements_then b) (Symbol CloseBrace) (statements_leads b)) r)) rest)

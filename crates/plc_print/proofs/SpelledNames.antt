@@ -1,0 +1,265 @@
+-- Each name that is found in a scope is the name that the canonical text spells for what it stands for.
+use Rattle.std.proofs.Common.{◌≡◌, ◌==◌, ℕ, suc, ◌+◌, ◌<◌, Bool, true, false, cond, not, ◌&&◌, if◌then◌else◌, Option, Some, None, IfSome, option_map, List, [], ◌∷◌, length, filter, slice_get, refl, sym, ap, ◌∙◌, subst, bytes_eq, nat_lt, arith}
+use Rattle.std.specs.List.{prefix_len}
+use Rattle.std.proofs.lemmas.Bool.{eqb-true, ltb-true}
+use Rattle.std.proofs.lemmas.Option.{IfSome_then, get_or_from_slice_get}
+use Rattle.std.proofs.lemmas.Slice.Eq.{bytes_eq-Decides}
+use Rattle.plc_base.specs.Names.{place_of}
+use Rattle.plc_lang.specs.Locals.{is_pointer}
+use Rattle.plc_lang.specs.declared.syntax.Field.{Field}
+use Rattle.plc_lang.specs.declared.syntax.Func.{Func}
+use Rattle.plc_lang.specs.declared.syntax.Ghost.{Ghost}
+use Rattle.plc_lang.specs.declared.syntax.File.{File}
+use Rattle.plc_lang.specs.declared.syntax.Local.{Local}
+use Rattle.plc_lang.specs.declared.syntax.Var.TheVariants.{Shared as SharedVar, Local as LocalVar}
+use Rattle.plc_syntax.specs.Trees.{Text}
+use Rattle.plc_scope.specs.declared.scope.Scope.{Scope}
+use Rattle.plc_scope.specs.declared.binding.Binding.{Binding}
+use Rattle.plc_scope.specs.declared.binding.Binding.TheVariants.{Taken, Shared, PointerField, DataField, Function, Auxiliary, Value, LocalOnly}
+use Rattle.plc_scope.specs.declared.binding.Role.{Role}
+use Rattle.plc_scope.specs.declared.binding.Role.TheVariants.{PointerVariable as pointer_variable, DataLocal as data_local, PointerField as pointer_field, DataField as data_field, Function as function, Auxiliary as auxiliary, Value as value, NoValue as no_value}
+use Rattle.plc_scope.specs.Scope.{needed, if_fits, any_role, role_outside, role_inside, role_or, role_at, role_of, as_pointer, as_pointer_local, as_data, as_pointer_field, as_data_field, as_function, as_protecting, as_without_pointer, as_auxiliary, as_value_of, pointer_at, pointer_local_at, data_at, pointer_field_at, data_field_at, function_at, protecting_at, without_pointer_at, auxiliary_at, value_at}
+use Rattle.plc_parse.proofs.Holds.{Has}
+use Rattle.plc_print.specs.Canonical.{name_at, name_of, field_name, function_name, auxiliary_name, values_of, value_name, is_data, pointer_name, data_name, variable_name}
+use Rattle.plc_print.proofs.Steps.{Found, Within}
+
+-- ---- the place of a name
+
+pub onward : {A : Type 0} (x : A) (xs : List A) (n : ℕ) → slice_get (x ∷ xs) (1 + n) ≡ slice_get xs n
+onward x xs n = let e : 1 + n ≡ suc n = omega arith in ap (slice_get (x ∷ xs)) e
+
+first_here : (n : Text) (names : List Text) → prefix_len (λ x. not (bytes_eq n x)) names < length names → slice_get names (prefix_len (λ x. not (bytes_eq n x)) names) ≡ Some n
+first_here n [] h = absurd (omega arith)
+first_here n (x ∷ xs) h = by (bytes_eq n x) refl (λ less. first_here n xs less) h
+  where
+    k : ℕ
+    k = prefix_len (λ y. not (bytes_eq n y)) xs
+
+    by : (b : Bool) → bytes_eq n x ≡ b → (k < length xs → slice_get xs k ≡ Some n) → cond (not b) (1 + k) 0 < suc (length xs) → slice_get (x ∷ xs) (cond (not b) (1 + k) 0) ≡ Some n
+    by true e others less = ap Some (sym ((bytes_eq-Decides n x).0 e))
+    by false e others less = onward x xs k ∙ others (omega arith)
+
+pub place_found : (n : Text) (names : List Text) (i : ℕ) → place_of n names ≡ Some i → slice_get names i ≡ Some n
+place_found n names i e = by (nat_lt k (length names)) refl e
+  where
+    k : ℕ
+    k = prefix_len (λ x. not (bytes_eq n x)) names
+
+    by : (b : Bool) → nat_lt k (length names) ≡ b → cond b (Some k) None ≡ Some i → slice_get names i ≡ Some n
+    by true less same = let at : k ≡ i = cc in subst (λ j. slice_get names j ≡ Some n) at (first_here n names (ltb-true k (length names) less))
+    by false less same = absurd cc
+
+module _ (file : File) where
+  -- ---- what a number is bound to
+
+  -- what is bound to a number was declared by the name with that number
+  abbrev pub IsBound : ℕ → Binding → Type 0
+  IsBound i Taken = Unit {0}
+  IsBound i LocalOnly = Unit {0}
+  IsBound i (Shared k) = slice_get file.shared k ≡ Some i
+  IsBound i (PointerField f) = option_map (λ (x : Field). x.name) (slice_get file.fields f.0) ≡ Some i
+  IsBound i (DataField f) = option_map (λ (x : Field). x.name) (slice_get file.fields f.0) ≡ Some i
+  IsBound i (Function f p) = option_map (λ (x : Func). x.name) (slice_get file.funcs f.0) ≡ Some i
+  IsBound i (Auxiliary g t) = option_map (λ (x : Ghost). x.name) (slice_get file.ghosts g) ≡ Some i
+  IsBound i (Value g v) = slice_get (values_of (slice_get file.ghosts g)) v ≡ Some i
+
+  -- one binding for each name, and each as the file has it
+  pub record Bound (s : Scope) : Type 0 where
+    pub even : length s.bindings ≡ length s.names.names
+    pub each : (i : ℕ) (b : Binding) → slice_get s.bindings i ≡ Some b → IsBound i b
+
+  -- the file has the names and labels of the scope, and perhaps more behind
+  pub record Ends (s : Scope) : Type 0 where
+    pub names : Within s.names.names file.names.names
+    pub labels : Within s.labels file.labels
+
+  -- ---- what a name is
+
+  -- the canonical text spells the name for this role
+  abbrev pub RoleIs : List Local → Text → Role → Type 0
+  RoleIs locals n (pointer_variable v) = variable_name file locals v ≡ n
+  RoleIs locals n (data_local x) = data_name file locals x ≡ n
+  RoleIs locals n (pointer_field f) = field_name file f ≡ n
+  RoleIs locals n (data_field f) = field_name file f ≡ n
+  RoleIs locals n (function f p) = function_name file f ≡ n
+  RoleIs locals n (auxiliary g t) = auxiliary_name file g ≡ n
+  RoleIs locals n (value g v) = value_name file g v ≡ n
+  RoleIs locals n no_value = Unit {0}
+
+  -- the name with a number
+  pub from_number : (o : Option ℕ) (i : ℕ) (n : Text) → o ≡ Some i → name_at file i ≡ n → name_of file o ≡ n
+  from_number o i n e f = ap (name_of file) e ∙ f
+
+  -- a local with this number, by its place among those of its kind
+  data Inside (pointers values : ℕ) (locals : List Local) (number : ℕ) : Role → Type 0 where
+    of_pointers : (k j : ℕ) → k ≡ pointers + j → option_map (λ (l : Local). l.name) (slice_get (filter is_pointer locals) j) ≡ Some number → Inside pointers values locals number (pointer_variable (LocalVar k))
+    of_data : (k j : ℕ) → k ≡ values + j → option_map (λ (l : Local). l.name) (slice_get (filter is_data locals) j) ≡ Some number → Inside pointers values locals number (data_local k)
+
+  behind_pointer : (p v n : ℕ) (q : Bool) (ls : List Local) (number : ℕ) (r : Role) → Inside (p + 1) v ls number r → Inside p v (record { name = n; pointer = true; param = q } ∷ ls) number r
+  behind_pointer p v n q ls number _ (of_pointers k j e f) = of_pointers k (suc j) (omega arith) f
+  behind_pointer p v n q ls number _ (of_data k j e f) = of_data k j e f
+
+  behind_data : (p v n : ℕ) (q : Bool) (ls : List Local) (number : ℕ) (r : Role) → Inside p (v + 1) ls number r → Inside p v (record { name = n; pointer = false; param = q } ∷ ls) number r
+  behind_data p v n q ls number _ (of_pointers k j e f) = of_pointers k j e f
+  behind_data p v n q ls number _ (of_data k j e f) = of_data k (suc j) (omega arith) f
+
+  inside : (p v : ℕ) (ls : List Local) (number : ℕ) → IfSome (role_inside p v ls number) (Inside p v ls number)
+  inside p v [] number = tt
+  inside p v (l ∷ ls) number = by l.name l.pointer l.param (l.name == number) refl (inside (p + 1) v ls number) (inside p (v + 1) ls number)
+    where
+      by : (n : ℕ) (b q same : Bool) → (n == number) ≡ same → IfSome (role_inside (p + 1) v ls number) (Inside (p + 1) v ls number) → IfSome (role_inside p (v + 1) ls number) (Inside p (v + 1) ls number)
+          → IfSome (if same then Some (if b then pointer_variable (LocalVar p) else data_local v) else (if b then role_inside (p + 1) v ls number else role_inside p (v + 1) ls number)) (Inside p v (record { name = n; pointer = b; param = q } ∷ ls) number)
+      by n true q true e h k = of_pointers p 0 (omega arith) (ap Some (eqb-true n number e))
+      by n false q true e h k = of_data v 0 (omega arith) (ap Some (eqb-true n number e))
+      by n true q false e h k = IfSome_then (role_inside (p + 1) v ls number) h (behind_pointer p v n q ls number)
+      by n false q false e h k = IfSome_then (role_inside p (v + 1) ls number) k (behind_data p v n q ls number)
+
+  named_inside : (locals : List Local) (i : ℕ) (n : Text) → name_at file i ≡ n → (r : Role) → Inside 0 0 locals i r → RoleIs locals n r
+  named_inside locals i n e _ (of_pointers k j same f) =
+      let at : k ≡ j = omega arith in ap (pointer_name file locals) at ∙ from_number (option_map (λ (l : Local). l.name) (slice_get (filter is_pointer locals) j)) i n f e
+  named_inside locals i n e _ (of_data k j same f) =
+      let at : k ≡ j = omega arith in ap (data_name file locals) at ∙ from_number (option_map (λ (l : Local). l.name) (slice_get (filter is_data locals) j)) i n f e
+
+  named_outside : (locals : List Local) (i : ℕ) (n : Text) (b : Binding) → name_at file i ≡ n → IsBound i b → IfSome (role_outside b) (RoleIs locals n)
+  named_outside locals i n Taken e h = tt
+  named_outside locals i n LocalOnly e h = tt
+  named_outside locals i n (Shared k) e h = from_number _ i n h e
+  named_outside locals i n (PointerField f) e h = from_number _ i n h e
+  named_outside locals i n (DataField f) e h = from_number _ i n h e
+  named_outside locals i n (Function f p) e h = from_number _ i n h e
+  named_outside locals i n (Auxiliary g t) e h = from_number _ i n h e
+  named_outside locals i n (Value g v) e h = from_number _ i n h e
+
+  named_either : (P : Role → Type 0) (r : Option Role) (b : Option Binding) → IfSome r P → ((x : Binding) → b ≡ Some x → IfSome (role_outside x) P) → IfSome (role_or r b) P
+  named_either P (Some r) b h k = h
+  named_either P None (Some x) h k = k x refl
+  named_either P None None h k = tt
+
+  -- a number of a scope keeps its name in the file
+  pub number_named : (s : Scope) (i : ℕ) (n : Text) → Ends s → slice_get s.names.names i ≡ Some n → name_at file i ≡ n
+  number_named s i n ends e = get_or_from_slice_get file.names.names i n [] (ends.names i n e)
+
+  pub role_is : (s : Scope) (n : Text) → Bound s → Ends s → IfSome (role_of s n) (RoleIs s.locals n)
+  unfolding role_of
+  role_is s n bound ends = by (place_of n s.names.names) refl
+    where
+      by : (o : Option ℕ) → place_of n s.names.names ≡ o → IfSome (role_at s o) (RoleIs s.locals n)
+      by None e = tt
+      by (Some i) e =
+          let named : name_at file i ≡ n = number_named s i n ends (place_found n s.names.names i e) in
+          named_either (RoleIs s.locals n) (role_inside 0 0 s.locals i) (slice_get s.bindings i) (IfSome_then (role_inside 0 0 s.locals i) (inside 0 0 s.locals i) (named_inside s.locals i n named))
+          (λ b there. named_outside s.locals i n b named (bound.each i b there))
+
+  -- ---- what is found by a name
+
+  fits_found : {A : Type 0} (E : Type 0) (Q : A → Type 0) (o : Option A) (at : ℕ) → (E → IfSome o Q) → Has (Found (λ x. E → Q x) (λ p. if_fits p o)) (if_fits at o)
+  fits_found E Q (Some x) at h = record { named = h; again = λ p. refl }
+  fits_found E Q None at h = tt
+
+  needed_found : {A : Type 0} (wanted : Role → Option A) (E : Type 0) (R : Role → Type 0) (Q : A → Type 0) (o : Option Role) (at : ℕ) → (E → IfSome o R) → ((r : Role) → R r → IfSome (wanted r) Q)
+      → Has (Found (λ x. E → Q x) (λ p. needed wanted p o)) (needed wanted at o)
+  needed_found wanted E R Q None at h k = tt
+  needed_found wanted E R Q (Some r) at h k = fits_found E Q (wanted r) at (λ e. k r (h e))
+
+  as_pointer_is : (locals : List Local) (n : Text) (r : Role) → RoleIs locals n r → IfSome (as_pointer r) (λ q. variable_name file locals q ≡ n)
+  as_pointer_is locals n (pointer_variable v) h = h
+  as_pointer_is locals n _ h = tt
+
+  as_pointer_local_is : (locals : List Local) (n : Text) (r : Role) → RoleIs locals n r → IfSome (as_pointer_local r) (λ q. pointer_name file locals q ≡ n)
+  as_pointer_local_is locals n (pointer_variable (LocalVar v)) h = h
+  as_pointer_local_is locals n (pointer_variable (SharedVar k)) h = tt
+  as_pointer_local_is locals n (data_local x) h = tt
+  as_pointer_local_is locals n (pointer_field f) h = tt
+  as_pointer_local_is locals n (data_field f) h = tt
+  as_pointer_local_is locals n (function f p) h = tt
+  as_pointer_local_is locals n (auxiliary g t) h = tt
+  as_pointer_local_is locals n (value g v) h = tt
+  as_pointer_local_is locals n no_value h = tt
+
+  as_data_is : (locals : List Local) (n : Text) (r : Role) → RoleIs locals n r → IfSome (as_data r) (λ x. data_name file locals x ≡ n)
+  as_data_is locals n (data_local x) h = h
+  as_data_is locals n _ h = tt
+
+  as_pointer_field_is : (locals : List Local) (n : Text) (r : Role) → RoleIs locals n r → IfSome (as_pointer_field r) (λ f. field_name file f ≡ n)
+  as_pointer_field_is locals n (pointer_field f) h = h
+  as_pointer_field_is locals n _ h = tt
+
+  as_data_field_is : (locals : List Local) (n : Text) (r : Role) → RoleIs locals n r → IfSome (as_data_field r) (λ f. field_name file f ≡ n)
+  as_data_field_is locals n (data_field f) h = h
+  as_data_field_is locals n _ h = tt
+
+  as_function_is : (locals : List Local) (n : Text) (r : Role) → RoleIs locals n r → IfSome (as_function r) (λ f. function_name file f.0 ≡ n)
+  as_function_is locals n (function f p) h = h
+  as_function_is locals n _ h = tt
+
+  as_auxiliary_is : (locals : List Local) (n : Text) (r : Role) → RoleIs locals n r → IfSome (as_auxiliary r) (λ g. auxiliary_name file g.0 ≡ n)
+  as_auxiliary_is locals n (auxiliary g t) h = h
+  as_auxiliary_is locals n _ h = tt
+
+  if_some : {A : Type 0} (Q : A → Type 0) (b : Bool) (x : A) → Q x → IfSome (if b then Some x else None) Q
+  if_some Q true x h = h
+  if_some Q false x h = tt
+
+  if_none : {A : Type 0} (Q : A → Type 0) (b : Bool) (x : A) → Q x → IfSome (if b then None else Some x) Q
+  if_none Q true x h = tt
+  if_none Q false x h = h
+
+  as_protecting_is : (locals : List Local) (n : Text) (r : Role) → RoleIs locals n r → IfSome (as_protecting r) (λ f. function_name file f ≡ n)
+  as_protecting_is locals n (function f p) h = if_some (λ f. function_name file f ≡ n) (p && not (f.0 == 0)) f h
+  as_protecting_is locals n _ h = tt
+
+  as_without_pointer_is : (locals : List Local) (n : Text) (r : Role) → RoleIs locals n r → IfSome (as_without_pointer r) (λ f. function_name file f ≡ n)
+  as_without_pointer_is locals n (function f p) h = if_none (λ f. function_name file f ≡ n) p f h
+  as_without_pointer_is locals n _ h = tt
+
+  of_field : (g h v : ℕ) (n : Text) (same : Bool) → (g == h) ≡ same → value_name file g v ≡ n → IfSome (if same then Some v else None) (λ w. value_name file h w ≡ n)
+  of_field g h v n true e f = subst (λ k. value_name file k v ≡ n) (eqb-true g h e) f
+  of_field g h v n false e f = tt
+
+  as_value_is : (g : ℕ) (locals : List Local) (n : Text) (r : Role) → RoleIs locals n r → IfSome (as_value_of g r) (λ v. value_name file g v ≡ n)
+  as_value_is g locals n (value h v) f = of_field h g v n (h == g) refl f
+  as_value_is g locals n _ f = tt
+
+  module _ (s : Scope) (n : Text) (at : ℕ) (bound : Bound s) where
+    pub any_found : Has (Found (λ r. Ends s → RoleIs s.locals n r) (λ p. needed any_role p (role_of s n))) (needed any_role at (role_of s n))
+    any_found = needed_found any_role (Ends s) (RoleIs s.locals n) (RoleIs s.locals n) (role_of s n) at (role_is s n bound) (λ r h. h)
+
+    pub pointer_found : Has (Found (λ q. Ends s → variable_name file s.locals q ≡ n) (pointer_at s n)) (pointer_at s n at)
+    unfolding pointer_at
+    pointer_found = needed_found as_pointer (Ends s) (RoleIs s.locals n) (λ q. variable_name file s.locals q ≡ n) (role_of s n) at (role_is s n bound) (as_pointer_is s.locals n)
+
+    pub pointer_local_found : Has (Found (λ q. Ends s → pointer_name file s.locals q ≡ n) (pointer_local_at s n)) (pointer_local_at s n at)
+    unfolding pointer_local_at
+    pointer_local_found = needed_found as_pointer_local (Ends s) (RoleIs s.locals n) (λ q. pointer_name file s.locals q ≡ n) (role_of s n) at (role_is s n bound) (as_pointer_local_is s.locals n)
+
+    pub data_found : Has (Found (λ x. Ends s → data_name file s.locals x ≡ n) (data_at s n)) (data_at s n at)
+    unfolding data_at
+    data_found = needed_found as_data (Ends s) (RoleIs s.locals n) (λ x. data_name file s.locals x ≡ n) (role_of s n) at (role_is s n bound) (as_data_is s.locals n)
+
+    pub pointer_field_found : Has (Found (λ f. Ends s → field_name file f ≡ n) (pointer_field_at s n)) (pointer_field_at s n at)
+    unfolding pointer_field_at
+    pointer_field_found = needed_found as_pointer_field (Ends s) (RoleIs s.locals n) (λ f. field_name file f ≡ n) (role_of s n) at (role_is s n bound) (as_pointer_field_is s.locals n)
+
+    pub data_field_found : Has (Found (λ f. Ends s → field_name file f ≡ n) (data_field_at s n)) (data_field_at s n at)
+    unfolding data_field_at
+    data_field_found = needed_found as_data_field (Ends s) (RoleIs s.locals n) (λ f. field_name file f ≡ n) (role_of s n) at (role_is s n bound) (as_data_field_is s.locals n)
+
+    pub function_found : Has (Found (λ f. Ends s → function_name file f.0 ≡ n) (function_at s n)) (function_at s n at)
+    unfolding function_at
+    function_found = needed_found as_function (Ends s) (RoleIs s.locals n) (λ f. function_name file f.0 ≡ n) (role_of s n) at (role_is s n bound) (as_function_is s.locals n)
+
+    pub protecting_found : Has (Found (λ f. Ends s → function_name file f ≡ n) (protecting_at s n)) (protecting_at s n at)
+    unfolding protecting_at
+    protecting_found = needed_found as_protecting (Ends s) (RoleIs s.locals n) (λ f. function_name file f ≡ n) (role_of s n) at (role_is s n bound) (as_protecting_is s.locals n)
+
+    pub without_pointer_found : Has (Found (λ f. Ends s → function_name file f ≡ n) (without_pointer_at s n)) (without_pointer_at s n at)
+    unfolding without_pointer_at
+    without_pointer_found = needed_found as_without_pointer (Ends s) (RoleIs s.locals n) (λ f. function_name file f ≡ n) (role_of s n) at (role_is s n bound) (as_without_pointer_is s.locals n)
+
+    pub auxiliary_found : Has (Found (λ g. Ends s → auxiliary_name file g.0 ≡ n) (auxiliary_at s n)) (auxiliary_at s n at)
+    unfolding auxiliary_at
+    auxiliary_found = needed_found as_auxiliary (Ends s) (RoleIs s.locals n) (λ g. auxiliary_name file g.0 ≡ n) (role_of s n) at (role_is s n bound) (as_auxiliary_is s.locals n)
+
+    pub value_found : (g : ℕ) → Has (Found (λ v. Ends s → value_name file g v ≡ n) (value_at s g n)) (value_at s g n at)
+    unfolding value_at
+    value_found g = needed_found (as_value_of g) (Ends s) (RoleIs s.locals n) (λ v. value_name file g v ≡ n) (role_of s n) at (role_is s n bound) (as_value_is g s.locals n)

@@ -1,0 +1,275 @@
+-- The tree of a unit's canonical text: each number is spelled by the name that it stands for, and optional parts that are empty are left out.
+use Rattle.std.specs.Prelude.{ℕ, Bool, true, false, not, Option, Some, None, List, [], ◌∷◌, map, filter, drop, get_or, slice_get, option_map}
+use Rattle.plc_base.specs.declared.ids.FieldId.{FieldId}
+use Rattle.plc_base.specs.declared.ids.FuncId.{FuncId}
+use Rattle.plc_lang.specs.Locals.{is_pointer, is_parameter}
+use Rattle.plc_lang.specs.declared.syntax.Var.{Var}
+use Rattle.plc_lang.specs.declared.syntax.Var.TheVariants as vars
+use Rattle.plc_lang.specs.declared.syntax.Num.{Num}
+use Rattle.plc_lang.specs.declared.syntax.Num.TheVariants as nums
+use Rattle.plc_lang.specs.declared.syntax.Arg.{Arg}
+use Rattle.plc_lang.specs.declared.syntax.Arg.TheVariants as args
+use Rattle.plc_lang.specs.declared.syntax.Rel.{Rel}
+use Rattle.plc_lang.specs.declared.syntax.Rel.TheVariants as rels
+use Rattle.plc_lang.specs.declared.syntax.GhostVal.{GhostVal}
+use Rattle.plc_lang.specs.declared.syntax.GhostVal.TheVariants as ghosts
+use Rattle.plc_lang.specs.declared.syntax.Primitive.{Primitive}
+use Rattle.plc_lang.specs.declared.syntax.Primitive.TheVariants as prims
+use Rattle.plc_lang.specs.declared.syntax.Cond.{Cond}
+use Rattle.plc_lang.specs.declared.syntax.Cond.TheVariants as conds
+use Rattle.plc_lang.specs.declared.syntax.Local.{Local}
+use Rattle.plc_lang.specs.declared.syntax.Field.{Field}
+use Rattle.plc_lang.specs.declared.syntax.Func.{Func}
+use Rattle.plc_lang.specs.declared.syntax.Ghost.{Ghost}
+use Rattle.plc_lang.specs.declared.syntax.Op.{Op}
+use Rattle.plc_lang.specs.declared.syntax.File.{File}
+use Rattle.plc_lang.specs.Statements.{Statement, One, Atomic, Call, If, Choose, Loop, Break, Return, Skip, Label, Statements, Empty, Then, Blocks, NoBlock, And}
+use Rattle.plc_auto.specs.declared.observer.Observer.{Observer}
+use Rattle.plc_auto.specs.declared.observer.Observer.TheVariants.{Plain, Hazard, Epoch}
+use Rattle.plc_syntax.specs.Trees.{Text, FieldTree, PointerField, DataField, Declares, WatchTree, UseHazard, UseEpoch, GhostKindTree, OneOf, OfThreads, Auxiliary, PlaceOf, AtomTree, NullAtom, NumberAtom, NameAtom, ValueTree, NullValue, NewValue, NumberValue, PlaceValue, SetTree, SetName, SetField, RefreshName, RefreshField, GhostValueTree, NameGhost, MeGhost, NoneGhost, GhostSetTree, SetGhost, InitialTree, InitialSet, InitialGhost, Comparison, SameAs, OtherThan, LessThan, NotLessThan, TestTree, Compares, ConditionTree, TestCondition, RefreshCondition, CasCondition, PrimitiveTree, SetPrimitive, RefreshPrimitive, GhostPrimitive, ActivePrimitive, AssumePrimitive, SkipPrimitive, ArgumentTree, NoArgument, NullArgument, NameArgument, ActiveArgument, StatementTree, PrimitiveStatement, AtomicStatement, CallStatement, IfStatement, ChooseStatement, LoopStatement, BreakStatement, ReturnStatement, LabelStatement, BlockTree, NoStatement, Then as ThenStatement, ElseTree, NoElse, ElseBlock, OrTree, NoOr, OrBlock, OpTree, Operates, FileTree}
+use Rattle.plc_parse.specs.declared.unit.Unit.{Unit as FileUnit}
+
+-- ---- names
+
+-- the name with a number among the names of the file
+abbrev pub name_at : File → ℕ → Text
+name_at file k = get_or file.names.names k []
+
+-- the name whose number a declaration has, if there is such a declaration
+abbrev pub name_of : File → Option ℕ → Text
+name_of file None = []
+name_of file (Some k) = name_at file k
+
+-- a field of the struct
+abbrev pub field_name : File → FieldId → Text
+field_name file f = name_of file (option_map (λ (x : Field). x.name) (slice_get file.fields f.0))
+
+-- a reclaimer function
+abbrev pub function_name : File → FuncId → Text
+function_name file f = name_of file (option_map (λ (x : Func). x.name) (slice_get file.funcs f.0))
+
+-- an auxiliary field
+abbrev pub auxiliary_name : File → ℕ → Text
+auxiliary_name file g = name_of file (option_map (λ (x : Ghost). x.name) (slice_get file.ghosts g))
+
+-- the numbers of the names of an auxiliary field's values
+abbrev pub values_of : Option Ghost → List ℕ
+values_of None = []
+values_of (Some g) = g.values
+
+-- a value of an auxiliary field
+abbrev pub value_name : File → ℕ → ℕ → Text
+value_name file g v = name_of file (slice_get (values_of (slice_get file.ghosts g)) v)
+
+-- a label
+abbrev pub label_name : File → ℕ → Text
+label_name file l = name_of file (slice_get file.labels l)
+
+-- a data local
+abbrev pub is_data : Local → Bool
+is_data l = not l.pointer
+
+-- a pointer local and a data local of an operation, which are counted apart
+abbrev pub pointer_name : File → List Local → ℕ → Text
+pointer_name file locals v = name_of file (option_map (λ (x : Local). x.name) (slice_get (filter is_pointer locals) v))
+
+abbrev pub data_name : File → List Local → ℕ → Text
+data_name file locals x = name_of file (option_map (λ (l : Local). l.name) (slice_get (filter is_data locals) x))
+
+-- a pointer variable
+abbrev pub variable_name : File → List Local → Var → Text
+variable_name file locals (vars.Shared i) = name_of file (slice_get file.shared i)
+variable_name file locals (vars.Local v) = pointer_name file locals v
+
+-- ---- parts without names
+
+-- a relation of data
+abbrev pub comparison : Rel → Comparison
+comparison rels.Eq = SameAs
+comparison rels.Ne = OtherThan
+comparison rels.Lt = LessThan
+comparison rels.Ge = NotLessThan
+
+-- a block that is no empty `else`
+abbrev pub else_block : Statements → BlockTree → ElseTree
+else_block Empty tree = NoElse
+else_block (Then l s b) tree = ElseBlock tree
+
+-- two blocks and those behind them; fewer have no text, so that empty ones stand for them
+abbrev pub choice_tree : OrTree → StatementTree
+choice_tree NoOr = ChooseStatement NoStatement NoStatement NoOr
+choice_tree (OrBlock a NoOr) = ChooseStatement a NoStatement NoOr
+choice_tree (OrBlock a (OrBlock b os)) = ChooseStatement a b os
+
+-- ---- primitives; what no text can say, as a call within a step, has an arbitrary tree
+
+module _ (file : File) (locals : List Local) where
+  -- a pointer variable that is read
+  abbrev pub from_variable : Var → ValueTree
+  from_variable q = PlaceValue (PlaceOf (variable_name file locals q) None)
+
+  -- a field of a pointer variable that is read
+  abbrev pub from_field : Var → FieldId → ValueTree
+  from_field q f = PlaceValue (PlaceOf (variable_name file locals q) (Some (field_name file f)))
+
+  -- what is put into a data local
+  abbrev pub value_tree : Num → ValueTree
+  value_tree (nums.Lit n) = NumberValue n
+  value_tree (nums.Local y) = PlaceValue (PlaceOf (data_name file locals y) None)
+
+  -- what is put into a data field, and what a data local is compared with
+  abbrev pub number_tree : Num → AtomTree
+  number_tree (nums.Lit n) = NumberAtom n
+  number_tree (nums.Local y) = NameAtom (data_name file locals y)
+
+  -- a pointer variable that is put into a field, and with which another is compared
+  abbrev pub pointer_tree : Var → AtomTree
+  pointer_tree q = NameAtom (variable_name file locals q)
+
+  -- an assignment
+  abbrev pub set_tree : Primitive → SetTree
+  set_tree (prims.Null p) = SetName (variable_name file locals p) NullValue
+  set_tree (prims.Copy p q) = SetName (variable_name file locals p) (from_variable q)
+  set_tree (prims.New p) = SetName (variable_name file locals p) NewValue
+  set_tree (prims.Load p q f) = SetName (variable_name file locals p) (from_field q f)
+  set_tree (prims.Store p f q) = SetField (variable_name file locals p) (field_name file f) (pointer_tree q)
+  set_tree (prims.StoreNull p f) = SetField (variable_name file locals p) (field_name file f) NullAtom
+  set_tree (prims.DataSet x e) = SetName (data_name file locals x) (value_tree e)
+  set_tree (prims.DataLoad x q f) = SetName (data_name file locals x) (from_field q f)
+  set_tree (prims.DataStore p f e) = SetField (variable_name file locals p) (field_name file f) (number_tree e)
+  set_tree k = SetName [] NullValue
+
+  -- what is put into an auxiliary field
+  abbrev pub ghost_value_tree : ℕ → GhostVal → GhostValueTree
+  ghost_value_tree g (ghosts.Value v) = NameGhost (value_name file g v)
+  ghost_value_tree g ghosts.Me = MeGhost
+  ghost_value_tree g ghosts.None = NoneGhost
+
+  -- an assignment to an auxiliary field
+  abbrev pub ghost_tree : Var → ℕ → GhostVal → GhostSetTree
+  ghost_tree p g v = SetGhost (variable_name file locals p) (auxiliary_name file g) (ghost_value_tree g v)
+
+  -- a test
+  abbrev pub test_tree : Primitive → TestTree
+  test_tree (prims.Eq p q) = Compares (variable_name file locals p) SameAs (pointer_tree q)
+  test_tree (prims.Ne p q) = Compares (variable_name file locals p) OtherThan (pointer_tree q)
+  test_tree (prims.IsNull p) = Compares (variable_name file locals p) SameAs NullAtom
+  test_tree (prims.NotNull p) = Compares (variable_name file locals p) OtherThan NullAtom
+  test_tree (prims.DataTest r x e) = Compares (data_name file locals x) (comparison r) (number_tree e)
+  test_tree k = Compares [] SameAs NullAtom
+
+  -- a primitive that is a statement, or stands in an atomic block
+  abbrev pub primitive_tree : Primitive → PrimitiveTree
+  primitive_tree (prims.Eq p q) = AssumePrimitive (test_tree (prims.Eq p q))
+  primitive_tree (prims.Ne p q) = AssumePrimitive (test_tree (prims.Ne p q))
+  primitive_tree (prims.IsNull p) = AssumePrimitive (test_tree (prims.IsNull p))
+  primitive_tree (prims.NotNull p) = AssumePrimitive (test_tree (prims.NotNull p))
+  primitive_tree (prims.DataTest r x e) = AssumePrimitive (test_tree (prims.DataTest r x e))
+  primitive_tree (prims.Refresh p q) = RefreshPrimitive (RefreshName (pointer_name file locals p) (PlaceOf (variable_name file locals q) None))
+  primitive_tree (prims.RefreshLoad p q f) = RefreshPrimitive (RefreshName (pointer_name file locals p) (PlaceOf (variable_name file locals q) (Some (field_name file f))))
+  primitive_tree (prims.RefreshStore p f q) = RefreshPrimitive (RefreshField (variable_name file locals p) (field_name file f) (variable_name file locals q))
+  primitive_tree (prims.Call f a) = SkipPrimitive
+  primitive_tree (prims.Done f) = SkipPrimitive
+  primitive_tree (prims.Active p) = ActivePrimitive (variable_name file locals p)
+  primitive_tree (prims.Ghost p g v) = GhostPrimitive (ghost_tree p g v)
+  primitive_tree k = SetPrimitive (set_tree k)
+
+  -- a pointer variable, or null
+  abbrev pub name_or_null : Option Var → Option Text
+  name_or_null None = None
+  name_or_null (Some q) = Some (variable_name file locals q)
+
+  -- a refresh into a variable, as a condition
+  abbrev pub refresh_condition : Primitive → ConditionTree
+  refresh_condition (prims.Refresh p q) = RefreshCondition (pointer_name file locals p) (PlaceOf (variable_name file locals q) None)
+  refresh_condition (prims.RefreshLoad p q f) = RefreshCondition (pointer_name file locals p) (PlaceOf (variable_name file locals q) (Some (field_name file f)))
+  refresh_condition k = RefreshCondition [] (PlaceOf [] None)
+
+  -- the condition of an `if`
+  abbrev pub condition_tree : Cond → ConditionTree
+  condition_tree (conds.Test k) = TestCondition (test_tree k)
+  condition_tree (conds.Refresh k) = refresh_condition k
+  condition_tree (conds.Cas active p old new) = CasCondition active (variable_name file locals p) (name_or_null old) (name_or_null new)
+
+  -- what a function is called with
+  abbrev pub argument_tree : Arg → Bool → ArgumentTree
+  argument_tree args.None active = NoArgument
+  argument_tree args.Null active = NullArgument
+  argument_tree (args.Var p) true = ActiveArgument (variable_name file locals p)
+  argument_tree (args.Var p) false = NameArgument (variable_name file locals p)
+
+  -- ---- statements
+
+  abbrev mutual
+    pub statement_tree : Statement → StatementTree
+    statement_tree (One k) = PrimitiveStatement (primitive_tree k)
+    statement_tree (Atomic ks) = AtomicStatement (map primitive_tree ks)
+    statement_tree (Call f a active d) = CallStatement (function_name file f) (argument_tree a active) (option_map (label_name file) d)
+    statement_tree (If c y n) = IfStatement (condition_tree c) (block_tree y) (else_block n (block_tree n))
+    statement_tree (Choose bs) = choice_tree (blocks_tree bs)
+    statement_tree (Loop b) = LoopStatement (block_tree b)
+    statement_tree Break = BreakStatement
+    statement_tree Return = ReturnStatement
+    statement_tree Skip = PrimitiveStatement SkipPrimitive
+    statement_tree (Label l) = LabelStatement (label_name file l)
+
+    pub block_tree : Statements → BlockTree
+    block_tree Empty = NoStatement
+    block_tree (Then l s b) = ThenStatement (statement_tree s) (block_tree b)
+
+    pub blocks_tree : Blocks → OrTree
+    blocks_tree NoBlock = NoOr
+    blocks_tree (And b bs) = OrBlock (block_tree b) (blocks_tree bs)
+
+-- ---- declarations
+
+-- a declaration of a pointer or of data
+abbrev pub declaration_tree : Text → Bool → FieldTree
+declaration_tree name true = PointerField name
+declaration_tree name false = DataField name
+
+-- a local that is no parameter
+abbrev pub is_declared : Local → Bool
+is_declared l = not l.param
+
+-- an operation
+abbrev pub op_tree : File → Op → OpTree
+op_tree file o = Operates (name_at file o.name)
+    (map (λ (l : Local). name_at file l.name) (filter is_parameter o.locals))
+    (map (λ (l : Local). declaration_tree (name_at file l.name) l.pointer) (filter is_declared o.locals))
+    (block_tree file o.locals o.body)
+
+-- a primitive of `init`
+abbrev pub initial_tree : File → Primitive → InitialTree
+initial_tree file (prims.Ghost p g v) = InitialGhost (ghost_tree file [] p g v)
+initial_tree file k = InitialSet (set_tree file [] k)
+
+-- an `init` without primitives is left out
+abbrev pub init_tree : File → List Primitive → Option (List InitialTree)
+init_tree file [] = None
+init_tree file (k ∷ ks) = Some (map (initial_tree file) (k ∷ ks))
+
+-- a field without values holds a thread
+abbrev pub ghost_kind : File → List ℕ → GhostKindTree
+ghost_kind file [] = OfThreads
+ghost_kind file (v ∷ vs) = OneOf (name_at file v) (map (name_at file) vs)
+
+-- what is observed
+abbrev pub watch_tree : File → Observer → Option WatchTree
+watch_tree file Plain = None
+watch_tree file (Hazard f) = Some (UseHazard (function_name file f))
+watch_tree file (Epoch e l) = Some (UseEpoch (function_name file e) (function_name file l))
+
+-- the whole file; its struct's name is the first that is declared, behind `retire`, which is declared from the start
+abbrev pub canonical_tree : FileUnit → FileTree
+canonical_tree u = record {
+  name = name_at u.file 1;
+  fields = map (λ (f : Field). declaration_tree (name_at u.file f.name) f.pointer) u.file.fields;
+  pointers = map (name_at u.file) u.file.shared;
+  functions = map (λ (f : Func). Declares (name_at u.file f.name) f.pointer) (drop 1 u.file.funcs);
+  watched = watch_tree u.file u.observer;
+  ghosts = map (λ (g : Ghost). Auxiliary (name_at u.file g.name) (ghost_kind u.file g.values)) u.file.ghosts;
+  starts = init_tree u.file u.file.init;
+  ops = map (op_tree u.file) u.file.ops;
+  outlined = None;
+}

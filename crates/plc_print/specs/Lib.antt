@@ -1,0 +1,4 @@
+pub mod Canonical
+pub mod Laws
+pub mod Pieces
+pub mod Text

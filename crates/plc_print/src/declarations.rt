@@ -1,0 +1,275 @@
+// The parts of a file, each with its optional parts left out where they are empty.
+ghost use Rattle.std.specs.Prelude.{◌≡◌, ◌∷◌, [], OnOk, IfOk, filter, map, drop};
+ghost use Rattle.plc_lang.specs.Locals.{is_parameter};
+ghost use Rattle.plc_syntax.specs.Trees.{Declares, Auxiliary, each_then, maybe_then, comma_name_then, field_then, struct_then, shared_then, function_then, watch_then, ghost_kind_then, ghost_then, initial_then, init_then, parameters_then, op_then};
+ghost use Rattle.plc_print.specs.Canonical.{name_at, declaration_tree, is_declared, op_tree, initial_tree, init_tree, ghost_kind, watch_tree};
+ghost use Rattle.plc_print.specs.Pieces.{Prints};
+
+use crate::names::{Reach, function_name, name_at};
+use crate::primitives::initial_line;
+use crate::statements::statements;
+use crate::tokens::{BEGIN, CLOSE, COMMA, END, OPEN, Piece, Printer, SEMICOLON};
+use plc_auto::Observer;
+use plc_lang::{Field, File, Func, Ghost, Local, Op, Prim};
+use plc_lex::{Keyword, Symbol};
+use std::alloc::{AllocError, Global};
+
+// A pointer or data.
+fn declaration(out: &mut Printer, name: &[u8], pointer: bool) -> Result<(), AllocError>
+    ensures { OnOk result (Prints out.old out.new (field_then (declaration_tree name.now pointer) [])) }
+{
+    let word = if pointer { Keyword::Ptr } else { Keyword::Data };
+    out.tokens(&[Piece::Word(word), Piece::Name(name), SEMICOLON])
+}
+
+// The fields of the struct.
+fn fields(out: &mut Printer, file: &File, fields: &[Field]) -> Result<(), AllocError>
+    ensures { OnOk result (Prints out.old out.new (each_then field_then (map (λ f. declaration_tree (name_at file.now f.name) f.pointer) fields.now) [])) }
+{
+    for field in fields {
+        declaration(out, name_at(file, field.name), field.pointer)?;
+    }
+    Ok(())
+}
+
+/// The struct.
+pub fn structure(out: &mut Printer, file: &File) -> Result<(), AllocError>
+    ensures { OnOk result (Prints out.old out.new (struct_then (name_at file.now 1) (map (λ f. declaration_tree (name_at file.now f.name) f.pointer) file.now.fields) [])) }
+{
+    out.tokens(&[
+        Piece::Word(Keyword::Struct),
+        Piece::Name(name_at(file, 1)),
+        BEGIN,
+    ])?;
+    fields(out, file, file.fields.as_slice())?;
+    out.token(END)
+}
+
+/// The shared pointers, by the numbers of their names.
+pub fn shared_pointers(out: &mut Printer, file: &File, numbers: &[u16]) -> Result<(), AllocError>
+    ensures { OnOk result (Prints out.old out.new (each_then shared_then (map (name_at file.now) numbers.now) [])) }
+{
+    for number in numbers {
+        let name = Piece::Name(name_at(file, *number));
+        out.tokens(&[Piece::Word(Keyword::Shared), name, SEMICOLON])?;
+    }
+    Ok(())
+}
+
+// A reclaimer function.
+fn function(out: &mut Printer, name: &[u8], pointer: bool) -> Result<(), AllocError>
+    ensures { OnOk result (Prints out.old out.new (function_then (Declares name.now pointer) [])) }
+{
+    let (word, name) = (Piece::Word(Keyword::Call), Piece::Name(name));
+    if pointer {
+        out.tokens(&[
+            word,
+            name,
+            OPEN,
+            Piece::Word(Keyword::Ptr),
+            CLOSE,
+            SEMICOLON,
+        ])
+    } else {
+        out.tokens(&[word, name, OPEN, CLOSE, SEMICOLON])
+    }
+}
+
+// Reclaimer functions.
+fn functions(out: &mut Printer, file: &File, funcs: &[Func]) -> Result<(), AllocError>
+    ensures { OnOk result (Prints out.old out.new (each_then function_then (map (λ f. Declares (name_at file.now f.name) f.pointer) funcs.now) [])) }
+{
+    for func in funcs {
+        function(out, name_at(file, func.name), func.pointer)?;
+    }
+    Ok(())
+}
+
+/// The reclaimer functions but `retire`, which is declared from the start.
+pub fn declared_functions(out: &mut Printer, file: &File) -> Result<(), AllocError>
+    ensures { OnOk result (Prints out.old out.new (each_then function_then (map (λ f. Declares (name_at file.now f.name) f.pointer) (drop 1 file.now.funcs)) [])) }
+{
+    match file.funcs.as_slice() {
+        [] => Ok(()),
+        [_retire, others @ ..] => functions(out, file, others),
+    }
+}
+
+/// What is observed.
+pub fn watch(out: &mut Printer, file: &File, observer: Observer) -> Result<(), AllocError>
+    ensures { OnOk result (Prints out.old out.new (maybe_then watch_then (watch_tree file.now observer) [])) }
+{
+    let word = Piece::Word(Keyword::Use);
+    match observer {
+        Observer::Plain => Ok(()),
+        Observer::Hazard(func) => {
+            let (scheme, name) = (
+                Piece::Word(Keyword::Hazard),
+                Piece::Name(function_name(file, func)),
+            );
+            out.tokens(&[word, scheme, OPEN, name, CLOSE, SEMICOLON])
+        }
+        Observer::Epoch(enter, leave) => {
+            let scheme = Piece::Word(Keyword::Epoch);
+            let enter = Piece::Name(function_name(file, enter));
+            let leave = Piece::Name(function_name(file, leave));
+            out.tokens(&[word, scheme, OPEN, enter, COMMA, leave, CLOSE, SEMICOLON])
+        }
+    }
+}
+
+// Names behind the first, by their numbers.
+fn comma_names(out: &mut Printer, file: &File, numbers: &[u16]) -> Result<(), AllocError>
+    ensures { OnOk result (Prints out.old out.new (each_then comma_name_then (map (name_at file.now) numbers.now) [])) }
+{
+    for number in numbers {
+        out.tokens(&[COMMA, Piece::Name(name_at(file, *number))])?;
+    }
+    Ok(())
+}
+
+// What an auxiliary field holds, by the numbers of its values' names.
+fn kind(out: &mut Printer, file: &File, values: &[u16]) -> Result<(), AllocError>
+    ensures { OnOk result (Prints out.old out.new (ghost_kind_then (ghost_kind file.now values.now) [])) }
+{
+    match values {
+        [] => out.token(Piece::Word(Keyword::Thread)),
+        [first, others @ ..] => {
+            out.tokens(&[BEGIN, Piece::Name(name_at(file, *first))])?;
+            comma_names(out, file, others)?;
+            out.token(END)
+        }
+    }
+}
+
+// An auxiliary field.
+fn auxiliary(out: &mut Printer, file: &File, field: &Ghost) -> Result<(), AllocError>
+    ensures { OnOk result (Prints out.old out.new (ghost_then (Auxiliary (name_at file.now field.now.name) (ghost_kind file.now field.now.values)) [])) }
+{
+    out.tokens(&[
+        Piece::Word(Keyword::Ghost),
+        Piece::Name(name_at(file, field.name)),
+    ])?;
+    kind(out, file, field.values.as_slice())?;
+    out.token(SEMICOLON)
+}
+
+/// The auxiliary fields.
+pub fn auxiliaries(out: &mut Printer, file: &File, fields: &[Ghost]) -> Result<(), AllocError>
+    ensures { OnOk result (Prints out.old out.new (each_then ghost_then (map (λ g. Auxiliary (name_at file.now g.name) (ghost_kind file.now g.values)) fields.now) [])) }
+{
+    for field in fields {
+        auxiliary(out, file, field)?;
+    }
+    Ok(())
+}
+
+// The primitives of `init`.
+fn initials(out: &mut Printer, file: &File, prims: &[Prim]) -> Result<(), AllocError>
+    ensures { OnOk result (Prints out.old out.new (each_then initial_then (map (initial_tree file.now) prims.now) [])) }
+{
+    for prim in prims {
+        initial_line(out, file, *prim)?;
+    }
+    Ok(())
+}
+
+/// `init`, which is left out where it is empty.
+pub fn start(out: &mut Printer, file: &File) -> Result<(), AllocError>
+    ensures { OnOk result (Prints out.old out.new (maybe_then init_then (init_tree file.now file.now.init) [])) }
+{
+    match file.init.as_slice() {
+        [] => Ok(()),
+        [_first, _others @ ..] => {
+            out.tokens(&[Piece::Word(Keyword::Init), BEGIN])?;
+            initials(out, file, file.init.as_slice())?;
+            out.token(END)
+        }
+    }
+}
+
+// The numbers of the names of the parameters.
+fn parameter_numbers(alloc: Global, locals: &[Local]) -> Result<Vec<u16>, AllocError>
+    ensures { IfOk result (λ numbers. numbers.items ≡ map (λ l. l.name) (filter is_parameter locals.now)) }
+{
+    let mut numbers = Vec::new(alloc);
+    for local in locals {
+        if local.param {
+            numbers.push(local.name)?;
+        }
+    }
+    Ok(numbers)
+}
+
+// Names with a comma before each but the first, by their numbers.
+fn parted_names(out: &mut Printer, file: &File, numbers: &[u16]) -> Result<(), AllocError>
+    ensures { OnOk result (Prints out.old out.new (parameters_then (map (name_at file.now) numbers.now) [])) }
+{
+    match numbers {
+        [] => Ok(()),
+        [first, others @ ..] => {
+            out.token(Piece::Name(name_at(file, *first)))?;
+            comma_names(out, file, others)
+        }
+    }
+}
+
+// The parameters of an operation.
+fn parameters(
+    alloc: Global,
+    out: &mut Printer,
+    file: &File,
+    locals: &[Local],
+) -> Result<(), AllocError>
+    ensures { OnOk result (Prints out.old out.new (parameters_then (map (λ l. name_at file.now l.name) (filter is_parameter locals.now)) [])) }
+{
+    let numbers = parameter_numbers(alloc, locals)?;
+    parted_names(out, file, &numbers)
+}
+
+// The locals of an operation that are no parameters.
+fn locals(out: &mut Printer, file: &File, locals: &[Local]) -> Result<(), AllocError>
+    ensures { OnOk result (Prints out.old out.new (each_then field_then (map (λ l. declaration_tree (name_at file.now l.name) l.pointer) (filter is_declared locals.now)) [])) }
+{
+    for local in locals {
+        if !local.param {
+            declaration(out, name_at(file, local.name), local.pointer)?;
+        }
+    }
+    Ok(())
+}
+
+// An operation.
+fn operation(alloc: Global, out: &mut Printer, file: &File, op: &Op) -> Result<(), AllocError>
+    ensures { OnOk result (Prints out.old out.new (op_then (op_tree file.now op.now) [])) }
+{
+    let reach = Reach {
+        file,
+        locals: op.locals.as_slice(),
+    };
+    out.tokens(&[
+        Piece::Word(Keyword::Op),
+        Piece::Name(name_at(file, op.name)),
+        OPEN,
+    ])?;
+    parameters(alloc, out, file, reach.locals)?;
+    out.tokens(&[CLOSE, BEGIN])?;
+    locals(out, file, reach.locals)?;
+    statements(out, reach, &op.body)?;
+    out.token(END)
+}
+
+/// The operations.
+pub fn operations(
+    alloc: Global,
+    out: &mut Printer,
+    file: &File,
+    ops: &[Op],
+) -> Result<(), AllocError>
+    ensures { OnOk result (Prints out.old out.new (each_then op_then (map (op_tree file.now) ops.now) [])) }
+{
+    for op in ops {
+        operation(alloc, out, file, op)?;
+    }
+    Ok(())
+}
