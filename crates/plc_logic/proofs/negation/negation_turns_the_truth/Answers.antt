@@ -1,0 +1,28 @@
+use Rattle.std.proofs.Common.{◌≡◌, Bool, true, false, not, refl, ap}
+use Rattle.plc_logic.specs.declared.clause.Literal.{Literal}
+use Rattle.plc_logic.specs.declared.clause.Literal.TheVariants.{Same, Retired}
+use Rattle.plc_logic.specs.Negation.{statement_of, affirms, claim, negation}
+use Rattle.plc_logic.proofs.negation.negation_turns_the_truth.Goals as goal
+
+not_twice : (b : Bool) → not (not b) ≡ b
+not_twice true = refl
+not_twice false = refl
+
+is_whole : (l : Literal) → claim (statement_of l) (affirms l) ≡ l
+is_whole (Same a b is_so) = refl
+is_whole (Retired x is_so) = refl
+
+same_terms : (l : Literal) → statement_of (negation l) ≡ statement_of l
+same_terms (Same a b is_so) = refl
+same_terms (Retired x is_so) = refl
+
+other_truth : (l : Literal) → affirms (negation l) ≡ not (affirms l)
+other_truth (Same a b is_so) = refl
+other_truth (Retired x is_so) = refl
+
+is_turned_back : (l : Literal) → negation (negation l) ≡ l
+is_turned_back (Same a b is_so) = ap (Same a b) (not_twice is_so)
+is_turned_back (Retired x is_so) = ap (Retired x) (not_twice is_so)
+
+pub returns : goal.returns
+returns c = record { whole = is_whole; about = same_terms; truth = other_truth; twice = is_turned_back }

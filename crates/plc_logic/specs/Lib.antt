@@ -1,0 +1,3 @@
+pub mod Negation
+pub mod Labels
+pub mod Fit

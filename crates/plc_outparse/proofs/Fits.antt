@@ -1,0 +1,463 @@
+-- An outline that has a meaning fits its file.
+use Rattle.std.proofs.Common.{◌≡◌, ◌==◌, ℕ, suc, ◌+◌, ◌≤◌, ◌<◌, Bool, true, false, ◌||◌, if◌then◌else◌, Option, Some, None, Result, Ok, Err, List, [], ◌∷◌, length, slice_get, All, refl, sym, ◌∙◌, ap, subst, arith}
+use Rattle.std.specs.List.{position_from}
+use Rattle.std.specs.Str.{bytes_eq}
+use Rattle.std.proofs.lemmas.Bool.{eqb-true, eqb-false}
+use Rattle.std.proofs.lemmas.List.{length-append}
+use Rattle.std.proofs.lemmas.List.Elements.{All-nil, All-cons, All-append}
+use Rattle.std.proofs.lemmas.List.Quantifiers.{position-Some}
+use Rattle.plc_base.specs.Names.{NameList, place_of}
+use Rattle.plc_base.specs.declared.limits.What1.{What1}
+use Rattle.plc_lang.specs.declared.syntax.Local.{Local}
+use Rattle.plc_lang.specs.declared.syntax.Op.{Op}
+use Rattle.plc_lang.specs.declared.syntax.File.{File}
+use Rattle.plc_syntax.specs.Trees.{Text, PlaceOf, TermTree, PlaceTerm, NullTerm, NumberTerm, MeTerm, NoneTerm, RetiredFlag, LiteralTree, FlagLiteral, NotLiteral, EqualityLiteral, BoundTree, NoBound, AllOf, ClauseTree, Claims, ItemTree, InvariantItem, OverItem, AtItem, OutlineTree, Outlined}
+use Rattle.plc_scope.specs.declared.fault.ParseFault.{ParseFault}
+use Rattle.plc_scope.specs.declared.fault.ParseFault.TheVariants as faults
+use Rattle.plc_scope.specs.declared.scope.Scope.{Scope}
+use Rattle.plc_scope.specs.declared.binding.Binding.{Binding}
+use Rattle.plc_scope.specs.declared.binding.Binding.TheVariants.{Taken, Shared, PointerField, DataField, Function, Auxiliary, Value, LocalOnly}
+use Rattle.plc_scope.specs.Scope.{◌>>=◌, if_fits, if_new, with_last}
+use Rattle.plc_logic.specs.declared.clause.Base.{Base}
+use Rattle.plc_logic.specs.declared.clause.Base.TheVariants as bases
+use Rattle.plc_logic.specs.declared.clause.Term.{Term}
+use Rattle.plc_logic.specs.declared.clause.Sort.{Sort}
+use Rattle.plc_logic.specs.declared.clause.Sort.TheVariants as sorts
+use Rattle.plc_logic.specs.declared.clause.Literal.{Literal}
+use Rattle.plc_logic.specs.declared.clause.Clause.{Clause}
+use Rattle.plc_logic.specs.declared.clause.Site.{Site}
+use Rattle.plc_logic.specs.declared.clause.Site.TheVariants.{Over, At}
+use Rattle.plc_logic.specs.declared.clause.Item.{Item}
+use Rattle.plc_logic.specs.declared.clause.Outline.{Outline}
+use Rattle.plc_logic.specs.Fit.{Words, IsNode, HasSort, pointer_sort, ghost_sort, LiteralFits, ClauseFits, InvariantFits, SiteFits, ItemFits, OutlineFits}
+use Rattle.plc_logic.specs.Labels.{block_labels, labels_by_op, has_label, op_of_label}
+use Rattle.plc_outparse.specs.declared.kind.Kind.{Kind}
+use Rattle.plc_outparse.specs.declared.kind.Kind.TheVariants as kinds
+use Rattle.plc_outparse.specs.Fit.{has_none, NamesOf, OutlinesFit}
+use Rattle.plc_outparse.specs.Reach.{Reach, auxiliary_sort, kind_outside, kind_of_local, kind_inside, kind_or, declared_at, declared_kind, kind_or_bound, kind_of, known, as_base, base_at, base_term, as_term, as_field}
+use Rattle.plc_outparse.specs.Sizes.{term_size, literal_size, bound_size, depth_size}
+use Rattle.plc_outparse.specs.Meaning.{within_limit, stands_at, in_turn, me_means, term_means, same_sort, sort_place, second_means, literal_means, counted, Literals, literal_step, none_bound, if_free, bound_with, second_bound, bound_means, reach, clause_means, clause_line_means, op_named, op_at, locals_or_none, locals_of, label_named, with_op, label_at, if_same_op, Labels, label_step, labels_mean, Parts, with_invariant, with_item, item_step, depth_means, outline_means}
+
+-- what holds of an answer, if there is one
+abbrev Has : {A : Type 0} → (A → Type 0) → Result A ParseFault → Type 0
+Has P (Ok x) = P x
+Has P (Err e) = Unit {0}
+
+abbrev HasSome : {A : Type 0} → (A → Type 0) → Option A → Type 0
+HasSome P (Some x) = P x
+HasSome P None = Unit {0}
+
+if_some : {A : Type 0} (P : A → Type 0) (b : Bool) (x : A) (o : Option A) → P x → HasSome P o → HasSome P (if b then Some x else o)
+if_some P true x o h g = h
+if_some P false x o h g = g
+
+next : {A B : Type 0} (P : A → Type 0) (Q : B → Type 0) (r : Result A ParseFault) (f : A → Result B ParseFault) → Has P r → ((x : A) → P x → Has Q (f x)) → Has Q (r >>= f)
+next P Q (Ok x) f h k = k x h
+next P Q (Err e) f h k = tt
+
+any : {A B : Type 0} (Q : B → Type 0) (r : Result A ParseFault) (f : A → Result B ParseFault) → ((x : A) → Has Q (f x)) → Has Q (r >>= f)
+any Q (Ok x) f k = k x
+any Q (Err e) f k = tt
+
+has_along : {A : Type 0} (P : A → Type 0) (r : Result A ParseFault) (x : A) → r ≡ Ok x → Has P r → P x
+has_along P (Ok y) x e h = let same : y ≡ x = cc in subst P same h
+has_along P (Err f) x e h = absurd cc
+
+fitting : {A : Type 0} (P : A → Type 0) (at : ℕ) (o : Option A) → HasSome P o → Has P (if_fits at o)
+fitting P at (Some x) h = h
+fitting P at None h = tt
+
+if_below : {A : Type 0} (P : A → Type 0) (n limit : ℕ) (e : ParseFault) (r : Result A ParseFault) (past : Bool) → (n == limit) ≡ past → n ≤ limit → (n < limit → Has P r) → Has P (if past then Err e else r)
+if_below P n limit e r true is le h = tt
+if_below P n limit e r false is le h = h (omega (arith, eqb-false n limit is))
+
+-- within a limit fewer stand before
+below : {A : Type 0} (P : A → Type 0) (n limit : ℕ) (what : What1) (r : Result A ParseFault) → n ≤ limit → (n < limit → Has P r) → Has P (within_limit n limit what r)
+below P n limit what r le h = if_below P n limit _ r (n == limit) refl le h
+
+turns : {S X : Type 0} (P : S → Type 0) (step : S → X → Result S ParseFault) → ((s : S) (x : X) → P s → Has P (step s x)) → (s : S) (xs : List X) → P s → Has P (in_turn step s xs)
+turns P step keeps s [] h = h
+turns P step keeps s (x ∷ xs) h = next P P (step s x) _ (keeps s x h) (λ t k. turns P step keeps t xs k)
+
+-- ---- names
+
+-- what is known of a name
+abbrev KindFits : Words → Kind → Type 0
+KindFits w (kinds.Node b) = IsNode w b
+KindFits w (kinds.Data i) = (l : Local) × (slice_get w.locals i ≡ Some l) × (l.pointer ≡ false)
+KindFits w (kinds.Field f s) = (d : _) × (slice_get w.file.fields f.0 ≡ Some d) × (s ≡ pointer_sort d.pointer)
+KindFits w (kinds.Auxiliary g s) = (h : _) × (slice_get w.file.ghosts g ≡ Some h) × (s ≡ ghost_sort g h.values)
+KindFits w (kinds.Value g v) = (h : _) × (slice_get w.file.ghosts g ≡ Some h) × (v < length h.values)
+KindFits w kinds.NoValue = Unit {0}
+
+ghost_sorts : (g : ℕ) (t : Bool) (vs : List ℕ) → t ≡ has_none vs → auxiliary_sort g t ≡ ghost_sort g vs
+ghost_sorts g t [] e = ap (auxiliary_sort g) e
+ghost_sorts g t (v ∷ vs) e = ap (auxiliary_sort g) e
+
+local_fits : (w : Words) (i : ℕ) (l : Local) (b : Bool) → l.pointer ≡ b → slice_get w.locals i ≡ Some l → KindFits w (kind_of_local i b)
+local_fits w i l true p e = (l, e, p)
+local_fits w i l false p e = (l, e, p)
+
+inside_fits : (w : Words) (number i : ℕ) (ls : List Local) → ((j : ℕ) (l : Local) → slice_get ls j ≡ Some l → slice_get w.locals (i + j) ≡ Some l) → HasSome (KindFits w) (kind_inside i ls number)
+inside_fits w number i [] h = tt
+inside_fits w number i (l ∷ ls) h =
+    let here : i + 0 ≡ i = omega arith in
+    if_some (KindFits w) (l.name == number) (kind_of_local i l.pointer) (kind_inside (i + 1) ls number) (local_fits w i l l.pointer refl (ap (slice_get w.locals) (sym here) ∙ h 0 l refl))
+    (inside_fits w number (i + 1) ls (λ j k e. let there : i + 1 + j ≡ i + suc j = omega arith in ap (slice_get w.locals) there ∙ h (suc j) k e))
+
+outside_fits : (w : Words) (s : Scope) → NamesOf s w.file → (i : ℕ) (b : Binding) → slice_get s.bindings i ≡ Some b → HasSome (KindFits w) (kind_outside b)
+outside_fits w s names i Taken e = tt
+outside_fits w s names i (Shared k) e = names.shared i k e
+outside_fits w s names i (PointerField f) e = let d = names.pointer_field i f e in (d.0, d.1, ap pointer_sort (sym d.2))
+outside_fits w s names i (DataField f) e = let d = names.data_field i f e in (d.0, d.1, ap pointer_sort (sym d.2))
+outside_fits w s names i (Function f p) e = tt
+outside_fits w s names i (Auxiliary g t) e = let h = names.auxiliary i g t e in (h.0, h.1, ghost_sorts g t h.0.values h.2)
+outside_fits w s names i (Value g v) e = names.value i g v e
+outside_fits w s names i LocalOnly e = tt
+
+either_fits : (w : Words) (a : Option Kind) (b : Option Binding) → HasSome (KindFits w) a → ((x : Binding) → b ≡ Some x → HasSome (KindFits w) (kind_outside x)) → HasSome (KindFits w) (kind_or a b)
+either_fits w (Some k) b h g = h
+either_fits w None (Some x) h g = g x refl
+either_fits w None None h g = tt
+
+number_fits : (w : Words) (s : Scope) → NamesOf s w.file → (o : Option ℕ) → HasSome (KindFits w) (declared_at s w.locals o)
+number_fits w s names None = tt
+number_fits w s names (Some i) =
+    either_fits w (kind_inside 0 w.locals i) (slice_get s.bindings i) (inside_fits w i 0 w.locals (λ j l e. let here : 0 + j ≡ j = omega arith in ap (slice_get w.locals) here ∙ e)) (outside_fits w s names i)
+
+-- a place in a list is below its length
+place_below : (name : Text) (names : List Text) (i : ℕ) → place_of name names ≡ Some i → i < length names
+place_below name names i e = (position-Some (bytes_eq name) names i name e).0
+
+bound_fits : (w : Words) (o : Option ℕ) (k : Option Kind) → ((i : ℕ) → o ≡ Some i → i < w.bound) → HasSome (KindFits w) k → HasSome (KindFits w) (kind_or_bound o k)
+bound_fits w (Some i) k h g = h i refl
+bound_fits w None k h g = g
+
+-- what is in reach stands for words of the file
+abbrev words : File → Reach → Words
+words file r = record { file = file; locals = r.locals; in_operation = r.in_operation; bound = length r.bound.names }
+
+module _ (file : File) (r : Reach) (names : NamesOf r.scope file) where
+  abbrev w : Words
+  w = words file r
+
+  kind_fits : (name : Text) → HasSome (KindFits w) (kind_of r name)
+  unfolding kind_of declared_kind
+  kind_fits name = bound_fits w (place_of name r.bound.names) (declared_kind r.scope r.locals name) (place_below name r.bound.names) (number_fits w r.scope names (place_of name r.scope.names.names))
+
+  known_fits : (at : ℕ) (o : Option Kind) → HasSome (KindFits w) o → Has (KindFits w) (known at o)
+  known_fits at (Some k) h = h
+  known_fits at None h = tt
+
+  base_fits : (k : Kind) → KindFits w k → HasSome (IsNode w) (as_base k)
+  base_fits (kinds.Node b) h = h
+  base_fits (kinds.Data i) h = tt
+  base_fits (kinds.Field f s) h = tt
+  base_fits (kinds.Auxiliary g s) h = tt
+  base_fits (kinds.Value g v) h = tt
+  base_fits kinds.NoValue h = tt
+
+  base_is_node : (name : Text) (at : ℕ) → Has (IsNode w) (base_at r name at)
+  unfolding base_at
+  base_is_node name at = next (KindFits w) (IsNode w) (known at (kind_of r name)) _ (known_fits at (kind_of r name) (kind_fits name)) (λ k h. fitting (IsNode w) at (as_base k) (base_fits k h))
+
+  -- ---- terms
+
+  -- a term has its sort
+  abbrev Sorted : Term × Sort → Type 0
+  Sorted t = HasSort w t.0 t.1
+
+  node_sorted : (b : Base) → IsNode w b → HasSort w (base_term b) sorts.Node
+  node_sorted (bases.Shared i) h = (h, refl)
+  node_sorted (bases.Local i) h = (h.0, h.1, ap pointer_sort (sym h.2))
+  node_sorted (bases.Bound i) h = (h, refl)
+
+  alone_sorted : (k : Kind) → KindFits w k → HasSome Sorted (as_term k)
+  alone_sorted (kinds.Node b) h = node_sorted b h
+  alone_sorted (kinds.Data i) h = (h.0, h.1, ap pointer_sort (sym h.2))
+  alone_sorted (kinds.Field f s) h = tt
+  alone_sorted (kinds.Auxiliary g s) h = tt
+  alone_sorted (kinds.Value g v) h = (h.0, h.1, h.2, refl)
+  alone_sorted kinds.NoValue h = tt
+
+  field_sorted : (b : Base) (k : Kind) → IsNode w b → KindFits w k → HasSome Sorted (as_field b k)
+  field_sorted b (kinds.Node c) n h = tt
+  field_sorted b (kinds.Data i) n h = tt
+  field_sorted b (kinds.Field f s) n h = (n, h.0, h.1, h.2)
+  field_sorted b (kinds.Auxiliary g s) n h = (n, h.0, h.1, h.2)
+  field_sorted b (kinds.Value g v) n h = tt
+  field_sorted b kinds.NoValue n h = tt
+
+  me_sorted : (b : Bool) (at : ℕ) → r.in_operation ≡ b → Has Sorted (me_means b at)
+  me_sorted true at e = (e, refl)
+  me_sorted false at e = tt
+
+  term_sorted : (at : ℕ) (t : TermTree) → Has Sorted (term_means r at t)
+  unfolding term_means
+  term_sorted at (PlaceTerm (PlaceOf n None)) =
+      next (KindFits w) Sorted (known at (kind_of r n)) _ (known_fits at (kind_of r n) (kind_fits n)) (λ k h. fitting Sorted at (as_term k) (alone_sorted k h))
+  term_sorted at (PlaceTerm (PlaceOf n (Some f))) =
+      next (IsNode w) Sorted (base_at r n at) _ (base_is_node n at) (λ b node.
+      next (KindFits w) Sorted (known (at + 2) (kind_of r f)) _ (known_fits (at + 2) (kind_of r f) (kind_fits f)) (λ k h. fitting Sorted (at + 2) (as_field b k) (field_sorted b k node h)))
+  term_sorted at NullTerm = refl
+  term_sorted at (NumberTerm n) = refl
+  term_sorted at MeTerm = me_sorted r.in_operation at refl
+  term_sorted at NoneTerm = refl
+
+  same_sorts : (a b : Sort) → same_sort a b ≡ true → a ≡ b
+  same_sorts sorts.Node sorts.Node e = refl
+  same_sorts sorts.Node sorts.Number e = absurd cc
+  same_sorts sorts.Node sorts.Thread e = absurd cc
+  same_sorts sorts.Node (sorts.Value h) e = absurd cc
+  same_sorts sorts.Number sorts.Node e = absurd cc
+  same_sorts sorts.Number sorts.Number e = refl
+  same_sorts sorts.Number sorts.Thread e = absurd cc
+  same_sorts sorts.Number (sorts.Value h) e = absurd cc
+  same_sorts sorts.Thread sorts.Node e = absurd cc
+  same_sorts sorts.Thread sorts.Number e = absurd cc
+  same_sorts sorts.Thread sorts.Thread e = refl
+  same_sorts sorts.Thread (sorts.Value h) e = absurd cc
+  same_sorts (sorts.Value g) sorts.Node e = absurd cc
+  same_sorts (sorts.Value g) sorts.Number e = absurd cc
+  same_sorts (sorts.Value g) sorts.Thread e = absurd cc
+  same_sorts (sorts.Value g) (sorts.Value h) e = ap sorts.Value (eqb-true g h e)
+
+  if_sorted : (wanted : Sort) (at : ℕ) (t : Term × Sort) (b : Bool) → same_sort t.1 wanted ≡ b → Sorted t → Has (λ x. HasSort w x wanted) (if b then Ok t.0 else Err (faults.WrongSort at))
+  if_sorted wanted at t true e h = subst (HasSort w t.0) (same_sorts t.1 wanted e) h
+  if_sorted wanted at t false e h = tt
+
+  second_sorted : (wanted : Sort) (at : ℕ) (t : TermTree) → Has (λ x. HasSort w x wanted) (second_means r wanted at t)
+  unfolding second_means
+  second_sorted wanted at t = next Sorted (λ x. HasSort w x wanted) (term_means r at t) _ (term_sorted at t) (λ x h. if_sorted wanted (sort_place at t) x (same_sort x.1 wanted) refl h)
+
+  -- ---- literals
+
+  literal_fits : (at : ℕ) (l : LiteralTree) → Has (LiteralFits w) (literal_means r at l)
+  unfolding literal_means
+  literal_fits at (FlagLiteral (RetiredFlag n)) = next (IsNode w) (LiteralFits w) (base_at r n (at + 2)) _ (base_is_node n (at + 2)) (λ b h. h)
+  literal_fits at (NotLiteral (RetiredFlag n)) = next (IsNode w) (LiteralFits w) (base_at r n (at + 1 + 2)) _ (base_is_node n (at + 1 + 2)) (λ b h. h)
+  literal_fits at (EqualityLiteral a e b) =
+      next Sorted (LiteralFits w) (term_means r at a) _ (term_sorted at a) (λ x h.
+      next (λ y. HasSort w y x.1) (LiteralFits w) (second_means r x.1 (at + term_size a + 1) b) _ (second_sorted x.1 (at + term_size a + 1) b) (λ y k. (x.1, h, k)))
+
+  record CountedFits (n : ℕ) (l : Literal) : Type 0 where
+    fewer : n < 16
+    fits : LiteralFits w l
+
+  no_literal : (n : ℕ) (b c : Bool) (e f g : ParseFault) → Has (CountedFits n) (if b then Err e else (if c then Err f else Err g))
+  no_literal n true c e f g = tt
+  no_literal n false true e f g = tt
+  no_literal n false false e f g = tt
+
+  counted_fits : (n at : ℕ) (m : Result Literal ParseFault) → n ≤ 16 → Has (LiteralFits w) m → Has (CountedFits n) (counted n at m)
+  counted_fits n at (Ok l) le h = below (CountedFits n) n 16 _ (Ok l) le (λ less. record { fewer = less; fits = h })
+  counted_fits n at (Err e) le h = no_literal n (stands_at at e) (n == 16) _ _ _
+
+  record LiteralsFit (s : Literals) : Type 0 where
+    count : length s.0 ≤ 16
+    each : All (LiteralFits w) s.0
+
+  step_fits : (s : Literals) (l : LiteralTree) → LiteralsFit s → Has LiteralsFit (literal_step r s l)
+  unfolding literal_step
+  step_fits s l h = next (CountedFits (length s.0)) LiteralsFit (counted (length s.0) (s.1 + 1) (literal_means r (s.1 + 1) l)) _ (counted_fits (length s.0) (s.1 + 1) (literal_means r (s.1 + 1) l) h.count (literal_fits (s.1 + 1) l)) (λ x k.
+      let count = length-append s.0 (x ∷ []) in
+      record { count = omega (arith, k.fewer); each = All-append (LiteralFits w) s.0 (x ∷ []) h.each (All-cons (LiteralFits w) x [] k.fits (All-nil (LiteralFits w))) })
+
+  first_fits : (x : Literal) (at : ℕ) → LiteralFits w x → LiteralsFit (x ∷ [], at)
+  first_fits x at h = record { count = omega arith; each = All-cons (LiteralFits w) x [] h (All-nil (LiteralFits w)) }
+
+-- ---- clauses
+
+-- at most so many quantified names
+abbrev AtMost : ℕ → NameList → Type 0
+AtMost n bound = length bound.names ≤ n
+
+new_bound : (n at : ℕ) (bound : NameList) (name : Text) (o : Option ℕ) → AtMost n bound → Has (AtMost (n + 1)) (if_new o at (with_last bound name))
+new_bound n at bound name None h = let count = length-append bound.names (name ∷ []) in omega arith
+new_bound n at bound name (Some i) h = tt
+
+free_bound : (n at : ℕ) (bound : NameList) (name : Text) (k : Option Kind) → AtMost n bound → Has (AtMost (n + 1)) (if_free at k (if_new (place_of name bound.names) at (with_last bound name)))
+free_bound n at bound name None h = new_bound n at bound name (place_of name bound.names) h
+free_bound n at bound name (Some k) h = tt
+
+bound_few : (s : Scope) (ls : List Local) (n at : ℕ) (bound : NameList) (name : Text) → AtMost n bound → Has (AtMost (n + 1)) (bound_with s ls bound at name)
+unfolding bound_with
+bound_few s ls n at bound name h = free_bound n at bound name (declared_kind s ls name) h
+
+second_few : (s : Scope) (ls : List Local) (at : ℕ) (bound : NameList) (m : Option Text) → AtMost 1 bound → Has (AtMost 2) (second_bound s ls bound at m)
+second_few s ls at bound None h = omega arith
+second_few s ls at bound (Some m) h = bound_few s ls 1 at bound m h
+
+all_bound_few : (s : Scope) (ls : List Local) (at : ℕ) (b : BoundTree) → Has (AtMost 2) (bound_means s ls at b)
+unfolding bound_means
+all_bound_few s ls at NoBound = omega arith
+all_bound_few s ls at (AllOf n m) = next (AtMost 1) (AtMost 2) (bound_with s ls none_bound (at + 1) n) _ (bound_few s ls 0 (at + 1) none_bound n (omega arith)) (λ bound h. second_few s ls (at + 3) bound m h)
+
+module _ (file : File) (s : Scope) (names : NamesOf s file) where
+  clause_fits : (ls : List Local) (in_operation : Bool) (at : ℕ) (c : ClauseTree) → Has (λ x. ClauseFits file ls in_operation x.0) (clause_means s ls in_operation at c)
+  unfolding clause_means
+  clause_fits ls in_operation at (Claims b l others) =
+      next (AtMost 2) (λ x. ClauseFits file ls in_operation x.0) (bound_means s ls at b) _ (all_bound_few s ls at b) (λ bound few.
+      let here = reach s ls in_operation bound in
+      next (LiteralFits (words file here)) (λ x. ClauseFits file ls in_operation x.0) (literal_means here (at + bound_size b) l) _ (literal_fits file here names (at + bound_size b) l) (λ first fits.
+      next (LiteralsFit file here names) (λ x. ClauseFits file ls in_operation x.0) (in_turn (literal_step here) (first ∷ [], at + bound_size b + literal_size l) others) _
+      (turns (LiteralsFit file here names) (literal_step here) (step_fits file here names) (first ∷ [], at + bound_size b + literal_size l) others (first_fits file here names first (at + bound_size b + literal_size l) fits)) (λ all h.
+      record { bound = few; literals = h.count; each = h.each })))
+
+  line_fits : (ls : List Local) (in_operation : Bool) (at : ℕ) (c : ClauseTree) → Has (λ x. ClauseFits file ls in_operation x.0) (clause_line_means s ls in_operation at c)
+  unfolding clause_line_means
+  line_fits ls in_operation at c = next (λ x. ClauseFits file ls in_operation x.0) (λ x. ClauseFits file ls in_operation x.0) (clause_means s ls in_operation at c) _ (clause_fits ls in_operation at c) (λ k h. h)
+
+  -- ---- sites
+
+  -- what is found in a list stands there
+  found : {A : Type 0} (p : A → Bool) (all : List A) (i : ℕ) (xs : List A) → ((j : ℕ) (x : A) → slice_get xs j ≡ Some x → slice_get all (i + j) ≡ Some x) → HasSome (λ k. (x : A) × (slice_get all k ≡ Some x)) (position_from p i xs)
+  found p all i [] h = tt
+  found p all i (x ∷ xs) h =
+      let here : i + 0 ≡ i = omega arith in
+      if_some (λ k. (y : _) × (slice_get all k ≡ Some y)) (p x) i (position_from p (i + 1) xs) (x, ap (slice_get all) (sym here) ∙ h 0 x refl)
+      (found p all (i + 1) xs (λ j y e. let there : i + 1 + j ≡ i + suc j = omega arith in ap (slice_get all) there ∙ h (suc j) y e))
+
+  -- an operation that is there
+  abbrev IsOp : ℕ → Type 0
+  IsOp k = (op : Op) × (slice_get file.ops k ≡ Some op)
+
+  named_op : (o : Option ℕ) → HasSome IsOp (op_named file.ops o)
+  named_op None = tt
+  named_op (Some i) = found (λ (o : Op). o.name == i) file.ops 0 file.ops (λ j x e. let here : 0 + j ≡ j = omega arith in ap (slice_get file.ops) here ∙ e)
+
+  op_is_there : (name : Text) (at : ℕ) → Has IsOp (op_at s file.ops name at)
+  unfolding op_at
+  op_is_there name at = any IsOp (known at (declared_kind s [] name)) _ (λ k. fitting IsOp at (op_named file.ops (place_of name s.names.names)) (named_op (place_of name s.names.names)))
+
+  -- an operation whose statements have a label is there
+  home : (label i : ℕ) (os : List Op) → ((j : ℕ) (o : Op) → slice_get os j ≡ Some o → slice_get file.ops (i + j) ≡ Some o) → HasSome IsOp (position_from (has_label label) i (labels_by_op os))
+  home label i [] h = tt
+  home label i (o ∷ os) h =
+      let here : i + 0 ≡ i = omega arith in
+      if_some IsOp (has_label label (block_labels o.body)) i (position_from (has_label label) (i + 1) (labels_by_op os)) (o, ap (slice_get file.ops) (sym here) ∙ h 0 o refl)
+      (home label (i + 1) os (λ j x e. let there : i + 1 + j ≡ i + suc j = omega arith in ap (slice_get file.ops) there ∙ h (suc j) x e))
+
+  -- a label's operation, which is there
+  abbrev StandsIn : ℕ → ℕ → Type 0
+  StandsIn label k = op_of_label (labels_by_op file.ops) label ≡ Some k
+
+  both : (P : ℕ → Type 0) (o : Option ℕ) → HasSome P o → HasSome (λ k. (o ≡ Some k) × P k) o
+  both P (Some k) h = (refl, h)
+  both P None h = tt
+
+  abbrev IsLabel : ℕ × ℕ → Type 0
+  IsLabel l = StandsIn l.0 l.1 × IsOp l.1
+
+  label_stands : (label at : ℕ) → Has IsLabel (with_op (labels_by_op file.ops) at label)
+  label_stands label at =
+      next (λ k. StandsIn label k × IsOp k) IsLabel (if_fits at (op_of_label (labels_by_op file.ops) label)) _ (fitting (λ k. StandsIn label k × IsOp k) at (op_of_label (labels_by_op file.ops) label)
+      (both IsOp (op_of_label (labels_by_op file.ops) label) (home label 0 file.ops (λ j x e. let here : 0 + j ≡ j = omega arith in ap (slice_get file.ops) here ∙ e)))) (λ k h. h)
+
+  label_is_there : (name : Text) (at : ℕ) → Has IsLabel (label_at s (labels_by_op file.ops) name at)
+  unfolding label_at
+  label_is_there name at =
+      any IsLabel (known at (declared_kind s [] name)) _ (λ k.
+      any IsLabel (if_fits at (label_named s.labels (place_of name s.names.names))) _ (λ label. label_stands label at))
+
+  -- all labels stand in one operation
+  abbrev Together : ℕ → Labels → Type 0
+  Together k st = All (λ label. StandsIn label k) st.0
+
+  same_op : (k at : ℕ) (l : ℕ × ℕ) (b : Bool) → (l.1 == k) ≡ b → IsLabel l → Has (λ label. StandsIn label k) (if b then Ok l.0 else Err (faults.WrongSort at))
+  same_op k at l true e h = h.0 ∙ ap Some (eqb-true l.1 k e)
+  same_op k at l false e h = tt
+
+  one_label : (label k at : ℕ) → StandsIn label k → Together k (label ∷ [], at)
+  one_label label k at h = All-cons (λ n. StandsIn n k) label [] h (All-nil (λ n. StandsIn n k))
+
+  labels_keep : (k : ℕ) (st : Labels) (name : Text) → Together k st → Has (Together k) (label_step s (labels_by_op file.ops) k st name)
+  unfolding label_step
+  labels_keep k st name h =
+      next IsLabel (Together k) (label_at s (labels_by_op file.ops) name (st.1 + 1)) _ (label_is_there name (st.1 + 1)) (λ l is.
+      next (λ label. StandsIn label k) (Together k) (if_same_op k (st.1 + 1) l) _ (same_op k (st.1 + 1) l (l.1 == k) refl is) (λ label stands.
+      All-append (λ n. StandsIn n k) st.0 (label ∷ []) h (one_label label k 0 stands)))
+
+  abbrev AreLabels : Labels × ℕ → Type 0
+  AreLabels ls = IsOp ls.1 × Together ls.1 ls.0
+
+  labels_are : (at : ℕ) (name : Text) (others : List Text) → Has AreLabels (labels_mean s (labels_by_op file.ops) at name others)
+  unfolding labels_mean
+  labels_are at name others =
+      next IsLabel AreLabels (label_at s (labels_by_op file.ops) name at) _ (label_is_there name at) (λ l is.
+      next (Together l.1) AreLabels (in_turn (label_step s (labels_by_op file.ops) l.1) (l.0 ∷ [], at + 1) others) _
+      (turns (Together l.1) (label_step s (labels_by_op file.ops) l.1) (labels_keep l.1) (l.0 ∷ [], at + 1) others (one_label l.0 l.1 (at + 1) is.0)) (λ ls h. (is.1, h)))
+
+  -- ---- items
+
+  record PartsFit (st : Parts) : Type 0 where
+    invariants : length st.0 ≤ 64
+    each_invariant : All (InvariantFits file) st.0
+    items : length st.1 ≤ 256
+    each_item : All (ItemFits file) st.1
+
+  -- the locals of an operation that is there
+  own_locals : (k : ℕ) (op : Op) (c : Clause) → slice_get file.ops k ≡ Some op → ClauseFits file (locals_of file.ops k) true c → ClauseFits file op.locals true c
+  own_locals k op c e h = subst (λ (ls : List Local). ClauseFits file ls true c) (ap locals_or_none e) h
+
+  invariant_more : (st : Parts) (c : Clause × ℕ) → PartsFit st → length st.0 < 64 → InvariantFits file c.0 → PartsFit (with_invariant st c)
+  invariant_more st c h less fits =
+      let count = length-append st.0 (c.0 ∷ []) in
+      record {
+        invariants = omega arith;
+        each_invariant = All-append (InvariantFits file) st.0 (c.0 ∷ []) h.each_invariant (All-cons (InvariantFits file) c.0 [] fits (All-nil (InvariantFits file)));
+        items = h.items;
+        each_item = h.each_item;
+      }
+
+  item_more : (st : Parts) (site : Site) (c : Clause × ℕ) → PartsFit st → length st.1 < 256 → SiteFits file c.0 site → PartsFit (with_item st site c)
+  item_more st site c h less fits =
+      let item : Item = record { site = site; clause = c.0 } in
+      let count = length-append st.1 (item ∷ []) in
+      record {
+        invariants = h.invariants;
+        each_invariant = h.each_invariant;
+        items = omega arith;
+        each_item = All-append (ItemFits file) st.1 (item ∷ []) h.each_item (All-cons (ItemFits file) item [] fits (All-nil (ItemFits file)));
+      }
+
+  item_keeps : (st : Parts) (x : ItemTree) → PartsFit st → Has PartsFit (item_step s file.ops (labels_by_op file.ops) st x)
+  unfolding item_step
+  item_keeps st (InvariantItem c) h = below PartsFit (length st.0) 64 _ _ h.invariants (λ less.
+      next (λ k. InvariantFits file k.0) PartsFit (clause_line_means s [] false (st.2 + 1) c) _ (line_fits [] false (st.2 + 1) c) (λ k fits. invariant_more st k h less fits))
+  item_keeps st (OverItem name c) h = below PartsFit (length st.1) 256 _ _ h.items (λ less.
+      next IsOp PartsFit (op_at s file.ops name (st.2 + 1)) _ (op_is_there name (st.2 + 1)) (λ o is.
+      next (λ k. ClauseFits file (locals_of file.ops o) true k.0) PartsFit (clause_line_means s (locals_of file.ops o) true (st.2 + 3) c) _ (line_fits (locals_of file.ops o) true (st.2 + 3) c) (λ k fits.
+      item_more st (Over (record { 0 = o })) k h less (is.0, is.1, own_locals o is.0 k.0 is.1 fits))))
+  item_keeps st (AtItem name others c) h = below PartsFit (length st.1) 256 _ _ h.items (λ less.
+      next AreLabels PartsFit (labels_mean s (labels_by_op file.ops) (st.2 + 1) name others) _ (labels_are (st.2 + 1) name others) (λ ls are.
+      next (λ k. ClauseFits file (locals_of file.ops ls.1) true k.0) PartsFit (clause_line_means s (locals_of file.ops ls.1) true ls.0.1 c) _ (line_fits (locals_of file.ops ls.1) true ls.0.1 c) (λ k fits.
+      item_more st (At ls.0.0) k h less (ls.1, are.0.0, are.0.1, are.1, own_locals ls.1 are.0.0 k.0 are.0.1 fits))))
+
+  -- ---- the outline
+
+  small_depth : (n at : ℕ) (a b : Bool) → (n == 0) ≡ a → (n == 1) ≡ b → Has (λ (d : ℕ). d ≤ 1) (if a || b then Ok n else Err (faults.WrongSort at))
+  small_depth n at true b e f = let is = eqb-true n 0 e in omega arith
+  small_depth n at false true e f = let is = eqb-true n 1 f in omega arith
+  small_depth n at false false e f = tt
+
+  depth_small : (at : ℕ) (d : Option ℕ) → Has (λ (n : ℕ). n ≤ 1) (depth_means at d)
+  depth_small at None = omega arith
+  depth_small at (Some n) = small_depth n (at + 1) (n == 0) (n == 1) refl refl
+
+  abbrev IsFit : Outline × ℕ → Type 0
+  IsFit x = OutlineFits file x.0
+
+  nothing_fits : (at : ℕ) → PartsFit ([], [], at)
+  nothing_fits at = record { invariants = omega arith; each_invariant = All-nil (InvariantFits file); items = omega arith; each_item = All-nil (ItemFits file) }
+
+  outline_keeps : (at : ℕ) (t : OutlineTree) → Has IsFit (outline_means s file.ops at t)
+  unfolding outline_means
+  outline_keeps at (Outlined d xs) =
+      next (λ (n : ℕ). n ≤ 1) IsFit (depth_means (at + 2) d) _ (depth_small (at + 2) d) (λ n small.
+      next PartsFit IsFit (in_turn (item_step s file.ops (labels_by_op file.ops)) ([], [], at + 2 + depth_size d) xs) _
+      (turns PartsFit (item_step s file.ops (labels_by_op file.ops)) item_keeps ([], [], at + 2 + depth_size d) xs (nothing_fits (at + 2 + depth_size d))) (λ all h.
+      record { depth = small; invariants = h.invariants; each_invariant = h.each_invariant; items = h.items; each_item = h.each_item }))
+
+pub outline_fits : OutlinesFit
+outline_fits s file at behind tree outline names e = has_along (λ (x : Outline × ℕ). OutlineFits file x.0) (outline_means s file.ops at tree) (outline, behind) e (outline_keeps file s names at tree)

@@ -1,0 +1,120 @@
+-- What names are in the clauses of an outline. Locals of an operation have one numbering here; all names of the file keep what they stand for.
+use Rattle.std.specs.Prelude.{◌==◌, ◌+◌, ℕ, Bool, true, false, if◌then◌else◌, List, [], ◌∷◌, Option, Some, None, slice_get, Result, Ok, Err}
+use Rattle.plc_base.specs.Names.{NameList, place_of}
+use Rattle.plc_lang.specs.declared.syntax.Local.{Local}
+use Rattle.plc_syntax.specs.Trees.{Text}
+use Rattle.plc_scope.specs.declared.fault.ParseFault.{ParseFault}
+use Rattle.plc_scope.specs.declared.fault.ParseFault.TheVariants as faults
+use Rattle.plc_scope.specs.declared.scope.Scope.{Scope}
+use Rattle.plc_scope.specs.declared.binding.Binding.{Binding}
+use Rattle.plc_scope.specs.declared.binding.Binding.TheVariants.{Taken, Shared, PointerField, DataField, Function, Auxiliary, Value, LocalOnly}
+use Rattle.plc_scope.specs.Scope.{◌>>=◌, if_fits}
+use Rattle.plc_logic.specs.declared.clause.Base.{Base}
+use Rattle.plc_logic.specs.declared.clause.Base.TheVariants as bases
+use Rattle.plc_logic.specs.declared.clause.Term.{Term}
+use Rattle.plc_logic.specs.declared.clause.Term.TheVariants as terms
+use Rattle.plc_logic.specs.declared.clause.Sort.{Sort}
+use Rattle.plc_logic.specs.declared.clause.Sort.TheVariants as sorts
+use Rattle.plc_outparse.specs.declared.kind.Kind.{Kind}
+use Rattle.plc_outparse.specs.declared.kind.Kind.TheVariants as kinds
+
+-- the names of the file, the locals in reach, whether a thread is in an operation, and the quantified names
+pub record Reach : Type 0 where
+  pub scope : Scope
+  pub locals : List Local
+  pub in_operation : Bool
+  pub bound : NameList
+
+-- the sort of what an auxiliary field holds, by whether it holds threads
+abbrev pub auxiliary_sort : ℕ → Bool → Sort
+auxiliary_sort g true = sorts.Thread
+auxiliary_sort g false = sorts.Value g
+
+-- what a name of the file is; functions, operations, labels and the struct have no value
+abbrev pub kind_outside : Binding → Option Kind
+kind_outside Taken = Some kinds.NoValue
+kind_outside (Shared k) = Some (kinds.Node (bases.Shared k))
+kind_outside (PointerField f) = Some (kinds.Field f sorts.Node)
+kind_outside (DataField f) = Some (kinds.Field f sorts.Number)
+kind_outside (Function f p) = Some kinds.NoValue
+kind_outside (Auxiliary g t) = Some (kinds.Auxiliary g (auxiliary_sort g t))
+kind_outside (Value g v) = Some (kinds.Value g v)
+kind_outside LocalOnly = None
+
+-- what a local is, by its number
+abbrev pub kind_of_local : ℕ → Bool → Kind
+kind_of_local i true = kinds.Node (bases.Local i)
+kind_of_local i false = kinds.Data i
+
+-- the local with a name's number, where so many locals stand before these
+abbrev pub kind_inside : ℕ → List Local → ℕ → Option Kind
+kind_inside i [] number = None
+kind_inside i (l ∷ ls) number = if l.name == number then Some (kind_of_local i l.pointer) else kind_inside (i + 1) ls number
+
+-- a local goes before what its name is outside, which is nothing
+abbrev pub kind_or : Option Kind → Option Binding → Option Kind
+kind_or (Some k) binding = Some k
+kind_or None (Some binding) = kind_outside binding
+kind_or None None = None
+
+-- what the name with a number is
+abbrev pub declared_at : Scope → List Local → Option ℕ → Option Kind
+declared_at s ls None = None
+declared_at s ls (Some i) = kind_or (kind_inside 0 ls i) (slice_get s.bindings i)
+
+-- what a name is that isn't quantified; None where it has no declaration in reach, as a local of another operation
+unfoldable pub declared_kind : Scope → List Local → Text → Option Kind
+declared_kind s ls name = declared_at s ls (place_of name s.names.names)
+
+-- a quantified name is a node
+abbrev pub kind_or_bound : Option ℕ → Option Kind → Option Kind
+kind_or_bound (Some i) k = Some (kinds.Node (bases.Bound i))
+kind_or_bound None k = k
+
+-- what a name is in a clause
+unfoldable pub kind_of : Reach → Text → Option Kind
+kind_of r name = kind_or_bound (place_of name r.bound.names) (declared_kind r.scope r.locals name)
+
+-- a name at a place has to be declared
+abbrev pub known : ℕ → Option Kind → Result Kind ParseFault
+known at (Some k) = Ok k
+known at None = Err (faults.Undeclared at)
+
+-- what a field may be asked of: a shared pointer, a pointer local, a quantified name
+abbrev pub as_base : Kind → Option Base
+as_base (kinds.Node b) = Some b
+as_base (kinds.Data i) = None
+as_base (kinds.Field f s) = None
+as_base (kinds.Auxiliary g s) = None
+as_base (kinds.Value g v) = None
+as_base kinds.NoValue = None
+
+-- the base that is named at a place
+unfoldable pub base_at : Reach → Text → ℕ → Result Base ParseFault
+base_at r name at = do
+  k ← known at (kind_of r name)
+  if_fits at (as_base k)
+
+-- a base alone is a term
+abbrev pub base_term : Base → Term
+base_term (bases.Shared i) = terms.Shared i
+base_term (bases.Local i) = terms.Local i
+base_term (bases.Bound i) = terms.Bound i
+
+-- the term that a name alone is, with its sort
+abbrev pub as_term : Kind → Option (Term × Sort)
+as_term (kinds.Node b) = Some (base_term b, sorts.Node)
+as_term (kinds.Data i) = Some (terms.Local i, sorts.Number)
+as_term (kinds.Field f s) = None
+as_term (kinds.Auxiliary g s) = None
+as_term (kinds.Value g v) = Some (terms.Value g v, sorts.Value g)
+as_term kinds.NoValue = None
+
+-- the term that a name is behind a base and a dot, with its sort
+abbrev pub as_field : Base → Kind → Option (Term × Sort)
+as_field b (kinds.Node c) = None
+as_field b (kinds.Data i) = None
+as_field b (kinds.Field f s) = Some (terms.FieldOf b f, s)
+as_field b (kinds.Auxiliary g s) = Some (terms.GhostOf b g, s)
+as_field b (kinds.Value g v) = None
+as_field b kinds.NoValue = None

@@ -1,0 +1,36 @@
+-- How many tokens the forms of an outline have, so that a place behind a form is the place before it and its size.
+use Rattle.std.specs.Prelude.{ℕ, ◌+◌, Option, Some, None}
+use Rattle.plc_syntax.specs.Trees.{TermTree, PlaceTerm, NullTerm, NumberTerm, MeTerm, NoneTerm, LiteralTree, FlagLiteral, NotLiteral, EqualityLiteral, BoundTree, NoBound, AllOf}
+use Rattle.plc_forms.specs.Sizes.{place_size}
+use Rattle.plc_outparse.specs.Forms.{HeadTree, InvariantHead, OverHead, AtHead}
+
+-- a side of an equation
+abbrev pub term_size : TermTree → ℕ
+term_size (PlaceTerm p) = place_size p
+term_size NullTerm = 1
+term_size (NumberTerm n) = 1
+term_size MeTerm = 1
+term_size NoneTerm = 1
+
+-- a literal without the "or" before it
+abbrev pub literal_size : LiteralTree → ℕ
+literal_size (FlagLiteral f) = 4
+literal_size (NotLiteral f) = 5
+literal_size (EqualityLiteral a e b) = term_size a + 1 + term_size b
+
+-- "all", its names and a colon
+abbrev pub bound_size : BoundTree → ℕ
+bound_size NoBound = 0
+bound_size (AllOf n None) = 3
+bound_size (AllOf n (Some m)) = 5
+
+-- "depth", a number and a semicolon
+abbrev pub depth_size : Option ℕ → ℕ
+depth_size None = 0
+depth_size (Some n) = 3
+
+-- how an item begins
+abbrev pub head_size : HeadTree → ℕ
+head_size InvariantHead = 1
+head_size (OverHead name) = 3
+head_size (AtHead name) = 2

@@ -1,0 +1,38 @@
+-- The trees of the program's forms, and what is in reach. Names are those of the tokens, so a form stands for the tree with their bytes.
+use Rattle.plc_syntax.specs.Trees.{TermTree, PlaceTerm, NullTerm, NumberTerm, MeTerm, NoneTerm, RetiredFlag, LiteralTree, FlagLiteral, NotLiteral, EqualityLiteral, BoundTree, NoBound, AllOf}
+use Rattle.plc_forms.specs.Views.{text_or_none, place_tree}
+use Rattle.plc_outparse.specs.declared.form.Side.{Side}
+use Rattle.plc_outparse.specs.declared.form.Side.TheVariants as sides
+use Rattle.plc_outparse.specs.declared.form.Claim.{Claim}
+use Rattle.plc_outparse.specs.declared.form.Claim.TheVariants as claims
+use Rattle.plc_outparse.specs.declared.form.Quantified.{Quantified}
+use Rattle.plc_outparse.specs.declared.form.Quantified.TheVariants as quantified
+use Rattle.plc_outparse.specs.declared.form.Head.{Head}
+use Rattle.plc_outparse.specs.declared.form.Head.TheVariants as heads
+use Rattle.plc_outparse.specs.declared.reach.Reach.{Reach as InReach}
+use Rattle.plc_outparse.specs.Forms.{HeadTree, InvariantHead, OverHead, AtHead}
+use Rattle.plc_outparse.specs.Reach.{Reach}
+
+abbrev pub side_tree : Side → TermTree
+side_tree (sides.Place p) = PlaceTerm (place_tree p)
+side_tree sides.Null = NullTerm
+side_tree (sides.Number n) = NumberTerm n
+side_tree sides.Me = MeTerm
+side_tree sides.None = NoneTerm
+
+abbrev pub claim_tree : Claim → LiteralTree
+claim_tree (claims.Retired n) = FlagLiteral (RetiredFlag n.now)
+claim_tree (claims.NotRetired n) = NotLiteral (RetiredFlag n.now)
+claim_tree (claims.Equation a e b) = EqualityLiteral (side_tree a) e (side_tree b)
+
+abbrev pub quantified_tree : Quantified → BoundTree
+quantified_tree quantified.None = NoBound
+quantified_tree (quantified.All n m) = AllOf n.now (text_or_none m)
+
+abbrev pub head_tree : Head → HeadTree
+head_tree heads.Invariant = InvariantHead
+head_tree (heads.Over n) = OverHead n.now
+head_tree (heads.At n) = AtHead n.now
+
+abbrev pub reach_of : InReach → Reach
+reach_of r = record { scope = r.scope.now; locals = r.locals.now; in_operation = r.in_operation; bound = r.bound.now }

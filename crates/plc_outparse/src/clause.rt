@@ -1,0 +1,246 @@
+// Clauses: their quantified names, which differ from all names in reach, and their literals.
+ghost use Rattle.std.specs.Prelude.{◌≡◌, ◌+◌, ◌<◌, ◌≤◌, ◌^◌, Result, IfOk, length};
+ghost use Rattle.plc_base.specs.Names.{place_of};
+ghost use Rattle.plc_syntax.specs.Syntax.{kinds};
+ghost use Rattle.plc_forms.specs.Views.{text_or_none};
+ghost use Rattle.plc_logic.specs.declared.clause.Literal.{Literal};
+ghost use Rattle.plc_scope.specs.declared.fault.ParseFault.{ParseFault};
+ghost use Rattle.plc_scope.specs.Answers.{Gives};
+ghost use Rattle.plc_scope.specs.Scope.{most_locals, if_new, with_last};
+ghost use Rattle.plc_outparse.specs.Answers.{Within, HasRoomForBound};
+ghost use Rattle.plc_outparse.specs.Meaning.{stands_at, counted, literal_step, bound_with, second_bound, bound_means};
+ghost use Rattle.plc_outparse.specs.Reading.{literals_in, all_literals_in, clause_in, clause_line_in};
+ghost use Rattle.plc_outparse.specs.Sizes.{literal_size, bound_size};
+ghost use Rattle.plc_outparse.specs.Views.{claim_tree, quantified_tree, reach_of};
+
+use crate::form::{Claim, Quantified};
+use crate::literal_form::{claim_at, or_claim_at, quantified_at};
+use crate::reach::{Reach, declared_kind};
+use crate::term::literal;
+use plc_base::{Items, NameFault, Names, What1};
+use plc_forms::{Rest, semicolon_at};
+use plc_lang::Local;
+use plc_logic::{Clause, Literal};
+use plc_scope::{ParseFault, Scope};
+use std::alloc::Global;
+
+/// How many quantified names a clause may have.
+const MOST_BOUND: u16 = 2;
+
+/// How many literals a clause may have.
+const MOST_LITERALS: usize = 16;
+
+// A name that differs from all before.
+fn add_name(names: &mut Names, name: &[u8], at: u32) -> Result<(), ParseFault>
+    requires { HasRoomForBound names.old 1 }
+    ensures read { Gives (λ _. names.new) result (if_new (place_of name.now names.old.names) at (with_last names.old name.now)) }
+    ensures room { IfOk result (λ _. HasRoomForBound names.new 0) }
+    ensures more { HasRoomForBound names.old 2 → IfOk result (λ _. HasRoomForBound names.new 1) }
+{
+    match names.add(name) {
+        Ok(_) => Ok(()),
+        Err(NameFault::Duplicate { .. }) => Err(ParseFault::Duplicate { at }),
+        Err(NameFault::Full { .. }) => unreachable!(),
+        Err(NameFault::Memory) => Err(ParseFault::Memory),
+    }
+}
+
+// A quantified name, which no name in reach has.
+#[tactic(auto, unfolding(crate::specs::Meaning::bound_with))]
+fn bind(
+    scope: &Scope,
+    locals: &[Local],
+    bound: &mut Names,
+    at: u32,
+    name: &[u8],
+) -> Result<(), ParseFault>
+    requires locals { length locals.now ≤ most_locals }
+    requires room { HasRoomForBound bound.old 1 }
+    ensures read { Gives (λ _. bound.new) result (bound_with scope.now locals.now bound.old at name.now) }
+    ensures more { HasRoomForBound bound.old 2 → IfOk result (λ _. HasRoomForBound bound.new 1) }
+{
+    match declared_kind(scope, locals, name) {
+        Some(_) => Err(ParseFault::Duplicate { at }),
+        None => add_name(bound, name, at),
+    }
+}
+
+// The second quantified name, if there is one.
+fn bind_second(
+    scope: &Scope,
+    locals: &[Local],
+    bound: &mut Names,
+    at: u32,
+    name: Option<&[u8]>,
+) -> Result<(), ParseFault>
+    requires locals { length locals.now ≤ most_locals }
+    requires room { HasRoomForBound bound.old 1 }
+    ensures read { Gives (λ _. bound.new) result (second_bound scope.now locals.now bound.old at (text_or_none name.entry)) }
+{
+    match name {
+        Some(name) => bind(scope, locals, bound, at, name),
+        None => Ok(()),
+    }
+}
+
+// The quantified names of a clause.
+#[tactic(auto, unfolding(crate::specs::Meaning::bound_means))]
+fn quantified(
+    alloc: Global,
+    scope: &Scope,
+    locals: &[Local],
+    at: u32,
+    form: Quantified,
+) -> Result<Names, ParseFault>
+    requires locals { length locals.now ≤ most_locals }
+    requires place { at + bound_size (quantified_tree form) < 2 ^ 32 }
+    ensures { Gives (λ bound. bound) result (bound_means scope.now locals.now at (quantified_tree form.entry)) }
+{
+    let mut bound = Names::new(alloc, MOST_BOUND);
+    match form {
+        Quantified::None => Ok(bound),
+        Quantified::All(first, second) => {
+            bind(scope, locals, &mut bound, at + 1, first)?;
+            bind_second(scope, locals, &mut bound, at + 3, second)?;
+            Ok(bound)
+        }
+    }
+}
+
+// The fault is at the token at this place.
+fn stands_at(at: u32, fault: &ParseFault) -> bool
+    ensures { result ≡ stands_at at fault.now }
+{
+    match fault {
+        ParseFault::Undeclared { at: k }
+        | ParseFault::Duplicate { at: k }
+        | ParseFault::WrongSort { at: k }
+        | ParseFault::NoSuchCall { at: k } => *k == at,
+        _ => false,
+    }
+}
+
+// A literal with so many before it. The limit's place is the literal's first token, so a fault of that
+// token goes before it.
+fn counted(
+    count: usize,
+    at: u32,
+    meaning: Result<Literal, ParseFault>,
+) -> Result<Literal, ParseFault>
+    ensures { (said : Result Literal ParseFault) → Gives (λ l. l) meaning said → Gives (λ l. l) result (counted count at said) }
+{
+    match meaning {
+        Err(ParseFault::Memory) => Err(ParseFault::Memory),
+        Err(fault) if stands_at(at, &fault) => Err(fault),
+        _ if count == MOST_LITERALS => Err(ParseFault::Limit {
+            what: What1::Literals,
+            count: 17,
+        }),
+        meaning => meaning,
+    }
+}
+
+// A further literal, whose "or" stands at the place.
+#[tactic(auto, unfolding(crate::specs::Meaning::literal_step))]
+fn add_literal(
+    reach: &Reach,
+    literals: &mut Items<Literal>,
+    at: u32,
+    form: Claim,
+) -> Result<(), ParseFault>
+    requires locals { length reach.now.locals.now ≤ most_locals }
+    requires place { at + 1 + literal_size (claim_tree form) < 2 ^ 32 }
+    ensures { Gives (λ _. (literals.new, at + 1 + literal_size (claim_tree form.entry))) result (literal_step (reach_of reach.now) (literals.old, at) (claim_tree form.entry)) }
+{
+    let further = counted(literals.len(), at + 1, literal(reach, at + 1, form))?;
+    literals.push(further)?;
+    Ok(())
+}
+
+// The literals behind the first.
+fn read_further_literals<'a>(
+    reach: &Reach,
+    literals: &mut Items<Literal>,
+    start: Rest<'a>,
+) -> Result<Rest<'a>, ParseFault>
+    requires { length reach.now.locals.now ≤ most_locals }
+    ensures read { Gives (λ r. ((literals.new, r.at), kinds r.tokens.now)) result (literals_in (reach_of reach.now) (literals.old, start.entry.at) (kinds start.entry.tokens.now)) }
+    ensures place { IfOk result (λ r. Within start.entry r) }
+{
+    let mut rest = start;
+    for _ in 0..start.tokens.len() {
+        let Some((form, behind)) = or_claim_at(rest) else {
+            return Ok(rest);
+        };
+        add_literal(reach, literals, rest.at, form)?;
+        rest = behind;
+    }
+    Err(ParseFault::Syntax { at: rest.at })
+}
+
+// All literals of a clause.
+#[tactic(auto, unfolding(crate::specs::Reading::all_literals_in))]
+fn read_literals<'a>(
+    alloc: Global,
+    reach: &Reach,
+    start: Rest<'a>,
+) -> Result<(Items<Literal>, Rest<'a>), ParseFault>
+    requires { length reach.now.locals.now ≤ most_locals }
+    ensures read { Gives (λ r. ((r.0, r.1.at), kinds r.1.tokens.now)) result (all_literals_in (reach_of reach.now) start.entry.at (kinds start.entry.tokens.now)) }
+    ensures place { IfOk result (λ r. Within start.entry r.1) }
+{
+    let Some((form, behind)) = claim_at(start) else {
+        return Err(ParseFault::Syntax { at: start.at });
+    };
+    let mut literals = Items::new(alloc);
+    literals.push(literal(reach, start.at, form)?)?;
+    let rest = read_further_literals(reach, &mut literals, behind)?;
+    Ok((literals, rest))
+}
+
+// A clause, in an operation with these locals or in an invariant.
+#[tactic(auto, unfolding(crate::specs::Reading::clause_in))]
+fn read_clause<'a>(
+    alloc: Global,
+    scope: &Scope,
+    locals: &[Local],
+    in_operation: bool,
+    start: Rest<'a>,
+) -> Result<(Clause, Rest<'a>), ParseFault>
+    requires { length locals.now ≤ most_locals }
+    ensures read { Gives (λ r. ((r.0, r.1.at), kinds r.1.tokens.now)) result (clause_in scope.now locals.now in_operation start.entry.at (kinds start.entry.tokens.now)) }
+    ensures place { IfOk result (λ r. Within start.entry r.1) }
+{
+    let Some((form, behind)) = quantified_at(start) else {
+        return Err(ParseFault::Syntax { at: start.at });
+    };
+    let bound = quantified(alloc, scope, locals, start.at, form)?;
+    let reach = Reach {
+        scope,
+        locals,
+        in_operation,
+        bound: &bound,
+    };
+    let (literals, rest) = read_literals(alloc, &reach, behind)?;
+    Ok((Clause { bound, literals }, rest))
+}
+
+/// A clause and its semicolon, in an operation with these locals or in an invariant.
+#[tactic(auto, unfolding(crate::specs::Reading::clause_line_in))]
+pub fn read_clause_line<'a>(
+    alloc: Global,
+    scope: &Scope,
+    locals: &[Local],
+    in_operation: bool,
+    start: Rest<'a>,
+) -> Result<(Clause, Rest<'a>), ParseFault>
+    requires { length locals.now ≤ most_locals }
+    ensures read { Gives (λ r. ((r.0, r.1.at), kinds r.1.tokens.now)) result (clause_line_in scope.now locals.now in_operation start.entry.at (kinds start.entry.tokens.now)) }
+    ensures place { IfOk result (λ r. Within start.entry r.1) }
+{
+    let (clause, rest) = read_clause(alloc, scope, locals, in_operation, start)?;
+    match semicolon_at(rest) {
+        Some(behind) => Ok((clause, behind)),
+        None => Err(ParseFault::Syntax { at: rest.at }),
+    }
+}

@@ -1,0 +1,37 @@
+// The forms of an outline that readers answer, one type for each kind of tree. They borrow the bytes
+// of names from the tokens, so reading takes no memory.
+use plc_forms::Place;
+
+/// A side of an equation.
+#[derive(Clone, Copy)]
+pub enum Side<'a> {
+    Place(Place<'a>),
+    Null,
+    Number(u32),
+    Me,
+    None,
+}
+
+/// A literal.
+#[derive(Clone, Copy)]
+pub enum Claim<'a> {
+    Retired(&'a [u8]),
+    NotRetired(&'a [u8]),
+    /// Two sides, and whether they are said to be equal.
+    Equation(Side<'a>, bool, Side<'a>),
+}
+
+/// The quantified names of a clause.
+#[derive(Clone, Copy)]
+pub enum Quantified<'a> {
+    None,
+    All(&'a [u8], Option<&'a [u8]>),
+}
+
+/// How an item begins: an invariant's word, an operation's name, or the name of the first label.
+#[derive(Clone, Copy)]
+pub enum Head<'a> {
+    Invariant,
+    Over(&'a [u8]),
+    At(&'a [u8]),
+}

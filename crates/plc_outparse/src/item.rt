@@ -1,0 +1,172 @@
+// The items of an outline, each with those before it. The limit's place is the first token of the item
+// past it.
+ghost use Rattle.std.specs.Prelude.{◌≡◌, ◌+◌, ◌<◌, ◌≤◌, ◌^◌, IfOk, length};
+ghost use Rattle.plc_syntax.specs.Syntax.{kinds};
+ghost use Rattle.plc_scope.specs.Answers.{Gives};
+ghost use Rattle.plc_outparse.specs.Answers.{Within, OpsFit};
+ghost use Rattle.plc_outparse.specs.Reading.{invariant_in, over_in, at_in, item_in, items_in};
+ghost use Rattle.plc_outparse.specs.Sizes.{head_size};
+ghost use Rattle.plc_outparse.specs.Views.{head_tree};
+
+use crate::clause::read_clause_line;
+use crate::form::Head;
+use crate::item_form::head_at;
+use crate::site::{locals_of, op_at, read_labels};
+use plc_base::{Items, OpId, What1};
+use plc_forms::Rest;
+use plc_lang::Op;
+use plc_logic::{Clause, Item, Site};
+use plc_scope::{ParseFault, Scope};
+use std::alloc::Global;
+
+/// How many invariants an outline may have.
+const MOST_INVARIANTS: usize = 64;
+
+/// How many other items an outline may have.
+const MOST_ITEMS: usize = 256;
+
+/// The invariants and the other items so far.
+#[derive(Drop)]
+pub struct Parts {
+    pub invariants: Items<Clause>,
+    pub items: Items<Item>,
+}
+
+// An invariant, whose word stands at the place, from behind it.
+#[tactic(auto, unfolding(crate::specs::Reading::invariant_in))]
+fn read_invariant<'a>(
+    alloc: Global,
+    scope: &Scope,
+    parts: &mut Parts,
+    at: u32,
+    start: Rest<'a>,
+) -> Result<Rest<'a>, ParseFault>
+    requires { start.at ≡ at + 1 }
+    ensures read { Gives (λ r. ((parts.new.invariants, parts.new.items, r.at), kinds r.tokens.now)) result (invariant_in scope.now (parts.old.invariants, parts.old.items, at) (kinds start.entry.tokens.now)) }
+    ensures place { IfOk result (λ r. Within start.entry r) }
+{
+    if parts.invariants.len() == MOST_INVARIANTS {
+        return Err(ParseFault::Limit {
+            what: What1::Invariants,
+            count: 65,
+        });
+    }
+    let (clause, rest) = read_clause_line(alloc, scope, &[], false, start)?;
+    parts.invariants.push(clause)?;
+    Ok(rest)
+}
+
+fn too_many_items() -> ParseFault
+    ensures { result ≡ ParseFault.Limit What1.Items 257 }
+{
+    ParseFault::Limit {
+        what: What1::Items,
+        count: 257,
+    }
+}
+
+// An item over an operation, whose word stands at the place, from behind its colon.
+#[tactic(auto, unfolding(crate::specs::Reading::over_in))]
+fn read_over<'a>(
+    alloc: Global,
+    scope: &Scope,
+    ops: &[Op],
+    parts: &mut Parts,
+    at: u32,
+    name: &[u8],
+    start: Rest<'a>,
+) -> Result<Rest<'a>, ParseFault>
+    requires ops { OpsFit ops.now }
+    requires head { start.at ≡ at + 3 }
+    ensures read { Gives (λ r. ((parts.new.invariants, parts.new.items, r.at), kinds r.tokens.now)) result (over_in scope.now ops.now (parts.old.invariants, parts.old.items, at) name.now (kinds start.entry.tokens.now)) }
+    ensures place { IfOk result (λ r. Within start.entry r) }
+{
+    if parts.items.len() == MOST_ITEMS {
+        return Err(too_many_items());
+    }
+    let op = op_at(scope, ops, name, at + 1)?;
+    let (clause, rest) = read_clause_line(alloc, scope, locals_of(ops, op), true, start)?;
+    let site = Site::Over(OpId(op));
+    parts.items.push(Item { site, clause })?;
+    Ok(rest)
+}
+
+// An item at labels, whose word stands at the place, from behind the name of the first label.
+#[tactic(auto, unfolding(crate::specs::Reading::at_in))]
+fn read_at<'a>(
+    alloc: Global,
+    scope: &Scope,
+    ops: &[Op],
+    by_op: &[Items<u16>],
+    parts: &mut Parts,
+    at: u32,
+    name: &[u8],
+    start: Rest<'a>,
+) -> Result<Rest<'a>, ParseFault>
+    requires labels { length scope.now.labels ≤ 256 }
+    requires ops { OpsFit ops.now }
+    requires by_op { length by_op.now ≤ 32 }
+    requires head { start.at ≡ at + 2 }
+    ensures read { Gives (λ r. ((parts.new.invariants, parts.new.items, r.at), kinds r.tokens.now)) result (at_in scope.now ops.now by_op.now (parts.old.invariants, parts.old.items, at) name.now (kinds start.entry.tokens.now)) }
+    ensures place { IfOk result (λ r. Within start.entry r) }
+{
+    if parts.items.len() == MOST_ITEMS {
+        return Err(too_many_items());
+    }
+    let (labels, op, rest) = read_labels(alloc, scope, by_op, at + 1, name, start)?;
+    let (clause, rest) = read_clause_line(alloc, scope, locals_of(ops, op), true, rest)?;
+    let site = Site::At(labels);
+    parts.items.push(Item { site, clause })?;
+    Ok(rest)
+}
+
+// An item, from behind how it begins, which stands at the place.
+#[tactic(auto, unfolding(crate::specs::Reading::item_in))]
+fn read_item<'a>(
+    alloc: Global,
+    scope: &Scope,
+    ops: &[Op],
+    by_op: &[Items<u16>],
+    parts: &mut Parts,
+    at: u32,
+    head: Head,
+    start: Rest<'a>,
+) -> Result<Rest<'a>, ParseFault>
+    requires labels { length scope.now.labels ≤ 256 }
+    requires ops { OpsFit ops.now }
+    requires by_op { length by_op.now ≤ 32 }
+    requires head { start.at ≡ at + head_size (head_tree head) }
+    ensures read { Gives (λ r. ((parts.new.invariants, parts.new.items, r.at), kinds r.tokens.now)) result (item_in scope.now ops.now by_op.now (parts.old.invariants, parts.old.items, at) (head_tree head.entry) (kinds start.entry.tokens.now)) }
+    ensures place { IfOk result (λ r. Within start.entry r) }
+{
+    match head {
+        Head::Invariant => read_invariant(alloc, scope, parts, at, start),
+        Head::Over(name) => read_over(alloc, scope, ops, parts, at, name, start),
+        Head::At(name) => read_at(alloc, scope, ops, by_op, parts, at, name, start),
+    }
+}
+
+/// The items while there is one, added to those before.
+pub fn read_items<'a>(
+    alloc: Global,
+    scope: &Scope,
+    ops: &[Op],
+    by_op: &[Items<u16>],
+    parts: &mut Parts,
+    start: Rest<'a>,
+) -> Result<Rest<'a>, ParseFault>
+    requires labels { length scope.now.labels ≤ 256 }
+    requires ops { OpsFit ops.now }
+    requires by_op { length by_op.now ≤ 32 }
+    ensures read { Gives (λ r. ((parts.new.invariants, parts.new.items, r.at), kinds r.tokens.now)) result (items_in scope.now ops.now by_op.now (parts.old.invariants, parts.old.items, start.entry.at) (kinds start.entry.tokens.now)) }
+    ensures place { IfOk result (λ r. Within start.entry r) }
+{
+    let mut rest = start;
+    for _ in 0..start.tokens.len() {
+        let Some((head, behind)) = head_at(rest) else {
+            return Ok(rest);
+        };
+        rest = read_item(alloc, scope, ops, by_op, parts, rest.at, head, behind)?;
+    }
+    Err(ParseFault::Syntax { at: rest.at })
+}

@@ -1,0 +1,22 @@
+//! What the tokens of an outline mean, on `plc_syntax`'s trees, over which the meaning is defined; the
+//! layer above uses that `read_outline` answers the outline that the tree of the tokens means, or its
+//! fault at the least token.
+#![tactic(auto)]
+
+mod clause;
+mod form;
+mod front;
+mod item;
+mod item_form;
+mod kind;
+mod labels;
+mod literal_form;
+mod outline;
+mod reach;
+mod site;
+mod term;
+
+pub use outline::{outlines_fit, read_outline};
+
+#[cfg(test)]
+mod tests;

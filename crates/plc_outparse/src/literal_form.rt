@@ -1,0 +1,146 @@
+// Literals and the quantified names before them.
+ghost use Rattle.std.specs.Prelude.{◌≡◌, ◌+◌, ◌-◌, IfSome, MatchOption, Some, None};
+ghost use Rattle.plc_syntax.specs.Syntax.{kinds};
+ghost use Rattle.plc_syntax.specs.Trees.{RetiredFlag};
+ghost use Rattle.plc_forms.specs.Forms.{dot_name_of, place_of_name, place_of};
+ghost use Rattle.plc_forms.specs.Sizes.{place_size};
+ghost use Rattle.plc_forms.specs.Views.{Behind, text_or_none, place_tree};
+ghost use Rattle.plc_outparse.specs.Forms.{term_of, equality_of, flag_of, equation_of, literal_of, or_literal_of, further_name_of, all_names_of, bound_of};
+ghost use Rattle.plc_outparse.specs.Sizes.{term_size, literal_size, bound_size};
+ghost use Rattle.plc_outparse.specs.Views.{side_tree, claim_tree, quantified_tree};
+
+use crate::form::{Claim, Quantified, Side};
+use crate::front::{first, name_symbol_at, symbol_at, symbol_name_at, word_at, word_symbol_at};
+use plc_forms::{Place, Rest, comma_name_at, name_at};
+use plc_lex::{Keyword, Symbol, TokenKind};
+
+// A place, from behind its name.
+fn place_of_name_at<'a>(name: &'a [u8], rest: Rest<'a>) -> (Place<'a>, Rest<'a>)
+    ensures read { place_of_name name.now (kinds rest.entry.tokens.now) ≡ (place_tree result.0, kinds result.1.tokens.now) }
+    ensures behind { Behind rest.entry (place_size (place_tree result.0) - 1) result.1 }
+{
+    match symbol_name_at(rest, Symbol::Dot) {
+        Some((field, behind)) => {
+            let field = Some(field);
+            (Place { name, field }, behind)
+        }
+        None => (Place { name, field: None }, rest),
+    }
+}
+
+// A name, or a field of what it points to.
+fn place_at<'a>(rest: Rest<'a>) -> Option<(Place<'a>, Rest<'a>)>
+    ensures read { MatchOption result (place_of (kinds rest.entry.tokens.now) ≡ None) (λ r. place_of (kinds rest.entry.tokens.now) ≡ Some (place_tree r.0, kinds r.1.tokens.now)) }
+    ensures behind { IfSome result (λ r. Behind rest.entry (place_size (place_tree r.0)) r.1) }
+{
+    let (name, behind) = name_at(rest)?;
+    Some(place_of_name_at(name, behind))
+}
+
+// A side of an equation.
+fn side_at<'a>(rest: Rest<'a>) -> Option<(Side<'a>, Rest<'a>)>
+    ensures read { MatchOption result (term_of (kinds rest.entry.tokens.now) ≡ None) (λ r. term_of (kinds rest.entry.tokens.now) ≡ Some (side_tree r.0, kinds r.1.tokens.now)) }
+    ensures behind { IfSome result (λ r. Behind rest.entry (term_size (side_tree r.0)) r.1) }
+{
+    match first(rest)? {
+        (TokenKind::Word(Keyword::Null), behind) => Some((Side::Null, behind)),
+        (TokenKind::Word(Keyword::Me), behind) => Some((Side::Me, behind)),
+        (TokenKind::Word(Keyword::None), behind) => Some((Side::None, behind)),
+        (TokenKind::Number(n), behind) => Some((Side::Number(*n), behind)),
+        _ => {
+            let (place, behind) = place_at(rest)?;
+            Some((Side::Place(place), behind))
+        }
+    }
+}
+
+// What stands between the sides, and whether it says that they are equal.
+fn equality_at<'a>(rest: Rest<'a>) -> Option<(bool, Rest<'a>)>
+    ensures read { MatchOption result (equality_of (kinds rest.entry.tokens.now) ≡ None) (λ r. equality_of (kinds rest.entry.tokens.now) ≡ Some (r.0, kinds r.1.tokens.now)) }
+    ensures behind { IfSome result (λ r. Behind rest.entry 1 r.1) }
+{
+    match first(rest)? {
+        (TokenKind::Symbol(Symbol::Equal), behind) => Some((true, behind)),
+        (TokenKind::Symbol(Symbol::Unequal), behind) => Some((false, behind)),
+        _ => None,
+    }
+}
+
+// "retired", and a name in parentheses.
+fn flag_at<'a>(rest: Rest<'a>) -> Option<(&'a [u8], Rest<'a>)>
+    ensures read { MatchOption result (flag_of (kinds rest.entry.tokens.now) ≡ None) (λ r. flag_of (kinds rest.entry.tokens.now) ≡ Some (RetiredFlag r.0.now, kinds r.1.tokens.now)) }
+    ensures behind { IfSome result (λ r. Behind rest.entry 4 r.1) }
+{
+    let behind = word_symbol_at(rest, Keyword::Retired, Symbol::OpenParen)?;
+    name_symbol_at(behind, Symbol::CloseParen)
+}
+
+// An equation or an inequation.
+fn equation_at<'a>(rest: Rest<'a>) -> Option<(Claim<'a>, Rest<'a>)>
+    ensures read { MatchOption result (equation_of (kinds rest.entry.tokens.now) ≡ None) (λ r. equation_of (kinds rest.entry.tokens.now) ≡ Some (claim_tree r.0, kinds r.1.tokens.now)) }
+    ensures behind { IfSome result (λ r. Behind rest.entry (literal_size (claim_tree r.0)) r.1) }
+{
+    let (left, behind) = side_at(rest)?;
+    let (is_equal, behind) = equality_at(behind)?;
+    let (right, behind) = side_at(behind)?;
+    Some((Claim::Equation(left, is_equal, right), behind))
+}
+
+/// A literal.
+pub fn claim_at<'a>(rest: Rest<'a>) -> Option<(Claim<'a>, Rest<'a>)>
+    ensures read { MatchOption result (literal_of (kinds rest.entry.tokens.now) ≡ None) (λ r. literal_of (kinds rest.entry.tokens.now) ≡ Some (claim_tree r.0, kinds r.1.tokens.now)) }
+    ensures behind { IfSome result (λ r. Behind rest.entry (literal_size (claim_tree r.0)) r.1) }
+{
+    match first(rest)? {
+        (TokenKind::Word(Keyword::Not), behind) => {
+            let (name, behind) = flag_at(behind)?;
+            Some((Claim::NotRetired(name), behind))
+        }
+        (TokenKind::Word(Keyword::Retired), _) => {
+            let (name, behind) = flag_at(rest)?;
+            Some((Claim::Retired(name), behind))
+        }
+        _ => equation_at(rest),
+    }
+}
+
+/// A further literal, behind its "or".
+pub fn or_claim_at<'a>(rest: Rest<'a>) -> Option<(Claim<'a>, Rest<'a>)>
+    ensures read { MatchOption result (or_literal_of (kinds rest.entry.tokens.now) ≡ None) (λ r. or_literal_of (kinds rest.entry.tokens.now) ≡ Some (claim_tree r.0, kinds r.1.tokens.now)) }
+    ensures behind { IfSome result (λ r. Behind rest.entry (1 + literal_size (claim_tree r.0)) r.1) }
+{
+    claim_at(word_at(rest, Keyword::Or)?)
+}
+
+// A comma and a name, which may be left out.
+fn further_name_at<'a>(rest: Rest<'a>) -> (Option<&'a [u8]>, Rest<'a>)
+    ensures read { further_name_of (kinds rest.entry.tokens.now) ≡ (text_or_none result.0, kinds result.1.tokens.now) }
+    ensures behind { MatchOption result.0 (Behind rest.entry 0 result.1) (λ n. Behind rest.entry 2 result.1) }
+{
+    match comma_name_at(rest) {
+        Some((name, behind)) => (Some(name), behind),
+        None => (None, rest),
+    }
+}
+
+// One or two names and a colon, from behind "all".
+fn all_names_at<'a>(rest: Rest<'a>) -> Option<(Quantified<'a>, Rest<'a>)>
+    ensures read { MatchOption result (all_names_of (kinds rest.entry.tokens.now) ≡ None) (λ r. all_names_of (kinds rest.entry.tokens.now) ≡ Some (quantified_tree r.0, kinds r.1.tokens.now)) }
+    ensures behind { IfSome result (λ r. Behind rest.entry (bound_size (quantified_tree r.0) - 1) r.1) }
+{
+    let (first, behind) = name_at(rest)?;
+    let (second, behind) = further_name_at(behind);
+    let behind = symbol_at(behind, Symbol::Colon)?;
+    Some((Quantified::All(first, second), behind))
+}
+
+/// The quantified names of a clause, which may be left out.
+pub fn quantified_at<'a>(rest: Rest<'a>) -> Option<(Quantified<'a>, Rest<'a>)>
+    ensures read { MatchOption result (bound_of (kinds rest.entry.tokens.now) ≡ None) (λ r. bound_of (kinds rest.entry.tokens.now) ≡ Some (quantified_tree r.0, kinds r.1.tokens.now)) }
+    ensures behind { IfSome result (λ r. Behind rest.entry (bound_size (quantified_tree r.0)) r.1) }
+{
+    match first(rest) {
+        Some((TokenKind::Word(Keyword::All), behind)) => all_names_at(behind),
+        _ => Some((Quantified::None, rest)),
+    }
+}

@@ -1,0 +1,124 @@
+// The outline of a file, which stands behind all operations.
+ghost use Rattle.std.specs.Prelude.{◌≡◌, ◌+◌, ◌<◌, ◌≤◌, ◌^◌, List, IfOk, length};
+ghost use Rattle.plc_lex.specs.declared.token.TokenKind.{TokenKind};
+ghost use Rattle.plc_syntax.specs.Syntax.{kinds};
+ghost use Rattle.plc_syntax.specs.Trees.{OutlineTree, outline_then};
+ghost use Rattle.plc_scope.specs.Answers.{Gives};
+ghost use Rattle.plc_outparse.specs.Answers.{Within, OpsFit};
+ghost use Rattle.plc_outparse.specs.Fit.{OutlinesFit};
+ghost use Rattle.plc_outparse.specs.Meaning.{depth_means, outline_means};
+ghost use Rattle.plc_outparse.specs.Reading.{followed_by, depth_in, parts_in, outline_in};
+ghost use Rattle.plc_outparse.specs.Sizes.{depth_size};
+
+use crate::item::{Parts, read_items};
+use crate::item_form::{depth_at, outline_head_at};
+use crate::labels::labels_by_op;
+use plc_base::Items;
+use plc_forms::{Rest, closing_at};
+use plc_lang::Op;
+use plc_logic::Outline;
+use plc_scope::{ParseFault, Scope};
+use std::alloc::Global;
+
+// The depth, whose word stands at the place.
+fn depth(at: u32, number: Option<u32>) -> Result<u8, ParseFault>
+    requires { at + depth_size number < 2 ^ 32 }
+    ensures { Gives (λ depth. depth) result (depth_means at number) }
+{
+    match number {
+        None | Some(0) => Ok(0),
+        Some(1) => Ok(1),
+        Some(_) => Err(ParseFault::WrongSort { at: at + 1 }),
+    }
+}
+
+#[tactic(auto, unfolding(crate::specs::Reading::depth_in))]
+fn read_depth<'a>(start: Rest<'a>) -> Result<(u8, Rest<'a>), ParseFault>
+    ensures read { Gives (λ r. ((r.0, r.1.at), kinds r.1.tokens.now)) result (depth_in start.entry.at (kinds start.entry.tokens.now)) }
+    ensures place { IfOk result (λ r. Within start.entry r.1) }
+{
+    match depth_at(start) {
+        Some((number, behind)) => Ok((depth(start.at, number)?, behind)),
+        None => Err(ParseFault::Syntax { at: start.at }),
+    }
+}
+
+// Depth and items, from behind the opening brace, and the closing one.
+#[tactic(auto, unfolding(crate::specs::Reading::parts_in))]
+fn read_parts<'a>(
+    alloc: Global,
+    scope: &Scope,
+    ops: &[Op],
+    by_op: &[Items<u16>],
+    start: Rest<'a>,
+) -> Result<(Outline, Rest<'a>), ParseFault>
+    requires labels { length scope.now.labels ≤ 256 }
+    requires ops { OpsFit ops.now }
+    requires by_op { length by_op.now ≤ 32 }
+    ensures read { Gives (λ r. ((r.0, r.1.at), kinds r.1.tokens.now)) result (parts_in scope.now ops.now by_op.now start.entry.at (kinds start.entry.tokens.now)) }
+    ensures place { IfOk result (λ r. Within start.entry r.1) }
+{
+    let (depth, rest) = read_depth(start)?;
+    let mut parts = Parts {
+        invariants: Items::new(alloc),
+        items: Items::new(alloc),
+    };
+    let rest = read_items(alloc, scope, ops, by_op, &mut parts, rest)?;
+    let Some(behind) = closing_at(rest) else {
+        return Err(ParseFault::Syntax { at: rest.at });
+    };
+    let outline = Outline {
+        depth,
+        invariants: parts.invariants,
+        items: parts.items,
+    };
+    Ok((outline, behind))
+}
+
+// The outline at the front.
+#[tactic(auto, unfolding(crate::specs::Reading::outline_in))]
+fn outline_at<'a>(
+    alloc: Global,
+    scope: &Scope,
+    ops: &[Op],
+    start: Rest<'a>,
+) -> Result<(Outline, Rest<'a>), ParseFault>
+    requires labels { length scope.now.labels ≤ 256 }
+    requires ops { OpsFit ops.now }
+    ensures read { Gives (λ r. ((r.0, r.1.at), kinds r.1.tokens.now)) result (outline_in scope.now ops.now start.entry.at (kinds start.entry.tokens.now)) }
+    ensures place { IfOk result (λ r. Within start.entry r.1) }
+{
+    let Some(rest) = outline_head_at(start) else {
+        return Err(ParseFault::Syntax { at: start.at });
+    };
+    let by_op = labels_by_op(alloc, ops)?;
+    read_parts(alloc, scope, ops, by_op.as_slice(), rest)
+}
+
+/// Reads the outline of a file with these names and operations, and what is behind its closing brace;
+/// or the fault at the least token: `Undeclared` for a name without a declaration in reach, `Duplicate`
+/// for a quantified name that is there, `WrongSort` where a name, a term, a label of a second operation
+/// or the depth can't stand, and `Limit` at the first token past one. The scope is the one behind all
+/// operations. Tokens that no outline's tokens go on with are `Syntax`.
+pub fn read_outline<'a>(
+    alloc: Global,
+    scope: &Scope,
+    ops: &[Op],
+    start: Rest<'a>,
+) -> Result<(Outline, Rest<'a>), ParseFault>
+    requires labels { length scope.now.labels ≤ 256 }
+    requires ops { OpsFit ops.now }
+    ensures read { Gives (λ r. ((r.0, r.1.at), kinds r.1.tokens.now)) result (outline_in scope.now ops.now start.entry.at (kinds start.entry.tokens.now)) }
+    ensures means { (tree : OutlineTree) (behind : List TokenKind) → kinds start.entry.tokens.now ≡ outline_then tree behind
+        → Gives (λ r. ((r.0, r.1.at), kinds r.1.tokens.now)) result (followed_by behind (outline_means scope.now ops.now start.entry.at tree)) }
+    ensures place { IfOk result (λ r. Within start.entry r.1) }
+{
+    outline_at(alloc, scope, ops, start)
+}
+
+/// The law that an outline which has a meaning fits its file: it is within the limits, what its clauses
+/// name is there, both sides of an equation have one sort, no invariant names a local or a thread, and
+/// the labels of an item stand in one operation.
+pub fn outlines_fit()
+    ensures { OutlinesFit }
+{}

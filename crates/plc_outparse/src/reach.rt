@@ -1,0 +1,135 @@
+// What names are in the clauses of an outline: a quantified name, a local of the operation, or what
+// the name is in the file. A local of another operation has no declaration in reach.
+ghost use Rattle.std.specs.Prelude.{◌≡◌, ◌≤◌, ◌<◌, length};
+ghost use Rattle.plc_scope.specs.Answers.{Gives};
+ghost use Rattle.plc_scope.specs.Scope.{most_locals};
+ghost use Rattle.plc_outparse.specs.Reach.{auxiliary_sort, kind_outside, kind_of_local, kind_inside, declared_at, declared_kind, kind_of, known, base_at};
+ghost use Rattle.plc_outparse.specs.Views.{reach_of};
+
+use crate::kind::Kind;
+use plc_base::Names;
+use plc_lang::Local;
+use plc_logic::{Base, Sort};
+use plc_scope::{Binding, ParseFault, Scope};
+
+/// What is in reach in a clause.
+#[derive(Clone, Copy)]
+pub struct Reach<'a> {
+    pub scope: &'a Scope,
+    /// The locals of the operation; none in an invariant.
+    pub locals: &'a [Local],
+    /// A thread is in the operation; there is none in an invariant.
+    pub in_operation: bool,
+    /// The quantified names of the clause.
+    pub bound: &'a Names,
+}
+
+fn auxiliary_sort(g: u16, of_threads: bool) -> Sort
+    ensures { result ≡ auxiliary_sort g of_threads }
+{
+    if of_threads {
+        Sort::Thread
+    } else {
+        Sort::Value(g)
+    }
+}
+
+fn kind_outside(binding: Binding) -> Option<Kind>
+    ensures { result ≡ kind_outside binding }
+{
+    match binding {
+        Binding::Taken | Binding::Function(..) => Some(Kind::NoValue),
+        Binding::Shared(k) => Some(Kind::Node(Base::Shared(k))),
+        Binding::PointerField(f) => Some(Kind::Field(f, Sort::Node)),
+        Binding::DataField(f) => Some(Kind::Field(f, Sort::Number)),
+        Binding::Auxiliary(g, of_threads) => {
+            Some(Kind::Auxiliary(g, auxiliary_sort(g, of_threads)))
+        }
+        Binding::Value(g, v) => Some(Kind::Value(g, v)),
+        Binding::LocalOnly => None,
+    }
+}
+
+fn kind_of_local(number: u16, pointer: bool) -> Kind
+    ensures { result ≡ kind_of_local number pointer }
+{
+    if pointer {
+        Kind::Node(Base::Local(number))
+    } else {
+        Kind::Data(number)
+    }
+}
+
+// The local with a name's number, by its number among all locals.
+fn kind_inside(locals: &[Local], name: u16) -> Option<Kind>
+    requires { length locals.now ≤ most_locals }
+    ensures { result ≡ kind_inside 0 locals.now name }
+{
+    for (i, local) in locals.iter().enumerate() {
+        if local.name == name {
+            return Some(kind_of_local(i as u16, local.pointer));
+        }
+    }
+    None
+}
+
+// What the name with a number is, without the quantified names.
+fn declared_at(scope: &Scope, locals: &[Local], number: u16) -> Option<Kind>
+    requires { length locals.now ≤ most_locals }
+    ensures { result ≡ declared_at scope.now locals.now (Some number) }
+{
+    if let Some(kind) = kind_inside(locals, number) {
+        return Some(kind);
+    }
+    match scope.bindings.get(number as usize) {
+        Some(binding) => kind_outside(*binding),
+        None => None,
+    }
+}
+
+/// What a name is that isn't quantified, or `None` where it has no declaration in reach.
+#[tactic(auto, unfolding(crate::specs::Reach::declared_kind))]
+pub fn declared_kind(scope: &Scope, locals: &[Local], name: &[u8]) -> Option<Kind>
+    requires { length locals.now ≤ most_locals }
+    ensures { result ≡ declared_kind scope.now locals.now name.now }
+{
+    match scope.names.find(name) {
+        Some(number) => declared_at(scope, locals, number),
+        None => None,
+    }
+}
+
+/// What a name at a place is that isn't quantified. `Undeclared` where it has no declaration in reach.
+pub fn known(scope: &Scope, locals: &[Local], name: &[u8], at: u32) -> Result<Kind, ParseFault>
+    requires { length locals.now ≤ most_locals }
+    ensures { Gives (λ kind. kind) result (known at (declared_kind scope.now locals.now name.now)) }
+{
+    match declared_kind(scope, locals, name) {
+        Some(kind) => Ok(kind),
+        None => Err(ParseFault::Undeclared { at }),
+    }
+}
+
+/// What a name at a place of a clause is. `Undeclared` where it has no declaration in reach.
+#[tactic(auto, unfolding(crate::specs::Reach::kind_of))]
+pub fn kind_at(reach: &Reach, name: &[u8], at: u32) -> Result<Kind, ParseFault>
+    requires { length reach.now.locals.now ≤ most_locals }
+    ensures { Gives (λ kind. kind) result (known at (kind_of (reach_of reach.now) name.now)) }
+{
+    match reach.bound.find(name) {
+        Some(number) => Ok(Kind::Node(Base::Bound(number))),
+        None => known(reach.scope, reach.locals, name, at),
+    }
+}
+
+/// The base of a field that a name at a place is; `Undeclared`, or `WrongSort` for another thing.
+#[tactic(auto, unfolding(crate::specs::Reach::base_at))]
+pub fn base_at(reach: &Reach, name: &[u8], at: u32) -> Result<Base, ParseFault>
+    requires { length reach.now.locals.now ≤ most_locals }
+    ensures { Gives (λ base. base) result (base_at (reach_of reach.now) name.now at) }
+{
+    match kind_at(reach, name, at)? {
+        Kind::Node(base) => Ok(base),
+        _ => Err(ParseFault::WrongSort { at }),
+    }
+}

@@ -1,0 +1,186 @@
+// Where items put their clauses: over an operation, or at labels that stand in one operation. No local
+// is in reach where these are named.
+ghost use Rattle.std.specs.Prelude.{◌≡◌, ◌+◌, ◌<◌, ◌≤◌, ◌^◌, Some, IfOk, length};
+ghost use Rattle.plc_syntax.specs.Syntax.{kinds};
+ghost use Rattle.plc_base.specs.Names.{place_of};
+ghost use Rattle.plc_scope.specs.Answers.{Gives};
+ghost use Rattle.plc_scope.specs.Scope.{most_locals};
+ghost use Rattle.plc_outparse.specs.Answers.{Within, OpsFit};
+ghost use Rattle.plc_outparse.specs.Meaning.{op_named, op_at, locals_of, label_named, label_at, label_step};
+ghost use Rattle.plc_outparse.specs.Reading.{labels_in, all_labels_in};
+
+use crate::item_form::colon_at;
+use crate::labels::op_of_label;
+use crate::reach::known;
+use plc_base::Items;
+use plc_forms::{Rest, comma_name_at};
+use plc_lang::{Local, Op};
+use plc_scope::{ParseFault, Scope};
+use std::alloc::Global;
+
+// The operation with a name's number.
+fn op_with_name(ops: &[Op], name: u16) -> Option<u16>
+    requires { length ops.now ≤ 32 }
+    ensures { result ≡ op_named ops.now (Some name) }
+{
+    for (i, op) in ops.iter().enumerate() {
+        if op.name == name {
+            return Some(i as u16);
+        }
+    }
+    None
+}
+
+fn op_named(scope: &Scope, ops: &[Op], name: &[u8]) -> Option<u16>
+    requires { length ops.now ≤ 32 }
+    ensures { result ≡ op_named ops.now (place_of name.now scope.now.names.names) }
+{
+    match scope.names.find(name) {
+        Some(number) => op_with_name(ops, number),
+        None => None,
+    }
+}
+
+/// The operation that a name at a place is; `Undeclared`, or `WrongSort` for another thing.
+#[tactic(auto, unfolding(crate::specs::Meaning::op_at))]
+pub fn op_at(scope: &Scope, ops: &[Op], name: &[u8], at: u32) -> Result<u16, ParseFault>
+    requires { length ops.now ≤ 32 }
+    ensures { Gives (λ op. op) result (op_at scope.now ops.now name.now at) }
+{
+    let _kind = known(scope, &[], name, at)?;
+    match op_named(scope, ops, name) {
+        Some(op) => Ok(op),
+        None => Err(ParseFault::WrongSort { at }),
+    }
+}
+
+/// The locals of an operation.
+pub fn locals_of(ops: &[Op], op: u16) -> &[Local]
+    requires { OpsFit ops.now }
+    ensures locals { result.now ≡ locals_of ops.now op }
+    ensures few { length result.now ≤ most_locals }
+{
+    match ops.get(op as usize) {
+        Some(op) => op.locals.as_slice(),
+        None => &[],
+    }
+}
+
+// The label with a name's number.
+fn label_with_name(labels: &[u16], name: u16) -> Option<u16>
+    requires { length labels.now ≤ 256 }
+    ensures { result ≡ label_named labels.now (Some name) }
+{
+    for (i, label) in labels.iter().enumerate() {
+        if *label == name {
+            return Some(i as u16);
+        }
+    }
+    None
+}
+
+fn label_named(scope: &Scope, name: &[u8]) -> Option<u16>
+    requires { length scope.now.labels ≤ 256 }
+    ensures { result ≡ label_named scope.now.labels (place_of name.now scope.now.names.names) }
+{
+    match scope.names.find(name) {
+        Some(number) => label_with_name(scope.labels.as_slice(), number),
+        None => None,
+    }
+}
+
+// The label that a name at a place is, and the operation in which it stands; with the same faults.
+#[tactic(auto, unfolding(crate::specs::Meaning::label_at))]
+fn label_at(
+    scope: &Scope,
+    by_op: &[Items<u16>],
+    name: &[u8],
+    at: u32,
+) -> Result<(u16, u16), ParseFault>
+    requires labels { length scope.now.labels ≤ 256 }
+    requires ops { length by_op.now ≤ 32 }
+    ensures { Gives (λ r. (r.0, r.1)) result (label_at scope.now by_op.now name.now at) }
+{
+    let _kind = known(scope, &[], name, at)?;
+    let Some(label) = label_named(scope, name) else {
+        return Err(ParseFault::WrongSort { at });
+    };
+    match op_of_label(by_op, label) {
+        Some(op) => Ok((label, op)),
+        None => Err(ParseFault::WrongSort { at }),
+    }
+}
+
+// A further label, whose comma stands at the place. `WrongSort` where it stands in another operation.
+#[tactic(auto, unfolding(crate::specs::Meaning::label_step))]
+fn add_label(
+    scope: &Scope,
+    by_op: &[Items<u16>],
+    op: u16,
+    labels: &mut Items<u16>,
+    at: u32,
+    name: &[u8],
+) -> Result<(), ParseFault>
+    requires labels { length scope.now.labels ≤ 256 }
+    requires ops { length by_op.now ≤ 32 }
+    requires place { at + 2 < 2 ^ 32 }
+    ensures { Gives (λ _. (labels.new, at + 2)) result (label_step scope.now by_op.now op (labels.old, at) name.now) }
+{
+    let (label, found) = label_at(scope, by_op, name, at + 1)?;
+    if found != op {
+        return Err(ParseFault::WrongSort { at: at + 1 });
+    }
+    labels.push(label)?;
+    Ok(())
+}
+
+// The labels behind the first.
+fn read_further_labels<'a>(
+    scope: &Scope,
+    by_op: &[Items<u16>],
+    op: u16,
+    labels: &mut Items<u16>,
+    start: Rest<'a>,
+) -> Result<Rest<'a>, ParseFault>
+    requires labels { length scope.now.labels ≤ 256 }
+    requires ops { length by_op.now ≤ 32 }
+    ensures read { Gives (λ r. ((labels.new, r.at), kinds r.tokens.now)) result (labels_in scope.now by_op.now op (labels.old, start.entry.at) (kinds start.entry.tokens.now)) }
+    ensures place { IfOk result (λ r. Within start.entry r) }
+{
+    let mut rest = start;
+    for _ in 0..start.tokens.len() {
+        let Some((name, behind)) = comma_name_at(rest) else {
+            return Ok(rest);
+        };
+        add_label(scope, by_op, op, labels, rest.at, name)?;
+        rest = behind;
+    }
+    Err(ParseFault::Syntax { at: rest.at })
+}
+
+/// Labels and their colon, from behind the name of the first one, which stands at the place; and the
+/// operation in which they stand.
+#[tactic(auto, unfolding(crate::specs::Reading::all_labels_in))]
+pub fn read_labels<'a>(
+    alloc: Global,
+    scope: &Scope,
+    by_op: &[Items<u16>],
+    at: u32,
+    name: &[u8],
+    start: Rest<'a>,
+) -> Result<(Items<u16>, u16, Rest<'a>), ParseFault>
+    requires labels { length scope.now.labels ≤ 256 }
+    requires ops { length by_op.now ≤ 32 }
+    requires name { start.at ≡ at + 1 }
+    ensures read { Gives (λ r. (((r.0, r.2.at), r.1), kinds r.2.tokens.now)) result (all_labels_in scope.now by_op.now at name.now (kinds start.entry.tokens.now)) }
+    ensures place { IfOk result (λ r. Within start.entry r.2) }
+{
+    let (first, op) = label_at(scope, by_op, name, at)?;
+    let mut labels = Items::new(alloc);
+    labels.push(first)?;
+    let rest = read_further_labels(scope, by_op, op, &mut labels, start)?;
+    match colon_at(rest) {
+        Some(behind) => Ok((labels, op, behind)),
+        None => Err(ParseFault::Syntax { at: rest.at }),
+    }
+}

@@ -1,0 +1,192 @@
+// What terms and literals mean. A term is judged for itself, whichever sort it has; the second term of
+// an equation has to be of the first one's sort.
+ghost use Rattle.std.specs.Prelude.{◌≡◌, ◌+◌, ◌<◌, ◌≤◌, ◌^◌, length, Option, Some, None};
+ghost use Rattle.plc_syntax.specs.Trees.{PlaceOf, RetiredFlag};
+ghost use Rattle.plc_forms.specs.Sizes.{place_size};
+ghost use Rattle.plc_forms.specs.Views.{place_tree};
+ghost use Rattle.plc_scope.specs.Answers.{Gives};
+ghost use Rattle.plc_scope.specs.Scope.{most_locals};
+ghost use Rattle.plc_outparse.specs.Meaning.{place_means, me_means, term_means, sort_place, same_sort, second_means, flag_means, literal_means};
+ghost use Rattle.plc_outparse.specs.Reach.{base_term, as_term, as_field};
+ghost use Rattle.plc_outparse.specs.Sizes.{term_size, literal_size};
+ghost use Rattle.plc_outparse.specs.Views.{side_tree, claim_tree, reach_of};
+
+use crate::form::{Claim, Side};
+use crate::kind::Kind;
+use crate::reach::{Reach, base_at, kind_at};
+use plc_forms::Place;
+use plc_logic::{Base, Literal, Sort, Term};
+use plc_scope::ParseFault;
+
+fn base_term(base: Base) -> Term
+    ensures { result ≡ base_term base }
+{
+    match base {
+        Base::Shared(i) => Term::Shared(i),
+        Base::Local(i) => Term::Local(i),
+        Base::Bound(i) => Term::Bound(i),
+    }
+}
+
+// The term that a name alone is.
+fn as_term(kind: Kind) -> Option<(Term, Sort)>
+    ensures { result ≡ as_term kind }
+{
+    match kind {
+        Kind::Node(base) => Some((base_term(base), Sort::Node)),
+        Kind::Data(i) => Some((Term::Local(i), Sort::Number)),
+        Kind::Value(g, v) => Some((Term::Value { g, v }, Sort::Value(g))),
+        Kind::Field(..) | Kind::Auxiliary(..) | Kind::NoValue => None,
+    }
+}
+
+// The term that a name is behind a base and a dot.
+fn as_field(base: Base, kind: Kind) -> Option<(Term, Sort)>
+    ensures { result ≡ as_field base kind }
+{
+    match kind {
+        Kind::Field(f, sort) => Some((Term::FieldOf { base, f }, sort)),
+        Kind::Auxiliary(g, sort) => Some((Term::GhostOf { base, g }, sort)),
+        _ => None,
+    }
+}
+
+// A name alone.
+fn name(reach: &Reach, at: u32, name: &[u8]) -> Result<(Term, Sort), ParseFault>
+    requires { length reach.now.locals.now ≤ most_locals }
+    ensures { Gives (λ r. (r.0, r.1)) result (place_means (reach_of reach.now) at (PlaceOf name.now None)) }
+{
+    match as_term(kind_at(reach, name, at)?) {
+        Some(term) => Ok(term),
+        None => Err(ParseFault::WrongSort { at }),
+    }
+}
+
+// A field of a base.
+fn field(reach: &Reach, at: u32, name: &[u8], field: &[u8]) -> Result<(Term, Sort), ParseFault>
+    requires locals { length reach.now.locals.now ≤ most_locals }
+    requires place { at + 3 < 2 ^ 32 }
+    ensures { Gives (λ r. (r.0, r.1)) result (place_means (reach_of reach.now) at (PlaceOf name.now (Some field.now))) }
+{
+    let base = base_at(reach, name, at)?;
+    match as_field(base, kind_at(reach, field, at + 2)?) {
+        Some(term) => Ok(term),
+        None => Err(ParseFault::WrongSort { at: at + 2 }),
+    }
+}
+
+fn place(reach: &Reach, at: u32, place: Place) -> Result<(Term, Sort), ParseFault>
+    requires locals { length reach.now.locals.now ≤ most_locals }
+    requires place { at + place_size (place_tree place) < 2 ^ 32 }
+    ensures { Gives (λ r. (r.0, r.1)) result (place_means (reach_of reach.now) at (place_tree place.entry)) }
+{
+    match place.field {
+        None => name(reach, at, place.name),
+        Some(behind) => field(reach, at, place.name, behind),
+    }
+}
+
+// The thread that is in the operation, which an invariant lacks.
+fn me(in_operation: bool, at: u32) -> Result<(Term, Sort), ParseFault>
+    ensures { Gives (λ r. (r.0, r.1)) result (me_means in_operation at) }
+{
+    if in_operation {
+        Ok((Term::Me, Sort::Thread))
+    } else {
+        Err(ParseFault::WrongSort { at })
+    }
+}
+
+// A term with its sort.
+#[tactic(auto, unfolding(crate::specs::Meaning::term_means))]
+fn term(reach: &Reach, at: u32, side: Side) -> Result<(Term, Sort), ParseFault>
+    requires locals { length reach.now.locals.now ≤ most_locals }
+    requires place { at + term_size (side_tree side) < 2 ^ 32 }
+    ensures { Gives (λ r. (r.0, r.1)) result (term_means (reach_of reach.now) at (side_tree side.entry)) }
+{
+    match side {
+        Side::Place(form) => place(reach, at, form),
+        Side::Null => Ok((Term::Null, Sort::Node)),
+        Side::Number(n) => Ok((Term::Number(n), Sort::Number)),
+        Side::Me => me(reach.in_operation, at),
+        Side::None => Ok((Term::Nobody, Sort::Thread)),
+    }
+}
+
+// The token by which a term has its sort.
+fn sort_place(at: u32, side: Side) -> u32
+    requires { at + term_size (side_tree side) < 2 ^ 32 }
+    ensures { result ≡ sort_place at (side_tree side.entry) }
+{
+    match side {
+        Side::Place(Place { field: Some(_), .. }) => at + 2,
+        _ => at,
+    }
+}
+
+fn same_sort(a: Sort, b: Sort) -> bool
+    ensures { result ≡ same_sort a b }
+{
+    match (a, b) {
+        (Sort::Node, Sort::Node) | (Sort::Number, Sort::Number) | (Sort::Thread, Sort::Thread) =>
+            true,
+        (Sort::Value(g), Sort::Value(h)) => g == h,
+        _ => false,
+    }
+}
+
+// The second term of an equation, which has the sort of the first.
+#[tactic(auto, unfolding(crate::specs::Meaning::second_means))]
+fn second(reach: &Reach, sort: Sort, at: u32, side: Side) -> Result<Term, ParseFault>
+    requires locals { length reach.now.locals.now ≤ most_locals }
+    requires place { at + term_size (side_tree side) < 2 ^ 32 }
+    ensures { Gives (λ r. r) result (second_means (reach_of reach.now) sort at (side_tree side.entry)) }
+{
+    let (second, found) = term(reach, at, side)?;
+    if same_sort(found, sort) {
+        Ok(second)
+    } else {
+        Err(ParseFault::WrongSort {
+            at: sort_place(at, side),
+        })
+    }
+}
+
+// Whether a node is retired.
+fn flag(reach: &Reach, yes: bool, at: u32, name: &[u8]) -> Result<Literal, ParseFault>
+    requires locals { length reach.now.locals.now ≤ most_locals }
+    requires place { at + 4 < 2 ^ 32 }
+    ensures { Gives (λ r. r) result (flag_means (reach_of reach.now) yes at (RetiredFlag name.now)) }
+{
+    let x = base_at(reach, name, at + 2)?;
+    Ok(Literal::Retired { x, yes })
+}
+
+/// The literal of a form at a place. `Undeclared` for a name without a declaration in reach, and
+/// `WrongSort` for a term that can't stand there or a second one of another sort than the first.
+#[tactic(auto, unfolding(crate::specs::Meaning::literal_means))]
+pub fn literal(reach: &Reach, at: u32, form: Claim) -> Result<Literal, ParseFault>
+    requires locals { length reach.now.locals.now ≤ most_locals }
+    requires place { at + literal_size (claim_tree form) < 2 ^ 32 }
+    ensures { Gives (λ r. r) result (literal_means (reach_of reach.now) at (claim_tree form.entry)) }
+{
+    match form {
+        Claim::Retired(name) => flag(reach, true, at, name),
+        Claim::NotRetired(name) => flag(reach, false, at + 1, name),
+        Claim::Equation(left, equal, right) => {
+            let (a, sort) = term(reach, at, left)?;
+            let b = second(reach, sort, at + side_size(left) + 1, right)?;
+            Ok(Literal::Same { a, b, equal })
+        }
+    }
+}
+
+// How many tokens a side has.
+fn side_size(side: Side) -> u32
+    ensures { result ≡ term_size (side_tree side.entry) }
+{
+    match side {
+        Side::Place(Place { field: Some(_), .. }) => 3,
+        _ => 1,
+    }
+}
