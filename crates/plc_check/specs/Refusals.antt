@@ -7,9 +7,9 @@ use Rattle.plc_lex.specs.declared.fault.LexFault.TheVariants as lex
 use Rattle.plc_scope.specs.declared.fault.ParseFault.{ParseFault}
 use Rattle.plc_scope.specs.declared.fault.ParseFault.TheVariants as parse
 use Rattle.plc_parse.specs.declared.unit.Unit.{Unit as FileUnit}
-use Rattle.plc_lang.specs.Fit.{FileFits}
+use Rattle.plc_lang.specs.Fit.{FileFits, NamesWhatIsThere}
 use Rattle.plc_flow.specs.Lowering.{made_of, most_points}
-use Rattle.plc_flow.specs.WellFormed.{IsWellFormed}
+use Rattle.plc_flow.specs.WellFormed.{FlowFits}
 use Rattle.plc_check.specs.declared.judged.Judged.{Judged}
 use Rattle.plc_check.specs.declared.judged.LoadFault.{LoadFault}
 use Rattle.plc_check.specs.declared.judged.LoadFault.TheVariants as faults
@@ -44,7 +44,7 @@ pub record HasManyPoints (u : FileUnit) (e : LoadFault) : Type 0 where
 
 -- the flow of a unit, or too many points; memory may be wanting
 abbrev pub IsLowered : FileUnit → Result Judged LoadFault → Type 0
-IsLowered u (Ok j) = (j ≡ judged_of u) × ((made_of u.file).points ≤ most_points) × (FileFits u.file → IsWellFormed j.flow)
+IsLowered u (Ok j) = (j ≡ judged_of u) × ((made_of u.file).points ≤ most_points) × (FileFits u.file → NamesWhatIsThere u.file → FlowFits j.flow)
 IsLowered u (Err faults.Memory) = Unit {0}
 IsLowered u (Err (faults.Limit what count)) = HasManyPoints u (faults.Limit what count)
 IsLowered u (Err faults.Unread) = ⊥

@@ -1,6 +1,6 @@
 // Bytes, tokens, unit, flow: the first refusal on this way is the answer.
 ghost use Rattle.std.specs.Prelude.{◌≡◌, ◌≤◌, ◌+◌, ◌==◌, count_by, length, IfOk};
-ghost use Rattle.plc_flow.specs.WellFormed.{IsWellFormed};
+ghost use Rattle.plc_flow.specs.WellFormed.{FlowFits};
 ghost use Rattle.plc_lang.specs.Fit.{FileFits};
 ghost use Rattle.plc_check.specs.Loading.{IsLoaded, FilesAreUnique, line_of, place_of};
 ghost use Rattle.plc_check.specs.Refusals.{lex_refusal, parse_refusal, unplaced, IsLowered};
@@ -109,7 +109,7 @@ fn lowered(alloc: Global, unit: Unit) -> Result<Judged, LoadFault>
 pub fn load(alloc: Global, bytes: &[u8], unread: Unread) -> Result<Judged, LoadFault>
     requires { length bytes.now ≤ 1048576 }
     ensures loaded { IsLoaded unread bytes.now result }
-    ensures fits { IfOk result (λ j. IsWellFormed j.flow) }
+    ensures fits { IfOk result (λ j. FlowFits j.flow) }
     ensures file { IfOk result (λ j. FileFits j.flow.file) }
 {
     let found = match tokens(alloc, bytes) {
