@@ -6,10 +6,12 @@ mod failing;
 mod names;
 mod push;
 mod refusals;
+mod replays;
 mod typing;
 
 pub use failing::untyped;
 pub use refusals::{fixed, lexical, limit, parsed};
+pub use replays::{ended, unscheduled};
 pub use typing::safe;
 
 #[cfg(test)]

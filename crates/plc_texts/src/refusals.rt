@@ -15,8 +15,8 @@ pub fn fixed(alloc: Global, text: &str) -> Result<Vec<u8>, AllocError>
     Vec::from_slice(alloc, text.as_bytes())
 }
 
-// A number behind words, and the end of the line.
-fn numbered(alloc: Global, words: &str, number: u32) -> Result<Vec<u8>, AllocError>
+/// A number behind words, and the end of the line.
+pub(crate) fn numbered(alloc: Global, words: &str, number: u32) -> Result<Vec<u8>, AllocError>
     ensures { IfOk result (λ v. v.items ≡ words.now ++ decimal number ++ codes "\n") }
 {
     let mut out = fixed(alloc, words)?;

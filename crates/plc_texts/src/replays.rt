@@ -1,0 +1,97 @@
+// What a schedule leads to, and why bytes are no schedule, as texts.
+ghost use Rattle.std.specs.Prelude.{◌≡◌, ◌++◌, IfOk, OnOk, codes, decimal};
+ghost use Rattle.plc_texts.specs.Replays.{end_text, race_name, schedule_text};
+
+use crate::push::{push, push_number};
+use crate::refusals::{fixed, numbered};
+use plc_mem::RaceKind;
+use plc_replay::End;
+use plc_sched::SchedFault;
+use std::alloc::{AllocError, Global};
+
+// The word of a race.
+fn race_name(kind: RaceKind) -> &'static str
+    ensures { result.now ≡ race_name kind }
+{
+    match kind {
+        RaceKind::Deref => "deref",
+        RaceKind::Compare => "compare",
+        RaceKind::Pass => "pass",
+        RaceKind::Double => "double",
+    }
+}
+
+// A number behind words.
+fn push_numbered(
+    alloc: Global,
+    out: &mut Vec<u8>,
+    words: &str,
+    number: u32,
+) -> Result<(), AllocError>
+    ensures { OnOk result (out.new.items ≡ out.old.items ++ words.now ++ decimal number) }
+{
+    push(out, words)?;
+    push_number(alloc, out, u64::from(number))
+}
+
+// The schedule was followed to its end.
+fn followed(alloc: Global, lines: u32, events: u32, freed: u32) -> Result<Vec<u8>, AllocError>
+    ensures { IfOk result (λ v. v.items ≡ codes "end lines " ++ decimal lines ++ codes " events " ++ decimal events ++ codes " freed " ++ decimal freed ++ codes "\n") }
+{
+    let mut out = Vec::new(alloc);
+    push_numbered(alloc, &mut out, "end lines ", lines)?;
+    push_numbered(alloc, &mut out, " events ", events)?;
+    push_numbered(alloc, &mut out, " freed ", freed)?;
+    push(&mut out, "\n")?;
+    Ok(out)
+}
+
+// A race of a primitive.
+fn raced(alloc: Global, kind: RaceKind, line: u32, prim: u16) -> Result<Vec<u8>, AllocError>
+    ensures { IfOk result (λ v. v.items ≡ codes "race " ++ race_name kind ++ codes " line " ++ decimal line ++ codes " prim " ++ decimal prim ++ codes "\n") }
+{
+    let mut out = fixed(alloc, "race ")?;
+    push(&mut out, race_name(kind))?;
+    push_numbered(alloc, &mut out, " line ", line)?;
+    push_numbered(alloc, &mut out, " prim ", u32::from(prim))?;
+    push(&mut out, "\n")?;
+    Ok(out)
+}
+
+// A free that isn't allowed.
+fn forbidden(alloc: Global, a: u32, line: u32) -> Result<Vec<u8>, AllocError>
+    ensures { IfOk result (λ v. v.items ≡ codes "forbidden free " ++ decimal a ++ codes " line " ++ decimal line ++ codes "\n") }
+{
+    let mut out = Vec::new(alloc);
+    push_numbered(alloc, &mut out, "forbidden free ", a)?;
+    push_numbered(alloc, &mut out, " line ", line)?;
+    push(&mut out, "\n")?;
+    Ok(out)
+}
+
+/// What a schedule leads to.
+pub fn ended(alloc: Global, end: &End) -> Result<Vec<u8>, AllocError>
+    ensures { IfOk result (λ v. v.items ≡ end_text end.now) }
+{
+    match *end {
+        End::Ended {
+            lines,
+            events,
+            freed,
+        } => followed(alloc, lines, events, freed),
+        End::Race { kind, line, prim } => raced(alloc, kind, line, prim),
+        End::Impossible { line } => numbered(alloc, "impossible line ", line),
+        End::ForbiddenFree { a, line } => forbidden(alloc, a, line),
+    }
+}
+
+/// Bytes that spell no schedule: the line. A want of memory has no text.
+pub fn unscheduled(alloc: Global, fault: SchedFault) -> Result<Vec<u8>, AllocError>
+    ensures { IfOk result (λ v. v.items ≡ schedule_text fault) }
+{
+    match fault {
+        SchedFault::Line { n } => numbered(alloc, "refused schedule line ", n),
+        SchedFault::Limit { count } => numbered(alloc, "refused limit lines ", count),
+        SchedFault::Memory => Ok(Vec::new(alloc)),
+    }
+}
