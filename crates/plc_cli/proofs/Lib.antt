@@ -1,1 +1,4 @@
 pub mod Judging
+pub mod Positions
+pub mod Statuses
+pub mod TwoReads

@@ -1,5 +1,6 @@
 //! The command line: `run` does all that the program does. It takes the words, reads the files that
-//! they name, and answers with a status and a text.
+//! they name, and answers with a status and a text: the verdict on a file (`check`), its canonical text
+//! (`print`), or what a recorded schedule leads to (`replay`).
 //!
 //! # What a 0 of `check` means
 //!
@@ -7,22 +8,31 @@
 //! threads, each in any operation, and takes their steps in any order; an allocation may take any
 //! address that isn't used, and the reclaimer may free whatever the file's observer allows. A step
 //! is a pointer race where it goes through a pointer that a free made invalid, compares such a
-//! pointer or hands it to the reclaimer, and a second retire where it hands over an address that is
+//! pointer or passes it to `retire`, and a second retire where it hands over an address that is
 //! retired already.
 //!
 //! `run` promises, as the clause `headline`, that where it ends with 0 for the words `check` and a
 //! name, the bytes under that name spell a program, and where no step of it calls `retire`, that no
-//! run of it has such a step; and it ends so exactly where a typing by the written rules exists. Where files tell no content, as the real ones
-//! do, the clause `outcome` still says that the answer is the one that is due for some bytes.
+//! run of it has such a step. Want of memory and faults of the outside aside, it ends so exactly where
+//! a typing by the written rules exists. Where files tell no content, as the real ones do, the clause
+//! `outcome` still says that the answer is the one that is due for some bytes.
 #![tactic(auto)]
 
+mod answer;
+mod checking;
+mod printing;
 mod program;
+mod reading;
+mod replaying;
 mod words;
 
 pub use plc_outside::{
     FailSink, FileFault, Files, MemFiles, OutSink, RealFiles, Sink, SinkFault, VecSink,
 };
+pub use plc_reclaim::{ByList, Leak, Reclaimer};
 pub use program::run;
 
+#[cfg(test)]
+mod memory_tests;
 #[cfg(test)]
 mod tests;

@@ -1,111 +1,71 @@
-// One way through the program: words, read, answer, write. Nothing is written before the whole text
+// One way through the program: words, reads, answer, write. Nothing is written before the whole text
 // is there, so a refusal for want of memory before that leaves the output as it was.
-ghost use Rattle.std.specs.Prelude.{◌≡◌, ◌≤◌, IfOk, Some, map, string_bytes, length};
-ghost use Rattle.plc_flow.specs.WellFormed.{IsWellFormed};
-ghost use Rattle.plc_lang.specs.Fit.{FileFits};
-ghost use Rattle.plc_cli.specs.Refusals.{load_text};
-ghost use Rattle.plc_cli.specs.Answer.{IsAnswerTo, IsJudgedAs, IsDueFor, Outcome, file_of, largest};
+ghost use Rattle.std.specs.Prelude.{◌≡◌, IfOk, Some, None, map, string_bytes};
+ghost use Rattle.plc_texts.specs.Refusals.{words_refused};
+ghost use Rattle.plc_cli.specs.Requests.{request_of};
+ghost use Rattle.plc_cli.specs.Reads.{Only, IsDueForFile, known};
+ghost use Rattle.plc_cli.specs.Answer.{IsAnswerTo, IsPrintOf, IsDueForReplay, IsDueFor, Outcome, largest};
 ghost use Rattle.plc_cli.specs.Headline.{Headline};
 
-use crate::words::file_named;
-use plc_base::NoMemory;
-use plc_check::{Judged, LoadFault, Unread, Verdict, check, load};
-use plc_outside::{FileFault, Files, Sink, SinkFault, write_text};
-use plc_texts::{fixed, lexical, limit, parsed, safe, untyped};
+use crate::answer::{Answer, fixed_answer};
+use crate::checking::checked;
+use crate::printing::printed;
+use crate::reading::{Content, read};
+use crate::replaying::replayed;
+use crate::words::{Request, requested};
+use plc_outside::{Files, Sink, SinkFault, write_text};
+use plc_reclaim::Reclaimer;
 use std::alloc::{AllocError, Global};
 
 const LARGEST: usize = 1_048_576;
 
-/// A status with its text.
-#[derive(Drop)]
-struct Answer {
-    status: u8,
-    text: Vec<u8>,
-}
+const LARGEST_SCHEDULE: usize = 4_194_304;
 
-// The text of a refusal; a want of memory has none.
-fn refusal_text(alloc: Global, fault: &LoadFault) -> Result<Vec<u8>, AllocError>
-    ensures { IfOk result (λ text. text.items ≡ load_text fault.now) }
+// The answer to `check FILE`.
+fn answer_to_check<F: Files>(alloc: Global, file: &str, files: &mut F) -> Result<Answer, AllocError>
+    ensures { IfOk result (λ answer. IsDueForFile (Only file.now) (known (F.content files.old) (F.faults files.old) (F.faults files.new) (F.taken files.new)) file.now largest (λ bytes. IsAnswerTo bytes answer.status answer.text.items) answer.status answer.text.items) }
 {
-    match fault {
-        LoadFault::Lex(fault) => lexical(alloc, *fault),
-        LoadFault::Unread => fixed(alloc, "refused file\n"),
-        LoadFault::Parse { fault, line } => parsed(alloc, fault, *line),
-        LoadFault::Limit { what, count } => limit(alloc, *what, *count),
-        LoadFault::Memory => Ok(Vec::new(alloc)),
+    match read(alloc, files, file, LARGEST)? {
+        Content::Read(bytes) => checked(alloc, &bytes),
+        Content::Unread(answer) => Ok(answer),
     }
 }
 
-// The answer to a file that is refused.
-fn refusal(alloc: Global, fault: &LoadFault) -> Result<Answer, AllocError>
-    ensures { IfOk result (λ answer. (answer.status ≡ 2) × (answer.text.items ≡ load_text fault.now)) }
+// The answer to `print FILE`.
+fn answer_to_print<F: Files>(alloc: Global, file: &str, files: &mut F) -> Result<Answer, AllocError>
+    ensures { IfOk result (λ answer. IsDueForFile (Only file.now) (known (F.content files.old) (F.faults files.old) (F.faults files.new) (F.taken files.new)) file.now largest (λ bytes. IsPrintOf bytes answer.status answer.text.items) answer.status answer.text.items) }
 {
-    Ok(Answer {
-        status: 2,
-        text: refusal_text(alloc, fault)?,
-    })
-}
-
-// The answer to a file that was loaded.
-fn judge(alloc: Global, judged: &Judged) -> Result<Answer, AllocError>
-    requires flow { IsWellFormed judged.now.flow }
-    requires file { FileFits judged.now.flow.file }
-    ensures { IfOk result (λ answer. IsJudgedAs judged.now answer.status answer.text.items) }
-{
-    match check(alloc, judged) {
-        Ok(
-            Verdict::Safe {
-                typing,
-                obligations,
-            },
-        ) => Ok(Answer {
-            status: 0,
-            text: safe(
-                alloc,
-                &judged.flow,
-                &judged.observer,
-                typing.env.as_slice(),
-                obligations,
-            )?,
-        }),
-        Ok(Verdict::Untyped { step, prim, fault }) => Ok(Answer {
-            status: 1,
-            text: untyped(alloc, &judged.flow, step.0, prim, fault)?,
-        }),
-        Err(NoMemory) => Err(AllocError),
+    match read(alloc, files, file, LARGEST)? {
+        Content::Read(bytes) => printed(alloc, &bytes),
+        Content::Unread(answer) => Ok(answer),
     }
 }
 
-// The answer to the bytes of a file.
-fn answer_to_bytes(alloc: Global, bytes: &[u8]) -> Result<Answer, AllocError>
-    requires { length bytes.now ≤ largest }
-    ensures { IfOk result (λ answer. IsAnswerTo bytes.now answer.status answer.text.items) }
+// The answer to `replay FILE SCHEDULE RECLAIMER`: the files are read in this order.
+fn answer_to_replay<F: Files>(
+    alloc: Global,
+    file: &str,
+    schedule: &str,
+    files: &mut F,
+    reclaimer: &mut Box<dyn Reclaimer>,
+) -> Result<Answer, AllocError>
+    ensures { IfOk result (λ answer. IsDueForReplay (record { begun = begun reclaimer.old; meanings = record { after = after reclaimer.old; picked = picked reclaimer.old; pick_of = pick_of reclaimer.old } }) (known (F.content files.old) (F.faults files.old) (F.faults files.new) (F.taken files.new)) file.now schedule.now answer.status answer.text.items) }
 {
-    match load(alloc, bytes, Unread::ClaimsAndOutlines) {
-        Ok(judged) => judge(alloc, &judged),
-        Err(LoadFault::Memory) => Err(AllocError),
-        Err(fault) => refusal(alloc, &fault),
+    let bytes = match read(alloc, files, file, LARGEST)? {
+        Content::Read(bytes) => bytes,
+        Content::Unread(answer) => return Ok(answer),
+    };
+    match read(alloc, files, schedule, LARGEST_SCHEDULE)? {
+        Content::Read(second) => replayed(alloc, &bytes, &second, reclaimer),
+        Content::Unread(answer) => Ok(answer),
     }
 }
 
-// The answer to a file by its name.
-fn answer_to_name<F: Files>(alloc: Global, name: &str, files: &mut F) -> Result<Answer, AllocError>
-    ensures { IfOk result (λ answer. IsDueFor
-        (record { content = F.content files.old; faults_before = F.faults files.old; faults_now = F.faults files.new; taken = F.taken files.new })
-        (Some name.now) answer.status answer.text.items) }
+// The answer to words of no listed form.
+fn words_refused(alloc: Global) -> Result<Answer, AllocError>
+    ensures { IfOk result (λ answer. (answer.status ≡ 3) × (answer.text.items ≡ words_refused)) }
 {
-    match files.read(name, LARGEST) {
-        Ok(bytes) => answer_to_bytes(alloc, &bytes),
-        Err(FileFault::Failed) => Ok(Answer {
-            status: 4,
-            text: fixed(alloc, "read failed\n")?,
-        }),
-        Err(FileFault::TooLong) => Ok(Answer {
-            status: 4,
-            text: fixed(alloc, "read too long\n")?,
-        }),
-        Err(FileFault::Memory) => Err(AllocError),
-    }
+    fixed_answer(alloc, 3, "words refused\n")
 }
 
 // The answer to the words.
@@ -113,33 +73,47 @@ fn answer_to_words<F: Files>(
     alloc: Global,
     words: &[String],
     files: &mut F,
+    reclaimers: &mut [Box<dyn Reclaimer>],
 ) -> Result<Answer, AllocError>
     ensures { IfOk result (λ answer. IsDueFor
-        (record { content = F.content files.old; faults_before = F.faults files.old; faults_now = F.faults files.new; taken = F.taken files.new })
-        (file_of (map string_bytes words.now)) answer.status answer.text.items) }
+        (map (λ b. record { begun = (⟦<dyn Reclaimer as Reclaimer>⟧ b.vtable).begun b.value; meanings = record { after = (⟦<dyn Reclaimer as Reclaimer>⟧ b.vtable).after b.value; picked = (⟦<dyn Reclaimer as Reclaimer>⟧ b.vtable).picked b.value; pick_of = (⟦<dyn Reclaimer as Reclaimer>⟧ b.vtable).pick_of b.value } }) reclaimers.old)
+        (known (F.content files.old) (F.faults files.old) (F.faults files.new) (F.taken files.new))
+        (request_of (map (λ b. (⟦<dyn Reclaimer as Reclaimer>⟧ b.vtable).named b.value) reclaimers.old) (map string_bytes words.now)) answer.status answer.text.items) }
 {
-    match file_named(words) {
-        Some(name) => answer_to_name(alloc, name, files),
-        None => Ok(Answer {
-            status: 3,
-            text: fixed(alloc, "words refused\n")?,
-        }),
+    match requested(reclaimers, words) {
+        Some(Request::Check { file }) => answer_to_check(alloc, file, files),
+        Some(Request::Print { file }) => answer_to_print(alloc, file, files),
+        Some(
+            Request::Replay {
+                file,
+                schedule,
+                reclaimer,
+            },
+        ) => match reclaimers.get_mut(reclaimer) {
+            Some(reclaimer) => answer_to_replay(alloc, file, schedule, files, reclaimer),
+            None => words_refused(alloc),
+        },
+        None => words_refused(alloc),
     }
 }
 
-/// All that the program does: the status, after the text was written.
-///
-/// `words` are those after the program's name. The statuses and the causes of each are in
-/// docs/formats.md; what a 0 of `check` means stands above, and in docs/runs.md.
-pub fn run<F: Files, S: Sink>(alloc: Global, words: &[String], files: &mut F, out: &mut S) -> u8
+// The answer to the words, written.
+fn respond<F: Files, S: Sink>(
+    alloc: Global,
+    words: &[String],
+    files: &mut F,
+    out: &mut S,
+    reclaimers: &mut [Box<dyn Reclaimer>],
+) -> u8
     ensures outcome { Outcome
-        (record { content = F.content files.old; faults_before = F.faults files.old; faults_now = F.faults files.new; taken = F.taken files.new })
-        (map string_bytes words.now) result (S.faults out.old) (S.faults out.new) (S.written out.old) (S.written out.new) }
-    ensures headline { Headline
-        (record { content = F.content files.old; faults_before = F.faults files.old; faults_now = F.faults files.new; taken = F.taken files.new })
-        (map string_bytes words.now) result }
+        (map (λ b. record { begun = (⟦<dyn Reclaimer as Reclaimer>⟧ b.vtable).begun b.value; meanings = record { after = (⟦<dyn Reclaimer as Reclaimer>⟧ b.vtable).after b.value; picked = (⟦<dyn Reclaimer as Reclaimer>⟧ b.vtable).picked b.value; pick_of = (⟦<dyn Reclaimer as Reclaimer>⟧ b.vtable).pick_of b.value } }) reclaimers.old)
+        (known (F.content files.old) (F.faults files.old) (F.faults files.new) (F.taken files.new))
+        (request_of (map (λ b. (⟦<dyn Reclaimer as Reclaimer>⟧ b.vtable).named b.value) reclaimers.old) (map string_bytes words.now))
+        result (S.faults out.old) (S.faults out.new) (S.written out.old) (S.written out.new) }
+    ensures headline { Headline (known (F.content files.old) (F.faults files.old) (F.faults files.new) (F.taken files.new))
+        (request_of (map (λ b. (⟦<dyn Reclaimer as Reclaimer>⟧ b.vtable).named b.value) reclaimers.old) (map string_bytes words.now)) result }
 {
-    match answer_to_words(alloc, words, files) {
+    match answer_to_words(alloc, words, files, reclaimers) {
         Err(AllocError) => 6,
         Ok(answer) => match write_text(out, &answer.text) {
             Ok(()) => answer.status,
@@ -147,4 +121,27 @@ pub fn run<F: Files, S: Sink>(alloc: Global, words: &[String], files: &mut F, ou
             Err(SinkFault::Memory) => 6,
         },
     }
+}
+
+/// All that the program does: the status, after the text was written.
+///
+/// `words` are those after the program's name, and `boxes` the reclaimers that a replay may ask for by
+/// name; of those of one name the first counts, and all are dropped at the end. The statuses and the
+/// causes of each are in docs/formats.md; what a 0 of `check` means stands above, and in docs/runs.md.
+pub fn run<F: Files, S: Sink>(
+    alloc: Global,
+    words: &[String],
+    files: &mut F,
+    out: &mut S,
+    mut boxes: Vec<Box<dyn Reclaimer>>,
+) -> u8
+    ensures outcome { Outcome
+        (map (λ b. record { begun = (⟦<dyn Reclaimer as Reclaimer>⟧ b.vtable).begun b.value; meanings = record { after = (⟦<dyn Reclaimer as Reclaimer>⟧ b.vtable).after b.value; picked = (⟦<dyn Reclaimer as Reclaimer>⟧ b.vtable).picked b.value; pick_of = (⟦<dyn Reclaimer as Reclaimer>⟧ b.vtable).pick_of b.value } }) boxes.items)
+        (known (F.content files.old) (F.faults files.old) (F.faults files.new) (F.taken files.new))
+        (request_of (map (λ b. (⟦<dyn Reclaimer as Reclaimer>⟧ b.vtable).named b.value) boxes.items) (map string_bytes words.now))
+        result (S.faults out.old) (S.faults out.new) (S.written out.old) (S.written out.new) }
+    ensures headline { Headline (known (F.content files.old) (F.faults files.old) (F.faults files.new) (F.taken files.new))
+        (request_of (map (λ b. (⟦<dyn Reclaimer as Reclaimer>⟧ b.vtable).named b.value) boxes.items) (map string_bytes words.now)) result }
+{
+    respond(alloc, words, files, out, &mut boxes)
 }

@@ -1,20 +1,99 @@
 // The words after the program's name, compared whole and by hand: there are no options.
 ghost use Rattle.std.specs.Prelude.{◌≡◌, map, string_bytes};
 ghost use Rattle.std.specs.Option.{option_map};
-ghost use Rattle.plc_cli.specs.Answer.{file_of};
+ghost use Rattle.std.specs.List.{position_from};
+ghost use Rattle.std.specs.Str.{bytes_eq};
+ghost use Rattle.plc_cli.specs.Requests.{request_of, request_of_two, request_of_four};
+ghost use Rattle.plc_cli.specs.Views.{request_view};
 
-/// The file of `check FILE`, or `None` for all other words.
-pub(crate) fn file_named(words: &[String]) -> Option<&str>
-    ensures { option_map (λ name. name.now) result ≡ file_of (map string_bytes words.now) }
+use plc_reclaim::Reclaimer;
+
+/// What words ask for.
+#[derive(Clone, Copy)]
+pub(crate) enum Request<'a> {
+    /// The verdict on a file.
+    Check {
+        file: &'a str,
+    },
+    /// A file in canonical text.
+    Print {
+        file: &'a str,
+    },
+    /// What a schedule leads to under the reclaimer with this number.
+    Replay {
+        file: &'a str,
+        schedule: &'a str,
+        reclaimer: usize,
+    },
+}
+
+// Whether a reclaimer has this name.
+fn is_named(reclaimer: &Box<dyn Reclaimer>, name: &str) -> bool
+    ensures { result ≡ bytes_eq name.now (named reclaimer.now) }
+{
+    name == reclaimer.name()
+}
+
+// The number of the first reclaimer of this name.
+fn reclaimer_named(reclaimers: &[Box<dyn Reclaimer>], name: &str) -> Option<usize>
+    ensures { result ≡ position_from (bytes_eq name.now) 0 (map (λ b. (⟦<dyn Reclaimer as Reclaimer>⟧ b.vtable).named b.value) reclaimers.now) }
+{
+    for i in 0..reclaimers.len() {
+        if is_named(&reclaimers[i], name) {
+            return Some(i);
+        }
+    }
+    None
+}
+
+// A command with one file.
+fn request_of_two<'a>(command: &str, file: &'a str) -> Option<Request<'a>>
+    ensures { option_map request_view result ≡ request_of_two command.now file.now }
+{
+    match command {
+        "check" => Some(Request::Check { file }),
+        "print" => Some(Request::Print { file }),
+        _ => None,
+    }
+}
+
+// A command with two files and a reclaimer.
+fn request_of_four<'a>(
+    reclaimers: &[Box<dyn Reclaimer>],
+    command: &str,
+    file: &'a str,
+    schedule: &'a str,
+    name: &str,
+) -> Option<Request<'a>>
+    ensures { option_map request_view result ≡ request_of_four (map (λ b. (⟦<dyn Reclaimer as Reclaimer>⟧ b.vtable).named b.value) reclaimers.now) command.now file.now schedule.now name.now }
+{
+    if command != "replay" {
+        return None;
+    }
+    let reclaimer = reclaimer_named(reclaimers, name)?;
+    Some(Request::Replay {
+        file,
+        schedule,
+        reclaimer,
+    })
+}
+
+/// What words ask for, or `None` where they are of no listed form.
+pub(crate) fn requested<'a>(
+    reclaimers: &[Box<dyn Reclaimer>],
+    words: &'a [String],
+) -> Option<Request<'a>>
+    ensures { option_map request_view result ≡ request_of (map (λ b. (⟦<dyn Reclaimer as Reclaimer>⟧ b.vtable).named b.value) reclaimers.now) (map string_bytes words.now) }
 {
     match words {
-        [command, name] => {
-            if command.as_str() == "check" {
-                Some(name.as_str())
-            } else {
-                None
-            }
-        }
+        [command, file] => request_of_two(command.as_str(), file.as_str()),
+        [command, file, schedule, name] => request_of_four(
+            reclaimers,
+            command.as_str(),
+            file.as_str(),
+            schedule.as_str(),
+            name.as_str(),
+        ),
         _ => None,
     }
 }

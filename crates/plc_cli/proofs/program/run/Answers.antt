@@ -1,5 +1,7 @@
-use Rattle.plc_cli.proofs.Judging.{headline_of}
 use Rattle.plc_cli.proofs.program.run.Goals as goal
 
-pub returns-in-Ok-write_text-clause-headline : goal.returns-in-Ok-write_text-clause-headline
-returns-in-Ok-write_text-clause-headline g c = headline_of _ _ c.in-Ok.answer.status c.in-Ok.answer.text.items c.in-Ok.ensures
+pub returns-clause-outcome : goal.returns-clause-outcome
+returns-clause-outcome g c = rw (← c.deref_mut.ensures.value) c.respond.ensures.outcome
+
+pub returns-clause-headline : goal.returns-clause-headline
+returns-clause-headline g c = rw (← c.deref_mut.ensures.value) c.respond.ensures.headline
