@@ -1,4 +1,4 @@
 pub mod Loading
 pub mod Refusals
-pub mod Unread
+pub mod Unjudged
 pub mod Verdicts

@@ -16,24 +16,24 @@ use Rattle.plc_flow.specs.Lowering.{made_of, flow_of, most_points}
 use Rattle.plc_check.specs.declared.judged.Judged.{Judged}
 use Rattle.plc_check.specs.declared.judged.LoadFault.{LoadFault}
 use Rattle.plc_check.specs.declared.judged.LoadFault.TheVariants as faults
-use Rattle.plc_check.specs.declared.unread.Unread.{Unread}
-use Rattle.plc_check.specs.Unread.{unread_words, hold}
+use Rattle.plc_check.specs.declared.unjudged.Unjudged.{Unjudged}
+use Rattle.plc_check.specs.Unjudged.{unjudged_words, hold}
 
--- the bytes spell these tokens, and none of them is a word of a form that isn't read
-pub record AreRead (unread : Unread) (bytes : List ℕ) (tokens : List Token) : Type 0 where
+-- the bytes spell these tokens, which spell the unit, whose flow has no more points than it may
+pub record SpellsUnit (bytes : List ℕ) (tokens : List Token) (u : FileUnit) : Type 0 where
   pub spelled : AreTokensOf bytes tokens
-  pub known : hold (kinds tokens) (unread_words unread) ≡ false
-
--- the bytes spell tokens that spell the unit, and the unit's flow has no more points than it may
-pub record IsFileOf (unread : Unread) (bytes : List ℕ) (u : FileUnit) : Type 0 where
-  pub tokens : List Token
-  pub read : AreRead unread bytes tokens
   pub unit : IsUnitOf tokens u
   pub few : (made_of u.file).points ≤ most_points
 
+-- the bytes spell the unit, and no token is a word of a form that isn't judged
+pub record IsFileOf (unjudged : Unjudged) (bytes : List ℕ) (u : FileUnit) : Type 0 where
+  pub tokens : List Token
+  pub spells : SpellsUnit bytes tokens u
+  pub known : hold (kinds tokens) (unjudged_words unjudged) ≡ false
+
 -- what is judged of a unit
 abbrev pub judged_of : FileUnit → Judged
-judged_of u = record { observer = u.observer; flow = flow_of u.file }
+judged_of u = record { observer = u.observer; outline = u.outline; flow = flow_of u.file }
 
 -- ---- refusals
 
@@ -42,11 +42,12 @@ pub record HasLexFault (bytes : List ℕ) (fault : LexFault) : Type 0 where
   pub stops : StopsWith 0 bytes fault
   pub other : fault ≢ lex.Memory
 
--- the bytes spell tokens, of which one is a word of a form that isn't read
-pub record HasUnread (unread : Unread) (bytes : List ℕ) : Type 0 where
+-- the bytes spell a unit, and a token is a word of a form that isn't judged
+pub record HasUnjudged (unjudged : Unjudged) (bytes : List ℕ) : Type 0 where
   pub tokens : List Token
-  pub spelled : AreTokensOf bytes tokens
-  pub held : hold (kinds tokens) (unread_words unread) ≡ true
+  pub unit : FileUnit
+  pub spells : SpellsUnit bytes tokens unit
+  pub held : hold (kinds tokens) (unjudged_words unjudged) ≡ true
 
 -- the place of a fault among the tokens; limits are told without one
 abbrev pub place_of : ParseFault → Option ℕ
@@ -63,24 +64,24 @@ abbrev pub line_of : List ℕ → List Token → ℕ → ℕ
 line_of bytes tokens place = get_or (lines_of tokens) place (1 + count_by (λ b. b == 10) bytes)
 
 -- the bytes spell tokens that have this fault at a place, on this line
-pub record HasParseFault (unread : Unread) (bytes : List ℕ) (fault : ParseFault) (line : ℕ) : Type 0 where
+pub record HasParseFault (bytes : List ℕ) (fault : ParseFault) (line : ℕ) : Type 0 where
   pub tokens : List Token
-  pub read : AreRead unread bytes tokens
+  pub spelled : AreTokensOf bytes tokens
   pub is_fault : IsFaultOf tokens fault
   pub place : ℕ
   pub placed : place_of fault ≡ Some place
   pub line_is : line ≡ line_of bytes tokens place
 
 -- the bytes spell tokens that pass this limit
-pub record PassesLimit (unread : Unread) (bytes : List ℕ) (what : What1) (count : ℕ) : Type 0 where
+pub record PassesLimit (bytes : List ℕ) (what : What1) (count : ℕ) : Type 0 where
   pub tokens : List Token
-  pub read : AreRead unread bytes tokens
+  pub spelled : AreTokensOf bytes tokens
   pub is_fault : IsFaultOf tokens (parse.Limit what count)
 
 -- the bytes spell a unit whose flow would have more points than it may
-pub record HasTooManyPoints (unread : Unread) (bytes : List ℕ) (what : What1) (count : ℕ) : Type 0 where
+pub record HasTooManyPoints (bytes : List ℕ) (what : What1) (count : ℕ) : Type 0 where
   pub tokens : List Token
-  pub read : AreRead unread bytes tokens
+  pub spelled : AreTokensOf bytes tokens
   pub unit : FileUnit
   pub of_tokens : IsUnitOf tokens unit
   pub many : most_points < (made_of unit.file).points
@@ -88,23 +89,23 @@ pub record HasTooManyPoints (unread : Unread) (bytes : List ℕ) (what : What1) 
   pub count_is : count ≡ most_points + 1
 
 -- why bytes are refused; memory may be wanting anywhere
-abbrev pub HasFault : Unread → List ℕ → LoadFault → Type 0
-HasFault unread bytes (faults.Lex fault) = HasLexFault bytes fault
-HasFault unread bytes faults.Unread = HasUnread unread bytes
-HasFault unread bytes (faults.Parse fault line) = HasParseFault unread bytes fault line
-HasFault unread bytes (faults.Limit what count) = PassesLimit unread bytes what count ⊎ HasTooManyPoints unread bytes what count
-HasFault unread bytes faults.Memory = Unit {0}
+abbrev pub HasFault : Unjudged → List ℕ → LoadFault → Type 0
+HasFault unjudged bytes (faults.Lex fault) = HasLexFault bytes fault
+HasFault unjudged bytes faults.Unjudged = HasUnjudged unjudged bytes
+HasFault unjudged bytes (faults.Parse fault line) = HasParseFault bytes fault line
+HasFault unjudged bytes (faults.Limit what count) = PassesLimit bytes what count ⊎ HasTooManyPoints bytes what count
+HasFault unjudged bytes faults.Memory = Unit {0}
 
--- what other refusals than the want of memory say: the bytes spell no file that is read
-abbrev pub SpellsNothing : Unread → List ℕ → LoadFault → Type 0
-SpellsNothing unread bytes faults.Memory = Unit {0}
-SpellsNothing unread bytes other = (u : FileUnit) → IsFileOf unread bytes u → ⊥
+-- what other refusals than the want of memory say: the bytes spell no file that is judged
+abbrev pub SpellsNothing : Unjudged → List ℕ → LoadFault → Type 0
+SpellsNothing unjudged bytes faults.Memory = Unit {0}
+SpellsNothing unjudged bytes other = (u : FileUnit) → IsFileOf unjudged bytes u → ⊥
 
 -- the answer to bytes: what they spell; or the fault that they have, and then they spell nothing
-abbrev pub IsLoaded : Unread → List ℕ → Result Judged LoadFault → Type 0
-IsLoaded unread bytes (Ok j) = (u : FileUnit) × IsFileOf unread bytes u × (j ≡ judged_of u)
-IsLoaded unread bytes (Err e) = HasFault unread bytes e × SpellsNothing unread bytes e
+abbrev pub IsLoaded : Unjudged → List ℕ → Result Judged LoadFault → Type 0
+IsLoaded unjudged bytes (Ok j) = (u : FileUnit) × IsFileOf unjudged bytes u × (j ≡ judged_of u)
+IsLoaded unjudged bytes (Err e) = HasFault unjudged bytes e × SpellsNothing unjudged bytes e
 
--- bytes spell at most one unit, whatever is read of them
+-- bytes spell at most one unit, whatever is judged of them
 abbrev pub FilesAreUnique : Type 0
-FilesAreUnique = (unread more : Unread) (bytes : List ℕ) (u v : FileUnit) → IsFileOf unread bytes u → IsFileOf more bytes v → u ≡ v
+FilesAreUnique = (unjudged more : Unjudged) (bytes : List ℕ) (u v : FileUnit) → IsFileOf unjudged bytes u → IsFileOf more bytes v → u ≡ v

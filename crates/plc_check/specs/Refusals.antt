@@ -1,5 +1,5 @@
 -- What a lower call's answer is here.
-use Rattle.std.specs.Prelude.{◌≡◌, ◌<◌, ◌≤◌, ◌+◌, ℕ, List, Result, Ok, Err}
+use Rattle.std.specs.Prelude.{◌≡◌, ◌<◌, ◌≤◌, ◌+◌, ℕ, true, false, List, Result, Ok, Err}
 use Rattle.plc_base.specs.declared.limits.What1.TheVariants.{Points}
 use Rattle.plc_lex.specs.declared.token.Token.{Token}
 use Rattle.plc_lex.specs.declared.fault.LexFault.{LexFault}
@@ -10,9 +10,12 @@ use Rattle.plc_parse.specs.declared.unit.Unit.{Unit as FileUnit}
 use Rattle.plc_lang.specs.Fit.{FileFits, NamesWhatIsThere}
 use Rattle.plc_flow.specs.Lowering.{made_of, most_points}
 use Rattle.plc_flow.specs.WellFormed.{FlowFits}
+use Rattle.plc_syntax.specs.Syntax.{kinds}
 use Rattle.plc_check.specs.declared.judged.Judged.{Judged}
 use Rattle.plc_check.specs.declared.judged.LoadFault.{LoadFault}
 use Rattle.plc_check.specs.declared.judged.LoadFault.TheVariants as faults
+use Rattle.plc_check.specs.declared.unjudged.Unjudged.{Unjudged}
+use Rattle.plc_check.specs.Unjudged.{unjudged_words, hold}
 use Rattle.plc_check.specs.Loading.{judged_of, line_of}
 
 -- a lower call's fault, of which the want of memory is none
@@ -42,11 +45,17 @@ pub record HasManyPoints (u : FileUnit) (e : LoadFault) : Type 0 where
   pub many : most_points < (made_of u.file).points
   pub fault : e ≡ faults.Limit Points (most_points + 1)
 
--- the flow of a unit, or too many points; memory may be wanting
+-- what is judged of a unit, or too many points; memory may be wanting
 abbrev pub IsLowered : FileUnit → Result Judged LoadFault → Type 0
 IsLowered u (Ok j) = (j ≡ judged_of u) × ((made_of u.file).points ≤ most_points) × (FileFits u.file → NamesWhatIsThere u.file → FlowFits j.flow)
 IsLowered u (Err faults.Memory) = Unit {0}
 IsLowered u (Err (faults.Limit what count)) = HasManyPoints u (faults.Limit what count)
-IsLowered u (Err faults.Unread) = ⊥
+IsLowered u (Err faults.Unjudged) = ⊥
 IsLowered u (Err (faults.Lex f)) = ⊥
 IsLowered u (Err (faults.Parse f l)) = ⊥
+
+-- the same of the tokens of a unit: where a word is of a form that isn't judged, what is judged of the unit is refused
+abbrev pub IsJudgedOf : Unjudged → List Token → FileUnit → Result Judged LoadFault → Type 0
+IsJudgedOf unjudged ts u (Ok j) = IsLowered u (Ok j) × (hold (kinds ts) (unjudged_words unjudged) ≡ false)
+IsJudgedOf unjudged ts u (Err faults.Unjudged) = ((made_of u.file).points ≤ most_points) × (hold (kinds ts) (unjudged_words unjudged) ≡ true)
+IsJudgedOf unjudged ts u (Err e) = IsLowered u (Err e)

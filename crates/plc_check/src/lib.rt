@@ -1,15 +1,15 @@
 //! From bytes to the verdict, on the parser, the lowering and the inference: `load` gives the flow
-//! that the bytes spell or the first refusal, and `check` the verdict of the definitions.
+//! and the outline that the bytes spell or the first refusal, and `check` the verdict of the definitions.
 #![tactic(auto)]
 
 mod judged;
 mod loading;
-mod unread;
+mod unjudged;
 mod verdict;
 
 pub use judged::{Judged, LoadFault};
 pub use loading::{files_are_unique, load};
-pub use unread::Unread;
+pub use unjudged::Unjudged;
 pub use verdict::{Verdict, check};
 
 #[cfg(test)]

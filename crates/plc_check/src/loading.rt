@@ -3,10 +3,11 @@ ghost use Rattle.std.specs.Prelude.{◌≡◌, ◌≤◌, ◌+◌, ◌==◌, cou
 ghost use Rattle.plc_flow.specs.WellFormed.{FlowFits};
 ghost use Rattle.plc_lang.specs.Fit.{FileFits};
 ghost use Rattle.plc_check.specs.Loading.{IsLoaded, FilesAreUnique, line_of, place_of};
-ghost use Rattle.plc_check.specs.Refusals.{lex_refusal, parse_refusal, unplaced, IsLowered};
+ghost use Rattle.plc_logic.specs.Fit.{OutlineFits};
+ghost use Rattle.plc_check.specs.Refusals.{lex_refusal, parse_refusal, unplaced, IsLowered, IsJudgedOf};
 
 use crate::judged::{Judged, LoadFault};
-use crate::unread::{Unread, hold_unread};
+use crate::unjudged::{Unjudged, hold_unjudged};
 use plc_base::What1;
 use plc_flow::{FlowFault, lower};
 use plc_lex::{LexFault, Token, tokens};
@@ -87,13 +88,18 @@ fn parse_refusal(bytes: &[u8], tokens: &[Token], fault: ParseFault) -> LoadFault
     }
 }
 
-// The flow of a unit.
+// What is judged of a unit.
 fn lowered(alloc: Global, unit: Unit) -> Result<Judged, LoadFault>
     ensures { IsLowered unit result }
 {
     let observer = unit.observer;
+    let outline = unit.outline;
     match lower(alloc, unit.file) {
-        Ok(flow) => Ok(Judged { observer, flow }),
+        Ok(flow) => Ok(Judged {
+            observer,
+            outline,
+            flow,
+        }),
         Err(FlowFault::TooManyPoints { count }) => Err(LoadFault::Limit {
             what: What1::Points,
             count,
@@ -102,25 +108,44 @@ fn lowered(alloc: Global, unit: Unit) -> Result<Judged, LoadFault>
     }
 }
 
+// The same where no token is a word of a form that isn't judged.
+fn judged_of(
+    alloc: Global,
+    unjudged: Unjudged,
+    tokens: &[Token],
+    unit: Unit,
+) -> Result<Judged, LoadFault>
+    ensures { IsJudgedOf unjudged tokens.now unit result }
+{
+    match lowered(alloc, unit) {
+        Ok(judged) => {
+            if hold_unjudged(unjudged, tokens) {
+                Err(LoadFault::Unjudged)
+            } else {
+                Ok(judged)
+            }
+        }
+        Err(fault) => Err(fault),
+    }
+}
+
 /// Reads and lowers a file of at most 1 MiB. The first refusal on the way is the answer: `Lex` where
-/// the bytes spell no tokens, `Unread` where a token is a word of a form that isn't read, `Parse` or
-/// `Limit` where the tokens spell no unit, `Limit` where the flow would have more than 4,096 points;
+/// the bytes spell no tokens, `Parse` or `Limit` where the tokens spell no unit, `Limit` where the flow
+/// would have more than 4,096 points, `Unjudged` where a token is a word of a form that isn't judged;
 /// `Memory` may come anywhere.
-pub fn load(alloc: Global, bytes: &[u8], unread: Unread) -> Result<Judged, LoadFault>
+pub fn load(alloc: Global, bytes: &[u8], unjudged: Unjudged) -> Result<Judged, LoadFault>
     requires { length bytes.now ≤ 1048576 }
-    ensures loaded { IsLoaded unread bytes.now result }
+    ensures loaded { IsLoaded unjudged bytes.now result }
     ensures fits { IfOk result (λ j. FlowFits j.flow) }
     ensures file { IfOk result (λ j. FileFits j.flow.file) }
+    ensures outline { IfOk result (λ j. OutlineFits j.flow.file j.outline) }
 {
     let found = match tokens(alloc, bytes) {
         Ok(found) => found,
         Err(fault) => return Err(lex_refusal(fault)),
     };
-    if hold_unread(unread, &found) {
-        return Err(LoadFault::Unread);
-    }
     match parse(alloc, &found) {
-        Ok(unit) => lowered(alloc, unit),
+        Ok(unit) => judged_of(alloc, unjudged, &found, unit),
         Err(fault) => Err(parse_refusal(bytes, &found, fault)),
     }
 }

@@ -10,7 +10,7 @@ fn shown(alloc: Global, text: &str) -> Result<String, AllocError> {
     if bytes.len() > 1048576 {
         return Err(AllocError);
     }
-    match load(alloc, bytes, Unread::ClaimsAndOutlines) {
+    match load(alloc, bytes, Unjudged::ClaimsAndOutlines) {
         Ok(judged) => format!(in alloc; "{} points", judged.flow.points),
         Err(fault) => format!(in alloc; "{fault:?}"),
     }
@@ -40,8 +40,13 @@ fn bytes_are_loaded_or_refused(rt: HostRuntime) -> Result<(), AllocError> {
             "struct N { } op f() { ptr n; atomic { n := new; n := new; } }",
             "Limit { what: News, count: 2 }",
         ),
-        ("struct N { } op f() { ptr n; active n; }", "Unread"),
-        ("outline", "Unread"),
+        ("struct N { } op f() { ptr n; active n; }", "Unjudged"),
+        ("struct N { } outline { }", "Unjudged"),
+        (
+            "struct N { } outline { inv a == null; }",
+            "Parse { fault: Undeclared { at: 7 }, line: 1 }",
+        ),
+        ("outline", "Parse { fault: Syntax { at: 0 }, line: 1 }"),
     ] {
         assert_eq!(rt; shown(alloc, text)?.as_str(), want, "{text}");
     }
@@ -51,18 +56,20 @@ fn bytes_are_loaded_or_refused(rt: HostRuntime) -> Result<(), AllocError> {
 #[test]
 fn points_are_counted_to_their_limit(rt: HostRuntime) -> Result<(), AllocError> {
     let alloc = rt.alloc();
-    for (operations, statements, want) in [
-        (16, 254, "4096 points"),
-        (16, 255, "Limit { what: Points, count: 4097 }"),
+    for (statements, outline, want) in [
+        (254, "", "4096 points"),
+        (254, " outline { }", "Unjudged"),
+        (255, " outline { }", "Limit { what: Points, count: 4097 }"),
     ] {
         let mut text = String::from_str(alloc, "struct N { }")?;
-        for i in 0..operations {
+        for i in 0..16 {
             text.push_str(format!(in alloc; " op f{i}() {{ ptr n;")?.as_str())?;
             for _ in 0..statements {
                 text.push_str(" n := null;")?;
             }
             text.push_str(" }")?;
         }
+        text.push_str(outline)?;
         assert_eq!(rt; shown(alloc, text.as_str())?.as_str(), want);
     }
     Ok(())
@@ -74,7 +81,7 @@ fn both_verdicts(rt: HostRuntime) -> Result<(), LoadFault> {
     let safe = load(
         alloc,
         b"struct N { data d; } shared T; op f() { ptr n; n := new; n.d := 1; T := n; }",
-        Unread::Outlines,
+        Unjudged::Outlines,
     )?;
     assert!(rt;
         matches!(
@@ -85,7 +92,7 @@ fn both_verdicts(rt: HostRuntime) -> Result<(), LoadFault> {
     let lost = load(
         alloc,
         b"struct N { data d; } shared T; op f() { ptr n; n := new; T := n; n.d := 1; }",
-        Unread::ClaimsAndOutlines,
+        Unjudged::ClaimsAndOutlines,
     )?;
     assert!(rt;
         matches!(

@@ -13,7 +13,8 @@ use std::alloc::Global;
 /// What the checker says of a file.
 #[derive(Debug, Drop)]
 pub enum Verdict {
-    /// It has a typing, of which the strongest is given, and each of its obligations holds.
+    /// It has a typing, of which the strongest is given. Its outline isn't judged, so that the number of
+    /// obligations is 0.
     Safe {
         typing: Typing,
         obligations: u64,
@@ -26,8 +27,9 @@ pub enum Verdict {
     },
 }
 
-/// The verdict on a file that [`crate::load`] gave: `Safe` exactly where it has a typing, else `Untyped`.
-/// The one error is want of memory.
+/// The verdict by types on a file that [`crate::load`] gave: `Safe` exactly where it has a typing, else
+/// `Untyped`. Its outline isn't judged yet: who hands in a file with one, or with claims, is told nothing of
+/// them. The one error is want of memory.
 pub fn check(alloc: Global, judged: &Judged) -> Result<Verdict, NoMemory>
     requires flow { IsWellFormed judged.now.flow }
     requires file { FileFits judged.now.flow.file }

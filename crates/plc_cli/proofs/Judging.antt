@@ -8,7 +8,7 @@ use Rattle.plc_xfer.specs.declared.fault.TypeFault.{TypeFault}
 use Rattle.plc_xfer.specs.Typings.{Skeleton, HasTyping, IsStuckAt}
 use Rattle.plc_infer.specs.Skeletons.{skeleton_of}
 use Rattle.plc_sound.proofs.NoRetire.{no_retire_is_safe}
-use Rattle.plc_check.specs.declared.unread.Unread.TheVariants.{Outlines, ClaimsAndOutlines}
+use Rattle.plc_check.specs.declared.unjudged.Unjudged.TheVariants.{Nothing, ClaimsAndOutlines}
 use Rattle.plc_check.specs.declared.judged.Judged.{Judged}
 use Rattle.plc_check.specs.Loading.{IsLoaded, judged_of}
 use Rattle.plc_check.proofs.Unique.{one_file}
@@ -98,9 +98,9 @@ pub judged_answers : (bytes : List ℕ) (j : Judged) (status : ℕ) (text : List
 judged_answers bytes j status text loaded h = answered bytes loaded.0 status text loaded.1 (subst (λ (x : Judged). IsJudgedAs x status text) loaded.2 h)
 
 -- what is printed of a flow that was loaded is the answer to its bytes
-pub printed_answers : (bytes : List ℕ) (j : Judged) (status : ℕ) (text : List ℕ) → IsLoaded Outlines bytes (Ok j) → status ≡ 0 → text ≡ canonical_text (record { file = j.flow.file; observer = j.observer }) → IsPrintOf bytes status text
+pub printed_answers : (bytes : List ℕ) (j : Judged) (status : ℕ) (text : List ℕ) → IsLoaded Nothing bytes (Ok j) → status ≡ 0 → text ≡ canonical_text (record { file = j.flow.file; observer = j.observer; outline = j.outline }) → IsPrintOf bytes status text
 printed_answers bytes j status text loaded zero is =
-    inr (record { unit = loaded.0; spelled = loaded.1; status_is = zero; text_is = subst (λ (x : Judged). text ≡ canonical_text (record { file = x.flow.file; observer = x.observer })) loaded.2 is })
+    inr (record { unit = loaded.0; spelled = loaded.1; status_is = zero; text_is = subst (λ (x : Judged). text ≡ canonical_text (record { file = x.flow.file; observer = x.observer; outline = x.outline })) loaded.2 is })
 
 -- a fact on the value, where there is one, from another
 pub if_ok_from : {A E : Type 0} (r : Result A E) (P Q : A → Type 0) → ((a : A) → P a → Q a) → IfOk r P → IfOk r Q

@@ -1,5 +1,5 @@
 -- The status and the text that are due for words and files.
-use Rattle.std.specs.Prelude.{◌≡◌, ◌≢◌, ◌⊎◌, ℕ, ◌<◌, ◌≤◌, List, [], length, Option, Some, None, slice_get}
+use Rattle.std.specs.Prelude.{◌≡◌, ◌≢◌, ◌⊎◌, ℕ, List, [], Option, Some, None, slice_get}
 use Rattle.plc_outside.specs.Outside.{Rose, Appends, AppendsPart}
 use Rattle.plc_parse.specs.declared.unit.Unit.{Unit as FileUnit}
 use Rattle.plc_print.specs.Text.{canonical_text}
@@ -11,8 +11,8 @@ use Rattle.plc_infer.specs.Skeletons.{skeleton_of}
 use Rattle.plc_check.specs.declared.judged.Judged.{Judged}
 use Rattle.plc_check.specs.declared.judged.LoadFault.{LoadFault}
 use Rattle.plc_check.specs.declared.judged.LoadFault.TheVariants.{Memory}
-use Rattle.plc_check.specs.declared.unread.Unread.{Unread}
-use Rattle.plc_check.specs.declared.unread.Unread.TheVariants.{Outlines, ClaimsAndOutlines}
+use Rattle.plc_check.specs.declared.unjudged.Unjudged.{Unjudged}
+use Rattle.plc_check.specs.declared.unjudged.Unjudged.TheVariants.{Nothing, Outlines, ClaimsAndOutlines}
 use Rattle.plc_check.specs.Loading.{IsFileOf, HasFault, judged_of}
 use Rattle.plc_sched.specs.declared.schedule.Schedule.{Schedule}
 use Rattle.plc_sched.specs.declared.fault.SchedFault.{SchedFault}
@@ -27,7 +27,7 @@ use Rattle.plc_texts.specs.Untyped.{untyped_text}
 use Rattle.plc_texts.specs.Replays.{schedule_text, end_text, end_status}
 use Rattle.plc_cli.specs.Reclaimers.{KnownReclaimer}
 use Rattle.plc_cli.specs.Refusals.{load_text}
-use Rattle.plc_cli.specs.Reads.{KnownFiles, NoFaultBut, Only, Either, IsReadFailed, IsReadTooLong, IsRead, IsAnswered, IsDueForFile}
+use Rattle.plc_cli.specs.Reads.{KnownFiles, Only, Either, IsReadFailed, IsReadTooLong, IsRead, IsDueForFile}
 use Rattle.plc_cli.specs.Requests.{Request, Check, Print, Replay}
 
 -- the most bytes of a file
@@ -45,11 +45,11 @@ abbrev pub Spells : List ℕ → FileUnit → Type 0
 Spells bytes u = IsFileOf ClaimsAndOutlines bytes u
 
 -- the bytes have a fault that is told, and spell no file
-pub record IsRefusedFile (unread : Unread) (bytes : List ℕ) (status : ℕ) (text : List ℕ) : Type 0 where
+pub record IsRefusedFile (unjudged : Unjudged) (bytes : List ℕ) (status : ℕ) (text : List ℕ) : Type 0 where
   pub fault : LoadFault
-  pub has : HasFault unread bytes fault
+  pub has : HasFault unjudged bytes fault
   pub told : fault ≢ Memory
-  pub none : (u : FileUnit) → IsFileOf unread bytes u → ⊥
+  pub none : (u : FileUnit) → IsFileOf unjudged bytes u → ⊥
   pub status_is : status ≡ 2
   pub text_is : text ≡ load_text fault
 
@@ -91,13 +91,13 @@ IsAnswerTo bytes status text = IsRefusedFile ClaimsAndOutlines bytes status text
 -- the file in canonical text
 pub record IsPrintedFile (bytes : List ℕ) (status : ℕ) (text : List ℕ) : Type 0 where
   pub unit : FileUnit
-  pub spelled : IsFileOf Outlines bytes unit
+  pub spelled : IsFileOf Nothing bytes unit
   pub status_is : status ≡ 0
   pub text_is : text ≡ canonical_text unit
 
 -- what `print` answers to bytes: refused or printed
 abbrev pub IsPrintOf : List ℕ → ℕ → List ℕ → Type 0
-IsPrintOf bytes status text = IsRefusedFile Outlines bytes status text ⊎ IsPrintedFile bytes status text
+IsPrintOf bytes status text = IsRefusedFile Nothing bytes status text ⊎ IsPrintedFile bytes status text
 
 -- ---- the answer to the bytes of a file and of a schedule
 

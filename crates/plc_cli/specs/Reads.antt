@@ -9,6 +9,7 @@ pub record KnownFiles : Type 0 where
   pub faults_now : List ℕ → ℕ
   pub taken : ℕ
 
+-- the same by its four parts
 abbrev pub known : (List ℕ → Option (List ℕ)) → (List ℕ → ℕ) → (List ℕ → ℕ) → ℕ → KnownFiles
 known content before now taken = record { content = content; faults_before = before; faults_now = now; taken = taken }
 

@@ -1,5 +1,5 @@
 -- What the program's requests and contents stand for.
-use Rattle.std.specs.Prelude.{◌≡◌, ◌⊎◌, ℕ, List}
+use Rattle.std.specs.Prelude.{◌⊎◌, ℕ, List}
 use Rattle.plc_cli.specs.declared.words.Request.{Request as Asked}
 use Rattle.plc_cli.specs.declared.words.Request.TheVariants as asked
 use Rattle.plc_cli.specs.declared.reading.Content.{Content}

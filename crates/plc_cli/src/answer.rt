@@ -29,7 +29,7 @@ fn refusal_text(alloc: Global, fault: &LoadFault) -> Result<Vec<u8>, AllocError>
 {
     match fault {
         LoadFault::Lex(fault) => lexical(alloc, *fault),
-        LoadFault::Unread => fixed(alloc, "refused file\n"),
+        LoadFault::Unjudged => fixed(alloc, "refused file\n"),
         LoadFault::Parse { fault, line } => parsed(alloc, fault, *line),
         LoadFault::Limit { what, count } => limit(alloc, *what, *count),
         LoadFault::Memory => Ok(Vec::new(alloc)),

@@ -6,7 +6,7 @@ ghost use Rattle.plc_cli.specs.Answer.{IsAnswerTo, IsJudgedAs, largest};
 
 use crate::answer::{Answer, refusal};
 use plc_base::NoMemory;
-use plc_check::{Judged, LoadFault, Unread, Verdict, check, load};
+use plc_check::{Judged, LoadFault, Unjudged, Verdict, check, load};
 use plc_texts::{safe, untyped};
 use std::alloc::{AllocError, Global};
 
@@ -45,7 +45,7 @@ pub(crate) fn checked(alloc: Global, bytes: &[u8]) -> Result<Answer, AllocError>
     requires { length bytes.now ≤ largest }
     ensures { IfOk result (λ answer. IsAnswerTo bytes.now answer.status answer.text.items) }
 {
-    match load(alloc, bytes, Unread::ClaimsAndOutlines) {
+    match load(alloc, bytes, Unjudged::ClaimsAndOutlines) {
         Ok(judged) => judge(alloc, &judged),
         Err(LoadFault::Memory) => Err(AllocError),
         Err(fault) => refusal(alloc, &fault),

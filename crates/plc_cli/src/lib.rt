@@ -35,4 +35,6 @@ pub use program::run;
 #[cfg(test)]
 mod memory_tests;
 #[cfg(test)]
+mod rows;
+#[cfg(test)]
 mod tests;

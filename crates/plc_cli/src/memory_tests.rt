@@ -3,9 +3,9 @@
 ghost use Rattle.std.specs.Prelude.{◌≡◌, IfOk};
 ghost use Rattle.plc_flow.specs.WellFormed.{FlowFits};
 
-use crate::tests::answers;
+use crate::tests::{answers, sections};
 use plc_base::{FieldId, Items, NoMemory, OpId};
-use plc_check::{Judged, Unread, load};
+use plc_check::{Judged, Unjudged, load};
 use plc_flow::{Flow, Move, Place};
 use plc_mem::{Locals, Memory};
 use plc_outside::MemFiles;
@@ -23,7 +23,7 @@ fn linked(alloc: Global) -> Result<Judged, NoMemory>
     if bytes.len() > 1_048_576 {
         return Err(NoMemory);
     }
-    match load(alloc, bytes, Unread::Outlines) {
+    match load(alloc, bytes, Unjudged::Outlines) {
         Ok(judged) => Ok(judged),
         Err(_) => Err(NoMemory),
     }
@@ -233,144 +233,151 @@ fn come_to(
     )
 }
 
+// What a statement comes to where `Top` is null, valid, and invalid.
+const OUTCOMES: &str = "# Top := null;
+next next next
+# Other := Top;
+next next next
+# Other := new;
+next blocked next
+# Other := Top.next;
+blocked next deref
+# Top.next := Other;
+blocked next deref
+# Top.next := null;
+blocked next deref
+# x := Top.val;
+blocked next deref
+# Top.val := x;
+blocked next deref
+# p ?= Top;
+next blocked blocked
+# atomic { p := Top; p ?= Top; }
+next next next
+# p ?= Top.next;
+blocked next deref
+# Top.next ?= Other;
+blocked next deref
+# Top.next ?= Top;
+blocked blocked deref
+# assume Top == Other;
+next blocked compare
+# assume Other == Top;
+next blocked compare
+# assume Top == Top;
+next next compare
+# assume Top != Other;
+blocked next compare
+# assume Other != Top;
+blocked next compare
+# assume Top == null;
+next blocked blocked
+# assume Top != null;
+blocked next next
+# protect(Top);
+heard heard heard
+# retire(Top);
+blocked heard pass
+# active Top;
+next next next
+# ghost Top.owner := me;
+next next next
+# ghost Top.mark := cut;
+next next next
+# x := y;
+next next next
+# x := 7;
+next next next
+# assume x == 3;
+next next next
+# assume x == y;
+blocked blocked blocked
+# assume x != y;
+next next next
+# assume x != 3;
+blocked blocked blocked
+# assume x < y;
+next next next
+# assume x < 3;
+blocked blocked blocked
+# assume x >= 3;
+next next next
+# assume x >= y;
+blocked blocked blocked
+# protect(null);
+heard heard heard
+# enter();
+heard heard heard
+";
+
+// The three words of a line.
+fn three_words(line: &str) -> Option<(&str, &str, &str)> {
+    let (first, others) = line.trim_end().split_once(" ")?;
+    let (second, third) = others.split_once(" ")?;
+    Some((first, second, third))
+}
+
 #[test]
-fn accesses_have_their_outcomes(rt: HostRuntime) -> Result<(), AllocError> {
+fn statements_have_their_outcomes(rt: HostRuntime) -> Result<(), AllocError> {
     let alloc = rt.alloc();
-    for (statement, outcomes) in [
-        ("Top := null;", ("next", "next", "next")),
-        ("Other := Top;", ("next", "next", "next")),
-        ("Other := new;", ("next", "blocked", "next")),
-        ("Other := Top.next;", ("blocked", "next", "deref")),
-        ("Top.next := Other;", ("blocked", "next", "deref")),
-        ("Top.next := null;", ("blocked", "next", "deref")),
-        ("x := Top.val;", ("blocked", "next", "deref")),
-        ("Top.val := x;", ("blocked", "next", "deref")),
-        ("p ?= Top;", ("next", "blocked", "blocked")),
-        ("atomic { p := Top; p ?= Top; }", ("next", "next", "next")),
-        ("p ?= Top.next;", ("blocked", "next", "deref")),
-        ("Top.next ?= Other;", ("blocked", "next", "deref")),
-        ("Top.next ?= Top;", ("blocked", "blocked", "deref")),
-    ] {
-        assert!(rt; come_to(alloc, statement, outcomes)?, "{statement}");
+    for (statement, line) in sections(alloc, OUTCOMES)? {
+        let outcomes = three_words(line);
+        assert!(rt; outcomes.is_some(), "{statement}");
+        if let Some(outcomes) = outcomes {
+            assert!(rt; come_to(alloc, statement, outcomes)?, "{statement}");
+        }
     }
     Ok(())
 }
 
-#[test]
-fn tests_and_calls_have_their_outcomes(rt: HostRuntime) -> Result<(), AllocError> {
-    let alloc = rt.alloc();
-    for (statement, outcomes) in [
-        ("assume Top == Other;", ("next", "blocked", "compare")),
-        ("assume Other == Top;", ("next", "blocked", "compare")),
-        ("assume Top == Top;", ("next", "next", "compare")),
-        ("assume Top != Other;", ("blocked", "next", "compare")),
-        ("assume Other != Top;", ("blocked", "next", "compare")),
-        ("assume Top == null;", ("next", "blocked", "blocked")),
-        ("assume Top != null;", ("blocked", "next", "next")),
-        ("protect(Top);", ("heard", "heard", "heard")),
-        ("retire(Top);", ("blocked", "heard", "pass")),
-        ("active Top;", ("next", "next", "next")),
-        ("ghost Top.owner := me;", ("next", "next", "next")),
-        ("ghost Top.mark := cut;", ("next", "next", "next")),
-    ] {
-        assert!(rt; come_to(alloc, statement, outcomes)?, "{statement}");
-    }
-    Ok(())
-}
+// What a primitive put into a place is seen by the primitives behind it, where `Top` is invalid.
+const EFFECTS: &str = "# atomic { x := y; assume x == 5; assume y == 5; }
+end lines 13 events 3 freed 1
+# atomic { Top := null; assume Top == Other; }
+end lines 13 events 3 freed 1
+# atomic { Top := new; x := Top.val; assume x == 0; }
+end lines 13 events 3 freed 1
+# atomic { Top := new; Top.val := y; x := Top.val; assume x == 5; }
+end lines 13 events 3 freed 1
+# atomic { Other := Top; skip; p := Other; p := null; x := Other.val; }
+race deref line 13 prim 3
+# atomic { p := new; p.next := Top; p := p.next; x := p.val; }
+race deref line 13 prim 3
+# atomic { p := new; p.next := Top; p.next := null; p ?= Other; }
+impossible line 13
+# atomic { p := new; p.next := Top; p.next := null; Top := p.next; assume Top == Other; }
+end lines 13 events 3 freed 1
+# atomic { p := Top; Top := new; Other := p; x := p.val; }
+race deref line 13 prim 3
+# atomic { p := Top; Top := new; p ?= Top; x := p.val; }
+end lines 13 events 3 freed 1
+# atomic { p := Top; Top := new; Top.next := Top; p ?= Top.next; x := p.val; }
+end lines 13 events 3 freed 1
+# atomic { p := new; p.next := Top; p.next ?= p; p := p.next; x := p.val; }
+end lines 13 events 3 freed 1
+# atomic { x := Top.val; assume x == y; }
+race deref line 13 prim 0
+# atomic { assume x == y; x := Top.val; }
+impossible line 13
+";
 
-#[test]
-fn data_have_their_outcomes(rt: HostRuntime) -> Result<(), AllocError> {
-    let alloc = rt.alloc();
-    let ends = (
-        "end lines 3 events 0 freed 0\n",
-        "end lines 3 events 1 freed 0\n",
-        "line 3",
-    );
-    for (statement, outcome) in [
-        ("x := y;", "next"),
-        ("x := 7;", "next"),
-        ("assume x == 3;", "next"),
-        ("assume x == y;", "blocked"),
-        ("assume x != y;", "next"),
-        ("assume x != 3;", "blocked"),
-        ("assume x < y;", "next"),
-        ("assume x < 3;", "blocked"),
-        ("assume x >= 3;", "next"),
-        ("assume x >= y;", "blocked"),
-        ("protect(null);", "heard"),
-        ("enter();", "heard"),
-    ] {
-        assert!(rt;
-            comes_to(alloc, statement, "threads 1\n", outcome, ends)?,
-            "{statement}"
-        );
-    }
-    Ok(())
-}
+// The same where the node of `Top` is retired and not freed.
+const EFFECTS_RETIRED: &str = "# retire(Top);
+race double line 12 prim 0
+# x := Top.val;
+end lines 12 events 2 freed 0
+";
 
-// What a primitive put into a place is seen by the primitives behind it.
 #[test]
 fn effects_are_seen(rt: HostRuntime) -> Result<(), AllocError> {
     let alloc = rt.alloc();
-    let end = "end lines 13 events 3 freed 1\n";
-    let deref = "race deref line 13 prim 3\n";
-    for (statement, text) in [
-        ("atomic { x := y; assume x == 5; assume y == 5; }", end),
-        ("atomic { Top := null; assume Top == Other; }", end),
-        ("atomic { Top := new; x := Top.val; assume x == 0; }", end),
-        (
-            "atomic { Top := new; Top.val := y; x := Top.val; assume x == 5; }",
-            end,
-        ),
-        (
-            "atomic { Other := Top; skip; p := Other; p := null; x := Other.val; }",
-            deref,
-        ),
-        (
-            "atomic { p := new; p.next := Top; p := p.next; x := p.val; }",
-            deref,
-        ),
-        (
-            "atomic { p := new; p.next := Top; p.next := null; p ?= Other; }",
-            "impossible line 13\n",
-        ),
-        (
-            "atomic { p := new; p.next := Top; p.next := null; Top := p.next; assume Top == Other; }",
-            end,
-        ),
-        (
-            "atomic { p := Top; Top := new; Other := p; x := p.val; }",
-            deref,
-        ),
-        (
-            "atomic { p := Top; Top := new; p ?= Top; x := p.val; }",
-            end,
-        ),
-        (
-            "atomic { p := Top; Top := new; Top.next := Top; p ?= Top.next; x := p.val; }",
-            end,
-        ),
-        (
-            "atomic { p := new; p.next := Top; p.next ?= p; p := p.next; x := p.val; }",
-            end,
-        ),
-        (
-            "atomic { x := Top.val; assume x == y; }",
-            "race deref line 13 prim 0\n",
-        ),
-        (
-            "atomic { assume x == y; x := Top.val; }",
-            "impossible line 13\n",
-        ),
-    ] {
-        assert!(rt;
-            is_answered(alloc, statement, INVALID, text)?,
-            "{statement}"
-        );
+    for (schedule, rows) in [(INVALID, EFFECTS), (RETIRED, EFFECTS_RETIRED)] {
+        for (statement, text) in sections(alloc, rows)? {
+            assert!(rt;
+                is_answered(alloc, statement, schedule, text)?,
+                "{statement}"
+            );
+        }
     }
-    let double = "race double line 12 prim 0\n";
-    assert!(rt; is_answered(alloc, "retire(Top);", RETIRED, double)?);
-    let retired = "end lines 12 events 2 freed 0\n";
-    assert!(rt; is_answered(alloc, "x := Top.val;", RETIRED, retired)?);
     Ok(())
 }

@@ -10,7 +10,7 @@ ghost use Rattle.plc_cli.specs.Answer.{IsReplayOf, IsScheduleAnswered, largest, 
 use crate::answer::{Answer, refusal};
 use plc_auto::Observer;
 use plc_base::NoMemory;
-use plc_check::{Judged, LoadFault, Unread, load};
+use plc_check::{Judged, LoadFault, Unjudged, load};
 use plc_flow::Flow;
 use plc_reclaim::{Reclaimer, Scheme};
 use plc_replay::{End, replay};
@@ -111,7 +111,7 @@ pub(crate) fn replayed(
     requires second_short { length second.now ≤ largest_schedule }
     ensures { IfOk result (λ answer. IsReplayOf (record { begun = begun reclaimer.old; meanings = record { after = after reclaimer.old; picked = picked reclaimer.old; pick_of = pick_of reclaimer.old } }) bytes.now second.now answer.status answer.text.items) }
 {
-    match load(alloc, bytes, Unread::Outlines) {
+    match load(alloc, bytes, Unjudged::Outlines) {
         Ok(judged) => scheduled(alloc, &judged, second, reclaimer),
         Err(LoadFault::Memory) => Err(AllocError),
         Err(fault) => refusal(alloc, &fault),

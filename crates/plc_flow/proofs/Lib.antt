@@ -3,5 +3,4 @@ pub mod Fitting
 pub mod Naming
 pub mod Remaining
 pub mod Short
-pub mod Sizes
 pub mod Within

@@ -12,6 +12,7 @@ mod primitive;
 mod rest;
 mod statement;
 
+pub use assignment::place_at;
 pub use condition::condition_at;
 pub use declaration::{
     closing_at, comma_name_at, declaration_at, first_value_at, function_at, ghost_at, head_at,
@@ -22,7 +23,9 @@ pub use form::{
     Argument, Atom, Call, Cas, Condition, Declaration, Function, GhostSet, GhostValue, Initial,
     Place, Primitive, Refresh, Relation, Set, Test, Value, Watch,
 };
-pub use front::{holds_word, name_at};
+pub use front::{
+    first, holds_word, name_at, name_symbol_at, symbol_at, symbol_name_at, word_at, word_symbol_at,
+};
 pub use primitive::{initial_line_at, primitive_line_at};
 pub use rest::Rest;
 pub use statement::{

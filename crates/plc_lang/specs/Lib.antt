@@ -3,6 +3,7 @@ pub mod Falls
 pub mod Fit
 pub mod Locals
 pub mod Marks
+pub mod Names
 pub mod Shape
 pub mod Statements
 pub mod Views

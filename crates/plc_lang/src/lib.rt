@@ -3,10 +3,17 @@
 
 mod allocation;
 mod block;
+mod locals;
+mod names;
 mod syntax;
 
 pub use allocation::is_new;
 pub use block::Block;
+pub use locals::locals_of;
+pub use names::{
+    auxiliary_name, data_name, field_name, function_name, label_name, local_name, name_at,
+    operation_name, pointer_name, shared_name, value_name, variable_name,
+};
 pub use syntax::{
     Arg, Cond, Field, File, Func, Ghost, GhostVal, Line, Local, Num, Op, Primitive as Prim, Rel,
     Stmt, Var,

@@ -21,7 +21,7 @@ use Rattle.plc_logic.specs.declared.clause.Outline.{Outline}
 use Rattle.plc_logic.specs.Labels.{labels_by_op, op_of_label}
 
 -- what a clause may name: the things of the file, the locals and the thread of its operation, and so many quantified names
-pub record Words : Type 0 where
+pub record InReach : Type 0 where
   pub file : File
   pub locals : List Local
   pub in_operation : Bool
@@ -40,13 +40,13 @@ ghost_sort g [] = sorts.Thread
 ghost_sort g (v ∷ vs) = sorts.Value g
 
 -- a node that is there
-abbrev pub IsNode : Words → Base → Type 0
+abbrev pub IsNode : InReach → Base → Type 0
 IsNode w (bases.Shared i) = i < length w.file.shared
 IsNode w (bases.Local i) = (l : Local) × (slice_get w.locals i ≡ Some l) × (l.pointer ≡ true)
 IsNode w (bases.Bound i) = i < w.bound
 
 -- a term that is there has this sort
-abbrev pub HasSort : Words → Term → Sort → Type 0
+abbrev pub HasSort : InReach → Term → Sort → Type 0
 HasSort w (terms.Shared i) s = (i < length w.file.shared) × (s ≡ sorts.Node)
 HasSort w (terms.Local i) s = (l : Local) × (slice_get w.locals i ≡ Some l) × (s ≡ pointer_sort l.pointer)
 HasSort w (terms.Bound i) s = (i < w.bound) × (s ≡ sorts.Node)
@@ -61,28 +61,35 @@ HasSort w terms.Nobody s = s ≡ sorts.Thread
 -- ---- clauses
 
 -- the two sides of an equation have one sort
-abbrev pub LiteralFits : Words → Literal → Type 0
+abbrev pub LiteralFits : InReach → Literal → Type 0
 LiteralFits w (Same a b is_so) = (s : Sort) × HasSort w a s × HasSort w b s
 LiteralFits w (Retired x is_so) = IsNode w x
 
 -- what a clause of an operation with these locals, or of an invariant, may name
-abbrev pub words_of : File → List Local → Bool → Clause → Words
-words_of file ls in_operation c = record { file = file; locals = ls; in_operation = in_operation; bound = length c.bound.names }
+abbrev pub in_reach_of : File → List Local → Bool → Clause → InReach
+in_reach_of file ls in_operation c = record { file = file; locals = ls; in_operation = in_operation; bound = length c.bound.names }
 
 -- a clause in an operation with these locals, or in an invariant
 pub record ClauseFits (file : File) (ls : List Local) (in_operation : Bool) (c : Clause) : Type 0 where
   pub bound : length c.bound.names ≤ 2
+  pub some : 0 < length c.literals
   pub literals : length c.literals ≤ 16
-  pub each : All (LiteralFits (words_of file ls in_operation c)) c.literals
+  pub each : All (LiteralFits (in_reach_of file ls in_operation c)) c.literals
 
 -- an invariant names no local and no thread
 abbrev pub InvariantFits : File → Clause → Type 0
 InvariantFits file c = ClauseFits file [] false c
 
+-- labels of the file, at least one, that stand in one operation
+pub record LabelsFit (file : File) (labels : List ℕ) (operation : ℕ) : Type 0 where
+  pub some : 0 < length labels
+  pub known : All (λ l. l < length file.labels) labels
+  pub within : All (λ l. op_of_label (labels_by_op file.ops) l ≡ Some operation) labels
+
 -- a clause over an operation, or at labels that stand in one
 abbrev pub SiteFits : File → Clause → Site → Type 0
 SiteFits file c (Over o) = (op : Op) × (slice_get file.ops o.0 ≡ Some op) × ClauseFits file op.locals true c
-SiteFits file c (At labels) = (k : ℕ) × (op : Op) × (slice_get file.ops k ≡ Some op) × All (λ l. op_of_label (labels_by_op file.ops) l ≡ Some k) labels × ClauseFits file op.locals true c
+SiteFits file c (At labels) = (k : ℕ) × (op : Op) × (slice_get file.ops k ≡ Some op) × LabelsFit file labels k × ClauseFits file op.locals true c
 
 abbrev pub ItemFits : File → Item → Type 0
 ItemFits file item = SiteFits file item.clause item.site

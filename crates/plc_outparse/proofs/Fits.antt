@@ -1,13 +1,13 @@
 -- An outline that has a meaning fits its file.
-use Rattle.std.proofs.Common.{◌≡◌, ◌==◌, ℕ, suc, ◌+◌, ◌≤◌, ◌<◌, Bool, true, false, ◌||◌, if◌then◌else◌, Option, Some, None, Result, Ok, Err, List, [], ◌∷◌, length, slice_get, All, refl, sym, ◌∙◌, ap, subst, arith}
+use Rattle.std.proofs.Common.{◌≡◌, ◌==◌, ℕ, suc, ◌+◌, ◌≤◌, ◌<◌, Bool, true, false, ◌||◌, if◌then◌else◌, Option, Some, None, Result, Ok, Err, List, [], ◌∷◌, ◌++◌, length, slice_get, All, refl, sym, ◌∙◌, ap, subst, arith}
 use Rattle.std.specs.List.{position_from}
 use Rattle.std.specs.Str.{bytes_eq}
-use Rattle.std.proofs.lemmas.Bool.{eqb-true, eqb-false}
+use Rattle.std.proofs.lemmas.Bool.{eqb-true}
 use Rattle.std.proofs.lemmas.List.{length-append}
-use Rattle.std.proofs.lemmas.List.Elements.{All-nil, All-cons, All-append}
+use Rattle.std.proofs.lemmas.Option.{slice_get_within}
+use Rattle.std.proofs.lemmas.List.Elements.{All-nil, All-cons, All-append, All-push}
 use Rattle.std.proofs.lemmas.List.Quantifiers.{position-Some}
 use Rattle.plc_base.specs.Names.{NameList, place_of}
-use Rattle.plc_base.specs.declared.limits.What1.{What1}
 use Rattle.plc_lang.specs.declared.syntax.Local.{Local}
 use Rattle.plc_lang.specs.declared.syntax.Op.{Op}
 use Rattle.plc_lang.specs.declared.syntax.File.{File}
@@ -17,7 +17,8 @@ use Rattle.plc_scope.specs.declared.fault.ParseFault.TheVariants as faults
 use Rattle.plc_scope.specs.declared.scope.Scope.{Scope}
 use Rattle.plc_scope.specs.declared.binding.Binding.{Binding}
 use Rattle.plc_scope.specs.declared.binding.Binding.TheVariants.{Taken, Shared, PointerField, DataField, Function, Auxiliary, Value, LocalOnly}
-use Rattle.plc_scope.specs.Scope.{◌>>=◌, if_fits, if_new, with_last}
+use Rattle.plc_scope.specs.Scope.{if_fits, if_new, with_last}
+use Rattle.plc_scope.proofs.Holds.{Has, next, any, has_along, below}
 use Rattle.plc_logic.specs.declared.clause.Base.{Base}
 use Rattle.plc_logic.specs.declared.clause.Base.TheVariants as bases
 use Rattle.plc_logic.specs.declared.clause.Term.{Term}
@@ -29,19 +30,16 @@ use Rattle.plc_logic.specs.declared.clause.Site.{Site}
 use Rattle.plc_logic.specs.declared.clause.Site.TheVariants.{Over, At}
 use Rattle.plc_logic.specs.declared.clause.Item.{Item}
 use Rattle.plc_logic.specs.declared.clause.Outline.{Outline}
-use Rattle.plc_logic.specs.Fit.{Words, IsNode, HasSort, pointer_sort, ghost_sort, LiteralFits, ClauseFits, InvariantFits, SiteFits, ItemFits, OutlineFits}
+use Rattle.plc_logic.specs.Fit.{InReach, IsNode, HasSort, pointer_sort, ghost_sort, LiteralFits, ClauseFits, InvariantFits, LabelsFit, SiteFits, ItemFits, OutlineFits}
 use Rattle.plc_logic.specs.Labels.{block_labels, labels_by_op, has_label, op_of_label}
 use Rattle.plc_outparse.specs.declared.kind.Kind.{Kind}
 use Rattle.plc_outparse.specs.declared.kind.Kind.TheVariants as kinds
-use Rattle.plc_outparse.specs.Fit.{has_none, NamesOf, OutlinesFit}
+use Rattle.plc_outparse.specs.Fit.{holds_threads, NamesOf, OutlinesFit}
 use Rattle.plc_outparse.specs.Reach.{Reach, auxiliary_sort, kind_outside, kind_of_local, kind_inside, kind_or, declared_at, declared_kind, kind_or_bound, kind_of, known, as_base, base_at, base_term, as_term, as_field}
 use Rattle.plc_outparse.specs.Sizes.{term_size, literal_size, bound_size, depth_size}
-use Rattle.plc_outparse.specs.Meaning.{within_limit, stands_at, in_turn, me_means, term_means, same_sort, sort_place, second_means, literal_means, counted, Literals, literal_step, none_bound, if_free, bound_with, second_bound, bound_means, reach, clause_means, clause_line_means, op_named, op_at, locals_or_none, locals_of, label_named, with_op, label_at, if_same_op, Labels, label_step, labels_mean, Parts, with_invariant, with_item, item_step, depth_means, outline_means}
-
--- what holds of an answer, if there is one
-abbrev Has : {A : Type 0} → (A → Type 0) → Result A ParseFault → Type 0
-Has P (Ok x) = P x
-Has P (Err e) = Unit {0}
+use Rattle.plc_scope.specs.Limits.{stands_at}
+use Rattle.plc_lang.specs.Locals.{locals_or_none, locals_of}
+use Rattle.plc_outparse.specs.Meaning.{in_turn, me_means, term_means, same_sort, sort_place, second_means, literal_means, counted, Literals, literal_step, none_bound, if_free, bound_with, second_bound, bound_means, reach, clause_means, clause_line_means, op_named, op_at, label_named, with_op, label_at, if_same_op, Labels, label_step, labels_mean, Parts, with_invariant, with_item, item_step, depth_means, outline_means}
 
 abbrev HasSome : {A : Type 0} → (A → Type 0) → Option A → Type 0
 HasSome P (Some x) = P x
@@ -51,29 +49,13 @@ if_some : {A : Type 0} (P : A → Type 0) (b : Bool) (x : A) (o : Option A) → 
 if_some P true x o h g = h
 if_some P false x o h g = g
 
-next : {A B : Type 0} (P : A → Type 0) (Q : B → Type 0) (r : Result A ParseFault) (f : A → Result B ParseFault) → Has P r → ((x : A) → P x → Has Q (f x)) → Has Q (r >>= f)
-next P Q (Ok x) f h k = k x h
-next P Q (Err e) f h k = tt
-
-any : {A B : Type 0} (Q : B → Type 0) (r : Result A ParseFault) (f : A → Result B ParseFault) → ((x : A) → Has Q (f x)) → Has Q (r >>= f)
-any Q (Ok x) f k = k x
-any Q (Err e) f k = tt
-
-has_along : {A : Type 0} (P : A → Type 0) (r : Result A ParseFault) (x : A) → r ≡ Ok x → Has P r → P x
-has_along P (Ok y) x e h = let same : y ≡ x = cc in subst P same h
-has_along P (Err f) x e h = absurd cc
-
 fitting : {A : Type 0} (P : A → Type 0) (at : ℕ) (o : Option A) → HasSome P o → Has P (if_fits at o)
 fitting P at (Some x) h = h
 fitting P at None h = tt
 
-if_below : {A : Type 0} (P : A → Type 0) (n limit : ℕ) (e : ParseFault) (r : Result A ParseFault) (past : Bool) → (n == limit) ≡ past → n ≤ limit → (n < limit → Has P r) → Has P (if past then Err e else r)
-if_below P n limit e r true is le h = tt
-if_below P n limit e r false is le h = h (omega (arith, eqb-false n limit is))
-
--- within a limit fewer stand before
-below : {A : Type 0} (P : A → Type 0) (n limit : ℕ) (what : What1) (r : Result A ParseFault) → n ≤ limit → (n < limit → Has P r) → Has P (within_limit n limit what r)
-below P n limit what r le h = if_below P n limit _ r (n == limit) refl le h
+-- a list behind no other
+pub at_start : {A : Type 0} (xs : List A) (k : ℕ) (x : A) → slice_get xs k ≡ Some x → slice_get xs (0 + k) ≡ Some x
+at_start xs k x e = let same : 0 + k ≡ k = omega arith in ap (slice_get xs) same ∙ e
 
 turns : {S X : Type 0} (P : S → Type 0) (step : S → X → Result S ParseFault) → ((s : S) (x : X) → P s → Has P (step s x)) → (s : S) (xs : List X) → P s → Has P (in_turn step s xs)
 turns P step keeps s [] h = h
@@ -82,7 +64,7 @@ turns P step keeps s (x ∷ xs) h = next P P (step s x) _ (keeps s x h) (λ t k.
 -- ---- names
 
 -- what is known of a name
-abbrev KindFits : Words → Kind → Type 0
+abbrev KindFits : InReach → Kind → Type 0
 KindFits w (kinds.Node b) = IsNode w b
 KindFits w (kinds.Data i) = (l : Local) × (slice_get w.locals i ≡ Some l) × (l.pointer ≡ false)
 KindFits w (kinds.Field f s) = (d : _) × (slice_get w.file.fields f.0 ≡ Some d) × (s ≡ pointer_sort d.pointer)
@@ -90,22 +72,22 @@ KindFits w (kinds.Auxiliary g s) = (h : _) × (slice_get w.file.ghosts g ≡ Som
 KindFits w (kinds.Value g v) = (h : _) × (slice_get w.file.ghosts g ≡ Some h) × (v < length h.values)
 KindFits w kinds.NoValue = Unit {0}
 
-ghost_sorts : (g : ℕ) (t : Bool) (vs : List ℕ) → t ≡ has_none vs → auxiliary_sort g t ≡ ghost_sort g vs
+ghost_sorts : (g : ℕ) (t : Bool) (vs : List ℕ) → t ≡ holds_threads vs → auxiliary_sort g t ≡ ghost_sort g vs
 ghost_sorts g t [] e = ap (auxiliary_sort g) e
 ghost_sorts g t (v ∷ vs) e = ap (auxiliary_sort g) e
 
-local_fits : (w : Words) (i : ℕ) (l : Local) (b : Bool) → l.pointer ≡ b → slice_get w.locals i ≡ Some l → KindFits w (kind_of_local i b)
+local_fits : (w : InReach) (i : ℕ) (l : Local) (b : Bool) → l.pointer ≡ b → slice_get w.locals i ≡ Some l → KindFits w (kind_of_local i b)
 local_fits w i l true p e = (l, e, p)
 local_fits w i l false p e = (l, e, p)
 
-inside_fits : (w : Words) (number i : ℕ) (ls : List Local) → ((j : ℕ) (l : Local) → slice_get ls j ≡ Some l → slice_get w.locals (i + j) ≡ Some l) → HasSome (KindFits w) (kind_inside i ls number)
+inside_fits : (w : InReach) (number i : ℕ) (ls : List Local) → ((j : ℕ) (l : Local) → slice_get ls j ≡ Some l → slice_get w.locals (i + j) ≡ Some l) → HasSome (KindFits w) (kind_inside i ls number)
 inside_fits w number i [] h = tt
 inside_fits w number i (l ∷ ls) h =
     let here : i + 0 ≡ i = omega arith in
     if_some (KindFits w) (l.name == number) (kind_of_local i l.pointer) (kind_inside (i + 1) ls number) (local_fits w i l l.pointer refl (ap (slice_get w.locals) (sym here) ∙ h 0 l refl))
     (inside_fits w number (i + 1) ls (λ j k e. let there : i + 1 + j ≡ i + suc j = omega arith in ap (slice_get w.locals) there ∙ h (suc j) k e))
 
-outside_fits : (w : Words) (s : Scope) → NamesOf s w.file → (i : ℕ) (b : Binding) → slice_get s.bindings i ≡ Some b → HasSome (KindFits w) (kind_outside b)
+outside_fits : (w : InReach) (s : Scope) → NamesOf s w.file → (i : ℕ) (b : Binding) → slice_get s.bindings i ≡ Some b → HasSome (KindFits w) (kind_outside b)
 outside_fits w s names i Taken e = tt
 outside_fits w s names i (Shared k) e = names.shared i k e
 outside_fits w s names i (PointerField f) e = let d = names.pointer_field i f e in (d.0, d.1, ap pointer_sort (sym d.2))
@@ -115,30 +97,30 @@ outside_fits w s names i (Auxiliary g t) e = let h = names.auxiliary i g t e in 
 outside_fits w s names i (Value g v) e = names.value i g v e
 outside_fits w s names i LocalOnly e = tt
 
-either_fits : (w : Words) (a : Option Kind) (b : Option Binding) → HasSome (KindFits w) a → ((x : Binding) → b ≡ Some x → HasSome (KindFits w) (kind_outside x)) → HasSome (KindFits w) (kind_or a b)
+either_fits : (w : InReach) (a : Option Kind) (b : Option Binding) → HasSome (KindFits w) a → ((x : Binding) → b ≡ Some x → HasSome (KindFits w) (kind_outside x)) → HasSome (KindFits w) (kind_or a b)
 either_fits w (Some k) b h g = h
 either_fits w None (Some x) h g = g x refl
 either_fits w None None h g = tt
 
-number_fits : (w : Words) (s : Scope) → NamesOf s w.file → (o : Option ℕ) → HasSome (KindFits w) (declared_at s w.locals o)
+number_fits : (w : InReach) (s : Scope) → NamesOf s w.file → (o : Option ℕ) → HasSome (KindFits w) (declared_at s w.locals o)
 number_fits w s names None = tt
 number_fits w s names (Some i) =
-    either_fits w (kind_inside 0 w.locals i) (slice_get s.bindings i) (inside_fits w i 0 w.locals (λ j l e. let here : 0 + j ≡ j = omega arith in ap (slice_get w.locals) here ∙ e)) (outside_fits w s names i)
+    either_fits w (kind_inside 0 w.locals i) (slice_get s.bindings i) (inside_fits w i 0 w.locals (at_start w.locals)) (outside_fits w s names i)
 
 -- a place in a list is below its length
 place_below : (name : Text) (names : List Text) (i : ℕ) → place_of name names ≡ Some i → i < length names
 place_below name names i e = (position-Some (bytes_eq name) names i name e).0
 
-bound_fits : (w : Words) (o : Option ℕ) (k : Option Kind) → ((i : ℕ) → o ≡ Some i → i < w.bound) → HasSome (KindFits w) k → HasSome (KindFits w) (kind_or_bound o k)
+bound_fits : (w : InReach) (o : Option ℕ) (k : Option Kind) → ((i : ℕ) → o ≡ Some i → i < w.bound) → HasSome (KindFits w) k → HasSome (KindFits w) (kind_or_bound o k)
 bound_fits w (Some i) k h g = h i refl
 bound_fits w None k h g = g
 
 -- what is in reach stands for words of the file
-abbrev words : File → Reach → Words
+abbrev words : File → Reach → InReach
 words file r = record { file = file; locals = r.locals; in_operation = r.in_operation; bound = length r.bound.names }
 
 module _ (file : File) (r : Reach) (names : NamesOf r.scope file) where
-  abbrev w : Words
+  abbrev w : InReach
   w = words file r
 
   kind_fits : (name : Text) → HasSome (KindFits w) (kind_of r name)
@@ -254,6 +236,7 @@ module _ (file : File) (r : Reach) (names : NamesOf r.scope file) where
   counted_fits n at (Err e) le h = no_literal n (stands_at at e) (n == 16) _ _ _
 
   record LiteralsFit (s : Literals) : Type 0 where
+    some : 0 < length s.0
     count : length s.0 ≤ 16
     each : All (LiteralFits w) s.0
 
@@ -261,10 +244,10 @@ module _ (file : File) (r : Reach) (names : NamesOf r.scope file) where
   unfolding literal_step
   step_fits s l h = next (CountedFits (length s.0)) LiteralsFit (counted (length s.0) (s.1 + 1) (literal_means r (s.1 + 1) l)) _ (counted_fits (length s.0) (s.1 + 1) (literal_means r (s.1 + 1) l) h.count (literal_fits (s.1 + 1) l)) (λ x k.
       let count = length-append s.0 (x ∷ []) in
-      record { count = omega (arith, k.fewer); each = All-append (LiteralFits w) s.0 (x ∷ []) h.each (All-cons (LiteralFits w) x [] k.fits (All-nil (LiteralFits w))) })
+      record { some = omega arith; count = omega (arith, k.fewer); each = All-append (LiteralFits w) s.0 (x ∷ []) h.each (All-cons (LiteralFits w) x [] k.fits (All-nil (LiteralFits w))) })
 
   first_fits : (x : Literal) (at : ℕ) → LiteralFits w x → LiteralsFit (x ∷ [], at)
-  first_fits x at h = record { count = omega arith; each = All-cons (LiteralFits w) x [] h (All-nil (LiteralFits w)) }
+  first_fits x at h = record { some = omega arith; count = omega arith; each = All-cons (LiteralFits w) x [] h (All-nil (LiteralFits w)) }
 
 -- ---- clauses
 
@@ -302,7 +285,7 @@ module _ (file : File) (s : Scope) (names : NamesOf s file) where
       next (LiteralFits (words file here)) (λ x. ClauseFits file ls in_operation x.0) (literal_means here (at + bound_size b) l) _ (literal_fits file here names (at + bound_size b) l) (λ first fits.
       next (LiteralsFit file here names) (λ x. ClauseFits file ls in_operation x.0) (in_turn (literal_step here) (first ∷ [], at + bound_size b + literal_size l) others) _
       (turns (LiteralsFit file here names) (literal_step here) (step_fits file here names) (first ∷ [], at + bound_size b + literal_size l) others (first_fits file here names first (at + bound_size b + literal_size l) fits)) (λ all h.
-      record { bound = few; literals = h.count; each = h.each })))
+      record { bound = few; some = h.some; literals = h.count; each = h.each })))
 
   line_fits : (ls : List Local) (in_operation : Bool) (at : ℕ) (c : ClauseTree) → Has (λ x. ClauseFits file ls in_operation x.0) (clause_line_means s ls in_operation at c)
   unfolding clause_line_means
@@ -324,7 +307,7 @@ module _ (file : File) (s : Scope) (names : NamesOf s file) where
 
   named_op : (o : Option ℕ) → HasSome IsOp (op_named file.ops o)
   named_op None = tt
-  named_op (Some i) = found (λ (o : Op). o.name == i) file.ops 0 file.ops (λ j x e. let here : 0 + j ≡ j = omega arith in ap (slice_get file.ops) here ∙ e)
+  named_op (Some i) = found (λ (o : Op). o.name == i) file.ops 0 file.ops (at_start file.ops)
 
   op_is_there : (name : Text) (at : ℕ) → Has IsOp (op_at s file.ops name at)
   unfolding op_at
@@ -338,45 +321,69 @@ module _ (file : File) (s : Scope) (names : NamesOf s file) where
       if_some IsOp (has_label label (block_labels o.body)) i (position_from (has_label label) (i + 1) (labels_by_op os)) (o, ap (slice_get file.ops) (sym here) ∙ h 0 o refl)
       (home label (i + 1) os (λ j x e. let there : i + 1 + j ≡ i + suc j = omega arith in ap (slice_get file.ops) there ∙ h (suc j) x e))
 
-  -- a label's operation, which is there
-  abbrev StandsIn : ℕ → ℕ → Type 0
-  StandsIn label k = op_of_label (labels_by_op file.ops) label ≡ Some k
+  -- a label of the file
+  abbrev IsKnown : ℕ → Type 0
+  IsKnown label = label < length file.labels
+
+  -- a label's operation
+  abbrev IsWithin : ℕ → ℕ → Type 0
+  IsWithin k label = op_of_label (labels_by_op file.ops) label ≡ Some k
+
+  -- a label of the file that stands in an operation
+  record StandsIn (k label : ℕ) : Type 0 where
+    known : IsKnown label
+    within : IsWithin k label
 
   both : (P : ℕ → Type 0) (o : Option ℕ) → HasSome P o → HasSome (λ k. (o ≡ Some k) × P k) o
   both P (Some k) h = (refl, h)
   both P None h = tt
 
+  -- with its operation, which is there
   abbrev IsLabel : ℕ × ℕ → Type 0
-  IsLabel l = StandsIn l.0 l.1 × IsOp l.1
+  IsLabel l = StandsIn l.1 l.0 × IsOp l.1
 
-  label_stands : (label at : ℕ) → Has IsLabel (with_op (labels_by_op file.ops) at label)
-  label_stands label at =
-      next (λ k. StandsIn label k × IsOp k) IsLabel (if_fits at (op_of_label (labels_by_op file.ops) label)) _ (fitting (λ k. StandsIn label k × IsOp k) at (op_of_label (labels_by_op file.ops) label)
-      (both IsOp (op_of_label (labels_by_op file.ops) label) (home label 0 file.ops (λ j x e. let here : 0 + j ≡ j = omega arith in ap (slice_get file.ops) here ∙ e)))) (λ k h. h)
+  label_stands : (label at : ℕ) → IsKnown label → Has IsLabel (with_op (labels_by_op file.ops) at label)
+  label_stands label at is =
+      let op = op_of_label (labels_by_op file.ops) label in
+      next (λ k. (op ≡ Some k) × IsOp k) IsLabel (if_fits at op) _ (fitting (λ k. (op ≡ Some k) × IsOp k) at op (both IsOp op (home label 0 file.ops (at_start file.ops)))) (λ k h. (record { known = is; within = h.0 }, h.1))
+
+  -- a label that is among those of the scope
+  abbrev Among : ℕ → Type 0
+  Among label = (name : ℕ) × (slice_get s.labels label ≡ Some name)
+
+  named_label : (o : Option ℕ) → HasSome Among (label_named s.labels o)
+  named_label None = tt
+  named_label (Some i) = found (λ (n : ℕ). n == i) s.labels 0 s.labels (at_start s.labels)
 
   label_is_there : (name : Text) (at : ℕ) → Has IsLabel (label_at s (labels_by_op file.ops) name at)
   unfolding label_at
   label_is_there name at =
+      let label = label_named s.labels (place_of name s.names.names) in
       any IsLabel (known at (declared_kind s [] name)) _ (λ k.
-      any IsLabel (if_fits at (label_named s.labels (place_of name s.names.names))) _ (λ label. label_stands label at))
+      next Among IsLabel (if_fits at label) _ (fitting Among at label (named_label (place_of name s.names.names))) (λ l is.
+      label_stands l at (subst (λ (labels : List ℕ). l < length labels) names.labels (slice_get_within s.labels l is.0 is.1))))
 
   -- all labels stand in one operation
   abbrev Together : ℕ → Labels → Type 0
-  Together k st = All (λ label. StandsIn label k) st.0
+  Together k st = LabelsFit file st.0 k
 
-  same_op : (k at : ℕ) (l : ℕ × ℕ) (b : Bool) → (l.1 == k) ≡ b → IsLabel l → Has (λ label. StandsIn label k) (if b then Ok l.0 else Err (faults.WrongSort at))
-  same_op k at l true e h = h.0 ∙ ap Some (eqb-true l.1 k e)
+  same_op : (k at : ℕ) (l : ℕ × ℕ) (b : Bool) → (l.1 == k) ≡ b → IsLabel l → Has (StandsIn k) (if b then Ok l.0 else Err (faults.WrongSort at))
+  same_op k at l true e h = subst (λ (n : ℕ). StandsIn n l.0) (eqb-true l.1 k e) h.0
   same_op k at l false e h = tt
 
-  one_label : (label k at : ℕ) → StandsIn label k → Together k (label ∷ [], at)
-  one_label label k at h = All-cons (λ n. StandsIn n k) label [] h (All-nil (λ n. StandsIn n k))
+  one_label : (k label at : ℕ) → StandsIn k label → Together k (label ∷ [], at)
+  one_label k label at h = record { some = omega arith; known = All-cons IsKnown label [] h.known (All-nil IsKnown); within = All-cons (IsWithin k) label [] h.within (All-nil (IsWithin k)) }
+
+  label_more : (k label at : ℕ) (st : Labels) → Together k st → StandsIn k label → Together k (st.0 ++ label ∷ [], at)
+  label_more k label at st h is =
+      let count = length-append st.0 (label ∷ []) in
+      record { some = omega arith; known = All-push IsKnown st.0 label h.known is.known; within = All-push (IsWithin k) st.0 label h.within is.within }
 
   labels_keep : (k : ℕ) (st : Labels) (name : Text) → Together k st → Has (Together k) (label_step s (labels_by_op file.ops) k st name)
   unfolding label_step
   labels_keep k st name h =
       next IsLabel (Together k) (label_at s (labels_by_op file.ops) name (st.1 + 1)) _ (label_is_there name (st.1 + 1)) (λ l is.
-      next (λ label. StandsIn label k) (Together k) (if_same_op k (st.1 + 1) l) _ (same_op k (st.1 + 1) l (l.1 == k) refl is) (λ label stands.
-      All-append (λ n. StandsIn n k) st.0 (label ∷ []) h (one_label label k 0 stands)))
+      next (StandsIn k) (Together k) (if_same_op k (st.1 + 1) l) _ (same_op k (st.1 + 1) l (l.1 == k) refl is) (λ label stands. label_more k label (st.1 + 2) st h stands))
 
   abbrev AreLabels : Labels × ℕ → Type 0
   AreLabels ls = IsOp ls.1 × Together ls.1 ls.0
@@ -386,7 +393,7 @@ module _ (file : File) (s : Scope) (names : NamesOf s file) where
   labels_are at name others =
       next IsLabel AreLabels (label_at s (labels_by_op file.ops) name at) _ (label_is_there name at) (λ l is.
       next (Together l.1) AreLabels (in_turn (label_step s (labels_by_op file.ops) l.1) (l.0 ∷ [], at + 1) others) _
-      (turns (Together l.1) (label_step s (labels_by_op file.ops) l.1) (labels_keep l.1) (l.0 ∷ [], at + 1) others (one_label l.0 l.1 (at + 1) is.0)) (λ ls h. (is.1, h)))
+      (turns (Together l.1) (label_step s (labels_by_op file.ops) l.1) (labels_keep l.1) (l.0 ∷ [], at + 1) others (one_label l.1 l.0 (at + 1) is.0)) (λ ls h. (is.1, h)))
 
   -- ---- items
 

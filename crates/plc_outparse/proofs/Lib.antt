@@ -1,7 +1,9 @@
-pub mod Binding
 pub mod Repeated
-pub mod Sizes
 pub mod FormsOfTrees
+pub mod TreesOfForms
 pub mod Lengths
+pub mod SkippedParts
+pub mod Skips
 pub mod Law
+pub mod Exact
 pub mod Fits

@@ -7,8 +7,9 @@ use Rattle.plc_scope.specs.declared.fault.ParseFault.TheVariants as faults
 use Rattle.plc_scope.specs.Answers.{FailsAs}
 use Rattle.plc_scope.specs.Scope.{◌>>=◌}
 use Rattle.plc_outparse.specs.Meaning.{in_turn}
-use Rattle.plc_outparse.specs.Reading.{ReadTo, repeated_from, repeated_in}
-use Rattle.plc_outparse.proofs.Binding.{bind_joins, bind_within, bind_stops, fails_along}
+use Rattle.plc_scope.specs.Read.{ReadTo}
+use Rattle.plc_outparse.specs.Reading.{repeated_from, repeated_in}
+use Rattle.plc_scope.proofs.Sequence.{bind_joins, bind_within, bind_stops, fails_along}
 
 module _ {S H : Type 0} (place : S → ℕ) (head : List TokenKind → Option (H × List TokenKind)) (body : S → H → List TokenKind → ReadTo S) where
   pub goes : (k n : ℕ) (s : S) (ts : List TokenKind) (h : H × List TokenKind) → k ≡ suc n → head ts ≡ Some h

@@ -1,13 +1,8 @@
--- What is asked of the operations of a file, and what is left of the tokens.
+-- What is asked of the operations of a file and of quantified names.
 use Rattle.std.specs.Prelude.{◌≡◌, ◌+◌, ◌≤◌, ℕ, List, length, slice_get, Some}
 use Rattle.plc_base.specs.Names.{NameList}
 use Rattle.plc_lang.specs.declared.syntax.Op.{Op}
-use Rattle.plc_forms.specs.declared.rest.Rest.{Rest}
 use Rattle.plc_scope.specs.Scope.{most_locals}
-
--- what is left ends where that before ended
-pub record Within (before after : Rest) : Type 0 where
-  pub end : after.at + length after.tokens.now ≡ before.at + length before.tokens.now
 
 -- operations within the limits of a file
 pub record OpsFit (ops : List Op) : Type 0 where

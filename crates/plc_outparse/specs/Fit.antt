@@ -12,16 +12,17 @@ use Rattle.plc_logic.specs.Fit.{OutlineFits}
 use Rattle.plc_outparse.specs.Meaning.{outline_means}
 
 -- whether an auxiliary field with these values holds threads
-abbrev pub has_none : List ℕ → Bool
-has_none [] = true
-has_none (v ∷ vs) = false
+abbrev pub holds_threads : List ℕ → Bool
+holds_threads [] = true
+holds_threads (v ∷ vs) = false
 
 -- what the names of the scope stand for is there in the file, and is what they say
 pub record NamesOf (s : Scope) (file : File) : Type 0 where
+  pub labels : s.labels ≡ file.labels
   pub shared : (i k : ℕ) → slice_get s.bindings i ≡ Some (Shared k) → k < length file.shared
   pub pointer_field : (i : ℕ) (f : FieldId) → slice_get s.bindings i ≡ Some (PointerField f) → (d : Field) × (slice_get file.fields f.0 ≡ Some d) × (d.pointer ≡ true)
   pub data_field : (i : ℕ) (f : FieldId) → slice_get s.bindings i ≡ Some (DataField f) → (d : Field) × (slice_get file.fields f.0 ≡ Some d) × (d.pointer ≡ false)
-  pub auxiliary : (i g : ℕ) (t : Bool) → slice_get s.bindings i ≡ Some (Auxiliary g t) → (h : Ghost) × (slice_get file.ghosts g ≡ Some h) × (t ≡ has_none h.values)
+  pub auxiliary : (i g : ℕ) (t : Bool) → slice_get s.bindings i ≡ Some (Auxiliary g t) → (h : Ghost) × (slice_get file.ghosts g ≡ Some h) × (t ≡ holds_threads h.values)
   pub value : (i g v : ℕ) → slice_get s.bindings i ≡ Some (Value g v) → (h : Ghost) × (slice_get file.ghosts g ≡ Some h) × (v < length h.values)
 
 -- an outline that has a meaning behind the operations of a file fits the file

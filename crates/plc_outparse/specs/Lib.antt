@@ -2,6 +2,8 @@ pub mod Forms
 pub mod Sizes
 pub mod Reach
 pub mod Meaning
+pub mod Outlines
+pub mod Skipping
 pub mod Reading
 pub mod Views
 pub mod Answers

@@ -1,16 +1,17 @@
--- What the trees of an outline mean. A tree stands at a place, the number of tokens before it; what it means comes with the place behind it where that isn't the
--- place and the tree's size. Each name is looked up where it stands, from left to right, so the first fault is the one at the least token.
-use Rattle.std.specs.Prelude.{◌==◌, ◌||◌, ◌+◌, ℕ, Bool, true, false, if◌then◌else◌, List, [], ◌∷◌, ◌++◌, length, slice_get, Option, Some, None, Result, Ok, Err}
+-- What the trees of an outline mean. A tree stands at a place, the number of tokens before it, and parts that follow one another hand the place on. Each name
+-- is looked up where it stands, from left to right, so the first fault is the one at the least token.
+use Rattle.std.specs.Prelude.{◌==◌, ◌||◌, ◌+◌, ℕ, Bool, true, false, if◌then◌else◌, List, [], ◌∷◌, ◌++◌, length, Option, Some, None, Result, Ok, Err}
 use Rattle.std.specs.List.{position_from}
 use Rattle.plc_base.specs.Names.{NameList, place_of}
-use Rattle.plc_base.specs.declared.limits.What1.{What1}
 use Rattle.plc_base.specs.declared.limits.What1.TheVariants as limits
 use Rattle.plc_lang.specs.declared.syntax.Local.{Local}
 use Rattle.plc_lang.specs.declared.syntax.Op.{Op}
+use Rattle.plc_lang.specs.Locals.{locals_of}
 use Rattle.plc_syntax.specs.Trees.{Text, PlaceTree, PlaceOf, TermTree, PlaceTerm, NullTerm, NumberTerm, MeTerm, NoneTerm, FlagTree, RetiredFlag, LiteralTree, FlagLiteral, NotLiteral, EqualityLiteral, BoundTree, NoBound, AllOf, ClauseTree, Claims, ItemTree, InvariantItem, OverItem, AtItem, OutlineTree, Outlined}
 use Rattle.plc_scope.specs.declared.fault.ParseFault.{ParseFault}
 use Rattle.plc_scope.specs.declared.fault.ParseFault.TheVariants as faults
 use Rattle.plc_scope.specs.declared.scope.Scope.{Scope}
+use Rattle.plc_scope.specs.Limits.{within_limit, stands_at}
 use Rattle.plc_scope.specs.Scope.{◌>>=◌, if_fits, if_new, with_last}
 use Rattle.plc_logic.specs.declared.clause.Term.{Term}
 use Rattle.plc_logic.specs.declared.clause.Term.TheVariants as terms
@@ -28,21 +29,7 @@ use Rattle.plc_outparse.specs.Sizes.{term_size, literal_size, bound_size, depth_
 use Rattle.plc_outparse.specs.Reach.{Reach, declared_kind, kind_of, known, base_at, as_term, as_field}
 use Rattle.plc_logic.specs.Labels.{labels_by_op, op_of_label}
 
--- ---- limits
-
--- a part past the limit is the fault, at its first token; n parts are before
-abbrev pub within_limit : {A : Type 0} → ℕ → ℕ → What1 → Result A ParseFault → Result A ParseFault
-within_limit n limit what next = if n == limit then Err (faults.Limit what (limit + 1)) else next
-
--- whether a fault is at a token
-abbrev pub stands_at : ℕ → ParseFault → Bool
-stands_at at (faults.Undeclared k) = k == at
-stands_at at (faults.Duplicate k) = k == at
-stands_at at (faults.WrongSort k) = k == at
-stands_at at (faults.NoSuchCall k) = k == at
-stands_at at (faults.Syntax k) = false
-stands_at at (faults.Limit what k) = false
-stands_at at faults.Memory = false
+-- ---- parts
 
 -- parts in order, each added to what was made of those before
 abbrev pub in_turn : {S X : Type 0} → (S → X → Result S ParseFault) → S → List X → Result S ParseFault
@@ -201,14 +188,6 @@ unfoldable pub op_at : Scope → List Op → Text → ℕ → Result ℕ ParseFa
 op_at s ops name at = do
   k ← known at (declared_kind s [] name)
   if_fits at (op_named ops (place_of name s.names.names))
-
--- the locals of an operation
-abbrev pub locals_or_none : Option Op → List Local
-locals_or_none None = []
-locals_or_none (Some o) = o.locals
-
-abbrev pub locals_of : List Op → ℕ → List Local
-locals_of ops o = locals_or_none (slice_get ops o)
 
 -- the label with a name's number
 abbrev pub label_named : List ℕ → Option ℕ → Option ℕ

@@ -1,5 +1,5 @@
--- An outline's meaning, read off its tokens from left to right: what the program does, as a function on lists. Where an outline's tokens could not go on as they
--- do the answer is a fault of syntax, which no contract rests on. The trees' meaning is what is read of their tokens (`proofs/Law.antt`).
+-- An outline's meaning, read off its tokens from left to right: what the program does, as a function on lists. Whether they are an outline's is known before that, so
+-- behind it each form stands where it is wanted, and the faults of syntax there are never the answer. The trees' meaning is what is read of their tokens (`proofs/Law.antt`).
 use Rattle.std.specs.Prelude.{◌+◌, ℕ, zero, suc, Bool, true, false, Option, Some, None, Result, Ok, Err, List, [], ◌∷◌, length}
 use Rattle.plc_base.specs.declared.limits.What1.TheVariants as limits
 use Rattle.plc_lex.specs.declared.token.TokenKind.{TokenKind}
@@ -10,28 +10,23 @@ use Rattle.plc_forms.specs.Forms.{comma_name_of, semicolon_of, closing_of}
 use Rattle.plc_scope.specs.declared.fault.ParseFault.{ParseFault}
 use Rattle.plc_scope.specs.declared.fault.ParseFault.TheVariants as faults
 use Rattle.plc_scope.specs.declared.scope.Scope.{Scope}
+use Rattle.plc_scope.specs.Read.{ReadTo, wanted_at}
 use Rattle.plc_scope.specs.Scope.{◌>>=◌}
 use Rattle.plc_logic.specs.declared.clause.Clause.{Clause}
 use Rattle.plc_logic.specs.declared.clause.Site.TheVariants.{Over, At}
 use Rattle.plc_logic.specs.declared.clause.Outline.{Outline}
 use Rattle.plc_outparse.specs.Forms.{literal_of, or_literal_of, bound_of, HeadTree, InvariantHead, OverHead, AtHead, item_head_of, colon_of, outline_head_of, depth_of}
 use Rattle.plc_outparse.specs.Sizes.{literal_size, bound_size, depth_size}
+use Rattle.plc_outparse.specs.Skipping.{behind_outline_of}
 use Rattle.plc_outparse.specs.Reach.{Reach}
 use Rattle.plc_logic.specs.Labels.{labels_by_op}
-use Rattle.plc_outparse.specs.Meaning.{within_limit, literal_means, Literals, literal_step, bound_means, reach, op_at, locals_of, label_at, Labels, label_step, Parts, with_invariant, with_item, depth_means}
-
--- what was read, and the tokens behind
-abbrev pub ReadTo : Type 0 → Type 0
-ReadTo A = Result (A × List TokenKind) ParseFault
+use Rattle.plc_scope.specs.Limits.{within_limit}
+use Rattle.plc_lang.specs.Locals.{locals_of}
+use Rattle.plc_outparse.specs.Meaning.{literal_means, Literals, literal_step, bound_means, reach, op_at, label_at, Labels, label_step, Parts, with_invariant, with_item, depth_means}
 
 -- what is meant, and the tokens behind
 abbrev pub followed_by : {A : Type 0} → List TokenKind → Result A ParseFault → ReadTo A
 followed_by ts m = m >>= λ x. Ok (x, ts)
-
--- a form that has to stand at a place
-abbrev pub wanted_at : {A : Type 0} → ℕ → Option A → Result A ParseFault
-wanted_at at (Some x) = Ok x
-wanted_at at None = Err (faults.Syntax at)
 
 -- where a part begins it is read, and then those behind it
 abbrev pub repeated_from : {S H : Type 0} → (S → H → List TokenKind → ReadTo S) → (S → List TokenKind → ReadTo S) → S → List TokenKind → Option (H × List TokenKind) → ReadTo S
@@ -144,8 +139,9 @@ parts_in s ops by_op at ts = do
   behind ← wanted_at all.0.2 (closing_of all.1)
   Ok ((record { depth = d.0.0; invariants = all.0.0; items = all.0.1 }, all.0.2 + 1), behind)
 
--- the outline
+-- the outline, once it is known that one stands there
 unfoldable pub outline_in : Scope → List Op → ℕ → List TokenKind → ReadTo (Outline × ℕ)
 outline_in s ops at ts = do
+  skipped ← wanted_at at (behind_outline_of ts)
   us ← wanted_at at (outline_head_of ts)
   parts_in s ops (labels_by_op ops) (at + 2) us

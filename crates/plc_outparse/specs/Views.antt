@@ -3,8 +3,8 @@ use Rattle.plc_syntax.specs.Trees.{TermTree, PlaceTerm, NullTerm, NumberTerm, Me
 use Rattle.plc_forms.specs.Views.{text_or_none, place_tree}
 use Rattle.plc_outparse.specs.declared.form.Side.{Side}
 use Rattle.plc_outparse.specs.declared.form.Side.TheVariants as sides
-use Rattle.plc_outparse.specs.declared.form.Claim.{Claim}
-use Rattle.plc_outparse.specs.declared.form.Claim.TheVariants as claims
+use Rattle.plc_outparse.specs.declared.form.LiteralForm.{LiteralForm}
+use Rattle.plc_outparse.specs.declared.form.LiteralForm.TheVariants as literals
 use Rattle.plc_outparse.specs.declared.form.Quantified.{Quantified}
 use Rattle.plc_outparse.specs.declared.form.Quantified.TheVariants as quantified
 use Rattle.plc_outparse.specs.declared.form.Head.{Head}
@@ -20,10 +20,10 @@ side_tree (sides.Number n) = NumberTerm n
 side_tree sides.Me = MeTerm
 side_tree sides.None = NoneTerm
 
-abbrev pub claim_tree : Claim → LiteralTree
-claim_tree (claims.Retired n) = FlagLiteral (RetiredFlag n.now)
-claim_tree (claims.NotRetired n) = NotLiteral (RetiredFlag n.now)
-claim_tree (claims.Equation a e b) = EqualityLiteral (side_tree a) e (side_tree b)
+abbrev pub literal_tree : LiteralForm → LiteralTree
+literal_tree (literals.Retired n) = FlagLiteral (RetiredFlag n.now)
+literal_tree (literals.NotRetired n) = NotLiteral (RetiredFlag n.now)
+literal_tree (literals.Equation a e b) = EqualityLiteral (side_tree a) e (side_tree b)
 
 abbrev pub quantified_tree : Quantified → BoundTree
 quantified_tree quantified.None = NoBound

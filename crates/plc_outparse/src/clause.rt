@@ -5,16 +5,17 @@ ghost use Rattle.plc_syntax.specs.Syntax.{kinds};
 ghost use Rattle.plc_forms.specs.Views.{text_or_none};
 ghost use Rattle.plc_logic.specs.declared.clause.Literal.{Literal};
 ghost use Rattle.plc_scope.specs.declared.fault.ParseFault.{ParseFault};
-ghost use Rattle.plc_scope.specs.Answers.{Gives};
+ghost use Rattle.plc_scope.specs.Answers.{Gives, Within};
 ghost use Rattle.plc_scope.specs.Scope.{most_locals, if_new, with_last};
-ghost use Rattle.plc_outparse.specs.Answers.{Within, HasRoomForBound};
-ghost use Rattle.plc_outparse.specs.Meaning.{stands_at, counted, literal_step, bound_with, second_bound, bound_means};
+ghost use Rattle.plc_outparse.specs.Answers.{HasRoomForBound};
+ghost use Rattle.plc_scope.specs.Limits.{stands_at};
+ghost use Rattle.plc_outparse.specs.Meaning.{counted, literal_step, bound_with, second_bound, bound_means};
 ghost use Rattle.plc_outparse.specs.Reading.{literals_in, all_literals_in, clause_in, clause_line_in};
 ghost use Rattle.plc_outparse.specs.Sizes.{literal_size, bound_size};
-ghost use Rattle.plc_outparse.specs.Views.{claim_tree, quantified_tree, reach_of};
+ghost use Rattle.plc_outparse.specs.Views.{literal_tree, quantified_tree, reach_of};
 
-use crate::form::{Claim, Quantified};
-use crate::literal_form::{claim_at, or_claim_at, quantified_at};
+use crate::form::{LiteralForm, Quantified};
+use crate::literal_form::{literal_at, or_literal_at, quantified_at};
 use crate::reach::{Reach, declared_kind};
 use crate::term::literal;
 use plc_base::{Items, NameFault, Names, What1};
@@ -107,19 +108,6 @@ fn quantified(
     }
 }
 
-// The fault is at the token at this place.
-fn stands_at(at: u32, fault: &ParseFault) -> bool
-    ensures { result ≡ stands_at at fault.now }
-{
-    match fault {
-        ParseFault::Undeclared { at: k }
-        | ParseFault::Duplicate { at: k }
-        | ParseFault::WrongSort { at: k }
-        | ParseFault::NoSuchCall { at: k } => *k == at,
-        _ => false,
-    }
-}
-
 // A literal with so many before it. The limit's place is the literal's first token, so a fault of that
 // token goes before it.
 fn counted(
@@ -131,7 +119,7 @@ fn counted(
 {
     match meaning {
         Err(ParseFault::Memory) => Err(ParseFault::Memory),
-        Err(fault) if stands_at(at, &fault) => Err(fault),
+        Err(fault) if fault.stands_at(at) => Err(fault),
         _ if count == MOST_LITERALS => Err(ParseFault::Limit {
             what: What1::Literals,
             count: 17,
@@ -146,11 +134,11 @@ fn add_literal(
     reach: &Reach,
     literals: &mut Items<Literal>,
     at: u32,
-    form: Claim,
+    form: LiteralForm,
 ) -> Result<(), ParseFault>
     requires locals { length reach.now.locals.now ≤ most_locals }
-    requires place { at + 1 + literal_size (claim_tree form) < 2 ^ 32 }
-    ensures { Gives (λ _. (literals.new, at + 1 + literal_size (claim_tree form.entry))) result (literal_step (reach_of reach.now) (literals.old, at) (claim_tree form.entry)) }
+    requires place { at + 1 + literal_size (literal_tree form) < 2 ^ 32 }
+    ensures { Gives (λ _. (literals.new, at + 1 + literal_size (literal_tree form.entry))) result (literal_step (reach_of reach.now) (literals.old, at) (literal_tree form.entry)) }
 {
     let further = counted(literals.len(), at + 1, literal(reach, at + 1, form))?;
     literals.push(further)?;
@@ -169,7 +157,7 @@ fn read_further_literals<'a>(
 {
     let mut rest = start;
     for _ in 0..start.tokens.len() {
-        let Some((form, behind)) = or_claim_at(rest) else {
+        let Some((form, behind)) = or_literal_at(rest) else {
             return Ok(rest);
         };
         add_literal(reach, literals, rest.at, form)?;
@@ -189,7 +177,7 @@ fn read_literals<'a>(
     ensures read { Gives (λ r. ((r.0, r.1.at), kinds r.1.tokens.now)) result (all_literals_in (reach_of reach.now) start.entry.at (kinds start.entry.tokens.now)) }
     ensures place { IfOk result (λ r. Within start.entry r.1) }
 {
-    let Some((form, behind)) = claim_at(start) else {
+    let Some((form, behind)) = literal_at(start) else {
         return Err(ParseFault::Syntax { at: start.at });
     };
     let mut literals = Items::new(alloc);

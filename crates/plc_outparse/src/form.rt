@@ -14,7 +14,7 @@ pub enum Side<'a> {
 
 /// A literal.
 #[derive(Clone, Copy)]
-pub enum Claim<'a> {
+pub enum LiteralForm<'a> {
     Retired(&'a [u8]),
     NotRetired(&'a [u8]),
     /// Two sides, and whether they are said to be equal.

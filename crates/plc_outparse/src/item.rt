@@ -2,8 +2,8 @@
 // past it.
 ghost use Rattle.std.specs.Prelude.{◌≡◌, ◌+◌, ◌<◌, ◌≤◌, ◌^◌, IfOk, length};
 ghost use Rattle.plc_syntax.specs.Syntax.{kinds};
-ghost use Rattle.plc_scope.specs.Answers.{Gives};
-ghost use Rattle.plc_outparse.specs.Answers.{Within, OpsFit};
+ghost use Rattle.plc_scope.specs.Answers.{Gives, Within};
+ghost use Rattle.plc_outparse.specs.Answers.{OpsFit};
 ghost use Rattle.plc_outparse.specs.Reading.{invariant_in, over_in, at_in, item_in, items_in};
 ghost use Rattle.plc_outparse.specs.Sizes.{head_size};
 ghost use Rattle.plc_outparse.specs.Views.{head_tree};
@@ -11,7 +11,7 @@ ghost use Rattle.plc_outparse.specs.Views.{head_tree};
 use crate::clause::read_clause_line;
 use crate::form::Head;
 use crate::item_form::head_at;
-use crate::site::{locals_of, op_at, read_labels};
+use crate::site::{few_locals_of, op_at, read_labels};
 use plc_base::{Items, OpId, What1};
 use plc_forms::Rest;
 use plc_lang::Op;
@@ -85,7 +85,8 @@ fn read_over<'a>(
         return Err(too_many_items());
     }
     let op = op_at(scope, ops, name, at + 1)?;
-    let (clause, rest) = read_clause_line(alloc, scope, locals_of(ops, op), true, start)?;
+    let locals = few_locals_of(ops, op as usize);
+    let (clause, rest) = read_clause_line(alloc, scope, locals, true, start)?;
     let site = Site::Over(OpId(op));
     parts.items.push(Item { site, clause })?;
     Ok(rest)
@@ -105,7 +106,6 @@ fn read_at<'a>(
 ) -> Result<Rest<'a>, ParseFault>
     requires labels { length scope.now.labels ≤ 256 }
     requires ops { OpsFit ops.now }
-    requires by_op { length by_op.now ≤ 32 }
     requires head { start.at ≡ at + 2 }
     ensures read { Gives (λ r. ((parts.new.invariants, parts.new.items, r.at), kinds r.tokens.now)) result (at_in scope.now ops.now by_op.now (parts.old.invariants, parts.old.items, at) name.now (kinds start.entry.tokens.now)) }
     ensures place { IfOk result (λ r. Within start.entry r) }
@@ -114,7 +114,8 @@ fn read_at<'a>(
         return Err(too_many_items());
     }
     let (labels, op, rest) = read_labels(alloc, scope, by_op, at + 1, name, start)?;
-    let (clause, rest) = read_clause_line(alloc, scope, locals_of(ops, op), true, rest)?;
+    let locals = few_locals_of(ops, op);
+    let (clause, rest) = read_clause_line(alloc, scope, locals, true, rest)?;
     let site = Site::At(labels);
     parts.items.push(Item { site, clause })?;
     Ok(rest)
@@ -134,7 +135,6 @@ fn read_item<'a>(
 ) -> Result<Rest<'a>, ParseFault>
     requires labels { length scope.now.labels ≤ 256 }
     requires ops { OpsFit ops.now }
-    requires by_op { length by_op.now ≤ 32 }
     requires head { start.at ≡ at + head_size (head_tree head) }
     ensures read { Gives (λ r. ((parts.new.invariants, parts.new.items, r.at), kinds r.tokens.now)) result (item_in scope.now ops.now by_op.now (parts.old.invariants, parts.old.items, at) (head_tree head.entry) (kinds start.entry.tokens.now)) }
     ensures place { IfOk result (λ r. Within start.entry r) }
@@ -157,7 +157,6 @@ pub fn read_items<'a>(
 ) -> Result<Rest<'a>, ParseFault>
     requires labels { length scope.now.labels ≤ 256 }
     requires ops { OpsFit ops.now }
-    requires by_op { length by_op.now ≤ 32 }
     ensures read { Gives (λ r. ((parts.new.invariants, parts.new.items, r.at), kinds r.tokens.now)) result (items_in scope.now ops.now by_op.now (parts.old.invariants, parts.old.items, start.entry.at) (kinds start.entry.tokens.now)) }
     ensures place { IfOk result (λ r. Within start.entry r) }
 {

@@ -7,8 +7,7 @@ ghost use Rattle.plc_outparse.specs.Sizes.{head_size, depth_size};
 ghost use Rattle.plc_outparse.specs.Views.{head_tree};
 
 use crate::form::Head;
-use crate::front::{first, name_symbol_at, symbol_at, word_symbol_at};
-use plc_forms::{Rest, name_at};
+use plc_forms::{Rest, first, name_at, name_symbol_at, symbol_at, word_symbol_at};
 use plc_lex::{Keyword, Symbol, TokenKind};
 
 /// How an item begins.

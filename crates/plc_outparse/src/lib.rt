@@ -1,19 +1,18 @@
 //! What the tokens of an outline mean, on `plc_syntax`'s trees, over which the meaning is defined; the
 //! layer above uses that `read_outline` answers the outline that the tree of the tokens means, or its
-//! fault at the least token.
+//! fault at the least token, and `Syntax` only where they are no tree's.
 #![tactic(auto)]
 
 mod clause;
 mod form;
-mod front;
 mod item;
 mod item_form;
 mod kind;
-mod labels;
 mod literal_form;
 mod outline;
 mod reach;
 mod site;
+mod skipping;
 mod term;
 
 pub use outline::{outlines_fit, read_outline};

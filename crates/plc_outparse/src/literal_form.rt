@@ -2,40 +2,17 @@
 ghost use Rattle.std.specs.Prelude.{◌≡◌, ◌+◌, ◌-◌, IfSome, MatchOption, Some, None};
 ghost use Rattle.plc_syntax.specs.Syntax.{kinds};
 ghost use Rattle.plc_syntax.specs.Trees.{RetiredFlag};
-ghost use Rattle.plc_forms.specs.Forms.{dot_name_of, place_of_name, place_of};
-ghost use Rattle.plc_forms.specs.Sizes.{place_size};
-ghost use Rattle.plc_forms.specs.Views.{Behind, text_or_none, place_tree};
+ghost use Rattle.plc_forms.specs.Views.{Behind, text_or_none};
 ghost use Rattle.plc_outparse.specs.Forms.{term_of, equality_of, flag_of, equation_of, literal_of, or_literal_of, further_name_of, all_names_of, bound_of};
 ghost use Rattle.plc_outparse.specs.Sizes.{term_size, literal_size, bound_size};
-ghost use Rattle.plc_outparse.specs.Views.{side_tree, claim_tree, quantified_tree};
+ghost use Rattle.plc_outparse.specs.Views.{side_tree, literal_tree, quantified_tree};
 
-use crate::form::{Claim, Quantified, Side};
-use crate::front::{first, name_symbol_at, symbol_at, symbol_name_at, word_at, word_symbol_at};
-use plc_forms::{Place, Rest, comma_name_at, name_at};
+use crate::form::{LiteralForm, Quantified, Side};
+use plc_forms::{
+    Rest, comma_name_at, first, name_at, name_symbol_at, place_at, symbol_at, symbol_name_at,
+    word_at, word_symbol_at,
+};
 use plc_lex::{Keyword, Symbol, TokenKind};
-
-// A place, from behind its name.
-fn place_of_name_at<'a>(name: &'a [u8], rest: Rest<'a>) -> (Place<'a>, Rest<'a>)
-    ensures read { place_of_name name.now (kinds rest.entry.tokens.now) ≡ (place_tree result.0, kinds result.1.tokens.now) }
-    ensures behind { Behind rest.entry (place_size (place_tree result.0) - 1) result.1 }
-{
-    match symbol_name_at(rest, Symbol::Dot) {
-        Some((field, behind)) => {
-            let field = Some(field);
-            (Place { name, field }, behind)
-        }
-        None => (Place { name, field: None }, rest),
-    }
-}
-
-// A name, or a field of what it points to.
-fn place_at<'a>(rest: Rest<'a>) -> Option<(Place<'a>, Rest<'a>)>
-    ensures read { MatchOption result (place_of (kinds rest.entry.tokens.now) ≡ None) (λ r. place_of (kinds rest.entry.tokens.now) ≡ Some (place_tree r.0, kinds r.1.tokens.now)) }
-    ensures behind { IfSome result (λ r. Behind rest.entry (place_size (place_tree r.0)) r.1) }
-{
-    let (name, behind) = name_at(rest)?;
-    Some(place_of_name_at(name, behind))
-}
 
 // A side of an equation.
 fn side_at<'a>(rest: Rest<'a>) -> Option<(Side<'a>, Rest<'a>)>
@@ -76,40 +53,40 @@ fn flag_at<'a>(rest: Rest<'a>) -> Option<(&'a [u8], Rest<'a>)>
 }
 
 // An equation or an inequation.
-fn equation_at<'a>(rest: Rest<'a>) -> Option<(Claim<'a>, Rest<'a>)>
-    ensures read { MatchOption result (equation_of (kinds rest.entry.tokens.now) ≡ None) (λ r. equation_of (kinds rest.entry.tokens.now) ≡ Some (claim_tree r.0, kinds r.1.tokens.now)) }
-    ensures behind { IfSome result (λ r. Behind rest.entry (literal_size (claim_tree r.0)) r.1) }
+fn equation_at<'a>(rest: Rest<'a>) -> Option<(LiteralForm<'a>, Rest<'a>)>
+    ensures read { MatchOption result (equation_of (kinds rest.entry.tokens.now) ≡ None) (λ r. equation_of (kinds rest.entry.tokens.now) ≡ Some (literal_tree r.0, kinds r.1.tokens.now)) }
+    ensures behind { IfSome result (λ r. Behind rest.entry (literal_size (literal_tree r.0)) r.1) }
 {
     let (left, behind) = side_at(rest)?;
     let (is_equal, behind) = equality_at(behind)?;
     let (right, behind) = side_at(behind)?;
-    Some((Claim::Equation(left, is_equal, right), behind))
+    Some((LiteralForm::Equation(left, is_equal, right), behind))
 }
 
 /// A literal.
-pub fn claim_at<'a>(rest: Rest<'a>) -> Option<(Claim<'a>, Rest<'a>)>
-    ensures read { MatchOption result (literal_of (kinds rest.entry.tokens.now) ≡ None) (λ r. literal_of (kinds rest.entry.tokens.now) ≡ Some (claim_tree r.0, kinds r.1.tokens.now)) }
-    ensures behind { IfSome result (λ r. Behind rest.entry (literal_size (claim_tree r.0)) r.1) }
+pub fn literal_at<'a>(rest: Rest<'a>) -> Option<(LiteralForm<'a>, Rest<'a>)>
+    ensures read { MatchOption result (literal_of (kinds rest.entry.tokens.now) ≡ None) (λ r. literal_of (kinds rest.entry.tokens.now) ≡ Some (literal_tree r.0, kinds r.1.tokens.now)) }
+    ensures behind { IfSome result (λ r. Behind rest.entry (literal_size (literal_tree r.0)) r.1) }
 {
     match first(rest)? {
         (TokenKind::Word(Keyword::Not), behind) => {
             let (name, behind) = flag_at(behind)?;
-            Some((Claim::NotRetired(name), behind))
+            Some((LiteralForm::NotRetired(name), behind))
         }
         (TokenKind::Word(Keyword::Retired), _) => {
             let (name, behind) = flag_at(rest)?;
-            Some((Claim::Retired(name), behind))
+            Some((LiteralForm::Retired(name), behind))
         }
         _ => equation_at(rest),
     }
 }
 
 /// A further literal, behind its "or".
-pub fn or_claim_at<'a>(rest: Rest<'a>) -> Option<(Claim<'a>, Rest<'a>)>
-    ensures read { MatchOption result (or_literal_of (kinds rest.entry.tokens.now) ≡ None) (λ r. or_literal_of (kinds rest.entry.tokens.now) ≡ Some (claim_tree r.0, kinds r.1.tokens.now)) }
-    ensures behind { IfSome result (λ r. Behind rest.entry (1 + literal_size (claim_tree r.0)) r.1) }
+pub fn or_literal_at<'a>(rest: Rest<'a>) -> Option<(LiteralForm<'a>, Rest<'a>)>
+    ensures read { MatchOption result (or_literal_of (kinds rest.entry.tokens.now) ≡ None) (λ r. or_literal_of (kinds rest.entry.tokens.now) ≡ Some (literal_tree r.0, kinds r.1.tokens.now)) }
+    ensures behind { IfSome result (λ r. Behind rest.entry (1 + literal_size (literal_tree r.0)) r.1) }
 {
-    claim_at(word_at(rest, Keyword::Or)?)
+    literal_at(word_at(rest, Keyword::Or)?)
 }
 
 // A comma and a name, which may be left out.

@@ -1,22 +1,21 @@
 // The outline of a file, which stands behind all operations.
-ghost use Rattle.std.specs.Prelude.{◌≡◌, ◌+◌, ◌<◌, ◌≤◌, ◌^◌, List, IfOk, length};
-ghost use Rattle.plc_lex.specs.declared.token.TokenKind.{TokenKind};
+ghost use Rattle.std.specs.Prelude.{◌+◌, ◌<◌, ◌≤◌, ◌^◌, IfOk, IfErr, Ok, length};
 ghost use Rattle.plc_syntax.specs.Syntax.{kinds};
-ghost use Rattle.plc_syntax.specs.Trees.{OutlineTree, outline_then};
-ghost use Rattle.plc_scope.specs.Answers.{Gives};
-ghost use Rattle.plc_outparse.specs.Answers.{Within, OpsFit};
+ghost use Rattle.plc_scope.specs.Answers.{Gives, Within};
+ghost use Rattle.plc_outparse.specs.Answers.{OpsFit};
 ghost use Rattle.plc_outparse.specs.Fit.{OutlinesFit};
-ghost use Rattle.plc_outparse.specs.Meaning.{depth_means, outline_means};
-ghost use Rattle.plc_outparse.specs.Reading.{followed_by, depth_in, parts_in, outline_in};
+ghost use Rattle.plc_outparse.specs.Meaning.{depth_means};
+ghost use Rattle.plc_outparse.specs.Outlines.{Means, IsPartFault};
+ghost use Rattle.plc_outparse.specs.Reading.{depth_in, parts_in, outline_in};
 ghost use Rattle.plc_outparse.specs.Sizes.{depth_size};
 
 use crate::item::{Parts, read_items};
 use crate::item_form::{depth_at, outline_head_at};
-use crate::labels::labels_by_op;
+use crate::skipping::behind_outline;
 use plc_base::Items;
 use plc_forms::{Rest, closing_at};
 use plc_lang::Op;
-use plc_logic::Outline;
+use plc_logic::{Outline, labels_by_op};
 use plc_scope::{ParseFault, Scope};
 use std::alloc::Global;
 
@@ -54,7 +53,6 @@ fn read_parts<'a>(
 ) -> Result<(Outline, Rest<'a>), ParseFault>
     requires labels { length scope.now.labels ≤ 256 }
     requires ops { OpsFit ops.now }
-    requires by_op { length by_op.now ≤ 32 }
     ensures read { Gives (λ r. ((r.0, r.1.at), kinds r.1.tokens.now)) result (parts_in scope.now ops.now by_op.now start.entry.at (kinds start.entry.tokens.now)) }
     ensures place { IfOk result (λ r. Within start.entry r.1) }
 {
@@ -75,7 +73,7 @@ fn read_parts<'a>(
     Ok((outline, behind))
 }
 
-// The outline at the front.
+// The outline at the front, once it is known that one stands there.
 #[tactic(auto, unfolding(crate::specs::Reading::outline_in))]
 fn outline_at<'a>(
     alloc: Global,
@@ -88,6 +86,9 @@ fn outline_at<'a>(
     ensures read { Gives (λ r. ((r.0, r.1.at), kinds r.1.tokens.now)) result (outline_in scope.now ops.now start.entry.at (kinds start.entry.tokens.now)) }
     ensures place { IfOk result (λ r. Within start.entry r.1) }
 {
+    if behind_outline(start).is_none() {
+        return Err(ParseFault::Syntax { at: start.at });
+    }
     let Some(rest) = outline_head_at(start) else {
         return Err(ParseFault::Syntax { at: start.at });
     };
@@ -96,10 +97,11 @@ fn outline_at<'a>(
 }
 
 /// Reads the outline of a file with these names and operations, and what is behind its closing brace;
-/// or the fault at the least token: `Undeclared` for a name without a declaration in reach, `Duplicate`
-/// for a quantified name that is there, `WrongSort` where a name, a term, a label of a second operation
-/// or the depth can't stand, and `Limit` at the first token past one. The scope is the one behind all
-/// operations. Tokens that no outline's tokens go on with are `Syntax`.
+/// or the fault: `Syntax` at the start where no outline stands there, and else the one at the least
+/// token, `Undeclared` for a name without a declaration in reach, `Duplicate` for a quantified name that
+/// is there, `WrongSort` where a name, a term, a label of a second operation or the depth can't stand,
+/// and `Limit` at the first token past one. The scope is the one behind all operations, with at most 256
+/// labels; of the operations there are at most 32, each with at most 32 locals.
 pub fn read_outline<'a>(
     alloc: Global,
     scope: &Scope,
@@ -109,8 +111,8 @@ pub fn read_outline<'a>(
     requires labels { length scope.now.labels ≤ 256 }
     requires ops { OpsFit ops.now }
     ensures read { Gives (λ r. ((r.0, r.1.at), kinds r.1.tokens.now)) result (outline_in scope.now ops.now start.entry.at (kinds start.entry.tokens.now)) }
-    ensures means { (tree : OutlineTree) (behind : List TokenKind) → kinds start.entry.tokens.now ≡ outline_then tree behind
-        → Gives (λ r. ((r.0, r.1.at), kinds r.1.tokens.now)) result (followed_by behind (outline_means scope.now ops.now start.entry.at tree)) }
+    ensures ok { IfOk result (λ r. Means scope.now ops.now start.entry.at (kinds start.entry.tokens.now) (Ok (r.0, r.1.at)) (kinds r.1.tokens.now)) }
+    ensures fault { IfErr result (IsPartFault scope.now ops.now start.entry.at (kinds start.entry.tokens.now)) }
     ensures place { IfOk result (λ r. Within start.entry r.1) }
 {
     outline_at(alloc, scope, ops, start)

@@ -3,18 +3,19 @@
 ghost use Rattle.std.specs.Prelude.{◌≡◌, ◌+◌, ◌<◌, ◌≤◌, ◌^◌, Some, IfOk, length};
 ghost use Rattle.plc_syntax.specs.Syntax.{kinds};
 ghost use Rattle.plc_base.specs.Names.{place_of};
-ghost use Rattle.plc_scope.specs.Answers.{Gives};
+ghost use Rattle.plc_scope.specs.Answers.{Gives, Within};
 ghost use Rattle.plc_scope.specs.Scope.{most_locals};
-ghost use Rattle.plc_outparse.specs.Answers.{Within, OpsFit};
-ghost use Rattle.plc_outparse.specs.Meaning.{op_named, op_at, locals_of, label_named, label_at, label_step};
+ghost use Rattle.plc_outparse.specs.Answers.{OpsFit};
+ghost use Rattle.plc_lang.specs.Locals.{locals_of};
+ghost use Rattle.plc_outparse.specs.Meaning.{op_named, op_at, label_named, label_at, label_step};
 ghost use Rattle.plc_outparse.specs.Reading.{labels_in, all_labels_in};
 
 use crate::item_form::colon_at;
-use crate::labels::op_of_label;
 use crate::reach::known;
 use plc_base::Items;
 use plc_forms::{Rest, comma_name_at};
-use plc_lang::{Local, Op};
+use plc_lang::{Local, Op, locals_of};
+use plc_logic::op_of_label;
 use plc_scope::{ParseFault, Scope};
 use std::alloc::Global;
 
@@ -54,16 +55,13 @@ pub fn op_at(scope: &Scope, ops: &[Op], name: &[u8], at: u32) -> Result<u16, Par
     }
 }
 
-/// The locals of an operation.
-pub fn locals_of(ops: &[Op], op: u16) -> &[Local]
+/// The locals of an operation of a file, of which there are not too many.
+pub fn few_locals_of(ops: &[Op], op: usize) -> &[Local]
     requires { OpsFit ops.now }
     ensures locals { result.now ≡ locals_of ops.now op }
     ensures few { length result.now ≤ most_locals }
 {
-    match ops.get(op as usize) {
-        Some(op) => op.locals.as_slice(),
-        None => &[],
-    }
+    locals_of(ops, op)
 }
 
 // The label with a name's number.
@@ -96,9 +94,8 @@ fn label_at(
     by_op: &[Items<u16>],
     name: &[u8],
     at: u32,
-) -> Result<(u16, u16), ParseFault>
+) -> Result<(u16, usize), ParseFault>
     requires labels { length scope.now.labels ≤ 256 }
-    requires ops { length by_op.now ≤ 32 }
     ensures { Gives (λ r. (r.0, r.1)) result (label_at scope.now by_op.now name.now at) }
 {
     let _kind = known(scope, &[], name, at)?;
@@ -116,13 +113,12 @@ fn label_at(
 fn add_label(
     scope: &Scope,
     by_op: &[Items<u16>],
-    op: u16,
+    op: usize,
     labels: &mut Items<u16>,
     at: u32,
     name: &[u8],
 ) -> Result<(), ParseFault>
     requires labels { length scope.now.labels ≤ 256 }
-    requires ops { length by_op.now ≤ 32 }
     requires place { at + 2 < 2 ^ 32 }
     ensures { Gives (λ _. (labels.new, at + 2)) result (label_step scope.now by_op.now op (labels.old, at) name.now) }
 {
@@ -138,12 +134,11 @@ fn add_label(
 fn read_further_labels<'a>(
     scope: &Scope,
     by_op: &[Items<u16>],
-    op: u16,
+    op: usize,
     labels: &mut Items<u16>,
     start: Rest<'a>,
 ) -> Result<Rest<'a>, ParseFault>
     requires labels { length scope.now.labels ≤ 256 }
-    requires ops { length by_op.now ≤ 32 }
     ensures read { Gives (λ r. ((labels.new, r.at), kinds r.tokens.now)) result (labels_in scope.now by_op.now op (labels.old, start.entry.at) (kinds start.entry.tokens.now)) }
     ensures place { IfOk result (λ r. Within start.entry r) }
 {
@@ -168,9 +163,8 @@ pub fn read_labels<'a>(
     at: u32,
     name: &[u8],
     start: Rest<'a>,
-) -> Result<(Items<u16>, u16, Rest<'a>), ParseFault>
+) -> Result<(Items<u16>, usize, Rest<'a>), ParseFault>
     requires labels { length scope.now.labels ≤ 256 }
-    requires ops { length by_op.now ≤ 32 }
     requires name { start.at ≡ at + 1 }
     ensures read { Gives (λ r. (((r.0, r.2.at), r.1), kinds r.2.tokens.now)) result (all_labels_in scope.now by_op.now at name.now (kinds start.entry.tokens.now)) }
     ensures place { IfOk result (λ r. Within start.entry r.2) }

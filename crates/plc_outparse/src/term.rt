@@ -9,9 +9,9 @@ ghost use Rattle.plc_scope.specs.Scope.{most_locals};
 ghost use Rattle.plc_outparse.specs.Meaning.{place_means, me_means, term_means, sort_place, same_sort, second_means, flag_means, literal_means};
 ghost use Rattle.plc_outparse.specs.Reach.{base_term, as_term, as_field};
 ghost use Rattle.plc_outparse.specs.Sizes.{term_size, literal_size};
-ghost use Rattle.plc_outparse.specs.Views.{side_tree, claim_tree, reach_of};
+ghost use Rattle.plc_outparse.specs.Views.{side_tree, literal_tree, reach_of};
 
-use crate::form::{Claim, Side};
+use crate::form::{LiteralForm, Side};
 use crate::kind::Kind;
 use crate::reach::{Reach, base_at, kind_at};
 use plc_forms::Place;
@@ -165,15 +165,15 @@ fn flag(reach: &Reach, yes: bool, at: u32, name: &[u8]) -> Result<Literal, Parse
 /// The literal of a form at a place. `Undeclared` for a name without a declaration in reach, and
 /// `WrongSort` for a term that can't stand there or a second one of another sort than the first.
 #[tactic(auto, unfolding(crate::specs::Meaning::literal_means))]
-pub fn literal(reach: &Reach, at: u32, form: Claim) -> Result<Literal, ParseFault>
+pub fn literal(reach: &Reach, at: u32, form: LiteralForm) -> Result<Literal, ParseFault>
     requires locals { length reach.now.locals.now ≤ most_locals }
-    requires place { at + literal_size (claim_tree form) < 2 ^ 32 }
-    ensures { Gives (λ r. r) result (literal_means (reach_of reach.now) at (claim_tree form.entry)) }
+    requires place { at + literal_size (literal_tree form) < 2 ^ 32 }
+    ensures { Gives (λ r. r) result (literal_means (reach_of reach.now) at (literal_tree form.entry)) }
 {
     match form {
-        Claim::Retired(name) => flag(reach, true, at, name),
-        Claim::NotRetired(name) => flag(reach, false, at + 1, name),
-        Claim::Equation(left, equal, right) => {
+        LiteralForm::Retired(name) => flag(reach, true, at, name),
+        LiteralForm::NotRetired(name) => flag(reach, false, at + 1, name),
+        LiteralForm::Equation(left, equal, right) => {
             let (a, sort) = term(reach, at, left)?;
             let b = second(reach, sort, at + side_size(left) + 1, right)?;
             Ok(Literal::Same { a, b, equal })

@@ -183,10 +183,34 @@ fn names_are_judged_where_they_stand(rt: HostRuntime) -> Result<(), AllocError> 
         ("at push: n == null;", "WrongSort { at: 3 }"),
         ("at z: n == null;", "Undeclared { at: 3 }"),
         ("inv z == y;", "Undeclared { at: 3 }"),
-        ("inv Top;", "Syntax { at: 3 }"),
     ];
     for (items, answer) in rows {
         assert_eq!(rt; of_items(rt.alloc(), items)?.as_str(), answer, "{items}");
+    }
+    Ok(())
+}
+
+#[test]
+fn syntax_is_judged_before_names(rt: HostRuntime) -> Result<(), AllocError> {
+    let rows = [
+        "",
+        "outline",
+        "outline { inv z == null;",
+        "outline { inv Top; }",
+        "outline { inv z == null ; ; }",
+        "outline { inv z == null }",
+        "outline { inv z == null or ; }",
+        "outline { inv z == null inv z == null; }",
+        "outline { inv z == null; depth 1; }",
+        "outline { depth 2 }",
+        "outline { inv all z, y z == null; }",
+        "outline { over z z == null; }",
+        "outline { at z, : z == null; }",
+        "outline { at z y: z == null; }",
+    ];
+    for text in rows {
+        let answer = shown(rt.alloc(), text.as_bytes())?;
+        assert_eq!(rt; answer.as_str(), "Syntax { at: 0 }", "{text}");
     }
     Ok(())
 }
@@ -220,7 +244,11 @@ fn sides_have_one_sort(rt: HostRuntime) -> Result<(), AllocError> {
     let rows = [
         ("inv Top == null;", "outline"),
         ("inv Top == 3;", "WrongSort { at: 5 }"),
+        ("inv Top == none;", "WrongSort { at: 5 }"),
+        ("inv Top == made;", "WrongSort { at: 5 }"),
+        ("inv Top == val.next;", "WrongSort { at: 5 }"),
         ("inv Top.val == 3;", "outline"),
+        ("inv Top.val == null;", "WrongSort { at: 7 }"),
         ("inv Top.val == Top.next;", "WrongSort { at: 9 }"),
         ("inv Top.next == Top.next;", "outline"),
         ("inv Top.st == made;", "outline"),
@@ -229,8 +257,10 @@ fn sides_have_one_sort(rt: HostRuntime) -> Result<(), AllocError> {
         ("inv Top.st == Top.age;", "WrongSort { at: 9 }"),
         ("inv Top.owner == none;", "outline"),
         ("inv Top.owner == me;", "WrongSort { at: 7 }"),
+        ("inv Top.owner == made;", "WrongSort { at: 7 }"),
         ("inv me == none;", "WrongSort { at: 3 }"),
         ("over push: n.owner == me;", "outline"),
+        ("over push: n.st == me;", "WrongSort { at: 9 }"),
         ("inv made == made;", "outline"),
         ("inv made == old;", "WrongSort { at: 5 }"),
         ("inv made.next == null;", "WrongSort { at: 3 }"),
@@ -239,6 +269,7 @@ fn sides_have_one_sort(rt: HostRuntime) -> Result<(), AllocError> {
         ("inv Top == push;", "WrongSort { at: 5 }"),
         ("inv Top.Top == Top;", "WrongSort { at: 5 }"),
         ("inv Top.z == Top;", "Undeclared { at: 5 }"),
+        ("inv z.next == null;", "Undeclared { at: 3 }"),
         ("over push: v == 3;", "outline"),
         ("over push: v == n;", "WrongSort { at: 7 }"),
         ("over push: v.next == null;", "WrongSort { at: 5 }"),

@@ -1,12 +1,10 @@
 -- From what was read to what the tokens spell.
-use Rattle.std.proofs.Common.{◌≡◌, true, false, List, None, Result, Ok, Err, IfOk, IfErr, refl, ap, sym, ◌∙◌}
+use Rattle.std.proofs.Common.{◌≡◌, true, List, Result, Ok, Err, IfOk, IfErr, refl, ap, sym, ◌∙◌}
 use Rattle.plc_lex.specs.declared.token.Token.{Token}
 use Rattle.plc_lang.specs.Fit.{FileFits, NamesWhatIsThere}
 use Rattle.plc_auto.specs.Table.{is_well_formed}
-use Rattle.plc_syntax.specs.Trees.{FileTree, file_tokens}
+use Rattle.plc_logic.specs.Fit.{OutlineFits}
 use Rattle.plc_syntax.specs.Syntax.{kinds}
-use Rattle.plc_lex.specs.declared.token.Keyword.TheVariants.{Outline}
-use Rattle.plc_forms.specs.Forms.{hold_word}
 use Rattle.plc_scope.specs.declared.fault.ParseFault.{ParseFault}
 use Rattle.plc_scope.specs.declared.fault.ParseFault.TheVariants as faults
 use Rattle.plc_parse.specs.declared.unit.Unit.{Unit as FileUnit}
@@ -14,23 +12,14 @@ use Rattle.plc_scope.specs.Answers.{Gives}
 use Rattle.plc_parse.specs.Reading.{file_in}
 use Rattle.plc_parse.specs.Units.{lines_of, Means, IsUnitOf, IsFaultOf, no_unit, no_memory, IsShallowFile, UnitsAreUnique}
 use Rattle.plc_parse.proofs.Law.{file_read}
-use Rattle.plc_parse.proofs.Ends.{no_outline}
 use Rattle.plc_parse.proofs.Naming.{file_named}
 use Rattle.plc_parse.proofs.Fits.{file_fits}
+use Rattle.plc_parse.proofs.Outlined.{outline_of_file_fits}
 
--- where no token is `outline` the tree has none
-outline_out : (ts : List Token) (f : FileTree) → file_tokens f ≡ kinds ts → hold_word Outline (kinds ts) ≡ false → f.outlined ≡ None
-outline_out ts f e h = no_outline f (ap (hold_word Outline) e ∙ h)
-
-module _ (ts : List Token) (absent : hold_word Outline (kinds ts) ≡ false) where
+module _ (ts : List Token) where
   -- what is read is what the tree means
   read_is : (s : IsShallowFile (kinds ts)) (r : Result FileUnit ParseFault) → file_in (lines_of ts) (kinds ts) ≡ r → Means ts r
-  read_is s r e = let none = outline_out ts s.0.0 s.0.1 absent in record {
-    tree = s.0.0;
-    tokens = s.0.1;
-    no_outline = none;
-    is = sym (file_read (lines_of ts) s.0.0 none) ∙ ap (file_in (lines_of ts)) s.0.1 ∙ e;
-  }
+  read_is s r e = record { tree = s.0.0; tokens = s.0.1; is = sym (file_read (lines_of ts) s.0.0) ∙ ap (file_in (lines_of ts)) s.0.1 ∙ e }
 
   pub unit_is : (r : Result FileUnit ParseFault) → Gives (λ u. u) r (file_in (lines_of ts) (kinds ts)) → IsShallowFile (kinds ts) → IfOk r (λ u. IsUnitOf ts u)
   unit_is (Ok u) g s = record { shallow = s.1; means = read_is s _ g }
@@ -43,7 +32,7 @@ module _ (ts : List Token) (absent : hold_word Outline (kinds ts) ≡ false) whe
 
   -- what is spelled is read
   said : (u : FileUnit) → IsUnitOf ts u → file_in (lines_of ts) (kinds ts) ≡ Ok u
-  said u h = ap (file_in (lines_of ts)) (sym h.means.tokens) ∙ file_read (lines_of ts) h.means.tree h.means.no_outline ∙ h.means.is
+  said u h = ap (file_in (lines_of ts)) (sym h.means.tokens) ∙ file_read (lines_of ts) h.means.tree ∙ h.means.is
 
   pub no_other_fault : (r : Result FileUnit ParseFault) (u : FileUnit) → Gives (λ x. x) r (file_in (lines_of ts) (kinds ts)) → IsUnitOf ts u → IfErr r (λ e. e ≡ faults.Memory)
   no_other_fault (Ok x) u g h = tt
@@ -62,7 +51,11 @@ module _ (ts : List Token) (absent : hold_word Outline (kinds ts) ≡ false) whe
   unit_watches (Ok u) g s = let m = read_is s (Ok u) g in (file_named (lines_of ts) m.tree u m.is).observer
   unit_watches (Err e) g s = tt
 
+  pub unit_outline : (r : Result FileUnit ParseFault) → Gives (λ u. u) r (file_in (lines_of ts) (kinds ts)) → IsShallowFile (kinds ts) → IfOk r (λ u. OutlineFits u.file u.outline)
+  unit_outline (Ok u) g s = let m = read_is s (Ok u) g in outline_of_file_fits (lines_of ts) m.tree u m.is
+  unit_outline (Err e) g s = tt
+
 -- tokens mean one thing
 pub one_meaning : UnitsAreUnique
 one_meaning ts a b m n =
-    sym m.is ∙ sym (file_read (lines_of ts) m.tree m.no_outline) ∙ ap (file_in (lines_of ts)) (m.tokens ∙ sym n.tokens) ∙ file_read (lines_of ts) n.tree n.no_outline ∙ n.is
+    sym m.is ∙ sym (file_read (lines_of ts) m.tree) ∙ ap (file_in (lines_of ts)) (m.tokens ∙ sym n.tokens) ∙ file_read (lines_of ts) n.tree ∙ n.is

@@ -11,9 +11,9 @@ use Rattle.plc_scope.specs.declared.scope.Scope.{Scope}
 use Rattle.plc_scope.specs.Answers.{FailsAs}
 use Rattle.plc_scope.specs.Scope.{◌>>=◌}
 use Rattle.plc_parse.specs.Meaning.{line_at}
-use Rattle.plc_parse.specs.Reading.{ReadTo, BlockReader, where_read, statement_in, statements_in, ors_in, block_in}
-use Rattle.plc_parse.proofs.Loop.{bind_joins, bind_same}
-use Rattle.plc_parse.proofs.Stops.{bind_stops, fails_along}
+use Rattle.plc_scope.specs.Read.{ReadTo}
+use Rattle.plc_parse.specs.Reading.{BlockReader, where_read, statement_in, statements_in, ors_in, block_in}
+use Rattle.plc_scope.proofs.Sequence.{bind_joins, bind_same, bind_stops, fails_along}
 
 -- ---- statements
 

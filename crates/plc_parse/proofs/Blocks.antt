@@ -14,8 +14,10 @@ use Rattle.plc_scope.specs.declared.scope.Scope.{Scope}
 use Rattle.plc_scope.specs.Scope.{◌>>=◌}
 use Rattle.plc_scope.specs.Primitives.{primitive_means, initial_means, condition_means, call_means}
 use Rattle.plc_parse.specs.Meaning.{counted, allocates, before, count_of, forms_mean, atomic_means, initials_mean, label_means, during_means, statement_means, statements_mean, else_means, or_means}
-use Rattle.plc_parse.specs.Reading.{ReadTo, StatementRead, wanted_at, form_step, forms_in, primitives_in, initials_in, called_in, step_in, flat_in, loop_in, else_in, branches_in, if_in, ors_in, blocks_in, choose_in, statement_in, block_in}
-use Rattle.plc_parse.proofs.Loop.{bind_joins, bind_within, read_within, reads_this, reads_other, steps, each_reads}
+use Rattle.plc_scope.specs.Read.{ReadTo, wanted_at}
+use Rattle.plc_parse.specs.Reading.{StatementRead, form_step, forms_in, primitives_in, initials_in, called_in, step_in, flat_in, loop_in, else_in, branches_in, if_in, ors_in, blocks_in, choose_in, statement_in, block_in}
+use Rattle.plc_scope.proofs.Sequence.{bind_joins, bind_within, read_within}
+use Rattle.plc_parse.proofs.Loop.{reads_this, reads_other, steps, each_reads}
 use Rattle.plc_parse.proofs.Fronts.{not_at_statement, not_at_statements, closing_no_statement, else_no_statement, or_no_statement, primitive_begins}
 use Rattle.plc_parse.proofs.Weights.{statement_weight, block_weight, else_weight, or_weight}
 use Rattle.plc_forms.proofs.FormsOfTrees.{primitive_line_reads, initial_line_reads, condition_reads, call_reads}

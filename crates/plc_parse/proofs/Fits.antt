@@ -8,6 +8,7 @@ use Rattle.plc_lang.specs.declared.syntax.Primitive.{Primitive}
 use Rattle.plc_lang.specs.declared.syntax.Ghost.{Ghost}
 use Rattle.plc_lang.specs.declared.syntax.Local.{Local}
 use Rattle.plc_lang.specs.Allocation.{is_new}
+use Rattle.plc_lang.specs.Statements.{Statement, Statements, Blocks}
 use Rattle.plc_syntax.specs.Trees.{Text, FieldTree, PointerField, DataField, FunctionTree, Declares, GhostTree, Auxiliary, OneOf, OfThreads, InitialTree, StatementTree, PrimitiveStatement, AtomicStatement, CallStatement, IfStatement, ChooseStatement, LoopStatement, BreakStatement, ReturnStatement, LabelStatement, BlockTree, NoStatement, Then, ElseTree, NoElse, ElseBlock, OrTree, NoOr, OrBlock, OpTree, Operates, FileTree}
 use Rattle.plc_forms.specs.Sizes.{initial_size, primitive_size, condition_size, call_size}
 use Rattle.plc_scope.specs.declared.fault.ParseFault.{ParseFault}
@@ -18,8 +19,10 @@ use Rattle.plc_scope.specs.declared.binding.Binding.TheVariants.{Taken, Value}
 use Rattle.plc_scope.specs.Scope.{◌>>=◌, if_new, first_scope, with_name, with_label, declared, declared_label, has_local, may_name_local, local_number, with_local, declared_local, declared_parameter}
 use Rattle.plc_scope.specs.Primitives.{primitive_means, initial_means, condition_means, call_means}
 use Rattle.plc_parse.specs.declared.unit.Unit.{Unit as FileUnit}
-use Rattle.plc_parse.specs.Meaning.{stands_at, counted, count_of, before, allocates, forms_mean, atomic_means, initials_mean, one_or_skip, label_means, during_means, statement_means, statements_mean, else_means, or_means, field_means, shared_means, function_means, value_means, values_mean, ghost_means, listed, watch_means, init_means, others_mean, parameters_mean, local_means, locals_mean, op_means, file_means}
-use Rattle.plc_parse.proofs.Holds.{Has, has_along, weaker, next, any, unless, if_ok, both_err, below, OneHas, EachHas, one_name, each_has, Free}
+use Rattle.plc_scope.specs.Limits.{stands_at}
+use Rattle.plc_parse.specs.Meaning.{counted, count_of, before, allocates, forms_mean, atomic_means, initials_mean, one_or_skip, label_means, during_means, statement_means, statements_mean, else_means, or_means, field_means, shared_means, function_means, value_means, values_mean, ghost_means, listed, watch_means, init_means, others_mean, parameters_mean, local_means, locals_mean, op_means, outlined_means, file_means}
+use Rattle.plc_scope.proofs.Holds.{Has, has_along, weaker, next, any, unless, if_ok, both_err, below}
+use Rattle.plc_parse.proofs.Holds.{OneHas, EachHas, one_name, each_has, Free}
 
 -- ---- between declarations
 
@@ -41,7 +44,7 @@ record Room (limit n : ℕ) (s : Scope) : Type 0 where
   between : Between s
 
 room_for : (limit n : ℕ) (s : Scope) (name : Text) (at : ℕ) (b : Binding) → Room limit n s → (n == limit) ≡ false → Has (Room limit (n + 1)) (declared s name at b)
-room_for limit n s name at b h few = weaker Between (Room limit (n + 1)) (declared s name at b) (declared_between s name at b h.between) (λ t k. record { count = omega (arith, h.count, eqb-false n limit few); between = k })
+room_for limit n s name at b h few = weaker Between (Room limit (n + 1)) (declared s name at b) (λ t k. record { count = omega (arith, h.count, eqb-false n limit few); between = k }) (declared_between s name at b h.between)
 
 -- nothing was declared of a kind
 room : {limit : ℕ} {s : Scope} → Between s → Room limit 0 s
@@ -115,64 +118,75 @@ forms_fit means size n has_new at (x ∷ xs) le = next (Fewer n) (FormsFit n) (c
 abbrev FewLabels : Scope → Type 0
 FewLabels s = length s.labels ≤ 256
 
-abbrev LabelFits : {Y : Type 0} → Y × Scope → Type 0
-LabelFits r = FewLabels r.1
+-- what a label was read as, and a scope of which this holds
+abbrev pub LabelRead : (Scope → Type 0) → {Y : Type 0} → Y × Scope → Type 0
+LabelRead State r = State r.1
 
-label_fits : (s : Scope) (at : ℕ) (n : Text) → FewLabels s → Has LabelFits (label_means s at n)
-label_fits s at n h = below LabelFits (length s.labels) 256 _ _ h (λ less. next FewLabels LabelFits (declared_label s n (at + 1)) _ (new (place_of n s.names.names) less) (λ t k. k))
+label_fits : (s : Scope) (at : ℕ) (n : Text) → FewLabels s → Has (LabelRead FewLabels) (label_means s at n)
+label_fits s at n h = below (LabelRead FewLabels) (length s.labels) 256 _ _ h (λ less. next FewLabels (LabelRead FewLabels) (declared_label s n (at + 1)) _ (new (place_of n s.names.names) less) (λ t k. k))
   where
     new : (o : Option ℕ) → length s.labels < 256 → Has FewLabels (if_new o (at + 1) (with_name s n Taken) >>= λ t. Ok (with_label t (length s.names.names)))
     new None less = omega (arith, length-append s.labels (length s.names.names ∷ []))
     new (Some i) less = tt
 
-during_fits : (s : Scope) (at : ℕ) (d : Option Text) → FewLabels s → Has LabelFits (during_means s at d)
-during_fits s at None h = h
-during_fits s at (Some n) h = next LabelFits LabelFits (label_means s at n) _ (label_fits s at n h) (λ l k. k)
-
-record StatementRead {Y : Type 0} (P : Y → Type 0) (r : Y × Scope × ℕ) : Type 0 where
-  fits : P r.0
-  labels : FewLabels r.1
-
 one_fits : (k : Option Primitive) → StatementFits (one_or_skip k)
 one_fits None = tt
 one_fits (Some k) = tt
 
-module _ (lines : List ℕ) where
+pub record StatementRead (State : Scope → Type 0) {Y : Type 0} (P : Y → Type 0) (r : Y × Scope × ℕ) : Type 0 where
+  pub fits : P r.0
+  pub state : State r.1
+
+-- statements leave in a scope what labels leave
+module _ (State : Scope → Type 0) (label_keeps : (s : Scope) (at : ℕ) (n : Text) → State s → Has (LabelRead State) (label_means s at n)) (lines : List ℕ) where
+  abbrev OneRead : Statement × Scope × ℕ → Type 0
+  OneRead = StatementRead State StatementFits
+
+  abbrev ManyRead : Statements × Scope × ℕ → Type 0
+  ManyRead = StatementRead State StatementsFit
+
+  abbrev BlocksRead : Blocks × Scope × ℕ → Type 0
+  BlocksRead = StatementRead State BlocksFit
+
+  during_fits : (s : Scope) (at : ℕ) (d : Option Text) → State s → Has (LabelRead State) (during_means s at d)
+  during_fits s at None h = h
+  during_fits s at (Some n) h = next (LabelRead State) (LabelRead State) (label_means s at n) _ (label_keeps s at n h) (λ l k. k)
+
   mutual
-    statement_fits : (s : Scope) (in_loop : Bool) (at : ℕ) (st : StatementTree) → FewLabels s → Has (StatementRead StatementFits) (statement_means lines s in_loop at st)
-    statement_fits s in_loop at (PrimitiveStatement p) h = any (StatementRead StatementFits) (primitive_means s at p) _ (λ k. record { fits = one_fits k; labels = h })
-    statement_fits s in_loop at (AtomicStatement ps) h = next (FormsFit 0) (StatementRead StatementFits) (atomic_means s (at + 2) ps) _ (forms_fit (primitive_means s) primitive_size 0 false (at + 2) ps (omega arith)) (λ b f. record { fits = omega (arith, f); labels = h })
-    statement_fits s in_loop at (CallStatement f a d) h = any (StatementRead StatementFits) (call_means s at f a) _ (λ c. next LabelFits (StatementRead StatementFits) (during_means s (at + call_size a) d) _ (during_fits s (at + call_size a) d h) (λ l k. record { fits = tt; labels = k }))
-    statement_fits s in_loop at (IfStatement c b e) h = any (StatementRead StatementFits) (condition_means s (at + 2) c) _ (λ k.
-        next (StatementRead StatementsFit) (StatementRead StatementFits) (statements_mean lines s in_loop (at + 2 + condition_size c + 2) b) _ (statements_fit s in_loop (at + 2 + condition_size c + 2) b h) (λ x f.
-        next (StatementRead StatementsFit) (StatementRead StatementFits) (else_means lines x.1 in_loop (x.2 + 1) e) _ (else_fits x.1 in_loop (x.2 + 1) e f.labels) (λ y g.
-        record { fits = (f.fits, g.fits); labels = g.labels })))
+    statement_fits : (s : Scope) (in_loop : Bool) (at : ℕ) (st : StatementTree) → State s → Has OneRead (statement_means lines s in_loop at st)
+    statement_fits s in_loop at (PrimitiveStatement p) h = any OneRead (primitive_means s at p) _ (λ k. record { fits = one_fits k; state = h })
+    statement_fits s in_loop at (AtomicStatement ps) h = next (FormsFit 0) OneRead (atomic_means s (at + 2) ps) _ (forms_fit (primitive_means s) primitive_size 0 false (at + 2) ps (omega arith)) (λ b f. record { fits = omega (arith, f); state = h })
+    statement_fits s in_loop at (CallStatement f a d) h = any OneRead (call_means s at f a) _ (λ c. next (LabelRead State) OneRead (during_means s (at + call_size a) d) _ (during_fits s (at + call_size a) d h) (λ l k. record { fits = tt; state = k }))
+    statement_fits s in_loop at (IfStatement c b e) h = any OneRead (condition_means s (at + 2) c) _ (λ k.
+        next ManyRead OneRead (statements_mean lines s in_loop (at + 2 + condition_size c + 2) b) _ (statements_fit s in_loop (at + 2 + condition_size c + 2) b h) (λ x f.
+        next ManyRead OneRead (else_means lines x.1 in_loop (x.2 + 1) e) _ (else_fits x.1 in_loop (x.2 + 1) e f.state) (λ y g.
+        record { fits = (f.fits, g.fits); state = g.state })))
     statement_fits s in_loop at (ChooseStatement a b os) h =
-        next (StatementRead StatementsFit) (StatementRead StatementFits) (statements_mean lines s in_loop (at + 2) a) _ (statements_fit s in_loop (at + 2) a h) (λ x f.
-        next (StatementRead StatementsFit) (StatementRead StatementFits) (statements_mean lines x.1 in_loop (x.2 + 3) b) _ (statements_fit x.1 in_loop (x.2 + 3) b f.labels) (λ y g.
-        next (StatementRead BlocksFit) (StatementRead StatementFits) (or_means lines y.1 in_loop (y.2 + 1) os) _ (ors_fit y.1 in_loop (y.2 + 1) os g.labels) (λ z k.
-        record { fits = (f.fits, (g.fits, k.fits)); labels = k.labels })))
-    statement_fits s in_loop at (LoopStatement b) h = next (StatementRead StatementsFit) (StatementRead StatementFits) (statements_mean lines s true (at + 2) b) _ (statements_fit s true (at + 2) b h) (λ x f. record { fits = f.fits; labels = f.labels })
-    statement_fits s true at BreakStatement h = record { fits = tt; labels = h }
+        next ManyRead OneRead (statements_mean lines s in_loop (at + 2) a) _ (statements_fit s in_loop (at + 2) a h) (λ x f.
+        next ManyRead OneRead (statements_mean lines x.1 in_loop (x.2 + 3) b) _ (statements_fit x.1 in_loop (x.2 + 3) b f.state) (λ y g.
+        next BlocksRead OneRead (or_means lines y.1 in_loop (y.2 + 1) os) _ (ors_fit y.1 in_loop (y.2 + 1) os g.state) (λ z k.
+        record { fits = (f.fits, (g.fits, k.fits)); state = k.state })))
+    statement_fits s in_loop at (LoopStatement b) h = next ManyRead OneRead (statements_mean lines s true (at + 2) b) _ (statements_fit s true (at + 2) b h) (λ x f. record { fits = f.fits; state = f.state })
+    statement_fits s true at BreakStatement h = record { fits = tt; state = h }
     statement_fits s false at BreakStatement h = tt
-    statement_fits s in_loop at ReturnStatement h = record { fits = tt; labels = h }
-    statement_fits s in_loop at (LabelStatement n) h = next LabelFits (StatementRead StatementFits) (label_means s at n) _ (label_fits s at n h) (λ l k. record { fits = tt; labels = k })
+    statement_fits s in_loop at ReturnStatement h = record { fits = tt; state = h }
+    statement_fits s in_loop at (LabelStatement n) h = next (LabelRead State) OneRead (label_means s at n) _ (label_keeps s at n h) (λ l k. record { fits = tt; state = k })
 
-    statements_fit : (s : Scope) (in_loop : Bool) (at : ℕ) (b : BlockTree) → FewLabels s → Has (StatementRead StatementsFit) (statements_mean lines s in_loop at b)
-    statements_fit s in_loop at NoStatement h = record { fits = tt; labels = h }
-    statements_fit s in_loop at (Then st b) h = next (StatementRead StatementFits) (StatementRead StatementsFit) (statement_means lines s in_loop at st) _ (statement_fits s in_loop at st h) (λ first f.
-        next (StatementRead StatementsFit) (StatementRead StatementsFit) (statements_mean lines first.1 in_loop first.2 b) _ (statements_fit first.1 in_loop first.2 b f.labels) (λ others g.
-        record { fits = (f.fits, g.fits); labels = g.labels }))
+    pub statements_fit : (s : Scope) (in_loop : Bool) (at : ℕ) (b : BlockTree) → State s → Has ManyRead (statements_mean lines s in_loop at b)
+    statements_fit s in_loop at NoStatement h = record { fits = tt; state = h }
+    statements_fit s in_loop at (Then st b) h = next OneRead ManyRead (statement_means lines s in_loop at st) _ (statement_fits s in_loop at st h) (λ first f.
+        next ManyRead ManyRead (statements_mean lines first.1 in_loop first.2 b) _ (statements_fit first.1 in_loop first.2 b f.state) (λ others g.
+        record { fits = (f.fits, g.fits); state = g.state }))
 
-    else_fits : (s : Scope) (in_loop : Bool) (at : ℕ) (e : ElseTree) → FewLabels s → Has (StatementRead StatementsFit) (else_means lines s in_loop at e)
-    else_fits s in_loop at NoElse h = record { fits = tt; labels = h }
-    else_fits s in_loop at (ElseBlock b) h = next (StatementRead StatementsFit) (StatementRead StatementsFit) (statements_mean lines s in_loop (at + 2) b) _ (statements_fit s in_loop (at + 2) b h) (λ x f. record { fits = f.fits; labels = f.labels })
+    else_fits : (s : Scope) (in_loop : Bool) (at : ℕ) (e : ElseTree) → State s → Has ManyRead (else_means lines s in_loop at e)
+    else_fits s in_loop at NoElse h = record { fits = tt; state = h }
+    else_fits s in_loop at (ElseBlock b) h = next ManyRead ManyRead (statements_mean lines s in_loop (at + 2) b) _ (statements_fit s in_loop (at + 2) b h) (λ x f. record { fits = f.fits; state = f.state })
 
-    ors_fit : (s : Scope) (in_loop : Bool) (at : ℕ) (os : OrTree) → FewLabels s → Has (StatementRead BlocksFit) (or_means lines s in_loop at os)
-    ors_fit s in_loop at NoOr h = record { fits = tt; labels = h }
-    ors_fit s in_loop at (OrBlock b os) h = next (StatementRead StatementsFit) (StatementRead BlocksFit) (statements_mean lines s in_loop (at + 2) b) _ (statements_fit s in_loop (at + 2) b h) (λ x f.
-        next (StatementRead BlocksFit) (StatementRead BlocksFit) (or_means lines x.1 in_loop (x.2 + 1) os) _ (ors_fit x.1 in_loop (x.2 + 1) os f.labels) (λ y g.
-        record { fits = (f.fits, g.fits); labels = g.labels }))
+    ors_fit : (s : Scope) (in_loop : Bool) (at : ℕ) (os : OrTree) → State s → Has BlocksRead (or_means lines s in_loop at os)
+    ors_fit s in_loop at NoOr h = record { fits = tt; state = h }
+    ors_fit s in_loop at (OrBlock b os) h = next ManyRead BlocksRead (statements_mean lines s in_loop (at + 2) b) _ (statements_fit s in_loop (at + 2) b h) (λ x f.
+        next BlocksRead BlocksRead (or_means lines x.1 in_loop (x.2 + 1) os) _ (ors_fit x.1 in_loop (x.2 + 1) os f.state) (λ y g.
+        record { fits = (f.fits, g.fits); state = g.state }))
 
 -- ---- locals
 
@@ -239,8 +253,8 @@ op_fits lines s n at (Operates name ps ls b) h =
     next (FewBehind t) (OneHas OpFits (Room 32) n) (parameters_mean t (at + 3) ps) _ (parameters_few t t (at + 3) ps (record { locals = omega arith; labels = refl })) (λ p kept.
     next (FewBehind t) (OneHas OpFits (Room 32) n) (locals_mean p.0 (p.1 + 2) ls) _ (locals_few t p.0 (p.1 + 2) ls kept) (λ l fewer.
     let same : length l.0.labels ≡ length t.labels = ap length fewer.labels in
-    next (StatementRead StatementsFit) (OneHas OpFits (Room 32) n) (statements_mean lines l.0 false l.1 b) _ (statements_fit lines l.0 false l.1 b (omega (arith, k.between.labels))) (λ body f.
-    record { is = record { locals = fewer.locals; body = f.fits }; state = record { count = k.count; between = record { locals = refl; labels = f.labels } } })))))
+    next (StatementRead FewLabels StatementsFit) (OneHas OpFits (Room 32) n) (statements_mean lines l.0 false l.1 b) _ (statements_fit FewLabels label_fits lines l.0 false l.1 b (omega (arith, k.between.labels))) (λ body f.
+    record { is = record { locals = fewer.locals; body = f.fits }; state = record { count = k.count; between = record { locals = refl; labels = f.state } } })))))
 
 -- ---- the file
 
@@ -263,6 +277,7 @@ unit_fits lines f =
     next (EachHas GhostFits (Room 4) 0) Fits (listed ghost_means functions.1 0 observer.1 f.ghosts) _ (each_has ghost_means GhostFits (Room 4) ghost_fits functions.1 0 observer.1 f.ghosts (room c.state.between)) (λ ghosts d.
     next (FormsFit 0) Fits (init_means ghosts.1 ghosts.2 f.starts) _ (init_fits ghosts.1 ghosts.2 f.starts) (λ starts i.
     next (EachHas OpFits (Room 32) 0) Fits (listed (op_means lines) ghosts.1 0 starts.1 f.ops) _ (each_has (op_means lines) OpFits (Room 32) (op_fits lines) ghosts.1 0 starts.1 f.ops (room d.state.between)) (λ ops m.
+    any Fits (outlined_means ops.1 ops.0 ops.2 f.outlined) _ (λ outline.
     record {
       fields = omega (arith, a.state.count);
       shared = omega (arith, b.state.count);
@@ -273,7 +288,7 @@ unit_fits lines f =
       ops = omega (arith, m.state.count);
       each_op = m.each;
       labels = m.state.between.labels;
-    }))))))))
+    })))))))))
 
 pub file_fits : (lines : List ℕ) (f : FileTree) (u : FileUnit) → file_means lines f ≡ Ok u → FileFits u.file
 file_fits lines f u e = has_along Fits (file_means lines f) u e (unit_fits lines f)

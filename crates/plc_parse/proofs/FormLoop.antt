@@ -7,9 +7,11 @@ use Rattle.plc_scope.specs.declared.fault.ParseFault.{ParseFault}
 use Rattle.plc_scope.specs.Answers.{FailsAs}
 use Rattle.plc_scope.specs.Scope.{◌>>=◌}
 use Rattle.plc_parse.specs.Meaning.{counted}
-use Rattle.plc_parse.specs.Reading.{ReadTo, each, wanted_at, with_form, form_step}
-use Rattle.plc_parse.proofs.Loop.{bind_joins, each_ends}
-use Rattle.plc_parse.proofs.Stops.{bind_stops, each_turns, each_fails}
+use Rattle.plc_scope.specs.Read.{ReadTo, wanted_at}
+use Rattle.plc_parse.specs.Reading.{each, with_form, form_step}
+use Rattle.plc_scope.proofs.Sequence.{bind_joins, bind_stops}
+use Rattle.plc_parse.proofs.Loop.{each_ends}
+use Rattle.plc_parse.proofs.Stops.{each_turns, each_fails}
 
 -- the state of the loop
 abbrev pub Forms : Type 0

@@ -6,15 +6,20 @@ use Rattle.plc_lex.specs.declared.token.TokenKind.TheVariants.{Symbol}
 use Rattle.plc_lex.specs.declared.token.Symbol.TheVariants.{CloseBrace, CloseParen, OpenBrace, Semicolon}
 use Rattle.plc_lang.specs.declared.syntax.Op.{Op}
 use Rattle.plc_lang.specs.Statements.{Statements}
-use Rattle.plc_syntax.specs.Trees.{Text, each_then, maybe_then, comma_name_then, FieldTree, PointerField, DataField, field_then, shared_then, FunctionTree, Declares, function_then, WatchTree, watch_then, GhostTree, Auxiliary, OneOf, OfThreads, ghost_then, ghost_kind_then, InitialTree, init_then, parameters_then, statements_then, OpTree, Operates, op_then, OutlineTree, FileTree, file_tokens}
+use Rattle.plc_syntax.specs.Trees.{Text, each_then, maybe_then, comma_name_then, FieldTree, PointerField, DataField, field_then, shared_then, FunctionTree, Declares, function_then, WatchTree, watch_then, GhostTree, Auxiliary, OneOf, OfThreads, ghost_then, ghost_kind_then, InitialTree, init_then, parameters_then, statements_then, OpTree, Operates, op_then, OutlineTree, Outlined, outline_then, FileTree, file_tokens}
 use Rattle.plc_forms.specs.Forms.{field_of, shared_of, function_of, watch_of, ghost_of, init_of, head_of, comma_name_of, opening_of}
 use Rattle.plc_scope.specs.declared.fault.ParseFault.{ParseFault}
 use Rattle.plc_scope.specs.declared.scope.Scope.{Scope}
 use Rattle.plc_scope.specs.declared.binding.Binding.TheVariants.{Taken, Auxiliary as AuxiliaryBinding}
 use Rattle.plc_scope.specs.Scope.{◌>>=◌, first_scope, declared, declared_parameter, without_locals}
-use Rattle.plc_parse.specs.Meaning.{listed, field_means, shared_means, function_means, value_means, values_mean, ghost_means, watch_means, init_means, initials_mean, others_mean, parameters_mean, local_means, locals_mean, line_at, statements_mean, op_means, file_means}
-use Rattle.plc_parse.specs.Reading.{ReadTo, wanted_at, judged, fields_in, shared_in, functions_in, value_step, values_in, of_threads_in, all_values_in, of_values_in, ghost_in, ghosts_in, parameter_step, local_step, parameters_in, locals_in, all_locals_in, block_in, op_in, ops_in, struct_in, declarations_in, watch_in, init_in, nothing_left, file_in}
-use Rattle.plc_parse.proofs.Loop.{bind_same, bind_joins, bind_within, read_within, read_same, limit_within, reads_this, reads_other, steps, each_goes, each_ends, each_reads}
+use Rattle.plc_outparse.specs.Meaning.{outline_means}
+use Rattle.plc_outparse.specs.Reading.{outline_in}
+use Rattle.plc_outparse.proofs.Law.{outline_read}
+use Rattle.plc_parse.specs.Meaning.{listed, field_means, shared_means, function_means, value_means, values_mean, ghost_means, watch_means, init_means, initials_mean, others_mean, parameters_mean, local_means, locals_mean, line_at, statements_mean, op_means, outlined_means, retire, file_means}
+use Rattle.plc_scope.specs.Read.{ReadTo, wanted_at}
+use Rattle.plc_parse.specs.Reading.{judged, fields_in, shared_in, functions_in, value_step, values_in, of_threads_in, all_values_in, of_values_in, ghost_in, ghosts_in, parameter_step, local_step, parameters_in, locals_in, all_locals_in, block_in, op_in, ops_in, struct_in, declarations_in, watch_in, init_in, outlined_in, file_in}
+use Rattle.plc_scope.proofs.Sequence.{bind_same, bind_joins, bind_within, read_within, read_same, limit_within}
+use Rattle.plc_parse.proofs.Loop.{reads_this, reads_other, steps, each_goes, each_ends, each_reads}
 use Rattle.plc_parse.proofs.Listed.{IsFault, listed_read}
 use Rattle.plc_parse.proofs.Fronts.{outline_end, ops_end, starts_end, ghosts_end, watched_end, statements_no_local, not_at_outline, not_at_ops, not_at_starts, not_at_ghosts, not_at_watched}
 use Rattle.plc_parse.proofs.Weights.{block_light}
@@ -172,13 +177,16 @@ unfolding init_in
 init_read s at None rest e = reads_other (init_of rest) _ _ e
 init_read s at (Some is) rest e = initials_read s (at + 2) is rest ∙ bind_within (initials_mean s (at + 2) is) _ _ _ (λ b. refl)
 
-ended : {A : Type 0} (at : ℕ) (outlined : Option OutlineTree) (unit : Result A ParseFault) → outlined ≡ None → (nothing_left at (outline_end outlined) >>= λ e. unit) ≡ unit
-ended at None unit e = refl
-ended at (Some o) unit e = absurd cc
+-- the outline ends the tokens
+outlined_read : (s : Scope) (ops : List Op) (at : ℕ) (o : Option OutlineTree) → outlined_in s ops at (outline_end o) ≡ outlined_means s ops at o
+unfolding outlined_in
+outlined_read s ops at None = refl
+outlined_read s ops at (Some (Outlined d items)) =
+    read_same (outline_in s ops at (outline_then (Outlined d items) [])) (outline_means s ops at (Outlined d items)) (λ r. Ok (r, [])) _ _ (outline_read s ops at (Outlined d items) []) (λ r. refl)
 
-pub file_read : (lines : List ℕ) (f : FileTree) → f.outlined ≡ None → file_in lines (file_tokens f) ≡ file_means lines f
+pub file_read : (lines : List ℕ) (f : FileTree) → file_in lines (file_tokens f) ≡ file_means lines f
 unfolding file_in struct_in declarations_in file_means
-file_read lines f none =
+file_read lines f =
     bind_joins (declared first_scope f.name 1 Taken) _ _
     ∙ bind_same (declared first_scope f.name 1 Taken) _ _ (λ s.
     bind_joins (fields_in s 3 (each_then field_then f.fields (Symbol CloseBrace ∷ behind_fields))) _ _
@@ -191,7 +199,7 @@ file_read lines f none =
     read_same (ghosts_in functions.1 observer.1 behind_watched) (listed ghost_means functions.1 0 observer.1 f.ghosts) (λ r. Ok (r, behind_ghosts)) _ _ (ghosts_read functions.1 observer.1 f.ghosts behind_ghosts no_ghost) (λ ghosts.
     read_same (init_in ghosts.1 ghosts.2 behind_ghosts) (init_means ghosts.1 ghosts.2 f.starts) (λ r. Ok (r, behind_starts)) _ _ (init_read ghosts.1 ghosts.2 f.starts behind_starts no_init) (λ starts.
     read_same (ops_in lines ghosts.1 starts.1 behind_starts) (listed (op_means lines) ghosts.1 0 starts.1 f.ops) (λ r. Ok (r, behind_ops)) _ _ (ops_read lines ghosts.1 starts.1 f.ops behind_ops no_op) (λ ops.
-    ended ops.2 f.outlined _ none))))))))
+    ap (λ r. r >>= λ outline. Ok (record { file = record { names = ops.1.names; fields = fields.0; shared = pointers.0; funcs = retire ∷ functions.0; ghosts = ghosts.0; init = starts.0; ops = ops.0; labels = ops.1.labels }; observer = observer.0; outline = outline })) (outlined_read ops.1 ops.0 ops.2 f.outlined)))))))))
   where
     behind_ops : List TokenKind
     behind_ops = outline_end f.outlined

@@ -8,9 +8,9 @@ pub mod Holds
 pub mod Reach
 pub mod Naming
 pub mod Fits
+pub mod Outlined
 pub mod Growth
 pub mod Stops
 pub mod FormLoop
 pub mod BlockLoop
 pub mod Answering
-pub mod Ends

@@ -7,8 +7,9 @@ use Rattle.plc_scope.specs.declared.fault.ParseFault.{ParseFault}
 use Rattle.plc_scope.specs.declared.scope.Scope.{Scope}
 use Rattle.plc_scope.specs.Scope.{◌>>=◌}
 use Rattle.plc_parse.specs.Meaning.{listed}
-use Rattle.plc_parse.specs.Reading.{ReadTo, with_listed, listed_from, listed_within, listed_in}
-use Rattle.plc_parse.proofs.Loop.{bind_joins}
+use Rattle.plc_scope.specs.Read.{ReadTo}
+use Rattle.plc_parse.specs.Reading.{with_listed, listed_from, listed_within, listed_in}
+use Rattle.plc_scope.proofs.Sequence.{bind_joins}
 
 module _ {H Y : Type 0} (head : List TokenKind → Option (H × List TokenKind)) (body : Scope → ℕ → ℕ → H → List TokenKind → ReadTo (Y × Scope × ℕ)) where
   pub listed_goes : (k n : ℕ) (s : List Y × Scope × ℕ) (ts : List TokenKind) (h : H × List TokenKind) → k ≡ suc n → head ts ≡ Some h

@@ -1,38 +1,11 @@
--- Readings in order, and forms that follow one another as a loop takes them.
-use Rattle.std.proofs.Common.{◌≡◌, ℕ, zero, suc, ◌<◌, ◌≤◌, Bool, true, false, if◌then◌else◌, List, [], ◌∷◌, length, Option, Some, None, Result, Ok, Err, refl, sym, ap, ◌∙◌, arith}
+-- Forms that follow one another, as a loop takes them.
+use Rattle.std.proofs.Common.{◌≡◌, ℕ, zero, suc, ◌<◌, ◌≤◌, List, [], ◌∷◌, length, Option, Some, None, Result, Ok, refl, sym, ap, ◌∙◌, arith}
 use Rattle.plc_lex.specs.declared.token.TokenKind.{TokenKind}
 use Rattle.plc_syntax.specs.Trees.{each_then}
 use Rattle.plc_scope.specs.declared.fault.ParseFault.{ParseFault}
 use Rattle.plc_scope.specs.Scope.{◌>>=◌}
+use Rattle.plc_scope.proofs.Sequence.{bind_same, bind_within}
 use Rattle.plc_parse.specs.Reading.{each, each_within, go_on, where_read}
-
-pub bind_same : {A B : Type 0} (r : Result A ParseFault) (f g : A → Result B ParseFault) → ((x : A) → f x ≡ g x) → (r >>= f) ≡ (r >>= g)
-bind_same (Ok x) f g h = h x
-bind_same (Err e) f g h = refl
-
-pub bind_joins : {A B C : Type 0} (r : Result A ParseFault) (f : A → Result B ParseFault) (g : B → Result C ParseFault) → ((r >>= f) >>= g) ≡ (r >>= λ x. f x >>= g)
-bind_joins (Ok x) f g = refl
-bind_joins (Err e) f g = refl
-
--- what is read and means the same goes on
-pub bind_within : {A B C : Type 0} (r : Result A ParseFault) (F : A → Result C ParseFault) (G : A → Result B ParseFault) (f : B → Result C ParseFault) → ((x : A) → F x ≡ (G x >>= f)) → (r >>= F) ≡ ((r >>= G) >>= f)
-bind_within (Ok x) F G f h = h x
-bind_within (Err e) F G f h = refl
-
--- the same where tokens were read before
-pub read_within : {A B C D : Type 0} (r : Result A ParseFault) (m : Result D ParseFault) (k : D → Result A ParseFault) (F : A → Result C ParseFault) (G : D → Result B ParseFault) (f : B → Result C ParseFault)
-    → r ≡ (m >>= k) → ((x : D) → (k x >>= F) ≡ (G x >>= f)) → (r >>= F) ≡ ((m >>= G) >>= f)
-read_within r m k F G f e h = ap (λ s. s >>= F) e ∙ bind_joins m k F ∙ bind_within m (λ x. k x >>= F) G f h
-
--- the same where nothing is behind
-pub read_same : {A C D : Type 0} (r : Result A ParseFault) (m : Result D ParseFault) (k : D → Result A ParseFault) (F : A → Result C ParseFault) (G : D → Result C ParseFault)
-    → r ≡ (m >>= k) → ((x : D) → (k x >>= F) ≡ G x) → (r >>= F) ≡ (m >>= G)
-read_same r m k F G e h = ap (λ s. s >>= F) e ∙ bind_joins m k F ∙ bind_same m (λ x. k x >>= F) G h
-
--- within a limit
-pub limit_within : {A B : Type 0} (past : Bool) (e : ParseFault) (a : Result B ParseFault) (r : Result A ParseFault) (f : A → Result B ParseFault) → a ≡ (r >>= f) → (if past then Err e else a) ≡ ((if past then Err e else r) >>= f)
-limit_within true e a r f h = refl
-limit_within false e a r f h = h
 
 -- where a form stands, and where none does
 pub reads_this : {X A : Type 0} (o : Option X) (x : X) (next : X → A) (other : A) → o ≡ Some x → where_read o next other ≡ next x

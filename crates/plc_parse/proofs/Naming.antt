@@ -1,6 +1,6 @@
 -- A file with a meaning names what is there: in `init`, in the operations, and where it says what is watched. Each form is read where the names
 -- in reach are there (`Reach.antt`), and leaves them so.
-use Rattle.std.proofs.Common.{◌≡◌, ◌==◌, ◌&&◌, ◌||◌, ℕ, ◌+◌, Bool, true, false, Option, Some, None, IfSome, Result, Ok, Err, List, [], ◌∷◌, length, slice_get, refl, arith}
+use Rattle.std.proofs.Common.{◌≡◌, ◌==◌, ◌&&◌, ◌||◌, ℕ, ◌+◌, Bool, true, false, Option, Some, None, IfSome, Result, Ok, Err, List, [], ◌∷◌, length, refl, arith}
 use Rattle.plc_lang.specs.declared.syntax.Var.{Var}
 use Rattle.plc_lang.specs.declared.syntax.Rel.{Rel}
 use Rattle.plc_lang.specs.declared.syntax.Primitive.{Primitive}
@@ -8,7 +8,7 @@ use Rattle.plc_lang.specs.declared.syntax.Op.{Op}
 use Rattle.plc_lang.specs.Allocation.{is_new}
 use Rattle.plc_lang.specs.Statements.{Statement, Statements, Blocks}
 use Rattle.plc_lang.specs.Fit.{NamesWhatIsThere}
-use Rattle.plc_lang.specs.Shape.{Shape, shape_of, init_shape, VarIn, VarOrNullIn, ArgIn, PrimitiveIn, PrimitivesIn, CondIn, StatementIn, StatementsIn, BlocksIn}
+use Rattle.plc_lang.specs.Shape.{Shape, VarIn, VarOrNullIn, ArgIn, PrimitiveIn, PrimitivesIn, CondIn, StatementIn, StatementsIn, BlocksIn}
 use Rattle.plc_base.specs.declared.ids.FieldId.{FieldId}
 use Rattle.plc_base.specs.declared.ids.FuncId.{FuncId}
 use Rattle.plc_auto.specs.declared.observer.Observer.{Observer}
@@ -17,15 +17,18 @@ use Rattle.plc_syntax.specs.Trees.{Text, PlaceTree, PlaceOf, AtomTree, NullAtom,
 use Rattle.plc_forms.specs.Sizes.{initial_size, primitive_size, condition_size, call_size, word_size}
 use Rattle.plc_scope.specs.declared.fault.ParseFault.{ParseFault}
 use Rattle.plc_scope.specs.declared.scope.Scope.{Scope}
-use Rattle.plc_scope.specs.declared.binding.Binding.TheVariants.{Taken, Shared, PointerField, DataField, Function, Auxiliary, Value}
+use Rattle.plc_scope.specs.declared.binding.Binding.{Binding}
+use Rattle.plc_scope.specs.declared.binding.Binding.TheVariants.{Taken, Shared, PointerField, DataField, Function, Auxiliary, Value, LocalOnly}
 use Rattle.plc_scope.specs.declared.binding.Role.{Role}
 use Rattle.plc_scope.specs.declared.binding.Role.TheVariants.{PointerVariable as pointer_variable, DataLocal as data_local, PointerField as pointer_field, DataField as data_field}
 use Rattle.plc_scope.specs.Scope.{◌>>=◌, first_scope, needed, any_role, role_of, declared, declared_label, declared_parameter, pointer_at, pointer_local_at, data_at, pointer_field_at, data_field_at, function_at, auxiliary_at, protecting_at, without_pointer_at}
 use Rattle.plc_scope.specs.Primitives.{pointer_value, data_value, value_into, pointer_atom, data_atom, atom_into, set_means, refresh_from, refresh_name_means, refresh_means, ghost_value_means, ghost_set_means, pointer_equality, pointer_test, data_test, test_of, test_means, pointer_or_null, condition_means, primitive_means, initial_means, CallMeaning, argument_means, call_means}
 use Rattle.plc_parse.specs.declared.unit.Unit.{Unit as FileUnit}
-use Rattle.plc_parse.specs.Meaning.{counted, before, stands_at, allocates, count_of, forms_mean, atomic_means, initials_mean, one_or_skip, label_means, during_means, statement_means, statements_mean, else_means, or_means, field_means, shared_means, function_means, value_means, values_mean, ghost_means, listed, watch_means, init_means, others_mean, parameters_mean, local_means, locals_mean, op_means, file_means}
-use Rattle.plc_parse.proofs.Holds.{Has, has_along, next, any, unless, both_err, OneHas, EachHas, one_name, each_has, Free}
-use Rattle.plc_parse.proofs.Reach.{RoleIn, Bound, Reaches, outside, inside, reaches_more, first_reaches, declared_reaches, label_reaches, local_bound, parameter_bound, PointerIn, ValueIn, FieldIn, NotRetire, any_in, pointer_in, pointer_local_in, value_in, pointer_field_in, data_field_in, hazard_in, epoch_in}
+use Rattle.plc_scope.specs.Limits.{stands_at}
+use Rattle.plc_parse.specs.Meaning.{counted, before, allocates, count_of, forms_mean, atomic_means, initials_mean, one_or_skip, label_means, during_means, statement_means, statements_mean, else_means, or_means, field_means, shared_means, function_means, value_means, values_mean, ghost_means, listed, watch_means, init_means, others_mean, parameters_mean, local_means, locals_mean, op_means, outlined_means, file_means}
+use Rattle.plc_scope.proofs.Holds.{Has, has_along, next, any, unless, both_err}
+use Rattle.plc_parse.proofs.Holds.{OneHas, EachHas, one_name, each_has, Free}
+use Rattle.plc_parse.proofs.Reach.{BindingIn, RoleIn, Bound, Reaches, outside, inside, reaches_more, first_reaches, declared_reaches, label_reaches, local_bound, parameter_bound, PointerIn, ValueIn, FieldIn, NotRetire, any_in, pointer_in, pointer_local_in, value_in, pointer_field_in, data_field_in, hazard_in, epoch_in}
 
 -- ---- primitives, conditions and calls in a scope
 
@@ -261,6 +264,29 @@ module _ (lines : List ℕ) (h : Shape) where
         next BlocksRead BlocksRead (or_means lines x.1 in_loop (x.2 + 1) os) _ (ors_in x.1 in_loop (x.2 + 1) os f.reaches) (λ y g.
         record { is = (f.is, g.is); reaches = g.reaches }))
 
+-- ---- locals
+
+-- this holds of all that names stand for, and the place behind it
+abbrev pub BoundBehind : (Binding → Type 0) → Scope × ℕ → Type 0
+BoundBehind P b = Bound P b.0
+
+module _ (P : Binding → Type 0) (of_local : P LocalOnly) where
+  others_bound : (s : Scope) (at : ℕ) (names : List Text) → Bound P s → Has (BoundBehind P) (others_mean s at names)
+  others_bound s at [] b = b
+  others_bound s at (n ∷ ns) b = next (Bound P) (BoundBehind P) (declared_parameter s n (at + 1)) _ (parameter_bound P of_local s n (at + 1) b) (λ t c. others_bound t (at + 2) ns c)
+
+  pub parameters_bound : (s : Scope) (at : ℕ) (names : List Text) → Bound P s → Has (BoundBehind P) (parameters_mean s at names)
+  parameters_bound s at [] b = b
+  parameters_bound s at (n ∷ ns) b = next (Bound P) (BoundBehind P) (declared_parameter s n at) _ (parameter_bound P of_local s n at b) (λ t c. others_bound t (at + 1) ns c)
+
+  one_local_bound : (s : Scope) (at : ℕ) (l : FieldTree) → Bound P s → Has (Bound P) (local_means s at l)
+  one_local_bound s at (PointerFieldTree name) b = local_bound P of_local s name (at + 1) true b
+  one_local_bound s at (DataFieldTree name) b = local_bound P of_local s name (at + 1) false b
+
+  pub locals_bound : (s : Scope) (at : ℕ) (ls : List FieldTree) → Bound P s → Has (BoundBehind P) (locals_mean s at ls)
+  locals_bound s at [] b = b
+  locals_bound s at (l ∷ ls) b = next (Bound P) (BoundBehind P) (local_means s at l) _ (one_local_bound s at l b) (λ t c. locals_bound t (at + 3) ls c)
+
 -- ---- declarations
 
 -- each of so many fields is there, and no shared pointer yet
@@ -317,33 +343,14 @@ module _ (shared fields : ℕ) where
 
   -- ---- operations
 
-  abbrev BoundBehind : Scope × ℕ → Type 0
-  BoundBehind b = Bound shared fields b.0
-
-  others_bound : (s : Scope) (at : ℕ) (names : List Text) → Bound shared fields s → Has BoundBehind (others_mean s at names)
-  others_bound s at [] b = b
-  others_bound s at (n ∷ ns) b = next (Bound shared fields) BoundBehind (declared_parameter s n (at + 1)) _ (parameter_bound shared fields s n (at + 1) b) (λ t c. others_bound t (at + 2) ns c)
-
-  parameters_bound : (s : Scope) (at : ℕ) (names : List Text) → Bound shared fields s → Has BoundBehind (parameters_mean s at names)
-  parameters_bound s at [] b = b
-  parameters_bound s at (n ∷ ns) b = next (Bound shared fields) BoundBehind (declared_parameter s n at) _ (parameter_bound shared fields s n at b) (λ t c. others_bound t (at + 1) ns c)
-
-  one_local_bound : (s : Scope) (at : ℕ) (l : FieldTree) → Bound shared fields s → Has (Bound shared fields) (local_means s at l)
-  one_local_bound s at (PointerFieldTree name) b = local_bound shared fields s name (at + 1) true b
-  one_local_bound s at (DataFieldTree name) b = local_bound shared fields s name (at + 1) false b
-
-  locals_bound : (s : Scope) (at : ℕ) (ls : List FieldTree) → Bound shared fields s → Has BoundBehind (locals_mean s at ls)
-  locals_bound s at [] b = b
-  locals_bound s at (l ∷ ls) b = next (Bound shared fields) BoundBehind (local_means s at l) _ (one_local_bound s at l b) (λ t c. locals_bound t (at + 3) ls c)
-
   abbrev OpIn : Op → Type 0
   OpIn o = StatementsIn (inside shared fields o.locals) o.body
 
   op_in : (lines : List ℕ) (s : Scope) (n at : ℕ) (o : OpTree) → Reaches h s → Has (OneHas OpIn Stays n) (op_means lines s n at o)
   op_in lines s n at (Operates name ps ls b) r = unless (OneHas OpIn Stays n) (n == 32) _ _ (λ few.
       next (Reaches h) (OneHas OpIn Stays n) (declared s name (at + 1) Taken) _ (declared_reaches h s name (at + 1) Taken tt r) (λ t k.
-      next BoundBehind (OneHas OpIn Stays n) (parameters_mean t (at + 3) ps) _ (parameters_bound t (at + 3) ps k.bound) (λ p c.
-      next BoundBehind (OneHas OpIn Stays n) (locals_mean p.0 (p.1 + 2) ls) _ (locals_bound p.0 (p.1 + 2) ls c) (λ l d.
+      next (BoundBehind (BindingIn shared fields)) (OneHas OpIn Stays n) (parameters_mean t (at + 3) ps) _ (parameters_bound (BindingIn shared fields) tt t (at + 3) ps k.bound) (λ p c.
+      next (BoundBehind (BindingIn shared fields)) (OneHas OpIn Stays n) (locals_mean p.0 (p.1 + 2) ls) _ (locals_bound (BindingIn shared fields) tt p.0 (p.1 + 2) ls c) (λ l d.
       let here : Shape = inside shared fields l.0.locals in
       next (ManyRead lines here) (OneHas OpIn Stays n) (statements_mean lines l.0 false l.1 b) _ (statements_in lines here l.0 false l.1 b (record { bound = d; pointers = omega arith; values = omega arith })) (λ body f.
       record { is = f.is; state = record { bound = f.reaches.bound; pointers = omega arith; values = omega arith } })))))
@@ -387,7 +394,8 @@ unit_in lines f =
     next (FormsIn h) IsRead (init_means ghosts.1 ghosts.2 f.starts) _ (starts_in h ghosts.1 ghosts.2 f.starts d.state) (λ starts i.
     next (EachHas (OpIn n m) (Stays n m) 0) IsRead (listed (op_means lines) ghosts.1 0 starts.1 f.ops) _
     (each_has (op_means lines) (OpIn n m) (Stays n m) (op_in n m lines) ghosts.1 0 starts.1 f.ops d.state) (λ ops o.
-    record { names = record { init = i; each_op = o.each }; observer = w }))))))))
+    any IsRead (outlined_means ops.1 ops.0 ops.2 f.outlined) _ (λ outline.
+    record { names = record { init = i; each_op = o.each }; observer = w })))))))))
 
 pub file_named : (lines : List ℕ) (f : FileTree) (u : FileUnit) → file_means lines f ≡ Ok u → IsRead u
 file_named lines f u e = has_along IsRead (file_means lines f) u e (unit_in lines f)

@@ -21,7 +21,7 @@ use Rattle.plc_scope.specs.declared.binding.Binding.TheVariants.{Taken, Shared, 
 use Rattle.plc_scope.specs.declared.binding.Role.{Role}
 use Rattle.plc_scope.specs.declared.binding.Role.TheVariants.{PointerVariable as pointer_variable, DataLocal as data_local, PointerField as pointer_field, DataField as data_field, Function as function, Auxiliary as auxiliary, Value as value, NoValue as no_value}
 use Rattle.plc_scope.specs.Scope.{◌>>=◌, most_locals, first_scope, if_new, with_name, declared, declared_label, has_local, may_name_local, local_number, with_local, declared_local, declared_parameter, role_outside, role_inside, role_or, role_at, role_of, if_fits, needed, any_role, as_pointer, as_pointer_local, as_data, as_pointer_field, as_data_field, as_protecting, as_without_pointer, pointer_at, pointer_local_at, data_at, pointer_field_at, data_field_at, protecting_at, without_pointer_at}
-use Rattle.plc_parse.proofs.Holds.{Has, next, unless, if_ok}
+use Rattle.plc_scope.proofs.Holds.{Has, next, unless, if_ok}
 
 -- ---- what names stand for
 
@@ -51,13 +51,16 @@ RoleIn h (auxiliary g t) = Unit {0}
 RoleIn h (value g v) = Unit {0}
 RoleIn h no_value = Unit {0}
 
--- all that has a binding is there
-abbrev pub Bound : ℕ → ℕ → Scope → Type 0
-Bound shared fields s = All (BindingIn shared fields) s.bindings
+-- this holds of all that names stand for
+abbrev pub Bound : (Binding → Type 0) → Scope → Type 0
+Bound P s = All P s.bindings
+
+pub bound_at : (P : Binding → Type 0) (s : Scope) → Bound P s → (i : ℕ) (b : Binding) → slice_get s.bindings i ≡ Some b → P b
+bound_at P s each i b e = subst P (get_or_from_slice_get s.bindings i b b e) (All-get_or P s.bindings i b (slice_get_within s.bindings i b e) each)
 
 -- all that is in reach is there
 pub record Reaches (h : Shape) (s : Scope) : Type 0 where
-  pub bound : Bound h.shared h.fields s
+  pub bound : Bound (BindingIn h.shared h.fields) s
   pub pointers : count_by is_pointer s.locals ≤ h.pointers
   pub values : count_by is_parameter s.locals + count_by is_other_data s.locals ≤ h.values
 
@@ -98,20 +101,21 @@ declared_reaches h s name at b is r = new (place_of name s.names.names)
 pub label_reaches : (h : Shape) (s : Scope) (name : Text) (at : ℕ) → Reaches h s → Has (Reaches h) (declared_label s name at)
 label_reaches h s name at r = next (Reaches h) (Reaches h) (declared s name at Taken) _ (declared_reaches h s name at Taken tt r) (λ t k. record { bound = k.bound; pointers = k.pointers; values = k.values })
 
-module _ (m n : ℕ) where
-  number_bound : (o : Option ℕ) (s : Scope) (name : Text) (at : ℕ) → Bound m n s → Has (λ x. Bound m n x.1) (local_number o s name at)
-  number_bound None s name at h = All-push (BindingIn m n) s.bindings LocalOnly h tt
-  number_bound (Some i) s name at h = if_ok (λ x. Bound m n x.1) (may_name_local (slice_get s.bindings i) (has_local s.locals i)) (i, s) (faults.Duplicate at) h
+-- what holds of a name that is a local's only goes on holding
+module _ (P : Binding → Type 0) (of_local : P LocalOnly) where
+  number_bound : (o : Option ℕ) (s : Scope) (name : Text) (at : ℕ) → Bound P s → Has (λ x. Bound P x.1) (local_number o s name at)
+  number_bound None s name at h = All-push P s.bindings LocalOnly h of_local
+  number_bound (Some i) s name at h = if_ok (λ x. Bound P x.1) (may_name_local (slice_get s.bindings i) (has_local s.locals i)) (i, s) (faults.Duplicate at) h
 
-  pub local_bound : (s : Scope) (name : Text) (at : ℕ) (p : Bool) → Bound m n s → Has (Bound m n) (declared_local s name at p)
+  pub local_bound : (s : Scope) (name : Text) (at : ℕ) (p : Bool) → Bound P s → Has (Bound P) (declared_local s name at p)
   unfolding declared_local
-  local_bound s name at p h = unless (Bound m n) (length s.locals == most_locals) _ (local_number (place_of name s.names.names) s name at >>= λ x. Ok (with_local x.1 x.0 p false)) (λ few.
-      next (λ x. Bound m n x.1) (Bound m n) (local_number (place_of name s.names.names) s name at) _ (number_bound (place_of name s.names.names) s name at h) (λ x k. k))
+  local_bound s name at p h = unless (Bound P) (length s.locals == most_locals) _ (local_number (place_of name s.names.names) s name at >>= λ x. Ok (with_local x.1 x.0 p false)) (λ few.
+      next (λ x. Bound P x.1) (Bound P) (local_number (place_of name s.names.names) s name at) _ (number_bound (place_of name s.names.names) s name at h) (λ x k. k))
 
-  pub parameter_bound : (s : Scope) (name : Text) (at : ℕ) → Bound m n s → Has (Bound m n) (declared_parameter s name at)
+  pub parameter_bound : (s : Scope) (name : Text) (at : ℕ) → Bound P s → Has (Bound P) (declared_parameter s name at)
   unfolding declared_parameter
-  parameter_bound s name at h = next (λ x. Bound m n x.1) (Bound m n) (local_number (place_of name s.names.names) s name at) _ (number_bound (place_of name s.names.names) s name at h) (λ x k.
-      unless (Bound m n) (length s.locals == most_locals) _ (Ok (with_local x.1 x.0 false true)) (λ few. k))
+  parameter_bound s name at h = next (λ x. Bound P x.1) (Bound P) (local_number (place_of name s.names.names) s name at) _ (number_bound (place_of name s.names.names) s name at h) (λ x k.
+      unless (Bound P) (length s.locals == most_locals) _ (Ok (with_local x.1 x.0 false true)) (λ few. k))
 
 -- ---- what a name is
 
@@ -150,16 +154,16 @@ module _ (h : Shape) where
   either_in None (Some b) is other = outside_in b other
   either_in None None is other = tt
 
-  bound_in : (bs : List Binding) (i : ℕ) → All (BindingIn h.shared h.fields) bs → IfSome (slice_get bs i) (BindingIn h.shared h.fields)
-  bound_in bs i each = at_place (slice_get bs i) refl
+  bound_in : (s : Scope) (i : ℕ) → Bound (BindingIn h.shared h.fields) s → IfSome (slice_get s.bindings i) (BindingIn h.shared h.fields)
+  bound_in s i each = at_place (slice_get s.bindings i) refl
     where
-      at_place : (o : Option Binding) → slice_get bs i ≡ o → IfSome o (BindingIn h.shared h.fields)
+      at_place : (o : Option Binding) → slice_get s.bindings i ≡ o → IfSome o (BindingIn h.shared h.fields)
       at_place None e = tt
-      at_place (Some b) e = subst (BindingIn h.shared h.fields) (get_or_from_slice_get bs i b b e) (All-get_or (BindingIn h.shared h.fields) bs i b (slice_get_within bs i b e) each)
+      at_place (Some b) e = bound_at (BindingIn h.shared h.fields) s each i b e
 
   role_at_in : (s : Scope) (o : Option ℕ) → Reaches h s → IfSome (role_at s o) (RoleIn h)
   role_at_in s None r = tt
-  role_at_in s (Some i) r = either_in (role_inside 0 0 s.locals i) (slice_get s.bindings i) (locals_in s.locals i 0 0 (omega (arith, r.pointers)) (omega (arith, r.values))) (bound_in s.bindings i r.bound)
+  role_at_in s (Some i) r = either_in (role_inside 0 0 s.locals i) (slice_get s.bindings i) (locals_in s.locals i 0 0 (omega (arith, r.pointers)) (omega (arith, r.values))) (bound_in s i r.bound)
 
   role_in : (s : Scope) (name : Text) → Reaches h s → IfSome (role_of s name) (RoleIn h)
   unfolding role_of

@@ -2,22 +2,14 @@
 use Rattle.std.proofs.Common.{◌≡◌, ℕ, suc, ◌<◌, List, length, Option, Some, Result, Ok, sym, ap, ◌∙◌}
 use Rattle.plc_lex.specs.declared.token.TokenKind.{TokenKind}
 use Rattle.plc_scope.specs.declared.fault.ParseFault.{ParseFault}
-use Rattle.plc_scope.specs.declared.fault.ParseFault.TheVariants as faults
 use Rattle.plc_scope.specs.declared.scope.Scope.{Scope}
 use Rattle.plc_scope.specs.Answers.{FailsAs}
 use Rattle.plc_scope.specs.Scope.{◌>>=◌}
-use Rattle.plc_parse.specs.Reading.{ReadTo, each, with_listed, listed_within}
+use Rattle.plc_scope.proofs.Sequence.{bind_stops, fails_along}
+use Rattle.plc_scope.specs.Read.{ReadTo}
+use Rattle.plc_parse.specs.Reading.{each, with_listed, listed_within}
 use Rattle.plc_parse.proofs.Loop.{each_goes}
 use Rattle.plc_parse.proofs.Listed.{listed_goes}
-
--- a fault is passed on
-pub bind_stops : {A B : Type 0} (e : ParseFault) (r : Result A ParseFault) (f : A → Result B ParseFault) → FailsAs e r → FailsAs e (r >>= f)
-bind_stops faults.Memory r f h = tt
-bind_stops e r f h = ap (λ x. x >>= f) h
-
-pub fails_along : {A : Type 0} (e : ParseFault) (r s : Result A ParseFault) → r ≡ s → FailsAs e r → FailsAs e s
-fails_along faults.Memory r s p h = tt
-fails_along e r s p h = sym p ∙ h
 
 module _ {S X : Type 0} (item : List TokenKind → Option (X × List TokenKind)) (step : S → X → Result S ParseFault)
     (shrinks : (ts : List TokenKind) (x : X × List TokenKind) → item ts ≡ Some x → length x.1 < length ts) where

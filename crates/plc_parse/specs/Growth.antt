@@ -4,10 +4,6 @@ use Rattle.plc_forms.specs.declared.rest.Rest.{Rest}
 use Rattle.plc_scope.specs.declared.scope.Scope.{Scope}
 use Rattle.plc_scope.specs.Scope.{most_locals}
 
--- what is left ends where that before ended
-pub record Within (before after : Rest) : Type 0 where
-  pub end : after.at + length after.tokens.now ≡ before.at + length before.tokens.now
-
 -- of so many tokens, this is left
 pub record IsLeftOf (total : ℕ) (rest : Rest) : Type 0 where
   pub end : rest.at + length rest.tokens.now ≡ total

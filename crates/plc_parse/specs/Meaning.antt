@@ -1,7 +1,6 @@
 -- What the trees of a file mean. A tree stands at a place, the number of tokens before it; what it means comes with the place behind it.
--- Each name is looked up where it stands, from left to right, so the first fault is the one at the least token. Outlines aren't read yet.
-use Rattle.std.specs.Prelude.{◌==◌, ◌&&◌, ◌||◌, ◌+◌, ℕ, Bool, true, false, if◌then◌else◌, List, [], ◌∷◌, length, get_or, Option, Some, None, Result, Ok, Err}
-use Rattle.plc_base.specs.declared.limits.What1.{What1}
+-- Each name is looked up where it stands, from left to right, so the first fault is the one at the least token.
+use Rattle.std.specs.Prelude.{◌&&◌, ◌||◌, ◌+◌, ℕ, Bool, true, false, if◌then◌else◌, List, [], ◌∷◌, length, get_or, Option, Some, None, Result, Ok, Err}
 use Rattle.plc_base.specs.declared.limits.What1.TheVariants as limits
 use Rattle.plc_lang.specs.declared.syntax.Primitive.{Primitive}
 use Rattle.plc_lang.specs.Allocation.{is_new}
@@ -12,31 +11,18 @@ use Rattle.plc_lang.specs.declared.syntax.Ghost.{Ghost}
 use Rattle.plc_lang.specs.Statements.{Statement, One, Atomic, Call, If, Choose, Loop, Break, Return, Skip, Label, Statements, Empty, Then, Blocks, NoBlock, And}
 use Rattle.plc_auto.specs.declared.observer.Observer.{Observer}
 use Rattle.plc_auto.specs.declared.observer.Observer.TheVariants.{Plain, Hazard, Epoch}
-use Rattle.plc_syntax.specs.Trees.{Text, FieldTree, PointerField as PointerFieldTree, DataField as DataFieldTree, FunctionTree, Declares, WatchTree, UseHazard, UseEpoch, OneOf, OfThreads, GhostTree, Auxiliary as AuxiliaryTree, InitialTree, PrimitiveTree, StatementTree, PrimitiveStatement, AtomicStatement, CallStatement, IfStatement, ChooseStatement, LoopStatement, BreakStatement, ReturnStatement, LabelStatement, BlockTree, NoStatement, Then as ThenStatement, ElseTree, NoElse, ElseBlock, OrTree, NoOr, OrBlock, OpTree, Operates, FileTree}
+use Rattle.plc_syntax.specs.Trees.{Text, FieldTree, PointerField as PointerFieldTree, DataField as DataFieldTree, FunctionTree, Declares, WatchTree, UseHazard, UseEpoch, OneOf, OfThreads, GhostTree, Auxiliary as AuxiliaryTree, InitialTree, PrimitiveTree, StatementTree, PrimitiveStatement, AtomicStatement, CallStatement, IfStatement, ChooseStatement, LoopStatement, BreakStatement, ReturnStatement, LabelStatement, BlockTree, NoStatement, Then as ThenStatement, ElseTree, NoElse, ElseBlock, OrTree, NoOr, OrBlock, OpTree, Operates, OutlineTree, FileTree}
 use Rattle.plc_forms.specs.Sizes.{initial_size, primitive_size, condition_size, call_size, during_size, function_size, watch_size}
 use Rattle.plc_scope.specs.declared.fault.ParseFault.{ParseFault}
 use Rattle.plc_scope.specs.declared.fault.ParseFault.TheVariants as faults
 use Rattle.plc_scope.specs.declared.scope.Scope.{Scope}
 use Rattle.plc_scope.specs.declared.binding.Binding.TheVariants.{Taken, Shared, PointerField, DataField, Function, Auxiliary, Value}
 use Rattle.plc_scope.specs.Scope.{◌>>=◌, first_scope, declared, declared_label, declared_local, declared_parameter, without_locals, protecting_at, without_pointer_at}
+use Rattle.plc_scope.specs.Limits.{within_limit, stands_at}
 use Rattle.plc_scope.specs.Primitives.{primitive_means, initial_means, condition_means, call_means}
+use Rattle.plc_logic.specs.declared.clause.Outline.{Outline}
+use Rattle.plc_outparse.specs.Meaning.{outline_means}
 use Rattle.plc_parse.specs.declared.unit.Unit.{Unit as FileUnit}
-
--- ---- limits
-
--- a form past the limit is the fault, at its first token; n forms are before
-abbrev pub within_limit : {A : Type 0} → ℕ → ℕ → What1 → Result A ParseFault → Result A ParseFault
-within_limit n limit what next = if n == limit then Err (faults.Limit what (limit + 1)) else next
-
--- the same where the form's first token may be at fault itself, which goes before the limit
-abbrev pub stands_at : ℕ → ParseFault → Bool
-stands_at at (faults.Undeclared k) = k == at
-stands_at at (faults.Duplicate k) = k == at
-stands_at at (faults.WrongSort k) = k == at
-stands_at at (faults.NoSuchCall k) = k == at
-stands_at at (faults.Syntax k) = false
-stands_at at (faults.Limit what k) = false
-stands_at at faults.Memory = false
 
 -- ---- atomic blocks and `init`
 
@@ -268,13 +254,26 @@ op_means lines s n at (Operates name parameters locals body) = within_limit n 32
   b ← statements_mean lines l.0 false l.1 body
   Ok (record { name = length s.names.names; locals = l.0.locals; body = b.0; line = line_at lines at }, without_locals b.1, b.2 + 1))
 
+-- ---- the outline
+
+-- what an outline is that isn't there: it says nothing
+abbrev pub empty_outline : Outline
+empty_outline = record { depth = 0; invariants = []; items = [] }
+
+-- the outline behind the operations, in the scope that they leave
+abbrev pub outlined_means : Scope → List Op → ℕ → Option OutlineTree → Result Outline ParseFault
+outlined_means s ops at None = Ok empty_outline
+outlined_means s ops at (Some t) = do
+  o ← outline_means s ops at t
+  Ok o.0
+
 -- ---- the file
 
 -- `retire` is the first function of a file
 abbrev pub retire : Func
 retire = record { name = 0; pointer = true }
 
--- the parts of a file in order, but for its outline; lines are those of the tokens
+-- the parts of a file in order; lines are those of the tokens
 unfoldable pub file_means : List ℕ → FileTree → Result FileUnit ParseFault
 file_means lines f = do
   s ← declared first_scope f.name 1 Taken
@@ -285,6 +284,7 @@ file_means lines f = do
   ghosts ← listed ghost_means functions.1 0 observer.1 f.ghosts
   starts ← init_means ghosts.1 ghosts.2 f.starts
   ops ← listed (op_means lines) ghosts.1 0 starts.1 f.ops
+  outline ← outlined_means ops.1 ops.0 ops.2 f.outlined
   Ok (record {
     file = record {
       names = ops.1.names;
@@ -297,4 +297,5 @@ file_means lines f = do
       labels = ops.1.labels;
     };
     observer = observer.0;
+    outline = outline;
   })

@@ -18,14 +18,14 @@ use Rattle.plc_scope.specs.declared.fault.ParseFault.{ParseFault}
 use Rattle.plc_scope.specs.declared.fault.ParseFault.TheVariants as faults
 use Rattle.plc_scope.specs.declared.scope.Scope.{Scope}
 use Rattle.plc_scope.specs.declared.binding.Binding.TheVariants.{Taken, Auxiliary}
+use Rattle.plc_scope.specs.Read.{ReadTo, wanted_at}
 use Rattle.plc_scope.specs.Scope.{◌>>=◌, first_scope, declared, declared_parameter, without_locals}
 use Rattle.plc_scope.specs.Primitives.{primitive_means, initial_means, condition_means, call_means}
+use Rattle.plc_logic.specs.declared.clause.Outline.{Outline}
+use Rattle.plc_outparse.specs.Reading.{outline_in}
 use Rattle.plc_parse.specs.declared.unit.Unit.{Unit as FileUnit}
-use Rattle.plc_parse.specs.Meaning.{within_limit, counted, allocates, before, line_at, one_or_skip, label_means, during_means, field_means, shared_means, function_means, value_means, watch_means, local_means, retire}
-
--- what was read, and the tokens behind
-abbrev pub ReadTo : Type 0 → Type 0
-ReadTo A = Result (A × List TokenKind) ParseFault
+use Rattle.plc_scope.specs.Limits.{within_limit}
+use Rattle.plc_parse.specs.Meaning.{counted, allocates, before, line_at, one_or_skip, label_means, during_means, field_means, shared_means, function_means, value_means, watch_means, local_means, empty_outline, retire}
 
 -- ---- forms that follow one another
 
@@ -42,11 +42,6 @@ each_within item step (suc n) s ts = go_on (λ t us. each_within item step n t u
 -- each form in turn while there is one, over a state that goes on; then the tokens behind
 unfoldable pub each : {S X : Type 0} → (List TokenKind → Option (X × List TokenKind)) → (S → X → Result S ParseFault) → S → List TokenKind → ReadTo S
 each item step s ts = each_within item step (length ts) s ts
-
--- a form that has to stand at a place
-abbrev pub wanted_at : {A : Type 0} → ℕ → Option A → Result A ParseFault
-wanted_at at (Some x) = Ok x
-wanted_at at None = Err (faults.Syntax at)
 
 -- what is read where a form stands, else something else
 abbrev pub where_read : {X A : Type 0} → Option X → (X → A) → A → A
@@ -369,10 +364,18 @@ watch_in s at ts = where_read (watch_of ts)
 unfoldable pub init_in : Scope → ℕ → List TokenKind → ReadTo (List Primitive × ℕ)
 init_in s at ts = where_read (init_of ts) (λ us. initials_in s (at + 2) us) (Ok (([], at), ts))
 
--- nothing may be left behind the operations
+-- nothing may be left behind the last part
 abbrev pub nothing_left : ℕ → List TokenKind → Result ℕ ParseFault
 nothing_left at [] = Ok at
 nothing_left at (t ∷ ts) = Err (faults.Syntax at)
+
+-- the outline, which may be left out
+unfoldable pub outlined_in : Scope → List Op → ℕ → List TokenKind → Result Outline ParseFault
+outlined_in s ops at [] = Ok empty_outline
+outlined_in s ops at (t ∷ ts) = do
+  o ← outline_in s ops at (t ∷ ts)
+  end ← nothing_left o.0.1 o.1
+  Ok o.0.0
 
 -- the parts of a file in order
 unfoldable pub file_in : List ℕ → List TokenKind → Result FileUnit ParseFault
@@ -383,7 +386,7 @@ file_in lines ts = do
   g ← ghosts_in d.0.3 w.0.1 w.1
   i ← init_in g.0.1 g.0.2 g.1
   ops ← ops_in lines g.0.1 i.0.1 i.1
-  end ← nothing_left ops.0.2 ops.1
+  outline ← outlined_in ops.0.1 ops.0.0 ops.0.2 ops.1
   Ok (record {
     file = record {
       names = ops.0.1.names;
@@ -396,4 +399,5 @@ file_in lines ts = do
       labels = ops.0.1.labels;
     };
     observer = w.0.0;
+    outline = outline;
   })

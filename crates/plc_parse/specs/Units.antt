@@ -1,5 +1,5 @@
 -- Which unit tokens spell, and what else they are answered with.
-use Rattle.std.specs.Prelude.{◌≡◌, ℕ, List, map, None, Result, Ok, Err}
+use Rattle.std.specs.Prelude.{◌≡◌, ℕ, List, map, Result, Ok, Err}
 use Rattle.plc_lex.specs.declared.token.Token.{Token}
 use Rattle.plc_lex.specs.declared.token.TokenKind.{TokenKind}
 use Rattle.plc_base.specs.declared.limits.What1.TheVariants as limits
@@ -15,11 +15,10 @@ use Rattle.plc_parse.specs.Meaning.{file_means}
 abbrev pub lines_of : List Token → List ℕ
 lines_of ts = map (λ (t : Token). t.line) ts
 
--- the tokens are those of a tree without an outline, which has this meaning
+-- the tokens are those of a tree, which has this meaning
 pub record Means (ts : List Token) (meaning : Result FileUnit ParseFault) : Type 0 where
   pub tree : FileTree
   pub tokens : file_tokens tree ≡ kinds ts
-  pub no_outline : tree.outlined ≡ None
   pub is : file_means (lines_of ts) tree ≡ meaning
 
 -- the tokens are a file's, in which no block stands too deep

@@ -1,8 +1,8 @@
 // Auxiliary fields. One is a thread or one of its values, whose names are declared with it.
 ghost use Rattle.std.specs.Prelude.{◌≡◌, ◌+◌, ◌<◌, ◌≤◌, ◌^◌, IfOk, [], ◌∷◌, length};
 ghost use Rattle.plc_syntax.specs.Syntax.{kinds};
-ghost use Rattle.plc_scope.specs.Answers.{Gives, HasRoom, GrowsBy};
-ghost use Rattle.plc_parse.specs.Growth.{Within, KeepsLists};
+ghost use Rattle.plc_scope.specs.Answers.{Gives, HasRoom, GrowsBy, Within};
+ghost use Rattle.plc_parse.specs.Growth.{KeepsLists};
 ghost use Rattle.plc_parse.specs.Meaning.{value_means};
 ghost use Rattle.plc_parse.specs.Reading.{values_in, of_threads_in, all_values_in, of_values_in, ghost_in, ghosts_in};
 

@@ -5,9 +5,9 @@ ghost use Rattle.std.specs.Prelude.{◌≡◌, ◌+◌, ◌<◌, ◌≤◌, ◌^
 ghost use Rattle.plc_syntax.specs.Syntax.{kinds};
 ghost use Rattle.plc_forms.specs.Sizes.{function_size};
 ghost use Rattle.plc_forms.specs.Views.{field_tree, function_tree};
-ghost use Rattle.plc_scope.specs.Answers.{Gives, HasRoom, GrowsBy};
+ghost use Rattle.plc_scope.specs.Answers.{Gives, HasRoom, GrowsBy, Within};
 ghost use Rattle.plc_scope.specs.Scope.{declared};
-ghost use Rattle.plc_parse.specs.Growth.{Within, KeepsLists};
+ghost use Rattle.plc_parse.specs.Growth.{KeepsLists};
 ghost use Rattle.plc_parse.specs.Meaning.{field_means, shared_means, function_means};
 ghost use Rattle.plc_parse.specs.Reading.{fields_in, shared_in, functions_in};
 

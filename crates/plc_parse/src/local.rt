@@ -2,9 +2,8 @@
 ghost use Rattle.std.specs.Prelude.{◌≡◌, ◌+◌, ◌<◌, ◌^◌, IfOk};
 ghost use Rattle.plc_syntax.specs.Syntax.{kinds};
 ghost use Rattle.plc_forms.specs.Views.{field_tree};
-ghost use Rattle.plc_scope.specs.Answers.{Gives, HasRoomForLocals, GrowsByLocals};
+ghost use Rattle.plc_scope.specs.Answers.{Gives, HasRoomForLocals, GrowsByLocals, Within};
 ghost use Rattle.plc_scope.specs.Scope.{declared_parameter, declared_local};
-ghost use Rattle.plc_parse.specs.Growth.{Within};
 ghost use Rattle.plc_parse.specs.Meaning.{local_means};
 ghost use Rattle.plc_parse.specs.Reading.{others_in, parameters_in, locals_in, all_locals_in};
 

@@ -2,7 +2,9 @@
 ghost use Rattle.std.specs.Prelude.{◌≡◌, ◌+◌, ◌<◌, ◌≤◌, [], length, IfOk};
 ghost use Rattle.plc_syntax.specs.Syntax.{kinds};
 ghost use Rattle.plc_scope.specs.Answers.{Gives, HasRoom};
-ghost use Rattle.plc_parse.specs.Growth.{IsLeftOf, CanOperate, GrowsByOps};
+ghost use Rattle.plc_scope.specs.Scope.{most_locals};
+ghost use Rattle.plc_outparse.specs.Answers.{OpsFit};
+ghost use Rattle.plc_parse.specs.Growth.{IsLeftOf, CanOperate, GrowsByOps, most_labels};
 ghost use Rattle.plc_parse.specs.Reading.{op_in, ops_in};
 ghost use Rattle.plc_parse.specs.Units.{lines_of};
 
@@ -38,6 +40,7 @@ fn read_op<'a>(
     ensures limit { IfOk result (λ _. count < 32) }
     ensures read { Gives (λ r. ((r.0, scope.new, r.1.at), kinds r.1.tokens.now)) result (op_in (lines_of tokens.now) scope.old count at name.now (kinds start.entry.tokens.now)) }
     ensures grows { IfOk result (λ _. GrowsByOps scope.old scope.new 33) }
+    ensures locals { IfOk result (λ r. length r.0.locals ≤ most_locals) }
     ensures place { IfOk result (λ r. IsLeftOf (length tokens.now) r.1) }
 {
     if count == MOST_OPS {
@@ -69,7 +72,9 @@ pub fn read_ops<'a>(
     requires locals { scope.old.locals ≡ [] }
     requires labels { scope.old.labels ≡ [] }
     requires place { IsLeftOf (length tokens.now) start }
-    ensures { Gives (λ r. ((r.0, scope.new, r.1.at), kinds r.1.tokens.now)) result (ops_in (lines_of tokens.now) scope.old start.entry.at (kinds start.entry.tokens.now)) }
+    ensures read { Gives (λ r. ((r.0, scope.new, r.1.at), kinds r.1.tokens.now)) result (ops_in (lines_of tokens.now) scope.old start.entry.at (kinds start.entry.tokens.now)) }
+    ensures fit { IfOk result (λ r. OpsFit r.0) }
+    ensures labels { IfOk result (λ _. length scope.new.labels ≤ most_labels) }
 {
     let mut ops = Items::new(alloc);
     let mut rest = start;

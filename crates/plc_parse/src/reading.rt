@@ -4,17 +4,17 @@ ghost use Rattle.std.specs.Prelude.{◌≡◌, ◌≤◌, ◌<◌, ◌^◌, ◌+
 ghost use Rattle.plc_lang.specs.Fit.{FileFits, NamesWhatIsThere};
 ghost use Rattle.plc_auto.specs.Table.{is_well_formed};
 ghost use Rattle.plc_lex.specs.declared.token.Token.{Token};
-ghost use Rattle.plc_lex.specs.declared.token.Keyword.TheVariants.{Outline};
 ghost use Rattle.plc_syntax.specs.Syntax.{kinds};
-ghost use Rattle.plc_forms.specs.Forms.{hold_word};
 ghost use Rattle.plc_forms.specs.Sizes.{watch_size};
 ghost use Rattle.plc_forms.specs.Views.{watch_tree};
-ghost use Rattle.plc_scope.specs.Answers.{Gives, HasRoom, GrowsBy};
+ghost use Rattle.plc_scope.specs.Answers.{Gives, HasRoom, GrowsBy, Within};
 ghost use Rattle.plc_scope.specs.Scope.{most_locals};
 ghost use Rattle.plc_parse.specs.declared.unit.Unit.{Unit as FileUnit};
-ghost use Rattle.plc_parse.specs.Growth.{Within, IsLeftOf, KeepsLists};
+ghost use Rattle.plc_parse.specs.Growth.{IsLeftOf, KeepsLists, most_labels};
 ghost use Rattle.plc_parse.specs.Meaning.{retire, watch_means};
-ghost use Rattle.plc_parse.specs.Reading.{struct_in, declarations_in, watch_in, init_in, file_in};
+ghost use Rattle.plc_logic.specs.Fit.{OutlineFits};
+ghost use Rattle.plc_outparse.specs.Answers.{OpsFit};
+ghost use Rattle.plc_parse.specs.Reading.{struct_in, declarations_in, watch_in, init_in, outlined_in, file_in};
 ghost use Rattle.plc_parse.specs.Units.{lines_of, IsUnitOf, IsFaultOf, IsShallowFile, UnitsAreUnique};
 
 use crate::auxiliary::read_ghosts;
@@ -25,8 +25,10 @@ use crate::unit::Unit;
 use plc_auto::Observer;
 use plc_base::{Items, What1};
 use plc_forms::{Rest, Watch, closing_at, init_at, struct_at, watch_at};
-use plc_lang::{Field, File, Func, Prim};
+use plc_lang::{Field, File, Func, Op, Prim};
 use plc_lex::Token;
+use plc_logic::Outline;
+use plc_outparse::read_outline;
 use plc_scope::{Binding, ParseFault, Scope};
 use plc_syntax::{SyntaxFault, syntax};
 use std::alloc::Global;
@@ -148,6 +150,32 @@ fn with_retire(functions: Items<Func>) -> Result<Items<Func>, ParseFault>
     Ok(Items::from_vec(all))
 }
 
+// The outline, which may be left out; nothing may be left behind it.
+#[tactic(auto, unfolding(crate::specs::Reading::outlined_in))]
+fn read_outlined(
+    alloc: Global,
+    scope: &Scope,
+    ops: &[Op],
+    start: Rest,
+) -> Result<Outline, ParseFault>
+    requires labels { length scope.now.labels ≤ most_labels }
+    requires ops { OpsFit ops.now }
+    ensures { Gives (λ outline. outline) result (outlined_in scope.now ops.now start.entry.at (kinds start.entry.tokens.now)) }
+{
+    if start.tokens.is_empty() {
+        return Ok(Outline {
+            depth: 0,
+            invariants: Items::new(alloc),
+            items: Items::new(alloc),
+        });
+    }
+    let (outline, rest) = read_outline(alloc, scope, ops, start)?;
+    if !rest.tokens.is_empty() {
+        return Err(ParseFault::Syntax { at: rest.at });
+    }
+    Ok(outline)
+}
+
 // The unit of tokens that are a file's.
 #[tactic(auto, unfolding(crate::specs::Reading::file_in))]
 fn read_file(alloc: Global, tokens: &[Token]) -> Result<Unit, ParseFault>
@@ -160,9 +188,7 @@ fn read_file(alloc: Global, tokens: &[Token]) -> Result<Unit, ParseFault>
     let (ghosts, rest) = read_ghosts(alloc, &mut scope, rest)?;
     let (init, rest) = read_init(alloc, &scope, rest)?;
     let (ops, rest) = read_ops(alloc, &mut scope, tokens, rest)?;
-    if !rest.tokens.is_empty() {
-        return Err(ParseFault::Syntax { at: rest.at });
-    }
+    let outline = read_outlined(alloc, &scope, ops.as_slice(), rest)?;
     let file = File {
         names: scope.names,
         fields: declared.fields,
@@ -173,7 +199,11 @@ fn read_file(alloc: Global, tokens: &[Token]) -> Result<Unit, ParseFault>
         ops,
         labels: scope.labels,
     };
-    Ok(Unit { file, observer })
+    Ok(Unit {
+        file,
+        observer,
+        outline,
+    })
 }
 
 fn check_syntax(alloc: Global, tokens: &[Token]) -> Result<(), ParseFault>
@@ -195,17 +225,18 @@ fn check_syntax(alloc: Global, tokens: &[Token]) -> Result<(), ParseFault>
 
 /// The unit that tokens spell, or the fault at the least token; of two faults at one token the
 /// syntax goes first, then the order of [`ParseFault`]. The file is within the limits and names what
-/// it declares, and `retire` is no function that is watched. There are fewer than 2^32 tokens, and none
-/// of them is the word `outline`, since outlines aren't read yet; [`plc_forms::holds_word`] tells.
+/// it declares, `retire` is no function that is watched, and the outline fits the file: what its
+/// clauses name is there, both sides of an equation have one sort, no invariant names a local or a
+/// thread, and the labels of an item stand in one operation. There are fewer than 2^32 tokens.
 pub fn parse(alloc: Global, tokens: &[Token]) -> Result<Unit, ParseFault>
     requires few { length tokens.now < 2 ^ 32 }
-    requires no_outline { hold_word Outline (kinds tokens.now) ≡ false }
     ensures ok { IfOk result (λ unit. IsUnitOf tokens.now unit) }
     ensures spelled { (unit : FileUnit) → IsUnitOf tokens.now unit → IfErr result (λ e. e ≡ ParseFault.Memory) }
     ensures fault { IfErr result (IsFaultOf tokens.now) }
     ensures fits { IfOk result (λ unit. FileFits unit.file) }
     ensures named { IfOk result (λ unit. NamesWhatIsThere unit.file) }
     ensures observer { IfOk result (λ unit. is_well_formed unit.observer ≡ true) }
+    ensures outline { IfOk result (λ unit. OutlineFits unit.file unit.outline) }
 {
     check_syntax(alloc, tokens)?;
     read_file(alloc, tokens)

@@ -4,9 +4,9 @@ ghost use Rattle.plc_lang.specs.Views.{statement_of};
 ghost use Rattle.plc_syntax.specs.Syntax.{kinds};
 ghost use Rattle.plc_forms.specs.Sizes.{call_size, during_size, primitive_size};
 ghost use Rattle.plc_forms.specs.Views.{text_or_none, argument_tree, primitive_tree};
-ghost use Rattle.plc_scope.specs.Answers.{Gives};
+ghost use Rattle.plc_scope.specs.Answers.{Gives, Within};
 ghost use Rattle.plc_scope.specs.Scope.{most_locals};
-ghost use Rattle.plc_parse.specs.Growth.{Within, CanLabel, GrowsByLabels};
+ghost use Rattle.plc_parse.specs.Growth.{CanLabel, GrowsByLabels};
 ghost use Rattle.plc_parse.specs.Meaning.{label_means, during_means};
 ghost use Rattle.plc_parse.specs.Reading.{break_in, label_in, atomic_in, called_in, primitive_in, step_in, flat_in};
 

@@ -4,10 +4,9 @@ ghost use Rattle.std.specs.Prelude.{◌≡◌, ◌==◌, ◌≤◌, if◌then◌
 ghost use Rattle.plc_lang.specs.declared.syntax.Primitive.{Primitive};
 ghost use Rattle.plc_syntax.specs.Syntax.{kinds};
 ghost use Rattle.plc_scope.specs.declared.fault.ParseFault.{ParseFault};
-ghost use Rattle.plc_scope.specs.Answers.{Gives};
+ghost use Rattle.plc_scope.specs.Answers.{Gives, Within};
 ghost use Rattle.plc_scope.specs.Scope.{most_locals};
-ghost use Rattle.plc_parse.specs.Growth.{Within};
-ghost use Rattle.plc_parse.specs.Meaning.{stands_at};
+ghost use Rattle.plc_scope.specs.Limits.{stands_at};
 ghost use Rattle.plc_parse.specs.Reading.{with_form, primitives_in, initials_in};
 
 use plc_base::{Items, What1};
@@ -24,19 +23,6 @@ const MOST_PRIMITIVES: usize = 64;
 struct Step {
     primitives: Items<Prim>,
     has_new: bool,
-}
-
-// The fault is at the first token of the form at this place.
-fn stands_at(at: u32, fault: &ParseFault) -> bool
-    ensures { result ≡ stands_at at fault.now }
-{
-    match fault {
-        ParseFault::Undeclared { at: k }
-        | ParseFault::Duplicate { at: k }
-        | ParseFault::WrongSort { at: k }
-        | ParseFault::NoSuchCall { at: k } => *k == at,
-        _ => false,
-    }
 }
 
 fn too_many_primitives() -> ParseFault
@@ -95,7 +81,7 @@ impl Step {
     fn fault(&self, at: u32, fault: ParseFault) -> ParseFault
         ensures { result ≡ (if stands_at at fault then fault else (if length self.now.primitives == 64 then ParseFault.Limit What1.Prims 65 else fault)) }
     {
-        if self.primitives.len() == MOST_PRIMITIVES && !stands_at(at, &fault) {
+        if self.primitives.len() == MOST_PRIMITIVES && !fault.stands_at(at) {
             return too_many_primitives();
         }
         fault

@@ -3,9 +3,8 @@
 use super::*;
 use plc_auto::Observer;
 use plc_base::FuncId;
-use plc_forms::holds_word;
 use plc_lang::{File, GhostVal, Line, Local, Op, Prim, Stmt, Var};
-use plc_lex::{Keyword, tokens};
+use plc_lex::tokens;
 use std::alloc::{AllocError, Global};
 
 /// The longest text that has tokens.
@@ -16,13 +15,7 @@ fn read(alloc: Global, text: &[u8]) -> Result<Unit, ParseFault> {
         return Err(ParseFault::Memory);
     }
     match tokens(alloc, text) {
-        Ok(tokens) => {
-            let tokens = tokens.as_slice();
-            if holds_word(tokens, Keyword::Outline) {
-                return Err(ParseFault::Memory);
-            }
-            parse(alloc, tokens)
-        }
+        Ok(tokens) => parse(alloc, tokens.as_slice()),
         Err(_) => Err(ParseFault::Memory),
     }
 }
@@ -71,7 +64,7 @@ fn lines(file: &File, op: usize) -> Option<&[Line]> {
     Some(op.body.lines())
 }
 
-// A stack whose pops protect what they read, with auxiliary fields.
+// A stack whose pops protect what they read, with auxiliary fields and an outline.
 const STACK: &str = "struct Node { ptr next; data val; }
 shared Top;
 call protect(ptr);
@@ -113,6 +106,11 @@ atomic { active Top; assume Top != t; }
 } or { }
 }
 }
+outline {
+depth 1;
+inv all x: x.next != x or Top == null;
+at d: t.st == linked or t.owner != me;
+}
 ";
 
 #[test]
@@ -128,6 +126,9 @@ fn a_file_declares_its_names(rt: HostRuntime) -> Result<(), ParseFault> {
     assert_eq!(rt; file.init.len(), 0);
     assert_eq!(rt; file.ops.len(), 2);
     assert_eq!(rt; file.labels.len(), 3);
+    assert_eq!(rt; unit.outline.depth, 1);
+    assert_eq!(rt; unit.outline.invariants.len(), 1);
+    assert_eq!(rt; unit.outline.items.len(), 1);
     let Some(ghost_st) = file.ghosts.get(0) else {
         return Err(ParseFault::Memory);
     };
@@ -396,6 +397,23 @@ fn declarations_are_judged_at_their_names(rt: HostRuntime) -> Result<(), AllocEr
         ("struct N { }", "unit"),
         ("", "Syntax { at: 0 }"),
         ("struct N { } op f() { } ;", "Syntax { at: 10 }"),
+        (
+            "struct N { } shared T; op f() { } outline { inv T == null; }",
+            "unit",
+        ),
+        (
+            "struct N { } op f() { } outline { inv T == null; }",
+            "Undeclared { at: 13 }",
+        ),
+        (
+            "struct N { } op f() { x := 1; } outline { inv T == null; }",
+            "Undeclared { at: 9 }",
+        ),
+        (
+            "struct N { } outline { inv T == null; } op f() { }",
+            "Syntax { at: 12 }",
+        ),
+        ("struct N { } outline { } outline { }", "Syntax { at: 7 }"),
     ];
     for (text, answer) in rows {
         assert_eq!(rt;
@@ -408,7 +426,7 @@ fn declarations_are_judged_at_their_names(rt: HostRuntime) -> Result<(), AllocEr
 }
 
 // A text with the most of something, and the fault of one more.
-const LIMITS: [(u32, &str, &str, &str, &str, &str); 13] = [
+const LIMITS: [(u32, &str, &str, &str, &str, &str); 14] = [
     (
         8,
         "struct N { ",
@@ -512,6 +530,14 @@ const LIMITS: [(u32, &str, &str, &str, &str, &str); 13] = [
         "; ",
         "}",
         "Limit { what: Prims, count: 65 }",
+    ),
+    (
+        64,
+        "struct N { } outline { ",
+        "inv 3 == ",
+        "; ",
+        "}",
+        "Limit { what: Invariants, count: 65 }",
     ),
 ];
 

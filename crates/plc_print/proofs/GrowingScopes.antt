@@ -1,5 +1,5 @@
 -- How scopes grow: names, labels and bindings stay, and what is declared has the number of its name.
-use Rattle.std.proofs.Common.{◌≡◌, ◌==◌, ◌⊎◌, inl, inr, ℕ, zero, suc, ◌+◌, false, Option, Some, None, option_map, Result, Ok, Err, List, [], ◌∷◌, ◌++◌, length, slice_get, refl, sym, ap, ◌∙◌, subst, arith}
+use Rattle.std.proofs.Common.{◌≡◌, ◌==◌, inl, inr, ℕ, zero, suc, ◌+◌, false, Option, Some, None, option_map, Result, Ok, Err, List, [], ◌∷◌, ◌++◌, length, slice_get, refl, sym, ap, ◌∙◌, subst, arith}
 use Rattle.std.proofs.lemmas.List.{length-append}
 use Rattle.plc_base.specs.Names.{place_of}
 use Rattle.plc_lang.specs.declared.syntax.File.{File}
@@ -10,9 +10,10 @@ use Rattle.plc_scope.specs.declared.binding.Binding.{Binding}
 use Rattle.plc_scope.specs.declared.binding.Binding.TheVariants.{Taken}
 use Rattle.plc_scope.specs.Scope.{◌>>=◌, if_new, with_name, with_label, declared}
 use Rattle.plc_parse.specs.Meaning.{label_means, during_means}
-use Rattle.plc_parse.proofs.Holds.{Has}
-use Rattle.plc_print.specs.Canonical.{name_at, label_name}
-use Rattle.plc_print.proofs.Steps.{next, limited, within, behind, Found, Within}
+use Rattle.plc_scope.proofs.Holds.{Has, next, unless}
+use Rattle.plc_lang.specs.Names.{name_at, label_name}
+use Rattle.plc_parse.proofs.Growth.{from_last}
+use Rattle.plc_print.proofs.Steps.{within, behind, Found, Within}
 use Rattle.plc_print.proofs.SpelledNames.{IsBound, Bound, Ends, from_number, number_named}
 
 pub within_append : {A : Type 0} (xs ys : List A) → Within xs (xs ++ ys)
@@ -23,12 +24,6 @@ within_append (y ∷ xs) ys (suc i) x e = within_append xs ys i x e
 pub last_there : {A : Type 0} (xs : List A) (y : A) → slice_get (xs ++ y ∷ []) (length xs) ≡ Some y
 last_there [] y = refl
 last_there (x ∷ xs) y = last_there xs y
-
-from_last : {A : Type 0} (xs : List A) (y : A) (i : ℕ) (x : A) → slice_get (xs ++ y ∷ []) i ≡ Some x → (slice_get xs i ≡ Some x) ⊎ ((i ≡ length xs) × (y ≡ x))
-from_last [] y zero x e = inr (refl, cc)
-from_last [] y (suc i) x e = absurd cc
-from_last (z ∷ xs) y zero x e = inl e
-from_last (z ∷ xs) y (suc i) x e = elim (from_last xs y i x e) [ inl h ↦ inl h | inr h ↦ inr (ap suc h.0, h.1) ]
 
 module _ (file : File) where
   -- names and labels stay, and what is bound stays bound
@@ -104,7 +99,7 @@ module _ (file : File) where
   }
 
   pub label_found : (s : Scope) (at : ℕ) (n : Text) → Has (Found (LabelRead s n) (λ a. label_means s a n)) (label_means s at n)
-  label_found s at n = limited (Found (LabelRead s n) (λ a. label_means s a n)) (length s.labels == 256) _ _ (λ below.
+  label_found s at n = unless (Found (LabelRead s n) (λ a. label_means s a n)) (length s.labels == 256) _ _ (λ below.
       new_label (declared s n (at + 1) Taken) below (declared_found s n (at + 1) Taken))
     where
       new_label : (r : Result Scope ParseFault) → (length s.labels == 256) ≡ false → Has (Found (Declares n Taken s) (λ a. declared s n a Taken)) r

@@ -1,12 +1,13 @@
 -- What is asked of each token, and of the braces that are open at each block, holds of the normal tree's tokens where it holds of a tree's.
-use Rattle.std.proofs.Common.{◌≡◌, ℕ, suc, ◌-◌, Bool, true, false, Option, Some, None, List, [], ◌∷◌, map, filter, subst, arith}
+use Rattle.std.proofs.Common.{◌≡◌, ℕ, zero, suc, ◌-◌, Bool, true, false, not, cond, Option, Some, None, List, [], ◌∷◌, ◌++◌, map, filter, refl, ap, subst, arith}
 use Rattle.plc_lex.specs.declared.token.TokenKind.{TokenKind}
 use Rattle.plc_lex.specs.declared.token.TokenKind.TheVariants.{Word, Name, Number, Symbol}
 use Rattle.plc_lex.specs.declared.token.Keyword.{Keyword}
 use Rattle.plc_lex.specs.declared.token.Keyword.TheVariants.{Atomic}
 use Rattle.plc_lex.specs.declared.token.Symbol.TheVariants.{OpenBrace, CloseBrace}
-use Rattle.plc_syntax.specs.Trees.{Text, each_then, maybe_then, comma_name_then, names_then, FieldTree, PointerField, DataField, field_then, shared_then, FunctionTree, Declares, function_then, WatchTree, UseHazard, UseEpoch, watch_then, OneOf, OfThreads, GhostTree, Auxiliary, ghost_then, PlaceTree, PlaceOf, place_then, AtomTree, NullAtom, NumberAtom, NameAtom, atom_then, ValueTree, NullValue, NewValue, NumberValue, PlaceValue, value_then, SetTree, SetName, SetField, set_then, RefreshTree, RefreshName, RefreshField, refresh_then, GhostValueTree, NameGhost, MeGhost, NoneGhost, ghost_value_then, GhostSetTree, SetGhost, ghost_set_then, InitialTree, InitialSet, InitialGhost, initial_then, init_then, TestTree, Compares, SameAs, OtherThan, LessThan, NotLessThan, test_then, name_or_null_then, ConditionTree, TestCondition, RefreshCondition, CasCondition, condition_then, PrimitiveTree, SetPrimitive, RefreshPrimitive, GhostPrimitive, ActivePrimitive, AssumePrimitive, SkipPrimitive, primitive_then, primitive_line_then, ArgumentTree, NoArgument, NullArgument, NameArgument, ActiveArgument, argument_then, during_then, StatementTree, PrimitiveStatement, AtomicStatement, CallStatement, IfStatement, ChooseStatement, LoopStatement, BreakStatement, ReturnStatement, LabelStatement, BlockTree, NoStatement, Then, ElseTree, NoElse, ElseBlock, OrTree, NoOr, OrBlock, statement_then, statements_then, else_then, or_then, parameters_then, OpTree, Operates, op_then, FileTree, file_tokens}
-use Rattle.plc_print.proofs.NormalTrees.{stays, normal_statement, normal_block, normal_else, normal_or, normal_starts, normal_op, normal_file}
+use Rattle.plc_syntax.specs.Trees.{Text, each_then, maybe_then, comma_name_then, names_then, FieldTree, PointerField, DataField, field_then, shared_then, FunctionTree, Declares, function_then, WatchTree, UseHazard, UseEpoch, watch_then, OneOf, OfThreads, GhostTree, Auxiliary, ghost_then, PlaceTree, PlaceOf, place_then, AtomTree, NullAtom, NumberAtom, NameAtom, atom_then, ValueTree, NullValue, NewValue, NumberValue, PlaceValue, value_then, SetTree, SetName, SetField, set_then, RefreshTree, RefreshName, RefreshField, refresh_then, GhostValueTree, NameGhost, MeGhost, NoneGhost, ghost_value_then, GhostSetTree, SetGhost, ghost_set_then, InitialTree, InitialSet, InitialGhost, initial_then, init_then, TestTree, Compares, SameAs, OtherThan, LessThan, NotLessThan, test_then, name_or_null_then, ConditionTree, TestCondition, RefreshCondition, CasCondition, condition_then, PrimitiveTree, SetPrimitive, RefreshPrimitive, GhostPrimitive, ActivePrimitive, AssumePrimitive, SkipPrimitive, primitive_then, primitive_line_then, ArgumentTree, NoArgument, NullArgument, NameArgument, ActiveArgument, argument_then, during_then, StatementTree, PrimitiveStatement, AtomicStatement, CallStatement, IfStatement, ChooseStatement, LoopStatement, BreakStatement, ReturnStatement, LabelStatement, BlockTree, NoStatement, Then, ElseTree, NoElse, ElseBlock, OrTree, NoOr, OrBlock, statement_then, statements_then, else_then, or_then, parameters_then, OpTree, Operates, op_then, TermTree, PlaceTerm, NullTerm, NumberTerm, MeTerm, NoneTerm, term_then, RetiredFlag, LiteralTree, FlagLiteral, NotLiteral, EqualityLiteral, literal_then, BoundTree, NoBound, AllOf, bound_then, or_literal_then, ClauseTree, Claims, clause_then, ItemTree, InvariantItem, OverItem, AtItem, item_then, depth_then, OutlineTree, Outlined, outline_then, FileTree, file_tokens}
+use Rattle.plc_print.specs.Outlines.{unless_empty}
+use Rattle.plc_print.proofs.NormalTrees.{stays, normal_statement, normal_block, normal_else, normal_or, normal_starts, normal_op, is_invariant, normal_items, normal_depth, normal_outline, normal_file}
 
 -- the word behind which a brace begins no block
 abbrev pub is_atomic : Keyword → Bool
@@ -60,13 +61,34 @@ module _ (K : TokenKind → Type 0) (D : ℕ → Type 0) where
   maybe_kept x_then one None o c r s k h = k h
   maybe_kept x_then one (Some x) o c r s k h = one x o c r s k h
 
+  -- ---- forms without braces, which may be moved
+
+  -- a tree that may stand before whatever is fine
+  abbrev Stands : {X : Type 0} → (X → List TokenKind → List TokenKind) → X → Type 0
+  Stands x_then x = (o c : ℕ) (s : List TokenKind) → Fine o c false s → Fine o c false (x_then x s)
+
+  -- where the first tree stands the second may stand anywhere, and what follows is fine
+  abbrev Moved : {X : Type 0} → (X → List TokenKind → List TokenKind) → X → X → Type 0
+  Moved x_then x y = (o c : ℕ) (r : List TokenKind) → Fine o c false (x_then x r) → Stands x_then y × Fine o c false r
+
+  moved_kept : {X : Type 0} (x_then : X → List TokenKind → List TokenKind) (x y : X) → Moved x_then x y → Kept x_then x y
+  moved_kept x_then x y moved o c r s k h = let a = moved o c r h in a.0 o c s (k a.1)
+
+  each_moved : {X : Type 0} (x_then : X → List TokenKind → List TokenKind) → ((x : X) → Moved x_then x x) → (xs : List X) → Moved (each_then x_then) xs xs
+  each_moved x_then one [] o c r h = (λ p q s k. k, h)
+  each_moved x_then one (x ∷ xs) o c r h = let a = one x o c _ h in let b = each_moved x_then one xs o c r a.1 in (λ p q s k. a.0 p q _ (b.0 p q s k), b.1)
+
+  names_moved : (n : Text) (ns : List Text) → Moved (names_then n) ns ns
+  names_moved n ns o c r h = let a = each_moved comma_name_then (λ m o c r h. (λ p q s k. (h.0, k), h.1)) ns o c r h.1 in (λ p q s k. (h.0, a.0 p q s k), a.1)
+
+  place_moved : (x : PlaceTree) → Moved place_then x x
+  place_moved (PlaceOf n None) o c r h = (λ p q s k. (h.0, k), h.1)
+  place_moved (PlaceOf n (Some f)) o c r h = (λ p q s k. (h.0, (h.1.0, k)), h.1.1)
+
+  place_kept : (x : PlaceTree) → Kept place_then x x
+  place_kept x = moved_kept place_then x x (place_moved x)
+
   -- ---- declarations
-
-  comma_name_kept : (n : Text) → Kept comma_name_then n n
-  comma_name_kept n o c r s k h = (h.0, k h.1)
-
-  names_kept : (n : Text) (ns : List Text) → Kept (names_then n) ns ns
-  names_kept n ns o c r s k h = (h.0, each_kept comma_name_then comma_name_kept ns o c r s k h.1)
 
   field_kept : (f : FieldTree) → Kept field_then f f
   field_kept (PointerField n) o c r s k h = (h.0, k h.1)
@@ -85,13 +107,9 @@ module _ (K : TokenKind → Type 0) (D : ℕ → Type 0) where
 
   ghost_kept : (g : GhostTree) → Kept ghost_then g g
   ghost_kept (Auxiliary n OfThreads) o c r s k h = (h.0, k h.1)
-  ghost_kept (Auxiliary n (OneOf v vs)) o c r s k h = (h.0, in_braces (names_then v) vs vs (names_kept v vs) false o c _ _ k h.1)
+  ghost_kept (Auxiliary n (OneOf v vs)) o c r s k h = (h.0, in_braces (names_then v) vs vs (moved_kept (names_then v) vs vs (names_moved v vs)) false o c _ _ k h.1)
 
   -- ---- forms
-
-  place_kept : (p : PlaceTree) → Kept place_then p p
-  place_kept (PlaceOf n None) o c r s k h = (h.0, k h.1)
-  place_kept (PlaceOf n (Some f)) o c r s k h = (h.0, (h.1.0, k h.1.1))
 
   atom_kept : (a : AtomTree) → Kept atom_then a a
   atom_kept NullAtom o c r s k h = k h
@@ -194,11 +212,84 @@ module _ (K : TokenKind → Type 0) (D : ℕ → Type 0) where
     or_kept NoOr o c r s k h = k h
     or_kept (OrBlock b os) o c r s k h = in_braces statements_then b (normal_block b) (block_kept b) false o c _ _ (λ g. or_kept os o c r s k g) h
 
+  -- ---- the outline
+
+  term_moved : (t : TermTree) → Moved term_then t t
+  term_moved (PlaceTerm x) o c r h = place_moved x o c r h
+  term_moved NullTerm o c r h = (λ p q s k. k, h)
+  term_moved (NumberTerm n) o c r h = (λ p q s k. (h.0, k), h.1)
+  term_moved MeTerm o c r h = (λ p q s k. k, h)
+  term_moved NoneTerm o c r h = (λ p q s k. k, h)
+
+  literal_moved : (l : LiteralTree) → Moved literal_then l l
+  literal_moved (FlagLiteral (RetiredFlag n)) o c r h = (λ p q s k. (h.0, k), h.1)
+  literal_moved (NotLiteral (RetiredFlag n)) o c r h = (λ p q s k. (h.0, k), h.1)
+  literal_moved (EqualityLiteral a true b) o c r h = let x = term_moved a o c _ h in let y = term_moved b o c r x.1 in (λ p q s k. x.0 p q _ (y.0 p q s k), y.1)
+  literal_moved (EqualityLiteral a false b) o c r h = let x = term_moved a o c _ h in let y = term_moved b o c r x.1 in (λ p q s k. x.0 p q _ (y.0 p q s k), y.1)
+
+  bound_moved : (b : BoundTree) → Moved bound_then b b
+  bound_moved NoBound o c r h = (λ p q s k. k, h)
+  bound_moved (AllOf n None) o c r h = (λ p q s k. (h.0, k), h.1)
+  bound_moved (AllOf n (Some m)) o c r h = (λ p q s k. (h.0, (h.1.0, k)), h.1.1)
+
+  clause_moved : (x : ClauseTree) → Moved clause_then x x
+  clause_moved (Claims b l ls) o c r h =
+      let x = bound_moved b o c _ h in
+      let y = literal_moved l o c _ x.1 in
+      let z = each_moved or_literal_then literal_moved ls o c r y.1 in
+      (λ p q s k. x.0 p q _ (y.0 p q _ (z.0 p q s k)), z.1)
+
+  item_moved : (x : ItemTree) → Moved item_then x x
+  item_moved (InvariantItem x) o c r h = let a = clause_moved x o c _ h in (λ p q s k. a.0 p q _ k, a.1)
+  item_moved (OverItem n x) o c r h = let a = clause_moved x o c _ h.1 in (λ p q s k. (h.0, a.0 p q _ k), a.1)
+  item_moved (AtItem n ns x) o c r h = let a = names_moved n ns o c _ h in let b = clause_moved x o c _ a.1 in (λ p q s k. a.0 p q _ (b.0 p q _ k), b.1)
+
+  -- an item that is chosen, or is not
+  chosen : (b : Bool) (x : ItemTree) (xs : List ItemTree) → Stands item_then x → Stands (each_then item_then) xs → Stands (each_then item_then) (cond b (x ∷ xs) xs)
+  chosen true x xs one others o c s k = one o c (each_then item_then xs s) (others o c s k)
+  chosen false x xs one others o c s k = others o c s k
+
+  chosen_moved : (f : ItemTree → Bool) (xs : List ItemTree) → Moved (each_then item_then) xs (filter f xs)
+  chosen_moved f [] o c r h = (λ p q s k. k, h)
+  chosen_moved f (x ∷ xs) o c r h = let a = item_moved x o c _ h in let b = chosen_moved f xs o c r a.1 in (chosen (f x) x (filter f xs) a.0 b.0, b.1)
+
+  -- items behind items
+  joined : (xs ys : List ItemTree) (s : List TokenKind) → each_then item_then xs (each_then item_then ys s) ≡ each_then item_then (xs ++ ys) s
+  joined [] ys s = refl
+  joined (x ∷ xs) ys s = ap (item_then x) (joined xs ys s)
+
+  items_moved : (xs : List ItemTree) → Moved (each_then item_then) xs (normal_items xs)
+  items_moved xs o c r h =
+      let invariants = filter is_invariant xs in
+      let others = filter (λ (x : ItemTree). not (is_invariant x)) xs in
+      let a = chosen_moved is_invariant xs o c r h in
+      let b = chosen_moved (λ (x : ItemTree). not (is_invariant x)) xs o c r h in
+      (λ p q s k. subst (Fine p q false) (joined invariants others s) (a.0 p q (each_then item_then others s) (b.0 p q s k)), b.1)
+
+  depth_moved : (d : Option ℕ) → Moved (maybe_then depth_then) d (normal_depth d)
+  depth_moved None o c r h = (λ p q s k. k, h)
+  depth_moved (Some zero) o c r h = (λ p q s k. k, h.1)
+  depth_moved (Some (suc n)) o c r h = (λ p q s k. (h.0, k), h.1)
+
+  -- it may be left out where what follows is fine
+  unless_empty_fine : (d : Option ℕ) (xs : List ItemTree) (o c : ℕ) (s : List TokenKind) → Fine o c false s → Fine o c false (outline_then (Outlined d xs) s) → Fine o c false (maybe_then outline_then (unless_empty d xs) s)
+  unless_empty_fine None [] o c s without with_it = without
+  unless_empty_fine None (x ∷ xs) o c s without with_it = with_it
+  unless_empty_fine (Some d) xs o c s without with_it = with_it
+
+  outline_kept : (x : Option OutlineTree) → Kept (maybe_then outline_then) x (normal_outline x)
+  outline_kept None o c r s k h = k h
+  outline_kept (Some (Outlined d xs)) o c r s k h =
+      let a = depth_moved d (suc o) c _ h.1 in
+      let b = items_moved xs (suc o) c (Symbol CloseBrace ∷ r) a.1 in
+      let behind : Fine o c false s = k (down o c false r b.1) in
+      unless_empty_fine (normal_depth d) (normal_items xs) o c s behind (h.0, a.0 (suc o) c _ (b.0 (suc o) c (Symbol CloseBrace ∷ s) (up o c false s behind)))
+
   -- ---- the file
 
   parameters_kept : (ps : List Text) → Kept parameters_then ps ps
   parameters_kept [] o c r s k h = k h
-  parameters_kept (n ∷ ns) o c r s k h = names_kept n ns o c r s k h
+  parameters_kept (n ∷ ns) o c r s k h = moved_kept (names_then n) ns ns (names_moved n ns) o c r s k h
 
   op_kept : (x : OpTree) → Kept op_then x (normal_op x)
   op_kept (Operates n ps ls b) o c r s k h = (
@@ -225,5 +316,6 @@ module _ (K : TokenKind → Type 0) (D : ℕ → Type 0) where
         maybe_kept watch_then watch_kept f.watched 0 0 _ _ (λ w.
         each_kept ghost_then ghost_kept f.ghosts 0 0 _ _ (λ g.
         starts_kept f.starts 0 0 _ _ (λ i.
-        ops_kept f.ops 0 0 _ _ (λ o. tt) i) g) w) d) b) a) h.1,
+        ops_kept f.ops 0 0 _ _ (λ o.
+        outline_kept f.outlined 0 0 [] [] (λ e. tt) o) i) g) w) d) b) a) h.1,
   )

@@ -5,14 +5,16 @@ pub mod KeptTokens
 pub mod Left
 pub mod Lexing
 pub mod NormalTrees
+pub mod OutlineLines
 pub mod Parts
 pub mod ReadBack
-pub mod Sizes
+pub mod SpelledClauses
 pub mod SpelledDeclarations
 pub mod SpelledFiles
 pub mod SpelledForms
 pub mod SpelledNames
 pub mod SpelledOperations
+pub mod SpelledOutlines
 pub mod SpelledPrimitives
 pub mod SpelledStatements
 pub mod Steps

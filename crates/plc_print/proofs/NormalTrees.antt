@@ -1,6 +1,8 @@
--- The tree of a file's canonical text: as the file's own, but that `skip` in an atomic block, an `else` without statements, an `init` without primitives and the outline are left out.
-use Rattle.std.proofs.Common.{Bool, true, false, Option, Some, None, List, [], ◌∷◌, map, filter}
-use Rattle.plc_syntax.specs.Trees.{InitialTree, PrimitiveTree, SkipPrimitive, StatementTree, PrimitiveStatement, AtomicStatement, CallStatement, IfStatement, ChooseStatement, LoopStatement, BreakStatement, ReturnStatement, LabelStatement, BlockTree, NoStatement, Then, ElseTree, NoElse, ElseBlock, OrTree, NoOr, OrBlock, OpTree, Operates, FileTree}
+-- The tree of a file's canonical text: as the file's own, but that `skip` in an atomic block, an `else` without statements, an `init` without primitives, a depth of 0
+-- and an outline of depth 0 without items are left out, and that invariants go before the other items of an outline.
+use Rattle.std.proofs.Common.{ℕ, zero, suc, Bool, true, false, not, Option, Some, None, List, [], ◌∷◌, ◌++◌, map, filter}
+use Rattle.plc_syntax.specs.Trees.{InitialTree, PrimitiveTree, SkipPrimitive, StatementTree, PrimitiveStatement, AtomicStatement, CallStatement, IfStatement, ChooseStatement, LoopStatement, BreakStatement, ReturnStatement, LabelStatement, BlockTree, NoStatement, Then, ElseTree, NoElse, ElseBlock, OrTree, NoOr, OrBlock, OpTree, Operates, ItemTree, InvariantItem, OutlineTree, Outlined, FileTree}
+use Rattle.plc_print.specs.Outlines.{unless_empty}
 
 -- `skip` is no primitive of an atomic block
 abbrev pub stays : PrimitiveTree → Bool
@@ -41,5 +43,25 @@ normal_starts (Some (i ∷ is)) = Some (i ∷ is)
 abbrev pub normal_op : OpTree → OpTree
 normal_op (Operates n ps ls b) = Operates n ps ls (normal_block b)
 
+-- an item that is an invariant
+abbrev pub is_invariant : ItemTree → Bool
+is_invariant (InvariantItem c) = true
+is_invariant _ = false
+
+-- invariants first, each kind in its own order
+abbrev pub normal_items : List ItemTree → List ItemTree
+normal_items xs = filter is_invariant xs ++ filter (λ x. not (is_invariant x)) xs
+
+-- a depth of 0
+abbrev pub normal_depth : Option ℕ → Option ℕ
+normal_depth None = None
+normal_depth (Some zero) = None
+normal_depth (Some (suc n)) = Some (suc n)
+
+-- an outline of depth 0 without items
+abbrev pub normal_outline : Option OutlineTree → Option OutlineTree
+normal_outline None = None
+normal_outline (Some (Outlined d xs)) = unless_empty (normal_depth d) (normal_items xs)
+
 abbrev pub normal_file : FileTree → FileTree
-normal_file f = record f { starts = normal_starts f.starts; ops = map normal_op f.ops; outlined = None }
+normal_file f = record f { starts = normal_starts f.starts; ops = map normal_op f.ops; outlined = normal_outline f.outlined }

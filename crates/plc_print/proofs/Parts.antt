@@ -2,9 +2,9 @@
 use Rattle.std.proofs.Common.{◌≡◌, ◌++◌, ◌∷◌, [], List, Option, Some, None, Bool, true, false, ℕ, refl, ap, sym, ◌∙◌, append_assoc}
 use Rattle.plc_lex.specs.declared.token.TokenKind.{TokenKind}
 use Rattle.plc_lex.specs.declared.token.TokenKind.TheVariants.{Word, Name, Symbol}
-use Rattle.plc_lex.specs.declared.token.Keyword.TheVariants.{Struct, Ghost, Init, Op, Atomic, If, Else, Loop, Choose, Or, Active, Cas}
-use Rattle.plc_lex.specs.declared.token.Symbol.TheVariants.{OpenBrace, CloseBrace, OpenParen, CloseParen, Semicolon, Comma}
-use Rattle.plc_syntax.specs.Trees.{each_then, maybe_then, word_if_then, comma_name_then, FieldTree, PointerField, DataField, field_then, struct_then, shared_then, FunctionTree, Declares, function_then, WatchTree, UseHazard, UseEpoch, watch_then, GhostKindTree, OneOf, OfThreads, ghost_kind_then, GhostTree, Auxiliary, ghost_then, Text, PlaceTree, PlaceOf, place_then, AtomTree, NullAtom, NumberAtom, NameAtom, atom_then, ValueTree, NullValue, NewValue, NumberValue, PlaceValue, value_then, SetTree, SetName, SetField, set_then, RefreshTree, RefreshName, RefreshField, refresh_then, GhostValueTree, NameGhost, MeGhost, NoneGhost, ghost_value_then, GhostSetTree, SetGhost, ghost_set_then, InitialTree, InitialSet, InitialGhost, initial_then, init_then, TestTree, Compares, test_then, name_or_null_then, ConditionTree, TestCondition, RefreshCondition, CasCondition, condition_then, PrimitiveTree, SetPrimitive, RefreshPrimitive, GhostPrimitive, ActivePrimitive, AssumePrimitive, SkipPrimitive, primitive_then, primitive_line_then, ArgumentTree, NoArgument, NullArgument, NameArgument, ActiveArgument, argument_then, during_then, StatementTree, PrimitiveStatement, AtomicStatement, CallStatement, IfStatement, ChooseStatement, LoopStatement, BreakStatement, ReturnStatement, LabelStatement, BlockTree, NoStatement, Then as ThenStatement, ElseTree, NoElse, ElseBlock, OrTree, NoOr, OrBlock, statement_then, statements_then, else_then, or_then, parameters_then, OpTree, Operates, op_then}
+use Rattle.plc_lex.specs.declared.token.Keyword.TheVariants.{Struct, Ghost, Init, Op, Atomic, If, Else, Loop, Choose, Or, Active, Cas, Inv, Over, At, Not}
+use Rattle.plc_lex.specs.declared.token.Symbol.TheVariants.{OpenBrace, CloseBrace, OpenParen, CloseParen, Semicolon, Comma, Colon}
+use Rattle.plc_syntax.specs.Trees.{each_then, maybe_then, word_if_then, comma_name_then, FieldTree, PointerField, DataField, field_then, struct_then, shared_then, FunctionTree, Declares, function_then, WatchTree, UseHazard, UseEpoch, watch_then, GhostKindTree, OneOf, OfThreads, ghost_kind_then, GhostTree, Auxiliary, ghost_then, Text, PlaceTree, PlaceOf, place_then, AtomTree, NullAtom, NumberAtom, NameAtom, atom_then, ValueTree, NullValue, NewValue, NumberValue, PlaceValue, value_then, SetTree, SetName, SetField, set_then, RefreshTree, RefreshName, RefreshField, refresh_then, GhostValueTree, NameGhost, MeGhost, NoneGhost, ghost_value_then, GhostSetTree, SetGhost, ghost_set_then, InitialTree, InitialSet, InitialGhost, initial_then, init_then, TestTree, Compares, test_then, name_or_null_then, ConditionTree, TestCondition, RefreshCondition, CasCondition, condition_then, PrimitiveTree, SetPrimitive, RefreshPrimitive, GhostPrimitive, ActivePrimitive, AssumePrimitive, SkipPrimitive, primitive_then, primitive_line_then, ArgumentTree, NoArgument, NullArgument, NameArgument, ActiveArgument, argument_then, during_then, StatementTree, PrimitiveStatement, AtomicStatement, CallStatement, IfStatement, ChooseStatement, LoopStatement, BreakStatement, ReturnStatement, LabelStatement, BlockTree, NoStatement, Then as ThenStatement, ElseTree, NoElse, ElseBlock, OrTree, NoOr, OrBlock, statement_then, statements_then, else_then, or_then, parameters_then, OpTree, Operates, op_then, TermTree, PlaceTerm, NullTerm, NumberTerm, MeTerm, NoneTerm, term_then, FlagTree, RetiredFlag, flag_then, equality_symbol, LiteralTree, FlagLiteral, NotLiteral, EqualityLiteral, literal_then, or_literal_then, BoundTree, NoBound, AllOf, bound_then, ClauseTree, Claims, clause_then, ItemTree, InvariantItem, OverItem, AtItem, item_then, depth_then}
 use Rattle.plc_print.specs.Text.{token_text, behind, text_of}
 
 -- what a form adds stands before what is behind it
@@ -82,6 +82,11 @@ before form t f = leads_then form (λ rest. t ∷ rest) f (λ rest. refl)
 pub each_leads : {A : Type 0} → (x_then : A → List TokenKind → List TokenKind) → ((x : A) → Leads (x_then x)) → (xs : List A) → Leads (each_then x_then xs)
 each_leads x_then f [] rest = refl
 each_leads x_then f (x ∷ xs) rest = leads_then (x_then x) (each_then x_then xs) (f x) (each_leads x_then f xs) rest
+
+-- items one behind the other
+pub each_then_both : {A : Type 0} → (x_then : A → List TokenKind → List TokenKind) (xs ys : List A) (rest : List TokenKind) → each_then x_then (xs ++ ys) rest ≡ each_then x_then xs (each_then x_then ys rest)
+each_then_both x_then [] ys rest = refl
+each_then_both x_then (x ∷ xs) ys rest = ap (x_then x) (each_then_both x_then xs ys rest)
 
 pub maybe_leads : {A : Type 0} → (x_then : A → List TokenKind → List TokenKind) → ((x : A) → Leads (x_then x)) → (x : Option A) → Leads (maybe_then x_then x)
 maybe_leads x_then f None rest = refl
@@ -226,3 +231,53 @@ pub op_leads : (o : OpTree) → Leads (op_then o)
 op_leads (Operates n ps locals b) rest =
     ap (λ ts. Word Op ∷ Name n ∷ Symbol OpenParen ∷ ts) (leads_then (parameters_then ps) (λ r. Symbol CloseParen ∷ Symbol OpenBrace ∷ each_then field_then locals (statements_then b (Symbol CloseBrace ∷ r))) (parameters_leads ps)
     (λ r. ap (λ ts. Symbol CloseParen ∷ Symbol OpenBrace ∷ ts) (leads_then (each_then field_then locals) (λ q. statements_then b (Symbol CloseBrace ∷ q)) (fields_leads locals) (before (statements_then b) (Symbol CloseBrace) (statements_leads b)) r)) rest)
+
+-- ---- outlines
+
+pub term_leads : (t : TermTree) → Leads (term_then t)
+term_leads (PlaceTerm p) rest = place_leads p rest
+term_leads NullTerm rest = refl
+term_leads (NumberTerm n) rest = refl
+term_leads MeTerm rest = refl
+term_leads NoneTerm rest = refl
+
+pub flag_leads : (f : FlagTree) → Leads (flag_then f)
+flag_leads (RetiredFlag n) rest = refl
+
+pub literal_leads : (l : LiteralTree) → Leads (literal_then l)
+literal_leads (FlagLiteral f) rest = flag_leads f rest
+literal_leads (NotLiteral f) rest = ap (λ ts. Word Not ∷ ts) (flag_leads f rest)
+literal_leads (EqualityLiteral a is_equal b) rest =
+    leads_then (term_then a) (λ r. Symbol (equality_symbol is_equal) ∷ term_then b r) (term_leads a) (λ r. ap (λ ts. Symbol (equality_symbol is_equal) ∷ ts) (term_leads b r)) rest
+
+pub or_literal_leads : (l : LiteralTree) → Leads (or_literal_then l)
+or_literal_leads l rest = ap (λ ts. Word Or ∷ ts) (literal_leads l rest)
+
+pub or_literals_leads : (ls : List LiteralTree) → Leads (each_then or_literal_then ls)
+or_literals_leads = each_leads or_literal_then or_literal_leads
+
+pub bound_leads : (b : BoundTree) → Leads (bound_then b)
+bound_leads NoBound rest = refl
+bound_leads (AllOf n None) rest = refl
+bound_leads (AllOf n (Some m)) rest = refl
+
+pub clause_leads : (c : ClauseTree) → Leads (clause_then c)
+clause_leads (Claims b l ls) rest =
+    leads_then (bound_then b) (λ r. literal_then l (each_then or_literal_then ls r)) (bound_leads b) (leads_then (literal_then l) (each_then or_literal_then ls) (literal_leads l) (or_literals_leads ls)) rest
+
+-- a clause with its semicolon
+clause_line_leads : (c : ClauseTree) → Leads (λ rest. clause_then c (Symbol Semicolon ∷ rest))
+clause_line_leads c = before (clause_then c) (Symbol Semicolon) (clause_leads c)
+
+pub item_leads : (i : ItemTree) → Leads (item_then i)
+item_leads (InvariantItem c) rest = ap (λ ts. Word Inv ∷ ts) (clause_line_leads c rest)
+item_leads (OverItem n c) rest = ap (λ ts. Word Over ∷ Name n ∷ Symbol Colon ∷ ts) (clause_line_leads c rest)
+item_leads (AtItem n ns c) rest =
+    ap (λ ts. Word At ∷ Name n ∷ ts) (leads_then (each_then comma_name_then ns) (λ r. Symbol Colon ∷ clause_then c (Symbol Semicolon ∷ r)) (comma_names_leads ns) (λ r. ap (λ ts. Symbol Colon ∷ ts) (clause_line_leads c r)) rest)
+
+pub items_leads : (is : List ItemTree) → Leads (each_then item_then is)
+items_leads = each_leads item_then item_leads
+
+pub depth_leads : (d : Option ℕ) → Leads (maybe_then depth_then d)
+depth_leads None rest = refl
+depth_leads (Some d) rest = refl

@@ -1,5 +1,5 @@
 -- A unit that was read from a text is read again from its canonical text, if the text of tokens spells those tokens.
-use Rattle.std.proofs.Common.{◌≡◌, ℕ, List, length, Ok, refl, sym, ap, ◌∙◌, subst, arith}
+use Rattle.std.proofs.Common.{◌≡◌, ℕ, List, length, Ok, sym, ap, ◌∙◌, subst, arith}
 use Rattle.std.specs.List.{AllByRecursion}
 use Rattle.std.proofs.lemmas.List.Elements.{recursion_from_All, All-map, All-weaker}
 use Rattle.plc_lex.specs.declared.token.Token.{Token}
@@ -43,4 +43,4 @@ texts_read_back lexed text ts u s read short =
     let there = lexed (file_tokens (canonical_tree u)) canonical in
     let again = means_again (lines_of ts) (lines_of there.0) f u read.means.is in
     let shallow = shallow_again (lines_of ts) f u read.means.is (subst NoneTooDeep (sym read.means.tokens) read.shallow) in
-    (there.0, again.0, there.1, record { shallow = subst NoneTooDeep (sym there.2) shallow; means = record { tree = canonical_tree u; tokens = sym there.2; no_outline = refl; is = again.1 } }, again.2)
+    (there.0, again.0, there.1, record { shallow = subst NoneTooDeep (sym there.2) shallow; means = record { tree = canonical_tree u; tokens = sym there.2; is = again.1 } }, again.2)

@@ -10,9 +10,10 @@ use Rattle.plc_scope.specs.declared.scope.Scope.{Scope}
 use Rattle.plc_scope.specs.declared.binding.Binding.TheVariants.{Shared, PointerField, DataField, Function, Auxiliary, Value}
 use Rattle.plc_scope.specs.Scope.{declared}
 use Rattle.plc_parse.specs.Meaning.{field_means, shared_means, function_means, value_means, values_mean, ghost_means, listed}
-use Rattle.plc_parse.proofs.Holds.{Has}
-use Rattle.plc_print.specs.Canonical.{name_at, declaration_tree, ghost_kind, values_of}
-use Rattle.plc_print.proofs.Steps.{next, limited, Found}
+use Rattle.plc_scope.proofs.Holds.{Has, next, unless}
+use Rattle.plc_print.specs.Canonical.{declaration_tree, ghost_kind}
+use Rattle.plc_lang.specs.Names.{name_at, values_of}
+use Rattle.plc_print.proofs.Steps.{Found}
 use Rattle.plc_print.proofs.SpelledNames.{Ends, onward}
 use Rattle.plc_print.proofs.GrowingScopes.{Goes, goes_nowhere, goes_on, ends_before, Declares, declared_found, goes_by, declared_name}
 
@@ -72,13 +73,13 @@ module _ (file : File) where
   OneField = OneRead file FieldTree Field field_means field_spelled FieldThere
 
   pub field_found : (s : Scope) (n at : ℕ) (f : FieldTree) → Has (OneField s n f) (field_means s n at f)
-  field_found s n at (PointerFieldTree name) = limited (OneField s n (PointerFieldTree name)) (n == 8) _ _ (λ less.
+  field_found s n at (PointerFieldTree name) = unless (OneField s n (PointerFieldTree name)) (n == 8) _ _ (λ less.
       next (Found (Declares file name (PointerField (record { 0 = n })) s) (λ a. declared s name a (PointerField (record { 0 = n })))) _ (declared s name (at + 1) (PointerField (record { 0 = n }))) _ (declared_found file s name (at + 1) (PointerField (record { 0 = n }))) (λ t d there. record {
         goes = goes_by file s t name (PointerField (record { 0 = n })) d.named (λ b. ap (option_map (λ (x : Field). x.name)) there);
         locals = d.named.locals;
         tree = λ e. ap PointerFieldTree (declared_name file s t name (PointerField (record { 0 = n })) d.named e);
       }))
-  field_found s n at (DataFieldTree name) = limited (OneField s n (DataFieldTree name)) (n == 8) _ _ (λ less.
+  field_found s n at (DataFieldTree name) = unless (OneField s n (DataFieldTree name)) (n == 8) _ _ (λ less.
       next (Found (Declares file name (DataField (record { 0 = n })) s) (λ a. declared s name a (DataField (record { 0 = n })))) _ (declared s name (at + 1) (DataField (record { 0 = n }))) _ (declared_found file s name (at + 1) (DataField (record { 0 = n }))) (λ t d there. record {
         goes = goes_by file s t name (DataField (record { 0 = n })) d.named (λ b. ap (option_map (λ (x : Field). x.name)) there);
         locals = d.named.locals;
@@ -92,7 +93,7 @@ module _ (file : File) where
   OneShared = OneRead file Text ℕ shared_means (name_at file) SharedThere
 
   pub shared_found : (s : Scope) (n at : ℕ) (name : Text) → Has (OneShared s n name) (shared_means s n at name)
-  shared_found s n at name = limited (OneShared s n name) (n == 16) _ _ (λ less.
+  shared_found s n at name = unless (OneShared s n name) (n == 16) _ _ (λ less.
       next (Found (Declares file name (Shared n) s) (λ a. declared s name a (Shared n))) _ (declared s name (at + 1) (Shared n)) _ (declared_found file s name (at + 1) (Shared n)) (λ t d there. record {
         goes = goes_by file s t name (Shared n) d.named (λ b. there);
         locals = d.named.locals;
@@ -110,7 +111,7 @@ module _ (file : File) where
   OneFunction = OneRead file FunctionTree Func function_means function_spelled FunctionThere
 
   pub function_declared : (s : Scope) (n at : ℕ) (f : FunctionTree) → Has (OneFunction s n f) (function_means s n at f)
-  function_declared s n at (FunctionDeclares name p) = limited (OneFunction s n (FunctionDeclares name p)) (n == 16) _ _ (λ less.
+  function_declared s n at (FunctionDeclares name p) = unless (OneFunction s n (FunctionDeclares name p)) (n == 16) _ _ (λ less.
       next (Found (Declares file name (Function (record { 0 = n + 1 }) p) s) (λ a. declared s name a (Function (record { 0 = n + 1 }) p))) _ (declared s name (at + 1) (Function (record { 0 = n + 1 }) p)) _ (declared_found file s name (at + 1) (Function (record { 0 = n + 1 }) p)) (λ t d there. record {
         goes = goes_by file s t name (Function (record { 0 = n + 1 }) p) d.named (λ b. ap (option_map (λ (x : Func). x.name)) there);
         locals = d.named.locals;
@@ -128,7 +129,7 @@ module _ (file : File) where
   value_declared : (s : Scope) (g k at : ℕ) (name : Text) → Has (OneValue s g k name) (value_means s g k at name)
   value_declared s g k at name =
       next (Found (Declares file name (Value g k) s) (λ a. declared s name a (Value g k))) (OneValue s g k name) (declared s name at (Value g k)) _ (declared_found file s name at (Value g k)) (λ t d.
-      limited (OneValue s g k name) (k == 16) _ _ (λ less there. record { goes = goes_by file s t name (Value g k) d.named (λ b. there); locals = d.named.locals; tree = λ e. declared_name file s t name (Value g k) d.named e }))
+      unless (OneValue s g k name) (k == 16) _ _ (λ less there. record { goes = goes_by file s t name (Value g k) d.named (λ b. there); locals = d.named.locals; tree = λ e. declared_name file s t name (Value g k) d.named e }))
 
   abbrev ManyValues : Scope → ℕ → ℕ → List Text → List ℕ × Scope × ℕ → Type 0
   ManyValues s g k names r = AllThere (ValueThere g) k r.0 → Spelled file (map (name_at file)) s names r.0 r.1
@@ -150,13 +151,13 @@ module _ (file : File) where
   OneGhost = OneRead file GhostTree Ghost ghost_means ghost_spelled GhostThere
 
   pub ghost_declared : (s : Scope) (n at : ℕ) (g : GhostTree) → Has (OneGhost s n g) (ghost_means s n at g)
-  ghost_declared s n at (AuxiliaryTree name OfThreads) = limited (OneGhost s n (AuxiliaryTree name OfThreads)) (n == 4) _ _ (λ less.
+  ghost_declared s n at (AuxiliaryTree name OfThreads) = unless (OneGhost s n (AuxiliaryTree name OfThreads)) (n == 4) _ _ (λ less.
       next (Found (Declares file name (Auxiliary n true) s) (λ a. declared s name a (Auxiliary n true))) _ (declared s name (at + 1) (Auxiliary n true)) _ (declared_found file s name (at + 1) (Auxiliary n true)) (λ t d there. record {
         goes = goes_by file s t name (Auxiliary n true) d.named (λ b. ap (option_map (λ (x : Ghost). x.name)) there);
         locals = d.named.locals;
         tree = λ e. ap (λ m. AuxiliaryTree m OfThreads) (declared_name file s t name (Auxiliary n true) d.named e);
       }))
-  ghost_declared s n at (AuxiliaryTree name (OneOf v vs)) = limited (OneGhost s n (AuxiliaryTree name (OneOf v vs))) (n == 4) _ _ (λ less.
+  ghost_declared s n at (AuxiliaryTree name (OneOf v vs)) = unless (OneGhost s n (AuxiliaryTree name (OneOf v vs))) (n == 4) _ _ (λ less.
       next (Found (Declares file name (Auxiliary n false) s) (λ a. declared s name a (Auxiliary n false))) _ (declared s name (at + 1) (Auxiliary n false)) _ (declared_found file s name (at + 1) (Auxiliary n false)) (λ t d.
       next (OneValue t n 0 v) _ (value_means t n 0 (at + 3) v) _ (value_declared t n 0 (at + 3) v) (λ first f.
       next (ManyValues first.1 n 1 vs) _ (values_mean first.1 n 1 (at + 4) vs) _ (values_declared first.1 n 1 (at + 4) vs) (λ others h there.

@@ -7,7 +7,7 @@ use Rattle.plc_lang.specs.declared.syntax.Func.{Func}
 use Rattle.plc_lang.specs.declared.syntax.Ghost.{Ghost}
 use Rattle.plc_lang.specs.declared.syntax.Op.{Op}
 use Rattle.plc_lang.specs.declared.syntax.Primitive.{Primitive}
-use Rattle.plc_syntax.specs.Trees.{Text, FieldTree, FunctionTree, WatchTree, UseHazard, UseEpoch, GhostTree, InitialTree, OpTree, FileTree}
+use Rattle.plc_syntax.specs.Trees.{Text, FieldTree, FunctionTree, WatchTree, UseHazard, UseEpoch, GhostTree, InitialTree, OpTree, OutlineTree, FileTree}
 use Rattle.plc_forms.specs.Sizes.{initial_size, watch_size}
 use Rattle.plc_scope.specs.declared.fault.ParseFault.{ParseFault}
 use Rattle.plc_scope.specs.declared.scope.Scope.{Scope}
@@ -15,19 +15,23 @@ use Rattle.plc_scope.specs.declared.binding.Binding.{Binding}
 use Rattle.plc_scope.specs.declared.binding.Binding.TheVariants.{Taken, Function}
 use Rattle.plc_scope.specs.Scope.{◌>>=◌, first_scope, declared, protecting_at, without_pointer_at}
 use Rattle.plc_scope.specs.Primitives.{initial_means}
+use Rattle.plc_logic.specs.declared.clause.Outline.{Outline}
 use Rattle.plc_parse.specs.declared.unit.Unit.{Unit as FileUnit}
-use Rattle.plc_parse.specs.Meaning.{listed, field_means, shared_means, function_means, ghost_means, watch_means, initials_mean, init_means, op_means, retire, file_means}
-use Rattle.plc_parse.proofs.Holds.{Has, has_along}
-use Rattle.plc_print.specs.Canonical.{name_at, watch_tree, initial_tree, init_tree, canonical_tree}
+use Rattle.plc_parse.specs.Meaning.{listed, field_means, shared_means, function_means, ghost_means, watch_means, initials_mean, init_means, op_means, outlined_means, retire, file_means}
+use Rattle.plc_scope.proofs.Holds.{Has, has_along, next}
+use Rattle.plc_print.specs.Canonical.{watch_tree, initial_tree, init_tree, canonical_tree}
+use Rattle.plc_lang.specs.Names.{name_at}
 use Rattle.plc_print.specs.Laws.{op_without_lines, SameUpToLines}
-use Rattle.plc_print.proofs.NormalTrees.{normal_starts, normal_op, normal_file}
-use Rattle.plc_print.proofs.Steps.{next, behind}
+use Rattle.plc_print.proofs.NormalTrees.{normal_starts, normal_op, normal_outline, normal_file}
+use Rattle.plc_print.proofs.Steps.{behind}
 use Rattle.plc_print.proofs.SpelledNames.{Bound, IsBound, Ends, number_named, protecting_found, without_pointer_found}
 use Rattle.plc_print.proofs.SpelledPrimitives.{IsInitial, initial_found}
 use Rattle.plc_print.proofs.GrowingScopes.{ends_before, declared_found}
 use Rattle.plc_print.proofs.SpelledForms.{FormsRead, forms_found}
 use Rattle.plc_print.proofs.SpelledDeclarations.{listed_found, FieldThere, field_spelled, field_found, SharedThere, shared_found, FunctionThere, function_spelled, function_declared, GhostThere, ghost_spelled, ghost_declared}
 use Rattle.plc_print.proofs.SpelledOperations.{ops_found}
+use Rattle.plc_print.proofs.SpelledOutlines.{OutlineRead, outline_found}
+use Rattle.plc_print.proofs.OutlineLines.{same_outline}
 
 -- where an answer comes of two steps, the first has one
 inverted : {A B C : Type 0} (r : Result A ParseFault) (f : A → Result B ParseFault) (y : B) → (r >>= f) ≡ Ok y → ((x : A) → r ≡ Ok x → f x ≡ Ok y → C) → C
@@ -92,21 +96,23 @@ at_start ys k y e = let same : 0 + k ≡ k = omega arith in ap (slice_get ys) sa
 behind_retire : (ys : List Func) (k : ℕ) (y : Func) → slice_get ys k ≡ Some y → slice_get (retire ∷ ys) (0 + k + 1) ≡ Some y
 behind_retire ys k y e = let same : 0 + k + 1 ≡ suc k = omega arith in ap (slice_get (retire ∷ ys)) same ∙ e
 
-same_tree : (n n' : Text) (a a' : List FieldTree) (b b' : List Text) (c c' : List FunctionTree) (d d' : Option WatchTree) (g g' : List GhostTree) (i i' : Option (List InitialTree)) (o o' : List OpTree)
-    → n ≡ n' → a ≡ a' → b ≡ b' → c ≡ c' → d ≡ d' → g ≡ g' → i ≡ i' → o ≡ o'
-    → ◌≡◌ {A = FileTree} (record { name = n; fields = a; pointers = b; functions = c; watched = d; ghosts = g; starts = i; ops = o; outlined = None }) (record { name = n'; fields = a'; pointers = b'; functions = c'; watched = d'; ghosts = g'; starts = i'; ops = o'; outlined = None })
-same_tree n n' a a' b b' c c' d d' g g' i i' o o' p1 p2 p3 p4 p5 p6 p7 p8 = rw (p1, p2, p3, p4, p5, p6, p7, p8) refl
+same_tree : (n n' : Text) (a a' : List FieldTree) (b b' : List Text) (c c' : List FunctionTree) (d d' : Option WatchTree) (g g' : List GhostTree) (i i' : Option (List InitialTree)) (o o' : List OpTree) (l l' : Option OutlineTree)
+    → n ≡ n' → a ≡ a' → b ≡ b' → c ≡ c' → d ≡ d' → g ≡ g' → i ≡ i' → o ≡ o' → l ≡ l'
+    → ◌≡◌ {A = FileTree} (record { name = n; fields = a; pointers = b; functions = c; watched = d; ghosts = g; starts = i; ops = o; outlined = l }) (record { name = n'; fields = a'; pointers = b'; functions = c'; watched = d'; ghosts = g'; starts = i'; ops = o'; outlined = l' })
+same_tree n n' a a' b b' c c' d d' g g' i i' o o' l l' p1 p2 p3 p4 p5 p6 p7 p8 p9 = rw (p1, p2, p3, p4, p5, p6, p7, p8, p9) refl
 
 module _ (lines : List ℕ) (f : FileTree) (s : Scope) (fields : List Field × Scope × ℕ) (pointers : List ℕ × Scope × ℕ) (functions : List Func × Scope × ℕ) (observer : Observer × ℕ)
-    (ghosts : List Ghost × Scope × ℕ) (starts : List Primitive × ℕ) (ops : List Op × Scope × ℕ)
+    (ghosts : List Ghost × Scope × ℕ) (starts : List Primitive × ℕ) (ops : List Op × Scope × ℕ) (outline : Outline)
     (to_s : declared first_scope f.name 1 Taken ≡ Ok s) (to_fields : listed field_means s 0 3 f.fields ≡ Ok fields) (to_pointers : listed shared_means fields.1 0 (fields.2 + 1) f.pointers ≡ Ok pointers)
     (to_functions : listed function_means pointers.1 0 pointers.2 f.functions ≡ Ok functions) (to_observer : watch_means functions.1 functions.2 f.watched ≡ Ok observer)
-    (to_ghosts : listed ghost_means functions.1 0 observer.1 f.ghosts ≡ Ok ghosts) (to_starts : init_means ghosts.1 ghosts.2 f.starts ≡ Ok starts) (to_ops : listed (op_means lines) ghosts.1 0 starts.1 f.ops ≡ Ok ops) where
+    (to_ghosts : listed ghost_means functions.1 0 observer.1 f.ghosts ≡ Ok ghosts) (to_starts : init_means ghosts.1 ghosts.2 f.starts ≡ Ok starts) (to_ops : listed (op_means lines) ghosts.1 0 starts.1 f.ops ≡ Ok ops)
+    (to_outline : outlined_means ops.1 ops.0 ops.2 f.outlined ≡ Ok outline) where
   -- the unit with these operations
   abbrev unit : List Op → FileUnit
   unit os = record {
     file = record { names = ops.1.names; fields = fields.0; shared = pointers.0; funcs = retire ∷ functions.0; ghosts = ghosts.0; init = starts.0; ops = os; labels = ops.1.labels };
     observer = observer.0;
+    outline = outline;
   }
 
   abbrev file : File
@@ -120,12 +126,18 @@ module _ (lines : List ℕ) (f : FileTree) (s : Scope) (fields : List Field × S
       by (suc i) b e = absurd cc
 
   -- the normal tree means the unit with the operations that are read behind its `init`
-  unit_again : (ms : List ℕ) (place last : ℕ) (os : List Op) → init_means ghosts.1 ghosts.2 (normal_starts f.starts) ≡ Ok (starts.0, place) → listed (op_means ms) ghosts.1 0 place (map normal_op f.ops) ≡ Ok (os, ops.1, last) → file_means ms (normal_file f) ≡ Ok (unit os)
+  unit_again : (ms : List ℕ) (place last : ℕ) (os : List Op) → init_means ghosts.1 ghosts.2 (normal_starts f.starts) ≡ Ok (starts.0, place) → listed (op_means ms) ghosts.1 0 place (map normal_op f.ops) ≡ Ok (os, ops.1, last)
+      → map op_without_lines os ≡ map op_without_lines ops.0 → outlined_means ops.1 ops.0 last (normal_outline f.outlined) ≡ Ok outline → file_means ms (normal_file f) ≡ Ok (unit os)
   unfolding file_means
-  unit_again ms place last os begun done = behind _ _ _ _ to_s (behind _ _ _ _ to_fields (behind _ _ _ _ to_pointers (behind _ _ _ _ to_functions (behind _ _ _ _ to_observer (behind _ _ _ _ to_ghosts (behind _ _ _ _ begun (behind _ _ _ _ done refl)))))))
+  unit_again ms place last os begun done same said =
+      behind _ _ _ _ to_s (behind _ _ _ _ to_fields (behind _ _ _ _ to_pointers (behind _ _ _ _ to_functions (behind _ _ _ _ to_observer (behind _ _ _ _ to_ghosts (behind _ _ _ _ begun (behind _ _ _ _ done
+      (behind _ _ _ _ (same_outline ops.1 os ops.0 same last (normal_outline f.outlined) ∙ said) refl))))))))
 
   same_unit : (os : List Op) → map op_without_lines os ≡ map op_without_lines ops.0 → SameUpToLines (unit ops.0) (unit os)
   same_unit os e = ap unit (sym e)
+
+  outline_read : (bound : Bound file ops.1) → OutlineRead file ops.1 bound f.outlined outline
+  outline_read bound = has_along (OutlineRead file ops.1 bound f.outlined) (outlined_means ops.1 ops.0 ops.2 f.outlined) outline to_outline (outline_found file ops.1 bound ops.2 f.outlined)
 
   parts_read : FileRead f (unit ops.0)
   parts_read =
@@ -141,6 +153,7 @@ module _ (lines : List ℕ) (f : FileTree) (s : Scope) (fields : List Field × S
       let w = has_along _ _ observer to_observer (watch_found file functions.1 watching functions.2 f.watched) in
       let i = has_along _ _ starts to_starts (init_found file ghosts.1 starting none ghosts.2 f.starts) in
       let o = (has_along _ _ ops to_ops (ops_found file lines ghosts.1 0 starts.1 f.ops (record { bound = starting; locals = none }))).read in
+      let l = outline_read (o.goes.bound starting) in
       let at_end : Ends file ops.1 = record { names = λ k x e. e; labels = λ k x e. e } in
       let at_ghosts = ends_before file ghosts.1 ops.1 o.goes at_end in
       let at_functions = ends_before file functions.1 ghosts.1 g.goes at_ghosts in
@@ -148,12 +161,12 @@ module _ (lines : List ℕ) (f : FileTree) (s : Scope) (fields : List Field × S
       let at_fields = ends_before file fields.1 pointers.1 b.goes at_pointers in
       let at_struct = ends_before file s fields.1 a.goes at_fields in
       record {
-        tree = same_tree _ _ _ _ _ _ _ _ _ _ _ _ _ _ _ _ (number_named file s 1 f.name at_struct d.named.there) (a.tree at_fields) (b.tree at_pointers) (c.tree at_functions)
-            (w.tree at_functions) (g.tree at_ghosts) (i.tree at_ghosts) (o.tree at_end);
+        tree = same_tree _ _ _ _ _ _ _ _ _ _ _ _ _ _ _ _ _ _ (number_named file s 1 f.name at_struct d.named.there) (a.tree at_fields) (b.tree at_pointers) (c.tree at_functions)
+            (w.tree at_functions) (g.tree at_ghosts) (i.tree at_ghosts) (o.tree at_end) (l.tree at_end);
         again = λ ms.
             let begun = i.again ghosts.2 in
             let done = o.again ms begun.0 in
-            (unit done.value, unit_again ms begun.0 done.place done.value begun.1 done.means, same_unit done.value done.as_before);
+            (unit done.value, unit_again ms begun.0 done.place done.value begun.1 done.means done.as_before (l.again done.place), same_unit done.value done.as_before);
       }
 
 pub file_read_again : (lines : List ℕ) (f : FileTree) (u : FileUnit) → file_means lines f ≡ Ok u → FileRead f u
@@ -167,4 +180,5 @@ file_read_again lines f u e =
     inverted (listed ghost_means functions.1 0 observer.1 f.ghosts) _ u e5 (λ ghosts to_ghosts e6.
     inverted (init_means ghosts.1 ghosts.2 f.starts) _ u e6 (λ starts to_starts e7.
     inverted (listed (op_means lines) ghosts.1 0 starts.1 f.ops) _ u e7 (λ ops to_ops e8.
-    has_along (FileRead f) _ u e8 (parts_read lines f s fields pointers functions observer ghosts starts ops to_s to_fields to_pointers to_functions to_observer to_ghosts to_starts to_ops)))))))))
+    inverted (outlined_means ops.1 ops.0 ops.2 f.outlined) _ u e8 (λ outline to_outline e9.
+    has_along (FileRead f) _ u e9 (parts_read lines f s fields pointers functions observer ghosts starts ops outline to_s to_fields to_pointers to_functions to_observer to_ghosts to_starts to_ops to_outline))))))))))

@@ -5,9 +5,10 @@ use Rattle.plc_lang.specs.declared.syntax.Primitive.{Primitive}
 use Rattle.plc_scope.specs.declared.fault.ParseFault.{ParseFault}
 use Rattle.plc_scope.specs.declared.fault.ParseFault.TheVariants as faults
 use Rattle.plc_lang.specs.Allocation.{is_new}
-use Rattle.plc_parse.specs.Meaning.{stands_at, counted, count_of, allocates, before, forms_mean}
-use Rattle.plc_parse.proofs.Holds.{Has}
-use Rattle.plc_print.proofs.Steps.{next, limited, within, behind, Found}
+use Rattle.plc_scope.specs.Limits.{stands_at}
+use Rattle.plc_parse.specs.Meaning.{counted, count_of, allocates, before, forms_mean}
+use Rattle.plc_scope.proofs.Holds.{Has, next, unless}
+use Rattle.plc_print.proofs.Steps.{within, behind, Found}
 
 refused : {A : Type 0} (P : A → Type 0) (first past : Bool) (a b c : ParseFault) → Has P (if first then Err a else (if past then Err b else Err c))
 refused P true past a b c = tt
@@ -24,7 +25,7 @@ module _ {X : Type 0} (means : ℕ → X → Result (Option Primitive) ParseFaul
   counted_found : (n : ℕ) (has_new : Bool) (x : X) (at : ℕ) (m : Result (Option Primitive) ParseFault) → Has (Found (Is x) (λ a. means a x)) m → Has (Found (Is x) (λ a. counted n has_new a (means a x))) (counted n has_new at m)
   counted_found n has_new x at (Ok None) h = record { named = h.named; again = λ a. ap (counted n has_new a) (h.again a) }
   counted_found n has_new x at (Ok (Some k)) h =
-      limited _ (n == 64) _ _ (λ below. limited _ (has_new && is_new k) _ _ (λ one.
+      unless _ (n == 64) _ _ (λ below. unless _ (has_new && is_new k) _ _ (λ one.
       record { named = h.named; again = λ a. ap (counted n has_new a) (h.again a) ∙ within (n == 64) (faults.Limit limits.Prims 65) _ _ below (within (has_new && is_new k) (faults.Limit limits.News 2) _ _ one refl) }))
   counted_found n has_new x at (Err e) h = refused _ (stands_at at e) (n == 64) e _ e
 

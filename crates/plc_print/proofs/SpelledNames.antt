@@ -19,8 +19,9 @@ use Rattle.plc_scope.specs.declared.binding.Binding.TheVariants.{Taken, Shared, 
 use Rattle.plc_scope.specs.declared.binding.Role.{Role}
 use Rattle.plc_scope.specs.declared.binding.Role.TheVariants.{PointerVariable as pointer_variable, DataLocal as data_local, PointerField as pointer_field, DataField as data_field, Function as function, Auxiliary as auxiliary, Value as value, NoValue as no_value}
 use Rattle.plc_scope.specs.Scope.{needed, if_fits, any_role, role_outside, role_inside, role_or, role_at, role_of, as_pointer, as_pointer_local, as_data, as_pointer_field, as_data_field, as_function, as_protecting, as_without_pointer, as_auxiliary, as_value_of, pointer_at, pointer_local_at, data_at, pointer_field_at, data_field_at, function_at, protecting_at, without_pointer_at, auxiliary_at, value_at}
-use Rattle.plc_parse.proofs.Holds.{Has}
-use Rattle.plc_print.specs.Canonical.{name_at, name_of, field_name, function_name, auxiliary_name, values_of, value_name, is_data, pointer_name, data_name, variable_name}
+use Rattle.plc_scope.proofs.Holds.{Has}
+use Rattle.plc_lang.specs.Names.{name_at, name_of, field_name, function_name, auxiliary_name, values_of, value_name, pointer_name, data_name, variable_name}
+use Rattle.plc_lang.specs.Locals.{is_data}
 use Rattle.plc_print.proofs.Steps.{Found, Within}
 
 -- ---- the place of a name
@@ -152,7 +153,7 @@ module _ (file : File) where
 
   -- ---- what is found by a name
 
-  fits_found : {A : Type 0} (E : Type 0) (Q : A → Type 0) (o : Option A) (at : ℕ) → (E → IfSome o Q) → Has (Found (λ x. E → Q x) (λ p. if_fits p o)) (if_fits at o)
+  pub fits_found : {A : Type 0} (E : Type 0) (Q : A → Type 0) (o : Option A) (at : ℕ) → (E → IfSome o Q) → Has (Found (λ x. E → Q x) (λ p. if_fits p o)) (if_fits at o)
   fits_found E Q (Some x) at h = record { named = h; again = λ p. refl }
   fits_found E Q None at h = tt
 

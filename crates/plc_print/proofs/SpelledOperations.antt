@@ -15,11 +15,12 @@ use Rattle.plc_scope.specs.declared.scope.Scope.{Scope}
 use Rattle.plc_scope.specs.declared.binding.Binding.TheVariants.{Taken, LocalOnly}
 use Rattle.plc_scope.specs.Scope.{◌>>=◌, declared, has_local, may_name_local, local_number, with_local, without_locals, declared_local, declared_parameter}
 use Rattle.plc_parse.specs.Meaning.{line_at, statements_mean, others_mean, parameters_mean, locals_mean, listed, op_means}
-use Rattle.plc_parse.proofs.Holds.{Has}
-use Rattle.plc_print.specs.Canonical.{name_at, declaration_tree, is_declared, op_tree}
+use Rattle.plc_scope.proofs.Holds.{Has, next, weaker, unless}
+use Rattle.plc_print.specs.Canonical.{declaration_tree, is_declared, op_tree}
+use Rattle.plc_lang.specs.Names.{name_at}
 use Rattle.plc_print.specs.Laws.{op_without_lines}
 use Rattle.plc_print.proofs.NormalTrees.{normal_op}
-use Rattle.plc_print.proofs.Steps.{next, weaker, limited, within, behind, Found}
+use Rattle.plc_print.proofs.Steps.{within, behind, Found}
 use Rattle.plc_print.proofs.SpelledNames.{Bound, Ends, place_found, number_named}
 use Rattle.plc_print.proofs.GrowingScopes.{Goes, goes_nowhere, goes_on, ends_before, within_append, last_there, more_bound, Declares, declared_found, goes_by, declared_name}
 use Rattle.plc_print.proofs.SpelledStatements.{Read, BlockRead, block_found}
@@ -68,7 +69,7 @@ module _ (file : File) where
 
   local_found : (s : Scope) (name : Text) (at : ℕ) (p : Bool) → Has (Found (Adds s name p false) (λ a. declared_local s name a p)) (declared_local s name at p)
   unfolding declared_local
-  local_found s name at p = limited (Found (Adds s name p false) (λ a. declared_local s name a p)) (length s.locals == 32) _ _ (λ less.
+  local_found s name at p = unless (Found (Adds s name p false) (λ a. declared_local s name a p)) (length s.locals == 32) _ _ (λ less.
       next (Found (NumberRead s name) (λ a. local_number (place_of name s.names.names) s name a)) _ (local_number (place_of name s.names.names) s name at) _ (number_found s name at) (λ x f.
       record { named = one_more s name p false x f.named; again = λ a. within (length s.locals == 32) _ _ _ less (behind _ _ _ _ (f.again a) refl) }))
 
@@ -76,7 +77,7 @@ module _ (file : File) where
   unfolding declared_parameter
   parameter_found s name at =
       next (Found (NumberRead s name) (λ a. local_number (place_of name s.names.names) s name a)) (Found (Adds s name false true) (λ a. declared_parameter s name a)) (local_number (place_of name s.names.names) s name at) _ (number_found s name at) (λ x f.
-      limited (Found (Adds s name false true) (λ a. declared_parameter s name a)) (length s.locals == 32) _ _ (λ less.
+      unless (Found (Adds s name false true) (λ a. declared_parameter s name a)) (length s.locals == 32) _ _ (λ less.
       record { named = one_more s name false true x f.named; again = λ a. behind _ _ _ _ (f.again a) (within (length s.locals == 32) _ _ _ less refl) }))
 
   -- ---- parameters and other locals in order
@@ -208,7 +209,7 @@ module _ (file : File) where
       }
 
   op_found : (lines : List ℕ) (s : Scope) (n at : ℕ) (o : OpTree) → Between s → Has (OneOp s n o) (op_means lines s n at o)
-  op_found lines s n at (Operates name ps ls body) before = limited (OneOp s n (Operates name ps ls body)) (n == 32) _ _ (λ less.
+  op_found lines s n at (Operates name ps ls body) before = unless (OneOp s n (Operates name ps ls body)) (n == 32) _ _ (λ less.
       next (Found (Declares file name Taken s) (λ a. declared s name a Taken)) (OneOp s n (Operates name ps ls body)) (declared s name (at + 1) Taken) _ (declared_found file s name (at + 1) Taken) (λ t d.
       next (LocalsRead t ps [] (λ a. parameters_mean t a ps)) (OneOp s n (Operates name ps ls body)) (parameters_mean t (at + 3) ps) _ (parameters_found t (at + 3) ps) (λ p f.
       next (LocalsRead p.0 [] ls (λ a. locals_mean p.0 a ls)) (OneOp s n (Operates name ps ls body)) (locals_mean p.0 (p.1 + 2) ls) _ (locals_found p.0 (p.1 + 2) ls) (λ l g.

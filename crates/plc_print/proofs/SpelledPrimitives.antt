@@ -20,9 +20,10 @@ use Rattle.plc_scope.specs.declared.binding.Role.{Role}
 use Rattle.plc_scope.specs.declared.binding.Role.TheVariants.{PointerVariable as pointer_variable, DataLocal as data_local, PointerField as pointer_field, DataField as data_field}
 use Rattle.plc_scope.specs.Scope.{◌>>=◌, needed, any_role, role_of, pointer_at, pointer_local_at, data_at, pointer_field_at, data_field_at, function_at, auxiliary_at, value_at, thread_at, as_thread}
 use Rattle.plc_scope.specs.Primitives.{pointer_value, data_value, value_into, pointer_atom, data_atom, atom_into, set_means, refresh_from, refresh_name_means, refresh_means, ghost_value_means, ghost_set_means, pointer_test, relation, data_test, test_of, test_means, pointer_or_null, condition_means, primitive_means, initial_means, CallMeaning, argument_means, call_means}
-use Rattle.plc_parse.proofs.Holds.{Has}
-use Rattle.plc_print.specs.Canonical.{field_name, function_name, auxiliary_name, value_name, pointer_name, data_name, variable_name, set_tree, number_tree, ghost_value_tree, test_tree, primitive_tree, name_or_null, refresh_condition, condition_tree, argument_tree, initial_tree}
-use Rattle.plc_print.proofs.Steps.{next, weaker, limited, within, behind, Found}
+use Rattle.plc_scope.proofs.Holds.{Has, next, weaker, unless}
+use Rattle.plc_print.specs.Canonical.{set_tree, number_tree, ghost_value_tree, test_tree, primitive_tree, name_or_null, refresh_condition, condition_tree, argument_tree, initial_tree}
+use Rattle.plc_lang.specs.Names.{field_name, function_name, auxiliary_name, value_name, pointer_name, data_name, variable_name}
+use Rattle.plc_print.proofs.Steps.{within, behind, Found}
 use Rattle.plc_print.proofs.NormalTrees.{stays}
 use Rattle.plc_print.proofs.SpelledNames.{Bound, Ends, RoleIs, any_found, pointer_found, pointer_local_found, data_found, pointer_field_found, data_field_found, function_found, auxiliary_found, value_found}
 
@@ -303,7 +304,7 @@ module _ (file : File) (s : Scope) (bound : Bound file s) where
   argument_found f n false at (ActiveArgument m) h = tt
   argument_found f n true at NoArgument h = tt
   argument_found f n true at NullArgument h =
-      limited (Found (IsCall n NullArgument) (λ b. argument_means s f true b NullArgument)) (f.0 == 0) (faults.NoSuchCall at) _ (λ not_first.
+      unless (Found (IsCall n NullArgument) (λ b. argument_means s f true b NullArgument)) (f.0 == 0) (faults.NoSuchCall at) _ (λ not_first.
       record { named = record { function = h; argument = λ e. refl }; again = λ b. within (f.0 == 0) (faults.NoSuchCall b) _ _ not_first refl })
   argument_found f n true at (NameArgument m) h = by_pointer m (at + 2) _ _ (λ p g. record { named = record { function = h; argument = λ e. ap NameArgument (g.named e) }; again = λ b. behind _ _ _ _ (g.again (b + 2)) refl })
   argument_found f n true at (ActiveArgument m) h = by_pointer m (at + 3) _ _ (λ p g. record { named = record { function = h; argument = λ e. ap ActiveArgument (g.named e) }; again = λ b. behind _ _ _ _ (g.again (b + 3)) refl })

@@ -11,11 +11,11 @@ use Rattle.plc_scope.specs.declared.fault.ParseFault.{ParseFault}
 use Rattle.plc_scope.specs.declared.scope.Scope.{Scope}
 use Rattle.plc_scope.specs.Primitives.{primitive_means, condition_means, call_means}
 use Rattle.plc_parse.specs.Meaning.{atomic_means, one_or_skip, line_at, label_means, during_means, statement_means, statements_mean, else_means, or_means}
-use Rattle.plc_parse.proofs.Holds.{Has}
+use Rattle.plc_scope.proofs.Holds.{Has, next}
 use Rattle.plc_print.specs.Canonical.{primitive_tree, condition_tree, statement_tree, block_tree, blocks_tree}
 use Rattle.plc_print.specs.Laws.{statement_without_lines, without_lines, blocks_without_lines}
 use Rattle.plc_print.proofs.NormalTrees.{stays, normal_statement, normal_block, normal_else, normal_or}
-use Rattle.plc_print.proofs.Steps.{next, behind, Found}
+use Rattle.plc_print.proofs.Steps.{behind, Found}
 use Rattle.plc_print.proofs.SpelledNames.{Bound, Ends}
 use Rattle.plc_print.proofs.SpelledPrimitives.{IsPrimitive, primitive_found, IsCondition, condition_found, IsCall, call_found}
 use Rattle.plc_print.proofs.GrowingScopes.{Goes, goes_nowhere, goes_on, ends_before, LabelRead, label_found, DuringRead, during_found}

@@ -1,8 +1,8 @@
 -- The tree of a unit's canonical text: each number is spelled by the name that it stands for, and optional parts that are empty are left out.
-use Rattle.std.specs.Prelude.{ℕ, Bool, true, false, not, Option, Some, None, List, [], ◌∷◌, map, filter, drop, get_or, slice_get, option_map}
+use Rattle.std.specs.Prelude.{ℕ, Bool, true, false, not, Option, Some, None, List, [], ◌∷◌, map, filter, drop, option_map}
 use Rattle.plc_base.specs.declared.ids.FieldId.{FieldId}
-use Rattle.plc_base.specs.declared.ids.FuncId.{FuncId}
-use Rattle.plc_lang.specs.Locals.{is_pointer, is_parameter}
+use Rattle.plc_lang.specs.Locals.{is_parameter}
+use Rattle.plc_lang.specs.Names.{name_at, field_name, function_name, auxiliary_name, value_name, label_name, pointer_name, data_name, variable_name}
 use Rattle.plc_lang.specs.declared.syntax.Var.{Var}
 use Rattle.plc_lang.specs.declared.syntax.Var.TheVariants as vars
 use Rattle.plc_lang.specs.declared.syntax.Num.{Num}
@@ -28,58 +28,7 @@ use Rattle.plc_auto.specs.declared.observer.Observer.{Observer}
 use Rattle.plc_auto.specs.declared.observer.Observer.TheVariants.{Plain, Hazard, Epoch}
 use Rattle.plc_syntax.specs.Trees.{Text, FieldTree, PointerField, DataField, Declares, WatchTree, UseHazard, UseEpoch, GhostKindTree, OneOf, OfThreads, Auxiliary, PlaceOf, AtomTree, NullAtom, NumberAtom, NameAtom, ValueTree, NullValue, NewValue, NumberValue, PlaceValue, SetTree, SetName, SetField, RefreshName, RefreshField, GhostValueTree, NameGhost, MeGhost, NoneGhost, GhostSetTree, SetGhost, InitialTree, InitialSet, InitialGhost, Comparison, SameAs, OtherThan, LessThan, NotLessThan, TestTree, Compares, ConditionTree, TestCondition, RefreshCondition, CasCondition, PrimitiveTree, SetPrimitive, RefreshPrimitive, GhostPrimitive, ActivePrimitive, AssumePrimitive, SkipPrimitive, ArgumentTree, NoArgument, NullArgument, NameArgument, ActiveArgument, StatementTree, PrimitiveStatement, AtomicStatement, CallStatement, IfStatement, ChooseStatement, LoopStatement, BreakStatement, ReturnStatement, LabelStatement, BlockTree, NoStatement, Then as ThenStatement, ElseTree, NoElse, ElseBlock, OrTree, NoOr, OrBlock, OpTree, Operates, FileTree}
 use Rattle.plc_parse.specs.declared.unit.Unit.{Unit as FileUnit}
-
--- ---- names
-
--- the name with a number among the names of the file
-abbrev pub name_at : File → ℕ → Text
-name_at file k = get_or file.names.names k []
-
--- the name whose number a declaration has, if there is such a declaration
-abbrev pub name_of : File → Option ℕ → Text
-name_of file None = []
-name_of file (Some k) = name_at file k
-
--- a field of the struct
-abbrev pub field_name : File → FieldId → Text
-field_name file f = name_of file (option_map (λ (x : Field). x.name) (slice_get file.fields f.0))
-
--- a reclaimer function
-abbrev pub function_name : File → FuncId → Text
-function_name file f = name_of file (option_map (λ (x : Func). x.name) (slice_get file.funcs f.0))
-
--- an auxiliary field
-abbrev pub auxiliary_name : File → ℕ → Text
-auxiliary_name file g = name_of file (option_map (λ (x : Ghost). x.name) (slice_get file.ghosts g))
-
--- the numbers of the names of an auxiliary field's values
-abbrev pub values_of : Option Ghost → List ℕ
-values_of None = []
-values_of (Some g) = g.values
-
--- a value of an auxiliary field
-abbrev pub value_name : File → ℕ → ℕ → Text
-value_name file g v = name_of file (slice_get (values_of (slice_get file.ghosts g)) v)
-
--- a label
-abbrev pub label_name : File → ℕ → Text
-label_name file l = name_of file (slice_get file.labels l)
-
--- a data local
-abbrev pub is_data : Local → Bool
-is_data l = not l.pointer
-
--- a pointer local and a data local of an operation, which are counted apart
-abbrev pub pointer_name : File → List Local → ℕ → Text
-pointer_name file locals v = name_of file (option_map (λ (x : Local). x.name) (slice_get (filter is_pointer locals) v))
-
-abbrev pub data_name : File → List Local → ℕ → Text
-data_name file locals x = name_of file (option_map (λ (l : Local). l.name) (slice_get (filter is_data locals) x))
-
--- a pointer variable
-abbrev pub variable_name : File → List Local → Var → Text
-variable_name file locals (vars.Shared i) = name_of file (slice_get file.shared i)
-variable_name file locals (vars.Local v) = pointer_name file locals v
+use Rattle.plc_print.specs.Outlines.{outline_tree}
 
 -- ---- parts without names
 
@@ -271,5 +220,5 @@ canonical_tree u = record {
   ghosts = map (λ (g : Ghost). Auxiliary (name_at u.file g.name) (ghost_kind u.file g.values)) u.file.ghosts;
   starts = init_tree u.file u.file.init;
   ops = map (op_tree u.file) u.file.ops;
-  outlined = None;
+  outlined = outline_tree u.file u.outline;
 }

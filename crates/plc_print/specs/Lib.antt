@@ -1,3 +1,4 @@
+pub mod Outlines
 pub mod Canonical
 pub mod Laws
 pub mod Pieces

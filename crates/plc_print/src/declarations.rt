@@ -2,15 +2,16 @@
 ghost use Rattle.std.specs.Prelude.{◌≡◌, ◌∷◌, [], OnOk, IfOk, filter, map, drop};
 ghost use Rattle.plc_lang.specs.Locals.{is_parameter};
 ghost use Rattle.plc_syntax.specs.Trees.{Declares, Auxiliary, each_then, maybe_then, comma_name_then, field_then, struct_then, shared_then, function_then, watch_then, ghost_kind_then, ghost_then, initial_then, init_then, parameters_then, op_then};
-ghost use Rattle.plc_print.specs.Canonical.{name_at, declaration_tree, is_declared, op_tree, initial_tree, init_tree, ghost_kind, watch_tree};
+ghost use Rattle.plc_print.specs.Canonical.{declaration_tree, is_declared, op_tree, initial_tree, init_tree, ghost_kind, watch_tree};
+ghost use Rattle.plc_lang.specs.Names.{name_at};
 ghost use Rattle.plc_print.specs.Pieces.{Prints};
 
-use crate::names::{Reach, function_name, name_at};
+use crate::names::Reach;
 use crate::primitives::initial_line;
 use crate::statements::statements;
 use crate::tokens::{BEGIN, CLOSE, COMMA, END, OPEN, Piece, Printer, SEMICOLON};
 use plc_auto::Observer;
-use plc_lang::{Field, File, Func, Ghost, Local, Op, Prim};
+use plc_lang::{Field, File, Func, Ghost, Local, Op, Prim, function_name, name_at};
 use plc_lex::{Keyword, Symbol};
 use std::alloc::{AllocError, Global};
 

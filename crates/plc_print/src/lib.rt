@@ -2,9 +2,11 @@
 //! that `print` gives that text, and that it is read back as the same unit but for its lines.
 #![tactic(auto)]
 
+mod clauses;
 mod declarations;
 mod laws;
 mod names;
+mod outlines;
 mod primitives;
 mod printing;
 mod statements;

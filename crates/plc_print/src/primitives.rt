@@ -9,9 +9,9 @@ ghost use Rattle.plc_syntax.specs.Trees.{each_then, PlaceOf, RefreshName, Refres
 ghost use Rattle.plc_print.specs.Canonical.{name_or_null, value_tree, number_tree, set_tree, ghost_value_tree, ghost_tree, comparison, test_tree, primitive_tree, refresh_condition, condition_tree, initial_tree};
 ghost use Rattle.plc_print.specs.Pieces.{Prints, kind_of};
 
-use crate::names::{Reach, auxiliary_name, value_name};
+use crate::names::Reach;
 use crate::tokens::{ASSIGN, CLOSE, COMMA, DOT, NULL, OPEN, Piece, Printer, REFRESH, SEMICOLON};
-use plc_lang::{Cond, File, GhostVal, Num, Prim, Rel, Var};
+use plc_lang::{Cond, File, GhostVal, Num, Prim, Rel, Var, auxiliary_name, value_name};
 use plc_lex::{Keyword, Symbol};
 use std::alloc::AllocError;
 

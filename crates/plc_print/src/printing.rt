@@ -8,6 +8,7 @@ ghost use Rattle.plc_print.specs.Text.{canonical_text};
 use crate::declarations::{
     auxiliaries, declared_functions, operations, shared_pointers, start, structure, watch,
 };
+use crate::outlines::outline;
 use crate::tokens::Printer;
 use plc_base::NoMemory;
 use plc_parse::Unit;
@@ -24,7 +25,8 @@ fn parts(alloc: Global, out: &mut Printer, unit: &Unit) -> Result<(), AllocError
     watch(out, file, unit.observer)?;
     auxiliaries(out, file, file.ghosts.as_slice())?;
     start(out, file)?;
-    operations(alloc, out, file, file.ops.as_slice())
+    operations(alloc, out, file, file.ops.as_slice())?;
+    outline(alloc, out, file, &unit.outline)
 }
 
 /// The canonical text of a unit: each name as the file has it, each token followed by one space, but

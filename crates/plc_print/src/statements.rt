@@ -7,14 +7,15 @@ ghost use Rattle.plc_lex.specs.declared.token.TokenKind.TheVariants.{Symbol as S
 ghost use Rattle.plc_lex.specs.declared.token.Symbol.TheVariants as symbols;
 ghost use Rattle.plc_lex.specs.declared.token.Keyword.TheVariants as words;
 ghost use Rattle.plc_syntax.specs.Trees.{AtomicStatement, CallStatement, LabelStatement, LoopStatement, maybe_then, argument_then, during_then, statement_then, statements_then, else_then, or_then};
-ghost use Rattle.plc_print.specs.Canonical.{function_name, label_name, primitive_tree, condition_tree, argument_tree, else_block, choice_tree, statement_tree, block_tree, blocks_tree};
+ghost use Rattle.plc_print.specs.Canonical.{primitive_tree, condition_tree, argument_tree, else_block, choice_tree, statement_tree, block_tree, blocks_tree};
+ghost use Rattle.plc_lang.specs.Names.{function_name, label_name};
 ghost use Rattle.plc_print.specs.Pieces.{Prints};
 
-use crate::names::{Reach, function_name, label_name};
+use crate::names::Reach;
 use crate::primitives::{condition, primitive_line, primitive_lines};
 use crate::tokens::{BEGIN, CLOSE, END, OPEN, Piece, Printer, SEMICOLON};
 use plc_base::FuncId;
-use plc_lang::{Arg, Block, Cond, Prim, Stmt};
+use plc_lang::{Arg, Block, Cond, Prim, Stmt, function_name, label_name};
 use plc_lex::{Keyword, Symbol};
 use std::alloc::AllocError;
 

@@ -3,8 +3,7 @@
 // there is memory for a text is what no contract can say.
 use super::*;
 use plc_base::NoMemory;
-use plc_forms::holds_word;
-use plc_lex::{Keyword, tokens};
+use plc_lex::tokens;
 use plc_parse::{ParseFault, Unit, parse};
 use std::alloc::{AllocError, Global};
 
@@ -16,13 +15,7 @@ fn read(alloc: Global, text: &[u8]) -> Result<Unit, ParseFault> {
         return Err(ParseFault::Memory);
     }
     match tokens(alloc, text) {
-        Ok(tokens) => {
-            let tokens = tokens.as_slice();
-            if holds_word(tokens, Keyword::Outline) {
-                return Err(ParseFault::Memory);
-            }
-            parse(alloc, tokens)
-        }
+        Ok(tokens) => parse(alloc, tokens.as_slice()),
         Err(_) => Err(ParseFault::Memory),
     }
 }
@@ -49,7 +42,7 @@ fn canonical(alloc: Global, statement: &str) -> Result<String, AllocError> {
     )
 }
 
-const FILES: [(&str, &str); 4] = [
+const FILES: [(&str, &str); 7] = [
     ("struct N{ptr f;}", "struct N {\nptr f ;\n}\n"),
     (
         "struct N{ptr f;}call protect(ptr);use hazard(protect);init{}op a(){}",
@@ -62,6 +55,18 @@ const FILES: [(&str, &str); 4] = [
     (
         "struct N{ptr f;}shared A;shared B;ghost st{made};init{A:=new;ghost A.st:=made;A.f:=null;B:=A;}",
         "struct N {\nptr f ;\n}\nshared A ;\nshared B ;\nghost st {\nmade }\n;\ninit {\nA := new ;\nghost A . st := made ;\nA . f := null ;\nB := A ;\n}\n",
+    ),
+    (
+        "struct N{ptr f;}outline{depth 0;}",
+        "struct N {\nptr f ;\n}\n",
+    ),
+    (
+        "struct N{ptr f;}outline{depth 0;inv null!=null;}",
+        "struct N {\nptr f ;\n}\noutline {\ninv null != null ;\n}\n",
+    ),
+    (
+        "struct N{ptr f;data d;}shared A;ghost st{made,cut};ghost own thread;op o(v){ptr p;label a;label b;}op e(){ptr s;label c;}outline{depth 1;over o:p==null or p.d!=v or p.d==7;inv all x:not retired(x)or x.st==cut;at a,b:p.own==me or p.own!=none;inv all x,y:x.f!=y or retired(y)or y==A;at c:s.st!=made;}",
+        "struct N {\nptr f ;\ndata d ;\n}\nshared A ;\nghost st {\nmade , cut }\n;\nghost own thread ;\nop o ( v ) {\nptr p ;\nlabel a ;\nlabel b ;\n}\nop e ( ) {\nptr s ;\nlabel c ;\n}\noutline {\ndepth 1 ;\ninv all x : not retired ( x ) or x . st == cut ;\ninv all x , y : x . f != y or retired ( y ) or y == A ;\nover o : p == null or p . d != v or p . d == 7 ;\nat a , b : p . own == me or p . own != none ;\nat c : s . st != made ;\n}\n",
     ),
 ];
 

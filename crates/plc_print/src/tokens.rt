@@ -31,6 +31,9 @@ pub const DOT: Piece<'static> = Piece::Sign(Symbol::Dot);
 /// `,`
 pub const COMMA: Piece<'static> = Piece::Sign(Symbol::Comma);
 
+/// `:`
+pub const COLON: Piece<'static> = Piece::Sign(Symbol::Colon);
+
 /// `;`
 pub const SEMICOLON: Piece<'static> = Piece::Sign(Symbol::Semicolon);
 

@@ -2,8 +2,9 @@
 // faults the one at the least token is named, and at one token the first in the order below.
 ghost use Rattle.plc_scope.specs.declared.fault.ParseFault.TheVariants.{Memory};
 ghost use Rattle.std.specs.Prelude.{◌≡◌};
+ghost use Rattle.plc_scope.specs.Limits.{stands_at};
 
-use plc_base::What1;
+use plc_base::{NoMemory, What1};
 use std::alloc::{AllocError, AllocFailed};
 
 /// Why tokens spell no unit. A place is a number of tokens before it.
@@ -25,6 +26,22 @@ pub enum ParseFault {
     Memory,
 }
 
+impl ParseFault {
+    /// Whether the fault is at the token at this place. Where the first token of a form past a limit is
+    /// at fault itself, that goes before the limit.
+    pub fn stands_at(&self, at: u32) -> bool
+        ensures { result ≡ stands_at at self.now }
+    {
+        match self {
+            ParseFault::Undeclared { at: k }
+            | ParseFault::Duplicate { at: k }
+            | ParseFault::WrongSort { at: k }
+            | ParseFault::NoSuchCall { at: k } => *k == at,
+            ParseFault::Syntax { .. } | ParseFault::Limit { .. } | ParseFault::Memory => false,
+        }
+    }
+}
+
 impl From<AllocError> for ParseFault {
     ghost from_gives = { λ _ e. e ≡ Memory };
 
@@ -37,6 +54,14 @@ impl<T: Drop> From<AllocFailed<T>> for ParseFault {
     ghost from_gives = { λ _ e. e ≡ Memory };
 
     fn from(_e: AllocFailed<T>) -> ParseFault {
+        ParseFault::Memory
+    }
+}
+
+impl From<NoMemory> for ParseFault {
+    ghost from_gives = { λ _ e. e ≡ Memory };
+
+    fn from(_e: NoMemory) -> ParseFault {
         ParseFault::Memory
     }
 }

@@ -4,7 +4,7 @@ use Rattle.plc_base.specs.Mask.{has}
 use Rattle.plc_base.specs.declared.ids.PointId.{PointId}
 use Rattle.plc_lang.specs.declared.syntax.Local.{Local}
 use Rattle.plc_lang.specs.declared.syntax.File.{File}
-use Rattle.plc_lang.specs.Locals.{is_pointer}
+use Rattle.plc_lang.specs.Locals.{is_pointer, locals_of}
 use Rattle.plc_auto.specs.declared.observer.Observer.{Observer}
 use Rattle.plc_auto.specs.Table.{count_of, names_of}
 use Rattle.plc_type.specs.declared.guarantee.Guar.{Guar}
@@ -13,7 +13,7 @@ use Rattle.plc_type.specs.declared.env.Env.{Env}
 use Rattle.plc_type.specs.Guarantees.{is_safe, is_active, is_local}
 use Rattle.plc_flow.specs.declared.flow.Gate.{Gate}
 use Rattle.plc_flow.specs.declared.flow.Flow.{Flow}
-use Rattle.plc_texts.specs.Names.{name_at, locals_of}
+use Rattle.plc_lang.specs.Names.{name_at}
 
 -- ---- types
 
@@ -63,7 +63,7 @@ operation_from k (g ∷ gs) p = if nat_lt p g.after then k else operation_from (
 
 -- the pointer locals at a point
 abbrev pub pointers_at : Flow → ℕ → List Local
-pointers_at flow p = filter is_pointer (locals_of (slice_get flow.file.ops (operation_from 0 flow.gates p)))
+pointers_at flow p = filter is_pointer (locals_of flow.file.ops (operation_from 0 flow.gates p))
 
 -- the lines of a label: where any address may stand, then the pointer locals
 abbrev pub env_lines : Flow → Observer → List ℕ → ℕ → Option Env → List ℕ

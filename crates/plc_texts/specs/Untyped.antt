@@ -5,7 +5,7 @@ use Rattle.plc_flow.specs.declared.flow.Step.{Step}
 use Rattle.plc_flow.specs.declared.flow.Flow.{Flow}
 use Rattle.plc_xfer.specs.declared.fault.TypeFault.{TypeFault}
 use Rattle.plc_xfer.specs.declared.fault.TypeFault.TheVariants.{DerefNotSafe, CompareNotSafe, RetireNotActive}
-use Rattle.plc_texts.specs.Names.{variable_name}
+use Rattle.plc_texts.specs.Names.{variable_in}
 
 -- KIND
 abbrev pub fault_word : TypeFault → List ℕ
@@ -34,4 +34,4 @@ abbrev pub untyped_text : Flow → ℕ → ℕ → TypeFault → List ℕ
 untyped_text flow k i fault =
     let step = slice_get flow.steps k in
     codes "untyped step " ++ decimal k ++ codes " prim " ++ decimal i ++ codes " line " ++ decimal (step_line step)
-    ++ codes " " ++ fault_word fault ++ codes " " ++ variable_name flow.file (step_operation step) (fault_variable fault) ++ codes "\n"
+    ++ codes " " ++ fault_word fault ++ codes " " ++ variable_in flow.file (step_operation step) (fault_variable fault) ++ codes "\n"

@@ -2,7 +2,7 @@
 ghost use Rattle.std.specs.Prelude.{◌≡◌, IfOk};
 ghost use Rattle.plc_texts.specs.Untyped.{untyped_text, fault_word, fault_variable};
 
-use crate::names::variable_name;
+use crate::names::variable_in;
 use crate::push::{push, push_bytes, push_number};
 use plc_flow::Flow;
 use plc_lang::Var;
@@ -54,10 +54,7 @@ pub fn untyped(
     push(&mut out, " ")?;
     push(&mut out, fault_word(fault))?;
     push(&mut out, " ")?;
-    push_bytes(
-        &mut out,
-        variable_name(&flow.file, op, fault_variable(fault)),
-    )?;
+    push_bytes(&mut out, variable_in(&flow.file, op, fault_variable(fault)))?;
     push(&mut out, "\n")?;
     Ok(out)
 }

@@ -3,14 +3,13 @@ ghost use Rattle.std.specs.Prelude.{◌≡◌, ◌++◌, ◌<◌, OnOk, IfOk, So
 ghost use Rattle.plc_auto.specs.Table.{names_of};
 ghost use Rattle.plc_lang.specs.Locals.{is_pointer};
 ghost use Rattle.plc_texts.specs.Typings.{member_names, parted, others, set_text, guarantees_text, anywhere_line, local_line, local_lines, operation_from, env_lines, label_lines, safe_line, safe_text};
-ghost use Rattle.plc_texts.specs.Names.{name_at, locals_of};
+ghost use Rattle.plc_lang.specs.Names.{name_at};
 
-use crate::names::name_at;
 use crate::push::{push, push_bytes, push_number};
 use plc_auto::Observer;
 use plc_base::{LocId, Mask, PointId};
 use plc_flow::{Flow, Gate};
-use plc_lang::{File, Local};
+use plc_lang::{File, Local, locals_of, name_at};
 use plc_type::{Env, Guar, PtrType};
 use std::alloc::{AllocError, Global};
 
@@ -163,16 +162,6 @@ fn operation_of(gates: &[Gate], point: PointId) -> usize
     operation
 }
 
-// The locals of an operation, none where there is no such operation.
-fn locals_of(file: &File, operation: usize) -> &[Local]
-    ensures { result.now ≡ locals_of (slice_get file.now.ops operation) }
-{
-    match file.ops.get(operation) {
-        Some(op) => op.locals.as_slice(),
-        None => &[],
-    }
-}
-
 // The lines of a label whose point has this environment.
 fn push_env(
     alloc: Global,
@@ -186,7 +175,10 @@ fn push_env(
     ensures { OnOk result (out.new.items ≡ out.old.items ++ env_lines flow.now observer.now (name_at flow.now.file label) point.0 (Some env.now)) }
 {
     let name = name_at(&flow.file, label);
-    let locals = locals_of(&flow.file, operation_of(flow.gates.as_slice(), point));
+    let locals = locals_of(
+        flow.file.ops.as_slice(),
+        operation_of(flow.gates.as_slice(), point),
+    );
     push_anywhere(alloc, out, name, observer, env.w)?;
     push_locals(
         alloc,

@@ -6,7 +6,7 @@ use Rattle.plc_cli.proofs.printing.printed.Goals as goal
 
 pub returns-in-Ok : goal.returns-in-Ok
 returns-in-Ok c = if_ok_from c.canonical.result
-    (λ answer. (answer.status ≡ 0) × (answer.text.items ≡ canonical_text (record { file = c.in-Ok.judged.flow.file; observer = c.in-Ok.judged.observer })))
+    (λ answer. (answer.status ≡ 0) × (answer.text.items ≡ canonical_text (record { file = c.in-Ok.judged.flow.file; observer = c.in-Ok.judged.observer; outline = c.in-Ok.judged.outline })))
     (λ answer. IsPrintOf c.args.bytes.now answer.status answer.text.items)
     (λ answer h. printed_answers c.args.bytes.now c.in-Ok.judged answer.status answer.text.items c.in-Ok.ensures.loaded h.0 h.1)
     c.canonical.ensures

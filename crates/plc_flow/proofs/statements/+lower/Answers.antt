@@ -2,7 +2,7 @@ use Rattle.std.proofs.Common.{◌≡◌, ◌+◌, ◌*◌, ap, arith}
 use Rattle.plc_lang.specs.declared.syntax.Line.{Line}
 use Rattle.plc_lang.specs.Statements.{statement_size, block_size, blocks_size}
 use Rattle.plc_lang.specs.Views.{statement_of, blocks_of}
-use Rattle.plc_flow.proofs.Sizes.{line_is_smaller, block_is_no_larger}
+use Rattle.plc_lang.proofs.Sizes.{line_is_smaller, block_is_no_larger}
 use Rattle.plc_flow.proofs.statements.+lower.Goals as goal
 
 pub lower_block-lower_stmt-requires : goal.lower_block-lower_stmt-requires

@@ -1,18 +1,18 @@
 use Rattle.std.proofs.Common.{◌≡◌, Bool, true, false, not, refl, ap}
 use Rattle.plc_logic.specs.declared.clause.Literal.{Literal}
 use Rattle.plc_logic.specs.declared.clause.Literal.TheVariants.{Same, Retired}
-use Rattle.plc_logic.specs.Negation.{statement_of, affirms, claim, negation}
+use Rattle.plc_logic.specs.Negation.{atom_of, affirms, literal_of, negation}
 use Rattle.plc_logic.proofs.negation.negation_turns_the_truth.Goals as goal
 
 not_twice : (b : Bool) → not (not b) ≡ b
 not_twice true = refl
 not_twice false = refl
 
-is_whole : (l : Literal) → claim (statement_of l) (affirms l) ≡ l
+is_whole : (l : Literal) → literal_of (atom_of l) (affirms l) ≡ l
 is_whole (Same a b is_so) = refl
 is_whole (Retired x is_so) = refl
 
-same_terms : (l : Literal) → statement_of (negation l) ≡ statement_of l
+same_terms : (l : Literal) → atom_of (negation l) ≡ atom_of l
 same_terms (Same a b is_so) = refl
 same_terms (Retired x is_so) = refl
 

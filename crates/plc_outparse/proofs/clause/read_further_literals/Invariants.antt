@@ -1,6 +1,6 @@
 use Rattle.std.proofs.Common.{◌≡◌, ◌-◌, length}
 use Rattle.plc_syntax.specs.Syntax.{kinds}
-use Rattle.plc_outparse.specs.Answers.{Within}
+use Rattle.plc_scope.specs.Answers.{Within}
 use Rattle.plc_outparse.specs.Forms.{or_literal_of}
 use Rattle.plc_outparse.specs.Meaning.{literal_step}
 use Rattle.plc_outparse.specs.Reading.{repeated_in, judged, place_of_list, literals_in}

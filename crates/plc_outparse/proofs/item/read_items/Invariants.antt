@@ -1,6 +1,6 @@
 use Rattle.std.proofs.Common.{◌≡◌, ◌-◌, length}
 use Rattle.plc_syntax.specs.Syntax.{kinds}
-use Rattle.plc_outparse.specs.Answers.{Within}
+use Rattle.plc_scope.specs.Answers.{Within}
 use Rattle.plc_outparse.specs.Forms.{item_head_of}
 use Rattle.plc_outparse.specs.Reading.{repeated_in, item_in, place_of_parts, items_in}
 use Rattle.plc_outparse.proofs.item.read_items.Given as goal

@@ -1,10 +1,9 @@
-use Rattle.std.proofs.Common.{ap, subst, ◌∙◌}
 use Rattle.plc_syntax.specs.Syntax.{kinds}
-use Rattle.plc_scope.specs.Answers.{Gives}
-use Rattle.plc_outparse.specs.Reading.{outline_in}
-use Rattle.plc_outparse.proofs.Law.{outline_read}
+use Rattle.plc_outparse.proofs.Exact.{is_meaning, is_fault}
 use Rattle.plc_outparse.proofs.outline.read_outline.Goals as goal
 
-pub returns-clause-means : goal.returns-clause-means
-returns-clause-means c tree behind e =
-    subst (λ m. Gives (λ r. ((r.0, r.1.at), kinds r.1.tokens.now)) c.outline_at.result m) (ap (outline_in c.args.scope.now c.args.ops.now c.args.start.at) e ∙ outline_read c.args.scope.now c.args.ops.now c.args.start.at tree behind) c.outline_at.ensures.read
+pub returns-clause-ok : goal.returns-clause-ok
+returns-clause-ok c = is_meaning c.args.scope.now c.args.ops.now c.args.start.at (kinds c.args.start.tokens.now) (λ r. ((r.0, r.1.at), kinds r.1.tokens.now)) c.outline_at.result c.outline_at.ensures.read
+
+pub returns-clause-fault : goal.returns-clause-fault
+returns-clause-fault c = is_fault c.args.scope.now c.args.ops.now c.args.start.at (kinds c.args.start.tokens.now) (λ r. ((r.0, r.1.at), kinds r.1.tokens.now)) c.outline_at.result c.outline_at.ensures.read

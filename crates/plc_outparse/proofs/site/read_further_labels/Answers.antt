@@ -6,7 +6,7 @@ use Rattle.plc_scope.specs.Scope.{◌>>=◌}
 use Rattle.plc_forms.specs.Forms.{comma_name_of}
 use Rattle.plc_outparse.specs.Meaning.{Labels, label_step}
 use Rattle.plc_outparse.specs.Reading.{judged, place_of_list, repeated_in}
-use Rattle.plc_outparse.proofs.Binding.{bind_stops}
+use Rattle.plc_scope.proofs.Sequence.{bind_stops}
 use Rattle.plc_outparse.proofs.Repeated.{turn, stop, end, out}
 use Rattle.plc_outparse.proofs.site.read_further_labels.Goals as goal
 

@@ -1,7 +1,7 @@
 use Rattle.std.proofs.Common.{◌≡◌, ◌-◌, length}
 use Rattle.plc_syntax.specs.Syntax.{kinds}
 use Rattle.plc_forms.specs.Forms.{comma_name_of}
-use Rattle.plc_outparse.specs.Answers.{Within}
+use Rattle.plc_scope.specs.Answers.{Within}
 use Rattle.plc_outparse.specs.Meaning.{label_step}
 use Rattle.plc_outparse.specs.Reading.{repeated_in, judged, place_of_list, labels_in}
 use Rattle.plc_outparse.proofs.site.read_further_labels.Given as goal

@@ -1,8 +1,8 @@
 use Rattle.std.proofs.Common.{◌≡◌, ◌-◌, ◌≤◌, ◌*◌, length}
 use Rattle.plc_syntax.specs.Syntax.{kinds}
 use Rattle.plc_forms.specs.Forms.{ghost_of}
-use Rattle.plc_scope.specs.Answers.{GrowsBy}
-use Rattle.plc_parse.specs.Growth.{Within, KeepsLists}
+use Rattle.plc_scope.specs.Answers.{GrowsBy, Within}
+use Rattle.plc_parse.specs.Growth.{KeepsLists}
 use Rattle.plc_parse.specs.Reading.{listed_within, ghost_in, ghosts_in}
 use Rattle.plc_parse.proofs.auxiliary.read_ghosts.Given as goal
 

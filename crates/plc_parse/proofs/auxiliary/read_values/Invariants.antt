@@ -1,6 +1,7 @@
 use Rattle.std.proofs.Common.{◌≡◌, ◌+◌, ◌≤◌, [], ◌∷◌, length}
 use Rattle.plc_syntax.specs.Syntax.{kinds}
-use Rattle.plc_parse.specs.Growth.{Within, KeepsLists}
+use Rattle.plc_scope.specs.Answers.{Within}
+use Rattle.plc_parse.specs.Growth.{KeepsLists}
 use Rattle.plc_parse.specs.Reading.{values_in}
 use Rattle.plc_parse.proofs.auxiliary.read_values.Given as goal
 

@@ -11,7 +11,8 @@ use Rattle.plc_scope.specs.declared.scope.Scope.{Scope}
 use Rattle.plc_scope.specs.Scope.{◌>>=◌}
 use Rattle.plc_parse.specs.Meaning.{function_means}
 use Rattle.plc_parse.specs.Reading.{judged, listed_within}
-use Rattle.plc_parse.proofs.Stops.{bind_stops, listed_turns, listed_stops}
+use Rattle.plc_scope.proofs.Sequence.{bind_stops}
+use Rattle.plc_parse.proofs.Stops.{listed_turns, listed_stops}
 use Rattle.plc_parse.proofs.Listed.{listed_ends}
 use Rattle.plc_parse.proofs.Growth.{grows_then, lists_then, within_then}
 use Rattle.plc_parse.proofs.declaration.read_functions.Goals as goal

@@ -1,8 +1,8 @@
 use Rattle.std.proofs.Common.{◌≡◌, ◌-◌, ◌≤◌, length}
 use Rattle.plc_syntax.specs.Syntax.{kinds}
 use Rattle.plc_forms.specs.Forms.{shared_of}
-use Rattle.plc_scope.specs.Answers.{GrowsBy}
-use Rattle.plc_parse.specs.Growth.{Within, KeepsLists}
+use Rattle.plc_scope.specs.Answers.{GrowsBy, Within}
+use Rattle.plc_parse.specs.Growth.{KeepsLists}
 use Rattle.plc_parse.specs.Meaning.{shared_means}
 use Rattle.plc_parse.specs.Reading.{judged, listed_within, shared_in}
 use Rattle.plc_parse.proofs.declaration.read_shared.Given as goal

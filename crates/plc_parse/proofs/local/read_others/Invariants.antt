@@ -1,7 +1,6 @@
 use Rattle.std.proofs.Common.{◌≡◌, length}
 use Rattle.plc_syntax.specs.Syntax.{kinds}
-use Rattle.plc_scope.specs.Answers.{GrowsByLocals}
-use Rattle.plc_parse.specs.Growth.{Within}
+use Rattle.plc_scope.specs.Answers.{GrowsByLocals, Within}
 use Rattle.plc_parse.specs.Reading.{others_in}
 use Rattle.plc_parse.proofs.local.read_others.Given as goal
 

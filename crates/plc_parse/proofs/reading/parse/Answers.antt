@@ -1,20 +1,23 @@
-use Rattle.plc_parse.proofs.Answering.{unit_is, fault_is, no_other_fault, unit_fits, unit_names, unit_watches}
+use Rattle.plc_parse.proofs.Answering.{unit_is, fault_is, no_other_fault, unit_fits, unit_names, unit_watches, unit_outline}
 use Rattle.plc_parse.proofs.reading.parse.Goals as goal
 
 pub returns-clause-ok : goal.returns-clause-ok
-returns-clause-ok c = unit_is c.args.tokens.now c.requires.no_outline c.read_file.result c.read_file.ensures c.in_ok-check_syntax.ensures.ok
+returns-clause-ok c = unit_is c.args.tokens.now c.read_file.result c.read_file.ensures c.in_ok-check_syntax.ensures.ok
 
 pub returns-clause-spelled : goal.returns-clause-spelled
-returns-clause-spelled c unit is = no_other_fault c.args.tokens.now c.requires.no_outline c.read_file.result unit c.read_file.ensures is
+returns-clause-spelled c unit is = no_other_fault c.args.tokens.now c.read_file.result unit c.read_file.ensures is
 
 pub returns-clause-fault : goal.returns-clause-fault
-returns-clause-fault c = fault_is c.args.tokens.now c.requires.no_outline c.read_file.result c.read_file.ensures c.in_ok-check_syntax.ensures.ok
+returns-clause-fault c = fault_is c.args.tokens.now c.read_file.result c.read_file.ensures c.in_ok-check_syntax.ensures.ok
 
 pub returns-clause-fits : goal.returns-clause-fits
-returns-clause-fits c = unit_fits c.args.tokens.now c.requires.no_outline c.read_file.result c.read_file.ensures c.in_ok-check_syntax.ensures.ok
+returns-clause-fits c = unit_fits c.args.tokens.now c.read_file.result c.read_file.ensures c.in_ok-check_syntax.ensures.ok
 
 pub returns-clause-named : goal.returns-clause-named
-returns-clause-named c = unit_names c.args.tokens.now c.requires.no_outline c.read_file.result c.read_file.ensures c.in_ok-check_syntax.ensures.ok
+returns-clause-named c = unit_names c.args.tokens.now c.read_file.result c.read_file.ensures c.in_ok-check_syntax.ensures.ok
 
 pub returns-clause-observer : goal.returns-clause-observer
-returns-clause-observer c = unit_watches c.args.tokens.now c.requires.no_outline c.read_file.result c.read_file.ensures c.in_ok-check_syntax.ensures.ok
+returns-clause-observer c = unit_watches c.args.tokens.now c.read_file.result c.read_file.ensures c.in_ok-check_syntax.ensures.ok
+
+pub returns-clause-outline : goal.returns-clause-outline
+returns-clause-outline c = unit_outline c.args.tokens.now c.read_file.result c.read_file.ensures c.in_ok-check_syntax.ensures.ok

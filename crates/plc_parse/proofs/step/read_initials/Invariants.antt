@@ -3,7 +3,7 @@ use Rattle.plc_syntax.specs.Syntax.{kinds}
 use Rattle.plc_forms.specs.Forms.{initial_line_of}
 use Rattle.plc_forms.specs.Sizes.{initial_size}
 use Rattle.plc_scope.specs.Primitives.{initial_means}
-use Rattle.plc_parse.specs.Growth.{Within}
+use Rattle.plc_scope.specs.Answers.{Within}
 use Rattle.plc_parse.specs.Reading.{each, form_step}
 use Rattle.plc_parse.proofs.step.read_initials.Given as goal
 

@@ -1,7 +1,8 @@
 use Rattle.std.proofs.Common.{[], drop, map}
 use Rattle.plc_lang.specs.declared.syntax.Ghost.{Ghost}
 use Rattle.plc_syntax.specs.Trees.{Auxiliary, each_then, ghost_then}
-use Rattle.plc_print.specs.Canonical.{name_at, ghost_kind}
+use Rattle.plc_print.specs.Canonical.{ghost_kind}
+use Rattle.plc_lang.specs.Names.{name_at}
 use Rattle.plc_print.proofs.Left.{Left}
 use Rattle.plc_print.proofs.declarations.auxiliaries.Given as goal
 

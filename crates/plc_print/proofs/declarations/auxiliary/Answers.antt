@@ -4,7 +4,8 @@ use Rattle.plc_lex.specs.declared.token.TokenKind.TheVariants.{Word, Name, Symbo
 use Rattle.plc_lex.specs.declared.token.Keyword.TheVariants.{Ghost}
 use Rattle.plc_lex.specs.declared.token.Symbol.TheVariants.{Semicolon}
 use Rattle.plc_syntax.specs.Trees.{Text, ghost_kind_then}
-use Rattle.plc_print.specs.Canonical.{name_at, ghost_kind}
+use Rattle.plc_print.specs.Canonical.{ghost_kind}
+use Rattle.plc_lang.specs.Names.{name_at}
 use Rattle.plc_print.specs.Text.{text_of}
 use Rattle.plc_print.proofs.Parts.{then_prints, kind_leads}
 use Rattle.plc_print.proofs.declarations.auxiliary.Goals as goal

@@ -1,6 +1,6 @@
 use Rattle.std.proofs.Common.{[], drop, map}
 use Rattle.plc_syntax.specs.Trees.{each_then, comma_name_then}
-use Rattle.plc_print.specs.Canonical.{name_at}
+use Rattle.plc_lang.specs.Names.{name_at}
 use Rattle.plc_print.proofs.Left.{Left}
 use Rattle.plc_print.proofs.declarations.comma_names.Given as goal
 

@@ -1,7 +1,8 @@
 use Rattle.std.proofs.Common.{[], drop, map}
 use Rattle.plc_lang.specs.declared.syntax.Field.{Field}
 use Rattle.plc_syntax.specs.Trees.{each_then, field_then}
-use Rattle.plc_print.specs.Canonical.{name_at, declaration_tree}
+use Rattle.plc_print.specs.Canonical.{declaration_tree}
+use Rattle.plc_lang.specs.Names.{name_at}
 use Rattle.plc_print.proofs.Left.{Left}
 use Rattle.plc_print.proofs.declarations.fields.Given as goal
 

@@ -1,7 +1,7 @@
 use Rattle.std.proofs.Common.{[], drop, map}
 use Rattle.plc_lang.specs.declared.syntax.Func.{Func}
 use Rattle.plc_syntax.specs.Trees.{Declares, each_then, function_then}
-use Rattle.plc_print.specs.Canonical.{name_at}
+use Rattle.plc_lang.specs.Names.{name_at}
 use Rattle.plc_print.proofs.Left.{Left}
 use Rattle.plc_print.proofs.declarations.functions.Given as goal
 

@@ -3,7 +3,8 @@ use Rattle.std.proofs.lemmas.Result.{on_ok_weaker}
 use Rattle.plc_lex.specs.declared.token.TokenKind.TheVariants.{Name, Symbol}
 use Rattle.plc_lex.specs.declared.token.Symbol.TheVariants.{OpenBrace, CloseBrace}
 use Rattle.plc_syntax.specs.Trees.{Text, each_then, comma_name_then, ghost_kind_then}
-use Rattle.plc_print.specs.Canonical.{name_at, ghost_kind}
+use Rattle.plc_print.specs.Canonical.{ghost_kind}
+use Rattle.plc_lang.specs.Names.{name_at}
 use Rattle.plc_print.specs.Text.{text_of}
 use Rattle.plc_print.proofs.Items.{first_item}
 use Rattle.plc_print.proofs.Parts.{then_prints, comma_names_leads}

@@ -1,7 +1,8 @@
 use Rattle.std.proofs.Common.{[], drop, filter, map}
 use Rattle.plc_lang.specs.declared.syntax.Local.{Local}
 use Rattle.plc_syntax.specs.Trees.{each_then, field_then}
-use Rattle.plc_print.specs.Canonical.{name_at, declaration_tree, is_declared}
+use Rattle.plc_print.specs.Canonical.{declaration_tree, is_declared}
+use Rattle.plc_lang.specs.Names.{name_at}
 use Rattle.plc_print.proofs.Left.{Left}
 use Rattle.plc_print.proofs.declarations.locals.Given as goal
 

@@ -6,7 +6,8 @@ use Rattle.plc_lex.specs.declared.token.TokenKind.TheVariants.{Word, Name, Symbo
 use Rattle.plc_lex.specs.declared.token.Keyword.TheVariants.{Op}
 use Rattle.plc_lex.specs.declared.token.Symbol.TheVariants.{OpenBrace, CloseBrace, OpenParen, CloseParen}
 use Rattle.plc_syntax.specs.Trees.{Text, each_then, field_then, statements_then, parameters_then}
-use Rattle.plc_print.specs.Canonical.{name_at, declaration_tree, is_declared, block_tree}
+use Rattle.plc_print.specs.Canonical.{declaration_tree, is_declared, block_tree}
+use Rattle.plc_lang.specs.Names.{name_at}
 use Rattle.plc_print.specs.Text.{text_of}
 use Rattle.plc_print.proofs.Parts.{then_prints, parameters_leads, fields_leads, statements_leads}
 use Rattle.plc_print.proofs.declarations.operation.Goals as goal

@@ -3,7 +3,7 @@ use Rattle.std.proofs.lemmas.Simd.{map-map}
 use Rattle.plc_lang.specs.declared.syntax.Local.{Local}
 use Rattle.plc_lang.specs.Locals.{is_parameter}
 use Rattle.plc_syntax.specs.Trees.{Text, parameters_then}
-use Rattle.plc_print.specs.Canonical.{name_at}
+use Rattle.plc_lang.specs.Names.{name_at}
 use Rattle.plc_print.specs.Text.{text_of}
 use Rattle.plc_print.proofs.declarations.parameters.Goals as goal
 

@@ -5,7 +5,8 @@ use Rattle.plc_lex.specs.declared.token.TokenKind.TheVariants.{Word, Name, Symbo
 use Rattle.plc_lex.specs.declared.token.Keyword.TheVariants.{Struct}
 use Rattle.plc_lex.specs.declared.token.Symbol.TheVariants.{OpenBrace, CloseBrace}
 use Rattle.plc_syntax.specs.Trees.{Text, each_then, field_then}
-use Rattle.plc_print.specs.Canonical.{name_at, declaration_tree}
+use Rattle.plc_print.specs.Canonical.{declaration_tree}
+use Rattle.plc_lang.specs.Names.{name_at}
 use Rattle.plc_print.specs.Text.{text_of}
 use Rattle.plc_print.proofs.Parts.{then_prints, fields_leads}
 use Rattle.plc_print.proofs.declarations.structure.Goals as goal

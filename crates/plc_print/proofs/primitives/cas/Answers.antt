@@ -1,7 +1,8 @@
 use Rattle.std.proofs.Common.{◌++◌, [], Bool, true, false, ap, sym, ◌∙◌}
 use Rattle.std.proofs.lemmas.Result.{on_ok_weaker}
 use Rattle.plc_syntax.specs.Trees.{Text, CasCondition, condition_then}
-use Rattle.plc_print.specs.Canonical.{name_or_null, variable_name}
+use Rattle.plc_print.specs.Canonical.{name_or_null}
+use Rattle.plc_lang.specs.Names.{variable_name}
 use Rattle.plc_print.specs.Pieces.{kind_of}
 use Rattle.plc_print.specs.Text.{text_of}
 use Rattle.plc_print.proofs.Parts.{cas_tokens}

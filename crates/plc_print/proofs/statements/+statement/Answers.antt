@@ -11,7 +11,7 @@ use Rattle.plc_print.specs.Canonical.{condition_tree, else_block, choice_tree, s
 use Rattle.plc_print.specs.Text.{text_of}
 use Rattle.plc_print.proofs.Items.{item_left, one_item, two_items}
 use Rattle.plc_print.proofs.Parts.{then_prints, then_left, condition_leads, statement_leads, statements_leads, braces_then, braces_leads}
-use Rattle.plc_print.proofs.Sizes.{line_is_smaller, block_is_no_larger}
+use Rattle.plc_lang.proofs.Sizes.{line_is_smaller, block_is_no_larger}
 use Rattle.plc_print.proofs.statements.+statement.Goals as goal
 
 pub braced-returns : goal.braced-returns

@@ -3,7 +3,8 @@ use Rattle.std.proofs.lemmas.Result.{on_ok_weaker}
 use Rattle.plc_lex.specs.declared.token.TokenKind.TheVariants.{Name, Symbol}
 use Rattle.plc_lex.specs.declared.token.Symbol.TheVariants.{OpenParen, CloseParen, Semicolon}
 use Rattle.plc_syntax.specs.Trees.{Text, maybe_then, argument_then, during_then}
-use Rattle.plc_print.specs.Canonical.{function_name, label_name, argument_tree}
+use Rattle.plc_print.specs.Canonical.{argument_tree}
+use Rattle.plc_lang.specs.Names.{function_name, label_name}
 use Rattle.plc_print.specs.Text.{text_of}
 use Rattle.plc_print.proofs.Parts.{then_prints, argument_leads, during_leads}
 use Rattle.plc_print.proofs.statements.call.Goals as goal

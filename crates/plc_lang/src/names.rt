@@ -1,0 +1,159 @@
+// Names by the numbers of what they name, as texts show them. A number that nothing has shows as the
+// empty name, so that whoever writes a text of a file asks nothing of it.
+ghost use Rattle.std.specs.Prelude.{◌≡◌, filter, slice_get, option_map};
+ghost use Rattle.plc_lang.specs.Locals.{is_pointer, is_data};
+ghost use Rattle.plc_lang.specs.Names.{name_at, name_of, values_of, field_name, function_name, operation_name, auxiliary_name, value_name, label_name, shared_name, pointer_name, data_name, local_name, variable_name};
+
+use crate::syntax::{File, Local, Var};
+use plc_base::{FieldId, FuncId, OpId};
+
+/// The name with a number among the names of the file.
+pub fn name_at(file: &File, number: u16) -> &[u8]
+    ensures { result.now ≡ name_at file.now number }
+{
+    if number < file.names.len() {
+        file.names.get(number)
+    } else {
+        &[]
+    }
+}
+
+// The name whose number a declaration has.
+fn name_of(file: &File, number: Option<u16>) -> &[u8]
+    ensures { result.now ≡ name_of file.now number }
+{
+    match number {
+        None => &[],
+        Some(number) => name_at(file, number),
+    }
+}
+
+/// The name of a field of the struct.
+pub fn field_name(file: &File, field: FieldId) -> &[u8]
+    ensures { result.now ≡ field_name file.now field }
+{
+    match file.fields.get(field.0 as usize) {
+        None => &[],
+        Some(field) => name_at(file, field.name),
+    }
+}
+
+/// The name of a reclaimer function.
+pub fn function_name(file: &File, func: FuncId) -> &[u8]
+    ensures { result.now ≡ function_name file.now func }
+{
+    match file.funcs.get(func.0 as usize) {
+        None => &[],
+        Some(func) => name_at(file, func.name),
+    }
+}
+
+/// The name of an operation.
+pub fn operation_name(file: &File, op: OpId) -> &[u8]
+    ensures { result.now ≡ operation_name file.now op }
+{
+    match file.ops.get(op.0 as usize) {
+        None => &[],
+        Some(op) => name_at(file, op.name),
+    }
+}
+
+/// The name of an auxiliary field.
+pub fn auxiliary_name(file: &File, g: u16) -> &[u8]
+    ensures { result.now ≡ auxiliary_name file.now g }
+{
+    match file.ghosts.get(g as usize) {
+        None => &[],
+        Some(auxiliary) => name_at(file, auxiliary.name),
+    }
+}
+
+/// The name of a value of an auxiliary field.
+pub fn value_name(file: &File, g: u16, v: u16) -> &[u8]
+    ensures { result.now ≡ value_name file.now g v }
+{
+    match file.ghosts.get(g as usize) {
+        None => &[],
+        Some(auxiliary) => name_of(file, auxiliary.values.get(v as usize).copied()),
+    }
+}
+
+/// The name of a label.
+pub fn label_name(file: &File, label: u16) -> &[u8]
+    ensures { result.now ≡ label_name file.now label }
+{
+    name_of(file, file.labels.get(label as usize).copied())
+}
+
+/// The name of a shared pointer.
+pub fn shared_name(file: &File, i: u16) -> &[u8]
+    ensures { result.now ≡ shared_name file.now i }
+{
+    name_of(file, file.shared.get(i as usize).copied())
+}
+
+// The number of the name of a pointer local.
+fn pointer_number(locals: &[Local], v: u16) -> Option<u16>
+    ensures { result ≡ option_map (λ l. l.name) (slice_get (filter is_pointer locals.now) v) }
+{
+    let mut left = v;
+    for local in locals {
+        if local.pointer {
+            if left == 0 {
+                return Some(local.name);
+            }
+            left -= 1;
+        }
+    }
+    None
+}
+
+// The number of the name of a data local.
+fn data_number(locals: &[Local], x: u16) -> Option<u16>
+    ensures { result ≡ option_map (λ l. l.name) (slice_get (filter is_data locals.now) x) }
+{
+    let mut left = x;
+    for local in locals {
+        if !local.pointer {
+            if left == 0 {
+                return Some(local.name);
+            }
+            left -= 1;
+        }
+    }
+    None
+}
+
+/// The name of a pointer local of an operation with these locals, by its number among its pointer locals.
+pub fn pointer_name<'a>(file: &'a File, locals: &[Local], v: u16) -> &'a [u8]
+    ensures { result.now ≡ pointer_name file.now locals.now v }
+{
+    name_of(file, pointer_number(locals, v))
+}
+
+/// The name of a data local of an operation with these locals, by its number among its data locals.
+pub fn data_name<'a>(file: &'a File, locals: &[Local], x: u16) -> &'a [u8]
+    ensures { result.now ≡ data_name file.now locals.now x }
+{
+    name_of(file, data_number(locals, x))
+}
+
+/// The name of a local of an operation with these locals, by its number among all of them.
+pub fn local_name<'a>(file: &'a File, locals: &[Local], v: u16) -> &'a [u8]
+    ensures { result.now ≡ local_name file.now locals.now v }
+{
+    match locals.get(v as usize) {
+        None => &[],
+        Some(local) => name_at(file, local.name),
+    }
+}
+
+/// The name of a pointer variable in an operation with these locals.
+pub fn variable_name<'a>(file: &'a File, locals: &[Local], var: Var) -> &'a [u8]
+    ensures { result.now ≡ variable_name file.now locals.now var }
+{
+    match var {
+        Var::Shared(i) => shared_name(file, i),
+        Var::Local(v) => pointer_name(file, locals, v),
+    }
+}

@@ -1,0 +1,26 @@
+-- Whether an outline stands at the front of tokens, what it means, and why it is refused.
+use Rattle.std.specs.Prelude.{◌≡◌, ℕ, List, Result, Err}
+use Rattle.plc_lex.specs.declared.token.TokenKind.{TokenKind}
+use Rattle.plc_lang.specs.declared.syntax.Op.{Op}
+use Rattle.plc_syntax.specs.Trees.{OutlineTree, outline_then}
+use Rattle.plc_scope.specs.declared.fault.ParseFault.{ParseFault}
+use Rattle.plc_scope.specs.declared.fault.ParseFault.TheVariants as faults
+use Rattle.plc_scope.specs.declared.scope.Scope.{Scope}
+use Rattle.plc_logic.specs.declared.clause.Outline.{Outline}
+use Rattle.plc_outparse.specs.Meaning.{outline_means}
+
+-- the tokens begin with those of an outline's tree, behind which these stand
+pub record IsOutline (ts : List TokenKind) (tree : OutlineTree) (behind : List TokenKind) : Type 0 where
+  pub tokens : ts ≡ outline_then tree behind
+
+-- they do, and from a place on the tree has this meaning
+pub record Means (s : Scope) (ops : List Op) (at : ℕ) (ts : List TokenKind) (meaning : Result (Outline × ℕ) ParseFault) (behind : List TokenKind) : Type 0 where
+  pub tree : OutlineTree
+  pub is_outline : IsOutline ts tree behind
+  pub is : outline_means s ops at tree ≡ meaning
+
+-- the fault that they are answered with; memory may be wanting anywhere
+pub data IsPartFault (s : Scope) (ops : List Op) (at : ℕ) (ts : List TokenKind) (e : ParseFault) : Type 0 where
+  no_outline : (place : ℕ) → e ≡ faults.Syntax place → ((tree : OutlineTree) (behind : List TokenKind) → IsOutline ts tree behind → ⊥) → IsPartFault s ops at ts e
+  no_meaning : (behind : List TokenKind) → Means s ops at ts (Err e) behind → IsPartFault s ops at ts e
+  no_memory : e ≡ faults.Memory → IsPartFault s ops at ts e

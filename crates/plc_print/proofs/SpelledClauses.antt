@@ -1,0 +1,289 @@
+-- Each clause of an outline that is read is spelled by the tree that it was read from, and comes again at every place.
+use Rattle.std.proofs.Common.{◌≡◌, ◌==◌, ℕ, suc, ◌+◌, Bool, true, false, if◌then◌else◌, Option, Some, None, IfSome, option_map, Result, Ok, Err, List, [], ◌∷◌, ◌++◌, map, length, slice_get, refl, sym, ap, ap₂, ◌∙◌, append_assoc, append-nil, eqb-true, arith}
+use Rattle.std.proofs.lemmas.Option.{get_or_from_slice_get}
+use Rattle.plc_base.specs.Names.{NameList, place_of}
+use Rattle.plc_base.specs.declared.limits.What1.TheVariants as limits
+use Rattle.plc_lang.specs.Names.{name_at, field_name, auxiliary_name, value_name, local_name}
+use Rattle.plc_lang.specs.declared.syntax.File.{File}
+use Rattle.plc_lang.specs.declared.syntax.Local.{Local}
+use Rattle.plc_syntax.specs.Trees.{Text, PlaceOf, TermTree, PlaceTerm, NullTerm, NumberTerm, MeTerm, NoneTerm, RetiredFlag, LiteralTree, FlagLiteral, NotLiteral, EqualityLiteral, BoundTree, NoBound, AllOf, ClauseTree, Claims}
+use Rattle.plc_scope.specs.declared.fault.ParseFault.{ParseFault}
+use Rattle.plc_scope.specs.declared.fault.ParseFault.TheVariants as faults
+use Rattle.plc_scope.specs.declared.scope.Scope.{Scope}
+use Rattle.plc_scope.specs.declared.binding.Binding.{Binding}
+use Rattle.plc_scope.specs.declared.binding.Binding.TheVariants.{Taken, Shared, PointerField, DataField, Function, Auxiliary, Value, LocalOnly}
+use Rattle.plc_scope.specs.Limits.{stands_at}
+use Rattle.plc_scope.specs.Scope.{◌>>=◌, if_fits, if_new, with_last}
+use Rattle.plc_scope.proofs.Holds.{Has, next, weaker, unless, both_err}
+use Rattle.plc_logic.specs.declared.clause.Base.{Base}
+use Rattle.plc_logic.specs.declared.clause.Base.TheVariants as bases
+use Rattle.plc_logic.specs.declared.clause.Term.{Term}
+use Rattle.plc_logic.specs.declared.clause.Sort.{Sort}
+use Rattle.plc_logic.specs.declared.clause.Literal.{Literal}
+use Rattle.plc_logic.specs.declared.clause.Literal.TheVariants.{Same, Retired}
+use Rattle.plc_logic.specs.declared.clause.Clause.{Clause}
+use Rattle.plc_outparse.specs.declared.kind.Kind.{Kind}
+use Rattle.plc_outparse.specs.declared.kind.Kind.TheVariants as kinds
+use Rattle.plc_outparse.specs.Sizes.{term_size, literal_size, bound_size}
+use Rattle.plc_outparse.specs.Reach.{Reach, kind_outside, kind_of_local, kind_inside, kind_or, declared_at, declared_kind, kind_or_bound, kind_of, known, as_base, base_at, as_term, as_field}
+use Rattle.plc_outparse.specs.Meaning.{in_turn, me_means, term_means, same_sort, sort_place, if_same_sort, second_means, flag_means, literal_means, counted, literal_step, none_bound, if_free, bound_with, bound_means, reach, clause_means, clause_line_means}
+use Rattle.plc_print.specs.Outlines.{base_name, term_tree, flag_literal, literal_tree, bound_tree, claims_tree, clause_tree}
+use Rattle.plc_print.proofs.Steps.{within, behind, Found, then_found, moved, if_found}
+use Rattle.plc_print.proofs.SpelledNames.{IsBound, Bound, Ends, from_number, number_named, place_found, fits_found}
+
+-- ---- parts that are added one by one
+
+module _ {X Y : Type 0} (E : Type 0) (spell : Y → X) (step : List Y × ℕ → X → Result (List Y × ℕ) ParseFault) where
+  -- a step adds one part, spelled so, behind those before it, and adds it at every place
+  pub record OneMore (st : List Y × ℕ) (x : X) (t : List Y × ℕ) : Type 0 where
+    pub added : Y
+    pub is : t.0 ≡ st.0 ++ added ∷ []
+    pub tree : E → spell added ≡ x
+    pub again : (at : ℕ) → (place : ℕ) × (step (st.0, at) x ≡ Ok (t.0, place))
+
+  -- steps in turn do so
+  pub record ManyMore (st : List Y × ℕ) (xs : List X) (t : List Y × ℕ) : Type 0 where
+    pub added : List Y
+    pub is : t.0 ≡ st.0 ++ added
+    pub tree : E → map spell added ≡ xs
+    pub again : (at : ℕ) → (place : ℕ) × (in_turn step (st.0, at) xs ≡ Ok (t.0, place))
+
+  pub more_found : ((st : List Y × ℕ) (x : X) → Has (OneMore st x) (step st x)) → (st : List Y × ℕ) (xs : List X) → Has (ManyMore st xs) (in_turn step st xs)
+  more_found one st [] = record { added = []; is = sym (append-nil st.0); tree = λ e. refl; again = λ at. (at, refl) }
+  more_found one st (x ∷ xs) = next (OneMore st x) (ManyMore st (x ∷ xs)) (step st x) (λ t. in_turn step t xs) (one st x) (λ t f.
+      weaker (ManyMore t xs) (ManyMore st (x ∷ xs)) (in_turn step t xs) (λ u g. record {
+        added = f.added ∷ g.added;
+        is = g.is ∙ ap (λ (ys : List Y). ys ++ g.added) f.is ∙ append_assoc st.0 (f.added ∷ []) g.added;
+        tree = λ e. ap₂ (λ (y : X) (ys : List X). y ∷ ys) (f.tree e) (g.tree e);
+        again = λ at. let first = f.again at in let rest = g.again first.0 in (rest.0, behind _ _ _ _ first.1 rest.1);
+      }) (more_found one t xs))
+
+-- ---- names
+
+pub if_some : {A : Type 0} (P : A → Type 0) (b : Bool) (x : A) (o : Option A) → (b ≡ true → P x) → IfSome o P → IfSome (if b then Some x else o) P
+if_some P true x o h g = h refl
+if_some P false x o h g = g
+
+either_is : (P : Kind → Type 0) (k : Option Kind) (b : Option Binding) → IfSome k P → ((x : Binding) → b ≡ Some x → IfSome (kind_outside x) P) → IfSome (kind_or k b) P
+either_is P (Some k) b h g = h
+either_is P None (Some x) h g = g x refl
+either_is P None None h g = tt
+
+bound_or : (P : Kind → Type 0) (o : Option ℕ) (k : Option Kind) → ((i : ℕ) → o ≡ Some i → P (kinds.Node (bases.Bound i))) → IfSome k P → IfSome (kind_or_bound o k) P
+bound_or P (Some i) k h g = h i refl
+bound_or P None k h g = g
+
+module _ (file : File) (s : Scope) (bound : Bound file s) where
+  module _ (ls : List Local) (names : List Text) where
+    -- the canonical text spells the name for this kind
+    abbrev KindIs : Text → Kind → Type 0
+    KindIs n (kinds.Node b) = base_name file ls names b ≡ n
+    KindIs n (kinds.Data i) = local_name file ls i ≡ n
+    KindIs n (kinds.Field f t) = field_name file f ≡ n
+    KindIs n (kinds.Auxiliary g t) = auxiliary_name file g ≡ n
+    KindIs n (kinds.Value g v) = value_name file g v ≡ n
+    KindIs n kinds.NoValue = Unit {0}
+
+    local_is : (n : Text) (i : ℕ) (l : Local) (is_pointer : Bool) → slice_get ls i ≡ Some l → name_at file l.name ≡ n → KindIs n (kind_of_local i is_pointer)
+    local_is n i l true there named = from_number file (option_map (λ (x : Local). x.name) (slice_get ls i)) l.name n (ap (option_map (λ (x : Local). x.name)) there) named
+    local_is n i l false there named = from_number file (option_map (λ (x : Local). x.name) (slice_get ls i)) l.name n (ap (option_map (λ (x : Local). x.name)) there) named
+
+    inside_is : (n : Text) (number : ℕ) → name_at file number ≡ n → (i : ℕ) (rest : List Local) → ((j : ℕ) (l : Local) → slice_get rest j ≡ Some l → slice_get ls (i + j) ≡ Some l) → IfSome (kind_inside i rest number) (KindIs n)
+    inside_is n number named i [] h = tt
+    inside_is n number named i (l ∷ rest) h =
+        let here : i + 0 ≡ i = omega arith in
+        if_some (KindIs n) (l.name == number) (kind_of_local i l.pointer) (kind_inside (i + 1) rest number)
+        (λ same. local_is n i l l.pointer (ap (slice_get ls) (sym here) ∙ h 0 l refl) (ap (name_at file) (eqb-true l.name number same) ∙ named))
+        (inside_is n number named (i + 1) rest (λ j x e. let there : i + 1 + j ≡ i + suc j = omega arith in ap (slice_get ls) there ∙ h (suc j) x e))
+
+    outside_is : (n : Text) (i : ℕ) (b : Binding) → name_at file i ≡ n → IsBound file i b → IfSome (kind_outside b) (KindIs n)
+    outside_is n i Taken e h = tt
+    outside_is n i (Shared k) e h = from_number file _ i n h e
+    outside_is n i (PointerField f) e h = from_number file _ i n h e
+    outside_is n i (DataField f) e h = from_number file _ i n h e
+    outside_is n i (Function f p) e h = tt
+    outside_is n i (Auxiliary g t) e h = from_number file _ i n h e
+    outside_is n i (Value g v) e h = from_number file _ i n h e
+    outside_is n i LocalOnly e h = tt
+
+    number_is : (n : Text) (o : Option ℕ) → Ends file s → place_of n s.names.names ≡ o → IfSome (declared_at s ls o) (KindIs n)
+    number_is n None ends e = tt
+    number_is n (Some i) ends e =
+        let named : name_at file i ≡ n = number_named file s i n ends (place_found n s.names.names i e) in
+        either_is (KindIs n) (kind_inside 0 ls i) (slice_get s.bindings i) (inside_is n i named 0 ls (λ j l there. let here : 0 + j ≡ j = omega arith in ap (slice_get ls) here ∙ there)) (λ b there. outside_is n i b named (bound.each i b there))
+
+    declared_is : (n : Text) → Ends file s → IfSome (declared_kind s ls n) (KindIs n)
+    unfolding declared_kind
+    declared_is n ends = number_is n (place_of n s.names.names) ends refl
+
+  module _ (ls : List Local) (in_operation : Bool) (quantified : NameList) where
+    abbrev here : Reach
+    here = reach s ls in_operation quantified
+
+    abbrev IsKind : Text → Kind → Type 0
+    IsKind n k = Ends file s → KindIs ls quantified.names n k
+
+    kind_is : (n : Text) → Ends file s → IfSome (kind_of here n) (KindIs ls quantified.names n)
+    unfolding kind_of
+    kind_is n ends = bound_or (KindIs ls quantified.names n) (place_of n quantified.names) (declared_kind s ls n) (λ i e. get_or_from_slice_get quantified.names i n [] (place_found n quantified.names i e)) (declared_is ls quantified.names n ends)
+
+    named_found : (n : Text) (at : ℕ) (o : Option Kind) → (Ends file s → IfSome o (KindIs ls quantified.names n)) → Has (Found (IsKind n) (λ a. known a o)) (known at o)
+    named_found n at (Some k) h = record { named = h; again = λ a. refl }
+    named_found n at None h = tt
+
+    -- ---- terms
+
+    abbrev IsBase : Text → Base → Type 0
+    IsBase n b = Ends file s → base_name file ls quantified.names b ≡ n
+
+    base_is : (n : Text) (k : Kind) → KindIs ls quantified.names n k → IfSome (as_base k) (λ b. base_name file ls quantified.names b ≡ n)
+    base_is n (kinds.Node b) h = h
+    base_is n (kinds.Data i) h = tt
+    base_is n (kinds.Field f t) h = tt
+    base_is n (kinds.Auxiliary g t) h = tt
+    base_is n (kinds.Value g v) h = tt
+    base_is n kinds.NoValue h = tt
+
+    base_found : (n : Text) (at : ℕ) → Has (Found (IsBase n) (base_at here n)) (base_at here n at)
+    unfolding base_at
+    base_found n at = then_found (IsKind n) (IsBase n) (λ a. known a (kind_of here n)) (λ k a. if_fits a (as_base k)) at (named_found n at (kind_of here n) (kind_is n))
+        (λ k h. fits_found file (Ends file s) (λ b. base_name file ls quantified.names b ≡ n) (as_base k) at (λ e. base_is n k (h e)))
+
+    abbrev SpellsTerm : TermTree → Term × Sort → Type 0
+    SpellsTerm t x = term_tree file ls quantified.names x.0 ≡ t
+
+    abbrev IsTerm : TermTree → Term × Sort → Type 0
+    IsTerm t x = Ends file s → SpellsTerm t x
+
+    alone_is : (n : Text) (k : Kind) → KindIs ls quantified.names n k → IfSome (as_term k) (SpellsTerm (PlaceTerm (PlaceOf n None)))
+    alone_is n (kinds.Node (bases.Shared i)) h = ap (λ (m : Text). PlaceTerm (PlaceOf m None)) h
+    alone_is n (kinds.Node (bases.Local i)) h = ap (λ (m : Text). PlaceTerm (PlaceOf m None)) h
+    alone_is n (kinds.Node (bases.Bound i)) h = ap (λ (m : Text). PlaceTerm (PlaceOf m None)) h
+    alone_is n (kinds.Data i) h = ap (λ (m : Text). PlaceTerm (PlaceOf m None)) h
+    alone_is n (kinds.Field f t) h = tt
+    alone_is n (kinds.Auxiliary g t) h = tt
+    alone_is n (kinds.Value g v) h = ap (λ (m : Text). PlaceTerm (PlaceOf m None)) h
+    alone_is n kinds.NoValue h = tt
+
+    field_is : (m n : Text) (b : Base) (k : Kind) → base_name file ls quantified.names b ≡ m → KindIs ls quantified.names n k → IfSome (as_field b k) (SpellsTerm (PlaceTerm (PlaceOf m (Some n))))
+    field_is m n b (kinds.Node c) h g = tt
+    field_is m n b (kinds.Data i) h g = tt
+    field_is m n b (kinds.Field f t) h g = ap₂ (λ (x y : Text). PlaceTerm (PlaceOf x (Some y))) h g
+    field_is m n b (kinds.Auxiliary f t) h g = ap₂ (λ (x y : Text). PlaceTerm (PlaceOf x (Some y))) h g
+    field_is m n b (kinds.Value f v) h g = tt
+    field_is m n b kinds.NoValue h g = tt
+
+    me_found : (b : Bool) (at : ℕ) → Has (Found (IsTerm MeTerm) (me_means b)) (me_means b at)
+    me_found true at = record { named = λ e. refl; again = λ a. refl }
+    me_found false at = tt
+
+    term_found : (at : ℕ) (t : TermTree) → Has (Found (IsTerm t) (λ a. term_means here a t)) (term_means here at t)
+    unfolding term_means
+    term_found at (PlaceTerm (PlaceOf n None)) =
+        then_found (IsKind n) (IsTerm (PlaceTerm (PlaceOf n None))) (λ a. known a (kind_of here n)) (λ k a. if_fits a (as_term k)) at (named_found n at (kind_of here n) (kind_is n))
+        (λ k h. fits_found file (Ends file s) (SpellsTerm (PlaceTerm (PlaceOf n None))) (as_term k) at (λ e. alone_is n k (h e)))
+    term_found at (PlaceTerm (PlaceOf n (Some f))) =
+        then_found (IsBase n) (IsTerm (PlaceTerm (PlaceOf n (Some f)))) (base_at here n) (λ b a. known (a + 2) (kind_of here f) >>= λ k. if_fits (a + 2) (as_field b k)) at (base_found n at) (λ b h.
+        then_found (IsKind f) (IsTerm (PlaceTerm (PlaceOf n (Some f)))) (λ a. known (a + 2) (kind_of here f)) (λ k a. if_fits (a + 2) (as_field b k)) at
+        (moved (IsKind f) (λ a. known a (kind_of here f)) (λ a. a + 2) at (named_found f (at + 2) (kind_of here f) (kind_is f))) (λ k g.
+        moved (IsTerm (PlaceTerm (PlaceOf n (Some f)))) (λ a. if_fits a (as_field b k)) (λ a. a + 2) at
+        (fits_found file (Ends file s) (SpellsTerm (PlaceTerm (PlaceOf n (Some f)))) (as_field b k) (at + 2) (λ e. field_is n f b k (h e) (g e)))))
+    term_found at NullTerm = record { named = λ e. refl; again = λ a. refl }
+    term_found at (NumberTerm n) = record { named = λ e. refl; again = λ a. refl }
+    term_found at MeTerm = me_found in_operation at
+    term_found at NoneTerm = record { named = λ e. refl; again = λ a. refl }
+
+    abbrev IsSide : TermTree → Term → Type 0
+    IsSide t x = Ends file s → term_tree file ls quantified.names x ≡ t
+
+    second_found : (wanted : Sort) (at : ℕ) (t : TermTree) → Has (Found (IsSide t) (λ a. second_means here wanted a t)) (second_means here wanted at t)
+    unfolding second_means
+    second_found wanted at t = then_found (IsTerm t) (IsSide t) (λ a. term_means here a t) (λ x a. if_same_sort wanted (sort_place a t) x) at (term_found at t)
+        (λ x h. if_found (IsSide t) (same_sort x.1 wanted) x.0 (λ a. sort_place a t) at h)
+
+    -- ---- literals
+
+    abbrev IsLiteral : LiteralTree → Literal → Type 0
+    IsLiteral l x = Ends file s → literal_tree file ls quantified.names x ≡ l
+
+    flag_found : (is_so : Bool) (at : ℕ) (n : Text) → Has (Found (IsLiteral (flag_literal file ls quantified.names (RetiredFlag n) is_so)) (λ a. flag_means here is_so a (RetiredFlag n))) (flag_means here is_so at (RetiredFlag n))
+    flag_found is_so at n = then_found (IsBase n) (IsLiteral (flag_literal file ls quantified.names (RetiredFlag n) is_so)) (λ a. base_at here n (a + 2)) (λ b a. Ok (Retired b is_so)) at (moved (IsBase n) (base_at here n) (λ a. a + 2) at (base_found n (at + 2)))
+        (λ b h. record { named = λ e. ap (λ (m : Text). flag_literal file ls quantified.names (RetiredFlag m) is_so) (h e); again = λ a. refl })
+
+    literal_found : (at : ℕ) (l : LiteralTree) → Has (Found (IsLiteral l) (λ a. literal_means here a l)) (literal_means here at l)
+    unfolding literal_means
+    literal_found at (FlagLiteral (RetiredFlag n)) = flag_found true at n
+    literal_found at (NotLiteral (RetiredFlag n)) = moved (IsLiteral (NotLiteral (RetiredFlag n))) (λ a. flag_means here false a (RetiredFlag n)) (λ a. a + 1) at (flag_found false (at + 1) n)
+    literal_found at (EqualityLiteral t is_equal u) =
+        then_found (IsTerm t) (IsLiteral (EqualityLiteral t is_equal u)) (λ a. term_means here a t) (λ x a. second_means here x.1 (a + term_size t + 1) u >>= λ y. Ok (Same x.0 y is_equal)) at (term_found at t) (λ x h.
+        then_found (IsSide u) (IsLiteral (EqualityLiteral t is_equal u)) (λ a. second_means here x.1 (a + term_size t + 1) u) (λ y a. Ok (Same x.0 y is_equal)) at
+        (moved (IsSide u) (λ a. second_means here x.1 a u) (λ a. a + term_size t + 1) at (second_found x.1 (at + term_size t + 1) u)) (λ y g.
+        record { named = λ e. ap₂ (λ (v w : TermTree). EqualityLiteral v is_equal w) (h e) (g e); again = λ a. refl }))
+
+    counted_found : (n at : ℕ) (l : LiteralTree) (m : Result Literal ParseFault) → Has (Found (IsLiteral l) (λ a. literal_means here a l)) m → Has (Found (IsLiteral l) (λ a. counted n a (literal_means here a l))) (counted n at m)
+    counted_found n at l (Ok x) h = unless (Found (IsLiteral l) (λ a. counted n a (literal_means here a l))) (n == 16) (faults.Limit limits.Literals 17) (Ok x) (λ below.
+        record { named = h.named; again = λ a. ap (counted n a) (h.again a) ∙ within (n == 16) (faults.Limit limits.Literals 17) (Ok x) (Ok x) below refl })
+    counted_found n at l (Err e) h = both_err (Found (IsLiteral l) (λ a. counted n a (literal_means here a l))) (stands_at at e) (n == 16) e (faults.Limit limits.Literals 17) e
+
+    step_found : (st : List Literal × ℕ) (l : LiteralTree) → Has (OneMore (Ends file s) (literal_tree file ls quantified.names) (literal_step here) st l) (literal_step here st l)
+    unfolding literal_step
+    step_found st l =
+        next (Found (IsLiteral l) (λ a. counted (length st.0) a (literal_means here a l))) (OneMore (Ends file s) (literal_tree file ls quantified.names) (literal_step here) st l) (counted (length st.0) (st.1 + 1) (literal_means here (st.1 + 1) l)) _
+        (counted_found (length st.0) (st.1 + 1) l (literal_means here (st.1 + 1) l) (literal_found (st.1 + 1) l)) (λ x h.
+        record { added = x; is = refl; tree = h.named; again = λ a. (a + 1 + literal_size l, behind _ _ _ _ (h.again (a + 1)) refl) })
+
+    literals_found : (st : List Literal × ℕ) (others : List LiteralTree) → Has (ManyMore (Ends file s) (literal_tree file ls quantified.names) (literal_step here) st others) (in_turn (literal_step here) st others)
+    literals_found st others = more_found (Ends file s) (literal_tree file ls quantified.names) (literal_step here) step_found st others
+
+  -- ---- clauses
+
+  module _ (ls : List Local) where
+    free_found : (q : NameList) (name : Text) (at : ℕ) (k : Option Kind) (o : Option ℕ) → Has (Found (λ r. r ≡ with_last q name) (λ a. if_free a k (if_new o a (with_last q name)))) (if_free at k (if_new o at (with_last q name)))
+    free_found q name at None None = record { named = refl; again = λ a. refl }
+    free_found q name at None (Some i) = tt
+    free_found q name at (Some k) o = tt
+
+    with_found : (q : NameList) (name : Text) (at : ℕ) → Has (Found (λ r. r ≡ with_last q name) (λ a. bound_with s ls q a name)) (bound_with s ls q at name)
+    unfolding bound_with
+    with_found q name at = free_found q name at (declared_kind s ls name) (place_of name q.names)
+
+    -- no number names a quantified name, so its text is kept
+    abbrev AreBound : BoundTree → NameList → Type 0
+    AreBound b q = bound_tree q.names ≡ b
+
+    quantified_found : (at : ℕ) (b : BoundTree) → Has (Found (AreBound b) (λ a. bound_means s ls a b)) (bound_means s ls at b)
+    unfolding bound_means
+    quantified_found at NoBound = record { named = refl; again = λ a. refl }
+    quantified_found at (AllOf n None) =
+        then_found (λ q. q ≡ with_last none_bound n) (AreBound (AllOf n None)) (λ a. bound_with s ls none_bound (a + 1) n) (λ q a. Ok q) at
+        (moved (λ q. q ≡ with_last none_bound n) (λ a. bound_with s ls none_bound a n) (λ a. a + 1) at (with_found none_bound n (at + 1))) (λ q h.
+        record { named = ap (λ (r : NameList). bound_tree r.names) h; again = λ a. refl })
+    quantified_found at (AllOf n (Some m)) =
+        then_found (λ q. q ≡ with_last none_bound n) (AreBound (AllOf n (Some m))) (λ a. bound_with s ls none_bound (a + 1) n) (λ q a. bound_with s ls q (a + 3) m) at
+        (moved (λ q. q ≡ with_last none_bound n) (λ a. bound_with s ls none_bound a n) (λ a. a + 1) at (with_found none_bound n (at + 1))) (λ q h.
+        weaker (Found (λ r. r ≡ with_last q m) (λ a. bound_with s ls q (a + 3) m)) (Found (AreBound (AllOf n (Some m))) (λ a. bound_with s ls q (a + 3) m)) (bound_with s ls q (at + 3) m) (λ r f.
+        record { named = ap (λ (t : NameList). bound_tree t.names) (f.named ∙ ap (λ (t : NameList). with_last t m) h); again = f.again })
+        (moved (λ r. r ≡ with_last q m) (λ a. bound_with s ls q a m) (λ a. a + 3) at (with_found q m (at + 3))))
+
+    -- the clause is spelled by the tree, and is the same at each place, by which the place behind it goes
+    pub record ClauseRead (means : ℕ → Result (Clause × ℕ) ParseFault) (c : ClauseTree) (k : Clause × ℕ) : Type 0 where
+      pub tree : Ends file s → clause_tree file ls k.0 ≡ c
+      pub again : (at : ℕ) → (place : ℕ) × (means at ≡ Ok (k.0, place))
+
+    module _ (in_operation : Bool) where
+      clause_found : (at : ℕ) (c : ClauseTree) → Has (ClauseRead (λ a. clause_means s ls in_operation a c) c) (clause_means s ls in_operation at c)
+      unfolding clause_means
+      clause_found at (Claims b l others) =
+          next (Found (AreBound b) (λ a. bound_means s ls a b)) _ (bound_means s ls at b) _ (quantified_found at b) (λ q f.
+          next (Found (IsLiteral ls in_operation q l) (λ a. literal_means (reach s ls in_operation q) a l)) _ (literal_means (reach s ls in_operation q) (at + bound_size b) l) _ (literal_found ls in_operation q (at + bound_size b) l) (λ x g.
+          next (ManyMore (Ends file s) (literal_tree file ls q.names) (literal_step (reach s ls in_operation q)) (x ∷ [], at + bound_size b + literal_size l) others) _
+          (in_turn (literal_step (reach s ls in_operation q)) (x ∷ [], at + bound_size b + literal_size l) others) _ (literals_found ls in_operation q (x ∷ [], at + bound_size b + literal_size l) others) (λ all h.
+          record {
+            tree = λ e. ap (λ (xs : List Literal). claims_tree (bound_tree q.names) (map (literal_tree file ls q.names) xs)) h.is ∙ rw (f.named, g.named e, h.tree e) refl;
+            again = λ a. let rest = h.again (a + bound_size b + literal_size l) in (rest.0, behind _ _ _ _ (f.again a) (behind _ _ _ _ (g.again (a + bound_size b)) (behind _ _ _ _ rest.1 refl)));
+          })))
+
+      pub line_found : (at : ℕ) (c : ClauseTree) → Has (ClauseRead (λ a. clause_line_means s ls in_operation a c) c) (clause_line_means s ls in_operation at c)
+      unfolding clause_line_means
+      line_found at c = next (ClauseRead (λ a. clause_means s ls in_operation a c) c) _ (clause_means s ls in_operation at c) _ (clause_found at c) (λ k h.
+          record { tree = h.tree; again = λ a. let one = h.again a in (one.0 + 1, behind _ _ _ _ one.1 refl) })
