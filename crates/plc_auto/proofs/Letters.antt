@@ -10,7 +10,8 @@ use Rattle.plc_auto.specs.declared.event.EvKind.{EvKind}
 use Rattle.plc_auto.specs.declared.event.EvKind.TheVariants.{Free}
 use Rattle.plc_auto.specs.declared.observer.Observer.{Observer}
 use Rattle.plc_auto.specs.declared.observer.Observer.TheVariants.{Plain, Hazard, Epoch}
-use Rattle.plc_auto.specs.Table.{count_of, step, is_retire, is_well_formed}
+use Rattle.plc_auto.specs.Table.{count_of, step, is_well_formed}
+use Rattle.plc_base.specs.Functions.{is_retire}
 use Rattle.plc_auto.specs.Location.{is_this, step_by, advance, location_from, location, Allowed, is_retired_location, stands_retired, is_retired_after}
 use Rattle.plc_auto.specs.Sets.{unretired, safe}
 use Rattle.plc_auto.specs.Laws.{is_free, is_retirement, retired_by, is_retire_call, LettersTurn, RetiredForAllThreads, FreesFollowRetirements}

@@ -8,7 +8,8 @@ use Rattle.plc_auto.specs.declared.event.EvKind.{EvKind}
 use Rattle.plc_auto.specs.declared.event.EvKind.TheVariants.{Call, Done, Free}
 use Rattle.plc_auto.specs.declared.observer.Observer.{Observer}
 use Rattle.plc_auto.specs.declared.observer.Observer.TheVariants.{Plain, Hazard, Epoch}
-use Rattle.plc_auto.specs.Table.{Label, retires, asks, granted, gives_up, frees, bears, asks_by, gives_up_by, along, edges_of, count_of, step, is_retire, is_well_formed}
+use Rattle.plc_auto.specs.Table.{Label, retires, asks, granted, gives_up, frees, bears, asks_by, gives_up_by, along, edges_of, count_of, step, is_well_formed}
+use Rattle.plc_base.specs.Functions.{is_retire}
 use Rattle.plc_auto.specs.Location.{is_retired_location}
 use Rattle.plc_auto.specs.Laws.{is_free, is_retirement}
 

@@ -7,7 +7,8 @@ use Rattle.plc_auto.specs.declared.event.Event.TheVariants.{Call as Called, Done
 use Rattle.plc_auto.specs.declared.event.EvKind.{EvKind}
 use Rattle.plc_auto.specs.declared.event.EvKind.TheVariants.{Call, Done, Free}
 use Rattle.plc_auto.specs.declared.observer.Observer.{Observer}
-use Rattle.plc_auto.specs.Table.{step, count_of, is_retire}
+use Rattle.plc_auto.specs.Table.{step, count_of}
+use Rattle.plc_base.specs.Functions.{is_retire}
 use Rattle.plc_auto.specs.Location.{location, advance, Allowed, is_this, is_retired_location, is_retired_after}
 use Rattle.plc_auto.specs.Sets.{all_locations, unretired, safe, step_set, closure, IsClosureOf}
 

@@ -1,6 +1,7 @@
 -- The tables of the three observers: live locations, and labelled edges of which the first that fits is taken.
 use Rattle.std.specs.Prelude.{◌==◌, ◌&&◌, ℕ, Bool, true, false, not, if◌then◌else◌, List, [], ◌∷◌, length, codes, Option, Some, None}
 use Rattle.plc_base.specs.declared.ids.FuncId.{FuncId}
+use Rattle.plc_base.specs.Functions.{is_retire}
 use Rattle.plc_base.specs.declared.ids.LocId.{LocId}
 use Rattle.plc_auto.specs.declared.event.EvKind.{EvKind}
 use Rattle.plc_auto.specs.declared.event.EvKind.TheVariants.{Call, Done, Free}
@@ -154,10 +155,6 @@ count_of o = length (names_of o)
 -- functions are told apart by their numbers
 abbrev pub same_function : FuncId → FuncId → Bool
 same_function f g = f.0 == g.0
-
--- `retire` is the function 0
-abbrev pub is_retire : FuncId → Bool
-is_retire f = f.0 == 0
 
 -- `retire` belongs to no scheme
 abbrev pub is_well_formed : Observer → Bool

@@ -90,7 +90,7 @@ pub fn plain_step(at: LocId, kind: EvKind, own: bool, this: bool) -> Option<LocI
     ensures { target_of result ≡ along (bears Observer.Plain kind) own this at.0 plain_edges }
 {
     match (at.0, kind) {
-        (U, EvKind::Call(FuncId(0))) if this => Some(LocId(R)),
+        (U, EvKind::Call(g)) if g.is_retire() && this => Some(LocId(R)),
         (U, EvKind::Free) if this => None,
         (R, EvKind::Free) if this => Some(LocId(U)),
         _ => Some(at),
@@ -103,14 +103,14 @@ pub fn hazard_step(f: FuncId, at: LocId, kind: EvKind, own: bool, this: bool) ->
 {
     match (at.0, kind) {
         (U_IDLE, EvKind::Call(g)) if g == f && own && this => Some(LocId(U_PEND)),
-        (U_IDLE, EvKind::Call(FuncId(0))) if this => Some(LocId(R_IDLE)),
+        (U_IDLE, EvKind::Call(g)) if g.is_retire() && this => Some(LocId(R_IDLE)),
         (U_IDLE, EvKind::Free) if this => None,
         (U_PEND, EvKind::Call(g)) if g == f && own && !this => Some(LocId(U_IDLE)),
         (U_PEND, EvKind::Done(g)) if g == f && own => Some(LocId(U_HELD)),
-        (U_PEND, EvKind::Call(FuncId(0))) if this => Some(LocId(R_PEND)),
+        (U_PEND, EvKind::Call(g)) if g.is_retire() && this => Some(LocId(R_PEND)),
         (U_PEND, EvKind::Free) if this => None,
         (U_HELD, EvKind::Call(g)) if g == f && own && !this => Some(LocId(U_IDLE)),
-        (U_HELD, EvKind::Call(FuncId(0))) if this => Some(LocId(R_KEPT)),
+        (U_HELD, EvKind::Call(g)) if g.is_retire() && this => Some(LocId(R_KEPT)),
         (U_HELD, EvKind::Free) if this => None,
         (R_IDLE, EvKind::Call(g)) if g == f && own && this => Some(LocId(R_PEND)),
         (R_IDLE, EvKind::Free) if this => Some(LocId(U_IDLE)),
@@ -118,7 +118,7 @@ pub fn hazard_step(f: FuncId, at: LocId, kind: EvKind, own: bool, this: bool) ->
         (R_PEND, EvKind::Done(g)) if g == f && own => Some(LocId(R_HELD)),
         (R_PEND, EvKind::Free) if this => Some(LocId(U_PEND)),
         (R_HELD, EvKind::Call(g)) if g == f && own && !this => Some(LocId(R_IDLE)),
-        (R_HELD, EvKind::Call(FuncId(0))) if this => Some(LocId(R_KEPT)),
+        (R_HELD, EvKind::Call(g)) if g.is_retire() && this => Some(LocId(R_KEPT)),
         (R_HELD, EvKind::Free) if this => Some(LocId(U_HELD)),
         (R_KEPT, EvKind::Call(g)) if g == f && own && !this => Some(LocId(R_IDLE)),
         (R_KEPT, EvKind::Free) if this => None,
@@ -139,14 +139,14 @@ pub fn epoch_step(
 {
     match (at.0, kind) {
         (U_OUT, EvKind::Call(g)) if g == enter && own => Some(LocId(U_COMING)),
-        (U_OUT, EvKind::Call(FuncId(0))) if this => Some(LocId(R_OUT)),
+        (U_OUT, EvKind::Call(g)) if g.is_retire() && this => Some(LocId(R_OUT)),
         (U_OUT, EvKind::Free) if this => None,
         (U_COMING, EvKind::Done(g)) if g == enter && own => Some(LocId(U_IN)),
         (U_COMING, EvKind::Call(g)) if g == leave && own => Some(LocId(U_OUT)),
-        (U_COMING, EvKind::Call(FuncId(0))) if this => Some(LocId(R_COMING)),
+        (U_COMING, EvKind::Call(g)) if g.is_retire() && this => Some(LocId(R_COMING)),
         (U_COMING, EvKind::Free) if this => None,
         (U_IN, EvKind::Call(g)) if g == leave && own => Some(LocId(U_OUT)),
-        (U_IN, EvKind::Call(FuncId(0))) if this => Some(LocId(R_KEPT)),
+        (U_IN, EvKind::Call(g)) if g.is_retire() && this => Some(LocId(R_KEPT)),
         (U_IN, EvKind::Free) if this => None,
         (R_OUT, EvKind::Call(g)) if g == enter && own => Some(LocId(R_COMING)),
         (R_OUT, EvKind::Free) if this => Some(LocId(U_OUT)),
@@ -154,7 +154,7 @@ pub fn epoch_step(
         (R_COMING, EvKind::Call(g)) if g == leave && own => Some(LocId(R_OUT)),
         (R_COMING, EvKind::Free) if this => Some(LocId(U_COMING)),
         (R_IN, EvKind::Call(g)) if g == leave && own => Some(LocId(R_OUT)),
-        (R_IN, EvKind::Call(FuncId(0))) if this => Some(LocId(R_KEPT)),
+        (R_IN, EvKind::Call(g)) if g.is_retire() && this => Some(LocId(R_KEPT)),
         (R_IN, EvKind::Free) if this => Some(LocId(U_IN)),
         (R_KEPT, EvKind::Call(g)) if g == leave && own => Some(LocId(R_OUT)),
         (R_KEPT, EvKind::Free) if this => None,

@@ -1,9 +1,14 @@
 pub mod Allocation
+pub mod Comparison
 pub mod Falls
 pub mod Fit
+pub mod Labels
 pub mod Locals
 pub mod Marks
 pub mod Names
+pub mod Numbering
 pub mod Shape
+pub mod Skeleton
 pub mod Statements
 pub mod Views
+pub mod WellSorted

@@ -1,5 +1,5 @@
 -- The locals of operations, and their kinds.
-use Rattle.std.specs.Prelude.{ℕ, Bool, not, ◌&&◌, List, [], Option, Some, None, slice_get}
+use Rattle.std.specs.Prelude.{ℕ, Bool, not, ◌&&◌, ◌++◌, List, [], Option, Some, None, slice_get, count_by, replicate}
 use Rattle.plc_lang.specs.declared.syntax.Local.{Local}
 use Rattle.plc_lang.specs.declared.syntax.Op.{Op}
 
@@ -27,3 +27,23 @@ locals_or_none (Some o) = o.locals
 -- the locals of the operation with a number
 abbrev pub locals_of : List Op → ℕ → List Local
 locals_of ops o = locals_or_none (slice_get ops o)
+
+-- how many pointer locals an operation has
+abbrev pub pointers_of : Op → ℕ
+pointers_of o = count_by is_pointer o.locals
+
+-- how many parameters
+abbrev pub parameters_of : Op → ℕ
+parameters_of o = count_by is_parameter o.locals
+
+-- how many data locals that are no parameters
+abbrev pub other_data_of : Op → ℕ
+other_data_of o = count_by is_other_data o.locals
+
+-- the pointer locals with which a thread starts an operation: all are null
+abbrev pub starting_pointers : {A : Type 0} → A → Op → List A
+starting_pointers null o = replicate (pointers_of o) null
+
+-- the data locals with which it starts: the parameters as given, the others 0
+abbrev pub starting_values : Op → List ℕ → List ℕ
+starting_values o args = args ++ replicate (other_data_of o) 0

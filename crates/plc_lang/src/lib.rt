@@ -3,12 +3,14 @@
 
 mod allocation;
 mod block;
+mod labels;
 mod locals;
 mod names;
 mod syntax;
 
 pub use allocation::is_new;
 pub use block::Block;
+pub use labels::{labels_by_op, op_of_label};
 pub use locals::locals_of;
 pub use names::{
     auxiliary_name, data_name, field_name, function_name, label_name, local_name, name_at,

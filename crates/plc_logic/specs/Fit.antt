@@ -18,7 +18,7 @@ use Rattle.plc_logic.specs.declared.clause.Site.{Site}
 use Rattle.plc_logic.specs.declared.clause.Site.TheVariants.{Over, At}
 use Rattle.plc_logic.specs.declared.clause.Item.{Item}
 use Rattle.plc_logic.specs.declared.clause.Outline.{Outline}
-use Rattle.plc_logic.specs.Labels.{labels_by_op, op_of_label}
+use Rattle.plc_lang.specs.Labels.{labels_by_op, op_of_label}
 
 -- what a clause may name: the things of the file, the locals and the thread of its operation, and so many quantified names
 pub record InReach : Type 0 where

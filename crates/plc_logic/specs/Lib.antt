@@ -1,3 +1,3 @@
 pub mod Negation
-pub mod Labels
+pub mod Sites
 pub mod Fit

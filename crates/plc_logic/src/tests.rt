@@ -1,7 +1,7 @@
 // Literals with their negations, written out, and the operations of labels.
 use super::*;
 use plc_base::{FieldId, FuncId, Items, NoMemory, OpId};
-use plc_lang::{Arg, Block, Line, Op, Stmt};
+use plc_lang::{Arg, Block, Line, Op, Stmt, labels_by_op, op_of_label};
 use std::alloc::Global;
 
 #[test]

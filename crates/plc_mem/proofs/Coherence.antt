@@ -7,7 +7,7 @@ use Rattle.plc_lang.specs.declared.syntax.Arg.TheVariants as args
 use Rattle.plc_lang.specs.declared.syntax.Op.{Op}
 use Rattle.plc_lang.specs.declared.syntax.Primitive.{Primitive}
 use Rattle.plc_lang.specs.declared.syntax.Primitive.TheVariants.{Null, Copy, New, Load, Store, StoreNull, DataSet, DataLoad, DataStore, Eq, Ne, IsNull, NotNull, DataTest, Refresh, RefreshLoad, RefreshStore, Call, Done, Active, Ghost}
-use Rattle.plc_auto.specs.Table.{is_retire}
+use Rattle.plc_base.specs.Functions.{is_retire}
 use Rattle.plc_mem.specs.declared.cell.Cell.{Cell}
 use Rattle.plc_mem.specs.declared.cell.RaceKind.{RaceKind}
 use Rattle.plc_mem.specs.State.{State, Place, at_shared, at_local, at_field, Locals, null_cell, fresh_cell, is_null, at, put, put_value, put_field_value, place, is_used, is_retired, with_node, with_retired, with_locals, locals_or_none, locals_of, cut, freed, fresh_state, no_locals, starting}
@@ -17,7 +17,7 @@ use Rattle.plc_mem.specs.Laws.{is_there, SamePointers, SameAddresses}
 use Rattle.plc_mem.specs.Coherence.{CellCoherent, LocalsCoherent, IsCoherent, CoherenceIsKept}
 use Rattle.plc_base.specs.declared.memory.NoMemory.{NoMemory}
 use Rattle.plc_mem.proofs.Places.{put_is_set}
-use Rattle.plc_mem.proofs.Tables.{get-replicate}
+use Rattle.plc_base.proofs.Tables.{get-replicate}
 use Rattle.plc_mem.proofs.Views.{cases_place, writes, writes_nothing, writes_local, writes_field, writes_no_field, makes, retires, frees, gives, fresh_is_null, fresh_is_unused, fresh_is_unretired}
 
 -- ---- cells

@@ -1,7 +1,8 @@
 -- The state with the acting thread's locals put in: what is read and written there, and what is apart from them.
 use Rattle.std.proofs.Common.{◌≡◌, ℕ, ◌<◌, length, set, get_or, Some, None, refl, sym, ap, ◌∙◌}
 use Rattle.plc_mem.specs.declared.cell.Cell.{Cell}
-use Rattle.plc_mem.specs.State.{State, Locals, at_shared, at_local, at_field, null_cell, put_at, with_locals, is_used, is_retired, at, put, value_at, put_value, field_value, put_field_value, with_node, with_retired}
+use Rattle.plc_mem.specs.State.{State, Locals, at_shared, at_local, at_field, null_cell, with_locals, is_used, is_retired, at, put, value_at, put_value, field_value, put_field_value, with_node, with_retired}
+use Rattle.plc_base.specs.Tables.{put_at}
 use Rattle.plc_mem.specs.Fit.{Kept}
 use Rattle.plc_mem.proofs.Places.{put_is_set, put_put}
 use Rattle.plc_mem.proofs.Views.{locals-with_same}

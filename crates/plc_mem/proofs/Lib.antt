@@ -3,5 +3,4 @@ pub mod Joined
 pub mod Nodes
 pub mod Outcomes
 pub mod Places
-pub mod Tables
 pub mod Views

@@ -6,7 +6,8 @@ use Rattle.std.proofs.lemmas.Bool.{eq-eqb, ne_eqb}
 use Rattle.std.proofs.lemmas.Bool.Decides.{nat_tests}
 use Rattle.std.proofs.lemmas.List.{length-map, with_items_is, get_or_default, get_or_past}
 use Rattle.plc_mem.specs.declared.cell.Cell.{Cell}
-use Rattle.plc_mem.specs.State.{Node, null_cell, put_at, node_of, put_node, empty_node, cut, cut_node}
+use Rattle.plc_mem.specs.State.{Node, null_cell, node_of, put_node, empty_node, cut, cut_node}
+use Rattle.plc_base.specs.Tables.{put_at}
 use Rattle.plc_mem.specs.Fit.{NodesFit}
 
 -- ---- a table

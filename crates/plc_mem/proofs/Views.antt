@@ -4,9 +4,10 @@ use Rattle.std.specs.List.{list_any}
 use Rattle.std.proofs.lemmas.Bool.{cases_eq, ne_eqb}
 use Rattle.std.proofs.lemmas.List.Folds.{list_any-append}
 use Rattle.plc_mem.specs.declared.cell.Cell.{Cell}
-use Rattle.plc_mem.specs.State.{State, Place, at_shared, at_local, at_field, Node, Locals, null_cell, put_at, locals_or_none, locals_of, with_locals, node_of, put_node, is_used, is_retired, at, put, value_at, put_value, field_value, put_field_value, fresh_node, with_node, with_retired, cut, cut_node, cut_locals, freed, fresh_state}
+use Rattle.plc_mem.specs.State.{State, Place, at_shared, at_local, at_field, Node, Locals, null_cell, locals_or_none, locals_of, with_locals, node_of, put_node, is_used, is_retired, at, put, value_at, put_value, field_value, put_field_value, fresh_node, with_node, with_retired, cut, cut_node, cut_locals, freed, fresh_state}
+use Rattle.plc_base.specs.Tables.{put_at}
 use Rattle.plc_mem.specs.Laws.{is_there, SameAddresses, Wrote, WroteLocal, WroteField, WasMade, WasRetired, WasFreed, HasLocals, MemoryLaws}
-use Rattle.plc_mem.proofs.Tables.{get-put_same, get-put_other, get-map, get-replicate, any-without, any-map}
+use Rattle.plc_base.proofs.Tables.{get-put_same, get-put_other, get-map, get-replicate, any-without, any-map}
 use Rattle.plc_mem.proofs.Nodes.{has_node, address-node_of, node-put_same, node-put_other, has-put, put-absent, node-absent, node-push_same, node-push_other, node-gone, node-stays}
 
 -- ---- locals

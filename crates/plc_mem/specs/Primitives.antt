@@ -9,7 +9,7 @@ use Rattle.plc_lang.specs.declared.syntax.Primitive.{Primitive}
 use Rattle.plc_lang.specs.declared.syntax.Primitive.TheVariants.{Null, Copy, New, Load, Store, StoreNull, DataSet, DataLoad, DataStore, Eq, Ne, IsNull, NotNull, DataTest, Refresh, RefreshLoad, RefreshStore, Call, Done, Active, Ghost}
 use Rattle.plc_auto.specs.declared.event.Event.{Event}
 use Rattle.plc_auto.specs.declared.event.Event.TheVariants.{Call as Called, Done as Returned}
-use Rattle.plc_auto.specs.Table.{is_retire}
+use Rattle.plc_base.specs.Functions.{is_retire}
 use Rattle.plc_mem.specs.declared.cell.Cell.{Cell}
 use Rattle.plc_mem.specs.declared.cell.RaceKind.{RaceKind}
 use Rattle.plc_mem.specs.declared.cell.RaceKind.TheVariants.{Deref, Compare, Pass, Double}

@@ -1,6 +1,7 @@
 -- A state of memory: what shared pointers, locals and fields hold, and which addresses are used and retired.
-use Rattle.std.specs.Prelude.{ℕ, zero, suc, Bool, true, false, not, ◌&&◌, ◌==◌, nat_lt, if◌then◌else◌, List, [], ◌∷◌, ◌++◌, length, get_or, map, filter, replicate, count_by, Option, Some, None}
+use Rattle.std.specs.Prelude.{ℕ, Bool, true, false, not, ◌&&◌, ◌==◌, nat_lt, if◌then◌else◌, List, [], ◌∷◌, ◌++◌, length, get_or, map, filter, replicate, count_by, Option, Some, None}
 use Rattle.std.specs.List.{list_any}
+use Rattle.plc_base.specs.Tables.{put_at}
 use Rattle.plc_lang.specs.declared.syntax.Var.{Var}
 use Rattle.plc_lang.specs.declared.syntax.Var.TheVariants.{Shared, Local}
 use Rattle.plc_lang.specs.declared.syntax.Num.{Num}
@@ -53,13 +54,6 @@ is_null c = c.number == 0
 -- two cells hold the same pointer
 abbrev pub same_pointer : Cell → Cell → Bool
 same_pointer c d = c.number == d.number
-
--- a list as a table with a default past its end
-abbrev pub put_at : {A : Type 0} → A → List A → ℕ → A → List A
-put_at d [] zero v = v ∷ []
-put_at d [] (suc i) v = d ∷ put_at d [] i v
-put_at d (x ∷ xs) zero v = v ∷ xs
-put_at d (x ∷ xs) (suc i) v = x ∷ put_at d xs i v
 
 -- what an idle thread has
 abbrev pub no_locals : Locals

@@ -3,7 +3,7 @@
 // anything, so that a race, a blocked primitive and want of memory leave all as it was.
 ghost use Rattle.std.specs.Prelude.{◌≡◌, ℕ, IfOk, OnOk, OnErr, Some};
 ghost use Rattle.plc_lang.specs.Shape.{PrimitiveIn};
-ghost use Rattle.plc_auto.specs.Table.{is_retire};
+ghost use Rattle.plc_base.specs.Functions.{is_retire};
 ghost use Rattle.plc_mem.specs.State.{with_locals};
 ghost use Rattle.plc_mem.specs.Primitives.{race_of, race_of_call, retirement, compares, goes, goes_call, after, after_call, address_of, event_of};
 ghost use Rattle.plc_mem.specs.Outcomes.{outcome_of, next_of, address_or_null, Stays};
@@ -92,7 +92,7 @@ impl Memory {
     fn race_of_call(&self, me: &Locals, func: FuncId, arg: Arg) -> Option<RaceKind>
         ensures { (t : ℕ) → result ≡ race_of_call (with_locals self.now t (Some me.now)) t (is_retire func) arg }
     {
-        if func.0 != 0 {
+        if !func.is_retire() {
             return None;
         }
         match arg {
@@ -161,7 +161,7 @@ impl Memory {
     fn goes_call(&self, me: &Locals, func: FuncId, arg: Arg) -> bool
         ensures { (t : ℕ) → result ≡ goes_call (with_locals self.now t (Some me.now)) t (is_retire func) arg }
     {
-        if func.0 != 0 {
+        if !func.is_retire() {
             return true;
         }
         match arg {
@@ -281,7 +281,7 @@ impl Memory {
         ensures kept { Kept self.old me.now self.new me.now }
         ensures err { OnErr result (self.new ≡ self.old) }
     {
-        if func.0 != 0 {
+        if !func.is_retire() {
             return Ok(());
         }
         match arg {

@@ -2,7 +2,8 @@
 // indexed by address would be as long as the largest address that a schedule names.
 ghost use Rattle.std.specs.Prelude.{◌≡◌, ℕ, ◌==◌, ◌<◌, not, get_or, map, filter, IfOk};
 ghost use Rattle.std.specs.List.{list_any, position};
-ghost use Rattle.plc_mem.specs.State.{Node, null_cell, node_of, put_node, put_at, fresh_node, cut_node};
+ghost use Rattle.plc_mem.specs.State.{Node, null_cell, node_of, put_node, fresh_node, cut_node};
+ghost use Rattle.plc_base.specs.Tables.{put_at};
 ghost use Rattle.plc_mem.specs.Fit.{NodesFit};
 
 use crate::cell::Cell;

@@ -10,7 +10,7 @@ use Rattle.plc_scope.specs.Answers.{FailsAs, Gives}
 use Rattle.plc_scope.specs.Read.{ReadTo, wanted_at}
 use Rattle.plc_scope.specs.Scope.{◌>>=◌}
 use Rattle.plc_logic.specs.declared.clause.Outline.{Outline}
-use Rattle.plc_logic.specs.Labels.{labels_by_op}
+use Rattle.plc_lang.specs.Labels.{labels_by_op}
 use Rattle.plc_outparse.specs.Forms.{outline_head_of}
 use Rattle.plc_outparse.specs.Meaning.{outline_means}
 use Rattle.plc_outparse.specs.Outlines.{Means, IsPartFault, no_outline, no_meaning, no_memory}

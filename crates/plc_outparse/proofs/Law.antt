@@ -14,7 +14,7 @@ use Rattle.plc_scope.specs.Scope.{◌>>=◌}
 use Rattle.plc_outparse.specs.Forms.{or_literal_of, item_head_of}
 use Rattle.plc_outparse.specs.Sizes.{literal_size, bound_size, depth_size}
 use Rattle.plc_outparse.specs.Reach.{Reach}
-use Rattle.plc_logic.specs.Labels.{labels_by_op}
+use Rattle.plc_lang.specs.Labels.{labels_by_op}
 use Rattle.plc_lang.specs.Locals.{locals_of}
 use Rattle.plc_outparse.specs.Meaning.{in_turn, literal_means, Literals, literal_step, bound_means, reach, clause_means, clause_line_means, op_at, label_at, label_step, labels_mean, Parts, item_step, depth_means, outline_means}
 use Rattle.plc_scope.specs.Read.{wanted_at}

@@ -27,7 +27,7 @@ use Rattle.plc_logic.specs.declared.clause.Sort.TheVariants as sorts
 use Rattle.plc_outparse.specs.declared.kind.Kind.{Kind}
 use Rattle.plc_outparse.specs.Sizes.{term_size, literal_size, bound_size, depth_size}
 use Rattle.plc_outparse.specs.Reach.{Reach, declared_kind, kind_of, known, base_at, as_term, as_field}
-use Rattle.plc_logic.specs.Labels.{labels_by_op, op_of_label}
+use Rattle.plc_lang.specs.Labels.{labels_by_op, op_of_label}
 
 -- ---- parts
 

@@ -19,7 +19,7 @@ use Rattle.plc_outparse.specs.Forms.{literal_of, or_literal_of, bound_of, HeadTr
 use Rattle.plc_outparse.specs.Sizes.{literal_size, bound_size, depth_size}
 use Rattle.plc_outparse.specs.Skipping.{behind_outline_of}
 use Rattle.plc_outparse.specs.Reach.{Reach}
-use Rattle.plc_logic.specs.Labels.{labels_by_op}
+use Rattle.plc_lang.specs.Labels.{labels_by_op}
 use Rattle.plc_scope.specs.Limits.{within_limit}
 use Rattle.plc_lang.specs.Locals.{locals_of}
 use Rattle.plc_outparse.specs.Meaning.{literal_means, Literals, literal_step, bound_means, reach, op_at, label_at, Labels, label_step, Parts, with_invariant, with_item, depth_means}

@@ -14,8 +14,8 @@ use crate::item_form::{depth_at, outline_head_at};
 use crate::skipping::behind_outline;
 use plc_base::Items;
 use plc_forms::{Rest, closing_at};
-use plc_lang::Op;
-use plc_logic::{Outline, labels_by_op};
+use plc_lang::{Op, labels_by_op};
+use plc_logic::Outline;
 use plc_scope::{ParseFault, Scope};
 use std::alloc::Global;
 

@@ -15,7 +15,7 @@ use crate::reach::known;
 use plc_base::Items;
 use plc_forms::{Rest, comma_name_at};
 use plc_lang::{Local, Op, locals_of};
-use plc_logic::op_of_label;
+use plc_lang::op_of_label;
 use plc_scope::{ParseFault, Scope};
 use std::alloc::Global;
 

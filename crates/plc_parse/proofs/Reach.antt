@@ -12,7 +12,7 @@ use Rattle.plc_lang.specs.declared.syntax.Local.{Local}
 use Rattle.plc_lang.specs.declared.syntax.Var.TheVariants.{Shared as SharedVar, Local as LocalVar}
 use Rattle.plc_lang.specs.Locals.{is_pointer, is_parameter, is_other_data}
 use Rattle.plc_lang.specs.Shape.{Shape, VarIn}
-use Rattle.plc_auto.specs.Table.{is_retire}
+use Rattle.plc_base.specs.Functions.{is_retire}
 use Rattle.plc_syntax.specs.Trees.{Text}
 use Rattle.plc_scope.specs.declared.fault.ParseFault.TheVariants as faults
 use Rattle.plc_scope.specs.declared.scope.Scope.{Scope}

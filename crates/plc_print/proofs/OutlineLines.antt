@@ -5,7 +5,7 @@ use Rattle.plc_lang.specs.declared.syntax.Local.{Local}
 use Rattle.plc_lang.specs.declared.syntax.Op.{Op}
 use Rattle.plc_lang.specs.Locals.{locals_of}
 use Rattle.plc_lang.specs.Statements.{Statement, One, Atomic, Call, If, Choose, Loop, Break, Return, Skip, Label, Statements, Empty, Then, Blocks, NoBlock, And}
-use Rattle.plc_logic.specs.Labels.{statement_labels, block_labels, blocks_labels, labels_by_op}
+use Rattle.plc_lang.specs.Labels.{statement_labels, block_labels, blocks_labels, labels_by_op}
 use Rattle.plc_syntax.specs.Trees.{Text, ClauseTree, ItemTree, InvariantItem, OverItem, AtItem, OutlineTree, Outlined}
 use Rattle.plc_scope.specs.declared.fault.ParseFault.{ParseFault}
 use Rattle.plc_scope.specs.declared.scope.Scope.{Scope}

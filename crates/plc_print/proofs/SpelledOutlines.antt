@@ -14,7 +14,8 @@ use Rattle.plc_scope.specs.declared.fault.ParseFault.TheVariants as faults
 use Rattle.plc_scope.specs.declared.scope.Scope.{Scope}
 use Rattle.plc_scope.specs.Scope.{◌>>=◌, if_fits}
 use Rattle.plc_scope.proofs.Holds.{Has, next, weaker, unless}
-use Rattle.plc_logic.specs.Labels.{labels_by_op, op_of_label, op_of_site}
+use Rattle.plc_lang.specs.Labels.{labels_by_op, op_of_label}
+use Rattle.plc_logic.specs.Sites.{op_of_site}
 use Rattle.plc_logic.specs.declared.clause.Clause.{Clause}
 use Rattle.plc_logic.specs.declared.clause.Site.TheVariants.{Over, At}
 use Rattle.plc_logic.specs.declared.clause.Item.{Item}

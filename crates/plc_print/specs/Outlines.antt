@@ -15,7 +15,8 @@ use Rattle.plc_logic.specs.declared.clause.Site.{Site}
 use Rattle.plc_logic.specs.declared.clause.Site.TheVariants.{Over, At}
 use Rattle.plc_logic.specs.declared.clause.Item.{Item}
 use Rattle.plc_logic.specs.declared.clause.Outline.{Outline}
-use Rattle.plc_logic.specs.Labels.{labels_by_op, op_of_site}
+use Rattle.plc_lang.specs.Labels.{labels_by_op}
+use Rattle.plc_logic.specs.Sites.{op_of_site}
 use Rattle.plc_syntax.specs.Trees.{Text, PlaceOf, TermTree, PlaceTerm, NullTerm, NumberTerm, MeTerm, NoneTerm, FlagTree, RetiredFlag, LiteralTree, FlagLiteral, NotLiteral, EqualityLiteral, BoundTree, NoBound, AllOf, ClauseTree, Claims, ItemTree, InvariantItem, OverItem, AtItem, OutlineTree, Outlined}
 
 -- ---- literals; the names in reach are those of the file, of the operation's locals and of the clause

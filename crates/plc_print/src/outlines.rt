@@ -4,7 +4,8 @@
 ghost use Rattle.std.specs.Prelude.{◌≡◌, ◌∷◌, [], IfOk, OnOk, map};
 ghost use Rattle.plc_logic.specs.declared.clause.Item.{Item as OutlineItem};
 ghost use Rattle.plc_logic.specs.declared.clause.Site.TheVariants as sites;
-ghost use Rattle.plc_logic.specs.Labels.{labels_by_op, op_of_site};
+ghost use Rattle.plc_lang.specs.Labels.{labels_by_op};
+ghost use Rattle.plc_logic.specs.Sites.{op_of_site};
 ghost use Rattle.plc_syntax.specs.Trees.{AtItem, Outlined, each_then, maybe_then, comma_name_then, item_then, depth_then, outline_then};
 ghost use Rattle.plc_lang.specs.Names.{label_name};
 ghost use Rattle.plc_print.specs.Outlines.{clause_tree, invariant_tree, site_tree, locals_in_reach, depth_tree, item_trees, outline_tree};
@@ -14,9 +15,9 @@ use crate::clauses::clause_line;
 use crate::names::Reach;
 use crate::tokens::{BEGIN, COLON, COMMA, END, Piece, Printer, SEMICOLON};
 use plc_base::{Items, NoMemory, OpId};
-use plc_lang::{File, Local, label_name, locals_of, operation_name};
+use plc_lang::{File, Local, label_name, locals_of, operation_name, labels_by_op};
 use plc_lex::Keyword;
-use plc_logic::{Clause, Item, Outline, Site, labels_by_op, op_of_site};
+use plc_logic::{Clause, Item, Outline, Site, op_of_site};
 use std::alloc::{AllocError, Global};
 
 // An invariant.

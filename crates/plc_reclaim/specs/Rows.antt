@@ -3,7 +3,7 @@ use Rattle.std.specs.Prelude.{◌≡◌, ℕ, Bool, true, false, ◌==◌, ◌&&
 use Rattle.std.specs.List.{list_any}
 use Rattle.plc_auto.specs.declared.event.Event.{Event}
 use Rattle.plc_auto.specs.declared.event.Event.TheVariants.{Call as Called, Done as Returned, Free as Freed}
-use Rattle.plc_auto.specs.Table.{is_retire}
+use Rattle.plc_base.specs.Functions.{is_retire}
 use Rattle.plc_reclaim.specs.declared.reclaimer.Scheme.{Scheme}
 
 -- the event frees the address

@@ -7,7 +7,8 @@ use Rattle.plc_auto.specs.declared.event.Event.{Event}
 use Rattle.plc_mem.specs.declared.cell.Outcome.{Outcome}
 use Rattle.plc_mem.specs.declared.cell.Outcome.TheVariants.{Next, Blocked, Race}
 use Rattle.plc_mem.specs.declared.cell.RaceKind.{RaceKind}
-use Rattle.plc_mem.specs.State.{State, Locals, put_at, with_locals}
+use Rattle.plc_mem.specs.State.{State, Locals, with_locals}
+use Rattle.plc_base.specs.Tables.{put_at}
 use Rattle.plc_mem.specs.Primitives.{race_of, goes, after, event_of}
 use Rattle.plc_mem.specs.Outcomes.{outcome, moved, outcome_of, next_of}
 use Rattle.plc_run.specs.Run.{Ending, Stuck, Raced, turn, recorded, execute}

@@ -9,7 +9,8 @@ use Rattle.plc_lang.specs.declared.syntax.Primitive.TheVariants.{Null, Copy, New
 use Rattle.plc_auto.specs.declared.event.Event.{Event}
 use Rattle.plc_auto.specs.declared.event.Event.TheVariants.{Call as Called, Done as Returned, Free as Freed}
 use Rattle.plc_auto.specs.declared.observer.Observer.{Observer}
-use Rattle.plc_auto.specs.Table.{count_of, is_retire, is_well_formed}
+use Rattle.plc_auto.specs.Table.{count_of, is_well_formed}
+use Rattle.plc_base.specs.Functions.{is_retire}
 use Rattle.plc_auto.specs.Location.{is_this, location, Allowed, stands_retired}
 use Rattle.plc_auto.specs.Laws.{retired_by}
 use Rattle.plc_auto.proofs.Histories.{location_empty, location_live, allowed_empty, allowed_last, allowed_spoken}

@@ -8,13 +8,14 @@ use Rattle.plc_lang.specs.declared.syntax.Primitive.{Primitive}
 use Rattle.plc_lang.specs.declared.syntax.Primitive.TheVariants.{Null, Copy, New, Load, Store, StoreNull, DataSet, DataLoad, DataStore, Eq, Ne, IsNull, NotNull, DataTest, Refresh, RefreshLoad, RefreshStore, Call, Done, Active, Ghost}
 use Rattle.plc_lang.specs.Shape.{VarIn, PrimitiveIn, PrimitivesIn}
 use Rattle.plc_auto.specs.declared.event.Event.{Event}
-use Rattle.plc_auto.specs.Table.{is_retire}
+use Rattle.plc_base.specs.Functions.{is_retire}
 use Rattle.plc_mem.specs.declared.cell.Cell.{Cell}
 use Rattle.plc_mem.specs.declared.cell.RaceKind.{RaceKind}
-use Rattle.plc_mem.specs.State.{State, Locals, null_cell, put_at, locals_or_none, locals_of, with_locals, at_field, put, put_value, put_field_value, place, with_node, with_retired}
+use Rattle.plc_mem.specs.State.{State, Locals, null_cell, locals_or_none, locals_of, with_locals, at_field, put, put_value, put_field_value, place, with_node, with_retired}
+use Rattle.plc_base.specs.Tables.{put_at}
 use Rattle.plc_mem.specs.Primitives.{after_call, race_of, goes, after, event_of}
 use Rattle.plc_mem.specs.Fit.{shape}
-use Rattle.plc_mem.proofs.Tables.{get-put_same, get-put_other}
+use Rattle.plc_base.proofs.Tables.{get-put_same, get-put_other}
 use Rattle.plc_mem.proofs.Places.{length_put}
 use Rattle.plc_run.specs.Run.{Ending, Fine, Stuck, Raced, turn, recorded, execute}
 

@@ -19,7 +19,8 @@ use Rattle.plc_flow.specs.declared.flow.Flow.{Flow}
 use Rattle.plc_flow.specs.declared.flow.Move.{Move}
 use Rattle.plc_flow.specs.declared.flow.Move.TheVariants.{Start, Step as Take, Return, Free}
 use Rattle.plc_mem.specs.declared.cell.RaceKind.{RaceKind}
-use Rattle.plc_mem.specs.State.{State, Locals, put_at, with_locals, starting}
+use Rattle.plc_mem.specs.State.{State, Locals, with_locals, starting}
+use Rattle.plc_base.specs.Tables.{put_at}
 use Rattle.plc_mem.specs.Primitives.{race_of, goes, after, event_of}
 use Rattle.plc_mem.specs.Outcomes.{address_or_null}
 use Rattle.plc_mem.proofs.Places.{put_is_set, put_put, length_put}

@@ -13,9 +13,10 @@ use Rattle.plc_flow.specs.declared.flow.Move.{Move}
 use Rattle.plc_flow.specs.declared.flow.Move.TheVariants.{Start, Step as Take, Return, Free}
 use Rattle.plc_flow.specs.WellFormed.{FlowFits, IsPointOf}
 use Rattle.plc_auto.specs.declared.event.Event.{Event}
-use Rattle.plc_mem.specs.State.{State, Locals, null_cell, put_at, holds_pointer, cut, cut_locals, freed, with_locals, first_state, no_locals, starting}
+use Rattle.plc_mem.specs.State.{State, Locals, null_cell, holds_pointer, cut, cut_locals, freed, with_locals, first_state, no_locals, starting}
+use Rattle.plc_base.specs.Tables.{put_at}
 use Rattle.plc_mem.specs.Fit.{shape}
-use Rattle.plc_mem.proofs.Tables.{get-put_same, get-put_other, get-map, get-replicate}
+use Rattle.plc_base.proofs.Tables.{get-put_same, get-put_other, get-map, get-replicate}
 use Rattle.plc_mem.proofs.Places.{length_put}
 use Rattle.plc_run.specs.declared.point.Point.{Point}
 use Rattle.plc_run.specs.Run.{Ending, Fine, Stuck, Raced, Configuration, point_of, leaves, steps_from, Moves, Run, begin, more, beginning, initialised, first_configuration}

@@ -13,7 +13,8 @@ use Rattle.plc_flow.specs.declared.flow.Flow.{Flow}
 use Rattle.plc_flow.specs.declared.flow.Move.{Move}
 use Rattle.plc_flow.specs.declared.flow.Move.TheVariants.{Start, Step as Take, Return, Free}
 use Rattle.plc_mem.specs.declared.cell.RaceKind.{RaceKind}
-use Rattle.plc_mem.specs.State.{put_at, with_locals, freed, starting}
+use Rattle.plc_mem.specs.State.{with_locals, freed, starting}
+use Rattle.plc_base.specs.Tables.{put_at}
 use Rattle.plc_run.specs.declared.point.Point.{Point}
 use Rattle.plc_lang.specs.Allocation.{is_new}
 use Rattle.plc_run.specs.Run.{Ending, Fine, Stuck, Raced, Configuration, point_of, steps_from, taken}

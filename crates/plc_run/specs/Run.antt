@@ -16,7 +16,8 @@ use Rattle.plc_flow.specs.declared.flow.Move.{Move}
 use Rattle.plc_flow.specs.declared.flow.Move.TheVariants.{Start, Step as Take, Return, Free}
 use Rattle.plc_mem.specs.declared.cell.RaceKind.{RaceKind}
 use Rattle.plc_run.specs.declared.point.Point.{Point}
-use Rattle.plc_mem.specs.State.{State, put_at, with_locals, freed, first_state, no_locals, starting}
+use Rattle.plc_mem.specs.State.{State, with_locals, freed, first_state, no_locals, starting}
+use Rattle.plc_base.specs.Tables.{put_at}
 use Rattle.plc_mem.specs.Primitives.{race_of, goes, after, event_of}
 use Rattle.plc_mem.specs.Outcomes.{address_or_null}
 

@@ -8,13 +8,13 @@ use Rattle.plc_lang.specs.declared.syntax.Arg.TheVariants as args
 use Rattle.plc_lang.specs.declared.syntax.Primitive.{Primitive}
 use Rattle.plc_lang.specs.declared.syntax.Primitive.TheVariants.{Null, Copy, New, Load, Store, StoreNull, DataSet, DataLoad, DataStore, Eq, Ne, IsNull, NotNull, DataTest, Refresh, RefreshLoad, RefreshStore, Call, Done, Active, Ghost}
 use Rattle.plc_auto.specs.declared.event.Event.{Event}
-use Rattle.plc_auto.specs.Table.{is_retire}
+use Rattle.plc_base.specs.Functions.{is_retire}
 use Rattle.plc_auto.specs.Laws.{is_retire_call}
 use Rattle.plc_mem.specs.declared.cell.Cell.{Cell}
 use Rattle.plc_mem.specs.State.{State, Place, at_shared, at_local, at_field, Locals, null_cell, fresh_cell, locals_or_none, at, put, place, is_used, with_node, with_locals, put_value, put_field_value, fresh_state, started}
 use Rattle.plc_mem.specs.Primitives.{cell_at, field_at, after_call, race_of, goes, after, event_of}
 use Rattle.plc_mem.specs.Laws.{is_there}
-use Rattle.plc_mem.proofs.Tables.{get-replicate}
+use Rattle.plc_base.proofs.Tables.{get-replicate}
 use Rattle.plc_mem.proofs.Views.{cases_place, writes, writes_nothing, writes_local, writes_field, writes_no_field, makes, retires, gives, fresh_is_null}
 use Rattle.plc_run.specs.Run.{Ending, Fine, Stuck, Raced, turn, execute, recorded}
 use Rattle.plc_sound.specs.Laws.{calls_retire, some_retire}

@@ -4,7 +4,7 @@ use Rattle.std.specs.List.{list_any}
 use Rattle.plc_lang.specs.declared.syntax.Primitive.{Primitive}
 use Rattle.plc_lang.specs.declared.syntax.Primitive.TheVariants.{Null, Copy, New, Load, Store, StoreNull, DataSet, DataLoad, DataStore, Eq, Ne, IsNull, NotNull, DataTest, Refresh, RefreshLoad, RefreshStore, Call, Done, Active, Ghost}
 use Rattle.plc_auto.specs.declared.observer.Observer.{Observer}
-use Rattle.plc_auto.specs.Table.{is_retire}
+use Rattle.plc_base.specs.Functions.{is_retire}
 use Rattle.plc_flow.specs.declared.flow.Step.{Step}
 use Rattle.plc_flow.specs.declared.flow.Flow.{Flow}
 use Rattle.plc_run.specs.Run.{NeverRaces}

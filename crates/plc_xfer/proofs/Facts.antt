@@ -11,7 +11,7 @@ use Rattle.plc_lang.specs.declared.syntax.Primitive.{Primitive}
 use Rattle.plc_auto.specs.declared.event.EvKind.{EvKind}
 use Rattle.plc_auto.specs.declared.event.EvKind.TheVariants.{Call}
 use Rattle.plc_auto.specs.declared.observer.Observer.{Observer}
-use Rattle.plc_auto.specs.Table.{is_retire}
+use Rattle.plc_base.specs.Functions.{is_retire}
 use Rattle.plc_auto.specs.Sets.{all_locations, unretired, safe, closure}
 use Rattle.plc_auto.specs.Laws.{is_retirement}
 use Rattle.plc_auto.proofs.SetLemmas.{step_set_live}

@@ -14,7 +14,7 @@ use Rattle.plc_lang.specs.declared.syntax.Primitive.TheVariants.{Null, Copy, New
 use Rattle.plc_auto.specs.declared.event.EvKind.{EvKind}
 use Rattle.plc_auto.specs.declared.event.EvKind.TheVariants as events
 use Rattle.plc_auto.specs.declared.observer.Observer.{Observer}
-use Rattle.plc_auto.specs.Table.{is_retire}
+use Rattle.plc_base.specs.Functions.{is_retire}
 use Rattle.plc_auto.specs.Sets.{unretired, safe, closure}
 use Rattle.plc_type.specs.declared.env.PtrType.{PtrType}
 use Rattle.plc_type.specs.declared.env.Env.{Env}

@@ -6,7 +6,7 @@
 ghost use Rattle.std.specs.Prelude.{◌≡◌, map, true};
 ghost use Rattle.plc_base.specs.Mask.{within};
 ghost use Rattle.plc_auto.specs.Sets.{all_locations};
-ghost use Rattle.plc_auto.specs.Table.{is_retire};
+ghost use Rattle.plc_base.specs.Functions.{is_retire};
 ghost use Rattle.plc_xfer.specs.Calls.{on_other, on_either, other_type, argument_type, beside_retired, beside_type};
 ghost use Rattle.plc_xfer.specs.Rules.{type_of, all_within, FitsObserver};
 ghost use Rattle.plc_xfer.specs.Writes.{with_type, with_each};
@@ -16,13 +16,6 @@ use plc_auto::{EvKind, Observer};
 use plc_base::{FuncId, Items, Mask};
 use plc_lang::{Arg, Var};
 use plc_type::{Env, Guar, PtrType};
-
-/// Whether a function is `retire`.
-pub(crate) fn is_retire(func: FuncId) -> bool
-    ensures { result ≡ is_retire func }
-{
-    func.0 == 0
-}
 
 // The locations after a call on this address or on another.
 fn on_either(m: &Mask, func: FuncId, observer: &Observer) -> Mask
@@ -40,7 +33,7 @@ fn argument_type(t: &PtrType, func: FuncId, observer: &Observer) -> PtrType
     ensures { result ≡ argument_type observer.now func t.now }
 {
     let m = observer.step_set(&t.m, EvKind::Call(func), true, true);
-    if is_retire(func) {
+    if func.is_retire() {
         return PtrType {
             g: t.g.without_active(),
             m,
@@ -72,7 +65,7 @@ fn beside_type(t: &PtrType, func: FuncId, observer: &Observer) -> PtrType
     requires { within t.now.m (all_locations observer.now) ≡ true }
     ensures { result ≡ beside_type observer.now func t.now }
 {
-    if is_retire(func) {
+    if func.is_retire() {
         return beside_retired(t, func, observer);
     }
     PtrType {

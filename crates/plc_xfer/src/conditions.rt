@@ -3,7 +3,6 @@ ghost use Rattle.std.specs.Prelude.{◌≡◌};
 ghost use Rattle.std.specs.Result.{result_err};
 ghost use Rattle.plc_xfer.specs.Rules.{access_fault, compare_fault, retire_fault, call_fault, fault_of};
 
-use crate::calls::is_retire;
 use crate::fault::TypeFault;
 use crate::types::type_of;
 use plc_auto::Observer;
@@ -51,7 +50,7 @@ fn call(env: &Env, func: FuncId, arg: Arg) -> Result<(), TypeFault>
     ensures { result_err result ≡ call_fault env.now func arg }
 {
     match arg {
-        Arg::Var(p) if is_retire(func) => retire(env, p),
+        Arg::Var(p) if func.is_retire() => retire(env, p),
         _ => Ok(()),
     }
 }

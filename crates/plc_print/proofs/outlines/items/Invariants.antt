@@ -1,6 +1,6 @@
 use Rattle.std.proofs.Common.{[], drop, map}
 use Rattle.plc_logic.specs.declared.clause.Item.{Item}
-use Rattle.plc_logic.specs.Labels.{op_of_site}
+use Rattle.plc_logic.specs.Sites.{op_of_site}
 use Rattle.plc_syntax.specs.Trees.{each_then, item_then}
 use Rattle.plc_print.specs.Outlines.{clause_tree, site_tree, locals_in_reach}
 use Rattle.plc_print.proofs.Left.{Left}

@@ -6,7 +6,7 @@ use Rattle.plc_lex.specs.declared.token.Keyword.TheVariants.{Outline}
 use Rattle.plc_lex.specs.declared.token.Symbol.TheVariants.{OpenBrace, CloseBrace}
 use Rattle.plc_logic.specs.declared.clause.Clause.{Clause}
 use Rattle.plc_logic.specs.declared.clause.Item.{Item}
-use Rattle.plc_logic.specs.Labels.{op_of_site}
+use Rattle.plc_logic.specs.Sites.{op_of_site}
 use Rattle.plc_syntax.specs.Trees.{each_then, maybe_then, item_then, depth_then}
 use Rattle.plc_print.specs.Outlines.{clause_tree, invariant_tree, site_tree, locals_in_reach, item_tree, depth_tree}
 use Rattle.plc_print.specs.Text.{text_of}

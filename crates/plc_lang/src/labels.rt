@@ -3,11 +3,11 @@
 ghost use Rattle.std.specs.Prelude.{◌≡◌, ◌++◌, IfOk, OnOk};
 ghost use Rattle.std.specs.List.{position_from};
 ghost use Rattle.plc_lang.specs.Views.{statement_of, blocks_of};
-ghost use Rattle.plc_logic.specs.Labels.{label_or_none, statement_labels, block_labels, blocks_labels, labels_by_op, has_label, op_of_label, op_of_site};
+ghost use Rattle.plc_lang.specs.Labels.{label_or_none, statement_labels, block_labels, blocks_labels, labels_by_op, has_label, op_of_label};
 
-use crate::clause::Site;
+use crate::block::Block;
+use crate::syntax::{Op, Stmt};
 use plc_base::{Items, NoMemory};
-use plc_lang::{Block, Op, Stmt};
 use std::alloc::Global;
 
 // The label of a call, if it has one.
@@ -73,7 +73,7 @@ fn labels_of(alloc: Global, op: &Op) -> Result<Items<u16>, NoMemory>
     Ok(labels)
 }
 
-/// The labels of each operation, in order of the text. Its one error is that memory was wanting.
+/// The labels of each operation, in order of the text. Its one error is that memory runs out.
 pub fn labels_by_op(alloc: Global, ops: &[Op]) -> Result<Items<Items<u16>>, NoMemory>
     ensures { IfOk result (λ by_op. by_op ≡ labels_by_op ops.now) }
 {
@@ -100,18 +100,4 @@ pub fn op_of_label(by_op: &[Items<u16>], label: u16) -> Option<usize>
         }
     }
     None
-}
-
-/// The operation of an item, given the labels of each: the one that it names, or the one in which its
-/// first label stands; `None` where it has no label, or where none has that label.
-pub fn op_of_site(by_op: &[Items<u16>], site: &Site) -> Option<usize>
-    ensures { result ≡ op_of_site by_op.now site.now }
-{
-    match site {
-        Site::Over(op) => Some(op.0 as usize),
-        Site::At(labels) => match labels.as_slice() {
-            [] => None,
-            [first, ..] => op_of_label(by_op, *first),
-        },
-    }
 }

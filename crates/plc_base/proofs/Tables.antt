@@ -2,7 +2,7 @@
 use Rattle.std.proofs.Common.{◌≡◌, ℕ, zero, suc, Bool, true, false, not, ◌&&◌, ◌||◌, ◌==◌, cond, List, [], ◌∷◌, get_or, map, replicate, filter, refl, sym, ap, ◌∙◌}
 use Rattle.std.specs.List.{list_any}
 use Rattle.std.proofs.lemmas.Bool.{eq-eqb, eqb-true}
-use Rattle.plc_mem.specs.State.{put_at}
+use Rattle.plc_base.specs.Tables.{put_at}
 
 pub get-put_same : {A : Type 0} (d : A) (xs : List A) (i : ℕ) (v : A) → get_or (put_at d xs i v) i d ≡ v
 get-put_same d [] zero v = refl

@@ -3,7 +3,7 @@ use Rattle.plc_lang.specs.declared.syntax.Line.{Line}
 use Rattle.plc_lang.specs.Statements.{statement_size, block_size, blocks_size}
 use Rattle.plc_lang.specs.Views.{statement_of, blocks_of}
 use Rattle.plc_lang.proofs.Sizes.{line_is_smaller, block_is_no_larger}
-use Rattle.plc_logic.proofs.labels.+note.Goals as goal
+use Rattle.plc_lang.proofs.labels.+note.Goals as goal
 
 pub note_block-note_statement-requires : goal.note_block-note_statement-requires
 note_block-note_statement-requires t c =

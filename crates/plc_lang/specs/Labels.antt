@@ -1,9 +1,7 @@
--- In which operation a label stands: the one whose statements have it. The labels of an item stand in one operation.
+-- The labels of statements, and in which operation a label stands: the one whose statements have it.
 use Rattle.std.specs.Prelude.{◌==◌, ℕ, Bool, List, [], ◌∷◌, ◌++◌, map, Option, Some, None}
 use Rattle.std.specs.List.{list_any, position_from}
 use Rattle.plc_lang.specs.declared.syntax.Op.{Op}
-use Rattle.plc_logic.specs.declared.clause.Site.{Site}
-use Rattle.plc_logic.specs.declared.clause.Site.TheVariants.{Over, At}
 use Rattle.plc_lang.specs.Statements.{Statement, One, Atomic, Call, If, Choose, Loop, Break, Return, Skip, Label, Statements, Empty, Then, Blocks, NoBlock, And}
 
 -- the label of a call, if it has one
@@ -44,9 +42,3 @@ has_label label labels = list_any (λ (n : ℕ). n == label) labels
 -- the operation of a label
 abbrev pub op_of_label : List (List ℕ) → ℕ → Option ℕ
 op_of_label by_op label = position_from (has_label label) 0 by_op
-
--- the operation of an item: the one that it names, or that of its labels
-abbrev pub op_of_site : List (List ℕ) → Site → Option ℕ
-op_of_site by_op (Over o) = Some o.0
-op_of_site by_op (At []) = None
-op_of_site by_op (At (l ∷ ls)) = op_of_label by_op l

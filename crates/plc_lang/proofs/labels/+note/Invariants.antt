@@ -1,8 +1,8 @@
 use Rattle.std.proofs.Common.{◌≡◌, ◌+◌, ◌*◌, ◌++◌, drop}
 use Rattle.plc_lang.specs.Statements.{statement_size, block_size, blocks_size}
 use Rattle.plc_lang.specs.Views.{statement_of, block_of, blocks_of}
-use Rattle.plc_logic.specs.Labels.{block_labels, blocks_labels}
-use Rattle.plc_logic.proofs.labels.+note.Given as goal
+use Rattle.plc_lang.specs.Labels.{block_labels, blocks_labels}
+use Rattle.plc_lang.proofs.labels.+note.Given as goal
 
 abbrev pub invariant-note_block-loop-line : goal.invariant-note_block-loop-line
 invariant-note_block-loop-line l = l.labels ++ block_labels (block_of (drop l.line-index l.line-items)) ≡ l.initial.labels ++ block_labels (block_of l.line-items)

@@ -1,0 +1,42 @@
+-- Numbers of one thing: a local's among those of its kind and among all locals of its operation; a value's in its auxiliary field and over the file.
+use Rattle.std.specs.Prelude.{◌≡◌, ℕ, ◌+◌, Bool, true, List, [], ◌∷◌, if◌then◌else◌, length, take, slice_get, count_by, Option, Some}
+use Rattle.std.specs.List.{sum_by}
+use Rattle.plc_lang.specs.declared.syntax.Local.{Local}
+use Rattle.plc_lang.specs.declared.syntax.Ghost.{Ghost}
+use Rattle.plc_lang.specs.Locals.{is_pointer, is_data}
+
+-- the places of the locals of a kind, in order, where so many locals stand before
+abbrev pub places_from : (Local → Bool) → ℕ → List Local → List ℕ
+places_from is_kind before [] = []
+places_from is_kind before (l ∷ ls) =
+    if is_kind l then before ∷ places_from is_kind (before + 1) ls else places_from is_kind (before + 1) ls
+
+-- the place among all locals of a pointer local, by its number among these
+abbrev pub pointer_place : List Local → ℕ → Option ℕ
+pointer_place locals v = slice_get (places_from is_pointer 0 locals) v
+
+-- the same of a data local
+abbrev pub data_place : List Local → ℕ → Option ℕ
+data_place locals x = slice_get (places_from is_data 0 locals) x
+
+-- the number among the pointer locals, or among the data locals, of the local at a place: how many of its kind stand before
+abbrev pub pointer_number : List Local → ℕ → ℕ
+pointer_number locals place = count_by is_pointer (take place locals)
+
+abbrev pub data_number : List Local → ℕ → ℕ
+data_number locals place = count_by is_data (take place locals)
+
+-- how many values an auxiliary field has
+abbrev pub values_in : Ghost → ℕ
+values_in g = length g.values
+
+-- the number over the file of a value, by its field and its number there: those of the fields before stand before it
+abbrev pub value_number : List Ghost → ℕ → ℕ → ℕ
+value_number ghosts g v = sum_by values_in (take g ghosts) + v
+
+-- a local's two numbers lead to each other
+pub record NumbersAreOne (locals : List Local) : Type 0 where
+  pub of_pointer : (v place : ℕ) → pointer_place locals v ≡ Some place → pointer_number locals place ≡ v
+  pub of_data : (x place : ℕ) → data_place locals x ≡ Some place → data_number locals place ≡ x
+  pub to_pointer : (place : ℕ) (l : Local) → slice_get locals place ≡ Some l → is_pointer l ≡ true → pointer_place locals (pointer_number locals place) ≡ Some place
+  pub to_data : (place : ℕ) (l : Local) → slice_get locals place ≡ Some l → is_data l ≡ true → data_place locals (data_number locals place) ≡ Some place
