@@ -1,5 +1,5 @@
 -- Numbers of one thing: a local's among those of its kind and among all locals of its operation; a value's in its auxiliary field and over the file.
-use Rattle.std.specs.Prelude.{◌≡◌, ℕ, ◌+◌, Bool, true, List, [], ◌∷◌, if◌then◌else◌, length, take, slice_get, count_by, Option, Some}
+use Rattle.std.specs.Prelude.{◌≡◌, ℕ, ◌+◌, Bool, true, List, [], ◌∷◌, if◌then◌else◌, length, take, slice_get, count_by, Option, Some, None}
 use Rattle.std.specs.List.{sum_by}
 use Rattle.plc_lang.specs.declared.syntax.Local.{Local}
 use Rattle.plc_lang.specs.declared.syntax.Ghost.{Ghost}
@@ -18,6 +18,11 @@ pointer_place locals v = slice_get (places_from is_pointer 0 locals) v
 -- the same of a data local
 abbrev pub data_place : List Local → ℕ → Option ℕ
 data_place locals x = slice_get (places_from is_data 0 locals) x
+
+-- the local at a place, if there is such a place
+abbrev pub local_at : List Local → Option ℕ → Option Local
+local_at locals None = None
+local_at locals (Some place) = slice_get locals place
 
 -- the number among the pointer locals, or among the data locals, of the local at a place: how many of its kind stand before
 abbrev pub pointer_number : List Local → ℕ → ℕ

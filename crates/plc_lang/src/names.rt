@@ -1,9 +1,10 @@
 // Names by the numbers of what they name, as texts show them. A number that nothing has shows as the
 // empty name, so that whoever writes a text of a file asks nothing of it.
-ghost use Rattle.std.specs.Prelude.{◌≡◌, filter, slice_get, option_map};
-ghost use Rattle.plc_lang.specs.Locals.{is_pointer, is_data};
+ghost use Rattle.std.specs.Prelude.{◌≡◌, option_map};
+ghost use Rattle.plc_lang.specs.Numbering.{local_at};
 ghost use Rattle.plc_lang.specs.Names.{name_at, name_of, values_of, field_name, function_name, operation_name, auxiliary_name, value_name, label_name, shared_name, pointer_name, data_name, local_name, variable_name};
 
+use crate::numbering::{data_place, pointer_place};
 use crate::syntax::{File, Local, Var};
 use plc_base::{FieldId, FuncId, OpId};
 
@@ -92,50 +93,28 @@ pub fn shared_name(file: &File, i: u16) -> &[u8]
     name_of(file, file.shared.get(i as usize).copied())
 }
 
-// The number of the name of a pointer local.
-fn pointer_number(locals: &[Local], v: u16) -> Option<u16>
-    ensures { result ≡ option_map (λ l. l.name) (slice_get (filter is_pointer locals.now) v) }
+// The number of the name of the local at a place.
+fn number_at(locals: &[Local], place: Option<usize>) -> Option<u16>
+    ensures { result ≡ option_map (λ l. l.name) (local_at locals.now place) }
 {
-    let mut left = v;
-    for local in locals {
-        if local.pointer {
-            if left == 0 {
-                return Some(local.name);
-            }
-            left -= 1;
-        }
+    match place {
+        None => None,
+        Some(place) => locals.get(place).map(|l| l.name),
     }
-    None
-}
-
-// The number of the name of a data local.
-fn data_number(locals: &[Local], x: u16) -> Option<u16>
-    ensures { result ≡ option_map (λ l. l.name) (slice_get (filter is_data locals.now) x) }
-{
-    let mut left = x;
-    for local in locals {
-        if !local.pointer {
-            if left == 0 {
-                return Some(local.name);
-            }
-            left -= 1;
-        }
-    }
-    None
 }
 
 /// The name of a pointer local of an operation with these locals, by its number among its pointer locals.
 pub fn pointer_name<'a>(file: &'a File, locals: &[Local], v: u16) -> &'a [u8]
     ensures { result.now ≡ pointer_name file.now locals.now v }
 {
-    name_of(file, pointer_number(locals, v))
+    name_of(file, number_at(locals, pointer_place(locals, v)))
 }
 
 /// The name of a data local of an operation with these locals, by its number among its data locals.
 pub fn data_name<'a>(file: &'a File, locals: &[Local], x: u16) -> &'a [u8]
     ensures { result.now ≡ data_name file.now locals.now x }
 {
-    name_of(file, data_number(locals, x))
+    name_of(file, number_at(locals, data_place(locals, x)))
 }
 
 /// The name of a local of an operation with these locals, by its number among all of them.

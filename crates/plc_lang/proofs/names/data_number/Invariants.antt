@@ -1,6 +1,0 @@
-use Rattle.std.proofs.Common.{◌≡◌, drop, filter, slice_get}
-use Rattle.plc_lang.specs.Locals.{is_data}
-use Rattle.plc_lang.proofs.names.data_number.Given as goal
-
-abbrev pub invariant-loop-local : goal.invariant-loop-local
-invariant-loop-local l = slice_get (filter is_data (drop l.local-index l.locals)) l.left ≡ slice_get (filter is_data l.locals) l.x

@@ -1,0 +1,7 @@
+use Rattle.std.proofs.Common.{◌≡◌, drop, slice_get}
+use Rattle.plc_lang.specs.Locals.{is_data}
+use Rattle.plc_lang.specs.Numbering.{places_from, data_place}
+use Rattle.plc_lang.proofs.numbering.data_place.Given as goal
+
+abbrev pub invariant-loop-place : goal.invariant-loop-place
+invariant-loop-place l = slice_get (places_from is_data l.place (drop l.place l.locals)) l.left ≡ data_place l.locals l.number
