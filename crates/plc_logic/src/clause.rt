@@ -39,7 +39,7 @@ pub enum Term {
     Nobody,
 }
 
-/// What a term stands for. The two sides of an equation have one sort.
+/// What a term stands for, in a clause and in a ground set. The two sides of an equation have one sort.
 #[derive(Clone, Copy, Debug, PartialEq, Eq)]
 pub enum Sort {
     /// A node, or null.
@@ -49,6 +49,8 @@ pub enum Sort {
     Thread,
     /// A value of the auxiliary field of this number.
     Value(u16),
+    /// Whether something is so: that of `retired` in ground sets. No term of a clause has it.
+    Truth,
 }
 
 /// A literal of a clause.

@@ -191,18 +191,27 @@ module _ (file : File) (r : Reach) (names : NamesOf r.scope file) where
   same_sorts sorts.Node sorts.Number e = absurd cc
   same_sorts sorts.Node sorts.Thread e = absurd cc
   same_sorts sorts.Node (sorts.Value h) e = absurd cc
+  same_sorts sorts.Node sorts.Truth e = absurd cc
   same_sorts sorts.Number sorts.Node e = absurd cc
   same_sorts sorts.Number sorts.Number e = refl
   same_sorts sorts.Number sorts.Thread e = absurd cc
   same_sorts sorts.Number (sorts.Value h) e = absurd cc
+  same_sorts sorts.Number sorts.Truth e = absurd cc
   same_sorts sorts.Thread sorts.Node e = absurd cc
   same_sorts sorts.Thread sorts.Number e = absurd cc
   same_sorts sorts.Thread sorts.Thread e = refl
   same_sorts sorts.Thread (sorts.Value h) e = absurd cc
+  same_sorts sorts.Thread sorts.Truth e = absurd cc
   same_sorts (sorts.Value g) sorts.Node e = absurd cc
   same_sorts (sorts.Value g) sorts.Number e = absurd cc
   same_sorts (sorts.Value g) sorts.Thread e = absurd cc
   same_sorts (sorts.Value g) (sorts.Value h) e = ap sorts.Value (eqb-true g h e)
+  same_sorts (sorts.Value g) sorts.Truth e = absurd cc
+  same_sorts sorts.Truth sorts.Node e = absurd cc
+  same_sorts sorts.Truth sorts.Number e = absurd cc
+  same_sorts sorts.Truth sorts.Thread e = absurd cc
+  same_sorts sorts.Truth (sorts.Value h) e = absurd cc
+  same_sorts sorts.Truth sorts.Truth e = refl
 
   if_sorted : (wanted : Sort) (at : ℕ) (t : Term × Sort) (b : Bool) → same_sort t.1 wanted ≡ b → Sorted t → Has (λ x. HasSort w x wanted) (if b then Ok t.0 else Err (faults.WrongSort at))
   if_sorted wanted at t true e h = subst (HasSort w t.0) (same_sorts t.1 wanted e) h

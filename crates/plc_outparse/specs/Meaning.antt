@@ -73,21 +73,11 @@ sort_place at NoneTerm = at
 -- whether two sorts are one
 abbrev pub same_sort : Sort → Sort → Bool
 same_sort sorts.Node sorts.Node = true
-same_sort sorts.Node sorts.Number = false
-same_sort sorts.Node sorts.Thread = false
-same_sort sorts.Node (sorts.Value h) = false
-same_sort sorts.Number sorts.Node = false
 same_sort sorts.Number sorts.Number = true
-same_sort sorts.Number sorts.Thread = false
-same_sort sorts.Number (sorts.Value h) = false
-same_sort sorts.Thread sorts.Node = false
-same_sort sorts.Thread sorts.Number = false
 same_sort sorts.Thread sorts.Thread = true
-same_sort sorts.Thread (sorts.Value h) = false
-same_sort (sorts.Value g) sorts.Node = false
-same_sort (sorts.Value g) sorts.Number = false
-same_sort (sorts.Value g) sorts.Thread = false
 same_sort (sorts.Value g) (sorts.Value h) = g == h
+same_sort sorts.Truth sorts.Truth = true
+same_sort s t = false
 
 -- a term of the wanted sort
 abbrev pub if_same_sort : Sort → ℕ → Term × Sort → Result Term ParseFault

@@ -128,8 +128,10 @@ fn same_sort(a: Sort, b: Sort) -> bool
     ensures { result ≡ same_sort a b }
 {
     match (a, b) {
-        (Sort::Node, Sort::Node) | (Sort::Number, Sort::Number) | (Sort::Thread, Sort::Thread) =>
-            true,
+        (Sort::Node, Sort::Node)
+        | (Sort::Number, Sort::Number)
+        | (Sort::Thread, Sort::Thread)
+        | (Sort::Truth, Sort::Truth) => true,
         (Sort::Value(g), Sort::Value(h)) => g == h,
         _ => false,
     }
