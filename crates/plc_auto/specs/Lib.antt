@@ -1,3 +1,4 @@
+-- what contracts of public calls say
 pub mod Table
 pub mod Location
 pub mod Sets

@@ -1,10 +1,9 @@
+-- what contracts of public calls say
 pub mod Allocation
 pub mod Comparison
-pub mod Falls
 pub mod Fit
 pub mod Labels
 pub mod Locals
-pub mod Marks
 pub mod Names
 pub mod Numbering
 pub mod Shape
@@ -12,3 +11,6 @@ pub mod Skeleton
 pub mod Statements
 pub mod Views
 pub mod WellSorted
+-- words of private functions alone
+pub mod Falls
+pub mod Marks

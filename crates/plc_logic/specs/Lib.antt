@@ -1,3 +1,4 @@
+-- what contracts of public calls say
 pub mod Negation
 pub mod Sites
 pub mod Fit
