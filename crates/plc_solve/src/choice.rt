@@ -168,7 +168,8 @@ fn choose(set: &GroundSet, survey: &Survey, class: &[u32], seen: &mut [usize]) -
     requires survey { IsSurvey set.now survey.now }
     requires seen { length seen.old ≡ length set.now.clauses }
     ensures some { IfSome result (λ b. (b.clause < length set.now.clauses) × IsFalse set.now class.now b.clause) }
-    ensures none { IfNone result ((c : ℕ) → c < length set.now.clauses → Any (HoldsIn (slice_index class.now)) (literals set.now c)) }
+    ensures none { IfNone result ((c : ℕ) → c < length set.now.clauses
+        → Any (HoldsIn (slice_index class.now)) (literals set.now c)) }
 {
     let mut best = None;
     for c in 0..set.clauses.len() {
@@ -191,7 +192,8 @@ pub(crate) fn pick(
     requires survey { IsSurvey set.now survey.now }
     requires seen { length seen.old ≡ length set.now.clauses }
     ensures some { IfSome result (λ c. (c < length set.now.clauses) × IsFalse set.now class.now c) }
-    ensures none { IfNone result ((c : ℕ) → c < length set.now.clauses → Any (HoldsIn (slice_index class.now)) (literals set.now c)) }
+    ensures none { IfNone result ((c : ℕ) → c < length set.now.clauses
+        → Any (HoldsIn (slice_index class.now)) (literals set.now c)) }
 {
     match choose(set, survey, class, seen) {
         Some(choice) => Some(choice.clause),

@@ -26,7 +26,8 @@ pub(crate) fn hand_up(
     requires stack { IsStack set.now (reverse frames.old.items) }
     requires closes { ClosesTop set.now (reverse frames.old.items) tree.items }
     ensures stack { result ≡ Ok None → IsStack set.now (reverse frames.new.items) }
-    ensures less { result ≡ Ok None → (base : ℕ) → left set.now base (reverse frames.new.items) ≤ left_below set.now base (reverse frames.old.items) }
+    ensures less { result ≡ Ok None → (base : ℕ) → left set.now base (reverse frames.new.items)
+        ≤ left_below set.now base (reverse frames.old.items) }
     ensures nonempty { result ≡ Ok None → 0 < vec_len frames.new }
     ensures closed { IfOk result (λ o. IfSome o (λ all. ClosesTop set.now [] all.items)) }
 {

@@ -55,7 +55,9 @@ fn refined(
     requires place { IsPlace set.now top.now.branch.items top.now.class.items }
     requires fit { LitFits set.now l }
     ensures closure { IfOk result (λ new. IsClosure set.now.terms (top.now.branch.items ++ l ∷ []) new.items) }
-    ensures less { IfOk result (λ new. l.equal ≡ true → slice_index top.now.class.items l.left ≢ slice_index top.now.class.items l.right → sum new.items < sum top.now.class.items) }
+    ensures less { IfOk result (λ new. l.equal ≡ true
+        → slice_index top.now.class.items l.left ≢ slice_index top.now.class.items l.right
+        → sum new.items < sum top.now.class.items) }
 {
     let mut new = Vec::from_slice(alloc, &top.class)?;
     add(alloc, set, &survey.table, &mut new, l)?;
