@@ -1,8 +1,11 @@
 -- Places of the locals of a kind, and how many of the kind stand before a place.
-use Rattle.std.proofs.Common.{◌≡◌, ℕ, zero, suc, ◌+◌, Bool, true, false, cond, List, [], ◌∷◌, take, filter, slice_get, count_by, Option, Some, None, refl, sym, ap, ◌∙◌, arith}
+use Rattle.std.proofs.Common.{◌≡◌, ℕ, zero, suc, ◌+◌, ◌-◌, ◌<◌, ◌≤◌, nat_lt, Bool, true, false, cond, List, [], ◌∷◌, take, filter, slice_get, count_by, Option, Some, None, refl, sym, ap, ◌∙◌, arith}
+use Rattle.std.specs.List.{sum_by}
+use Rattle.std.proofs.lemmas.Bool.{lt-ltb, le-ltb}
 use Rattle.std.proofs.lemmas.List.Sums.{sum_by-cons}
 use Rattle.plc_lang.specs.declared.syntax.Local.{Local}
-use Rattle.plc_lang.specs.Numbering.{places_from, local_at, NumbersAreOne}
+use Rattle.plc_lang.specs.declared.syntax.Ghost.{Ghost}
+use Rattle.plc_lang.specs.Numbering.{places_from, local_at, value_from, value_number, values_in, NumbersAreOne, ValuesAreNumbered}
 use Rattle.plc_lang.specs.Locals.{is_pointer, is_data}
 
 module _ (k : Local → Bool) where
@@ -80,3 +83,24 @@ numbers_are_one locals = record {
   to_pointer = from_start is_pointer locals;
   to_data = from_start is_data locals;
 }
+
+-- the values of the fields before come before those of a field
+value_found : (b : ℕ) (gs : List Ghost) (k v : ℕ) (g : Ghost) → slice_get gs k ≡ Some g → v < values_in g → (n : ℕ) → n ≡ sum_by values_in (take k gs) + v → value_from b gs n ≡ Some (b + k, v)
+value_found b [] k v g e h n same = absurd cc
+value_found b (x ∷ gs) zero v g e h n same =
+    let field : x ≡ g = cc in
+    let number : n ≡ v = omega (arith, same) in
+    let small : nat_lt n (values_in x) ≡ true = lt-ltb _ _ (rw (field, number) h) in
+    let first : b ≡ b + 0 = omega arith in
+    rw small (ap (λ i. Some (i, n)) first ∙ ap (λ j. Some (b + 0, j)) number)
+value_found b (x ∷ gs) (suc k) v g e h n same =
+    let sum = sum_by-cons values_in x (take k gs) in
+    let large : nat_lt n (values_in x) ≡ false = le-ltb _ _ (omega (arith, same, sum)) in
+    let next : b + 1 + k ≡ b + suc k = omega arith in
+    rw large (value_found (b + 1) gs k v g e h (n - values_in x) (omega (arith, same, sum)) ∙ ap (λ i. Some (i, v)) next)
+
+-- the two numbers of a value lead to each other
+pub values_are_numbered : (ghosts : List Ghost) → ValuesAreNumbered ghosts
+values_are_numbered ghosts k v g e h =
+    let first : 0 + k ≡ k = omega arith in
+    value_found 0 ghosts k v g e h (value_number ghosts k v) refl ∙ ap (λ i. Some (i, v)) first

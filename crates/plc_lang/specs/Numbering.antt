@@ -1,5 +1,5 @@
 -- Numbers of one thing: a local's among those of its kind and among all locals of its operation; a value's in its auxiliary field and over the file.
-use Rattle.std.specs.Prelude.{◌≡◌, ℕ, ◌+◌, Bool, true, List, [], ◌∷◌, if◌then◌else◌, length, take, slice_get, count_by, Option, Some, None}
+use Rattle.std.specs.Prelude.{◌≡◌, ◌<◌, ℕ, ◌+◌, ◌-◌, nat_lt, Bool, true, List, [], ◌∷◌, if◌then◌else◌, length, take, slice_get, count_by, Option, Some, None}
 use Rattle.std.specs.List.{sum_by}
 use Rattle.plc_lang.specs.declared.syntax.Local.{Local}
 use Rattle.plc_lang.specs.declared.syntax.Ghost.{Ghost}
@@ -38,6 +38,19 @@ values_in g = length g.values
 -- the number over the file of a value, by its field and its number there: those of the fields before stand before it
 abbrev pub value_number : List Ghost → ℕ → ℕ → ℕ
 value_number ghosts g v = sum_by values_in (take g ghosts) + v
+
+-- the field and the number there of a value by its number over fields of which so many stand before
+abbrev pub value_from : ℕ → List Ghost → ℕ → Option (ℕ × ℕ)
+value_from before [] n = None
+value_from before (g ∷ gs) n = if nat_lt n (values_in g) then Some (before, n) else value_from (before + 1) gs (n - values_in g)
+
+-- the same over the file
+abbrev pub value_at : List Ghost → ℕ → Option (ℕ × ℕ)
+value_at ghosts n = value_from 0 ghosts n
+
+-- a value's number over the file leads to its field and its number there
+abbrev pub ValuesAreNumbered : List Ghost → Type 0
+ValuesAreNumbered ghosts = (k v : ℕ) (g : Ghost) → slice_get ghosts k ≡ Some g → v < values_in g → value_at ghosts (value_number ghosts k v) ≡ Some (k, v)
 
 -- a local's two numbers lead to each other
 pub record NumbersAreOne (locals : List Local) : Type 0 where

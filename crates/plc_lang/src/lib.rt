@@ -17,7 +17,10 @@ pub use names::{
     auxiliary_name, data_name, field_name, function_name, label_name, local_name, name_at,
     operation_name, pointer_name, shared_name, value_name, variable_name,
 };
-pub use numbering::{data_number, data_place, numbers_are_one, pointer_number, pointer_place};
+pub use numbering::{
+    data_number, data_place, numbers_are_one, pointer_number, pointer_place, value_at,
+    value_number, values_are_numbered,
+};
 pub use syntax::{
     Arg, Cond, Field, File, Func, Ghost, GhostVal, Line, Local, Num, Op, Primitive as Prim, Rel,
     Stmt, Var,

@@ -4,7 +4,8 @@
 ghost use Rattle.std.specs.Prelude.{◌≡◌, ◌+◌, ◌≤◌, ◌<◌, ◌^◌, length, List};
 ghost use Rattle.std.specs.List.{sum_by};
 ghost use Rattle.plc_lang.specs.declared.syntax.Local.{Local as ALocal};
-ghost use Rattle.plc_lang.specs.Numbering.{pointer_place, data_place, pointer_number, data_number, value_number, values_in, NumbersAreOne};
+ghost use Rattle.plc_lang.specs.declared.syntax.Ghost.{Ghost as AField};
+ghost use Rattle.plc_lang.specs.Numbering.{pointer_place, data_place, pointer_number, data_number, value_number, value_at, values_in, NumbersAreOne, ValuesAreNumbered};
 
 use crate::syntax::{Ghost, Local};
 
@@ -56,6 +57,41 @@ pub fn data_number(locals: &[Local], place: usize) -> usize
 {
     locals[..place].iter().filter(|l| !l.pointer).count()
 }
+
+/// The number over the file of a value of an auxiliary field, by the field's number and its own there,
+/// where all fields have fewer than 65,536 values.
+pub fn value_number(fields: &[Ghost], field: usize, value: u16) -> u32
+    requires field { field ≤ length fields.now }
+    requires few { sum_by values_in fields.now < 65536 }
+    ensures { result ≡ value_number fields.now field value }
+{
+    let mut before = 0;
+    for earlier in &fields[..field] {
+        before += earlier.values.len() as u32;
+    }
+    before + value as u32
+}
+
+/// The field of a value and its number there, by its number over the file; `None` where there are no more
+/// values than that.
+pub fn value_at(fields: &[Ghost], number: u32) -> Option<(usize, u32)>
+    ensures { result ≡ value_at fields.now number }
+{
+    let mut left = number;
+    for (place, field) in fields.iter().enumerate() {
+        let count = field.values.len();
+        if (left as usize) < count {
+            return Some((place, left));
+        }
+        left -= count as u32;
+    }
+    None
+}
+
+/// The two numbers of a value lead to each other.
+pub fn values_are_numbered()
+    ensures { (fields : List AField) → ValuesAreNumbered fields }
+{}
 
 /// The two numbers of a local lead to each other.
 pub fn numbers_are_one()
