@@ -1,7 +1,7 @@
 -- The verdict on a flow by its types; outlines and claims aren't judged yet.
 use Rattle.std.specs.Prelude.{◌≡◌}
 use Rattle.plc_xfer.specs.Typings.{IsTyping, IsStrongest, IsStuckAt}
-use Rattle.plc_infer.specs.Skeletons.{skeleton_of}
+use Rattle.plc_flow.specs.Skeleton.{skeleton_of}
 use Rattle.plc_check.specs.declared.judged.Judged.{Judged}
 use Rattle.plc_check.specs.declared.verdict.Verdict.{Verdict}
 use Rattle.plc_check.specs.declared.verdict.Verdict.TheVariants.{Safe, Untyped}

@@ -5,8 +5,9 @@ use Rattle.plc_auto.specs.declared.observer.Observer.{Observer}
 use Rattle.plc_print.specs.Text.{canonical_text}
 use Rattle.plc_flow.specs.Lowering.{flow_of}
 use Rattle.plc_xfer.specs.declared.fault.TypeFault.{TypeFault}
-use Rattle.plc_xfer.specs.Typings.{Skeleton, HasTyping, IsStuckAt}
-use Rattle.plc_infer.specs.Skeletons.{skeleton_of}
+use Rattle.plc_xfer.specs.Typings.{HasTyping, IsStuckAt}
+use Rattle.plc_lang.specs.Skeleton.{Skeleton}
+use Rattle.plc_flow.specs.Skeleton.{skeleton_of}
 use Rattle.plc_sound.proofs.NoRetire.{no_retire_is_safe}
 use Rattle.plc_check.specs.declared.unjudged.Unjudged.TheVariants.{Nothing, ClaimsAndOutlines}
 use Rattle.plc_check.specs.declared.judged.Judged.{Judged}

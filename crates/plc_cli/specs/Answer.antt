@@ -7,7 +7,7 @@ use Rattle.plc_flow.specs.Lowering.{flow_of}
 use Rattle.plc_type.specs.declared.env.Env.{Env}
 use Rattle.plc_xfer.specs.declared.fault.TypeFault.{TypeFault}
 use Rattle.plc_xfer.specs.Typings.{IsTyping, IsStrongest, IsStuckAt}
-use Rattle.plc_infer.specs.Skeletons.{skeleton_of}
+use Rattle.plc_flow.specs.Skeleton.{skeleton_of}
 use Rattle.plc_check.specs.declared.judged.Judged.{Judged}
 use Rattle.plc_check.specs.declared.judged.LoadFault.{LoadFault}
 use Rattle.plc_check.specs.declared.judged.LoadFault.TheVariants.{Memory}

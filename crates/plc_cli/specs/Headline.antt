@@ -3,7 +3,7 @@ use Rattle.std.specs.Prelude.{◌≡◌, ◌⊎◌, ◌≤◌, ℕ, List, Option
 use Rattle.plc_parse.specs.declared.unit.Unit.{Unit as FileUnit}
 use Rattle.plc_flow.specs.Lowering.{flow_of}
 use Rattle.plc_xfer.specs.Typings.{HasTyping}
-use Rattle.plc_infer.specs.Skeletons.{skeleton_of}
+use Rattle.plc_flow.specs.Skeleton.{skeleton_of}
 use Rattle.plc_run.specs.Run.{NeverRaces}
 use Rattle.plc_sound.specs.Laws.{NeverRetires}
 use Rattle.plc_cli.specs.Requests.{Request, Check}

@@ -2,12 +2,16 @@
 use Rattle.std.proofs.Common.{◌≤◌, Ok, sym, subst, arith}
 use Rattle.plc_lang.specs.declared.syntax.File.{File}
 use Rattle.plc_lang.specs.Fit.{FileFits, NamesWhatIsThere}
+use Rattle.plc_lang.specs.WellSorted.{FileIsWellSorted}
 use Rattle.plc_flow.specs.declared.flow.Flow.{Flow}
 use Rattle.plc_flow.specs.Lowering.{made_of, flow_of, most_points, IsLowered}
 use Rattle.plc_flow.specs.WellFormed.{GatesFrom, IsWellFormed, FlowFits}
+use Rattle.plc_flow.specs.WellSorted.{FlowIsWellSorted, FlowsFit}
 use Rattle.plc_flow.proofs.Within.{ops_few, ops_gates, ops_counted, flow_steps_within, flow_labels_within}
 use Rattle.plc_flow.proofs.Short.{flow_steps_short}
 use Rattle.plc_flow.proofs.Naming.{flow_steps_named}
+use Rattle.plc_flow.proofs.Sorted.{flow_steps_sorted}
+use Rattle.plc_flow.proofs.Labelled.{flow_labels_counted, flow_labels_stand}
 
 -- a file within the limits has a well-formed flow
 flow_is_well_formed : (file : File) → FileFits file → (made_of file).points ≤ most_points → IsWellFormed (flow_of file)
@@ -30,8 +34,23 @@ flow_fits file fits named few = record {
   steps = flow_steps_named file named;
 }
 
+-- where each thing stands in the file where its kind may stand, so it does in the flow
+flow_is_sorted : (file : File) → FileIsWellSorted file → FlowIsWellSorted (flow_of file)
+flow_is_sorted file sorted = record {
+  file = sorted;
+  steps = flow_steps_sorted file sorted;
+  labels = flow_labels_counted file sorted.labels;
+  each_label = flow_labels_stand file sorted.labels;
+}
+
+pub all_flows_fit : FlowsFit
+all_flows_fit file fits named sorted few = record { fits = flow_fits file fits named few; sorted = flow_is_sorted file sorted }
+
 pub lowered_is_well_formed : (file : File) (flow : Flow) → FileFits file → IsLowered file (Ok flow) → IsWellFormed flow
 lowered_is_well_formed file flow fits l = subst IsWellFormed (sym l.0) (flow_is_well_formed file fits l.1)
 
 pub lowered_fits : (file : File) (flow : Flow) → FileFits file → NamesWhatIsThere file → IsLowered file (Ok flow) → FlowFits flow
 lowered_fits file flow fits named l = subst FlowFits (sym l.0) (flow_fits file fits named l.1)
+
+pub lowered_is_sorted : (file : File) (flow : Flow) → FileIsWellSorted file → IsLowered file (Ok flow) → FlowIsWellSorted flow
+lowered_is_sorted file flow sorted l = subst FlowIsWellSorted (sym l.0) (flow_is_sorted file sorted)

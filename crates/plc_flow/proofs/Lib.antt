@@ -1,6 +1,11 @@
 pub mod Each
 pub mod Fitting
+pub mod Gates
+pub mod Labelled
+pub mod Leaving
 pub mod Naming
 pub mod Remaining
 pub mod Short
+pub mod Sorted
+pub mod Walk
 pub mod Within

@@ -244,7 +244,7 @@ mutual
         few = omega (arith, length-append one.steps others.steps, fewer, q.few);
       }
 
-op_stays : (id : ℕ) (o : Op) (n : ℕ) → Stays id n n (op_made id o n)
+pub op_stays : (id : ℕ) (o : Op) (n : ℕ) → Stays id n n (op_made id o n)
 op_stays id o n =
     let h : Here = record { op = record { 0 = id }; exit = point_of (n + 1); behind = point_of (n + 1); line = o.line } in
     let exit : InRange n (n + 2) (point_of (n + 1)) = record { low = omega arith; high = omega arith } in

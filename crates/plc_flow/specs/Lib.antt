@@ -1,4 +1,9 @@
-pub mod Builder
+-- what contracts of public calls say
 pub mod Lowering
+pub mod Points
 pub mod Sides
+pub mod Skeleton
 pub mod WellFormed
+pub mod WellSorted
+-- words of private functions alone
+pub mod Builder

@@ -1,7 +1,9 @@
 -- What each statement makes: points, steps and labels in order, and the point that it goes on from.
 use Rattle.std.specs.Prelude.{◌≡◌, ℕ, ◌+◌, ◌<◌, ◌≤◌, List, [], ◌∷◌, ◌++◌, map, Option, Some, None, Result, Ok, Err}
+use Rattle.plc_base.specs.Limits.{most}
 use Rattle.plc_base.specs.declared.ids.FuncId.{FuncId}
 use Rattle.plc_base.specs.declared.ids.PointId.{PointId}
+use Rattle.plc_base.specs.declared.limits.What1.TheVariants as limits
 use Rattle.plc_lang.specs.declared.syntax.Primitive.{Primitive}
 use Rattle.plc_lang.specs.declared.syntax.Primitive.TheVariants as prims
 use Rattle.plc_lang.specs.declared.syntax.Op.{Op}
@@ -200,7 +202,7 @@ made_of file = ops_made 0 file.ops 0
 
 -- how many points a flow may have
 abbrev pub most_points : ℕ
-most_points = 4096
+most_points = most limits.Points
 
 -- the file with the points, steps and labels that it makes
 abbrev pub flow_of : File → Flow

@@ -1,6 +1,8 @@
 -- What every flow that was lowered keeps: later layers ask it of the flows that they are given.
 use Rattle.std.specs.Prelude.{◌≡◌, ℕ, ◌+◌, ◌<◌, ◌≤◌, List, [], ◌∷◌, length, slice_get, Some}
+use Rattle.plc_base.specs.Limits.{most}
 use Rattle.plc_base.specs.declared.ids.PointId.{PointId}
+use Rattle.plc_base.specs.declared.limits.What1.TheVariants as limits
 use Rattle.plc_lang.specs.declared.syntax.Op.{Op}
 use Rattle.plc_lang.specs.Fit.{most_primitives}
 use Rattle.plc_lang.specs.Shape.{shape_of, init_shape, PrimitivesIn}
@@ -21,13 +23,17 @@ abbrev pub GatesFrom : ℕ → List Gate → ℕ → Type 0
 GatesFrom n [] end = n ≡ end
 GatesFrom n (g ∷ gs) end = (g.first ≡ n) × (g.entry.0 ≡ n) × (g.exit.0 ≡ n + 1) × (n + 2 ≤ g.after) × GatesFrom g.after gs end
 
--- an atomic block has at most 64 primitives, and a claim for each of at most 48 pointers may be put in front
+-- the claims that may be put in front of a step: one for each shared pointer and one for each local
+abbrev pub most_claims : ℕ
+most_claims = most limits.Shared + most limits.Locals
+
+-- the primitives of a step: those of an atomic block, and the claims in front of them
 abbrev pub most_step_primitives : ℕ
-most_step_primitives = 112
+most_step_primitives = most limits.Prims + most_claims
 
 -- what every flow that was lowered keeps
 pub record IsWellFormed (flow : Flow) : Type 0 where
-  pub few : flow.points ≤ 4096
+  pub few : flow.points ≤ most limits.Points
   pub gates : length flow.gates ≡ length flow.file.ops
   pub ranges : GatesFrom 0 flow.gates flow.points
   pub steps : (k : ℕ) (s : Step) → slice_get flow.steps k ≡ Some s → StepWithin flow s

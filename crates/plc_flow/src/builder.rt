@@ -6,12 +6,9 @@ ghost use Rattle.plc_flow.specs.Lowering.{most_points, label_made};
 ghost use Rattle.plc_flow.specs.Builder.{Makes, a_point, a_step, a_during, a_join};
 
 use crate::flow::{FlowFault, Step};
-use plc_base::{Items, OpId, PointId};
+use plc_base::{Items, OpId, PointId, What1};
 use plc_lang::Prim;
 use std::alloc::Global;
-
-/// The most points that a file may have.
-const MOST_POINTS: u16 = 4096;
 
 #[derive(Drop)]
 pub(crate) struct Builder {
@@ -37,9 +34,9 @@ pub(crate) fn point(out: &mut Builder) -> Result<PointId, FlowFault>
     requires { out.old.points ≤ most_points }
     ensures { Makes out.old out.new result (a_point out.old.points) }
 {
-    if out.points == MOST_POINTS {
+    if u32::from(out.points) == What1::Points.most() {
         return Err(FlowFault::TooManyPoints {
-            count: MOST_POINTS as u32 + 1,
+            count: What1::Points.most() + 1,
         });
     }
     let made = PointId(out.points);

@@ -4,11 +4,15 @@
 
 mod builder;
 mod flow;
+mod laws;
 mod lowering;
+mod points;
 mod sides;
 mod statements;
 #[cfg(test)]
 mod tests;
 
 pub use flow::{Flow, FlowFault, Gate, Move, Place, StartFault, Step};
+pub use laws::{flows_fit, steps_stay_in_their_gate};
 pub use lowering::lower;
+pub use points::{Point, names_rightly, nth_step};

@@ -2,9 +2,11 @@
 // with its entry and its exit.
 ghost use Rattle.std.specs.Prelude.{◌≡◌, ◌≤◌, ◌+◌, IfOk};
 ghost use Rattle.plc_lang.specs.Fit.{FileFits, NamesWhatIsThere};
+ghost use Rattle.plc_lang.specs.WellSorted.{FileIsWellSorted};
 ghost use Rattle.plc_flow.specs.Lowering.{IsLowered, most_points, op_made, ops_made};
 ghost use Rattle.plc_flow.specs.Builder.{Makes, MakesGates};
 ghost use Rattle.plc_flow.specs.WellFormed.{IsWellFormed, FlowFits};
+ghost use Rattle.plc_flow.specs.WellSorted.{FlowIsWellSorted};
 
 use crate::builder::{Builder, Here, point, step};
 use crate::flow::{Flow, FlowFault, Gate};
@@ -59,6 +61,7 @@ pub fn lower(alloc: Global, file: File) -> Result<Flow, FlowFault>
     ensures lowered { IsLowered file result }
     ensures fits { FileFits file → IfOk result IsWellFormed }
     ensures named { FileFits file → NamesWhatIsThere file → IfOk result FlowFits }
+    ensures sorted { FileIsWellSorted file → IfOk result FlowIsWellSorted }
 {
     let mut out = Builder {
         points: 0,

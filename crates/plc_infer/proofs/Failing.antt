@@ -9,8 +9,9 @@ use Rattle.plc_flow.specs.WellFormed.{IsWellFormed}
 use Rattle.plc_type.specs.declared.env.Env.{Env}
 use Rattle.plc_xfer.specs.declared.fault.TypeFault.{TypeFault}
 use Rattle.plc_xfer.specs.Rules.{fault_of, env_after}
-use Rattle.plc_xfer.specs.Typings.{Passage, env_at, fault_at}
-use Rattle.plc_infer.specs.Skeletons.{skeleton_of, passage_of}
+use Rattle.plc_xfer.specs.Typings.{env_at, fault_at}
+use Rattle.plc_lang.specs.Skeleton.{Passage}
+use Rattle.plc_flow.specs.Skeleton.{skeleton_of, passage_of}
 use Rattle.plc_infer.specs.Graphs.{passage_at, graph_of}
 use Rattle.plc_infer.specs.Iteration.{Shaped, Holds, HoldBelow, IsFirstFailing}
 use Rattle.plc_infer.proofs.Flows.{passage_is, passages_length, from_there}

@@ -12,10 +12,11 @@ use Rattle.plc_type.specs.declared.env.Env.{Env}
 use Rattle.plc_type.specs.Environments.{bottom, entry, env_below, env_join, SameShape}
 use Rattle.plc_type.proofs.Ordered.{ordered}
 use Rattle.plc_xfer.specs.Rules.{FitsObserver}
-use Rattle.plc_xfer.specs.Typings.{Passage, locals_at, env_at, led, IsEnvironment}
+use Rattle.plc_xfer.specs.Typings.{env_at, led, IsEnvironment}
+use Rattle.plc_lang.specs.Skeleton.{Passage, locals_at}
 use Rattle.plc_xfer.proofs.Order.{kept, well_formed, same_shape, led_is}
 use Rattle.plc_xfer.proofs.Facts.{well_formed_fits}
-use Rattle.plc_infer.specs.Skeletons.{skeleton_of, passage_of, locals_of}
+use Rattle.plc_flow.specs.Skeleton.{skeleton_of, passage_of, pointers_by_point}
 use Rattle.plc_infer.specs.Starts.{starts_of}
 use Rattle.plc_infer.specs.Graphs.{passage_at, some_passage, graph_of}
 use Rattle.plc_infer.specs.Iteration.{Laws, Shaped, Stays, Relaxed}
@@ -53,7 +54,7 @@ ends_of flow k s w e =
     record {
       from_in = let h = f.1 in omega (arith, points);
       to_in = let h = t.1 in omega (arith, points);
-      same = ap (λ (p : ℕ). get_or (locals_of flow.file.ops flow.gates) p 0) (sym to_is) ∙ t.2 ∙ sym f.2 ∙ ap (λ (p : ℕ). get_or (locals_of flow.file.ops flow.gates) p 0) from_is;
+      same = ap (λ (p : ℕ). get_or (pointers_by_point flow.file.ops flow.gates) p 0) (sym to_is) ∙ t.2 ∙ sym f.2 ∙ ap (λ (p : ℕ). get_or (pointers_by_point flow.file.ops flow.gates) p 0) from_is;
     }
 
 pub skeleton_is : (flow : Flow) → IsWellFormed flow → IsSkeleton (skeleton_of flow)

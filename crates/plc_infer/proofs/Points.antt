@@ -10,7 +10,8 @@ use Rattle.plc_flow.specs.declared.flow.Gate.{Gate}
 use Rattle.plc_flow.specs.WellFormed.{GatesFrom, IsPointOf}
 use Rattle.plc_type.specs.declared.env.Env.{Env}
 use Rattle.plc_type.specs.Environments.{bottom, entry}
-use Rattle.plc_infer.specs.Skeletons.{pointers_of, locals_of}
+use Rattle.plc_lang.specs.Locals.{pointers_of}
+use Rattle.plc_flow.specs.Skeleton.{pointers_by_point}
 use Rattle.plc_infer.specs.Starts.{op_starts, starts_of}
 use Rattle.plc_infer.proofs.Environments.{length_of}
 
@@ -26,17 +27,17 @@ pub ends_behind : (n : ℕ) (gs : List Gate) (end : ℕ) → GatesFrom n gs end 
 ends_behind n [] end h = omega arith
 ends_behind n (g ∷ gs) end (first, entry_is, exit_is, wide, rest) = let r = ends_behind g.after gs end rest in omega arith
 
-pub locals_length : (n : ℕ) (os : List Op) (gs : List Gate) (end : ℕ) → length os ≡ length gs → GatesFrom n gs end → n + length (locals_of os gs) ≡ end
+pub locals_length : (n : ℕ) (os : List Op) (gs : List Gate) (end : ℕ) → length os ≡ length gs → GatesFrom n gs end → n + length (pointers_by_point os gs) ≡ end
 locals_length n [] [] end same h = omega arith
 locals_length n (o ∷ os) [] end same h = absurd (omega arith)
 locals_length n [] (g ∷ gs) end same h = absurd (omega arith)
 locals_length n (o ∷ os) (g ∷ gs) end same (first, entry_is, exit_is, wide, rest) =
     let r = locals_length g.after os gs end (omega arith) rest in
-    omega (arith, r, length-append (replicate (g.after - g.first) (pointers_of o)) (locals_of os gs), length_of (g.after - g.first) (pointers_of o))
+    omega (arith, r, length-append (replicate (g.after - g.first) (pointers_of o)) (pointers_by_point os gs), length_of (g.after - g.first) (pointers_of o))
 
 -- the points of the k-th gate have the locals of the k-th operation
 pub locals_there : (n : ℕ) (os : List Op) (gs : List Gate) (end k p : ℕ) (g : Gate) → length os ≡ length gs → GatesFrom n gs end → slice_get gs k ≡ Some g → IsPointOf g p
-    → (n ≤ p) × (p < end) × (get_or (locals_of os gs) (p - n) 0 ≡ nth_pointers os k)
+    → (n ≤ p) × (p < end) × (get_or (pointers_by_point os gs) (p - n) 0 ≡ nth_pointers os k)
 locals_there n [] [] end k p g same h e at = absurd cc
 locals_there n (o ∷ os) [] end k p g same h e at = absurd cc
 locals_there n [] (x ∷ gs) end k p g same h e at = absurd (omega arith)
@@ -48,7 +49,7 @@ locals_there n (o ∷ os) (x ∷ gs) end zero p g same (first, entry_is, exit_is
     let long = length_of (x.after - x.first) (pointers_of o) in (
       omega arith,
       omega arith,
-      get_or_append_left (replicate (x.after - x.first) (pointers_of o)) (locals_of os gs) 0 (p - n) (omega arith)
+      get_or_append_left (replicate (x.after - x.first) (pointers_of o)) (pointers_by_point os gs) 0 (p - n) (omega arith)
           ∙ get_or-replicate (x.after - x.first) (p - n) (pointers_of o) 0 (omega arith),
     )
 locals_there n (o ∷ os) (x ∷ gs) end (suc k) p g same (first, entry_is, exit_is, wide, rest) e at =
@@ -57,8 +58,8 @@ locals_there n (o ∷ os) (x ∷ gs) end (suc k) p g same (first, entry_is, exit
     let there : p - n - (x.after - x.first) ≡ p - x.after = let l = r.0 in omega arith in (
       let l = r.0 in omega arith,
       r.1,
-      get_or-append_right (replicate (x.after - x.first) (pointers_of o)) (locals_of os gs) (x.after - x.first) (p - n) 0 long (let l = r.0 in omega arith)
-          ∙ ap (λ (i : ℕ). get_or (locals_of os gs) i 0) there ∙ r.2,
+      get_or-append_right (replicate (x.after - x.first) (pointers_of o)) (pointers_by_point os gs) (x.after - x.first) (p - n) 0 long (let l = r.0 in omega arith)
+          ∙ ap (λ (i : ℕ). get_or (pointers_by_point os gs) i 0) there ∙ r.2,
     )
 
 -- entries are points
@@ -81,8 +82,8 @@ starts_length o shared n (op ∷ os) (g ∷ gs) end same (first, entry_is, exit_
 -- a point is an entry and has the entry environment, or it is none and has the environment below all others
 abbrev IsStartOf : Observer → ℕ → ℕ → List Op → List Gate → ℕ → Env → Type 0
 IsStartOf o shared n os gs p d =
-    ((i : ℕ) × (slice_get (entries_of gs) i ≡ Some p) × (get_or (starts_of o shared os gs) (p - n) d ≡ entry shared (get_or (locals_of os gs) (p - n) 0) (all_locations o)))
-    ⊎ (((i : ℕ) → slice_get (entries_of gs) i ≡ Some p → ⊥) × (get_or (starts_of o shared os gs) (p - n) d ≡ bottom shared (get_or (locals_of os gs) (p - n) 0)))
+    ((i : ℕ) × (slice_get (entries_of gs) i ≡ Some p) × (get_or (starts_of o shared os gs) (p - n) d ≡ entry shared (get_or (pointers_by_point os gs) (p - n) 0) (all_locations o)))
+    ⊎ (((i : ℕ) → slice_get (entries_of gs) i ≡ Some p → ⊥) × (get_or (starts_of o shared os gs) (p - n) d ≡ bottom shared (get_or (pointers_by_point os gs) (p - n) 0)))
 
 pub starts_at : (o : Observer) (shared n : ℕ) (os : List Op) (gs : List Gate) (end p : ℕ) (d : Env) → length os ≡ length gs → GatesFrom n gs end → n ≤ p → p < end → IsStartOf o shared n os gs p d
 starts_at o shared n [] [] end p d same h low high = absurd (omega arith)
@@ -93,10 +94,10 @@ starts_at o shared n (op ∷ os) (g ∷ gs) end p d same (first, entry_is, exit_
   | inr late ↦ there late (starts_at o shared g.after os gs end p d (omega arith) rest late high)
 ]
   where
-    locals_here : p < g.after → get_or (locals_of (op ∷ os) (g ∷ gs)) (p - n) 0 ≡ pointers_of op
+    locals_here : p < g.after → get_or (pointers_by_point (op ∷ os) (g ∷ gs)) (p - n) 0 ≡ pointers_of op
     locals_here early =
         let long = length_of (g.after - g.first) (pointers_of op) in
-        get_or_append_left (replicate (g.after - g.first) (pointers_of op)) (locals_of os gs) 0 (p - n) (omega arith)
+        get_or_append_left (replicate (g.after - g.first) (pointers_of op)) (pointers_by_point os gs) 0 (p - n) (omega arith)
         ∙ get_or-replicate (g.after - g.first) (p - n) (pointers_of op) 0 (omega arith)
 
     not_entry : n < p → p < g.after → (i : ℕ) → slice_get (entries_of (g ∷ gs)) i ≡ Some p → ⊥
@@ -127,10 +128,10 @@ starts_at o shared n (op ∷ os) (g ∷ gs) end p d same (first, entry_is, exit_
     moved : g.after ≤ p → p - n - (g.after - g.first) ≡ p - g.after
     moved late = omega arith
 
-    locals_later : g.after ≤ p → get_or (locals_of (op ∷ os) (g ∷ gs)) (p - n) 0 ≡ get_or (locals_of os gs) (p - g.after) 0
+    locals_later : g.after ≤ p → get_or (pointers_by_point (op ∷ os) (g ∷ gs)) (p - n) 0 ≡ get_or (pointers_by_point os gs) (p - g.after) 0
     locals_later late =
-        get_or-append_right (replicate (g.after - g.first) (pointers_of op)) (locals_of os gs) (g.after - g.first) (p - n) 0 (length_of (g.after - g.first) (pointers_of op)) (omega arith)
-        ∙ ap (λ (i : ℕ). get_or (locals_of os gs) i 0) (moved late)
+        get_or-append_right (replicate (g.after - g.first) (pointers_of op)) (pointers_by_point os gs) (g.after - g.first) (p - n) 0 (length_of (g.after - g.first) (pointers_of op)) (omega arith)
+        ∙ ap (λ (i : ℕ). get_or (pointers_by_point os gs) i 0) (moved late)
 
     starts_later : g.after ≤ p → get_or (starts_of o shared (op ∷ os) (g ∷ gs)) (p - n) d ≡ get_or (starts_of o shared os gs) (p - g.after) d
     starts_later late =

@@ -12,7 +12,8 @@ use Rattle.plc_type.specs.Environments.{env_below, bottom, entry, SameShape}
 use Rattle.plc_type.specs.Laws.{env_size, EnvironmentsAreOrdered}
 use Rattle.plc_xfer.specs.declared.fault.TypeFault.{TypeFault}
 use Rattle.plc_xfer.specs.Rules.{env_after}
-use Rattle.plc_xfer.specs.Typings.{Skeleton, Passage, locals_at, IsEnvironment, env_at, led, fault_at, fault_in, fault_under, IsPretyping, IsTyping, IsStrongest, IsStuckAt}
+use Rattle.plc_xfer.specs.Typings.{IsEnvironment, env_at, led, fault_at, fault_in, fault_under, IsPretyping, IsTyping, IsStrongest, IsStuckAt}
+use Rattle.plc_lang.specs.Skeleton.{Skeleton, Passage, locals_at}
 use Rattle.plc_xfer.specs.Laws.{RulesKeepOrder}
 use Rattle.plc_infer.specs.Iteration as graph
 use Rattle.plc_infer.specs.Graphs.{passage_at, some_passage, total, graph_of}

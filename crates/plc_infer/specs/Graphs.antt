@@ -7,7 +7,8 @@ use Rattle.plc_type.specs.declared.env.PtrType.{PtrType}
 use Rattle.plc_type.specs.declared.env.Env.{Env}
 use Rattle.plc_type.specs.Environments.{env_below, env_join, bottom}
 use Rattle.plc_type.specs.Laws.{env_size}
-use Rattle.plc_xfer.specs.Typings.{Skeleton, Passage, locals_at, led, fault_at, all_types}
+use Rattle.plc_xfer.specs.Typings.{led, fault_at, all_types}
+use Rattle.plc_lang.specs.Skeleton.{Skeleton, Passage, locals_at}
 use Rattle.plc_infer.specs.Iteration.{Graph}
 
 -- whether an environment is one of a pre-typing, as a test

@@ -1,4 +1,4 @@
-pub mod Skeletons
-pub mod Starts
-pub mod Iteration
+-- words of private functions alone
 pub mod Graphs
+pub mod Iteration
+pub mod Starts

@@ -6,7 +6,7 @@ use Rattle.plc_auto.specs.Sets.{all_locations}
 use Rattle.plc_flow.specs.declared.flow.Gate.{Gate}
 use Rattle.plc_type.specs.declared.env.Env.{Env}
 use Rattle.plc_type.specs.Environments.{bottom, entry}
-use Rattle.plc_infer.specs.Skeletons.{pointers_of}
+use Rattle.plc_lang.specs.Locals.{pointers_of}
 
 -- the points of one operation with so many pointer locals
 abbrev pub op_starts : Observer → ℕ → ℕ → Gate → List Env

@@ -3,7 +3,7 @@ ghost use Rattle.std.specs.Prelude.{◌≡◌, ◌<◌, ℕ, Some, None, IfOk, M
 ghost use Rattle.plc_flow.specs.WellFormed.{IsWellFormed};
 ghost use Rattle.plc_xfer.specs.Rules.{FitsObserver};
 ghost use Rattle.plc_xfer.specs.Typings.{fault_at, env_at};
-ghost use Rattle.plc_infer.specs.Skeletons.{skeleton_of};
+ghost use Rattle.plc_flow.specs.Skeleton.{skeleton_of};
 ghost use Rattle.plc_infer.specs.Graphs.{graph_of, passage_at};
 ghost use Rattle.plc_infer.specs.Iteration.{Shaped, HoldBelow, IsFirstFailing};
 
@@ -27,7 +27,8 @@ pub(crate) fn first_fault(
     ensures { IfOk result (λ found. MatchOption found
         (HoldBelow (graph_of observer.now (skeleton_of flow.now)) envs.now (length flow.now.steps))
         (λ at. IsFirstFailing (graph_of observer.now (skeleton_of flow.now)) envs.now at.0.0 at.1
-        × (fault_at observer.now (env_at envs.now (passage_at (skeleton_of flow.now) at.0.0).from) (passage_at (skeleton_of flow.now) at.0.0).prims at.1 ≡ Some at.2))) }
+        × (let x = passage_at (skeleton_of flow.now) at.0.0
+        in fault_at observer.now (env_at envs.now x.from) x.prims at.1 ≡ Some at.2))) }
 {
     for k in 0..flow.steps.len() {
         let step = &flow.steps.as_slice()[k];

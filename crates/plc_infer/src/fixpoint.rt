@@ -7,7 +7,7 @@ ghost use Rattle.plc_lang.specs.Fit.{FileFits};
 ghost use Rattle.plc_flow.specs.WellFormed.{IsWellFormed};
 ghost use Rattle.plc_xfer.specs.Rules.{FitsObserver};
 ghost use Rattle.plc_xfer.specs.Typings.{led};
-ghost use Rattle.plc_infer.specs.Skeletons.{skeleton_of};
+ghost use Rattle.plc_flow.specs.Skeleton.{skeleton_of};
 ghost use Rattle.plc_infer.specs.Graphs.{graph_of};
 ghost use Rattle.plc_infer.specs.Iteration.{Shaped, Relaxed, Rounded, IsStrongest as IsLeast};
 ghost use Rattle.plc_infer.specs.Starts.{starts_of};
@@ -46,7 +46,8 @@ fn round(
 ) -> Result<bool, NoMemory>
     requires flow { IsWellFormed flow.now }
     requires shaped { Shaped (graph_of observer.now (skeleton_of flow.now)) envs.old.items }
-    ensures { IfOk result (λ raised. Rounded (graph_of observer.now (skeleton_of flow.now)) envs.old.items envs.new.items raised) }
+    ensures { let graph = graph_of observer.now (skeleton_of flow.now)
+        in IfOk result (λ raised. Rounded graph envs.old.items envs.new.items raised) }
 {
     let mut raised = false;
     for k in 0..flow.steps.len() {
@@ -69,7 +70,8 @@ fn relax(
     requires flow { IsWellFormed flow.now }
     requires known { k < length flow.now.steps }
     requires shaped { Shaped (graph_of observer.now (skeleton_of flow.now)) envs.old.items }
-    ensures { IfOk result (λ raised. Relaxed (graph_of observer.now (skeleton_of flow.now)) k envs.old.items envs.new.items raised) }
+    ensures { let graph = graph_of observer.now (skeleton_of flow.now)
+        in IfOk result (λ raised. Relaxed graph k envs.old.items envs.new.items raised) }
 {
     let step = &flow.steps.as_slice()[k];
     let from = step.from.0 as usize;

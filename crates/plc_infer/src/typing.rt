@@ -7,7 +7,7 @@ ghost use Rattle.plc_lang.specs.Fit.{FileFits};
 ghost use Rattle.plc_flow.specs.WellFormed.{IsWellFormed};
 ghost use Rattle.plc_xfer.specs.declared.fault.TypeFault.{TypeFault as AFault};
 ghost use Rattle.plc_xfer.specs.Typings.{IsTyping, IsStrongest, IsStuckAt};
-ghost use Rattle.plc_infer.specs.Skeletons.{skeleton_of};
+ghost use Rattle.plc_flow.specs.Skeleton.{skeleton_of};
 ghost use Rattle.plc_infer.specs.declared.typing.InferFault.TheVariants.{Memory};
 
 use crate::faults::first_fault;

@@ -3,6 +3,7 @@
 
 mod allocation;
 mod block;
+mod comparison;
 mod labels;
 mod locals;
 mod names;
@@ -11,8 +12,9 @@ mod syntax;
 
 pub use allocation::is_new;
 pub use block::Block;
+pub use comparison::compares;
 pub use labels::{labels_by_op, op_of_label};
-pub use locals::locals_of;
+pub use locals::{count_other_data, count_parameters, count_pointers, locals_of};
 pub use names::{
     auxiliary_name, data_name, field_name, function_name, label_name, local_name, name_at,
     operation_name, pointer_name, shared_name, value_name, variable_name,

@@ -4,3 +4,4 @@ pub mod Nodes
 pub mod Outcomes
 pub mod Places
 pub mod Views
+pub mod Validity

@@ -1,5 +1,5 @@
 -- The tables and nodes of the definitions against std's lists: what is written at a place in range, and where the node of an address stands.
-use Rattle.std.proofs.Common.{◌≡◌, ℕ, zero, suc, ◌+◌, ◌<◌, ◌≤◌, List, [], ◌∷◌, ◌++◌, Bool, true, false, not, ◌&&◌, ◌==◌, cond, length, set, get_or, take, drop, map, filter, Some, None, Vec, refl, sym, ap, ◌∙◌, arith, add-one, length-set}
+use Rattle.std.proofs.Common.{◌≡◌, ℕ, zero, suc, ◌+◌, ◌<◌, ◌≤◌, List, [], ◌∷◌, ◌++◌, Bool, true, false, not, ◌&&◌, ◌==◌, cond, length, set, get_or, take, drop, map, filter, Some, None, Vec, refl, sym, ap, ◌∙◌, subst, arith, add-one, length-set}
 use Rattle.std.specs.Vec.{with_items}
 use Rattle.std.specs.List.{position, position_or_len}
 use Rattle.std.proofs.lemmas.Bool.{eq-eqb, ne_eqb}
@@ -102,6 +102,17 @@ put_node_at ns a i r e =
 
 pub put_no_node : (ns : List Node) (a : ℕ) (r : Node) → position (λ n. n.address == a) ns ≡ None → put_node ns a r ≡ ns
 put_no_node ns a r e = put_node_place ns a r ∙ set_past ns _ r (position_none (λ (n : Node). n.address == a) ns e)
+
+-- a write into one list of the node at a place, as a write into the node of the address
+pub node_written : {A : Type 0} (d : A) (part : Node → List A) (with_part : Node → List A → Node) (ns : List Node) (a i f : ℕ) (v : A) (n some : Node)
+    → position (λ n. n.address == a) ns ≡ Some i → n ≡ get_or ns i some → f < length (part (get_or ns i some))
+    → set ns i (with_part n (set (part n) f v)) ≡ put_node ns a (with_part (node_of ns a) (put_at d (part (node_of ns a)) f v))
+node_written d part with_part ns a i f v n some e is small =
+    let r = node_at ns a i some e in
+    let h : f < length (part (node_of ns a)) = subst (λ (n : Node). f < length (part n)) r.1 small in
+    ap (λ (n : Node). set ns i (with_part n (set (part n) f v))) (is ∙ r.1)
+    ∙ ap (λ xs. set ns i (with_part (node_of ns a) xs)) (sym (put_is_set d (part (node_of ns a)) f v h))
+    ∙ sym (put_node_at ns a i _ e)
 
 pub length_put_node : (ns : List Node) (a : ℕ) (r : Node) → length (put_node ns a r) ≡ length ns
 length_put_node ns a r = ap length (put_node_place ns a r) ∙ length-set ns _ r

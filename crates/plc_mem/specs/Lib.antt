@@ -1,3 +1,4 @@
+-- what contracts of public calls say
 pub mod Coherence
 pub mod Fit
 pub mod Laws

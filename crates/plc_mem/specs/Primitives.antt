@@ -1,15 +1,14 @@
 -- The table of the primitives, a function for each column: where it is a race, where it isn't blocked, the state after it, its event.
-use Rattle.std.specs.Prelude.{ℕ, Bool, true, false, not, ◌&&◌, ◌==◌, nat_lt, nat_le, if◌then◌else◌, Option, Some, None}
+use Rattle.std.specs.Prelude.{ℕ, Bool, true, false, not, ◌&&◌, ◌==◌, if◌then◌else◌, Option, Some, None}
 use Rattle.plc_lang.specs.declared.syntax.Var.{Var}
 use Rattle.plc_lang.specs.declared.syntax.Arg.{Arg}
 use Rattle.plc_lang.specs.declared.syntax.Arg.TheVariants as args
-use Rattle.plc_lang.specs.declared.syntax.Rel.{Rel}
-use Rattle.plc_lang.specs.declared.syntax.Rel.TheVariants as relations
 use Rattle.plc_lang.specs.declared.syntax.Primitive.{Primitive}
 use Rattle.plc_lang.specs.declared.syntax.Primitive.TheVariants.{Null, Copy, New, Load, Store, StoreNull, DataSet, DataLoad, DataStore, Eq, Ne, IsNull, NotNull, DataTest, Refresh, RefreshLoad, RefreshStore, Call, Done, Active, Ghost}
 use Rattle.plc_auto.specs.declared.event.Event.{Event}
 use Rattle.plc_auto.specs.declared.event.Event.TheVariants.{Call as Called, Done as Returned}
 use Rattle.plc_base.specs.Functions.{is_retire}
+use Rattle.plc_lang.specs.Comparison.{compares}
 use Rattle.plc_mem.specs.declared.cell.Cell.{Cell}
 use Rattle.plc_mem.specs.declared.cell.RaceKind.{RaceKind}
 use Rattle.plc_mem.specs.declared.cell.RaceKind.TheVariants.{Deref, Compare, Pass, Double}
@@ -65,13 +64,6 @@ race_of s t (Call f r) = race_of_call s t (is_retire f) r
 race_of s t (Done f) = None
 race_of s t (Active p) = None
 race_of s t (Ghost p g v) = None
-
--- how two data values compare
-abbrev pub compares : Rel → ℕ → ℕ → Bool
-compares relations.Eq m n = m == n
-compares relations.Ne m n = not (m == n)
-compares relations.Lt m n = nat_lt m n
-compares relations.Ge m n = nat_le n m
 
 -- of the calls that of `retire` alone is blocked, with null
 abbrev pub goes_call : State → ℕ → Bool → Arg → Bool

@@ -1,5 +1,5 @@
 -- A state of memory: what shared pointers, locals and fields hold, and which addresses are used and retired.
-use Rattle.std.specs.Prelude.{ℕ, Bool, true, false, not, ◌&&◌, ◌==◌, nat_lt, if◌then◌else◌, List, [], ◌∷◌, ◌++◌, length, get_or, map, filter, replicate, count_by, Option, Some, None}
+use Rattle.std.specs.Prelude.{ℕ, Bool, true, false, not, ◌&&◌, ◌==◌, nat_lt, if◌then◌else◌, List, [], ◌∷◌, ◌++◌, length, get_or, map, filter, replicate, Option, Some, None}
 use Rattle.std.specs.List.{list_any}
 use Rattle.plc_base.specs.Tables.{put_at}
 use Rattle.plc_lang.specs.declared.syntax.Var.{Var}
@@ -8,7 +8,7 @@ use Rattle.plc_lang.specs.declared.syntax.Num.{Num}
 use Rattle.plc_lang.specs.declared.syntax.Num.TheVariants.{Lit, Local as DataLocal}
 use Rattle.plc_lang.specs.declared.syntax.Op.{Op}
 use Rattle.plc_lang.specs.declared.syntax.Field.{Field}
-use Rattle.plc_lang.specs.Locals.{is_pointer, is_other_data}
+use Rattle.plc_lang.specs.Locals.{starting_pointers, starting_values}
 use Rattle.plc_flow.specs.declared.flow.Flow.{Flow}
 use Rattle.plc_flow.specs.declared.flow.Place.{Place as NamedPlace}
 use Rattle.plc_flow.specs.declared.flow.Place.TheVariants as named
@@ -183,13 +183,9 @@ holds_pointer f = f.pointer
 abbrev pub first_state : Flow → ℕ → State
 first_state flow threads = fresh_state (map holds_pointer flow.file.fields) (length flow.file.shared) threads
 
--- the locals at the start of an operation: pointers null, parameters as given, other data 0
-abbrev pub started : ℕ → ℕ → List ℕ → Locals
-started pointers others args = record { pointers = replicate pointers null_cell; values = args ++ replicate others 0 }
-
 -- the locals with which a thread starts this operation
 abbrev pub starting : Op → List ℕ → Locals
-starting o args = started (count_by is_pointer o.locals) (count_by is_other_data o.locals) args
+starting o args = record { pointers = starting_pointers null_cell o; values = starting_values o args }
 
 -- a pointer place that there is: a shared pointer, a pointer local of a busy thread, a pointer field of a used address
 unfoldable pub has_place : State → Place → Bool

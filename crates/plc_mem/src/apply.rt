@@ -5,7 +5,7 @@ ghost use Rattle.std.specs.Prelude.{◌≡◌, ℕ, IfOk, OnOk, OnErr, Some};
 ghost use Rattle.plc_lang.specs.Shape.{PrimitiveIn};
 ghost use Rattle.plc_base.specs.Functions.{is_retire};
 ghost use Rattle.plc_mem.specs.State.{with_locals};
-ghost use Rattle.plc_mem.specs.Primitives.{race_of, race_of_call, retirement, compares, goes, goes_call, after, after_call, address_of, event_of};
+ghost use Rattle.plc_mem.specs.Primitives.{race_of, race_of_call, retirement, goes, goes_call, after, after_call, address_of, event_of};
 ghost use Rattle.plc_mem.specs.Outcomes.{outcome_of, next_of, address_or_null, Stays};
 ghost use Rattle.plc_mem.specs.Fit.{shape, Kept};
 ghost use Rattle.plc_mem.specs.Coherence.{IsCoherent};
@@ -15,19 +15,7 @@ use crate::locals::Locals;
 use crate::memory::Memory;
 use plc_auto::Event;
 use plc_base::{FuncId, NoMemory};
-use plc_lang::{Arg, Prim, Rel, Var};
-
-// How two data values compare.
-fn compares(rel: Rel, m: u32, n: u32) -> bool
-    ensures { result ≡ compares rel m n }
-{
-    match rel {
-        Rel::Eq => m == n,
-        Rel::Ne => m != n,
-        Rel::Lt => m < n,
-        Rel::Ge => m >= n,
-    }
-}
+use plc_lang::{Arg, Prim, Var, compares};
 
 impl Memory {
     /// One primitive of thread `t`, which lends its locals; `addr` is the address that a `new` takes,
@@ -40,10 +28,13 @@ impl Memory {
         addr: Option<u32>,
     ) -> Result<Outcome, NoMemory>
         requires { PrimitiveIn (shape self.old me.old) prim.now }
-        ensures outcome { IfOk result (λ o. o ≡ outcome_of (with_locals self.old t (Some me.old)) t (address_or_null addr) prim.now) }
-        ensures next { OnOk result (with_locals self.new t (Some me.new) ≡ next_of (with_locals self.old t (Some me.old)) t (address_or_null addr) prim.now) }
+        ensures outcome { IfOk result (λ o. o
+            ≡ outcome_of (with_locals self.old t (Some me.old)) t (address_or_null addr) prim.now) }
+        ensures next { OnOk result (with_locals self.new t (Some me.new)
+            ≡ next_of (with_locals self.old t (Some me.old)) t (address_or_null addr) prim.now) }
         ensures kept { Kept self.old me.old self.new me.new }
-        ensures coherent { IsCoherent (with_locals self.old t (Some me.old)) → IsCoherent (with_locals self.new t (Some me.new)) }
+        ensures coherent { IsCoherent (with_locals self.old t (Some me.old))
+            → IsCoherent (with_locals self.new t (Some me.new)) }
         ensures unchanged { IfOk result (λ o. Stays o → (self.new ≡ self.old) × (me.new ≡ me.old)) }
         ensures err { OnErr result ((self.new ≡ self.old) × (me.new ≡ me.old)) }
     {
@@ -200,7 +191,8 @@ impl Memory {
     // What a primitive changes.
     fn change(&mut self, me: &mut Locals, prim: &Prim, a: u32) -> Result<(), NoMemory>
         requires { PrimitiveIn (shape self.old me.old) prim.now }
-        ensures after { OnOk result ((t : ℕ) → with_locals self.new t (Some me.new) ≡ after (with_locals self.old t (Some me.old)) t a prim.now) }
+        ensures after { OnOk result ((t : ℕ) → with_locals self.new t (Some me.new)
+            ≡ after (with_locals self.old t (Some me.old)) t a prim.now) }
         ensures kept { Kept self.old me.old self.new me.new }
         ensures err { OnErr result ((self.new ≡ self.old) × (me.new ≡ me.old)) }
     {
@@ -277,7 +269,8 @@ impl Memory {
 
     // What a call changes.
     fn change_by_call(&mut self, me: &Locals, func: FuncId, arg: Arg) -> Result<(), NoMemory>
-        ensures after { OnOk result ((t : ℕ) → with_locals self.new t (Some me.now) ≡ after_call (with_locals self.old t (Some me.now)) t (is_retire func) arg) }
+        ensures after { OnOk result ((t : ℕ) → with_locals self.new t (Some me.now)
+            ≡ after_call (with_locals self.old t (Some me.now)) t (is_retire func) arg) }
         ensures kept { Kept self.old me.now self.new me.now }
         ensures err { OnErr result (self.new ≡ self.old) }
     {

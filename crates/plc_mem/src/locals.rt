@@ -1,13 +1,13 @@
 // The locals of a thread that is in an operation. Between steps they lie in the memory; the acting
 // thread takes its own out, so that a primitive writes them and the memory side by side.
-ghost use Rattle.std.specs.Prelude.{◌≡◌, ℕ, ◌<◌, ◌+◌, get_or, set, map, replicate, length, nat_lt, if◌then◌else◌, count_by, IfOk, OnOk, Some, None};
-ghost use Rattle.plc_lang.specs.Locals.{is_pointer, is_parameter, is_other_data};
-ghost use Rattle.plc_mem.specs.State.{State, Locals, null_cell, no_locals, locals_or_none, started, starting, with_locals, at, at_local, value_at, number_of, cut_locals};
+ghost use Rattle.std.specs.Prelude.{◌≡◌, ℕ, ◌<◌, get_or, set, map, replicate, length, nat_lt, if◌then◌else◌, IfOk, OnOk, Some, None};
+ghost use Rattle.plc_lang.specs.Locals.{parameters_of};
+ghost use Rattle.plc_mem.specs.State.{State, Locals, null_cell, no_locals, locals_or_none, starting, with_locals, at, at_local, value_at, number_of, cut_locals};
 
 use crate::cell::Cell;
 use crate::cells::{cell_or_null, cut_cells, value_or_0};
 use plc_base::NoMemory;
-use plc_lang::{Local, Num, Op};
+use plc_lang::{Num, Op, count_other_data, count_pointers};
 use std::alloc::Global;
 use std::marker::Model;
 
@@ -26,48 +26,21 @@ impl Model for Locals {
     ghost view = { λ l. record { pointers = l.pointers.items; values = l.values.items } };
 }
 
-// How many of the locals are pointers.
-fn count_pointers(locals: &[Local]) -> usize
-    ensures { result ≡ count_by is_pointer locals.now }
-{
-    locals.iter().filter(|l| l.pointer).count()
-}
-
-// How many of the locals are data and no parameters.
-fn count_other_data(locals: &[Local]) -> usize
-    ensures { result ≡ count_by is_other_data locals.now }
-{
-    locals.iter().filter(|l| !l.pointer && !l.param).count()
-}
-
-// Null pointers, the arguments, and zeros.
-fn start(alloc: Global, pointers: usize, others: usize, args: &[u32]) -> Result<Locals, NoMemory>
-    ensures { IfOk result (λ l. l ≡ started pointers others args.now) }
-{
-    let null = Cell::null();
-    let mut values = Vec::from_slice(alloc, args)?;
-    let zeros = vec![in alloc; 0; others]?;
-    values.extend_from_slice(&zeros)?;
-    Ok(Locals {
-        pointers: vec![in alloc; null; pointers]?,
-        values,
-    })
-}
-
 impl Locals {
     /// The locals at the start of an operation, with one number for each parameter: pointers null,
     /// other data 0.
     pub fn new(alloc: Global, op: &Op, args: &[u32]) -> Result<Locals, NoMemory>
-        requires { length args.now ≡ count_by is_parameter op.now.locals }
+        requires { length args.now ≡ parameters_of op.now }
         ensures { IfOk result (λ l. l ≡ starting op.now args.now) }
     {
-        let locals = op.locals.as_slice();
-        start(
-            alloc,
-            count_pointers(locals),
-            count_other_data(locals),
-            args,
-        )
+        let null = Cell::null();
+        let zeros = vec![in alloc; 0; count_other_data(op)]?;
+        let mut values = Vec::from_slice(alloc, args)?;
+        values.extend_from_slice(&zeros)?;
+        Ok(Locals {
+            pointers: vec![in alloc; null; count_pointers(op)]?,
+            values,
+        })
     }
 
     /// The locals of `init`, which has none.
@@ -92,7 +65,8 @@ impl Locals {
 
     // The pointer local, if there is one of this number.
     fn find(&self, v: u16) -> Option<Cell>
-        ensures { result ≡ (if nat_lt v (length self.now.pointers) then Some (get_or self.now.pointers v null_cell) else None) }
+        ensures { result
+            ≡ (if nat_lt v (length self.now.pointers) then Some (get_or self.now.pointers v null_cell) else None) }
     {
         let v = v as usize;
         if v < self.pointers.len() {
@@ -145,7 +119,8 @@ impl Locals {
 
 // A pointer local of a thread, if there is one of this number.
 pub fn local_of(locals: &[Option<Locals>], t: u32, v: u16) -> Option<Cell>
-    ensures { let l = locals_or_none (get_or locals.now t None) in result ≡ (if nat_lt v (length l.pointers) then Some (get_or l.pointers v null_cell) else None) }
+    ensures { let l = locals_or_none (get_or locals.now t None)
+        in result ≡ (if nat_lt v (length l.pointers) then Some (get_or l.pointers v null_cell) else None) }
 {
     let t = t as usize;
     if t >= locals.len() {
@@ -186,8 +161,7 @@ pub fn idle_threads(alloc: Global, threads: usize) -> Result<Vec<Option<Locals>>
     ensures { IfOk result (λ locals. locals.items ≡ replicate threads None) }
 {
     let mut locals = Vec::new(alloc);
-    for t in 0..threads {
-        let _done = t;
+    for _t in 0..threads {
         locals.push(None)?;
     }
     Ok(locals)

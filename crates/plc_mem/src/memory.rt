@@ -199,7 +199,8 @@ impl Memory {
 
     // The shared pointer, if there is one of this number.
     fn shared_pointer(&self, i: u16) -> Option<Cell>
-        ensures { result ≡ (if nat_lt i (length self.now.shared) then Some (get_or self.now.shared i null_cell) else None) }
+        ensures { result
+            ≡ (if nat_lt i (length self.now.shared) then Some (get_or self.now.shared i null_cell) else None) }
     {
         let i = i as usize;
         if i < self.shared.len() {
@@ -234,7 +235,8 @@ impl Memory {
     // Puts a cell into a variable of the acting thread.
     pub(crate) fn write(&mut self, me: &mut Locals, v: Var, c: Cell)
         requires { VarIn (shape self.old me.old) v }
-        ensures written { (t : ℕ) → with_locals self.new t (Some me.new) ≡ put (with_locals self.old t (Some me.old)) (place t v) c }
+        ensures written { (t : ℕ) → with_locals self.new t (Some me.new)
+            ≡ put (with_locals self.old t (Some me.old)) (place t v) c }
         ensures kept { Kept self.old me.old self.new me.new }
     {
         match v {

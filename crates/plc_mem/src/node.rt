@@ -95,7 +95,8 @@ pub fn cell_in(nodes: &[Node], a: u32, f: usize) -> Cell
 // Puts a cell into a field; nothing where the address has no node.
 pub fn set_cell(nodes: &mut [Node], a: u32, f: usize, c: Cell)
     requires { (k : ℕ) × (f < k) × NodesFit k nodes.old }
-    ensures { nodes.new ≡ put_node nodes.old a (record (node_of nodes.old a) { cells = put_at null_cell (node_of nodes.old a).cells f c }) }
+    ensures { nodes.new ≡ put_node nodes.old a
+        (record (node_of nodes.old a) { cells = put_at null_cell (node_of nodes.old a).cells f c }) }
 {
     if let Some(i) = find(nodes, a) {
         let node = &mut nodes[i];
@@ -119,7 +120,8 @@ pub fn value_in(nodes: &[Node], a: u32, f: usize) -> u32
 // Puts a number into a data field; nothing where the address has no node.
 pub fn set_value(nodes: &mut [Node], a: u32, f: usize, n: u32)
     requires { (k : ℕ) × (f < k) × NodesFit k nodes.old }
-    ensures { nodes.new ≡ put_node nodes.old a (record (node_of nodes.old a) { values = put_at 0 (node_of nodes.old a).values f n }) }
+    ensures { nodes.new ≡ put_node nodes.old a
+        (record (node_of nodes.old a) { values = put_at 0 (node_of nodes.old a).values f n }) }
 {
     if let Some(i) = find(nodes, a) {
         let node = &mut nodes[i];

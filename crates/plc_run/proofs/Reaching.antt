@@ -1,5 +1,5 @@
 -- What `reach` computes is what the relations of moves and races say.
-use Rattle.std.proofs.Common.{◌≡◌, ℕ, ◌<◌, Bool, true, false, ◌==◌, List, [], ◌∷◌, ◌++◌, Option, Some, None, length, slice_get, is_some, is_none, refl, sym, ap, ◌∙◌, arith, cond, count_by}
+use Rattle.std.proofs.Common.{◌≡◌, ℕ, ◌<◌, Bool, true, false, ◌==◌, List, [], ◌∷◌, ◌++◌, Option, Some, None, length, slice_get, is_some, is_none, refl, sym, ap, ◌∙◌, arith, cond}
 use Rattle.std.specs.List.{list_any}
 use Rattle.std.proofs.lemmas.Bool.{and_parts, and_from, eq-eqb, eqb-true, ltb-true, lt-ltb}
 use Rattle.std.proofs.lemmas.Bool.Decides.{nat_tests}
@@ -16,12 +16,14 @@ use Rattle.plc_flow.specs.declared.flow.Gate.{Gate}
 use Rattle.plc_flow.specs.declared.flow.Flow.{Flow}
 use Rattle.plc_flow.specs.declared.flow.Move.{Move}
 use Rattle.plc_flow.specs.declared.flow.Move.TheVariants.{Start, Step as Take, Return, Free}
-use Rattle.plc_lang.specs.Locals.{is_parameter}
-use Rattle.plc_run.specs.declared.point.Point.{Point}
+use Rattle.plc_lang.specs.Locals.{parameters_of}
+use Rattle.plc_flow.specs.declared.points.Point.{Point}
 use Rattle.plc_lang.specs.Allocation.{is_new}
-use Rattle.plc_run.specs.Run.{Ending, Fine, Stuck, Raced, Configuration, point_of, steps_from, MayTake, taken, Moves, Races}
+use Rattle.plc_run.specs.Run.{Ending, Fine, Stuck, Raced, Configuration, point_of, MayTake, taken, Moves, Races}
+use Rattle.plc_flow.specs.Points.{steps_from, names_rightly}
 use Rattle.plc_run.specs.Position.{IsForbidden, HasNone}
-use Rattle.plc_run.specs.Reach.{Reached, Goes, Blocks, Forbids, Breaks, is_idle, start_op, start_from, ended_as, same_bool, take_step, step_from, return_to, return_from, may_free, free_of, reach}
+use Rattle.plc_run.specs.Reach.{Reached, Goes, Blocks, Forbids, Breaks, is_idle, start_op, start_from, ended_as, take_step, step_from, return_to, return_from, may_free, free_of, reach}
+use Rattle.plc_flow.proofs.Leaving.{same_if, if_same}
 use Rattle.plc_run.proofs.Judged.{judged_allowed, judged_forbidden}
 use Rattle.plc_run.proofs.Runs.{one_step}
 use Rattle.plc_run.proofs.Shapes.{held_below}
@@ -47,13 +49,13 @@ is_none_of None e = refl
 is_none_of (Some x) e = cc
 
 start_counted : (flow : Flow) (o : Observer) (c : Configuration) (t : ℕ) (op : OpId) (args : List ℕ) (n : Op) (g : Gate) → t < length c.points → point_of c t ≡ None → slice_get flow.file.ops op.0 ≡ Some n → slice_get flow.gates op.0 ≡ Some g → LeadsTo flow o (length c.points) c (Start t op args) (start_op c t op.0 args (Some n) (Some g))
-start_counted flow o c t op args n g small free named opens = go (length args == count_by is_parameter n.locals) refl
+start_counted flow o c t op args n g small free named opens = go (length args == parameters_of n) refl
   where
-    go : (b : Bool) → (length args == count_by is_parameter n.locals) ≡ b → LeadsTo flow o (length c.points) c (Start t op args) (cond b (Goes (record c { state = with_locals c.state t (Some (starting n args)); points = put_at None c.points t (Some (record { op = op.0; at = g.entry.0 })) })) Blocks)
+    go : (b : Bool) → (length args == parameters_of n) ≡ b → LeadsTo flow o (length c.points) c (Start t op args) (cond b (Goes (record c { state = with_locals c.state t (Some (starting n args)); points = put_at None c.points t (Some (record { op = op.0; at = g.entry.0 })) })) Blocks)
     go true e = (n, g, small, free, named, opens, eqb-true _ _ e, refl)
     go false e = start_none flow o (length c.points) c t op args (λ d m.
         let same : n ≡ m.0 = (let a = m.4 in cc) in
-        let contrary : (length args == count_by is_parameter n.locals) ≡ true = eq-eqb (length args) (count_by is_parameter n.locals) (m.6 ∙ ap (λ (x : Op). count_by is_parameter x.locals) (sym same)) in
+        let contrary : (length args == parameters_of n) ≡ true = eq-eqb (length args) (parameters_of n) (m.6 ∙ ap (λ (x : Op). parameters_of x) (sym same)) in
         cc)
 
 start_opened : (flow : Flow) (o : Observer) (c : Configuration) (t : ℕ) (op : OpId) (args : List ℕ) → t < length c.points → point_of c t ≡ None → (a : Option Op) → slice_get flow.file.ops op.0 ≡ a → (b : Option Gate) → slice_get flow.gates op.0 ≡ b → LeadsTo flow o (length c.points) c (Start t op args) (start_op c t op.0 args a b)
@@ -78,18 +80,6 @@ start_leads flow o c t op args = go (is_idle c.points t) refl
 take_none : (flow : Flow) (o : Observer) (threads : ℕ) (c : Configuration) (t nth : ℕ) (addr : Option ℕ) → ((p : Point) (s : Step) → MayTake flow threads c t nth addr p s → ⊥) → HasNone flow o threads c (Take t nth addr)
 take_none flow o threads c t nth addr f = record { no_move = λ d m. f m.0 m.1 m.4; no_race = λ kind k r. f r.0 r.1 r.2; not_forbidden = λ r. r }
 
-same_if : (b c : Bool) → same_bool b c ≡ true → b ≡ c
-same_if true true e = refl
-same_if true false e = sym e
-same_if false true e = e
-same_if false false e = refl
-
-if_same : (b c : Bool) → b ≡ c → same_bool b c ≡ true
-if_same true true e = refl
-if_same true false e = sym e
-if_same false true e = e
-if_same false false e = refl
-
 take_ended : (flow : Flow) (o : Observer) (threads : ℕ) (c : Configuration) (t nth : ℕ) (addr : Option ℕ) (p : Point) (s : Step) → MayTake flow threads c t nth addr p s → (end : Ending) → taken c t addr s ≡ end → LeadsTo flow o threads c (Take t nth addr) (ended_as c t p s.to.0 end)
 take_ended flow o threads c t nth addr p s may (Fine new h) e = (p, s, new, h, may, e, refl)
 take_ended flow o threads c t nth addr p s may Stuck e = record {
@@ -100,14 +90,14 @@ take_ended flow o threads c t nth addr p s may Stuck e = record {
 take_ended flow o threads c t nth addr p s may (Raced kind k) e = (p, s, may, e)
 
 take_shaped : (flow : Flow) (o : Observer) (c : Configuration) (t nth : ℕ) (addr : Option ℕ) (p : Point) (s : Step) → point_of c t ≡ Some p → slice_get (steps_from flow p.at) nth ≡ Some s → LeadsTo flow o (length c.points) c (Take t nth addr) (take_step c t addr p (Some s))
-take_shaped flow o c t nth addr p s busy at = go (same_bool (is_some addr) (list_any is_new s.prims)) refl
+take_shaped flow o c t nth addr p s busy at = go (names_rightly addr s) refl
   where
-    go : (b : Bool) → same_bool (is_some addr) (list_any is_new s.prims) ≡ b → LeadsTo flow o (length c.points) c (Take t nth addr) (cond b (ended_as c t p s.to.0 (taken c t addr s)) Blocks)
+    go : (b : Bool) → names_rightly addr s ≡ b → LeadsTo flow o (length c.points) c (Take t nth addr) (cond b (ended_as c t p s.to.0 (taken c t addr s)) Blocks)
     go true e = take_ended flow o (length c.points) c t nth addr p s (record { known = held_below c.points t p busy; busy = busy; leaves_there = at; shape = same_if (is_some addr) (list_any is_new s.prims) e }) (taken c t addr s) refl
     go false e = take_none flow o (length c.points) c t nth addr (λ q r m.
         let point : p ≡ q = (let f = m.busy in cc) in
         let step : s ≡ r = (let f = m.leaves_there in let g = ap (λ (x : Point). slice_get (steps_from flow x.at) nth) point in cc) in
-        let contrary : same_bool (is_some addr) (list_any is_new s.prims) ≡ true = if_same (is_some addr) (list_any is_new s.prims) (m.shape ∙ ap (λ (x : Step). list_any is_new x.prims) (sym step)) in
+        let contrary : names_rightly addr s ≡ true = if_same (is_some addr) (list_any is_new s.prims) (m.shape ∙ ap (λ (x : Step). list_any is_new x.prims) (sym step)) in
         cc)
 
 take_there : (flow : Flow) (o : Observer) (c : Configuration) (t nth : ℕ) (addr : Option ℕ) (p : Point) → point_of c t ≡ Some p → (s : Option Step) → slice_get (steps_from flow p.at) nth ≡ s → LeadsTo flow o (length c.points) c (Take t nth addr) (take_step c t addr p s)

@@ -10,8 +10,9 @@ use Rattle.plc_flow.specs.declared.flow.Move.TheVariants.{Start, Step as Take, R
 use Rattle.plc_mem.specs.declared.cell.RaceKind.{RaceKind}
 use Rattle.plc_mem.specs.State.{State}
 use Rattle.plc_mem.specs.Primitives.{race_of, goes, after, event_of}
-use Rattle.plc_run.specs.declared.point.Point.{Point}
-use Rattle.plc_run.specs.Run.{Ending, Fine, Stuck, Raced, turn, recorded, execute, Configuration, steps_from, MayTake, taken, Moves, Races, begin}
+use Rattle.plc_flow.specs.declared.points.Point.{Point}
+use Rattle.plc_run.specs.Run.{Ending, Fine, Stuck, Raced, turn, recorded, execute, Configuration, MayTake, taken, Moves, Races, begin}
+use Rattle.plc_flow.specs.Points.{steps_from}
 use Rattle.plc_run.specs.Laws.{RunLaws}
 
 -- two ways to take a step from one configuration are one

@@ -1,10 +1,9 @@
 -- What the code's parts of a move make together.
-use Rattle.std.proofs.Common.{Result, Ok, Err, IfOk, OnOk, OnErr, ◌≡◌, ℕ, zero, suc, ◌+◌, ◌<◌, Bool, true, false, cond, List, [], ◌∷◌, ◌++◌, Option, Some, None, is_some, length, get_or, set, slice_get, replicate, refl, sym, ap, ◌∙◌, subst, arith, append_assoc}
-use Rattle.std.specs.List.{list_any}
-use Rattle.std.specs.Prelude.{nat_lt, is_none, count_by}
+use Rattle.std.proofs.Common.{Result, Ok, Err, IfOk, OnOk, OnErr, ◌≡◌, ℕ, zero, suc, ◌+◌, ◌<◌, Bool, true, false, cond, List, [], ◌∷◌, ◌++◌, Option, Some, None, length, get_or, set, slice_get, replicate, refl, sym, ap, ◌∙◌, subst, arith, append_assoc}
+use Rattle.std.specs.Prelude.{nat_lt, is_none}
 use Rattle.std.proofs.lemmas.List.{length-replicate}
 use Rattle.std.proofs.lemmas.Bool.{and_parts, eq-eqb, ltb-true}
-use Rattle.plc_lang.specs.Locals.{is_parameter}
+use Rattle.plc_lang.specs.Locals.{parameters_of}
 use Rattle.plc_base.specs.declared.ids.OpId.{OpId}
 use Rattle.plc_base.specs.declared.memory.NoMemory.{NoMemory}
 use Rattle.plc_flow.specs.declared.flow.Gate.{Gate}
@@ -24,10 +23,10 @@ use Rattle.plc_base.specs.Tables.{put_at}
 use Rattle.plc_mem.specs.Primitives.{race_of, goes, after, event_of}
 use Rattle.plc_mem.specs.Outcomes.{address_or_null}
 use Rattle.plc_mem.proofs.Places.{put_is_set, put_put, length_put}
-use Rattle.plc_run.specs.declared.point.Point.{Point}
-use Rattle.plc_lang.specs.Allocation.{is_new}
-use Rattle.plc_run.specs.Run.{Ending, Fine, Stuck, Raced, turn, recorded, execute, Configuration, point_of, steps_from, taken, Moves, Run, begin, more, beginning, initialised, first_configuration}
-use Rattle.plc_run.specs.Reach.{Reached, Goes, Blocks, Forbids, Breaks, is_idle, start_op, start_from, return_to, return_from, ended_as, same_bool, take_step, step_from, free_of, reach}
+use Rattle.plc_flow.specs.declared.points.Point.{Point}
+use Rattle.plc_run.specs.Run.{Ending, Fine, Stuck, Raced, turn, recorded, execute, Configuration, point_of, taken, Moves, Run, begin, more, beginning, initialised, first_configuration}
+use Rattle.plc_flow.specs.Points.{steps_from, names_rightly}
+use Rattle.plc_run.specs.Reach.{Reached, Goes, Blocks, Forbids, Breaks, is_idle, start_op, start_from, return_to, return_from, ended_as, take_step, step_from, free_of, reach}
 use Rattle.plc_run.specs.declared.moved.Moved.{Moved}
 use Rattle.plc_run.specs.Position.{Position, threads_of, IsOfRun, Answers, answer, reached}
 use Rattle.plc_run.proofs.Reaching.{LeadsTo, reach_leads}
@@ -62,11 +61,26 @@ append_none [] = refl
 append_none (e ∷ h) = ap (λ x. e ∷ x) (append_none h)
 
 -- a step that may be taken
-pub stepped : (flow : Flow) (c : Configuration) (t nth : ℕ) (addr : Option ℕ) (p : Point) (step : Step) (end : Ending) → point_of c t ≡ Some p → slice_get (steps_from flow p.at) nth ≡ Some step → same_bool (is_some addr) (list_any is_new step.prims) ≡ true
-    → end ≡ execute c.state [] t (address_or_null addr) 0 step.prims → step_from flow c t nth addr (point_of c t) ≡ ended_as c t p step.to.0 (behind c.history end)
-stepped flow c t nth addr p step end busy at shaped ran =
+pub stepped : (flow : Flow) (c : Configuration) (t nth : ℕ) (addr : Option ℕ) (p : Point) (step : Step) → point_of c t ≡ Some p → slice_get (steps_from flow p.at) nth ≡ Some step → names_rightly addr step ≡ true
+    → step_from flow c t nth addr (point_of c t) ≡ ended_as c t p step.to.0 (taken c t addr step)
+stepped flow c t nth addr p step busy at shaped =
     ap (step_from flow c t nth addr) busy ∙ ap (take_step c t addr p) at ∙ ap (λ b. cond b (ended_as c t p step.to.0 (taken c t addr step)) Blocks) shaped
-    ∙ ap (ended_as c t p step.to.0) (ap (λ h. execute c.state h t (address_or_null addr) 0 step.prims) (sym (append_none c.history)) ∙ execute_behind c.state c.history [] t (address_or_null addr) 0 step.prims ∙ ap (behind c.history) (sym ran))
+
+-- what it comes to, where its events were gathered beside the history
+pub taken_so : (c : Configuration) (t : ℕ) (addr : Option ℕ) (step : Step) (end : Ending) → end ≡ execute c.state [] t (address_or_null addr) 0 step.prims → behind c.history end ≡ taken c t addr step
+taken_so c t addr step end ran =
+    ap (behind c.history) ran ∙ sym (execute_behind c.state c.history [] t (address_or_null addr) 0 step.prims)
+    ∙ ap (λ h. execute c.state h t (address_or_null addr) 0 step.prims) (append_none c.history)
+
+-- all its primitives succeeded
+pub taken_fine : (c : Configuration) (t : ℕ) (addr : Option ℕ) (p : Point) (step : Step) (s : State) (g h : List Event) (ps : List (Option Point)) → t < length c.points
+    → Fine s g ≡ execute c.state [] t (address_or_null addr) 0 step.prims → h ≡ c.history ++ g → ps ≡ set c.points t (Some (record p { at = step.to.0 }))
+    → Goes (record { state = s; history = h; points = ps }) ≡ ended_as c t p step.to.0 (taken c t addr step)
+taken_fine c t addr p step s g h ps small ran longer points =
+    let to : Option Point = Some (record p { at = step.to.0 }) in
+    ap (λ ps. Goes (record { state = s; history = h; points = ps })) (points ∙ sym (put_is_set None c.points t to small))
+    ∙ ap (λ h. Goes (record { state = s; history = h; points = put_at None c.points t to })) longer
+    ∙ ap (ended_as c t p step.to.0) (taken_so c t addr step (Fine s g) ran)
 
 -- ---- where runs begin
 
@@ -135,7 +149,7 @@ returned flow c t p g s ps fits busy opens at_exit new points =
     ∙ ap (λ b. cond b (Goes (record c { state = with_locals c.state t None; points = put_at None c.points t None })) Blocks) (eq-eqb p.at g.exit.0 at_exit)
     ∙ ap (λ s. Goes (record c { state = s; points = put_at None c.points t None })) gone ∙ ap (λ ps. Goes (record c { state = s; points = ps })) left
 
-pub started_so : (flow : Flow) (c : Configuration) (t op : ℕ) (args : List ℕ) (o : Op) (g : Gate) (s : State) (ps : List (Option Point)) → is_idle c.points t ≡ true → slice_get flow.file.ops op ≡ Some o → slice_get flow.gates op ≡ Some g → length args ≡ count_by is_parameter o.locals
+pub started_so : (flow : Flow) (c : Configuration) (t op : ℕ) (args : List ℕ) (o : Op) (g : Gate) (s : State) (ps : List (Option Point)) → is_idle c.points t ≡ true → slice_get flow.file.ops op ≡ Some o → slice_get flow.gates op ≡ Some g → length args ≡ parameters_of o
     → s ≡ with_locals c.state t (Some (starting o args)) → ps ≡ set c.points t (Some (record { op = op; at = g.entry.0 })) → start_from flow c t op args ≡ Goes (record c { state = s; points = ps })
 started_so flow c t op args o g s ps idle named opens counted new points =
     let small = ltb-true t (length c.points) (and_parts (nat_lt t (length c.points)) (is_none (get_or c.points t None)) idle).0 in
@@ -143,7 +157,7 @@ started_so flow c t op args o g s ps idle named opens counted new points =
     let there : put_at None c.points t to ≡ ps = put_is_set None c.points t to small ∙ sym points in
     ap (λ b. cond b (start_op c t op args (slice_get flow.file.ops op) (slice_get flow.gates op)) Blocks) idle
     ∙ ap (λ x. start_op c t op args x (slice_get flow.gates op)) named ∙ ap (start_op c t op args (Some o)) opens
-    ∙ ap (λ b. cond b (Goes (record c { state = with_locals c.state t (Some (starting o args)); points = put_at None c.points t to })) Blocks) (eq-eqb (length args) (count_by is_parameter o.locals) counted)
+    ∙ ap (λ b. cond b (Goes (record c { state = with_locals c.state t (Some (starting o args)); points = put_at None c.points t to })) Blocks) (eq-eqb (length args) (parameters_of o) counted)
     ∙ ap (λ s. Goes (record c { state = s; points = put_at None c.points t to })) (sym new) ∙ ap (λ ps. Goes (record c { state = s; points = ps })) there
 
 -- ---- the kinds of moves
@@ -173,12 +187,3 @@ step_answers flow o p q move (Err x) live run e f = tt
 pub step_run : (flow : Flow) (o : Observer) (p q : Position) (move : Move) (r : Result Moved NoMemory) → IsOfRun flow o p → OnOk r (q ≡ reached (reach flow o p.here move) p) → OnErr r (q ≡ p) → IsOfRun flow o q
 step_run flow o p q move (Ok m) run f g = run_answered flow o p q move run f
 step_run flow o p q move (Err x) run f g = subst (IsOfRun flow o) (sym g) run
-
--- a step that was taken, with its events behind the history
-pub stepped_on : (flow : Flow) (c : Configuration) (t nth : ℕ) (addr : Option ℕ) (p : Point) (step : Step) (s : State) (g h : List Event) (ps : List (Option Point)) → point_of c t ≡ Some p → slice_get (steps_from flow p.at) nth ≡ Some step → same_bool (is_some addr) (list_any is_new step.prims) ≡ true
-    → Fine s g ≡ execute c.state [] t (address_or_null addr) 0 step.prims → h ≡ c.history ++ g → ps ≡ set c.points t (Some (record p { at = step.to.0 })) → step_from flow c t nth addr (point_of c t) ≡ Goes (record { state = s; history = h; points = ps })
-stepped_on flow c t nth addr p step s g h ps busy at shaped ran longer points =
-    let to : Option Point = Some (record p { at = step.to.0 }) in
-    let there : put_at None c.points t to ≡ ps = put_is_set None c.points t to (held_below c.points t p busy) ∙ sym points in
-    stepped flow c t nth addr p step (Fine s g) busy at shaped ran
-    ∙ ap (λ h. Goes (record { state = s; history = h; points = put_at None c.points t to })) (sym longer) ∙ ap (λ ps. Goes (record { state = s; history = h; points = ps })) there

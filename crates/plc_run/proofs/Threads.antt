@@ -1,9 +1,9 @@
 -- In every configuration of a run each busy thread holds the locals of its operation, and stands at one of its points.
-use Rattle.std.proofs.Common.{◌≡◌, ℕ, zero, suc, ◌+◌, ◌<◌, Bool, true, false, cond, List, [], ◌∷◌, ◌++◌, Option, Some, None, length, get_or, slice_get, filter, map, replicate, count_by, refl, sym, ap, ◌∙◌, subst, arith, inl, inr, length-append}
+use Rattle.std.proofs.Common.{◌≡◌, ℕ, ◌+◌, ◌<◌, List, [], ◌++◌, Option, Some, None, length, get_or, slice_get, map, replicate, refl, sym, ap, ◌∙◌, subst, arith, inl, inr, length-append}
 use Rattle.std.proofs.lemmas.List.{length-map, length-replicate}
-use Rattle.std.proofs.lemmas.Bool.{cases_eq, eqb-true}
+use Rattle.std.proofs.lemmas.Bool.{cases_eq}
 use Rattle.plc_lang.specs.declared.syntax.Op.{Op}
-use Rattle.plc_lang.specs.Locals.{is_pointer, is_parameter, is_other_data}
+use Rattle.plc_lang.specs.Locals.{pointers_of, parameters_of, other_data_of}
 use Rattle.plc_lang.specs.Shape.{Shape, shape_of, init_shape, PrimitivesIn}
 use Rattle.plc_auto.specs.declared.observer.Observer.{Observer}
 use Rattle.plc_flow.specs.declared.flow.Step.{Step}
@@ -18,22 +18,15 @@ use Rattle.plc_base.specs.Tables.{put_at}
 use Rattle.plc_mem.specs.Fit.{shape}
 use Rattle.plc_base.proofs.Tables.{get-put_same, get-put_other, get-map, get-replicate}
 use Rattle.plc_mem.proofs.Places.{length_put}
-use Rattle.plc_run.specs.declared.point.Point.{Point}
-use Rattle.plc_run.specs.Run.{Ending, Fine, Stuck, Raced, Configuration, point_of, leaves, steps_from, Moves, Run, begin, more, beginning, initialised, first_configuration}
+use Rattle.plc_flow.specs.declared.points.Point.{Point}
+use Rattle.plc_run.specs.Run.{Ending, Fine, Stuck, Raced, Configuration, point_of, Moves, Run, begin, more, beginning, initialised, first_configuration}
+use Rattle.plc_flow.specs.Points.{steps_from}
 use Rattle.plc_run.specs.Fit.{IsBusyAt, ThreadFits, ConfigurationFits}
-use Rattle.plc_run.proofs.Gates.{gate_from, one_gate}
+use Rattle.plc_flow.proofs.Gates.{gate_from}
+use Rattle.plc_flow.proofs.Leaving.{stay_in_their_gate}
 use Rattle.plc_run.proofs.Shapes.{EndsKept, same_shape, execute_keeps}
 
 -- ---- the step that a busy thread takes
-
-pub filter_member : {A : Type 0} (p : A → Bool) (xs : List A) (n : ℕ) (x : A) → slice_get (filter p xs) n ≡ Some x → (k : ℕ) × (slice_get xs k ≡ Some x) × (p x ≡ true)
-filter_member p [] n x at = cc
-filter_member {A = A} p (y ∷ ys) n x at = go (p y) refl n (λ m there. filter_member p ys m x there) at
-  where
-    go : (b : Bool) → p y ≡ b → (n : ℕ) → ((m : ℕ) → slice_get (filter p ys) m ≡ Some x → (k : ℕ) × (slice_get ys k ≡ Some x) × (p x ≡ true)) → slice_get (cond b (y ∷ filter p ys) (filter p ys)) n ≡ Some x → (k : ℕ) × (slice_get (y ∷ ys) k ≡ Some x) × (p x ≡ true)
-    go true is zero later at = (0, at, subst (λ (z : A). p z ≡ true) (let e : y ≡ x = cc in e) is)
-    go true is (suc n) later at = let r = later n at in (suc r.0, r.1, r.2)
-    go false is n later at = let r = later n at in (suc r.0, r.1, r.2)
 
 -- what it leads to, and that its primitives name what is there
 pub record StepFits (flow : Flow) (gate : Gate) (h : Shape) (step : Step) : Type 0 where
@@ -43,15 +36,11 @@ pub record StepFits (flow : Flow) (gate : Gate) (h : Shape) (step : Step) : Type
 
 pub step_fits : (flow : Flow) → FlowFits flow → (s : State) (t : ℕ) (p : Point) (step : Step) (nth : ℕ) → (b : IsBusyAt flow s t p) → slice_get (steps_from flow p.at) nth ≡ Some step → StepFits flow b.gate (shape s b.locals) step
 step_fits flow fits s t p step nth b at =
-    let m = filter_member (leaves p.at) flow.steps nth step at in
-    let w = fits.well.steps m.0 step m.1 in
-    let from : step.from.0 ≡ p.at = eqb-true step.from.0 p.at m.2 in
-    let same : step.op.0 ≡ p.op = one_gate 0 flow.points flow.gates step.op.0 p.op w.0 b.gate p.at fits.well.ranges w.1 b.opens (subst (IsPointOf w.0) from w.2) b.within in
-    let gate : w.0 ≡ b.gate = (let e = subst (λ i. slice_get flow.gates i ≡ Some w.0) same w.1 in let f = b.opens in cc) in
-    let short = fits.well.short m.0 step m.1 in
+    let m = stay_in_their_gate flow fits.well p.op b.gate p.at nth step b.opens b.within at in
+    let few = fits.well.short m.place step m.there in
     record {
-      leads = subst (λ g. IsPointOf g step.to.0) gate w.3;
-      names = subst (λ h. PrimitivesIn h step.prims) (sym b.shape) (fits.steps m.0 step b.operation m.1 (subst (λ i. slice_get flow.file.ops i ≡ Some b.operation) (sym same) b.named));
+      leads = m.leads;
+      names = subst (λ h. PrimitivesIn h step.prims) (sym b.shape) (fits.steps m.place step b.operation m.there (subst (λ i. slice_get flow.file.ops i ≡ Some b.operation) (sym m.of_op) b.named));
       short = omega arith;
     }
 
@@ -72,10 +61,10 @@ thread_stays flow s new t (Some p) f h e k = record {
 
 -- ---- moves
 
-started_shape : (flow : Flow) (s : State) (o : Op) (args : List ℕ) → length s.shared ≡ length flow.file.shared → length s.fields ≡ length flow.file.fields → length args ≡ count_by is_parameter o.locals → shape s (starting o args) ≡ shape_of flow.file o
+started_shape : (flow : Flow) (s : State) (o : Op) (args : List ℕ) → length s.shared ≡ length flow.file.shared → length s.fields ≡ length flow.file.fields → length args ≡ parameters_of o → shape s (starting o args) ≡ shape_of flow.file o
 started_shape flow s o args h f counted =
-    let a = length-replicate (count_by is_pointer o.locals) null_cell in
-    let b : length (args ++ replicate (count_by is_other_data o.locals) 0) ≡ count_by is_parameter o.locals + count_by is_other_data o.locals = omega (arith, length-append args (replicate (count_by is_other_data o.locals) 0), length-replicate {A = ℕ} (count_by is_other_data o.locals) 0, counted) in
+    let a = length-replicate (pointers_of o) null_cell in
+    let b : length (args ++ replicate (other_data_of o) 0) ≡ parameters_of o + other_data_of o = omega (arith, length-append args (replicate (other_data_of o) 0), length-replicate {A = ℕ} (other_data_of o) 0, counted) in
     cc
 
 -- thread t comes to a point, or becomes idle, with these locals
@@ -94,7 +83,7 @@ came flow threads c t l q small k mine = record {
   ];
 }
 
-start_fits : (flow : Flow) → FlowFits flow → (threads : ℕ) (c : Configuration) (t op : ℕ) (o : Op) (g : Gate) (args : List ℕ) → t < threads → slice_get flow.file.ops op ≡ Some o → slice_get flow.gates op ≡ Some g → length args ≡ count_by is_parameter o.locals → ConfigurationFits flow threads c
+start_fits : (flow : Flow) → FlowFits flow → (threads : ℕ) (c : Configuration) (t op : ℕ) (o : Op) (g : Gate) (args : List ℕ) → t < threads → slice_get flow.file.ops op ≡ Some o → slice_get flow.gates op ≡ Some g → length args ≡ parameters_of o → ConfigurationFits flow threads c
     → ConfigurationFits flow threads (record c { state = with_locals c.state t (Some (starting o args)); points = put_at None c.points t (Some (record { op = op; at = g.entry.0 })) })
 unfolding with_locals
 start_fits flow fits threads c t op o g args small named opens counted k =

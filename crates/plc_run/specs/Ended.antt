@@ -1,12 +1,16 @@
--- How the code says that primitives in order ended.
-use Rattle.std.specs.Prelude.{List}
+-- How the code says that primitives in order ended, and what it asks before it takes a step.
+use Rattle.std.specs.Prelude.{◌≡◌, ℕ, ◌<◌, List, length, get_or, Some, None}
+use Rattle.plc_lang.specs.Shape.{PrimitivesIn}
 use Rattle.plc_auto.specs.declared.event.Event.{Event}
 use Rattle.plc_mem.specs.declared.cell.Outcome.{Outcome}
 use Rattle.plc_mem.specs.declared.cell.Outcome.TheVariants.{Next, Blocked, Race}
-use Rattle.plc_mem.specs.State.{State}
+use Rattle.plc_flow.specs.declared.flow.Step.{Step}
+use Rattle.plc_flow.specs.declared.points.Point.{Point}
+use Rattle.plc_mem.specs.State.{State, Locals}
+use Rattle.plc_mem.specs.Fit.{shape}
 use Rattle.plc_run.specs.declared.execute.Ended.{Ended}
 use Rattle.plc_run.specs.declared.execute.Ended.TheVariants as ends
-use Rattle.plc_run.specs.Run.{Ending, Fine, Stuck, Raced, recorded}
+use Rattle.plc_run.specs.Run.{Configuration, Ending, Fine, Stuck, Raced, point_of, recorded}
 
 -- a history with the event of an outcome behind it, if there is one
 abbrev pub heard : List Event → Outcome → List Event
@@ -19,3 +23,11 @@ abbrev pub ending : Ended → State → List Event → Ending
 ending ends.Fine s h = Fine s h
 ending ends.Stuck s h = Stuck
 ending (ends.Raced kind k) s h = Raced kind k
+
+-- thread t stands at the point and holds locals to which the step's primitives fit
+pub record IsReady (c : Configuration) (t : ℕ) (p : Point) (step : Step) : Type 0 where
+  pub locals : Locals
+  pub stands : point_of c t ≡ Some p
+  pub held : get_or c.state.locals t None ≡ Some locals
+  pub fit : PrimitivesIn (shape c.state locals) step.prims
+  pub short : length step.prims < 65536

@@ -7,7 +7,7 @@ use Rattle.plc_flow.specs.declared.flow.Flow.{Flow}
 use Rattle.plc_flow.specs.WellFormed.{IsPointOf}
 use Rattle.plc_mem.specs.State.{State, Locals}
 use Rattle.plc_mem.specs.Fit.{shape}
-use Rattle.plc_run.specs.declared.point.Point.{Point}
+use Rattle.plc_flow.specs.declared.points.Point.{Point}
 use Rattle.plc_run.specs.Run.{Configuration, point_of}
 
 -- a thread at this point holds the locals of the point's operation

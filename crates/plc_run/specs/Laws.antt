@@ -1,7 +1,7 @@
 -- Runs begin and go on, each move leads to one configuration, and a race is the last move.
-use Rattle.std.specs.Prelude.{◌≡◌, ℕ, ◌<◌, ◌++◌, ◌∷◌, [], List, Option, Some, None, length, count_by, slice_get}
+use Rattle.std.specs.Prelude.{◌≡◌, ℕ, ◌<◌, ◌++◌, ◌∷◌, [], List, Option, Some, None, length, slice_get}
 use Rattle.plc_lang.specs.declared.syntax.Op.{Op}
-use Rattle.plc_lang.specs.Locals.{is_parameter}
+use Rattle.plc_lang.specs.Locals.{parameters_of}
 use Rattle.plc_auto.specs.declared.event.Event.{Event}
 use Rattle.plc_auto.specs.declared.event.Event.TheVariants.{Free as Freed}
 use Rattle.plc_auto.specs.declared.observer.Observer.{Observer}
@@ -14,7 +14,7 @@ use Rattle.plc_flow.specs.declared.flow.Move.{Move}
 use Rattle.plc_flow.specs.declared.flow.Move.TheVariants.{Start, Step as Take, Return, Free}
 use Rattle.plc_mem.specs.declared.cell.RaceKind.{RaceKind}
 use Rattle.plc_mem.specs.State.{State}
-use Rattle.plc_run.specs.declared.point.Point.{Point}
+use Rattle.plc_flow.specs.declared.points.Point.{Point}
 use Rattle.plc_run.specs.Run.{Configuration, Run, Moves, Races, Fine, MayTake, taken, point_of, first_configuration}
 
 -- some configuration is reached by the move
@@ -25,7 +25,7 @@ MayMove flow o threads c move = (d : Configuration) × Moves flow o threads c mo
 pub record RunLaws (flow : Flow) (o : Observer) (threads : ℕ) : Type 0 where
   pub begins : (c : Configuration) → first_configuration flow threads ≡ Some c → Run flow o threads 0 c
   pub starts : (c : Configuration) (t : ℕ) (op : OpId) (args : List ℕ) (operation : Op) (gate : Gate)
-      → t < threads → point_of c t ≡ None → slice_get flow.file.ops op.0 ≡ Some operation → slice_get flow.gates op.0 ≡ Some gate → length args ≡ count_by is_parameter operation.locals
+      → t < threads → point_of c t ≡ None → slice_get flow.file.ops op.0 ≡ Some operation → slice_get flow.gates op.0 ≡ Some gate → length args ≡ parameters_of operation
       → MayMove flow o threads c (Start t op args)
   pub steps : (c : Configuration) (t nth : ℕ) (addr : Option ℕ) (p : Point) (step : Step) (s : State) (h : List Event)
       → MayTake flow threads c t nth addr p step → taken c t addr step ≡ Fine s h → MayMove flow o threads c (Take t nth addr)

@@ -1,7 +1,10 @@
-pub mod Ended
+-- what contracts of public calls say
 pub mod Fit
 pub mod Laws
 pub mod Observed
 pub mod Position
-pub mod Reach
+pub mod Quiet
 pub mod Run
+-- words of private functions alone
+pub mod Ended
+pub mod Reach

@@ -1,8 +1,7 @@
 -- What a move leads to, as a function: the code answers by it, and the law beside it says that it is what `Moves` and `Races` say.
-use Rattle.std.specs.Prelude.{ℕ, zero, suc, Bool, true, false, ◌&&◌, ◌==◌, nat_lt, if◌then◌else◌, List, [], ◌∷◌, ◌++◌, length, get_or, slice_get, count_by, Option, Some, None, is_some, is_none}
-use Rattle.std.specs.List.{list_any}
+use Rattle.std.specs.Prelude.{ℕ, zero, suc, Bool, true, ◌&&◌, ◌==◌, nat_lt, if◌then◌else◌, List, [], ◌∷◌, ◌++◌, length, get_or, slice_get, Option, Some, None, is_some, is_none}
 use Rattle.plc_lang.specs.declared.syntax.Op.{Op}
-use Rattle.plc_lang.specs.Locals.{is_parameter}
+use Rattle.plc_lang.specs.Locals.{parameters_of}
 use Rattle.plc_auto.specs.declared.event.Event.{Event}
 use Rattle.plc_auto.specs.declared.event.Event.TheVariants.{Free as Freed}
 use Rattle.plc_auto.specs.declared.observer.Observer.{Observer}
@@ -15,9 +14,9 @@ use Rattle.plc_flow.specs.declared.flow.Move.TheVariants.{Start, Step as Take, R
 use Rattle.plc_mem.specs.declared.cell.RaceKind.{RaceKind}
 use Rattle.plc_mem.specs.State.{with_locals, freed, starting}
 use Rattle.plc_base.specs.Tables.{put_at}
-use Rattle.plc_run.specs.declared.point.Point.{Point}
-use Rattle.plc_lang.specs.Allocation.{is_new}
-use Rattle.plc_run.specs.Run.{Ending, Fine, Stuck, Raced, Configuration, point_of, steps_from, taken}
+use Rattle.plc_flow.specs.declared.points.Point.{Point}
+use Rattle.plc_run.specs.Run.{Ending, Fine, Stuck, Raced, Configuration, point_of, taken}
+use Rattle.plc_flow.specs.Points.{steps_from, names_rightly}
 
 -- a configuration, none, a free that the observer forbids, or a race
 pub data Reached : Type 0 where
@@ -34,7 +33,7 @@ abbrev pub start_op : Configuration → ℕ → ℕ → List ℕ → Option Op �
 start_op c t op args None g = Blocks
 start_op c t op args (Some o) None = Blocks
 start_op c t op args (Some o) (Some g) =
-    if length args == count_by is_parameter o.locals
+    if length args == parameters_of o
     then Goes (record c { state = with_locals c.state t (Some (starting o args)); points = put_at None c.points t (Some (record { op = op; at = g.entry.0 })) })
     else Blocks
 
@@ -47,15 +46,10 @@ ended_as c t p to (Fine s h) = Goes (record { state = s; history = h; points = p
 ended_as c t p to Stuck = Blocks
 ended_as c t p to (Raced kind k) = Breaks kind k
 
--- an address is named exactly where the step has a `new`
-abbrev pub same_bool : Bool → Bool → Bool
-same_bool true b = b
-same_bool false true = false
-same_bool false false = true
-
+-- a step, if there is one, by a move that names an address or none
 abbrev pub take_step : Configuration → ℕ → Option ℕ → Point → Option Step → Reached
 take_step c t addr p None = Blocks
-take_step c t addr p (Some s) = if same_bool (is_some addr) (list_any is_new s.prims) then ended_as c t p s.to.0 (taken c t addr s) else Blocks
+take_step c t addr p (Some s) = if names_rightly addr s then ended_as c t p s.to.0 (taken c t addr s) else Blocks
 
 -- a step
 abbrev pub step_from : Flow → Configuration → ℕ → ℕ → Option ℕ → Option Point → Reached

@@ -1,10 +1,8 @@
 -- Configurations, moves and runs, and the races of a move.
-use Rattle.std.specs.Prelude.{◌≡◌, ℕ, suc, ◌+◌, ◌<◌, Bool, true, false, ◌==◌, List, [], ◌∷◌, ◌++◌, length, get_or, slice_get, filter, count_by, replicate, Option, Some, None, is_some}
-use Rattle.std.specs.List.{list_any}
+use Rattle.std.specs.Prelude.{◌≡◌, ℕ, suc, ◌+◌, ◌<◌, Bool, true, false, List, [], ◌∷◌, ◌++◌, length, get_or, slice_get, replicate, Option, Some, None}
 use Rattle.plc_lang.specs.declared.syntax.Primitive.{Primitive}
-use Rattle.plc_lang.specs.Allocation.{is_new}
 use Rattle.plc_lang.specs.declared.syntax.Op.{Op}
-use Rattle.plc_lang.specs.Locals.{is_parameter}
+use Rattle.plc_lang.specs.Locals.{parameters_of}
 use Rattle.plc_auto.specs.declared.event.Event.{Event}
 use Rattle.plc_auto.specs.declared.event.Event.TheVariants.{Free as Freed}
 use Rattle.plc_auto.specs.declared.observer.Observer.{Observer}
@@ -15,7 +13,8 @@ use Rattle.plc_flow.specs.declared.flow.Flow.{Flow}
 use Rattle.plc_flow.specs.declared.flow.Move.{Move}
 use Rattle.plc_flow.specs.declared.flow.Move.TheVariants.{Start, Step as Take, Return, Free}
 use Rattle.plc_mem.specs.declared.cell.RaceKind.{RaceKind}
-use Rattle.plc_run.specs.declared.point.Point.{Point}
+use Rattle.plc_flow.specs.declared.points.Point.{Point}
+use Rattle.plc_flow.specs.Points.{steps_from, Names}
 use Rattle.plc_mem.specs.State.{State, with_locals, freed, first_state, no_locals, starting}
 use Rattle.plc_base.specs.Tables.{put_at}
 use Rattle.plc_mem.specs.Primitives.{race_of, goes, after, event_of}
@@ -53,18 +52,6 @@ pub record Configuration : Type 0 where
 abbrev pub point_of : Configuration → ℕ → Option Point
 point_of c t = get_or c.points t None
 
--- the step leaves the point
-abbrev pub leaves : ℕ → Step → Bool
-leaves p s = s.from.0 == p
-
--- the steps that leave a point, in order
-abbrev pub steps_from : Flow → ℕ → List Step
-steps_from flow p = filter (leaves p) flow.steps
-
--- a move that takes a step names an address exactly where the step has a `new`
-abbrev pub Names : Option ℕ → Step → Type 0
-Names addr s = is_some addr ≡ list_any is_new s.prims
-
 -- thread t is at a point of an operation from which this step leaves, and the move is of the step's shape
 pub record MayTake (flow : Flow) (threads : ℕ) (c : Configuration) (t nth : ℕ) (addr : Option ℕ) (p : Point) (s : Step) : Type 0 where
   pub known : t < threads
@@ -80,7 +67,7 @@ taken c t addr s = execute c.state c.history t (address_or_null addr) 0 s.prims
 abbrev pub Moves : Flow → Observer → ℕ → Configuration → Move → Configuration → Type 0
 Moves flow o threads c (Start t op args) d =
     (operation : Op) × (gate : Gate) × (t < threads) × (point_of c t ≡ None)
-    × (slice_get flow.file.ops op.0 ≡ Some operation) × (slice_get flow.gates op.0 ≡ Some gate) × (length args ≡ count_by is_parameter operation.locals)
+    × (slice_get flow.file.ops op.0 ≡ Some operation) × (slice_get flow.gates op.0 ≡ Some gate) × (length args ≡ parameters_of operation)
     × (d ≡ record c { state = with_locals c.state t (Some (starting operation args)); points = put_at None c.points t (Some (record { op = op.0; at = gate.entry.0 })) })
 Moves flow o threads c (Take t nth addr) d =
     (p : Point) × (step : Step) × (s : State) × (h : List Event) × MayTake flow threads c t nth addr p step

@@ -1,26 +1,21 @@
 // A configuration of a run in code. What a move leads to is computed beside it: nothing of the
 // configuration is touched before the last call that may lack memory, so that a move that is
 // blocked or forbidden, and want of memory, leave it as it was.
-ghost use Rattle.std.specs.Prelude.{◌≡◌, ℕ, ◌<◌, length, get_or, slice_get, set, replicate, count_by, IfOk, OnOk, OnErr, Some, None, is_some};
-ghost use Rattle.std.specs.Option.{option_copied};
-ghost use Rattle.std.specs.List.{list_any};
-ghost use Rattle.plc_mem.specs.State.{Locals, with_locals};
-ghost use Rattle.plc_run.specs.Run.{steps_from, point_of, first_configuration};
-ghost use Rattle.plc_run.specs.Fit.{ConfigurationFits};
+ghost use Rattle.std.specs.Prelude.{◌≡◌, ℕ, ◌<◌, length, get_or, set, replicate, IfOk, OnOk, OnErr, None};
 ghost use Rattle.plc_flow.specs.WellFormed.{FlowFits};
-ghost use Rattle.plc_run.specs.Reach.{is_idle, same_bool, start_from, step_from, return_from, free_of, reach};
+ghost use Rattle.plc_run.specs.Run.{point_of, taken};
+ghost use Rattle.plc_run.specs.Ended.{IsReady};
+ghost use Rattle.plc_run.specs.Fit.{ConfigurationFits};
+ghost use Rattle.plc_run.specs.Reach.{is_idle, start_from, step_from, ended_as, return_from, free_of, reach};
 ghost use Rattle.plc_run.specs.Position.{threads_of, IsOfRun, Answers, Starts, Begins, answer, reached};
-ghost use Rattle.plc_lang.specs.Allocation.{is_new};
-ghost use Rattle.plc_lang.specs.Locals.{is_parameter};
 
-use crate::execute::{Ended, execute, take_step};
+use crate::execute::{Ended, execute, try_step};
 use crate::judge::may_free;
 use crate::moved::Moved;
-use crate::point::Point;
 use plc_auto::{Event, Observer};
 use plc_base::{NoMemory, OpId};
-use plc_flow::{Flow, Move, StartFault, Step};
-use plc_lang::{Local, Prim, is_new};
+use plc_flow::{Flow, Move, Point, StartFault, Step, names_rightly, nth_step};
+use plc_lang::count_parameters;
 use plc_mem::{Locals, Memory};
 use std::alloc::Global;
 use std::marker::Model;
@@ -51,8 +46,7 @@ fn idle_points(alloc: Global, threads: u32) -> Result<Vec<Option<Point>>, NoMemo
     ensures { IfOk result (λ points. points.items ≡ replicate threads None) }
 {
     let mut points = Vec::new(alloc);
-    for t in 0..threads {
-        let _done = t;
+    for _t in 0..threads {
         points.push(None)?;
     }
     Ok(points)
@@ -80,40 +74,6 @@ fn set_point(points: &mut Vec<Option<Point>>, t: u32, p: Option<Point>)
     ensures { points.new.items ≡ set points.old.items t p }
 {
     points[t as usize] = p;
-}
-
-// Whether the step allocates.
-fn has_new(prims: &[Prim]) -> bool
-    ensures { result ≡ list_any is_new prims.now }
-{
-    prims.iter().any(|p| is_new(p))
-}
-
-// Whether an address is named exactly where the step has a `new`.
-fn names_rightly(prims: &[Prim], addr: Option<u32>) -> bool
-    ensures { result ≡ same_bool (is_some addr) (list_any is_new prims.now) }
-{
-    if addr.is_some() {
-        has_new(prims)
-    } else {
-        !has_new(prims)
-    }
-}
-
-// The nth of the steps that leave a point.
-fn nth_step(flow: &Flow, at: u16, nth: u16) -> Option<&Step>
-    ensures { option_copied result ≡ slice_get (steps_from flow.now at) nth }
-{
-    let mut left = nth;
-    for step in flow.steps.as_slice() {
-        if step.from.0 == at {
-            if left == 0 {
-                return Some(step);
-            }
-            left -= 1;
-        }
-    }
-    None
 }
 
 impl Config {
@@ -223,7 +183,7 @@ impl Config {
         let Some(gate) = flow.gates.get(op.0 as usize) else {
             return Ok(Moved::Blocked);
         };
-        if args.len() != count_parameters(operation.locals.as_slice()) {
+        if args.len() != count_parameters(operation) {
             return Ok(Moved::Blocked);
         }
         let l = Locals::new(self.alloc, operation, args)?;
@@ -236,7 +196,7 @@ impl Config {
         Ok(Moved::Done)
     }
 
-    // A step: it is taken on a copy of the memory, which then takes the place of the memory.
+    // A step, if there is one and the move is of its shape.
     fn step_move(
         &mut self,
         flow: &Flow,
@@ -246,8 +206,10 @@ impl Config {
     ) -> Result<Moved, NoMemory>
         requires flow { FlowFits flow.now }
         requires fits { ConfigurationFits flow.now (threads_of self.old) self.old.here }
-        ensures answer { IfOk result (λ r. r ≡ answer (step_from flow.now self.old.here t nth addr (point_of self.old.here t))) }
-        ensures after { OnOk result (self.new ≡ reached (step_from flow.now self.old.here t nth addr (point_of self.old.here t)) self.old) }
+        ensures answer { let to = step_from flow.now self.old.here t nth addr (point_of self.old.here t)
+            in IfOk result (λ r. r ≡ answer to) }
+        ensures after { let to = step_from flow.now self.old.here t nth addr (point_of self.old.here t)
+            in OnOk result (self.new ≡ reached to self.old) }
         ensures err { OnErr result (self.new ≡ self.old) }
     {
         let Some(point) = point_at(&self.points, t) else {
@@ -256,21 +218,37 @@ impl Config {
         let Some(step) = nth_step(flow, point.at, nth) else {
             return Ok(Moved::Blocked);
         };
-        let prims = step.prims.as_slice();
-        if !names_rightly(prims, addr) {
+        if !names_rightly(step, addr) {
             return Ok(Moved::Blocked);
         }
-        let mut memory = self.memory.copy()?;
-        let mut events = Vec::new(self.alloc);
-        match take_step(&mut memory, &mut events, prims, t, addr)? {
+        self.take(step, point, t, addr)
+    }
+
+    // A step is taken on a copy of the memory, which then takes the place of the memory.
+    fn take(
+        &mut self,
+        step: &Step,
+        point: Point,
+        t: u32,
+        addr: Option<u32>,
+    ) -> Result<Moved, NoMemory>
+        requires { IsReady self.old.here t point step.now }
+        ensures answer { let to = ended_as self.old.here t point step.now.to.0 (taken self.old.here t addr step.now)
+            in IfOk result (λ r. r ≡ answer to) }
+        ensures after { let to = ended_as self.old.here t point step.now.to.0 (taken self.old.here t addr step.now)
+            in OnOk result (self.new ≡ reached to self.old) }
+        ensures err { OnErr result (self.new ≡ self.old) }
+    {
+        let tried = try_step(self.alloc, &self.memory, step, t, addr)?;
+        match tried.ended {
             Ended::Stuck => Ok(Moved::Blocked),
             Ended::Raced { kind, prim } => {
                 self.ended = true;
                 Ok(Moved::Race { kind, prim })
             }
             Ended::Fine => {
-                self.history.extend_from_slice(&events)?;
-                self.memory = memory;
+                self.history.extend_from_slice(&tried.events)?;
+                self.memory = tried.memory;
                 let to = Point {
                     op: point.op,
                     at: step.to.0,
@@ -318,11 +296,4 @@ impl Config {
         self.memory.free(a);
         Ok(Moved::Done)
     }
-}
-
-// How many of the locals are parameters.
-fn count_parameters(locals: &[Local]) -> usize
-    ensures { result ≡ count_by is_parameter locals.now }
-{
-    locals.iter().filter(|l| l.param).count()
 }

@@ -1,6 +1,6 @@
 // The primitives of a step in order. They run on a memory that may be thrown away, so that a step
 // that is blocked, or is a race, has changed nothing.
-ghost use Rattle.std.specs.Prelude.{◌≡◌, ℕ, ◌<◌, get_or, length, IfOk, OnOk, Some, None};
+ghost use Rattle.std.specs.Prelude.{◌≡◌, ℕ, ◌<◌, get_or, length, IfOk, OnOk, Some, None, []};
 ghost use Rattle.plc_lang.specs.Shape.{PrimitiveIn, PrimitivesIn};
 ghost use Rattle.plc_mem.specs.State.{Locals, with_locals};
 ghost use Rattle.plc_mem.specs.Outcomes.{outcome_of, next_of, address_or_null};
@@ -10,8 +10,10 @@ ghost use Rattle.plc_run.specs.Ended.{heard, ending};
 
 use plc_auto::Event;
 use plc_base::NoMemory;
+use plc_flow::Step;
 use plc_lang::Prim;
 use plc_mem::{Locals, Memory, Outcome, RaceKind};
+use std::alloc::Global;
 
 /// How primitives in order ended.
 #[derive(Clone, Copy, Debug, PartialEq, Eq)]
@@ -24,6 +26,14 @@ pub enum Ended {
     Raced { kind: RaceKind, prim: u16 },
 }
 
+/// What a step came to on a copy of the memory.
+#[derive(Drop)]
+pub struct Tried {
+    pub memory: Memory,
+    pub events: Vec<Event>,
+    pub ended: Ended,
+}
+
 // One primitive, whose event joins the events.
 fn one(
     memory: &mut Memory,
@@ -34,8 +44,10 @@ fn one(
     addr: Option<u32>,
 ) -> Result<Outcome, NoMemory>
     requires { PrimitiveIn (shape memory.old me.old) prim.now }
-    ensures outcome { IfOk result (λ o. o ≡ outcome_of (with_locals memory.old t (Some me.old)) t (address_or_null addr) prim.now) }
-    ensures next { OnOk result (with_locals memory.new t (Some me.new) ≡ next_of (with_locals memory.old t (Some me.old)) t (address_or_null addr) prim.now) }
+    ensures outcome { IfOk result (λ o. o
+        ≡ outcome_of (with_locals memory.old t (Some me.old)) t (address_or_null addr) prim.now) }
+    ensures next { OnOk result (with_locals memory.new t (Some me.new)
+        ≡ next_of (with_locals memory.old t (Some me.old)) t (address_or_null addr) prim.now) }
     ensures events { IfOk result (λ o. events.new.items ≡ heard events.old.items o) }
     ensures kept { OnOk result (Kept memory.old me.old memory.new me.new) }
 {
@@ -61,7 +73,8 @@ pub fn execute(
 ) -> Result<Ended, NoMemory>
     requires fit { PrimitivesIn (shape memory.old me.old) prims.now }
     requires few { length prims.now < 65536 }
-    ensures ends { IfOk result (λ e. ending e (with_locals memory.new t (Some me.new)) events.new.items ≡ execute (with_locals memory.old t (Some me.old)) events.old.items t (address_or_null addr) 0 prims.now) }
+    ensures ends { IfOk result (λ e. ending e (with_locals memory.new t (Some me.new)) events.new.items
+        ≡ execute (with_locals memory.old t (Some me.old)) events.old.items t (address_or_null addr) 0 prims.now) }
     ensures kept { OnOk result (Kept memory.old me.old memory.new me.new) }
 {
     for k in 0..prims.len() {
@@ -86,9 +99,11 @@ pub fn take_step(
     t: u32,
     addr: Option<u32>,
 ) -> Result<Ended, NoMemory>
-    requires busy { (l : Locals) × (get_or memory.old.locals t None ≡ Some l) × PrimitivesIn (shape memory.old l) prims.now }
+    requires busy { (l : Locals) × (get_or memory.old.locals t None ≡ Some l)
+        × PrimitivesIn (shape memory.old l) prims.now }
     requires few { length prims.now < 65536 }
-    ensures { IfOk result (λ e. ending e memory.new events.new.items ≡ execute memory.old events.old.items t (address_or_null addr) 0 prims.now) }
+    ensures { IfOk result (λ e. ending e memory.new events.new.items
+        ≡ execute memory.old events.old.items t (address_or_null addr) 0 prims.now) }
 {
     let Some(mut me) = memory.take(t) else {
         return Ok(Ended::Stuck);
@@ -101,4 +116,28 @@ pub fn take_step(
         Ended::Stuck => Ok(Ended::Stuck),
         Ended::Raced { kind, prim } => Ok(Ended::Raced { kind, prim }),
     }
+}
+
+/// A step of a thread on a copy of the memory, with its events beside the history.
+pub fn try_step(
+    alloc: Global,
+    memory: &Memory,
+    step: &Step,
+    t: u32,
+    addr: Option<u32>,
+) -> Result<Tried, NoMemory>
+    requires busy { (l : Locals) × (get_or memory.now.locals t None ≡ Some l)
+        × PrimitivesIn (shape memory.now l) step.now.prims }
+    requires few { length step.now.prims < 65536 }
+    ensures { IfOk result (λ x. ending x.ended x.memory x.events.items
+        ≡ execute memory.now [] t (address_or_null addr) 0 step.now.prims) }
+{
+    let mut memory = memory.copy()?;
+    let mut events = Vec::new(alloc);
+    let ended = take_step(&mut memory, &mut events, step.prims.as_slice(), t, addr)?;
+    Ok(Tried {
+        memory,
+        events,
+        ended,
+    })
 }

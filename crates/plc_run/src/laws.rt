@@ -5,6 +5,8 @@ ghost use Rattle.plc_flow.specs.declared.flow.Flow.{Flow};
 ghost use Rattle.plc_auto.specs.Table.{is_well_formed};
 ghost use Rattle.plc_run.specs.Fit.{ConfigurationFits};
 ghost use Rattle.plc_flow.specs.WellFormed.{FlowFits};
+ghost use Rattle.plc_flow.specs.WellSorted.{FlowIsWellSorted};
+ghost use Rattle.plc_run.specs.Quiet.{InitIsQuiet};
 ghost use Rattle.plc_run.specs.Laws.{RunLaws};
 ghost use Rattle.plc_run.specs.Observed.{RunsAreObserved};
 ghost use Rattle.plc_run.specs.Run.{Configuration, Run};
@@ -26,5 +28,12 @@ pub fn runs_are_observed()
 /// In every configuration of a run of a flow whose primitives name what is there, each busy thread
 /// stands at a point of its operation and holds that operation's locals, and an idle one holds none.
 pub fn threads_hold_their_locals()
-    ensures { (flow : Flow) (o : Observer) (threads n : ℕ) (c : Configuration) → FlowFits flow → 0 < threads → Run flow o threads n c → ConfigurationFits flow threads c }
+    ensures { (flow : Flow) (o : Observer) (threads n : ℕ) (c : Configuration)
+        → FlowFits flow → 0 < threads → Run flow o threads n c → ConfigurationFits flow threads c }
+{}
+
+/// The `init` of a flow of a file that was read is never a race, and nothing is heard of it: runs
+/// begin with an empty history, and `NoStart` comes exactly where `init` is blocked.
+pub fn init_is_quiet()
+    ensures { (flow : Flow) (threads : ℕ) → FlowIsWellSorted flow → InitIsQuiet flow threads }
 {}

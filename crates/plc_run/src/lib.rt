@@ -7,8 +7,7 @@ mod execute;
 mod judge;
 mod laws;
 mod moved;
-mod point;
 
 pub use config::Config;
-pub use laws::{runs_are_observed, runs_go_on, threads_hold_their_locals};
+pub use laws::{init_is_quiet, runs_are_observed, runs_go_on, threads_hold_their_locals};
 pub use moved::Moved;

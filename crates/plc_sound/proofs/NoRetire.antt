@@ -1,5 +1,5 @@
 -- In every run of a flow that never calls `retire` every pointer is valid, by induction over the moves.
-use Rattle.std.proofs.Common.{count_by, ◌≡◌, ℕ, ◌<◌, Bool, true, false, cond, List, [], ◌∷◌, Option, Some, None, replicate, filter, slice_get, zero, suc, refl, sym, subst}
+use Rattle.std.proofs.Common.{◌≡◌, ℕ, ◌<◌, Bool, true, false, cond, List, [], ◌∷◌, Option, Some, None, replicate, filter, slice_get, zero, suc, refl, sym, subst}
 use Rattle.std.specs.List.{list_any}
 use Rattle.std.proofs.lemmas.Bool.{or_parts}
 use Rattle.plc_auto.specs.declared.observer.Observer.{Observer}
@@ -8,13 +8,14 @@ use Rattle.plc_flow.specs.declared.flow.Step.{Step}
 use Rattle.plc_flow.specs.declared.flow.Flow.{Flow}
 use Rattle.plc_flow.specs.declared.flow.Move.{Move}
 use Rattle.plc_flow.specs.declared.flow.Move.TheVariants.{Start, Step as Take, Return, Free}
-use Rattle.plc_lang.specs.Locals.{is_pointer, is_other_data}
 use Rattle.plc_mem.specs.State.{no_locals, starting, with_locals, first_state}
 use Rattle.plc_mem.specs.declared.cell.RaceKind.{RaceKind}
-use Rattle.plc_run.specs.Run.{Configuration, Ending, Fine, Stuck, Raced, leaves, MayTake, Moves, Races, Run, begin, more, beginning, initialised, first_configuration}
-use Rattle.plc_run.specs.declared.point.Point.{Point}
+use Rattle.plc_run.specs.Run.{Configuration, Ending, Fine, Stuck, Raced, MayTake, Moves, Races, Run, begin, more, beginning, initialised, first_configuration}
+use Rattle.plc_flow.specs.Points.{leaves}
+use Rattle.plc_flow.specs.declared.points.Point.{Point}
 use Rattle.plc_sound.specs.Laws.{some_retire, retires, NeverRetires, NoRetireIsSafe}
-use Rattle.plc_sound.proofs.Valid.{IsCalm, EndsCalm, execute_ends, given_valid, started_valid, first_valid}
+use Rattle.plc_mem.proofs.Validity.{given_valid, starting_valid, first_valid}
+use Rattle.plc_sound.proofs.Valid.{IsCalm, EndsCalm, execute_ends}
 
 -- the step that a thread takes doesn't retire
 kept_none : (q p : Step → Bool) (xs : List Step) (n : ℕ) (x : Step) → list_any q xs ≡ false → slice_get (filter p xs) n ≡ Some x → q x ≡ false
@@ -35,7 +36,7 @@ abbrev CalmAt : Configuration → Type 0
 CalmAt c = IsCalm c.state c.history
 
 move_calm : (flow : Flow) (o : Observer) (threads : ℕ) → NeverRetires flow → 0 < threads → (c d : Configuration) (move : Move) → Moves flow o threads c move d → CalmAt c → CalmAt d
-move_calm flow o threads never some c d (Start t op args) m calm = subst CalmAt (sym m.7) (record { valid = given_valid c.state t (Some (starting m.0 args)) calm.valid (started_valid (count_by is_pointer m.0.locals) (count_by is_other_data m.0.locals) args); none = calm.none })
+move_calm flow o threads never some c d (Start t op args) m calm = subst CalmAt (sym m.7) (record { valid = given_valid c.state t (Some (starting m.0 args)) calm.valid (starting_valid m.0 args); none = calm.none })
 move_calm flow o threads never some c d (Take t nth addr) m calm =
     subst CalmAt (sym m.6) (subst EndsCalm m.5 (execute_ends c.state c.history t _ 0 m.1.prims (step_retires_not flow threads c t nth addr m.0 m.1 never m.4) calm))
 move_calm flow o threads never some c d (Return t) m calm = subst CalmAt (sym m.6) (record { valid = given_valid c.state t None calm.valid (λ v. refl); none = calm.none })

@@ -1,5 +1,7 @@
+-- what contracts of public calls say
 pub mod Calls
-pub mod Rules
-pub mod Writes
-pub mod Typings
 pub mod Laws
+pub mod Rules
+pub mod Typings
+-- words of private functions alone
+pub mod Writes

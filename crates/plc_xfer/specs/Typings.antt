@@ -1,7 +1,8 @@
--- Typings of a control flow, given as plain lists: how many pointer locals there are at each point, where operations begin, and the steps.
+-- Typings of a control flow that is given as plain lists.
 use Rattle.std.specs.Prelude.{◌≡◌, ◌&&◌, ◌<◌, ℕ, Bool, true, List, [], ◌∷◌, length, get_or, replicate, slice_get, if◌then◌else◌, zero, suc, Option, Some, None, ◌⊎◌}
 use Rattle.plc_base.specs.Mask.{within}
 use Rattle.plc_lang.specs.declared.syntax.Primitive.{Primitive}
+use Rattle.plc_lang.specs.Skeleton.{Skeleton, Passage, locals_at}
 use Rattle.plc_auto.specs.declared.observer.Observer.{Observer}
 use Rattle.plc_auto.specs.Sets.{unretired, all_locations}
 use Rattle.plc_type.specs.declared.env.PtrType.{PtrType}
@@ -11,23 +12,6 @@ use Rattle.plc_type.specs.Types.{bare}
 use Rattle.plc_type.specs.Environments.{env_below, bottom, entry}
 use Rattle.plc_xfer.specs.declared.fault.TypeFault.{TypeFault}
 use Rattle.plc_xfer.specs.Rules.{fault_of, env_after_all, env_after, interfered}
-
--- a step between two points
-pub record Passage : Type 0 where
-  pub from : ℕ
-  pub to : ℕ
-  pub prims : List Primitive
-
--- the points, with the number of pointer locals of each; the points where operations begin; the steps in order
-pub record Skeleton : Type 0 where
-  pub shared : ℕ
-  pub locals : List ℕ
-  pub entries : List ℕ
-  pub passages : List Passage
-
--- how many pointer locals there are at a point
-abbrev pub locals_at : Skeleton → ℕ → ℕ
-locals_at s p = get_or s.locals p 0
 
 -- one of the four sets of guarantees, locations of the observer within where any address may stand, and unretired ones beside A
 abbrev pub is_type : Observer → ℕ → PtrType → Bool

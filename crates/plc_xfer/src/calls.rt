@@ -112,7 +112,8 @@ pub(crate) fn on_other(env: &mut Env, kind: EvKind, observer: &Observer)
 #[tactic(auto, unfolding(crate::specs::Writes::with_each))]
 fn beside(env: &mut Env, func: FuncId, observer: &Observer)
     requires { FitsObserver observer.now env.old }
-    ensures { env.new ≡ with_each (beside_type observer.now func) (on_either observer.now (EvKind.Call func) env.old.w) env.old }
+    ensures { env.new ≡ with_each (beside_type observer.now func)
+        (on_either observer.now (EvKind.Call func) env.old.w) env.old }
 {
     call_beside(&mut env.shared, func, observer);
     call_beside(&mut env.locals, func, observer);
@@ -122,7 +123,9 @@ fn beside(env: &mut Env, func: FuncId, observer: &Observer)
 /// What a call with a pointer makes of an environment.
 pub(crate) fn call_with(env: &mut Env, func: FuncId, p: Var, observer: &Observer)
     requires { FitsObserver observer.now env.old }
-    ensures { env.new ≡ with_type (with_each (beside_type observer.now func) (on_either observer.now (EvKind.Call func) env.old.w) env.old) p (argument_type observer.now func (type_of env.old p)) }
+    ensures { let anywhere = on_either observer.now (EvKind.Call func) env.old.w
+        in let beside = with_each (beside_type observer.now func) anywhere env.old
+        in env.new ≡ with_type beside p (argument_type observer.now func (type_of env.old p)) }
 {
     let argument = argument_type(&type_of(env, p), func, observer);
     beside(env, func, observer);

@@ -1,6 +1,6 @@
 use Rattle.std.proofs.Common.{ℕ, ◌<◌, length, List, arith, ap, below_more}
 use Rattle.plc_lang.specs.declared.syntax.Primitive.{Primitive}
-use Rattle.plc_infer.specs.Skeletons.{skeleton_of}
+use Rattle.plc_flow.specs.Skeleton.{skeleton_of}
 use Rattle.plc_infer.specs.Graphs.{passage_at, graph_of}
 use Rattle.plc_infer.specs.Iteration.{Holds}
 use Rattle.plc_infer.proofs.Flows.{step_there, ends_in, from_fits}

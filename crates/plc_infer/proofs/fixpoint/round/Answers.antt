@@ -1,5 +1,5 @@
 use Rattle.std.proofs.Common.{◌≡◌, ℕ, ◌<◌, length, subst, arith}
-use Rattle.plc_infer.specs.Skeletons.{skeleton_of}
+use Rattle.plc_flow.specs.Skeleton.{skeleton_of}
 use Rattle.plc_infer.specs.Graphs.{graph_of}
 use Rattle.plc_infer.specs.Iteration.{Rounds}
 use Rattle.plc_infer.proofs.Climb.{round_more}

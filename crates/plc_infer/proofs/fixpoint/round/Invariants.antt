@@ -1,4 +1,4 @@
-use Rattle.plc_infer.specs.Skeletons.{skeleton_of}
+use Rattle.plc_flow.specs.Skeleton.{skeleton_of}
 use Rattle.plc_infer.specs.Graphs.{graph_of}
 use Rattle.plc_infer.specs.Iteration.{Rounds}
 use Rattle.plc_infer.proofs.fixpoint.round.Given as goal

@@ -1,5 +1,5 @@
 use Rattle.std.proofs.Common.{arith}
-use Rattle.plc_infer.specs.Skeletons.{skeleton_of}
+use Rattle.plc_flow.specs.Skeleton.{skeleton_of}
 use Rattle.plc_infer.specs.Graphs.{graph_of}
 use Rattle.plc_infer.proofs.Climb.{total_most, rising_start}
 use Rattle.plc_infer.proofs.Flows.{flow_laws, flow_starts, starts}

@@ -1,5 +1,5 @@
 use Rattle.std.proofs.Common.{◌-◌, ◌*◌, length}
-use Rattle.plc_infer.specs.Skeletons.{skeleton_of}
+use Rattle.plc_flow.specs.Skeleton.{skeleton_of}
 use Rattle.plc_infer.specs.Graphs.{graph_of}
 use Rattle.plc_infer.specs.Iteration.{Rising, total}
 use Rattle.plc_infer.specs.Starts.{starts_of}

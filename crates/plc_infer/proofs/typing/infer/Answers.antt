@@ -1,7 +1,7 @@
 use Rattle.std.proofs.Common.{◌≡◌, length, subst, sym}
 use Rattle.plc_type.proofs.Ordered.{ordered}
 use Rattle.plc_xfer.proofs.Order.{kept}
-use Rattle.plc_infer.specs.Skeletons.{skeleton_of}
+use Rattle.plc_flow.specs.Skeleton.{skeleton_of}
 use Rattle.plc_infer.specs.Graphs.{graph_of}
 use Rattle.plc_infer.specs.Iteration.{HoldBelow}
 use Rattle.plc_infer.proofs.Skeletal.{stuck_is, typing_is, strongest_is}

@@ -1,6 +1,6 @@
-use Rattle.std.proofs.Common.{◌≡◌, ◌<◌, sym, ap, ◌∙◌, get_or, set, length, arith}
-use Rattle.plc_mem.specs.State.{Node, node_of}
-use Rattle.plc_mem.proofs.Places.{node_at, put_node_at, put_no_node, put_is_set, nodes_fit_at}
+use Rattle.std.proofs.Common.{◌≡◌, sym, ap, ◌∙◌, get_or, length, List, ℕ, arith}
+use Rattle.plc_mem.specs.State.{Node}
+use Rattle.plc_mem.proofs.Places.{node_at, node_written, put_no_node, nodes_fit_at}
 use Rattle.plc_mem.proofs.node.set_value.Goals as goal
 
 pub index_mut-requires : goal.index_mut-requires
@@ -8,22 +8,14 @@ index_mut-requires c =
     let r = node_at c.args.nodes.now c.args.a c.in-Some.i c.index-nodes-i.result (sym c.find.ensures ∙ c.in-Some.is) in
     let fit = nodes_fit_at c.requires.0 c.args.nodes.now c.in-Some.i c.index-nodes-i.result c.requires.2 r.0 in
     let e : length c.node.inside.values.items ≡ length (get_or c.args.nodes.now c.in-Some.i c.index-nodes-i.result).values = ap (λ (n : Node). length n.values) c.node.view_is in
-    omega (arith, e, fit.0, c.requires.1, c.node.inside.values.ok.0)
+    omega (arith, e, fit.1, c.requires.1, c.node.inside.values.ok.0)
 
 pub returns-in-Some : goal.returns-in-Some
 returns-in-Some c =
-    let ns = c.args.nodes.now in
-    let a = c.args.a in
-    let i = c.in-Some.i in
-    let f = c.args.f in
     let e = sym c.find.ensures ∙ c.in-Some.is in
-    let r = node_at ns a i c.index-nodes-i.result e in
-    let fit = nodes_fit_at c.requires.0 ns i c.index-nodes-i.result c.requires.2 r.0 in
-    let same : length (get_or ns i c.index-nodes-i.result).values ≡ length (node_of ns a).values = ap (λ (n : Node). length n.values) r.1 in
-    let h : f < length (node_of ns a).values = omega (arith, same, fit.0, c.requires.1) in
-    ap (λ (n : Node). set ns i (record n { values = set n.values f c.args.n })) (c.node.view_is ∙ r.1)
-    ∙ ap (λ xs. set ns i (record (node_of ns a) { values = xs })) (sym (put_is_set 0 (node_of ns a).values f c.args.n h))
-    ∙ sym (put_node_at ns a i _ e)
+    let r = node_at c.args.nodes.now c.args.a c.in-Some.i c.index-nodes-i.result e in
+    let fit = nodes_fit_at c.requires.0 c.args.nodes.now c.in-Some.i c.index-nodes-i.result c.requires.2 r.0 in
+    node_written 0 (λ (n : Node). n.values) (λ (n : Node) (xs : List ℕ). record n { values = xs }) c.args.nodes.now c.args.a c.in-Some.i c.args.f c.args.n _ c.index-nodes-i.result e c.node.view_is (omega (arith, fit.1, c.requires.1))
 
 pub returns-in_default : goal.returns-in_default
 returns-in_default c = sym (put_no_node c.args.nodes.now c.args.a _ (sym c.find.ensures ∙ c.in_default.is))

@@ -1,6 +1,5 @@
-use Rattle.std.proofs.Common.{Some, sym, ap, ◌∙◌, count_by}
+use Rattle.std.proofs.Common.{Some, sym, ap, ◌∙◌}
 use Rattle.std.specs.Option.{option_copied}
-use Rattle.plc_lang.specs.Locals.{is_parameter}
 use Rattle.plc_mem.specs.State.{with_locals}
 use Rattle.plc_run.specs.Position.{reached}
 use Rattle.plc_run.specs.Reach.{is_idle}
@@ -14,7 +13,7 @@ returns-clause-after c =
     let idle = sym (c.is_idle.ensures ∙ ap (λ xs. is_idle xs c.args.t) c.deref.ensures.value) ∙ c.if-not-is_idle.false in
     let named = sym c.get.ensures ∙ ap option_copied c.in-Some.is in
     let opens = sym c.get-2.ensures ∙ ap option_copied c.in-Some-get.is in
-    let counted = c.if-args-count_parameters.false ∙ c.count_parameters.ensures ∙ ap (count_by is_parameter) c.as_slice.ensures in
+    let counted = c.if-args-count_parameters.false ∙ c.count_parameters.ensures in
     let given = c.put.ensures.given ∙ ap (λ l. with_locals c.self.inside.memory c.args.t (Some l)) c.in_ok-l.ensures in
     let to = started_so c.args.flow.now v.here c.args.t c.args.op.0 c.args.args.now c.in-Some.operation.now c.in-Some-get.gate.now c.put.new.self c.set_point.new.points.items idle named opens counted given c.set_point.ensures in
     rw (← c.self.view_is) (sym (ap (λ r. reached r v) to))
