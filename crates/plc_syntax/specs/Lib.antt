@@ -1,4 +1,5 @@
 pub mod Answer
+pub mod Faults
 pub mod Machine
 pub mod Nesting
 pub mod Syntax

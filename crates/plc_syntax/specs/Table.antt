@@ -10,7 +10,7 @@ use Rattle.plc_lex.specs.declared.token.Symbol.TheVariants.{Assign, Refresh, Equ
 use Rattle.plc_syntax.specs.declared.expected.Expected.{Expected}
 use Rattle.plc_syntax.specs.declared.expected.Expected.TheVariants.{Name, Number, Symbol, Part}
 use Rattle.plc_syntax.specs.declared.expected.Part.{Part as PartName}
-use Rattle.plc_syntax.specs.declared.expected.Part.TheVariants.{File, Fields, Pointers, Functions, PointerWord, Use, Scheme, Ghosts, GhostKind, MoreNames, Init, InitialSets, Ops, Parameters, Statements, Block, Else, SecondBlock, FurtherBlocks, NamedTail, Argument, During, Condition, ConditionTail, ActiveWord, NameOrNull, Primitives, AssignmentTail, SetTail, FieldTail, Value, Place, DotName, Atom, GhostValue, Test, Comparison, Outline, Depth, Items, Bound, SecondName, OrLiterals, Literal, Flag, Equality, Term}
+use Rattle.plc_syntax.specs.declared.expected.Part.TheVariants.{File, Fields, Pointers, Functions, PointerWord, Use, Scheme, Ghosts, GhostKind, MoreNames, Init, InitialSets, Ops, Parameters, Statements, Block, Else, SecondBlock, FurtherBlocks, NamedTail, Argument, During, Condition, ConditionTail, ActiveWord, NameOrNull, Primitives, AssignmentTail, SetTail, FieldTail, Value, Place, DotName, Atom, GhostValue, Test, Comparison, Outline, WholeOutline, Depth, Items, Bound, SecondName, OrLiterals, Literal, Flag, Equality, Term}
 
 -- a whole file
 abbrev pub after_file : TokenKind → Option (List Expected)
@@ -241,7 +241,7 @@ after_comparison (kinds.Symbol Less) = Some (Part Atom ∷ [])
 after_comparison (kinds.Symbol AtLeast) = Some (Part Atom ∷ [])
 after_comparison _ = None
 
--- the proof outline, or nothing
+-- the proof outline, whether it may be left out or not
 abbrev pub after_outline : TokenKind → Option (List Expected)
 after_outline (kinds.Word words.Outline) = Some (Symbol OpenBrace ∷ Part Depth ∷ Part Items ∷ Symbol CloseBrace ∷ [])
 after_outline _ = None
@@ -344,6 +344,7 @@ after_part GhostValue t = after_ghost_value t
 after_part Test t = after_test t
 after_part Comparison t = after_comparison t
 after_part Outline t = after_outline t
+after_part WholeOutline t = after_outline t
 after_part Depth t = after_depth t
 after_part Items t = after_items t
 after_part Bound t = after_bound t

@@ -114,7 +114,7 @@ fn after_part(part: Part, kind: &TokenKind) -> Option<&'static [Expected]>
         Part::GhostValue => primitives::after_ghost_value(kind),
         Part::Test => primitives::after_test(kind),
         Part::Comparison => primitives::after_comparison(kind),
-        Part::Outline => outline::after_outline(kind),
+        Part::Outline | Part::WholeOutline => outline::after_outline(kind),
         Part::Depth => outline::after_depth(kind),
         Part::Items => outline::after_items(kind),
         Part::Bound => outline::after_bound(kind),
