@@ -3,7 +3,6 @@ pub mod Sizes
 pub mod Reach
 pub mod Meaning
 pub mod Outlines
-pub mod Skipping
 pub mod Reading
 pub mod Views
 pub mod Answers

@@ -142,7 +142,7 @@ walk_right [] before (x ∷ s) e =
     subst (λ us. Right us (cond (list_all may_be_empty (x ∷ s)) None (Some (length before)))) (sym (append-nil before)) (ended_right before (x ∷ s) (list_all may_be_empty (x ∷ s)) e refl)
 walk_right (t ∷ ts) before (x ∷ s) e = walk_behind t ts before (x ∷ s) e (after_token (x ∷ s) t) refl (λ next h. walk_right ts (before ++ t ∷ []) next (left_one before t (x ∷ s) e ∙ h))
 
-outline_is_right : (ts : List TokenKind) (fault : Option ℕ) → fault ≡ outline_stuck_at ts → MatchOption fault (HasOutline ts) (OutlineFaultAt ts)
+pub outline_is_right : (ts : List TokenKind) (fault : Option ℕ) → fault ≡ outline_stuck_at ts → MatchOption fault (HasOutline ts) (OutlineFaultAt ts)
 outline_is_right ts None e = subst (Right ts) (sym e) (walk_right ts [] (expected.Part parts.WholeOutline ∷ []) refl)
 outline_is_right ts (Some place) e = record {
   fault = subst (Right ts) (sym e) (walk_right ts [] (expected.Part parts.WholeOutline ∷ []) refl);
