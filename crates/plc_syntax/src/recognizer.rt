@@ -19,9 +19,12 @@ use std::alloc::{AllocError, Global};
 /// is the fault at the least token.
 pub fn syntax(alloc: Global, tokens: &[Token]) -> Result<(), SyntaxFault>
     requires { length tokens.now < 2 ^ 32 }
-    ensures file { IsExactly SyntaxFault.Memory result (Ok tt) (IsFile (kinds tokens.now) × NoneTooDeep (kinds tokens.now)) }
-    ensures syntax { (at : ℕ) → IsExactly SyntaxFault.Memory result (Err (SyntaxFault.Syntax at)) (SyntaxFaultAt (kinds tokens.now) at) }
-    ensures nesting { (at : ℕ) → IsExactly SyntaxFault.Memory result (Err (SyntaxFault.Nesting at)) (NestingFaultAt (kinds tokens.now) at) }
+    ensures file { IsExactly SyntaxFault.Memory result (Ok tt)
+        (IsFile (kinds tokens.now) × NoneTooDeep (kinds tokens.now)) }
+    ensures syntax { (at : ℕ) → IsExactly SyntaxFault.Memory result (Err (SyntaxFault.Syntax at))
+        (SyntaxFaultAt (kinds tokens.now) at) }
+    ensures nesting { (at : ℕ) → IsExactly SyntaxFault.Memory result (Err (SyntaxFault.Nesting at))
+        (NestingFaultAt (kinds tokens.now) at) }
 {
     let mut stack = start(alloc, Part::File)?;
     let mut braces = Braces::none();
@@ -68,7 +71,8 @@ fn outline_stuck_at(alloc: Global, tokens: &[Token]) -> Result<Option<u32>, Allo
 pub fn outline_fault(alloc: Global, tokens: &[Token]) -> Result<Option<u32>, AllocError>
     requires { length tokens.now < 2 ^ 32 }
     ensures machine { IfOk result (λ fault. fault ≡ outline_stuck_at (kinds tokens.now)) }
-    ensures outline { IfOk result (λ fault. MatchOption fault (HasOutline (kinds tokens.now)) (OutlineFaultAt (kinds tokens.now))) }
+    ensures outline { IfOk result (λ fault. MatchOption fault (HasOutline (kinds tokens.now))
+        (OutlineFaultAt (kinds tokens.now))) }
 {
     outline_stuck_at(alloc, tokens)
 }
