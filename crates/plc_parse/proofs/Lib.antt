@@ -19,3 +19,4 @@ pub mod Stops
 pub mod FormLoop
 pub mod BlockLoop
 pub mod Answering
+pub mod OneFault

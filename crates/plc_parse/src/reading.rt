@@ -16,7 +16,7 @@ ghost use Rattle.plc_parse.specs.Meaning.{retire, watch_means};
 ghost use Rattle.plc_logic.specs.Fit.{OutlineFits};
 ghost use Rattle.plc_outparse.specs.Answers.{OpsFit};
 ghost use Rattle.plc_parse.specs.Reading.{struct_in, declarations_in, watch_in, init_in, outlined_in, file_in};
-ghost use Rattle.plc_parse.specs.Units.{lines_of, IsUnitOf, IsFaultOf, IsShallowFile, UnitsAreUnique};
+ghost use Rattle.plc_parse.specs.Units.{lines_of, IsUnitOf, IsFaultOf, IsShallowFile, UnitsAreUnique, FaultsAreOne};
 
 use crate::auxiliary::read_ghosts;
 use crate::declaration::{declare, read_fields, read_functions, read_shared};
@@ -259,4 +259,11 @@ pub fn units_are_unique()
 /// [`parse`] says of its answer follows from the tokens alone.
 pub fn units_fit()
     ensures { UnitsFit }
+{}
+
+/// The law that a list of tokens has at most one fault, of syntax, nesting or meaning, and none
+/// beside a unit: the answer that tokens are due is a function of them. Only memory may run out
+/// beside.
+pub fn faults_are_one()
+    ensures { FaultsAreOne }
 {}
