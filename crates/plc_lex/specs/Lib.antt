@@ -1,4 +1,6 @@
+-- what contracts of public calls say
 pub mod Characters
-pub mod Reading
 pub mod Refused
 pub mod Spelling
+-- words of private functions alone
+pub mod Reading

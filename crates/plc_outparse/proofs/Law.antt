@@ -18,12 +18,12 @@ use Rattle.plc_lang.specs.Labels.{labels_by_op}
 use Rattle.plc_lang.specs.Locals.{locals_of}
 use Rattle.plc_outparse.specs.Meaning.{in_turn, literal_means, Literals, literal_step, bound_means, reach, clause_means, clause_line_means, op_at, label_at, label_step, labels_mean, Parts, item_step, depth_means, outline_means}
 use Rattle.plc_scope.specs.Read.{wanted_at}
-use Rattle.plc_outparse.specs.Reading.{judged, place_of_list, literals_in, all_literals_in, clause_in, clause_line_in, labels_in, all_labels_in, invariant_in, over_in, at_in, item_in, place_of_parts, items_in, depth_in, parts_in, outline_in}
+use Rattle.plc_outparse.specs.Reading.{judged, place_of_list, literals_in, all_literals_in, clause_in, clause_line_in, labels_in, all_labels_in, invariant_in, over_in, at_in, item_in, place_of_parts, items_in, depth_in, parts_in, stands_at, outline_in}
+use Rattle.plc_syntax.proofs.Front.{outline_stands}
 use Rattle.plc_scope.proofs.Sequence.{bind_joins, bind_within, read_within, limit_within}
 use Rattle.plc_outparse.proofs.FormsOfTrees.{NoDot, literal_reads, or_literal_reads, no_dot_behind, bound_reads, item_front, item_behind, item_begins, depth_reads}
 use Rattle.plc_outparse.proofs.Lengths.{literals_long, names_long, items_long}
 use Rattle.plc_outparse.proofs.Repeated.{repeated_read}
-use Rattle.plc_outparse.proofs.Skips.{skips}
 
 -- ---- clauses
 
@@ -114,7 +114,7 @@ pub outline_read : (s : Scope) (ops : List Op) (at : ℕ) (t : OutlineTree) (res
 unfolding outline_in parts_in outline_means
 outline_read s ops at (Outlined d xs) rest =
     let us = each_then item_then xs (Symbol CloseBrace ∷ rest) in
-    ap (λ o. wanted_at at o >>= λ skipped. parts_in s ops (labels_by_op ops) (at + 2) (maybe_then depth_then d us)) (skips (Outlined d xs) rest) ∙
+    ap (λ o. stands_at at o >>= λ stands. parts_in s ops (labels_by_op ops) (at + 2) (maybe_then depth_then d us)) (outline_stands (Outlined d xs) rest) ∙
     read_within (depth_in (at + 2) (maybe_then depth_then d us)) (depth_means (at + 2) d) (λ n. Ok ((n, at + 2 + depth_size d), us)) _ _ _ (depth_read (at + 2) d xs rest) (λ n.
     read_within (items_in s ops (labels_by_op ops) ([], [], at + 2 + depth_size d) us) (in_turn (item_step s ops (labels_by_op ops)) ([], [], at + 2 + depth_size d) xs) (λ t. Ok (t, Symbol CloseBrace ∷ rest)) _ _ _
     (items_read s ops (labels_by_op ops) ([], [], at + 2 + depth_size d) xs rest) (λ all. refl))

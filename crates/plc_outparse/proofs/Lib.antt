@@ -1,9 +1,6 @@
 pub mod Repeated
 pub mod FormsOfTrees
-pub mod TreesOfForms
 pub mod Lengths
-pub mod SkippedParts
-pub mod Skips
 pub mod Law
 pub mod Exact
 pub mod Fits

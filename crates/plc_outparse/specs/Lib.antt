@@ -1,10 +1,11 @@
-pub mod Forms
+-- what contracts of public calls say
 pub mod Sizes
 pub mod Reach
 pub mod Meaning
 pub mod Outlines
-pub mod Skipping
-pub mod Reading
-pub mod Views
 pub mod Answers
 pub mod Fit
+-- words of private functions alone
+pub mod Forms
+pub mod Reading
+pub mod Views

@@ -1,7 +1,8 @@
 -- Whether an outline stands at the front of tokens, what it means, and why it is refused.
-use Rattle.std.specs.Prelude.{◌≡◌, ℕ, List, Result, Err}
+use Rattle.std.specs.Prelude.{◌≡◌, ℕ, ◌+◌, List, Result, Err}
 use Rattle.plc_lex.specs.declared.token.TokenKind.{TokenKind}
 use Rattle.plc_lang.specs.declared.syntax.Op.{Op}
+use Rattle.plc_syntax.specs.Syntax.{OutlineFaultAt}
 use Rattle.plc_syntax.specs.Trees.{OutlineTree, outline_then}
 use Rattle.plc_scope.specs.declared.fault.ParseFault.{ParseFault}
 use Rattle.plc_scope.specs.declared.fault.ParseFault.TheVariants as faults
@@ -19,8 +20,9 @@ pub record Means (s : Scope) (ops : List Op) (at : ℕ) (ts : List TokenKind) (m
   pub is_outline : IsOutline ts tree behind
   pub is : outline_means s ops at tree ≡ meaning
 
--- the fault that they are answered with; memory may be wanting anywhere
+-- the fault that they are answered with: of syntax at the place where none can stand there any more, else that of the meaning; memory may
+-- run out anywhere
 pub data IsPartFault (s : Scope) (ops : List Op) (at : ℕ) (ts : List TokenKind) (e : ParseFault) : Type 0 where
-  no_outline : (place : ℕ) → e ≡ faults.Syntax place → ((tree : OutlineTree) (behind : List TokenKind) → IsOutline ts tree behind → ⊥) → IsPartFault s ops at ts e
+  no_outline : (place : ℕ) → OutlineFaultAt ts place → e ≡ faults.Syntax (at + place) → IsPartFault s ops at ts e
   no_meaning : (behind : List TokenKind) → Means s ops at ts (Err e) behind → IsPartFault s ops at ts e
   no_memory : e ≡ faults.Memory → IsPartFault s ops at ts e

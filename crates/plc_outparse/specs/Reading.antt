@@ -5,6 +5,7 @@ use Rattle.plc_base.specs.declared.limits.What1.TheVariants as limits
 use Rattle.plc_lex.specs.declared.token.TokenKind.{TokenKind}
 use Rattle.plc_lang.specs.declared.syntax.Local.{Local}
 use Rattle.plc_lang.specs.declared.syntax.Op.{Op}
+use Rattle.plc_syntax.specs.Machine.{outline_stuck_at}
 use Rattle.plc_syntax.specs.Trees.{Text}
 use Rattle.plc_forms.specs.Forms.{comma_name_of, semicolon_of, closing_of}
 use Rattle.plc_scope.specs.declared.fault.ParseFault.{ParseFault}
@@ -17,7 +18,6 @@ use Rattle.plc_logic.specs.declared.clause.Site.TheVariants.{Over, At}
 use Rattle.plc_logic.specs.declared.clause.Outline.{Outline}
 use Rattle.plc_outparse.specs.Forms.{literal_of, or_literal_of, bound_of, HeadTree, InvariantHead, OverHead, AtHead, item_head_of, colon_of, outline_head_of, depth_of}
 use Rattle.plc_outparse.specs.Sizes.{literal_size, bound_size, depth_size}
-use Rattle.plc_outparse.specs.Skipping.{behind_outline_of}
 use Rattle.plc_outparse.specs.Reach.{Reach}
 use Rattle.plc_lang.specs.Labels.{labels_by_op}
 use Rattle.plc_scope.specs.Limits.{within_limit}
@@ -139,9 +139,14 @@ parts_in s ops by_op at ts = do
   behind ← wanted_at all.0.2 (closing_of all.1)
   Ok ((record { depth = d.0.0; invariants = all.0.0; items = all.0.1 }, all.0.2 + 1), behind)
 
+-- whether an outline stands at the front, from the place of the token that says no
+abbrev pub stands_at : ℕ → Option ℕ → Result (Unit {0}) ParseFault
+stands_at at None = Ok tt
+stands_at at (Some place) = Err (faults.Syntax (at + place))
+
 -- the outline, once it is known that one stands there
 unfoldable pub outline_in : Scope → List Op → ℕ → List TokenKind → ReadTo (Outline × ℕ)
 outline_in s ops at ts = do
-  skipped ← wanted_at at (behind_outline_of ts)
+  stands ← stands_at at (outline_stuck_at ts)
   us ← wanted_at at (outline_head_of ts)
   parts_in s ops (labels_by_op ops) (at + 2) us

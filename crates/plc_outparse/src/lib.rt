@@ -1,6 +1,6 @@
 //! What the tokens of an outline mean, on `plc_syntax`'s trees, over which the meaning is defined; the
 //! layer above uses that `read_outline` answers the outline that the tree of the tokens means, or its
-//! fault at the least token, and `Syntax` only where they are no tree's.
+//! fault at the least token, and `Syntax` where they are no tree's, at the token that says so.
 #![tactic(auto)]
 
 mod clause;
@@ -12,7 +12,6 @@ mod literal_form;
 mod outline;
 mod reach;
 mod site;
-mod skipping;
 mod term;
 
 pub use outline::{outlines_fit, read_outline};

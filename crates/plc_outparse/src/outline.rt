@@ -11,12 +11,12 @@ ghost use Rattle.plc_outparse.specs.Sizes.{depth_size};
 
 use crate::item::{Parts, read_items};
 use crate::item_form::{depth_at, outline_head_at};
-use crate::skipping::behind_outline;
 use plc_base::Items;
 use plc_forms::{Rest, closing_at};
 use plc_lang::{Op, labels_by_op};
 use plc_logic::Outline;
 use plc_scope::{ParseFault, Scope};
+use plc_syntax::outline_fault;
 use std::alloc::Global;
 
 // The depth, whose word stands at the place.
@@ -86,8 +86,10 @@ fn outline_at<'a>(
     ensures read { Gives (λ r. ((r.0, r.1.at), kinds r.1.tokens.now)) result (outline_in scope.now ops.now start.entry.at (kinds start.entry.tokens.now)) }
     ensures place { IfOk result (λ r. Within start.entry r.1) }
 {
-    if behind_outline(start).is_none() {
-        return Err(ParseFault::Syntax { at: start.at });
+    if let Some(place) = outline_fault(alloc, start.tokens)? {
+        return Err(ParseFault::Syntax {
+            at: start.at + place,
+        });
     }
     let Some(rest) = outline_head_at(start) else {
         return Err(ParseFault::Syntax { at: start.at });
@@ -97,8 +99,9 @@ fn outline_at<'a>(
 }
 
 /// Reads the outline of a file with these names and operations, and what is behind its closing brace;
-/// or the fault: `Syntax` at the start where no outline stands there, and else the one at the least
-/// token, `Undeclared` for a name without a declaration in reach, `Duplicate` for a quantified name that
+/// or the fault. Where no outline stands at the front it is `Syntax`, at the least token with which
+/// none begins any more, or behind the last one where the tokens begin an outline. Else it is the one at
+/// the least token: `Undeclared` for a name without a declaration in reach, `Duplicate` for a quantified name that
 /// is there, `WrongSort` where a name, a term, a label of a second operation or the depth can't stand,
 /// and `Limit` at the first token past one. The scope is the one behind all operations, with at most 256
 /// labels; of the operations there are at most 32, each with at most 32 locals.

@@ -14,8 +14,7 @@ use crate::item_form::colon_at;
 use crate::reach::known;
 use plc_base::Items;
 use plc_forms::{Rest, comma_name_at};
-use plc_lang::{Local, Op, locals_of};
-use plc_lang::op_of_label;
+use plc_lang::{Local, Op, locals_of, op_of_label};
 use plc_scope::{ParseFault, Scope};
 use std::alloc::Global;
 

@@ -193,24 +193,24 @@ fn names_are_judged_where_they_stand(rt: HostRuntime) -> Result<(), AllocError> 
 #[test]
 fn syntax_is_judged_before_names(rt: HostRuntime) -> Result<(), AllocError> {
     let rows = [
-        "",
-        "outline",
-        "outline { inv z == null;",
-        "outline { inv Top; }",
-        "outline { inv z == null ; ; }",
-        "outline { inv z == null }",
-        "outline { inv z == null or ; }",
-        "outline { inv z == null inv z == null; }",
-        "outline { inv z == null; depth 1; }",
-        "outline { depth 2 }",
-        "outline { inv all z, y z == null; }",
-        "outline { over z z == null; }",
-        "outline { at z, : z == null; }",
-        "outline { at z y: z == null; }",
+        ("", "Syntax { at: 0 }"),
+        ("outline", "Syntax { at: 1 }"),
+        ("outline { inv z == null;", "Syntax { at: 7 }"),
+        ("outline { inv Top; }", "Syntax { at: 4 }"),
+        ("outline { inv z == null ; ; }", "Syntax { at: 7 }"),
+        ("outline { inv z == null }", "Syntax { at: 6 }"),
+        ("outline { inv z == null or ; }", "Syntax { at: 7 }"),
+        ("outline { inv z == null inv z == null; }", "Syntax { at: 6 }"),
+        ("outline { inv z == null; depth 1; }", "Syntax { at: 7 }"),
+        ("outline { depth 2 }", "Syntax { at: 4 }"),
+        ("outline { inv all z, y z == null; }", "Syntax { at: 7 }"),
+        ("outline { over z z == null; }", "Syntax { at: 4 }"),
+        ("outline { at z, : z == null; }", "Syntax { at: 5 }"),
+        ("outline { at z y: z == null; }", "Syntax { at: 4 }"),
     ];
-    for text in rows {
+    for (text, fault) in rows {
         let answer = shown(rt.alloc(), text.as_bytes())?;
-        assert_eq!(rt; answer.as_str(), "Syntax { at: 0 }", "{text}");
+        assert_eq!(rt; answer.as_str(), fault, "{text}");
     }
     Ok(())
 }

@@ -1,8 +1,8 @@
 -- From what was read to what the tokens spell.
-use Rattle.std.proofs.Common.{◌≡◌, true, List, Result, Ok, Err, IfOk, IfErr, refl, ap, sym, ◌∙◌}
+use Rattle.std.proofs.Common.{◌≡◌, List, Result, Ok, Err, IfOk, IfErr, refl, ap, sym, ◌∙◌}
 use Rattle.plc_lex.specs.declared.token.Token.{Token}
 use Rattle.plc_lang.specs.Fit.{FileFits, NamesWhatIsThere}
-use Rattle.plc_auto.specs.Table.{is_well_formed}
+use Rattle.plc_lang.specs.WellSorted.{FileIsWellSorted}
 use Rattle.plc_logic.specs.Fit.{OutlineFits}
 use Rattle.plc_syntax.specs.Syntax.{kinds}
 use Rattle.plc_scope.specs.declared.fault.ParseFault.{ParseFault}
@@ -11,10 +11,11 @@ use Rattle.plc_parse.specs.declared.unit.Unit.{Unit as FileUnit}
 use Rattle.plc_scope.specs.Answers.{Gives}
 use Rattle.plc_parse.specs.Reading.{file_in}
 use Rattle.plc_parse.specs.Units.{lines_of, Means, IsUnitOf, IsFaultOf, no_unit, no_memory, IsShallowFile, UnitsAreUnique}
+use Rattle.plc_parse.specs.Fit.{ObserverFits, UnitFits, UnitsFit}
 use Rattle.plc_parse.proofs.Law.{file_read}
 use Rattle.plc_parse.proofs.Naming.{file_named}
 use Rattle.plc_parse.proofs.Fits.{file_fits}
-use Rattle.plc_parse.proofs.Outlined.{outline_of_file_fits}
+use Rattle.plc_parse.proofs.Whole.{file_whole}
 
 module _ (ts : List Token) where
   -- what is read is what the tree means
@@ -39,21 +40,40 @@ module _ (ts : List Token) where
   no_other_fault (Err faults.Memory) u g h = refl
   no_other_fault (Err e) u g h = let is = said u h in absurd cc
 
-  pub unit_fits : (r : Result FileUnit ParseFault) → Gives (λ u. u) r (file_in (lines_of ts) (kinds ts)) → IsShallowFile (kinds ts) → IfOk r (λ u. FileFits u.file)
-  unit_fits (Ok u) g s = let m = read_is s (Ok u) g in file_fits (lines_of ts) m.tree u m.is
-  unit_fits (Err e) g s = tt
+-- what a unit keeps, whatever its tokens
+pub spelled_fits : UnitsFit
+spelled_fits ts u h =
+    let m = h.means in
+    let whole = file_whole (lines_of ts) m.tree u m.is in
+    let named = file_named (lines_of ts) m.tree u m.is in
+    record {
+      fits = file_fits (lines_of ts) m.tree u m.is;
+      named = named.names;
+      sorted = whole.sorted;
+      observer = record { declared = whole.watched; well_formed = named.observer };
+      outline = whole.outline;
+    }
 
-  pub unit_names : (r : Result FileUnit ParseFault) → Gives (λ u. u) r (file_in (lines_of ts) (kinds ts)) → IsShallowFile (kinds ts) → IfOk r (λ u. NamesWhatIsThere u.file)
-  unit_names (Ok u) g s = let m = read_is s (Ok u) g in (file_named (lines_of ts) m.tree u m.is).names
-  unit_names (Err e) g s = tt
+-- and so does the unit that was read, part by part
+module _ (ts : List Token) where
+  of_unit : (P : FileUnit → Type 0) → ((u : FileUnit) → UnitFits u → P u) → (r : Result FileUnit ParseFault) → IfOk r (λ u. IsUnitOf ts u) → IfOk r P
+  of_unit P part (Ok u) h = part u (spelled_fits ts u h)
+  of_unit P part (Err e) h = tt
 
-  pub unit_watches : (r : Result FileUnit ParseFault) → Gives (λ u. u) r (file_in (lines_of ts) (kinds ts)) → IsShallowFile (kinds ts) → IfOk r (λ u. is_well_formed u.observer ≡ true)
-  unit_watches (Ok u) g s = let m = read_is s (Ok u) g in (file_named (lines_of ts) m.tree u m.is).observer
-  unit_watches (Err e) g s = tt
+  pub fits_of : (r : Result FileUnit ParseFault) → IfOk r (λ u. IsUnitOf ts u) → IfOk r (λ u. FileFits u.file)
+  fits_of = of_unit (λ u. FileFits u.file) (λ u h. h.fits)
 
-  pub unit_outline : (r : Result FileUnit ParseFault) → Gives (λ u. u) r (file_in (lines_of ts) (kinds ts)) → IsShallowFile (kinds ts) → IfOk r (λ u. OutlineFits u.file u.outline)
-  unit_outline (Ok u) g s = let m = read_is s (Ok u) g in outline_of_file_fits (lines_of ts) m.tree u m.is
-  unit_outline (Err e) g s = tt
+  pub named_of : (r : Result FileUnit ParseFault) → IfOk r (λ u. IsUnitOf ts u) → IfOk r (λ u. NamesWhatIsThere u.file)
+  named_of = of_unit (λ u. NamesWhatIsThere u.file) (λ u h. h.named)
+
+  pub sorted_of : (r : Result FileUnit ParseFault) → IfOk r (λ u. IsUnitOf ts u) → IfOk r (λ u. FileIsWellSorted u.file)
+  sorted_of = of_unit (λ u. FileIsWellSorted u.file) (λ u h. h.sorted)
+
+  pub observer_of : (r : Result FileUnit ParseFault) → IfOk r (λ u. IsUnitOf ts u) → IfOk r (λ u. ObserverFits u.file u.observer)
+  observer_of = of_unit (λ u. ObserverFits u.file u.observer) (λ u h. h.observer)
+
+  pub outline_of : (r : Result FileUnit ParseFault) → IfOk r (λ u. IsUnitOf ts u) → IfOk r (λ u. OutlineFits u.file u.outline)
+  outline_of = of_unit (λ u. OutlineFits u.file u.outline) (λ u h. h.outline)
 
 -- tokens mean one thing
 pub one_meaning : UnitsAreUnique

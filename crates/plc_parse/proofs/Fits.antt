@@ -194,11 +194,11 @@ pub record Few (s t : Scope) : Type 0 where
   pub locals : length t.locals ≤ 32
   pub labels : t.labels ≡ s.labels
 
-record Kept (s : Scope) (x : ℕ × Scope) : Type 0 where
-  locals : x.1.locals ≡ s.locals
-  labels : x.1.labels ≡ s.labels
+pub record Kept (s : Scope) (x : ℕ × Scope) : Type 0 where
+  pub locals : x.1.locals ≡ s.locals
+  pub labels : x.1.labels ≡ s.labels
 
-number_keeps : (o : Option ℕ) (s : Scope) (name : Text) (at : ℕ) → Has (Kept s) (local_number o s name at)
+pub number_keeps : (o : Option ℕ) (s : Scope) (name : Text) (at : ℕ) → Has (Kept s) (local_number o s name at)
 number_keeps None s name at = record { locals = refl; labels = refl }
 number_keeps (Some i) s name at = if_ok (Kept s) (may_name_local (slice_get s.bindings i) (has_local s.locals i)) (i, s) (faults.Duplicate at) (record { locals = refl; labels = refl })
 

@@ -1,5 +1,5 @@
 -- What holds of declarations that are listed.
-use Rattle.std.proofs.Common.{◌≡◌, ◌==◌, ℕ, zero, suc, ◌+◌, false, Some, Result, Ok, List, [], ◌∷◌, length, slice_get, subst, arith}
+use Rattle.std.proofs.Common.{◌≡◌, ◌==◌, ℕ, zero, suc, ◌+◌, false, Some, Result, Ok, List, [], ◌∷◌, length, ◌++◌, slice_get, subst, sym, append_assoc, append-nil, arith}
 use Rattle.plc_base.specs.declared.limits.What1.{What1}
 use Rattle.plc_syntax.specs.Trees.{Text}
 use Rattle.plc_scope.specs.declared.fault.ParseFault.{ParseFault}
@@ -37,6 +37,24 @@ module _ {X Y : Type 0} (means : Scope → ℕ → ℕ → X → Result (Y × Sc
       next (EachHas P State (n + 1)) (EachHas P State n) (listed means first.1 (n + 1) first.2 xs) _ (each_has first.1 (n + 1) first.2 xs f.state) (λ others k.
       let more : n + 1 + length others.0 ≡ n + length (first.0 ∷ others.0) = omega arith in
       record { each = each_of P first.0 others.0 f.is k.each; state = subst (λ m. State m others.1) more k.state }))
+
+-- P holds of each, and the state of the scope goes by all that was declared before
+
+pub record OneOn {Y : Type 0} (P : Y → Type 0) (State : List Y → Scope → Type 0) (ys : List Y) (r : Y × Scope × ℕ) : Type 0 where
+  pub is : P r.0
+  pub state : State (ys ++ r.0 ∷ []) r.1
+
+pub record EachOn {Y : Type 0} (P : Y → Type 0) (State : List Y → Scope → Type 0) (ys : List Y) (r : List Y × Scope × ℕ) : Type 0 where
+  pub each : (k : ℕ) (y : Y) → slice_get r.0 k ≡ Some y → P y
+  pub state : State (ys ++ r.0) r.1
+
+module _ {X Y : Type 0} (means : Scope → ℕ → ℕ → X → Result (Y × Scope × ℕ) ParseFault) (P : Y → Type 0) (State : List Y → Scope → Type 0)
+    (one : (ys : List Y) (s : Scope) (n at : ℕ) (x : X) → State ys s → Has (OneOn P State ys) (means s n at x)) where
+  pub each_on : (ys : List Y) (s : Scope) (n at : ℕ) (xs : List X) → State ys s → Has (EachOn P State ys) (listed means s n at xs)
+  each_on ys s n at [] h = record { each = λ k y e. absurd cc; state = subst (λ zs. State zs s) (sym (append-nil ys)) h }
+  each_on ys s n at (x ∷ xs) h = next (OneOn P State ys) (EachOn P State ys) (means s n at x) _ (one ys s n at x h) (λ first f.
+      next (EachOn P State (ys ++ first.0 ∷ [])) (EachOn P State ys) (listed means first.1 (n + 1) first.2 xs) _ (each_on (ys ++ first.0 ∷ []) first.1 (n + 1) first.2 xs f.state) (λ others k.
+      record { each = each_of P first.0 others.0 f.is k.each; state = subst (λ zs. State zs others.1) (append_assoc ys (first.0 ∷ []) others.0) k.state }))
 
 -- nothing is asked of it
 abbrev pub Free : {Y : Type 0} → Y → Type 0

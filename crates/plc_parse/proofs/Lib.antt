@@ -8,9 +8,15 @@ pub mod Holds
 pub mod Reach
 pub mod Naming
 pub mod Fits
+pub mod There
+pub mod Numbering
+pub mod Sorted
+pub mod SortedBlocks
 pub mod Outlined
+pub mod Whole
 pub mod Growth
 pub mod Stops
 pub mod FormLoop
 pub mod BlockLoop
 pub mod Answering
+pub mod OneFault

@@ -149,25 +149,30 @@ module _ (h : Shape) where
       (rw (← sum_by-cons (λ l. cond (is_parameter l) 1 0) l ls, ← sum_by-cons (λ l. cond (is_other_data l) 1 0) l ls) b)
       (λ q w. locals_in ls i q w)
 
-  either_in : (o : Option Role) (b : Option Binding) → IfSome o (RoleIn h) → IfSome b (BindingIn h.shared h.fields) → IfSome (role_or o b) (RoleIn h)
-  either_in (Some r) b is other = is
-  either_in None (Some b) is other = outside_in b other
-  either_in None None is other = tt
+-- what a name is, where this holds of what names stand for, and that of what they are
+module _ (B : Binding → Type 0) (R : Role → Type 0) (outside_is : (b : Binding) → B b → IfSome (role_outside b) R) where
+  either_is : (o : Option Role) (b : Option Binding) → IfSome o R → IfSome b B → IfSome (role_or o b) R
+  either_is (Some r) b is other = is
+  either_is None (Some b) is other = outside_is b other
+  either_is None None is other = tt
 
-  bound_in : (s : Scope) (i : ℕ) → Bound (BindingIn h.shared h.fields) s → IfSome (slice_get s.bindings i) (BindingIn h.shared h.fields)
-  bound_in s i each = at_place (slice_get s.bindings i) refl
+  bound_is : (s : Scope) (i : ℕ) → Bound B s → IfSome (slice_get s.bindings i) B
+  bound_is s i each = at_place (slice_get s.bindings i) refl
     where
-      at_place : (o : Option Binding) → slice_get s.bindings i ≡ o → IfSome o (BindingIn h.shared h.fields)
+      at_place : (o : Option Binding) → slice_get s.bindings i ≡ o → IfSome o B
       at_place None e = tt
-      at_place (Some b) e = bound_at (BindingIn h.shared h.fields) s each i b e
+      at_place (Some b) e = bound_at B s each i b e
 
-  role_at_in : (s : Scope) (o : Option ℕ) → Reaches h s → IfSome (role_at s o) (RoleIn h)
-  role_at_in s None r = tt
-  role_at_in s (Some i) r = either_in (role_inside 0 0 s.locals i) (slice_get s.bindings i) (locals_in s.locals i 0 0 (omega (arith, r.pointers)) (omega (arith, r.values))) (bound_in s i r.bound)
+  role_at_is : (s : Scope) (o : Option ℕ) → Bound B s → ((i : ℕ) → IfSome (role_inside 0 0 s.locals i) R) → IfSome (role_at s o) R
+  role_at_is s None b locals = tt
+  role_at_is s (Some i) b locals = either_is (role_inside 0 0 s.locals i) (slice_get s.bindings i) (locals i) (bound_is s i b)
 
-  role_in : (s : Scope) (name : Text) → Reaches h s → IfSome (role_of s name) (RoleIn h)
+  pub role_is : (s : Scope) (name : Text) → Bound B s → ((i : ℕ) → IfSome (role_inside 0 0 s.locals i) R) → IfSome (role_of s name) R
   unfolding role_of
-  role_in s name r = role_at_in s (place_of name s.names.names) r
+  role_is s name b locals = role_at_is s (place_of name s.names.names) b locals
+
+role_in : (h : Shape) (s : Scope) (name : Text) → Reaches h s → IfSome (role_of s name) (RoleIn h)
+role_in h s name r = role_is (BindingIn h.shared h.fields) (RoleIn h) (outside_in h) s name r.bound (λ i. locals_in h s.locals i 0 0 (omega (arith, r.pointers)) (omega (arith, r.values)))
 
 -- ---- what is looked up
 
@@ -188,12 +193,12 @@ abbrev pub NotRetire : FuncId → Type 0
 NotRetire f = is_retire f ≡ false
 
 -- a name of the wanted kind
-module _ (h : Shape) {A : Type 0} (P : A → Type 0) (wanted : Role → Option A) (each : (k : Role) → RoleIn h k → IfSome (wanted k) P) where
+module _ (R : Role → Type 0) {A : Type 0} (P : A → Type 0) (wanted : Role → Option A) (each : (k : Role) → R k → IfSome (wanted k) P) where
   fits_in : (at : ℕ) (o : Option A) → IfSome o P → Has P (if_fits at o)
   fits_in at (Some x) is = is
   fits_in at None is = tt
 
-  needed_in : (at : ℕ) (o : Option Role) → IfSome o (RoleIn h) → Has P (needed wanted at o)
+  pub needed_in : (at : ℕ) (o : Option Role) → IfSome o R → Has P (needed wanted at o)
   needed_in at None is = tt
   needed_in at (Some k) is = fits_in at (wanted k) (each k is)
 
@@ -234,32 +239,32 @@ without_pointer_in h k is = tt
 
 module _ (h : Shape) (s : Scope) (r : Reaches h s) (n : Text) (at : ℕ) where
   pub any_in : Has (RoleIn h) (needed any_role at (role_of s n))
-  any_in = needed_in h (RoleIn h) any_role (λ k is. is) at (role_of s n) (role_in h s n r)
+  any_in = needed_in (RoleIn h) (RoleIn h) any_role (λ k is. is) at (role_of s n) (role_in h s n r)
 
   pub pointer_in : Has (VarIn h) (pointer_at s n at)
   unfolding pointer_at
-  pointer_in = needed_in h (VarIn h) as_pointer (pointers_in h) at (role_of s n) (role_in h s n r)
+  pointer_in = needed_in (RoleIn h) (VarIn h) as_pointer (pointers_in h) at (role_of s n) (role_in h s n r)
 
   pub pointer_local_in : Has (PointerIn h) (pointer_local_at s n at)
   unfolding pointer_local_at
-  pointer_local_in = needed_in h (PointerIn h) as_pointer_local (pointer_locals_in h) at (role_of s n) (role_in h s n r)
+  pointer_local_in = needed_in (RoleIn h) (PointerIn h) as_pointer_local (pointer_locals_in h) at (role_of s n) (role_in h s n r)
 
   pub value_in : Has (ValueIn h) (data_at s n at)
   unfolding data_at
-  value_in = needed_in h (ValueIn h) as_data (values_in h) at (role_of s n) (role_in h s n r)
+  value_in = needed_in (RoleIn h) (ValueIn h) as_data (values_in h) at (role_of s n) (role_in h s n r)
 
   pub pointer_field_in : Has (FieldIn h) (pointer_field_at s n at)
   unfolding pointer_field_at
-  pointer_field_in = needed_in h (FieldIn h) as_pointer_field (pointer_fields_in h) at (role_of s n) (role_in h s n r)
+  pointer_field_in = needed_in (RoleIn h) (FieldIn h) as_pointer_field (pointer_fields_in h) at (role_of s n) (role_in h s n r)
 
   pub data_field_in : Has (FieldIn h) (data_field_at s n at)
   unfolding data_field_at
-  data_field_in = needed_in h (FieldIn h) as_data_field (data_fields_in h) at (role_of s n) (role_in h s n r)
+  data_field_in = needed_in (RoleIn h) (FieldIn h) as_data_field (data_fields_in h) at (role_of s n) (role_in h s n r)
 
   pub hazard_in : Has NotRetire (protecting_at s n at)
   unfolding protecting_at
-  hazard_in = needed_in h NotRetire as_protecting (protecting_in h) at (role_of s n) (role_in h s n r)
+  hazard_in = needed_in (RoleIn h) NotRetire as_protecting (protecting_in h) at (role_of s n) (role_in h s n r)
 
   pub epoch_in : Has NotRetire (without_pointer_at s n at)
   unfolding without_pointer_at
-  epoch_in = needed_in h NotRetire as_without_pointer (without_pointer_in h) at (role_of s n) (role_in h s n r)
+  epoch_in = needed_in (RoleIn h) NotRetire as_without_pointer (without_pointer_in h) at (role_of s n) (role_in h s n r)

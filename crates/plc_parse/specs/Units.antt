@@ -1,5 +1,5 @@
 -- Which unit tokens spell, and what else they are answered with.
-use Rattle.std.specs.Prelude.{◌≡◌, ℕ, List, map, Result, Ok, Err}
+use Rattle.std.specs.Prelude.{◌≡◌, ◌≢◌, ℕ, List, map, Result, Ok, Err}
 use Rattle.plc_lex.specs.declared.token.Token.{Token}
 use Rattle.plc_lex.specs.declared.token.TokenKind.{TokenKind}
 use Rattle.plc_base.specs.declared.limits.What1.TheVariants as limits
@@ -44,3 +44,8 @@ pub data IsFaultOf (ts : List Token) (e : ParseFault) : Type 0 where
 -- tokens mean one thing, so they spell at most one unit
 abbrev pub UnitsAreUnique : Type 0
 UnitsAreUnique = (ts : List Token) (a b : Result FileUnit ParseFault) → Means ts a → Means ts b → a ≡ b
+
+-- of syntax, nesting and meaning tokens have at most one fault, and no unit beside it: what they are due is a function of them, but for memory
+pub record FaultsAreOne : Type 0 where
+  pub one : (ts : List Token) (e f : ParseFault) → e ≢ faults.Memory → f ≢ faults.Memory → IsFaultOf ts e → IsFaultOf ts f → e ≡ f
+  pub no_unit : (ts : List Token) (e : ParseFault) (u : FileUnit) → e ≢ faults.Memory → IsFaultOf ts e → IsUnitOf ts u → ⊥

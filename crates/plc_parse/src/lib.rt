@@ -15,7 +15,7 @@ mod step;
 mod unit;
 
 pub use plc_scope::ParseFault;
-pub use reading::{parse, units_are_unique};
+pub use reading::{faults_are_one, parse, units_are_unique, units_fit};
 pub use unit::Unit;
 
 #[cfg(test)]

@@ -2,7 +2,7 @@
 // they can stand in no other order, and looks each name up where it stands.
 ghost use Rattle.std.specs.Prelude.{◌≡◌, ◌≤◌, ◌<◌, ◌^◌, ◌+◌, ◌∷◌, Some, Ok, [], true, false, length, IfOk, IfErr};
 ghost use Rattle.plc_lang.specs.Fit.{FileFits, NamesWhatIsThere};
-ghost use Rattle.plc_auto.specs.Table.{is_well_formed};
+ghost use Rattle.plc_lang.specs.WellSorted.{FileIsWellSorted};
 ghost use Rattle.plc_lex.specs.declared.token.Token.{Token};
 ghost use Rattle.plc_syntax.specs.Syntax.{kinds};
 ghost use Rattle.plc_forms.specs.Sizes.{watch_size};
@@ -10,12 +10,13 @@ ghost use Rattle.plc_forms.specs.Views.{watch_tree};
 ghost use Rattle.plc_scope.specs.Answers.{Gives, HasRoom, GrowsBy, Within};
 ghost use Rattle.plc_scope.specs.Scope.{most_locals};
 ghost use Rattle.plc_parse.specs.declared.unit.Unit.{Unit as FileUnit};
+ghost use Rattle.plc_parse.specs.Fit.{ObserverFits, UnitsFit};
 ghost use Rattle.plc_parse.specs.Growth.{IsLeftOf, KeepsLists, most_labels};
 ghost use Rattle.plc_parse.specs.Meaning.{retire, watch_means};
 ghost use Rattle.plc_logic.specs.Fit.{OutlineFits};
 ghost use Rattle.plc_outparse.specs.Answers.{OpsFit};
 ghost use Rattle.plc_parse.specs.Reading.{struct_in, declarations_in, watch_in, init_in, outlined_in, file_in};
-ghost use Rattle.plc_parse.specs.Units.{lines_of, IsUnitOf, IsFaultOf, IsShallowFile, UnitsAreUnique};
+ghost use Rattle.plc_parse.specs.Units.{lines_of, IsUnitOf, IsFaultOf, IsShallowFile, UnitsAreUnique, FaultsAreOne};
 
 use crate::auxiliary::read_ghosts;
 use crate::declaration::{declare, read_fields, read_functions, read_shared};
@@ -223,11 +224,16 @@ fn check_syntax(alloc: Global, tokens: &[Token]) -> Result<(), ParseFault>
     }
 }
 
-/// The unit that tokens spell, or the fault at the least token; of two faults at one token the
-/// syntax goes first, then the order of [`ParseFault`]. The file is within the limits and names what
-/// it declares, `retire` is no function that is watched, and the outline fits the file: what its
-/// clauses name is there, both sides of an equation have one sort, no invariant names a local or a
-/// thread, and the labels of an item stand in one operation. There are fewer than 2^32 tokens.
+/// The unit that tokens spell, or their fault. The syntax goes first over the whole file, with the
+/// depth of its blocks: a fault of names, sorts or limits is answered only where the tokens are a
+/// file's, however far before a fault of the syntax it stands. Then it is the fault at the least
+/// token, and of two at one token the first in the order of [`ParseFault`].
+///
+/// The file is within the limits and names what it declares, and each thing stands where its kind
+/// may stand; the functions of the observer are declared, one with a pointer for `hazard` and two
+/// with none for `epoch`, and none is `retire`; and the outline fits the file: what its clauses name
+/// is there, both sides of an equation have one sort, no invariant names a local or a thread, and
+/// the labels of an item stand in one operation. There are fewer than 2^32 tokens.
 pub fn parse(alloc: Global, tokens: &[Token]) -> Result<Unit, ParseFault>
     requires few { length tokens.now < 2 ^ 32 }
     ensures ok { IfOk result (λ unit. IsUnitOf tokens.now unit) }
@@ -235,7 +241,8 @@ pub fn parse(alloc: Global, tokens: &[Token]) -> Result<Unit, ParseFault>
     ensures fault { IfErr result (IsFaultOf tokens.now) }
     ensures fits { IfOk result (λ unit. FileFits unit.file) }
     ensures named { IfOk result (λ unit. NamesWhatIsThere unit.file) }
-    ensures observer { IfOk result (λ unit. is_well_formed unit.observer ≡ true) }
+    ensures sorted { IfOk result (λ unit. FileIsWellSorted unit.file) }
+    ensures observer { IfOk result (λ unit. ObserverFits unit.file unit.observer) }
     ensures outline { IfOk result (λ unit. OutlineFits unit.file unit.outline) }
 {
     check_syntax(alloc, tokens)?;
@@ -246,4 +253,17 @@ pub fn parse(alloc: Global, tokens: &[Token]) -> Result<Unit, ParseFault>
 /// or limits.
 pub fn units_are_unique()
     ensures { UnitsAreUnique }
+{}
+
+/// The law that whatever unit tokens spell, its file, its observer and its outline fit: what
+/// [`parse`] says of its answer follows from the tokens alone.
+pub fn units_fit()
+    ensures { UnitsFit }
+{}
+
+/// The law that a list of tokens has at most one fault, of syntax, nesting or meaning, and none
+/// beside a unit: the answer that tokens are due is a function of them. Only memory may run out
+/// beside.
+pub fn faults_are_one()
+    ensures { FaultsAreOne }
 {}

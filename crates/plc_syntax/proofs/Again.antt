@@ -264,9 +264,13 @@ again_depth : (d : Option ℕ) (s : List Expected) (rest : List TokenKind) → S
 again_depth None s rest h = h s
 again_depth (Some n) s rest h = refl
 
+-- every outline's tokens are read
+pub outline_read : (t : OutlineTree) → go (expected.Part parts.WholeOutline ∷ []) (outline_then t []) ≡ true
+outline_read (Outlined d is) = again_depth d _ _ (items_first is []) ∙ again_items is _ _ (λ s. refl)
+
 again_outline : (o : Option OutlineTree) → go (expected.Part parts.Outline ∷ []) (maybe_then outline_then o []) ≡ true
 again_outline None = refl
-again_outline (Some (Outlined d is)) = again_depth d _ _ (items_first is []) ∙ again_items is _ _ (λ s. refl)
+again_outline (Some (Outlined d is)) = outline_read (Outlined d is)
 
 -- the sections of a file_then, from the last one up: what each_then begins with is none of the sections before it
 again_ops : (os : List OpTree) (s : List Expected) (rest : List TokenKind) → Skips parts.Ops rest → go (expected.Part parts.Ops ∷ s) (each_then op_then os rest) ≡ go s rest
@@ -359,7 +363,7 @@ later_functions : (cs : List FunctionTree) (ts : List TokenKind) → Later1 ts �
 later_functions [] ts h = h.shareds
 later_functions (Declares n p ∷ cs) ts h = λ s. refl
 
--- every file_then is read
+-- every file's tokens are read
 pub file_read : (f : FileTree) → go (expected.Part parts.File ∷ []) (file_tokens f) ≡ true
 file_read f =
     let h1 = later_outline f.outlined in

@@ -1,5 +1,5 @@
--- What the machine reads is a file, what it doesn't read is none, and where it stops no file goes on.
-use Rattle.std.proofs.Common.{◌≡◌, Bool, true, false, cond, Option, Some, None, List, [], ◌∷◌, ◌++◌, refl, sym, ◌∙◌, ap}
+-- What the machine reads is a tree's of the part with which it starts, what it doesn't read is none's, and where it stops no tree's tokens go on.
+use Rattle.std.proofs.Common.{◌≡◌, Bool, true, false, cond, Option, Some, None, List, [], ◌∷◌, ◌++◌, refl, sym, ◌∙◌, ap, subst}
 use Rattle.std.specs.List.{list_all}
 use Rattle.std.proofs.lemmas.Bool.{false≢true}
 use Rattle.std.proofs.lemmas.List.{append-nil}
@@ -12,13 +12,14 @@ use Rattle.plc_syntax.specs.declared.expected.Expected.TheVariants as expected
 use Rattle.plc_syntax.specs.declared.expected.Part.TheVariants as parts
 use Rattle.plc_syntax.specs.Trees.{NoArgument, NoStatement, NoElse, NoOr, NoBound}
 use Rattle.plc_syntax.specs.Table.{after_expected, may_be_empty, is_same}
-use Rattle.plc_syntax.specs.Machine.{left_after}
-use Rattle.plc_syntax.specs.Syntax.{IsFile, BeginsFile}
-use Rattle.plc_syntax.proofs.Laws.{RowIs, EmptyIs, spell_all, goes, Goes, ended, stuck, reads_run, goes_well}
-use Rattle.plc_syntax.proofs.Meaning.{Tree, spell}
+use Rattle.plc_syntax.specs.declared.expected.Part.{Part as PartName}
+use Rattle.plc_syntax.specs.Machine.{left_of}
+use Rattle.plc_syntax.specs.Syntax.{AreWhole, Begin}
+use Rattle.plc_syntax.proofs.Laws.{RowIs, EmptyIs, Trees, spell_all, goes, Goes, ended, stuck, reads_run, goes_well}
+use Rattle.plc_syntax.proofs.Meaning.{PartTree, part_then, Tree, spell}
 use Rattle.plc_syntax.proofs.Rows.{part_rows}
 use Rattle.plc_syntax.proofs.Samples.{samples, fine_all}
-use Rattle.plc_syntax.proofs.Again.{go, file_read}
+use Rattle.plc_syntax.proofs.Again.{go}
 
 abbrev Row : Expected → TokenKind → Option (List Expected) → Type 0
 Row x t o = RowIs Expected TokenKind after_expected may_be_empty Tree spell x t o
@@ -79,42 +80,59 @@ empties (expected.Part parts.SecondName) = (None, λ rest. refl)
 empties (expected.Part parts.OrLiterals) = ([], λ rest. refl)
 empties _ = tt
 
-abbrev start : List Expected
-start = expected.Part parts.File ∷ []
+-- the stack with which a part begins
+abbrev start : PartName → List Expected
+start p = expected.Part p ∷ []
 
--- where the machine goes on, some file goes on so
-pub begins_file : (ts : List TokenKind) (s : List Expected) → left_after ts ≡ Some s → BeginsFile ts
-begins_file ts s e = from_goes (left_after ts) (goes Expected TokenKind after_expected may_be_empty Tree spell rows empties ts start) e
-  where
-    from_goes : (o : Option (List Expected)) → Goes Expected TokenKind after_expected may_be_empty Tree spell rows empties start ts o → o ≡ Some s → BeginsFile ts
-    from_goes None g e = cc
-    from_goes (Some s') g e =
-        let r = g (samples s') in
-        (r.0.0, spell_all Expected TokenKind after_expected may_be_empty Tree spell s' (samples s') [], fine_all s', r.1 [])
+-- what a stack's trees spell
+abbrev pub spelled : (s : List Expected) → Trees Expected TokenKind after_expected may_be_empty Tree spell s → List TokenKind → List TokenKind
+spelled s trees rest = spell_all Expected TokenKind after_expected may_be_empty Tree spell s trees rest
 
--- tokens behind which nothing more has to come are a file's
-pub is_file : (ts : List TokenKind) (s : List Expected) → left_after ts ≡ Some s → list_all may_be_empty s ≡ true → IsFile ts
-is_file ts s e h = from_goes (left_after ts) (goes Expected TokenKind after_expected may_be_empty Tree spell rows empties ts start) e
-  where
-    from_goes : (o : Option (List Expected)) → Goes Expected TokenKind after_expected may_be_empty Tree spell rows empties start ts o → o ≡ Some s → IsFile ts
-    from_goes None g e = cc
-    from_goes (Some s') g e =
-        let same : s' ≡ s = cc in
-        let d = ended Expected TokenKind after_expected may_be_empty Tree spell rows empties s' (ap (list_all may_be_empty) same ∙ h) in
-        let r = g d.0 in
-        (r.0.0, r.1 [] ∙ ap (λ q. ts ++ q) (d.1 []) ∙ append-nil ts)
+-- the machine reads every tree of a part
+abbrev pub ReadsAll : PartName → Type 0
+ReadsAll p = (x : PartTree p) → go (start p) (part_then p x []) ≡ true
 
--- where it stops, no file does
-pub begins_none : (ts : List TokenKind) → left_after ts ≡ None → BeginsFile ts → ⊥
-begins_none ts e b =
-    let q = b.1 in
-    let stops : go start (ts ++ q) ≡ false = stuck Expected TokenKind after_expected may_be_empty ts q start e in
-    let is_read : go start (ts ++ q) ≡ true = ap (go start) (sym b.3) ∙ file_read b.0 in
-    let c : false ≡ true = sym stops ∙ is_read in cc
+module _ (p : PartName) where
+  -- trees of what is left are a tree of the part
+  pub from_left : (ts : List TokenKind) (s : List Expected) → left_of p ts ≡ Some s → (trees : Trees Expected TokenKind after_expected may_be_empty Tree spell s)
+      → (x : PartTree p) × ((rest : List TokenKind) → part_then p x rest ≡ ts ++ spelled s trees rest)
+  from_left ts s e = from_goes (left_of p ts) (goes Expected TokenKind after_expected may_be_empty Tree spell rows empties ts (start p)) e
+    where
+      from_goes : (o : Option (List Expected)) → Goes Expected TokenKind after_expected may_be_empty Tree spell rows empties (start p) ts o → o ≡ Some s
+          → (trees : Trees Expected TokenKind after_expected may_be_empty Tree spell s) → (x : PartTree p) × ((rest : List TokenKind) → part_then p x rest ≡ ts ++ spelled s trees rest)
+      from_goes None g e = cc
+      from_goes (Some s') g e =
+          let same : s' ≡ s = cc in
+          subst (λ u. (trees : Trees Expected TokenKind after_expected may_be_empty Tree spell u) → (x : PartTree p) × ((rest : List TokenKind) → part_then p x rest ≡ ts ++ spelled u trees rest))
+          same (λ trees. let r = g trees in (r.0.0, r.1))
 
--- tokens behind which more has to come are no file's
-pub is_no_file : (ts : List TokenKind) (s : List Expected) → left_after ts ≡ Some s → list_all may_be_empty s ≡ false → IsFile ts → ⊥
-is_no_file ts s e h f =
-    let more : go start ts ≡ false = reads_run Expected TokenKind after_expected may_be_empty ts start ∙ ap (λ o. goes_well o (list_all may_be_empty)) e ∙ h in
-    let is_read : go start ts ≡ true = ap (go start) (sym f.1) ∙ file_read f.0 in
-    let c : false ≡ true = sym more ∙ is_read in cc
+  -- where the machine goes on, some tree's tokens go on so
+  pub begins_part : (ts : List TokenKind) (s : List Expected) → left_of p ts ≡ Some s → Begin (part_then p) ts
+  begins_part ts s e = let r = from_left ts s e (samples s) in (r.0, spelled s (samples s) [], fine_all s, r.1 [])
+
+  -- where nothing more has to come, a tree ends there
+  pub ends_part : (ts : List TokenKind) (s : List Expected) → left_of p ts ≡ Some s → list_all may_be_empty s ≡ true → (x : PartTree p) × ((rest : List TokenKind) → part_then p x rest ≡ ts ++ rest)
+  ends_part ts s e h =
+      let d = ended Expected TokenKind after_expected may_be_empty Tree spell rows empties s h in
+      let r = from_left ts s e d.0 in
+      (r.0, λ rest. r.1 rest ∙ ap (λ q. ts ++ q) (d.1 rest))
+
+  -- tokens behind which nothing more has to come are a tree's
+  pub is_whole : (ts : List TokenKind) (s : List Expected) → left_of p ts ≡ Some s → list_all may_be_empty s ≡ true → AreWhole (part_then p) ts
+  is_whole ts s e h = let r = ends_part ts s e h in (r.0, r.1 [] ∙ append-nil ts)
+
+  module _ (is_read : ReadsAll p) where
+    -- where it stops, no tree's tokens go on
+    pub begins_none : (ts : List TokenKind) → left_of p ts ≡ None → Begin (part_then p) ts → ⊥
+    begins_none ts e b =
+        let q = b.1 in
+        let stops : go (start p) (ts ++ q) ≡ false = stuck Expected TokenKind after_expected may_be_empty ts q (start p) e in
+        let reads : go (start p) (ts ++ q) ≡ true = ap (go (start p)) (sym b.3) ∙ is_read b.0 in
+        let c : false ≡ true = sym stops ∙ reads in cc
+
+    -- tokens behind which more has to come are no tree's
+    pub is_no_whole : (ts : List TokenKind) (s : List Expected) → left_of p ts ≡ Some s → list_all may_be_empty s ≡ false → AreWhole (part_then p) ts → ⊥
+    is_no_whole ts s e h f =
+        let more : go (start p) ts ≡ false = reads_run Expected TokenKind after_expected may_be_empty ts (start p) ∙ ap (λ o. goes_well o (list_all may_be_empty)) e ∙ h in
+        let reads : go (start p) ts ≡ true = ap (go (start p)) (sym f.1) ∙ is_read f.0 in
+        let c : false ≡ true = sym more ∙ reads in cc

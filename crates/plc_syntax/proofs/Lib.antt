@@ -1,5 +1,7 @@
 pub mod Again
+pub mod Appends
 pub mod Exact
+pub mod Front
 pub mod Laws
 pub mod Meaning
 pub mod Rows

@@ -214,6 +214,10 @@ row_outline : (t : TokenKind) → PartRow parts.Outline t
 row_outline (Word words.Outline) = λ p. (Some (Outlined p.1.0 p.1.1.0), λ rest. refl)
 row_outline _ = tt
 
+row_whole_outline : (t : TokenKind) → PartRow parts.WholeOutline t
+row_whole_outline (Word words.Outline) = λ p. (Outlined p.1.0 p.1.1.0, λ rest. refl)
+row_whole_outline _ = tt
+
 row_depth : (t : TokenKind) → PartRow parts.Depth t
 row_depth (Word words.Depth) = λ p. (Some p.0, λ rest. refl)
 row_depth _ = tt
@@ -303,6 +307,7 @@ part_rows parts.ConditionTail t = row_condition_tail t
 part_rows parts.ActiveWord t = row_active_word t
 part_rows parts.NameOrNull t = row_name_or_null t
 part_rows parts.Outline t = row_outline t
+part_rows parts.WholeOutline t = row_whole_outline t
 part_rows parts.Depth t = row_depth t
 part_rows parts.Items t = row_items t
 part_rows parts.Bound t = row_bound t

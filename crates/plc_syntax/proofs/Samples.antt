@@ -7,7 +7,7 @@ use Rattle.plc_syntax.specs.declared.expected.Expected.{Expected}
 use Rattle.plc_syntax.specs.declared.expected.Expected.TheVariants as expected
 use Rattle.plc_syntax.specs.declared.expected.Part.{Part as PartName}
 use Rattle.plc_syntax.specs.declared.expected.Part.TheVariants as parts
-use Rattle.plc_syntax.specs.Trees.{Text, UseHazard, OfThreads, PlaceOf, NullAtom, NullValue, MeGhost, SameAs, Compares, TestCondition, NoArgument, NoStatement, NoElse, NoOr, NullTerm, RetiredFlag, EqualityLiteral, NoBound}
+use Rattle.plc_syntax.specs.Trees.{Text, UseHazard, OfThreads, PlaceOf, NullAtom, NullValue, MeGhost, SameAs, Compares, TestCondition, NoArgument, NoStatement, NoElse, NoOr, NullTerm, RetiredFlag, EqualityLiteral, NoBound, Outlined}
 use Rattle.plc_syntax.specs.Table.{after_expected, may_be_empty}
 use Rattle.plc_lex.specs.Characters.{keyword_of, keywords}
 use Rattle.plc_lex.specs.Spelling.{IsKind}
@@ -59,6 +59,7 @@ sample_part parts.ConditionTail = ConditionCompares SameAs NullAtom
 sample_part parts.ActiveWord = false
 sample_part parts.NameOrNull = None
 sample_part parts.Outline = None
+sample_part parts.WholeOutline = Outlined None []
 sample_part parts.Depth = None
 sample_part parts.Items = []
 sample_part parts.Bound = NoBound
@@ -123,6 +124,7 @@ fine_part parts.ConditionTail rest h = (tt, (tt, h))
 fine_part parts.ActiveWord rest h = h
 fine_part parts.NameOrNull rest h = (tt, h)
 fine_part parts.Outline rest h = h
+fine_part parts.WholeOutline rest h = (tt, (tt, (tt, h)))
 fine_part parts.Depth rest h = h
 fine_part parts.Items rest h = h
 fine_part parts.Bound rest h = h

@@ -14,23 +14,24 @@ use Rattle.plc_syntax.specs.declared.expected.Expected.TheVariants as expected
 use Rattle.plc_syntax.specs.declared.expected.Part.TheVariants as parts
 use Rattle.plc_syntax.specs.declared.nesting.Braces.{Braces}
 use Rattle.plc_syntax.specs.Table.{after_expected, may_be_empty}
-use Rattle.plc_syntax.specs.Machine.{after_token, left_after, and_then}
+use Rattle.plc_syntax.specs.Machine.{after_token, left_of, and_then}
 use Rattle.plc_syntax.specs.Syntax.{kinds, IsFile}
 use Rattle.plc_syntax.specs.Nesting.{is_open_brace, is_close_brace, HasCounted, TooDeepAt, NoneTooDeep, NoneTooDeepBefore, SyntaxFaultAt, NestingFaultAt}
 use Rattle.plc_syntax.proofs.Laws.{run_one}
-use Rattle.plc_syntax.proofs.Exact.{begins_file, begins_none, is_file, is_no_file}
+use Rattle.plc_syntax.proofs.Exact.{begins_part, begins_none, is_whole, is_no_whole}
+use Rattle.plc_syntax.proofs.Again.{file_read}
 
 -- what the pass knows before the token at a place
 pub record Passed (ts : List TokenKind) (stack : List Expected) (braces : Braces) (place : ℕ) : Type 0 where
-  pub left : left_after (take place ts) ≡ Some (reverse stack)
+  pub left : left_of parts.File (take place ts) ≡ Some (reverse stack)
   pub counted : HasCounted braces (take place ts)
   pub shallow : NoneTooDeepBefore ts place
 
 -- the kind at a place
-kind_at : (tokens : List Token) (place : ℕ) (token : Token) → token ≡ get_or tokens place token → place < length tokens → get_or (kinds tokens) place token.kind ≡ token.kind
+pub kind_at : (tokens : List Token) (place : ℕ) (token : Token) → token ≡ get_or tokens place token → place < length tokens → get_or (kinds tokens) place token.kind ≡ token.kind
 kind_at tokens place token e h = get_or-map (λ t. t.kind) tokens place token token.kind h ∙ ap (λ t. t.kind) (sym e)
 
-kinds_length : (tokens : List Token) → length (kinds tokens) ≡ length tokens
+pub kinds_length : (tokens : List Token) → length (kinds tokens) ≡ length tokens
 kinds_length tokens = length-map tokens (λ t. t.kind)
 
 one_more : (tokens : List Token) (place : ℕ) (token : Token) → token ≡ get_or tokens place token → place < length tokens →
@@ -40,9 +41,9 @@ one_more tokens place token e h =
     ap (λ k. take place (kinds tokens) ++ k ∷ []) (kind_at tokens place token e h)
 
 pub left_more : (tokens : List Token) (place : ℕ) (token : Token) (stack : List Expected) → token ≡ get_or tokens place token → place < length tokens →
-    left_after (take place (kinds tokens)) ≡ Some (reverse stack) → left_after (take (place + 1) (kinds tokens)) ≡ after_token (reverse stack) token.kind
+    left_of parts.File (take place (kinds tokens)) ≡ Some (reverse stack) → left_of parts.File (take (place + 1) (kinds tokens)) ≡ after_token (reverse stack) token.kind
 left_more tokens place token stack e h w =
-    ap left_after (one_more tokens place token e h) ∙
+    ap (left_of parts.File) (one_more tokens place token e h) ∙
     run_one Expected TokenKind after_expected may_be_empty (take place (kinds tokens)) token.kind (expected.Part parts.File ∷ []) ∙
     ap (λ o. and_then Expected TokenKind after_expected may_be_empty o (λ next. after_token next token.kind)) w
 
@@ -88,8 +89,8 @@ stuck_is_fault tokens place token stack braces e h w stuck =
     record {
       fault = record {
         within = omega arith;
-        goes_on = begins_file (take place (kinds tokens)) (reverse stack) w.left;
-        stops = λ _ b. begins_none (take (place + 1) (kinds tokens)) (left_more tokens place token stack e h w.left ∙ stuck) b;
+        goes_on = begins_part parts.File (take place (kinds tokens)) (reverse stack) w.left;
+        stops = λ _ b. begins_none parts.File file_read (take (place + 1) (kinds tokens)) (left_more tokens place token stack e h w.left ∙ stuck) b;
         unfinished = λ end. absurd (omega arith);
       };
       shallow = w.shallow;
@@ -100,27 +101,27 @@ pub deep_is_fault : (tokens : List Token) (place : ℕ) (token : Token) (stack s
 deep_is_fault tokens place token stack stack' braces e h w step deep = record {
   deep = deep;
   shallow = w.shallow;
-  goes_on = begins_file (take (place + 1) (kinds tokens)) stack' (left_more tokens place token stack e h w.left ∙ step);
+  goes_on = begins_part parts.File (take (place + 1) (kinds tokens)) stack' (left_more tokens place token stack e h w.left ∙ step);
 }
 
 all_cons : (x : Expected) (s : List Expected) → list_all may_be_empty (x ∷ s) ≡ (list_all may_be_empty (x ∷ []) && list_all may_be_empty s)
 all_cons x s = list_all-append may_be_empty (x ∷ []) s
 
-all_reversed : (s : List Expected) → list_all may_be_empty (reverse s) ≡ list_all may_be_empty s
+pub all_reversed : (s : List Expected) → list_all may_be_empty (reverse s) ≡ list_all may_be_empty s
 all_reversed [] = refl
 all_reversed (x ∷ s) =
     ap (list_all may_be_empty) (reverse-append (x ∷ []) s) ∙ list_all-append may_be_empty (reverse s) (x ∷ []) ∙
     ap (λ b. b && list_all may_be_empty (x ∷ [])) (all_reversed s) ∙ and_comm (list_all may_be_empty s) (list_all may_be_empty (x ∷ [])) ∙ sym (all_cons x s)
 
-left_whole : (tokens : List Token) (place : ℕ) (stack : List Expected) → length tokens ≤ place → left_after (take place (kinds tokens)) ≡ Some (reverse stack) →
-    left_after (kinds tokens) ≡ Some (reverse stack)
-left_whole tokens place stack h w = sym (ap left_after (take_all place (kinds tokens) (let l = kinds_length tokens in omega arith))) ∙ w
+left_whole : (tokens : List Token) (place : ℕ) (stack : List Expected) → length tokens ≤ place → left_of parts.File (take place (kinds tokens)) ≡ Some (reverse stack) →
+    left_of parts.File (kinds tokens) ≡ Some (reverse stack)
+left_whole tokens place stack h w = sym (ap (left_of parts.File) (take_all place (kinds tokens) (let l = kinds_length tokens in omega arith))) ∙ w
 
 pub end_is_file : (tokens : List Token) (place : ℕ) (stack : List Expected) (braces : Braces) → length tokens ≤ place →
     Passed (kinds tokens) stack braces place → list_all may_be_empty stack ≡ true → IsFile (kinds tokens) × NoneTooDeep (kinds tokens)
 end_is_file tokens place stack braces h w e =
     let l = kinds_length tokens in (
-      is_file (kinds tokens) (reverse stack) (left_whole tokens place stack h w.left) (all_reversed stack ∙ e),
+      is_whole parts.File (kinds tokens) (reverse stack) (left_whole tokens place stack h w.left) (all_reversed stack ∙ e),
       λ at deep. w.shallow at (let k = slice_get_within (kinds tokens) at _ deep.opens.brace in omega arith) deep,
     )
 
@@ -132,9 +133,9 @@ end_is_fault tokens place stack braces h w e =
     record {
       fault = record {
         within = omega arith;
-        goes_on = begins_file (take (length tokens) (kinds tokens)) (reverse stack) (ap left_after (take_all (length tokens) (kinds tokens) (omega arith)) ∙ s);
+        goes_on = begins_part parts.File (take (length tokens) (kinds tokens)) (reverse stack) (ap (left_of parts.File) (take_all (length tokens) (kinds tokens) (omega arith)) ∙ s);
         stops = λ k. absurd (omega arith);
-        unfinished = λ _ f. is_no_file (kinds tokens) (reverse stack) s (all_reversed stack ∙ e) f;
+        unfinished = λ _ f. is_no_whole parts.File file_read (kinds tokens) (reverse stack) s (all_reversed stack ∙ e) f;
       };
       shallow = λ lesser k. w.shallow lesser (omega arith);
     }

@@ -1,6 +1,9 @@
+-- what contracts of public calls say
 pub mod Answer
-pub mod Machine
+pub mod Faults
 pub mod Nesting
 pub mod Syntax
-pub mod Table
 pub mod Trees
+-- words of private functions alone
+pub mod Machine
+pub mod Table

@@ -1,11 +1,13 @@
 -- A machine that reads tokens from the left and keeps a stack of what is still to come. The row of x for t is what is still to come of x
 -- behind its first token t, and none where x doesn't begin with t; what may be empty is then left out. The machine never chooses, so that
 -- neither following tokens nor an order of the rows enters what is said of it. It is stated for any table, since its laws rest on none.
-use Rattle.std.specs.Prelude.{Bool, true, false, Option, Some, None, List, [], ◌∷◌, ◌++◌}
+use Rattle.std.specs.Prelude.{ℕ, ◌+◌, Bool, true, false, cond, Option, Some, None, List, [], ◌∷◌, ◌++◌}
+use Rattle.std.specs.List.{list_all}
 use Rattle.plc_lex.specs.declared.token.TokenKind.{TokenKind}
 use Rattle.plc_syntax.specs.declared.expected.Expected.{Expected}
 use Rattle.plc_syntax.specs.declared.expected.Expected.TheVariants.{Part}
-use Rattle.plc_syntax.specs.declared.expected.Part.TheVariants.{File}
+use Rattle.plc_syntax.specs.declared.expected.Part.{Part as PartName}
+use Rattle.plc_syntax.specs.declared.expected.Part.TheVariants.{WholeOutline}
 use Rattle.plc_syntax.specs.Table.{after_expected, may_be_empty}
 
 -- the stack after one token, from the row of its top, whether the top may be left out, and what the stack below it would become
@@ -34,6 +36,22 @@ module _ (S T : Type 0) (row : S → T → Option (List S)) (may_skip : S → Bo
 abbrev pub after_token : List Expected → TokenKind → Option (List Expected)
 after_token s t = after Expected TokenKind after_expected may_be_empty s t
 
--- what is still to come behind tokens that stand at the beginning of a file
-abbrev pub left_after : List TokenKind → Option (List Expected)
-left_after ts = after_all Expected TokenKind after_expected may_be_empty (Part File ∷ []) ts
+-- what is still to come behind tokens with which a part begins
+abbrev pub left_of : PartName → List TokenKind → Option (List Expected)
+left_of part ts = after_all Expected TokenKind after_expected may_be_empty (Part part ∷ []) ts
+
+-- a token doesn't fit at the place, or what is found behind it
+abbrev pub or_here : ℕ → Option (List Expected) → (List Expected → Option ℕ) → Option ℕ
+or_here place None f = Some place
+or_here place (Some s) f = f s
+
+-- the place of the first token that doesn't fit before all of the stack is read, the end where more has to come, and none where it is read;
+-- the first token stands at the place
+abbrev pub stuck_at : List TokenKind → List Expected → ℕ → Option ℕ
+stuck_at ts [] place = None
+stuck_at [] (x ∷ s) place = cond (list_all may_be_empty (x ∷ s)) None (Some place)
+stuck_at (t ∷ ts) (x ∷ s) place = or_here place (after_token (x ∷ s) t) (λ next. stuck_at ts next (place + 1))
+
+-- the same for an outline that has to stand at the front
+abbrev pub outline_stuck_at : List TokenKind → Option ℕ
+outline_stuck_at ts = stuck_at ts (Part WholeOutline ∷ []) 0

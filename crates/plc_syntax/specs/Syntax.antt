@@ -1,26 +1,56 @@
--- Which tokens are a file's, and where others stop being one's.
-use Rattle.std.specs.Prelude.{◌≡◌, ℕ, ◌+◌, ◌<◌, ◌≤◌, List, ◌++◌, length, take, map}
+-- Which tokens are a file's or begin with an outline's, and where others stop being so. Both are said of the trees of any form: `x_then tree rest`
+-- are the tokens of a tree followed by the rest.
+use Rattle.std.specs.Prelude.{◌≡◌, ℕ, ◌+◌, ◌<◌, ◌≤◌, List, [], ◌++◌, length, take, map}
 use Rattle.std.specs.List.{AllByRecursion}
 use Rattle.plc_lex.specs.declared.token.Token.{Token}
 use Rattle.plc_lex.specs.declared.token.TokenKind.{TokenKind}
 use Rattle.plc_lex.specs.Spelling.{IsKind}
-use Rattle.plc_syntax.specs.Trees.{FileTree, file_tokens}
+use Rattle.plc_syntax.specs.Trees.{file_then, outline_then}
 
 -- tokens without their places
 abbrev pub kinds : List Token → List TokenKind
 kinds ts = map (λ t. t.kind) ts
 
+-- these are the tokens of a tree
+abbrev pub AreWhole : {X : Type 0} → (X → List TokenKind → List TokenKind) → List TokenKind → Type 0
+AreWhole {X} x_then ts = (x : X) × (x_then x [] ≡ ts)
+
+-- some tree's tokens begin with these and go on with tokens that bytes can spell
+abbrev pub Begin : {X : Type 0} → (X → List TokenKind → List TokenKind) → List TokenKind → Type 0
+Begin {X} x_then ts = (x : X) × (rest : List TokenKind) × AllByRecursion IsKind rest × (x_then x [] ≡ ts ++ rest)
+
+-- a tree's tokens stand at the front of these, whatever stands behind them
+abbrev pub HaveAtFront : {X : Type 0} → (X → List TokenKind → List TokenKind) → List TokenKind → Type 0
+HaveAtFront {X} x_then ts = (x : X) × (behind : List TokenKind) × (ts ≡ x_then x behind)
+
+-- the least place with whose token no tree's tokens begin any more, or the end where the tokens begin a tree's and are none's
+pub record StopAt {X : Type 0} (x_then : X → List TokenKind → List TokenKind) (ts : List TokenKind) (place : ℕ) : Type 0 where
+  pub within : place ≤ length ts
+  pub goes_on : Begin x_then (take place ts)
+  pub stops : place < length ts → Begin x_then (take (place + 1) ts) → ⊥
+  pub unfinished : place ≡ length ts → AreWhole x_then ts → ⊥
+
+-- no tree's tokens stand at the front, and this is the place with which that is known
+pub record StopAtFront {X : Type 0} (x_then : X → List TokenKind → List TokenKind) (ts : List TokenKind) (place : ℕ) : Type 0 where
+  pub fault : StopAt x_then ts place
+  pub none : HaveAtFront x_then ts → ⊥
+
 -- these are the tokens of a file
 abbrev pub IsFile : List TokenKind → Type 0
-IsFile ts = (f : FileTree) × (file_tokens f ≡ ts)
+IsFile ts = AreWhole file_then ts
 
 -- some file begins with these tokens and goes on with tokens that bytes can spell
 abbrev pub BeginsFile : List TokenKind → Type 0
-BeginsFile ts = (f : FileTree) × (rest : List TokenKind) × AllByRecursion IsKind rest × (file_tokens f ≡ ts ++ rest)
+BeginsFile ts = Begin file_then ts
 
 -- the least place with whose token no file begins any more, or the end where the tokens begin a file and are none
-pub record FaultAt (ts : List TokenKind) (place : ℕ) : Type 0 where
-  pub within : place ≤ length ts
-  pub goes_on : BeginsFile (take place ts)
-  pub stops : place < length ts → BeginsFile (take (place + 1) ts) → ⊥
-  pub unfinished : place ≡ length ts → IsFile ts → ⊥
+abbrev pub FaultAt : List TokenKind → ℕ → Type 0
+FaultAt ts place = StopAt file_then ts place
+
+-- an outline stands at the front
+abbrev pub HasOutline : List TokenKind → Type 0
+HasOutline ts = HaveAtFront outline_then ts
+
+-- none does: the least place with whose token no outline begins any more, or the end where the tokens begin an outline
+abbrev pub OutlineFaultAt : List TokenKind → ℕ → Type 0
+OutlineFaultAt ts place = StopAtFront outline_then ts place

@@ -1,7 +1,8 @@
 -- The table of the machine. For each part of the grammar and each token that it may begin with: what is still to come of the part behind
 -- that token; none where the part doesn't begin with the token. A part that may be empty is left out where the next token doesn't fit it.
 -- Where two forms begin alike, their common beginning is one row and what follows it is a part of its own.
-use Rattle.std.specs.Prelude.{cond, Bool, true, false, Option, Some, None, List, [], ◌∷◌}
+use Rattle.std.specs.Prelude.{◌≡◌, cond, Bool, true, false, Option, Some, None, MatchOption, List, [], ◌∷◌}
+use Rattle.std.specs.Borrow.{Bor}
 use Rattle.plc_lex.specs.declared.token.TokenKind.{TokenKind}
 use Rattle.plc_lex.specs.declared.token.TokenKind.TheVariants as kinds
 use Rattle.plc_lex.specs.declared.token.Keyword.TheVariants as words
@@ -10,7 +11,11 @@ use Rattle.plc_lex.specs.declared.token.Symbol.TheVariants.{Assign, Refresh, Equ
 use Rattle.plc_syntax.specs.declared.expected.Expected.{Expected}
 use Rattle.plc_syntax.specs.declared.expected.Expected.TheVariants.{Name, Number, Symbol, Part}
 use Rattle.plc_syntax.specs.declared.expected.Part.{Part as PartName}
-use Rattle.plc_syntax.specs.declared.expected.Part.TheVariants.{File, Fields, Pointers, Functions, PointerWord, Use, Scheme, Ghosts, GhostKind, MoreNames, Init, InitialSets, Ops, Parameters, Statements, Block, Else, SecondBlock, FurtherBlocks, NamedTail, Argument, During, Condition, ConditionTail, ActiveWord, NameOrNull, Primitives, AssignmentTail, SetTail, FieldTail, Value, Place, DotName, Atom, GhostValue, Test, Comparison, Outline, Depth, Items, Bound, SecondName, OrLiterals, Literal, Flag, Equality, Term}
+use Rattle.plc_syntax.specs.declared.expected.Part.TheVariants.{File, Fields, Pointers, Functions, PointerWord, Use, Scheme, Ghosts, GhostKind, MoreNames, Init, InitialSets, Ops, Parameters, Statements, Block, Else, SecondBlock, FurtherBlocks, NamedTail, Argument, During, Condition, ConditionTail, ActiveWord, NameOrNull, Primitives, AssignmentTail, SetTail, FieldTail, Value, Place, DotName, Atom, GhostValue, Test, Comparison, Outline, WholeOutline, Depth, Items, Bound, SecondName, OrLiterals, Literal, Flag, Equality, Term}
+
+-- an answer is this row, or none where there is none
+abbrev pub IsRow : Option (Bor (List Expected)) → Option (List Expected) → Type 0
+IsRow answer row = MatchOption answer (row ≡ None) (λ found. row ≡ Some found.now)
 
 -- a whole file
 abbrev pub after_file : TokenKind → Option (List Expected)
@@ -241,7 +246,7 @@ after_comparison (kinds.Symbol Less) = Some (Part Atom ∷ [])
 after_comparison (kinds.Symbol AtLeast) = Some (Part Atom ∷ [])
 after_comparison _ = None
 
--- the proof outline, or nothing
+-- the proof outline, whether it may be left out or not
 abbrev pub after_outline : TokenKind → Option (List Expected)
 after_outline (kinds.Word words.Outline) = Some (Symbol OpenBrace ∷ Part Depth ∷ Part Items ∷ Symbol CloseBrace ∷ [])
 after_outline _ = None
@@ -344,6 +349,7 @@ after_part GhostValue t = after_ghost_value t
 after_part Test t = after_test t
 after_part Comparison t = after_comparison t
 after_part Outline t = after_outline t
+after_part WholeOutline t = after_outline t
 after_part Depth t = after_depth t
 after_part Items t = after_items t
 after_part Bound t = after_bound t

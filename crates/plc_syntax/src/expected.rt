@@ -82,6 +82,8 @@ pub enum Part {
     Comparison,
     /// The proof outline, or nothing.
     Outline,
+    /// The proof outline, as a part by itself.
+    WholeOutline,
     /// The depth of the outline, or nothing.
     Depth,
     /// The items of the outline.

@@ -11,7 +11,7 @@ mod recognizer;
 mod table;
 
 pub use fault::SyntaxFault;
-pub use recognizer::syntax;
+pub use recognizer::{faults_are_one, outline_fault, syntax};
 
 #[cfg(test)]
 mod tests;

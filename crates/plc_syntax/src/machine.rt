@@ -10,11 +10,11 @@ use crate::table::{after_expected, may_be_empty};
 use plc_lex::TokenKind;
 use std::alloc::{AllocError, Global};
 
-/// What is to come of a whole file.
-pub fn start(alloc: Global) -> Result<Vec<Expected>, AllocError>
-    ensures { IfOk result (λ stack. stack.items ≡ Expected.Part Part.File ∷ []) }
+/// What is to come of a whole part.
+pub fn start(alloc: Global, part: Part) -> Result<Vec<Expected>, AllocError>
+    ensures { IfOk result (λ stack. stack.items ≡ Expected.Part part ∷ []) }
 {
-    Ok(vec![in alloc; Expected::Part(Part::File)]?)
+    Ok(vec![in alloc; Expected::Part(part)]?)
 }
 
 /// Reads one token, and says whether it fits.

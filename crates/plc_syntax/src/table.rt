@@ -2,7 +2,19 @@
 // behind that token. No part has two rows for one token, so the machine never has to choose, and no
 // set of tokens that may follow a part enters the proofs.
 ghost use Rattle.std.specs.Prelude.{◌≡◌, MatchOption, Some, None, [], true, false};
-ghost use Rattle.plc_syntax.specs.Table.{after_part, after_expected, may_be_empty, is_same};
+ghost use Rattle.plc_syntax.specs.Table.{IsRow, after_part, after_expected, may_be_empty, is_same};
+
+// A row, on one line as in the definition.
+macro_rules! row {
+    ($($expected:expr),*) => { Some(&[$($expected),*]) };
+}
+
+// The rows of each part.
+macro_rules! rows_of {
+    ($part:expr, $kind:expr; $($name:ident => $rows:ident),*) => {
+        match $part { $(Part::$name => $rows($kind)),* }
+    };
+}
 
 mod declarations;
 mod outline;
@@ -10,11 +22,29 @@ mod primitives;
 mod statements;
 
 use crate::expected::{Expected, Part};
+use declarations::{
+    after_fields, after_file, after_functions, after_ghost_kind, after_ghosts, after_init,
+    after_initial_sets, after_more_names, after_ops, after_parameters, after_pointer_word,
+    after_pointers, after_scheme, after_use,
+};
+use outline::{
+    after_bound, after_depth, after_equality, after_flag, after_items, after_literal,
+    after_or_literals, after_outline, after_second_name, after_term,
+};
 use plc_lex::{Symbol, TokenKind};
+use primitives::{
+    after_assignment_tail, after_atom, after_comparison, after_dot_name, after_field_tail,
+    after_ghost_value, after_place, after_primitives, after_set_tail, after_test, after_value,
+};
+use statements::{
+    after_active_word, after_argument, after_block, after_condition, after_condition_tail,
+    after_during, after_else, after_further_blocks, after_name_or_null, after_named_tail,
+    after_second_block, after_statements,
+};
 
 /// The row of what is expected for a token, or `None` where it can't begin with the token.
 pub fn after_expected(expected: Expected, kind: &TokenKind) -> Option<&'static [Expected]>
-    ensures { MatchOption result (after_expected expected kind.now ≡ None) (λ row. after_expected expected kind.now ≡ Some row.now) }
+    ensures { IsRow result (after_expected expected kind.now) }
 {
     match (expected, kind) {
         (Expected::Name, TokenKind::Name(_)) => Some(&[]),
@@ -74,55 +104,26 @@ pub fn may_be_empty(expected: Expected) -> bool
 }
 
 fn after_part(part: Part, kind: &TokenKind) -> Option<&'static [Expected]>
-    ensures { MatchOption result (after_part part kind.now ≡ None) (λ row. after_part part kind.now ≡ Some row.now) }
+    ensures { IsRow result (after_part part kind.now) }
 {
-    match part {
-        Part::File => declarations::after_file(kind),
-        Part::Fields => declarations::after_fields(kind),
-        Part::Pointers => declarations::after_pointers(kind),
-        Part::Functions => declarations::after_functions(kind),
-        Part::PointerWord => declarations::after_pointer_word(kind),
-        Part::Use => declarations::after_use(kind),
-        Part::Scheme => declarations::after_scheme(kind),
-        Part::Ghosts => declarations::after_ghosts(kind),
-        Part::GhostKind => declarations::after_ghost_kind(kind),
-        Part::MoreNames => declarations::after_more_names(kind),
-        Part::Init => declarations::after_init(kind),
-        Part::InitialSets => declarations::after_initial_sets(kind),
-        Part::Ops => declarations::after_ops(kind),
-        Part::Parameters => declarations::after_parameters(kind),
-        Part::Statements => statements::after_statements(kind),
-        Part::Block => statements::after_block(kind),
-        Part::Else => statements::after_else(kind),
-        Part::SecondBlock => statements::after_second_block(kind),
-        Part::FurtherBlocks => statements::after_further_blocks(kind),
-        Part::NamedTail => statements::after_named_tail(kind),
-        Part::Argument => statements::after_argument(kind),
-        Part::During => statements::after_during(kind),
-        Part::Condition => statements::after_condition(kind),
-        Part::ConditionTail => statements::after_condition_tail(kind),
-        Part::ActiveWord => statements::after_active_word(kind),
-        Part::NameOrNull => statements::after_name_or_null(kind),
-        Part::Primitives => primitives::after_primitives(kind),
-        Part::AssignmentTail => primitives::after_assignment_tail(kind),
-        Part::SetTail => primitives::after_set_tail(kind),
-        Part::FieldTail => primitives::after_field_tail(kind),
-        Part::Value => primitives::after_value(kind),
-        Part::Place => primitives::after_place(kind),
-        Part::DotName => primitives::after_dot_name(kind),
-        Part::Atom => primitives::after_atom(kind),
-        Part::GhostValue => primitives::after_ghost_value(kind),
-        Part::Test => primitives::after_test(kind),
-        Part::Comparison => primitives::after_comparison(kind),
-        Part::Outline => outline::after_outline(kind),
-        Part::Depth => outline::after_depth(kind),
-        Part::Items => outline::after_items(kind),
-        Part::Bound => outline::after_bound(kind),
-        Part::SecondName => outline::after_second_name(kind),
-        Part::OrLiterals => outline::after_or_literals(kind),
-        Part::Literal => outline::after_literal(kind),
-        Part::Flag => outline::after_flag(kind),
-        Part::Equality => outline::after_equality(kind),
-        Part::Term => outline::after_term(kind),
+    rows_of! { part, kind;
+        File => after_file, Fields => after_fields, Pointers => after_pointers,
+        Functions => after_functions, PointerWord => after_pointer_word, Use => after_use,
+        Scheme => after_scheme, Ghosts => after_ghosts, GhostKind => after_ghost_kind,
+        MoreNames => after_more_names, Init => after_init, InitialSets => after_initial_sets,
+        Ops => after_ops, Parameters => after_parameters, Statements => after_statements,
+        Block => after_block, Else => after_else, SecondBlock => after_second_block,
+        FurtherBlocks => after_further_blocks, NamedTail => after_named_tail,
+        Argument => after_argument, During => after_during, Condition => after_condition,
+        ConditionTail => after_condition_tail, ActiveWord => after_active_word,
+        NameOrNull => after_name_or_null, Primitives => after_primitives,
+        AssignmentTail => after_assignment_tail, SetTail => after_set_tail,
+        FieldTail => after_field_tail, Value => after_value, Place => after_place,
+        DotName => after_dot_name, Atom => after_atom, GhostValue => after_ghost_value,
+        Test => after_test, Comparison => after_comparison, Outline => after_outline,
+        WholeOutline => after_outline, Depth => after_depth, Items => after_items,
+        Bound => after_bound, SecondName => after_second_name, OrLiterals => after_or_literals,
+        Literal => after_literal, Flag => after_flag, Equality => after_equality,
+        Term => after_term
     }
 }

@@ -1,217 +1,150 @@
 // The rows of what a file declares, from the struct to the heads of its operations.
-ghost use Rattle.std.specs.Prelude.{◌≡◌, MatchOption, Some, None};
-ghost use Rattle.plc_syntax.specs.Table.{after_file, after_fields, after_pointers, after_functions, after_pointer_word, after_use, after_scheme, after_ghosts, after_ghost_kind, after_more_names, after_init, after_initial_sets, after_ops, after_parameters};
+ghost use Rattle.plc_syntax.specs.Table.{IsRow, after_file, after_fields, after_pointers, after_functions, after_pointer_word, after_use, after_scheme, after_ghosts, after_ghost_kind, after_more_names, after_init, after_initial_sets, after_ops, after_parameters};
 
-use crate::expected::{Expected, Part};
-use plc_lex::{Keyword, Symbol, TokenKind};
+use crate::expected::Expected::{self, Name, Part, Symbol};
+use crate::expected::Part::{
+    Fields, Functions, GhostKind, GhostValue, Ghosts, Init, InitialSets, MoreNames, Ops, Outline,
+    Parameters, PointerWord, Pointers, Scheme, SetTail, Statements, Use,
+};
+use plc_lex::Symbol::{
+    Assign, CloseBrace, CloseParen, Comma, Dot, OpenBrace, OpenParen, Semicolon,
+};
+use plc_lex::{Keyword, TokenKind};
 
 pub fn after_file(kind: &TokenKind) -> Option<&'static [Expected]>
-    ensures { MatchOption result (after_file kind.now ≡ None) (λ row. after_file kind.now ≡ Some row.now) }
+    ensures { IsRow result (after_file kind.now) }
 {
     match kind {
-        TokenKind::Word(Keyword::Struct) => Some(&[
-            Expected::Name,
-            Expected::Symbol(Symbol::OpenBrace),
-            Expected::Part(Part::Fields),
-            Expected::Symbol(Symbol::CloseBrace),
-            Expected::Part(Part::Pointers),
-            Expected::Part(Part::Functions),
-            Expected::Part(Part::Use),
-            Expected::Part(Part::Ghosts),
-            Expected::Part(Part::Init),
-            Expected::Part(Part::Ops),
-            Expected::Part(Part::Outline),
-        ]),
+        TokenKind::Word(Keyword::Struct) =>
+            row! { Name, Symbol(OpenBrace), Part(Fields), Symbol(CloseBrace), Part(Pointers), Part(Functions), Part(Use), Part(Ghosts), Part(Init), Part(Ops), Part(Outline) },
         _ => None,
     }
 }
 
 pub fn after_fields(kind: &TokenKind) -> Option<&'static [Expected]>
-    ensures { MatchOption result (after_fields kind.now ≡ None) (λ row. after_fields kind.now ≡ Some row.now) }
+    ensures { IsRow result (after_fields kind.now) }
 {
     match kind {
-        TokenKind::Word(Keyword::Ptr) => Some(&[
-            Expected::Name,
-            Expected::Symbol(Symbol::Semicolon),
-            Expected::Part(Part::Fields),
-        ]),
-        TokenKind::Word(Keyword::Data) => Some(&[
-            Expected::Name,
-            Expected::Symbol(Symbol::Semicolon),
-            Expected::Part(Part::Fields),
-        ]),
+        TokenKind::Word(Keyword::Ptr | Keyword::Data) =>
+            row! { Name, Symbol(Semicolon), Part(Fields) },
         _ => None,
     }
 }
 
 pub fn after_pointers(kind: &TokenKind) -> Option<&'static [Expected]>
-    ensures { MatchOption result (after_pointers kind.now ≡ None) (λ row. after_pointers kind.now ≡ Some row.now) }
+    ensures { IsRow result (after_pointers kind.now) }
 {
     match kind {
-        TokenKind::Word(Keyword::Shared) => Some(&[
-            Expected::Name,
-            Expected::Symbol(Symbol::Semicolon),
-            Expected::Part(Part::Pointers),
-        ]),
+        TokenKind::Word(Keyword::Shared) => row! { Name, Symbol(Semicolon), Part(Pointers) },
         _ => None,
     }
 }
 
 pub fn after_functions(kind: &TokenKind) -> Option<&'static [Expected]>
-    ensures { MatchOption result (after_functions kind.now ≡ None) (λ row. after_functions kind.now ≡ Some row.now) }
+    ensures { IsRow result (after_functions kind.now) }
 {
     match kind {
-        TokenKind::Word(Keyword::Call) => Some(&[
-            Expected::Name,
-            Expected::Symbol(Symbol::OpenParen),
-            Expected::Part(Part::PointerWord),
-            Expected::Symbol(Symbol::CloseParen),
-            Expected::Symbol(Symbol::Semicolon),
-            Expected::Part(Part::Functions),
-        ]),
+        TokenKind::Word(Keyword::Call) =>
+            row! { Name, Symbol(OpenParen), Part(PointerWord), Symbol(CloseParen), Symbol(Semicolon), Part(Functions) },
         _ => None,
     }
 }
 
 pub fn after_pointer_word(kind: &TokenKind) -> Option<&'static [Expected]>
-    ensures { MatchOption result (after_pointer_word kind.now ≡ None) (λ row. after_pointer_word kind.now ≡ Some row.now) }
+    ensures { IsRow result (after_pointer_word kind.now) }
 {
     match kind {
-        TokenKind::Word(Keyword::Ptr) => Some(&[]),
+        TokenKind::Word(Keyword::Ptr) => row! {},
         _ => None,
     }
 }
 
 pub fn after_use(kind: &TokenKind) -> Option<&'static [Expected]>
-    ensures { MatchOption result (after_use kind.now ≡ None) (λ row. after_use kind.now ≡ Some row.now) }
+    ensures { IsRow result (after_use kind.now) }
 {
     match kind {
-        TokenKind::Word(Keyword::Use) => Some(&[Expected::Part(Part::Scheme)]),
+        TokenKind::Word(Keyword::Use) => row! { Part(Scheme) },
         _ => None,
     }
 }
 
 pub fn after_scheme(kind: &TokenKind) -> Option<&'static [Expected]>
-    ensures { MatchOption result (after_scheme kind.now ≡ None) (λ row. after_scheme kind.now ≡ Some row.now) }
+    ensures { IsRow result (after_scheme kind.now) }
 {
     match kind {
-        TokenKind::Word(Keyword::Hazard) => Some(&[
-            Expected::Symbol(Symbol::OpenParen),
-            Expected::Name,
-            Expected::Symbol(Symbol::CloseParen),
-            Expected::Symbol(Symbol::Semicolon),
-        ]),
-        TokenKind::Word(Keyword::Epoch) => Some(&[
-            Expected::Symbol(Symbol::OpenParen),
-            Expected::Name,
-            Expected::Symbol(Symbol::Comma),
-            Expected::Name,
-            Expected::Symbol(Symbol::CloseParen),
-            Expected::Symbol(Symbol::Semicolon),
-        ]),
+        TokenKind::Word(Keyword::Hazard) =>
+            row! { Symbol(OpenParen), Name, Symbol(CloseParen), Symbol(Semicolon) },
+        TokenKind::Word(Keyword::Epoch) =>
+            row! { Symbol(OpenParen), Name, Symbol(Comma), Name, Symbol(CloseParen), Symbol(Semicolon) },
         _ => None,
     }
 }
 
 pub fn after_ghosts(kind: &TokenKind) -> Option<&'static [Expected]>
-    ensures { MatchOption result (after_ghosts kind.now ≡ None) (λ row. after_ghosts kind.now ≡ Some row.now) }
+    ensures { IsRow result (after_ghosts kind.now) }
 {
     match kind {
-        TokenKind::Word(Keyword::Ghost) => Some(&[
-            Expected::Name,
-            Expected::Part(Part::GhostKind),
-            Expected::Symbol(Symbol::Semicolon),
-            Expected::Part(Part::Ghosts),
-        ]),
+        TokenKind::Word(Keyword::Ghost) =>
+            row! { Name, Part(GhostKind), Symbol(Semicolon), Part(Ghosts) },
         _ => None,
     }
 }
 
 pub fn after_ghost_kind(kind: &TokenKind) -> Option<&'static [Expected]>
-    ensures { MatchOption result (after_ghost_kind kind.now ≡ None) (λ row. after_ghost_kind kind.now ≡ Some row.now) }
+    ensures { IsRow result (after_ghost_kind kind.now) }
 {
     match kind {
-        TokenKind::Symbol(Symbol::OpenBrace) => Some(&[
-            Expected::Name,
-            Expected::Part(Part::MoreNames),
-            Expected::Symbol(Symbol::CloseBrace),
-        ]),
-        TokenKind::Word(Keyword::Thread) => Some(&[]),
+        TokenKind::Symbol(OpenBrace) => row! { Name, Part(MoreNames), Symbol(CloseBrace) },
+        TokenKind::Word(Keyword::Thread) => row! {},
         _ => None,
     }
 }
 
 pub fn after_more_names(kind: &TokenKind) -> Option<&'static [Expected]>
-    ensures { MatchOption result (after_more_names kind.now ≡ None) (λ row. after_more_names kind.now ≡ Some row.now) }
+    ensures { IsRow result (after_more_names kind.now) }
 {
     match kind {
-        TokenKind::Symbol(Symbol::Comma) => Some(&[
-            Expected::Name,
-            Expected::Part(Part::MoreNames),
-        ]),
+        TokenKind::Symbol(Comma) => row! { Name, Part(MoreNames) },
         _ => None,
     }
 }
 
 pub fn after_init(kind: &TokenKind) -> Option<&'static [Expected]>
-    ensures { MatchOption result (after_init kind.now ≡ None) (λ row. after_init kind.now ≡ Some row.now) }
+    ensures { IsRow result (after_init kind.now) }
 {
     match kind {
-        TokenKind::Word(Keyword::Init) => Some(&[
-            Expected::Symbol(Symbol::OpenBrace),
-            Expected::Part(Part::InitialSets),
-            Expected::Symbol(Symbol::CloseBrace),
-        ]),
+        TokenKind::Word(Keyword::Init) =>
+            row! { Symbol(OpenBrace), Part(InitialSets), Symbol(CloseBrace) },
         _ => None,
     }
 }
 
 pub fn after_initial_sets(kind: &TokenKind) -> Option<&'static [Expected]>
-    ensures { MatchOption result (after_initial_sets kind.now ≡ None) (λ row. after_initial_sets kind.now ≡ Some row.now) }
+    ensures { IsRow result (after_initial_sets kind.now) }
 {
     match kind {
-        TokenKind::Name(_) => Some(&[
-            Expected::Part(Part::SetTail),
-            Expected::Symbol(Symbol::Semicolon),
-            Expected::Part(Part::InitialSets),
-        ]),
-        TokenKind::Word(Keyword::Ghost) => Some(&[
-            Expected::Name,
-            Expected::Symbol(Symbol::Dot),
-            Expected::Name,
-            Expected::Symbol(Symbol::Assign),
-            Expected::Part(Part::GhostValue),
-            Expected::Symbol(Symbol::Semicolon),
-            Expected::Part(Part::InitialSets),
-        ]),
+        TokenKind::Name(_) => row! { Part(SetTail), Symbol(Semicolon), Part(InitialSets) },
+        TokenKind::Word(Keyword::Ghost) =>
+            row! { Name, Symbol(Dot), Name, Symbol(Assign), Part(GhostValue), Symbol(Semicolon), Part(InitialSets) },
         _ => None,
     }
 }
 
 pub fn after_ops(kind: &TokenKind) -> Option<&'static [Expected]>
-    ensures { MatchOption result (after_ops kind.now ≡ None) (λ row. after_ops kind.now ≡ Some row.now) }
+    ensures { IsRow result (after_ops kind.now) }
 {
     match kind {
-        TokenKind::Word(Keyword::Op) => Some(&[
-            Expected::Name,
-            Expected::Symbol(Symbol::OpenParen),
-            Expected::Part(Part::Parameters),
-            Expected::Symbol(Symbol::CloseParen),
-            Expected::Symbol(Symbol::OpenBrace),
-            Expected::Part(Part::Fields),
-            Expected::Part(Part::Statements),
-            Expected::Symbol(Symbol::CloseBrace),
-            Expected::Part(Part::Ops),
-        ]),
+        TokenKind::Word(Keyword::Op) =>
+            row! { Name, Symbol(OpenParen), Part(Parameters), Symbol(CloseParen), Symbol(OpenBrace), Part(Fields), Part(Statements), Symbol(CloseBrace), Part(Ops) },
         _ => None,
     }
 }
 
 pub fn after_parameters(kind: &TokenKind) -> Option<&'static [Expected]>
-    ensures { MatchOption result (after_parameters kind.now ≡ None) (λ row. after_parameters kind.now ≡ Some row.now) }
+    ensures { IsRow result (after_parameters kind.now) }
 {
     match kind {
-        TokenKind::Name(_) => Some(&[Expected::Part(Part::MoreNames)]),
+        TokenKind::Name(_) => row! { Part(MoreNames) },
         _ => None,
     }
 }

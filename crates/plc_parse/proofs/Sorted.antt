@@ -1,0 +1,373 @@
+-- Each thing of a file with a meaning stands where its kind may stand. What a name stands for is there and is what the name says (`There.antt`),
+-- and each form asks for the kind that its place wants.
+use Rattle.std.proofs.Common.{◌≡◌, ◌==◌, ◌&&◌, ◌||◌, not, cond, if◌then◌else◌, ℕ, ◌+◌, ◌≤◌, ◌<◌, Bool, true, false, Option, Some, None, IfSome, Result, Ok, Err, List, [], ◌∷◌, ◌++◌, length, count_by, filter, slice_get, refl, sym, ap, ◌∙◌, subst, append_assoc, arith}
+use Rattle.std.specs.List.{list_any}
+use Rattle.std.proofs.Math.Bool.{and-false}
+use Rattle.std.proofs.lemmas.Bool.{eqb-true}
+use Rattle.std.proofs.lemmas.List.Elements.{filter-append}
+use Rattle.std.proofs.lemmas.List.Folds.{list_any-append}
+use Rattle.std.proofs.lemmas.List.Sums.{sum_by-cons}
+use Rattle.plc_base.specs.declared.ids.FieldId.{FieldId}
+use Rattle.plc_base.specs.declared.ids.FuncId.{FuncId}
+use Rattle.plc_base.specs.Functions.{is_retire}
+use Rattle.plc_base.specs.Names.{place_of}
+use Rattle.plc_lang.specs.declared.syntax.Var.{Var}
+use Rattle.plc_lang.specs.declared.syntax.Var.TheVariants.{Local as LocalVar}
+use Rattle.plc_lang.specs.declared.syntax.Rel.{Rel}
+use Rattle.plc_lang.specs.declared.syntax.Cond.{Cond}
+use Rattle.plc_lang.specs.declared.syntax.GhostVal.{GhostVal}
+use Rattle.plc_lang.specs.declared.syntax.Primitive.{Primitive}
+use Rattle.plc_lang.specs.declared.syntax.Ghost.{Ghost}
+use Rattle.plc_lang.specs.declared.syntax.Local.{Local}
+use Rattle.plc_lang.specs.declared.syntax.Op.{Op}
+use Rattle.plc_lang.specs.declared.syntax.File.{File}
+use Rattle.plc_lang.specs.Allocation.{is_new}
+use Rattle.plc_lang.specs.Locals.{is_pointer, is_parameter}
+use Rattle.plc_lang.specs.Statements.{Statement, Statements, Blocks}
+use Rattle.plc_lang.specs.WellSorted.{IsWellSorted, AreWellSorted, is_call, is_test, is_refresh, is_initial, is_me, WriteIsWellSorted, CallIsWellSorted, ClaimFits, ConditionIsWellSorted, BlockIsWellSorted, StatementIsWellSorted, StatementsAreWellSorted, BlocksAreWellSorted, ParametersAreFirst, OpIsWellSorted}
+use Rattle.plc_syntax.specs.Trees.{Text, PlaceTree, PlaceOf, AtomTree, NullAtom, NumberAtom, NameAtom, ValueTree, NullValue, NewValue, NumberValue, PlaceValue, SetTree, SetName, SetField, RefreshTree, RefreshName, RefreshField, GhostValueTree, NameGhost, MeGhost, NoneGhost, GhostSetTree, SetGhost, InitialTree, InitialSet, InitialGhost, Comparison, SameAs, OtherThan, LessThan, NotLessThan, TestTree, Compares, ConditionTree, TestCondition, RefreshCondition, CasCondition, PrimitiveTree, SetPrimitive, RefreshPrimitive, GhostPrimitive, ActivePrimitive, AssumePrimitive, SkipPrimitive, ArgumentTree, NoArgument, NullArgument, NameArgument, ActiveArgument, FieldTree, PointerField as PointerFieldTree, DataField as DataFieldTree, StatementTree, PrimitiveStatement, AtomicStatement, CallStatement, IfStatement, ChooseStatement, LoopStatement, BreakStatement, ReturnStatement, LabelStatement, BlockTree, NoStatement, Then as ThenStatement, ElseTree, NoElse, ElseBlock, OrTree, NoOr, OrBlock, OpTree, Operates}
+use Rattle.plc_forms.specs.Sizes.{initial_size, primitive_size, condition_size, call_size, word_size}
+use Rattle.plc_scope.specs.declared.fault.ParseFault.{ParseFault}
+use Rattle.plc_scope.specs.declared.fault.ParseFault.TheVariants as faults
+use Rattle.plc_scope.specs.declared.scope.Scope.{Scope}
+use Rattle.plc_scope.specs.declared.binding.Binding.{Binding}
+use Rattle.plc_scope.specs.declared.binding.Binding.TheVariants.{Taken, Shared, PointerField, DataField, Function, Auxiliary, Value, LocalOnly}
+use Rattle.plc_scope.specs.declared.binding.Role.{Role}
+use Rattle.plc_scope.specs.declared.binding.Role.TheVariants.{PointerVariable as pointer_variable, DataLocal as data_local, PointerField as pointer_field, DataField as data_field, Function as function, Auxiliary as auxiliary, Value as value, NoValue as no_value}
+use Rattle.plc_scope.specs.Scope.{◌>>=◌, needed, any_role, role_of, role_inside, role_outside, value_of_field, as_pointer_field, as_data_field, as_function, as_protecting, as_without_pointer, as_auxiliary, as_value_of, as_thread, declared, pointer_at, pointer_local_at, data_at, pointer_field_at, data_field_at, function_at, protecting_at, without_pointer_at, auxiliary_at, value_at, thread_at}
+use Rattle.plc_scope.specs.Limits.{stands_at}
+use Rattle.plc_scope.specs.Primitives.{pointer_value, data_value, value_into, pointer_atom, data_atom, atom_into, set_means, refresh_from, refresh_name_means, refresh_means, ghost_value_means, ghost_set_means, pointer_equality, pointer_test, data_test, test_of, test_means, pointer_or_null, condition_means, primitive_means, initial_means, CallMeaning, argument_means, call_means}
+use Rattle.plc_scope.proofs.Holds.{Has, weaker, next, any, unless, both_err}
+use Rattle.plc_outparse.specs.Fit.{holds_threads}
+use Rattle.plc_parse.specs.Meaning.{counted, before, allocates, count_of, forms_mean, atomic_means, one_or_skip, label_means, during_means, statement_means, statements_mean, else_means, or_means}
+use Rattle.plc_parse.proofs.Reach.{role_is, needed_in}
+use Rattle.plc_parse.proofs.There.{Lists, IsField, IsFunction, IsThere, AllThere, lists_of, Named, named}
+
+-- ---- what a name is
+
+-- what a name is in an operation is there; of locals nothing is asked
+abbrev RoleThere : Lists → Role → Type 0
+RoleThere d (pointer_variable v) = Unit {0}
+RoleThere d (data_local x) = Unit {0}
+RoleThere d (pointer_field f) = IsField d f.0 true
+RoleThere d (data_field f) = IsField d f.0 false
+RoleThere d (function f p) = IsFunction d f.0 p
+RoleThere d (auxiliary g t) = (h : Ghost) × (slice_get d.ghosts g ≡ Some h) × (t ≡ holds_threads h.values)
+RoleThere d (value g v) = (h : Ghost) × (slice_get d.ghosts g ≡ Some h) × (v < length h.values)
+RoleThere d no_value = Unit {0}
+
+-- a function with a pointer
+abbrev pub IsProtecting : Lists → FuncId → Type 0
+IsProtecting d f = IsFunction d f.0 true
+
+-- a function without a pointer
+abbrev pub IsWithoutPointer : Lists → FuncId → Type 0
+IsWithoutPointer d f = IsFunction d f.0 false
+
+module _ (d : Lists) where
+  outside_there : (b : Binding) → IsThere d b → IfSome (role_outside b) (RoleThere d)
+  outside_there Taken is = tt
+  outside_there (Shared k) is = tt
+  outside_there (PointerField f) is = is
+  outside_there (DataField f) is = is
+  outside_there (Function f p) is = is
+  outside_there (Auxiliary g t) is = is
+  outside_there (Value g v) is = is
+  outside_there LocalOnly is = tt
+
+  local_there : (same pointer : Bool) (p v : ℕ) (a b : Option Role) → IfSome a (RoleThere d) → IfSome b (RoleThere d)
+      → IfSome (if same then Some (if pointer then pointer_variable (LocalVar p) else data_local v) else (if pointer then a else b)) (RoleThere d)
+  local_there true true p v a b h k = tt
+  local_there true false p v a b h k = tt
+  local_there false true p v a b h k = h
+  local_there false false p v a b h k = k
+
+  locals_there : (ls : List Local) (i p v : ℕ) → IfSome (role_inside p v ls i) (RoleThere d)
+  locals_there [] i p v = tt
+  locals_there (l ∷ ls) i p v = local_there (l.name == i) l.pointer p v _ _ (locals_there ls i (p + 1) v) (locals_there ls i p (v + 1))
+
+  pointer_fields : (k : Role) → RoleThere d k → IfSome (as_pointer_field k) (λ f. IsField d f.0 true)
+  pointer_fields (pointer_field f) is = is
+  pointer_fields k is = tt
+
+  data_fields : (k : Role) → RoleThere d k → IfSome (as_data_field k) (λ f. IsField d f.0 false)
+  data_fields (data_field f) is = is
+  data_fields k is = tt
+
+  abbrev FunctionFound : FuncId × Bool → Type 0
+  FunctionFound f = IsFunction d f.0.0 f.1
+
+  functions : (k : Role) → RoleThere d k → IfSome (as_function k) FunctionFound
+  functions (function f p) is = is
+  functions k is = tt
+
+  protects : (f : FuncId) (p retires : Bool) → IsFunction d f.0 p → IfSome (if p && not retires then Some f else None) (IsProtecting d)
+  protects f false retires is = tt
+  protects f true true is = tt
+  protects f true false is = is
+
+  protecting : (k : Role) → RoleThere d k → IfSome (as_protecting k) (IsProtecting d)
+  protecting (function f p) is = protects f p (is_retire f) is
+  protecting k is = tt
+
+  without_pointers : (k : Role) → RoleThere d k → IfSome (as_without_pointer k) (IsWithoutPointer d)
+  without_pointers (function f true) is = tt
+  without_pointers (function f false) is = is
+  without_pointers k is = tt
+
+  abbrev AuxiliaryFound : ℕ × Bool → Type 0
+  AuxiliaryFound g = (h : Ghost) × (slice_get d.ghosts g.0 ≡ Some h) × (g.1 ≡ holds_threads h.values)
+
+  auxiliaries : (k : Role) → RoleThere d k → IfSome (as_auxiliary k) AuxiliaryFound
+  auxiliaries (auxiliary g t) is = is
+  auxiliaries k is = tt
+
+  abbrev ValueFound : ℕ → ℕ → Type 0
+  ValueFound g v = (h : Ghost) × (slice_get d.ghosts g ≡ Some h) × (v < length h.values)
+
+  of_field : (h g v : ℕ) (same : Bool) → (g == h) ≡ same → ValueFound g v → IfSome (if same then Some v else None) (ValueFound h)
+  of_field h g v true e is = subst (λ k. ValueFound k v) (eqb-true g h e) is
+  of_field h g v false e is = tt
+
+  values : (h : ℕ) (k : Role) → RoleThere d k → IfSome (as_value_of h k) (ValueFound h)
+  values h (value g v) is = of_field h g v (g == h) refl is
+  values h k is = tt
+
+  module _ (s : Scope) (all : AllThere d s) (n : Text) (at : ℕ) where
+    found : {A : Type 0} (P : A → Type 0) (wanted : Role → Option A) → ((k : Role) → RoleThere d k → IfSome (wanted k) P) → Has P (needed wanted at (role_of s n))
+    found P wanted each = needed_in (RoleThere d) P wanted each at (role_of s n) (role_is (IsThere d) (RoleThere d) outside_there s n all (λ i. locals_there s.locals i 0 0))
+
+    any_there : Has (RoleThere d) (needed any_role at (role_of s n))
+    any_there = found (RoleThere d) any_role (λ k is. is)
+
+    pointer_field_there : Has (λ f. IsField d f.0 true) (pointer_field_at s n at)
+    unfolding pointer_field_at
+    pointer_field_there = found (λ f. IsField d f.0 true) as_pointer_field pointer_fields
+
+    data_field_there : Has (λ f. IsField d f.0 false) (data_field_at s n at)
+    unfolding data_field_at
+    data_field_there = found (λ f. IsField d f.0 false) as_data_field data_fields
+
+    function_is_there : Has FunctionFound (function_at s n at)
+    unfolding function_at
+    function_is_there = found FunctionFound as_function functions
+
+    pub protecting_there : Has (IsProtecting d) (protecting_at s n at)
+    unfolding protecting_at
+    protecting_there = found (IsProtecting d) as_protecting protecting
+
+    pub without_pointer_there : Has (IsWithoutPointer d) (without_pointer_at s n at)
+    unfolding without_pointer_at
+    without_pointer_there = found (IsWithoutPointer d) as_without_pointer without_pointers
+
+    auxiliary_there : Has AuxiliaryFound (auxiliary_at s n at)
+    unfolding auxiliary_at
+    auxiliary_there = found AuxiliaryFound as_auxiliary auxiliaries
+
+    value_is_there : (g : ℕ) → Has (ValueFound g) (value_at s g n at)
+    unfolding value_at
+    value_is_there g = found (ValueFound g) (as_value_of g) (values g)
+
+    no_thread_there : Has (λ v. ⊥) (thread_at s n at)
+    unfolding thread_at
+    no_thread_there = found (λ v. ⊥) as_thread (λ k is. tt)
+
+-- ---- primitives, conditions and calls
+
+-- a primitive that is no call, of one of the kinds of primitives
+pub record IsOf (file : File) (kind : Primitive → Bool) (k : Primitive) : Type 0 where
+  pub sorted : IsWellSorted file k
+  pub no_call : is_call k ≡ false
+  pub of_kind : kind k ≡ true
+
+-- a primitive that is no call
+abbrev pub every_kind : Primitive → Bool
+every_kind k = true
+
+threads_have_none : (vs : List ℕ) → true ≡ holds_threads vs → vs ≡ []
+threads_have_none [] e = refl
+threads_have_none (v ∷ vs) e = absurd cc
+
+module _ (file : File) (s : Scope) (all : AllThere (lists_of file) s) where
+  abbrev pub IsSet : Primitive → Type 0
+  IsSet = IsOf file is_initial
+
+  pointer_value_sorted : (p : Var) (at : ℕ) (v : ValueTree) → Has IsSet (pointer_value s p at v)
+  pointer_value_sorted p at NullValue = record { sorted = tt; no_call = refl; of_kind = refl }
+  pointer_value_sorted p at NewValue = record { sorted = tt; no_call = refl; of_kind = refl }
+  pointer_value_sorted p at (NumberValue n) = tt
+  pointer_value_sorted p at (PlaceValue (PlaceOf n None)) = any IsSet (pointer_at s n at) _ (λ q. record { sorted = tt; no_call = refl; of_kind = refl })
+  pointer_value_sorted p at (PlaceValue (PlaceOf n (Some f))) = any IsSet (pointer_at s n at) _ (λ q.
+      next (λ g. IsField (lists_of file) g.0 true) IsSet (pointer_field_at s f (at + 2)) _ (pointer_field_there (lists_of file) s all f (at + 2)) (λ g is. record { sorted = is; no_call = refl; of_kind = refl }))
+
+  data_value_sorted : (x at : ℕ) (v : ValueTree) → Has IsSet (data_value s x at v)
+  data_value_sorted x at NullValue = tt
+  data_value_sorted x at NewValue = tt
+  data_value_sorted x at (NumberValue n) = record { sorted = tt; no_call = refl; of_kind = refl }
+  data_value_sorted x at (PlaceValue (PlaceOf n None)) = any IsSet (data_at s n at) _ (λ y. record { sorted = tt; no_call = refl; of_kind = refl })
+  data_value_sorted x at (PlaceValue (PlaceOf n (Some f))) = any IsSet (pointer_at s n at) _ (λ q.
+      next (λ g. IsField (lists_of file) g.0 false) IsSet (data_field_at s f (at + 2)) _ (data_field_there (lists_of file) s all f (at + 2)) (λ g is. record { sorted = is; no_call = refl; of_kind = refl }))
+
+  value_into_sorted : (at : ℕ) (v : ValueTree) (left : Role) (place : ℕ) → Has IsSet (value_into s at v left place)
+  value_into_sorted at v (pointer_variable p) place = pointer_value_sorted p at v
+  value_into_sorted at v (data_local x) place = data_value_sorted x at v
+  value_into_sorted at v left place = tt
+
+  pointer_atom_sorted : (p : Var) (f : FieldId) (at : ℕ) (a : AtomTree) → IsField (lists_of file) f.0 true → Has IsSet (pointer_atom s p f at a)
+  pointer_atom_sorted p f at NullAtom is = record { sorted = is; no_call = refl; of_kind = refl }
+  pointer_atom_sorted p f at (NumberAtom n) is = tt
+  pointer_atom_sorted p f at (NameAtom n) is = any IsSet (pointer_at s n at) _ (λ q. record { sorted = is; no_call = refl; of_kind = refl })
+
+  data_atom_sorted : (p : Var) (f : FieldId) (at : ℕ) (a : AtomTree) → IsField (lists_of file) f.0 false → Has IsSet (data_atom s p f at a)
+  data_atom_sorted p f at NullAtom is = tt
+  data_atom_sorted p f at (NumberAtom n) is = record { sorted = is; no_call = refl; of_kind = refl }
+  data_atom_sorted p f at (NameAtom n) is = any IsSet (data_at s n at) _ (λ y. record { sorted = is; no_call = refl; of_kind = refl })
+
+  atom_into_sorted : (p : Var) (at : ℕ) (a : AtomTree) (field : Role) (place : ℕ) → RoleThere (lists_of file) field → Has IsSet (atom_into s p at a field place)
+  atom_into_sorted p at a (pointer_field f) place is = pointer_atom_sorted p f at a is
+  atom_into_sorted p at a (data_field f) place is = data_atom_sorted p f at a is
+  atom_into_sorted p at a other place is = tt
+
+  set_sorted : (at : ℕ) (t : SetTree) → Has IsSet (set_means s at t)
+  unfolding set_means
+  set_sorted at (SetName n v) = any IsSet (needed any_role at (role_of s n)) _ (λ left. value_into_sorted (at + 2) v left at)
+  set_sorted at (SetField n f a) = any IsSet (pointer_at s n at) _ (λ p.
+      next (RoleThere (lists_of file)) IsSet (needed any_role (at + 2) (role_of s f)) _ (any_there (lists_of file) s all f (at + 2)) (λ field is. atom_into_sorted p (at + 4) a field (at + 2) is))
+
+  abbrev IsRefresh : Primitive → Type 0
+  IsRefresh = IsOf file is_refresh
+
+  refresh_from_sorted : (p at : ℕ) (place : PlaceTree) → Has IsRefresh (refresh_from s p at place)
+  refresh_from_sorted p at (PlaceOf n None) = any IsRefresh (pointer_at s n at) _ (λ q. record { sorted = tt; no_call = refl; of_kind = refl })
+  refresh_from_sorted p at (PlaceOf n (Some f)) = any IsRefresh (pointer_at s n at) _ (λ q.
+      next (λ g. IsField (lists_of file) g.0 true) IsRefresh (pointer_field_at s f (at + 2)) _ (pointer_field_there (lists_of file) s all f (at + 2)) (λ g is. record { sorted = is; no_call = refl; of_kind = refl }))
+
+  refresh_name_sorted : (at : ℕ) (n : Text) (place : PlaceTree) → Has IsRefresh (refresh_name_means s at n place)
+  unfolding refresh_name_means
+  refresh_name_sorted at n place = any IsRefresh (pointer_local_at s n at) _ (λ p. refresh_from_sorted p (at + 2) place)
+
+  abbrev pub IsPlain : Primitive → Type 0
+  IsPlain = IsOf file every_kind
+
+  plain : {kind : Primitive → Bool} (k : Primitive) → IsOf file kind k → IsPlain k
+  plain k is = record { sorted = is.sorted; no_call = is.no_call; of_kind = refl }
+
+  refresh_sorted : (at : ℕ) (t : RefreshTree) → Has IsPlain (refresh_means s at t)
+  unfolding refresh_means
+  refresh_sorted at (RefreshName n place) = weaker IsRefresh IsPlain (refresh_name_means s at n place) (λ k is. plain k is) (refresh_name_sorted at n place)
+  refresh_sorted at (RefreshField n f m) = any IsPlain (pointer_at s n at) _ (λ p.
+      next (λ g. IsField (lists_of file) g.0 true) IsPlain (pointer_field_at s f (at + 2)) _ (pointer_field_there (lists_of file) s all f (at + 2)) (λ g is.
+      any IsPlain (pointer_at s m (at + 4)) _ (λ q. record { sorted = is; no_call = refl; of_kind = refl })))
+
+  -- a value that fits the auxiliary field; `init` has no acting thread
+  record IsValueOf (in_init : Bool) (g : ℕ) (v : GhostVal) : Type 0 where
+    fits : WriteIsWellSorted file g v
+    starts : (in_init && is_me v) ≡ false
+
+  ghost_value_sorted : (in_init : Bool) (g at : ℕ) (t : Bool) (v : GhostValueTree) → AuxiliaryFound (lists_of file) (g, t) → Has (IsValueOf in_init g) (ghost_value_means s in_init g t at v)
+  ghost_value_sorted in_init g at false (NameGhost n) is = next (ValueFound (lists_of file) g) (IsValueOf in_init g) (value_at s g n at) _ (value_is_there (lists_of file) s all n at g) (λ v a. record { fits = a; starts = and-false in_init })
+  ghost_value_sorted in_init g at true (NameGhost n) is = next (λ v. ⊥) (IsValueOf in_init g) (thread_at s n at) _ (no_thread_there (lists_of file) s all n at) (λ v a. absurd a)
+  ghost_value_sorted in_init g at false MeGhost is = tt
+  ghost_value_sorted false g at true MeGhost is = record { fits = (is.0, is.1, threads_have_none is.0.values is.2); starts = refl }
+  ghost_value_sorted true g at true MeGhost is = tt
+  ghost_value_sorted in_init g at false NoneGhost is = tt
+  ghost_value_sorted in_init g at true NoneGhost is = record { fits = (is.0, is.1, threads_have_none is.0.values is.2); starts = and-false in_init }
+
+  -- in `init` it is initial
+  abbrev writes : Bool → Primitive → Bool
+  writes in_init k = not in_init || is_initial k
+
+  write_starts : (in_init : Bool) (v : GhostVal) → (in_init && is_me v) ≡ false → (not in_init || not (is_me v)) ≡ true
+  write_starts true v e = ap not e
+  write_starts false v e = refl
+
+  ghost_set_sorted : (in_init : Bool) (at : ℕ) (t : GhostSetTree) → Has (IsOf file (writes in_init)) (ghost_set_means s in_init at t)
+  unfolding ghost_set_means
+  ghost_set_sorted in_init at (SetGhost n f v) = any (IsOf file (writes in_init)) (pointer_at s n (at + 1)) _ (λ p.
+      next (AuxiliaryFound (lists_of file)) (IsOf file (writes in_init)) (auxiliary_at s f (at + 3)) _ (auxiliary_there (lists_of file) s all f (at + 3)) (λ g is.
+      next (IsValueOf in_init g.0) (IsOf file (writes in_init)) (ghost_value_means s in_init g.0 g.1 (at + 5) v) _ (ghost_value_sorted in_init g.0 (at + 5) g.1 v is) (λ w fits.
+      record { sorted = fits.fits; no_call = refl; of_kind = write_starts in_init w fits.starts })))
+
+  abbrev IsTest : Primitive → Type 0
+  IsTest = IsOf file is_test
+
+  equality_sorted : (p : Var) (is_equal : Bool) (at : ℕ) (a : AtomTree) → Has IsTest (pointer_equality s p is_equal at a)
+  equality_sorted p true at NullAtom = record { sorted = tt; no_call = refl; of_kind = refl }
+  equality_sorted p false at NullAtom = record { sorted = tt; no_call = refl; of_kind = refl }
+  equality_sorted p is_equal at (NumberAtom n) = tt
+  equality_sorted p true at (NameAtom n) = any IsTest (pointer_at s n at) _ (λ q. record { sorted = tt; no_call = refl; of_kind = refl })
+  equality_sorted p false at (NameAtom n) = any IsTest (pointer_at s n at) _ (λ q. record { sorted = tt; no_call = refl; of_kind = refl })
+
+  pointer_test_sorted : (p : Var) (at : ℕ) (c : Comparison) (a : AtomTree) → Has IsTest (pointer_test s p at c a)
+  pointer_test_sorted p at SameAs a = equality_sorted p true (at + 1) a
+  pointer_test_sorted p at OtherThan a = equality_sorted p false (at + 1) a
+  pointer_test_sorted p at LessThan a = tt
+  pointer_test_sorted p at NotLessThan a = tt
+
+  data_test_sorted : (x : ℕ) (rel : Rel) (at : ℕ) (a : AtomTree) → Has IsTest (data_test s x rel at a)
+  data_test_sorted x rel at NullAtom = tt
+  data_test_sorted x rel at (NumberAtom n) = record { sorted = tt; no_call = refl; of_kind = refl }
+  data_test_sorted x rel at (NameAtom n) = any IsTest (data_at s n at) _ (λ y. record { sorted = tt; no_call = refl; of_kind = refl })
+
+  test_of_sorted : (at : ℕ) (c : Comparison) (a : AtomTree) (left : Role) → Has IsTest (test_of s at c a left)
+  test_of_sorted at c a (pointer_variable p) = pointer_test_sorted p (at + 1) c a
+  test_of_sorted at c a (data_local x) = data_test_sorted x _ (at + 2) a
+  test_of_sorted at c a left = tt
+
+  test_sorted : (at : ℕ) (t : TestTree) → Has IsTest (test_means s at t)
+  unfolding test_means
+  test_sorted at (Compares n c a) = any IsTest (needed any_role at (role_of s n)) _ (λ left. test_of_sorted at c a left)
+
+  pub condition_sorted : (at : ℕ) (c : ConditionTree) → Has (ConditionIsWellSorted file) (condition_means s at c)
+  unfolding condition_means
+  condition_sorted at (TestCondition t) = next IsTest (ConditionIsWellSorted file) (test_means s at t) _ (test_sorted at t) (λ k is. is.of_kind)
+  condition_sorted at (RefreshCondition n place) = next IsRefresh (ConditionIsWellSorted file) (refresh_name_means s at n place) _ (refresh_name_sorted at n place) (λ k is. (is.sorted, is.of_kind))
+  condition_sorted at (CasCondition is_active n old new) = let place : ℕ = at + 2 + word_size is_active in
+      any (ConditionIsWellSorted file) (pointer_at s n place) _ (λ p.
+      any (ConditionIsWellSorted file) (pointer_or_null s (place + 2) old) _ (λ q.
+      any (ConditionIsWellSorted file) (pointer_or_null s (place + 4) new) _ (λ r. tt)))
+
+  -- `skip` is none
+  abbrev pub MaybePlain : Option Primitive → Type 0
+  MaybePlain k = IfSome k IsPlain
+
+  some_plain : (kind : Primitive → Bool) (m : Result Primitive ParseFault) → Has (IsOf file kind) m → Has MaybePlain (m >>= λ k. Ok (Some k))
+  some_plain kind m is = next (IsOf file kind) MaybePlain m _ is (λ k a. plain k a)
+
+  pub primitive_sorted : (at : ℕ) (p : PrimitiveTree) → Has MaybePlain (primitive_means s at p)
+  unfolding primitive_means
+  primitive_sorted at (SetPrimitive set) = some_plain is_initial (set_means s at set) (set_sorted at set)
+  primitive_sorted at (RefreshPrimitive refresh) = some_plain every_kind (refresh_means s at refresh) (refresh_sorted at refresh)
+  primitive_sorted at (GhostPrimitive set) = some_plain (writes false) (ghost_set_means s false at set) (ghost_set_sorted false at set)
+  primitive_sorted at (ActivePrimitive n) = any MaybePlain (pointer_at s n (at + 1)) _ (λ p. record { sorted = tt; no_call = refl; of_kind = refl })
+  primitive_sorted at (AssumePrimitive t) = some_plain is_test (test_means s (at + 1) t) (test_sorted (at + 1) t)
+  primitive_sorted at SkipPrimitive = tt
+
+  abbrev pub MaybeInitial : Option Primitive → Type 0
+  MaybeInitial k = IfSome k IsSet
+
+  initial_of : (k : Primitive) → IsOf file (writes true) k → IsSet k
+  initial_of k is = record { sorted = is.sorted; no_call = is.no_call; of_kind = is.of_kind }
+
+  pub initial_sorted : (at : ℕ) (i : InitialTree) → Has MaybeInitial (initial_means s at i)
+  unfolding initial_means
+  initial_sorted at (InitialSet set) = next IsSet MaybeInitial (set_means s at set) _ (set_sorted at set) (λ k is. is)
+  initial_sorted at (InitialGhost set) = next (IsOf file (writes true)) MaybeInitial (ghost_set_means s true at set) _ (ghost_set_sorted true at set) (λ k is. initial_of k is)
+
+  pub record IsCall (c : CallMeaning) : Type 0 where
+    pub sorted : CallIsWellSorted file c.0 c.1
+    pub claim : ClaimFits c.2 c.1
+
+  argument_sorted : (f : FuncId) (p : Bool) (at : ℕ) (a : ArgumentTree) → IsFunction (lists_of file) f.0 p → Has IsCall (argument_means s f p at a)
+  argument_sorted f false at NoArgument is = record { sorted = is; claim = refl }
+  argument_sorted f false at NullArgument is = tt
+  argument_sorted f false at (NameArgument n) is = tt
+  argument_sorted f false at (ActiveArgument n) is = tt
+  argument_sorted f true at NoArgument is = tt
+  argument_sorted f true at NullArgument is = unless IsCall (is_retire f) _ _ (λ other. record { sorted = (is, other); claim = refl })
+  argument_sorted f true at (NameArgument n) is = any IsCall (pointer_at s n (at + 2)) _ (λ p. record { sorted = is; claim = tt })
+  argument_sorted f true at (ActiveArgument n) is = any IsCall (pointer_at s n (at + 3)) _ (λ p. record { sorted = is; claim = tt })
+
+  pub call_sorted : (at : ℕ) (n : Text) (a : ArgumentTree) → Has IsCall (call_means s at n a)
+  unfolding call_means
+  call_sorted at n a = next (FunctionFound (lists_of file)) IsCall (function_at s n at) _ (function_is_there (lists_of file) s all n at) (λ f is. argument_sorted f.0 f.1 at a is)

@@ -1,0 +1,170 @@
+-- What names stand for is there: each declaration stands in the lists of the file at its number, so a name that is in reach stands for
+-- what the file has. Nothing is asked of the lists before they are whole: whatever lists have what was declared have what is in reach.
+use Rattle.std.proofs.Common.{◌≡◌, ◌==◌, ℕ, suc, ◌+◌, ◌≤◌, ◌<◌, Bool, true, false, Option, Some, None, Result, Ok, Err, List, [], ◌∷◌, length, slice_get, refl, subst, ap, ◌∙◌, arith}
+use Rattle.std.proofs.lemmas.Option.{slice_get_within}
+use Rattle.std.proofs.lemmas.List.Elements.{All-nil, All-cons, All-push}
+use Rattle.plc_base.specs.Names.{place_of}
+use Rattle.plc_base.specs.declared.limits.What1.{What1}
+use Rattle.plc_lang.specs.declared.syntax.Field.{Field}
+use Rattle.plc_lang.specs.declared.syntax.Func.{Func}
+use Rattle.plc_lang.specs.declared.syntax.Ghost.{Ghost}
+use Rattle.plc_lang.specs.declared.syntax.File.{File}
+use Rattle.plc_syntax.specs.Trees.{Text, FieldTree, PointerField as PointerFieldTree, DataField as DataFieldTree, FunctionTree, Declares, GhostTree, Auxiliary as AuxiliaryTree, OneOf, OfThreads}
+use Rattle.plc_scope.specs.declared.fault.ParseFault.{ParseFault}
+use Rattle.plc_scope.specs.declared.scope.Scope.{Scope}
+use Rattle.plc_scope.specs.declared.binding.Binding.{Binding}
+use Rattle.plc_scope.specs.declared.binding.Binding.TheVariants.{Taken, Shared, PointerField, DataField, Function, Auxiliary, Value, LocalOnly}
+use Rattle.plc_scope.specs.Scope.{◌>>=◌, first_scope, if_new, with_name, declared}
+use Rattle.plc_scope.specs.Limits.{within_limit}
+use Rattle.plc_scope.proofs.Holds.{Has, next, unless}
+use Rattle.plc_outparse.specs.Fit.{holds_threads}
+use Rattle.plc_parse.specs.Meaning.{field_means, shared_means, function_means, value_means, values_mean, ghost_means, listed, retire}
+use Rattle.plc_parse.specs.Growth.{KeepsLists}
+use Rattle.plc_parse.proofs.Reach.{Bound}
+
+-- ---- what names stand for
+
+-- what a file declares
+pub record Lists : Type 0 where
+  pub fields : List Field
+  pub shared : List ℕ
+  pub funcs : List Func
+  pub ghosts : List Ghost
+
+-- a field that is there, a pointer or not
+abbrev pub IsField : Lists → ℕ → Bool → Type 0
+IsField d f is_pointer = (x : Field) × (slice_get d.fields f ≡ Some x) × (x.pointer ≡ is_pointer)
+
+-- a function that is there, with a pointer or none
+abbrev pub IsFunction : Lists → ℕ → Bool → Type 0
+IsFunction d f is_pointer = (x : Func) × (slice_get d.funcs f ≡ Some x) × (x.pointer ≡ is_pointer)
+
+-- what a name stands for is there, and is what the name says
+abbrev pub IsThere : Lists → Binding → Type 0
+IsThere d Taken = Unit {0}
+IsThere d (Shared k) = k < length d.shared
+IsThere d (PointerField f) = IsField d f.0 true
+IsThere d (DataField f) = IsField d f.0 false
+IsThere d (Function f p) = IsFunction d f.0 p
+IsThere d (Auxiliary g t) = (h : Ghost) × (slice_get d.ghosts g ≡ Some h) × (t ≡ holds_threads h.values)
+IsThere d (Value g v) = (h : Ghost) × (slice_get d.ghosts g ≡ Some h) × (v < length h.values)
+IsThere d LocalOnly = Unit {0}
+
+-- the same of all names in reach
+abbrev pub AllThere : Lists → Scope → Type 0
+AllThere d s = Bound (IsThere d) s
+
+abbrev pub lists_of : File → Lists
+lists_of file = record { fields = file.fields; shared = file.shared; funcs = file.funcs; ghosts = file.ghosts }
+
+-- ---- declarations, each of which stands in the lists at its number
+
+-- no local and no label was declared, and what is there stays, where the lists have what was declared
+pub record OneThere {Y : Type 0} (There : Lists → ℕ → Y → Type 0) (s : Scope) (n : ℕ) (r : Y × Scope × ℕ) : Type 0 where
+  pub keeps : KeepsLists s r.1
+  pub there : (d : Lists) → There d n r.0 → AllThere d s → AllThere d r.1
+
+pub record EachThere {Y : Type 0} (There : Lists → ℕ → Y → Type 0) (s : Scope) (n : ℕ) (r : List Y × Scope × ℕ) : Type 0 where
+  pub keeps : KeepsLists s r.1
+  pub there : (d : Lists) → ((k : ℕ) (y : Y) → slice_get r.0 k ≡ Some y → There d (n + k) y) → AllThere d s → AllThere d r.1
+
+pub kept_then : {s t u : Scope} → KeepsLists s t → KeepsLists t u → KeepsLists s u
+kept_then k l = record { locals = l.locals ∙ k.locals; labels = l.labels ∙ k.labels }
+
+module _ {X Y : Type 0} (means : Scope → ℕ → ℕ → X → Result (Y × Scope × ℕ) ParseFault) (There : Lists → ℕ → Y → Type 0)
+    (one : (s : Scope) (n at : ℕ) (x : X) → Has (OneThere There s n) (means s n at x)) where
+  pub each_there : (s : Scope) (n at : ℕ) (xs : List X) → Has (EachThere There s n) (listed means s n at xs)
+  each_there s n at [] = record { keeps = record { locals = refl; labels = refl }; there = λ d there h. h }
+  each_there s n at (x ∷ xs) = next (OneThere There s n) (EachThere There s n) (means s n at x) _ (one s n at x) (λ first f.
+      next (EachThere There first.1 (n + 1)) (EachThere There s n) (listed means first.1 (n + 1) first.2 xs) _ (each_there first.1 (n + 1) first.2 xs) (λ others g.
+      let here : n + 0 ≡ n = omega arith in
+      record {
+        keeps = kept_then f.keeps g.keeps;
+        there = λ d there h.
+            g.there d (λ k y e. let behind : n + suc k ≡ n + 1 + k = omega arith in subst (λ m. There d m y) behind (there (suc k) y e))
+            (f.there d (subst (λ m. There d m first.0) here (there 0 first.0 refl)) h);
+      }))
+
+-- one name is declared
+pub record Named (s : Scope) (b : Binding) (t : Scope) : Type 0 where
+  pub keeps : KeepsLists s t
+  pub there : (d : Lists) → IsThere d b → AllThere d s → AllThere d t
+
+pub named : (s : Scope) (name : Text) (at : ℕ) (b : Binding) → Has (Named s b) (declared s name at b)
+named s name at b = new (place_of name s.names.names)
+  where
+    new : (o : Option ℕ) → Has (Named s b) (if_new o at (with_name s name b))
+    new None = record { keeps = record { locals = refl; labels = refl }; there = λ d is h. All-push (IsThere d) s.bindings b h is }
+    new (Some i) = tt
+
+pub one_there : {Y : Type 0} (There : Lists → ℕ → Y → Type 0) (n limit : ℕ) (what : What1) (s : Scope) (name : Text) (at : ℕ) (b : Binding) (y : Y) (behind : ℕ)
+    → ((d : Lists) → There d n y → IsThere d b) → Has (OneThere There s n) (within_limit n limit what (declared s name at b >>= λ t. Ok (y, t, behind)))
+one_there There n limit what s name at b y behind is = unless (OneThere There s n) (n == limit) _ _ (λ few.
+    next (Named s b) (OneThere There s n) (declared s name at b) _ (named s name at b) (λ t f. record { keeps = f.keeps; there = λ d there h. f.there d (is d there) h }))
+
+abbrev pub FieldThere : Lists → ℕ → Field → Type 0
+FieldThere d n x = slice_get d.fields n ≡ Some x
+
+pub field_there : (s : Scope) (n at : ℕ) (f : FieldTree) → Has (OneThere FieldThere s n) (field_means s n at f)
+field_there s n at (PointerFieldTree name) = one_there FieldThere n 8 _ s name (at + 1) _ _ _ (λ d there. (_, there, refl))
+field_there s n at (DataFieldTree name) = one_there FieldThere n 8 _ s name (at + 1) _ _ _ (λ d there. (_, there, refl))
+
+abbrev pub SharedThere : Lists → ℕ → ℕ → Type 0
+SharedThere d n name = slice_get d.shared n ≡ Some name
+
+pub shared_there : (s : Scope) (n at : ℕ) (name : Text) → Has (OneThere SharedThere s n) (shared_means s n at name)
+shared_there s n at name = one_there SharedThere n 16 _ s name (at + 1) _ _ _ (λ d there. slice_get_within d.shared n _ there)
+
+-- `retire` stands before those that are declared
+abbrev pub FunctionThere : Lists → ℕ → Func → Type 0
+FunctionThere d n x = slice_get d.funcs (n + 1) ≡ Some x
+
+pub function_there : (s : Scope) (n at : ℕ) (f : FunctionTree) → Has (OneThere FunctionThere s n) (function_means s n at f)
+function_there s n at (Declares name p) = one_there FunctionThere n 16 _ s name (at + 1) _ _ _ (λ d there. (_, there, refl))
+
+pub behind_retire : (fs : List Func) (k : ℕ) (f : Func) → slice_get fs k ≡ Some f → slice_get (retire ∷ fs) (0 + k + 1) ≡ Some f
+behind_retire fs k f e = let same : 0 + k + 1 ≡ suc k = omega arith in ap (slice_get (retire ∷ fs)) same ∙ e
+
+-- ---- auxiliary fields
+
+abbrev pub GhostThere : Lists → ℕ → Ghost → Type 0
+GhostThere d g h = slice_get d.ghosts g ≡ Some h
+
+-- a value with k before it
+pub record ValueThere (s : Scope) (g k : ℕ) (r : ℕ × Scope) : Type 0 where
+  pub keeps : KeepsLists s r.1
+  pub there : (d : Lists) (h : Ghost) → GhostThere d g h → k < length h.values → AllThere d s → AllThere d r.1
+
+pub value_there : (s : Scope) (g k at : ℕ) (name : Text) → Has (ValueThere s g k) (value_means s g k at name)
+value_there s g k at name = next (Named s (Value g k)) (ValueThere s g k) (declared s name at (Value g k)) _ (named s name at (Value g k)) (λ t f.
+    unless (ValueThere s g k) (k == 16) _ _ (λ few. record { keeps = f.keeps; there = λ d h there less before. f.there d (h, there, less) before }))
+
+-- the values behind the first k
+pub record ValuesThere (s : Scope) (g k : ℕ) (r : List ℕ × Scope × ℕ) : Type 0 where
+  pub keeps : KeepsLists s r.1
+  pub there : (d : Lists) (h : Ghost) → GhostThere d g h → k + length r.0 ≤ length h.values → AllThere d s → AllThere d r.1
+
+pub values_there : (s : Scope) (g k at : ℕ) (names : List Text) → Has (ValuesThere s g k) (values_mean s g k at names)
+values_there s g k at [] = record { keeps = record { locals = refl; labels = refl }; there = λ d h there le before. before }
+values_there s g k at (name ∷ names) = next (ValueThere s g k) (ValuesThere s g k) (value_means s g k (at + 1) name) _ (value_there s g k (at + 1) name) (λ first f.
+    next (ValuesThere first.1 g (k + 1)) (ValuesThere s g k) (values_mean first.1 g (k + 1) (at + 2) names) _ (values_there first.1 g (k + 1) (at + 2) names) (λ others m.
+    record { keeps = kept_then f.keeps m.keeps; there = λ d h there le before. m.there d h there (omega (arith, le)) (f.there d h there (omega (arith, le)) before) }))
+
+pub ghost_there : (s : Scope) (n at : ℕ) (g : GhostTree) → Has (OneThere GhostThere s n) (ghost_means s n at g)
+ghost_there s n at (AuxiliaryTree name OfThreads) = one_there GhostThere n 4 _ s name (at + 1) _ _ _ (λ d there. (_, there, refl))
+ghost_there s n at (AuxiliaryTree name (OneOf v vs)) = unless (OneThere GhostThere s n) (n == 4) _ _ (λ few.
+    next (Named s (Auxiliary n false)) (OneThere GhostThere s n) (declared s name (at + 1) (Auxiliary n false)) _ (named s name (at + 1) (Auxiliary n false)) (λ t f.
+    next (ValueThere t n 0) (OneThere GhostThere s n) (value_means t n 0 (at + 3) v) _ (value_there t n 0 (at + 3) v) (λ first k.
+    next (ValuesThere first.1 n 1) (OneThere GhostThere s n) (values_mean first.1 n 1 (at + 4) vs) _ (values_there first.1 n 1 (at + 4) vs) (λ others m.
+    record {
+      keeps = kept_then f.keeps (kept_then k.keeps m.keeps);
+      there = λ d there before.
+          m.there d _ there (omega arith) (k.there d _ there (omega arith) (f.there d (_, there, refl) before));
+    }))))
+
+-- `retire` is there from the start
+abbrev pub HasRetire : Lists → Type 0
+HasRetire d = slice_get d.funcs 0 ≡ Some retire
+
+pub first_there : (d : Lists) → HasRetire d → AllThere d first_scope
+first_there d there = All-cons (IsThere d) (Function (record { 0 = 0 }) true) [] (retire, there, refl) (All-nil (IsThere d))
