@@ -80,18 +80,11 @@ after_retired s t a b (StoreNull p f) may = put_retired s _ _ b
 after_retired s t a b (DataSet x e) may = (writes_local s t x _).addresses.retired b
 after_retired s t a b (DataLoad x q f) may = (writes_local s t x _).addresses.retired b
 after_retired s t a b (DataStore p f e) may = field_retired s _ _ _ b
-after_retired s t a b (Eq p q) may = refl
-after_retired s t a b (Ne p q) may = refl
-after_retired s t a b (IsNull p) may = refl
-after_retired s t a b (NotNull p) may = refl
-after_retired s t a b (DataTest r x e) may = refl
 after_retired s t a b (Refresh p q) may = put_retired s _ _ b
 after_retired s t a b (RefreshLoad p q f) may = put_retired s _ _ b
 after_retired s t a b (RefreshStore p f q) may = put_retired s _ _ b
 after_retired s t a b (Call f r) may = call_retired s t b (is_retire f) r may
-after_retired s t a b (Done f) may = refl
-after_retired s t a b (Active p) may = refl
-after_retired s t a b (Ghost p g v) may = refl
+after_retired s t a b k may = refl
 
 -- ---- one event more
 
@@ -123,25 +116,7 @@ observed_after o w threads s new h (Some e) coherent allowed retired k = record 
 pub recorded_allowed : (o : Observer) (threads : ℕ) (s : State) (h : List Event) (t : ℕ) (k : Primitive) → Allowed o threads h → Allowed o threads (recorded h (event_of s t k))
 recorded_allowed o threads s h t (Call f r) fine = allowed_spoken o threads h (Called t f (address_of s t r)) refl fine
 recorded_allowed o threads s h t (Done f) fine = allowed_spoken o threads h (Returned t f) refl fine
-recorded_allowed o threads s h t (Null p) fine = fine
-recorded_allowed o threads s h t (Copy p q) fine = fine
-recorded_allowed o threads s h t (New p) fine = fine
-recorded_allowed o threads s h t (Load p q f) fine = fine
-recorded_allowed o threads s h t (Store p f q) fine = fine
-recorded_allowed o threads s h t (StoreNull p f) fine = fine
-recorded_allowed o threads s h t (DataSet x e) fine = fine
-recorded_allowed o threads s h t (DataLoad x q f) fine = fine
-recorded_allowed o threads s h t (DataStore p f e) fine = fine
-recorded_allowed o threads s h t (Eq p q) fine = fine
-recorded_allowed o threads s h t (Ne p q) fine = fine
-recorded_allowed o threads s h t (IsNull p) fine = fine
-recorded_allowed o threads s h t (NotNull p) fine = fine
-recorded_allowed o threads s h t (DataTest r x e) fine = fine
-recorded_allowed o threads s h t (Refresh p q) fine = fine
-recorded_allowed o threads s h t (RefreshLoad p q f) fine = fine
-recorded_allowed o threads s h t (RefreshStore p f q) fine = fine
-recorded_allowed o threads s h t (Active p) fine = fine
-recorded_allowed o threads s h t (Ghost p g v) fine = fine
+recorded_allowed o threads s h t k fine = fine
 
 primitive_observed : (o : Observer) → is_well_formed o ≡ true → (threads : ℕ) (s : State) (h : List Event) (t a : ℕ) (k : Primitive) → race_of s t k ≡ None → goes s t a k ≡ true → IsObserved o threads s h → IsObserved o threads (after s t a k) (recorded h (event_of s t k))
 primitive_observed o w threads s h t a k fine may seen =

@@ -3,7 +3,7 @@ use Rattle.std.proofs.Common.{◌≡◌, ℕ, ◌+◌, Bool, true, false, not, L
 use Rattle.std.specs.List.{list_any}
 use Rattle.std.proofs.lemmas.Bool.{or_parts, not-false}
 use Rattle.plc_lang.specs.declared.syntax.Primitive.{Primitive}
-use Rattle.plc_lang.specs.declared.syntax.Primitive.TheVariants.{Null, Copy, New, Load, Store, StoreNull, DataSet, DataLoad, DataStore, Ghost}
+use Rattle.plc_lang.specs.declared.syntax.Primitive.TheVariants.{Null, Copy, New, Load, Store, StoreNull, DataSet, DataLoad, DataStore, Call, Done, Ghost}
 use Rattle.plc_lang.specs.WellSorted.{is_initial}
 use Rattle.plc_flow.specs.declared.flow.Flow.{Flow}
 use Rattle.plc_flow.specs.WellSorted.{FlowIsWellSorted}
@@ -27,17 +27,9 @@ initial_no_race s t (Ghost p g v) all is = refl
 initial_no_race s t k all is = cc
 
 initial_unheard : (s : State) (t : ℕ) (k : Primitive) → is_initial k ≡ true → event_of s t k ≡ None
-initial_unheard s t (Null p) is = refl
-initial_unheard s t (Copy p q) is = refl
-initial_unheard s t (New p) is = refl
-initial_unheard s t (Load p q f) is = refl
-initial_unheard s t (Store p f q) is = refl
-initial_unheard s t (StoreNull p f) is = refl
-initial_unheard s t (DataSet x e) is = refl
-initial_unheard s t (DataLoad x q f) is = refl
-initial_unheard s t (DataStore p f e) is = refl
-initial_unheard s t (Ghost p g v) is = refl
-initial_unheard s t k is = cc
+initial_unheard s t (Call f r) is = cc
+initial_unheard s t (Done f) is = cc
+initial_unheard s t k is = refl
 
 turn_quiet : (b : Bool) (k : ℕ) (next : Ending) → (b ≡ true → IsQuiet next) → IsQuiet (turn None b k next)
 turn_quiet true k next then = then refl

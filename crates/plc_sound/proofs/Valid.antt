@@ -4,7 +4,7 @@ use Rattle.std.specs.List.{list_any}
 use Rattle.std.proofs.lemmas.List.Folds.{list_any-append}
 use Rattle.std.proofs.lemmas.Bool.{or_parts}
 use Rattle.plc_lang.specs.declared.syntax.Primitive.{Primitive}
-use Rattle.plc_lang.specs.declared.syntax.Primitive.TheVariants.{Null, Copy, New, Load, Store, StoreNull, DataSet, DataLoad, DataStore, Eq, Ne, IsNull, NotNull, DataTest, Refresh, RefreshLoad, RefreshStore, Call, Done, Active, Ghost}
+use Rattle.plc_lang.specs.declared.syntax.Primitive.TheVariants.{Load, Store, StoreNull, DataLoad, DataStore, Eq, Ne, RefreshLoad, RefreshStore, Call, Done}
 use Rattle.plc_auto.specs.declared.event.Event.{Event}
 use Rattle.plc_auto.specs.Laws.{is_retire_call}
 use Rattle.plc_mem.specs.State.{State, place}
@@ -15,51 +15,23 @@ use Rattle.plc_sound.specs.Laws.{calls_retire, some_retire}
 
 -- no primitive but a call of `retire` is a race where every pointer is valid
 no_race : (s : State) (t : ℕ) (k : Primitive) → AllValid s → calls_retire k ≡ false → race_of s t k ≡ None
-no_race s t (Null p) all other = refl
-no_race s t (Copy p q) all other = refl
-no_race s t (New p) all other = refl
 no_race s t (Load p q f) all other = rw (all (place t q)) refl
 no_race s t (Store p f q) all other = rw (all (place t p)) refl
 no_race s t (StoreNull p f) all other = rw (all (place t p)) refl
-no_race s t (DataSet x e) all other = refl
 no_race s t (DataLoad x q f) all other = rw (all (place t q)) refl
 no_race s t (DataStore p f e) all other = rw (all (place t p)) refl
 no_race s t (Eq p q) all other = rw (all (place t p), all (place t q)) refl
 no_race s t (Ne p q) all other = rw (all (place t p), all (place t q)) refl
-no_race s t (IsNull p) all other = refl
-no_race s t (NotNull p) all other = refl
-no_race s t (DataTest r x e) all other = refl
-no_race s t (Refresh p q) all other = refl
 no_race s t (RefreshLoad p q f) all other = rw (all (place t q)) refl
 no_race s t (RefreshStore p f q) all other = rw (all (place t p)) refl
 no_race s t (Call f r) all other = rw other refl
-no_race s t (Done f) all other = refl
-no_race s t (Active p) all other = refl
-no_race s t (Ghost p g v) all other = refl
+no_race s t k all other = refl
 
 -- and none but it is heard retiring
 none_heard : (s : State) (h : List Event) (t : ℕ) (k : Primitive) → list_any is_retire_call h ≡ false → calls_retire k ≡ false → list_any is_retire_call (recorded h (event_of s t k)) ≡ false
 none_heard s h t (Call f r) none other = list_any-append is_retire_call h _ ∙ rw (none, other) refl
 none_heard s h t (Done f) none other = list_any-append is_retire_call h _ ∙ rw none refl
-none_heard s h t (Null p) none other = none
-none_heard s h t (Copy p q) none other = none
-none_heard s h t (New p) none other = none
-none_heard s h t (Load p q f) none other = none
-none_heard s h t (Store p f q) none other = none
-none_heard s h t (StoreNull p f) none other = none
-none_heard s h t (DataSet x e) none other = none
-none_heard s h t (DataLoad x q f) none other = none
-none_heard s h t (DataStore p f e) none other = none
-none_heard s h t (Eq p q) none other = none
-none_heard s h t (Ne p q) none other = none
-none_heard s h t (IsNull p) none other = none
-none_heard s h t (NotNull p) none other = none
-none_heard s h t (DataTest r x e) none other = none
-none_heard s h t (Refresh p q) none other = none
-none_heard s h t (RefreshLoad p q f) none other = none
-none_heard s h t (RefreshStore p f q) none other = none
-none_heard s h t (Active p) none other = none
-none_heard s h t (Ghost p g v) none other = none
+none_heard s h t k none other = none
 
 -- nothing was handed to the reclaimer, and every pointer is valid
 pub record IsCalm (s : State) (h : List Event) : Type 0 where

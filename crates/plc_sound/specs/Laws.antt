@@ -2,7 +2,7 @@
 use Rattle.std.specs.Prelude.{◌≡◌, Bool, false, List}
 use Rattle.std.specs.List.{list_any}
 use Rattle.plc_lang.specs.declared.syntax.Primitive.{Primitive}
-use Rattle.plc_lang.specs.declared.syntax.Primitive.TheVariants.{Null, Copy, New, Load, Store, StoreNull, DataSet, DataLoad, DataStore, Eq, Ne, IsNull, NotNull, DataTest, Refresh, RefreshLoad, RefreshStore, Call, Done, Active, Ghost}
+use Rattle.plc_lang.specs.declared.syntax.Primitive.TheVariants.{Call}
 use Rattle.plc_auto.specs.declared.observer.Observer.{Observer}
 use Rattle.plc_base.specs.Functions.{is_retire}
 use Rattle.plc_flow.specs.declared.flow.Step.{Step}
@@ -11,27 +11,8 @@ use Rattle.plc_run.specs.Run.{NeverRaces}
 
 -- the primitive calls `retire`
 abbrev pub calls_retire : Primitive → Bool
-calls_retire (Null p) = false
-calls_retire (Copy p q) = false
-calls_retire (New p) = false
-calls_retire (Load p q f) = false
-calls_retire (Store p f q) = false
-calls_retire (StoreNull p f) = false
-calls_retire (DataSet x e) = false
-calls_retire (DataLoad x q f) = false
-calls_retire (DataStore p f e) = false
-calls_retire (Eq p q) = false
-calls_retire (Ne p q) = false
-calls_retire (IsNull p) = false
-calls_retire (NotNull p) = false
-calls_retire (DataTest r x e) = false
-calls_retire (Refresh p q) = false
-calls_retire (RefreshLoad p q f) = false
-calls_retire (RefreshStore p f q) = false
 calls_retire (Call f r) = is_retire f
-calls_retire (Done f) = false
-calls_retire (Active p) = false
-calls_retire (Ghost p g v) = false
+calls_retire k = false
 
 -- one of the primitives does
 abbrev pub some_retire : List Primitive → Bool

@@ -46,27 +46,9 @@ call_anywhere_kept o Q keeps a b f args.Null w = keeps.other (events.Call f) a.w
 call_anywhere_kept o Q keeps a b f (args.Var p) w = keeps.named (events.Call f) a.w b.w w
 
 pub anywhere_kept : (o : Observer) (Q : ℕ → ℕ → Type 0) → KeepsAnywhere o Q → (a b : Env) (k : Primitive) → Q a.w b.w → Q (effect_anywhere o a k) (effect_anywhere o b k)
-anywhere_kept o Q keeps a b (Null p) w = w
-anywhere_kept o Q keeps a b (Copy p q) w = w
-anywhere_kept o Q keeps a b (New p) w = w
-anywhere_kept o Q keeps a b (Load p q f) w = w
-anywhere_kept o Q keeps a b (Store p f q) w = w
-anywhere_kept o Q keeps a b (StoreNull p f) w = w
-anywhere_kept o Q keeps a b (DataSet x n) w = w
-anywhere_kept o Q keeps a b (DataLoad x q f) w = w
-anywhere_kept o Q keeps a b (DataStore p f n) w = w
-anywhere_kept o Q keeps a b (Eq p q) w = w
-anywhere_kept o Q keeps a b (Ne p q) w = w
-anywhere_kept o Q keeps a b (IsNull p) w = w
-anywhere_kept o Q keeps a b (NotNull p) w = w
-anywhere_kept o Q keeps a b (DataTest r x n) w = w
-anywhere_kept o Q keeps a b (Refresh p q) w = w
-anywhere_kept o Q keeps a b (RefreshLoad p q f) w = w
-anywhere_kept o Q keeps a b (RefreshStore p f q) w = w
 anywhere_kept o Q keeps a b (Call f arg) w = call_anywhere_kept o Q keeps a b f arg w
 anywhere_kept o Q keeps a b (Done f) w = keeps.other (events.Done f) a.w b.w w
-anywhere_kept o Q keeps a b (Active p) w = w
-anywhere_kept o Q keeps a b (Ghost p g n) w = w
+anywhere_kept o Q keeps a b k w = w
 
 call_kept : (o : Observer) (Q : ℕ → ℕ → Type 0) (R : ℕ → PtrType → ℕ → PtrType → Type 0) → KeepsTypes o Q R → (a b : Env) (f : FuncId) (arg : Arg) → ((v : Var) → R a.w (type_of a v) b.w (type_of b v)) → (v : Var) → R (call_anywhere o a f arg) (call_effect o a f arg v) (call_anywhere o b f arg) (call_effect o b f arg v)
 call_kept o Q R keeps a b f args.None held v = keeps.other (events.Call f) a.w b.w _ _ (held v)

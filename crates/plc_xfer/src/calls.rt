@@ -129,5 +129,5 @@ pub(crate) fn call_with(env: &mut Env, func: FuncId, p: Var, observer: &Observer
 {
     let argument = argument_type(&type_of(env, p), func, observer);
     beside(env, func, observer);
-    set_type(env, p, &argument);
+    set_type(&argument, env, p);
 }

@@ -100,55 +100,32 @@ fn write_effect(env: &mut Env, prim: &Prim, observer: &Observer)
     ensures { env.new ≡ env_after observer.now env.old prim.now }
 {
     match *prim {
-        Prim::Null { p } => set_type(env, p, &PtrType::null()),
-        Prim::Copy { p, q } => {
-            let both = shared_type(env, q);
-            set_both(env, p, q, &both);
-        }
-        Prim::New { p } => {
-            let fresh = new_type(env, observer);
-            set_type(env, p, &fresh);
-        }
-        Prim::Load { p, .. } => {
-            let loaded = PtrType::bare(env.w);
-            set_type(env, p, &loaded);
-        }
-        Prim::Store { q, .. } => {
-            let stored = shared_type(env, q);
-            set_type(env, q, &stored);
-        }
+        Prim::Null { p } => set_type(&PtrType::null(), env, p),
+        Prim::Copy { p, q } => set_both(&shared_type(env, q), env, p, q),
+        Prim::New { p } => set_type(&new_type(env, observer), env, p),
+        Prim::Load { p, .. } => set_type(&PtrType::bare(env.w), env, p),
+        Prim::Store { q, .. } => set_type(&shared_type(env, q), env, q),
         Prim::StoreNull { .. } => {}
         Prim::DataSet { .. } => {}
         Prim::DataLoad { .. } => {}
         Prim::DataStore { .. } => {}
-        Prim::Eq { p, q } => {
-            let equal = equal_type(env, p, q);
-            set_both(env, p, q, &equal);
-        }
+        Prim::Eq { p, q } => set_both(&equal_type(env, p, q), env, p, q),
         Prim::Ne { .. } => {}
-        Prim::IsNull { p } => set_type(env, p, &PtrType::null()),
+        Prim::IsNull { p } => set_type(&PtrType::null(), env, p),
         Prim::NotNull { .. } => {}
         Prim::DataTest { .. } => {}
         Prim::Refresh { p, q } => {
             let p = Var::Local(p);
-            let refreshed = refreshed_type(env, p, q);
-            set_both(env, p, q, &refreshed);
+            set_both(&refreshed_type(env, p, q), env, p, q)
         }
         Prim::RefreshLoad { p, .. } => {
             let p = Var::Local(p);
-            let loaded = placed_type(env, p);
-            set_type(env, p, &loaded);
+            set_type(&placed_type(env, p), env, p)
         }
-        Prim::RefreshStore { q, .. } => {
-            let stored = shared_type(env, q);
-            set_type(env, q, &stored);
-        }
+        Prim::RefreshStore { q, .. } => set_type(&shared_type(env, q), env, q),
         Prim::Call { func, arg } => write_call(env, func, arg, observer),
         Prim::Done { func } => on_other(env, EvKind::Done(func), observer),
-        Prim::Active { p } => {
-            let active = active_type(env, p, observer);
-            set_type(env, p, &active);
-        }
+        Prim::Active { p } => set_type(&active_type(env, p, observer), env, p),
         Prim::Ghost { .. } => {}
     }
 }

@@ -39,9 +39,10 @@ pub(crate) fn type_of(env: &Env, var: Var) -> PtrType
     }
 }
 
-// Gives a variable a type.
+// Gives a variable a type. The type stands first, since it may be read from the environment that is
+// written.
 #[tactic(auto, unfolding(crate::specs::Writes::with_type))]
-pub(crate) fn set_type(env: &mut Env, var: Var, t: &PtrType)
+pub(crate) fn set_type(t: &PtrType, env: &mut Env, var: Var)
     ensures { env.new ≡ with_type env.old var t.now }
 {
     match var {
@@ -51,9 +52,9 @@ pub(crate) fn set_type(env: &mut Env, var: Var, t: &PtrType)
 }
 
 // Gives two variables, which may be one, the same type.
-pub(crate) fn set_both(env: &mut Env, p: Var, q: Var, t: &PtrType)
+pub(crate) fn set_both(t: &PtrType, env: &mut Env, p: Var, q: Var)
     ensures { env.new ≡ with_type (with_type env.old p t.now) q t.now }
 {
-    set_type(env, p, t);
-    set_type(env, q, t);
+    set_type(t, env, p);
+    set_type(t, env, q);
 }
