@@ -1,6 +1,8 @@
 -- The trees of the program's forms, and what is left behind a form. Names are those of the tokens, so a form stands for the tree with their bytes.
-use Rattle.std.specs.Prelude.{◌≡◌, ◌+◌, ℕ, List, length, Option, Some, None}
+use Rattle.std.specs.Prelude.{◌≡◌, ◌+◌, ℕ, List, length, Option, Some, None, MatchOption}
 use Rattle.std.specs.Borrow.{Bor}
+use Rattle.plc_lex.specs.declared.token.TokenKind.{TokenKind}
+use Rattle.plc_syntax.specs.Syntax.{kinds}
 use Rattle.plc_syntax.specs.Trees.{Text, FieldTree, PointerField, DataField, PlaceTree, PlaceOf, AtomTree, NullAtom, NumberAtom, NameAtom, ValueTree, NullValue, NewValue, NumberValue, PlaceValue, SetTree, SetName, SetField, RefreshTree, RefreshName, RefreshField, GhostValueTree, NameGhost, MeGhost, NoneGhost, GhostSetTree, SetGhost, InitialTree, InitialSet, InitialGhost, Comparison, SameAs, OtherThan, LessThan, NotLessThan, TestTree, Compares, ConditionTree, TestCondition, RefreshCondition, CasCondition, PrimitiveTree, SetPrimitive, RefreshPrimitive, GhostPrimitive, ActivePrimitive, AssumePrimitive, SkipPrimitive, ArgumentTree, NoArgument, NullArgument, NameArgument, ActiveArgument, FunctionTree, Declares, WatchTree, UseHazard, UseEpoch}
 use Rattle.plc_forms.specs.declared.rest.Rest.{Rest}
 use Rattle.plc_forms.specs.declared.form.Declaration.{Declaration}
@@ -34,10 +36,31 @@ use Rattle.plc_forms.specs.declared.form.Argument.{Argument}
 use Rattle.plc_forms.specs.declared.form.Argument.TheVariants as arguments
 use Rattle.plc_forms.specs.declared.form.Call.{Call}
 
+-- the bytes of a name
+abbrev pub text_of : Bor Text → Text
+text_of name = name.now
+
 -- what is left behind so many tokens
 pub record Behind (rest : Rest) (count : ℕ) (behind : Rest) : Type 0 where
   pub at : behind.at ≡ rest.at + count
   pub tokens : length behind.tokens.now + count ≡ length rest.tokens.now
+
+-- nothing is read there
+pub record ReadNone {B : Type 0} (wanted : Option B) : Type 0 where
+  pub read : wanted ≡ None
+
+-- this is read there, and what is left stands behind so many tokens
+pub record ReadSome {B : Type 0} (wanted : Option B) (form : B) (count : ℕ) (rest later : Rest) : Type 0 where
+  pub read : wanted ≡ Some form
+  pub behind : Behind rest count later
+
+-- an answer is what stands behind a form of so many tokens, by the form's definition on the tokens' kinds, and none where that has none
+abbrev pub Passes : (List TokenKind → Option (List TokenKind)) → ℕ → Rest → Option Rest → Type 0
+Passes form count rest answer = MatchOption answer (ReadNone (form (kinds rest.tokens.now))) (λ r. ReadSome (form (kinds rest.tokens.now)) (kinds r.tokens.now) count rest r)
+
+-- an answer is the form that is read, seen as a tree, and what stands behind the tree's tokens
+abbrev pub Reads : {A B : Type 0} → (List TokenKind → Option (B × List TokenKind)) → (A → B) → (B → ℕ) → Rest → Option (A × Rest) → Type 0
+Reads form tree size rest answer = MatchOption answer (ReadNone (form (kinds rest.tokens.now))) (λ r. ReadSome (form (kinds rest.tokens.now)) (tree r.0, kinds r.1.tokens.now) (size (tree r.0)) rest r.1)
 
 -- the bytes of a name that may be left out
 abbrev pub text_or_none : Option (Bor (List ℕ)) → Option Text

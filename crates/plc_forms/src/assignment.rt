@@ -1,9 +1,9 @@
 // Assignments and refreshes.
-ghost use Rattle.std.specs.Prelude.{◌≡◌, ◌+◌, ◌-◌, IfSome, MatchOption, Some, None};
+ghost use Rattle.std.specs.Prelude.{◌≡◌, ◌+◌, ◌-◌, Some, None};
 ghost use Rattle.plc_syntax.specs.Syntax.{kinds};
 ghost use Rattle.plc_forms.specs.Forms.{dot_name_of, place_of_name, place_of, value_of, atom_of, set_name_of, set_field_of, set_of, refresh_name_of, refresh_field_of, refresh_of, ghost_value_of, ghost_set_of};
 ghost use Rattle.plc_forms.specs.Sizes.{place_size, value_size, set_size, refresh_size, ghost_set_size};
-ghost use Rattle.plc_forms.specs.Views.{Behind, place_tree, value_tree, atom_tree, set_tree, refresh_tree, ghost_value_tree, ghost_set_tree};
+ghost use Rattle.plc_forms.specs.Views.{Behind, place_tree, value_tree, atom_tree, set_tree, refresh_tree, ghost_value_tree, ghost_set_tree, Reads, text_of};
 
 use crate::form::{Atom, GhostSet, GhostValue, Place, Refresh, Set, Value};
 use crate::front::{first, name_at, name_symbol_at, symbol_name_at, word_name_at};
@@ -12,15 +12,15 @@ use plc_lex::{Keyword, Symbol, TokenKind};
 
 // A field, behind its dot.
 fn dot_name_at<'a>(rest: Rest<'a>) -> Option<(&'a [u8], Rest<'a>)>
-    ensures read { MatchOption result (dot_name_of (kinds rest.entry.tokens.now) ≡ None) (λ r. dot_name_of (kinds rest.entry.tokens.now) ≡ Some (r.0.now, kinds r.1.tokens.now)) }
-    ensures behind { IfSome result (λ r. Behind rest.entry 2 r.1) }
+    ensures { Reads dot_name_of text_of (λ _. 2) rest.entry result }
 {
     symbol_name_at(rest, Symbol::Dot)
 }
 
 // A place, from behind its name.
 fn place_of_name_at<'a>(name: &'a [u8], rest: Rest<'a>) -> (Place<'a>, Rest<'a>)
-    ensures read { place_of_name name.now (kinds rest.entry.tokens.now) ≡ (place_tree result.0, kinds result.1.tokens.now) }
+    ensures read { place_of_name name.now (kinds rest.entry.tokens.now)
+        ≡ (place_tree result.0, kinds result.1.tokens.now) }
     ensures behind { Behind rest.entry (place_size (place_tree result.0) - 1) result.1 }
 {
     match dot_name_at(rest) {
@@ -34,8 +34,7 @@ fn place_of_name_at<'a>(name: &'a [u8], rest: Rest<'a>) -> (Place<'a>, Rest<'a>)
 
 /// A name, or a field of what it points to.
 pub fn place_at<'a>(rest: Rest<'a>) -> Option<(Place<'a>, Rest<'a>)>
-    ensures read { MatchOption result (place_of (kinds rest.entry.tokens.now) ≡ None) (λ r. place_of (kinds rest.entry.tokens.now) ≡ Some (place_tree r.0, kinds r.1.tokens.now)) }
-    ensures behind { IfSome result (λ r. Behind rest.entry (place_size (place_tree r.0)) r.1) }
+    ensures { Reads place_of place_tree place_size rest.entry result }
 {
     let (name, behind) = name_at(rest)?;
     Some(place_of_name_at(name, behind))
@@ -43,8 +42,7 @@ pub fn place_at<'a>(rest: Rest<'a>) -> Option<(Place<'a>, Rest<'a>)>
 
 // What is put into a name.
 fn value_at<'a>(rest: Rest<'a>) -> Option<(Value<'a>, Rest<'a>)>
-    ensures read { MatchOption result (value_of (kinds rest.entry.tokens.now) ≡ None) (λ r. value_of (kinds rest.entry.tokens.now) ≡ Some (value_tree r.0, kinds r.1.tokens.now)) }
-    ensures behind { IfSome result (λ r. Behind rest.entry (value_size (value_tree r.0)) r.1) }
+    ensures { Reads value_of value_tree value_size rest.entry result }
 {
     match first(rest)? {
         (TokenKind::Word(Keyword::Null), behind) => Some((Value::Null, behind)),
@@ -59,8 +57,7 @@ fn value_at<'a>(rest: Rest<'a>) -> Option<(Value<'a>, Rest<'a>)>
 
 /// What is put into a field, or compared with a name.
 pub fn atom_at<'a>(rest: Rest<'a>) -> Option<(Atom<'a>, Rest<'a>)>
-    ensures read { MatchOption result (atom_of (kinds rest.entry.tokens.now) ≡ None) (λ r. atom_of (kinds rest.entry.tokens.now) ≡ Some (atom_tree r.0, kinds r.1.tokens.now)) }
-    ensures behind { IfSome result (λ r. Behind rest.entry 1 r.1) }
+    ensures { Reads atom_of atom_tree (λ _. 1) rest.entry result }
 {
     match first(rest)? {
         (TokenKind::Word(Keyword::Null), behind) => Some((Atom::Null, behind)),
@@ -72,8 +69,7 @@ pub fn atom_at<'a>(rest: Rest<'a>) -> Option<(Atom<'a>, Rest<'a>)>
 
 // An assignment to a name.
 fn set_name_at<'a>(rest: Rest<'a>) -> Option<(Set<'a>, Rest<'a>)>
-    ensures read { MatchOption result (set_name_of (kinds rest.entry.tokens.now) ≡ None) (λ r. set_name_of (kinds rest.entry.tokens.now) ≡ Some (set_tree r.0, kinds r.1.tokens.now)) }
-    ensures behind { IfSome result (λ r. Behind rest.entry (set_size (set_tree r.0)) r.1) }
+    ensures { Reads set_name_of set_tree set_size rest.entry result }
 {
     let (name, behind) = name_symbol_at(rest, Symbol::Assign)?;
     let (value, behind) = value_at(behind)?;
@@ -82,8 +78,7 @@ fn set_name_at<'a>(rest: Rest<'a>) -> Option<(Set<'a>, Rest<'a>)>
 
 // An assignment to a field.
 fn set_field_at<'a>(rest: Rest<'a>) -> Option<(Set<'a>, Rest<'a>)>
-    ensures read { MatchOption result (set_field_of (kinds rest.entry.tokens.now) ≡ None) (λ r. set_field_of (kinds rest.entry.tokens.now) ≡ Some (set_tree r.0, kinds r.1.tokens.now)) }
-    ensures behind { IfSome result (λ r. Behind rest.entry (set_size (set_tree r.0)) r.1) }
+    ensures { Reads set_field_of set_tree set_size rest.entry result }
 {
     let (name, behind) = name_symbol_at(rest, Symbol::Dot)?;
     let (field, behind) = name_symbol_at(behind, Symbol::Assign)?;
@@ -93,16 +88,14 @@ fn set_field_at<'a>(rest: Rest<'a>) -> Option<(Set<'a>, Rest<'a>)>
 
 /// An assignment, without its semicolon.
 pub fn set_at<'a>(rest: Rest<'a>) -> Option<(Set<'a>, Rest<'a>)>
-    ensures read { MatchOption result (set_of (kinds rest.entry.tokens.now) ≡ None) (λ r. set_of (kinds rest.entry.tokens.now) ≡ Some (set_tree r.0, kinds r.1.tokens.now)) }
-    ensures behind { IfSome result (λ r. Behind rest.entry (set_size (set_tree r.0)) r.1) }
+    ensures { Reads set_of set_tree set_size rest.entry result }
 {
     set_name_at(rest).or(set_field_at(rest))
 }
 
 /// A refresh into a name: the name, and where its value comes from.
 pub fn refresh_name_at<'a>(rest: Rest<'a>) -> Option<((&'a [u8], Place<'a>), Rest<'a>)>
-    ensures read { MatchOption result (refresh_name_of (kinds rest.entry.tokens.now) ≡ None) (λ r. refresh_name_of (kinds rest.entry.tokens.now) ≡ Some ((r.0.0.now, place_tree r.0.1), kinds r.1.tokens.now)) }
-    ensures behind { IfSome result (λ r. Behind rest.entry (2 + place_size (place_tree r.0.1)) r.1) }
+    ensures { Reads refresh_name_of (λ x. (x.0.now, place_tree x.1)) (λ t. 2 + place_size t.1) rest.entry result }
 {
     let (name, behind) = name_symbol_at(rest, Symbol::Refresh)?;
     let (place, behind) = place_at(behind)?;
@@ -111,8 +104,7 @@ pub fn refresh_name_at<'a>(rest: Rest<'a>) -> Option<((&'a [u8], Place<'a>), Res
 
 // A refresh into a field.
 fn refresh_field_at<'a>(rest: Rest<'a>) -> Option<(Refresh<'a>, Rest<'a>)>
-    ensures read { MatchOption result (refresh_field_of (kinds rest.entry.tokens.now) ≡ None) (λ r. refresh_field_of (kinds rest.entry.tokens.now) ≡ Some (refresh_tree r.0, kinds r.1.tokens.now)) }
-    ensures behind { IfSome result (λ r. Behind rest.entry (refresh_size (refresh_tree r.0)) r.1) }
+    ensures { Reads refresh_field_of refresh_tree refresh_size rest.entry result }
 {
     let (name, behind) = name_symbol_at(rest, Symbol::Dot)?;
     let (field, behind) = name_symbol_at(behind, Symbol::Refresh)?;
@@ -122,8 +114,7 @@ fn refresh_field_at<'a>(rest: Rest<'a>) -> Option<(Refresh<'a>, Rest<'a>)>
 
 /// A refresh, without its semicolon.
 pub fn refresh_at<'a>(rest: Rest<'a>) -> Option<(Refresh<'a>, Rest<'a>)>
-    ensures read { MatchOption result (refresh_of (kinds rest.entry.tokens.now) ≡ None) (λ r. refresh_of (kinds rest.entry.tokens.now) ≡ Some (refresh_tree r.0, kinds r.1.tokens.now)) }
-    ensures behind { IfSome result (λ r. Behind rest.entry (refresh_size (refresh_tree r.0)) r.1) }
+    ensures { Reads refresh_of refresh_tree refresh_size rest.entry result }
 {
     match refresh_name_at(rest) {
         Some(((name, place), behind)) => Some((Refresh::Name(name, place), behind)),
@@ -133,8 +124,7 @@ pub fn refresh_at<'a>(rest: Rest<'a>) -> Option<(Refresh<'a>, Rest<'a>)>
 
 // What is put into an auxiliary field.
 fn ghost_value_at<'a>(rest: Rest<'a>) -> Option<(GhostValue<'a>, Rest<'a>)>
-    ensures read { MatchOption result (ghost_value_of (kinds rest.entry.tokens.now) ≡ None) (λ r. ghost_value_of (kinds rest.entry.tokens.now) ≡ Some (ghost_value_tree r.0, kinds r.1.tokens.now)) }
-    ensures behind { IfSome result (λ r. Behind rest.entry 1 r.1) }
+    ensures { Reads ghost_value_of ghost_value_tree (λ _. 1) rest.entry result }
 {
     match first(rest)? {
         (TokenKind::Name(name), behind) => Some((GhostValue::Name(name.as_slice()), behind)),
@@ -146,8 +136,7 @@ fn ghost_value_at<'a>(rest: Rest<'a>) -> Option<(GhostValue<'a>, Rest<'a>)>
 
 /// An assignment to an auxiliary field, without its semicolon.
 pub fn ghost_set_at<'a>(rest: Rest<'a>) -> Option<(GhostSet<'a>, Rest<'a>)>
-    ensures read { MatchOption result (ghost_set_of (kinds rest.entry.tokens.now) ≡ None) (λ r. ghost_set_of (kinds rest.entry.tokens.now) ≡ Some (ghost_set_tree r.0, kinds r.1.tokens.now)) }
-    ensures behind { IfSome result (λ r. Behind rest.entry ghost_set_size r.1) }
+    ensures { Reads ghost_set_of ghost_set_tree (λ _. ghost_set_size) rest.entry result }
 {
     let (name, behind) = word_name_at(rest, Keyword::Ghost, Symbol::Dot)?;
     let (field, behind) = name_symbol_at(behind, Symbol::Assign)?;

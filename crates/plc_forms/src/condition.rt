@@ -1,9 +1,9 @@
 // Tests and the conditions of `if`.
-ghost use Rattle.std.specs.Prelude.{◌≡◌, ◌+◌, ◌-◌, IfSome, MatchOption, Some, None};
+ghost use Rattle.std.specs.Prelude.{◌≡◌, ◌-◌, IfSome, Some, None};
 ghost use Rattle.plc_syntax.specs.Syntax.{kinds};
 ghost use Rattle.plc_forms.specs.Forms.{comparison_of, test_of, name_or_null_of, comma_name_or_null_of, active_word_of, cas_of, cas_condition_of, named_condition_of, condition_of};
 ghost use Rattle.plc_forms.specs.Sizes.{word_size, test_size, condition_size};
-ghost use Rattle.plc_forms.specs.Views.{Behind, text_or_none, relation_tree, test_tree, cas_tree, condition_tree};
+ghost use Rattle.plc_forms.specs.Views.{Behind, text_or_none, relation_tree, test_tree, cas_tree, condition_tree, Reads};
 
 use crate::assignment::{atom_at, refresh_name_at};
 use crate::form::{Cas, Condition, Relation, Test};
@@ -13,8 +13,7 @@ use plc_lex::{Keyword, Symbol, TokenKind};
 
 // What stands between the sides of a test.
 fn relation_at<'a>(rest: Rest<'a>) -> Option<(Relation, Rest<'a>)>
-    ensures read { MatchOption result (comparison_of (kinds rest.entry.tokens.now) ≡ None) (λ r. comparison_of (kinds rest.entry.tokens.now) ≡ Some (relation_tree r.0, kinds r.1.tokens.now)) }
-    ensures behind { IfSome result (λ r. Behind rest.entry 1 r.1) }
+    ensures { Reads comparison_of relation_tree (λ _. 1) rest.entry result }
 {
     match first(rest)? {
         (TokenKind::Symbol(Symbol::Equal), behind) => Some((Relation::Same, behind)),
@@ -27,8 +26,7 @@ fn relation_at<'a>(rest: Rest<'a>) -> Option<(Relation, Rest<'a>)>
 
 /// A test.
 pub fn test_at<'a>(rest: Rest<'a>) -> Option<(Test<'a>, Rest<'a>)>
-    ensures read { MatchOption result (test_of (kinds rest.entry.tokens.now) ≡ None) (λ r. test_of (kinds rest.entry.tokens.now) ≡ Some (test_tree r.0, kinds r.1.tokens.now)) }
-    ensures behind { IfSome result (λ r. Behind rest.entry test_size r.1) }
+    ensures { Reads test_of test_tree (λ _. test_size) rest.entry result }
 {
     let (name, behind) = name_at(rest)?;
     let (relation, behind) = relation_at(behind)?;
@@ -43,8 +41,7 @@ pub fn test_at<'a>(rest: Rest<'a>) -> Option<(Test<'a>, Rest<'a>)>
 
 // A name, or `null`.
 fn name_or_null_at<'a>(rest: Rest<'a>) -> Option<(Option<&'a [u8]>, Rest<'a>)>
-    ensures read { MatchOption result (name_or_null_of (kinds rest.entry.tokens.now) ≡ None) (λ r. name_or_null_of (kinds rest.entry.tokens.now) ≡ Some (text_or_none r.0, kinds r.1.tokens.now)) }
-    ensures behind { IfSome result (λ r. Behind rest.entry 1 r.1) }
+    ensures { Reads name_or_null_of text_or_none (λ _. 1) rest.entry result }
 {
     match first(rest)? {
         (TokenKind::Name(name), behind) => Some((Some(name.as_slice()), behind)),
@@ -55,8 +52,7 @@ fn name_or_null_at<'a>(rest: Rest<'a>) -> Option<(Option<&'a [u8]>, Rest<'a>)>
 
 // A comma and a name, or `null`.
 fn comma_name_or_null_at<'a>(rest: Rest<'a>) -> Option<(Option<&'a [u8]>, Rest<'a>)>
-    ensures read { MatchOption result (comma_name_or_null_of (kinds rest.entry.tokens.now) ≡ None) (λ r. comma_name_or_null_of (kinds rest.entry.tokens.now) ≡ Some (text_or_none r.0, kinds r.1.tokens.now)) }
-    ensures behind { IfSome result (λ r. Behind rest.entry 2 r.1) }
+    ensures { Reads comma_name_or_null_of text_or_none (λ _. 2) rest.entry result }
 {
     name_or_null_at(symbol_at(rest, Symbol::Comma)?)
 }
@@ -74,9 +70,8 @@ fn active_word_at<'a>(rest: Rest<'a>) -> (bool, Rest<'a>)
 
 // The three pointers of a cas and the parenthesis behind them.
 fn cas_at<'a>(is_active: bool, rest: Rest<'a>) -> Option<(Cas<'a>, Rest<'a>)>
-    ensures read { MatchOption result (cas_of is_active (kinds rest.entry.tokens.now) ≡ None) (λ r. cas_of is_active (kinds rest.entry.tokens.now) ≡ Some (cas_tree r.0, kinds r.1.tokens.now)) }
+    ensures form { Reads (cas_of is_active) cas_tree (λ _. 6) rest.entry result }
     ensures claim { IfSome result (λ r. r.0.is_active ≡ is_active) }
-    ensures behind { IfSome result (λ r. Behind rest.entry 6 r.1) }
 {
     let (name, behind) = name_at(rest)?;
     let (old, behind) = comma_name_or_null_at(behind)?;
@@ -93,8 +88,7 @@ fn cas_at<'a>(is_active: bool, rest: Rest<'a>) -> Option<(Cas<'a>, Rest<'a>)>
 
 // A cas, from behind its first word.
 fn cas_condition_at<'a>(rest: Rest<'a>) -> Option<(Condition<'a>, Rest<'a>)>
-    ensures read { MatchOption result (cas_condition_of (kinds rest.entry.tokens.now) ≡ None) (λ r. cas_condition_of (kinds rest.entry.tokens.now) ≡ Some (condition_tree r.0, kinds r.1.tokens.now)) }
-    ensures behind { IfSome result (λ r. Behind rest.entry (condition_size (condition_tree r.0) - 1) r.1) }
+    ensures { Reads cas_condition_of condition_tree (λ t. condition_size t - 1) rest.entry result }
 {
     let behind = symbol_at(rest, Symbol::OpenParen)?;
     let (is_active, behind) = active_word_at(behind);
@@ -104,8 +98,7 @@ fn cas_condition_at<'a>(rest: Rest<'a>) -> Option<(Condition<'a>, Rest<'a>)>
 
 // A condition that begins with a name.
 fn named_condition_at<'a>(rest: Rest<'a>) -> Option<(Condition<'a>, Rest<'a>)>
-    ensures read { MatchOption result (named_condition_of (kinds rest.entry.tokens.now) ≡ None) (λ r. named_condition_of (kinds rest.entry.tokens.now) ≡ Some (condition_tree r.0, kinds r.1.tokens.now)) }
-    ensures behind { IfSome result (λ r. Behind rest.entry (condition_size (condition_tree r.0)) r.1) }
+    ensures { Reads named_condition_of condition_tree condition_size rest.entry result }
 {
     if let Some(((name, place), behind)) = refresh_name_at(rest) {
         return Some((Condition::Refresh(name, place), behind));
@@ -116,8 +109,7 @@ fn named_condition_at<'a>(rest: Rest<'a>) -> Option<(Condition<'a>, Rest<'a>)>
 
 /// The condition of an `if`.
 pub fn condition_at<'a>(rest: Rest<'a>) -> Option<(Condition<'a>, Rest<'a>)>
-    ensures read { MatchOption result (condition_of (kinds rest.entry.tokens.now) ≡ None) (λ r. condition_of (kinds rest.entry.tokens.now) ≡ Some (condition_tree r.0, kinds r.1.tokens.now)) }
-    ensures behind { IfSome result (λ r. Behind rest.entry (condition_size (condition_tree r.0)) r.1) }
+    ensures { Reads condition_of condition_tree condition_size rest.entry result }
 {
     match first(rest)? {
         (TokenKind::Word(Keyword::Cas), behind) => cas_condition_at(behind),

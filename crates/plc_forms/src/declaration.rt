@@ -1,9 +1,9 @@
 // The declarations of a file.
-ghost use Rattle.std.specs.Prelude.{◌≡◌, ◌+◌, IfSome, MatchOption, Some, None};
+ghost use Rattle.std.specs.Prelude.{◌≡◌, Some, None};
 ghost use Rattle.plc_syntax.specs.Syntax.{kinds};
 ghost use Rattle.plc_forms.specs.Forms.{struct_of, field_of, shared_of, head_of, comma_name_of, opening_of, closing_of, semicolon_of, parenthesis_of, end_of, pointer_word_of, function_of, hazard_of, epoch_of, watch_of, ghost_of, thread_of, first_value_of, values_end_of, init_of};
 ghost use Rattle.plc_forms.specs.Sizes.{word_size, function_size, watch_size};
-ghost use Rattle.plc_forms.specs.Views.{Behind, field_tree, function_tree, watch_tree};
+ghost use Rattle.plc_forms.specs.Views.{Behind, field_tree, function_tree, watch_tree, Passes, Reads, text_of};
 
 use crate::form::{Declaration, Function, Watch};
 use crate::front::{
@@ -15,16 +15,14 @@ use plc_lex::{Keyword, Symbol, TokenKind};
 
 /// The struct's name and its opening brace.
 pub fn struct_at<'a>(rest: Rest<'a>) -> Option<(&'a [u8], Rest<'a>)>
-    ensures read { MatchOption result (struct_of (kinds rest.entry.tokens.now) ≡ None) (λ r. struct_of (kinds rest.entry.tokens.now) ≡ Some (r.0.now, kinds r.1.tokens.now)) }
-    ensures behind { IfSome result (λ r. Behind rest.entry 3 r.1) }
+    ensures { Reads struct_of text_of (λ _. 3) rest.entry result }
 {
     word_name_at(rest, Keyword::Struct, Symbol::OpenBrace)
 }
 
 /// A field of the struct or a local.
 pub fn declaration_at<'a>(rest: Rest<'a>) -> Option<(Declaration<'a>, Rest<'a>)>
-    ensures read { MatchOption result (field_of (kinds rest.entry.tokens.now) ≡ None) (λ r. field_of (kinds rest.entry.tokens.now) ≡ Some (field_tree r.0, kinds r.1.tokens.now)) }
-    ensures behind { IfSome result (λ r. Behind rest.entry 3 r.1) }
+    ensures { Reads field_of field_tree (λ _. 3) rest.entry result }
 {
     match first(rest)? {
         (TokenKind::Word(Keyword::Ptr), behind) => {
@@ -41,64 +39,56 @@ pub fn declaration_at<'a>(rest: Rest<'a>) -> Option<(Declaration<'a>, Rest<'a>)>
 
 /// A shared pointer's name.
 pub fn shared_at<'a>(rest: Rest<'a>) -> Option<(&'a [u8], Rest<'a>)>
-    ensures read { MatchOption result (shared_of (kinds rest.entry.tokens.now) ≡ None) (λ r. shared_of (kinds rest.entry.tokens.now) ≡ Some (r.0.now, kinds r.1.tokens.now)) }
-    ensures behind { IfSome result (λ r. Behind rest.entry 3 r.1) }
+    ensures { Reads shared_of text_of (λ _. 3) rest.entry result }
 {
     word_name_at(rest, Keyword::Shared, Symbol::Semicolon)
 }
 
 /// An operation's name and the parenthesis before its parameters.
 pub fn head_at<'a>(rest: Rest<'a>) -> Option<(&'a [u8], Rest<'a>)>
-    ensures read { MatchOption result (head_of (kinds rest.entry.tokens.now) ≡ None) (λ r. head_of (kinds rest.entry.tokens.now) ≡ Some (r.0.now, kinds r.1.tokens.now)) }
-    ensures behind { IfSome result (λ r. Behind rest.entry 3 r.1) }
+    ensures { Reads head_of text_of (λ _. 3) rest.entry result }
 {
     word_name_at(rest, Keyword::Op, Symbol::OpenParen)
 }
 
 /// A further parameter's or value's name, behind its comma.
 pub fn comma_name_at<'a>(rest: Rest<'a>) -> Option<(&'a [u8], Rest<'a>)>
-    ensures read { MatchOption result (comma_name_of (kinds rest.entry.tokens.now) ≡ None) (λ r. comma_name_of (kinds rest.entry.tokens.now) ≡ Some (r.0.now, kinds r.1.tokens.now)) }
-    ensures behind { IfSome result (λ r. Behind rest.entry 2 r.1) }
+    ensures { Reads comma_name_of text_of (λ _. 2) rest.entry result }
 {
     symbol_name_at(rest, Symbol::Comma)
 }
 
 /// What stands between parameters and locals, or between a condition and its block.
 pub fn opening_at<'a>(rest: Rest<'a>) -> Option<Rest<'a>>
-    ensures read { MatchOption result (opening_of (kinds rest.entry.tokens.now) ≡ None) (λ r. opening_of (kinds rest.entry.tokens.now) ≡ Some (kinds r.tokens.now)) }
-    ensures behind { IfSome result (λ r. Behind rest.entry 2 r) }
+    ensures { Passes opening_of 2 rest.entry result }
 {
     symbol_at(symbol_at(rest, Symbol::CloseParen)?, Symbol::OpenBrace)
 }
 
 /// The brace behind fields or statements.
 pub fn closing_at<'a>(rest: Rest<'a>) -> Option<Rest<'a>>
-    ensures read { MatchOption result (closing_of (kinds rest.entry.tokens.now) ≡ None) (λ r. closing_of (kinds rest.entry.tokens.now) ≡ Some (kinds r.tokens.now)) }
-    ensures behind { IfSome result (λ r. Behind rest.entry 1 r) }
+    ensures { Passes closing_of 1 rest.entry result }
 {
     symbol_at(rest, Symbol::CloseBrace)
 }
 
 /// The end of a statement.
 pub fn semicolon_at<'a>(rest: Rest<'a>) -> Option<Rest<'a>>
-    ensures read { MatchOption result (semicolon_of (kinds rest.entry.tokens.now) ≡ None) (λ r. semicolon_of (kinds rest.entry.tokens.now) ≡ Some (kinds r.tokens.now)) }
-    ensures behind { IfSome result (λ r. Behind rest.entry 1 r) }
+    ensures { Passes semicolon_of 1 rest.entry result }
 {
     symbol_at(rest, Symbol::Semicolon)
 }
 
 /// A closing parenthesis.
 pub fn parenthesis_at<'a>(rest: Rest<'a>) -> Option<Rest<'a>>
-    ensures read { MatchOption result (parenthesis_of (kinds rest.entry.tokens.now) ≡ None) (λ r. parenthesis_of (kinds rest.entry.tokens.now) ≡ Some (kinds r.tokens.now)) }
-    ensures behind { IfSome result (λ r. Behind rest.entry 1 r) }
+    ensures { Passes parenthesis_of 1 rest.entry result }
 {
     symbol_at(rest, Symbol::CloseParen)
 }
 
 // A closing parenthesis and a semicolon.
 fn end_at<'a>(rest: Rest<'a>) -> Option<Rest<'a>>
-    ensures read { MatchOption result (end_of (kinds rest.entry.tokens.now) ≡ None) (λ r. end_of (kinds rest.entry.tokens.now) ≡ Some (kinds r.tokens.now)) }
-    ensures behind { IfSome result (λ r. Behind rest.entry 2 r) }
+    ensures { Passes end_of 2 rest.entry result }
 {
     symbol_at(symbol_at(rest, Symbol::CloseParen)?, Symbol::Semicolon)
 }
@@ -116,8 +106,7 @@ fn pointer_word_at<'a>(rest: Rest<'a>) -> (bool, Rest<'a>)
 
 /// The declaration of a reclaimer function.
 pub fn function_at<'a>(rest: Rest<'a>) -> Option<(Function<'a>, Rest<'a>)>
-    ensures read { MatchOption result (function_of (kinds rest.entry.tokens.now) ≡ None) (λ r. function_of (kinds rest.entry.tokens.now) ≡ Some (function_tree r.0, kinds r.1.tokens.now)) }
-    ensures behind { IfSome result (λ r. Behind rest.entry (function_size (function_tree r.0)) r.1) }
+    ensures { Reads function_of function_tree function_size rest.entry result }
 {
     let (name, behind) = word_name_at(rest, Keyword::Call, Symbol::OpenParen)?;
     let (takes_pointer, behind) = pointer_word_at(behind);
@@ -133,8 +122,7 @@ pub fn function_at<'a>(rest: Rest<'a>) -> Option<(Function<'a>, Rest<'a>)>
 
 // The use of hazard pointers, behind its first word.
 fn hazard_at<'a>(rest: Rest<'a>) -> Option<(Watch<'a>, Rest<'a>)>
-    ensures read { MatchOption result (hazard_of (kinds rest.entry.tokens.now) ≡ None) (λ r. hazard_of (kinds rest.entry.tokens.now) ≡ Some (watch_tree r.0, kinds r.1.tokens.now)) }
-    ensures behind { IfSome result (λ r. Behind rest.entry 5 r.1) }
+    ensures { Reads hazard_of watch_tree (λ _. 5) rest.entry result }
 {
     let behind = word_symbol_at(rest, Keyword::Hazard, Symbol::OpenParen)?;
     let (function, behind) = name_at(behind)?;
@@ -143,8 +131,7 @@ fn hazard_at<'a>(rest: Rest<'a>) -> Option<(Watch<'a>, Rest<'a>)>
 
 // The use of epochs, behind its first word.
 fn epoch_at<'a>(rest: Rest<'a>) -> Option<(Watch<'a>, Rest<'a>)>
-    ensures read { MatchOption result (epoch_of (kinds rest.entry.tokens.now) ≡ None) (λ r. epoch_of (kinds rest.entry.tokens.now) ≡ Some (watch_tree r.0, kinds r.1.tokens.now)) }
-    ensures behind { IfSome result (λ r. Behind rest.entry 7 r.1) }
+    ensures { Reads epoch_of watch_tree (λ _. 7) rest.entry result }
 {
     let behind = word_symbol_at(rest, Keyword::Epoch, Symbol::OpenParen)?;
     let (enter, behind) = name_at(behind)?;
@@ -154,8 +141,7 @@ fn epoch_at<'a>(rest: Rest<'a>) -> Option<(Watch<'a>, Rest<'a>)>
 
 /// The use of hazard pointers or of epochs.
 pub fn watch_at<'a>(rest: Rest<'a>) -> Option<(Watch<'a>, Rest<'a>)>
-    ensures read { MatchOption result (watch_of (kinds rest.entry.tokens.now) ≡ None) (λ r. watch_of (kinds rest.entry.tokens.now) ≡ Some (watch_tree r.0, kinds r.1.tokens.now)) }
-    ensures behind { IfSome result (λ r. Behind rest.entry (watch_size (watch_tree r.0)) r.1) }
+    ensures { Reads watch_of watch_tree watch_size rest.entry result }
 {
     let behind = word_at(rest, Keyword::Use)?;
     hazard_at(behind).or(epoch_at(behind))
@@ -163,40 +149,35 @@ pub fn watch_at<'a>(rest: Rest<'a>) -> Option<(Watch<'a>, Rest<'a>)>
 
 /// An auxiliary field, by its name.
 pub fn ghost_at<'a>(rest: Rest<'a>) -> Option<(&'a [u8], Rest<'a>)>
-    ensures read { MatchOption result (ghost_of (kinds rest.entry.tokens.now) ≡ None) (λ r. ghost_of (kinds rest.entry.tokens.now) ≡ Some (r.0.now, kinds r.1.tokens.now)) }
-    ensures behind { IfSome result (λ r. Behind rest.entry 2 r.1) }
+    ensures { Reads ghost_of text_of (λ _. 2) rest.entry result }
 {
     name_at(word_at(rest, Keyword::Ghost)?)
 }
 
 /// What makes an auxiliary field one of threads.
 pub fn thread_at<'a>(rest: Rest<'a>) -> Option<Rest<'a>>
-    ensures read { MatchOption result (thread_of (kinds rest.entry.tokens.now) ≡ None) (λ r. thread_of (kinds rest.entry.tokens.now) ≡ Some (kinds r.tokens.now)) }
-    ensures behind { IfSome result (λ r. Behind rest.entry 2 r) }
+    ensures { Passes thread_of 2 rest.entry result }
 {
     word_symbol_at(rest, Keyword::Thread, Symbol::Semicolon)
 }
 
 /// The first value of an auxiliary field, behind its brace.
 pub fn first_value_at<'a>(rest: Rest<'a>) -> Option<(&'a [u8], Rest<'a>)>
-    ensures read { MatchOption result (first_value_of (kinds rest.entry.tokens.now) ≡ None) (λ r. first_value_of (kinds rest.entry.tokens.now) ≡ Some (r.0.now, kinds r.1.tokens.now)) }
-    ensures behind { IfSome result (λ r. Behind rest.entry 2 r.1) }
+    ensures { Reads first_value_of text_of (λ _. 2) rest.entry result }
 {
     symbol_name_at(rest, Symbol::OpenBrace)
 }
 
 /// What ends the values of an auxiliary field.
 pub fn values_end_at<'a>(rest: Rest<'a>) -> Option<Rest<'a>>
-    ensures read { MatchOption result (values_end_of (kinds rest.entry.tokens.now) ≡ None) (λ r. values_end_of (kinds rest.entry.tokens.now) ≡ Some (kinds r.tokens.now)) }
-    ensures behind { IfSome result (λ r. Behind rest.entry 2 r) }
+    ensures { Passes values_end_of 2 rest.entry result }
 {
     symbol_at(symbol_at(rest, Symbol::CloseBrace)?, Symbol::Semicolon)
 }
 
 /// The first word of `init` and its opening brace.
 pub fn init_at<'a>(rest: Rest<'a>) -> Option<Rest<'a>>
-    ensures read { MatchOption result (init_of (kinds rest.entry.tokens.now) ≡ None) (λ r. init_of (kinds rest.entry.tokens.now) ≡ Some (kinds r.tokens.now)) }
-    ensures behind { IfSome result (λ r. Behind rest.entry 2 r) }
+    ensures { Passes init_of 2 rest.entry result }
 {
     word_symbol_at(rest, Keyword::Init, Symbol::OpenBrace)
 }

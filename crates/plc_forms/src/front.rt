@@ -3,14 +3,15 @@
 ghost use Rattle.std.specs.Prelude.{◌≡◌, ◌+◌, IfSome, MatchOption, Some, None, [], ◌∷◌};
 ghost use Rattle.plc_syntax.specs.Syntax.{kinds};
 ghost use Rattle.plc_forms.specs.Forms.{is_word, hold_word, word_of, symbol_of, name_of, word_symbol_of, symbol_name_of, name_symbol_of, word_name_of};
-ghost use Rattle.plc_forms.specs.Views.{Behind};
+ghost use Rattle.plc_forms.specs.Views.{Behind, Passes, Reads, text_of};
 
 use crate::rest::Rest;
 use plc_lex::{Keyword, Symbol, Token, TokenKind};
 
 /// The first token, of whatever kind.
 pub fn first<'a>(rest: Rest<'a>) -> Option<(&'a TokenKind, Rest<'a>)>
-    ensures read { MatchOption result (kinds rest.entry.tokens.now ≡ []) (λ r. kinds rest.entry.tokens.now ≡ r.0.now ∷ kinds r.1.tokens.now) }
+    ensures read { MatchOption result (kinds rest.entry.tokens.now ≡ [])
+        (λ r. kinds rest.entry.tokens.now ≡ r.0.now ∷ kinds r.1.tokens.now) }
     ensures behind { IfSome result (λ r. Behind rest.entry 1 r.1) }
 {
     match rest.tokens {
@@ -24,8 +25,7 @@ pub fn first<'a>(rest: Rest<'a>) -> Option<(&'a TokenKind, Rest<'a>)>
 
 /// A keyword.
 pub fn word_at<'a>(rest: Rest<'a>, word: Keyword) -> Option<Rest<'a>>
-    ensures read { MatchOption result (word_of word (kinds rest.entry.tokens.now) ≡ None) (λ r. word_of word (kinds rest.entry.tokens.now) ≡ Some (kinds r.tokens.now)) }
-    ensures behind { IfSome result (λ r. Behind rest.entry 1 r) }
+    ensures { Passes (word_of word) 1 rest.entry result }
 {
     match first(rest) {
         Some((TokenKind::Word(found), behind)) => (*found == word).then_some(behind),
@@ -35,8 +35,7 @@ pub fn word_at<'a>(rest: Rest<'a>, word: Keyword) -> Option<Rest<'a>>
 
 /// A symbol.
 pub fn symbol_at<'a>(rest: Rest<'a>, symbol: Symbol) -> Option<Rest<'a>>
-    ensures read { MatchOption result (symbol_of symbol (kinds rest.entry.tokens.now) ≡ None) (λ r. symbol_of symbol (kinds rest.entry.tokens.now) ≡ Some (kinds r.tokens.now)) }
-    ensures behind { IfSome result (λ r. Behind rest.entry 1 r) }
+    ensures { Passes (symbol_of symbol) 1 rest.entry result }
 {
     match first(rest) {
         Some((TokenKind::Symbol(found), behind)) => (*found == symbol).then_some(behind),
@@ -46,8 +45,7 @@ pub fn symbol_at<'a>(rest: Rest<'a>, symbol: Symbol) -> Option<Rest<'a>>
 
 /// A name, such as the first parameter.
 pub fn name_at<'a>(rest: Rest<'a>) -> Option<(&'a [u8], Rest<'a>)>
-    ensures read { MatchOption result (name_of (kinds rest.entry.tokens.now) ≡ None) (λ r. name_of (kinds rest.entry.tokens.now) ≡ Some (r.0.now, kinds r.1.tokens.now)) }
-    ensures behind { IfSome result (λ r. Behind rest.entry 1 r.1) }
+    ensures { Reads name_of text_of (λ _. 1) rest.entry result }
 {
     match first(rest) {
         Some((TokenKind::Name(name), behind)) => Some((name.as_slice(), behind)),
@@ -57,24 +55,21 @@ pub fn name_at<'a>(rest: Rest<'a>) -> Option<(&'a [u8], Rest<'a>)>
 
 /// A keyword and a symbol.
 pub fn word_symbol_at<'a>(rest: Rest<'a>, word: Keyword, symbol: Symbol) -> Option<Rest<'a>>
-    ensures read { MatchOption result (word_symbol_of word symbol (kinds rest.entry.tokens.now) ≡ None) (λ r. word_symbol_of word symbol (kinds rest.entry.tokens.now) ≡ Some (kinds r.tokens.now)) }
-    ensures behind { IfSome result (λ r. Behind rest.entry 2 r) }
+    ensures { Passes (word_symbol_of word symbol) 2 rest.entry result }
 {
     symbol_at(word_at(rest, word)?, symbol)
 }
 
 /// A symbol and a name.
 pub fn symbol_name_at<'a>(rest: Rest<'a>, symbol: Symbol) -> Option<(&'a [u8], Rest<'a>)>
-    ensures read { MatchOption result (symbol_name_of symbol (kinds rest.entry.tokens.now) ≡ None) (λ r. symbol_name_of symbol (kinds rest.entry.tokens.now) ≡ Some (r.0.now, kinds r.1.tokens.now)) }
-    ensures behind { IfSome result (λ r. Behind rest.entry 2 r.1) }
+    ensures { Reads (symbol_name_of symbol) text_of (λ _. 2) rest.entry result }
 {
     name_at(symbol_at(rest, symbol)?)
 }
 
 /// A name and a symbol.
 pub fn name_symbol_at<'a>(rest: Rest<'a>, symbol: Symbol) -> Option<(&'a [u8], Rest<'a>)>
-    ensures read { MatchOption result (name_symbol_of symbol (kinds rest.entry.tokens.now) ≡ None) (λ r. name_symbol_of symbol (kinds rest.entry.tokens.now) ≡ Some (r.0.now, kinds r.1.tokens.now)) }
-    ensures behind { IfSome result (λ r. Behind rest.entry 2 r.1) }
+    ensures { Reads (name_symbol_of symbol) text_of (λ _. 2) rest.entry result }
 {
     let (name, behind) = name_at(rest)?;
     Some((name, symbol_at(behind, symbol)?))
@@ -86,8 +81,7 @@ pub fn word_name_at<'a>(
     word: Keyword,
     symbol: Symbol,
 ) -> Option<(&'a [u8], Rest<'a>)>
-    ensures read { MatchOption result (word_name_of word symbol (kinds rest.entry.tokens.now) ≡ None) (λ r. word_name_of word symbol (kinds rest.entry.tokens.now) ≡ Some (r.0.now, kinds r.1.tokens.now)) }
-    ensures behind { IfSome result (λ r. Behind rest.entry 3 r.1) }
+    ensures { Reads (word_name_of word symbol) text_of (λ _. 3) rest.entry result }
 {
     name_symbol_at(word_at(rest, word)?, symbol)
 }

@@ -1,9 +1,8 @@
 // Primitives, and the assignments of `init`.
-ghost use Rattle.std.specs.Prelude.{◌≡◌, ◌+◌, IfSome, MatchOption, Some, None};
-ghost use Rattle.plc_syntax.specs.Syntax.{kinds};
+ghost use Rattle.std.specs.Prelude.{◌+◌, Some};
 ghost use Rattle.plc_forms.specs.Forms.{named_of, primitive_of, primitive_line_of, initial_of, initial_line_of};
 ghost use Rattle.plc_forms.specs.Sizes.{primitive_size, initial_size};
-ghost use Rattle.plc_forms.specs.Views.{Behind, primitive_tree, initial_tree};
+ghost use Rattle.plc_forms.specs.Views.{primitive_tree, initial_tree, Reads};
 
 use crate::assignment::{ghost_set_at, refresh_at, set_at};
 use crate::condition::test_at;
@@ -15,8 +14,7 @@ use plc_lex::{Keyword, TokenKind};
 
 // A primitive that begins with a name.
 fn named_at<'a>(rest: Rest<'a>) -> Option<(Primitive<'a>, Rest<'a>)>
-    ensures read { MatchOption result (named_of (kinds rest.entry.tokens.now) ≡ None) (λ r. named_of (kinds rest.entry.tokens.now) ≡ Some (primitive_tree r.0, kinds r.1.tokens.now)) }
-    ensures behind { IfSome result (λ r. Behind rest.entry (primitive_size (primitive_tree r.0)) r.1) }
+    ensures { Reads named_of primitive_tree primitive_size rest.entry result }
 {
     if let Some((set, behind)) = set_at(rest) {
         return Some((Primitive::Set(set), behind));
@@ -27,8 +25,7 @@ fn named_at<'a>(rest: Rest<'a>) -> Option<(Primitive<'a>, Rest<'a>)>
 
 // A primitive, without its semicolon.
 fn primitive_at<'a>(rest: Rest<'a>) -> Option<(Primitive<'a>, Rest<'a>)>
-    ensures read { MatchOption result (primitive_of (kinds rest.entry.tokens.now) ≡ None) (λ r. primitive_of (kinds rest.entry.tokens.now) ≡ Some (primitive_tree r.0, kinds r.1.tokens.now)) }
-    ensures behind { IfSome result (λ r. Behind rest.entry (primitive_size (primitive_tree r.0)) r.1) }
+    ensures { Reads primitive_of primitive_tree primitive_size rest.entry result }
 {
     match first(rest)? {
         (TokenKind::Word(Keyword::Skip), behind) => Some((Primitive::Skip, behind)),
@@ -50,8 +47,7 @@ fn primitive_at<'a>(rest: Rest<'a>) -> Option<(Primitive<'a>, Rest<'a>)>
 
 /// A primitive and its semicolon.
 pub fn primitive_line_at<'a>(rest: Rest<'a>) -> Option<(Primitive<'a>, Rest<'a>)>
-    ensures read { MatchOption result (primitive_line_of (kinds rest.entry.tokens.now) ≡ None) (λ r. primitive_line_of (kinds rest.entry.tokens.now) ≡ Some (primitive_tree r.0, kinds r.1.tokens.now)) }
-    ensures behind { IfSome result (λ r. Behind rest.entry (primitive_size (primitive_tree r.0) + 1) r.1) }
+    ensures { Reads primitive_line_of primitive_tree (λ t. primitive_size t + 1) rest.entry result }
 {
     let (primitive, behind) = primitive_at(rest)?;
     Some((primitive, semicolon_at(behind)?))
@@ -59,8 +55,7 @@ pub fn primitive_line_at<'a>(rest: Rest<'a>) -> Option<(Primitive<'a>, Rest<'a>)
 
 // An assignment of `init`, without its semicolon.
 fn initial_at<'a>(rest: Rest<'a>) -> Option<(Initial<'a>, Rest<'a>)>
-    ensures read { MatchOption result (initial_of (kinds rest.entry.tokens.now) ≡ None) (λ r. initial_of (kinds rest.entry.tokens.now) ≡ Some (initial_tree r.0, kinds r.1.tokens.now)) }
-    ensures behind { IfSome result (λ r. Behind rest.entry (initial_size (initial_tree r.0)) r.1) }
+    ensures { Reads initial_of initial_tree initial_size rest.entry result }
 {
     if let Some((set, behind)) = set_at(rest) {
         return Some((Initial::Set(set), behind));
@@ -71,8 +66,7 @@ fn initial_at<'a>(rest: Rest<'a>) -> Option<(Initial<'a>, Rest<'a>)>
 
 /// An assignment of `init` and its semicolon.
 pub fn initial_line_at<'a>(rest: Rest<'a>) -> Option<(Initial<'a>, Rest<'a>)>
-    ensures read { MatchOption result (initial_line_of (kinds rest.entry.tokens.now) ≡ None) (λ r. initial_line_of (kinds rest.entry.tokens.now) ≡ Some (initial_tree r.0, kinds r.1.tokens.now)) }
-    ensures behind { IfSome result (λ r. Behind rest.entry (initial_size (initial_tree r.0) + 1) r.1) }
+    ensures { Reads initial_line_of initial_tree (λ t. initial_size t + 1) rest.entry result }
 {
     let (initial, behind) = initial_at(rest)?;
     Some((initial, semicolon_at(behind)?))

@@ -1,9 +1,9 @@
 // Statements other than primitives.
-ghost use Rattle.std.specs.Prelude.{◌≡◌, ◌+◌, IfSome, MatchOption, Some, None};
+ghost use Rattle.std.specs.Prelude.{◌≡◌, Some, None};
 ghost use Rattle.plc_syntax.specs.Syntax.{kinds};
 ghost use Rattle.plc_forms.specs.Forms.{atomic_of, if_of, else_of, choose_of, or_of, loop_of, break_of, return_of, label_of, active_name_of, argument_of, call_of, during_name_of, during_of};
 ghost use Rattle.plc_forms.specs.Sizes.{argument_size, call_size, during_size};
-ghost use Rattle.plc_forms.specs.Views.{Behind, text_or_none, argument_tree, call_tree};
+ghost use Rattle.plc_forms.specs.Views.{Behind, text_or_none, argument_tree, call_tree, Passes, Reads, text_of};
 
 use crate::declaration::parenthesis_at;
 use crate::form::{Argument, Call};
@@ -13,80 +13,70 @@ use plc_lex::{Keyword, Symbol};
 
 /// The first word of a step of several primitives, and its opening brace.
 pub fn atomic_at<'a>(rest: Rest<'a>) -> Option<Rest<'a>>
-    ensures read { MatchOption result (atomic_of (kinds rest.entry.tokens.now) ≡ None) (λ r. atomic_of (kinds rest.entry.tokens.now) ≡ Some (kinds r.tokens.now)) }
-    ensures behind { IfSome result (λ r. Behind rest.entry 2 r) }
+    ensures { Passes atomic_of 2 rest.entry result }
 {
     word_symbol_at(rest, Keyword::Atomic, Symbol::OpenBrace)
 }
 
 /// The first word of an `if` and its opening parenthesis.
 pub fn if_at<'a>(rest: Rest<'a>) -> Option<Rest<'a>>
-    ensures read { MatchOption result (if_of (kinds rest.entry.tokens.now) ≡ None) (λ r. if_of (kinds rest.entry.tokens.now) ≡ Some (kinds r.tokens.now)) }
-    ensures behind { IfSome result (λ r. Behind rest.entry 2 r) }
+    ensures { Passes if_of 2 rest.entry result }
 {
     word_symbol_at(rest, Keyword::If, Symbol::OpenParen)
 }
 
 /// The word before the second block of an `if`, and its opening brace.
 pub fn else_at<'a>(rest: Rest<'a>) -> Option<Rest<'a>>
-    ensures read { MatchOption result (else_of (kinds rest.entry.tokens.now) ≡ None) (λ r. else_of (kinds rest.entry.tokens.now) ≡ Some (kinds r.tokens.now)) }
-    ensures behind { IfSome result (λ r. Behind rest.entry 2 r) }
+    ensures { Passes else_of 2 rest.entry result }
 {
     word_symbol_at(rest, Keyword::Else, Symbol::OpenBrace)
 }
 
 /// The first word of a choice and its opening brace.
 pub fn choose_at<'a>(rest: Rest<'a>) -> Option<Rest<'a>>
-    ensures read { MatchOption result (choose_of (kinds rest.entry.tokens.now) ≡ None) (λ r. choose_of (kinds rest.entry.tokens.now) ≡ Some (kinds r.tokens.now)) }
-    ensures behind { IfSome result (λ r. Behind rest.entry 2 r) }
+    ensures { Passes choose_of 2 rest.entry result }
 {
     word_symbol_at(rest, Keyword::Choose, Symbol::OpenBrace)
 }
 
 /// The word before a further block of a choice, and its opening brace.
 pub fn or_at<'a>(rest: Rest<'a>) -> Option<Rest<'a>>
-    ensures read { MatchOption result (or_of (kinds rest.entry.tokens.now) ≡ None) (λ r. or_of (kinds rest.entry.tokens.now) ≡ Some (kinds r.tokens.now)) }
-    ensures behind { IfSome result (λ r. Behind rest.entry 2 r) }
+    ensures { Passes or_of 2 rest.entry result }
 {
     word_symbol_at(rest, Keyword::Or, Symbol::OpenBrace)
 }
 
 /// The first word of a loop and its opening brace.
 pub fn loop_at<'a>(rest: Rest<'a>) -> Option<Rest<'a>>
-    ensures read { MatchOption result (loop_of (kinds rest.entry.tokens.now) ≡ None) (λ r. loop_of (kinds rest.entry.tokens.now) ≡ Some (kinds r.tokens.now)) }
-    ensures behind { IfSome result (λ r. Behind rest.entry 2 r) }
+    ensures { Passes loop_of 2 rest.entry result }
 {
     word_symbol_at(rest, Keyword::Loop, Symbol::OpenBrace)
 }
 
 /// A `break` and its semicolon.
 pub fn break_at<'a>(rest: Rest<'a>) -> Option<Rest<'a>>
-    ensures read { MatchOption result (break_of (kinds rest.entry.tokens.now) ≡ None) (λ r. break_of (kinds rest.entry.tokens.now) ≡ Some (kinds r.tokens.now)) }
-    ensures behind { IfSome result (λ r. Behind rest.entry 2 r) }
+    ensures { Passes break_of 2 rest.entry result }
 {
     word_symbol_at(rest, Keyword::Break, Symbol::Semicolon)
 }
 
 /// A `return` and its semicolon.
 pub fn return_at<'a>(rest: Rest<'a>) -> Option<Rest<'a>>
-    ensures read { MatchOption result (return_of (kinds rest.entry.tokens.now) ≡ None) (λ r. return_of (kinds rest.entry.tokens.now) ≡ Some (kinds r.tokens.now)) }
-    ensures behind { IfSome result (λ r. Behind rest.entry 2 r) }
+    ensures { Passes return_of 2 rest.entry result }
 {
     word_symbol_at(rest, Keyword::Return, Symbol::Semicolon)
 }
 
 /// A label's name.
 pub fn label_at<'a>(rest: Rest<'a>) -> Option<(&'a [u8], Rest<'a>)>
-    ensures read { MatchOption result (label_of (kinds rest.entry.tokens.now) ≡ None) (λ r. label_of (kinds rest.entry.tokens.now) ≡ Some (r.0.now, kinds r.1.tokens.now)) }
-    ensures behind { IfSome result (λ r. Behind rest.entry 3 r.1) }
+    ensures { Reads label_of text_of (λ _. 3) rest.entry result }
 {
     word_name_at(rest, Keyword::Label, Symbol::Semicolon)
 }
 
 // A name that is claimed to be active.
 fn active_name_at<'a>(rest: Rest<'a>) -> Option<(&'a [u8], Rest<'a>)>
-    ensures read { MatchOption result (active_name_of (kinds rest.entry.tokens.now) ≡ None) (λ r. active_name_of (kinds rest.entry.tokens.now) ≡ Some (r.0.now, kinds r.1.tokens.now)) }
-    ensures behind { IfSome result (λ r. Behind rest.entry 2 r.1) }
+    ensures { Reads active_name_of text_of (λ _. 2) rest.entry result }
 {
     name_at(word_at(rest, Keyword::Active)?)
 }
@@ -110,8 +100,7 @@ fn argument_at<'a>(rest: Rest<'a>) -> (Argument<'a>, Rest<'a>)
 
 /// A call of a function, up to its closing parenthesis.
 pub fn call_at<'a>(rest: Rest<'a>) -> Option<(Call<'a>, Rest<'a>)>
-    ensures read { MatchOption result (call_of (kinds rest.entry.tokens.now) ≡ None) (λ r. call_of (kinds rest.entry.tokens.now) ≡ Some (call_tree r.0, kinds r.1.tokens.now)) }
-    ensures behind { IfSome result (λ r. Behind rest.entry (call_size (call_tree r.0).1) r.1) }
+    ensures { Reads call_of call_tree (λ t. call_size t.1) rest.entry result }
 {
     let (name, behind) = name_symbol_at(rest, Symbol::OpenParen)?;
     let (argument, behind) = argument_at(behind);
@@ -121,8 +110,7 @@ pub fn call_at<'a>(rest: Rest<'a>) -> Option<(Call<'a>, Rest<'a>)>
 
 // A label behind its word.
 fn during_name_at<'a>(rest: Rest<'a>) -> Option<(&'a [u8], Rest<'a>)>
-    ensures read { MatchOption result (during_name_of (kinds rest.entry.tokens.now) ≡ None) (λ r. during_name_of (kinds rest.entry.tokens.now) ≡ Some (r.0.now, kinds r.1.tokens.now)) }
-    ensures behind { IfSome result (λ r. Behind rest.entry 2 r.1) }
+    ensures { Reads during_name_of text_of (λ _. 2) rest.entry result }
 {
     name_at(word_at(rest, Keyword::During)?)
 }

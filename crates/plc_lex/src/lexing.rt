@@ -59,7 +59,8 @@ fn skip_blank<'a>(rest: Rest<'a>) -> Rest<'a>
 fn first_token<'a>(alloc: Global, rest: Rest<'a>) -> Result<(Token, Rest<'a>), LexFault>
     requires at_token { IsAtToken rest.bytes.now }
     requires some { 0 < length rest.bytes.now }
-    ensures reads { IfOk result (λ read. Reads rest.entry.at rest.entry.line rest.entry.bytes.now (read.0 ∷ []) read.1) }
+    ensures reads { IfOk result (λ read. Reads rest.entry.at rest.entry.line rest.entry.bytes.now
+        (read.0 ∷ []) read.1) }
     ensures smaller { IfOk result (λ read. length read.1.bytes.now < length rest.entry.bytes.now) }
     ensures err { IfErr result (StopsWith rest.entry.at rest.entry.bytes.now) }
 {

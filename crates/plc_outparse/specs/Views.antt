@@ -1,5 +1,9 @@
 -- The trees of the program's forms, and what is in reach. Names are those of the tokens, so a form stands for the tree with their bytes.
+use Rattle.std.specs.Prelude.{ℕ, List}
+use Rattle.plc_lex.specs.declared.token.TokenKind.{TokenKind}
+use Rattle.plc_syntax.specs.Syntax.{kinds}
 use Rattle.plc_syntax.specs.Trees.{TermTree, PlaceTerm, NullTerm, NumberTerm, MeTerm, NoneTerm, RetiredFlag, LiteralTree, FlagLiteral, NotLiteral, EqualityLiteral, BoundTree, NoBound, AllOf}
+use Rattle.plc_forms.specs.declared.rest.Rest.{Rest}
 use Rattle.plc_forms.specs.Views.{text_or_none, place_tree}
 use Rattle.plc_outparse.specs.declared.form.Side.{Side}
 use Rattle.plc_outparse.specs.declared.form.Side.TheVariants as sides
@@ -11,6 +15,8 @@ use Rattle.plc_outparse.specs.declared.form.Head.{Head}
 use Rattle.plc_outparse.specs.declared.form.Head.TheVariants as heads
 use Rattle.plc_outparse.specs.declared.reach.Reach.{Reach as InReach}
 use Rattle.plc_outparse.specs.Forms.{HeadTree, InvariantHead, OverHead, AtHead}
+use Rattle.plc_outparse.specs.declared.item.Parts.{Parts as PartsSoFar}
+use Rattle.plc_outparse.specs.Meaning.{Parts}
 use Rattle.plc_outparse.specs.Reach.{Reach}
 
 abbrev pub side_tree : Side → TermTree
@@ -36,3 +42,19 @@ head_tree (heads.At n) = AtHead n.now
 
 abbrev pub reach_of : InReach → Reach
 reach_of r = record { scope = r.scope.now; locals = r.locals.now; in_operation = r.in_operation; bound = r.bound.now }
+
+-- the kinds of the tokens that are left
+abbrev pub kinds_left : Rest → List TokenKind
+kinds_left rest = kinds rest.tokens.now
+
+-- what is read, with its end and what is left
+abbrev pub read_with : {A : Type 0} → A → Rest → (A × ℕ) × List TokenKind
+read_with a rest = ((a, rest.at), kinds_left rest)
+
+-- the parts so far, and the place behind them
+abbrev pub parts_at : PartsSoFar → ℕ → Parts
+parts_at parts at = (parts.invariants, parts.items, at)
+
+-- the parts that are read, with their end and what is left
+abbrev pub parts_with : PartsSoFar → Rest → Parts × List TokenKind
+parts_with parts rest = (parts_at parts rest.at, kinds_left rest)

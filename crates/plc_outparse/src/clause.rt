@@ -1,7 +1,6 @@
 // Clauses: their quantified names, which differ from all names in reach, and their literals.
-ghost use Rattle.std.specs.Prelude.{◌≡◌, ◌+◌, ◌<◌, ◌≤◌, ◌^◌, Result, IfOk, length};
+ghost use Rattle.std.specs.Prelude.{◌+◌, ◌<◌, ◌≤◌, ◌^◌, Result, IfOk, length};
 ghost use Rattle.plc_base.specs.Names.{place_of};
-ghost use Rattle.plc_syntax.specs.Syntax.{kinds};
 ghost use Rattle.plc_forms.specs.Views.{text_or_none};
 ghost use Rattle.plc_logic.specs.declared.clause.Literal.{Literal};
 ghost use Rattle.plc_scope.specs.declared.fault.ParseFault.{ParseFault};
@@ -12,7 +11,7 @@ ghost use Rattle.plc_scope.specs.Limits.{stands_at};
 ghost use Rattle.plc_outparse.specs.Meaning.{counted, literal_step, bound_with, second_bound, bound_means};
 ghost use Rattle.plc_outparse.specs.Reading.{literals_in, all_literals_in, clause_in, clause_line_in};
 ghost use Rattle.plc_outparse.specs.Sizes.{literal_size, bound_size};
-ghost use Rattle.plc_outparse.specs.Views.{literal_tree, quantified_tree, reach_of};
+ghost use Rattle.plc_outparse.specs.Views.{literal_tree, quantified_tree, reach_of, read_with, kinds_left};
 
 use crate::form::{LiteralForm, Quantified};
 use crate::literal_form::{literal_at, or_literal_at, quantified_at};
@@ -34,7 +33,8 @@ const MOST_LITERALS: usize = 16;
 // A name that differs from all before.
 fn add_name(names: &mut Names, name: &[u8], at: u32) -> Result<(), ParseFault>
     requires { HasRoomForBound names.old 1 }
-    ensures read { Gives (λ _. names.new) result (if_new (place_of name.now names.old.names) at (with_last names.old name.now)) }
+    ensures read { Gives (λ _. names.new) result
+        (if_new (place_of name.now names.old.names) at (with_last names.old name.now)) }
     ensures room { IfOk result (λ _. HasRoomForBound names.new 0) }
     ensures more { HasRoomForBound names.old 2 → IfOk result (λ _. HasRoomForBound names.new 1) }
 {
@@ -76,7 +76,8 @@ fn bind_second(
 ) -> Result<(), ParseFault>
     requires locals { length locals.now ≤ most_locals }
     requires room { HasRoomForBound bound.old 1 }
-    ensures read { Gives (λ _. bound.new) result (second_bound scope.now locals.now bound.old at (text_or_none name.entry)) }
+    ensures read { Gives (λ _. bound.new) result
+        (second_bound scope.now locals.now bound.old at (text_or_none name.entry)) }
 {
     match name {
         Some(name) => bind(scope, locals, bound, at, name),
@@ -115,7 +116,8 @@ fn counted(
     at: u32,
     meaning: Result<Literal, ParseFault>,
 ) -> Result<Literal, ParseFault>
-    ensures { (said : Result Literal ParseFault) → Gives (λ l. l) meaning said → Gives (λ l. l) result (counted count at said) }
+    ensures { (said : Result Literal ParseFault) → Gives (λ l. l) meaning said
+        → Gives (λ l. l) result (counted count at said) }
 {
     match meaning {
         Err(ParseFault::Memory) => Err(ParseFault::Memory),
@@ -138,7 +140,8 @@ fn add_literal(
 ) -> Result<(), ParseFault>
     requires locals { length reach.now.locals.now ≤ most_locals }
     requires place { at + 1 + literal_size (literal_tree form) < 2 ^ 32 }
-    ensures { Gives (λ _. (literals.new, at + 1 + literal_size (literal_tree form.entry))) result (literal_step (reach_of reach.now) (literals.old, at) (literal_tree form.entry)) }
+    ensures { Gives (λ _. (literals.new, at + 1 + literal_size (literal_tree form.entry))) result
+        (literal_step (reach_of reach.now) (literals.old, at) (literal_tree form.entry)) }
 {
     let further = counted(literals.len(), at + 1, literal(reach, at + 1, form))?;
     literals.push(further)?;
@@ -152,7 +155,8 @@ fn read_further_literals<'a>(
     start: Rest<'a>,
 ) -> Result<Rest<'a>, ParseFault>
     requires { length reach.now.locals.now ≤ most_locals }
-    ensures read { Gives (λ r. ((literals.new, r.at), kinds r.tokens.now)) result (literals_in (reach_of reach.now) (literals.old, start.entry.at) (kinds start.entry.tokens.now)) }
+    ensures read { Gives (read_with literals.new) result
+        (literals_in (reach_of reach.now) (literals.old, start.entry.at) (kinds_left start.entry)) }
     ensures place { IfOk result (λ r. Within start.entry r) }
 {
     let mut rest = start;
@@ -174,7 +178,8 @@ fn read_literals<'a>(
     start: Rest<'a>,
 ) -> Result<(Items<Literal>, Rest<'a>), ParseFault>
     requires { length reach.now.locals.now ≤ most_locals }
-    ensures read { Gives (λ r. ((r.0, r.1.at), kinds r.1.tokens.now)) result (all_literals_in (reach_of reach.now) start.entry.at (kinds start.entry.tokens.now)) }
+    ensures read { Gives (λ r. read_with r.0 r.1) result
+        (all_literals_in (reach_of reach.now) start.entry.at (kinds_left start.entry)) }
     ensures place { IfOk result (λ r. Within start.entry r.1) }
 {
     let Some((form, behind)) = literal_at(start) else {
@@ -196,7 +201,8 @@ fn read_clause<'a>(
     start: Rest<'a>,
 ) -> Result<(Clause, Rest<'a>), ParseFault>
     requires { length locals.now ≤ most_locals }
-    ensures read { Gives (λ r. ((r.0, r.1.at), kinds r.1.tokens.now)) result (clause_in scope.now locals.now in_operation start.entry.at (kinds start.entry.tokens.now)) }
+    ensures read { Gives (λ r. read_with r.0 r.1) result
+        (clause_in scope.now locals.now in_operation start.entry.at (kinds_left start.entry)) }
     ensures place { IfOk result (λ r. Within start.entry r.1) }
 {
     let Some((form, behind)) = quantified_at(start) else {
@@ -223,7 +229,8 @@ pub fn read_clause_line<'a>(
     start: Rest<'a>,
 ) -> Result<(Clause, Rest<'a>), ParseFault>
     requires { length locals.now ≤ most_locals }
-    ensures read { Gives (λ r. ((r.0, r.1.at), kinds r.1.tokens.now)) result (clause_line_in scope.now locals.now in_operation start.entry.at (kinds start.entry.tokens.now)) }
+    ensures read { Gives (λ r. read_with r.0 r.1) result
+        (clause_line_in scope.now locals.now in_operation start.entry.at (kinds_left start.entry)) }
     ensures place { IfOk result (λ r. Within start.entry r.1) }
 {
     let (clause, rest) = read_clause(alloc, scope, locals, in_operation, start)?;

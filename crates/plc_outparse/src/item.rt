@@ -1,12 +1,11 @@
 // The items of an outline, each with those before it. The limit's place is the first token of the item
 // past it.
-ghost use Rattle.std.specs.Prelude.{◌≡◌, ◌+◌, ◌<◌, ◌≤◌, ◌^◌, IfOk, length};
-ghost use Rattle.plc_syntax.specs.Syntax.{kinds};
+ghost use Rattle.std.specs.Prelude.{◌≡◌, ◌+◌, ◌<◌, ◌≤◌, IfOk, length};
 ghost use Rattle.plc_scope.specs.Answers.{Gives, Within};
 ghost use Rattle.plc_outparse.specs.Answers.{OpsFit};
 ghost use Rattle.plc_outparse.specs.Reading.{invariant_in, over_in, at_in, item_in, items_in};
 ghost use Rattle.plc_outparse.specs.Sizes.{head_size};
-ghost use Rattle.plc_outparse.specs.Views.{head_tree};
+ghost use Rattle.plc_outparse.specs.Views.{head_tree, parts_at, parts_with, kinds_left};
 
 use crate::clause::read_clause_line;
 use crate::form::Head;
@@ -42,7 +41,8 @@ fn read_invariant<'a>(
     start: Rest<'a>,
 ) -> Result<Rest<'a>, ParseFault>
     requires { start.at ≡ at + 1 }
-    ensures read { Gives (λ r. ((parts.new.invariants, parts.new.items, r.at), kinds r.tokens.now)) result (invariant_in scope.now (parts.old.invariants, parts.old.items, at) (kinds start.entry.tokens.now)) }
+    ensures read { Gives (parts_with parts.new) result
+        (invariant_in scope.now (parts_at parts.old at) (kinds_left start.entry)) }
     ensures place { IfOk result (λ r. Within start.entry r) }
 {
     if parts.invariants.len() == MOST_INVARIANTS {
@@ -78,7 +78,8 @@ fn read_over<'a>(
 ) -> Result<Rest<'a>, ParseFault>
     requires ops { OpsFit ops.now }
     requires head { start.at ≡ at + 3 }
-    ensures read { Gives (λ r. ((parts.new.invariants, parts.new.items, r.at), kinds r.tokens.now)) result (over_in scope.now ops.now (parts.old.invariants, parts.old.items, at) name.now (kinds start.entry.tokens.now)) }
+    ensures read { Gives (parts_with parts.new) result
+        (over_in scope.now ops.now (parts_at parts.old at) name.now (kinds_left start.entry)) }
     ensures place { IfOk result (λ r. Within start.entry r) }
 {
     if parts.items.len() == MOST_ITEMS {
@@ -107,7 +108,8 @@ fn read_at<'a>(
     requires labels { length scope.now.labels ≤ 256 }
     requires ops { OpsFit ops.now }
     requires head { start.at ≡ at + 2 }
-    ensures read { Gives (λ r. ((parts.new.invariants, parts.new.items, r.at), kinds r.tokens.now)) result (at_in scope.now ops.now by_op.now (parts.old.invariants, parts.old.items, at) name.now (kinds start.entry.tokens.now)) }
+    ensures read { Gives (parts_with parts.new) result
+        (at_in scope.now ops.now by_op.now (parts_at parts.old at) name.now (kinds_left start.entry)) }
     ensures place { IfOk result (λ r. Within start.entry r) }
 {
     if parts.items.len() == MOST_ITEMS {
@@ -136,7 +138,8 @@ fn read_item<'a>(
     requires labels { length scope.now.labels ≤ 256 }
     requires ops { OpsFit ops.now }
     requires head { start.at ≡ at + head_size (head_tree head) }
-    ensures read { Gives (λ r. ((parts.new.invariants, parts.new.items, r.at), kinds r.tokens.now)) result (item_in scope.now ops.now by_op.now (parts.old.invariants, parts.old.items, at) (head_tree head.entry) (kinds start.entry.tokens.now)) }
+    ensures read { Gives (parts_with parts.new) result
+        (item_in scope.now ops.now by_op.now (parts_at parts.old at) (head_tree head.entry) (kinds_left start.entry)) }
     ensures place { IfOk result (λ r. Within start.entry r) }
 {
     match head {
@@ -157,7 +160,8 @@ pub fn read_items<'a>(
 ) -> Result<Rest<'a>, ParseFault>
     requires labels { length scope.now.labels ≤ 256 }
     requires ops { OpsFit ops.now }
-    ensures read { Gives (λ r. ((parts.new.invariants, parts.new.items, r.at), kinds r.tokens.now)) result (items_in scope.now ops.now by_op.now (parts.old.invariants, parts.old.items, start.entry.at) (kinds start.entry.tokens.now)) }
+    ensures read { Gives (parts_with parts.new) result
+        (items_in scope.now ops.now by_op.now (parts_at parts.old start.entry.at) (kinds_left start.entry)) }
     ensures place { IfOk result (λ r. Within start.entry r) }
 {
     let mut rest = start;

@@ -1,7 +1,6 @@
 // How items and the outline begin, and what stands between their parts.
-ghost use Rattle.std.specs.Prelude.{◌≡◌, ◌+◌, ◌-◌, IfSome, MatchOption, Some, None};
-ghost use Rattle.plc_syntax.specs.Syntax.{kinds};
-ghost use Rattle.plc_forms.specs.Views.{Behind};
+ghost use Rattle.std.specs.Prelude.{◌-◌, Some, None};
+ghost use Rattle.plc_forms.specs.Views.{Passes, Reads};
 ghost use Rattle.plc_outparse.specs.Forms.{item_head_of, colon_of, outline_head_of, number_line_of, depth_of};
 ghost use Rattle.plc_outparse.specs.Sizes.{head_size, depth_size};
 ghost use Rattle.plc_outparse.specs.Views.{head_tree};
@@ -12,8 +11,7 @@ use plc_lex::{Keyword, Symbol, TokenKind};
 
 /// How an item begins.
 pub fn head_at<'a>(rest: Rest<'a>) -> Option<(Head<'a>, Rest<'a>)>
-    ensures read { MatchOption result (item_head_of (kinds rest.entry.tokens.now) ≡ None) (λ r. item_head_of (kinds rest.entry.tokens.now) ≡ Some (head_tree r.0, kinds r.1.tokens.now)) }
-    ensures behind { IfSome result (λ r. Behind rest.entry (head_size (head_tree r.0)) r.1) }
+    ensures { Reads item_head_of head_tree head_size rest.entry result }
 {
     match first(rest)? {
         (TokenKind::Word(Keyword::Inv), behind) => Some((Head::Invariant, behind)),
@@ -31,24 +29,21 @@ pub fn head_at<'a>(rest: Rest<'a>) -> Option<(Head<'a>, Rest<'a>)>
 
 /// What stands behind labels.
 pub fn colon_at<'a>(rest: Rest<'a>) -> Option<Rest<'a>>
-    ensures read { MatchOption result (colon_of (kinds rest.entry.tokens.now) ≡ None) (λ r. colon_of (kinds rest.entry.tokens.now) ≡ Some (kinds r.tokens.now)) }
-    ensures behind { IfSome result (λ r. Behind rest.entry 1 r) }
+    ensures { Passes colon_of 1 rest.entry result }
 {
     symbol_at(rest, Symbol::Colon)
 }
 
 /// "outline" and an opening brace.
 pub fn outline_head_at<'a>(rest: Rest<'a>) -> Option<Rest<'a>>
-    ensures read { MatchOption result (outline_head_of (kinds rest.entry.tokens.now) ≡ None) (λ r. outline_head_of (kinds rest.entry.tokens.now) ≡ Some (kinds r.tokens.now)) }
-    ensures behind { IfSome result (λ r. Behind rest.entry 2 r) }
+    ensures { Passes outline_head_of 2 rest.entry result }
 {
     word_symbol_at(rest, Keyword::Outline, Symbol::OpenBrace)
 }
 
 // A number and a semicolon.
 fn number_line_at<'a>(rest: Rest<'a>) -> Option<(Option<u32>, Rest<'a>)>
-    ensures read { MatchOption result (number_line_of (kinds rest.entry.tokens.now) ≡ None) (λ r. number_line_of (kinds rest.entry.tokens.now) ≡ Some (r.0, kinds r.1.tokens.now)) }
-    ensures behind { IfSome result (λ r. Behind rest.entry (depth_size r.0 - 1) r.1) }
+    ensures { Reads number_line_of (λ x. x) (λ t. depth_size t - 1) rest.entry result }
 {
     match first(rest)? {
         (TokenKind::Number(n), behind) => {
@@ -61,8 +56,7 @@ fn number_line_at<'a>(rest: Rest<'a>) -> Option<(Option<u32>, Rest<'a>)>
 
 /// The depth of an outline, which may be left out.
 pub fn depth_at<'a>(rest: Rest<'a>) -> Option<(Option<u32>, Rest<'a>)>
-    ensures read { MatchOption result (depth_of (kinds rest.entry.tokens.now) ≡ None) (λ r. depth_of (kinds rest.entry.tokens.now) ≡ Some (r.0, kinds r.1.tokens.now)) }
-    ensures behind { IfSome result (λ r. Behind rest.entry (depth_size r.0) r.1) }
+    ensures { Reads depth_of (λ x. x) depth_size rest.entry result }
 {
     match first(rest) {
         Some((TokenKind::Word(Keyword::Depth), behind)) => number_line_at(behind),

@@ -1,8 +1,8 @@
 // Literals and the quantified names before them.
-ghost use Rattle.std.specs.Prelude.{◌≡◌, ◌+◌, ◌-◌, IfSome, MatchOption, Some, None};
+ghost use Rattle.std.specs.Prelude.{◌≡◌, ◌+◌, ◌-◌, MatchOption, Some, None};
 ghost use Rattle.plc_syntax.specs.Syntax.{kinds};
 ghost use Rattle.plc_syntax.specs.Trees.{RetiredFlag};
-ghost use Rattle.plc_forms.specs.Views.{Behind, text_or_none};
+ghost use Rattle.plc_forms.specs.Views.{Behind, text_or_none, Reads};
 ghost use Rattle.plc_outparse.specs.Forms.{term_of, equality_of, flag_of, equation_of, literal_of, or_literal_of, further_name_of, all_names_of, bound_of};
 ghost use Rattle.plc_outparse.specs.Sizes.{term_size, literal_size, bound_size};
 ghost use Rattle.plc_outparse.specs.Views.{side_tree, literal_tree, quantified_tree};
@@ -16,8 +16,7 @@ use plc_lex::{Keyword, Symbol, TokenKind};
 
 // A side of an equation.
 fn side_at<'a>(rest: Rest<'a>) -> Option<(Side<'a>, Rest<'a>)>
-    ensures read { MatchOption result (term_of (kinds rest.entry.tokens.now) ≡ None) (λ r. term_of (kinds rest.entry.tokens.now) ≡ Some (side_tree r.0, kinds r.1.tokens.now)) }
-    ensures behind { IfSome result (λ r. Behind rest.entry (term_size (side_tree r.0)) r.1) }
+    ensures { Reads term_of side_tree term_size rest.entry result }
 {
     match first(rest)? {
         (TokenKind::Word(Keyword::Null), behind) => Some((Side::Null, behind)),
@@ -33,8 +32,7 @@ fn side_at<'a>(rest: Rest<'a>) -> Option<(Side<'a>, Rest<'a>)>
 
 // What stands between the sides, and whether it says that they are equal.
 fn equality_at<'a>(rest: Rest<'a>) -> Option<(bool, Rest<'a>)>
-    ensures read { MatchOption result (equality_of (kinds rest.entry.tokens.now) ≡ None) (λ r. equality_of (kinds rest.entry.tokens.now) ≡ Some (r.0, kinds r.1.tokens.now)) }
-    ensures behind { IfSome result (λ r. Behind rest.entry 1 r.1) }
+    ensures { Reads equality_of (λ x. x) (λ _. 1) rest.entry result }
 {
     match first(rest)? {
         (TokenKind::Symbol(Symbol::Equal), behind) => Some((true, behind)),
@@ -45,8 +43,7 @@ fn equality_at<'a>(rest: Rest<'a>) -> Option<(bool, Rest<'a>)>
 
 // "retired", and a name in parentheses.
 fn flag_at<'a>(rest: Rest<'a>) -> Option<(&'a [u8], Rest<'a>)>
-    ensures read { MatchOption result (flag_of (kinds rest.entry.tokens.now) ≡ None) (λ r. flag_of (kinds rest.entry.tokens.now) ≡ Some (RetiredFlag r.0.now, kinds r.1.tokens.now)) }
-    ensures behind { IfSome result (λ r. Behind rest.entry 4 r.1) }
+    ensures { Reads flag_of (λ x. RetiredFlag x.now) (λ _. 4) rest.entry result }
 {
     let behind = word_symbol_at(rest, Keyword::Retired, Symbol::OpenParen)?;
     name_symbol_at(behind, Symbol::CloseParen)
@@ -54,8 +51,7 @@ fn flag_at<'a>(rest: Rest<'a>) -> Option<(&'a [u8], Rest<'a>)>
 
 // An equation or an inequation.
 fn equation_at<'a>(rest: Rest<'a>) -> Option<(LiteralForm<'a>, Rest<'a>)>
-    ensures read { MatchOption result (equation_of (kinds rest.entry.tokens.now) ≡ None) (λ r. equation_of (kinds rest.entry.tokens.now) ≡ Some (literal_tree r.0, kinds r.1.tokens.now)) }
-    ensures behind { IfSome result (λ r. Behind rest.entry (literal_size (literal_tree r.0)) r.1) }
+    ensures { Reads equation_of literal_tree literal_size rest.entry result }
 {
     let (left, behind) = side_at(rest)?;
     let (is_equal, behind) = equality_at(behind)?;
@@ -65,8 +61,7 @@ fn equation_at<'a>(rest: Rest<'a>) -> Option<(LiteralForm<'a>, Rest<'a>)>
 
 /// A literal.
 pub fn literal_at<'a>(rest: Rest<'a>) -> Option<(LiteralForm<'a>, Rest<'a>)>
-    ensures read { MatchOption result (literal_of (kinds rest.entry.tokens.now) ≡ None) (λ r. literal_of (kinds rest.entry.tokens.now) ≡ Some (literal_tree r.0, kinds r.1.tokens.now)) }
-    ensures behind { IfSome result (λ r. Behind rest.entry (literal_size (literal_tree r.0)) r.1) }
+    ensures { Reads literal_of literal_tree literal_size rest.entry result }
 {
     match first(rest)? {
         (TokenKind::Word(Keyword::Not), behind) => {
@@ -83,15 +78,15 @@ pub fn literal_at<'a>(rest: Rest<'a>) -> Option<(LiteralForm<'a>, Rest<'a>)>
 
 /// A further literal, behind its "or".
 pub fn or_literal_at<'a>(rest: Rest<'a>) -> Option<(LiteralForm<'a>, Rest<'a>)>
-    ensures read { MatchOption result (or_literal_of (kinds rest.entry.tokens.now) ≡ None) (λ r. or_literal_of (kinds rest.entry.tokens.now) ≡ Some (literal_tree r.0, kinds r.1.tokens.now)) }
-    ensures behind { IfSome result (λ r. Behind rest.entry (1 + literal_size (literal_tree r.0)) r.1) }
+    ensures { Reads or_literal_of literal_tree (λ t. 1 + literal_size t) rest.entry result }
 {
     literal_at(word_at(rest, Keyword::Or)?)
 }
 
 // A comma and a name, which may be left out.
 fn further_name_at<'a>(rest: Rest<'a>) -> (Option<&'a [u8]>, Rest<'a>)
-    ensures read { further_name_of (kinds rest.entry.tokens.now) ≡ (text_or_none result.0, kinds result.1.tokens.now) }
+    ensures read { further_name_of (kinds rest.entry.tokens.now)
+        ≡ (text_or_none result.0, kinds result.1.tokens.now) }
     ensures behind { MatchOption result.0 (Behind rest.entry 0 result.1) (λ n. Behind rest.entry 2 result.1) }
 {
     match comma_name_at(rest) {
@@ -102,8 +97,7 @@ fn further_name_at<'a>(rest: Rest<'a>) -> (Option<&'a [u8]>, Rest<'a>)
 
 // One or two names and a colon, from behind "all".
 fn all_names_at<'a>(rest: Rest<'a>) -> Option<(Quantified<'a>, Rest<'a>)>
-    ensures read { MatchOption result (all_names_of (kinds rest.entry.tokens.now) ≡ None) (λ r. all_names_of (kinds rest.entry.tokens.now) ≡ Some (quantified_tree r.0, kinds r.1.tokens.now)) }
-    ensures behind { IfSome result (λ r. Behind rest.entry (bound_size (quantified_tree r.0) - 1) r.1) }
+    ensures { Reads all_names_of quantified_tree (λ t. bound_size t - 1) rest.entry result }
 {
     let (first, behind) = name_at(rest)?;
     let (second, behind) = further_name_at(behind);
@@ -113,8 +107,7 @@ fn all_names_at<'a>(rest: Rest<'a>) -> Option<(Quantified<'a>, Rest<'a>)>
 
 /// The quantified names of a clause, which may be left out.
 pub fn quantified_at<'a>(rest: Rest<'a>) -> Option<(Quantified<'a>, Rest<'a>)>
-    ensures read { MatchOption result (bound_of (kinds rest.entry.tokens.now) ≡ None) (λ r. bound_of (kinds rest.entry.tokens.now) ≡ Some (quantified_tree r.0, kinds r.1.tokens.now)) }
-    ensures behind { IfSome result (λ r. Behind rest.entry (bound_size (quantified_tree r.0)) r.1) }
+    ensures { Reads bound_of quantified_tree bound_size rest.entry result }
 {
     match first(rest) {
         Some((TokenKind::Word(Keyword::All), behind)) => all_names_at(behind),

@@ -1,6 +1,5 @@
 // The outline of a file, which stands behind all operations.
 ghost use Rattle.std.specs.Prelude.{◌+◌, ◌<◌, ◌≤◌, ◌^◌, IfOk, IfErr, Ok, length};
-ghost use Rattle.plc_syntax.specs.Syntax.{kinds};
 ghost use Rattle.plc_scope.specs.Answers.{Gives, Within};
 ghost use Rattle.plc_outparse.specs.Answers.{OpsFit};
 ghost use Rattle.plc_outparse.specs.Fit.{OutlinesFit};
@@ -8,6 +7,8 @@ ghost use Rattle.plc_outparse.specs.Meaning.{depth_means};
 ghost use Rattle.plc_outparse.specs.Outlines.{Means, IsPartFault};
 ghost use Rattle.plc_outparse.specs.Reading.{depth_in, parts_in, outline_in};
 ghost use Rattle.plc_outparse.specs.Sizes.{depth_size};
+ghost use Rattle.plc_forms.specs.Views.{Reads};
+ghost use Rattle.plc_outparse.specs.Views.{read_with, kinds_left};
 
 use crate::item::{Parts, read_items};
 use crate::item_form::{depth_at, outline_head_at};
@@ -33,7 +34,7 @@ fn depth(at: u32, number: Option<u32>) -> Result<u8, ParseFault>
 
 #[tactic(auto, unfolding(crate::specs::Reading::depth_in))]
 fn read_depth<'a>(start: Rest<'a>) -> Result<(u8, Rest<'a>), ParseFault>
-    ensures read { Gives (λ r. ((r.0, r.1.at), kinds r.1.tokens.now)) result (depth_in start.entry.at (kinds start.entry.tokens.now)) }
+    ensures read { Gives (λ r. read_with r.0 r.1) result (depth_in start.entry.at (kinds_left start.entry)) }
     ensures place { IfOk result (λ r. Within start.entry r.1) }
 {
     match depth_at(start) {
@@ -53,7 +54,8 @@ fn read_parts<'a>(
 ) -> Result<(Outline, Rest<'a>), ParseFault>
     requires labels { length scope.now.labels ≤ 256 }
     requires ops { OpsFit ops.now }
-    ensures read { Gives (λ r. ((r.0, r.1.at), kinds r.1.tokens.now)) result (parts_in scope.now ops.now by_op.now start.entry.at (kinds start.entry.tokens.now)) }
+    ensures read { Gives (λ r. read_with r.0 r.1) result
+        (parts_in scope.now ops.now by_op.now start.entry.at (kinds_left start.entry)) }
     ensures place { IfOk result (λ r. Within start.entry r.1) }
 {
     let (depth, rest) = read_depth(start)?;
@@ -83,7 +85,8 @@ fn outline_at<'a>(
 ) -> Result<(Outline, Rest<'a>), ParseFault>
     requires labels { length scope.now.labels ≤ 256 }
     requires ops { OpsFit ops.now }
-    ensures read { Gives (λ r. ((r.0, r.1.at), kinds r.1.tokens.now)) result (outline_in scope.now ops.now start.entry.at (kinds start.entry.tokens.now)) }
+    ensures read { Gives (λ r. read_with r.0 r.1) result
+        (outline_in scope.now ops.now start.entry.at (kinds_left start.entry)) }
     ensures place { IfOk result (λ r. Within start.entry r.1) }
 {
     if let Some(place) = outline_fault(alloc, start.tokens)? {
@@ -113,9 +116,11 @@ pub fn read_outline<'a>(
 ) -> Result<(Outline, Rest<'a>), ParseFault>
     requires labels { length scope.now.labels ≤ 256 }
     requires ops { OpsFit ops.now }
-    ensures read { Gives (λ r. ((r.0, r.1.at), kinds r.1.tokens.now)) result (outline_in scope.now ops.now start.entry.at (kinds start.entry.tokens.now)) }
-    ensures ok { IfOk result (λ r. Means scope.now ops.now start.entry.at (kinds start.entry.tokens.now) (Ok (r.0, r.1.at)) (kinds r.1.tokens.now)) }
-    ensures fault { IfErr result (IsPartFault scope.now ops.now start.entry.at (kinds start.entry.tokens.now)) }
+    ensures read { Gives (λ r. read_with r.0 r.1) result
+        (outline_in scope.now ops.now start.entry.at (kinds_left start.entry)) }
+    ensures ok { IfOk result (λ r. Means scope.now ops.now start.entry.at (kinds_left start.entry)
+        (Ok (r.0, r.1.at)) (kinds_left r.1)) }
+    ensures fault { IfErr result (IsPartFault scope.now ops.now start.entry.at (kinds_left start.entry)) }
     ensures place { IfOk result (λ r. Within start.entry r.1) }
 {
     outline_at(alloc, scope, ops, start)

@@ -1,7 +1,6 @@
 // Where items put their clauses: over an operation, or at labels that stand in one operation. No local
 // is in reach where these are named.
 ghost use Rattle.std.specs.Prelude.{◌≡◌, ◌+◌, ◌<◌, ◌≤◌, ◌^◌, Some, IfOk, length};
-ghost use Rattle.plc_syntax.specs.Syntax.{kinds};
 ghost use Rattle.plc_base.specs.Names.{place_of};
 ghost use Rattle.plc_scope.specs.Answers.{Gives, Within};
 ghost use Rattle.plc_scope.specs.Scope.{most_locals};
@@ -9,6 +8,7 @@ ghost use Rattle.plc_outparse.specs.Answers.{OpsFit};
 ghost use Rattle.plc_lang.specs.Locals.{locals_of};
 ghost use Rattle.plc_outparse.specs.Meaning.{op_named, op_at, label_named, label_at, label_step};
 ghost use Rattle.plc_outparse.specs.Reading.{labels_in, all_labels_in};
+ghost use Rattle.plc_outparse.specs.Views.{read_with, kinds_left};
 
 use crate::item_form::colon_at;
 use crate::reach::known;
@@ -138,7 +138,8 @@ fn read_further_labels<'a>(
     start: Rest<'a>,
 ) -> Result<Rest<'a>, ParseFault>
     requires labels { length scope.now.labels ≤ 256 }
-    ensures read { Gives (λ r. ((labels.new, r.at), kinds r.tokens.now)) result (labels_in scope.now by_op.now op (labels.old, start.entry.at) (kinds start.entry.tokens.now)) }
+    ensures read { Gives (read_with labels.new) result
+        (labels_in scope.now by_op.now op (labels.old, start.entry.at) (kinds_left start.entry)) }
     ensures place { IfOk result (λ r. Within start.entry r) }
 {
     let mut rest = start;
@@ -165,7 +166,8 @@ pub fn read_labels<'a>(
 ) -> Result<(Items<u16>, usize, Rest<'a>), ParseFault>
     requires labels { length scope.now.labels ≤ 256 }
     requires name { start.at ≡ at + 1 }
-    ensures read { Gives (λ r. (((r.0, r.2.at), r.1), kinds r.2.tokens.now)) result (all_labels_in scope.now by_op.now at name.now (kinds start.entry.tokens.now)) }
+    ensures read { Gives (λ r. (((r.0, r.2.at), r.1), kinds_left r.2)) result
+        (all_labels_in scope.now by_op.now at name.now (kinds_left start.entry)) }
     ensures place { IfOk result (λ r. Within start.entry r.2) }
 {
     let (first, op) = label_at(scope, by_op, name, at)?;

@@ -66,7 +66,8 @@ fn name(reach: &Reach, at: u32, name: &[u8]) -> Result<(Term, Sort), ParseFault>
 fn field(reach: &Reach, at: u32, name: &[u8], field: &[u8]) -> Result<(Term, Sort), ParseFault>
     requires locals { length reach.now.locals.now ≤ most_locals }
     requires place { at + 3 < 2 ^ 32 }
-    ensures { Gives (λ r. (r.0, r.1)) result (place_means (reach_of reach.now) at (PlaceOf name.now (Some field.now))) }
+    ensures { Gives (λ r. (r.0, r.1)) result
+        (place_means (reach_of reach.now) at (PlaceOf name.now (Some field.now))) }
 {
     let base = base_at(reach, name, at)?;
     match as_field(base, kind_at(reach, field, at + 2)?) {

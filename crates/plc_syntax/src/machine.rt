@@ -19,7 +19,8 @@ pub fn start(alloc: Global, part: Part) -> Result<Vec<Expected>, AllocError>
 
 /// Reads one token, and says whether it fits.
 pub fn advance(stack: &mut Vec<Expected>, kind: &TokenKind) -> Result<bool, AllocError>
-    ensures read { IfOk result (λ read. read ≡ true → after_token (reverse stack.old.items) kind.now ≡ Some (reverse stack.new.items)) }
+    ensures read { IfOk result (λ read. read ≡ true
+        → after_token (reverse stack.old.items) kind.now ≡ Some (reverse stack.new.items)) }
     ensures stuck { IfOk result (λ read. read ≡ false → after_token (reverse stack.old.items) kind.now ≡ None) }
 {
     while let Some(next) = stack.pop() {
