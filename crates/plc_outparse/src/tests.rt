@@ -200,7 +200,10 @@ fn syntax_is_judged_before_names(rt: HostRuntime) -> Result<(), AllocError> {
         ("outline { inv z == null ; ; }", "Syntax { at: 7 }"),
         ("outline { inv z == null }", "Syntax { at: 6 }"),
         ("outline { inv z == null or ; }", "Syntax { at: 7 }"),
-        ("outline { inv z == null inv z == null; }", "Syntax { at: 6 }"),
+        (
+            "outline { inv z == null inv z == null; }",
+            "Syntax { at: 6 }",
+        ),
         ("outline { inv z == null; depth 1; }", "Syntax { at: 7 }"),
         ("outline { depth 2 }", "Syntax { at: 4 }"),
         ("outline { inv all z, y z == null; }", "Syntax { at: 7 }"),

@@ -1,7 +1,8 @@
 // Primitives that are one step: those of an atomic block and those of `init`. A step has at most 64,
 // of which one allocates; `skip` counts for none.
-ghost use Rattle.std.specs.Prelude.{◌≡◌, ◌==◌, ◌≤◌, if◌then◌else◌, Option, Some, Result, Ok, [], false, IfOk, length};
+ghost use Rattle.std.specs.Prelude.{◌≡◌, ◌==◌, ◌+◌, ◌≤◌, if◌then◌else◌, Option, Some, Result, Ok, [], false, IfOk, length};
 ghost use Rattle.plc_lang.specs.declared.syntax.Primitive.{Primitive};
+ghost use Rattle.plc_base.specs.Limits.{most};
 ghost use Rattle.plc_syntax.specs.Syntax.{kinds};
 ghost use Rattle.plc_scope.specs.declared.fault.ParseFault.{ParseFault};
 ghost use Rattle.plc_scope.specs.Answers.{Gives, Within};
@@ -15,23 +16,11 @@ use plc_lang::{Prim, is_new};
 use plc_scope::{ParseFault, Scope, initial, primitive};
 use std::alloc::Global;
 
-/// How many primitives a step may have.
-const MOST_PRIMITIVES: usize = 64;
-
 /// The primitives of a step so far, and whether one of them allocates.
 #[derive(Drop)]
 struct Step {
     primitives: Items<Prim>,
     has_new: bool,
-}
-
-fn too_many_primitives() -> ParseFault
-    ensures { result ≡ ParseFault.Limit What1.Prims 65 }
-{
-    ParseFault::Limit {
-        what: What1::Prims,
-        count: 65,
-    }
 }
 
 impl Step {
@@ -45,18 +34,23 @@ impl Step {
         }
     }
 
+    // Whether there are as many primitives as there may be.
+    fn is_full(&self) -> bool
+        ensures { result ≡ (length self.now.primitives == most What1.Prims) }
+    {
+        self.primitives.len() == What1::Prims.most() as usize
+    }
+
     // One more primitive.
     fn push(&mut self, primitive: Prim) -> Result<(), ParseFault>
-        ensures { Gives (λ _. (self.new.primitives, self.new.has_new)) result (with_form self.old.primitives self.old.has_new 0 (Ok (Some primitive))) }
+        ensures { Gives (λ _. (self.new.primitives, self.new.has_new)) result
+            (with_form self.old.primitives self.old.has_new 0 (Ok (Some primitive))) }
     {
-        if self.primitives.len() == MOST_PRIMITIVES {
-            return Err(too_many_primitives());
+        if self.is_full() {
+            return Err(ParseFault::past(What1::Prims));
         }
         if self.has_new && is_new(&primitive) {
-            return Err(ParseFault::Limit {
-                what: What1::News,
-                count: 2,
-            });
+            return Err(ParseFault::past(What1::News));
         }
         self.has_new = self.has_new || is_new(&primitive);
         self.primitives.push(primitive)?;
@@ -67,7 +61,8 @@ impl Step {
     // that token goes before it.
     fn add(&mut self, at: u32, meaning: Result<Option<Prim>, ParseFault>) -> Result<(), ParseFault>
         ensures { (said : Result (Option Primitive) ParseFault) → Gives (λ k. k) meaning said
-            → Gives (λ _. (self.new.primitives, self.new.has_new)) result (with_form self.old.primitives self.old.has_new at said) }
+            → Gives (λ _. (self.new.primitives, self.new.has_new)) result
+            (with_form self.old.primitives self.old.has_new at said) }
     {
         match meaning {
             Ok(Some(primitive)) => self.push(primitive),
@@ -79,10 +74,12 @@ impl Step {
 
     // A fault of a form, or that there is no room for the form.
     fn fault(&self, at: u32, fault: ParseFault) -> ParseFault
-        ensures { result ≡ (if stands_at at fault then fault else (if length self.now.primitives == 64 then ParseFault.Limit What1.Prims 65 else fault)) }
+        ensures { result ≡ (if stands_at at fault then fault
+            else (if length self.now.primitives == most What1.Prims
+            then ParseFault.Limit What1.Prims (most What1.Prims + 1) else fault)) }
     {
-        if self.primitives.len() == MOST_PRIMITIVES && !fault.stands_at(at) {
-            return too_many_primitives();
+        if self.is_full() && !fault.stands_at(at) {
+            return ParseFault::past(What1::Prims);
         }
         fault
     }
@@ -95,7 +92,8 @@ pub fn read_primitives<'a>(
     start: Rest<'a>,
 ) -> Result<(Items<Prim>, Rest<'a>), ParseFault>
     requires { length scope.now.locals ≤ most_locals }
-    ensures read { Gives (λ r. ((r.0, r.1.at), kinds r.1.tokens.now)) result (primitives_in scope.now start.entry.at (kinds start.entry.tokens.now)) }
+    ensures read { Gives (λ r. ((r.0, r.1.at), kinds r.1.tokens.now)) result
+        (primitives_in scope.now start.entry.at (kinds start.entry.tokens.now)) }
     ensures place { IfOk result (λ r. Within start.entry r.1) }
 {
     let mut step = Step::new(alloc);
@@ -117,7 +115,8 @@ pub fn read_initials<'a>(
     start: Rest<'a>,
 ) -> Result<(Items<Prim>, Rest<'a>), ParseFault>
     requires { length scope.now.locals ≤ most_locals }
-    ensures read { Gives (λ r. ((r.0, r.1.at), kinds r.1.tokens.now)) result (initials_in scope.now start.entry.at (kinds start.entry.tokens.now)) }
+    ensures read { Gives (λ r. ((r.0, r.1.at), kinds r.1.tokens.now)) result
+        (initials_in scope.now start.entry.at (kinds start.entry.tokens.now)) }
     ensures place { IfOk result (λ r. Within start.entry r.1) }
 {
     let mut step = Step::new(alloc);
