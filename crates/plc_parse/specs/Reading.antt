@@ -1,6 +1,6 @@
 -- A file's meaning, read off its tokens from left to right: what the program does, as a function on lists. Where a file's tokens could not go on as they do
 -- the answer is a fault of syntax, which no contract rests on. The trees' meaning is what is read of their tokens (`proofs/Law.antt`).
-use Rattle.std.specs.Prelude.{◌+◌, ℕ, zero, suc, Bool, true, false, ◌||◌, Option, Some, None, Result, Ok, Err, List, [], ◌∷◌, ◌++◌, length}
+use Rattle.std.specs.Prelude.{◌≡◌, ◌+◌, ℕ, zero, suc, Bool, true, false, ◌||◌, Option, Some, None, Result, Ok, Err, List, [], ◌∷◌, ◌++◌, length}
 use Rattle.plc_base.specs.declared.limits.What1.TheVariants as limits
 use Rattle.plc_base.specs.Limits.{most}
 use Rattle.plc_lex.specs.declared.token.TokenKind.{TokenKind}
@@ -13,6 +13,10 @@ use Rattle.plc_lang.specs.declared.syntax.Op.{Op}
 use Rattle.plc_lang.specs.Statements.{Statement, Atomic, Call, If, Choose, Loop, Break, Return, Label, Statements, Empty, Then, Blocks, NoBlock, And}
 use Rattle.plc_auto.specs.declared.observer.Observer.{Observer}
 use Rattle.plc_auto.specs.declared.observer.Observer.TheVariants.{Plain}
+use Rattle.plc_syntax.specs.Syntax.{kinds}
+use Rattle.plc_forms.specs.declared.rest.Rest.{Rest}
+use Rattle.plc_forms.specs.Views.{Behind}
+use Rattle.plc_scope.specs.Answers.{Gives}
 use Rattle.plc_forms.specs.Forms.{struct_of, field_of, shared_of, function_of, watch_of, ghost_of, thread_of, first_value_of, values_end_of, init_of, initial_line_of, head_of, name_of, comma_name_of, opening_of, closing_of, semicolon_of, atomic_of, if_of, condition_of, else_of, choose_of, or_of, loop_of, break_of, return_of, label_of, call_of, during_of, primitive_line_of}
 use Rattle.plc_forms.specs.Sizes.{initial_size, primitive_size, condition_size, call_size, during_size}
 use Rattle.plc_scope.specs.declared.fault.ParseFault.{ParseFault}
@@ -151,6 +155,14 @@ forms_in item means size at ts = do
   b ← each item (form_step means size) ([], false, at) ts
   behind ← wanted_at b.0.2 (closing_of b.1)
   Ok ((b.0.0, b.0.2 + 1), behind)
+
+-- a form at the front, what it means at its place, and what is behind it and its semicolon
+pub record FormRead {X : Type 0} (item : List TokenKind → Option (X × List TokenKind)) (means : ℕ → X → Result (Option Primitive) ParseFault) (size : X → ℕ)
+    (from : Rest) (meaning : Result (Option Primitive) ParseFault) (behind : Rest) : Type 0 where
+  pub tree : X
+  pub reads : item (kinds from.tokens.now) ≡ Some (tree, kinds behind.tokens.now)
+  pub is : Gives (λ k. k) meaning (means from.at tree)
+  pub place : Behind from (size tree + 1) behind
 
 -- the primitives of an atomic block and "}"
 unfoldable pub primitives_in : Scope → ℕ → List TokenKind → ReadTo (List Primitive × ℕ)

@@ -8,7 +8,7 @@ ghost use Rattle.plc_scope.specs.declared.fault.ParseFault.{ParseFault};
 ghost use Rattle.plc_scope.specs.Answers.{Gives, Within};
 ghost use Rattle.plc_scope.specs.Scope.{most_locals};
 ghost use Rattle.plc_scope.specs.Limits.{stands_at};
-ghost use Rattle.plc_parse.specs.Reading.{with_form, primitives_in, initials_in};
+ghost use Rattle.plc_parse.specs.Reading.{with_form, forms_in, primitives_in, initials_in};
 
 use plc_base::{Items, What1};
 use plc_forms::{Rest, closing_at, initial_line_at, primitive_line_at};
@@ -85,7 +85,112 @@ impl Step {
     }
 }
 
+/// The forms that a step is made of, each with its semicolon.
+trait StepForms {
+    ghost use Rattle.std.specs.Prelude.{◌≡◌, ◌<◌, ◌≤◌, ℕ, List, Option, Some, None, Result, MatchOption, length};
+    ghost use Rattle.plc_lex.specs.declared.token.TokenKind.{TokenKind};
+    ghost use Rattle.plc_lang.specs.declared.syntax.Primitive.{Primitive};
+    ghost use Rattle.plc_syntax.specs.Syntax.{kinds};
+    ghost use Rattle.plc_scope.specs.declared.fault.ParseFault.{ParseFault};
+    ghost use Rattle.plc_scope.specs.declared.scope.Scope.{Scope};
+    ghost use Rattle.plc_scope.specs.Scope.{most_locals};
+    ghost use Rattle.plc_parse.specs.Reading.{FormRead};
+
+    ghost Tree: { Type 0 };
+    ghost item: { List TokenKind → Option (Tree × List TokenKind) };
+    ghost means: { Scope → ℕ → Tree → Result (Option Primitive) ParseFault };
+    ghost size: { Tree → ℕ };
+
+    /// What the form at the front means, and what is behind it; none where no form stands there.
+    fn next<'a>(
+        scope: &Scope,
+        start: Rest<'a>,
+    ) -> Option<(Result<Option<Prim>, ParseFault>, Rest<'a>)>
+        requires { length scope.now.locals ≤ most_locals }
+        ensures { MatchOption result (item (kinds start.entry.tokens.now) ≡ None)
+            (λ r. FormRead item (means scope.now) size start.entry r.0 r.1) };
+
+    ghost shrinks: { (ts : List TokenKind) (x : Tree × List TokenKind)
+        → item ts ≡ Some x → length x.1 < length ts };
+}
+
+/// The forms of an atomic block.
+struct AtomicForms;
+
+impl StepForms for AtomicForms {
+    ghost use Rattle.plc_syntax.specs.Trees.{PrimitiveTree};
+    ghost use Rattle.plc_forms.specs.Forms.{primitive_line_of};
+    ghost use Rattle.plc_forms.specs.Sizes.{primitive_size};
+    ghost use Rattle.plc_forms.proofs.Shrinks.{primitive_line_shrinks};
+    ghost use Rattle.plc_scope.specs.Primitives.{primitive_means};
+
+    ghost Tree = { PrimitiveTree };
+    ghost item = { primitive_line_of };
+    ghost means = { primitive_means };
+    ghost size = { primitive_size };
+
+    fn next<'a>(
+        scope: &Scope,
+        start: Rest<'a>,
+    ) -> Option<(Result<Option<Prim>, ParseFault>, Rest<'a>)> {
+        let (form, behind) = primitive_line_at(start)?;
+        Some((primitive(scope, start.at, form), behind))
+    }
+
+    ghost shrinks = { primitive_line_shrinks };
+}
+
+/// The forms of `init`.
+struct InitialForms;
+
+impl StepForms for InitialForms {
+    ghost use Rattle.plc_syntax.specs.Trees.{InitialTree};
+    ghost use Rattle.plc_forms.specs.Forms.{initial_line_of};
+    ghost use Rattle.plc_forms.specs.Sizes.{initial_size};
+    ghost use Rattle.plc_forms.proofs.Shrinks.{initial_line_shrinks};
+    ghost use Rattle.plc_scope.specs.Primitives.{initial_means};
+
+    ghost Tree = { InitialTree };
+    ghost item = { initial_line_of };
+    ghost means = { initial_means };
+    ghost size = { initial_size };
+
+    fn next<'a>(
+        scope: &Scope,
+        start: Rest<'a>,
+    ) -> Option<(Result<Option<Prim>, ParseFault>, Rest<'a>)> {
+        let (form, behind) = initial_line_at(start)?;
+        Some((initial(scope, start.at, form), behind))
+    }
+
+    ghost shrinks = { initial_line_shrinks };
+}
+
+// Forms while there is one, and the closing brace.
+fn read_forms<'a, F: StepForms>(
+    alloc: Global,
+    scope: &Scope,
+    start: Rest<'a>,
+) -> Result<(Items<Prim>, Rest<'a>), ParseFault>
+    requires { length scope.now.locals ≤ most_locals }
+    ensures read { Gives (λ r. ((r.0, r.1.at), kinds r.1.tokens.now)) result
+        (forms_in F.item (F.means scope.now) F.size start.entry.at (kinds start.entry.tokens.now)) }
+    ensures place { IfOk result (λ r. Within start.entry r.1) }
+{
+    let mut step = Step::new(alloc);
+    let mut rest = start;
+    while let Some((meaning, behind)) = F::next(scope, rest) {
+        step.add(rest.at, meaning)?;
+        rest = behind;
+    }
+    match closing_at(rest) {
+        Some(behind) => Ok((step.primitives, behind)),
+        None => Err(ParseFault::Syntax { at: rest.at }),
+    }
+}
+
 /// The primitives of an atomic block, from behind its brace, and its closing brace.
+#[tactic(auto, unfolding(crate::specs::Reading::primitives_in))]
 pub fn read_primitives<'a>(
     alloc: Global,
     scope: &Scope,
@@ -96,19 +201,11 @@ pub fn read_primitives<'a>(
         (primitives_in scope.now start.entry.at (kinds start.entry.tokens.now)) }
     ensures place { IfOk result (λ r. Within start.entry r.1) }
 {
-    let mut step = Step::new(alloc);
-    let mut rest = start;
-    while let Some((form, behind)) = primitive_line_at(rest) {
-        step.add(rest.at, primitive(scope, rest.at, form))?;
-        rest = behind;
-    }
-    match closing_at(rest) {
-        Some(behind) => Ok((step.primitives, behind)),
-        None => Err(ParseFault::Syntax { at: rest.at }),
-    }
+    read_forms::<AtomicForms>(alloc, scope, start)
 }
 
 /// The primitives of `init`, from behind its brace, and its closing brace.
+#[tactic(auto, unfolding(crate::specs::Reading::initials_in))]
 pub fn read_initials<'a>(
     alloc: Global,
     scope: &Scope,
@@ -119,14 +216,5 @@ pub fn read_initials<'a>(
         (initials_in scope.now start.entry.at (kinds start.entry.tokens.now)) }
     ensures place { IfOk result (λ r. Within start.entry r.1) }
 {
-    let mut step = Step::new(alloc);
-    let mut rest = start;
-    while let Some((form, behind)) = initial_line_at(rest) {
-        step.add(rest.at, initial(scope, rest.at, form))?;
-        rest = behind;
-    }
-    match closing_at(rest) {
-        Some(behind) => Ok((step.primitives, behind)),
-        None => Err(ParseFault::Syntax { at: rest.at }),
-    }
+    read_forms::<InitialForms>(alloc, scope, start)
 }
