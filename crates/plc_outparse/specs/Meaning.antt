@@ -108,8 +108,8 @@ literal_means r at (EqualityLiteral a is_equal b) = do
 
 -- a literal with n before it; past the limit only a fault of its first token goes first
 abbrev pub counted : ℕ → ℕ → Result Literal ParseFault → Result Literal ParseFault
-counted n at (Ok l) = within_limit n 16 limits.Literals (Ok l)
-counted n at (Err e) = if stands_at at e then Err e else within_limit n 16 limits.Literals (Err e)
+counted n at (Ok l) = within_limit n limits.Literals (Ok l)
+counted n at (Err e) = if stands_at at e then Err e else within_limit n limits.Literals (Err e)
 
 -- the literals so far, and the place
 abbrev pub Literals : Type 0
@@ -235,14 +235,14 @@ with_item st site c = (st.0, st.1 ++ record { site = site; clause = c.0 } ∷ []
 
 -- an item with those before it; an invariant names no local and no thread
 unfoldable pub item_step : Scope → List Op → List (List ℕ) → Parts → ItemTree → Result Parts ParseFault
-item_step s ops by_op st (InvariantItem c) = within_limit (length st.0) 64 limits.Invariants (do
+item_step s ops by_op st (InvariantItem c) = within_limit (length st.0) limits.Invariants (do
   k ← clause_line_means s [] false (st.2 + 1) c
   Ok (with_invariant st k))
-item_step s ops by_op st (OverItem name c) = within_limit (length st.1) 256 limits.Items (do
+item_step s ops by_op st (OverItem name c) = within_limit (length st.1) limits.Items (do
   o ← op_at s ops name (st.2 + 1)
   k ← clause_line_means s (locals_of ops o) true (st.2 + 3) c
   Ok (with_item st (Over (record { 0 = o })) k))
-item_step s ops by_op st (AtItem name names c) = within_limit (length st.1) 256 limits.Items (do
+item_step s ops by_op st (AtItem name names c) = within_limit (length st.1) limits.Items (do
   ls ← labels_mean s by_op (st.2 + 1) name names
   k ← clause_line_means s (locals_of ops ls.1) true ls.0.1 c
   Ok (with_item st (At ls.0.0) k))

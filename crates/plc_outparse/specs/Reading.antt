@@ -90,20 +90,20 @@ all_labels_in s by_op at name ts = do
 
 -- an invariant, from behind its word
 unfoldable pub invariant_in : Scope → Parts → List TokenKind → ReadTo Parts
-invariant_in s st ts = within_limit (length st.0) 64 limits.Invariants (do
+invariant_in s st ts = within_limit (length st.0) limits.Invariants (do
   c ← clause_line_in s [] false (st.2 + 1) ts
   Ok (with_invariant st c.0, c.1))
 
 -- an item over an operation, from behind its colon
 unfoldable pub over_in : Scope → List Op → Parts → Text → List TokenKind → ReadTo Parts
-over_in s ops st name ts = within_limit (length st.1) 256 limits.Items (do
+over_in s ops st name ts = within_limit (length st.1) limits.Items (do
   o ← op_at s ops name (st.2 + 1)
   c ← clause_line_in s (locals_of ops o) true (st.2 + 3) ts
   Ok (with_item st (Over (record { 0 = o })) c.0, c.1))
 
 -- an item at labels, from behind the first one's name
 unfoldable pub at_in : Scope → List Op → List (List ℕ) → Parts → Text → List TokenKind → ReadTo Parts
-at_in s ops by_op st name ts = within_limit (length st.1) 256 limits.Items (do
+at_in s ops by_op st name ts = within_limit (length st.1) limits.Items (do
   ls ← all_labels_in s by_op (st.2 + 1) name ts
   c ← clause_line_in s (locals_of ops ls.0.1) true ls.0.0.1 ls.1
   Ok (with_item st (At ls.0.0.0) c.0, c.1))

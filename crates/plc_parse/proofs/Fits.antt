@@ -2,6 +2,9 @@
 use Rattle.std.proofs.Common.{◌≡◌, ◌==◌, ℕ, ◌+◌, ◌≤◌, ◌<◌, Bool, true, false, ◌&&◌, ◌||◌, Option, Some, None, Result, Ok, Err, List, [], ◌∷◌, ◌++◌, length, slice_get, refl, ◌∙◌, ap, arith}
 use Rattle.std.proofs.lemmas.Bool.{eqb-false}
 use Rattle.std.proofs.lemmas.List.{length-append}
+use Rattle.plc_base.specs.Limits.{most}
+use Rattle.plc_base.specs.declared.limits.What1.{What1}
+use Rattle.plc_base.specs.declared.limits.What1.TheVariants as limits
 use Rattle.plc_base.specs.Names.{place_of}
 use Rattle.plc_lang.specs.Fit.{OpFits, FileFits, StatementFits, StatementsFit, BlocksFit}
 use Rattle.plc_lang.specs.declared.syntax.Primitive.{Primitive}
@@ -16,7 +19,7 @@ use Rattle.plc_scope.specs.declared.fault.ParseFault.TheVariants as faults
 use Rattle.plc_scope.specs.declared.scope.Scope.{Scope}
 use Rattle.plc_scope.specs.declared.binding.Binding.{Binding}
 use Rattle.plc_scope.specs.declared.binding.Binding.TheVariants.{Taken, Value}
-use Rattle.plc_scope.specs.Scope.{◌>>=◌, if_new, first_scope, with_name, with_label, declared, declared_label, has_local, may_name_local, local_number, with_local, declared_local, declared_parameter}
+use Rattle.plc_scope.specs.Scope.{◌>>=◌, most_locals, if_new, first_scope, with_name, with_label, declared, declared_label, has_local, may_name_local, local_number, with_local, declared_local, declared_parameter}
 use Rattle.plc_scope.specs.Primitives.{primitive_means, initial_means, condition_means, call_means}
 use Rattle.plc_parse.specs.declared.unit.Unit.{Unit as FileUnit}
 use Rattle.plc_scope.specs.Limits.{stands_at}
@@ -29,7 +32,7 @@ use Rattle.plc_parse.proofs.Holds.{OneHas, EachHas, one_name, each_has, Free}
 -- no local is in reach, and there are few labels
 record Between (s : Scope) : Type 0 where
   locals : s.locals ≡ []
-  labels : length s.labels ≤ 256
+  labels : length s.labels ≤ most limits.Labels
 
 declared_between : (s : Scope) (name : Text) (at : ℕ) (b : Binding) → Between s → Has Between (declared s name at b)
 declared_between s name at b h = new (place_of name s.names.names)
@@ -39,75 +42,75 @@ declared_between s name at b h = new (place_of name s.names.names)
     new (Some i) = tt
 
 -- within a limit
-record Room (limit n : ℕ) (s : Scope) : Type 0 where
-  count : n ≤ limit
+record Room (what : What1) (n : ℕ) (s : Scope) : Type 0 where
+  count : n ≤ most what
   between : Between s
 
-room_for : (limit n : ℕ) (s : Scope) (name : Text) (at : ℕ) (b : Binding) → Room limit n s → (n == limit) ≡ false → Has (Room limit (n + 1)) (declared s name at b)
-room_for limit n s name at b h few = weaker Between (Room limit (n + 1)) (declared s name at b) (λ t k. record { count = omega (arith, h.count, eqb-false n limit few); between = k }) (declared_between s name at b h.between)
+room_for : (what : What1) (n : ℕ) (s : Scope) (name : Text) (at : ℕ) (b : Binding) → Room what n s → (n == most what) ≡ false → Has (Room what (n + 1)) (declared s name at b)
+room_for what n s name at b h few = weaker Between (Room what (n + 1)) (declared s name at b) (λ t k. record { count = omega (arith, h.count, eqb-false n (most what) few); between = k }) (declared_between s name at b h.between)
 
 -- nothing was declared of a kind
-room : {limit : ℕ} {s : Scope} → Between s → Room limit 0 s
+room : {what : What1} {s : Scope} → Between s → Room what 0 s
 room h = record { count = omega arith; between = h }
 
-field_fits : (s : Scope) (n at : ℕ) (f : FieldTree) → Room 8 n s → Has (OneHas Free (Room 8) n) (field_means s n at f)
-field_fits s n at (PointerField name) h = one_name Free (Room 8) n 8 _ s name (at + 1) _ _ _ tt (room_for 8 n s name (at + 1) _ h)
-field_fits s n at (DataField name) h = one_name Free (Room 8) n 8 _ s name (at + 1) _ _ _ tt (room_for 8 n s name (at + 1) _ h)
+field_fits : (s : Scope) (n at : ℕ) (f : FieldTree) → Room limits.Fields n s → Has (OneHas Free (Room limits.Fields) n) (field_means s n at f)
+field_fits s n at (PointerField name) h = one_name Free (Room limits.Fields) n limits.Fields s name (at + 1) _ _ _ tt (room_for limits.Fields n s name (at + 1) _ h)
+field_fits s n at (DataField name) h = one_name Free (Room limits.Fields) n limits.Fields s name (at + 1) _ _ _ tt (room_for limits.Fields n s name (at + 1) _ h)
 
-pointer_fits : (s : Scope) (n at : ℕ) (name : Text) → Room 16 n s → Has (OneHas Free (Room 16) n) (shared_means s n at name)
-pointer_fits s n at name h = one_name Free (Room 16) n 16 _ s name (at + 1) _ _ _ tt (room_for 16 n s name (at + 1) _ h)
+pointer_fits : (s : Scope) (n at : ℕ) (name : Text) → Room limits.Shared n s → Has (OneHas Free (Room limits.Shared) n) (shared_means s n at name)
+pointer_fits s n at name h = one_name Free (Room limits.Shared) n limits.Shared s name (at + 1) _ _ _ tt (room_for limits.Shared n s name (at + 1) _ h)
 
-function_fits : (s : Scope) (n at : ℕ) (f : FunctionTree) → Room 16 n s → Has (OneHas Free (Room 16) n) (function_means s n at f)
-function_fits s n at (Declares name p) h = one_name Free (Room 16) n 16 _ s name (at + 1) _ _ _ tt (room_for 16 n s name (at + 1) _ h)
+function_fits : (s : Scope) (n at : ℕ) (f : FunctionTree) → Room limits.Calls n s → Has (OneHas Free (Room limits.Calls) n) (function_means s n at f)
+function_fits s n at (Declares name p) h = one_name Free (Room limits.Calls) n limits.Calls s name (at + 1) _ _ _ tt (room_for limits.Calls n s name (at + 1) _ h)
 
 -- ---- auxiliary fields
 
 record ValueFits (n : ℕ) (r : ℕ × Scope) : Type 0 where
-  before : n < 16
+  before : n < most limits.Values
   between : Between r.1
 
 record ValuesFit (n : ℕ) (r : List ℕ × Scope × ℕ) : Type 0 where
-  count : n + length r.0 ≤ 16
+  count : n + length r.0 ≤ most limits.Values
   between : Between r.1
 
-value_fits : (s : Scope) (g n at : ℕ) (name : Text) → n ≤ 16 → Between s → Has (ValueFits n) (value_means s g n at name)
-value_fits s g n at name le h = next Between (ValueFits n) (declared s name at (Value g n)) _ (declared_between s name at (Value g n) h) (λ t k. below (ValueFits n) n 16 _ _ le (λ less. record { before = less; between = k }))
+value_fits : (s : Scope) (g n at : ℕ) (name : Text) → n ≤ most limits.Values → Between s → Has (ValueFits n) (value_means s g n at name)
+value_fits s g n at name le h = next Between (ValueFits n) (declared s name at (Value g n)) _ (declared_between s name at (Value g n) h) (λ t k. below (ValueFits n) n (most limits.Values) _ _ le (λ less. record { before = less; between = k }))
 
-values_fit : (s : Scope) (g n at : ℕ) (names : List Text) → n ≤ 16 → Between s → Has (ValuesFit n) (values_mean s g n at names)
+values_fit : (s : Scope) (g n at : ℕ) (names : List Text) → n ≤ most limits.Values → Between s → Has (ValuesFit n) (values_mean s g n at names)
 values_fit s g n at [] le h = record { count = omega arith; between = h }
 values_fit s g n at (name ∷ names) le h = next (ValueFits n) (ValuesFit n) (value_means s g n (at + 1) name) _ (value_fits s g n (at + 1) name le h) (λ first f.
     next (ValuesFit (n + 1)) (ValuesFit n) (values_mean first.1 g (n + 1) (at + 2) names) _ (values_fit first.1 g (n + 1) (at + 2) names (omega (arith, f.before)) f.between) (λ others k.
     record { count = omega (arith, k.count); between = k.between }))
 
 abbrev GhostFits : Ghost → Type 0
-GhostFits g = length g.values ≤ 16
+GhostFits g = length g.values ≤ most limits.Values
 
-ghost_fits : (s : Scope) (n at : ℕ) (g : GhostTree) → Room 4 n s → Has (OneHas GhostFits (Room 4) n) (ghost_means s n at g)
-ghost_fits s n at (Auxiliary name OfThreads) h = one_name GhostFits (Room 4) n 4 _ s name (at + 1) _ _ _ (omega arith) (room_for 4 n s name (at + 1) _ h)
-ghost_fits s n at (Auxiliary name (OneOf v vs)) h = unless (OneHas GhostFits (Room 4) n) (n == 4) _ _ (λ few.
-    next (Room 4 (n + 1)) (OneHas GhostFits (Room 4) n) (declared s name (at + 1) _) _ (room_for 4 n s name (at + 1) _ h few) (λ t k.
-    next (ValueFits 0) (OneHas GhostFits (Room 4) n) (value_means t n 0 (at + 3) v) _ (value_fits t n 0 (at + 3) v (omega arith) k.between) (λ first f.
-    next (ValuesFit 1) (OneHas GhostFits (Room 4) n) (values_mean first.1 n 1 (at + 4) vs) _ (values_fit first.1 n 1 (at + 4) vs (omega arith) f.between) (λ others m.
+ghost_fits : (s : Scope) (n at : ℕ) (g : GhostTree) → Room limits.Ghosts n s → Has (OneHas GhostFits (Room limits.Ghosts) n) (ghost_means s n at g)
+ghost_fits s n at (Auxiliary name OfThreads) h = one_name GhostFits (Room limits.Ghosts) n limits.Ghosts s name (at + 1) _ _ _ (omega arith) (room_for limits.Ghosts n s name (at + 1) _ h)
+ghost_fits s n at (Auxiliary name (OneOf v vs)) h = unless (OneHas GhostFits (Room limits.Ghosts) n) (n == most limits.Ghosts) _ _ (λ few.
+    next (Room limits.Ghosts (n + 1)) (OneHas GhostFits (Room limits.Ghosts) n) (declared s name (at + 1) _) _ (room_for limits.Ghosts n s name (at + 1) _ h few) (λ t k.
+    next (ValueFits 0) (OneHas GhostFits (Room limits.Ghosts) n) (value_means t n 0 (at + 3) v) _ (value_fits t n 0 (at + 3) v (omega arith) k.between) (λ first f.
+    next (ValuesFit 1) (OneHas GhostFits (Room limits.Ghosts) n) (values_mean first.1 n 1 (at + 4) vs) _ (values_fit first.1 n 1 (at + 4) vs (omega arith) f.between) (λ others m.
     record { is = omega (arith, m.count); state = record { count = k.count; between = m.between } }))))
 
 -- ---- primitives of one step
 
 abbrev Fewer : ℕ → Option Primitive → Type 0
-Fewer n k = n + count_of k ≤ 64
+Fewer n k = n + count_of k ≤ most limits.Prims
 
-counted_fits : (n : ℕ) (has_new : Bool) (at : ℕ) (m : Result (Option Primitive) ParseFault) → n ≤ 64 → Has (Fewer n) (counted n has_new at m)
+counted_fits : (n : ℕ) (has_new : Bool) (at : ℕ) (m : Result (Option Primitive) ParseFault) → n ≤ most limits.Prims → Has (Fewer n) (counted n has_new at m)
 counted_fits n has_new at (Ok None) le = omega arith
-counted_fits n has_new at (Ok (Some k)) le = below (Fewer n) n 64 _ _ le (λ less. unless (Fewer n) (has_new && is_new k) _ (Ok (Some k)) (λ one. omega arith))
-counted_fits n has_new at (Err e) le = both_err (Fewer n) (stands_at at e) (n == 64) e _ e
+counted_fits n has_new at (Ok (Some k)) le = below (Fewer n) n (most limits.Prims) _ _ le (λ less. unless (Fewer n) (has_new && is_new k) _ (Ok (Some k)) (λ one. omega arith))
+counted_fits n has_new at (Err e) le = both_err (Fewer n) (stands_at at e) (n == most limits.Prims) e _ e
 
 abbrev FormsFit : ℕ → List Primitive × ℕ → Type 0
-FormsFit n r = n + length r.0 ≤ 64
+FormsFit n r = n + length r.0 ≤ most limits.Prims
 
-more_fits : (n : ℕ) (k : Option Primitive) (ks : List Primitive) → n + count_of k + length ks ≤ 64 → n + length (before k ks) ≤ 64
+more_fits : (n : ℕ) (k : Option Primitive) (ks : List Primitive) → n + count_of k + length ks ≤ most limits.Prims → n + length (before k ks) ≤ most limits.Prims
 more_fits n None ks h = omega arith
 more_fits n (Some k) ks h = omega arith
 
-forms_fit : {X : Type 0} (means : ℕ → X → Result (Option Primitive) ParseFault) (size : X → ℕ) (n : ℕ) (has_new : Bool) (at : ℕ) (xs : List X) → n ≤ 64 → Has (FormsFit n) (forms_mean means size n has_new at xs)
+forms_fit : {X : Type 0} (means : ℕ → X → Result (Option Primitive) ParseFault) (size : X → ℕ) (n : ℕ) (has_new : Bool) (at : ℕ) (xs : List X) → n ≤ most limits.Prims → Has (FormsFit n) (forms_mean means size n has_new at xs)
 forms_fit means size n has_new at [] le = omega arith
 forms_fit means size n has_new at (x ∷ xs) le = next (Fewer n) (FormsFit n) (counted n has_new at (means at x)) _ (counted_fits n has_new at (means at x) le) (λ k f.
     next (FormsFit (n + count_of k)) (FormsFit n) (forms_mean means size (n + count_of k) (has_new || allocates k) (at + size x + 1) xs) _ (forms_fit means size (n + count_of k) (has_new || allocates k) (at + size x + 1) xs f) (λ others m.
@@ -116,16 +119,16 @@ forms_fit means size n has_new at (x ∷ xs) le = next (Fewer n) (FormsFit n) (c
 -- ---- statements
 
 abbrev FewLabels : Scope → Type 0
-FewLabels s = length s.labels ≤ 256
+FewLabels s = length s.labels ≤ most limits.Labels
 
 -- what a label was read as, and a scope of which this holds
 abbrev pub LabelRead : (Scope → Type 0) → {Y : Type 0} → Y × Scope → Type 0
 LabelRead State r = State r.1
 
 label_fits : (s : Scope) (at : ℕ) (n : Text) → FewLabels s → Has (LabelRead FewLabels) (label_means s at n)
-label_fits s at n h = below (LabelRead FewLabels) (length s.labels) 256 _ _ h (λ less. next FewLabels (LabelRead FewLabels) (declared_label s n (at + 1)) _ (new (place_of n s.names.names) less) (λ t k. k))
+label_fits s at n h = below (LabelRead FewLabels) (length s.labels) (most limits.Labels) _ _ h (λ less. next FewLabels (LabelRead FewLabels) (declared_label s n (at + 1)) _ (new (place_of n s.names.names) less) (λ t k. k))
   where
-    new : (o : Option ℕ) → length s.labels < 256 → Has FewLabels (if_new o (at + 1) (with_name s n Taken) >>= λ t. Ok (with_label t (length s.names.names)))
+    new : (o : Option ℕ) → length s.labels < most limits.Labels → Has FewLabels (if_new o (at + 1) (with_name s n Taken) >>= λ t. Ok (with_label t (length s.names.names)))
     new None less = omega (arith, length-append s.labels (length s.names.names ∷ []))
     new (Some i) less = tt
 
@@ -191,7 +194,7 @@ module _ (State : Scope → Type 0) (label_keeps : (s : Scope) (at : ℕ) (n : T
 -- ---- locals
 
 pub record Few (s t : Scope) : Type 0 where
-  pub locals : length t.locals ≤ 32
+  pub locals : length t.locals ≤ most_locals
   pub labels : t.labels ≡ s.labels
 
 pub record Kept (s : Scope) (x : ℕ × Scope) : Type 0 where
@@ -202,24 +205,24 @@ pub number_keeps : (o : Option ℕ) (s : Scope) (name : Text) (at : ℕ) → Has
 number_keeps None s name at = record { locals = refl; labels = refl }
 number_keeps (Some i) s name at = if_ok (Kept s) (may_name_local (slice_get s.bindings i) (has_local s.locals i)) (i, s) (faults.Duplicate at) (record { locals = refl; labels = refl })
 
-one_more : (s : Scope) (x : ℕ × Scope) (p q : Bool) → Kept s x → length s.locals < 32 → Few s (with_local x.1 x.0 p q)
+one_more : (s : Scope) (x : ℕ × Scope) (p q : Bool) → Kept s x → length s.locals < most_locals → Few s (with_local x.1 x.0 p q)
 one_more s x p q k h =
     let l : Local = record { name = x.0; pointer = p; param = q } in
     let count : length (x.1.locals ++ l ∷ []) ≡ length x.1.locals + 1 = length-append x.1.locals (l ∷ []) in
     let same : length x.1.locals ≡ length s.locals = ap length k.locals in
     record { locals = omega arith; labels = k.labels }
 
-pub local_few : (s : Scope) (name : Text) (at : ℕ) (p : Bool) → length s.locals ≤ 32 → Has (Few s) (declared_local s name at p)
+pub local_few : (s : Scope) (name : Text) (at : ℕ) (p : Bool) → length s.locals ≤ most_locals → Has (Few s) (declared_local s name at p)
 unfolding declared_local
 local_few s name at p h =
-    below (Few s) (length s.locals) 32 _ _ h (λ less.
+    below (Few s) (length s.locals) most_locals _ _ h (λ less.
     next (Kept s) (Few s) (local_number (place_of name s.names.names) s name at) _ (number_keeps (place_of name s.names.names) s name at) (λ x k. one_more s x p false k less))
 
-pub parameter_few : (s : Scope) (name : Text) (at : ℕ) → length s.locals ≤ 32 → Has (Few s) (declared_parameter s name at)
+pub parameter_few : (s : Scope) (name : Text) (at : ℕ) → length s.locals ≤ most_locals → Has (Few s) (declared_parameter s name at)
 unfolding declared_parameter
 parameter_few s name at h =
     next (Kept s) (Few s) (local_number (place_of name s.names.names) s name at) _ (number_keeps (place_of name s.names.names) s name at) (λ x k.
-    below (Few s) (length s.locals) 32 _ _ h (λ less. one_more s x false true k less))
+    below (Few s) (length s.locals) most_locals _ _ h (λ less. one_more s x false true k less))
 
 abbrev FewBehind : Scope → Scope × ℕ → Type 0
 FewBehind s r = Few s r.0
@@ -235,7 +238,7 @@ parameters_few : (s t : Scope) (at : ℕ) (names : List Text) → Few s t → Ha
 parameters_few s t at [] h = h
 parameters_few s t at (n ∷ ns) h = next (Few t) (FewBehind s) (declared_parameter t n at) _ (parameter_few t n at h.locals) (λ u few. others_few s u (at + 1) ns (few_then s t u h few))
 
-pub one_local_few : (s : Scope) (at : ℕ) (l : FieldTree) → length s.locals ≤ 32 → Has (Few s) (local_means s at l)
+pub one_local_few : (s : Scope) (at : ℕ) (l : FieldTree) → length s.locals ≤ most_locals → Has (Few s) (local_means s at l)
 one_local_few s at (PointerField name) h = local_few s name (at + 1) true h
 one_local_few s at (DataField name) h = local_few s name (at + 1) false h
 
@@ -245,15 +248,15 @@ locals_few s t at (l ∷ ls) h = next (Few t) (FewBehind s) (local_means t at l)
 
 -- ---- operations
 
-op_fits : (lines : List ℕ) (s : Scope) (n at : ℕ) (o : OpTree) → Room 32 n s → Has (OneHas OpFits (Room 32) n) (op_means lines s n at o)
+op_fits : (lines : List ℕ) (s : Scope) (n at : ℕ) (o : OpTree) → Room limits.Ops n s → Has (OneHas OpFits (Room limits.Ops) n) (op_means lines s n at o)
 op_fits lines s n at (Operates name ps ls b) h =
-    unless (OneHas OpFits (Room 32) n) (n == 32) _ _ (λ few.
-    next (Room 32 (n + 1)) (OneHas OpFits (Room 32) n) (declared s name (at + 1) Taken) _ (room_for 32 n s name (at + 1) Taken h few) (λ t k.
+    unless (OneHas OpFits (Room limits.Ops) n) (n == most limits.Ops) _ _ (λ few.
+    next (Room limits.Ops (n + 1)) (OneHas OpFits (Room limits.Ops) n) (declared s name (at + 1) Taken) _ (room_for limits.Ops n s name (at + 1) Taken h few) (λ t k.
     let count : length t.locals ≡ 0 = ap length k.between.locals in
-    next (FewBehind t) (OneHas OpFits (Room 32) n) (parameters_mean t (at + 3) ps) _ (parameters_few t t (at + 3) ps (record { locals = omega arith; labels = refl })) (λ p kept.
-    next (FewBehind t) (OneHas OpFits (Room 32) n) (locals_mean p.0 (p.1 + 2) ls) _ (locals_few t p.0 (p.1 + 2) ls kept) (λ l fewer.
+    next (FewBehind t) (OneHas OpFits (Room limits.Ops) n) (parameters_mean t (at + 3) ps) _ (parameters_few t t (at + 3) ps (record { locals = omega arith; labels = refl })) (λ p kept.
+    next (FewBehind t) (OneHas OpFits (Room limits.Ops) n) (locals_mean p.0 (p.1 + 2) ls) _ (locals_few t p.0 (p.1 + 2) ls kept) (λ l fewer.
     let same : length l.0.labels ≡ length t.labels = ap length fewer.labels in
-    next (StatementRead FewLabels StatementsFit) (OneHas OpFits (Room 32) n) (statements_mean lines l.0 false l.1 b) _ (statements_fit FewLabels label_fits lines l.0 false l.1 b (omega (arith, k.between.labels))) (λ body f.
+    next (StatementRead FewLabels StatementsFit) (OneHas OpFits (Room limits.Ops) n) (statements_mean lines l.0 false l.1 b) _ (statements_fit FewLabels label_fits lines l.0 false l.1 b (omega (arith, k.between.labels))) (λ body f.
     record { is = record { locals = fewer.locals; body = f.fits }; state = record { count = k.count; between = record { locals = refl; labels = f.state } } })))))
 
 -- ---- the file
@@ -270,13 +273,13 @@ unit_fits : (lines : List ℕ) (f : FileTree) → Has Fits (file_means lines f)
 unfolding file_means
 unit_fits lines f =
     next Between Fits (declared first_scope f.name 1 Taken) _ (declared_between first_scope f.name 1 Taken (record { locals = refl; labels = omega arith })) (λ s none.
-    next (EachHas Free (Room 8) 0) Fits (listed field_means s 0 3 f.fields) _ (each_has field_means Free (Room 8) field_fits s 0 3 f.fields (room none)) (λ fields a.
-    next (EachHas Free (Room 16) 0) Fits (listed shared_means fields.1 0 (fields.2 + 1) f.pointers) _ (each_has shared_means Free (Room 16) pointer_fits fields.1 0 (fields.2 + 1) f.pointers (room a.state.between)) (λ pointers b.
-    next (EachHas Free (Room 16) 0) Fits (listed function_means pointers.1 0 pointers.2 f.functions) _ (each_has function_means Free (Room 16) function_fits pointers.1 0 pointers.2 f.functions (room b.state.between)) (λ functions c.
+    next (EachHas Free (Room limits.Fields) 0) Fits (listed field_means s 0 3 f.fields) _ (each_has field_means Free (Room limits.Fields) field_fits s 0 3 f.fields (room none)) (λ fields a.
+    next (EachHas Free (Room limits.Shared) 0) Fits (listed shared_means fields.1 0 (fields.2 + 1) f.pointers) _ (each_has shared_means Free (Room limits.Shared) pointer_fits fields.1 0 (fields.2 + 1) f.pointers (room a.state.between)) (λ pointers b.
+    next (EachHas Free (Room limits.Calls) 0) Fits (listed function_means pointers.1 0 pointers.2 f.functions) _ (each_has function_means Free (Room limits.Calls) function_fits pointers.1 0 pointers.2 f.functions (room b.state.between)) (λ functions c.
     any Fits (watch_means functions.1 functions.2 f.watched) _ (λ observer.
-    next (EachHas GhostFits (Room 4) 0) Fits (listed ghost_means functions.1 0 observer.1 f.ghosts) _ (each_has ghost_means GhostFits (Room 4) ghost_fits functions.1 0 observer.1 f.ghosts (room c.state.between)) (λ ghosts d.
+    next (EachHas GhostFits (Room limits.Ghosts) 0) Fits (listed ghost_means functions.1 0 observer.1 f.ghosts) _ (each_has ghost_means GhostFits (Room limits.Ghosts) ghost_fits functions.1 0 observer.1 f.ghosts (room c.state.between)) (λ ghosts d.
     next (FormsFit 0) Fits (init_means ghosts.1 ghosts.2 f.starts) _ (init_fits ghosts.1 ghosts.2 f.starts) (λ starts i.
-    next (EachHas OpFits (Room 32) 0) Fits (listed (op_means lines) ghosts.1 0 starts.1 f.ops) _ (each_has (op_means lines) OpFits (Room 32) (op_fits lines) ghosts.1 0 starts.1 f.ops (room d.state.between)) (λ ops m.
+    next (EachHas OpFits (Room limits.Ops) 0) Fits (listed (op_means lines) ghosts.1 0 starts.1 f.ops) _ (each_has (op_means lines) OpFits (Room limits.Ops) (op_fits lines) ghosts.1 0 starts.1 f.ops (room d.state.between)) (λ ops m.
     any Fits (outlined_means ops.1 ops.0 ops.2 f.outlined) _ (λ outline.
     record {
       fields = omega (arith, a.state.count);

@@ -1,6 +1,8 @@
 -- What was declared before and what is declared next.
 use Rattle.std.proofs.Common.{◌≡◌, ◌⊎◌, inl, inr, ◌+◌, ◌≤◌, ◌<◌, ℕ, zero, suc, Bool, List, [], ◌∷◌, ◌++◌, length, slice_get, Option, Some, None, Ok, ◌∙◌, refl, ap, subst, arith}
 use Rattle.std.proofs.lemmas.List.{length-append}
+use Rattle.plc_base.specs.Limits.{most}
+use Rattle.plc_base.specs.declared.limits.What1.TheVariants as limits
 use Rattle.plc_base.specs.Names.{place_of}
 use Rattle.plc_lang.specs.declared.syntax.Op.{Op}
 use Rattle.plc_forms.specs.declared.rest.Rest.{Rest}
@@ -12,7 +14,7 @@ use Rattle.plc_scope.specs.declared.binding.Binding.TheVariants.{Taken}
 use Rattle.plc_scope.specs.Scope.{◌>>=◌, if_new, with_name, with_label, declared, declared_label, declared_local, declared_parameter, most_locals}
 use Rattle.plc_scope.specs.Answers.{GrowsBy, HasRoomForLocals, GrowsByLocals, Within}
 use Rattle.plc_outparse.specs.Answers.{OpsFit}
-use Rattle.plc_parse.specs.Growth.{IsLeftOf, KeepsLists, CanLabel, GrowsByLabels, GrowsByOps}
+use Rattle.plc_parse.specs.Growth.{most_labels, IsLeftOf, KeepsLists, CanLabel, GrowsByLabels, GrowsByOps}
 use Rattle.plc_scope.proofs.Holds.{has_along}
 use Rattle.plc_parse.proofs.Fits.{Few, parameter_few, local_few}
 
@@ -33,7 +35,7 @@ pub local_labels : (s t : Scope) (name : Text) (at : ℕ) (p : Bool) → declare
 local_labels s t name at p e h = (has_along (Few s) (declared_local s name at p) t e (local_few s name at p h.locals)).labels
 
 -- a label is one name
-pub labelled : (s t : Scope) (name : Text) (at : ℕ) → declared_label s name at ≡ Ok t → CanLabel s → length s.labels < 256 → GrowsByLabels s t
+pub labelled : (s t : Scope) (name : Text) (at : ℕ) → declared_label s name at ≡ Ok t → CanLabel s → length s.labels < most_labels → GrowsByLabels s t
 labelled s t name at e h less = new (place_of name s.names.names) e
   where
     number : ℕ
@@ -80,7 +82,7 @@ from_last (z ∷ xs) y zero x e = inl e
 from_last (z ∷ xs) y (suc i) x e = elim (from_last xs y i x e) [ inl h ↦ inl h | inr h ↦ inr (ap suc h.0, h.1) ]
 
 -- one operation more
-pub one_more_fits : (ops : List Op) (o : Op) → OpsFit ops → length ops < 32 → length o.locals ≤ most_locals → OpsFit (ops ++ o ∷ [])
+pub one_more_fits : (ops : List Op) (o : Op) → OpsFit ops → length ops < most limits.Ops → length o.locals ≤ most_locals → OpsFit (ops ++ o ∷ [])
 one_more_fits ops o h less few = record {
   count = omega (arith, length-append ops (o ∷ []));
   locals = λ k p e. elim (from_last ops o k p e) [

@@ -1,5 +1,6 @@
 -- What holds of declarations that are listed.
 use Rattle.std.proofs.Common.{◌≡◌, ◌==◌, ℕ, zero, suc, ◌+◌, false, Some, Result, Ok, List, [], ◌∷◌, length, ◌++◌, slice_get, subst, sym, append_assoc, append-nil, arith}
+use Rattle.plc_base.specs.Limits.{most}
 use Rattle.plc_base.specs.declared.limits.What1.{What1}
 use Rattle.plc_syntax.specs.Trees.{Text}
 use Rattle.plc_scope.specs.declared.fault.ParseFault.{ParseFault}
@@ -21,9 +22,9 @@ pub record EachHas {Y : Type 0} (P : Y → Type 0) (State : ℕ → Scope → Ty
   pub state : State (n + length r.0) r.1
 
 -- a declaration that is one name
-pub one_name : {Y : Type 0} (P : Y → Type 0) (State : ℕ → Scope → Type 0) (n limit : ℕ) (what : What1) (s : Scope) (name : Text) (at : ℕ) (b : Binding) (y : Y) (behind : ℕ)
-    → P y → ((n == limit) ≡ false → Has (State (n + 1)) (declared s name at b)) → Has (OneHas P State n) (within_limit n limit what (declared s name at b >>= λ t. Ok (y, t, behind)))
-one_name P State n limit what s name at b y behind is h = unless (OneHas P State n) (n == limit) _ _ (λ few. next (State (n + 1)) (OneHas P State n) (declared s name at b) _ (h few) (λ t k. record { is = is; state = k }))
+pub one_name : {Y : Type 0} (P : Y → Type 0) (State : ℕ → Scope → Type 0) (n : ℕ) (what : What1) (s : Scope) (name : Text) (at : ℕ) (b : Binding) (y : Y) (behind : ℕ)
+    → P y → ((n == most what) ≡ false → Has (State (n + 1)) (declared s name at b)) → Has (OneHas P State n) (within_limit n what (declared s name at b >>= λ t. Ok (y, t, behind)))
+one_name P State n what s name at b y behind is h = unless (OneHas P State n) (n == most what) _ _ (λ few. next (State (n + 1)) (OneHas P State n) (declared s name at b) _ (h few) (λ t k. record { is = is; state = k }))
 
 each_of : {Y : Type 0} (P : Y → Type 0) (y : Y) (ys : List Y) → P y → ((k : ℕ) (z : Y) → slice_get ys k ≡ Some z → P z) → (k : ℕ) (z : Y) → slice_get (y ∷ ys) k ≡ Some z → P z
 each_of P y ys h others zero z e = let same : y ≡ z = cc in subst P same h

@@ -1,6 +1,8 @@
 -- What is read of the tokens of a file's tree is what the tree means.
 use Rattle.std.proofs.Common.{◌≡◌, ◌==◌, ℕ, ◌+◌, true, false, Option, Some, None, Result, Ok, Err, List, [], ◌∷◌, ◌++◌, length, refl, sym, ◌∙◌, ap, add_assoc, append_assoc}
 use Rattle.std.proofs.lemmas.List.{append-nil, length-append}
+use Rattle.plc_base.specs.Limits.{most}
+use Rattle.plc_base.specs.declared.limits.What1.TheVariants as limits
 use Rattle.plc_lex.specs.declared.token.TokenKind.{TokenKind}
 use Rattle.plc_lex.specs.declared.token.TokenKind.TheVariants.{Symbol}
 use Rattle.plc_lex.specs.declared.token.Symbol.TheVariants.{CloseBrace, CloseParen, OpenBrace, Semicolon}
@@ -86,9 +88,9 @@ ghost_limit s at (Auxiliary n (OneOf v vs)) = tt
 
 ghost_read : (s : Scope) (n at : ℕ) (g : GhostTree) (rest : List TokenKind) → ghost_in s n at (ghost_front g) (behind_ghost g rest) ≡ (ghost_means s n at g >>= λ r. Ok (r, rest))
 unfolding ghost_in of_threads_in of_values_in all_values_in
-ghost_read s n at (Auxiliary name OfThreads) rest = limit_within (n == 4) _ _ _ _ (bind_within (declared s name (at + 1) (AuxiliaryBinding n true)) _ _ _ (λ t. refl))
+ghost_read s n at (Auxiliary name OfThreads) rest = limit_within (n == most limits.Ghosts) _ _ _ _ (bind_within (declared s name (at + 1) (AuxiliaryBinding n true)) _ _ _ (λ t. refl))
 ghost_read s n at (Auxiliary name (OneOf v vs)) rest =
-    limit_within (n == 4) _ _ _ _ (bind_within (declared s name (at + 1) (AuxiliaryBinding n false)) _ _ _ (λ t.
+    limit_within (n == most limits.Ghosts) _ _ _ _ (bind_within (declared s name (at + 1) (AuxiliaryBinding n false)) _ _ _ (λ t.
     bind_joins (value_means t n 0 (at + 3) v) _ _
     ∙ bind_within (value_means t n 0 (at + 3) v) _ _ _ (λ first.
     bind_joins (values_in n (first.0 ∷ [], first.1, at + 3 + 1) us) _ _
@@ -148,7 +150,7 @@ module _ (lines : List ℕ) where
   op_read : (s : Scope) (n at : ℕ) (o : OpTree) (rest : List TokenKind) → op_in lines s n at (op_front o) (behind_op o rest) ≡ (op_means lines s n at o >>= λ r. Ok (r, rest))
   unfolding op_in
   op_read s n at (Operates name ps ls b) rest =
-      limit_within (n == 32) _ _ _ _ (bind_within (declared s name (at + 1) Taken) _ _ _ (λ t.
+      limit_within (n == most limits.Ops) _ _ _ _ (bind_within (declared s name (at + 1) Taken) _ _ _ (λ t.
       ap (λ r. r >>= λ l. block_in lines (length l.1) l.0.0 false l.0.1 l.1 >>= λ o. Ok ((op_of l.0.0 o.0.0, without_locals o.0.1, o.0.2), o.1)) (all_locals_read t (at + 3) ps ls us (statements_no_local b rest))
       ∙ bind_joins (parameters_mean t (at + 3) ps) _ _
       ∙ bind_within (parameters_mean t (at + 3) ps) _ _ _ (λ p.

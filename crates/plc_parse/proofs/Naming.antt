@@ -9,6 +9,8 @@ use Rattle.plc_lang.specs.Allocation.{is_new}
 use Rattle.plc_lang.specs.Statements.{Statement, Statements, Blocks}
 use Rattle.plc_lang.specs.Fit.{NamesWhatIsThere}
 use Rattle.plc_lang.specs.Shape.{Shape, VarIn, VarOrNullIn, ArgIn, PrimitiveIn, PrimitivesIn, CondIn, StatementIn, StatementsIn, BlocksIn}
+use Rattle.plc_base.specs.Limits.{most}
+use Rattle.plc_base.specs.declared.limits.What1.TheVariants as limits
 use Rattle.plc_base.specs.declared.ids.FieldId.{FieldId}
 use Rattle.plc_base.specs.declared.ids.FuncId.{FuncId}
 use Rattle.plc_auto.specs.declared.observer.Observer.{Observer}
@@ -181,8 +183,8 @@ module _ (h : Shape) where
 
   counted_in : (n : ℕ) (has_new : Bool) (at : ℕ) (m : Result (Option Primitive) ParseFault) → Has (IfPrimitiveIn h) m → Has (IfPrimitiveIn h) (counted n has_new at m)
   counted_in n has_new at (Ok None) is = tt
-  counted_in n has_new at (Ok (Some k)) is = unless (IfPrimitiveIn h) (n == 64) _ _ (λ few. unless (IfPrimitiveIn h) (has_new && is_new k) _ (Ok (Some k)) (λ one. is))
-  counted_in n has_new at (Err e) is = both_err (IfPrimitiveIn h) (stands_at at e) (n == 64) e _ e
+  counted_in n has_new at (Ok (Some k)) is = unless (IfPrimitiveIn h) (n == most limits.Prims) _ _ (λ few. unless (IfPrimitiveIn h) (has_new && is_new k) _ (Ok (Some k)) (λ one. is))
+  counted_in n has_new at (Err e) is = both_err (IfPrimitiveIn h) (stands_at at e) (n == most limits.Prims) e _ e
 
   before_in : (k : Option Primitive) (ks : List Primitive) → IfPrimitiveIn h k → PrimitivesIn h ks → PrimitivesIn h (before k ks)
   before_in None ks is others = others
@@ -210,7 +212,7 @@ one_in h None is = tt
 one_in h (Some k) is = is
 
 label_in : (h : Shape) (s : Scope) (at : ℕ) (n : Text) → Reaches h s → Has (LabelRead h) (label_means s at n)
-label_in h s at n r = unless (LabelRead h) (length s.labels == 256) _ _ (λ few. next (Reaches h) (LabelRead h) (declared_label s n (at + 1)) _ (label_reaches h s n (at + 1) r) (λ t k. k))
+label_in h s at n r = unless (LabelRead h) (length s.labels == most limits.Labels) _ _ (λ few. next (Reaches h) (LabelRead h) (declared_label s n (at + 1)) _ (label_reaches h s n (at + 1) r) (λ t k. k))
 
 during_in : (h : Shape) (s : Scope) (at : ℕ) (d : Option Text) → Reaches h s → Has (LabelRead h) (during_means s at d)
 during_in h s at None r = r
@@ -298,14 +300,14 @@ abbrev HasShared : ℕ → ℕ → Scope → Type 0
 HasShared fields n s = Reaches (outside n fields) s
 
 field_in : (s : Scope) (n at : ℕ) (f : FieldTree) → HasFields n s → Has (OneHas Free HasFields n) (field_means s n at f)
-field_in s n at (PointerFieldTree name) r = one_name Free HasFields n 8 _ s name (at + 1) _ _ _ tt (λ few.
+field_in s n at (PointerFieldTree name) r = one_name Free HasFields n limits.Fields s name (at + 1) _ _ _ tt (λ few.
     declared_reaches (outside 0 (n + 1)) s name (at + 1) (PointerField (record { 0 = n })) (omega arith) (reaches_more 0 n 0 (n + 1) s (omega arith) (omega arith) r))
-field_in s n at (DataFieldTree name) r = one_name Free HasFields n 8 _ s name (at + 1) _ _ _ tt (λ few.
+field_in s n at (DataFieldTree name) r = one_name Free HasFields n limits.Fields s name (at + 1) _ _ _ tt (λ few.
     declared_reaches (outside 0 (n + 1)) s name (at + 1) (DataField (record { 0 = n })) (omega arith) (reaches_more 0 n 0 (n + 1) s (omega arith) (omega arith) r))
 
 module _ (fields : ℕ) where
   shared_in : (s : Scope) (n at : ℕ) (name : Text) → HasShared fields n s → Has (OneHas Free (HasShared fields) n) (shared_means s n at name)
-  shared_in s n at name r = one_name Free (HasShared fields) n 16 _ s name (at + 1) _ _ _ tt (λ few.
+  shared_in s n at name r = one_name Free (HasShared fields) n limits.Shared s name (at + 1) _ _ _ tt (λ few.
       declared_reaches (outside (n + 1) fields) s name (at + 1) (Shared n) (omega arith) (reaches_more n fields (n + 1) fields s (omega arith) (omega arith) r))
 
 -- behind the shared pointers the state stays
@@ -317,7 +319,7 @@ module _ (shared fields : ℕ) where
   Stays n s = Reaches h s
 
   function_in : (s : Scope) (n at : ℕ) (f : FunctionTree) → Reaches h s → Has (OneHas Free Stays n) (function_means s n at f)
-  function_in s n at (Declares name p) r = one_name Free Stays n 16 _ s name (at + 1) _ _ _ tt (λ few. declared_reaches h s name (at + 1) (Function (record { 0 = n + 1 }) p) (λ none. omega arith) r)
+  function_in s n at (Declares name p) r = one_name Free Stays n limits.Calls s name (at + 1) _ _ _ tt (λ few. declared_reaches h s name (at + 1) (Function (record { 0 = n + 1 }) p) (λ none. omega arith) r)
 
   abbrev ValueRead : {Y : Type 0} → Y × Scope → Type 0
   ValueRead v = Reaches h v.1
@@ -327,7 +329,7 @@ module _ (shared fields : ℕ) where
 
   one_value_in : (s : Scope) (g n at : ℕ) (name : Text) → Reaches h s → Has ValueRead (value_means s g n at name)
   one_value_in s g n at name r = next (Reaches h) ValueRead (declared s name at (Value g n)) _ (declared_reaches h s name at (Value g n) tt r) (λ t k.
-      unless ValueRead (n == 16) _ _ (λ few. k))
+      unless ValueRead (n == most limits.Values) _ _ (λ few. k))
 
   values_in : (s : Scope) (g n at : ℕ) (names : List Text) → Reaches h s → Has ValuesRead (values_mean s g n at names)
   values_in s g n at [] r = r
@@ -335,8 +337,8 @@ module _ (shared fields : ℕ) where
       next ValuesRead ValuesRead (values_mean first.1 g (n + 1) (at + 2) names) _ (values_in first.1 g (n + 1) (at + 2) names f) (λ others k. k))
 
   ghost_in : (s : Scope) (n at : ℕ) (g : GhostTree) → Reaches h s → Has (OneHas Free Stays n) (ghost_means s n at g)
-  ghost_in s n at (AuxiliaryTree name OfThreads) r = one_name Free Stays n 4 _ s name (at + 1) _ _ _ tt (λ few. declared_reaches h s name (at + 1) (Auxiliary n true) tt r)
-  ghost_in s n at (AuxiliaryTree name (OneOf v vs)) r = unless (OneHas Free Stays n) (n == 4) _ _ (λ few.
+  ghost_in s n at (AuxiliaryTree name OfThreads) r = one_name Free Stays n limits.Ghosts s name (at + 1) _ _ _ tt (λ few. declared_reaches h s name (at + 1) (Auxiliary n true) tt r)
+  ghost_in s n at (AuxiliaryTree name (OneOf v vs)) r = unless (OneHas Free Stays n) (n == most limits.Ghosts) _ _ (λ few.
       next (Reaches h) (OneHas Free Stays n) (declared s name (at + 1) (Auxiliary n false)) _ (declared_reaches h s name (at + 1) (Auxiliary n false) tt r) (λ t k.
       next ValueRead (OneHas Free Stays n) (value_means t n 0 (at + 3) v) _ (one_value_in t n 0 (at + 3) v k) (λ first f.
       next ValuesRead (OneHas Free Stays n) (values_mean first.1 n 1 (at + 4) vs) _ (values_in first.1 n 1 (at + 4) vs f) (λ others m. record { is = tt; state = m }))))
@@ -347,7 +349,7 @@ module _ (shared fields : ℕ) where
   OpIn o = StatementsIn (inside shared fields o.locals) o.body
 
   op_in : (lines : List ℕ) (s : Scope) (n at : ℕ) (o : OpTree) → Reaches h s → Has (OneHas OpIn Stays n) (op_means lines s n at o)
-  op_in lines s n at (Operates name ps ls b) r = unless (OneHas OpIn Stays n) (n == 32) _ _ (λ few.
+  op_in lines s n at (Operates name ps ls b) r = unless (OneHas OpIn Stays n) (n == most limits.Ops) _ _ (λ few.
       next (Reaches h) (OneHas OpIn Stays n) (declared s name (at + 1) Taken) _ (declared_reaches h s name (at + 1) Taken tt r) (λ t k.
       next (BoundBehind (BindingIn shared fields)) (OneHas OpIn Stays n) (parameters_mean t (at + 3) ps) _ (parameters_bound (BindingIn shared fields) tt t (at + 3) ps k.bound) (λ p c.
       next (BoundBehind (BindingIn shared fields)) (OneHas OpIn Stays n) (locals_mean p.0 (p.1 + 2) ls) _ (locals_bound (BindingIn shared fields) tt p.0 (p.1 + 2) ls c) (λ l d.

@@ -2,6 +2,8 @@
 use Rattle.std.proofs.Common.{◌≡◌, ◌==◌, ℕ, ◌+◌, Bool, true, false, Option, Some, None, Result, Ok, Err, List, [], ◌∷◌, ◌++◌, map, length, refl, sym, ap, ◌∙◌, subst, append_assoc, append-nil, arith}
 use Rattle.std.specs.List.{concat, range_with_len}
 use Rattle.std.proofs.lemmas.List.{length-append}
+use Rattle.plc_base.specs.Limits.{most}
+use Rattle.plc_base.specs.declared.limits.What1.TheVariants as limits
 use Rattle.plc_base.specs.Names.{place_of}
 use Rattle.plc_lang.specs.declared.syntax.Primitive.{Primitive}
 use Rattle.plc_lang.specs.declared.syntax.Op.{Op}
@@ -61,7 +63,7 @@ abbrev MaybeNumbered : Scope → Option ℕ × Scope → Type 0
 MaybeNumbered s r = Numbered (length s.labels) (length r.1.labels) (label_or_none r.0)
 
 label_numbered : (s : Scope) (at : ℕ) (n : Text) → Has (OneNumbered s) (label_means s at n)
-label_numbered s at n = unless (OneNumbered s) (length s.labels == 256) _ _ (λ few. new (place_of n s.names.names))
+label_numbered s at n = unless (OneNumbered s) (length s.labels == most limits.Labels) _ _ (λ few. new (place_of n s.names.names))
   where
     new : (o : Option ℕ) → Has (OneNumbered s) ((if_new o (at + 1) (with_name s n Taken) >>= λ t. Ok (with_label t (length s.names.names))) >>= λ t. Ok (length s.labels, t))
     new None = record { end = omega (arith, length-append s.labels (length s.names.names ∷ [])); are = (refl, tt) }

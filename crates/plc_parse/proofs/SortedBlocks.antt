@@ -5,6 +5,8 @@ use Rattle.std.proofs.Math.Bool.{and-false}
 use Rattle.std.proofs.lemmas.List.Elements.{filter-append}
 use Rattle.std.proofs.lemmas.List.Folds.{list_any-append}
 use Rattle.std.proofs.lemmas.List.Sums.{sum_by-cons}
+use Rattle.plc_base.specs.Limits.{most}
+use Rattle.plc_base.specs.declared.limits.What1.TheVariants as limits
 use Rattle.plc_base.specs.Names.{place_of}
 use Rattle.plc_lang.specs.declared.syntax.Primitive.{Primitive}
 use Rattle.plc_lang.specs.declared.syntax.Cond.{Cond}
@@ -77,8 +79,8 @@ module _ (file : File) (kind : Primitive → Bool) where
 
   counted_sorted : (n : ℕ) (has_new : Bool) (at : ℕ) (m : Result (Option Primitive) ParseFault) → Has Maybe m → Has (OneCounted has_new) (counted n has_new at m)
   counted_sorted n has_new at (Ok None) h = record { is = tt; one_new = and-false has_new }
-  counted_sorted n has_new at (Ok (Some k)) h = unless (OneCounted has_new) (n == 64) _ _ (λ few. unless (OneCounted has_new) (has_new && is_new k) _ (Ok (Some k)) (λ one. record { is = h; one_new = one }))
-  counted_sorted n has_new at (Err e) h = both_err (OneCounted has_new) (stands_at at e) (n == 64) e _ e
+  counted_sorted n has_new at (Ok (Some k)) h = unless (OneCounted has_new) (n == most limits.Prims) _ _ (λ few. unless (OneCounted has_new) (has_new && is_new k) _ (Ok (Some k)) (λ one. record { is = h; one_new = one }))
+  counted_sorted n has_new at (Err e) h = both_err (OneCounted has_new) (stands_at at e) (n == most limits.Prims) e _ e
 
   before_sorted : (has_new : Bool) (k : Option Primitive) (others : List Primitive × ℕ) → OneCounted has_new k → Step (has_new || allocates k) others → Step has_new (before k others.0, others.1)
   before_sorted has_new None others a b = record { each = b.each; one_new = counts has_new false (count_by is_new others.0) (count_by is_new others.0) (omega arith) b.one_new a.one_new }
@@ -106,7 +108,7 @@ pub record StatementRead (file : File) {Y : Type 0} (P : Y → Type 0) (r : Y ×
   pub there : AllThere (lists_of file) r.1
 
 label_there : (d : Lists) (s : Scope) (at : ℕ) (n : Text) → AllThere d s → Has (LabelRead (AllThere d)) (label_means s at n)
-label_there d s at n h = unless (LabelRead (AllThere d)) (length s.labels == 256) _ _ (λ few.
+label_there d s at n h = unless (LabelRead (AllThere d)) (length s.labels == most limits.Labels) _ _ (λ few.
     next (AllThere d) (LabelRead (AllThere d)) (declared_label s n (at + 1)) _
     (next (Named s Taken) (AllThere d) (declared s n (at + 1) Taken) _ (named s n (at + 1) Taken) (λ t f. f.there d tt h)) (λ t k. k))
 
@@ -323,7 +325,7 @@ module _ (d : Lists) where
   joins P (Err e) f g h = tt
 
   pub op_sorted : (lines : List ℕ) (ops : List Op) (s : Scope) (n at : ℕ) (o : OpTree) → BehindOps ops s → Has (OneOp ops) (op_means lines s n at o)
-  op_sorted lines ops s n at (Operates name ps ls b) h = unless (OneOp ops) (n == 32) _ _ (λ few.
+  op_sorted lines ops s n at (Operates name ps ls b) h = unless (OneOp ops) (n == most limits.Ops) _ _ (λ few.
       next (Named s Taken) (OneOp ops) (declared s name (at + 1) Taken) _ (named s name (at + 1) Taken) (λ t k.
       joins (OneOp ops) (parameters_mean t (at + 3) ps) _ _ (
       next (LocalsRead t) (OneOp ops) (parameters_mean t (at + 3) ps >>= λ p. locals_mean p.0 (p.1 + 2) ls) _ (locals_read t (at + 3) ps ls (k.there d tt h.there) (k.keeps.locals ∙ h.locals)) (λ l read.

@@ -4,7 +4,9 @@ use Rattle.std.proofs.Common.{◌≡◌, ◌==◌, ℕ, suc, ◌+◌, ◌≤◌,
 use Rattle.std.proofs.lemmas.Option.{slice_get_within}
 use Rattle.std.proofs.lemmas.List.Elements.{All-nil, All-cons, All-push}
 use Rattle.plc_base.specs.Names.{place_of}
+use Rattle.plc_base.specs.Limits.{most}
 use Rattle.plc_base.specs.declared.limits.What1.{What1}
+use Rattle.plc_base.specs.declared.limits.What1.TheVariants as limits
 use Rattle.plc_lang.specs.declared.syntax.Field.{Field}
 use Rattle.plc_lang.specs.declared.syntax.Func.{Func}
 use Rattle.plc_lang.specs.declared.syntax.Ghost.{Ghost}
@@ -97,30 +99,30 @@ named s name at b = new (place_of name s.names.names)
     new None = record { keeps = record { locals = refl; labels = refl }; there = λ d is h. All-push (IsThere d) s.bindings b h is }
     new (Some i) = tt
 
-pub one_there : {Y : Type 0} (There : Lists → ℕ → Y → Type 0) (n limit : ℕ) (what : What1) (s : Scope) (name : Text) (at : ℕ) (b : Binding) (y : Y) (behind : ℕ)
-    → ((d : Lists) → There d n y → IsThere d b) → Has (OneThere There s n) (within_limit n limit what (declared s name at b >>= λ t. Ok (y, t, behind)))
-one_there There n limit what s name at b y behind is = unless (OneThere There s n) (n == limit) _ _ (λ few.
+pub one_there : {Y : Type 0} (There : Lists → ℕ → Y → Type 0) (n : ℕ) (what : What1) (s : Scope) (name : Text) (at : ℕ) (b : Binding) (y : Y) (behind : ℕ)
+    → ((d : Lists) → There d n y → IsThere d b) → Has (OneThere There s n) (within_limit n what (declared s name at b >>= λ t. Ok (y, t, behind)))
+one_there There n what s name at b y behind is = unless (OneThere There s n) (n == most what) _ _ (λ few.
     next (Named s b) (OneThere There s n) (declared s name at b) _ (named s name at b) (λ t f. record { keeps = f.keeps; there = λ d there h. f.there d (is d there) h }))
 
 abbrev pub FieldThere : Lists → ℕ → Field → Type 0
 FieldThere d n x = slice_get d.fields n ≡ Some x
 
 pub field_there : (s : Scope) (n at : ℕ) (f : FieldTree) → Has (OneThere FieldThere s n) (field_means s n at f)
-field_there s n at (PointerFieldTree name) = one_there FieldThere n 8 _ s name (at + 1) _ _ _ (λ d there. (_, there, refl))
-field_there s n at (DataFieldTree name) = one_there FieldThere n 8 _ s name (at + 1) _ _ _ (λ d there. (_, there, refl))
+field_there s n at (PointerFieldTree name) = one_there FieldThere n limits.Fields s name (at + 1) _ _ _ (λ d there. (_, there, refl))
+field_there s n at (DataFieldTree name) = one_there FieldThere n limits.Fields s name (at + 1) _ _ _ (λ d there. (_, there, refl))
 
 abbrev pub SharedThere : Lists → ℕ → ℕ → Type 0
 SharedThere d n name = slice_get d.shared n ≡ Some name
 
 pub shared_there : (s : Scope) (n at : ℕ) (name : Text) → Has (OneThere SharedThere s n) (shared_means s n at name)
-shared_there s n at name = one_there SharedThere n 16 _ s name (at + 1) _ _ _ (λ d there. slice_get_within d.shared n _ there)
+shared_there s n at name = one_there SharedThere n limits.Shared s name (at + 1) _ _ _ (λ d there. slice_get_within d.shared n _ there)
 
 -- `retire` stands before those that are declared
 abbrev pub FunctionThere : Lists → ℕ → Func → Type 0
 FunctionThere d n x = slice_get d.funcs (n + 1) ≡ Some x
 
 pub function_there : (s : Scope) (n at : ℕ) (f : FunctionTree) → Has (OneThere FunctionThere s n) (function_means s n at f)
-function_there s n at (Declares name p) = one_there FunctionThere n 16 _ s name (at + 1) _ _ _ (λ d there. (_, there, refl))
+function_there s n at (Declares name p) = one_there FunctionThere n limits.Calls s name (at + 1) _ _ _ (λ d there. (_, there, refl))
 
 pub behind_retire : (fs : List Func) (k : ℕ) (f : Func) → slice_get fs k ≡ Some f → slice_get (retire ∷ fs) (0 + k + 1) ≡ Some f
 behind_retire fs k f e = let same : 0 + k + 1 ≡ suc k = omega arith in ap (slice_get (retire ∷ fs)) same ∙ e
@@ -137,7 +139,7 @@ pub record ValueThere (s : Scope) (g k : ℕ) (r : ℕ × Scope) : Type 0 where
 
 pub value_there : (s : Scope) (g k at : ℕ) (name : Text) → Has (ValueThere s g k) (value_means s g k at name)
 value_there s g k at name = next (Named s (Value g k)) (ValueThere s g k) (declared s name at (Value g k)) _ (named s name at (Value g k)) (λ t f.
-    unless (ValueThere s g k) (k == 16) _ _ (λ few. record { keeps = f.keeps; there = λ d h there less before. f.there d (h, there, less) before }))
+    unless (ValueThere s g k) (k == most limits.Values) _ _ (λ few. record { keeps = f.keeps; there = λ d h there less before. f.there d (h, there, less) before }))
 
 -- the values behind the first k
 pub record ValuesThere (s : Scope) (g k : ℕ) (r : List ℕ × Scope × ℕ) : Type 0 where
@@ -151,8 +153,8 @@ values_there s g k at (name ∷ names) = next (ValueThere s g k) (ValuesThere s 
     record { keeps = kept_then f.keeps m.keeps; there = λ d h there le before. m.there d h there (omega (arith, le)) (f.there d h there (omega (arith, le)) before) }))
 
 pub ghost_there : (s : Scope) (n at : ℕ) (g : GhostTree) → Has (OneThere GhostThere s n) (ghost_means s n at g)
-ghost_there s n at (AuxiliaryTree name OfThreads) = one_there GhostThere n 4 _ s name (at + 1) _ _ _ (λ d there. (_, there, refl))
-ghost_there s n at (AuxiliaryTree name (OneOf v vs)) = unless (OneThere GhostThere s n) (n == 4) _ _ (λ few.
+ghost_there s n at (AuxiliaryTree name OfThreads) = one_there GhostThere n limits.Ghosts s name (at + 1) _ _ _ (λ d there. (_, there, refl))
+ghost_there s n at (AuxiliaryTree name (OneOf v vs)) = unless (OneThere GhostThere s n) (n == most limits.Ghosts) _ _ (λ few.
     next (Named s (Auxiliary n false)) (OneThere GhostThere s n) (declared s name (at + 1) (Auxiliary n false)) _ (named s name (at + 1) (Auxiliary n false)) (λ t f.
     next (ValueThere t n 0) (OneThere GhostThere s n) (value_means t n 0 (at + 3) v) _ (value_there t n 0 (at + 3) v) (λ first k.
     next (ValuesThere first.1 n 1) (OneThere GhostThere s n) (values_mean first.1 n 1 (at + 4) vs) _ (values_there first.1 n 1 (at + 4) vs) (λ others m.

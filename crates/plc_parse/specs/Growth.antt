@@ -1,5 +1,7 @@
 -- What is left of the tokens, and how the names in reach grow.
 use Rattle.std.specs.Prelude.{◌≡◌, ◌+◌, ◌≤◌, ℕ, [], length}
+use Rattle.plc_base.specs.declared.limits.What1.TheVariants as limits
+use Rattle.plc_base.specs.Limits.{most}
 use Rattle.plc_forms.specs.declared.rest.Rest.{Rest}
 use Rattle.plc_scope.specs.declared.scope.Scope.{Scope}
 use Rattle.plc_scope.specs.Scope.{most_locals}
@@ -15,7 +17,7 @@ pub record KeepsLists (old new : Scope) : Type 0 where
 
 -- labels may be counted over the whole file
 abbrev pub most_labels : ℕ
-most_labels = 256
+most_labels = most limits.Labels
 
 -- each further label needs one further name
 pub record CanLabel (scope : Scope) : Type 0 where

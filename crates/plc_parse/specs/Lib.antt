@@ -1,5 +1,7 @@
+-- what contracts of public calls say
 pub mod Meaning
 pub mod Units
 pub mod Fit
+-- words of private functions alone
 pub mod Reading
 pub mod Growth

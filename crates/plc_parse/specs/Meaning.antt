@@ -2,6 +2,7 @@
 -- Each name is looked up where it stands, from left to right, so the first fault is the one at the least token.
 use Rattle.std.specs.Prelude.{◌&&◌, ◌||◌, ◌+◌, ℕ, Bool, true, false, if◌then◌else◌, List, [], ◌∷◌, length, get_or, Option, Some, None, Result, Ok, Err}
 use Rattle.plc_base.specs.declared.limits.What1.TheVariants as limits
+use Rattle.plc_base.specs.Limits.{most}
 use Rattle.plc_lang.specs.declared.syntax.Primitive.{Primitive}
 use Rattle.plc_lang.specs.Allocation.{is_new}
 use Rattle.plc_lang.specs.declared.syntax.Op.{Op}
@@ -29,8 +30,8 @@ use Rattle.plc_parse.specs.declared.unit.Unit.{Unit as FileUnit}
 -- one primitive more, with the number of those before and whether one of them allocates: at most 64, and one `new`, whose place is the word
 abbrev pub counted : ℕ → Bool → ℕ → Result (Option Primitive) ParseFault → Result (Option Primitive) ParseFault
 counted n has_new at (Ok None) = Ok None
-counted n has_new at (Ok (Some k)) = within_limit n 64 limits.Prims (if has_new && is_new k then Err (faults.Limit limits.News 2) else Ok (Some k))
-counted n has_new at (Err e) = if stands_at at e then Err e else within_limit n 64 limits.Prims (Err e)
+counted n has_new at (Ok (Some k)) = within_limit n limits.Prims (if has_new && is_new k then Err (faults.Limit limits.News (most limits.News + 1)) else Ok (Some k))
+counted n has_new at (Err e) = if stands_at at e then Err e else within_limit n limits.Prims (Err e)
 
 -- how many primitives a form is
 abbrev pub count_of : Option Primitive → ℕ
@@ -76,7 +77,7 @@ one_or_skip (Some k) = One k
 
 -- a label behind the word before it has the number of those before
 abbrev pub label_means : Scope → ℕ → Text → Result (ℕ × Scope) ParseFault
-label_means s at n = within_limit (length s.labels) 256 limits.Labels (do
+label_means s at n = within_limit (length s.labels) limits.Labels (do
   t ← declared_label s n (at + 1)
   Ok (length s.labels, t))
 
@@ -147,22 +148,22 @@ abbrev mutual
 
 -- a field of the struct: three tokens, of which the name is the second
 abbrev pub field_means : Scope → ℕ → ℕ → FieldTree → Result (Field × Scope × ℕ) ParseFault
-field_means s n at (PointerFieldTree name) = within_limit n 8 limits.Fields (do
+field_means s n at (PointerFieldTree name) = within_limit n limits.Fields (do
   t ← declared s name (at + 1) (PointerField (record { 0 = n }))
   Ok (record { name = length s.names.names; pointer = true }, t, at + 3))
-field_means s n at (DataFieldTree name) = within_limit n 8 limits.Fields (do
+field_means s n at (DataFieldTree name) = within_limit n limits.Fields (do
   t ← declared s name (at + 1) (DataField (record { 0 = n }))
   Ok (record { name = length s.names.names; pointer = false }, t, at + 3))
 
 -- a shared pointer: three tokens, of which the name is the second
 abbrev pub shared_means : Scope → ℕ → ℕ → Text → Result (ℕ × Scope × ℕ) ParseFault
-shared_means s n at name = within_limit n 16 limits.Shared (do
+shared_means s n at name = within_limit n limits.Shared (do
   t ← declared s name (at + 1) (Shared n)
   Ok (length s.names.names, t, at + 3))
 
 -- a function, whose number is one more than that of those before, since `retire` is the first of a file
 abbrev pub function_means : Scope → ℕ → ℕ → FunctionTree → Result (Func × Scope × ℕ) ParseFault
-function_means s n at (Declares name takes_pointer) = within_limit n 16 limits.Calls (do
+function_means s n at (Declares name takes_pointer) = within_limit n limits.Calls (do
   t ← declared s name (at + 1) (Function (record { 0 = n + 1 }) takes_pointer)
   Ok (record { name = length s.names.names; pointer = takes_pointer }, t, at + function_size (Declares name takes_pointer)))
 
@@ -170,7 +171,7 @@ function_means s n at (Declares name takes_pointer) = within_limit n 16 limits.C
 abbrev pub value_means : Scope → ℕ → ℕ → ℕ → Text → Result (ℕ × Scope) ParseFault
 value_means s g k at name = do
   t ← declared s name at (Value g k)
-  within_limit k 16 limits.Values (Ok (length s.names.names, t))
+  within_limit k limits.Values (Ok (length s.names.names, t))
 
 -- the values behind the first, each behind its comma; and the place behind the last
 abbrev pub values_mean : Scope → ℕ → ℕ → ℕ → List Text → Result (List ℕ × Scope × ℕ) ParseFault
@@ -182,10 +183,10 @@ values_mean s g k at (name ∷ names) = do
 
 -- an auxiliary field: a thread, or one of its values in braces
 abbrev pub ghost_means : Scope → ℕ → ℕ → GhostTree → Result (Ghost × Scope × ℕ) ParseFault
-ghost_means s n at (AuxiliaryTree name OfThreads) = within_limit n 4 limits.Ghosts (do
+ghost_means s n at (AuxiliaryTree name OfThreads) = within_limit n limits.Ghosts (do
   t ← declared s name (at + 1) (Auxiliary n true)
   Ok (record { name = length s.names.names; values = [] }, t, at + 4))
-ghost_means s n at (AuxiliaryTree name (OneOf v vs)) = within_limit n 4 limits.Ghosts (do
+ghost_means s n at (AuxiliaryTree name (OneOf v vs)) = within_limit n limits.Ghosts (do
   t ← declared s name (at + 1) (Auxiliary n false)
   first ← value_means t n 0 (at + 3) v
   others ← values_mean first.1 n 1 (at + 4) vs
@@ -247,7 +248,7 @@ locals_mean s at (l ∷ ls) = do
 
 -- an operation: its name, its parameters behind "(", its locals behind ")" and "{", its statements, and "}"
 abbrev pub op_means : List ℕ → Scope → ℕ → ℕ → OpTree → Result (Op × Scope × ℕ) ParseFault
-op_means lines s n at (Operates name parameters locals body) = within_limit n 32 limits.Ops (do
+op_means lines s n at (Operates name parameters locals body) = within_limit n limits.Ops (do
   t ← declared s name (at + 1) Taken
   p ← parameters_mean t (at + 3) parameters
   l ← locals_mean p.0 (p.1 + 2) locals

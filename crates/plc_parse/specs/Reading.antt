@@ -1,7 +1,8 @@
 -- A file's meaning, read off its tokens from left to right: what the program does, as a function on lists. Where a file's tokens could not go on as they do
 -- the answer is a fault of syntax, which no contract rests on. The trees' meaning is what is read of their tokens (`proofs/Law.antt`).
-use Rattle.std.specs.Prelude.{◌+◌, ℕ, zero, suc, Bool, true, false, ◌||◌, Option, Some, None, Result, Ok, Err, List, [], ◌∷◌, ◌++◌, length}
+use Rattle.std.specs.Prelude.{◌≡◌, ◌+◌, ℕ, zero, suc, Bool, true, false, ◌||◌, Option, Some, None, Result, Ok, Err, List, [], ◌∷◌, ◌++◌, length}
 use Rattle.plc_base.specs.declared.limits.What1.TheVariants as limits
+use Rattle.plc_base.specs.Limits.{most}
 use Rattle.plc_lex.specs.declared.token.TokenKind.{TokenKind}
 use Rattle.plc_syntax.specs.Trees.{Text, FieldTree, PrimitiveTree, ArgumentTree}
 use Rattle.plc_lang.specs.declared.syntax.Primitive.{Primitive}
@@ -12,6 +13,10 @@ use Rattle.plc_lang.specs.declared.syntax.Op.{Op}
 use Rattle.plc_lang.specs.Statements.{Statement, Atomic, Call, If, Choose, Loop, Break, Return, Label, Statements, Empty, Then, Blocks, NoBlock, And}
 use Rattle.plc_auto.specs.declared.observer.Observer.{Observer}
 use Rattle.plc_auto.specs.declared.observer.Observer.TheVariants.{Plain}
+use Rattle.plc_syntax.specs.Syntax.{kinds}
+use Rattle.plc_forms.specs.declared.rest.Rest.{Rest}
+use Rattle.plc_forms.specs.Views.{Behind}
+use Rattle.plc_scope.specs.Answers.{Gives}
 use Rattle.plc_forms.specs.Forms.{struct_of, field_of, shared_of, function_of, watch_of, ghost_of, thread_of, first_value_of, values_end_of, init_of, initial_line_of, head_of, name_of, comma_name_of, opening_of, closing_of, semicolon_of, atomic_of, if_of, condition_of, else_of, choose_of, or_of, loop_of, break_of, return_of, label_of, call_of, during_of, primitive_line_of}
 use Rattle.plc_forms.specs.Sizes.{initial_size, primitive_size, condition_size, call_size, during_size}
 use Rattle.plc_scope.specs.declared.fault.ParseFault.{ParseFault}
@@ -76,15 +81,15 @@ judged means s n at x ts = do
 
 -- the fields of the struct
 abbrev pub fields_in : Scope → ℕ → List TokenKind → ReadTo (List Field × Scope × ℕ)
-fields_in s at ts = listed_in field_of (judged field_means) 8 s at ts
+fields_in s at ts = listed_in field_of (judged field_means) (most limits.Fields) s at ts
 
 -- the shared pointers
 abbrev pub shared_in : Scope → ℕ → List TokenKind → ReadTo (List ℕ × Scope × ℕ)
-shared_in s at ts = listed_in shared_of (judged shared_means) 16 s at ts
+shared_in s at ts = listed_in shared_of (judged shared_means) (most limits.Shared) s at ts
 
 -- the functions
 abbrev pub functions_in : Scope → ℕ → List TokenKind → ReadTo (List Func × Scope × ℕ)
-functions_in s at ts = listed_in function_of (judged function_means) 16 s at ts
+functions_in s at ts = listed_in function_of (judged function_means) (most limits.Calls) s at ts
 
 -- ---- auxiliary fields
 
@@ -121,14 +126,14 @@ of_values_in s n at name value ts = do
 
 -- an auxiliary field behind its name
 unfoldable pub ghost_in : Scope → ℕ → ℕ → Text → List TokenKind → ReadTo (Ghost × Scope × ℕ)
-ghost_in s n at name ts = within_limit n 4 limits.Ghosts
+ghost_in s n at name ts = within_limit n limits.Ghosts
     (where_read (thread_of ts) (λ us. of_threads_in s n at name us)
     (where_read (first_value_of ts) (λ v. of_values_in s n at name v.0 v.1)
     (Err (faults.Syntax at))))
 
 -- the auxiliary fields
 abbrev pub ghosts_in : Scope → ℕ → List TokenKind → ReadTo (List Ghost × Scope × ℕ)
-ghosts_in s at ts = listed_in ghost_of ghost_in 4 s at ts
+ghosts_in s at ts = listed_in ghost_of ghost_in (most limits.Ghosts) s at ts
 
 -- ---- primitives that follow one another; a state has those before, whether one of them allocates, and the place
 
@@ -150,6 +155,14 @@ forms_in item means size at ts = do
   b ← each item (form_step means size) ([], false, at) ts
   behind ← wanted_at b.0.2 (closing_of b.1)
   Ok ((b.0.0, b.0.2 + 1), behind)
+
+-- a form at the front, what it means at its place, and what is behind it and its semicolon
+pub record FormRead {X : Type 0} (item : List TokenKind → Option (X × List TokenKind)) (means : ℕ → X → Result (Option Primitive) ParseFault) (size : X → ℕ)
+    (from : Rest) (meaning : Result (Option Primitive) ParseFault) (behind : Rest) : Type 0 where
+  pub tree : X
+  pub reads : item (kinds from.tokens.now) ≡ Some (tree, kinds behind.tokens.now)
+  pub is : Gives (λ k. k) meaning (means from.at tree)
+  pub place : Behind from (size tree + 1) behind
 
 -- the primitives of an atomic block and "}"
 unfoldable pub primitives_in : Scope → ℕ → List TokenKind → ReadTo (List Primitive × ℕ)
@@ -326,7 +339,7 @@ all_locals_in s at ts = do
 
 -- an operation behind its name and "("; each statement takes a token
 unfoldable pub op_in : List ℕ → Scope → ℕ → ℕ → Text → List TokenKind → ReadTo (Op × Scope × ℕ)
-op_in lines s n at name ts = within_limit n 32 limits.Ops (do
+op_in lines s n at name ts = within_limit n limits.Ops (do
   t ← declared s name (at + 1) Taken
   l ← all_locals_in t (at + 3) ts
   b ← block_in lines (length l.1) l.0.0 false l.0.1 l.1
@@ -334,7 +347,7 @@ op_in lines s n at name ts = within_limit n 32 limits.Ops (do
 
 -- the operations
 abbrev pub ops_in : List ℕ → Scope → ℕ → List TokenKind → ReadTo (List Op × Scope × ℕ)
-ops_in lines s at ts = listed_in head_of (op_in lines) 32 s at ts
+ops_in lines s at ts = listed_in head_of (op_in lines) (most limits.Ops) s at ts
 
 -- ---- the file
 

@@ -1,8 +1,9 @@
 -- Which unit tokens spell, and what else they are answered with.
-use Rattle.std.specs.Prelude.{◌≡◌, ◌≢◌, ℕ, List, map, Result, Ok, Err}
+use Rattle.std.specs.Prelude.{◌≡◌, ◌≢◌, ◌+◌, ℕ, List, map, Result, Ok, Err}
 use Rattle.plc_lex.specs.declared.token.Token.{Token}
 use Rattle.plc_lex.specs.declared.token.TokenKind.{TokenKind}
 use Rattle.plc_base.specs.declared.limits.What1.TheVariants as limits
+use Rattle.plc_base.specs.Limits.{most}
 use Rattle.plc_syntax.specs.Trees.{FileTree, file_tokens}
 use Rattle.plc_syntax.specs.Syntax.{kinds, IsFile}
 use Rattle.plc_syntax.specs.Nesting.{NoneTooDeep, SyntaxFaultAt, NestingFaultAt}
@@ -34,10 +35,10 @@ pub record AreRead (ts : List Token) (meaning : Result FileUnit ParseFault) : Ty
 abbrev pub IsUnitOf : List Token → FileUnit → Type 0
 IsUnitOf ts u = AreRead ts (Ok u)
 
--- the fault that tokens are answered with; memory may be wanting anywhere
+-- the fault that tokens are answered with; memory may run out anywhere
 pub data IsFaultOf (ts : List Token) (e : ParseFault) : Type 0 where
   no_file : (at : ℕ) → e ≡ faults.Syntax at → SyntaxFaultAt (kinds ts) at → IsFaultOf ts e
-  too_deep : (at : ℕ) → e ≡ faults.Limit limits.Nesting 65 → NestingFaultAt (kinds ts) at → IsFaultOf ts e
+  too_deep : (at : ℕ) → e ≡ faults.Limit limits.Nesting (most limits.Nesting + 1) → NestingFaultAt (kinds ts) at → IsFaultOf ts e
   no_unit : AreRead ts (Err e) → IsFaultOf ts e
   no_memory : e ≡ faults.Memory → IsFaultOf ts e
 

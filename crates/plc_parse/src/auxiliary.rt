@@ -1,5 +1,6 @@
 // Auxiliary fields. One is a thread or one of its values, whose names are declared with it.
 ghost use Rattle.std.specs.Prelude.{◌≡◌, ◌+◌, ◌<◌, ◌≤◌, ◌^◌, IfOk, [], ◌∷◌, length};
+ghost use Rattle.plc_base.specs.Limits.{most};
 ghost use Rattle.plc_syntax.specs.Syntax.{kinds};
 ghost use Rattle.plc_scope.specs.Answers.{Gives, HasRoom, GrowsBy, Within};
 ghost use Rattle.plc_parse.specs.Growth.{KeepsLists};
@@ -13,12 +14,6 @@ use plc_lang::Ghost;
 use plc_scope::{Binding, ParseFault, Scope};
 use std::alloc::Global;
 
-/// How many auxiliary fields a file may have.
-const MOST_GHOSTS: usize = 4;
-
-/// How many values an auxiliary field may have.
-const MOST_VALUES: usize = 16;
-
 // One value of an auxiliary field, with so many before it; the number of its name.
 fn declare_value(
     scope: &mut Scope,
@@ -27,20 +22,17 @@ fn declare_value(
     at: u32,
     name: &[u8],
 ) -> Result<u16, ParseFault>
-    requires owner { owner < 4 }
-    requires limit { count ≤ 16 }
+    requires owner { owner < most What1.Ghosts }
+    requires limit { count ≤ most What1.Values }
     requires room { HasRoom scope.old 1 }
-    ensures limit { IfOk result (λ _. count < 16) }
+    ensures limit { IfOk result (λ _. count < most What1.Values) }
     ensures read { Gives (λ number. (number, scope.new)) result (value_means scope.old owner count at name.now) }
     ensures names { IfOk result (λ _. GrowsBy scope.old scope.new 1) }
     ensures lists { IfOk result (λ _. KeepsLists scope.old scope.new) }
 {
     let number = declare(scope, name, at, Binding::Value(owner as u16, count as u16))?;
-    if count == MOST_VALUES {
-        return Err(ParseFault::Limit {
-            what: What1::Values,
-            count: 17,
-        });
+    if count == What1::Values.most() as usize {
+        return Err(ParseFault::past(What1::Values));
     }
     Ok(number)
 }
@@ -53,9 +45,10 @@ fn read_values<'a>(
     first: u16,
     start: Rest<'a>,
 ) -> Result<(Items<u16>, Rest<'a>), ParseFault>
-    requires owner { owner < 4 }
+    requires owner { owner < most What1.Ghosts }
     requires room { HasRoom scope.old 16 }
-    ensures read { Gives (λ r. ((r.0, scope.new, r.1.at), kinds r.1.tokens.now)) result (values_in owner (first ∷ [], scope.old, start.entry.at) (kinds start.entry.tokens.now)) }
+    ensures read { Gives (λ r. ((r.0, scope.new, r.1.at), kinds r.1.tokens.now)) result
+        (values_in owner (first ∷ [], scope.old, start.entry.at) (kinds start.entry.tokens.now)) }
     ensures names { IfOk result (λ _. GrowsBy scope.old scope.new 15) }
     ensures lists { IfOk result (λ _. KeepsLists scope.old scope.new) }
     ensures place { IfOk result (λ r. Within start.entry r.1) }
@@ -81,10 +74,11 @@ fn read_all_values<'a>(
     name: &[u8],
     start: Rest<'a>,
 ) -> Result<(Items<u16>, Rest<'a>), ParseFault>
-    requires owner { owner < 4 }
+    requires owner { owner < most What1.Ghosts }
     requires room { HasRoom scope.old 17 }
     requires name { start.at ≡ at + 1 }
-    ensures read { Gives (λ r. ((r.0, scope.new, r.1.at), kinds r.1.tokens.now)) result (all_values_in owner scope.old at name.now (kinds start.entry.tokens.now)) }
+    ensures read { Gives (λ r. ((r.0, scope.new, r.1.at), kinds r.1.tokens.now)) result
+        (all_values_in owner scope.old at name.now (kinds start.entry.tokens.now)) }
     ensures names { IfOk result (λ _. GrowsBy scope.old scope.new 16) }
     ensures lists { IfOk result (λ _. KeepsLists scope.old scope.new) }
     ensures place { IfOk result (λ r. Within start.entry r.1) }
@@ -108,10 +102,11 @@ fn read_of_values<'a>(
     value: &[u8],
     start: Rest<'a>,
 ) -> Result<(Ghost, Rest<'a>), ParseFault>
-    requires limit { count < 4 }
+    requires limit { count < most What1.Ghosts }
     requires room { HasRoom scope.old 18 }
     requires value { start.at ≡ at + 4 }
-    ensures read { Gives (λ r. ((r.0, scope.new, r.1.at), kinds r.1.tokens.now)) result (of_values_in scope.old count at name.now value.now (kinds start.entry.tokens.now)) }
+    ensures read { Gives (λ r. ((r.0, scope.new, r.1.at), kinds r.1.tokens.now)) result
+        (of_values_in scope.old count at name.now value.now (kinds start.entry.tokens.now)) }
     ensures names { IfOk result (λ _. GrowsBy scope.old scope.new 17) }
     ensures lists { IfOk result (λ _. KeepsLists scope.old scope.new) }
     ensures place { IfOk result (λ r. Within start.entry r.1) }
@@ -131,10 +126,11 @@ fn read_of_threads<'a>(
     name: &[u8],
     start: Rest<'a>,
 ) -> Result<(Ghost, Rest<'a>), ParseFault>
-    requires limit { count < 4 }
+    requires limit { count < most What1.Ghosts }
     requires room { HasRoom scope.old 1 }
     requires kind { start.at ≡ at + 4 }
-    ensures read { Gives (λ r. ((r.0, scope.new, r.1.at), kinds r.1.tokens.now)) result (of_threads_in scope.old count at name.now (kinds start.entry.tokens.now)) }
+    ensures read { Gives (λ r. ((r.0, scope.new, r.1.at), kinds r.1.tokens.now)) result
+        (of_threads_in scope.old count at name.now (kinds start.entry.tokens.now)) }
     ensures names { IfOk result (λ _. GrowsBy scope.old scope.new 1) }
     ensures lists { IfOk result (λ _. KeepsLists scope.old scope.new) }
     ensures place { IfOk result (λ r. Within start.entry r.1) }
@@ -154,20 +150,18 @@ fn read_ghost<'a>(
     name: &[u8],
     start: Rest<'a>,
 ) -> Result<(Ghost, Rest<'a>), ParseFault>
-    requires limit { count ≤ 4 }
+    requires limit { count ≤ most What1.Ghosts }
     requires room { HasRoom scope.old 18 }
     requires name { start.at ≡ at + 2 }
-    ensures limit { IfOk result (λ _. count < 4) }
-    ensures read { Gives (λ r. ((r.0, scope.new, r.1.at), kinds r.1.tokens.now)) result (ghost_in scope.old count at name.now (kinds start.entry.tokens.now)) }
+    ensures limit { IfOk result (λ _. count < most What1.Ghosts) }
+    ensures read { Gives (λ r. ((r.0, scope.new, r.1.at), kinds r.1.tokens.now)) result
+        (ghost_in scope.old count at name.now (kinds start.entry.tokens.now)) }
     ensures names { IfOk result (λ _. GrowsBy scope.old scope.new 17) }
     ensures lists { IfOk result (λ _. KeepsLists scope.old scope.new) }
     ensures place { IfOk result (λ r. Within start.entry r.1) }
 {
-    if count == MOST_GHOSTS {
-        return Err(ParseFault::Limit {
-            what: What1::Ghosts,
-            count: 5,
-        });
+    if count == What1::Ghosts.most() as usize {
+        return Err(ParseFault::past(What1::Ghosts));
     }
     if let Some(behind) = thread_at(start) {
         return read_of_threads(alloc, scope, count, at, name, behind);
@@ -185,7 +179,8 @@ pub fn read_ghosts<'a>(
     start: Rest<'a>,
 ) -> Result<(Items<Ghost>, Rest<'a>), ParseFault>
     requires { HasRoom scope.old 90 }
-    ensures read { Gives (λ r. ((r.0, scope.new, r.1.at), kinds r.1.tokens.now)) result (ghosts_in scope.old start.entry.at (kinds start.entry.tokens.now)) }
+    ensures read { Gives (λ r. ((r.0, scope.new, r.1.at), kinds r.1.tokens.now)) result
+        (ghosts_in scope.old start.entry.at (kinds start.entry.tokens.now)) }
     ensures names { IfOk result (λ _. GrowsBy scope.old scope.new 68) }
     ensures lists { IfOk result (λ _. KeepsLists scope.old scope.new) }
     ensures place { IfOk result (λ r. Within start.entry r.1) }

@@ -32,7 +32,8 @@ fn read_loop<'a>(
 ) -> Result<(Stmt, Rest<'a>), ParseFault>
     requires room { CanLabel scope.old }
     requires place { IsLeftOf (length tokens.now) start }
-    ensures read { Gives (λ r. ((statement_of r.0, scope.new, r.1.at), kinds r.1.tokens.now)) result (loop_in (block_in (lines_of tokens.now) most) scope.old start.entry.at (kinds start.entry.tokens.now)) }
+    ensures read { Gives (λ r. ((statement_of r.0, scope.new, r.1.at), kinds r.1.tokens.now)) result
+        (loop_in (block_in (lines_of tokens.now) most) scope.old start.entry.at (kinds start.entry.tokens.now)) }
     ensures grows { IfOk result (λ _. GrowsByLabels scope.old scope.new) }
     ensures place { IfOk result (λ r. IsLeftOf (length tokens.now) r.1) }
 {
@@ -53,7 +54,9 @@ fn read_else<'a>(
 ) -> Result<(Block, Rest<'a>), ParseFault>
     requires room { CanLabel scope.old }
     requires place { IsLeftOf (length tokens.now) start }
-    ensures read { Gives (λ r. ((r.0, scope.new, r.1.at), kinds r.1.tokens.now)) result (else_in (block_in (lines_of tokens.now) most) scope.old in_loop start.entry.at (kinds start.entry.tokens.now)) }
+    ensures read { Gives (λ r. ((r.0, scope.new, r.1.at), kinds r.1.tokens.now)) result
+        (else_in (block_in (lines_of tokens.now) most) scope.old in_loop start.entry.at
+        (kinds start.entry.tokens.now)) }
     ensures grows { IfOk result (λ _. GrowsByLabels scope.old scope.new) }
     ensures place { IfOk result (λ r. IsLeftOf (length tokens.now) r.1) }
 {
@@ -76,7 +79,9 @@ fn read_branches<'a>(
 ) -> Result<(Block, Block, Rest<'a>), ParseFault>
     requires room { CanLabel scope.old }
     requires place { IsLeftOf (length tokens.now) start }
-    ensures read { Gives (λ r. (((r.0, r.1), scope.new, r.2.at), kinds r.2.tokens.now)) result (branches_in (block_in (lines_of tokens.now) most) scope.old in_loop start.entry.at (kinds start.entry.tokens.now)) }
+    ensures read { Gives (λ r. (((r.0, r.1), scope.new, r.2.at), kinds r.2.tokens.now)) result
+        (branches_in (block_in (lines_of tokens.now) most) scope.old in_loop start.entry.at
+        (kinds start.entry.tokens.now)) }
     ensures grows { IfOk result (λ _. GrowsByLabels scope.old scope.new) }
     ensures place { IfOk result (λ r. IsLeftOf (length tokens.now) r.2) }
 {
@@ -98,7 +103,8 @@ fn read_if<'a>(
 ) -> Result<(Stmt, Rest<'a>), ParseFault>
     requires room { CanLabel scope.old }
     requires place { IsLeftOf (length tokens.now) start }
-    ensures read { Gives (λ r. ((statement_of r.0, scope.new, r.1.at), kinds r.1.tokens.now)) result (if_in (block_in (lines_of tokens.now) most) scope.old in_loop start.entry.at (kinds start.entry.tokens.now)) }
+    ensures read { Gives (λ r. ((statement_of r.0, scope.new, r.1.at), kinds r.1.tokens.now)) result
+        (if_in (block_in (lines_of tokens.now) most) scope.old in_loop start.entry.at (kinds start.entry.tokens.now)) }
     ensures grows { IfOk result (λ _. GrowsByLabels scope.old scope.new) }
     ensures place { IfOk result (λ r. IsLeftOf (length tokens.now) r.1) }
 {
@@ -127,7 +133,9 @@ fn read_blocks<'a>(
 ) -> Result<(Vec<Block>, Rest<'a>), ParseFault>
     requires room { CanLabel scope.old }
     requires place { IsLeftOf (length tokens.now) start }
-    ensures read { Gives (λ r. ((blocks_of r.0.items, scope.new, r.1.at), kinds r.1.tokens.now)) result (blocks_in (block_in (lines_of tokens.now) most) most first scope.old in_loop start.entry.at (kinds start.entry.tokens.now)) }
+    ensures read { Gives (λ r. ((blocks_of r.0.items, scope.new, r.1.at), kinds r.1.tokens.now)) result
+        (blocks_in (block_in (lines_of tokens.now) most) most first scope.old in_loop start.entry.at
+        (kinds start.entry.tokens.now)) }
     ensures grows { IfOk result (λ _. GrowsByLabels scope.old scope.new) }
     ensures place { IfOk result (λ r. IsLeftOf (length tokens.now) r.1) }
 {
@@ -158,7 +166,9 @@ fn read_choose<'a>(
 ) -> Result<(Stmt, Rest<'a>), ParseFault>
     requires room { CanLabel scope.old }
     requires place { IsLeftOf (length tokens.now) start }
-    ensures read { Gives (λ r. ((statement_of r.0, scope.new, r.1.at), kinds r.1.tokens.now)) result (choose_in (block_in (lines_of tokens.now) most) most scope.old in_loop start.entry.at (kinds start.entry.tokens.now)) }
+    ensures read { Gives (λ r. ((statement_of r.0, scope.new, r.1.at), kinds r.1.tokens.now)) result
+        (choose_in (block_in (lines_of tokens.now) most) most scope.old in_loop start.entry.at
+        (kinds start.entry.tokens.now)) }
     ensures grows { IfOk result (λ _. GrowsByLabels scope.old scope.new) }
     ensures place { IfOk result (λ r. IsLeftOf (length tokens.now) r.1) }
 {
@@ -180,7 +190,9 @@ fn read_statement<'a>(
 ) -> Result<(Stmt, Rest<'a>), ParseFault>
     requires room { CanLabel scope.old }
     requires place { IsLeftOf (length tokens.now) start }
-    ensures read { Gives (λ r. ((statement_of r.0, scope.new, r.1.at), kinds r.1.tokens.now)) result (statement_in (block_in (lines_of tokens.now) most) most scope.old in_loop start.entry.at (kinds start.entry.tokens.now)) }
+    ensures read { Gives (λ r. ((statement_of r.0, scope.new, r.1.at), kinds r.1.tokens.now)) result
+        (statement_in (block_in (lines_of tokens.now) most) most scope.old in_loop start.entry.at
+        (kinds start.entry.tokens.now)) }
     ensures grows { IfOk result (λ _. GrowsByLabels scope.old scope.new) }
     ensures place { IfOk result (λ r. IsLeftOf (length tokens.now) r.1) }
 {
@@ -209,7 +221,8 @@ pub fn read_block<'a>(
 ) -> Result<(Block, Rest<'a>), ParseFault>
     requires room { CanLabel scope.old }
     requires place { IsLeftOf (length tokens.now) start }
-    ensures read { Gives (λ r. ((r.0, scope.new, r.1.at), kinds r.1.tokens.now)) result (block_in (lines_of tokens.now) most scope.old in_loop start.entry.at (kinds start.entry.tokens.now)) }
+    ensures read { Gives (λ r. ((r.0, scope.new, r.1.at), kinds r.1.tokens.now)) result
+        (block_in (lines_of tokens.now) most scope.old in_loop start.entry.at (kinds start.entry.tokens.now)) }
     ensures grows { IfOk result (λ _. GrowsByLabels scope.old scope.new) }
     ensures place { IfOk result (λ r. IsLeftOf (length tokens.now) r.1) }
 {

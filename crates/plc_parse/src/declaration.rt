@@ -2,6 +2,7 @@
 // after the other while there is one, and judges it at once; the limit's place is the first token of
 // the form past it.
 ghost use Rattle.std.specs.Prelude.{◌≡◌, ◌+◌, ◌<◌, ◌≤◌, ◌^◌, IfOk, length};
+ghost use Rattle.plc_base.specs.Limits.{most};
 ghost use Rattle.plc_syntax.specs.Syntax.{kinds};
 ghost use Rattle.plc_forms.specs.Sizes.{function_size};
 ghost use Rattle.plc_forms.specs.Views.{field_tree, function_tree};
@@ -16,15 +17,6 @@ use plc_forms::{Declaration, Function, Rest, declaration_at, function_at, shared
 use plc_lang::{Field, Func};
 use plc_scope::{Binding, ParseFault, Scope};
 use std::alloc::Global;
-
-/// How many fields the struct may have.
-const MOST_FIELDS: usize = 8;
-
-/// How many shared pointers a file may have.
-const MOST_SHARED: usize = 16;
-
-/// How many functions a file may declare.
-const MOST_CALLS: usize = 16;
 
 /// Declares one name, as [`Scope::declare`] does.
 #[tactic(auto, using(crate::proofs::Growth::declared_lists))]
@@ -45,19 +37,17 @@ fn declare_field(
     at: u32,
     declaration: Declaration,
 ) -> Result<Field, ParseFault>
-    requires limit { count ≤ 8 }
+    requires limit { count ≤ most What1.Fields }
     requires room { HasRoom scope.old 1 }
     requires place { at + 3 < 2 ^ 32 }
-    ensures limit { IfOk result (λ _. count < 8) }
-    ensures read { Gives (λ field. (field, scope.new, at + 3)) result (field_means scope.old count at (field_tree declaration.entry)) }
+    ensures limit { IfOk result (λ _. count < most What1.Fields) }
+    ensures read { Gives (λ field. (field, scope.new, at + 3)) result
+        (field_means scope.old count at (field_tree declaration.entry)) }
     ensures names { IfOk result (λ _. GrowsBy scope.old scope.new 1) }
     ensures lists { IfOk result (λ _. KeepsLists scope.old scope.new) }
 {
-    if count == MOST_FIELDS {
-        return Err(ParseFault::Limit {
-            what: What1::Fields,
-            count: 9,
-        });
+    if count == What1::Fields.most() as usize {
+        return Err(ParseFault::past(What1::Fields));
     }
     let id = FieldId(count as u16);
     match declaration {
@@ -85,7 +75,8 @@ pub fn read_fields<'a>(
     start: Rest<'a>,
 ) -> Result<(Items<Field>, Rest<'a>), ParseFault>
     requires { HasRoom scope.old 9 }
-    ensures read { Gives (λ r. ((r.0, scope.new, r.1.at), kinds r.1.tokens.now)) result (fields_in scope.old start.entry.at (kinds start.entry.tokens.now)) }
+    ensures read { Gives (λ r. ((r.0, scope.new, r.1.at), kinds r.1.tokens.now)) result
+        (fields_in scope.old start.entry.at (kinds start.entry.tokens.now)) }
     ensures names { IfOk result (λ _. GrowsBy scope.old scope.new 8) }
     ensures lists { IfOk result (λ _. KeepsLists scope.old scope.new) }
     ensures place { IfOk result (λ r. Within start.entry r.1) }
@@ -102,19 +93,16 @@ pub fn read_fields<'a>(
 
 // One shared pointer, with so many before it; the number of its name.
 fn declare_shared(scope: &mut Scope, count: usize, at: u32, name: &[u8]) -> Result<u16, ParseFault>
-    requires limit { count ≤ 16 }
+    requires limit { count ≤ most What1.Shared }
     requires room { HasRoom scope.old 1 }
     requires place { at + 3 < 2 ^ 32 }
-    ensures limit { IfOk result (λ _. count < 16) }
+    ensures limit { IfOk result (λ _. count < most What1.Shared) }
     ensures read { Gives (λ number. (number, scope.new, at + 3)) result (shared_means scope.old count at name.now) }
     ensures names { IfOk result (λ _. GrowsBy scope.old scope.new 1) }
     ensures lists { IfOk result (λ _. KeepsLists scope.old scope.new) }
 {
-    if count == MOST_SHARED {
-        return Err(ParseFault::Limit {
-            what: What1::Shared,
-            count: 17,
-        });
+    if count == What1::Shared.most() as usize {
+        return Err(ParseFault::past(What1::Shared));
     }
     declare(scope, name, at + 1, Binding::Shared(count as u16))
 }
@@ -126,7 +114,8 @@ pub fn read_shared<'a>(
     start: Rest<'a>,
 ) -> Result<(Items<u16>, Rest<'a>), ParseFault>
     requires { HasRoom scope.old 17 }
-    ensures read { Gives (λ r. ((r.0, scope.new, r.1.at), kinds r.1.tokens.now)) result (shared_in scope.old start.entry.at (kinds start.entry.tokens.now)) }
+    ensures read { Gives (λ r. ((r.0, scope.new, r.1.at), kinds r.1.tokens.now)) result
+        (shared_in scope.old start.entry.at (kinds start.entry.tokens.now)) }
     ensures names { IfOk result (λ _. GrowsBy scope.old scope.new 16) }
     ensures lists { IfOk result (λ _. KeepsLists scope.old scope.new) }
     ensures place { IfOk result (λ r. Within start.entry r.1) }
@@ -148,19 +137,17 @@ fn declare_function(
     at: u32,
     function: Function,
 ) -> Result<Func, ParseFault>
-    requires limit { count ≤ 16 }
+    requires limit { count ≤ most What1.Calls }
     requires room { HasRoom scope.old 1 }
     requires place { at + 1 < 2 ^ 32 }
-    ensures limit { IfOk result (λ _. count < 16) }
-    ensures read { Gives (λ func. (func, scope.new, at + function_size (function_tree function.entry))) result (function_means scope.old count at (function_tree function.entry)) }
+    ensures limit { IfOk result (λ _. count < most What1.Calls) }
+    ensures read { Gives (λ func. (func, scope.new, at + function_size (function_tree function.entry))) result
+        (function_means scope.old count at (function_tree function.entry)) }
     ensures names { IfOk result (λ _. GrowsBy scope.old scope.new 1) }
     ensures lists { IfOk result (λ _. KeepsLists scope.old scope.new) }
 {
-    if count == MOST_CALLS {
-        return Err(ParseFault::Limit {
-            what: What1::Calls,
-            count: 17,
-        });
+    if count == What1::Calls.most() as usize {
+        return Err(ParseFault::past(What1::Calls));
     }
     let pointer = function.takes_pointer;
     let binding = Binding::Function(FuncId(count as u16 + 1), pointer);
@@ -175,7 +162,8 @@ pub fn read_functions<'a>(
     start: Rest<'a>,
 ) -> Result<(Items<Func>, Rest<'a>), ParseFault>
     requires { HasRoom scope.old 17 }
-    ensures read { Gives (λ r. ((r.0, scope.new, r.1.at), kinds r.1.tokens.now)) result (functions_in scope.old start.entry.at (kinds start.entry.tokens.now)) }
+    ensures read { Gives (λ r. ((r.0, scope.new, r.1.at), kinds r.1.tokens.now)) result
+        (functions_in scope.old start.entry.at (kinds start.entry.tokens.now)) }
     ensures names { IfOk result (λ _. GrowsBy scope.old scope.new 16) }
     ensures lists { IfOk result (λ _. KeepsLists scope.old scope.new) }
     ensures place { IfOk result (λ r. Within start.entry r.1) }

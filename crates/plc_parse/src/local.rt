@@ -24,7 +24,8 @@ fn declare_parameter(scope: &mut Scope, name: &[u8], at: u32) -> Result<(), Pars
 // The parameters behind the first.
 fn read_others<'a>(scope: &mut Scope, start: Rest<'a>) -> Result<Rest<'a>, ParseFault>
     requires { HasRoomForLocals scope.old }
-    ensures read { Gives (λ r. ((scope.new, r.at), kinds r.tokens.now)) result (others_in (scope.old, start.entry.at) (kinds start.entry.tokens.now)) }
+    ensures read { Gives (λ r. ((scope.new, r.at), kinds r.tokens.now)) result
+        (others_in (scope.old, start.entry.at) (kinds start.entry.tokens.now)) }
     ensures names { IfOk result (λ _. GrowsByLocals scope.old scope.new) }
     ensures labels { IfOk result (λ _. scope.new.labels ≡ scope.old.labels) }
     ensures place { IfOk result (λ r. Within start.entry r) }
@@ -39,7 +40,8 @@ fn read_others<'a>(scope: &mut Scope, start: Rest<'a>) -> Result<Rest<'a>, Parse
 
 fn read_parameters<'a>(scope: &mut Scope, start: Rest<'a>) -> Result<Rest<'a>, ParseFault>
     requires { HasRoomForLocals scope.old }
-    ensures read { Gives (λ r. ((scope.new, r.at), kinds r.tokens.now)) result (parameters_in scope.old start.entry.at (kinds start.entry.tokens.now)) }
+    ensures read { Gives (λ r. ((scope.new, r.at), kinds r.tokens.now)) result
+        (parameters_in scope.old start.entry.at (kinds start.entry.tokens.now)) }
     ensures names { IfOk result (λ _. GrowsByLocals scope.old scope.new) }
     ensures labels { IfOk result (λ _. scope.new.labels ≡ scope.old.labels) }
     ensures place { IfOk result (λ r. Within start.entry r) }
@@ -79,7 +81,8 @@ fn declare_local(scope: &mut Scope, at: u32, declaration: Declaration) -> Result
 
 fn read_locals<'a>(scope: &mut Scope, start: Rest<'a>) -> Result<Rest<'a>, ParseFault>
     requires { HasRoomForLocals scope.old }
-    ensures read { Gives (λ r. ((scope.new, r.at), kinds r.tokens.now)) result (locals_in (scope.old, start.entry.at) (kinds start.entry.tokens.now)) }
+    ensures read { Gives (λ r. ((scope.new, r.at), kinds r.tokens.now)) result
+        (locals_in (scope.old, start.entry.at) (kinds start.entry.tokens.now)) }
     ensures names { IfOk result (λ _. GrowsByLocals scope.old scope.new) }
     ensures labels { IfOk result (λ _. scope.new.labels ≡ scope.old.labels) }
     ensures place { IfOk result (λ r. Within start.entry r) }
@@ -96,7 +99,8 @@ fn read_locals<'a>(scope: &mut Scope, start: Rest<'a>) -> Result<Rest<'a>, Parse
 #[tactic(auto, unfolding(crate::specs::Reading::all_locals_in))]
 pub fn read_all_locals<'a>(scope: &mut Scope, start: Rest<'a>) -> Result<Rest<'a>, ParseFault>
     requires { HasRoomForLocals scope.old }
-    ensures read { Gives (λ r. ((scope.new, r.at), kinds r.tokens.now)) result (all_locals_in scope.old start.entry.at (kinds start.entry.tokens.now)) }
+    ensures read { Gives (λ r. ((scope.new, r.at), kinds r.tokens.now)) result
+        (all_locals_in scope.old start.entry.at (kinds start.entry.tokens.now)) }
     ensures names { IfOk result (λ _. GrowsByLocals scope.old scope.new) }
     ensures labels { IfOk result (λ _. scope.new.labels ≡ scope.old.labels) }
     ensures place { IfOk result (λ r. Within start.entry r) }

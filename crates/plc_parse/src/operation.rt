@@ -1,5 +1,6 @@
 // The operations: each is its name, its parameters, its locals and a block.
 ghost use Rattle.std.specs.Prelude.{◌≡◌, ◌+◌, ◌<◌, ◌≤◌, [], length, IfOk};
+ghost use Rattle.plc_base.specs.Limits.{most};
 ghost use Rattle.plc_syntax.specs.Syntax.{kinds};
 ghost use Rattle.plc_scope.specs.Answers.{Gives, HasRoom};
 ghost use Rattle.plc_scope.specs.Scope.{most_locals};
@@ -19,9 +20,6 @@ use plc_lex::Token;
 use plc_scope::{Binding, ParseFault, Scope};
 use std::alloc::Global;
 
-/// How many operations a file may have.
-const MOST_OPS: usize = 32;
-
 // An operation at a place, with so many before it, from behind its name and `(`.
 #[tactic(auto, unfolding(crate::specs::Reading::op_in))]
 fn read_op<'a>(
@@ -33,21 +31,19 @@ fn read_op<'a>(
     name: &[u8],
     start: Rest<'a>,
 ) -> Result<(Op, Rest<'a>), ParseFault>
-    requires limit { count ≤ 32 }
+    requires limit { count ≤ most What1.Ops }
     requires room { CanOperate scope.old }
     requires place { IsLeftOf (length tokens.now) start }
     requires head { start.at ≡ at + 3 }
-    ensures limit { IfOk result (λ _. count < 32) }
-    ensures read { Gives (λ r. ((r.0, scope.new, r.1.at), kinds r.1.tokens.now)) result (op_in (lines_of tokens.now) scope.old count at name.now (kinds start.entry.tokens.now)) }
+    ensures limit { IfOk result (λ _. count < most What1.Ops) }
+    ensures read { Gives (λ r. ((r.0, scope.new, r.1.at), kinds r.1.tokens.now)) result
+        (op_in (lines_of tokens.now) scope.old count at name.now (kinds start.entry.tokens.now)) }
     ensures grows { IfOk result (λ _. GrowsByOps scope.old scope.new 33) }
     ensures locals { IfOk result (λ r. length r.0.locals ≤ most_locals) }
     ensures place { IfOk result (λ r. IsLeftOf (length tokens.now) r.1) }
 {
-    if count == MOST_OPS {
-        return Err(ParseFault::Limit {
-            what: What1::Ops,
-            count: 33,
-        });
+    if count == What1::Ops.most() as usize {
+        return Err(ParseFault::past(What1::Ops));
     }
     let number = declare(scope, name, at + 1, Binding::Taken)?;
     let rest = read_all_locals(scope, start)?;
@@ -72,7 +68,8 @@ pub fn read_ops<'a>(
     requires locals { scope.old.locals ≡ [] }
     requires labels { scope.old.labels ≡ [] }
     requires place { IsLeftOf (length tokens.now) start }
-    ensures read { Gives (λ r. ((r.0, scope.new, r.1.at), kinds r.1.tokens.now)) result (ops_in (lines_of tokens.now) scope.old start.entry.at (kinds start.entry.tokens.now)) }
+    ensures read { Gives (λ r. ((r.0, scope.new, r.1.at), kinds r.1.tokens.now)) result
+        (ops_in (lines_of tokens.now) scope.old start.entry.at (kinds start.entry.tokens.now)) }
     ensures fit { IfOk result (λ r. OpsFit r.0) }
     ensures labels { IfOk result (λ _. length scope.new.labels ≤ most_labels) }
 {

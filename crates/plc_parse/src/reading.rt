@@ -74,7 +74,8 @@ fn read_declarations<'a>(
     start: Rest<'a>,
 ) -> Result<(Declared, Rest<'a>), ParseFault>
     requires { HasRoom scope.old 50 }
-    ensures read { Gives (λ r. ((r.0.fields, r.0.shared, r.0.functions, scope.new, r.1.at), kinds r.1.tokens.now)) result (declarations_in scope.old start.entry.at (kinds start.entry.tokens.now)) }
+    ensures read { Gives (λ r. ((r.0.fields, r.0.shared, r.0.functions, scope.new, r.1.at), kinds r.1.tokens.now))
+        result (declarations_in scope.old start.entry.at (kinds start.entry.tokens.now)) }
     ensures names { IfOk result (λ _. GrowsBy scope.old scope.new 40) }
     ensures lists { IfOk result (λ _. KeepsLists scope.old scope.new) }
     ensures place { IfOk result (λ r. Within start.entry r.1) }
@@ -97,7 +98,8 @@ fn read_declarations<'a>(
 fn observer(scope: &Scope, at: u32, watch: Watch) -> Result<Observer, ParseFault>
     requires locals { length scope.now.locals ≤ most_locals }
     requires place { at + watch_size (watch_tree watch) < 2 ^ 32 }
-    ensures { Gives (λ o. (o, at + watch_size (watch_tree watch.entry))) result (watch_means scope.now at (Some (watch_tree watch.entry))) }
+    ensures { Gives (λ o. (o, at + watch_size (watch_tree watch.entry))) result
+        (watch_means scope.now at (Some (watch_tree watch.entry))) }
 {
     match watch {
         Watch::Hazard(name) => Ok(Observer::Hazard(scope.protecting_at(name, at + 3)?)),
@@ -113,7 +115,8 @@ fn observer(scope: &Scope, at: u32, watch: Watch) -> Result<Observer, ParseFault
 #[tactic(auto, unfolding(crate::specs::Reading::watch_in))]
 fn read_watch<'a>(scope: &Scope, start: Rest<'a>) -> Result<(Observer, Rest<'a>), ParseFault>
     requires { length scope.now.locals ≤ most_locals }
-    ensures read { Gives (λ r. ((r.0, r.1.at), kinds r.1.tokens.now)) result (watch_in scope.now start.entry.at (kinds start.entry.tokens.now)) }
+    ensures read { Gives (λ r. ((r.0, r.1.at), kinds r.1.tokens.now)) result
+        (watch_in scope.now start.entry.at (kinds start.entry.tokens.now)) }
     ensures place { IfOk result (λ r. Within start.entry r.1) }
 {
     match watch_at(start) {
@@ -133,7 +136,8 @@ fn read_init<'a>(
     start: Rest<'a>,
 ) -> Result<(Items<Prim>, Rest<'a>), ParseFault>
     requires { length scope.now.locals ≤ most_locals }
-    ensures read { Gives (λ r. ((r.0, r.1.at), kinds r.1.tokens.now)) result (init_in scope.now start.entry.at (kinds start.entry.tokens.now)) }
+    ensures read { Gives (λ r. ((r.0, r.1.at), kinds r.1.tokens.now)) result
+        (init_in scope.now start.entry.at (kinds start.entry.tokens.now)) }
     ensures place { IfOk result (λ r. Within start.entry r.1) }
 {
     match init_at(start) {
@@ -161,7 +165,8 @@ fn read_outlined(
 ) -> Result<Outline, ParseFault>
     requires labels { length scope.now.labels ≤ most_labels }
     requires ops { OpsFit ops.now }
-    ensures { Gives (λ outline. outline) result (outlined_in scope.now ops.now start.entry.at (kinds start.entry.tokens.now)) }
+    ensures { Gives (λ outline. outline) result
+        (outlined_in scope.now ops.now start.entry.at (kinds start.entry.tokens.now)) }
 {
     if start.tokens.is_empty() {
         return Ok(Outline {
@@ -216,10 +221,7 @@ fn check_syntax(alloc: Global, tokens: &[Token]) -> Result<(), ParseFault>
     match syntax(alloc, tokens) {
         Ok(()) => Ok(()),
         Err(SyntaxFault::Syntax { at }) => Err(ParseFault::Syntax { at }),
-        Err(SyntaxFault::Nesting { .. }) => Err(ParseFault::Limit {
-            what: What1::Nesting,
-            count: 65,
-        }),
+        Err(SyntaxFault::Nesting { .. }) => Err(ParseFault::past(What1::Nesting)),
         Err(SyntaxFault::Memory) => Err(ParseFault::Memory),
     }
 }

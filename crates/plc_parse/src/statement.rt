@@ -20,9 +20,6 @@ use plc_lang::Stmt;
 use plc_scope::{ParseFault, Scope, call, primitive};
 use std::alloc::Global;
 
-/// How many labels a file may have.
-const MOST_LABELS: usize = 256;
-
 // Declares a label behind the word at a place, and answers its number.
 #[tactic(auto, using(crate::proofs::Growth::labelled))]
 fn declare_label(scope: &mut Scope, at: u32, name: &[u8]) -> Result<u16, ParseFault>
@@ -32,11 +29,8 @@ fn declare_label(scope: &mut Scope, at: u32, name: &[u8]) -> Result<u16, ParseFa
     ensures grows { IfOk result (λ _. GrowsByLabels scope.old scope.new) }
 {
     let count = scope.labels.len();
-    if count == MOST_LABELS {
-        return Err(ParseFault::Limit {
-            what: What1::Labels,
-            count: 257,
-        });
+    if count == What1::Labels.most() as usize {
+        return Err(ParseFault::past(What1::Labels));
     }
     scope.declare_label(name, at + 1)?;
     Ok(count as u16)
@@ -71,7 +65,8 @@ fn read_label<'a>(
 ) -> Result<(Stmt, Rest<'a>), ParseFault>
     requires room { CanLabel scope.old }
     requires word { start.at ≡ at + 3 }
-    ensures read { Gives (λ r. ((statement_of r.0, scope.new, r.1.at), kinds r.1.tokens.now)) result (label_in scope.old at name.now (kinds start.entry.tokens.now)) }
+    ensures read { Gives (λ r. ((statement_of r.0, scope.new, r.1.at), kinds r.1.tokens.now)) result
+        (label_in scope.old at name.now (kinds start.entry.tokens.now)) }
     ensures grows { IfOk result (λ _. GrowsByLabels scope.old scope.new) }
     ensures place { IfOk result (λ r. Within start.entry r.1) }
 {
@@ -81,7 +76,8 @@ fn read_label<'a>(
 
 fn read_break<'a>(in_loop: bool, at: u32, start: Rest<'a>) -> Result<(Stmt, Rest<'a>), ParseFault>
     requires word { start.at ≡ at + 2 }
-    ensures read { (s : Scope) → Gives (λ r. ((statement_of r.0, s, r.1.at), kinds r.1.tokens.now)) result (break_in s in_loop at (kinds start.entry.tokens.now)) }
+    ensures read { (s : Scope) → Gives (λ r. ((statement_of r.0, s, r.1.at), kinds r.1.tokens.now)) result
+        (break_in s in_loop at (kinds start.entry.tokens.now)) }
     ensures place { IfOk result (λ r. Within start.entry r.1) }
 {
     if in_loop {
@@ -100,7 +96,8 @@ fn read_atomic<'a>(
 ) -> Result<(Stmt, Rest<'a>), ParseFault>
     requires locals { length scope.now.locals ≤ most_locals }
     requires word { start.at ≡ at + 2 }
-    ensures read { Gives (λ r. ((statement_of r.0, scope.now, r.1.at), kinds r.1.tokens.now)) result (atomic_in scope.now at (kinds start.entry.tokens.now)) }
+    ensures read { Gives (λ r. ((statement_of r.0, scope.now, r.1.at), kinds r.1.tokens.now)) result
+        (atomic_in scope.now at (kinds start.entry.tokens.now)) }
     ensures place { IfOk result (λ r. Within start.entry r.1) }
 {
     let (primitives, rest) = read_primitives(alloc, scope, start)?;
@@ -117,7 +114,9 @@ fn read_call<'a>(
 ) -> Result<(Stmt, Rest<'a>), ParseFault>
     requires room { CanLabel scope.old }
     requires name { start.at ≡ at + call_size (argument_tree form.argument) }
-    ensures read { Gives (λ r. ((statement_of r.0, scope.new, r.1.at), kinds r.1.tokens.now)) result (called_in scope.old at form.entry.name.now (argument_tree form.entry.argument) (kinds start.entry.tokens.now)) }
+    ensures read { Gives (λ r. ((statement_of r.0, scope.new, r.1.at), kinds r.1.tokens.now)) result
+        (called_in scope.old at form.entry.name.now (argument_tree form.entry.argument)
+        (kinds start.entry.tokens.now)) }
     ensures grows { IfOk result (λ _. GrowsByLabels scope.old scope.new) }
     ensures place { IfOk result (λ r. Within start.entry r.1) }
 {
@@ -145,7 +144,8 @@ fn read_primitive<'a>(
 ) -> Result<(Stmt, Rest<'a>), ParseFault>
     requires locals { length scope.now.locals ≤ most_locals }
     requires form { start.at ≡ at + primitive_size (primitive_tree form) + 1 }
-    ensures read { Gives (λ r. ((statement_of r.0, scope.now, r.1.at), kinds r.1.tokens.now)) result (primitive_in scope.now at (primitive_tree form.entry) (kinds start.entry.tokens.now)) }
+    ensures read { Gives (λ r. ((statement_of r.0, scope.now, r.1.at), kinds r.1.tokens.now)) result
+        (primitive_in scope.now at (primitive_tree form.entry) (kinds start.entry.tokens.now)) }
     ensures place { IfOk result (λ r. Within start.entry r.1) }
 {
     match primitive(scope, at, form)? {
@@ -162,7 +162,8 @@ fn read_step<'a>(
     start: Rest<'a>,
 ) -> Result<(Stmt, Rest<'a>), ParseFault>
     requires room { CanLabel scope.old }
-    ensures read { Gives (λ r. ((statement_of r.0, scope.new, r.1.at), kinds r.1.tokens.now)) result (step_in scope.old start.entry.at (kinds start.entry.tokens.now)) }
+    ensures read { Gives (λ r. ((statement_of r.0, scope.new, r.1.at), kinds r.1.tokens.now)) result
+        (step_in scope.old start.entry.at (kinds start.entry.tokens.now)) }
     ensures grows { IfOk result (λ _. GrowsByLabels scope.old scope.new) }
     ensures place { IfOk result (λ r. Within start.entry r.1) }
 {
@@ -187,7 +188,8 @@ pub fn read_flat<'a>(
     start: Rest<'a>,
 ) -> Result<(Stmt, Rest<'a>), ParseFault>
     requires room { CanLabel scope.old }
-    ensures read { Gives (λ r. ((statement_of r.0, scope.new, r.1.at), kinds r.1.tokens.now)) result (flat_in scope.old in_loop start.entry.at (kinds start.entry.tokens.now)) }
+    ensures read { Gives (λ r. ((statement_of r.0, scope.new, r.1.at), kinds r.1.tokens.now)) result
+        (flat_in scope.old in_loop start.entry.at (kinds start.entry.tokens.now)) }
     ensures grows { IfOk result (λ _. GrowsByLabels scope.old scope.new) }
     ensures place { IfOk result (λ r. Within start.entry r.1) }
 {

@@ -1,13 +1,14 @@
 // Primitives that are one step: those of an atomic block and those of `init`. A step has at most 64,
 // of which one allocates; `skip` counts for none.
-ghost use Rattle.std.specs.Prelude.{◌≡◌, ◌==◌, ◌≤◌, if◌then◌else◌, Option, Some, Result, Ok, [], false, IfOk, length};
+ghost use Rattle.std.specs.Prelude.{◌≡◌, ◌==◌, ◌+◌, ◌≤◌, if◌then◌else◌, Option, Some, Result, Ok, [], false, IfOk, length};
 ghost use Rattle.plc_lang.specs.declared.syntax.Primitive.{Primitive};
+ghost use Rattle.plc_base.specs.Limits.{most};
 ghost use Rattle.plc_syntax.specs.Syntax.{kinds};
 ghost use Rattle.plc_scope.specs.declared.fault.ParseFault.{ParseFault};
 ghost use Rattle.plc_scope.specs.Answers.{Gives, Within};
 ghost use Rattle.plc_scope.specs.Scope.{most_locals};
 ghost use Rattle.plc_scope.specs.Limits.{stands_at};
-ghost use Rattle.plc_parse.specs.Reading.{with_form, primitives_in, initials_in};
+ghost use Rattle.plc_parse.specs.Reading.{with_form, forms_in, primitives_in, initials_in};
 
 use plc_base::{Items, What1};
 use plc_forms::{Rest, closing_at, initial_line_at, primitive_line_at};
@@ -15,23 +16,11 @@ use plc_lang::{Prim, is_new};
 use plc_scope::{ParseFault, Scope, initial, primitive};
 use std::alloc::Global;
 
-/// How many primitives a step may have.
-const MOST_PRIMITIVES: usize = 64;
-
 /// The primitives of a step so far, and whether one of them allocates.
 #[derive(Drop)]
 struct Step {
     primitives: Items<Prim>,
     has_new: bool,
-}
-
-fn too_many_primitives() -> ParseFault
-    ensures { result ≡ ParseFault.Limit What1.Prims 65 }
-{
-    ParseFault::Limit {
-        what: What1::Prims,
-        count: 65,
-    }
 }
 
 impl Step {
@@ -45,18 +34,23 @@ impl Step {
         }
     }
 
+    // Whether there are as many primitives as there may be.
+    fn is_full(&self) -> bool
+        ensures { result ≡ (length self.now.primitives == most What1.Prims) }
+    {
+        self.primitives.len() == What1::Prims.most() as usize
+    }
+
     // One more primitive.
     fn push(&mut self, primitive: Prim) -> Result<(), ParseFault>
-        ensures { Gives (λ _. (self.new.primitives, self.new.has_new)) result (with_form self.old.primitives self.old.has_new 0 (Ok (Some primitive))) }
+        ensures { Gives (λ _. (self.new.primitives, self.new.has_new)) result
+            (with_form self.old.primitives self.old.has_new 0 (Ok (Some primitive))) }
     {
-        if self.primitives.len() == MOST_PRIMITIVES {
-            return Err(too_many_primitives());
+        if self.is_full() {
+            return Err(ParseFault::past(What1::Prims));
         }
         if self.has_new && is_new(&primitive) {
-            return Err(ParseFault::Limit {
-                what: What1::News,
-                count: 2,
-            });
+            return Err(ParseFault::past(What1::News));
         }
         self.has_new = self.has_new || is_new(&primitive);
         self.primitives.push(primitive)?;
@@ -67,7 +61,8 @@ impl Step {
     // that token goes before it.
     fn add(&mut self, at: u32, meaning: Result<Option<Prim>, ParseFault>) -> Result<(), ParseFault>
         ensures { (said : Result (Option Primitive) ParseFault) → Gives (λ k. k) meaning said
-            → Gives (λ _. (self.new.primitives, self.new.has_new)) result (with_form self.old.primitives self.old.has_new at said) }
+            → Gives (λ _. (self.new.primitives, self.new.has_new)) result
+            (with_form self.old.primitives self.old.has_new at said) }
     {
         match meaning {
             Ok(Some(primitive)) => self.push(primitive),
@@ -79,55 +74,147 @@ impl Step {
 
     // A fault of a form, or that there is no room for the form.
     fn fault(&self, at: u32, fault: ParseFault) -> ParseFault
-        ensures { result ≡ (if stands_at at fault then fault else (if length self.now.primitives == 64 then ParseFault.Limit What1.Prims 65 else fault)) }
+        ensures { result ≡ (if stands_at at fault then fault
+            else (if length self.now.primitives == most What1.Prims
+            then ParseFault.Limit What1.Prims (most What1.Prims + 1) else fault)) }
     {
-        if self.primitives.len() == MOST_PRIMITIVES && !fault.stands_at(at) {
-            return too_many_primitives();
+        if self.is_full() && !fault.stands_at(at) {
+            return ParseFault::past(What1::Prims);
         }
         fault
     }
 }
 
+/// The forms that a step is made of, each with its semicolon.
+trait StepForms {
+    ghost use Rattle.std.specs.Prelude.{◌≡◌, ◌<◌, ◌≤◌, ℕ, List, Option, Some, None, Result, MatchOption, length};
+    ghost use Rattle.plc_lex.specs.declared.token.TokenKind.{TokenKind};
+    ghost use Rattle.plc_lang.specs.declared.syntax.Primitive.{Primitive};
+    ghost use Rattle.plc_syntax.specs.Syntax.{kinds};
+    ghost use Rattle.plc_scope.specs.declared.fault.ParseFault.{ParseFault};
+    ghost use Rattle.plc_scope.specs.declared.scope.Scope.{Scope};
+    ghost use Rattle.plc_scope.specs.Scope.{most_locals};
+    ghost use Rattle.plc_parse.specs.Reading.{FormRead};
+
+    ghost Tree: { Type 0 };
+    ghost item: { List TokenKind → Option (Tree × List TokenKind) };
+    ghost means: { Scope → ℕ → Tree → Result (Option Primitive) ParseFault };
+    ghost size: { Tree → ℕ };
+
+    /// What the form at the front means, and what is behind it; none where no form stands there.
+    fn next<'a>(
+        scope: &Scope,
+        start: Rest<'a>,
+    ) -> Option<(Result<Option<Prim>, ParseFault>, Rest<'a>)>
+        requires { length scope.now.locals ≤ most_locals }
+        ensures { MatchOption result (item (kinds start.entry.tokens.now) ≡ None)
+            (λ r. FormRead item (means scope.now) size start.entry r.0 r.1) };
+
+    ghost shrinks: { (ts : List TokenKind) (x : Tree × List TokenKind)
+        → item ts ≡ Some x → length x.1 < length ts };
+}
+
+/// The forms of an atomic block.
+struct AtomicForms;
+
+impl StepForms for AtomicForms {
+    ghost use Rattle.plc_syntax.specs.Trees.{PrimitiveTree};
+    ghost use Rattle.plc_forms.specs.Forms.{primitive_line_of};
+    ghost use Rattle.plc_forms.specs.Sizes.{primitive_size};
+    ghost use Rattle.plc_forms.proofs.Shrinks.{primitive_line_shrinks};
+    ghost use Rattle.plc_scope.specs.Primitives.{primitive_means};
+
+    ghost Tree = { PrimitiveTree };
+    ghost item = { primitive_line_of };
+    ghost means = { primitive_means };
+    ghost size = { primitive_size };
+
+    fn next<'a>(
+        scope: &Scope,
+        start: Rest<'a>,
+    ) -> Option<(Result<Option<Prim>, ParseFault>, Rest<'a>)> {
+        let (form, behind) = primitive_line_at(start)?;
+        Some((primitive(scope, start.at, form), behind))
+    }
+
+    ghost shrinks = { primitive_line_shrinks };
+}
+
+/// The forms of `init`.
+struct InitialForms;
+
+impl StepForms for InitialForms {
+    ghost use Rattle.plc_syntax.specs.Trees.{InitialTree};
+    ghost use Rattle.plc_forms.specs.Forms.{initial_line_of};
+    ghost use Rattle.plc_forms.specs.Sizes.{initial_size};
+    ghost use Rattle.plc_forms.proofs.Shrinks.{initial_line_shrinks};
+    ghost use Rattle.plc_scope.specs.Primitives.{initial_means};
+
+    ghost Tree = { InitialTree };
+    ghost item = { initial_line_of };
+    ghost means = { initial_means };
+    ghost size = { initial_size };
+
+    fn next<'a>(
+        scope: &Scope,
+        start: Rest<'a>,
+    ) -> Option<(Result<Option<Prim>, ParseFault>, Rest<'a>)> {
+        let (form, behind) = initial_line_at(start)?;
+        Some((initial(scope, start.at, form), behind))
+    }
+
+    ghost shrinks = { initial_line_shrinks };
+}
+
+// Forms while there is one, and the closing brace.
+fn read_forms<'a, F: StepForms>(
+    alloc: Global,
+    scope: &Scope,
+    start: Rest<'a>,
+) -> Result<(Items<Prim>, Rest<'a>), ParseFault>
+    requires { length scope.now.locals ≤ most_locals }
+    ensures read { Gives (λ r. ((r.0, r.1.at), kinds r.1.tokens.now)) result
+        (forms_in F.item (F.means scope.now) F.size start.entry.at (kinds start.entry.tokens.now)) }
+    ensures place { IfOk result (λ r. Within start.entry r.1) }
+{
+    let mut step = Step::new(alloc);
+    let mut rest = start;
+    while let Some((meaning, behind)) = F::next(scope, rest) {
+        step.add(rest.at, meaning)?;
+        rest = behind;
+    }
+    match closing_at(rest) {
+        Some(behind) => Ok((step.primitives, behind)),
+        None => Err(ParseFault::Syntax { at: rest.at }),
+    }
+}
+
 /// The primitives of an atomic block, from behind its brace, and its closing brace.
+#[tactic(auto, unfolding(crate::specs::Reading::primitives_in))]
 pub fn read_primitives<'a>(
     alloc: Global,
     scope: &Scope,
     start: Rest<'a>,
 ) -> Result<(Items<Prim>, Rest<'a>), ParseFault>
     requires { length scope.now.locals ≤ most_locals }
-    ensures read { Gives (λ r. ((r.0, r.1.at), kinds r.1.tokens.now)) result (primitives_in scope.now start.entry.at (kinds start.entry.tokens.now)) }
+    ensures read { Gives (λ r. ((r.0, r.1.at), kinds r.1.tokens.now)) result
+        (primitives_in scope.now start.entry.at (kinds start.entry.tokens.now)) }
     ensures place { IfOk result (λ r. Within start.entry r.1) }
 {
-    let mut step = Step::new(alloc);
-    let mut rest = start;
-    while let Some((form, behind)) = primitive_line_at(rest) {
-        step.add(rest.at, primitive(scope, rest.at, form))?;
-        rest = behind;
-    }
-    match closing_at(rest) {
-        Some(behind) => Ok((step.primitives, behind)),
-        None => Err(ParseFault::Syntax { at: rest.at }),
-    }
+    read_forms::<AtomicForms>(alloc, scope, start)
 }
 
 /// The primitives of `init`, from behind its brace, and its closing brace.
+#[tactic(auto, unfolding(crate::specs::Reading::initials_in))]
 pub fn read_initials<'a>(
     alloc: Global,
     scope: &Scope,
     start: Rest<'a>,
 ) -> Result<(Items<Prim>, Rest<'a>), ParseFault>
     requires { length scope.now.locals ≤ most_locals }
-    ensures read { Gives (λ r. ((r.0, r.1.at), kinds r.1.tokens.now)) result (initials_in scope.now start.entry.at (kinds start.entry.tokens.now)) }
+    ensures read { Gives (λ r. ((r.0, r.1.at), kinds r.1.tokens.now)) result
+        (initials_in scope.now start.entry.at (kinds start.entry.tokens.now)) }
     ensures place { IfOk result (λ r. Within start.entry r.1) }
 {
-    let mut step = Step::new(alloc);
-    let mut rest = start;
-    while let Some((form, behind)) = initial_line_at(rest) {
-        step.add(rest.at, initial(scope, rest.at, form))?;
-        rest = behind;
-    }
-    match closing_at(rest) {
-        Some(behind) => Ok((step.primitives, behind)),
-        None => Err(ParseFault::Syntax { at: rest.at }),
-    }
+    read_forms::<InitialForms>(alloc, scope, start)
 }

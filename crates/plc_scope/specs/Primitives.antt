@@ -1,6 +1,7 @@
 -- What primitives, conditions and calls mean. A form stands at a place, the number of tokens before it. Each name is looked up where it stands, from left to
 -- right, so the first fault is the one at the least token; `null`, `new`, numbers and relations are judged by the left side and are themselves the place.
-use Rattle.std.specs.Prelude.{◌==◌, ◌+◌, ℕ, Bool, true, false, if◌then◌else◌, Option, Some, None, Result, Ok, Err}
+use Rattle.std.specs.Prelude.{◌+◌, ℕ, Bool, true, false, if◌then◌else◌, Option, Some, None, Result, Ok, Err}
+use Rattle.plc_base.specs.Functions.{is_retire}
 use Rattle.plc_base.specs.declared.ids.FieldId.{FieldId}
 use Rattle.plc_base.specs.declared.ids.FuncId.{FuncId}
 use Rattle.plc_lang.specs.declared.syntax.Var.{Var}
@@ -270,7 +271,7 @@ argument_means s f false at NullArgument = Err (faults.NoSuchCall at)
 argument_means s f false at (NameArgument n) = Err (faults.NoSuchCall at)
 argument_means s f false at (ActiveArgument n) = Err (faults.NoSuchCall at)
 argument_means s f true at NoArgument = Err (faults.NoSuchCall at)
-argument_means s f true at NullArgument = if f.0 == 0 then Err (faults.NoSuchCall at) else Ok (f, args.Null, false)
+argument_means s f true at NullArgument = if is_retire f then Err (faults.NoSuchCall at) else Ok (f, args.Null, false)
 argument_means s f true at (NameArgument n) = do
   p ← pointer_at s n (at + 2)
   Ok (f, args.Var p, false)

@@ -1,6 +1,8 @@
 -- Which names are in reach, and what they stand for.
 use Rattle.std.specs.Prelude.{◌==◌, ◌&&◌, not, ◌+◌, ℕ, Bool, true, false, if◌then◌else◌, List, [], ◌∷◌, ◌++◌, length, slice_get, codes, Option, Some, None, Result, Ok, Err}
 use Rattle.std.specs.List.{list_any}
+use Rattle.plc_base.specs.Functions.{is_retire}
+use Rattle.plc_base.specs.Limits.{most}
 use Rattle.plc_base.specs.Names.{NameList, place_of}
 use Rattle.plc_base.specs.declared.ids.FieldId.{FieldId}
 use Rattle.plc_base.specs.declared.ids.FuncId.{FuncId}
@@ -71,6 +73,11 @@ abbrev pub local_number : Option ℕ → Scope → List ℕ → ℕ → Result (
 local_number None s name at = Ok (length s.names.names, with_name s name LocalOnly)
 local_number (Some i) s name at = if may_name_local (slice_get s.bindings i) (has_local s.locals i) then Ok (i, s) else Err (faults.Duplicate at)
 
+-- the number of a name that may name a local, or none where the name is new
+abbrev pub reused : Option ℕ → Scope → ℕ → Result (Option ℕ) ParseFault
+reused None s at = Ok None
+reused (Some i) s at = if may_name_local (slice_get s.bindings i) (has_local s.locals i) then Ok (Some i) else Err (faults.Duplicate at)
+
 -- one more local
 abbrev pub with_local : Scope → ℕ → Bool → Bool → Scope
 with_local s number is_pointer is_parameter = record s { locals = s.locals ++ record { name = number; pointer = is_pointer; param = is_parameter } ∷ [] }
@@ -91,11 +98,11 @@ without_locals s = record s { locals = [] }
 
 -- parameters are counted too
 abbrev pub most_locals : ℕ
-most_locals = 32
+most_locals = most limits.Locals
 
 -- no further local at the limit
 abbrev pub local_limit : {A : Type 0} → Scope → Result A ParseFault → Result A ParseFault
-local_limit s next = if length s.locals == most_locals then Err (faults.Limit limits.Locals 33) else next
+local_limit s next = if length s.locals == most_locals then Err (faults.Limit limits.Locals (most_locals + 1)) else next
 
 -- a local at its name; the limit's place is the first token of its declaration, so a parameter is first asked whether it is new
 unfoldable pub declared_local : Scope → List ℕ → ℕ → Bool → Result Scope ParseFault
@@ -227,7 +234,7 @@ as_function no_value = None
 
 -- a function with a pointer that isn't `retire`
 abbrev pub protecting : FuncId → Bool → Option FuncId
-protecting f p = if p && not (f.0 == 0) then Some f else None
+protecting f p = if p && not (is_retire f) then Some f else None
 
 -- the same of a name
 abbrev pub as_protecting : Role → Option FuncId

@@ -35,7 +35,7 @@ fn pointer_argument(
     ensures { Gives call_meaning result (argument_means scope.now func true at (argument_tree argument.entry)) }
 {
     let (arg, active) = match argument {
-        Argument::Null if func.0 != 0 => (Arg::Null, false),
+        Argument::Null if !func.is_retire() => (Arg::Null, false),
         Argument::None | Argument::Null => return Err(ParseFault::NoSuchCall { at }),
         Argument::Name(name) => (Arg::Var(scope.pointer_at(name, at + 2)?), false),
         Argument::Active(name) => (Arg::Var(scope.pointer_at(name, at + 3)?), true),
@@ -49,7 +49,8 @@ fn pointer_argument(
 pub fn call(scope: &Scope, at: u32, form: Call) -> Result<Called, ParseFault>
     requires locals { length scope.now.locals ≤ most_locals }
     requires place { at + call_size (argument_tree form.argument) < 2 ^ 32 }
-    ensures { Gives call_meaning result (call_means scope.now at form.entry.name.now (argument_tree form.entry.argument)) }
+    ensures { Gives call_meaning result
+        (call_means scope.now at form.entry.name.now (argument_tree form.entry.argument)) }
 {
     match (scope.function_at(form.name, at)?, form.argument) {
         ((func, true), argument) => pointer_argument(scope, func, at, argument),

@@ -113,7 +113,9 @@ fn pointer_or_null(scope: &Scope, at: u32, name: Option<&[u8]>) -> Result<Option
 fn cas(scope: &Scope, at: u32, cas: Cas) -> Result<Cond, ParseFault>
     requires locals { length scope.now.locals ≤ most_locals }
     requires place { at + 4 < 2 ^ 32 }
-    ensures { Gives (λ c. c) result (cas_means scope.now cas.entry.is_active at cas.entry.name.now (text_or_none cas.entry.old) (text_or_none cas.entry.new)) }
+    ensures { Gives (λ c. c) result
+        (cas_means scope.now cas.entry.is_active at cas.entry.name.now (text_or_none cas.entry.old)
+        (text_or_none cas.entry.new)) }
 {
     let active = cas.is_active;
     let p = scope.pointer_at(cas.name, at)?;

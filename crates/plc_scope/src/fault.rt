@@ -1,7 +1,8 @@
 // Why a list of tokens spells no unit. Syntax is judged over the whole file first; of the other
 // faults the one at the least token is named, and at one token the first in the order below.
 ghost use Rattle.plc_scope.specs.declared.fault.ParseFault.TheVariants.{Memory};
-ghost use Rattle.std.specs.Prelude.{◌≡◌};
+ghost use Rattle.std.specs.Prelude.{◌≡◌, ◌+◌};
+ghost use Rattle.plc_base.specs.Limits.{most};
 ghost use Rattle.plc_scope.specs.Limits.{stands_at};
 
 use plc_base::{NoMemory, What1};
@@ -22,11 +23,20 @@ pub enum ParseFault {
     NoSuchCall { at: u32 },
     /// A limit is passed; the count is the limit plus one.
     Limit { what: What1, count: u32 },
-    /// Memory was wanting.
+    /// Memory ran out.
     Memory,
 }
 
 impl ParseFault {
+    /// The fault of one more of something than there may be.
+    #[tactic(auto, using(crate::proofs::Limits::most_few))]
+    pub fn past(what: What1) -> ParseFault
+        ensures { result ≡ ParseFault.Limit what (most what + 1) }
+    {
+        let count = what.most() + 1;
+        ParseFault::Limit { what, count }
+    }
+
     /// Whether the fault is at the token at this place. Where the first token of a form past a limit is
     /// at fault itself, that goes before the limit.
     pub fn stands_at(&self, at: u32) -> bool

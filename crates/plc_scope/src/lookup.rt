@@ -171,7 +171,7 @@ impl Scope {
         ensures { Gives (λ found. found) result (protecting_at self.now name.now at) }
     {
         match self.role(name, at)? {
-            Role::Function(function, true) if function.0 != 0 => Ok(function),
+            Role::Function(function, true) if !function.is_retire() => Ok(function),
             _ => Err(ParseFault::WrongSort { at }),
         }
     }

@@ -68,7 +68,8 @@ fn ghost_value(
     value: GhostValue,
 ) -> Result<GhostVal, ParseFault>
     requires { length scope.now.locals ≤ most_locals }
-    ensures { Gives (λ v. v) result (ghost_value_means scope.now in_init g of_threads at (ghost_value_tree value.entry)) }
+    ensures { Gives (λ v. v) result
+        (ghost_value_means scope.now in_init g of_threads at (ghost_value_tree value.entry)) }
 {
     match value {
         GhostValue::Name(name) if of_threads => Ok(GhostVal::Value(scope.thread_at(name, at)?)),

@@ -4,10 +4,11 @@
 //
 // A file's limits leave so few names that the list of names is never full: each declaration asks for
 // room, and says how much it took.
-ghost use Rattle.std.specs.Prelude.{◌≡◌, ◌<◌, IfOk, IfErr, length, slice_get};
+ghost use Rattle.std.specs.Prelude.{◌≡◌, ◌<◌, IfOk, IfErr, OnErr, None, Ok, length, slice_get};
 ghost use Rattle.plc_base.specs.Names.{place_of};
 ghost use Rattle.plc_scope.specs.Answers.{Gives, HasRoom, GrowsBy, HasRoomForLocals, GrowsByLocals};
-ghost use Rattle.plc_scope.specs.Scope.{first_scope, if_new, declared, declared_label, declared_local, declared_parameter, with_last, local_number, may_name_local, has_local, with_local, without_locals};
+ghost use Rattle.plc_scope.specs.Scope.{first_scope, if_new, declared, declared_label, declared_local, declared_parameter, with_last, with_name, reused, may_name_local, has_local, with_local, without_locals};
+ghost use Rattle.plc_scope.specs.declared.binding.Binding.TheVariants.{LocalOnly};
 
 use crate::binding::Binding;
 use crate::fault::ParseFault;
@@ -17,9 +18,6 @@ use std::alloc::Global;
 
 /// How many names the list of names may have.
 const MOST_NAMES: u16 = 65535;
-
-/// How many locals an operation may have.
-const MOST_LOCALS: usize = 32;
 
 /// The names in reach.
 #[derive(Drop)]
@@ -37,7 +35,9 @@ pub struct Scope {
 fn add_name(names: &mut Names, name: &[u8], at: u32) -> Result<u16, ParseFault>
     requires { length names.old.names < names.old.limit }
     ensures number { IfOk result (λ number. number ≡ length names.old.names) }
-    ensures read { Gives (λ _. names.new) result (if_new (place_of name.now names.old.names) at (with_last names.old name.now)) }
+    ensures read { Gives (λ _. names.new) result
+        (if_new (place_of name.now names.old.names) at (with_last names.old name.now)) }
+    ensures err { OnErr result (names.new ≡ names.old) }
 {
     match names.add(name) {
         Ok(number) => Ok(number),
@@ -70,17 +70,24 @@ impl Scope {
     }
 
     /// Declares a name that differs from all before, and answers its number. `Duplicate` where it
-    /// doesn't.
+    /// doesn't. After a refusal the scope is as it was, as after each refusal below.
     pub fn declare(&mut self, name: &[u8], at: u32, binding: Binding) -> Result<u16, ParseFault>
         requires { HasRoom self.old 1 }
         ensures number { IfOk result (λ number. number ≡ length self.old.names.names) }
         ensures read { Gives (λ _. self.new) result (declared self.old name.now at binding) }
         ensures names { IfOk result (λ _. GrowsBy self.old self.new 1) }
         ensures locals { self.new.locals ≡ self.old.locals }
+        ensures err { OnErr result (self.new ≡ self.old) }
     {
-        let number = add_name(&mut self.names, name, at)?;
+        let count = self.bindings.len();
         self.bindings.push(binding)?;
-        Ok(number)
+        match add_name(&mut self.names, name, at) {
+            Ok(number) => Ok(number),
+            Err(fault) => {
+                self.bindings.truncate(count);
+                Err(fault)
+            }
+        }
     }
 
     /// Declares a label, which is as new as any name of the file. `Duplicate` where it isn't.
@@ -89,10 +96,18 @@ impl Scope {
         ensures read { Gives (λ _. self.new) result (declared_label self.old name.now at) }
         ensures names { IfOk result (λ _. GrowsBy self.old self.new 1) }
         ensures locals { self.new.locals ≡ self.old.locals }
+        ensures err { OnErr result (self.new ≡ self.old) }
     {
-        let number = self.declare(name, at, Binding::Taken)?;
+        let count = self.labels.len();
+        let number = self.names.len();
         self.labels.push(number)?;
-        Ok(())
+        match self.declare(name, at, Binding::Taken) {
+            Ok(_) => Ok(()),
+            Err(fault) => {
+                self.labels.truncate(count);
+                Err(fault)
+            }
+        }
     }
 
     // Whether a name that is there may be a local's: it is one of another operation, and nothing else.
@@ -105,22 +120,20 @@ impl Scope {
         }
     }
 
-    // The number of a local's name, which is declared if it isn't there.
-    fn local_number(&mut self, name: &[u8], at: u32) -> Result<u16, ParseFault>
-        requires { HasRoom self.old 1 }
-        ensures read { Gives (λ number. (number, self.new)) result (local_number (place_of name.now self.old.names.names) self.old name.now at) }
-        ensures names { IfOk result (λ _. GrowsBy self.old self.new 1) }
-        ensures locals { self.new.locals ≡ self.old.locals }
+    // The number of a name that a local of another operation has, or none where the name is new.
+    fn reused(&self, name: &[u8], at: u32) -> Result<Option<u16>, ParseFault>
+        ensures { Gives (λ number. number) result (reused (place_of name.now self.now.names.names) self.now at) }
     {
         match self.names.find(name) {
-            None => self.declare(name, at, Binding::LocalOnly),
-            Some(number) if self.may_name_local(number) => Ok(number),
+            None => Ok(None),
+            Some(number) if self.may_name_local(number) => Ok(Some(number)),
             Some(_) => Err(ParseFault::Duplicate { at }),
         }
     }
 
     fn add_local(&mut self, name: u16, pointer: bool, param: bool) -> Result<(), ParseFault>
-        ensures { Gives (λ _. self.new) result (Ok (with_local self.old name pointer param)) }
+        ensures read { Gives (λ _. self.new) result (Ok (with_local self.old name pointer param)) }
+        ensures err { OnErr result (self.new ≡ self.old) }
     {
         let local = Local {
             name,
@@ -131,6 +144,26 @@ impl Scope {
         Ok(())
     }
 
+    // A local with a new name.
+    fn add_new_local(&mut self, name: &[u8], pointer: bool, param: bool) -> Result<(), ParseFault>
+        requires room { HasRoom self.old 1 }
+        requires new { place_of name.now self.old.names.names ≡ None }
+        ensures read { Gives (λ _. self.new) result
+            (Ok (with_local (with_name self.old name.now LocalOnly) (length self.old.names.names) pointer param)) }
+        ensures err { OnErr result (self.new ≡ self.old) }
+    {
+        let count = self.locals.len();
+        let number = self.names.len();
+        self.add_local(number, pointer, param)?;
+        match self.declare(name, 0, Binding::LocalOnly) {
+            Ok(_) => Ok(()),
+            Err(fault) => {
+                self.locals.truncate(count);
+                Err(fault)
+            }
+        }
+    }
+
     /// Declares a local of the present operation. `Limit` where it has 32 before; `Duplicate` where
     /// the name is not new, but for a local of another operation.
     #[tactic(auto, unfolding(crate::specs::Scope::declared_local))]
@@ -138,12 +171,15 @@ impl Scope {
         requires { HasRoomForLocals self.old }
         ensures read { Gives (λ _. self.new) result (declared_local self.old name.now at pointer) }
         ensures names { IfOk result (λ _. GrowsByLocals self.old self.new) }
+        ensures err { OnErr result (self.new ≡ self.old) }
     {
-        if self.locals.len() == MOST_LOCALS {
-            return Err(too_many_locals());
+        if self.locals.len() == What1::Locals.most() as usize {
+            return Err(ParseFault::past(What1::Locals));
         }
-        let number = self.local_number(name, at)?;
-        self.add_local(number, pointer, false)
+        match self.reused(name, at)? {
+            Some(number) => self.add_local(number, pointer, false),
+            None => self.add_new_local(name, pointer, false),
+        }
     }
 
     /// Declares a parameter of the present operation, with the same faults; the name is judged
@@ -153,13 +189,16 @@ impl Scope {
         requires { HasRoomForLocals self.old }
         ensures read { Gives (λ _. self.new) result (declared_parameter self.old name.now at) }
         ensures names { IfOk result (λ _. GrowsByLocals self.old self.new) }
+        ensures err { OnErr result (self.new ≡ self.old) }
     {
-        let is_full = self.locals.len() == MOST_LOCALS;
-        let number = self.local_number(name, at)?;
-        if is_full {
-            return Err(too_many_locals());
+        let number = self.reused(name, at)?;
+        if self.locals.len() == What1::Locals.most() as usize {
+            return Err(ParseFault::past(What1::Locals));
         }
-        self.add_local(number, false, true)
+        match number {
+            Some(number) => self.add_local(number, false, true),
+            None => self.add_new_local(name, false, true),
+        }
     }
 
     /// Ends an operation: its locals, which are in reach no longer.
@@ -168,14 +207,5 @@ impl Scope {
         ensures scope { self.new ≡ without_locals self.old }
     {
         std::mem::replace(&mut self.locals, Items::new(alloc))
-    }
-}
-
-fn too_many_locals() -> ParseFault
-    ensures { result ≡ ParseFault.Limit What1.Locals 33 }
-{
-    ParseFault::Limit {
-        what: What1::Locals,
-        count: 33,
     }
 }

@@ -11,4 +11,4 @@ returns-in-Err-Syntax-clause-fault c =
 pub returns-in-Err-Nesting-clause-fault : goal.returns-in-Err-Nesting-clause-fault
 returns-in-Err-Nesting-clause-fault c =
     let was : c.syntax.result ≡ Err (syntax.Nesting c.in-Err-Nesting.field-0-0) = c.in-Err-Nesting.is ∙ ap Err c.in-Err-Nesting.field-0-is in
-    too_deep c.in-Err-Nesting.field-0-0 refl ((c.syntax.ensures.nesting c.in-Err-Nesting.field-0-0).only was)
+    too_deep c.in-Err-Nesting.field-0-0 c.past.ensures ((c.syntax.ensures.nesting c.in-Err-Nesting.field-0-0).only was)
