@@ -1,4 +1,6 @@
+-- what contracts of public calls say
 pub mod Loading
-pub mod Refusals
 pub mod Unjudged
 pub mod Verdicts
+-- words of private functions alone
+pub mod Refusals

@@ -1,11 +1,11 @@
 -- Which file bytes spell, and how they are answered.
-use Rattle.std.specs.Prelude.{◌≡◌, ◌≢◌, ◌⊎◌, ◌==◌, ℕ, true, false, ◌<◌, ◌≤◌, ◌+◌, List, get_or, count_by, Option, Some, None, Result, Ok, Err}
+use Rattle.std.specs.Prelude.{◌≡◌, ◌≢◌, ◌⊎◌, ℕ, true, false, ◌<◌, ◌≤◌, ◌+◌, List, get_or, Option, Some, None, Result, Ok, Err}
 use Rattle.plc_base.specs.declared.limits.What1.{What1}
 use Rattle.plc_base.specs.declared.limits.What1.TheVariants.{Points}
 use Rattle.plc_lex.specs.declared.token.Token.{Token}
 use Rattle.plc_lex.specs.declared.fault.LexFault.{LexFault}
 use Rattle.plc_lex.specs.declared.fault.LexFault.TheVariants as lex
-use Rattle.plc_lex.specs.Spelling.{AreTokensOf}
+use Rattle.plc_lex.specs.Spelling.{AreTokensOf, line_feeds}
 use Rattle.plc_lex.specs.Refused.{StopsWith}
 use Rattle.plc_syntax.specs.Syntax.{kinds}
 use Rattle.plc_scope.specs.declared.fault.ParseFault.{ParseFault}
@@ -13,6 +13,7 @@ use Rattle.plc_scope.specs.declared.fault.ParseFault.TheVariants as parse
 use Rattle.plc_parse.specs.declared.unit.Unit.{Unit as FileUnit}
 use Rattle.plc_parse.specs.Units.{lines_of, IsUnitOf, IsFaultOf}
 use Rattle.plc_flow.specs.Lowering.{made_of, flow_of, most_points}
+use Rattle.plc_reclaim.specs.Schemes.{schemes_of}
 use Rattle.plc_check.specs.declared.judged.Judged.{Judged}
 use Rattle.plc_check.specs.declared.judged.LoadFault.{LoadFault}
 use Rattle.plc_check.specs.declared.judged.LoadFault.TheVariants as faults
@@ -33,7 +34,7 @@ pub record IsFileOf (unjudged : Unjudged) (bytes : List ℕ) (u : FileUnit) : Ty
 
 -- what is judged of a unit
 abbrev pub judged_of : FileUnit → Judged
-judged_of u = record { observer = u.observer; outline = u.outline; flow = flow_of u.file }
+judged_of u = record { unit_outline = u.outline; observer = u.observer; schemes = schemes_of u.observer; flow = flow_of u.file }
 
 -- ---- refusals
 
@@ -59,9 +60,9 @@ place_of (parse.NoSuchCall at) = Some at
 place_of (parse.Limit what count) = None
 place_of parse.Memory = None
 
--- the line of a place: that of its token, and behind the last token that of the end of the bytes
+-- the line of a place: that of its token, and after the last token that of the end of the bytes
 abbrev pub line_of : List ℕ → List Token → ℕ → ℕ
-line_of bytes tokens place = get_or (lines_of tokens) place (1 + count_by (λ b. b == 10) bytes)
+line_of bytes tokens place = get_or (lines_of tokens) place (1 + line_feeds bytes)
 
 -- the bytes spell tokens that have this fault at a place, on this line
 pub record HasParseFault (bytes : List ℕ) (fault : ParseFault) (line : ℕ) : Type 0 where
@@ -88,7 +89,7 @@ pub record HasTooManyPoints (bytes : List ℕ) (what : What1) (count : ℕ) : Ty
   pub what_is : what ≡ Points
   pub count_is : count ≡ most_points + 1
 
--- why bytes are refused; memory may be wanting anywhere
+-- why bytes are refused; memory may run out anywhere
 abbrev pub HasFault : Unjudged → List ℕ → LoadFault → Type 0
 HasFault unjudged bytes (faults.Lex fault) = HasLexFault bytes fault
 HasFault unjudged bytes faults.Unjudged = HasUnjudged unjudged bytes
@@ -96,7 +97,7 @@ HasFault unjudged bytes (faults.Parse fault line) = HasParseFault bytes fault li
 HasFault unjudged bytes (faults.Limit what count) = PassesLimit bytes what count ⊎ HasTooManyPoints bytes what count
 HasFault unjudged bytes faults.Memory = Unit {0}
 
--- what other refusals than the want of memory say: the bytes spell no file that is judged
+-- what other refusals than running out of memory say: the bytes spell no file that is judged
 abbrev pub SpellsNothing : Unjudged → List ℕ → LoadFault → Type 0
 SpellsNothing unjudged bytes faults.Memory = Unit {0}
 SpellsNothing unjudged bytes other = (u : FileUnit) → IsFileOf unjudged bytes u → ⊥

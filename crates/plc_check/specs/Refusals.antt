@@ -18,7 +18,7 @@ use Rattle.plc_check.specs.declared.unjudged.Unjudged.{Unjudged}
 use Rattle.plc_check.specs.Unjudged.{unjudged_words, hold}
 use Rattle.plc_check.specs.Loading.{judged_of, line_of}
 
--- a lower call's fault, of which the want of memory is none
+-- a lower call's fault, of which running out of memory is none
 abbrev pub lex_refusal : LexFault → LoadFault
 lex_refusal lex.Memory = faults.Memory
 lex_refusal (lex.BadByte at) = faults.Lex (lex.BadByte at)
@@ -45,7 +45,7 @@ pub record HasManyPoints (u : FileUnit) (e : LoadFault) : Type 0 where
   pub many : most_points < (made_of u.file).points
   pub fault : e ≡ faults.Limit Points (most_points + 1)
 
--- what is judged of a unit, or too many points; memory may be wanting
+-- what is judged of a unit, or too many points; memory may run out
 abbrev pub IsLowered : FileUnit → Result Judged LoadFault → Type 0
 IsLowered u (Ok j) = (j ≡ judged_of u) × ((made_of u.file).points ≤ most_points) × (FileFits u.file → NamesWhatIsThere u.file → FlowFits j.flow)
 IsLowered u (Err faults.Memory) = Unit {0}

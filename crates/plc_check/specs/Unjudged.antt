@@ -4,9 +4,13 @@ use Rattle.std.specs.List.{list_any}
 use Rattle.plc_lex.specs.declared.token.Keyword.{Keyword}
 use Rattle.plc_lex.specs.declared.token.Keyword.TheVariants.{Active, Outline}
 use Rattle.plc_lex.specs.declared.token.TokenKind.{TokenKind}
-use Rattle.plc_forms.specs.Forms.{hold_word}
+use Rattle.plc_forms.specs.Forms.{is_word}
 use Rattle.plc_check.specs.declared.unjudged.Unjudged.{Unjudged}
 use Rattle.plc_check.specs.declared.unjudged.Unjudged.TheVariants.{Nothing, Outlines, ClaimsAndOutlines}
+
+-- whether one of the tokens is this keyword
+abbrev pub hold_word : Keyword → List TokenKind → Bool
+hold_word word ts = list_any (is_word word) ts
 
 -- the words of these forms
 abbrev pub unjudged_words : Unjudged → List Keyword

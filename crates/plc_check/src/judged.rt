@@ -1,21 +1,25 @@
-// What is judged: the flow of a file with its observer and its outline, and why bytes give none. A fault that wraps
-// a lower call's fault never holds the lower want of memory, which is `Memory` here.
+// What is judged: the flow of a file with its outline, its observer and its schemes, and why bytes give none.
+// A fault that wraps a lower call's fault never is the lower call's running out of memory, which is `Memory`
+// here.
 ghost use Rattle.plc_check.specs.declared.judged.LoadFault.TheVariants.{Memory};
 
 use plc_auto::Observer;
-use plc_base::What1;
+use plc_base::{Items, What1};
 use plc_flow::Flow;
 use plc_lex::LexFault;
 use plc_logic::Outline;
+use plc_reclaim::Scheme;
 use plc_scope::ParseFault;
 
 /// A file that was read and lowered.
 #[derive(Drop)]
 pub struct Judged {
+    /// What is said of the nodes, which fits the file.
+    pub unit_outline: Outline,
     /// What says when the reclaimer may free.
     pub observer: Observer,
-    /// What is said of the nodes, which fits the file.
-    pub outline: Outline,
+    /// What the reclaimer is told: one scheme where the file uses hazard pointers or epochs, else none.
+    pub schemes: Items<Scheme>,
     /// The file and its control flow.
     pub flow: Flow,
 }
@@ -26,13 +30,13 @@ pub enum LoadFault {
     /// The bytes spell no tokens.
     Lex(LexFault),
     /// The tokens spell no unit: a fault at a place, with the line of the token there, or of the end
-    /// where the place is behind the last token. It is neither `Limit` nor `Memory`.
+    /// where the place is after the last token. It is neither `Limit` nor `Memory`.
     Parse { fault: ParseFault, line: u32 },
     /// A limit on what a file may hold is passed, by the tokens or by the points of the flow; the count
     /// is the limit plus one.
     Limit { what: What1, count: u32 },
     /// The bytes spell a file, and a token is a word of a form that isn't judged yet.
     Unjudged,
-    /// Memory was wanting.
+    /// Memory ran out.
     Memory,
 }

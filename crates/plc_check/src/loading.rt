@@ -1,8 +1,11 @@
 // Bytes, tokens, unit, flow: the first refusal on this way is the answer.
-ghost use Rattle.std.specs.Prelude.{◌≡◌, ◌≤◌, ◌+◌, ◌==◌, count_by, length, IfOk};
+ghost use Rattle.std.specs.Prelude.{◌≡◌, ◌≤◌, ◌+◌, true, length, IfOk};
+ghost use Rattle.plc_auto.specs.Table.{is_well_formed};
+ghost use Rattle.plc_base.specs.Limits.{largest_file};
 ghost use Rattle.plc_flow.specs.WellFormed.{FlowFits};
 ghost use Rattle.plc_lang.specs.Fit.{FileFits};
 ghost use Rattle.plc_check.specs.Loading.{IsLoaded, FilesAreUnique, line_of, place_of};
+ghost use Rattle.plc_lex.specs.Spelling.{line_feeds};
 ghost use Rattle.plc_logic.specs.Fit.{OutlineFits};
 ghost use Rattle.plc_check.specs.Refusals.{lex_refusal, parse_refusal, unplaced, IsLowered, IsJudgedOf};
 
@@ -12,10 +15,11 @@ use plc_base::What1;
 use plc_flow::{FlowFault, lower};
 use plc_lex::{LexFault, Token, tokens};
 use plc_parse::{Unit, parse};
+use plc_reclaim::schemes_of;
 use plc_scope::ParseFault;
 use std::alloc::Global;
 
-// A lower want of memory is the want of memory here.
+// Where a lower call runs out of memory so does this one.
 fn lex_refusal(fault: LexFault) -> LoadFault
     ensures { result ≡ lex_refusal fault }
 {
@@ -25,10 +29,10 @@ fn lex_refusal(fault: LexFault) -> LoadFault
     }
 }
 
-// The line behind the last byte.
+// The line of the end.
 fn end_line(bytes: &[u8]) -> u32
-    requires { length bytes.now ≤ 1048576 }
-    ensures { result ≡ 1 + count_by (λ b. b == 10) bytes.now }
+    requires { length bytes.now ≤ largest_file }
+    ensures { result ≡ 1 + line_feeds bytes.now }
 {
     let mut line = 1;
     for byte in bytes {
@@ -41,7 +45,7 @@ fn end_line(bytes: &[u8]) -> u32
 
 // The line of a place among the tokens of the bytes.
 fn line_of(bytes: &[u8], tokens: &[Token], place: u32) -> u32
-    requires { length bytes.now ≤ 1048576 }
+    requires { length bytes.now ≤ largest_file }
     ensures { result ≡ line_of bytes.now tokens.now place }
 {
     match tokens.get(place as usize) {
@@ -64,7 +68,7 @@ fn place_of(fault: &ParseFault) -> Option<u32>
     }
 }
 
-// A fault that is told without a place: a limit, or the want of memory.
+// A fault that is told without a place: a limit, or running out of memory.
 fn unplaced(fault: ParseFault) -> LoadFault
     ensures { result ≡ unplaced fault }
 {
@@ -76,7 +80,7 @@ fn unplaced(fault: ParseFault) -> LoadFault
 
 // The same of the parser's faults; where one has a place its line is told with it.
 fn parse_refusal(bytes: &[u8], tokens: &[Token], fault: ParseFault) -> LoadFault
-    requires { length bytes.now ≤ 1048576 }
+    requires { length bytes.now ≤ largest_file }
     ensures { result ≡ parse_refusal bytes.now tokens.now fault }
 {
     match place_of(&fault) {
@@ -93,11 +97,15 @@ fn lowered(alloc: Global, unit: Unit) -> Result<Judged, LoadFault>
     ensures { IsLowered unit result }
 {
     let observer = unit.observer;
-    let outline = unit.outline;
+    let unit_outline = unit.outline;
+    let Ok(schemes) = schemes_of(alloc, &observer) else {
+        return Err(LoadFault::Memory);
+    };
     match lower(alloc, unit.file) {
         Ok(flow) => Ok(Judged {
+            unit_outline,
             observer,
-            outline,
+            schemes,
             flow,
         }),
         Err(FlowFault::TooManyPoints { count }) => Err(LoadFault::Limit {
@@ -134,11 +142,12 @@ fn judged_of(
 /// would have more than 4,096 points, `Unjudged` where a token is a word of a form that isn't judged;
 /// `Memory` may come anywhere.
 pub fn load(alloc: Global, bytes: &[u8], unjudged: Unjudged) -> Result<Judged, LoadFault>
-    requires { length bytes.now ≤ 1048576 }
+    requires { length bytes.now ≤ largest_file }
     ensures loaded { IsLoaded unjudged bytes.now result }
     ensures fits { IfOk result (λ j. FlowFits j.flow) }
     ensures file { IfOk result (λ j. FileFits j.flow.file) }
-    ensures outline { IfOk result (λ j. OutlineFits j.flow.file j.outline) }
+    ensures outline { IfOk result (λ j. OutlineFits j.flow.file j.unit_outline) }
+    ensures observer { IfOk result (λ j. is_well_formed j.observer ≡ true) }
 {
     let found = match tokens(alloc, bytes) {
         Ok(found) => found,

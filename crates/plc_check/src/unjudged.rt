@@ -1,10 +1,10 @@
 // Forms of the language that a command reads and doesn't judge yet. A file that holds a word of such a
-// form is refused, wherever the word stands, behind the file's other refusals.
+// form is refused, wherever the word stands, after the file's other refusals.
 ghost use Rattle.std.specs.Prelude.{◌≡◌};
 ghost use Rattle.plc_syntax.specs.Syntax.{kinds};
-ghost use Rattle.plc_check.specs.Unjudged.{unjudged_words, hold};
+ghost use Rattle.plc_check.specs.Unjudged.{hold_word, unjudged_words, hold};
 
-use plc_forms::holds_word;
+use plc_forms::is_word;
 use plc_lex::{Keyword, Token};
 
 /// Which forms a command doesn't judge yet.
@@ -16,6 +16,18 @@ pub enum Unjudged {
     Outlines,
     /// Outlines, and claims that a pointer is active, which only an outline can prove.
     ClaimsAndOutlines,
+}
+
+// Whether one of the tokens is a keyword.
+fn holds_word(tokens: &[Token], word: Keyword) -> bool
+    ensures { result ≡ hold_word word (kinds tokens.now) }
+{
+    for token in tokens {
+        if is_word(&token.kind, word) {
+            return true;
+        }
+    }
+    false
 }
 
 /// Whether one of the tokens is a word of these forms.

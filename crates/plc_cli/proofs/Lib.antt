@@ -1,4 +1,3 @@
 pub mod Judging
-pub mod Positions
 pub mod Statuses
 pub mod TwoReads

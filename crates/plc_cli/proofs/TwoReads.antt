@@ -1,58 +1,74 @@
--- A replay reads two files, one behind the other: what is known before the first and after the second.
-use Rattle.std.proofs.Common.{◌≡◌, ◌≢◌, ◌<◌, ◌≤◌, ◌⊎◌, inl, inr, ℕ, Bool, true, false, List, length, Option, IfSome, refl, sym, ap, ◌∙◌, subst, arith}
+-- One read, and two, one after the other: what is known before the first and after the last.
+use Rattle.std.proofs.Common.{◌≡◌, ◌≢◌, ◌≤◌, ◌<◌, inl, inr, ℕ, Bool, true, false, List, [], ◌∷◌, ◌++◌, Option, length, refl, sym, ap, ◌∙◌, subst, arith, append_assoc, append-nil}
+use Rattle.std.specs.Prelude.{IfSome}
 use Rattle.std.specs.Str.{bytes_eq}
 use Rattle.std.proofs.lemmas.Bool.{false≢true}
 use Rattle.std.proofs.lemmas.Slice.Eq.{bytes_eq-Decides}
-use Rattle.plc_cli.specs.Reads.{KnownFiles, known, NoFaultBut, Only, Either, IsReadFailed, IsReadTooLong, IsRead, IsAnswered, IsDueForFile}
-use Rattle.plc_cli.specs.Reclaimers.{KnownReclaimer}
-use Rattle.plc_cli.specs.Answer.{IsReplayOf, IsDueBehind, IsDueForReplay, largest, largest_schedule}
+use Rattle.plc_base.specs.Limits.{largest_file}
+use Rattle.plc_outside.specs.Known.{KnownFiles}
+use Rattle.plc_cli.specs.Reads.{FilesAreKept, NoFaultBut, Only, Either, IsUnread, IsGivenFile, IsSecondUnread, IsGivenPair, reading}
+use Rattle.plc_cli.specs.Views.{IsFound}
 
-module _ (content behind : List ℕ → Option (List ℕ)) (before between now : List ℕ → ℕ) (first_taken taken : ℕ) (file schedule : List ℕ)
-    (same : (other : List ℕ) → behind other ≡ content other)
-    (others : (other : List ℕ) → other ≢ file → between other ≡ before other)
-    (later : before file ≤ between file) where
-  -- the first read lowers no count
-  never_falls : (name : List ℕ) → before name ≤ between name
-  never_falls name = go (bytes_eq name file) refl
-    where
-      go : (b : Bool) → bytes_eq name file ≡ b → before name ≤ between name
-      go true e = subst (λ (n : List ℕ). before n ≤ between n) (sym ((bytes_eq-Decides name file).0 e)) later
-      go false e = omega (arith, others name (λ is. false≢true (sym e ∙ (bytes_eq-Decides name file).1 is)))
+-- a read lowers no count
+pub one_read_keeps : (old new : KnownFiles) (name : List ℕ) → ((other : List ℕ) → new.content other ≡ old.content other) → ((other : List ℕ) → other ≢ name → new.faults other ≡ old.faults other) → old.faults name ≤ new.faults name → FilesAreKept old new
+one_read_keeps old new name content others later = record { content = content; faults = λ other. go other (bytes_eq other name) refl }
+  where
+    go : (other : List ℕ) (b : Bool) → bytes_eq other name ≡ b → old.faults other ≤ new.faults other
+    go other true e = subst (λ (n : List ℕ). old.faults n ≤ new.faults n) (sym ((bytes_eq-Decides other name).0 e)) later
+    go other false e = omega (arith, others other (λ is. false≢true (sym e ∙ (bytes_eq-Decides other name).1 is)))
 
-  -- a count that neither read may raise is what it was
-  kept_by_both : NoFaultBut (Only schedule) (known behind between now taken) → NoFaultBut (Either file schedule) (known content before now taken)
-  kept_by_both kept other neither = kept other (λ e. neither (inr e)) ∙ others other (λ e. neither (inl e))
+-- nothing was read
+pub none_read_keeps : (old : KnownFiles) → FilesAreKept old old
+none_read_keeps old = record { content = λ name. refl; faults = λ name. omega arith }
 
-  told_before : (most : ℕ) → IfSome (behind schedule) (λ c. most < length c) → IfSome (content schedule) (λ c. most < length c)
-  told_before most h = subst (λ (o : Option (List ℕ)). IfSome o (λ c. most < length c)) (same schedule) h
+-- the file that a command with one file reads
+pub given_file : (old new : KnownFiles) (name bytes : List ℕ) → IsFound old new name largest_file bytes → IsGivenFile old new name bytes
+given_file old new name bytes found = record { others = found.others; read = found.read; gave = found.gave }
 
-  module _ (reclaimer : KnownReclaimer) (bytes : List ℕ) (status : ℕ) (text : List ℕ) (read : IsRead (known content before between first_taken) file largest bytes) where
-    -- what is due behind the first read, by what comes of the second
-    due_behind : IsDueForFile (Either file schedule) (known content before now taken) schedule largest_schedule (λ second. IsReplayOf reclaimer bytes second status text) status text
-        → IsDueForReplay reclaimer (known content before now taken) file schedule status text
-    due_behind due = inr (inr (record { bytes = bytes; read = record { short = read.short; told = read.told }; due = due }))
+module _ (old mid new : KnownFiles) (first second : List ℕ) (most : ℕ) (a : FilesAreKept old mid) where
+  pub two_reads_keep : FilesAreKept mid new → FilesAreKept old new
+  two_reads_keep b = record { content = λ name. b.content name ∙ a.content name; faults = λ name. omega (arith, a.faults name, b.faults name) }
 
-    pub read_both : (second : List ℕ) → NoFaultBut (Only schedule) (known behind between now taken) × IsRead (known behind between now taken) schedule largest_schedule second → IsReplayOf reclaimer bytes second status text
-        → IsDueForReplay reclaimer (known content before now taken) file schedule status text
-    read_both second r answer = due_behind (inr (inr (record {
-      others = kept_by_both r.0;
-      bytes = second;
-      read = record { short = r.1.short; told = subst (λ (o : Option (List ℕ)). IfSome o (λ c. second ≡ c)) (same schedule) r.1.told };
-      answer = answer;
-    })))
+  module _ (bytes : List ℕ) (found : IsFound old mid first largest_file bytes) where
+    -- a count that neither read may raise is what it was
+    no_other : NoFaultBut (Only second) mid new → NoFaultBut (Either first second) old new
+    no_other kept other neither = kept other (λ e. neither (inr e)) ∙ found.others other (λ e. neither (inl e))
 
-    pub second_unread : IsReadFailed (Only schedule) (known behind between now taken) schedule status text ⊎ IsReadTooLong (Only schedule) (known behind between now taken) schedule largest_schedule status text
-        → IsDueForReplay reclaimer (known content before now taken) file schedule status text
-    second_unread (inl failed) = due_behind (inl (record {
-      rose = omega (arith, failed.rose, never_falls schedule);
-      others = kept_by_both failed.others;
-      status_is = failed.status_is;
-      text_is = failed.text_is;
-    }))
-    second_unread (inr long) = due_behind (inr (inl (record {
-      others = kept_by_both long.others;
-      long = long.long;
-      told = told_before largest_schedule long.told;
-      status_is = long.status_is;
-      text_is = long.text_is;
-    })))
+    told_before : (P : List ℕ → Type 0) → IfSome (mid.content second) P → IfSome (old.content second) P
+    told_before P h = subst (λ (o : Option (List ℕ)). IfSome o P) (a.content second) h
+
+    gave_first : new.given ≡ mid.given ++ [] → new.given ≡ old.given ++ reading first bytes ∷ []
+    gave_first e = e ∙ append-nil mid.given ∙ found.gave
+
+    pub given_pair : (more : List ℕ) → IsFound mid new second most more → IsGivenPair old new first second most bytes more
+    given_pair more next = record {
+      others = no_other next.others;
+      read = found.read;
+      read_second = record { short = next.read.short; told = told_before (λ c. more ≡ c) next.read.told };
+      gave = next.gave ∙ ap (λ reads. reads ++ reading second more ∷ []) found.gave ∙ append_assoc old.given (reading first bytes ∷ []) (reading second more ∷ []);
+    }
+
+    pub second_unread : (status : ℕ) (text : List ℕ) → IsUnread (Only second) mid new [] second most status text → IsSecondUnread old new first second most status text
+    second_unread status text (inl failed) = record {
+      bytes = bytes;
+      read = found.read;
+      unread = inl (record {
+        rose = omega (arith, failed.rose, a.faults second);
+        others = no_other failed.others;
+        gave = gave_first failed.gave;
+        status_is = failed.status_is;
+        text_is = failed.text_is;
+      });
+    }
+    second_unread status text (inr long) = record {
+      bytes = bytes;
+      read = found.read;
+      unread = inr (record {
+        others = no_other long.others;
+        gave = gave_first long.gave;
+        long = long.long;
+        told = told_before (λ c. most < length c) long.told;
+        status_is = long.status_is;
+        text_is = long.text_is;
+      });
+    }

@@ -1,5 +1,7 @@
 -- What a 0 means, and when it comes.
 use Rattle.std.specs.Prelude.{◌≡◌, ◌⊎◌, ◌≤◌, ℕ, List, Option, Some, length}
+use Rattle.plc_base.specs.Limits.{largest_file}
+use Rattle.plc_outside.specs.Known.{KnownFiles}
 use Rattle.plc_parse.specs.declared.unit.Unit.{Unit as FileUnit}
 use Rattle.plc_flow.specs.Lowering.{flow_of}
 use Rattle.plc_xfer.specs.Typings.{HasTyping}
@@ -7,8 +9,9 @@ use Rattle.plc_flow.specs.Skeleton.{skeleton_of}
 use Rattle.plc_run.specs.Run.{NeverRaces}
 use Rattle.plc_sound.specs.Laws.{NeverRetires}
 use Rattle.plc_cli.specs.Requests.{Request, Check}
-use Rattle.plc_cli.specs.Reads.{KnownFiles}
-use Rattle.plc_cli.specs.Answer.{largest, Spells}
+use Rattle.plc_cli.specs.Reads.{IsGivenFile}
+use Rattle.plc_cli.specs.Answer.{Spells}
+use Rattle.plc_cli.specs.Statuses.{holds, unwritten, no_memory}
 
 -- the bytes spell a program; where it hands nothing to the reclaimer, no run of it has a pointer race or a second retire
 pub record IsSafeProgram (bytes : List ℕ) : Type 0 where
@@ -20,10 +23,17 @@ pub record IsSafeProgram (bytes : List ℕ) : Type 0 where
 abbrev pub IsTypable : FileUnit → Type 0
 IsTypable u = HasTyping u.observer (skeleton_of (flow_of u.file))
 
--- where the words ask for the check of a file, by the content that is told under its name
-pub record Headline (files : KnownFiles) (request : Option Request) (result : ℕ) : Type 0 where
-  pub sound : (name bytes : List ℕ) → request ≡ Some (Check name) → files.content name ≡ Some bytes → result ≡ 0 → IsSafeProgram bytes
+-- the one read of this call, of the file of this name, gave bytes that spell a safe program
+pub record IsSafeRead (old new : KnownFiles) (name : List ℕ) : Type 0 where
+  pub bytes : List ℕ
+  pub given : IsGivenFile old new name bytes
+  pub safe : IsSafeProgram bytes
+
+-- where the words ask for the check of a file: by the bytes that its read gave, and by its content where that is told
+pub record Headline (request : Option Request) (old new : KnownFiles) (result : ℕ) : Type 0 where
+  pub read : (name : List ℕ) → request ≡ Some (Check name) → result ≡ holds → IsSafeRead old new name
+  pub sound : (name bytes : List ℕ) → request ≡ Some (Check name) → old.content name ≡ Some bytes → result ≡ holds → IsSafeProgram bytes
   -- where the file is read, 5 and 6 alone are left, each with its cause in the outcome
-  pub complete : (name bytes : List ℕ) → request ≡ Some (Check name) → files.content name ≡ Some bytes → length bytes ≤ largest → files.faults_now name ≡ files.faults_before name
-      → (u : FileUnit) → Spells bytes u → IsTypable u → (result ≡ 0) ⊎ ((result ≡ 5) ⊎ (result ≡ 6))
-  pub only_typed : (name bytes : List ℕ) → request ≡ Some (Check name) → files.content name ≡ Some bytes → (u : FileUnit) → Spells bytes u → result ≡ 0 → IsTypable u
+  pub complete : (name bytes : List ℕ) → request ≡ Some (Check name) → old.content name ≡ Some bytes → length bytes ≤ largest_file → new.faults name ≡ old.faults name
+      → (u : FileUnit) → Spells bytes u → IsTypable u → (result ≡ holds) ⊎ ((result ≡ unwritten) ⊎ (result ≡ no_memory))
+  pub only_typed : (name bytes : List ℕ) → request ≡ Some (Check name) → old.content name ≡ Some bytes → (u : FileUnit) → Spells bytes u → result ≡ holds → IsTypable u

@@ -1,7 +1,9 @@
-pub mod Refusals
-pub mod Requests
-pub mod Reads
-pub mod Reclaimers
+-- what contracts of public calls say
 pub mod Answer
 pub mod Headline
+pub mod Reads
+pub mod Refusals
+pub mod Requests
+pub mod Statuses
+-- words of private functions alone
 pub mod Views

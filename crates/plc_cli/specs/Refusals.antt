@@ -4,7 +4,7 @@ use Rattle.plc_texts.specs.Refusals.{lex_text, parse_text, limit_text, refused_f
 use Rattle.plc_check.specs.declared.judged.LoadFault.{LoadFault}
 use Rattle.plc_check.specs.declared.judged.LoadFault.TheVariants.{Lex, Unjudged, Parse, Limit, Memory}
 
--- a want of memory has no text
+-- running out of memory has no text
 abbrev pub load_text : LoadFault → List ℕ
 load_text (Lex fault) = lex_text fault
 load_text Unjudged = refused_file

@@ -1,9 +1,12 @@
 // An answer, and those that need no more than a refusal.
 ghost use Rattle.std.specs.Prelude.{◌≡◌, IfOk};
+ghost use Rattle.plc_texts.specs.Refusals.{words_refused};
 ghost use Rattle.plc_cli.specs.Refusals.{load_text};
+ghost use Rattle.plc_cli.specs.Statuses.{bad_words, refused};
 
+use crate::status::{BAD_WORDS, REFUSED};
 use plc_check::LoadFault;
-use plc_texts::{fixed, lexical, limit, parsed};
+use plc_texts::{lexical, limit, parsed, refused_file, words_refused};
 use std::alloc::{AllocError, Global};
 
 /// A status with its text.
@@ -13,23 +16,23 @@ pub(crate) struct Answer {
     pub(crate) text: Vec<u8>,
 }
 
-/// A status with a text that is always the same.
-pub(crate) fn fixed_answer(alloc: Global, status: u8, text: &str) -> Result<Answer, AllocError>
-    ensures { IfOk result (λ answer. (answer.status ≡ status) × (answer.text.items ≡ text.now)) }
+/// The answer to words of no listed form.
+pub(crate) fn refused_words(alloc: Global) -> Result<Answer, AllocError>
+    ensures { IfOk result (λ answer. (answer.status ≡ bad_words) × (answer.text.items ≡ words_refused)) }
 {
     Ok(Answer {
-        status,
-        text: fixed(alloc, text)?,
+        status: BAD_WORDS,
+        text: words_refused(alloc)?,
     })
 }
 
-// The text of a refusal; a want of memory has none.
+// The text of a refusal; running out of memory has none.
 fn refusal_text(alloc: Global, fault: &LoadFault) -> Result<Vec<u8>, AllocError>
     ensures { IfOk result (λ text. text.items ≡ load_text fault.now) }
 {
     match fault {
         LoadFault::Lex(fault) => lexical(alloc, *fault),
-        LoadFault::Unjudged => fixed(alloc, "refused file\n"),
+        LoadFault::Unjudged => refused_file(alloc),
         LoadFault::Parse { fault, line } => parsed(alloc, fault, *line),
         LoadFault::Limit { what, count } => limit(alloc, *what, *count),
         LoadFault::Memory => Ok(Vec::new(alloc)),
@@ -38,10 +41,10 @@ fn refusal_text(alloc: Global, fault: &LoadFault) -> Result<Vec<u8>, AllocError>
 
 /// The answer to a file that is refused.
 pub(crate) fn refusal(alloc: Global, fault: &LoadFault) -> Result<Answer, AllocError>
-    ensures { IfOk result (λ answer. (answer.status ≡ 2) × (answer.text.items ≡ load_text fault.now)) }
+    ensures { IfOk result (λ answer. (answer.status ≡ refused) × (answer.text.items ≡ load_text fault.now)) }
 {
     Ok(Answer {
-        status: 2,
+        status: REFUSED,
         text: refusal_text(alloc, fault)?,
     })
 }

@@ -1,12 +1,17 @@
-// The verdict on the bytes of a file.
-ghost use Rattle.std.specs.Prelude.{◌≡◌, ◌≤◌, IfOk, length};
+// The verdict on a file.
+ghost use Rattle.std.specs.Prelude.{◌≤◌, IfOk, length};
+ghost use Rattle.plc_base.specs.Limits.{largest_file};
 ghost use Rattle.plc_flow.specs.WellFormed.{IsWellFormed};
 ghost use Rattle.plc_lang.specs.Fit.{FileFits};
-ghost use Rattle.plc_cli.specs.Answer.{IsAnswerTo, IsJudgedAs, largest};
+ghost use Rattle.plc_cli.specs.Answer.{IsAnswerTo, IsJudgedAs};
+ghost use Rattle.plc_cli.specs.Reads.{FilesAreKept, IsDueForFile};
 
 use crate::answer::{Answer, refusal};
-use plc_base::NoMemory;
+use crate::reading::{Content, read};
+use crate::status::{FAILS, HOLDS};
+use plc_base::{LARGEST_FILE, NoMemory};
 use plc_check::{Judged, LoadFault, Unjudged, Verdict, check, load};
+use plc_outside::Files;
 use plc_texts::{safe, untyped};
 use std::alloc::{AllocError, Global};
 
@@ -23,7 +28,7 @@ fn judge(alloc: Global, judged: &Judged) -> Result<Answer, AllocError>
                 obligations,
             },
         ) => Ok(Answer {
-            status: 0,
+            status: HOLDS,
             text: safe(
                 alloc,
                 &judged.flow,
@@ -33,21 +38,37 @@ fn judge(alloc: Global, judged: &Judged) -> Result<Answer, AllocError>
             )?,
         }),
         Ok(Verdict::Untyped { step, prim, fault }) => Ok(Answer {
-            status: 1,
+            status: FAILS,
             text: untyped(alloc, &judged.flow, step.0, prim, fault)?,
         }),
         Err(NoMemory) => Err(AllocError),
     }
 }
 
-/// The answer of `check` to the bytes of a file.
-pub(crate) fn checked(alloc: Global, bytes: &[u8]) -> Result<Answer, AllocError>
-    requires { length bytes.now ≤ largest }
+// The answer to the bytes of a file.
+fn checked(alloc: Global, bytes: &[u8]) -> Result<Answer, AllocError>
+    requires { length bytes.now ≤ largest_file }
     ensures { IfOk result (λ answer. IsAnswerTo bytes.now answer.status answer.text.items) }
 {
     match load(alloc, bytes, Unjudged::ClaimsAndOutlines) {
         Ok(judged) => judge(alloc, &judged),
         Err(LoadFault::Memory) => Err(AllocError),
         Err(fault) => refusal(alloc, &fault),
+    }
+}
+
+/// The answer to `check FILE`.
+pub(crate) fn check_file<F: Files>(
+    alloc: Global,
+    files: &mut F,
+    file: &str,
+) -> Result<Answer, AllocError>
+    ensures kept { FilesAreKept (F.known files.old) (F.known files.new) }
+    ensures due { IfOk result (λ answer. IsDueForFile (F.known files.old) (F.known files.new) file.now
+        (λ bytes. IsAnswerTo bytes answer.status answer.text.items) answer.status answer.text.items) }
+{
+    match read(alloc, files, file, LARGEST_FILE)? {
+        Content::Read(bytes) => checked(alloc, &bytes),
+        Content::Unread(answer) => Ok(answer),
     }
 }

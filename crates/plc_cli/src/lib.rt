@@ -12,10 +12,10 @@
 //! retired already.
 //!
 //! `run` promises, as the clause `headline`, that where it ends with 0 for the words `check` and a
-//! name, the bytes under that name spell a program, and where no step of it calls `retire`, that no
-//! run of it has such a step. Want of memory and faults of the outside aside, it ends so exactly where
-//! a typing by the written rules exists. Where files tell no content, as the real ones do, the clause
-//! `outcome` still says that the answer is the one that is due for some bytes.
+//! name, the bytes that the read of that name gave spell a program, and where no step of it calls
+//! `retire`, that no run of it has such a step. So it is of real files too, whose content no clause can
+//! tell: the bytes that a read gave are noted for proofs alone. Running out of memory and faults of the
+//! outside aside, it ends so exactly where a typing by the written rules exists.
 #![tactic(auto)]
 
 mod answer;
@@ -24,6 +24,7 @@ mod printing;
 mod program;
 mod reading;
 mod replaying;
+mod status;
 mod words;
 
 pub use plc_outside::{
@@ -31,6 +32,7 @@ pub use plc_outside::{
 };
 pub use plc_reclaim::{ByList, Leak, Reclaimer};
 pub use program::run;
+pub use status::{NO_MEMORY, NOT_UTF8};
 
 #[cfg(test)]
 mod memory_tests;

@@ -1,21 +1,28 @@
-// The bytes of a file in canonical text.
+// A file in canonical text.
 ghost use Rattle.std.specs.Prelude.{◌≡◌, ◌≤◌, IfOk, length};
+ghost use Rattle.plc_base.specs.Limits.{largest_file};
 ghost use Rattle.plc_print.specs.Text.{canonical_text};
-ghost use Rattle.plc_cli.specs.Answer.{IsPrintOf, largest};
+ghost use Rattle.plc_cli.specs.Answer.{IsPrintOf, unit_of};
+ghost use Rattle.plc_cli.specs.Reads.{FilesAreKept, IsDueForFile};
+ghost use Rattle.plc_cli.specs.Statuses.{holds};
 
 use crate::answer::{Answer, refusal};
-use plc_base::NoMemory;
+use crate::reading::{Content, read};
+use crate::status::HOLDS;
+use plc_base::{LARGEST_FILE, NoMemory};
 use plc_check::{Judged, LoadFault, Unjudged, load};
+use plc_outside::Files;
 use plc_parse::Unit;
 use plc_print::print;
 use std::alloc::{AllocError, Global};
 
 // The canonical text of a file that was loaded.
 fn canonical(alloc: Global, judged: Judged) -> Result<Answer, AllocError>
-    ensures { IfOk result (λ answer. (answer.status ≡ 0) × (answer.text.items ≡ canonical_text (record { file = judged.flow.file; observer = judged.observer; outline = judged.outline }))) }
+    ensures { IfOk result (λ answer.
+        (answer.status ≡ holds) × (answer.text.items ≡ canonical_text (unit_of judged))) }
 {
     let observer = judged.observer;
-    let outline = judged.outline;
+    let outline = judged.unit_outline;
     let flow = judged.flow;
     let unit = Unit {
         file: flow.file,
@@ -23,19 +30,38 @@ fn canonical(alloc: Global, judged: Judged) -> Result<Answer, AllocError>
         outline,
     };
     match print(alloc, &unit) {
-        Ok(text) => Ok(Answer { status: 0, text }),
+        Ok(text) => Ok(Answer {
+            status: HOLDS,
+            text,
+        }),
         Err(NoMemory) => Err(AllocError),
     }
 }
 
-/// The answer of `print` to the bytes of a file.
-pub(crate) fn printed(alloc: Global, bytes: &[u8]) -> Result<Answer, AllocError>
-    requires { length bytes.now ≤ largest }
+// The answer to the bytes of a file.
+fn printed(alloc: Global, bytes: &[u8]) -> Result<Answer, AllocError>
+    requires { length bytes.now ≤ largest_file }
     ensures { IfOk result (λ answer. IsPrintOf bytes.now answer.status answer.text.items) }
 {
     match load(alloc, bytes, Unjudged::Nothing) {
         Ok(judged) => canonical(alloc, judged),
         Err(LoadFault::Memory) => Err(AllocError),
         Err(fault) => refusal(alloc, &fault),
+    }
+}
+
+/// The answer to `print FILE`.
+pub(crate) fn print_file<F: Files>(
+    alloc: Global,
+    files: &mut F,
+    file: &str,
+) -> Result<Answer, AllocError>
+    ensures kept { FilesAreKept (F.known files.old) (F.known files.new) }
+    ensures due { IfOk result (λ answer. IsDueForFile (F.known files.old) (F.known files.new) file.now
+        (λ bytes. IsPrintOf bytes answer.status answer.text.items) answer.status answer.text.items) }
+{
+    match read(alloc, files, file, LARGEST_FILE)? {
+        Content::Read(bytes) => printed(alloc, &bytes),
+        Content::Unread(answer) => Ok(answer),
     }
 }

@@ -1,11 +1,14 @@
-// The files among the words are read whole before anything is judged, so a read that fails is the
-// answer.
+// The files among the words are read whole before anything is judged, in the order of the words, so
+// the first read that gives no bytes is the answer. What is answered to the bytes isn't known here.
 ghost use Rattle.std.specs.Prelude.{◌≡◌, ◌≢◌, ◌≤◌, ℕ, List, IfOk};
-ghost use Rattle.plc_cli.specs.Reads.{Only, known};
-ghost use Rattle.plc_cli.specs.Views.{IsContentOf};
+ghost use Rattle.plc_cli.specs.Reads.{FilesAreKept};
+ghost use Rattle.plc_cli.specs.Views.{IsContentOf, AreContentsOf};
 
-use crate::answer::{Answer, fixed_answer};
+use crate::answer::Answer;
+use crate::status::UNREAD;
+use plc_base::LARGEST_FILE;
 use plc_outside::{FileFault, Files};
+use plc_texts::{read_failed, read_too_long};
 use std::alloc::{AllocError, Global};
 
 /// What a read came to.
@@ -17,6 +20,15 @@ pub(crate) enum Content {
     Unread(Answer),
 }
 
+/// What two reads came to.
+#[derive(Drop)]
+pub(crate) enum Contents {
+    /// The bytes of the files.
+    Read(Vec<u8>, Vec<u8>),
+    /// The answer to the first read that failed, or found too many bytes.
+    Unread(Answer),
+}
+
 /// The bytes of a file, at most so many, or the answer where they couldn't be read.
 pub(crate) fn read<F: Files>(
     alloc: Global,
@@ -24,17 +36,42 @@ pub(crate) fn read<F: Files>(
     name: &str,
     most: usize,
 ) -> Result<Content, AllocError>
-    ensures content { (other : List ℕ) → F.content files.new other ≡ F.content files.old other }
-    ensures others { (other : List ℕ) → other ≢ name.now → F.faults files.new other ≡ F.faults files.old other }
-    ensures later { F.faults files.old name.now ≤ F.faults files.new name.now }
-    ensures read { IfOk result (IsContentOf (Only name.now)
-        (known (F.content files.old) (F.faults files.old) (F.faults files.new) (F.taken files.new))
-        name.now most) }
+    ensures kept { FilesAreKept (F.known files.old) (F.known files.new) }
+    ensures others { (other : List ℕ) → other ≢ name.now →
+        (F.known files.new).faults other ≡ (F.known files.old).faults other }
+    ensures read { IfOk result (IsContentOf (F.known files.old) (F.known files.new) name.now most) }
 {
     match files.read(name, most) {
         Ok(bytes) => Ok(Content::Read(bytes)),
-        Err(FileFault::Failed) => Ok(Content::Unread(fixed_answer(alloc, 4, "read failed\n")?)),
-        Err(FileFault::TooLong) => Ok(Content::Unread(fixed_answer(alloc, 4, "read too long\n")?)),
+        Err(FileFault::Failed) => Ok(Content::Unread(Answer {
+            status: UNREAD,
+            text: read_failed(alloc)?,
+        })),
+        Err(FileFault::TooLong) => Ok(Content::Unread(Answer {
+            status: UNREAD,
+            text: read_too_long(alloc)?,
+        })),
         Err(FileFault::Memory) => Err(AllocError),
+    }
+}
+
+/// The bytes of two files, the second of at most so many, or the answer where they couldn't be read.
+pub(crate) fn read_both<F: Files>(
+    alloc: Global,
+    files: &mut F,
+    first: &str,
+    second: &str,
+    most: usize,
+) -> Result<Contents, AllocError>
+    ensures kept { FilesAreKept (F.known files.old) (F.known files.new) }
+    ensures read { IfOk result (AreContentsOf (F.known files.old) (F.known files.new) first.now second.now most) }
+{
+    let bytes = match read(alloc, files, first, LARGEST_FILE)? {
+        Content::Read(bytes) => bytes,
+        Content::Unread(answer) => return Ok(Contents::Unread(answer)),
+    };
+    match read(alloc, files, second, most)? {
+        Content::Read(more) => Ok(Contents::Read(bytes, more)),
+        Content::Unread(answer) => Ok(Contents::Unread(answer)),
     }
 }

@@ -1,12 +1,10 @@
 // The words after the program's name, compared whole and by hand: there are no options.
-ghost use Rattle.std.specs.Prelude.{◌≡◌, map, string_bytes};
+ghost use Rattle.std.specs.Prelude.{◌≡◌, ℕ, IfSome, length, map, string_bytes};
 ghost use Rattle.std.specs.Option.{option_map};
-ghost use Rattle.std.specs.List.{position_from};
-ghost use Rattle.std.specs.Str.{bytes_eq};
 ghost use Rattle.plc_cli.specs.Requests.{request_of, request_of_two, request_of_four};
-ghost use Rattle.plc_cli.specs.Views.{request_view};
+ghost use Rattle.plc_cli.specs.Views.{request_view, IsAmong};
 
-use plc_reclaim::Reclaimer;
+use plc_reclaim::{Reclaimer, find_named};
 
 /// What words ask for.
 #[derive(Clone, Copy)]
@@ -27,28 +25,10 @@ pub(crate) enum Request<'a> {
     },
 }
 
-// Whether a reclaimer has this name.
-fn is_named(reclaimer: &Box<dyn Reclaimer>, name: &str) -> bool
-    ensures { result ≡ bytes_eq name.now (named reclaimer.now) }
-{
-    name == reclaimer.name()
-}
-
-// The number of the first reclaimer of this name.
-fn reclaimer_named(reclaimers: &[Box<dyn Reclaimer>], name: &str) -> Option<usize>
-    ensures { result ≡ position_from (bytes_eq name.now) 0 (map (λ b. (⟦<dyn Reclaimer as Reclaimer>⟧ b.vtable).named b.value) reclaimers.now) }
-{
-    for i in 0..reclaimers.len() {
-        if is_named(&reclaimers[i], name) {
-            return Some(i);
-        }
-    }
-    None
-}
-
 // A command with one file.
 fn request_of_two<'a>(command: &str, file: &'a str) -> Option<Request<'a>>
-    ensures { option_map request_view result ≡ request_of_two command.now file.now }
+    ensures asks { option_map request_view result ≡ request_of_two command.now file.now }
+    ensures among { (count : ℕ) → IfSome result (IsAmong count) }
 {
     match command {
         "check" => Some(Request::Check { file }),
@@ -65,12 +45,14 @@ fn request_of_four<'a>(
     schedule: &'a str,
     name: &str,
 ) -> Option<Request<'a>>
-    ensures { option_map request_view result ≡ request_of_four (map (λ b. (⟦<dyn Reclaimer as Reclaimer>⟧ b.vtable).named b.value) reclaimers.now) command.now file.now schedule.now name.now }
+    ensures asks { option_map request_view result
+        ≡ request_of_four (map named reclaimers.now) command.now file.now schedule.now name.now }
+    ensures among { IfSome result (IsAmong (length reclaimers.now)) }
 {
     if command != "replay" {
         return None;
     }
-    let reclaimer = reclaimer_named(reclaimers, name)?;
+    let reclaimer = find_named(reclaimers, name)?;
     Some(Request::Replay {
         file,
         schedule,
@@ -83,7 +65,9 @@ pub(crate) fn requested<'a>(
     reclaimers: &[Box<dyn Reclaimer>],
     words: &'a [String],
 ) -> Option<Request<'a>>
-    ensures { option_map request_view result ≡ request_of (map (λ b. (⟦<dyn Reclaimer as Reclaimer>⟧ b.vtable).named b.value) reclaimers.now) (map string_bytes words.now) }
+    ensures asks { option_map request_view result
+        ≡ request_of (map named reclaimers.now) (map string_bytes words.now) }
+    ensures among { IfSome result (IsAmong (length reclaimers.now)) }
 {
     match words {
         [command, file] => request_of_two(command.as_str(), file.as_str()),

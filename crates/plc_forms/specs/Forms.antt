@@ -1,7 +1,6 @@
 -- The forms at the front of tokens, each with the tokens behind it. A form is read from left to right: where a token doesn't fit, nothing is read.
 use Rattle.std.specs.Prelude.{Bool, true, false, if◌then◌else◌, Option, Some, None, List, ◌∷◌}
 use denote.Enum.Bare.{sameb}
-use Rattle.std.specs.List.{list_any}
 use Rattle.plc_lex.specs.contracts.token.Keyword as keyword
 use Rattle.plc_lex.specs.contracts.token.Symbol as punctuation
 use Rattle.plc_lex.specs.declared.token.TokenKind.{TokenKind}
@@ -40,10 +39,6 @@ is_word word (Word found) = same_word found word
 is_word word (Name n) = false
 is_word word (Number n) = false
 is_word word (Symbol s) = false
-
--- whether one of the tokens is this keyword
-abbrev pub hold_word : Keyword → List TokenKind → Bool
-hold_word word ts = list_any (is_word word) ts
 
 -- a keyword
 abbrev pub word_of : Keyword → List TokenKind → Option (List TokenKind)

@@ -2,7 +2,7 @@
 // names, or answers `None` where another token stands; larger forms are chains of these.
 ghost use Rattle.std.specs.Prelude.{◌≡◌, ◌+◌, IfSome, MatchOption, Some, None, [], ◌∷◌};
 ghost use Rattle.plc_syntax.specs.Syntax.{kinds};
-ghost use Rattle.plc_forms.specs.Forms.{is_word, hold_word, word_of, symbol_of, name_of, word_symbol_of, symbol_name_of, name_symbol_of, word_name_of};
+ghost use Rattle.plc_forms.specs.Forms.{is_word, word_of, symbol_of, name_of, word_symbol_of, symbol_name_of, name_symbol_of, word_name_of};
 ghost use Rattle.plc_forms.specs.Views.{Behind, Passes, Reads, text_of};
 
 use crate::rest::Rest;
@@ -86,23 +86,12 @@ pub fn word_name_at<'a>(
     name_symbol_at(word_at(rest, word)?, symbol)
 }
 
-fn is_word(kind: &TokenKind, word: Keyword) -> bool
+/// Whether a token is this keyword.
+pub fn is_word(kind: &TokenKind, word: Keyword) -> bool
     ensures { result ≡ is_word word kind.now }
 {
     match kind {
         TokenKind::Word(found) => *found == word,
         _ => false,
     }
-}
-
-/// Whether one of the tokens is a keyword.
-pub fn holds_word(tokens: &[Token], word: Keyword) -> bool
-    ensures { result ≡ hold_word word (kinds tokens.now) }
-{
-    for token in tokens {
-        if is_word(&token.kind, word) {
-            return true;
-        }
-    }
-    false
 }

@@ -3,25 +3,29 @@ ghost use Rattle.std.specs.Prelude.{◌≡◌, ◌≤◌, length, nat_eq};
 ghost use Rattle.std.specs.List.{prefix_len, starts_with};
 ghost use Rattle.plc_lex.specs.Characters.{is_space, is_letter, is_digit, in_name, in_comment, comment_opening};
 
+/// Whether a byte is a space, a tab, a carriage return or a line feed.
 pub fn is_space(b: u8) -> bool
     ensures { result ≡ is_space b }
 {
     matches!(b, b' ' | b'\t' | b'\r' | b'\n')
 }
 
+/// Whether a byte begins a name: a letter or `_`.
 pub fn is_letter(b: u8) -> bool
     ensures { result ≡ is_letter b }
 {
     matches!(b, b'a'..=b'z' | b'A'..=b'Z' | b'_')
 }
 
+/// Whether a byte is a decimal digit.
 pub fn is_digit(b: u8) -> bool
     ensures { result ≡ is_digit b }
 {
     b.is_ascii_digit()
 }
 
-fn in_name(b: u8) -> bool
+/// Whether a byte goes on a name.
+pub fn in_name(b: u8) -> bool
     ensures { result ≡ in_name b }
 {
     is_letter(b) || is_digit(b)

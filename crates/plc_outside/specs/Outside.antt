@@ -1,6 +1,7 @@
 -- What a read and a write may answer, and why.
-use Rattle.std.specs.Prelude.{◌≡◌, ℕ, ◌<◌, ◌≤◌, ◌⊎◌, List, ◌++◌, length, take, Option, Some, Vec, Result, IfOk, IfSome, IsErrOf}
+use Rattle.std.specs.Prelude.{◌≡◌, ℕ, ◌<◌, ◌≤◌, ◌⊎◌, List, [], ◌∷◌, ◌++◌, length, take, Option, Some, Vec, Result, MatchResult, IfOk, IfSome, IsErrOf}
 use Rattle.plc_outside.specs.Counts.{last_count, one_more}
+use Rattle.plc_outside.specs.Reading.{Reading}
 use Rattle.plc_outside.specs.declared.files.FileFault.{FileFault}
 use Rattle.plc_outside.specs.declared.files.FileFault.TheVariants as file
 use Rattle.plc_outside.specs.declared.sinks.SinkFault.{SinkFault}
@@ -20,6 +21,10 @@ pub record AgreesWith {Z : Type 0} (told : Option (List ℕ)) (max : ℕ) (resul
   pub same : IfSome told (λ content. IfOk result (λ bytes. bytes.items ≡ content))
   pub long : IfSome told (λ content. IsErrOf result file.TooLong → max < length content)
   pub exact : IfSome told (λ content. max < length content → ¬ IsErrOf result file.Failed → ¬ IsErrOf result file.Memory → IsErrOf result file.TooLong)
+
+-- A read that gives bytes is noted after the others, with the name that was asked for, and no other read is.
+abbrev pub NotesReading : {Z : Type 0} → List Reading → List Reading → List ℕ → Result (Vec ℕ Z) FileFault → Type 0
+NotesReading old new name result = MatchResult result (λ bytes. new ≡ old ++ record { name = name; bytes = bytes.items } ∷ []) (λ _. new ≡ old)
 
 -- ---- writes
 

@@ -1,10 +1,12 @@
 -- What is known of the files of the system and of a writer of std.
 use Rattle.std.specs.Prelude.{ℕ, List, Option}
+use Rattle.plc_outside.specs.Reading.{Reading}
 
--- The names whose reads failed, and the bytes that the latest read took.
+-- The names whose reads failed, how many bytes the latest read took, and the reads that gave bytes.
 pub record RealReads : Type 0 where
   pub failed : List (List ℕ)
   pub taken : ℕ
+  pub given : List Reading
 
 -- The bytes that the writer holds, where it tells them, and the count of faults.
 pub record RealWrites : Type 0 where

@@ -3,16 +3,19 @@ use Rattle.std.specs.Prelude.{◌≡◌, ℕ, ◌<◌, ◌≤◌, ◌↔◌, if�
 use Rattle.std.specs.Str.{bytes_eq}
 use Rattle.plc_outside.specs.Counts.{one_more, is_failing}
 use Rattle.plc_outside.specs.Failures.{NotesFailure}
+use Rattle.plc_outside.specs.Outside.{NotesReading}
+use Rattle.plc_outside.specs.Reading.{Reading}
 use Rattle.plc_outside.specs.declared.files.FileFault.{FileFault}
 use Rattle.plc_outside.specs.declared.files.FileFault.TheVariants.{Failed, TooLong}
 
--- Names with their bytes, the calls that are to fail, how many calls there were, the names whose reads failed, and the bytes that the latest read took.
+-- Names with their bytes, the calls that are to fail, how many calls there were, the names whose reads failed, the bytes that the latest read took, and the reads that gave bytes.
 pub record StoredFiles : Type 0 where
   pub files : List (List ℕ × List ℕ)
   pub failing : List ℕ
   pub calls : ℕ
   pub failed : List (List ℕ)
   pub taken : ℕ
+  pub given : List Reading
 
 module _ {Y Z : Type 0} where
   -- names and contents as their bytes
@@ -34,9 +37,10 @@ pub record Answers {Z : Type 0} (bytes : Option (List ℕ)) (max : ℕ) (result 
   pub long : IsErrOf result TooLong ↔ IsSomeAnd bytes (λ content. max < length content)
 
 -- The files after a read of a name.
-pub record IsAfterRead {T : Type 0} (old new : StoredFiles) (name : List ℕ) (result : Result T FileFault) : Type 0 where
+pub record IsAfterRead {Z : Type 0} (old new : StoredFiles) (name : List ℕ) (result : Result (Vec ℕ Z) FileFault) : Type 0 where
   pub files : new.files ≡ old.files
   pub failing : new.failing ≡ old.failing
   pub calls : new.calls ≡ one_more old.calls
   pub failed : NotesFailure old.failed new.failed name result
   pub taken : new.taken ≡ length (unwrap_or (found old name) [])
+  pub given : NotesReading old.given new.given name result

@@ -5,7 +5,7 @@
 //! read of it failed, what was written so far. Where an implementation tells them, as those in
 //! memory do, the contracts pin every answer; where it does not, as with the files of the system,
 //! they still say that each fault has a cause. So one program is proved for both, and only the
-//! edge, `RealFiles` and `OutSink`, is trusted. It stands on `plc_base` for the want of memory.
+//! edge, `RealFiles` and `OutSink`, is trusted. It stands on `plc_base` for running out of memory.
 //!
 //! The layer above uses `Files::read` and `write_text`, which writes a whole text by as many calls
 //! of `Sink::put` as the sink wants: `Ok` appends the text, `Err` a proper prefix of it.
@@ -15,6 +15,7 @@ mod failures;
 mod files;
 mod memory;
 mod memory_sinks;
+mod readings;
 mod real;
 mod sinks;
 mod writing;

@@ -3,12 +3,13 @@
 // each of its calls.
 ghost use Rattle.std.specs.Prelude.{◌≡◌, ◌≢◌, [], ℕ, List, None, if◌then◌else◌, option_map};
 ghost use Rattle.plc_outside.specs.Counts.{is_failing};
-ghost use Rattle.plc_outside.specs.Outside.{ReadHasCause, AgreesWith};
+ghost use Rattle.plc_outside.specs.Outside.{ReadHasCause, AgreesWith, NotesReading};
 ghost use Rattle.plc_outside.specs.Failures.{times};
 ghost use Rattle.plc_outside.specs.StoredFiles.{entries_of, content_of, found, Answers, IsAfterRead};
 
 use crate::failures::FailedReads;
 use crate::files::{FileFault, Files};
+use crate::readings::Readings;
 use std::alloc::Global;
 use std::marker::Model;
 
@@ -24,6 +25,7 @@ pub struct MemFiles {
     calls: u64,
     failed: FailedReads,
     taken: usize,
+    given: Readings,
 }
 
 impl Model for MemFiles {
@@ -37,6 +39,7 @@ impl Model for MemFiles {
       calls = s.calls;
       failed = s.failed;
       taken = s.taken;
+      given = s.given;
     } };
 }
 
@@ -50,6 +53,7 @@ impl MemFiles {
           calls = 0;
           failed = [];
           taken = 0;
+          given = [];
         } }
     {
         MemFiles {
@@ -59,6 +63,7 @@ impl MemFiles {
             calls: 0,
             failed: FailedReads::new(alloc),
             taken: 0,
+            given: Readings::new(alloc),
         }
     }
 }
@@ -92,17 +97,21 @@ fn found<'a>(
 }
 
 impl Files for MemFiles {
-    ghost content = { λ s name. content_of s.files name };
-
-    ghost faults = { λ s name. times s.failed name };
-
-    ghost taken = { λ s. s.taken };
+    ghost known = { λ s. record {
+      content = λ name. content_of s.files name;
+      faults = λ name. times s.failed name;
+      taken = s.taken;
+      given = s.given;
+    } };
 
     fn read(&mut self, name: &str, max: usize) -> Result<Vec<u8>, FileFault>
         ensures content { (other : List ℕ) → content_of self.new.files other ≡ content_of self.old.files other }
-        ensures others { (other : List ℕ) → other ≢ name.now → times self.new.failed other ≡ times self.old.failed other }
-        ensures cause { ReadHasCause (times self.old.failed name.now) (times self.new.failed name.now) self.new.taken max result }
+        ensures others { (other : List ℕ) → other ≢ name.now →
+            times self.new.failed other ≡ times self.old.failed other }
+        ensures cause { ReadHasCause (times self.old.failed name.now) (times self.new.failed name.now)
+            self.new.taken max result }
         ensures told { AgreesWith (content_of self.old.files name.now) max result }
+        ensures given { NotesReading self.old.given self.new.given name.now result }
 
         // Each answer, and the files after it.
         ensures answer { Answers (found self.old name.now) max result }
@@ -117,7 +126,7 @@ impl Files for MemFiles {
                 if bytes.len() > max {
                     return Err(FileFault::TooLong);
                 }
-                Ok(Vec::from_slice(self.alloc, bytes)?)
+                self.given.note(name, Vec::from_slice(self.alloc, bytes)?)
             }
         }
     }

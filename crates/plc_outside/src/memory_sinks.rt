@@ -43,9 +43,7 @@ impl VecSink {
 }
 
 impl Sink for VecSink {
-    ghost written = { λ s. Some s };
-
-    ghost faults = { λ _. 0 };
+    ghost known = { λ s. record { written = Some s; faults = 0 } };
 
     fn put(&mut self, piece: &[u8]) -> Result<usize, SinkFault>
         ensures appends { IfOk result (λ n. Appends (Some self.old) (Some self.new) (take n piece.now)) }
@@ -54,7 +52,7 @@ impl Sink for VecSink {
         ensures err { OnErr result (Appends (Some self.old) (Some self.new) []) }
         ensures cause { PutHasCause 0 0 result }
 
-        // It takes the whole piece, and only want of memory stops it.
+        // It takes the whole piece, and only running out of memory stops it.
         ensures whole { IfOk result (λ n. (n ≡ length piece.now) × (self.new ≡ self.old ++ piece.now)) }
         ensures memory { IfErr result (λ fault. (fault ≡ SinkFault.Memory) × (self.new ≡ self.old)) }
     {
@@ -125,12 +123,11 @@ fn fails(failing: &[u64], call: u64, most: usize, size: usize) -> bool
 }
 
 impl Sink for FailSink {
-    ghost written = { λ s. Some s.written };
-
-    ghost faults = { λ s. s.faults };
+    ghost known = { λ s. record { written = Some s.written; faults = s.faults } };
 
     fn put(&mut self, piece: &[u8]) -> Result<usize, SinkFault>
-        ensures appends { IfOk result (λ n. Appends (Some self.old.written) (Some self.new.written) (take n piece.now)) }
+        ensures appends { IfOk result (λ n.
+            Appends (Some self.old.written) (Some self.new.written) (take n piece.now)) }
         ensures bound { IfOk result (λ n. n ≤ length piece.now) }
         ensures goes_on { IfOk result (λ n. 0 < length piece.now → 0 < n) }
         ensures err { OnErr result (Appends (Some self.old.written) (Some self.new.written) []) }

@@ -2,11 +2,12 @@
 // of the bytes that are written, no clause can say; what is proved is that each fault has a cause
 // and that no more is taken than was asked for. This module alone is trusted to do what it says.
 ghost use Rattle.std.specs.Prelude.{◌≡◌, ◌≢◌, ◌≤◌, ◌<◌, ◌+◌, ◌++◌, [], ℕ, List, Some, None, IfOk, IfErr, IfSome, OnOk, OnErr, IsErrOf, length, take, drop};
-ghost use Rattle.plc_outside.specs.Outside.{ReadHasCause, AgreesWith, PutHasCause, CountsFault, Appends};
+ghost use Rattle.plc_outside.specs.Outside.{ReadHasCause, AgreesWith, NotesReading, PutHasCause, CountsFault, Appends};
 ghost use Rattle.plc_outside.specs.Failures.{times, NotesFailure};
 
 use crate::failures::FailedReads;
 use crate::files::{FileFault, Files};
+use crate::readings::Readings;
 use crate::sinks::{Sink, SinkFault};
 use std::alloc::Global;
 use std::io::{Read, Write};
@@ -27,6 +28,7 @@ pub struct RealFiles<R: rt::Files + Drop> {
     host: R,
     failed: FailedReads,
     taken: usize,
+    given: Readings,
 }
 
 impl<R: rt::Files + Drop> Model for RealFiles<R> {
@@ -34,19 +36,20 @@ impl<R: rt::Files + Drop> Model for RealFiles<R> {
 
     ghost Value = { RealReads };
 
-    ghost view = { λ s. record { failed = s.failed; taken = s.taken } };
+    ghost view = { λ s. record { failed = s.failed; taken = s.taken; given = s.given } };
 }
 
 impl<R: rt::Files + Drop> RealFiles<R> {
     /// The files that the handle reaches. It takes no memory.
     pub fn new(alloc: Global, host: R) -> RealFiles<R>
-        ensures { result ≡ record { failed = []; taken = 0 } }
+        ensures { result ≡ record { failed = []; taken = 0; given = [] } }
     {
         RealFiles {
             alloc,
             host,
             failed: FailedReads::new(alloc),
             taken: 0,
+            given: Readings::new(alloc),
         }
     }
 }
@@ -113,16 +116,20 @@ fn read_file<R: rt::Files>(
 }
 
 impl<R: rt::Files + Drop> Files for RealFiles<R> {
-    ghost content = { λ _ _. None };
-
-    ghost faults = { λ s name. times s.failed name };
-
-    ghost taken = { λ s. s.taken };
+    ghost known = { λ s. record {
+      content = λ _. None;
+      faults = λ name. times s.failed name;
+      taken = s.taken;
+      given = s.given;
+    } };
 
     fn read(&mut self, name: &str, max: usize) -> Result<Vec<u8>, FileFault>
-        ensures others { (other : List ℕ) → other ≢ name.now → times self.new.failed other ≡ times self.old.failed other }
-        ensures cause { ReadHasCause (times self.old.failed name.now) (times self.new.failed name.now) self.new.taken max result }
+        ensures others { (other : List ℕ) → other ≢ name.now →
+            times self.new.failed other ≡ times self.old.failed other }
+        ensures cause { ReadHasCause (times self.old.failed name.now) (times self.new.failed name.now)
+            self.new.taken max result }
         ensures told { AgreesWith None max result }
+        ensures given { NotesReading self.old.given self.new.given name.now result }
 
         // The list of failed reads, and how much is taken.
         ensures noted { NotesFailure self.old.failed self.new.failed name.now result }
@@ -137,7 +144,7 @@ impl<R: rt::Files + Drop> Files for RealFiles<R> {
             Err(Stop::Error) => Err(self.failed.note(name)),
             Err(Stop::Memory) => Err(FileFault::Memory),
             Ok(()) if bytes.len() > max => Err(FileFault::TooLong),
-            Ok(()) => Ok(bytes),
+            Ok(()) => self.given.note(name, bytes),
         }
     }
 }
@@ -171,9 +178,7 @@ impl<W: Write + Drop> OutSink<W> {
 }
 
 impl<W: Write + Drop> Sink for OutSink<W> {
-    ghost written = { λ s. s.written };
-
-    ghost faults = { λ s. s.faults };
+    ghost known = { λ s. record { written = s.written; faults = s.faults } };
 
     fn put(&mut self, piece: &[u8]) -> Result<usize, SinkFault>
         ensures appends { IfOk result (λ n. Appends self.old.written self.new.written (take n piece.now)) }

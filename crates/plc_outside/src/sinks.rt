@@ -2,7 +2,8 @@
 // piece as it likes, but never nothing of a piece that has bytes: a caller that goes on with the
 // rest comes to an end. What was written is known to proofs where the sink tells it, and a fault
 // raises a count, so that no sink can refuse without a cause.
-ghost use Rattle.std.specs.Prelude.{◌≡◌, ◌≤◌, ◌<◌, ℕ, List, [], Option, IfOk, OnErr, length, take};
+ghost use Rattle.std.specs.Prelude.{◌≡◌, ◌≤◌, ◌<◌, [], IfOk, OnErr, length, take};
+ghost use Rattle.plc_outside.specs.Known.{KnownSink};
 ghost use Rattle.plc_outside.specs.Outside.{PutHasCause, Appends};
 ghost use Rattle.plc_outside.specs.declared.sinks.SinkFault.TheVariants.{Memory};
 
@@ -15,7 +16,7 @@ pub enum SinkFault {
     /// The write failed, or the sink takes no more.
     #[error("failed")]
     Failed,
-    /// Memory was wanting.
+    /// Memory ran out.
     #[error("no memory")]
     Memory,
 }
@@ -38,11 +39,9 @@ impl<T: Drop> From<AllocFailed<T>> for SinkFault {
 
 /// A sink takes bytes, piece by piece.
 pub trait Sink {
-    /// What was written, where it is told. No call takes written bytes back.
-    ghost written: { Self → Option (List ℕ) };
-
-    /// How many writes failed. The count never falls.
-    ghost faults: { Self → ℕ };
+    /// What is known of it: what was written, where it is told, and how many writes failed. No call takes
+    /// written bytes back, and the count never falls.
+    ghost known: { Self → KnownSink };
 
     /// Writes the first bytes of the piece and answers how many they are, which is at least 1 where
     /// the piece is not empty.
@@ -51,9 +50,10 @@ pub trait Sink {
     /// faults rose in this call or stands at the last value of a `u64`: a sink that takes nothing of
     /// a piece with bytes counts a fault too.
     fn put(&mut self, piece: &[u8]) -> Result<usize, SinkFault>
-        ensures appends { IfOk result (λ n. Appends (written self.old) (written self.new) (take n piece.now)) }
+        ensures appends { IfOk result (λ n.
+            Appends (known self.old).written (known self.new).written (take n piece.now)) }
         ensures bound { IfOk result (λ n. n ≤ length piece.now) }
         ensures goes_on { IfOk result (λ n. 0 < length piece.now → 0 < n) }
-        ensures err { OnErr result (Appends (written self.old) (written self.new) []) }
-        ensures cause { PutHasCause (faults self.old) (faults self.new) result };
+        ensures err { OnErr result (Appends (known self.old).written (known self.new).written []) }
+        ensures cause { PutHasCause (known self.old).faults (known self.new).faults result };
 }

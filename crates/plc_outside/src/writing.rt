@@ -11,9 +11,9 @@ use crate::sinks::{Sink, SinkFault};
 /// An error is the sink's own, with its cause; then a prefix of the text was written that is
 /// shorter than the text.
 pub fn write_text<S: Sink>(out: &mut S, text: &[u8]) -> Result<(), SinkFault>
-    ensures ok { OnOk result (Appends (S.written out.old) (S.written out.new) text.now) }
-    ensures err { OnErr result (AppendsPart (S.written out.old) (S.written out.new) text.now) }
-    ensures cause { PutHasCause (S.faults out.old) (S.faults out.new) result }
+    ensures ok { OnOk result (Appends (S.known out.old).written (S.known out.new).written text.now) }
+    ensures err { OnErr result (AppendsPart (S.known out.old).written (S.known out.new).written text.now) }
+    ensures cause { PutHasCause (S.known out.old).faults (S.known out.new).faults result }
 {
     let mut done: usize = 0;
     while done < text.len() {

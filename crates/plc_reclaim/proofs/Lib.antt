@@ -1,1 +1,2 @@
 mod Picks
+mod Positions

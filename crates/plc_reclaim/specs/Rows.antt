@@ -4,7 +4,8 @@ use Rattle.std.specs.List.{list_any}
 use Rattle.plc_auto.specs.declared.event.Event.{Event}
 use Rattle.plc_auto.specs.declared.event.Event.TheVariants.{Call as Called, Done as Returned, Free as Freed}
 use Rattle.plc_base.specs.Functions.{is_retire}
-use Rattle.plc_reclaim.specs.declared.reclaimer.Scheme.{Scheme}
+use Rattle.plc_reclaim.specs.declared.scheme.Scheme.{Scheme}
+use Rattle.plc_reclaim.specs.Meanings.{Meanings}
 
 -- the event frees the address
 abbrev pub is_free_of : ℕ → Event → Bool
@@ -21,14 +22,14 @@ retired_by (Freed b) = None
 
 -- the address may be freed, and none of these events frees it
 abbrev pub waits : (ℕ → Bool) → List Event → ℕ → Bool
-waits may behind a = may a && not (list_any (is_free_of a) behind)
+waits may after a = may a && not (list_any (is_free_of a) after)
 
--- the address, if there is one and it waits behind its retirement, or else another
+-- the address, if there is one and it waits after its retirement, or else another
 abbrev pub waits_or : (ℕ → Bool) → List Event → Option ℕ → Option ℕ → Option ℕ
-waits_or may behind None other = other
-waits_or may behind (Some a) other = if waits may behind a then Some a else other
+waits_or may after None other = other
+waits_or may after (Some a) other = if waits may after a then Some a else other
 
--- the address of the first retirement behind which it isn't freed, of those that may be freed
+-- the address of the first retirement after which it isn't freed, of those that may be freed
 abbrev pub first_waiting : (ℕ → Bool) → List Event → Option ℕ
 first_waiting may [] = None
 first_waiting may (e ∷ events) = waits_or may events (retired_by e) (first_waiting may events)
@@ -41,7 +42,7 @@ leak_row schemes events = None
 abbrev pub list_row : List Scheme → List Event → Option ℕ
 list_row schemes events = first_waiting (λ a. true) events
 
--- a box with these meanings acts as a row: a pick takes nothing out, and it is the row's address for all schemes and events
-pub record ActsAs (row : List Scheme → List Event → Option ℕ) (begun : List Scheme → List ℕ) (after : List ℕ → Event → List ℕ) (picked : List ℕ → List ℕ) (pick_of : List ℕ → Option ℕ) : Type 0 where
-  pub keeps : (held : List ℕ) → picked held ≡ held
-  pub picks : (schemes : List Scheme) (events : List Event) → pick_of (fold after (begun schemes) events) ≡ row schemes events
+-- these meanings act as a row: a pick takes nothing out, and it is the row's address for all schemes and events
+pub record ActsAs (row : List Scheme → List Event → Option ℕ) (m : Meanings) : Type 0 where
+  pub keeps : (held : List ℕ) → m.picked held ≡ held
+  pub picks : (schemes : List Scheme) (events : List Event) → m.pick_of (fold m.after (m.begun schemes) events) ≡ row schemes events

@@ -1,4 +1,4 @@
-// Each box on a few events, through a box as a replay holds it, and a box of the test's own, which
+// Each reclaimer on a few events, in a box as a replay holds it, and one of the test's own, which
 // picks what its list says: no contract says that a call succeeds where there is memory enough.
 ghost use Rattle.std.specs.Prelude.{◌≡◌, [], slice_get, drop, codes, OnOk};
 ghost use Rattle.plc_reclaim.specs.Rows.{ActsAs, list_row};
@@ -17,13 +17,12 @@ struct Listed {
 impl Reclaimer for Listed {
     ghost held = { λ b. b.next.items };
 
-    ghost begun = { λ _ _. [] };
-
-    ghost after = { λ _ held _. held };
-
-    ghost picked = { λ _ held. drop 1 held };
-
-    ghost pick_of = { λ _ held. slice_get held 0 };
+    ghost meanings = { λ _. record {
+      begun = λ _. [];
+      after = λ held _. held;
+      picked = λ held. drop 1 held;
+      pick_of = λ held. slice_get held 0;
+    } };
 
     ghost named = { λ _. codes "listed" };
 
@@ -58,7 +57,7 @@ fn call(f: u16, a: Option<u32>) -> Event {
     }
 }
 
-// What a box picks after each event, from its beginning.
+// What a reclaimer picks after each event, from its beginning.
 fn picks(
     reclaimer: &mut Box<dyn Reclaimer>,
     rows: &[(Event, Option<u32>)],
@@ -72,11 +71,11 @@ fn picks(
     Ok(fine)
 }
 
-// What is picked first of one retirement, by a box that acts as the row of `list`: so a caller that
-// boxes a value keeps what its `new` promised.
+// What is picked first of one retirement, by a reclaimer that acts as the row of `list`: so a caller that
+// boxes it keeps what its `new` promised.
 fn picks_by_list(reclaimer: &mut Box<dyn Reclaimer>, e: Event) -> Result<Option<u32>, NoMemory>
-    requires { ActsAs list_row (begun reclaimer.old) (after reclaimer.old) (picked reclaimer.old) (pick_of reclaimer.old) }
-    ensures { OnOk result (ActsAs list_row (begun reclaimer.new) (after reclaimer.new) (picked reclaimer.new) (pick_of reclaimer.new)) }
+    requires { ActsAs list_row (meanings reclaimer.old) }
+    ensures { OnOk result (ActsAs list_row (meanings reclaimer.new)) }
 {
     reclaimer.begin(&[])?;
     reclaimer.event(e)?;
@@ -132,7 +131,7 @@ fn nothing_is_picked_by_leak(rt: HostRuntime) -> Result<(), NoMemory> {
 }
 
 #[test]
-fn a_box_of_ones_own_is_asked(rt: HostRuntime) -> Result<(), NoMemory> {
+fn a_reclaimer_of_ones_own_is_asked(rt: HostRuntime) -> Result<(), NoMemory> {
     let next = vec![in rt.alloc(); 7, 5]?;
     let mut reclaimer: Box<dyn Reclaimer> = Box::new(rt.alloc(), Listed { next })?;
     assert_eq!(rt; reclaimer.name(), "listed");

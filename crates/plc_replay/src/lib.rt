@@ -1,5 +1,5 @@
 //! What a recorded schedule comes to: its lines, one after the other, over the runs of `plc_run`,
-//! with the frees that a boxed reclaimer picks. `replay` gives the one end that the definition gives:
+//! with the frees that a reclaimer picks. `replay` gives the one end that the definition gives:
 //! the first race, impossible line or forbidden free, or else the counts of the whole.
 #![tactic(auto)]
 

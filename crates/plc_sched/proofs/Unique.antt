@@ -12,7 +12,7 @@ use Rattle.plc_sched.specs.declared.fault.SchedFault.TheVariants.{Line, Limit, M
 use Rattle.plc_sched.specs.Entries.{address_words, entry_words, entry_text, head_words, head_text, AddressFits, EntryFits, ThreadsFit}
 use Rattle.plc_sched.specs.Lines.{lines_of}
 use Rattle.plc_sched.specs.Schedules.{line_limit, IsNoEntry, StopsAt, IsFirstBad, at_head, behind_head, IsScheduleOf, IsScheduleFault}
-use Rattle.plc_sched.specs.Reading.{StopsBehind}
+use Rattle.plc_sched.specs.Reading.{StopsAfter}
 use Rattle.plc_sched.proofs.WordsOfEntries.{split_entry, split_head, two_kinds}
 
 same_numbers : (ms ns : List ℕ) → All (λ d. d < 2 ^ 32) ms → All (λ d. d < 2 ^ 32) ns → map decimal ms ≡ map decimal ns → ms ≡ ns
@@ -151,7 +151,7 @@ memory_alone bytes s (Limit count) a b = absurd (omega (arith, a.count, b.1))
 memory_alone bytes s Memory a b = refl
 
 -- why the lines behind the head stop is why the file is refused
-pub fault_behind : (bytes behind : List ℕ) (threads : ℕ) (fault : SchedFault) → length (lines_of bytes) ≤ line_limit → ThreadsFit threads → lines_of bytes ≡ head_text threads ∷ lines_of behind → StopsBehind threads (lines_of behind) fault → IsScheduleFault bytes fault
+pub fault_behind : (bytes behind : List ℕ) (threads : ℕ) (fault : SchedFault) → length (lines_of bytes) ≤ line_limit → ThreadsFit threads → lines_of bytes ≡ head_text threads ∷ lines_of behind → StopsAfter threads (lines_of behind) fault → IsScheduleFault bytes fault
 fault_behind bytes behind threads (Line n) count fit is stop = (count, behind_head (lines_of bytes) n threads (lines_of behind) fit is stop)
 fault_behind bytes behind threads (Limit count') count fit is stop = absurd stop
 fault_behind bytes behind threads Memory count fit is stop = tt

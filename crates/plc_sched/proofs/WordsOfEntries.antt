@@ -8,6 +8,7 @@ use Rattle.std.proofs.lemmas.Fmt.{decimal_is_IsNumeral}
 use Rattle.std.proofs.lemmas.Str.Parse.{digit_from_value}
 use Rattle.std.proofs.lemmas.List.Elements.{All-nil, All-cons, All-map, All-weaker}
 use Rattle.std.proofs.lemmas.List.Splits.{join_with_byte-slice_split}
+use Rattle.plc_base.specs.Limits.{most_name_bytes}
 use Rattle.plc_sched.specs.declared.schedule.Entry.{Entry}
 use Rattle.plc_sched.specs.declared.schedule.Entry.TheVariants.{Start, Step, Return, Tick}
 use Rattle.plc_lex.specs.Characters.{in_name, is_letter}
@@ -38,7 +39,7 @@ in_name_is_word (b ∷ bs) e = let parts = and_parts (in_name b) (list_all in_na
 name_is_word : (op : List ℕ) → is_name op ≡ true → IsWord op
 name_is_word [] e = All-nil NoSpace
 name_is_word (b ∷ bs) e =
-    let small : Bool = nat_le (length (b ∷ bs)) 64 in
+    let small : Bool = nat_le (length (b ∷ bs)) most_name_bytes in
     let whole : Bool = list_all in_name (b ∷ bs) in
     in_name_is_word (b ∷ bs) (and_parts small whole (and_parts (is_letter b) (small && whole) e).1).1
 
@@ -97,9 +98,9 @@ third : (a b c : Bool) → a ≡ true → b ≡ true → c ≡ (a && (b && c))
 third a b c e f = rw (e, f) refl
 
 -- a test of a word that begins as a name does and is short enough
-pub name_is : (word : List ℕ) → 1 ≤ length word → is_letter (get_or word 0 0) ≡ true → length word ≤ 64 → list_all in_name word ≡ is_name word
+pub name_is : (word : List ℕ) → 1 ≤ length word → is_letter (get_or word 0 0) ≡ true → length word ≤ most_name_bytes → list_all in_name word ≡ is_name word
 name_is [] some letter short = absurd (omega arith)
-name_is (b ∷ bs) some letter short = third (is_letter b) (nat_le (length (b ∷ bs)) 64) (list_all in_name (b ∷ bs)) letter (le-leb (length (b ∷ bs)) 64 short)
+name_is (b ∷ bs) some letter short = third (is_letter b) (nat_le (length (b ∷ bs)) most_name_bytes) (list_all in_name (b ∷ bs)) letter (le-leb (length (b ∷ bs)) most_name_bytes short)
 
 -- words of entries of two kinds
 pub two_kinds : (words others : List (List ℕ)) → (mark words == mark others) ≡ false → words ≡ others → ⊥

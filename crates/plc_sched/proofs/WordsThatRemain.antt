@@ -7,14 +7,15 @@ use Rattle.std.specs.Option.{is_none}
 use Rattle.std.proofs.lemmas.List.{length-map}
 use Rattle.std.proofs.lemmas.List.Elements.{All-head, All-tail}
 use Rattle.std.proofs.lemmas.List.Splits.{length-slice_split}
+use Rattle.plc_base.specs.Limits.{most_addresses}
 use Rattle.plc_sched.specs.declared.words.Words.{Words}
 use Rattle.plc_sched.specs.Entries.{head_words}
-use Rattle.plc_sched.specs.Numbers.{IsNextNumber, IsLastNumber}
+use Rattle.plc_sched.specs.Numbers.{most_arguments, IsNextNumber, IsLastNumber}
 use Rattle.plc_sched.specs.Reading.{IsAddress, IsHead}
-use Rattle.plc_sched.specs.Words.{pieces_behind, words_left}
+use Rattle.plc_sched.specs.Words.{pieces_after, words_left}
 use Rattle.plc_sched.proofs.WordsOfEntries.{split_head, line_from_words}
 
-some_piece : (left : Option (Bor (List ℕ))) → is_none left ≡ false → 0 < length (pieces_behind 32 left)
+some_piece : (left : Option (Bor (List ℕ))) → is_none left ≡ false → 0 < length (pieces_after 32 left)
 some_piece None e = absurd cc
 some_piece (Some bytes) e = omega (arith, length-slice_split (λ b. b == 32) bytes.now)
 
@@ -27,12 +28,12 @@ pub more_than_one : (n number : ℕ) (rest words : List (List ℕ)) → 0 < leng
 more_than_one n number rest words some read e = omega (arith, ap length (e ∙ sym read))
 
 -- words that are no one number are no address
-pub no_address : (words : List (List ℕ)) → 0 < length words → IsLastNumber words 1 4096 None → IsAddress words None
+pub no_address : (words : List (List ℕ)) → 0 < length words → IsLastNumber words 1 most_addresses None → IsAddress words None
 no_address words some none None fit e = omega (arith, ap length e)
 no_address words some none (Some address) fit e = none address fit.0 fit.1 e
 
 -- numbers that were read, with words behind them, are no fewer numbers
-pub too_many : (numbers others : List ℕ) (rest words : List (List ℕ)) → length numbers ≡ 32 → length others ≤ 32 → 0 < length rest → map decimal numbers ++ rest ≡ words → map decimal others ≡ words → ⊥
+pub too_many : (numbers others : List ℕ) (rest words : List (List ℕ)) → length numbers ≡ most_arguments → length others ≤ most_arguments → 0 < length rest → map decimal numbers ++ rest ≡ words → map decimal others ≡ words → ⊥
 too_many numbers others rest words full few some read e =
     omega (arith, ap length (e ∙ sym read), length-append (map decimal numbers) rest, length-map numbers decimal, length-map others decimal)
 

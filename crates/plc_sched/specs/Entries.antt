@@ -2,14 +2,16 @@
 use Rattle.std.specs.Prelude.{◌≡◌, ◌<◌, ◌≤◌, ◌&&◌, ◌^◌, ℕ, Bool, true, false, List, [], ◌∷◌, length, map, codes, nat_le, Option, Some, None, All}
 use Rattle.std.specs.List.{list_all, join_with_byte}
 use Rattle.std.specs.Fmt.{decimal}
+use Rattle.plc_base.specs.Limits.{most_name_bytes, most_threads, most_addresses}
 use Rattle.plc_lex.specs.Characters.{is_letter, in_name}
 use Rattle.plc_sched.specs.declared.schedule.Entry.{Entry}
 use Rattle.plc_sched.specs.declared.schedule.Entry.TheVariants.{Start, Step, Return, Tick}
+use Rattle.plc_sched.specs.Numbers.{most_arguments}
 
--- a letter or `_`, and then bytes that go on a name, at most 64 in all
+-- a letter or `_`, and then bytes that go on a name, within the limit of names
 abbrev pub is_name : List ℕ → Bool
 is_name [] = false
-is_name (b ∷ bs) = is_letter b && (nat_le (length (b ∷ bs)) 64 && list_all in_name (b ∷ bs))
+is_name (b ∷ bs) = is_letter b && (nat_le (length (b ∷ bs)) most_name_bytes && list_all in_name (b ∷ bs))
 
 -- the words of an address that a step may have
 abbrev pub address_words : Option ℕ → List (List ℕ)
@@ -42,13 +44,13 @@ head_text threads = line_of (head_words threads)
 -- an address that a step may have
 abbrev pub AddressFits : Option ℕ → Type 0
 AddressFits None = Unit {0}
-AddressFits (Some address) = (1 ≤ address) × (address ≤ 4096)
+AddressFits (Some address) = (1 ≤ address) × (address ≤ most_addresses)
 
 -- a start among so many threads
 pub record StartFits (threads t : ℕ) (op args : List ℕ) : Type 0 where
   pub thread : t < threads
   pub name : is_name op ≡ true
-  pub count : length args ≤ 32
+  pub count : length args ≤ most_arguments
   pub arguments : All (λ d. d < 2 ^ 32) args
 
 -- a step among so many threads
@@ -66,4 +68,4 @@ EntryFits threads Tick = Unit {0}
 
 -- how many threads a schedule may have
 abbrev pub ThreadsFit : ℕ → Type 0
-ThreadsFit threads = (1 ≤ threads) × (threads ≤ 64)
+ThreadsFit threads = (1 ≤ threads) × (threads ≤ most_threads)

@@ -8,6 +8,6 @@ without_empty_end [] = []
 without_empty_end (piece ∷ []) = if length piece == 0 then [] else piece ∷ []
 without_empty_end (piece ∷ next ∷ more) = piece ∷ without_empty_end (next ∷ more)
 
--- the pieces between line feeds, without an empty one behind the last line feed
+-- the pieces between line feeds, without an empty one after the last line feed
 unfoldable pub lines_of : List ℕ → List (List ℕ)
 lines_of bytes = without_empty_end (slice_split (λ b. b == 10) bytes)

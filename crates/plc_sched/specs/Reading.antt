@@ -26,13 +26,13 @@ abbrev pub IsHead : List ℕ → Option ℕ → Type 0
 IsHead line (Some threads) = ThreadsFit threads × (head_text threads ≡ line)
 IsHead line None = (threads : ℕ) → ThreadsFit threads → head_text threads ≡ line → ⊥
 
--- the entries of the lines behind the head
+-- the entries of the lines after the head
 pub record AreEntries (threads : ℕ) (lines : List (List ℕ)) (entries : List Entry) : Type 0 where
   pub lines_are : lines ≡ map entry_text entries
   pub fit : All (EntryFits threads) entries
 
--- why the lines behind the head spell no entries; want of memory tells nothing
-abbrev pub StopsBehind : ℕ → List (List ℕ) → SchedFault → Type 0
-StopsBehind threads lines (Line n) = StopsAt threads lines n
-StopsBehind threads lines (Limit count) = ⊥
-StopsBehind threads lines Memory = Unit {0}
+-- why the lines after the head spell no entries; running out of memory tells nothing
+abbrev pub StopsAfter : ℕ → List (List ℕ) → SchedFault → Type 0
+StopsAfter threads lines (Line n) = StopsAt threads lines n
+StopsAfter threads lines (Limit count) = ⊥
+StopsAfter threads lines Memory = Unit {0}

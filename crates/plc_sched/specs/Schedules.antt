@@ -1,5 +1,7 @@
 -- Which schedule a file spells, and why one spells none.
 use Rattle.std.specs.Prelude.{◌≡◌, ◌≢◌, ◌<◌, ◌≤◌, ◌+◌, ℕ, List, ◌∷◌, ◌++◌, length, map, All}
+use Rattle.plc_base.specs.declared.limits.What1.TheVariants.{Lines}
+use Rattle.plc_base.specs.Limits.{most}
 use Rattle.plc_sched.specs.declared.schedule.Entry.{Entry}
 use Rattle.plc_sched.specs.declared.schedule.Schedule.{Schedule}
 use Rattle.plc_sched.specs.declared.fault.SchedFault.{SchedFault}
@@ -9,7 +11,7 @@ use Rattle.plc_sched.specs.Lines.{lines_of}
 
 -- the most lines of a file
 abbrev pub line_limit : ℕ
-line_limit = 100000
+line_limit = most Lines
 
 -- a file spells a schedule: its lines are the head and then one for each entry
 pub record IsScheduleOf (bytes : List ℕ) (s : Schedule) : Type 0 where
@@ -26,7 +28,7 @@ HasNoHead lines = (threads : ℕ) (more : List (List ℕ)) → ThreadsFit thread
 abbrev pub IsNoEntry : ℕ → List ℕ → Type 0
 IsNoEntry threads line = (entry : Entry) → EntryFits threads entry → entry_text entry ≡ line → ⊥
 
--- behind the head the lines of some entries are followed by one that no entry has; n is its number in the file
+-- after the head the lines of some entries are followed by one that no entry has; n is its number in the file
 pub record StopsAt (threads : ℕ) (lines : List (List ℕ)) (n : ℕ) : Type 0 where
   pub before : List Entry
   pub line : List ℕ
@@ -53,7 +55,11 @@ pub record SchedulesAreUnique : Type 0 where
   pub faults : (bytes : List ℕ) (f g : SchedFault) → IsScheduleFault bytes f → IsScheduleFault bytes g → f ≢ Memory → g ≢ Memory → f ≡ g
   pub apart : (bytes : List ℕ) (s : Schedule) (f : SchedFault) → IsScheduleOf bytes s → IsScheduleFault bytes f → f ≡ Memory
 
--- a schedule that some file spells is within the limits of replay
-pub record SchedulesAreWithinLimits : Type 0 where
-  pub threads : (bytes : List ℕ) (s : Schedule) → IsScheduleOf bytes s → (1 ≤ s.threads) × (s.threads ≤ 64)
-  pub entries : (bytes : List ℕ) (s : Schedule) → IsScheduleOf bytes s → length s.entries < line_limit
+-- the limits of schedules
+pub record IsWithinLimits (s : Schedule) : Type 0 where
+  pub threads : ThreadsFit s.threads
+  pub entries : length s.entries < line_limit
+
+-- a schedule that some file spells is within the limits
+abbrev pub SchedulesAreWithinLimits : Type 0
+SchedulesAreWithinLimits = (bytes : List ℕ) (s : Schedule) → IsScheduleOf bytes s → IsWithinLimits s

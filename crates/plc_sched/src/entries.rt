@@ -1,9 +1,9 @@
-// One entry from its line. Each reader takes the words behind the kind of entry that it reads, and
+// One entry from its line. Each reader takes the words after the kind of entry that it reads, and
 // answers the one entry that has these words, or that none has. No line is read twice: the first word
 // says which reader takes the others.
 ghost use Rattle.std.specs.Prelude.{◌≡◌, ◌≤◌, ◌∷◌, ℕ, codes, IfOk, IfErr};
 ghost use Rattle.std.specs.List.{list_all};
-ghost use Rattle.plc_lex.specs.Characters.{is_letter, in_name};
+ghost use Rattle.plc_lex.specs.Characters.{in_name};
 ghost use Rattle.plc_sched.specs.Entries.{is_name};
 ghost use Rattle.plc_sched.specs.Reading.{IsEntryOf, IsAddress, IsLine};
 ghost use Rattle.plc_sched.specs.Words.{words_left};
@@ -13,11 +13,9 @@ use crate::fault::SchedFault;
 use crate::numbers::{last_number, next_number, numbers};
 use crate::schedule::Entry;
 use crate::words::{Words, next_word};
-use plc_base::Items;
+use plc_base::{Items, MOST_ADDRESSES, MOST_NAME_BYTES};
+use plc_lex::{in_name, is_letter};
 use std::alloc::Global;
-
-// How many bytes a name may have.
-const NAME_LIMIT: usize = 64;
 
 const START: &[u8] = b"start";
 
@@ -26,18 +24,6 @@ const STEP: &[u8] = b"step";
 const RETURN: &[u8] = b"return";
 
 const TICK: &[u8] = b"tick";
-
-fn is_letter(b: u8) -> bool
-    ensures { result ≡ is_letter b }
-{
-    matches!(b, b'a'..=b'z' | b'A'..=b'Z' | b'_')
-}
-
-fn in_name(b: u8) -> bool
-    ensures { result ≡ in_name b }
-{
-    is_letter(b) || b.is_ascii_digit()
-}
 
 fn is_all_in_name(word: &[u8]) -> bool
     ensures { result ≡ list_all in_name word.now }
@@ -50,7 +36,7 @@ fn is_name(word: &[u8]) -> bool
     ensures { result ≡ is_name word.now }
 {
     match word {
-        [first, ..] if is_letter(*first) => word.len() <= NAME_LIMIT && is_all_in_name(word),
+        [first, ..] if is_letter(*first) => word.len() <= MOST_NAME_BYTES && is_all_in_name(word),
         _ => false,
     }
 }
@@ -83,7 +69,7 @@ fn address(words: Words) -> Option<Option<u32>>
     if words.left.is_none() {
         return Some(None);
     }
-    let address = last_number(words, 1, 4096)?;
+    let address = last_number(words, 1, MOST_ADDRESSES)?;
     Some(Some(address))
 }
 

@@ -7,11 +7,8 @@ ghost use Rattle.plc_sched.specs.declared.fault.SchedFault.TheVariants.{Memory};
 
 use crate::fault::SchedFault;
 use crate::words::{Words, next_word};
-use plc_base::Items;
+use plc_base::{Items, What1};
 use std::alloc::Global;
-
-// How many arguments a start may have.
-const ARGUMENT_LIMIT: usize = 32;
 
 // Whether printing a number could give these bytes, as far as the first of them tells.
 fn is_plain(word: &[u8]) -> bool
@@ -43,7 +40,7 @@ fn number_of(word: &[u8], least: u32, most: u32) -> Option<u32>
     }
 }
 
-/// The number that the next word writes, from `least` to `most`, and the words behind it.
+/// The number that the next word writes, from `least` to `most`, and the words after it.
 pub fn next_number<'a>(words: Words<'a>, least: u32, most: u32) -> Option<(u32, Words<'a>)>
     ensures { IsNextNumber (words_left words.entry) least most result }
 {
@@ -64,7 +61,7 @@ pub fn last_number(words: Words, least: u32, most: u32) -> Option<u32>
     }
 }
 
-/// The numbers that all words that are left write, at most 32.
+/// The numbers that all words that are left write, as many as an operation may have locals.
 pub fn numbers(alloc: Global, words: Words) -> Result<Option<Items<u32>>, SchedFault>
     ensures ok { IfOk result (AreNumbers (words_left words.entry)) }
     ensures err { IfErr result (λ e. e ≡ Memory) }
@@ -72,14 +69,14 @@ pub fn numbers(alloc: Global, words: Words) -> Result<Option<Items<u32>>, SchedF
     let mut numbers = Vec::new(alloc);
     let mut rest = words;
     while rest.left.is_some() {
-        if numbers.len() == ARGUMENT_LIMIT {
+        if numbers.len() == What1::Locals.most() as usize {
             return Ok(None);
         }
-        let Some((number, behind)) = next_number(rest, 0, u32::MAX) else {
+        let Some((number, after)) = next_number(rest, 0, u32::MAX) else {
             return Ok(None);
         };
         numbers.push(number)?;
-        rest = behind;
+        rest = after;
     }
     Ok(Some(Items::from_vec(numbers)))
 }

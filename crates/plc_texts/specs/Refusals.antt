@@ -7,7 +7,7 @@ use Rattle.plc_lex.specs.declared.fault.LexFault.TheVariants.{BadByte, LongName,
 use Rattle.plc_scope.specs.declared.fault.ParseFault.{ParseFault}
 use Rattle.plc_scope.specs.declared.fault.ParseFault.TheVariants.{Syntax, Undeclared, Duplicate, WrongSort, NoSuchCall, Limit, Memory}
 
--- texts that are always the same
+-- the texts of words of no listed form, of a read that failed, of a file that is too long, and of a form that isn't judged
 abbrev pub words_refused : List ℕ
 words_refused = codes "words refused\n"
 
@@ -20,7 +20,7 @@ read_too_long = codes "read too long\n"
 abbrev pub refused_file : List ℕ
 refused_file = codes "refused file\n"
 
--- refused byte at N, and the same of names and numbers; a want of memory has no text
+-- refused byte at N, and the same of names and numbers; running out of memory has no text
 abbrev pub lex_text : LexFault → List ℕ
 lex_text (BadByte at) = codes "refused byte at " ++ decimal at ++ codes "\n"
 lex_text (LongName at) = codes "refused name at " ++ decimal at ++ codes "\n"
@@ -35,7 +35,7 @@ token_text kind at line = codes "refused " ++ kind ++ codes " token " ++ decimal
 abbrev pub limit_text : What1 → ℕ → List ℕ
 limit_text what count = codes "refused limit " ++ limit_name what ++ codes " " ++ decimal count ++ codes "\n"
 
--- a fault of tokens, with the line of its place; a want of memory has no text
+-- a fault of tokens, with the line of its place; running out of memory has no text
 abbrev pub parse_text : ParseFault → ℕ → List ℕ
 parse_text (Syntax at) line = token_text (codes "syntax") at line
 parse_text (Undeclared at) line = token_text (codes "undeclared") at line

@@ -14,13 +14,6 @@ race_name Compare = codes "compare"
 race_name Pass = codes "pass"
 race_name Double = codes "double"
 
--- the status of an end: 0 where the schedule was followed to its end
-abbrev pub end_status : End → ℕ
-end_status (Ended lines events freed) = 0
-end_status (Race kind line prim) = 1
-end_status (Impossible line) = 1
-end_status (ForbiddenFree a line) = 1
-
 -- end lines N events E freed F; race KIND line N prim K; impossible line N; forbidden free A line N
 abbrev pub end_text : End → List ℕ
 end_text (Ended lines events freed) = codes "end lines " ++ decimal lines ++ codes " events " ++ decimal events ++ codes " freed " ++ decimal freed ++ codes "\n"
@@ -28,7 +21,7 @@ end_text (Race kind line prim) = codes "race " ++ race_name kind ++ codes " line
 end_text (Impossible line) = codes "impossible line " ++ decimal line ++ codes "\n"
 end_text (ForbiddenFree a line) = codes "forbidden free " ++ decimal a ++ codes " line " ++ decimal line ++ codes "\n"
 
--- refused schedule line N; refused limit lines N; a want of memory has no text
+-- refused schedule line N; refused limit lines N; running out of memory has no text
 abbrev pub schedule_text : SchedFault → List ℕ
 schedule_text (Line n) = codes "refused schedule line " ++ decimal n ++ codes "\n"
 schedule_text (Limit count) = codes "refused limit lines " ++ decimal count ++ codes "\n"

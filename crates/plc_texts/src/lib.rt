@@ -10,7 +10,9 @@ mod replays;
 mod typing;
 
 pub use failing::untyped;
-pub use refusals::{fixed, lexical, limit, parsed};
+pub use refusals::{
+    lexical, limit, parsed, read_failed, read_too_long, refused_file, words_refused,
+};
 pub use replays::{ended, unscheduled};
 pub use typing::safe;
 

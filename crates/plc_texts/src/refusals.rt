@@ -1,6 +1,7 @@
-// Why bytes are refused, as texts.
+// Why words, files and bytes are refused, as texts.
 ghost use Rattle.std.specs.Prelude.{◌≡◌, ◌++◌, IfOk, codes, decimal};
 ghost use Rattle.plc_texts.specs.Refusals.{lex_text, limit_text, parse_text, token_text};
+ghost use Rattle.plc_texts.specs.Refusals.{words_refused, read_failed, read_too_long, refused_file};
 
 use crate::push::{push, push_number};
 use plc_base::What1;
@@ -9,13 +10,41 @@ use plc_scope::ParseFault;
 use std::alloc::{AllocError, Global};
 
 /// A text that is always the same.
-pub fn fixed(alloc: Global, text: &str) -> Result<Vec<u8>, AllocError>
+pub(crate) fn fixed(alloc: Global, text: &str) -> Result<Vec<u8>, AllocError>
     ensures { IfOk result (λ v. v.items ≡ text.now) }
 {
     Vec::from_slice(alloc, text.as_bytes())
 }
 
-/// A number behind words, and the end of the line.
+/// Words of no listed form.
+pub fn words_refused(alloc: Global) -> Result<Vec<u8>, AllocError>
+    ensures { IfOk result (λ v. v.items ≡ words_refused) }
+{
+    fixed(alloc, "words refused\n")
+}
+
+/// A read that failed.
+pub fn read_failed(alloc: Global) -> Result<Vec<u8>, AllocError>
+    ensures { IfOk result (λ v. v.items ≡ read_failed) }
+{
+    fixed(alloc, "read failed\n")
+}
+
+/// A file that is longer than a file of its kind may be.
+pub fn read_too_long(alloc: Global) -> Result<Vec<u8>, AllocError>
+    ensures { IfOk result (λ v. v.items ≡ read_too_long) }
+{
+    fixed(alloc, "read too long\n")
+}
+
+/// A file that holds a form which isn't judged yet.
+pub fn refused_file(alloc: Global) -> Result<Vec<u8>, AllocError>
+    ensures { IfOk result (λ v. v.items ≡ refused_file) }
+{
+    fixed(alloc, "refused file\n")
+}
+
+/// A number after words, and the end of the line.
 pub(crate) fn numbered(alloc: Global, words: &str, number: u32) -> Result<Vec<u8>, AllocError>
     ensures { IfOk result (λ v. v.items ≡ words.now ++ decimal number ++ codes "\n") }
 {
@@ -25,7 +54,7 @@ pub(crate) fn numbered(alloc: Global, words: &str, number: u32) -> Result<Vec<u8
     Ok(out)
 }
 
-/// Bytes that spell no tokens: the place of the byte. A want of memory has no text.
+/// Bytes that spell no tokens: the place of the byte. Running out of memory has no text.
 pub fn lexical(alloc: Global, fault: LexFault) -> Result<Vec<u8>, AllocError>
     ensures { IfOk result (λ v. v.items ≡ lex_text fault) }
 {
@@ -63,7 +92,7 @@ fn token(alloc: Global, kind: &str, at: u32, line: u32) -> Result<Vec<u8>, Alloc
     Ok(out)
 }
 
-/// Tokens that spell no unit: the place among the tokens, and its line. A want of memory has no text.
+/// Tokens that spell no unit: the place among the tokens, and its line. Running out of memory has no text.
 pub fn parsed(alloc: Global, fault: &ParseFault, line: u32) -> Result<Vec<u8>, AllocError>
     ensures { IfOk result (λ v. v.items ≡ parse_text fault.now line) }
 {

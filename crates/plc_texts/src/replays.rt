@@ -21,7 +21,7 @@ fn race_name(kind: RaceKind) -> &'static str
     }
 }
 
-// A number behind words.
+// A number after words.
 fn push_numbered(
     alloc: Global,
     out: &mut Vec<u8>,
@@ -36,7 +36,8 @@ fn push_numbered(
 
 // The schedule was followed to its end.
 fn followed(alloc: Global, lines: u32, events: u32, freed: u32) -> Result<Vec<u8>, AllocError>
-    ensures { IfOk result (λ v. v.items ≡ codes "end lines " ++ decimal lines ++ codes " events " ++ decimal events ++ codes " freed " ++ decimal freed ++ codes "\n") }
+    ensures { IfOk result (λ v. v.items ≡ codes "end lines " ++ decimal lines ++ codes " events " ++ decimal events
+        ++ codes " freed " ++ decimal freed ++ codes "\n") }
 {
     let mut out = Vec::new(alloc);
     push_numbered(alloc, &mut out, "end lines ", lines)?;
@@ -48,7 +49,8 @@ fn followed(alloc: Global, lines: u32, events: u32, freed: u32) -> Result<Vec<u8
 
 // A race of a primitive.
 fn raced(alloc: Global, kind: RaceKind, line: u32, prim: u16) -> Result<Vec<u8>, AllocError>
-    ensures { IfOk result (λ v. v.items ≡ codes "race " ++ race_name kind ++ codes " line " ++ decimal line ++ codes " prim " ++ decimal prim ++ codes "\n") }
+    ensures { IfOk result (λ v. v.items ≡ codes "race " ++ race_name kind ++ codes " line " ++ decimal line
+        ++ codes " prim " ++ decimal prim ++ codes "\n") }
 {
     let mut out = fixed(alloc, "race ")?;
     push(&mut out, race_name(kind))?;
@@ -60,7 +62,8 @@ fn raced(alloc: Global, kind: RaceKind, line: u32, prim: u16) -> Result<Vec<u8>,
 
 // A free that isn't allowed.
 fn forbidden(alloc: Global, a: u32, line: u32) -> Result<Vec<u8>, AllocError>
-    ensures { IfOk result (λ v. v.items ≡ codes "forbidden free " ++ decimal a ++ codes " line " ++ decimal line ++ codes "\n") }
+    ensures { IfOk result (λ v. v.items ≡ codes "forbidden free " ++ decimal a
+        ++ codes " line " ++ decimal line ++ codes "\n") }
 {
     let mut out = Vec::new(alloc);
     push_numbered(alloc, &mut out, "forbidden free ", a)?;
@@ -85,7 +88,7 @@ pub fn ended(alloc: Global, end: &End) -> Result<Vec<u8>, AllocError>
     }
 }
 
-/// Bytes that spell no schedule: the line. A want of memory has no text.
+/// Bytes that spell no schedule: the line. Running out of memory has no text.
 pub fn unscheduled(alloc: Global, fault: SchedFault) -> Result<Vec<u8>, AllocError>
     ensures { IfOk result (λ v. v.items ≡ schedule_text fault) }
 {

@@ -16,7 +16,7 @@ fn is_text(made: Result<Vec<u8>, AllocError>, text: &str) -> bool {
 #[test]
 fn refusals_have_their_texts(rt: HostRuntime) {
     let alloc: Global = rt.alloc();
-    assert!(rt; is_text(fixed(alloc, "read failed\n"), "read failed\n"));
+    assert!(rt; is_text(read_failed(alloc), "read failed\n"));
     for (fault, text) in [
         (LexFault::BadByte { at: 0 }, "refused byte at 0\n"),
         (LexFault::LongName { at: 10 }, "refused name at 10\n"),

@@ -133,7 +133,8 @@ fn push_locals(
     locals: &[Local],
     types: &[PtrType],
 ) -> Result<(), AllocError>
-    ensures { OnOk result (out.new.items ≡ out.old.items ++ local_lines file.now observer.now label.now (filter is_pointer locals.now) types.now) }
+    ensures { OnOk result (out.new.items ≡ out.old.items
+        ++ local_lines file.now observer.now label.now (filter is_pointer locals.now) types.now) }
 {
     let mut at = 0;
     for local in locals {
@@ -172,7 +173,8 @@ fn push_env(
     point: PointId,
     env: &Env,
 ) -> Result<(), AllocError>
-    ensures { OnOk result (out.new.items ≡ out.old.items ++ env_lines flow.now observer.now (name_at flow.now.file label) point.0 (Some env.now)) }
+    ensures { OnOk result (out.new.items ≡ out.old.items
+        ++ env_lines flow.now observer.now (name_at flow.now.file label) point.0 (Some env.now)) }
 {
     let name = name_at(&flow.file, label);
     let locals = locals_of(
@@ -201,7 +203,8 @@ fn push_label(
     label: u16,
     point: PointId,
 ) -> Result<(), AllocError>
-    ensures { OnOk result (out.new.items ≡ out.old.items ++ env_lines flow.now observer.now (name_at flow.now.file label) point.0 (slice_get envs.now point.0)) }
+    ensures { OnOk result (out.new.items ≡ out.old.items
+        ++ env_lines flow.now observer.now (name_at flow.now.file label) point.0 (slice_get envs.now point.0)) }
 {
     match envs.get(point.0 as usize) {
         Some(env) => push_env(alloc, out, flow, observer, label, point, env),
@@ -217,7 +220,8 @@ fn push_labels(
     observer: &Observer,
     envs: &[Env],
 ) -> Result<(), AllocError>
-    ensures { OnOk result (out.new.items ≡ out.old.items ++ label_lines flow.now observer.now envs.now flow.now.file.labels flow.now.labels) }
+    ensures { OnOk result (out.new.items ≡ out.old.items
+        ++ label_lines flow.now observer.now envs.now flow.now.file.labels flow.now.labels) }
 {
     let labels = flow.file.labels.as_slice();
     let points = flow.labels.as_slice();

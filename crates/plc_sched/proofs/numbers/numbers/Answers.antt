@@ -3,8 +3,8 @@ use Rattle.plc_sched.specs.Words.{words_left}
 use Rattle.plc_sched.proofs.WordsThatRemain.{words_remain, too_many, not_numbers}
 use Rattle.plc_sched.proofs.numbers.numbers.Goals as goal
 
-pub returns-then-len-eq-ARGUMENT_LIMIT-clause-ok : goal.returns-then-len-eq-ARGUMENT_LIMIT-clause-ok
-returns-then-len-eq-ARGUMENT_LIMIT-clause-ok c = λ others few each e.
+pub returns-then-len-most-clause-ok : goal.returns-then-len-most-clause-ok
+returns-then-len-most-clause-ok c = λ others few each e.
     too_many c.loop-rest.numbers.items others (words_left c.loop-rest.rest) (words_left c.args.words) (search rules) few (words_remain c.loop-rest.rest (search rules)) c.loop-rest.invariant.read e
 
 pub returns-in_default-clause-ok : goal.returns-in_default-clause-ok

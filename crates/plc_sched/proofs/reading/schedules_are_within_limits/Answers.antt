@@ -1,5 +1,5 @@
-use Rattle.plc_sched.proofs.Limits.{few_threads, few_entries}
+use Rattle.plc_sched.proofs.Limits.{within_limits}
 use Rattle.plc_sched.proofs.reading.schedules_are_within_limits.Goals as goal
 
 pub returns : goal.returns
-returns c = record { threads = few_threads; entries = few_entries }
+returns c = within_limits

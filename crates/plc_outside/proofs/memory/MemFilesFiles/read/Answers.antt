@@ -2,7 +2,7 @@ use Rattle.std.proofs.Common.{◌≡◌, ◌∙◌, Some, sym, ap, arith}
 use Rattle.std.specs.Prelude.{option_map}
 use Rattle.std.proofs.lemmas.Result.{err_from_is_err_and}
 use Rattle.plc_outside.specs.StoredFiles.{found}
-use Rattle.plc_outside.proofs.ReadAnswers.{Answers-none, Answers-ok, Answers-memory}
+use Rattle.plc_outside.proofs.ReadAnswers.{Answers-none, Answers-noted, Answers-memory}
 use Rattle.plc_outside.proofs.memory.MemFilesFiles.read.Goals as goal
 
 pub returns-in_err-from_slice-in-Some-clause-answer :
@@ -28,4 +28,4 @@ returns-in_ok-from_slice-in-Some-clause-answer c =
     let here = rw (c.deref.ensures.value, c.deref-2.ensures.value, c.saturating_add-self-inside.ensures) at c.found.ensures in
     let seen : found c.args.self.now c.args.name.now ≡ option_map (λ v. v.now.items) c.found.result = rw (← c.self.view_is) (sym here) in
     let copied = c.in_ok-from_slice-in-Some.ensures.items ∙ c.deref-in-Some.ensures.value in
-    Answers-ok _ _ _ (seen ∙ ap (option_map (λ v. v.now.items)) c.in-Some.is ∙ ap Some (sym copied)) (rw copied (omega arith))
+    Answers-noted _ _ _ c.note-in-Some.result (seen ∙ ap (option_map (λ v. v.now.items)) c.in-Some.is ∙ ap Some (sym copied)) (rw copied (omega arith)) c.note-in-Some.ensures.ok c.note-in-Some.ensures.err

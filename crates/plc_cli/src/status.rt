@@ -1,0 +1,25 @@
+// The exit statuses, by name. They are plain bytes, since the program ends with one.
+
+/// What was asked is so, or was done.
+pub(crate) const HOLDS: u8 = 0;
+
+/// What was asked isn't so.
+pub(crate) const FAILS: u8 = 1;
+
+/// The bytes are refused.
+pub(crate) const REFUSED: u8 = 2;
+
+/// The words are of no listed form.
+pub(crate) const BAD_WORDS: u8 = 3;
+
+/// A file couldn't be read.
+pub(crate) const UNREAD: u8 = 4;
+
+/// The text couldn't be written whole.
+pub(crate) const UNWRITTEN: u8 = 5;
+
+/// Memory ran out.
+pub const NO_MEMORY: u8 = 6;
+
+/// A word of the command line isn't UTF-8: the one status of the program alone.
+pub const NOT_UTF8: u8 = 7;

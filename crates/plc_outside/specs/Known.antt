@@ -1,0 +1,15 @@
+-- What is known of files and of a sink at a time.
+use Rattle.std.specs.Prelude.{ℕ, List, Option}
+use Rattle.plc_outside.specs.Reading.{Reading}
+
+-- the bytes under each name, where they are told; how many reads of each name failed; how many bytes the latest read took; and the reads that gave bytes, in order
+pub record KnownFiles : Type 0 where
+  pub content : List ℕ → Option (List ℕ)
+  pub faults : List ℕ → ℕ
+  pub taken : ℕ
+  pub given : List Reading
+
+-- what was written, where it is told, and how many writes failed
+pub record KnownSink : Type 0 where
+  pub written : Option (List ℕ)
+  pub faults : ℕ
