@@ -1,6 +1,7 @@
 // The test of the syntax: one pass, token by token, and the first token that doesn't fit or that
 // begins a block too deep ends it. A token that doesn't fit is no brace of a block, so at one token
-// the syntax goes before the nesting.
+// the syntax goes before the nesting. The same machine tests an outline that has to stand at the
+// front of tokens, which holds no blocks; it stops behind the closing brace.
 ghost use Rattle.std.specs.Prelude.{◌≡◌, ◌<◌, ◌^◌, ℕ, IfOk, MatchOption, length};
 ghost use Rattle.plc_syntax.specs.Answer.{IsExactly};
 ghost use Rattle.plc_syntax.specs.Faults.{FaultsAreOne};
