@@ -1,6 +1,5 @@
-// The declarations of a file but those of auxiliary fields and operations. Each loop reads one form
-// after the other while there is one, and judges it at once; the limit's place is the first token of
-// the form past it.
+// The declarations of a file but those of auxiliary fields and operations. Each is judged as soon as it
+// is read.
 ghost use Rattle.std.specs.Prelude.{◌≡◌, ◌+◌, ◌<◌, ◌≤◌, ◌^◌, IfOk, length};
 ghost use Rattle.plc_base.specs.Limits.{most};
 ghost use Rattle.plc_syntax.specs.Syntax.{kinds};
@@ -12,6 +11,7 @@ ghost use Rattle.plc_parse.specs.Growth.{KeepsLists};
 ghost use Rattle.plc_parse.specs.Meaning.{field_means, shared_means, function_means};
 ghost use Rattle.plc_parse.specs.Reading.{fields_in, shared_in, functions_in};
 
+use crate::lists::{Listed, read_listed};
 use plc_base::{FieldId, FuncId, Items, What1};
 use plc_forms::{Declaration, Function, Rest, declaration_at, function_at, shared_at};
 use plc_lang::{Field, Func};
@@ -68,6 +68,43 @@ fn declare_field(
     }
 }
 
+/// The fields of the struct.
+struct Fields;
+
+impl Listed for Fields {
+    ghost use Rattle.plc_base.specs.declared.limits.What1.TheVariants.{Fields};
+    ghost use Rattle.plc_base.specs.Limits.{most};
+    ghost use Rattle.plc_syntax.specs.Trees.{FieldTree};
+    ghost use Rattle.plc_forms.specs.Forms.{field_of};
+    ghost use Rattle.plc_parse.specs.Meaning.{field_means};
+    ghost use Rattle.plc_parse.specs.Reading.{judged};
+
+    type Item = Field;
+
+    ghost Head = { FieldTree };
+
+    ghost head = { field_of };
+
+    ghost body = { judged field_means };
+
+    ghost limit = { most Fields };
+
+    ghost names = { 1 };
+
+    fn next<'a>(
+        _alloc: Global,
+        scope: &mut Scope,
+        count: usize,
+        start: Rest<'a>,
+    ) -> Result<Option<(Field, Rest<'a>)>, ParseFault> {
+        let Some((declaration, behind)) = declaration_at(start) else {
+            return Ok(None);
+        };
+        let item = declare_field(scope, count, start.at, declaration)?;
+        Ok(Some((item, behind)))
+    }
+}
+
 /// Declares the fields of the struct.
 pub fn read_fields<'a>(
     alloc: Global,
@@ -81,14 +118,7 @@ pub fn read_fields<'a>(
     ensures lists { IfOk result (λ _. KeepsLists scope.old scope.new) }
     ensures place { IfOk result (λ r. Within start.entry r.1) }
 {
-    let mut fields = Items::new(alloc);
-    let mut rest = start;
-    while let Some((declaration, behind)) = declaration_at(rest) {
-        let field = declare_field(scope, fields.len(), rest.at, declaration)?;
-        fields.push(field)?;
-        rest = behind;
-    }
-    Ok((fields, rest))
+    read_listed::<Fields>(alloc, scope, start)
 }
 
 // One shared pointer, with so many before it; the number of its name.
@@ -107,6 +137,43 @@ fn declare_shared(scope: &mut Scope, count: usize, at: u32, name: &[u8]) -> Resu
     declare(scope, name, at + 1, Binding::Shared(count as u16))
 }
 
+/// The shared pointers, by the numbers of their names.
+struct SharedPointers;
+
+impl Listed for SharedPointers {
+    ghost use Rattle.plc_base.specs.declared.limits.What1.TheVariants.{Shared};
+    ghost use Rattle.plc_base.specs.Limits.{most};
+    ghost use Rattle.plc_syntax.specs.Trees.{Text};
+    ghost use Rattle.plc_forms.specs.Forms.{shared_of};
+    ghost use Rattle.plc_parse.specs.Meaning.{shared_means};
+    ghost use Rattle.plc_parse.specs.Reading.{judged};
+
+    type Item = u16;
+
+    ghost Head = { Text };
+
+    ghost head = { shared_of };
+
+    ghost body = { judged shared_means };
+
+    ghost limit = { most Shared };
+
+    ghost names = { 1 };
+
+    fn next<'a>(
+        _alloc: Global,
+        scope: &mut Scope,
+        count: usize,
+        start: Rest<'a>,
+    ) -> Result<Option<(u16, Rest<'a>)>, ParseFault> {
+        let Some((name, behind)) = shared_at(start) else {
+            return Ok(None);
+        };
+        let item = declare_shared(scope, count, start.at, name)?;
+        Ok(Some((item, behind)))
+    }
+}
+
 /// Declares the shared pointers, and answers the numbers of their names.
 pub fn read_shared<'a>(
     alloc: Global,
@@ -120,14 +187,7 @@ pub fn read_shared<'a>(
     ensures lists { IfOk result (λ _. KeepsLists scope.old scope.new) }
     ensures place { IfOk result (λ r. Within start.entry r.1) }
 {
-    let mut pointers = Items::new(alloc);
-    let mut rest = start;
-    while let Some((name, behind)) = shared_at(rest) {
-        let number = declare_shared(scope, pointers.len(), rest.at, name)?;
-        pointers.push(number)?;
-        rest = behind;
-    }
-    Ok((pointers, rest))
+    read_listed::<SharedPointers>(alloc, scope, start)
 }
 
 // One function, with so many before it beside `retire`.
@@ -155,6 +215,43 @@ fn declare_function(
     Ok(Func { name, pointer })
 }
 
+/// The functions beside `retire`.
+struct Functions;
+
+impl Listed for Functions {
+    ghost use Rattle.plc_base.specs.declared.limits.What1.TheVariants.{Calls};
+    ghost use Rattle.plc_base.specs.Limits.{most};
+    ghost use Rattle.plc_syntax.specs.Trees.{FunctionTree};
+    ghost use Rattle.plc_forms.specs.Forms.{function_of};
+    ghost use Rattle.plc_parse.specs.Meaning.{function_means};
+    ghost use Rattle.plc_parse.specs.Reading.{judged};
+
+    type Item = Func;
+
+    ghost Head = { FunctionTree };
+
+    ghost head = { function_of };
+
+    ghost body = { judged function_means };
+
+    ghost limit = { most Calls };
+
+    ghost names = { 1 };
+
+    fn next<'a>(
+        _alloc: Global,
+        scope: &mut Scope,
+        count: usize,
+        start: Rest<'a>,
+    ) -> Result<Option<(Func, Rest<'a>)>, ParseFault> {
+        let Some((function, behind)) = function_at(start) else {
+            return Ok(None);
+        };
+        let item = declare_function(scope, count, start.at, function)?;
+        Ok(Some((item, behind)))
+    }
+}
+
 /// Declares the functions beside `retire`.
 pub fn read_functions<'a>(
     alloc: Global,
@@ -168,12 +265,5 @@ pub fn read_functions<'a>(
     ensures lists { IfOk result (λ _. KeepsLists scope.old scope.new) }
     ensures place { IfOk result (λ r. Within start.entry r.1) }
 {
-    let mut functions = Items::new(alloc);
-    let mut rest = start;
-    while let Some((function, behind)) = function_at(rest) {
-        let func = declare_function(scope, functions.len(), rest.at, function)?;
-        functions.push(func)?;
-        rest = behind;
-    }
-    Ok((functions, rest))
+    read_listed::<Functions>(alloc, scope, start)
 }

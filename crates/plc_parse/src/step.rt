@@ -97,8 +97,11 @@ trait StepForms {
     ghost use Rattle.plc_parse.specs.Reading.{FormRead};
 
     ghost Tree: { Type 0 };
+
     ghost item: { List TokenKind → Option (Tree × List TokenKind) };
+
     ghost means: { Scope → ℕ → Tree → Result (Option Primitive) ParseFault };
+
     ghost size: { Tree → ℕ };
 
     /// What the form at the front means, and what is behind it; none where no form stands there.
@@ -125,8 +128,11 @@ impl StepForms for AtomicForms {
     ghost use Rattle.plc_scope.specs.Primitives.{primitive_means};
 
     ghost Tree = { PrimitiveTree };
+
     ghost item = { primitive_line_of };
+
     ghost means = { primitive_means };
+
     ghost size = { primitive_size };
 
     fn next<'a>(
@@ -151,8 +157,11 @@ impl StepForms for InitialForms {
     ghost use Rattle.plc_scope.specs.Primitives.{initial_means};
 
     ghost Tree = { InitialTree };
+
     ghost item = { initial_line_of };
+
     ghost means = { initial_means };
+
     ghost size = { initial_size };
 
     fn next<'a>(
