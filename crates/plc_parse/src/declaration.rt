@@ -2,17 +2,20 @@
 // is read.
 ghost use Rattle.std.specs.Prelude.{◌≡◌, ◌+◌, ◌<◌, ◌≤◌, ◌^◌, IfOk, length};
 ghost use Rattle.plc_base.specs.Limits.{most};
+ghost use Rattle.plc_base.specs.declared.limits.What1.TheVariants as limits;
+ghost use Rattle.plc_syntax.specs.Trees.{Text, FieldTree, FunctionTree};
+ghost use Rattle.plc_forms.specs.Forms.{field_of, shared_of, function_of};
 ghost use Rattle.plc_syntax.specs.Syntax.{kinds};
 ghost use Rattle.plc_forms.specs.Sizes.{function_size};
 ghost use Rattle.plc_forms.specs.Views.{field_tree, function_tree};
-ghost use Rattle.plc_scope.specs.Answers.{Gives, HasRoom, GrowsBy, Within};
+ghost use Rattle.plc_scope.specs.Answers.{Gives, HasRoom, GrowsBy};
 ghost use Rattle.plc_scope.specs.Scope.{declared};
 ghost use Rattle.plc_parse.specs.Growth.{KeepsLists};
 ghost use Rattle.plc_parse.specs.Meaning.{field_means, shared_means, function_means};
-ghost use Rattle.plc_parse.specs.Reading.{fields_in, shared_in, functions_in};
+ghost use Rattle.plc_parse.specs.Reading.{judged};
 
-use crate::lists::{Listed, read_listed};
-use plc_base::{FieldId, FuncId, Items, What1};
+use crate::lists::Listed;
+use plc_base::{FieldId, FuncId, What1};
 use plc_forms::{Declaration, Function, Rest, declaration_at, function_at, shared_at};
 use plc_lang::{Field, Func};
 use plc_scope::{Binding, ParseFault, Scope};
@@ -69,16 +72,9 @@ fn declare_field(
 }
 
 /// The fields of the struct.
-struct Fields;
+pub struct Fields;
 
 impl Listed for Fields {
-    ghost use Rattle.plc_base.specs.declared.limits.What1.TheVariants.{Fields};
-    ghost use Rattle.plc_base.specs.Limits.{most};
-    ghost use Rattle.plc_syntax.specs.Trees.{FieldTree};
-    ghost use Rattle.plc_forms.specs.Forms.{field_of};
-    ghost use Rattle.plc_parse.specs.Meaning.{field_means};
-    ghost use Rattle.plc_parse.specs.Reading.{judged};
-
     type Item = Field;
 
     ghost Head = { FieldTree };
@@ -87,7 +83,7 @@ impl Listed for Fields {
 
     ghost body = { judged field_means };
 
-    ghost limit = { most Fields };
+    ghost limit = { most limits.Fields };
 
     ghost names = { 1 };
 
@@ -103,22 +99,6 @@ impl Listed for Fields {
         let item = declare_field(scope, count, start.at, declaration)?;
         Ok(Some((item, behind)))
     }
-}
-
-/// Declares the fields of the struct.
-pub fn read_fields<'a>(
-    alloc: Global,
-    scope: &mut Scope,
-    start: Rest<'a>,
-) -> Result<(Items<Field>, Rest<'a>), ParseFault>
-    requires { HasRoom scope.old 9 }
-    ensures read { Gives (λ r. ((r.0, scope.new, r.1.at), kinds r.1.tokens.now)) result
-        (fields_in scope.old start.entry.at (kinds start.entry.tokens.now)) }
-    ensures names { IfOk result (λ _. GrowsBy scope.old scope.new 8) }
-    ensures lists { IfOk result (λ _. KeepsLists scope.old scope.new) }
-    ensures place { IfOk result (λ r. Within start.entry r.1) }
-{
-    read_listed::<Fields>(alloc, scope, start)
 }
 
 // One shared pointer, with so many before it; the number of its name.
@@ -138,16 +118,9 @@ fn declare_shared(scope: &mut Scope, count: usize, at: u32, name: &[u8]) -> Resu
 }
 
 /// The shared pointers, by the numbers of their names.
-struct SharedPointers;
+pub struct SharedPointers;
 
 impl Listed for SharedPointers {
-    ghost use Rattle.plc_base.specs.declared.limits.What1.TheVariants.{Shared};
-    ghost use Rattle.plc_base.specs.Limits.{most};
-    ghost use Rattle.plc_syntax.specs.Trees.{Text};
-    ghost use Rattle.plc_forms.specs.Forms.{shared_of};
-    ghost use Rattle.plc_parse.specs.Meaning.{shared_means};
-    ghost use Rattle.plc_parse.specs.Reading.{judged};
-
     type Item = u16;
 
     ghost Head = { Text };
@@ -156,7 +129,7 @@ impl Listed for SharedPointers {
 
     ghost body = { judged shared_means };
 
-    ghost limit = { most Shared };
+    ghost limit = { most limits.Shared };
 
     ghost names = { 1 };
 
@@ -172,22 +145,6 @@ impl Listed for SharedPointers {
         let item = declare_shared(scope, count, start.at, name)?;
         Ok(Some((item, behind)))
     }
-}
-
-/// Declares the shared pointers, and answers the numbers of their names.
-pub fn read_shared<'a>(
-    alloc: Global,
-    scope: &mut Scope,
-    start: Rest<'a>,
-) -> Result<(Items<u16>, Rest<'a>), ParseFault>
-    requires { HasRoom scope.old 17 }
-    ensures read { Gives (λ r. ((r.0, scope.new, r.1.at), kinds r.1.tokens.now)) result
-        (shared_in scope.old start.entry.at (kinds start.entry.tokens.now)) }
-    ensures names { IfOk result (λ _. GrowsBy scope.old scope.new 16) }
-    ensures lists { IfOk result (λ _. KeepsLists scope.old scope.new) }
-    ensures place { IfOk result (λ r. Within start.entry r.1) }
-{
-    read_listed::<SharedPointers>(alloc, scope, start)
 }
 
 // One function, with so many before it beside `retire`.
@@ -216,16 +173,9 @@ fn declare_function(
 }
 
 /// The functions beside `retire`.
-struct Functions;
+pub struct Functions;
 
 impl Listed for Functions {
-    ghost use Rattle.plc_base.specs.declared.limits.What1.TheVariants.{Calls};
-    ghost use Rattle.plc_base.specs.Limits.{most};
-    ghost use Rattle.plc_syntax.specs.Trees.{FunctionTree};
-    ghost use Rattle.plc_forms.specs.Forms.{function_of};
-    ghost use Rattle.plc_parse.specs.Meaning.{function_means};
-    ghost use Rattle.plc_parse.specs.Reading.{judged};
-
     type Item = Func;
 
     ghost Head = { FunctionTree };
@@ -234,7 +184,7 @@ impl Listed for Functions {
 
     ghost body = { judged function_means };
 
-    ghost limit = { most Calls };
+    ghost limit = { most limits.Calls };
 
     ghost names = { 1 };
 
@@ -250,20 +200,4 @@ impl Listed for Functions {
         let item = declare_function(scope, count, start.at, function)?;
         Ok(Some((item, behind)))
     }
-}
-
-/// Declares the functions beside `retire`.
-pub fn read_functions<'a>(
-    alloc: Global,
-    scope: &mut Scope,
-    start: Rest<'a>,
-) -> Result<(Items<Func>, Rest<'a>), ParseFault>
-    requires { HasRoom scope.old 17 }
-    ensures read { Gives (λ r. ((r.0, scope.new, r.1.at), kinds r.1.tokens.now)) result
-        (functions_in scope.old start.entry.at (kinds start.entry.tokens.now)) }
-    ensures names { IfOk result (λ _. GrowsBy scope.old scope.new 16) }
-    ensures lists { IfOk result (λ _. KeepsLists scope.old scope.new) }
-    ensures place { IfOk result (λ r. Within start.entry r.1) }
-{
-    read_listed::<Functions>(alloc, scope, start)
 }

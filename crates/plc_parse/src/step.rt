@@ -8,6 +8,11 @@ ghost use Rattle.plc_scope.specs.declared.fault.ParseFault.{ParseFault};
 ghost use Rattle.plc_scope.specs.Answers.{Gives, Within};
 ghost use Rattle.plc_scope.specs.Scope.{most_locals};
 ghost use Rattle.plc_scope.specs.Limits.{stands_at};
+ghost use Rattle.plc_syntax.specs.Trees.{PrimitiveTree, InitialTree};
+ghost use Rattle.plc_forms.specs.Forms.{primitive_line_of, initial_line_of};
+ghost use Rattle.plc_forms.specs.Sizes.{primitive_size, initial_size};
+ghost use Rattle.plc_forms.proofs.Shrinks.{primitive_line_shrinks, initial_line_shrinks};
+ghost use Rattle.plc_scope.specs.Primitives.{primitive_means, initial_means};
 ghost use Rattle.plc_parse.specs.Reading.{with_form, forms_in, primitives_in, initials_in};
 
 use plc_base::{Items, What1};
@@ -121,12 +126,6 @@ trait StepForms {
 struct AtomicForms;
 
 impl StepForms for AtomicForms {
-    ghost use Rattle.plc_syntax.specs.Trees.{PrimitiveTree};
-    ghost use Rattle.plc_forms.specs.Forms.{primitive_line_of};
-    ghost use Rattle.plc_forms.specs.Sizes.{primitive_size};
-    ghost use Rattle.plc_forms.proofs.Shrinks.{primitive_line_shrinks};
-    ghost use Rattle.plc_scope.specs.Primitives.{primitive_means};
-
     ghost Tree = { PrimitiveTree };
 
     ghost item = { primitive_line_of };
@@ -150,12 +149,6 @@ impl StepForms for AtomicForms {
 struct InitialForms;
 
 impl StepForms for InitialForms {
-    ghost use Rattle.plc_syntax.specs.Trees.{InitialTree};
-    ghost use Rattle.plc_forms.specs.Forms.{initial_line_of};
-    ghost use Rattle.plc_forms.specs.Sizes.{initial_size};
-    ghost use Rattle.plc_forms.proofs.Shrinks.{initial_line_shrinks};
-    ghost use Rattle.plc_scope.specs.Primitives.{initial_means};
-
     ghost Tree = { InitialTree };
 
     ghost item = { initial_line_of };
