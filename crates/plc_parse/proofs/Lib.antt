@@ -15,6 +15,7 @@ pub mod SortedBlocks
 pub mod Outlined
 pub mod Whole
 pub mod Growth
+pub mod Turning
 pub mod Stops
 pub mod FormLoop
 pub mod BlockLoop

@@ -5,3 +5,4 @@ pub mod Fit
 -- words of private functions alone
 pub mod Reading
 pub mod Growth
+pub mod Turns

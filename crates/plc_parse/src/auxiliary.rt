@@ -8,6 +8,7 @@ ghost use Rattle.plc_parse.specs.Meaning.{value_means};
 ghost use Rattle.plc_parse.specs.Reading.{values_in, of_threads_in, all_values_in, of_values_in, ghost_in, ghosts_in};
 
 use crate::declaration::declare;
+use crate::lists::{Listed, read_listed};
 use plc_base::{Items, What1};
 use plc_forms::{Rest, comma_name_at, first_value_at, ghost_at, thread_at, values_end_at};
 use plc_lang::Ghost;
@@ -172,6 +173,42 @@ fn read_ghost<'a>(
     }
 }
 
+/// The auxiliary fields.
+struct AuxiliaryFields;
+
+impl Listed for AuxiliaryFields {
+    ghost use Rattle.plc_base.specs.declared.limits.What1.TheVariants.{Ghosts};
+    ghost use Rattle.plc_base.specs.Limits.{most};
+    ghost use Rattle.plc_syntax.specs.Trees.{Text};
+    ghost use Rattle.plc_forms.specs.Forms.{ghost_of};
+    ghost use Rattle.plc_parse.specs.Reading.{ghost_in};
+
+    type Item = Ghost;
+
+    ghost Head = { Text };
+
+    ghost head = { ghost_of };
+
+    ghost body = { ghost_in };
+
+    ghost limit = { most Ghosts };
+
+    ghost names = { 18 };
+
+    fn next<'a>(
+        alloc: Global,
+        scope: &mut Scope,
+        count: usize,
+        start: Rest<'a>,
+    ) -> Result<Option<(Ghost, Rest<'a>)>, ParseFault> {
+        let Some((name, behind)) = ghost_at(start) else {
+            return Ok(None);
+        };
+        let (item, end) = read_ghost(alloc, scope, count, start.at, name, behind)?;
+        Ok(Some((item, end)))
+    }
+}
+
 /// Declares the auxiliary fields and their values.
 pub fn read_ghosts<'a>(
     alloc: Global,
@@ -181,16 +218,9 @@ pub fn read_ghosts<'a>(
     requires { HasRoom scope.old 90 }
     ensures read { Gives (λ r. ((r.0, scope.new, r.1.at), kinds r.1.tokens.now)) result
         (ghosts_in scope.old start.entry.at (kinds start.entry.tokens.now)) }
-    ensures names { IfOk result (λ _. GrowsBy scope.old scope.new 68) }
+    ensures names { IfOk result (λ _. GrowsBy scope.old scope.new 72) }
     ensures lists { IfOk result (λ _. KeepsLists scope.old scope.new) }
     ensures place { IfOk result (λ r. Within start.entry r.1) }
 {
-    let mut ghosts = Items::new(alloc);
-    let mut rest = start;
-    while let Some((name, behind)) = ghost_at(rest) {
-        let (field, end) = read_ghost(alloc, scope, ghosts.len(), rest.at, name, behind)?;
-        ghosts.push(field)?;
-        rest = end;
-    }
-    Ok((ghosts, rest))
+    read_listed::<AuxiliaryFields>(alloc, scope, start)
 }

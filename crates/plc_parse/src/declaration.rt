@@ -1,18 +1,21 @@
-// The declarations of a file but those of auxiliary fields and operations. Each loop reads one form
-// after the other while there is one, and judges it at once; the limit's place is the first token of
-// the form past it.
+// The declarations of a file but those of auxiliary fields and operations. Each is judged as soon as it
+// is read.
 ghost use Rattle.std.specs.Prelude.{◌≡◌, ◌+◌, ◌<◌, ◌≤◌, ◌^◌, IfOk, length};
 ghost use Rattle.plc_base.specs.Limits.{most};
+ghost use Rattle.plc_base.specs.declared.limits.What1.TheVariants as limits;
+ghost use Rattle.plc_syntax.specs.Trees.{Text, FieldTree, FunctionTree};
+ghost use Rattle.plc_forms.specs.Forms.{field_of, shared_of, function_of};
 ghost use Rattle.plc_syntax.specs.Syntax.{kinds};
 ghost use Rattle.plc_forms.specs.Sizes.{function_size};
 ghost use Rattle.plc_forms.specs.Views.{field_tree, function_tree};
-ghost use Rattle.plc_scope.specs.Answers.{Gives, HasRoom, GrowsBy, Within};
+ghost use Rattle.plc_scope.specs.Answers.{Gives, HasRoom, GrowsBy};
 ghost use Rattle.plc_scope.specs.Scope.{declared};
 ghost use Rattle.plc_parse.specs.Growth.{KeepsLists};
 ghost use Rattle.plc_parse.specs.Meaning.{field_means, shared_means, function_means};
-ghost use Rattle.plc_parse.specs.Reading.{fields_in, shared_in, functions_in};
+ghost use Rattle.plc_parse.specs.Reading.{judged};
 
-use plc_base::{FieldId, FuncId, Items, What1};
+use crate::lists::Listed;
+use plc_base::{FieldId, FuncId, What1};
 use plc_forms::{Declaration, Function, Rest, declaration_at, function_at, shared_at};
 use plc_lang::{Field, Func};
 use plc_scope::{Binding, ParseFault, Scope};
@@ -68,27 +71,34 @@ fn declare_field(
     }
 }
 
-/// Declares the fields of the struct.
-pub fn read_fields<'a>(
-    alloc: Global,
-    scope: &mut Scope,
-    start: Rest<'a>,
-) -> Result<(Items<Field>, Rest<'a>), ParseFault>
-    requires { HasRoom scope.old 9 }
-    ensures read { Gives (λ r. ((r.0, scope.new, r.1.at), kinds r.1.tokens.now)) result
-        (fields_in scope.old start.entry.at (kinds start.entry.tokens.now)) }
-    ensures names { IfOk result (λ _. GrowsBy scope.old scope.new 8) }
-    ensures lists { IfOk result (λ _. KeepsLists scope.old scope.new) }
-    ensures place { IfOk result (λ r. Within start.entry r.1) }
-{
-    let mut fields = Items::new(alloc);
-    let mut rest = start;
-    while let Some((declaration, behind)) = declaration_at(rest) {
-        let field = declare_field(scope, fields.len(), rest.at, declaration)?;
-        fields.push(field)?;
-        rest = behind;
+/// The fields of the struct.
+pub struct Fields;
+
+impl Listed for Fields {
+    type Item = Field;
+
+    ghost Head = { FieldTree };
+
+    ghost head = { field_of };
+
+    ghost body = { judged field_means };
+
+    ghost limit = { most limits.Fields };
+
+    ghost names = { 1 };
+
+    fn next<'a>(
+        _alloc: Global,
+        scope: &mut Scope,
+        count: usize,
+        start: Rest<'a>,
+    ) -> Result<Option<(Field, Rest<'a>)>, ParseFault> {
+        let Some((declaration, behind)) = declaration_at(start) else {
+            return Ok(None);
+        };
+        let item = declare_field(scope, count, start.at, declaration)?;
+        Ok(Some((item, behind)))
     }
-    Ok((fields, rest))
 }
 
 // One shared pointer, with so many before it; the number of its name.
@@ -107,27 +117,34 @@ fn declare_shared(scope: &mut Scope, count: usize, at: u32, name: &[u8]) -> Resu
     declare(scope, name, at + 1, Binding::Shared(count as u16))
 }
 
-/// Declares the shared pointers, and answers the numbers of their names.
-pub fn read_shared<'a>(
-    alloc: Global,
-    scope: &mut Scope,
-    start: Rest<'a>,
-) -> Result<(Items<u16>, Rest<'a>), ParseFault>
-    requires { HasRoom scope.old 17 }
-    ensures read { Gives (λ r. ((r.0, scope.new, r.1.at), kinds r.1.tokens.now)) result
-        (shared_in scope.old start.entry.at (kinds start.entry.tokens.now)) }
-    ensures names { IfOk result (λ _. GrowsBy scope.old scope.new 16) }
-    ensures lists { IfOk result (λ _. KeepsLists scope.old scope.new) }
-    ensures place { IfOk result (λ r. Within start.entry r.1) }
-{
-    let mut pointers = Items::new(alloc);
-    let mut rest = start;
-    while let Some((name, behind)) = shared_at(rest) {
-        let number = declare_shared(scope, pointers.len(), rest.at, name)?;
-        pointers.push(number)?;
-        rest = behind;
+/// The shared pointers, by the numbers of their names.
+pub struct SharedPointers;
+
+impl Listed for SharedPointers {
+    type Item = u16;
+
+    ghost Head = { Text };
+
+    ghost head = { shared_of };
+
+    ghost body = { judged shared_means };
+
+    ghost limit = { most limits.Shared };
+
+    ghost names = { 1 };
+
+    fn next<'a>(
+        _alloc: Global,
+        scope: &mut Scope,
+        count: usize,
+        start: Rest<'a>,
+    ) -> Result<Option<(u16, Rest<'a>)>, ParseFault> {
+        let Some((name, behind)) = shared_at(start) else {
+            return Ok(None);
+        };
+        let item = declare_shared(scope, count, start.at, name)?;
+        Ok(Some((item, behind)))
     }
-    Ok((pointers, rest))
 }
 
 // One function, with so many before it beside `retire`.
@@ -155,25 +172,32 @@ fn declare_function(
     Ok(Func { name, pointer })
 }
 
-/// Declares the functions beside `retire`.
-pub fn read_functions<'a>(
-    alloc: Global,
-    scope: &mut Scope,
-    start: Rest<'a>,
-) -> Result<(Items<Func>, Rest<'a>), ParseFault>
-    requires { HasRoom scope.old 17 }
-    ensures read { Gives (λ r. ((r.0, scope.new, r.1.at), kinds r.1.tokens.now)) result
-        (functions_in scope.old start.entry.at (kinds start.entry.tokens.now)) }
-    ensures names { IfOk result (λ _. GrowsBy scope.old scope.new 16) }
-    ensures lists { IfOk result (λ _. KeepsLists scope.old scope.new) }
-    ensures place { IfOk result (λ r. Within start.entry r.1) }
-{
-    let mut functions = Items::new(alloc);
-    let mut rest = start;
-    while let Some((function, behind)) = function_at(rest) {
-        let func = declare_function(scope, functions.len(), rest.at, function)?;
-        functions.push(func)?;
-        rest = behind;
+/// The functions beside `retire`.
+pub struct Functions;
+
+impl Listed for Functions {
+    type Item = Func;
+
+    ghost Head = { FunctionTree };
+
+    ghost head = { function_of };
+
+    ghost body = { judged function_means };
+
+    ghost limit = { most limits.Calls };
+
+    ghost names = { 1 };
+
+    fn next<'a>(
+        _alloc: Global,
+        scope: &mut Scope,
+        count: usize,
+        start: Rest<'a>,
+    ) -> Result<Option<(Func, Rest<'a>)>, ParseFault> {
+        let Some((function, behind)) = function_at(start) else {
+            return Ok(None);
+        };
+        let item = declare_function(scope, count, start.at, function)?;
+        Ok(Some((item, behind)))
     }
-    Ok((functions, rest))
 }

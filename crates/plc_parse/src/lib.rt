@@ -7,6 +7,7 @@ mod auxiliary;
 mod block;
 mod declaration;
 mod lines;
+mod lists;
 mod local;
 mod operation;
 mod reading;

@@ -19,7 +19,8 @@ ghost use Rattle.plc_parse.specs.Reading.{struct_in, declarations_in, watch_in, 
 ghost use Rattle.plc_parse.specs.Units.{lines_of, IsUnitOf, IsFaultOf, IsShallowFile, UnitsAreUnique, FaultsAreOne};
 
 use crate::auxiliary::read_ghosts;
-use crate::declaration::{declare, read_fields, read_functions, read_shared};
+use crate::declaration::{Fields, Functions, SharedPointers, declare};
+use crate::lists::read_listed;
 use crate::operation::read_ops;
 use crate::step::read_initials;
 use crate::unit::Unit;
@@ -80,12 +81,12 @@ fn read_declarations<'a>(
     ensures lists { IfOk result (λ _. KeepsLists scope.old scope.new) }
     ensures place { IfOk result (λ r. Within start.entry r.1) }
 {
-    let (fields, rest) = read_fields(alloc, scope, start)?;
+    let (fields, rest) = read_listed::<Fields>(alloc, scope, start)?;
     let Some(rest) = closing_at(rest) else {
         return Err(ParseFault::Syntax { at: rest.at });
     };
-    let (shared, rest) = read_shared(alloc, scope, rest)?;
-    let (functions, rest) = read_functions(alloc, scope, rest)?;
+    let (shared, rest) = read_listed::<SharedPointers>(alloc, scope, rest)?;
+    let (functions, rest) = read_listed::<Functions>(alloc, scope, rest)?;
     let declared = Declared {
         fields,
         shared,

@@ -8,6 +8,11 @@ ghost use Rattle.plc_scope.specs.declared.fault.ParseFault.{ParseFault};
 ghost use Rattle.plc_scope.specs.Answers.{Gives, Within};
 ghost use Rattle.plc_scope.specs.Scope.{most_locals};
 ghost use Rattle.plc_scope.specs.Limits.{stands_at};
+ghost use Rattle.plc_syntax.specs.Trees.{PrimitiveTree, InitialTree};
+ghost use Rattle.plc_forms.specs.Forms.{primitive_line_of, initial_line_of};
+ghost use Rattle.plc_forms.specs.Sizes.{primitive_size, initial_size};
+ghost use Rattle.plc_forms.proofs.Shrinks.{primitive_line_shrinks, initial_line_shrinks};
+ghost use Rattle.plc_scope.specs.Primitives.{primitive_means, initial_means};
 ghost use Rattle.plc_parse.specs.Reading.{with_form, forms_in, primitives_in, initials_in};
 
 use plc_base::{Items, What1};
@@ -97,8 +102,11 @@ trait StepForms {
     ghost use Rattle.plc_parse.specs.Reading.{FormRead};
 
     ghost Tree: { Type 0 };
+
     ghost item: { List TokenKind → Option (Tree × List TokenKind) };
+
     ghost means: { Scope → ℕ → Tree → Result (Option Primitive) ParseFault };
+
     ghost size: { Tree → ℕ };
 
     /// What the form at the front means, and what is behind it; none where no form stands there.
@@ -118,15 +126,12 @@ trait StepForms {
 struct AtomicForms;
 
 impl StepForms for AtomicForms {
-    ghost use Rattle.plc_syntax.specs.Trees.{PrimitiveTree};
-    ghost use Rattle.plc_forms.specs.Forms.{primitive_line_of};
-    ghost use Rattle.plc_forms.specs.Sizes.{primitive_size};
-    ghost use Rattle.plc_forms.proofs.Shrinks.{primitive_line_shrinks};
-    ghost use Rattle.plc_scope.specs.Primitives.{primitive_means};
-
     ghost Tree = { PrimitiveTree };
+
     ghost item = { primitive_line_of };
+
     ghost means = { primitive_means };
+
     ghost size = { primitive_size };
 
     fn next<'a>(
@@ -144,15 +149,12 @@ impl StepForms for AtomicForms {
 struct InitialForms;
 
 impl StepForms for InitialForms {
-    ghost use Rattle.plc_syntax.specs.Trees.{InitialTree};
-    ghost use Rattle.plc_forms.specs.Forms.{initial_line_of};
-    ghost use Rattle.plc_forms.specs.Sizes.{initial_size};
-    ghost use Rattle.plc_forms.proofs.Shrinks.{initial_line_shrinks};
-    ghost use Rattle.plc_scope.specs.Primitives.{initial_means};
-
     ghost Tree = { InitialTree };
+
     ghost item = { initial_line_of };
+
     ghost means = { initial_means };
+
     ghost size = { initial_size };
 
     fn next<'a>(

@@ -1,5 +1,7 @@
+-- what contracts of public calls say
 pub mod Outlines
 pub mod Canonical
 pub mod Laws
-pub mod Pieces
 pub mod Text
+-- words of private functions alone
+pub mod Pieces

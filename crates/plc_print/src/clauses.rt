@@ -54,7 +54,9 @@ fn field_of<'x>(
     base: Base,
     field: &'x [u8],
 ) -> Result<(), AllocError>
-    ensures { OnOk result (Prints out.old out.new (term_then (field_term reach.entry.file.now reach.entry.locals.now reach.entry.bound.now.names base field.now) [])) }
+    ensures { OnOk result
+        (Prints out.old out.new (term_then
+        (field_term reach.entry.file.now reach.entry.locals.now reach.entry.bound.now.names base field.now) [])) }
 {
     let (node, field) = (Piece::Name(reach.base(base)), Piece::Name(field));
     out.tokens(&[node, DOT, field])
@@ -62,7 +64,9 @@ fn field_of<'x>(
 
 // One side of an equation.
 fn term(out: &mut Printer, reach: InClause, term: Term) -> Result<(), AllocError>
-    ensures { OnOk result (Prints out.old out.new (term_then (term_tree reach.entry.file.now reach.entry.locals.now reach.entry.bound.now.names term) [])) }
+    ensures { OnOk result
+        (Prints out.old out.new (term_then
+        (term_tree reach.entry.file.now reach.entry.locals.now reach.entry.bound.now.names term) [])) }
 {
     match term {
         Term::Shared(i) => out.token(Piece::Name(reach.base(Base::Shared(i)))),
@@ -91,7 +95,10 @@ fn equality(equal: bool) -> Symbol
 
 // Two terms that are equal, or are not.
 fn same(out: &mut Printer, reach: InClause, a: Term, b: Term, equal: bool) -> Result<(), AllocError>
-    ensures { OnOk result (Prints out.old out.new (literal_then (literal_tree reach.entry.file.now reach.entry.locals.now reach.entry.bound.now.names (literals.Same a b equal)) [])) }
+    ensures { OnOk result
+        (Prints out.old out.new (literal_then
+        (literal_tree reach.entry.file.now reach.entry.locals.now reach.entry.bound.now.names
+        (literals.Same a b equal)) [])) }
 {
     term(out, reach, a)?;
     out.token(Piece::Sign(equality(equal)))?;
@@ -100,7 +107,10 @@ fn same(out: &mut Printer, reach: InClause, a: Term, b: Term, equal: bool) -> Re
 
 // A node that is retired, or is not.
 fn retired(out: &mut Printer, reach: InClause, x: Base, yes: bool) -> Result<(), AllocError>
-    ensures { OnOk result (Prints out.old out.new (literal_then (literal_tree reach.entry.file.now reach.entry.locals.now reach.entry.bound.now.names (literals.Retired x yes)) [])) }
+    ensures { OnOk result
+        (Prints out.old out.new (literal_then
+        (literal_tree reach.entry.file.now reach.entry.locals.now reach.entry.bound.now.names
+        (literals.Retired x yes)) [])) }
 {
     let (not, word) = (Piece::Word(Keyword::Not), Piece::Word(Keyword::Retired));
     let name = Piece::Name(reach.base(x));
@@ -113,7 +123,9 @@ fn retired(out: &mut Printer, reach: InClause, x: Base, yes: bool) -> Result<(),
 
 // A literal.
 fn literal(out: &mut Printer, reach: InClause, literal: Literal) -> Result<(), AllocError>
-    ensures { OnOk result (Prints out.old out.new (literal_then (literal_tree reach.entry.file.now reach.entry.locals.now reach.entry.bound.now.names literal) [])) }
+    ensures { OnOk result
+        (Prints out.old out.new (literal_then
+        (literal_tree reach.entry.file.now reach.entry.locals.now reach.entry.bound.now.names literal) [])) }
 {
     match literal {
         Literal::Same { a, b, equal } => same(out, reach, a, b, equal),
@@ -123,7 +135,9 @@ fn literal(out: &mut Printer, reach: InClause, literal: Literal) -> Result<(), A
 
 // A literal behind the first.
 fn or_literal(out: &mut Printer, reach: InClause, further: Literal) -> Result<(), AllocError>
-    ensures { OnOk result (Prints out.old out.new (or_literal_then (literal_tree reach.entry.file.now reach.entry.locals.now reach.entry.bound.now.names further) [])) }
+    ensures { OnOk result
+        (Prints out.old out.new (or_literal_then
+        (literal_tree reach.entry.file.now reach.entry.locals.now reach.entry.bound.now.names further) [])) }
 {
     out.token(Piece::Word(Keyword::Or))?;
     literal(out, reach, further)
@@ -131,7 +145,9 @@ fn or_literal(out: &mut Printer, reach: InClause, further: Literal) -> Result<()
 
 // The literals behind the first.
 fn or_literals(out: &mut Printer, reach: InClause, literals: &[Literal]) -> Result<(), AllocError>
-    ensures { OnOk result (Prints out.old out.new (each_then or_literal_then (map (literal_tree reach.entry.file.now reach.entry.locals.now reach.entry.bound.now.names) literals.now) [])) }
+    ensures { OnOk result
+        (Prints out.old out.new (each_then or_literal_then (map
+        (literal_tree reach.entry.file.now reach.entry.locals.now reach.entry.bound.now.names) literals.now) [])) }
 {
     for further in literals {
         or_literal(out, reach, *further)?;
@@ -141,7 +157,9 @@ fn or_literals(out: &mut Printer, reach: InClause, literals: &[Literal]) -> Resu
 
 // The literals of a clause.
 fn claims(out: &mut Printer, reach: InClause, literals: &[Literal]) -> Result<(), AllocError>
-    ensures { OnOk result (Prints out.old out.new (clause_then (claims_tree NoBound (map (literal_tree reach.entry.file.now reach.entry.locals.now reach.entry.bound.now.names) literals.now)) [])) }
+    ensures { OnOk result
+        (Prints out.old out.new (clause_then (claims_tree NoBound (map
+        (literal_tree reach.entry.file.now reach.entry.locals.now reach.entry.bound.now.names) literals.now)) [])) }
 {
     match literals {
         [] => out.tokens(&[NULL, Piece::Sign(Symbol::Unequal), NULL]),
@@ -167,7 +185,8 @@ fn quantified(out: &mut Printer, bound: &Names) -> Result<(), AllocError>
 
 // A clause, without its semicolon.
 fn clause(out: &mut Printer, reach: Reach, clause: &Clause) -> Result<(), AllocError>
-    ensures { OnOk result (Prints out.old out.new (clause_then (clause_tree reach.entry.file.now reach.entry.locals.now clause.now) [])) }
+    ensures { OnOk result
+        (Prints out.old out.new (clause_then (clause_tree reach.entry.file.now reach.entry.locals.now clause.now) [])) }
 {
     let inside = InClause {
         file: reach.file,
@@ -180,7 +199,9 @@ fn clause(out: &mut Printer, reach: Reach, clause: &Clause) -> Result<(), AllocE
 
 /// A clause with its semicolon.
 pub fn clause_line(out: &mut Printer, reach: Reach, claim: &Clause) -> Result<(), AllocError>
-    ensures { OnOk result (Prints out.old out.new (clause_then (clause_tree reach.entry.file.now reach.entry.locals.now claim.now) (SymbolToken symbols.Semicolon ∷ []))) }
+    ensures { OnOk result
+        (Prints out.old out.new (clause_then (clause_tree reach.entry.file.now reach.entry.locals.now claim.now)
+        (SymbolToken symbols.Semicolon ∷ []))) }
 {
     clause(out, reach, claim)?;
     out.token(SEMICOLON)

@@ -25,7 +25,9 @@ fn declaration(out: &mut Printer, name: &[u8], pointer: bool) -> Result<(), Allo
 
 // The fields of the struct.
 fn fields(out: &mut Printer, file: &File, fields: &[Field]) -> Result<(), AllocError>
-    ensures { OnOk result (Prints out.old out.new (each_then field_then (map (λ f. declaration_tree (name_at file.now f.name) f.pointer) fields.now) [])) }
+    ensures { OnOk result
+        (Prints out.old out.new (each_then field_then (map (λ f. declaration_tree
+        (name_at file.now f.name) f.pointer) fields.now) [])) }
 {
     for field in fields {
         declaration(out, name_at(file, field.name), field.pointer)?;
@@ -35,7 +37,9 @@ fn fields(out: &mut Printer, file: &File, fields: &[Field]) -> Result<(), AllocE
 
 /// The struct.
 pub fn structure(out: &mut Printer, file: &File) -> Result<(), AllocError>
-    ensures { OnOk result (Prints out.old out.new (struct_then (name_at file.now 1) (map (λ f. declaration_tree (name_at file.now f.name) f.pointer) file.now.fields) [])) }
+    ensures { OnOk result
+        (Prints out.old out.new (struct_then (name_at file.now 1) (map (λ f. declaration_tree
+        (name_at file.now f.name) f.pointer) file.now.fields) [])) }
 {
     out.tokens(&[
         Piece::Word(Keyword::Struct),
@@ -78,7 +82,9 @@ fn function(out: &mut Printer, name: &[u8], pointer: bool) -> Result<(), AllocEr
 
 // Reclaimer functions.
 fn functions(out: &mut Printer, file: &File, funcs: &[Func]) -> Result<(), AllocError>
-    ensures { OnOk result (Prints out.old out.new (each_then function_then (map (λ f. Declares (name_at file.now f.name) f.pointer) funcs.now) [])) }
+    ensures { OnOk result
+        (Prints out.old out.new (each_then function_then (map (λ f. Declares
+        (name_at file.now f.name) f.pointer) funcs.now) [])) }
 {
     for func in funcs {
         function(out, name_at(file, func.name), func.pointer)?;
@@ -88,7 +94,9 @@ fn functions(out: &mut Printer, file: &File, funcs: &[Func]) -> Result<(), Alloc
 
 /// The reclaimer functions but `retire`, which is declared from the start.
 pub fn declared_functions(out: &mut Printer, file: &File) -> Result<(), AllocError>
-    ensures { OnOk result (Prints out.old out.new (each_then function_then (map (λ f. Declares (name_at file.now f.name) f.pointer) (drop 1 file.now.funcs)) [])) }
+    ensures { OnOk result
+        (Prints out.old out.new (each_then function_then (map (λ f. Declares (name_at file.now f.name) f.pointer)
+        (drop 1 file.now.funcs)) [])) }
 {
     match file.funcs.as_slice() {
         [] => Ok(()),
@@ -145,7 +153,9 @@ fn kind(out: &mut Printer, file: &File, values: &[u16]) -> Result<(), AllocError
 
 // An auxiliary field.
 fn auxiliary(out: &mut Printer, file: &File, field: &Ghost) -> Result<(), AllocError>
-    ensures { OnOk result (Prints out.old out.new (ghost_then (Auxiliary (name_at file.now field.now.name) (ghost_kind file.now field.now.values)) [])) }
+    ensures { OnOk result
+        (Prints out.old out.new (ghost_then (Auxiliary (name_at file.now field.now.name)
+        (ghost_kind file.now field.now.values)) [])) }
 {
     out.tokens(&[
         Piece::Word(Keyword::Ghost),
@@ -157,7 +167,9 @@ fn auxiliary(out: &mut Printer, file: &File, field: &Ghost) -> Result<(), AllocE
 
 /// The auxiliary fields.
 pub fn auxiliaries(out: &mut Printer, file: &File, fields: &[Ghost]) -> Result<(), AllocError>
-    ensures { OnOk result (Prints out.old out.new (each_then ghost_then (map (λ g. Auxiliary (name_at file.now g.name) (ghost_kind file.now g.values)) fields.now) [])) }
+    ensures { OnOk result
+        (Prints out.old out.new (each_then ghost_then (map (λ g. Auxiliary (name_at file.now g.name)
+        (ghost_kind file.now g.values)) fields.now) [])) }
 {
     for field in fields {
         auxiliary(out, file, field)?;
@@ -222,7 +234,9 @@ fn parameters(
     file: &File,
     locals: &[Local],
 ) -> Result<(), AllocError>
-    ensures { OnOk result (Prints out.old out.new (parameters_then (map (λ l. name_at file.now l.name) (filter is_parameter locals.now)) [])) }
+    ensures { OnOk result
+        (Prints out.old out.new (parameters_then (map (λ l. name_at file.now l.name)
+        (filter is_parameter locals.now)) [])) }
 {
     let numbers = parameter_numbers(alloc, locals)?;
     parted_names(out, file, &numbers)
@@ -230,7 +244,9 @@ fn parameters(
 
 // The locals of an operation that are no parameters.
 fn locals(out: &mut Printer, file: &File, locals: &[Local]) -> Result<(), AllocError>
-    ensures { OnOk result (Prints out.old out.new (each_then field_then (map (λ l. declaration_tree (name_at file.now l.name) l.pointer) (filter is_declared locals.now)) [])) }
+    ensures { OnOk result
+        (Prints out.old out.new (each_then field_then (map (λ l. declaration_tree
+        (name_at file.now l.name) l.pointer) (filter is_declared locals.now)) [])) }
 {
     for local in locals {
         if !local.param {

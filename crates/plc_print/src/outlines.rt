@@ -15,7 +15,7 @@ use crate::clauses::clause_line;
 use crate::names::Reach;
 use crate::tokens::{BEGIN, COLON, COMMA, END, Piece, Printer, SEMICOLON};
 use plc_base::{Items, NoMemory, OpId};
-use plc_lang::{File, Local, label_name, locals_of, operation_name, labels_by_op};
+use plc_lang::{File, Local, label_name, labels_by_op, locals_of, operation_name};
 use plc_lex::Keyword;
 use plc_logic::{Clause, Item, Outline, Site, op_of_site};
 use std::alloc::{AllocError, Global};
@@ -31,7 +31,8 @@ fn invariant(out: &mut Printer, file: &File, clause: &Clause) -> Result<(), Allo
 
 // The invariants.
 fn invariants(out: &mut Printer, file: &File, clauses: &[Clause]) -> Result<(), AllocError>
-    ensures { OnOk result (Prints out.old out.new (each_then item_then (map (invariant_tree file.now) clauses.now) [])) }
+    ensures { OnOk result
+        (Prints out.old out.new (each_then item_then (map (invariant_tree file.now) clauses.now) [])) }
 {
     for clause in clauses {
         invariant(out, file, clause)?;
@@ -41,7 +42,9 @@ fn invariants(out: &mut Printer, file: &File, clauses: &[Clause]) -> Result<(), 
 
 // A clause over an operation.
 fn over(out: &mut Printer, reach: Reach, op: OpId, clause: &Clause) -> Result<(), AllocError>
-    ensures { OnOk result (Prints out.old out.new (item_then (site_tree reach.entry.file.now (sites.Over op) (clause_tree reach.entry.file.now reach.entry.locals.now clause.now)) [])) }
+    ensures { OnOk result
+        (Prints out.old out.new (item_then (site_tree reach.entry.file.now (sites.Over op)
+        (clause_tree reach.entry.file.now reach.entry.locals.now clause.now)) [])) }
 {
     let name = Piece::Name(operation_name(reach.file, op));
     out.tokens(&[Piece::Word(Keyword::Over), name, COLON])?;
@@ -50,7 +53,8 @@ fn over(out: &mut Printer, reach: Reach, op: OpId, clause: &Clause) -> Result<()
 
 // Labels behind the first.
 fn comma_labels(out: &mut Printer, file: &File, labels: &[u16]) -> Result<(), AllocError>
-    ensures { OnOk result (Prints out.old out.new (each_then comma_name_then (map (label_name file.now) labels.now) [])) }
+    ensures { OnOk result
+        (Prints out.old out.new (each_then comma_name_then (map (label_name file.now) labels.now) [])) }
 {
     for label in labels {
         out.tokens(&[COMMA, Piece::Name(label_name(file, *label))])?;
@@ -66,7 +70,9 @@ fn at_names(
     others: &[u16],
     clause: &Clause,
 ) -> Result<(), AllocError>
-    ensures { OnOk result (Prints out.old out.new (item_then (AtItem first.now (map (label_name reach.entry.file.now) others.now) (clause_tree reach.entry.file.now reach.entry.locals.now clause.now)) [])) }
+    ensures { OnOk result
+        (Prints out.old out.new (item_then (AtItem first.now (map (label_name reach.entry.file.now) others.now)
+        (clause_tree reach.entry.file.now reach.entry.locals.now clause.now)) [])) }
 {
     out.tokens(&[Piece::Word(Keyword::At), Piece::Name(first)])?;
     comma_labels(out, reach.file, others)?;
@@ -76,7 +82,9 @@ fn at_names(
 
 // A clause at labels.
 fn at(out: &mut Printer, reach: Reach, labels: &[u16], clause: &Clause) -> Result<(), AllocError>
-    ensures { OnOk result (Prints out.old out.new (item_then (site_tree reach.entry.file.now (sites.At labels.now) (clause_tree reach.entry.file.now reach.entry.locals.now clause.now)) [])) }
+    ensures { OnOk result
+        (Prints out.old out.new (item_then (site_tree reach.entry.file.now (sites.At labels.now)
+        (clause_tree reach.entry.file.now reach.entry.locals.now clause.now)) [])) }
 {
     match labels {
         [] => at_names(out, reach, &[], &[], clause),
@@ -99,7 +107,9 @@ fn locals_in_reach<'a>(file: &'a File, by_op: &[Items<u16>], site: &Site) -> &'a
 
 // A clause at points.
 fn item(out: &mut Printer, file: &File, by_op: &[Items<u16>], item: &Item) -> Result<(), AllocError>
-    ensures { OnOk result (Prints out.old out.new (item_then (site_tree file.now item.now.site (clause_tree file.now (locals_in_reach file.now (op_of_site by_op.now item.now.site)) item.now.clause)) [])) }
+    ensures { OnOk result
+        (Prints out.old out.new (item_then (site_tree file.now item.now.site (clause_tree file.now
+        (locals_in_reach file.now (op_of_site by_op.now item.now.site)) item.now.clause)) [])) }
 {
     let locals = locals_in_reach(file, by_op, &item.site);
     let reach = Reach { file, locals };
@@ -116,7 +126,9 @@ fn items(
     by_op: &[Items<u16>],
     items: &[Item],
 ) -> Result<(), AllocError>
-    ensures { OnOk result (Prints out.old out.new (each_then item_then (map (λ (i : OutlineItem). site_tree file.now i.site (clause_tree file.now (locals_in_reach file.now (op_of_site by_op.now i.site)) i.clause)) items.now) [])) }
+    ensures { OnOk result
+        (Prints out.old out.new (each_then item_then (map (λ (i : OutlineItem). site_tree file.now i.site
+        (clause_tree file.now (locals_in_reach file.now (op_of_site by_op.now i.site)) i.clause)) items.now) [])) }
 {
     for at_points in items {
         item(out, file, by_op, at_points)?;
@@ -152,7 +164,9 @@ fn outlined(
     file: &File,
     outline: &Outline,
 ) -> Result<(), AllocError>
-    ensures { OnOk result (Prints out.old out.new (outline_then (Outlined (depth_tree outline.now.depth) (item_trees file.now outline.now)) [])) }
+    ensures { OnOk result
+        (Prints out.old out.new (outline_then (Outlined (depth_tree outline.now.depth)
+        (item_trees file.now outline.now)) [])) }
 {
     let by_op = labels(alloc, file)?;
     let clauses = outline.invariants.as_slice();

@@ -28,7 +28,8 @@ fn number<'a>(reach: Reach<'a>, e: Num) -> Piece<'a>
 
 // A token that is put into a name.
 fn set_name<'x>(out: &mut Printer, name: &'x [u8], value: Piece<'x>) -> Result<(), AllocError>
-    ensures { OnOk result (Prints out.old out.new (NameToken name.now ∷ SymbolToken symbols.Assign ∷ kind_of value.entry ∷ [])) }
+    ensures { OnOk result
+        (Prints out.old out.new (NameToken name.now ∷ SymbolToken symbols.Assign ∷ kind_of value.entry ∷ [])) }
 {
     out.tokens(&[Piece::Name(name), ASSIGN, value])
 }
@@ -40,7 +41,8 @@ fn load<'x>(
     from: &'x [u8],
     field: &'x [u8],
 ) -> Result<(), AllocError>
-    ensures { OnOk result (Prints out.old out.new (set_then (SetName name.now (PlaceValue (PlaceOf from.now (Some field.now)))) [])) }
+    ensures { OnOk result
+        (Prints out.old out.new (set_then (SetName name.now (PlaceValue (PlaceOf from.now (Some field.now)))) [])) }
 {
     let (name, from, field) = (Piece::Name(name), Piece::Name(from), Piece::Name(field));
     out.tokens(&[name, ASSIGN, from, DOT, field])
@@ -53,14 +55,18 @@ fn store<'x>(
     field: &'x [u8],
     atom: Piece<'x>,
 ) -> Result<(), AllocError>
-    ensures { OnOk result (Prints out.old out.new (NameToken name.now ∷ SymbolToken symbols.Dot ∷ NameToken field.now ∷ SymbolToken symbols.Assign ∷ kind_of atom.entry ∷ [])) }
+    ensures { OnOk result
+        (Prints out.old out.new
+        (NameToken name.now ∷ SymbolToken symbols.Dot ∷ NameToken field.now ∷ SymbolToken symbols.Assign ∷
+        kind_of atom.entry ∷ [])) }
 {
     out.tokens(&[Piece::Name(name), DOT, Piece::Name(field), ASSIGN, atom])
 }
 
 // An assignment.
 fn set(out: &mut Printer, reach: Reach, prim: Prim) -> Result<(), AllocError>
-    ensures { OnOk result (Prints out.old out.new (set_then (set_tree reach.entry.file.now reach.entry.locals.now prim) [])) }
+    ensures { OnOk result
+        (Prints out.old out.new (set_then (set_tree reach.entry.file.now reach.entry.locals.now prim) [])) }
 {
     match prim {
         Prim::Null { p } => set_name(out, reach.variable(p), NULL),
@@ -83,7 +89,8 @@ fn set(out: &mut Printer, reach: Reach, prim: Prim) -> Result<(), AllocError>
 
 // What is put into an auxiliary field.
 fn ghost_value<'a>(reach: Reach<'a>, g: u16, v: GhostVal) -> Piece<'a>
-    ensures { ghost_value_then (ghost_value_tree reach.entry.file.now reach.entry.locals.now g v) [] ≡ kind_of result ∷ [] }
+    ensures { ghost_value_then (ghost_value_tree reach.entry.file.now reach.entry.locals.now g v) [] ≡ kind_of result
+        ∷ [] }
 {
     match v {
         GhostVal::Value(v) => Piece::Name(value_name(reach.file, g, v)),
@@ -94,7 +101,8 @@ fn ghost_value<'a>(reach: Reach<'a>, g: u16, v: GhostVal) -> Piece<'a>
 
 // An assignment to an auxiliary field.
 fn ghost_set(out: &mut Printer, reach: Reach, p: Var, g: u16, v: GhostVal) -> Result<(), AllocError>
-    ensures { OnOk result (Prints out.old out.new (ghost_set_then (ghost_tree reach.entry.file.now reach.entry.locals.now p g v) [])) }
+    ensures { OnOk result
+        (Prints out.old out.new (ghost_set_then (ghost_tree reach.entry.file.now reach.entry.locals.now p g v) [])) }
 {
     let node = Piece::Name(reach.variable(p));
     let auxiliary = Piece::Name(auxiliary_name(reach.file, g));
@@ -116,7 +124,8 @@ fn refresh_load<'x>(
     from: &'x [u8],
     field: &'x [u8],
 ) -> Result<(), AllocError>
-    ensures { OnOk result (Prints out.old out.new (refresh_then (RefreshName name.now (PlaceOf from.now (Some field.now))) [])) }
+    ensures { OnOk result
+        (Prints out.old out.new (refresh_then (RefreshName name.now (PlaceOf from.now (Some field.now))) [])) }
 {
     let (name, from, field) = (Piece::Name(name), Piece::Name(from), Piece::Name(field));
     out.tokens(&[name, REFRESH, from, DOT, field])
@@ -160,7 +169,8 @@ fn compare<'x>(
 
 // A test.
 fn test(out: &mut Printer, reach: Reach, prim: Prim) -> Result<(), AllocError>
-    ensures { OnOk result (Prints out.old out.new (test_then (test_tree reach.entry.file.now reach.entry.locals.now prim) [])) }
+    ensures { OnOk result
+        (Prints out.old out.new (test_then (test_tree reach.entry.file.now reach.entry.locals.now prim) [])) }
 {
     match prim {
         Prim::Eq { p, q } => {
@@ -182,7 +192,9 @@ fn test(out: &mut Printer, reach: Reach, prim: Prim) -> Result<(), AllocError>
 
 // An assumption.
 fn assume(out: &mut Printer, reach: Reach, prim: Prim) -> Result<(), AllocError>
-    ensures { OnOk result (Prints out.old out.new (WordToken words.Assume ∷ test_then (test_tree reach.entry.file.now reach.entry.locals.now prim) [])) }
+    ensures { OnOk result
+        (Prints out.old out.new (WordToken words.Assume ∷ test_then
+        (test_tree reach.entry.file.now reach.entry.locals.now prim) [])) }
 {
     out.token(Piece::Word(Keyword::Assume))?;
     test(out, reach, prim)
@@ -190,7 +202,8 @@ fn assume(out: &mut Printer, reach: Reach, prim: Prim) -> Result<(), AllocError>
 
 // A primitive, without its semicolon.
 fn primitive(out: &mut Printer, reach: Reach, prim: Prim) -> Result<(), AllocError>
-    ensures { OnOk result (Prints out.old out.new (primitive_then (primitive_tree reach.entry.file.now reach.entry.locals.now prim) [])) }
+    ensures { OnOk result
+        (Prints out.old out.new (primitive_then (primitive_tree reach.entry.file.now reach.entry.locals.now prim) [])) }
 {
     match prim {
         Prim::Eq { .. }
@@ -216,7 +229,9 @@ fn primitive(out: &mut Printer, reach: Reach, prim: Prim) -> Result<(), AllocErr
 
 /// The primitives of an atomic block, each with its semicolon.
 pub fn primitive_lines(out: &mut Printer, reach: Reach, prims: &[Prim]) -> Result<(), AllocError>
-    ensures { OnOk result (Prints out.old out.new (each_then primitive_line_then (map (primitive_tree reach.entry.file.now reach.entry.locals.now) prims.now) [])) }
+    ensures { OnOk result
+        (Prints out.old out.new (each_then primitive_line_then (map
+        (primitive_tree reach.entry.file.now reach.entry.locals.now) prims.now) [])) }
 {
     for prim in prims {
         primitive_line(out, reach, *prim)?;
@@ -226,7 +241,9 @@ pub fn primitive_lines(out: &mut Printer, reach: Reach, prims: &[Prim]) -> Resul
 
 /// A primitive with its semicolon.
 pub fn primitive_line(out: &mut Printer, reach: Reach, prim: Prim) -> Result<(), AllocError>
-    ensures { OnOk result (Prints out.old out.new (primitive_line_then (primitive_tree reach.entry.file.now reach.entry.locals.now prim) [])) }
+    ensures { OnOk result
+        (Prints out.old out.new (primitive_line_then
+        (primitive_tree reach.entry.file.now reach.entry.locals.now prim) [])) }
 {
     primitive(out, reach, prim)?;
     out.token(SEMICOLON)
@@ -263,7 +280,9 @@ fn cas(
     old: Option<Var>,
     new: Option<Var>,
 ) -> Result<(), AllocError>
-    ensures { OnOk result (Prints out.old out.new (condition_then (condition_tree reach.entry.file.now reach.entry.locals.now (conds.Cas active p old new)) [])) }
+    ensures { OnOk result
+        (Prints out.old out.new (condition_then (condition_tree reach.entry.file.now reach.entry.locals.now
+        (conds.Cas active p old new)) [])) }
 {
     let (word, claim) = (Piece::Word(Keyword::Cas), Piece::Word(Keyword::Active));
     let name = Piece::Name(reach.variable(p));
@@ -277,7 +296,9 @@ fn cas(
 
 // A refresh, as a condition.
 fn refresh(out: &mut Printer, reach: Reach, prim: Prim) -> Result<(), AllocError>
-    ensures { OnOk result (Prints out.old out.new (condition_then (refresh_condition reach.entry.file.now reach.entry.locals.now prim) [])) }
+    ensures { OnOk result
+        (Prints out.old out.new (condition_then
+        (refresh_condition reach.entry.file.now reach.entry.locals.now prim) [])) }
 {
     match prim {
         Prim::Refresh { p, q } => refresh_name(out, reach.pointer(p), reach.variable(q)),
@@ -290,7 +311,8 @@ fn refresh(out: &mut Printer, reach: Reach, prim: Prim) -> Result<(), AllocError
 
 /// The condition of an `if`.
 pub fn condition(out: &mut Printer, reach: Reach, cond: Cond) -> Result<(), AllocError>
-    ensures { OnOk result (Prints out.old out.new (condition_then (condition_tree reach.entry.file.now reach.entry.locals.now cond) [])) }
+    ensures { OnOk result
+        (Prints out.old out.new (condition_then (condition_tree reach.entry.file.now reach.entry.locals.now cond) [])) }
 {
     match cond {
         Cond::Test(prim) => test(out, reach, prim),

@@ -25,7 +25,9 @@ const CHOOSE: Piece<'static> = Piece::Word(Keyword::Choose);
 
 // What a function is called with.
 fn argument(out: &mut Printer, reach: Reach, arg: Arg, active: bool) -> Result<(), AllocError>
-    ensures { OnOk result (Prints out.old out.new (argument_then (argument_tree reach.entry.file.now reach.entry.locals.now arg active) [])) }
+    ensures { OnOk result
+        (Prints out.old out.new (argument_then
+        (argument_tree reach.entry.file.now reach.entry.locals.now arg active) [])) }
 {
     match arg {
         Arg::None => Ok(()),
@@ -39,7 +41,8 @@ fn argument(out: &mut Printer, reach: Reach, arg: Arg, active: bool) -> Result<(
 
 // The label between a call and its return.
 fn during(out: &mut Printer, reach: Reach, label: Option<u16>) -> Result<(), AllocError>
-    ensures { OnOk result (Prints out.old out.new (maybe_then during_then (option_map (label_name reach.entry.file.now) label) [])) }
+    ensures { OnOk result
+        (Prints out.old out.new (maybe_then during_then (option_map (label_name reach.entry.file.now) label) [])) }
 {
     match label {
         None => Ok(()),
@@ -59,7 +62,10 @@ fn call(
     active: bool,
     label: Option<u16>,
 ) -> Result<(), AllocError>
-    ensures { OnOk result (Prints out.old out.new (statement_then (CallStatement (function_name reach.entry.file.now func) (argument_tree reach.entry.file.now reach.entry.locals.now arg active) (option_map (label_name reach.entry.file.now) label)) [])) }
+    ensures { OnOk result
+        (Prints out.old out.new (statement_then (CallStatement (function_name reach.entry.file.now func)
+        (argument_tree reach.entry.file.now reach.entry.locals.now arg active) (option_map
+        (label_name reach.entry.file.now) label)) [])) }
 {
     out.tokens(&[Piece::Name(function_name(reach.file, func)), OPEN])?;
     argument(out, reach, arg, active)?;
@@ -70,7 +76,9 @@ fn call(
 
 // Primitives that are one step.
 fn atomic(out: &mut Printer, reach: Reach, prims: &[Prim]) -> Result<(), AllocError>
-    ensures { OnOk result (Prints out.old out.new (statement_then (AtomicStatement (map (primitive_tree reach.entry.file.now reach.entry.locals.now) prims.now)) [])) }
+    ensures { OnOk result
+        (Prints out.old out.new (statement_then (AtomicStatement (map
+        (primitive_tree reach.entry.file.now reach.entry.locals.now) prims.now)) [])) }
 {
     out.tokens(&[Piece::Word(Keyword::Atomic), BEGIN])?;
     primitive_lines(out, reach, prims)?;
@@ -93,7 +101,9 @@ fn label(out: &mut Printer, name: &[u8]) -> Result<(), AllocError>
 
 #[cycle(statement)]
 fn statement(out: &mut Printer, reach: Reach, stmt: &Stmt) -> Result<(), AllocError>
-    ensures { OnOk result (Prints out.old out.new (statement_then (statement_tree reach.entry.file.now reach.entry.locals.now (statement_of stmt.now)) [])) }
+    ensures { OnOk result
+        (Prints out.old out.new (statement_then (statement_tree reach.entry.file.now reach.entry.locals.now
+        (statement_of stmt.now)) [])) }
 {
     match stmt {
         Stmt::One(prim) => primitive_line(out, reach, *prim),
@@ -123,7 +133,9 @@ fn branch(
     yes: &Block,
     no: &Block,
 ) -> Result<(), AllocError>
-    ensures { OnOk result (Prints out.old out.new (statement_then (statement_tree reach.entry.file.now reach.entry.locals.now (If cond yes.now no.now)) [])) }
+    ensures { OnOk result
+        (Prints out.old out.new (statement_then (statement_tree reach.entry.file.now reach.entry.locals.now
+        (If cond yes.now no.now)) [])) }
 {
     out.tokens(&[Piece::Word(Keyword::If), OPEN])?;
     condition(out, reach, cond)?;
@@ -135,7 +147,9 @@ fn branch(
 // The second block of an `if`, which is left out where it is empty.
 #[cycle(statement)]
 fn otherwise(out: &mut Printer, reach: Reach, block: &Block) -> Result<(), AllocError>
-    ensures { OnOk result (Prints out.old out.new (else_then (else_block block.now (block_tree reach.entry.file.now reach.entry.locals.now block.now)) [])) }
+    ensures { OnOk result
+        (Prints out.old out.new (else_then (else_block block.now
+        (block_tree reach.entry.file.now reach.entry.locals.now block.now)) [])) }
 {
     match block.lines() {
         [] => Ok(()),
@@ -149,7 +163,9 @@ fn otherwise(out: &mut Printer, reach: Reach, block: &Block) -> Result<(), Alloc
 // A choice. One of fewer than two blocks has no text, so that empty blocks stand for them.
 #[cycle(statement)]
 fn choose(out: &mut Printer, reach: Reach, blocks: &[Block]) -> Result<(), AllocError>
-    ensures { OnOk result (Prints out.old out.new (statement_then (choice_tree (blocks_tree reach.entry.file.now reach.entry.locals.now (blocks_of blocks.now))) [])) }
+    ensures { OnOk result
+        (Prints out.old out.new (statement_then (choice_tree
+        (blocks_tree reach.entry.file.now reach.entry.locals.now (blocks_of blocks.now))) [])) }
 {
     match blocks {
         [] => out.tokens(&[CHOOSE, BEGIN, END, OR, BEGIN, END]),
@@ -170,7 +186,9 @@ fn choose(out: &mut Printer, reach: Reach, blocks: &[Block]) -> Result<(), Alloc
 // A further block of a choice.
 #[cycle(statement)]
 fn or_block(out: &mut Printer, reach: Reach, block: &Block) -> Result<(), AllocError>
-    ensures { OnOk result (Prints out.old out.new (WordToken words.Or ∷ SymbolToken symbols.OpenBrace ∷ statements_then (block_tree reach.entry.file.now reach.entry.locals.now block.now) (SymbolToken symbols.CloseBrace ∷ []))) }
+    ensures { OnOk result
+        (Prints out.old out.new (WordToken words.Or ∷ SymbolToken symbols.OpenBrace ∷ statements_then
+        (block_tree reach.entry.file.now reach.entry.locals.now block.now) (SymbolToken symbols.CloseBrace ∷ []))) }
 {
     out.token(OR)?;
     braced(out, reach, block)
@@ -179,7 +197,9 @@ fn or_block(out: &mut Printer, reach: Reach, block: &Block) -> Result<(), AllocE
 // The blocks of a choice behind its second.
 #[cycle(statement)]
 fn or_blocks(out: &mut Printer, reach: Reach, blocks: &[Block]) -> Result<(), AllocError>
-    ensures { OnOk result (Prints out.old out.new (or_then (blocks_tree reach.entry.file.now reach.entry.locals.now (blocks_of blocks.now)) [])) }
+    ensures { OnOk result
+        (Prints out.old out.new (or_then (blocks_tree reach.entry.file.now reach.entry.locals.now
+        (blocks_of blocks.now)) [])) }
 {
     for block in blocks {
         or_block(out, reach, block)?;
@@ -190,7 +210,9 @@ fn or_blocks(out: &mut Printer, reach: Reach, blocks: &[Block]) -> Result<(), Al
 // A loop.
 #[cycle(statement)]
 fn repeat(out: &mut Printer, reach: Reach, block: &Block) -> Result<(), AllocError>
-    ensures { OnOk result (Prints out.old out.new (statement_then (LoopStatement (block_tree reach.entry.file.now reach.entry.locals.now block.now)) [])) }
+    ensures { OnOk result
+        (Prints out.old out.new (statement_then (LoopStatement
+        (block_tree reach.entry.file.now reach.entry.locals.now block.now)) [])) }
 {
     out.token(Piece::Word(Keyword::Loop))?;
     braced(out, reach, block)
@@ -199,7 +221,9 @@ fn repeat(out: &mut Printer, reach: Reach, block: &Block) -> Result<(), AllocErr
 // A block in its braces.
 #[cycle(statement)]
 fn braced(out: &mut Printer, reach: Reach, block: &Block) -> Result<(), AllocError>
-    ensures { OnOk result (Prints out.old out.new (SymbolToken symbols.OpenBrace ∷ statements_then (block_tree reach.entry.file.now reach.entry.locals.now block.now) (SymbolToken symbols.CloseBrace ∷ []))) }
+    ensures { OnOk result
+        (Prints out.old out.new (SymbolToken symbols.OpenBrace ∷ statements_then
+        (block_tree reach.entry.file.now reach.entry.locals.now block.now) (SymbolToken symbols.CloseBrace ∷ []))) }
 {
     out.token(BEGIN)?;
     statements(out, reach, block)?;
@@ -209,7 +233,9 @@ fn braced(out: &mut Printer, reach: Reach, block: &Block) -> Result<(), AllocErr
 /// The statements of a block, without its braces.
 #[cycle(statement)]
 pub fn statements(out: &mut Printer, reach: Reach, block: &Block) -> Result<(), AllocError>
-    ensures { OnOk result (Prints out.old out.new (statements_then (block_tree reach.entry.file.now reach.entry.locals.now block.now) [])) }
+    ensures { OnOk result
+        (Prints out.old out.new (statements_then
+        (block_tree reach.entry.file.now reach.entry.locals.now block.now) [])) }
 {
     for line in block.lines() {
         statement(out, reach, &line.stmt)?;

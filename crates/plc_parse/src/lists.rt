@@ -1,0 +1,69 @@
+// Declarations of one kind that follow one another. The loop is one for all kinds: it reads a
+// declaration while one begins, each with the number of those before it; the limit's place is the
+// first token of the declaration past it.
+ghost use Rattle.std.specs.Prelude.{◌≡◌, ◌+◌, ◌*◌, IfOk};
+ghost use Rattle.plc_syntax.specs.Syntax.{kinds};
+ghost use Rattle.plc_scope.specs.Answers.{Gives, HasRoom, GrowsBy, Within};
+ghost use Rattle.plc_parse.specs.Growth.{KeepsLists};
+ghost use Rattle.plc_parse.specs.Reading.{listed_in};
+
+use plc_base::Items;
+use plc_forms::Rest;
+use plc_scope::{ParseFault, Scope};
+use std::alloc::Global;
+
+/// A kind of declarations that are listed: how one begins, what it is read as, how many there may be,
+/// and how many names each may declare.
+pub trait Listed {
+    ghost use Rattle.std.specs.Prelude.{◌≤◌, ◌≡◌, ℕ, List, Option, Some};
+    ghost use Rattle.plc_lex.specs.declared.token.TokenKind.{TokenKind};
+    ghost use Rattle.plc_scope.specs.Answers.{HasRoom};
+    ghost use Rattle.plc_scope.specs.Read.{ReadTo};
+    ghost use Rattle.plc_scope.specs.declared.scope.Scope.{Scope};
+    ghost use Rattle.plc_parse.specs.Turns.{TurnRead};
+
+    type Item: Drop;
+
+    ghost Head: { Type 0 };
+
+    ghost head: { List TokenKind → Option (Head × List TokenKind) };
+
+    ghost body: { Scope → ℕ → ℕ → Head → List TokenKind → ReadTo (Self.Item × Scope × ℕ) };
+
+    ghost limit: { ℕ };
+
+    ghost names: { ℕ };
+
+    /// The next declaration, with so many before it, and what is behind it; none where none begins.
+    fn next<'a>(
+        alloc: Global,
+        scope: &mut Scope,
+        count: usize,
+        start: Rest<'a>,
+    ) -> Result<Option<(Self::Item, Rest<'a>)>, ParseFault>
+        requires few { count ≤ limit }
+        requires room { HasRoom scope.old names }
+        ensures { TurnRead head body limit names scope.old count start.entry result scope.new };
+}
+
+/// Declarations while one begins.
+pub fn read_listed<'a, L: Listed>(
+    alloc: Global,
+    scope: &mut Scope,
+    start: Rest<'a>,
+) -> Result<(Items<L::Item>, Rest<'a>), ParseFault>
+    requires { HasRoom scope.old (L.names * (L.limit + 1)) }
+    ensures read { Gives (λ r. ((r.0, scope.new, r.1.at), kinds r.1.tokens.now)) result
+        (listed_in L.head L.body L.limit scope.old start.entry.at (kinds start.entry.tokens.now)) }
+    ensures names { IfOk result (λ _. GrowsBy scope.old scope.new (L.names * L.limit)) }
+    ensures lists { IfOk result (λ _. KeepsLists scope.old scope.new) }
+    ensures place { IfOk result (λ r. Within start.entry r.1) }
+{
+    let mut items = Items::new(alloc);
+    let mut rest = start;
+    while let Some((item, behind)) = L::next(alloc, scope, items.len(), rest)? {
+        items.push(item)?;
+        rest = behind;
+    }
+    Ok((items, rest))
+}
