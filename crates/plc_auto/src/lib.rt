@@ -8,8 +8,6 @@ mod laws;
 mod observer;
 mod sets;
 mod table;
-#[cfg(test)]
-mod tests;
 
 pub use event::{EvKind, Event};
 pub use laws::{

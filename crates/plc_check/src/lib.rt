@@ -11,6 +11,3 @@ pub use judged::{Judged, LoadFault};
 pub use loading::{files_are_unique, load};
 pub use unjudged::Unjudged;
 pub use verdict::{Verdict, check};
-
-#[cfg(test)]
-mod tests;

@@ -33,10 +33,3 @@ pub use plc_outside::{
 pub use plc_reclaim::{ByList, Leak, Reclaimer};
 pub use program::run;
 pub use status::{NO_MEMORY, NOT_UTF8};
-
-#[cfg(test)]
-mod memory_tests;
-#[cfg(test)]
-mod rows;
-#[cfg(test)]
-mod tests;

@@ -9,8 +9,6 @@ mod lowering;
 mod points;
 mod sides;
 mod statements;
-#[cfg(test)]
-mod tests;
 
 pub use flow::{Flow, FlowFault, Gate, Move, Place, StartFault, Step};
 pub use laws::{flows_fit, steps_stay_in_their_gate};

@@ -5,8 +5,6 @@
 mod faults;
 mod fixpoint;
 mod starts;
-#[cfg(test)]
-mod tests;
 mod typing;
 
 pub use typing::{InferFault, Typing, infer};

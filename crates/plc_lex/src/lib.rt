@@ -14,6 +14,3 @@ pub use characters::{in_name, is_letter};
 pub use fault::LexFault;
 pub use lexing::{lines_are_counted, spelling_is_unique, tokens};
 pub use token::{Keyword, Symbol, Token, TokenKind};
-
-#[cfg(test)]
-mod tests;

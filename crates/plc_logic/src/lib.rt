@@ -9,6 +9,3 @@ mod sites;
 pub use clause::{Base, Clause, Item, Literal, Outline, Site, Sort, Term};
 pub use negation::{negated, negation_turns_the_truth};
 pub use sites::op_of_site;
-
-#[cfg(test)]
-mod tests;

@@ -15,6 +15,3 @@ mod site;
 mod term;
 
 pub use outline::{outlines_fit, read_outline};
-
-#[cfg(test)]
-mod tests;

@@ -26,6 +26,3 @@ pub use memory_sinks::{FailSink, VecSink};
 pub use real::{OutSink, RealFiles};
 pub use sinks::{Sink, SinkFault};
 pub use writing::write_text;
-
-#[cfg(test)]
-mod tests;

@@ -18,6 +18,3 @@ mod unit;
 pub use plc_scope::ParseFault;
 pub use reading::{faults_are_one, parse, units_are_unique, units_fit};
 pub use unit::Unit;
-
-#[cfg(test)]
-mod tests;

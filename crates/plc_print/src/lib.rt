@@ -14,6 +14,3 @@ mod tokens;
 
 pub use laws::{canonical_texts_read_back, canonical_trees_read_back, tokens_read_back};
 pub use printing::print;
-
-#[cfg(test)]
-mod tests;

@@ -16,6 +16,3 @@ pub use leak::Leak;
 pub use lookup::find_named;
 pub use reclaimer::Reclaimer;
 pub use scheme::{Scheme, schemes_of};
-
-#[cfg(test)]
-mod tests;

@@ -13,6 +13,3 @@ mod wanted;
 pub use end::End;
 pub use laws::schedules_come_to_one_end;
 pub use replaying::replay;
-
-#[cfg(test)]
-mod tests;

@@ -28,6 +28,3 @@ mod words;
 pub use fault::SchedFault;
 pub use reading::{read_schedule, schedules_are_unique, schedules_are_within_limits};
 pub use schedule::{Entry, Schedule};
-
-#[cfg(test)]
-mod tests;

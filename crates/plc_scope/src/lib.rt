@@ -19,6 +19,3 @@ pub use conditions::condition;
 pub use fault::ParseFault;
 pub use primitives::{initial, primitive};
 pub use scope::Scope;
-
-#[cfg(test)]
-mod tests;

@@ -12,7 +12,5 @@ mod needless;
 mod search;
 mod split;
 mod survey;
-#[cfg(test)]
-mod tests;
 
 pub use search::{Answer, refute};

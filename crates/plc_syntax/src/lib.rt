@@ -12,6 +12,3 @@ mod table;
 
 pub use fault::SyntaxFault;
 pub use recognizer::{faults_are_one, outline_fault, syntax};
-
-#[cfg(test)]
-mod tests;

@@ -15,6 +15,3 @@ pub use refusals::{
 };
 pub use replays::{ended, unscheduled};
 pub use typing::safe;
-
-#[cfg(test)]
-mod tests;

@@ -9,8 +9,6 @@ mod effects;
 mod fault;
 mod interference;
 mod laws;
-#[cfg(test)]
-mod tests;
 mod types;
 
 pub use conditions::condition;
