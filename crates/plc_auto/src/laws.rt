@@ -51,5 +51,6 @@ pub fn sets_grow()
 
 /// The closure of a set of locations is the least closed set that holds it, and so its own closure.
 pub fn closures_are_least()
-    ensures { (o : Observer) (with_free : Bool) (m : ℕ) → within m (all_locations o) ≡ true → ClosuresAreLeast o with_free m }
+    ensures { (o : Observer) (with_free : Bool) (m : ℕ) → within m (all_locations o) ≡ true
+        → ClosuresAreLeast o with_free m }
 {}

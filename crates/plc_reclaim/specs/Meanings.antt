@@ -9,8 +9,3 @@ pub record Meanings : Type 0 where
   pub after : List ℕ → Event → List ℕ
   pub picked : List ℕ → List ℕ
   pub pick_of : List ℕ → Option ℕ
-
--- a reclaimer by its name and its meanings
-pub record Known : Type 0 where
-  pub name : List ℕ
-  pub meanings : Meanings
