@@ -1,2 +1,3 @@
+pub mod Fitting
 pub mod Refusals
 pub mod Unique

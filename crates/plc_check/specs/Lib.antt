@@ -1,4 +1,5 @@
 -- what contracts of public calls say
+pub mod Fit
 pub mod Loading
 pub mod Unjudged
 pub mod Verdicts

@@ -8,8 +8,10 @@ use Rattle.plc_scope.specs.declared.fault.ParseFault.{ParseFault}
 use Rattle.plc_scope.specs.declared.fault.ParseFault.TheVariants as parse
 use Rattle.plc_parse.specs.declared.unit.Unit.{Unit as FileUnit}
 use Rattle.plc_lang.specs.Fit.{FileFits, NamesWhatIsThere}
+use Rattle.plc_lang.specs.WellSorted.{FileIsWellSorted}
 use Rattle.plc_flow.specs.Lowering.{made_of, most_points}
 use Rattle.plc_flow.specs.WellFormed.{FlowFits}
+use Rattle.plc_flow.specs.WellSorted.{FlowIsWellSorted}
 use Rattle.plc_syntax.specs.Syntax.{kinds}
 use Rattle.plc_check.specs.declared.judged.Judged.{Judged}
 use Rattle.plc_check.specs.declared.judged.LoadFault.{LoadFault}
@@ -47,7 +49,7 @@ pub record HasManyPoints (u : FileUnit) (e : LoadFault) : Type 0 where
 
 -- what is judged of a unit, or too many points; memory may run out
 abbrev pub IsLowered : FileUnit → Result Judged LoadFault → Type 0
-IsLowered u (Ok j) = (j ≡ judged_of u) × ((made_of u.file).points ≤ most_points) × (FileFits u.file → NamesWhatIsThere u.file → FlowFits j.flow)
+IsLowered u (Ok j) = (j ≡ judged_of u) × ((made_of u.file).points ≤ most_points) × (FileFits u.file → NamesWhatIsThere u.file → FlowFits j.flow) × (FileIsWellSorted u.file → FlowIsWellSorted j.flow)
 IsLowered u (Err faults.Memory) = Unit {0}
 IsLowered u (Err (faults.Limit what count)) = HasManyPoints u (faults.Limit what count)
 IsLowered u (Err faults.Unjudged) = ⊥

@@ -1,12 +1,14 @@
 // Bytes, tokens, unit, flow: the first refusal on this way is the answer.
-ghost use Rattle.std.specs.Prelude.{◌≡◌, ◌≤◌, ◌+◌, true, length, IfOk};
-ghost use Rattle.plc_auto.specs.Table.{is_well_formed};
+ghost use Rattle.std.specs.Prelude.{◌≡◌, ◌≤◌, ◌+◌, length, IfOk};
 ghost use Rattle.plc_base.specs.Limits.{largest_file};
 ghost use Rattle.plc_flow.specs.WellFormed.{FlowFits};
+ghost use Rattle.plc_flow.specs.WellSorted.{FlowIsWellSorted};
 ghost use Rattle.plc_lang.specs.Fit.{FileFits};
+ghost use Rattle.plc_check.specs.Fit.{FilesFit};
 ghost use Rattle.plc_check.specs.Loading.{IsLoaded, FilesAreUnique, line_of, place_of};
 ghost use Rattle.plc_lex.specs.Spelling.{line_feeds};
 ghost use Rattle.plc_logic.specs.Fit.{OutlineFits};
+ghost use Rattle.plc_parse.specs.Fit.{ObserverFits};
 ghost use Rattle.plc_check.specs.Refusals.{lex_refusal, parse_refusal, unplaced, IsLowered, IsJudgedOf};
 
 use crate::judged::{Judged, LoadFault};
@@ -147,7 +149,8 @@ pub fn load(alloc: Global, bytes: &[u8], unjudged: Unjudged) -> Result<Judged, L
     ensures fits { IfOk result (λ j. FlowFits j.flow) }
     ensures file { IfOk result (λ j. FileFits j.flow.file) }
     ensures outline { IfOk result (λ j. OutlineFits j.flow.file j.unit_outline) }
-    ensures observer { IfOk result (λ j. is_well_formed j.observer ≡ true) }
+    ensures sorted { IfOk result (λ j. FlowIsWellSorted j.flow) }
+    ensures observer { IfOk result (λ j. ObserverFits j.flow.file j.observer) }
 {
     let found = match tokens(alloc, bytes) {
         Ok(found) => found,
@@ -162,4 +165,9 @@ pub fn load(alloc: Global, bytes: &[u8], unjudged: Unjudged) -> Result<Judged, L
 /// The law that bytes spell at most one unit.
 pub fn files_are_unique()
     ensures { FilesAreUnique }
+{}
+
+/// The law that whatever unit bytes spell, its flow, its observer and its outline fit.
+pub fn files_fit()
+    ensures { FilesFit }
 {}
