@@ -1,0 +1,221 @@
+// Files and sinks: that each call which takes memory succeeds where there is enough of it, what a fault
+// prints, and what the system does behind its handle.
+use plc_outside::{
+    FailSink, FileFault, Files, MemFiles, OutSink, RealFiles, Sink, SinkFault, VecSink, write_text,
+};
+use std::alloc::{AllocError, Global};
+use std::io::Write;
+use std::{env, fs, io, process};
+
+// A read's answer, through the bound alone.
+fn read_text<F: Files>(
+    alloc: Global,
+    files: &mut F,
+    name: &str,
+    max: usize,
+) -> Result<String, AllocError> {
+    match files.read(name, max) {
+        Ok(bytes) => {
+            let text = str::from_utf8(&bytes).unwrap_or("?");
+            format!(in alloc; "'{text}' ")
+        }
+        Err(fault) => format!(in alloc; "{fault} "),
+    }
+}
+
+// Three entries, the first and the last under one name; the fourth call fails.
+fn some_files(alloc: Global) -> Result<MemFiles, AllocError> {
+    let mut files = Vec::new(alloc);
+    for (name, text) in [("a", "abc"), ("b", ""), ("a", "later")] {
+        let bytes = Vec::from_slice(alloc, text.as_bytes())?;
+        files.push((String::from_str(alloc, name)?, bytes))?;
+    }
+    Ok(MemFiles::new(alloc, files, vec![in alloc; 4]?))
+}
+
+// The answers of seven reads.
+fn reads_text(alloc: Global) -> Result<String, AllocError> {
+    let mut files = some_files(alloc)?;
+    let mut text = String::new(alloc);
+    for (name, max) in [
+        ("a", 3),
+        ("a", 2),
+        ("b", 0),
+        ("a", 9),
+        ("a", 9),
+        ("c", 9),
+        ("", 0),
+    ] {
+        text.push_str(read_text(alloc, &mut files, name, max)?.as_str())?;
+    }
+    Ok(text)
+}
+
+#[test]
+fn files_in_memory(rt: HostRuntime) -> Result<(), AllocError> {
+    assert_eq!(rt;
+        reads_text(rt.alloc())?.as_str(),
+        "'abc' too long '' failed 'abc' failed failed "
+    );
+    Ok(())
+}
+
+// What a sink answers to a text.
+fn outcome(written: Result<(), SinkFault>) -> &'static str {
+    match written {
+        Ok(()) => "ok",
+        Err(SinkFault::Failed) => "failed",
+        Err(SinkFault::Memory) => "no memory",
+    }
+}
+
+// What a growing sink answers, and what it holds.
+fn growing_text(alloc: Global) -> Result<String, AllocError> {
+    let mut out = VecSink::new(alloc);
+    let none = out.put(b"");
+    let two = out.put(b"ab");
+    let rest = outcome(write_text(&mut out, b"cde"));
+    let text = str::from_utf8(out.written()).unwrap_or("?");
+    format!(in alloc; "{none:?} {two:?} {rest} {text}")
+}
+
+// What a sink that takes so many bytes and fails at a call answers to `abc`, and what it holds.
+fn failing_text(alloc: Global, most: usize, failing: u64) -> Result<String, AllocError> {
+    let mut out = FailSink::new(alloc, most, vec![in alloc; failing]?);
+    let answer = outcome(write_text(&mut out, b"abc"));
+    let text = str::from_utf8(out.written()).unwrap_or("?");
+    format!(in alloc; "{answer} {text}")
+}
+
+#[test]
+fn sinks_in_memory(rt: HostRuntime) -> Result<(), AllocError> {
+    assert_eq!(rt; growing_text(rt.alloc())?.as_str(), "Ok(0) Ok(2) ok abcde");
+    for (most, failing, want) in [
+        (1, 0, "ok abc"),
+        (2, 0, "ok abc"),
+        (1, 2, "failed a"),
+        (2, 2, "failed ab"),
+        (9, 1, "failed "),
+        (0, 0, "failed "),
+    ] {
+        assert_eq!(rt; failing_text(rt.alloc(), most, failing)?.as_str(), want);
+    }
+    Ok(())
+}
+
+#[test]
+fn faults_print_their_cause(rt: HostRuntime) -> Result<(), AllocError> {
+    let alloc = rt.alloc();
+    let files = [FileFault::Failed, FileFault::TooLong, FileFault::Memory];
+    let sinks = [SinkFault::Failed, SinkFault::Memory];
+    for (fault, want) in files.iter().zip(["failed", "too long", "no memory"]) {
+        assert_eq!(rt; format!(in alloc; "{fault}")?.as_str(), want);
+    }
+    for (fault, want) in sinks.iter().zip(["failed", "no memory"]) {
+        assert_eq!(rt; format!(in alloc; "{fault}")?.as_str(), want);
+    }
+    Ok(())
+}
+
+// What the system's file is read as: its count of bytes, which are all `x`, or a fault.
+fn system_text<F: Files>(
+    alloc: Global,
+    files: &mut F,
+    name: &str,
+    max: usize,
+) -> Result<String, AllocError> {
+    match files.read(name, max) {
+        Ok(bytes) => {
+            let count = bytes.len();
+            let others = bytes.iter().any(|byte| *byte != b'x');
+            format!(in alloc; "{count} {others} ")
+        }
+        Err(fault) => format!(in alloc; "{fault} "),
+    }
+}
+
+fn systems_text<F: Files>(alloc: Global, files: &mut F, name: &str) -> Result<String, AllocError> {
+    let mut text = String::new(alloc);
+    for max in [5000, usize::MAX, 4999, 0] {
+        text.push_str(system_text(alloc, files, name, max)?.as_str())?;
+    }
+    for other in ["", "/"] {
+        text.push_str(system_text(alloc, files, other, 9)?.as_str())?;
+    }
+    Ok(text)
+}
+
+// A name of the system's own for a file that no one else has.
+fn own_name(rt: &HostRuntime) -> io::Result<String> {
+    let folder = env::temp_dir(rt)?;
+    let name = format!(in rt.alloc(); "plc_outside_{}", process::id(rt.process()))?;
+    let path = folder.join(rt.alloc(), name.as_str())?;
+    Ok(String::from_str(rt.alloc(), path.to_str().unwrap_or(""))?)
+}
+
+// Pieces of the system's reads are shorter than this file.
+fn write_long(rt: &HostRuntime, name: &str) -> io::Result<()> {
+    let text = vec![in rt.alloc(); b'x'; 5000]?;
+    fs::write(rt, name, text.as_slice())
+}
+
+fn real_text(rt: &HostRuntime, name: &str) -> io::Result<String> {
+    let mut files = RealFiles::new(rt.alloc(), rt.clone()?);
+    Ok(systems_text(rt.alloc(), &mut files, name)?)
+}
+
+#[test]
+fn files_of_the_system(rt: HostRuntime) -> io::Result<()> {
+    let name = own_name(&rt)?;
+    write_long(&rt, name.as_str())?;
+    let answers = real_text(&rt, name.as_str())?;
+    fs::remove_file(&rt, name.as_str())?;
+    assert_eq!(rt;
+        answers.as_str(),
+        "5000 false 5000 false too long too long failed failed "
+    );
+    assert_eq!(rt;
+        real_text(&rt, name.as_str())?.as_str(),
+        "failed failed failed failed failed failed "
+    );
+    Ok(())
+}
+
+// A writer that takes one byte a call, until it is full; then it takes nothing, or fails.
+#[derive(Drop)]
+struct Narrow {
+    taken: Vec<u8>,
+    room: usize,
+    fails: bool,
+}
+
+impl Write for Narrow {
+    fn write(&mut self, piece: &[u8]) -> io::Result<usize> {
+        if self.taken.len() < self.room && !piece.is_empty() {
+            self.taken.push(piece[0])?;
+            return Ok(1);
+        }
+        if self.fails {
+            return Err(io::Error::from(io::ErrorKind::BrokenPipe));
+        }
+        Ok(0)
+    }
+
+    fn flush(&mut self) -> io::Result<()> {
+        Ok(())
+    }
+}
+
+// What a writer of std answers to `abc`.
+fn narrow_text(alloc: Global, room: usize, fails: bool) -> &'static str {
+    let taken = Vec::new(alloc);
+    let mut out = OutSink::new(Narrow { taken, room, fails });
+    outcome(write_text(&mut out, b"abc"))
+}
+
+#[test]
+fn writers_of_std(rt: HostRuntime) {
+    for (room, fails, want) in [(3, true, "ok"), (2, true, "failed"), (2, false, "failed")] {
+        assert_eq!(rt; narrow_text(rt.alloc(), room, fails), want);
+    }
+}

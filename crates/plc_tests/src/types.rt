@@ -1,0 +1,579 @@
+// Types by the written rules: the order, the rows of effects and conditions, what interference leaves, and
+// the strongest typing. A type is written as its guarantees, `ALS`, `AS`, `S` or `-`, with its locations.
+ghost use Rattle.std.specs.Prelude.{IfOk};
+ghost use Rattle.plc_xfer.specs.Rules.{FitsObserver};
+
+use crate::observers::{push_set, set_of};
+use plc_auto::Observer;
+use plc_base::{FieldId, FuncId, Items, Mask, NoMemory};
+use plc_check::{Unjudged, load};
+use plc_infer::infer;
+use plc_lang::{Arg, GhostVal, Num, Prim, Rel, Var};
+use plc_type::{Env, Guar, PtrType, below, env_below, env_join, join};
+use plc_xfer::{TypeFault, apply, condition, interfere};
+use std::alloc::{AllocError, Global};
+
+fn typed(g: Guar, digits: &str) -> PtrType {
+    PtrType {
+        g,
+        m: set_of(digits),
+    }
+}
+
+// The type that a text writes.
+fn type_of(text: &str) -> PtrType {
+    if let Some(digits) = text.strip_prefix("ALS") {
+        return typed(Guar::active_local_safe(), digits);
+    }
+    if let Some(digits) = text.strip_prefix("AS") {
+        return typed(Guar::active_safe(), digits);
+    }
+    match text.strip_prefix("S") {
+        Some(digits) => typed(Guar::safe_only(), digits),
+        None => typed(Guar::nothing(), text),
+    }
+}
+
+fn guarantee_text(g: &Guar) -> &'static str {
+    if g.is_local() {
+        "ALS"
+    } else if g.is_active() {
+        "AS"
+    } else if g.is_safe() {
+        "S"
+    } else {
+        "-"
+    }
+}
+
+fn push_type(text: &mut String, of: &PtrType) -> Result<(), AllocError> {
+    text.push_str(guarantee_text(&of.g))?;
+    push_set(text, &of.m)?;
+    text.push(' ')
+}
+
+// The shared pointers, the locals, and where any address may stand.
+fn push_env(text: &mut String, env: &Env) -> Result<(), AllocError> {
+    for of in env.shared.as_slice() {
+        push_type(text, of)?;
+    }
+    text.push_str("/ ")?;
+    for of in env.locals.as_slice() {
+        push_type(text, of)?;
+    }
+    text.push_str("/ ")?;
+    push_set(text, &env.w)
+}
+
+fn env_text(alloc: Global, env: &Env) -> Result<String, NoMemory> {
+    let mut text = String::new(alloc);
+    push_env(&mut text, env)?;
+    Ok(text)
+}
+
+// What two sets of guarantees have in common, what either has, and whether the first is within the second.
+fn chain_text(alloc: Global, g: &Guar, h: &Guar) -> Result<String, AllocError> {
+    let common = guarantee_text(&g.common(h));
+    let either = guarantee_text(&g.either(h));
+    let active = guarantee_text(&g.without_active());
+    let local = guarantee_text(&g.without_local());
+    let within = g.within(h);
+    format!(in alloc; "{common} {either} {within} {active} {local}")
+}
+
+// What two types join to, and whether the first is below the second.
+fn join_text(alloc: Global, a: &PtrType, b: &PtrType) -> Result<String, AllocError> {
+    let mut text = String::new(alloc);
+    push_type(&mut text, &join(a, b))?;
+    text.push_str(if below(a, b) { "below" } else { "not below" })?;
+    Ok(text)
+}
+
+#[test]
+fn guarantees_are_a_chain(rt: HostRuntime) -> Result<(), AllocError> {
+    let alloc = rt.alloc();
+    for (g, h, want) in [
+        ("-", "S", "- S true - -"),
+        ("S", "-", "- S false S S"),
+        ("S", "AS", "S AS true S S"),
+        ("AS", "S", "S AS false S AS"),
+        ("AS", "ALS", "AS ALS true S AS"),
+        ("ALS", "AS", "AS ALS false S AS"),
+        ("ALS", "ALS", "ALS ALS true S AS"),
+        ("ALS", "-", "- ALS false S AS"),
+    ] {
+        assert_eq!(rt;
+            chain_text(alloc, &type_of(g).g, &type_of(h).g)?.as_str(),
+            want
+        );
+    }
+    Ok(())
+}
+
+#[test]
+fn types_are_ordered(rt: HostRuntime) -> Result<(), AllocError> {
+    let alloc = rt.alloc();
+    for (a, b, want) in [
+        ("S26", "ALS0", "S026 not below"),
+        ("S26", "S026", "S026 below"),
+        ("ALS0", "S026", "S026 below"),
+        ("S026", "ALS0", "S026 not below"),
+        ("ALS", "ALS0", "ALS0 below"),
+        ("ALS0", "-0", "-0 below"),
+    ] {
+        assert_eq!(rt; join_text(alloc, &type_of(a), &type_of(b))?.as_str(), want);
+    }
+    Ok(())
+}
+
+// The least environment, of two shared pointers and three locals.
+fn bottom_text(alloc: Global) -> Result<String, NoMemory> {
+    let env = Env::bottom(alloc, 2, 3)?;
+    env_text(alloc, &env)
+}
+
+// A copy of the environment of an entry.
+fn entry_text(alloc: Global) -> Result<String, NoMemory> {
+    let env = Env::entry(alloc, 2, 3, &Mask::full(2))?.copy(alloc)?;
+    env_text(alloc, &env)
+}
+
+// Whether a join changes the first of two environments for the same pointers.
+fn joined(into: &mut Env, other: &Env) -> bool {
+    if into.shared.len() != other.shared.len() {
+        return false;
+    }
+    if into.locals.len() != other.locals.len() {
+        return false;
+    }
+    env_join(into, other)
+}
+
+// Whether one is below the other, whether their join changes it, and what it comes to.
+fn joined_text(alloc: Global, bottom: &mut Env, entry: &Env) -> Result<String, NoMemory> {
+    let before = env_below(bottom, entry);
+    let after = env_below(entry, bottom);
+    let changed = joined(bottom, entry);
+    let again = joined(bottom, entry);
+    let mut text = format!(in alloc; "{before} {after} {changed} {again} ")?;
+    push_env(&mut text, bottom)?;
+    Ok(text)
+}
+
+fn both_joined(alloc: Global) -> Result<String, NoMemory> {
+    let mut bottom = Env::bottom(alloc, 2, 3)?;
+    let entry = Env::entry(alloc, 2, 3, &Mask::full(2))?;
+    joined_text(alloc, &mut bottom, &entry)
+}
+
+#[test]
+fn environments_join_part_by_part(rt: HostRuntime) -> Result<(), NoMemory> {
+    let alloc = rt.alloc();
+    assert_eq!(rt; bottom_text(alloc)?.as_str(), "- - / ALS ALS ALS / ");
+    assert_eq!(rt; entry_text(alloc)?.as_str(), "-01 -01 / ALS ALS ALS / 01");
+    assert_eq!(rt;
+        both_joined(alloc)?.as_str(),
+        "true false true false -01 -01 / ALS ALS ALS / 01"
+    );
+    Ok(())
+}
+
+// An environment with a shared pointer and two locals, in which any address may stand anywhere.
+fn with_types(
+    alloc: Global,
+    observer: &Observer,
+    s: &PtrType,
+    p: &PtrType,
+    q: &PtrType,
+) -> Result<Env, NoMemory>
+    ensures { IfOk result (λ env. FitsObserver observer.now env) }
+{
+    let w = observer.all();
+    if !s.m.within(&w) {
+        return Err(NoMemory);
+    }
+    if !p.m.within(&w) {
+        return Err(NoMemory);
+    }
+    if !q.m.within(&w) {
+        return Err(NoMemory);
+    }
+    Ok(Env {
+        shared: Items::from_vec(vec![in alloc; *s]?),
+        locals: Items::from_vec(vec![in alloc; *p, *q]?),
+        w,
+    })
+}
+
+// The environment of three types in a text.
+fn given(alloc: Global, observer: &Observer, text: &str) -> Result<Env, NoMemory>
+    ensures { IfOk result (λ env. FitsObserver observer.now env) }
+{
+    let (s, locals) = text.split_once(" ").unwrap_or((text, ""));
+    let (p, q) = locals.split_once(" ").unwrap_or((locals, ""));
+    with_types(alloc, observer, &type_of(s), &type_of(p), &type_of(q))
+}
+
+const S: Var = Var::Shared(0);
+
+const P: Var = Var::Local(0);
+
+const Q: Var = Var::Local(1);
+
+// No environment here has it.
+const MISSING: Var = Var::Shared(1);
+
+const F: FieldId = FieldId(0);
+
+const E: Num = Num::Lit(7);
+
+const RETIRE: FuncId = FuncId(0);
+
+const PROTECT: FuncId = FuncId(1);
+
+const LEAVE: FuncId = FuncId(2);
+
+// The types after a primitive.
+fn applied(
+    alloc: Global,
+    observer: &Observer,
+    before: &str,
+    prim: &Prim,
+) -> Result<String, NoMemory> {
+    let mut env = given(alloc, observer, before)?;
+    apply(&mut env, prim, observer);
+    env_text(alloc, &env)
+}
+
+// What a primitive makes of `-01 S01 ALS0`.
+const EFFECTS: [(Prim, &str); 21] = [
+    (Prim::Null { p: P }, "-01 / ALS ALS0 / 01"),
+    (Prim::Copy { p: P, q: Q }, "-01 / AS0 AS0 / 01"),
+    (Prim::Copy { p: Q, q: Q }, "-01 / S01 AS0 / 01"),
+    (Prim::New { p: P }, "-01 / ALS0 ALS0 / 01"),
+    (Prim::Load { p: Q, q: P, f: F }, "-01 / S01 -01 / 01"),
+    (Prim::Store { p: P, f: F, q: Q }, "-01 / S01 AS0 / 01"),
+    (Prim::Eq { p: P, q: Q }, "-01 / ALS0 ALS0 / 01"),
+    (Prim::IsNull { p: P }, "-01 / ALS ALS0 / 01"),
+    (Prim::Refresh { p: 0, q: Q }, "-01 / AS0 AS0 / 01"),
+    (Prim::Refresh { p: 1, q: Q }, "-01 / S01 AS0 / 01"),
+    (Prim::RefreshLoad { p: 1, q: P, f: F }, "-01 / S01 -0 / 01"),
+    (
+        Prim::RefreshStore { p: P, f: F, q: Q },
+        "-01 / S01 AS0 / 01",
+    ),
+    (Prim::Active { p: P }, "-01 / AS0 ALS0 / 01"),
+    (Prim::StoreNull { p: P, f: F }, "-01 / S01 ALS0 / 01"),
+    (Prim::DataSet { x: 0, e: E }, "-01 / S01 ALS0 / 01"),
+    (Prim::DataLoad { x: 0, q: P, f: F }, "-01 / S01 ALS0 / 01"),
+    (Prim::DataStore { p: P, f: F, e: E }, "-01 / S01 ALS0 / 01"),
+    (Prim::Ne { p: P, q: Q }, "-01 / S01 ALS0 / 01"),
+    (Prim::NotNull { p: P }, "-01 / S01 ALS0 / 01"),
+    (
+        Prim::DataTest {
+            rel: Rel::Lt,
+            x: 0,
+            e: E,
+        },
+        "-01 / S01 ALS0 / 01",
+    ),
+    (
+        Prim::Ghost {
+            p: P,
+            g: 0,
+            v: GhostVal::Me,
+        },
+        "-01 / S01 ALS0 / 01",
+    ),
+];
+
+#[test]
+fn primitives_have_their_effects(rt: HostRuntime) -> Result<(), NoMemory> {
+    for (prim, want) in EFFECTS {
+        let have = applied(rt.alloc(), &Observer::Plain, "-01 S01 ALS0", &prim)?;
+        assert_eq!(rt; have.as_str(), want, "{prim:?}");
+    }
+    Ok(())
+}
+
+const HAZARD: Observer = Observer::Hazard(PROTECT);
+
+const EPOCH: Observer = Observer::Epoch(PROTECT, LEAVE);
+
+// What a call, or its return, makes of `-0123456 AS2 ALS0`.
+const CALLS: [(Observer, Prim, &str); 10] = [
+    (
+        HAZARD,
+        Prim::Call {
+            func: PROTECT,
+            arg: Arg::Var(P),
+        },
+        "-0123456 / AS2 ALS01 / 0123456",
+    ),
+    (
+        HAZARD,
+        Prim::Call {
+            func: PROTECT,
+            arg: Arg::Var(Q),
+        },
+        "-0123456 / AS02 ALS1 / 0123456",
+    ),
+    (
+        HAZARD,
+        Prim::Call {
+            func: PROTECT,
+            arg: Arg::Null,
+        },
+        "-03 / AS0 ALS0 / 03",
+    ),
+    (
+        HAZARD,
+        Prim::Done { func: PROTECT },
+        "-02356 / AS2 ALS0 / 02356",
+    ),
+    (
+        HAZARD,
+        Prim::Call {
+            func: RETIRE,
+            arg: Arg::Var(P),
+        },
+        "-0123456 / S6 ALS0 / 0123456",
+    ),
+    (
+        HAZARD,
+        Prim::Call {
+            func: RETIRE,
+            arg: Arg::Var(Q),
+        },
+        "-0123456 / S26 S3 / 0123456",
+    ),
+    (
+        HAZARD,
+        Prim::Call {
+            func: RETIRE,
+            arg: Arg::Null,
+        },
+        "-0123456 / AS2 ALS0 / 0123456",
+    ),
+    (
+        HAZARD,
+        Prim::Call {
+            func: LEAVE,
+            arg: Arg::Var(P),
+        },
+        "-0123456 / AS2 ALS0 / 0123456",
+    ),
+    (
+        EPOCH,
+        Prim::Call {
+            func: PROTECT,
+            arg: Arg::None,
+        },
+        "-12456 / AS2 ALS1 / 12456",
+    ),
+    (
+        EPOCH,
+        Prim::Call {
+            func: LEAVE,
+            arg: Arg::None,
+        },
+        "-03 / AS0 ALS0 / 03",
+    ),
+];
+
+#[test]
+fn calls_have_their_effects(rt: HostRuntime) -> Result<(), NoMemory> {
+    for (observer, prim, want) in CALLS {
+        let have = applied(rt.alloc(), &observer, "-0123456 AS2 ALS0", &prim)?;
+        assert_eq!(rt; have.as_str(), want, "{prim:?}");
+    }
+    Ok(())
+}
+
+// The fault of a primitive, with a shared pointer that is active, P that is safe, and Q that is neither.
+fn fault_of(alloc: Global, prim: &Prim) -> Result<Option<TypeFault>, NoMemory> {
+    let observer = Observer::Plain;
+    let env = given(alloc, &observer, "AS0 S1 -01")?;
+    Ok(condition(&env, prim, &observer).err())
+}
+
+const DEREF: Option<TypeFault> = Some(TypeFault::DerefNotSafe { var: Q });
+
+const COMPARE: Option<TypeFault> = Some(TypeFault::CompareNotSafe { var: Q });
+
+const COMPARE_MISSING: Option<TypeFault> = Some(TypeFault::CompareNotSafe { var: MISSING });
+
+const RETIRE_UNSAFE: Option<TypeFault> = Some(TypeFault::RetireNotActive { var: P });
+
+// Primitives with the fault of their condition.
+const CONDITIONS: [(Prim, Option<TypeFault>); 31] = [
+    (Prim::Null { p: Q }, None),
+    (Prim::Copy { p: P, q: Q }, None),
+    (Prim::New { p: Q }, None),
+    (Prim::Load { p: P, q: Q, f: F }, DEREF),
+    (Prim::Load { p: Q, q: P, f: F }, None),
+    (Prim::Store { p: Q, f: F, q: P }, DEREF),
+    (Prim::Store { p: P, f: F, q: Q }, None),
+    (Prim::StoreNull { p: Q, f: F }, DEREF),
+    (Prim::DataSet { x: 0, e: E }, None),
+    (Prim::DataLoad { x: 0, q: Q, f: F }, DEREF),
+    (Prim::DataStore { p: Q, f: F, e: E }, DEREF),
+    (Prim::Eq { p: P, q: Q }, COMPARE),
+    (Prim::Eq { p: Q, q: MISSING }, COMPARE),
+    (Prim::Eq { p: P, q: S }, None),
+    (Prim::Ne { p: Q, q: P }, COMPARE),
+    (Prim::Ne { p: MISSING, q: Q }, COMPARE_MISSING),
+    (Prim::IsNull { p: Q }, None),
+    (Prim::NotNull { p: Q }, None),
+    (
+        Prim::DataTest {
+            rel: Rel::Eq,
+            x: 0,
+            e: E,
+        },
+        None,
+    ),
+    (Prim::Refresh { p: 1, q: Q }, None),
+    (Prim::RefreshLoad { p: 0, q: Q, f: F }, DEREF),
+    (Prim::RefreshLoad { p: 1, q: P, f: F }, None),
+    (Prim::RefreshStore { p: Q, f: F, q: P }, DEREF),
+    (Prim::RefreshStore { p: P, f: F, q: Q }, None),
+    (
+        Prim::Call {
+            func: PROTECT,
+            arg: Arg::Var(Q),
+        },
+        None,
+    ),
+    (
+        Prim::Call {
+            func: RETIRE,
+            arg: Arg::Var(S),
+        },
+        None,
+    ),
+    (
+        Prim::Call {
+            func: RETIRE,
+            arg: Arg::Var(P),
+        },
+        RETIRE_UNSAFE,
+    ),
+    (
+        Prim::Call {
+            func: RETIRE,
+            arg: Arg::Null,
+        },
+        None,
+    ),
+    (Prim::Done { func: RETIRE }, None),
+    (Prim::Active { p: Q }, None),
+    (
+        Prim::Ghost {
+            p: Q,
+            g: 0,
+            v: GhostVal::None,
+        },
+        None,
+    ),
+];
+
+#[test]
+fn conditions_name_the_variable(rt: HostRuntime) -> Result<(), NoMemory> {
+    for (prim, fault) in CONDITIONS {
+        assert!(rt; fault_of(rt.alloc(), &prim)? == fault, "{prim:?}");
+    }
+    Ok(())
+}
+
+// What interference leaves of a type.
+fn interfered(alloc: Global, observer: &Observer, text: &str) -> Result<String, NoMemory> {
+    let mut env = with_types(
+        alloc,
+        observer,
+        &PtrType::null(),
+        &type_of(text),
+        &PtrType::null(),
+    )?;
+    interfere(&mut env, observer);
+    env_text(alloc, &env)
+}
+
+#[test]
+fn interference_leaves_what_no_other_thread_takes(rt: HostRuntime) -> Result<(), NoMemory> {
+    for (observer, before, after) in [
+        (Observer::Plain, "ALS0", "-01 / ALS0 ALS / 01"),
+        (Observer::Plain, "AS0", "-01 / -01 ALS / 01"),
+        (Observer::Plain, "S0", "-01 / -01 ALS / 01"),
+        (Observer::Plain, "-0", "-01 / -01 ALS / 01"),
+        (Observer::Plain, "ALS", "-01 / ALS ALS / 01"),
+        (HAZARD, "ALS2", "-0123456 / ALS2 ALS / 0123456"),
+        (HAZARD, "AS2", "-0123456 / S26 ALS / 0123456"),
+        (HAZARD, "S2", "-0123456 / S26 ALS / 0123456"),
+        (HAZARD, "S0", "-0123456 / -03 ALS / 0123456"),
+        (HAZARD, "-2", "-0123456 / -26 ALS / 0123456"),
+    ] {
+        assert_eq!(rt;
+            interfered(rt.alloc(), &observer, before)?.as_str(),
+            after,
+            "{before}"
+        );
+    }
+    Ok(())
+}
+
+// The types of each point, a line for each.
+fn typing_text(alloc: Global, envs: &[Env]) -> Result<String, AllocError> {
+    let mut text = String::new(alloc);
+    for env in envs {
+        push_env(&mut text, env)?;
+        text.push('\n')?;
+    }
+    Ok(text)
+}
+
+// The strongest typing of a file.
+fn inferred(alloc: Global, text: &str) -> Result<String, AllocError> {
+    if text.len() > 1048576 {
+        return Err(AllocError);
+    }
+    let Ok(judged) = load(alloc, text.as_bytes(), Unjudged::Nothing) else {
+        return Err(AllocError);
+    };
+    match infer(alloc, &judged.flow, &judged.observer) {
+        Ok(typing) => typing_text(alloc, typing.env.as_slice()),
+        Err(fault) => format!(in alloc; "{fault:?}"),
+    }
+}
+
+const TYPINGS: &str = "# struct N { } shared T;
+# struct N { ptr f; data d; } shared T; op g(v) { ptr n; ptr a; ptr b; n := new; n.d := v; T := n; }
+-01 / ALS ALS ALS / 01
+-01 / -01 ALS ALS / 01
+-01 / ALS0 ALS ALS / 01
+-01 / ALS0 ALS ALS / 01
+-01 / -01 ALS ALS / 01
+# struct N { ptr f; data d; } shared T; call p(ptr); use hazard(p); op g(v) { ptr n; ptr a; ptr b; n := new; n.d := v; T := n; }
+-0123456 / ALS ALS ALS / 0123456
+-0123456 / -012346 ALS ALS / 0123456
+-0123456 / ALS012 ALS ALS / 0123456
+-0123456 / ALS012 ALS ALS / 0123456
+-0123456 / -012346 ALS ALS / 0123456
+# struct N { ptr f; data d; } shared T; op g(v) { ptr n; n := new; T := n; n.d := v; }
+Stuck { step: StepId(2), prim: 0, fault: DerefNotSafe { var: Local(0) } }
+";
+
+#[test]
+fn each_point_has_its_strongest_types(rt: HostRuntime) -> Result<(), AllocError> {
+    for row in TYPINGS.split("# ") {
+        if !row.is_empty() {
+            let (file, want) = row.split_once("\n").unwrap_or((row, "?"));
+            assert_eq!(rt;
+                inferred(rt.alloc(), file)?.as_str().trim_end(),
+                want.trim_end(),
+                "{file}"
+            );
+        }
+    }
+    Ok(())
+}
