@@ -6,7 +6,7 @@ use Rattle.plc_auto.specs.declared.observer.Observer.{Observer}
 use Rattle.plc_auto.specs.Sets.{all_locations}
 use Rattle.plc_type.specs.declared.env.PtrType.{PtrType}
 use Rattle.plc_xfer.specs.Rules.{FitsObserver}
-use Rattle.plc_tests.proofs.types.with_types.Goals as goal
+use Rattle.plc_type_tests.proofs.types.with_types.Goals as goal
 
 tested : (o : Observer) (m w : ℕ) (b : Bool) → w ≡ all_locations o → b ≡ within m w → b ≡ true → within m (all_locations o) ≡ true
 tested o m w b is e t = ap (within m) (sym is) ∙ sym e ∙ t
