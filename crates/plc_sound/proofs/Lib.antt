@@ -1,2 +1,3 @@
 pub mod NoRetire
+pub mod Runs
 pub mod Valid

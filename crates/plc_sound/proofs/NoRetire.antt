@@ -13,7 +13,7 @@ use Rattle.plc_mem.specs.declared.cell.RaceKind.{RaceKind}
 use Rattle.plc_run.specs.Run.{Configuration, Ending, Fine, Stuck, Raced, MayTake, Moves, Races, Run, begin, more, beginning, initialised, first_configuration}
 use Rattle.plc_flow.specs.Points.{leaves}
 use Rattle.plc_flow.specs.declared.points.Point.{Point}
-use Rattle.plc_sound.specs.Laws.{some_retire, retires, NeverRetires, NoRetireIsSafe}
+use Rattle.plc_sound.specs.NoRetire.{some_retire, retires, NeverRetires, NoRetireIsSafe}
 use Rattle.plc_mem.proofs.Validity.{given_valid, starting_valid, first_valid}
 use Rattle.plc_sound.proofs.Valid.{IsCalm, EndsCalm, execute_ends}
 

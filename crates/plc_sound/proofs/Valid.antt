@@ -11,7 +11,7 @@ use Rattle.plc_mem.specs.State.{State, place}
 use Rattle.plc_mem.specs.Primitives.{race_of, goes, after, event_of}
 use Rattle.plc_mem.proofs.Validity.{AllValid, after_valid}
 use Rattle.plc_run.specs.Run.{Ending, Fine, Stuck, Raced, turn, execute, recorded}
-use Rattle.plc_sound.specs.Laws.{calls_retire, some_retire}
+use Rattle.plc_sound.specs.NoRetire.{calls_retire, some_retire}
 
 -- no primitive but a call of `retire` is a race where every pointer is valid
 no_race : (s : State) (t : ℕ) (k : Primitive) → AllValid s → calls_retire k ≡ false → race_of s t k ≡ None

@@ -1,32 +1,36 @@
--- The laws of soundness.
-use Rattle.std.specs.Prelude.{◌≡◌, Bool, false, List}
+-- What the law of types gives for whole runs.
+use Rattle.std.specs.Prelude.{◌≡◌, ℕ, ◌<◌, true, false, Some, slice_get}
 use Rattle.std.specs.List.{list_any}
-use Rattle.plc_lang.specs.declared.syntax.Primitive.{Primitive}
-use Rattle.plc_lang.specs.declared.syntax.Primitive.TheVariants.{Call}
+use Rattle.plc_lang.specs.WellSorted.{is_claim}
 use Rattle.plc_auto.specs.declared.observer.Observer.{Observer}
-use Rattle.plc_base.specs.Functions.{is_retire}
-use Rattle.plc_flow.specs.declared.flow.Step.{Step}
+use Rattle.plc_auto.specs.Table.{is_well_formed}
 use Rattle.plc_flow.specs.declared.flow.Flow.{Flow}
-use Rattle.plc_run.specs.Run.{NeverRaces}
+use Rattle.plc_flow.specs.declared.flow.Step.{Step}
+use Rattle.plc_flow.specs.declared.flow.Move.{Move}
+use Rattle.plc_flow.specs.Skeleton.{skeleton_of}
+use Rattle.plc_flow.specs.WellFormed.{FlowFits}
+use Rattle.plc_run.specs.Run.{Configuration, Run, NeverRaces}
+use Rattle.plc_xfer.specs.Typings.{HasTyping}
+use Rattle.plc_typesound.specs.Claims.{MoveClaims}
 
--- the primitive calls `retire`
-abbrev pub calls_retire : Primitive → Bool
-calls_retire (Call f r) = is_retire f
-calls_retire k = false
+-- each claim is true that a run reaches
+abbrev pub ClaimsHold : Flow → Observer → Type 0
+ClaimsHold flow o =
+    (threads n : ℕ) (c : Configuration) → 0 < threads → Run flow o threads n c
+    → (move : Move) → MoveClaims flow threads c move
 
--- one of the primitives does
-abbrev pub some_retire : List Primitive → Bool
-some_retire ks = list_any calls_retire ks
+-- where a flow has a typing and each claim that a run reaches is true, no step of any run is a race
+abbrev pub TrueClaimsSuffice : Type 0
+TrueClaimsSuffice =
+    (flow : Flow) (o : Observer) → FlowFits flow → is_well_formed o ≡ true
+    → HasTyping o (skeleton_of flow) → ClaimsHold flow o → NeverRaces flow o
 
--- the step does
-abbrev pub retires : Step → Bool
-retires s = some_retire s.prims
+-- no step of the flow holds a claim
+abbrev pub ClaimsNothing : Flow → Type 0
+ClaimsNothing flow = (k : ℕ) (s : Step) → slice_get flow.steps k ≡ Some s → list_any is_claim s.prims ≡ false
 
--- no step of the flow calls `retire`, and its `init` doesn't either
-pub record NeverRetires (flow : Flow) : Type 0 where
-  pub init : some_retire flow.file.init ≡ false
-  pub steps : list_any retires flow.steps ≡ false
-
--- where nothing is handed to the reclaimer no observer allows a free, so that no place is ever invalid
-abbrev pub NoRetireIsSafe : Type 0
-NoRetireIsSafe = (flow : Flow) (o : Observer) → NeverRetires flow → NeverRaces flow o
+-- where a flow has a typing and claims nothing, no step of any run is a race
+abbrev pub UnclaimedTypesSuffice : Type 0
+UnclaimedTypesSuffice =
+    (flow : Flow) (o : Observer) → FlowFits flow → is_well_formed o ≡ true
+    → HasTyping o (skeleton_of flow) → ClaimsNothing flow → NeverRaces flow o
