@@ -1,3 +1,5 @@
+pub mod Claims
 pub mod Fitting
 pub mod Refusals
+pub mod Silent
 pub mod Unique

@@ -1,7 +1,9 @@
 -- Which file bytes spell, and how they are answered.
-use Rattle.std.specs.Prelude.{◌≡◌, ◌≢◌, ◌⊎◌, ℕ, true, false, ◌<◌, ◌≤◌, ◌+◌, List, get_or, Option, Some, None, Result, Ok, Err}
+use Rattle.std.specs.Prelude.{◌≡◌, ◌≢◌, ◌⊎◌, ℕ, true, false, ◌<◌, ◌≤◌, ◌+◌, List, get_or, slice_get, Option, Some, None, Result, Ok, Err}
+use Rattle.std.specs.List.{list_any}
 use Rattle.plc_base.specs.declared.limits.What1.{What1}
 use Rattle.plc_base.specs.declared.limits.What1.TheVariants.{Points}
+use Rattle.plc_lang.specs.WellSorted.{is_claim}
 use Rattle.plc_lex.specs.declared.token.Token.{Token}
 use Rattle.plc_lex.specs.declared.fault.LexFault.{LexFault}
 use Rattle.plc_lex.specs.declared.fault.LexFault.TheVariants as lex
@@ -12,12 +14,14 @@ use Rattle.plc_scope.specs.declared.fault.ParseFault.{ParseFault}
 use Rattle.plc_scope.specs.declared.fault.ParseFault.TheVariants as parse
 use Rattle.plc_parse.specs.declared.unit.Unit.{Unit as FileUnit}
 use Rattle.plc_parse.specs.Units.{lines_of, IsUnitOf, IsFaultOf}
+use Rattle.plc_flow.specs.declared.flow.Step.{Step}
 use Rattle.plc_flow.specs.Lowering.{made_of, flow_of, most_points}
 use Rattle.plc_reclaim.specs.Schemes.{schemes_of}
 use Rattle.plc_check.specs.declared.judged.Judged.{Judged}
 use Rattle.plc_check.specs.declared.judged.LoadFault.{LoadFault}
 use Rattle.plc_check.specs.declared.judged.LoadFault.TheVariants as faults
 use Rattle.plc_check.specs.declared.unjudged.Unjudged.{Unjudged}
+use Rattle.plc_check.specs.declared.unjudged.Unjudged.TheVariants.{ClaimsAndOutlines}
 use Rattle.plc_check.specs.Unjudged.{unjudged_words, hold}
 
 -- the bytes spell these tokens, which spell the unit, whose flow has no more points than it may
@@ -110,3 +114,9 @@ IsLoaded unjudged bytes (Err e) = HasFault unjudged bytes e × SpellsNothing unj
 -- bytes spell at most one unit, whatever is judged of them
 abbrev pub FilesAreUnique : Type 0
 FilesAreUnique = (unjudged more : Unjudged) (bytes : List ℕ) (u v : FileUnit) → IsFileOf unjudged bytes u → IsFileOf more bytes v → u ≡ v
+
+-- no step of the flow of a file that is judged without claims holds one
+abbrev pub JudgedFilesClaimNothing : Type 0
+JudgedFilesClaimNothing =
+    (bytes : List ℕ) (u : FileUnit) → IsFileOf ClaimsAndOutlines bytes u
+    → (k : ℕ) (s : Step) → slice_get (flow_of u.file).steps k ≡ Some s → list_any is_claim s.prims ≡ false

@@ -8,6 +8,6 @@ mod unjudged;
 mod verdict;
 
 pub use judged::{Judged, LoadFault};
-pub use loading::{files_are_unique, files_fit, load};
+pub use loading::{files_are_unique, files_fit, judged_files_claim_nothing, load};
 pub use unjudged::Unjudged;
 pub use verdict::{Verdict, check};

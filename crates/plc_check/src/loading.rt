@@ -5,7 +5,7 @@ ghost use Rattle.plc_flow.specs.WellFormed.{FlowFits};
 ghost use Rattle.plc_flow.specs.WellSorted.{FlowIsWellSorted};
 ghost use Rattle.plc_lang.specs.Fit.{FileFits};
 ghost use Rattle.plc_check.specs.Fit.{FilesFit};
-ghost use Rattle.plc_check.specs.Loading.{IsLoaded, FilesAreUnique, line_of, place_of};
+ghost use Rattle.plc_check.specs.Loading.{IsLoaded, FilesAreUnique, JudgedFilesClaimNothing, line_of, place_of};
 ghost use Rattle.plc_lex.specs.Spelling.{line_feeds};
 ghost use Rattle.plc_logic.specs.Fit.{OutlineFits};
 ghost use Rattle.plc_parse.specs.Fit.{ObserverFits};
@@ -170,4 +170,10 @@ pub fn files_are_unique()
 /// The law that whatever unit bytes spell, its flow, its observer and its outline fit.
 pub fn files_fit()
     ensures { FilesFit }
+{}
+
+/// The law that no step of a file that `check` judges holds a claim: in the text each claim is the word
+/// `active`, and a file with that word is refused.
+pub fn judged_files_claim_nothing()
+    ensures { JudgedFilesClaimNothing }
 {}

@@ -11,7 +11,6 @@ use Rattle.plc_xfer.specs.declared.fault.TypeFault.{TypeFault}
 use Rattle.plc_xfer.specs.Typings.{HasTyping, IsStuckAt}
 use Rattle.plc_lang.specs.Skeleton.{Skeleton}
 use Rattle.plc_flow.specs.Skeleton.{skeleton_of}
-use Rattle.plc_sound.proofs.NoRetire.{no_retire_is_safe}
 use Rattle.plc_reclaim.specs.Meanings.{Meanings}
 use Rattle.plc_check.specs.declared.unjudged.Unjudged.TheVariants.{Nothing, ClaimsAndOutlines}
 use Rattle.plc_check.specs.declared.judged.Judged.{Judged}
@@ -21,6 +20,7 @@ use Rattle.plc_cli.specs.Requests.{Request, Check}
 use Rattle.plc_cli.specs.Reads.{Only, IsUnread, IsGivenFile, IsDueForFile}
 use Rattle.plc_cli.specs.Answer.{IsAnswerTo, IsJudgedAs, IsPrintOf, IsDueFor, Spells, unit_of}
 use Rattle.plc_cli.specs.Headline.{Headline, IsSafeProgram, IsSafeRead, IsTypable}
+use Rattle.plc_cli.proofs.Racing.{never_races}
 
 -- bytes that a read gave, where the content is told
 told_is : (told : Option (List ℕ)) (bytes content : List ℕ) → IfSome told (λ c. bytes ≡ c) → told ≡ Some content → bytes ≡ content
@@ -31,15 +31,15 @@ stuck_or_typed : (o : Observer) (s : Skeleton) (k i : ℕ) (fault : TypeFault) �
 stuck_or_typed o s k i fault stuck typed = stuck.fails typed.0 typed.1.pretyping (typed.1.holding k i)
 
 module _ (bytes : List ℕ) (status : ℕ) (text : List ℕ) where
+  typed_by : (v : FileUnit) → IsJudgedAs (judged_of v) status text → status ≡ 0 → IsTypable v
+  typed_by v (inl safe) zero = (safe.envs, safe.typed.typing)
+  typed_by v (inr untyped) zero = let is = untyped.status_is in absurd cc
+
   pub safe_at_0 : IsAnswerTo bytes status text → status ≡ 0 → IsSafeProgram bytes
   safe_at_0 (inl refused) zero = let is = refused.status_is in absurd cc
-  safe_at_0 (inr judged) zero = record { unit = judged.unit; spelled = judged.spelled; safe = no_retire_is_safe (flow_of judged.unit.file) judged.unit.observer }
+  safe_at_0 (inr judged) zero = record { unit = judged.unit; spelled = judged.spelled; safe = never_races bytes judged.unit judged.spelled (typed_by judged.unit judged.answer zero) }
 
   module _ (u : FileUnit) (spelled : Spells bytes u) where
-    typed_by : (v : FileUnit) → IsJudgedAs (judged_of v) status text → status ≡ 0 → IsTypable v
-    typed_by v (inl safe) zero = (safe.envs, safe.typed.typing)
-    typed_by v (inr untyped) zero = let is = untyped.status_is in absurd cc
-
     pub typed_at_0 : IsAnswerTo bytes status text → status ≡ 0 → IsTypable u
     typed_at_0 (inl refused) zero = let is = refused.status_is in absurd cc
     typed_at_0 (inr judged) zero = subst IsTypable (one_file ClaimsAndOutlines ClaimsAndOutlines bytes judged.unit u judged.spelled spelled) (typed_by judged.unit judged.answer zero)

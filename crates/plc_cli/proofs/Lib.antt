@@ -1,3 +1,4 @@
 pub mod Judging
+pub mod Racing
 pub mod Statuses
 pub mod TwoReads

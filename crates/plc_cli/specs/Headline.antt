@@ -7,17 +7,16 @@ use Rattle.plc_flow.specs.Lowering.{flow_of}
 use Rattle.plc_xfer.specs.Typings.{HasTyping}
 use Rattle.plc_flow.specs.Skeleton.{skeleton_of}
 use Rattle.plc_run.specs.Run.{NeverRaces}
-use Rattle.plc_sound.specs.Laws.{NeverRetires}
 use Rattle.plc_cli.specs.Requests.{Request, Check}
 use Rattle.plc_cli.specs.Reads.{IsGivenFile}
 use Rattle.plc_cli.specs.Answer.{Spells}
 use Rattle.plc_cli.specs.Statuses.{holds, unwritten, no_memory}
 
--- the bytes spell a program; where it hands nothing to the reclaimer, no run of it has a pointer race or a second retire
+-- the bytes spell a program, and no run of it has a pointer race or a second retire
 pub record IsSafeProgram (bytes : List ℕ) : Type 0 where
   pub unit : FileUnit
   pub spelled : Spells bytes unit
-  pub safe : NeverRetires (flow_of unit.file) → NeverRaces (flow_of unit.file) unit.observer
+  pub safe : NeverRaces (flow_of unit.file) unit.observer
 
 -- a typing of the unit's flow exists
 abbrev pub IsTypable : FileUnit → Type 0

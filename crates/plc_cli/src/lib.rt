@@ -12,10 +12,11 @@
 //! retired already.
 //!
 //! `run` promises, as the clause `headline`, that where it ends with 0 for the words `check` and a
-//! name, the bytes that the read of that name gave spell a program, and where no step of it calls
-//! `retire`, that no run of it has such a step. So it is of real files too, whose content no clause can
-//! tell: the bytes that a read gave are noted for proofs alone. Running out of memory and faults of the
-//! outside aside, it ends so exactly where a typing by the written rules exists.
+//! name, the bytes that the read of that name gave spell a program, no run of which has such a step:
+//! under the written typing rules none does, whatever the program retires (`plc_typesound`). So it is of
+//! real files too, whose content no clause can tell: the bytes that a read gave are noted for proofs
+//! alone. Running out of memory and faults of the outside aside, it ends so exactly where a typing by
+//! those rules exists.
 #![tactic(auto)]
 
 mod answer;

@@ -1,7 +1,6 @@
 // The laws stand over the definitions of memory, runs and typings, whatever the code does; a proof above
 // cites them by their statements. They follow from `types_are_sound` by induction over the moves of a run.
 ghost use Rattle.plc_sound.specs.Laws.{TrueClaimsSuffice, UnclaimedTypesSuffice};
-ghost use Rattle.plc_sound.specs.NoRetire.{NoRetireIsSafe};
 
 /// Where a flow has a typing and each claim that a run reaches is true, no step of any run is a pointer
 /// race or a second retire, with any number of threads, any interleaving, any reuse of addresses and any
@@ -13,11 +12,4 @@ pub fn true_claims_suffice()
 /// The same of a flow that has a typing and no step of which holds a claim.
 pub fn unclaimed_types_suffice()
     ensures { UnclaimedTypesSuffice }
-{}
-
-/// No step of any run of a flow that never calls `retire` is a pointer race or a second retire, with
-/// any number of threads, any interleaving, any reuse of addresses and any free that the observer
-/// allows: nothing is handed to the reclaimer, so no free is allowed, and no pointer becomes invalid.
-pub fn no_retire_is_safe()
-    ensures { NoRetireIsSafe }
 {}

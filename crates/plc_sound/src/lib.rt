@@ -4,4 +4,4 @@
 
 mod laws;
 
-pub use laws::{no_retire_is_safe, true_claims_suffice, unclaimed_types_suffice};
+pub use laws::{true_claims_suffice, unclaimed_types_suffice};
