@@ -1,6 +1,6 @@
 // One way through the program: words, reads, answer, write. Nothing is written before the whole text
 // is there, so running out of memory before that leaves the output as it was.
-ghost use Rattle.std.specs.Prelude.{◌≤◌, IfOk, map, string_bytes};
+ghost use Rattle.std.specs.Prelude.{◌≡◌, ◌≤◌, None, IfOk, map, string_bytes};
 ghost use Rattle.plc_cli.specs.Requests.{request_of};
 ghost use Rattle.plc_cli.specs.Reads.{FilesAreKept};
 ghost use Rattle.plc_cli.specs.Answer.{IsDueFor, Outcome};
@@ -24,6 +24,8 @@ fn answer_to<F: Files>(
     reclaimers: &mut [Box<dyn Reclaimer>],
 ) -> Result<Answer, AllocError>
     ensures kept { FilesAreKept (F.known files.old) (F.known files.new) }
+    ensures untouched { request_of (map named reclaimers.old) (map string_bytes words.now) ≡ None
+        → F.known files.new ≡ F.known files.old }
     ensures due { IfOk result (λ answer. IsDueFor (map meanings reclaimers.old)
         (request_of (map named reclaimers.old) (map string_bytes words.now))
         (F.known files.old) (F.known files.new) answer.status answer.text.items) }
@@ -59,6 +61,8 @@ pub fn run<F: Files, S: Sink>(
         (F.known files.old) (F.known files.new) (S.known out.old) (S.known out.new) result }
     ensures headline { Headline (request_of (map named boxes.items) (map string_bytes words.now))
         (F.known files.old) (F.known files.new) result }
+    ensures untouched { request_of (map named boxes.items) (map string_bytes words.now) ≡ None
+        → F.known files.new ≡ F.known files.old }
     ensures files_kept { FilesAreKept (F.known files.old) (F.known files.new) }
     ensures count_kept { (S.known out.old).faults ≤ (S.known out.new).faults }
 {
