@@ -1,7 +1,8 @@
 -- Places of the locals of a kind, and how many of the kind stand before a place.
-use Rattle.std.proofs.Common.{◌≡◌, ℕ, zero, suc, ◌+◌, ◌-◌, ◌<◌, ◌≤◌, nat_lt, Bool, true, false, cond, List, [], ◌∷◌, take, filter, slice_get, count_by, Option, Some, None, refl, sym, ap, ◌∙◌, arith}
+use Rattle.std.proofs.Common.{◌≡◌, ℕ, zero, suc, ◌+◌, ◌-◌, ◌<◌, nat_lt, Bool, true, false, cond, List, [], ◌∷◌, take, filter, slice_get, count_by, Option, Some, None, refl, sym, ap, ◌∙◌, arith}
 use Rattle.std.specs.List.{sum_by}
-use Rattle.std.proofs.lemmas.Bool.{lt-ltb, le-ltb}
+use Rattle.std.specs.Option.{unwrap_or}
+use Rattle.std.proofs.lemmas.Bool.{lt-ltb, le-ltb, ltb-false}
 use Rattle.std.proofs.lemmas.List.Sums.{sum_by-cons}
 use Rattle.plc_lang.specs.declared.syntax.Local.{Local}
 use Rattle.plc_lang.specs.declared.syntax.Ghost.{Ghost}
@@ -45,6 +46,16 @@ module _ (k : Local → Bool) where
       go true r = let more : 1 + count_by k (take n ls) ≡ suc (count_by k (take n ls)) = omega arith in ap (λ m. slice_get (b ∷ places_from k (b + 1) ls) m) more ∙ r
       go false r = let none : 0 + count_by k (take n ls) ≡ count_by k (take n ls) = omega arith in ap (λ m. slice_get (places_from k (b + 1) ls) m) none ∙ r
 
+  -- each number below the count of the kind has a place
+  pub place_there : (ls : List Local) (b v : ℕ) → v < count_by k ls → (p : ℕ) × (slice_get (places_from k b ls) v ≡ Some p)
+  place_there [] b v h = absurd (omega arith)
+  place_there (l ∷ ls) b v h = go (λ w less. place_there ls (b + 1) w less) (k l) v (omega (arith, h, counted l ls))
+    where
+      go : ((w : ℕ) → w < count_by k ls → (p : ℕ) × (slice_get (places_from k (b + 1) ls) w ≡ Some p)) → (y : Bool) → (v : ℕ) → v < cond y 1 0 + count_by k ls → (p : ℕ) × (slice_get (cond y (b ∷ places_from k (b + 1) ls) (places_from k (b + 1) ls)) v ≡ Some p)
+      go rest true zero less = (b, refl)
+      go rest true (suc w) less = rest w (omega arith)
+      go rest false w less = rest w (omega arith)
+
   from_start : (ls : List Local) (n : ℕ) (l : Local) → slice_get ls n ≡ Some l → k l ≡ true → slice_get (places_from k 0 ls) (count_by k (take n ls)) ≡ Some n
   from_start ls n l e h = (let same : 0 + n ≡ n = omega arith in place_of_number ls 0 n l e h ∙ ap Some same)
 
@@ -82,6 +93,8 @@ numbers_are_one locals = record {
   of_data = at_start is_data locals;
   to_pointer = from_start is_pointer locals;
   to_data = from_start is_data locals;
+  pointer_there = place_there is_pointer locals 0;
+  data_there = place_there is_data locals 0;
 }
 
 -- the values of the fields before come before those of a field
@@ -99,8 +112,29 @@ value_found b (x ∷ gs) (suc k) v g e h n same =
     let next : b + 1 + k ≡ b + suc k = omega arith in
     rw large (value_found (b + 1) gs k v g e h (n - values_in x) (omega (arith, same, sum)) ∙ ap (λ i. Some (i, v)) next)
 
+-- a value that is found stands behind the values of the fields before
+value_back : (b : ℕ) (gs : List Ghost) (n p v : ℕ) → value_from b gs n ≡ Some (p, v) → (k : ℕ) × (p ≡ b + k) × (sum_by values_in (take k gs) + v ≡ n)
+value_back b [] n p v e = absurd cc
+value_back b (x ∷ gs) n p v e = go (λ m f. value_back (b + 1) gs m p v f) (nat_lt n (values_in x)) refl e
+  where
+    go : ((m : ℕ) → value_from (b + 1) gs m ≡ Some (p, v) → (k : ℕ) × (p ≡ b + 1 + k) × (sum_by values_in (take k gs) + v ≡ m)) → (y : Bool) → nat_lt n (values_in x) ≡ y → cond y (Some (b, n)) (value_from (b + 1) gs (n - values_in x)) ≡ Some (p, v) → (k : ℕ) × (p ≡ b + k) × (sum_by values_in (take k (x ∷ gs)) + v ≡ n)
+    go rest true small f =
+        let first : b ≡ p = ap (λ (o : Option (ℕ × ℕ)). (unwrap_or o (0, 0)).0) f in
+        let second : n ≡ v = ap (λ (o : Option (ℕ × ℕ)). (unwrap_or o (0, 0)).1) f in
+        (zero, omega (arith, first), omega (arith, second))
+    go rest false large f =
+        let r = rest (n - values_in x) f in
+        let most = ltb-false n (values_in x) large in
+        (suc (r.0), omega (arith, r.1), omega (arith, r.2, most, sum_by-cons values_in x (take (r.0) gs)))
+
 -- the two numbers of a value lead to each other
 pub values_are_numbered : (ghosts : List Ghost) → ValuesAreNumbered ghosts
-values_are_numbered ghosts k v g e h =
-    let first : 0 + k ≡ k = omega arith in
-    value_found 0 ghosts k v g e h (value_number ghosts k v) refl ∙ ap (λ i. Some (i, v)) first
+values_are_numbered ghosts = record {
+  there = λ k v g e h.
+      let first : 0 + k ≡ k = omega arith in
+      value_found 0 ghosts k v g e h (value_number ghosts k v) refl ∙ ap (λ i. Some (i, v)) first;
+  back = λ n k v e.
+      let r = value_back 0 ghosts n k v e in
+      let same : k ≡ r.0 = omega (arith, r.1) in
+      rw same (r.2);
+}

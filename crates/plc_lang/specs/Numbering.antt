@@ -48,13 +48,16 @@ value_from before (g ∷ gs) n = if nat_lt n (values_in g) then Some (before, n)
 abbrev pub value_at : List Ghost → ℕ → Option (ℕ × ℕ)
 value_at ghosts n = value_from 0 ghosts n
 
--- a value's number over the file leads to its field and its number there
-abbrev pub ValuesAreNumbered : List Ghost → Type 0
-ValuesAreNumbered ghosts = (k v : ℕ) (g : Ghost) → slice_get ghosts k ≡ Some g → v < values_in g → value_at ghosts (value_number ghosts k v) ≡ Some (k, v)
+-- a value's two numbers lead to each other
+pub record ValuesAreNumbered (ghosts : List Ghost) : Type 0 where
+  pub there : (k v : ℕ) (g : Ghost) → slice_get ghosts k ≡ Some g → v < values_in g → value_at ghosts (value_number ghosts k v) ≡ Some (k, v)
+  pub back : (n k v : ℕ) → value_at ghosts n ≡ Some (k, v) → value_number ghosts k v ≡ n
 
--- a local's two numbers lead to each other
+-- a local's two numbers lead to each other, and each number below the count of its kind has a place
 pub record NumbersAreOne (locals : List Local) : Type 0 where
   pub of_pointer : (v place : ℕ) → pointer_place locals v ≡ Some place → pointer_number locals place ≡ v
   pub of_data : (x place : ℕ) → data_place locals x ≡ Some place → data_number locals place ≡ x
   pub to_pointer : (place : ℕ) (l : Local) → slice_get locals place ≡ Some l → is_pointer l ≡ true → pointer_place locals (pointer_number locals place) ≡ Some place
   pub to_data : (place : ℕ) (l : Local) → slice_get locals place ≡ Some l → is_data l ≡ true → data_place locals (data_number locals place) ≡ Some place
+  pub pointer_there : (v : ℕ) → v < count_by is_pointer locals → (place : ℕ) × (pointer_place locals v ≡ Some place)
+  pub data_there : (x : ℕ) → x < count_by is_data locals → (place : ℕ) × (data_place locals x ≡ Some place)

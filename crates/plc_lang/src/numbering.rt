@@ -1,6 +1,6 @@
 // A local has two numbers: primitives and environments count pointer locals and data locals apart,
 // clauses count all locals of an operation together. A value of an auxiliary field has two as well: in
-// its field, and over the file. One is turned into the other here and nowhere else.
+// its field, and over the file. Here one is turned into the other.
 ghost use Rattle.std.specs.Prelude.{◌≡◌, ◌+◌, ◌≤◌, ◌<◌, ◌^◌, length, List};
 ghost use Rattle.std.specs.List.{sum_by};
 ghost use Rattle.plc_lang.specs.declared.syntax.Local.{Local as ALocal};
@@ -93,7 +93,7 @@ pub fn values_are_numbered()
     ensures { (fields : List AField) → ValuesAreNumbered fields }
 {}
 
-/// The two numbers of a local lead to each other.
+/// The two numbers of a local lead to each other, and each number below the count of its kind has a place.
 pub fn numbers_are_one()
     ensures { (locals : List ALocal) → NumbersAreOne locals }
 {}
