@@ -17,18 +17,12 @@ use crate::form::{LiteralForm, Quantified};
 use crate::literal_form::{literal_at, or_literal_at, quantified_at};
 use crate::reach::{Reach, declared_kind};
 use crate::term::literal;
-use plc_base::{Items, NameFault, Names, What1};
+use plc_base::{Items, MOST_BOUND, NameFault, Names, What1};
 use plc_forms::{Rest, semicolon_at};
 use plc_lang::Local;
 use plc_logic::{Clause, Literal};
 use plc_scope::{ParseFault, Scope};
 use std::alloc::Global;
-
-/// How many quantified names a clause may have.
-const MOST_BOUND: u16 = 2;
-
-/// How many literals a clause may have.
-const MOST_LITERALS: usize = 16;
 
 // A name that differs from all before.
 fn add_name(names: &mut Names, name: &[u8], at: u32) -> Result<(), ParseFault>
@@ -122,10 +116,7 @@ fn counted(
     match meaning {
         Err(ParseFault::Memory) => Err(ParseFault::Memory),
         Err(fault) if fault.stands_at(at) => Err(fault),
-        _ if count == MOST_LITERALS => Err(ParseFault::Limit {
-            what: What1::Literals,
-            count: 17,
-        }),
+        _ if count == What1::Literals.most() as usize => Err(ParseFault::past(What1::Literals)),
         meaning => meaning,
     }
 }

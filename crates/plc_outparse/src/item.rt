@@ -18,12 +18,6 @@ use plc_logic::{Clause, Item, Site};
 use plc_scope::{ParseFault, Scope};
 use std::alloc::Global;
 
-/// How many invariants an outline may have.
-const MOST_INVARIANTS: usize = 64;
-
-/// How many other items an outline may have.
-const MOST_ITEMS: usize = 256;
-
 /// The invariants and the other items so far.
 #[derive(Drop)]
 pub struct Parts {
@@ -45,24 +39,12 @@ fn read_invariant<'a>(
         (invariant_in scope.now (parts_at parts.old at) (kinds_left start.entry)) }
     ensures place { IfOk result (λ r. Within start.entry r) }
 {
-    if parts.invariants.len() == MOST_INVARIANTS {
-        return Err(ParseFault::Limit {
-            what: What1::Invariants,
-            count: 65,
-        });
+    if parts.invariants.len() == What1::Invariants.most() as usize {
+        return Err(ParseFault::past(What1::Invariants));
     }
     let (clause, rest) = read_clause_line(alloc, scope, &[], false, start)?;
     parts.invariants.push(clause)?;
     Ok(rest)
-}
-
-fn too_many_items() -> ParseFault
-    ensures { result ≡ ParseFault.Limit What1.Items 257 }
-{
-    ParseFault::Limit {
-        what: What1::Items,
-        count: 257,
-    }
 }
 
 // An item over an operation, whose word stands at the place, from behind its colon.
@@ -82,8 +64,8 @@ fn read_over<'a>(
         (over_in scope.now ops.now (parts_at parts.old at) name.now (kinds_left start.entry)) }
     ensures place { IfOk result (λ r. Within start.entry r) }
 {
-    if parts.items.len() == MOST_ITEMS {
-        return Err(too_many_items());
+    if parts.items.len() == What1::Items.most() as usize {
+        return Err(ParseFault::past(What1::Items));
     }
     let op = op_at(scope, ops, name, at + 1)?;
     let locals = few_locals_of(ops, op as usize);
@@ -112,8 +94,8 @@ fn read_at<'a>(
         (at_in scope.now ops.now by_op.now (parts_at parts.old at) name.now (kinds_left start.entry)) }
     ensures place { IfOk result (λ r. Within start.entry r) }
 {
-    if parts.items.len() == MOST_ITEMS {
-        return Err(too_many_items());
+    if parts.items.len() == What1::Items.most() as usize {
+        return Err(ParseFault::past(What1::Items));
     }
     let (labels, op, rest) = read_labels(alloc, scope, by_op, at + 1, name, start)?;
     let locals = few_locals_of(ops, op);
