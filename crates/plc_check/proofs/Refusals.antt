@@ -1,4 +1,4 @@
--- Bytes whose tokens or unit were refused for another cause than want of memory have that fault, and spell no file that is judged.
+-- Bytes whose tokens or unit were refused for another cause than running out of memory have that fault, and spell no file that is judged.
 use Rattle.std.proofs.Common.{◌≡◌, ℕ, List, Some, inl, sym, subst, refl}
 use Rattle.plc_lex.specs.declared.token.Token.{Token}
 use Rattle.plc_lex.specs.declared.fault.LexFault.{LexFault}

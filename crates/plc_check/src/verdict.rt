@@ -29,7 +29,7 @@ pub enum Verdict {
 
 /// The verdict by types on a file that [`crate::load`] gave: `Safe` exactly where it has a typing, else
 /// `Untyped`. Its outline isn't judged yet: who hands in a file with one, or with claims, is told nothing of
-/// them. The one error is want of memory.
+/// them. The one error is that memory runs out.
 pub fn check(alloc: Global, judged: &Judged) -> Result<Verdict, NoMemory>
     requires flow { IsWellFormed judged.now.flow }
     requires file { FileFits judged.now.flow.file }

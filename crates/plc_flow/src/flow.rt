@@ -41,7 +41,7 @@ pub struct Flow {
 pub enum FlowFault {
     /// It has more than 4,096 points; the count is 4,097.
     TooManyPoints { count: u32 },
-    /// Memory was wanting.
+    /// Memory ran out.
     Memory,
 }
 
@@ -96,7 +96,7 @@ pub enum Place {
 pub enum StartFault {
     /// The file's `init` is blocked.
     NoStart,
-    /// Memory was wanting.
+    /// Memory ran out.
     Memory,
 }
 

@@ -35,7 +35,7 @@ pub enum InferFault {
         prim: u16,
         fault: TypeFault,
     },
-    /// Memory was wanting.
+    /// Memory ran out.
     Memory,
 }
 

@@ -95,7 +95,7 @@ not_both _ _ _ _ why p (behind_space at line b bs ts e s) t = not_both _ _ _ _ w
 not_both _ _ _ _ why p (behind_comment at line bs ts e s) t = not_both _ _ _ _ why p s (subst (Stopped at bs why p) (next_comment line bs e) (stopped at line bs why p t))
 not_both _ _ _ _ why p (token at line n bs kind ts space comment e s) t = not_both _ _ _ _ why p s (subst (Stopped at bs why p) (next_token line bs kind n space comment e) (stopped at line bs why p t))
 
--- a text that spells tokens is refused for want of memory alone
+-- a text that spells tokens is refused for running out of memory alone
 pub memory_alone : (bytes : List ℕ) (ts : List Token) (fault : LexFault) → Spells 0 1 bytes ts → StopsWith 0 bytes fault → fault ≡ Memory
 memory_alone bytes ts (BadByte place) s t = absurd (not_both 0 1 bytes ts bad_byte place s t)
 memory_alone bytes ts (LongName place) s t = absurd (not_both 0 1 bytes ts long_name place s t)

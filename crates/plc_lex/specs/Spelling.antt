@@ -1,6 +1,7 @@
 -- Which tokens bytes spell, and where bytes spell none.
 use Rattle.std.specs.Prelude.{◌≡◌, ◌==◌, ◌<◌, ◌≤◌, ◌&&◌, ◌+◌, ◌*◌, ◌-◌, ◌^◌, ℕ, Bool, true, false, not, if◌then◌else◌, List, [], ◌∷◌, length, take, drop, fold, Option, Some, None, Result, Ok, Err, nat_lt, nat_eq, count_by, All}
 use Rattle.std.specs.List.{prefix_len, starts_with}
+use Rattle.plc_base.specs.Limits.{most_name_bytes}
 use Rattle.plc_lex.specs.declared.token.Token.{Token}
 use Rattle.plc_lex.specs.declared.token.TokenKind.{TokenKind}
 use Rattle.plc_lex.specs.declared.token.TokenKind.TheVariants.{Word, Name, Number, Symbol}
@@ -35,7 +36,7 @@ is_plain (d ∷ e ∷ ds) = not (d == 48)
 
 -- the longest run of name bytes at the front, and its length
 unfoldable pub name_at : List ℕ → Result (TokenKind × ℕ) Refusal
-name_at bs = let n = prefix_len in_name bs in if nat_lt 64 n then Err long_name else Ok (name_or_word (take n bs), n)
+name_at bs = let n = prefix_len in_name bs in if nat_lt most_name_bytes n then Err long_name else Ok (name_or_word (take n bs), n)
 
 -- the longest run of digits at the front, and its length
 unfoldable pub number_at : List ℕ → Result (TokenKind × ℕ) Refusal
@@ -96,11 +97,11 @@ abbrev pub begins_with_letter : List ℕ → Bool
 begins_with_letter [] = false
 begins_with_letter (b ∷ bs) = is_letter b
 
--- a name: a letter or `_` and then bytes that go on it, at most 64, and no keyword
+-- a name: a letter or `_` and then bytes that go on it, not too many, and no keyword
 pub record IsName (run : List ℕ) : Type 0 where
   pub first : begins_with_letter run ≡ true
   pub whole : prefix_len in_name run ≡ length run
-  pub length_bound : length run ≤ 64
+  pub length_bound : length run ≤ most_name_bytes
   pub no_keyword : keyword_of run ≡ None
 
 -- what stands in a token

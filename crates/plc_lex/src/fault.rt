@@ -13,7 +13,7 @@ pub enum LexFault {
     LongName { at: u32 },
     /// A number above 4294967295, or of several digits of which the first is 0, begins here.
     BadNumber { at: u32 },
-    /// Memory was wanting.
+    /// Memory ran out.
     Memory,
 }
 

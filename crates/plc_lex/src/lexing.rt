@@ -87,7 +87,7 @@ pub fn tokens(alloc: Global, bytes: &[u8]) -> Result<Vec<Token>, LexFault>
     ensures spelled { IfOk result (λ v. AreTokensOf bytes.now v.items) }
     ensures fault { IfErr result (StopsWith 0 bytes.now) }
 
-    // Want of memory aside, what is spelled is answered, and what stops is refused.
+    // Running out of memory aside, what is spelled is answered, and what stops is refused.
     ensures accepts { (ts : List Token) → AreTokensOf bytes.now ts
         → MatchResult result (λ v. v.items ≡ ts) (λ e. e ≡ Memory) }
     ensures refuses { (why : Refusal) (place : ℕ) → StopsAt bytes.now why place → OnOk result ⊥ }

@@ -9,7 +9,7 @@ use crate::characters::{digits_length, is_digit, is_letter, name_length};
 use crate::fault::LexFault;
 use crate::token::TokenKind;
 use crate::words::{keyword, symbol};
-use plc_base::Items;
+use plc_base::{Items, MOST_NAME_BYTES};
 use std::alloc::Global;
 
 // The token of a run of letters and digits.
@@ -29,7 +29,7 @@ fn name_at(alloc: Global, bytes: &[u8], at: u32) -> Result<(TokenKind, usize), L
     ensures err { IfErr result (IsFaultAt at (spec.name_at bytes.now)) }
 {
     let length = name_length(bytes);
-    if length > 64 {
+    if length > MOST_NAME_BYTES {
         return Err(LexFault::LongName { at });
     }
     let kind = name_or_word(alloc, bytes.split_at(length).0)?;

@@ -1,6 +1,6 @@
 // One primitive, column by column of the table: where it is a race, where it is blocked, its event,
 // what it changes. The first three only read, and the last takes its memory before it changes
-// anything, so that a race, a blocked primitive and want of memory leave all as it was.
+// anything, so that a race, a blocked primitive and running out of memory leave all as it was.
 ghost use Rattle.std.specs.Prelude.{◌≡◌, ℕ, IfOk, OnOk, OnErr, Some};
 ghost use Rattle.plc_lang.specs.Shape.{PrimitiveIn};
 ghost use Rattle.plc_base.specs.Functions.{is_retire};
@@ -19,7 +19,7 @@ use plc_lang::{Arg, Prim, Var, compares};
 
 impl Memory {
     /// One primitive of thread `t`, which lends its locals; `addr` is the address that a `new` takes,
-    /// and isn't read at other primitives. After `Blocked`, `Race` and want of memory all is as it was.
+    /// and isn't read at other primitives. After `Blocked`, `Race`, and where memory runs out, all is as it was.
     pub fn apply(
         &mut self,
         prim: &Prim,

@@ -31,7 +31,7 @@ fn parts(alloc: Global, out: &mut Printer, unit: &Unit) -> Result<(), AllocError
 
 /// The canonical text of a unit: each name as the file has it, each token followed by one space, but
 /// `;`, `{` and `}` by a line feed, and optional parts that are empty left out. Its one error is that
-/// memory was wanting.
+/// memory ran out.
 pub fn print(alloc: Global, unit: &Unit) -> Result<Vec<u8>, NoMemory>
     ensures { IfOk result (λ text. text.items ≡ canonical_text unit.now) }
 {

@@ -178,7 +178,7 @@ pub reach_free : (flow : Flow) (o : Observer) (c : Configuration) (a : ℕ) → 
 unfolding reach
 reach_free flow o c a = refl
 
--- ---- the answer of a move, or want of memory
+-- ---- the answer of a move, or running out of memory
 
 pub step_answers : (flow : Flow) (o : Observer) (p q : Position) (move : Move) (r : Result Moved NoMemory) → p.ended ≡ false → IsOfRun flow o p → IfOk r (λ m. m ≡ answer (reach flow o p.here move)) → OnOk r (q ≡ reached (reach flow o p.here move) p) → IfOk r (λ m. Answers flow o p move m q)
 step_answers flow o p q move (Ok m) live run e f = answered flow o p q move m live run e f

@@ -1,6 +1,6 @@
 // A configuration of a run in code. What a move leads to is computed beside it: nothing of the
 // configuration is touched before the last call that may lack memory, so that a move that is
-// blocked or forbidden, and want of memory, leave it as it was.
+// blocked or forbidden, and running out of memory, leave it as it was.
 ghost use Rattle.std.specs.Prelude.{◌≡◌, ℕ, ◌<◌, length, get_or, set, replicate, IfOk, OnOk, OnErr, None};
 ghost use Rattle.plc_flow.specs.WellFormed.{FlowFits};
 ghost use Rattle.plc_run.specs.Run.{point_of, taken};

@@ -43,13 +43,13 @@ pub data IsFirstBad : List (List ℕ) → ℕ → Type 0 where
   at_head : (lines : List (List ℕ)) (n : ℕ) → n ≡ 1 → HasNoHead lines → IsFirstBad lines n
   behind_head : (lines : List (List ℕ)) (n threads : ℕ) (more : List (List ℕ)) → ThreadsFit threads → lines ≡ head_text threads ∷ more → StopsAt threads more n → IsFirstBad lines n
 
--- why a file spells no schedule; want of memory tells nothing
+-- why a file spells no schedule; running out of memory says nothing
 abbrev pub IsScheduleFault : List ℕ → SchedFault → Type 0
 IsScheduleFault bytes (Line n) = (length (lines_of bytes) ≤ line_limit) × IsFirstBad (lines_of bytes) n
 IsScheduleFault bytes (Limit count) = (count ≡ line_limit + 1) × (line_limit < length (lines_of bytes))
 IsScheduleFault bytes Memory = Unit {0}
 
--- a file spells one schedule, or has one fault beside want of memory, and not both
+-- a file spells one schedule, or has one fault beside running out of memory, and not both
 pub record SchedulesAreUnique : Type 0 where
   pub schedules : (bytes : List ℕ) (s t : Schedule) → IsScheduleOf bytes s → IsScheduleOf bytes t → s ≡ t
   pub faults : (bytes : List ℕ) (f g : SchedFault) → IsScheduleFault bytes f → IsScheduleFault bytes g → f ≢ Memory → g ≢ Memory → f ≡ g

@@ -12,7 +12,7 @@ pub enum SchedFault {
     Line { n: u32 },
     /// There are more than 100,000 lines; `count` is 100,001.
     Limit { count: u32 },
-    /// Memory was wanting.
+    /// Memory ran out.
     Memory,
 }
 

@@ -6,12 +6,12 @@ use Rattle.plc_scope.specs.declared.fault.ParseFault.TheVariants as faults
 use Rattle.plc_scope.specs.declared.scope.Scope.{Scope}
 use Rattle.plc_scope.specs.Scope.{most_locals}
 
--- the fault is the specification's, unless memory was wanting
+-- the fault is the specification's, unless memory ran out
 abbrev pub FailsAs : {Y : Type 0} → ParseFault → Result Y ParseFault → Type 0
 FailsAs faults.Memory said = Unit {0}
 FailsAs e said = said ≡ Err e
 
--- the answer is the specification's, unless memory was wanting
+-- the answer is the specification's, unless memory ran out
 abbrev pub Gives : {X Y : Type 0} → (X → Y) → Result X ParseFault → Result Y ParseFault → Type 0
 Gives view (Ok x) said = said ≡ Ok (view x)
 Gives view (Err e) said = FailsAs e said

@@ -102,7 +102,7 @@ fn solve(alloc: Global, set: &GroundSet) -> Result<Answer, AllocError>
 }
 
 /// A model of the set, exactly where it has one, or else a tree that closes it. It doesn't recurse.
-/// The one error is want of memory.
+/// The one error is that memory runs out.
 pub fn refute(alloc: Global, set: &GroundSet) -> Result<Answer, NoMemory>
     requires { IsWellFormed set.now }
     ensures open { IfOk result (CarriesModel set.now) }

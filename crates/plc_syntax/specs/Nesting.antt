@@ -2,6 +2,8 @@
 -- and of the blocks around it, since neither the struct nor `init`, an outline or an `atomic` block holds blocks.
 use Rattle.std.specs.Prelude.{◌≡◌, ◌≢◌, ◌+◌, ◌-◌, ◌<◌, ℕ, Bool, true, false, Some, List, take, slice_get}
 use Rattle.std.specs.List.{count_by}
+use Rattle.plc_base.specs.Limits.{most}
+use Rattle.plc_base.specs.declared.limits.What1.TheVariants as limits
 use Rattle.plc_lex.specs.declared.token.TokenKind.{TokenKind}
 use Rattle.plc_lex.specs.declared.token.TokenKind.TheVariants.{Word, Symbol}
 use Rattle.plc_lex.specs.declared.token.Keyword.TheVariants.{Atomic}
@@ -11,7 +13,7 @@ use Rattle.plc_syntax.specs.Syntax.{BeginsFile, FaultAt}
 
 -- how many blocks may stand within one another
 abbrev pub nesting_limit : ℕ
-nesting_limit = 64
+nesting_limit = most limits.Nesting
 
 -- `{`
 abbrev pub is_open_brace : TokenKind → Bool

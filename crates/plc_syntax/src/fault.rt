@@ -1,4 +1,4 @@
-// Why tokens are refused. Want of memory is the one answer that no contract ties to a cause.
+// Why tokens are refused. That memory ran out is the one answer that no contract ties to a cause.
 ghost use Rattle.std.specs.Prelude.{◌≡◌};
 ghost use Rattle.plc_syntax.specs.declared.fault.SyntaxFault.TheVariants.{Memory};
 
@@ -12,7 +12,7 @@ pub enum SyntaxFault {
     Syntax { at: u32 },
     /// This brace begins the first block that stands within 64 others.
     Nesting { at: u32 },
-    /// Memory was wanting.
+    /// Memory ran out.
     Memory,
 }
 

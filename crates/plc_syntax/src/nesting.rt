@@ -5,10 +5,8 @@ ghost use Rattle.std.specs.List.{count_by};
 ghost use Rattle.plc_syntax.specs.Nesting.{is_open_brace, is_close_brace, HasCounted, OpensBlockAt, TooDeepAt};
 ghost use Rattle.plc_syntax.specs.Syntax.{kinds};
 
+use plc_base::What1;
 use plc_lex::{Keyword, Symbol, Token, TokenKind};
-
-/// How many blocks may stand within one another.
-const NESTING_LIMIT: u32 = 64;
 
 /// How many braces of each kind are read. Both are counted, since tokens that are no file may close
 /// more than they opened.
@@ -57,7 +55,7 @@ pub fn is_too_deep(tokens: &[Token], place: usize, before: &Braces) -> bool
     requires counted { HasCounted before.now (take place (kinds tokens.now)) }
     ensures { IsTrue result ↔ TooDeepAt (kinds tokens.now) place }
 {
-    before.open() > NESTING_LIMIT && opens_block(tokens, place)
+    before.open() > What1::Nesting.most() && opens_block(tokens, place)
 }
 
 fn opens_block(tokens: &[Token], place: usize) -> bool
