@@ -44,12 +44,14 @@ Makes old new (Err faults.Memory) m = Unit {0}
 
 -- the same of blocks side by side, with their ends as the answer
 abbrev pub MakesBranches : Builder → Builder → Result (List PointId) FlowFault → Branches → Type 0
-MakesBranches old new (Ok ends) m = Grown old new (record { points = m.points; steps = m.steps; labels = m.labels; last = 0 }) × (ends ≡ m.ends)
+MakesBranches old new (Ok ends) m =
+    Grown old new (record { points = m.points; steps = m.steps; labels = m.labels; last = 0 }) × (ends ≡ m.ends)
 MakesBranches old new (Err (faults.TooManyPoints count)) m = Passes old m.points count
 MakesBranches old new (Err faults.Memory) m = Unit {0}
 
 -- the same of all operations, with the gates as the answer
 abbrev pub MakesGates : Builder → Builder → Result (List Gate) FlowFault → MadeOps → Type 0
-MakesGates old new (Ok gates) m = Grown old new (record { points = m.points; steps = m.steps; labels = m.labels; last = 0 }) × (gates ≡ m.gates)
+MakesGates old new (Ok gates) m =
+    Grown old new (record { points = m.points; steps = m.steps; labels = m.labels; last = 0 }) × (gates ≡ m.gates)
 MakesGates old new (Err (faults.TooManyPoints count)) m = Passes old m.points count
 MakesGates old new (Err faults.Memory) m = Unit {0}

@@ -49,7 +49,8 @@ nothing_made c = record { points = 0; steps = []; labels = []; last = c }
 
 -- one behind the other
 abbrev pub joined : Made → Made → Made
-joined a b = record { points = a.points + b.points; steps = a.steps ++ b.steps; labels = a.labels ++ b.labels; last = b.last }
+joined a b =
+    record { points = a.points + b.points; steps = a.steps ++ b.steps; labels = a.labels ++ b.labels; last = b.last }
 
 -- primitives that are one step: point n; step c to n
 abbrev pub one_made : List Primitive → Lowered
@@ -134,7 +135,8 @@ abbrev mutual
   statement_made Skip = one_made []
   statement_made (Call func arg active during) = call_made func (call_side active func arg) during
   statement_made (Label l) = λ h n c. label_made c
-  statement_made (If cond y n) = if_made (side_made (true_side cond) (statements_made y)) (side_made (false_side cond) (statements_made n))
+  statement_made (If cond y n) =
+      if_made (side_made (true_side cond) (statements_made y)) (side_made (false_side cond) (statements_made n))
   statement_made (Choose bs) = choose_made (blocks_made bs)
   statement_made (Loop b) = loop_made (statements_made b)
   statement_made Break = leave_made (λ h. h.behind)
@@ -160,7 +162,8 @@ abbrev mutual
         ends = point_of first.last ∷ others.ends;
       }
 
--- an operation: its entry, its exit, its body from the entry, and a step without primitives from where the body ends to the exit; no `break` stands outside of loops
+-- an operation: its entry, its exit, its body from the entry, and a step without primitives from where the body ends
+-- to the exit; no `break` stands outside of loops
 abbrev pub op_made : ℕ → Op → ℕ → Made
 op_made id o n =
     let h : Here = record { op = record { 0 = id }; exit = point_of (n + 1); behind = point_of (n + 1); line = o.line } in
@@ -206,7 +209,9 @@ most_points = most limits.Points
 
 -- the file with the points, steps and labels that it makes
 abbrev pub flow_of : File → Flow
-flow_of file = let made = made_of file in record { file = file; gates = made.gates; steps = made.steps; points = made.points; labels = made.labels }
+flow_of file =
+    let made = made_of file in
+    record { file = file; gates = made.gates; steps = made.steps; points = made.points; labels = made.labels }
 
 -- the answer of the lowering
 abbrev pub IsLowered : File → Result Flow FlowFault → Type 0

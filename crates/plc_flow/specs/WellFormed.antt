@@ -4,7 +4,6 @@ use Rattle.plc_base.specs.Limits.{most}
 use Rattle.plc_base.specs.declared.ids.PointId.{PointId}
 use Rattle.plc_base.specs.declared.limits.What1.TheVariants as limits
 use Rattle.plc_lang.specs.declared.syntax.Op.{Op}
-use Rattle.plc_lang.specs.Fit.{most_primitives}
 use Rattle.plc_lang.specs.Shape.{shape_of, init_shape, PrimitivesIn}
 use Rattle.plc_flow.specs.declared.flow.Step.{Step}
 use Rattle.plc_flow.specs.declared.flow.Gate.{Gate}
@@ -21,7 +20,8 @@ StepWithin flow s = (g : Gate) × (slice_get flow.gates s.op.0 ≡ Some g) × Is
 -- one gate behind the other, from a point on
 abbrev pub GatesFrom : ℕ → List Gate → ℕ → Type 0
 GatesFrom n [] end = n ≡ end
-GatesFrom n (g ∷ gs) end = (g.first ≡ n) × (g.entry.0 ≡ n) × (g.exit.0 ≡ n + 1) × (n + 2 ≤ g.after) × GatesFrom g.after gs end
+GatesFrom n (g ∷ gs) end = (g.first ≡ n) × (g.entry.0 ≡ n) × (g.exit.0 ≡ n + 1) × (n + 2 ≤ g.after)
+    × GatesFrom g.after gs end
 
 -- the claims that may be put in front of a step: one for each shared pointer and one for each local
 abbrev pub most_claims : ℕ
@@ -45,5 +45,6 @@ pub record IsWellFormed (flow : Flow) : Type 0 where
 pub record FlowFits (flow : Flow) : Type 0 where
   pub well : IsWellFormed flow
   pub init : PrimitivesIn (init_shape flow.file) flow.file.init
-  pub short_init : length flow.file.init ≤ most_primitives
-  pub steps : (k : ℕ) (s : Step) (o : Op) → slice_get flow.steps k ≡ Some s → slice_get flow.file.ops s.op.0 ≡ Some o → PrimitivesIn (shape_of flow.file o) s.prims
+  pub short_init : length flow.file.init ≤ most limits.Prims
+  pub steps : (k : ℕ) (s : Step) (o : Op) → slice_get flow.steps k ≡ Some s → slice_get flow.file.ops s.op.0 ≡ Some o
+      → PrimitivesIn (shape_of flow.file o) s.prims

@@ -1,4 +1,5 @@
--- What else every flow keeps that was lowered from a file that was read: each thing stands where its kind may stand, and labels are numbered.
+-- What else every flow keeps that was lowered from a file that was read: each thing stands where its kind may stand,
+-- and labels are numbered.
 use Rattle.std.specs.Prelude.{◌≡◌, ◌≤◌, ℕ, length, slice_get, Some}
 use Rattle.plc_base.specs.declared.ids.PointId.{PointId}
 use Rattle.plc_lang.specs.declared.syntax.File.{File}
@@ -19,7 +20,7 @@ pub record IsPointOfLabel (flow : Flow) (label : ℕ) (p : PointId) : Type 0 whe
   pub opens : slice_get flow.gates op ≡ Some gate
   pub within : IsPointOf gate p.0
 
--- claims may stand in front of what the text has in a step; the l-th labelled point is that of label l
+-- claims may stand in front of what the text has in a step; the l-th labelled point is one of the operation of label l
 pub record FlowIsWellSorted (flow : Flow) : Type 0 where
   pub file : FileIsWellSorted flow.file
   pub steps : (k : ℕ) (s : Step) → slice_get flow.steps k ≡ Some s → StepIsWellSorted flow.file s.prims

@@ -1,20 +1,22 @@
 -- What every file keeps that was read: the limits, and that what its primitives name is there.
-use Rattle.std.specs.Prelude.{◌≡◌, ℕ, ◌≤◌, length, slice_get, Some}
+use Rattle.std.specs.Prelude.{◌≡◌, ℕ, ◌+◌, ◌≤◌, length, slice_get, Some}
+use Rattle.plc_base.specs.Limits.{most}
+use Rattle.plc_base.specs.declared.limits.What1.TheVariants as limits
 use Rattle.plc_lang.specs.declared.syntax.Ghost.{Ghost}
 use Rattle.plc_lang.specs.declared.syntax.File.{File}
 use Rattle.plc_lang.specs.declared.syntax.Op.{Op}
 use Rattle.plc_lang.specs.Shape.{shape_of, init_shape, PrimitivesIn, StatementsIn}
 use Rattle.plc_lang.specs.Statements.{Statement, One, Atomic, Call, If, Choose, Loop, Break, Return, Skip, Label, Statements, Empty, Then, Blocks, NoBlock, And}
 
--- primitives of one step
-abbrev pub most_primitives : ℕ
-most_primitives = 64
+-- the functions of a file: those that it may declare, and `retire`
+abbrev pub most_functions : ℕ
+most_functions = most limits.Calls + 1
 
--- every atomic block in these statements has at most so many primitives
+-- every atomic block in these statements is a step of few enough primitives
 abbrev mutual
   pub StatementFits : Statement → Type 0
   StatementFits (One k) = Unit {0}
-  StatementFits (Atomic ks) = length ks ≤ most_primitives
+  StatementFits (Atomic ks) = length ks ≤ most limits.Prims
   StatementFits (Call f a b d) = Unit {0}
   StatementFits (If c y n) = StatementsFit y × StatementsFit n
   StatementFits (Choose bs) = BlocksFit bs
@@ -34,20 +36,20 @@ abbrev mutual
 
 -- an operation within the limits
 pub record OpFits (o : Op) : Type 0 where
-  pub locals : length o.locals ≤ 32
+  pub locals : length o.locals ≤ most limits.Locals
   pub body : StatementsFit o.body
 
--- the limits on what a file declares; `retire` is counted beside the 16 functions that a file may declare
+-- the limits on what a file declares
 pub record FileFits (file : File) : Type 0 where
-  pub fields : length file.fields ≤ 8
-  pub shared : length file.shared ≤ 16
-  pub funcs : length file.funcs ≤ 17
-  pub ghosts : length file.ghosts ≤ 4
-  pub values : (k : ℕ) (g : Ghost) → slice_get file.ghosts k ≡ Some g → length g.values ≤ 16
-  pub init : length file.init ≤ most_primitives
-  pub ops : length file.ops ≤ 32
+  pub fields : length file.fields ≤ most limits.Fields
+  pub shared : length file.shared ≤ most limits.Shared
+  pub funcs : length file.funcs ≤ most_functions
+  pub ghosts : length file.ghosts ≤ most limits.Ghosts
+  pub values : (k : ℕ) (g : Ghost) → slice_get file.ghosts k ≡ Some g → length g.values ≤ most limits.Values
+  pub init : length file.init ≤ most limits.Prims
+  pub ops : length file.ops ≤ most limits.Ops
   pub each_op : (k : ℕ) (o : Op) → slice_get file.ops k ≡ Some o → OpFits o
-  pub labels : length file.labels ≤ 256
+  pub labels : length file.labels ≤ most limits.Labels
 
 -- `init` and the operations name what is there
 pub record NamesWhatIsThere (file : File) : Type 0 where

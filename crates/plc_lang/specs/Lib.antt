@@ -13,4 +13,4 @@ pub mod Views
 pub mod WellSorted
 -- words of private functions alone
 pub mod Falls
-pub mod Marks
+pub mod Postorder

@@ -1,4 +1,5 @@
--- A control flow as plain lists, over which typings are defined: how many pointer locals there are at each point, where operations begin, and the steps.
+-- A control flow as plain lists, over which typings are defined: how many pointer locals there are at each point,
+-- where operations begin, and the steps.
 use Rattle.std.specs.Prelude.{ℕ, List, get_or}
 use Rattle.plc_lang.specs.declared.syntax.Primitive.{Primitive}
 

@@ -1,4 +1,5 @@
--- What else every file keeps that was read, beside the limits and that what it names is there: each thing stands where its kind may stand.
+-- What else every file keeps that was read, beside the limits and that what it names is there: each thing stands
+-- where its kind may stand.
 use Rattle.std.specs.Prelude.{◌≡◌, ◌≤◌, ◌<◌, ◌+◌, ◌++◌, ℕ, Bool, true, false, not, ◌&&◌, List, [], ◌∷◌, length, filter, count_by, slice_get, Some}
 use Rattle.std.specs.List.{list_any, concat, range_with_len}
 use Rattle.plc_base.specs.Functions.{is_retire}
@@ -182,11 +183,13 @@ abbrev mutual
 
   pub StatementsAreWellSorted : File → Bool → Statements → Type 0
   StatementsAreWellSorted file in_loop Empty = Unit {0}
-  StatementsAreWellSorted file in_loop (Then l s b) = StatementIsWellSorted file in_loop s × StatementsAreWellSorted file in_loop b
+  StatementsAreWellSorted file in_loop (Then l s b) = StatementIsWellSorted file in_loop s
+      × StatementsAreWellSorted file in_loop b
 
   pub BlocksAreWellSorted : File → Bool → Blocks → Type 0
   BlocksAreWellSorted file in_loop NoBlock = Unit {0}
-  BlocksAreWellSorted file in_loop (And b bs) = StatementsAreWellSorted file in_loop b × BlocksAreWellSorted file in_loop bs
+  BlocksAreWellSorted file in_loop (And b bs) = StatementsAreWellSorted file in_loop b
+      × BlocksAreWellSorted file in_loop bs
 
 -- ---- operations and files
 

@@ -17,11 +17,11 @@ impl Model for Block {
     ghost use Rattle.std.specs.Coded.{codes, code_by, coded_list};
     ghost use Rattle.std.specs.Prelude.{List};
     ghost use Rattle.plc_lang.specs.Statements.{Statements, block_size};
-    ghost use Rattle.plc_lang.specs.Marks.{Mark, marks_of, read_block, read_back};
+    ghost use Rattle.plc_lang.specs.Postorder.{Head, heads_of, read_block, read_back};
 
     ghost Value = { Statements };
 
-    ghost coded = { code_by (List Mark) (coded_list (Prim.hlevel codes)) marks_of read_block read_back };
+    ghost coded = { code_by (List Head) (coded_list (Prim.hlevel codes)) heads_of read_block read_back };
 
     ghost use Rattle.plc_lang.specs.Views.{block_of};
 

@@ -34,20 +34,24 @@ comment_opening = codes "//"
 -- the words that can't be names
 unfoldable pub keywords : List (List ℕ × Keyword)
 keywords =
-    (codes "struct", words.Struct) ∷ (codes "ptr", words.Ptr) ∷ (codes "data", words.Data) ∷ (codes "shared", words.Shared)
-    ∷ (codes "call", words.Call) ∷ (codes "use", words.Use) ∷ (codes "hazard", words.Hazard) ∷ (codes "epoch", words.Epoch)
-    ∷ (codes "ghost", words.Ghost) ∷ (codes "thread", words.Thread) ∷ (codes "init", words.Init) ∷ (codes "op", words.Op)
-    ∷ (codes "atomic", words.Atomic) ∷ (codes "if", words.If) ∷ (codes "else", words.Else) ∷ (codes "loop", words.Loop)
-    ∷ (codes "break", words.Break) ∷ (codes "return", words.Return) ∷ (codes "skip", words.Skip) ∷ (codes "choose", words.Choose)
-    ∷ (codes "or", words.Or) ∷ (codes "label", words.Label) ∷ (codes "during", words.During) ∷ (codes "active", words.Active)
-    ∷ (codes "assume", words.Assume) ∷ (codes "new", words.New) ∷ (codes "null", words.Null) ∷ (codes "cas", words.Cas)
-    ∷ (codes "outline", words.Outline) ∷ (codes "depth", words.Depth) ∷ (codes "inv", words.Inv) ∷ (codes "over", words.Over)
-    ∷ (codes "at", words.At) ∷ (codes "all", words.All) ∷ (codes "not", words.Not) ∷ (codes "retired", words.Retired)
+    (codes "struct", words.Struct) ∷ (codes "ptr", words.Ptr) ∷ (codes "data", words.Data)
+    ∷ (codes "shared", words.Shared) ∷ (codes "call", words.Call) ∷ (codes "use", words.Use)
+    ∷ (codes "hazard", words.Hazard) ∷ (codes "epoch", words.Epoch) ∷ (codes "ghost", words.Ghost)
+    ∷ (codes "thread", words.Thread) ∷ (codes "init", words.Init) ∷ (codes "op", words.Op)
+    ∷ (codes "atomic", words.Atomic) ∷ (codes "if", words.If) ∷ (codes "else", words.Else)
+    ∷ (codes "loop", words.Loop) ∷ (codes "break", words.Break) ∷ (codes "return", words.Return)
+    ∷ (codes "skip", words.Skip) ∷ (codes "choose", words.Choose) ∷ (codes "or", words.Or)
+    ∷ (codes "label", words.Label) ∷ (codes "during", words.During) ∷ (codes "active", words.Active)
+    ∷ (codes "assume", words.Assume) ∷ (codes "new", words.New) ∷ (codes "null", words.Null)
+    ∷ (codes "cas", words.Cas) ∷ (codes "outline", words.Outline) ∷ (codes "depth", words.Depth)
+    ∷ (codes "inv", words.Inv) ∷ (codes "over", words.Over) ∷ (codes "at", words.At)
+    ∷ (codes "all", words.All) ∷ (codes "not", words.Not) ∷ (codes "retired", words.Retired)
     ∷ (codes "me", words.Me) ∷ (codes "none", words.None) ∷ []
 
 -- the word of a table that a run of bytes spells
 abbrev pub keyword_in : List (List ℕ × Keyword) → List ℕ → Option Keyword
-keyword_in table run = option_map (λ (k : List ℕ × Keyword). k.1) (find (λ (k : List ℕ × Keyword). bytes_eq k.0 run) table)
+keyword_in table run =
+    option_map (λ (k : List ℕ × Keyword). k.1) (find (λ (k : List ℕ × Keyword). bytes_eq k.0 run) table)
 
 -- the keyword that a run of bytes spells
 unfoldable pub keyword_of : List ℕ → Option Keyword
@@ -56,14 +60,17 @@ keyword_of run = keyword_in keywords run
 -- the symbols, the longest first
 unfoldable pub symbols_longest_first : List (List ℕ × Symbol)
 symbols_longest_first =
-    (codes ":=", symbols.Assign) ∷ (codes "?=", symbols.Refresh) ∷ (codes "==", symbols.Equal) ∷ (codes "!=", symbols.Unequal)
-    ∷ (codes ">=", symbols.AtLeast) ∷ (codes "{", symbols.OpenBrace) ∷ (codes "}", symbols.CloseBrace) ∷ (codes "(", symbols.OpenParen)
-    ∷ (codes ")", symbols.CloseParen) ∷ (codes ";", symbols.Semicolon) ∷ (codes ",", symbols.Comma) ∷ (codes ".", symbols.Dot)
+    (codes ":=", symbols.Assign) ∷ (codes "?=", symbols.Refresh) ∷ (codes "==", symbols.Equal)
+    ∷ (codes "!=", symbols.Unequal) ∷ (codes ">=", symbols.AtLeast) ∷ (codes "{", symbols.OpenBrace)
+    ∷ (codes "}", symbols.CloseBrace) ∷ (codes "(", symbols.OpenParen) ∷ (codes ")", symbols.CloseParen)
+    ∷ (codes ";", symbols.Semicolon) ∷ (codes ",", symbols.Comma) ∷ (codes ".", symbols.Dot)
     ∷ (codes ":", symbols.Colon) ∷ (codes "<", symbols.Less) ∷ []
 
 -- the first symbol of a table with which bytes begin, and its length
 abbrev pub symbol_in : List (List ℕ × Symbol) → List ℕ → Option (Symbol × ℕ)
-symbol_in table bytes = option_map (λ (s : List ℕ × Symbol). (s.1, length s.0)) (find (λ (s : List ℕ × Symbol). starts_with nat_eq bytes s.0) table)
+symbol_in table bytes =
+    option_map (λ (s : List ℕ × Symbol). (s.1, length s.0))
+    (find (λ (s : List ℕ × Symbol). starts_with nat_eq bytes s.0) table)
 
 -- the longest symbol with which bytes begin, and its length
 unfoldable pub symbol_of : List ℕ → Option (Symbol × ℕ)

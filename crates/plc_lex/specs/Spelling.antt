@@ -36,11 +36,16 @@ is_plain (d ∷ e ∷ ds) = not (d == 48)
 
 -- the longest run of name bytes at the front, and its length
 unfoldable pub name_at : List ℕ → Result (TokenKind × ℕ) Refusal
-name_at bs = let n = prefix_len in_name bs in if nat_lt most_name_bytes n then Err long_name else Ok (name_or_word (take n bs), n)
+name_at bs =
+    let n = prefix_len in_name bs in
+    if nat_lt most_name_bytes n then Err long_name else Ok (name_or_word (take n bs), n)
 
 -- the longest run of digits at the front, and its length
 unfoldable pub number_at : List ℕ → Result (TokenKind × ℕ) Refusal
-number_at bs = let n = prefix_len is_digit bs in let digits = take n bs in if is_plain digits && nat_lt (value digits) (2 ^ 32) then Ok (Number (value digits), n) else Err bad_number
+number_at bs =
+    let n = prefix_len is_digit bs in
+    let digits = take n bs in
+    if is_plain digits && nat_lt (value digits) (2 ^ 32) then Ok (Number (value digits), n) else Err bad_number
 
 -- no symbol is a bad byte
 abbrev pub symbol_or_none : Option (SymbolName × ℕ) → Result (TokenKind × ℕ) Refusal
@@ -54,7 +59,8 @@ symbol_at bs = symbol_or_none (symbol_of bs)
 -- the token that bytes begin with, and its length
 abbrev pub token_at : List ℕ → Result (TokenKind × ℕ) Refusal
 token_at [] = Err bad_byte
-token_at (b ∷ bs) = if is_letter b then name_at (b ∷ bs) else (if is_digit b then number_at (b ∷ bs) else symbol_at (b ∷ bs))
+token_at (b ∷ bs) =
+    if is_letter b then name_at (b ∷ bs) else (if is_digit b then number_at (b ∷ bs) else symbol_at (b ∷ bs))
 
 -- whether a comment stands at the front
 abbrev pub is_comment : List ℕ → Bool
@@ -80,17 +86,25 @@ token_from at line kind n = record { kind = kind; span = record { start = at; en
 -- bytes that begin at a place, on a line, spell tokens
 pub data Spells : ℕ → ℕ → List ℕ → List Token → Type 0 where
   at_end : (at line : ℕ) → Spells at line [] []
-  behind_space : (at line b : ℕ) (bs : List ℕ) (ts : List Token) → is_space b ≡ true → Spells (at + 1) (next_line line b) bs ts → Spells at line (b ∷ bs) ts
-  behind_comment : (at line : ℕ) (bs : List ℕ) (ts : List Token) → is_comment bs ≡ true → Spells (at + comment_length bs) line (drop (comment_length bs) bs) ts → Spells at line bs ts
-  token : (at line n : ℕ) (bs : List ℕ) (kind : TokenKind) (ts : List Token) → is_blank bs ≡ false → is_comment bs ≡ false → token_at bs ≡ Ok (kind, n)
+  behind_space : (at line b : ℕ) (bs : List ℕ) (ts : List Token) → is_space b ≡ true
+      → Spells (at + 1) (next_line line b) bs ts → Spells at line (b ∷ bs) ts
+  behind_comment : (at line : ℕ) (bs : List ℕ) (ts : List Token) → is_comment bs ≡ true
+      → Spells (at + comment_length bs) line (drop (comment_length bs) bs) ts → Spells at line bs ts
+  token : (at line n : ℕ) (bs : List ℕ) (kind : TokenKind) (ts : List Token) → is_blank bs ≡ false
+      → is_comment bs ≡ false → token_at bs ≡ Ok (kind, n)
       → Spells (at + n) line (drop n bs) ts → Spells at line bs (token_from at line kind n ∷ ts)
 
 -- bytes that begin at a place spell tokens up to a place where none stands
 pub data Stops : ℕ → List ℕ → Refusal → ℕ → Type 0 where
-  here : (at : ℕ) (b : ℕ) (bs : List ℕ) (why : Refusal) → is_space b ≡ false → is_comment (b ∷ bs) ≡ false → token_at (b ∷ bs) ≡ Err why → Stops at (b ∷ bs) why at
-  past_space : (at b place : ℕ) (bs : List ℕ) (why : Refusal) → is_space b ≡ true → Stops (at + 1) bs why place → Stops at (b ∷ bs) why place
-  past_comment : (at place : ℕ) (bs : List ℕ) (why : Refusal) → is_comment bs ≡ true → Stops (at + comment_length bs) (drop (comment_length bs) bs) why place → Stops at bs why place
-  past_token : (at n place : ℕ) (bs : List ℕ) (kind : TokenKind) (why : Refusal) → is_blank bs ≡ false → is_comment bs ≡ false → token_at bs ≡ Ok (kind, n) → Stops (at + n) (drop n bs) why place → Stops at bs why place
+  here : (at : ℕ) (b : ℕ) (bs : List ℕ) (why : Refusal) → is_space b ≡ false → is_comment (b ∷ bs) ≡ false
+      → token_at (b ∷ bs) ≡ Err why → Stops at (b ∷ bs) why at
+  past_space : (at b place : ℕ) (bs : List ℕ) (why : Refusal) → is_space b ≡ true → Stops (at + 1) bs why place
+      → Stops at (b ∷ bs) why place
+  past_comment : (at place : ℕ) (bs : List ℕ) (why : Refusal) → is_comment bs ≡ true
+      → Stops (at + comment_length bs) (drop (comment_length bs) bs) why place → Stops at bs why place
+  past_token : (at n place : ℕ) (bs : List ℕ) (kind : TokenKind) (why : Refusal) → is_blank bs ≡ false
+      → is_comment bs ≡ false → token_at bs ≡ Ok (kind, n) → Stops (at + n) (drop n bs) why place
+      → Stops at bs why place
 
 -- whether a letter or `_` stands at the front
 abbrev pub begins_with_letter : List ℕ → Bool
@@ -129,8 +143,10 @@ StopsAt bytes why place = Stops 0 bytes why place
 -- a text spells one list of tokens, or stops at one place, and not both
 pub record SpellingIsUnique : Type 0 where
   pub tokens : (bytes : List ℕ) (ts us : List Token) → AreTokensOf bytes ts → AreTokensOf bytes us → ts ≡ us
-  pub places : (bytes : List ℕ) (why other : Refusal) (p q : ℕ) → StopsAt bytes why p → StopsAt bytes other q → (why ≡ other) × (p ≡ q)
-  pub apart : (bytes : List ℕ) (ts : List Token) (why : Refusal) (p : ℕ) → AreTokensOf bytes ts → StopsAt bytes why p → ⊥
+  pub places : (bytes : List ℕ) (why other : Refusal) (p q : ℕ) → StopsAt bytes why p → StopsAt bytes other q
+      → (why ≡ other) × (p ≡ q)
+  pub apart : (bytes : List ℕ) (ts : List Token) (why : Refusal) (p : ℕ) → AreTokensOf bytes ts
+      → StopsAt bytes why p → ⊥
 
 -- how many line feeds there are
 abbrev pub line_feeds : List ℕ → ℕ
@@ -138,4 +154,5 @@ line_feeds bytes = count_by (λ b. b == 10) bytes
 
 -- a token's line is one more than the number of line feeds before it
 pub record LinesAreCounted : Type 0 where
-  pub lines : (bytes : List ℕ) (ts : List Token) → AreTokensOf bytes ts → All (λ t. t.line ≡ 1 + line_feeds (take t.span.start bytes)) ts
+  pub lines : (bytes : List ℕ) (ts : List Token) → AreTokensOf bytes ts
+      → All (λ t. t.line ≡ 1 + line_feeds (take t.span.start bytes)) ts

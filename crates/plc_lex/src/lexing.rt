@@ -1,6 +1,7 @@
 // A text is read from left to right. Behind each token all spaces and comments are passed at once,
 // so the loop over tokens meets a token, a fault or the end.
 ghost use Rattle.std.specs.Prelude.{◌≡◌, ◌<◌, ◌≤◌, ◌∷◌, [], ℕ, List, length, vec_len, All, IfOk, IfErr, IfSome, IfNone, OnOk, MatchResult};
+ghost use Rattle.plc_base.specs.Limits.{largest_file};
 ghost use Rattle.plc_lex.specs.declared.token.Token.{Token};
 ghost use Rattle.plc_lex.specs.declared.fault.LexFault.TheVariants.{Memory};
 ghost use Rattle.plc_lex.specs.Spelling.{next_line, Refusal, IsToken, AreTokensOf, StopsAt, SpellingIsUnique, LinesAreCounted};
@@ -83,7 +84,7 @@ fn first_token<'a>(alloc: Global, rest: Rest<'a>) -> Result<(Token, Rest<'a>), L
 /// The tokens that a text of at most 1 MiB spells, or the fault at the least place where no token
 /// stands. Spaces and comments stand between tokens; a token is taken as long as it goes.
 pub fn tokens(alloc: Global, bytes: &[u8]) -> Result<Vec<Token>, LexFault>
-    requires { length bytes.now ≤ 1048576 }
+    requires { length bytes.now ≤ largest_file }
     ensures spelled { IfOk result (λ v. AreTokensOf bytes.now v.items) }
     ensures fault { IfErr result (StopsWith 0 bytes.now) }
 

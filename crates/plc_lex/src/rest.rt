@@ -1,6 +1,7 @@
 // What is left of a text, with the place and the line at which that begins. A token and a fault
 // take their places from it, so that nothing is counted twice.
 ghost use Rattle.std.specs.Prelude.{◌≡◌, ◌≤◌, ◌+◌, length, drop};
+ghost use Rattle.plc_base.specs.Limits.{largest_file};
 
 /// What is left of a text, with its place and its line.
 #[derive(Clone, Copy)]
@@ -8,7 +9,7 @@ pub struct Rest<'a> {
     pub bytes: &'a [u8],
     pub at: u32,
     pub line: u32,
-    ghost in_limit: { at + length bytes.now ≤ 1048576 },
+    ghost in_limit: { at + length bytes.now ≤ largest_file },
     ghost line_bound: { line ≤ at + 1 },
 }
 

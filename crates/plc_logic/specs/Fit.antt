@@ -1,5 +1,8 @@
--- What every outline keeps that was read: the limits, that what its clauses name is there, and that the two sides of an equation have one sort.
+-- What every outline keeps that was read: the limits, that what its clauses name is there, and that the two sides of
+-- an equation have one sort.
 use Rattle.std.specs.Prelude.{◌≡◌, ◌<◌, ◌≤◌, ℕ, Bool, true, false, List, [], ◌∷◌, length, slice_get, Some, All}
+use Rattle.plc_base.specs.Limits.{most, most_bound}
+use Rattle.plc_base.specs.declared.limits.What1.TheVariants as limits
 use Rattle.plc_lang.specs.declared.syntax.Local.{Local}
 use Rattle.plc_lang.specs.declared.syntax.Field.{Field}
 use Rattle.plc_lang.specs.declared.syntax.Ghost.{Ghost}
@@ -20,7 +23,8 @@ use Rattle.plc_logic.specs.declared.clause.Item.{Item}
 use Rattle.plc_logic.specs.declared.clause.Outline.{Outline}
 use Rattle.plc_lang.specs.Labels.{labels_by_op, op_of_label}
 
--- what a clause may name: the things of the file, the locals and the thread of its operation, and so many quantified names
+-- what a clause may name: the things of the file, the locals and the thread of its operation, and so many quantified
+-- names
 pub record InReach : Type 0 where
   pub file : File
   pub locals : List Local
@@ -50,11 +54,14 @@ abbrev pub HasSort : InReach → Term → Sort → Type 0
 HasSort w (terms.Shared i) s = (i < length w.file.shared) × (s ≡ sorts.Node)
 HasSort w (terms.Local i) s = (l : Local) × (slice_get w.locals i ≡ Some l) × (s ≡ pointer_sort l.pointer)
 HasSort w (terms.Bound i) s = (i < w.bound) × (s ≡ sorts.Node)
-HasSort w (terms.FieldOf b f) s = IsNode w b × (d : Field) × (slice_get w.file.fields f.0 ≡ Some d) × (s ≡ pointer_sort d.pointer)
-HasSort w (terms.GhostOf b g) s = IsNode w b × (h : Ghost) × (slice_get w.file.ghosts g ≡ Some h) × (s ≡ ghost_sort g h.values)
+HasSort w (terms.FieldOf b f) s = IsNode w b × (d : Field) × (slice_get w.file.fields f.0 ≡ Some d)
+    × (s ≡ pointer_sort d.pointer)
+HasSort w (terms.GhostOf b g) s = IsNode w b × (h : Ghost) × (slice_get w.file.ghosts g ≡ Some h)
+    × (s ≡ ghost_sort g h.values)
 HasSort w terms.Null s = s ≡ sorts.Node
 HasSort w (terms.Number n) s = s ≡ sorts.Number
-HasSort w (terms.Value g v) s = (h : Ghost) × (slice_get w.file.ghosts g ≡ Some h) × (v < length h.values) × (s ≡ sorts.Value g)
+HasSort w (terms.Value g v) s = (h : Ghost) × (slice_get w.file.ghosts g ≡ Some h) × (v < length h.values)
+    × (s ≡ sorts.Value g)
 HasSort w terms.Me s = (w.in_operation ≡ true) × (s ≡ sorts.Thread)
 HasSort w terms.Nobody s = s ≡ sorts.Thread
 
@@ -67,13 +74,14 @@ LiteralFits w (Retired x is_so) = IsNode w x
 
 -- what a clause of an operation with these locals, or of an invariant, may name
 abbrev pub in_reach_of : File → List Local → Bool → Clause → InReach
-in_reach_of file ls in_operation c = record { file = file; locals = ls; in_operation = in_operation; bound = length c.bound.names }
+in_reach_of file ls in_operation c =
+    record { file = file; locals = ls; in_operation = in_operation; bound = length c.bound.names }
 
 -- a clause in an operation with these locals, or in an invariant
 pub record ClauseFits (file : File) (ls : List Local) (in_operation : Bool) (c : Clause) : Type 0 where
-  pub bound : length c.bound.names ≤ 2
+  pub bound : length c.bound.names ≤ most_bound
   pub some : 0 < length c.literals
-  pub literals : length c.literals ≤ 16
+  pub literals : length c.literals ≤ most limits.Literals
   pub each : All (LiteralFits (in_reach_of file ls in_operation c)) c.literals
 
 -- an invariant names no local and no thread
@@ -89,7 +97,8 @@ pub record LabelsFit (file : File) (labels : List ℕ) (operation : ℕ) : Type 
 -- a clause over an operation, or at labels that stand in one
 abbrev pub SiteFits : File → Clause → Site → Type 0
 SiteFits file c (Over o) = (op : Op) × (slice_get file.ops o.0 ≡ Some op) × ClauseFits file op.locals true c
-SiteFits file c (At labels) = (k : ℕ) × (op : Op) × (slice_get file.ops k ≡ Some op) × LabelsFit file labels k × ClauseFits file op.locals true c
+SiteFits file c (At labels) = (k : ℕ) × (op : Op) × (slice_get file.ops k ≡ Some op) × LabelsFit file labels k
+    × ClauseFits file op.locals true c
 
 abbrev pub ItemFits : File → Item → Type 0
 ItemFits file item = SiteFits file item.clause item.site
@@ -97,7 +106,7 @@ ItemFits file item = SiteFits file item.clause item.site
 -- the limits, and what each part keeps
 pub record OutlineFits (file : File) (outline : Outline) : Type 0 where
   pub depth : outline.depth ≤ 1
-  pub invariants : length outline.invariants ≤ 64
+  pub invariants : length outline.invariants ≤ most limits.Invariants
   pub each_invariant : All (InvariantFits file) outline.invariants
-  pub items : length outline.items ≤ 256
+  pub items : length outline.items ≤ most limits.Items
   pub each_item : All (ItemFits file) outline.items
