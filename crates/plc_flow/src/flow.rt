@@ -3,7 +3,7 @@
 // points, which begins with its entry and its exit.
 use plc_base::{FieldId, Items, OpId, PointId};
 use plc_lang::{File, Prim};
-use std::alloc::{AllocError, AllocFailed};
+use std::alloc::AllocError;
 
 /// A step of an operation.
 #[derive(Debug, Drop)]
@@ -56,17 +56,6 @@ impl From<AllocError> for FlowFault {
     }
 }
 
-impl<T: Drop> From<AllocFailed<T>> for FlowFault {
-    ghost use Rattle.std.specs.Prelude.{◌≡◌};
-    ghost use Rattle.plc_flow.specs.declared.flow.FlowFault.{FlowFault};
-
-    ghost from_gives = { λ _ e. e ≡ FlowFault.Memory };
-
-    fn from(_error: AllocFailed<T>) -> FlowFault {
-        FlowFault::Memory
-    }
-}
-
 /// A move of a run.
 #[derive(Debug, Drop)]
 pub enum Move {
@@ -98,26 +87,4 @@ pub enum StartFault {
     NoStart,
     /// Memory ran out.
     Memory,
-}
-
-impl From<AllocError> for StartFault {
-    ghost use Rattle.std.specs.Prelude.{◌≡◌};
-    ghost use Rattle.plc_flow.specs.declared.flow.StartFault.{StartFault};
-
-    ghost from_gives = { λ _ e. e ≡ StartFault.Memory };
-
-    fn from(_error: AllocError) -> StartFault {
-        StartFault::Memory
-    }
-}
-
-impl<T: Drop> From<AllocFailed<T>> for StartFault {
-    ghost use Rattle.std.specs.Prelude.{◌≡◌};
-    ghost use Rattle.plc_flow.specs.declared.flow.StartFault.{StartFault};
-
-    ghost from_gives = { λ _ e. e ≡ StartFault.Memory };
-
-    fn from(_error: AllocFailed<T>) -> StartFault {
-        StartFault::Memory
-    }
 }
