@@ -1,5 +1,5 @@
 -- what contracts of public calls say
 pub mod Sizes
 pub mod Views
--- words of private functions alone
+-- what contracts say for the crates above alone, beside what a reader must believe
 pub mod Forms

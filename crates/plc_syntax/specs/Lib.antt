@@ -4,6 +4,7 @@ pub mod Faults
 pub mod Nesting
 pub mod Syntax
 pub mod Trees
--- words of private functions alone
+-- what contracts say for the crates above alone, beside what a reader must believe
 pub mod Machine
+-- words of private functions alone
 pub mod Table
