@@ -1,4 +1,5 @@
--- What a scope says of a file whose names it has, and the law that outlines which were read keep what is asked of outlines.
+-- What a scope says of a file whose names it has, and the law that outlines which were read keep what is asked of
+-- outlines.
 use Rattle.std.specs.Prelude.{◌≡◌, ◌<◌, ℕ, Bool, true, false, List, [], ◌∷◌, length, slice_get, Some, Ok}
 use Rattle.plc_base.specs.declared.ids.FieldId.{FieldId}
 use Rattle.plc_lang.specs.declared.syntax.Field.{Field}
@@ -20,11 +21,16 @@ holds_threads (v ∷ vs) = false
 pub record NamesOf (s : Scope) (file : File) : Type 0 where
   pub labels : s.labels ≡ file.labels
   pub shared : (i k : ℕ) → slice_get s.bindings i ≡ Some (Shared k) → k < length file.shared
-  pub pointer_field : (i : ℕ) (f : FieldId) → slice_get s.bindings i ≡ Some (PointerField f) → (d : Field) × (slice_get file.fields f.0 ≡ Some d) × (d.pointer ≡ true)
-  pub data_field : (i : ℕ) (f : FieldId) → slice_get s.bindings i ≡ Some (DataField f) → (d : Field) × (slice_get file.fields f.0 ≡ Some d) × (d.pointer ≡ false)
-  pub auxiliary : (i g : ℕ) (t : Bool) → slice_get s.bindings i ≡ Some (Auxiliary g t) → (h : Ghost) × (slice_get file.ghosts g ≡ Some h) × (t ≡ holds_threads h.values)
-  pub value : (i g v : ℕ) → slice_get s.bindings i ≡ Some (Value g v) → (h : Ghost) × (slice_get file.ghosts g ≡ Some h) × (v < length h.values)
+  pub pointer_field : (i : ℕ) (f : FieldId) → slice_get s.bindings i ≡ Some (PointerField f)
+      → (d : Field) × (slice_get file.fields f.0 ≡ Some d) × (d.pointer ≡ true)
+  pub data_field : (i : ℕ) (f : FieldId) → slice_get s.bindings i ≡ Some (DataField f)
+      → (d : Field) × (slice_get file.fields f.0 ≡ Some d) × (d.pointer ≡ false)
+  pub auxiliary : (i g : ℕ) (t : Bool) → slice_get s.bindings i ≡ Some (Auxiliary g t)
+      → (h : Ghost) × (slice_get file.ghosts g ≡ Some h) × (t ≡ holds_threads h.values)
+  pub value : (i g v : ℕ) → slice_get s.bindings i ≡ Some (Value g v)
+      → (h : Ghost) × (slice_get file.ghosts g ≡ Some h) × (v < length h.values)
 
 -- an outline that has a meaning behind the operations of a file fits the file
 abbrev pub OutlinesFit : Type 0
-OutlinesFit = (s : Scope) (file : File) (at behind : ℕ) (tree : OutlineTree) (outline : Outline) → NamesOf s file → outline_means s file.ops at tree ≡ Ok (outline, behind) → OutlineFits file outline
+OutlinesFit = (s : Scope) (file : File) (at behind : ℕ) (tree : OutlineTree) (outline : Outline) → NamesOf s file
+    → outline_means s file.ops at tree ≡ Ok (outline, behind) → OutlineFits file outline

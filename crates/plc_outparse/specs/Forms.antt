@@ -1,4 +1,5 @@
--- The forms of an outline at the front of tokens, each with the tokens behind it. A form is read from left to right: where a token doesn't fit, nothing is read.
+-- The forms of an outline at the front of tokens, each with the tokens behind it. A form is read from left to right:
+-- where a token doesn't fit, nothing is read.
 use Rattle.std.specs.Prelude.{ℕ, Bool, true, false, Option, Some, None, List, ◌∷◌}
 use Rattle.plc_lex.specs.declared.token.TokenKind.{TokenKind}
 use Rattle.plc_lex.specs.declared.token.TokenKind.TheVariants.{Word, Number, Symbol}

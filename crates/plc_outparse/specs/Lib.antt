@@ -5,7 +5,8 @@ pub mod Meaning
 pub mod Outlines
 pub mod Answers
 pub mod Fit
--- words of private functions alone
-pub mod Forms
+-- what contracts say for the crates above alone, beside what a reader must believe
 pub mod Reading
 pub mod Views
+-- words of private functions alone
+pub mod Forms

@@ -1,5 +1,6 @@
--- What the trees of an outline mean. A tree stands at a place, the number of tokens before it, and parts that follow one another hand the place on. Each name
--- is looked up where it stands, from left to right, so the first fault is the one at the least token.
+-- What the trees of an outline mean. A tree stands at a place, the number of tokens before it, and parts that
+-- follow one another hand the place on. Each name is looked up where it stands, from left to right, so the first
+-- fault is the one at the least token.
 use Rattle.std.specs.Prelude.{◌==◌, ◌||◌, ◌+◌, ℕ, Bool, true, false, if◌then◌else◌, List, [], ◌∷◌, ◌++◌, length, Option, Some, None, Result, Ok, Err}
 use Rattle.std.specs.List.{position_from}
 use Rattle.plc_base.specs.Names.{NameList, place_of}
@@ -134,7 +135,8 @@ if_free at (Some k) next = Err (faults.Duplicate at)
 
 -- a quantified name differs from all names in reach and from the one before it
 unfoldable pub bound_with : Scope → List Local → NameList → ℕ → Text → Result NameList ParseFault
-bound_with s ls bound at name = if_free at (declared_kind s ls name) (if_new (place_of name bound.names) at (with_last bound name))
+bound_with s ls bound at name =
+    if_free at (declared_kind s ls name) (if_new (place_of name bound.names) at (with_last bound name))
 
 -- the second name, if there is one
 abbrev pub second_bound : Scope → List Local → NameList → ℕ → Option Text → Result NameList ParseFault

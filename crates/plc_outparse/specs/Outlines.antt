@@ -15,13 +15,14 @@ pub record IsOutline (ts : List TokenKind) (tree : OutlineTree) (behind : List T
   pub tokens : ts ≡ outline_then tree behind
 
 -- they do, and from a place on the tree has this meaning
-pub record Means (s : Scope) (ops : List Op) (at : ℕ) (ts : List TokenKind) (meaning : Result (Outline × ℕ) ParseFault) (behind : List TokenKind) : Type 0 where
+pub record Means (s : Scope) (ops : List Op) (at : ℕ) (ts : List TokenKind)
+    (meaning : Result (Outline × ℕ) ParseFault) (behind : List TokenKind) : Type 0 where
   pub tree : OutlineTree
   pub is_outline : IsOutline ts tree behind
   pub is : outline_means s ops at tree ≡ meaning
 
--- the fault that they are answered with: of syntax at the place where none can stand there any more, else that of the meaning; memory may
--- run out anywhere
+-- the fault that they are answered with: of syntax at the place where none can stand there any more, else that of
+-- the meaning; memory may run out anywhere
 pub data IsPartFault (s : Scope) (ops : List Op) (at : ℕ) (ts : List TokenKind) (e : ParseFault) : Type 0 where
   no_outline : (place : ℕ) → OutlineFaultAt ts place → e ≡ faults.Syntax (at + place) → IsPartFault s ops at ts e
   no_meaning : (behind : List TokenKind) → Means s ops at ts (Err e) behind → IsPartFault s ops at ts e

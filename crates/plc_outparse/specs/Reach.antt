@@ -1,4 +1,5 @@
--- What names are in the clauses of an outline. Locals of an operation have one numbering here; all names of the file keep what they stand for.
+-- What names are in the clauses of an outline. Locals of an operation have one numbering here; all names of the file
+-- keep what they stand for.
 use Rattle.std.specs.Prelude.{◌==◌, ◌+◌, ℕ, Bool, true, false, if◌then◌else◌, List, [], ◌∷◌, Option, Some, None, slice_get, Result, Ok, Err}
 use Rattle.plc_base.specs.Names.{NameList, place_of}
 use Rattle.plc_lang.specs.declared.syntax.Local.{Local}
@@ -49,7 +50,8 @@ kind_of_local i false = kinds.Data i
 -- the local with a name's number, where so many locals stand before these
 abbrev pub kind_inside : ℕ → List Local → ℕ → Option Kind
 kind_inside i [] number = None
-kind_inside i (l ∷ ls) number = if l.name == number then Some (kind_of_local i l.pointer) else kind_inside (i + 1) ls number
+kind_inside i (l ∷ ls) number =
+    if l.name == number then Some (kind_of_local i l.pointer) else kind_inside (i + 1) ls number
 
 -- a local goes before what its name is outside, which is nothing
 abbrev pub kind_or : Option Kind → Option Binding → Option Kind

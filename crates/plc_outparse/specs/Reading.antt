@@ -1,5 +1,7 @@
--- An outline's meaning, read off its tokens from left to right: what the program does, as a function on lists. Whether they are an outline's is known before that, so
--- behind it each form stands where it is wanted, and the faults of syntax there are never the answer. The trees' meaning is what is read of their tokens (`proofs/Law.antt`).
+-- An outline's meaning, read off its tokens from left to right: what the program does, as a function on lists.
+-- Whether they are an outline's is known before that, so behind it each form stands where it is wanted, and the
+-- faults of syntax there are never the answer. The trees' meaning is what is read of their tokens
+-- (`proofs/Law.antt`).
 use Rattle.std.specs.Prelude.{◌+◌, ℕ, zero, suc, Bool, true, false, Option, Some, None, Result, Ok, Err, List, [], ◌∷◌, length}
 use Rattle.plc_base.specs.declared.limits.What1.TheVariants as limits
 use Rattle.plc_lex.specs.declared.token.TokenKind.{TokenKind}
@@ -29,14 +31,17 @@ abbrev pub followed_by : {A : Type 0} → List TokenKind → Result A ParseFault
 followed_by ts m = m >>= λ x. Ok (x, ts)
 
 -- where a part begins it is read, and then those behind it
-abbrev pub repeated_from : {S H : Type 0} → (S → H → List TokenKind → ReadTo S) → (S → List TokenKind → ReadTo S) → S → List TokenKind → Option (H × List TokenKind) → ReadTo S
+abbrev pub repeated_from : {S H : Type 0} → (S → H → List TokenKind → ReadTo S) → (S → List TokenKind → ReadTo S) → S
+    → List TokenKind → Option (H × List TokenKind) → ReadTo S
 repeated_from body next s ts None = Ok (s, ts)
 repeated_from body next s ts (Some h) = body s h.0 h.1 >>= λ r. next r.0 r.1
 
 -- parts in order, each read from behind how it begins, while there is one; fewer than so many, since each takes a token
-unfoldable pub repeated_in : {S H : Type 0} → (S → ℕ) → (List TokenKind → Option (H × List TokenKind)) → (S → H → List TokenKind → ReadTo S) → ℕ → S → List TokenKind → ReadTo S
+unfoldable pub repeated_in : {S H : Type 0} → (S → ℕ) → (List TokenKind → Option (H × List TokenKind))
+    → (S → H → List TokenKind → ReadTo S) → ℕ → S → List TokenKind → ReadTo S
 repeated_in place head body zero s ts = Err (faults.Syntax (place s))
-repeated_in place head body (suc n) s ts = repeated_from body (λ t us. repeated_in place head body n t us) s ts (head ts)
+repeated_in place head body (suc n) s ts =
+    repeated_from body (λ t us. repeated_in place head body n t us) s ts (head ts)
 
 -- a part that was read as a whole
 abbrev pub judged : {S X : Type 0} → (S → X → Result S ParseFault) → S → X → List TokenKind → ReadTo S

@@ -1,4 +1,5 @@
--- The trees of the program's forms, and what is in reach. Names are those of the tokens, so a form stands for the tree with their bytes.
+-- The trees of the program's forms, and what is in reach. Names are those of the tokens, so a form stands for the
+-- tree with their bytes.
 use Rattle.std.specs.Prelude.{ℕ, List}
 use Rattle.plc_lex.specs.declared.token.TokenKind.{TokenKind}
 use Rattle.plc_syntax.specs.Syntax.{kinds}

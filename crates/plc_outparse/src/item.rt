@@ -1,6 +1,8 @@
 // The items of an outline, each with those before it. The limit's place is the first token of the item
 // past it.
 ghost use Rattle.std.specs.Prelude.{◌≡◌, ◌+◌, ◌<◌, ◌≤◌, IfOk, length};
+ghost use Rattle.plc_base.specs.Limits.{most};
+ghost use Rattle.plc_base.specs.declared.limits.What1.TheVariants as limits;
 ghost use Rattle.plc_scope.specs.Answers.{Gives, Within};
 ghost use Rattle.plc_outparse.specs.Answers.{OpsFit};
 ghost use Rattle.plc_outparse.specs.Reading.{invariant_in, over_in, at_in, item_in, items_in};
@@ -87,7 +89,7 @@ fn read_at<'a>(
     name: &[u8],
     start: Rest<'a>,
 ) -> Result<Rest<'a>, ParseFault>
-    requires labels { length scope.now.labels ≤ 256 }
+    requires labels { length scope.now.labels ≤ most limits.Labels }
     requires ops { OpsFit ops.now }
     requires head { start.at ≡ at + 2 }
     ensures read { Gives (parts_with parts.new) result
@@ -117,7 +119,7 @@ fn read_item<'a>(
     head: Head,
     start: Rest<'a>,
 ) -> Result<Rest<'a>, ParseFault>
-    requires labels { length scope.now.labels ≤ 256 }
+    requires labels { length scope.now.labels ≤ most limits.Labels }
     requires ops { OpsFit ops.now }
     requires head { start.at ≡ at + head_size (head_tree head) }
     ensures read { Gives (parts_with parts.new) result
@@ -140,7 +142,7 @@ pub fn read_items<'a>(
     parts: &mut Parts,
     start: Rest<'a>,
 ) -> Result<Rest<'a>, ParseFault>
-    requires labels { length scope.now.labels ≤ 256 }
+    requires labels { length scope.now.labels ≤ most limits.Labels }
     requires ops { OpsFit ops.now }
     ensures read { Gives (parts_with parts.new) result
         (items_in scope.now ops.now by_op.now (parts_at parts.old start.entry.at) (kinds_left start.entry)) }

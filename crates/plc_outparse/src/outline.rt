@@ -1,5 +1,7 @@
 // The outline of a file, which stands behind all operations.
 ghost use Rattle.std.specs.Prelude.{◌+◌, ◌<◌, ◌≤◌, ◌^◌, IfOk, IfErr, Ok, length};
+ghost use Rattle.plc_base.specs.Limits.{most};
+ghost use Rattle.plc_base.specs.declared.limits.What1.TheVariants as limits;
 ghost use Rattle.plc_scope.specs.Answers.{Gives, Within};
 ghost use Rattle.plc_outparse.specs.Answers.{OpsFit};
 ghost use Rattle.plc_outparse.specs.Fit.{OutlinesFit};
@@ -52,7 +54,7 @@ fn read_parts<'a>(
     by_op: &[Items<u16>],
     start: Rest<'a>,
 ) -> Result<(Outline, Rest<'a>), ParseFault>
-    requires labels { length scope.now.labels ≤ 256 }
+    requires labels { length scope.now.labels ≤ most limits.Labels }
     requires ops { OpsFit ops.now }
     ensures read { Gives (λ r. read_with r.0 r.1) result
         (parts_in scope.now ops.now by_op.now start.entry.at (kinds_left start.entry)) }
@@ -83,7 +85,7 @@ fn outline_at<'a>(
     ops: &[Op],
     start: Rest<'a>,
 ) -> Result<(Outline, Rest<'a>), ParseFault>
-    requires labels { length scope.now.labels ≤ 256 }
+    requires labels { length scope.now.labels ≤ most limits.Labels }
     requires ops { OpsFit ops.now }
     ensures read { Gives (λ r. read_with r.0 r.1) result
         (outline_in scope.now ops.now start.entry.at (kinds_left start.entry)) }
@@ -114,7 +116,7 @@ pub fn read_outline<'a>(
     ops: &[Op],
     start: Rest<'a>,
 ) -> Result<(Outline, Rest<'a>), ParseFault>
-    requires labels { length scope.now.labels ≤ 256 }
+    requires labels { length scope.now.labels ≤ most limits.Labels }
     requires ops { OpsFit ops.now }
     ensures read { Gives (λ r. read_with r.0 r.1) result
         (outline_in scope.now ops.now start.entry.at (kinds_left start.entry)) }

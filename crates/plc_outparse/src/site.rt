@@ -1,6 +1,8 @@
 // Where items put their clauses: over an operation, or at labels that stand in one operation. No local
 // is in reach where these are named.
 ghost use Rattle.std.specs.Prelude.{◌≡◌, ◌+◌, ◌<◌, ◌≤◌, ◌^◌, Some, IfOk, length};
+ghost use Rattle.plc_base.specs.Limits.{most};
+ghost use Rattle.plc_base.specs.declared.limits.What1.TheVariants as limits;
 ghost use Rattle.plc_base.specs.Names.{place_of};
 ghost use Rattle.plc_scope.specs.Answers.{Gives, Within};
 ghost use Rattle.plc_scope.specs.Scope.{most_locals};
@@ -20,7 +22,7 @@ use std::alloc::Global;
 
 // The operation with a name's number.
 fn op_with_name(ops: &[Op], name: u16) -> Option<u16>
-    requires { length ops.now ≤ 32 }
+    requires { length ops.now ≤ most limits.Ops }
     ensures { result ≡ op_named ops.now (Some name) }
 {
     for (i, op) in ops.iter().enumerate() {
@@ -32,7 +34,7 @@ fn op_with_name(ops: &[Op], name: u16) -> Option<u16>
 }
 
 fn op_named(scope: &Scope, ops: &[Op], name: &[u8]) -> Option<u16>
-    requires { length ops.now ≤ 32 }
+    requires { length ops.now ≤ most limits.Ops }
     ensures { result ≡ op_named ops.now (place_of name.now scope.now.names.names) }
 {
     match scope.names.find(name) {
@@ -44,7 +46,7 @@ fn op_named(scope: &Scope, ops: &[Op], name: &[u8]) -> Option<u16>
 /// The operation that a name at a place is; `Undeclared`, or `WrongSort` for another thing.
 #[tactic(auto, unfolding(crate::specs::Meaning::op_at))]
 pub fn op_at(scope: &Scope, ops: &[Op], name: &[u8], at: u32) -> Result<u16, ParseFault>
-    requires { length ops.now ≤ 32 }
+    requires { length ops.now ≤ most limits.Ops }
     ensures { Gives (λ op. op) result (op_at scope.now ops.now name.now at) }
 {
     let _kind = known(scope, &[], name, at)?;
@@ -65,7 +67,7 @@ pub fn few_locals_of(ops: &[Op], op: usize) -> &[Local]
 
 // The label with a name's number.
 fn label_with_name(labels: &[u16], name: u16) -> Option<u16>
-    requires { length labels.now ≤ 256 }
+    requires { length labels.now ≤ most limits.Labels }
     ensures { result ≡ label_named labels.now (Some name) }
 {
     for (i, label) in labels.iter().enumerate() {
@@ -77,7 +79,7 @@ fn label_with_name(labels: &[u16], name: u16) -> Option<u16>
 }
 
 fn label_named(scope: &Scope, name: &[u8]) -> Option<u16>
-    requires { length scope.now.labels ≤ 256 }
+    requires { length scope.now.labels ≤ most limits.Labels }
     ensures { result ≡ label_named scope.now.labels (place_of name.now scope.now.names.names) }
 {
     match scope.names.find(name) {
@@ -94,7 +96,7 @@ fn label_at(
     name: &[u8],
     at: u32,
 ) -> Result<(u16, usize), ParseFault>
-    requires labels { length scope.now.labels ≤ 256 }
+    requires labels { length scope.now.labels ≤ most limits.Labels }
     ensures { Gives (λ r. (r.0, r.1)) result (label_at scope.now by_op.now name.now at) }
 {
     let _kind = known(scope, &[], name, at)?;
@@ -117,7 +119,7 @@ fn add_label(
     at: u32,
     name: &[u8],
 ) -> Result<(), ParseFault>
-    requires labels { length scope.now.labels ≤ 256 }
+    requires labels { length scope.now.labels ≤ most limits.Labels }
     requires place { at + 2 < 2 ^ 32 }
     ensures { Gives (λ _. (labels.new, at + 2)) result (label_step scope.now by_op.now op (labels.old, at) name.now) }
 {
@@ -137,7 +139,7 @@ fn read_further_labels<'a>(
     labels: &mut Items<u16>,
     start: Rest<'a>,
 ) -> Result<Rest<'a>, ParseFault>
-    requires labels { length scope.now.labels ≤ 256 }
+    requires labels { length scope.now.labels ≤ most limits.Labels }
     ensures read { Gives (read_with labels.new) result
         (labels_in scope.now by_op.now op (labels.old, start.entry.at) (kinds_left start.entry)) }
     ensures place { IfOk result (λ r. Within start.entry r) }
@@ -164,7 +166,7 @@ pub fn read_labels<'a>(
     name: &[u8],
     start: Rest<'a>,
 ) -> Result<(Items<u16>, usize, Rest<'a>), ParseFault>
-    requires labels { length scope.now.labels ≤ 256 }
+    requires labels { length scope.now.labels ≤ most limits.Labels }
     requires name { start.at ≡ at + 1 }
     ensures read { Gives (λ r. (((r.0, r.2.at), r.1), kinds_left r.2)) result
         (all_labels_in scope.now by_op.now at name.now (kinds_left start.entry)) }
