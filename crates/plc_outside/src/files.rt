@@ -8,7 +8,7 @@ ghost use Rattle.plc_outside.specs.Outside.{ReadHasCause, AgreesWith, NotesReadi
 ghost use Rattle.plc_outside.specs.Known.{KnownFiles};
 ghost use Rattle.plc_outside.specs.declared.files.FileFault.TheVariants.{Memory};
 
-use std::alloc::{AllocError, AllocFailed};
+use std::alloc::AllocError;
 use thiserror::Error;
 
 /// Why a file was not read.
@@ -29,14 +29,6 @@ impl From<AllocError> for FileFault {
     ghost from_gives = { λ _ fault. fault ≡ Memory };
 
     fn from(_e: AllocError) -> FileFault {
-        FileFault::Memory
-    }
-}
-
-impl<T: Drop> From<AllocFailed<T>> for FileFault {
-    ghost from_gives = { λ _ fault. fault ≡ Memory };
-
-    fn from(_e: AllocFailed<T>) -> FileFault {
         FileFault::Memory
     }
 }

@@ -1,7 +1,8 @@
 // Sinks that keep what is written in memory. `VecSink` takes every piece whole. `FailSink` takes a
 // few bytes a call and fails at given calls, so a caller's loop and its handling of a fault can be
 // tried at each turn.
-ghost use Rattle.std.specs.Prelude.{◌≡◌, ◌≤◌, ◌<◌, ◌++◌, [], Some, IfOk, IfErr, OnErr, ◌==◌, ◌&&◌, ◌||◌, not, length, take};
+ghost use Rattle.std.specs.Prelude.{◌≡◌, ◌≤◌, ◌<◌, ◌++◌, ◌==◌, ◌&&◌, ◌||◌, not};
+ghost use Rattle.std.specs.Prelude.{[], Some, IfOk, IfErr, OnErr, length, take};
 ghost use Rattle.plc_outside.specs.Counts.{is_failing};
 ghost use Rattle.plc_outside.specs.Outside.{PutHasCause, Appends};
 ghost use Rattle.plc_outside.specs.StoredBytes.{AnswersPut, IsAfterPut};

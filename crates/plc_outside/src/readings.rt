@@ -5,6 +5,7 @@ ghost use Rattle.plc_outside.specs.Outside.{NotesReading};
 ghost use Rattle.plc_outside.specs.declared.files.FileFault.TheVariants.{Memory};
 
 use crate::files::FileFault;
+use plc_base::Items;
 use std::alloc::Global;
 use std::marker::Model;
 use std::snapshot::Snapshot;
@@ -20,7 +21,7 @@ struct Named {
 #[derive(Drop)]
 pub(crate) struct Readings {
     alloc: Global,
-    reads: Vec<Snapshot<Named>>,
+    reads: Items<Snapshot<Named>>,
 }
 
 impl Model for Readings {
@@ -32,7 +33,7 @@ impl Model for Readings {
     ghost view = { λ s. map (λ r. record {
       name = string_bytes r.value.name;
       bytes = r.value.bytes.items;
-    }) s.reads.items };
+    }) s.reads };
 }
 
 impl Readings {
@@ -42,7 +43,7 @@ impl Readings {
     {
         Readings {
             alloc,
-            reads: Vec::new(alloc),
+            reads: Items::new(alloc),
         }
     }
 

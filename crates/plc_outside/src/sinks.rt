@@ -7,7 +7,7 @@ ghost use Rattle.plc_outside.specs.Known.{KnownSink};
 ghost use Rattle.plc_outside.specs.Outside.{PutHasCause, Appends};
 ghost use Rattle.plc_outside.specs.declared.sinks.SinkFault.TheVariants.{Memory};
 
-use std::alloc::{AllocError, AllocFailed};
+use std::alloc::AllocError;
 use thiserror::Error;
 
 /// Why nothing of a piece was written.
@@ -25,14 +25,6 @@ impl From<AllocError> for SinkFault {
     ghost from_gives = { λ _ fault. fault ≡ Memory };
 
     fn from(_e: AllocError) -> SinkFault {
-        SinkFault::Memory
-    }
-}
-
-impl<T: Drop> From<AllocFailed<T>> for SinkFault {
-    ghost from_gives = { λ _ fault. fault ≡ Memory };
-
-    fn from(_e: AllocFailed<T>) -> SinkFault {
         SinkFault::Memory
     }
 }
