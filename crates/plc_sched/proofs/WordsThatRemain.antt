@@ -7,7 +7,7 @@ use Rattle.std.specs.Option.{is_none}
 use Rattle.std.proofs.lemmas.List.{length-map}
 use Rattle.std.proofs.lemmas.List.Elements.{All-head, All-tail}
 use Rattle.std.proofs.lemmas.List.Splits.{length-slice_split}
-use Rattle.plc_base.specs.Limits.{most_addresses}
+use Rattle.plc_base.specs.Limits.{most_addresses, most_threads}
 use Rattle.plc_sched.specs.declared.words.Words.{Words}
 use Rattle.plc_sched.specs.Entries.{head_words}
 use Rattle.plc_sched.specs.Numbers.{most_arguments, IsNextNumber, IsLastNumber}
@@ -48,7 +48,7 @@ pub not_numbers : (numbers others : List ℕ) (rest words : List (List ℕ)) →
 not_numbers numbers others rest words some none each read e = no_next numbers others rest some none each (read ∙ sym e)
 
 -- what is read of the words behind `threads` is read of the first line
-pub head_is : (line kind : List ℕ) (left : List (List ℕ)) (read : Option ℕ) → slice_split (λ b. b == 32) line ≡ kind ∷ left → kind ≡ codes "threads" → IsLastNumber left 1 64 read → IsHead line read
+pub head_is : (line kind : List ℕ) (left : List (List ℕ)) (read : Option ℕ) → slice_split (λ b. b == 32) line ≡ kind ∷ left → kind ≡ codes "threads" → IsLastNumber left 1 most_threads read → IsHead line read
 head_is line kind left (Some n) split is h = let last = h.2 in ((h.0, h.1), line_from_words (head_words n) line cc)
 head_is line kind left None split is h = λ n fit same.
     let words : slice_split (λ b. b == 32) line ≡ head_words n = ap (slice_split (λ b. b == 32)) (sym same) ∙ split_head n fit in

@@ -3,7 +3,7 @@
 ghost use Rattle.std.specs.Prelude.{◌≡◌};
 ghost use Rattle.plc_sched.specs.declared.fault.SchedFault.TheVariants.{Memory};
 
-use std::alloc::{AllocError, AllocFailed};
+use std::alloc::AllocError;
 
 /// Why bytes are no schedule. Of several reasons `Limit` comes first.
 #[derive(Clone, Copy, Debug, PartialEq, Eq)]
@@ -20,14 +20,6 @@ impl From<AllocError> for SchedFault {
     ghost from_gives = { λ _ e. e ≡ Memory };
 
     fn from(_e: AllocError) -> SchedFault {
-        SchedFault::Memory
-    }
-}
-
-impl<T: Drop> From<AllocFailed<T>> for SchedFault {
-    ghost from_gives = { λ _ e. e ≡ Memory };
-
-    fn from(_e: AllocFailed<T>) -> SchedFault {
         SchedFault::Memory
     }
 }

@@ -66,7 +66,7 @@ pub fn numbers(alloc: Global, words: Words) -> Result<Option<Items<u32>>, SchedF
     ensures ok { IfOk result (AreNumbers (words_left words.entry)) }
     ensures err { IfErr result (λ e. e ≡ Memory) }
 {
-    let mut numbers = Vec::new(alloc);
+    let mut numbers = Items::new(alloc);
     let mut rest = words;
     while rest.left.is_some() {
         if numbers.len() == What1::Locals.most() as usize {
@@ -78,5 +78,5 @@ pub fn numbers(alloc: Global, words: Words) -> Result<Option<Items<u32>>, SchedF
         numbers.push(number)?;
         rest = after;
     }
-    Ok(Some(Items::from_vec(numbers)))
+    Ok(Some(numbers))
 }

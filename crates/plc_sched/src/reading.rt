@@ -52,7 +52,7 @@ fn read_entries(alloc: Global, threads: u32, bytes: &[u8]) -> Result<Items<Entry
     ensures ok { IfOk result (AreEntries threads (lines_of bytes.now)) }
     ensures err { IfErr result (StopsAfter threads (lines_of bytes.now)) }
 {
-    let mut entries = Vec::new(alloc);
+    let mut entries = Items::new(alloc);
     let mut rest = bytes;
     while let Some((line, after)) = next_line(rest) {
         let Some(entry) = read_entry(alloc, threads, line)? else {
@@ -62,7 +62,7 @@ fn read_entries(alloc: Global, threads: u32, bytes: &[u8]) -> Result<Items<Entry
         entries.push(entry)?;
         rest = after;
     }
-    Ok(Items::from_vec(entries))
+    Ok(entries)
 }
 
 /// The schedule that a file spells, or why it spells none: more than 100,000 lines, and else the first
