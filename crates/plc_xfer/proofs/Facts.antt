@@ -91,6 +91,17 @@ guarantees_all P a b c d g h = elim (or_cases _ _ h) [
   | inr x ↦ subst (λ (n : ℕ). P (numbered n)) (sym (eqb-true g.0 7 x)) d
 ]
 
+-- what holds of each of the four
+abbrev OfEach : (Guar → Type 0) → Type 0
+OfEach P = P nothing × P safe_only × P active_safe × P active_local_safe
+
+of_each : (P : Guar → Type 0) → OfEach P → (g : Guar) → is_guarantee_set g ≡ true → P g
+of_each P e = guarantees_all P e.0 e.1 e.2 e.3
+
+-- a fact that each two of the four sets have
+pub pairs_all : (P : Guar → Guar → Type 0) → OfEach (P nothing) → OfEach (P safe_only) → OfEach (P active_safe) → OfEach (P active_local_safe) → (g : Guar) → is_guarantee_set g ≡ true → (h : Guar) → is_guarantee_set h ≡ true → P g h
+pairs_all P a b c d = guarantees_all (λ g. (h : Guar) → is_guarantee_set h ≡ true → P g h) (of_each (P nothing) a) (of_each (P safe_only) b) (of_each (P active_safe) c) (of_each (P active_local_safe) d)
+
 -- the facts on a type
 pub record TypeFacts (o : Observer) (w : ℕ) (t : PtrType) : Type 0 where
   pub guarantees : is_guarantee_set t.g ≡ true
@@ -136,11 +147,7 @@ not_active : (g : Guar) → is_active (without_active g) ≡ true → ⊥
 not_active g h = let x = leb-true 3 (min g.0 1) h in omega arith
 
 either_guarantees : (g : Guar) → is_guarantee_set g ≡ true → (h : Guar) → is_guarantee_set h ≡ true → is_guarantee_set (either g h) ≡ true
-either_guarantees = guarantees_all (λ g. (h : Guar) → is_guarantee_set h ≡ true → is_guarantee_set (either g h) ≡ true)
-    (guarantees_all (λ h. is_guarantee_set (either nothing h) ≡ true) refl refl refl refl)
-    (guarantees_all (λ h. is_guarantee_set (either safe_only h) ≡ true) refl refl refl refl)
-    (guarantees_all (λ h. is_guarantee_set (either active_safe h) ≡ true) refl refl refl refl)
-    (guarantees_all (λ h. is_guarantee_set (either active_local_safe h) ≡ true) refl refl refl refl)
+either_guarantees = pairs_all (λ g h. is_guarantee_set (either g h) ≡ true) (refl, refl, refl, refl) (refl, refl, refl, refl) (refl, refl, refl, refl) (refl, refl, refl, refl)
 
 -- A of two sets together is A of one
 active_of : (g h : Guar) → is_active (either g h) ≡ true → (is_active g ≡ true) ⊎ (is_active h ≡ true)

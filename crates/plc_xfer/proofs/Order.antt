@@ -11,7 +11,7 @@ use Rattle.plc_auto.specs.Sets.{all_locations, unretired, closure, is_location}
 use Rattle.plc_type.specs.declared.guarantee.Guar.{Guar}
 use Rattle.plc_type.specs.declared.env.PtrType.{PtrType}
 use Rattle.plc_type.specs.declared.env.Env.{Env}
-use Rattle.plc_type.specs.Guarantees.{nothing, safe_only, active_safe, active_local_safe, common, is_guarantee_set}
+use Rattle.plc_type.specs.Guarantees.{common, is_guarantee_set}
 use Rattle.plc_type.specs.Types.{bare, null_type, type_below, type_join}
 use Rattle.plc_type.specs.Environments.{types_below, types_join, env_below, env_join, SameShape, bottom, entry}
 use Rattle.plc_type.specs.Laws.{InRange, in_range, all_in_range}
@@ -20,7 +20,7 @@ use Rattle.plc_xfer.specs.Rules.{env_after_all, interfered}
 use Rattle.plc_xfer.specs.Typings.{is_type, all_types, IsEnvironment, IsWellFormed, led, fault_at}
 use Rattle.plc_xfer.specs.Laws.{RulesKeepOrder}
 use Rattle.plc_xfer.proofs.Locations.{closure_in}
-use Rattle.plc_xfer.proofs.Facts.{type_facts, type_from, guarantees_all, null_is_type, bare_is_type, replicate_types, map_same, after_all_well_formed, interfered_well_formed}
+use Rattle.plc_xfer.proofs.Facts.{type_facts, type_from, guarantees_all, pairs_all, null_is_type, bare_is_type, replicate_types, map_same, after_all_well_formed, interfered_well_formed}
 use Rattle.plc_xfer.proofs.Rows.{map_length}
 use Rattle.plc_xfer.proofs.Keeps.{after_all_shape, after_all_below, interfered_below, at_sooner}
 
@@ -65,11 +65,7 @@ entry_is o n m = record {
 -- ---- joins
 
 common_guarantees : (g : Guar) → is_guarantee_set g ≡ true → (h : Guar) → is_guarantee_set h ≡ true → is_guarantee_set (common g h) ≡ true
-common_guarantees = guarantees_all (λ g. (h : Guar) → is_guarantee_set h ≡ true → is_guarantee_set (common g h) ≡ true)
-    (guarantees_all (λ h. is_guarantee_set (common nothing h) ≡ true) refl refl refl refl)
-    (guarantees_all (λ h. is_guarantee_set (common safe_only h) ≡ true) refl refl refl refl)
-    (guarantees_all (λ h. is_guarantee_set (common active_safe h) ≡ true) refl refl refl refl)
-    (guarantees_all (λ h. is_guarantee_set (common active_local_safe h) ≡ true) refl refl refl refl)
+common_guarantees = pairs_all (λ g h. is_guarantee_set (common g h) ≡ true) (refl, refl, refl, refl) (refl, refl, refl, refl) (refl, refl, refl, refl) (refl, refl, refl, refl)
 
 join_is_type : (o : Observer) (v w : ℕ) (t u : PtrType) → is_type o v t ≡ true → is_type o w u ≡ true → is_type o (union v w) (type_join t u) ≡ true
 join_is_type o v w t u h k =

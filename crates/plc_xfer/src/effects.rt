@@ -3,7 +3,8 @@
 // each of its parts says: the loss of L stands. (Meyer and Wolff, POPL 2020, with a set of locations
 // in place of their angels.)
 ghost use Rattle.std.specs.Prelude.{◌≡◌};
-ghost use Rattle.plc_xfer.specs.Rules.{type_of, shared_type, new_type, equal_type, refreshed_type, placed_type, active_type, env_after, FitsObserver};
+ghost use Rattle.plc_xfer.specs.Rules.{type_of, shared_type, new_type, equal_type, refreshed_type};
+ghost use Rattle.plc_xfer.specs.Rules.{placed_type, active_type, env_after, FitsObserver};
 ghost use Rattle.plc_xfer.specs.Typings.{IsWellFormed};
 ghost use Rattle.plc_lang.specs.declared.syntax.Primitive.TheVariants as prims;
 
