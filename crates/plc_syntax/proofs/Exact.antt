@@ -1,17 +1,17 @@
 -- What the machine reads is a tree's of the part with which it starts, what it doesn't read is none's, and where it stops no tree's tokens go on.
-use Rattle.std.proofs.Common.{◌≡◌, Bool, true, false, cond, Option, Some, None, List, [], ◌∷◌, ◌++◌, refl, sym, ◌∙◌, ap, subst}
+use Rattle.std.proofs.Common.{◌≡◌, Bool, true, false, cond, Option, Some, None, List, [], ◌∷◌, ◌++◌, refl, sym, ◌∙◌, ap, subst, rules}
 use Rattle.std.specs.List.{list_all}
-use Rattle.std.proofs.lemmas.Bool.{false≢true}
 use Rattle.std.proofs.lemmas.List.{append-nil}
+use denote.Enum.Bare.{same_true}
+use Rattle.plc_lex.specs.contracts.token.Symbol as punctuation
 use Rattle.plc_lex.specs.declared.token.TokenKind.{TokenKind}
 use Rattle.plc_lex.specs.declared.token.TokenKind.TheVariants.{Name, Number, Symbol}
 use Rattle.plc_lex.specs.declared.token.Symbol.{Symbol as Punctuation}
-use Rattle.plc_lex.specs.declared.token.Symbol.TheVariants.{Assign, Refresh, Equal, Unequal, AtLeast, OpenBrace, CloseBrace, OpenParen, CloseParen, Semicolon, Comma, Dot, Colon, Less}
 use Rattle.plc_syntax.specs.declared.expected.Expected.{Expected}
 use Rattle.plc_syntax.specs.declared.expected.Expected.TheVariants as expected
 use Rattle.plc_syntax.specs.declared.expected.Part.TheVariants as parts
 use Rattle.plc_syntax.specs.Trees.{NoArgument, NoStatement, NoElse, NoOr, NoBound}
-use Rattle.plc_syntax.specs.Table.{after_expected, may_be_empty, is_same}
+use Rattle.plc_syntax.specs.Table.{after_expected, may_be_empty, same_symbol}
 use Rattle.plc_syntax.specs.declared.expected.Part.{Part as PartName}
 use Rattle.plc_syntax.specs.Machine.{left_of}
 use Rattle.plc_syntax.specs.Syntax.{AreWhole, Begin}
@@ -24,22 +24,8 @@ use Rattle.plc_syntax.proofs.Again.{go}
 abbrev Row : Expected → TokenKind → Option (List Expected) → Type 0
 Row x t o = RowIs Expected TokenKind after_expected may_be_empty Tree spell x t o
 
-same_is : (k j : Punctuation) → is_same k j ≡ true → k ≡ j
-same_is Assign Assign h = refl
-same_is Refresh Refresh h = refl
-same_is Equal Equal h = refl
-same_is Unequal Unequal h = refl
-same_is AtLeast AtLeast h = refl
-same_is OpenBrace OpenBrace h = refl
-same_is CloseBrace CloseBrace h = refl
-same_is OpenParen OpenParen h = refl
-same_is CloseParen CloseParen h = refl
-same_is Semicolon Semicolon h = refl
-same_is Comma Comma h = refl
-same_is Dot Dot h = refl
-same_is Colon Colon h = refl
-same_is Less Less h = refl
-same_is _ _ h = absurd (false≢true h)
+same_is : (k j : Punctuation) → same_symbol k j ≡ true → k ≡ j
+same_is k j h = same_true punctuation.the_type (search rules) _ _ h
 
 symbol_row : (k j : Punctuation) (b : Bool) → (b ≡ true → k ≡ j) → Row (expected.Symbol k) (Symbol j) (cond b (Some []) None)
 symbol_row k j true h = λ p. (tt, λ rest. ap (λ w. Symbol w ∷ rest) (h refl))
@@ -48,7 +34,7 @@ symbol_row k j false h = tt
 rows : (x : Expected) (t : TokenKind) → Row x t (after_expected x t)
 rows expected.Name (Name n) = λ p. (n, λ rest. refl)
 rows expected.Number (Number n) = λ p. (n, λ rest. refl)
-rows (expected.Symbol k) (Symbol j) = symbol_row k j (is_same k j) (same_is k j)
+rows (expected.Symbol k) (Symbol j) = symbol_row k j (same_symbol k j) (same_is k j)
 rows (expected.Part p) t = part_rows p t
 rows _ _ = tt
 

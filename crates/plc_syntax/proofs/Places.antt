@@ -19,7 +19,7 @@ use Rattle.plc_syntax.proofs.Laws.{stopped}
 use Rattle.plc_syntax.proofs.Meaning.{part_then}
 use Rattle.plc_syntax.proofs.Exact.{ReadsAll, begins_part, begins_none}
 use Rattle.plc_syntax.proofs.Again.{file_read, outline_read}
-use Rattle.plc_syntax.specs.Faults.{FaultsAreOne}
+use Rattle.plc_syntax.specs.Faults.{SyntaxFaultsAreOne}
 
 module _ (p : PartName) (is_read : ReadsAll p) where
   begins_prefix : (ts : List TokenKind) (n : ℕ) → Begin (part_then p) ts → Begin (part_then p) (take n ts)
@@ -69,7 +69,7 @@ syntax_or_nesting ts a b h k = elim (cases_lt b a) [
 ]
 
 -- a list of tokens has one fault
-pub faults_one : FaultsAreOne
+pub faults_one : SyntaxFaultsAreOne
 faults_one = record {
   syntax_place = λ ts a b h k. one_fault parts.File file_read ts a b h.fault k.fault;
   nesting_place = one_nesting;

@@ -6,7 +6,7 @@ use Rattle.plc_syntax.specs.Syntax.{IsFile, OutlineFaultAt}
 
 -- a fault of syntax or of nesting is at one place, tokens don't have both, and with either they are no file without blocks too deep;
 -- an outline that has to stand at the front is missing at one place
-pub record FaultsAreOne : Type 0 where
+pub record SyntaxFaultsAreOne : Type 0 where
   pub syntax_place : (ts : List TokenKind) (a b : ℕ) → SyntaxFaultAt ts a → SyntaxFaultAt ts b → a ≡ b
   pub nesting_place : (ts : List TokenKind) (a b : ℕ) → NestingFaultAt ts a → NestingFaultAt ts b → a ≡ b
   pub not_both : (ts : List TokenKind) (a b : ℕ) → SyntaxFaultAt ts a → NestingFaultAt ts b → ⊥

@@ -3,6 +3,8 @@
 -- Where two forms begin alike, their common beginning is one row and what follows it is a part of its own.
 use Rattle.std.specs.Prelude.{◌≡◌, cond, Bool, true, false, Option, Some, None, MatchOption, List, [], ◌∷◌}
 use Rattle.std.specs.Borrow.{Bor}
+use denote.Enum.Bare.{sameb}
+use Rattle.plc_lex.specs.contracts.token.Symbol as punctuation
 use Rattle.plc_lex.specs.declared.token.TokenKind.{TokenKind}
 use Rattle.plc_lex.specs.declared.token.TokenKind.TheVariants as kinds
 use Rattle.plc_lex.specs.declared.token.Keyword.TheVariants as words
@@ -389,28 +391,14 @@ may_be_empty (Part SecondName) = true
 may_be_empty (Part OrLiterals) = true
 may_be_empty _ = false
 
--- whether a symbol is the one that is expected
-abbrev pub is_same : Punctuation → Punctuation → Bool
-is_same Assign Assign = true
-is_same Refresh Refresh = true
-is_same Equal Equal = true
-is_same Unequal Unequal = true
-is_same AtLeast AtLeast = true
-is_same OpenBrace OpenBrace = true
-is_same CloseBrace CloseBrace = true
-is_same OpenParen OpenParen = true
-is_same CloseParen CloseParen = true
-is_same Semicolon Semicolon = true
-is_same Comma Comma = true
-is_same Dot Dot = true
-is_same Colon Colon = true
-is_same Less Less = true
-is_same _ _ = false
+-- whether two symbols are one
+abbrev pub same_symbol : Punctuation → Punctuation → Bool
+same_symbol a b = sameb punctuation.the_type a b
 
 -- what is still to come behind a token
 abbrev pub after_expected : Expected → TokenKind → Option (List Expected)
 after_expected Name (kinds.Name n) = Some []
 after_expected Number (kinds.Number n) = Some []
-after_expected (Symbol wanted) (kinds.Symbol found) = cond (is_same wanted found) (Some []) None
+after_expected (Symbol wanted) (kinds.Symbol found) = cond (same_symbol wanted found) (Some []) None
 after_expected (Part part) t = after_part part t
 after_expected _ _ = None

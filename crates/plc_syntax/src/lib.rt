@@ -11,4 +11,4 @@ mod recognizer;
 mod table;
 
 pub use fault::SyntaxFault;
-pub use recognizer::{faults_are_one, outline_fault, syntax};
+pub use recognizer::{outline_fault, syntax, syntax_faults_are_one};

@@ -4,7 +4,7 @@
 // front of tokens, which holds no blocks; it stops behind the closing brace.
 ghost use Rattle.std.specs.Prelude.{◌≡◌, ◌<◌, ◌^◌, ℕ, IfOk, MatchOption, length};
 ghost use Rattle.plc_syntax.specs.Answer.{IsExactly};
-ghost use Rattle.plc_syntax.specs.Faults.{FaultsAreOne};
+ghost use Rattle.plc_syntax.specs.Faults.{SyntaxFaultsAreOne};
 ghost use Rattle.plc_syntax.specs.Machine.{outline_stuck_at};
 ghost use Rattle.plc_syntax.specs.Nesting.{NoneTooDeep, SyntaxFaultAt, NestingFaultAt};
 ghost use Rattle.plc_syntax.specs.Syntax.{kinds, IsFile, HasOutline, OutlineFaultAt};
@@ -80,6 +80,6 @@ pub fn outline_fault(alloc: Global, tokens: &[Token]) -> Result<Option<u32>, All
 
 /// The law that a list of tokens has at most one fault of syntax or of nesting, at one place, and then
 /// is no file whose blocks are within the limit; and that an outline is missing at one place.
-pub fn faults_are_one()
-    ensures { FaultsAreOne }
+pub fn syntax_faults_are_one()
+    ensures { SyntaxFaultsAreOne }
 {}

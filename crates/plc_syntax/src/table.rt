@@ -2,9 +2,9 @@
 // behind that token. No part has two rows for one token, so the machine never has to choose, and no
 // set of tokens that may follow a part enters the proofs.
 ghost use Rattle.std.specs.Prelude.{◌≡◌, MatchOption, Some, None, [], true, false};
-ghost use Rattle.plc_syntax.specs.Table.{IsRow, after_part, after_expected, may_be_empty, is_same};
+ghost use Rattle.plc_syntax.specs.Table.{IsRow, after_part, after_expected, may_be_empty};
 
-// A row, on one line as in the definition.
+// A row, as in the definition.
 macro_rules! row {
     ($($expected:expr),*) => { Some(&[$($expected),*]) };
 }
@@ -31,7 +31,7 @@ use outline::{
     after_bound, after_depth, after_equality, after_flag, after_items, after_literal,
     after_or_literals, after_outline, after_second_name, after_term,
 };
-use plc_lex::{Symbol, TokenKind};
+use plc_lex::TokenKind;
 use primitives::{
     after_assignment_tail, after_atom, after_comparison, after_dot_name, after_field_tail,
     after_ghost_value, after_place, after_primitives, after_set_tail, after_test, after_value,
@@ -49,7 +49,7 @@ pub fn after_expected(expected: Expected, kind: &TokenKind) -> Option<&'static [
     match (expected, kind) {
         (Expected::Name, TokenKind::Name(_)) => Some(&[]),
         (Expected::Number, TokenKind::Number(_)) => Some(&[]),
-        (Expected::Symbol(wanted), TokenKind::Symbol(found)) => nothing_if(is_same(wanted, *found)),
+        (Expected::Symbol(wanted), TokenKind::Symbol(found)) => nothing_if(wanted == *found),
         (Expected::Part(part), _) => after_part(part, kind),
         _ => None,
     }
@@ -59,12 +59,6 @@ fn nothing_if(fits: bool) -> Option<&'static [Expected]>
     ensures { MatchOption result (fits ≡ false) (λ row. (fits ≡ true) × (row.now ≡ [])) }
 {
     if fits { Some(&[]) } else { None }
-}
-
-fn is_same(wanted: Symbol, found: Symbol) -> bool
-    ensures { result ≡ is_same wanted found }
-{
-    wanted == found
 }
 
 /// Whether what is expected may be left out.

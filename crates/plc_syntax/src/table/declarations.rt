@@ -1,5 +1,7 @@
 // The rows of what a file declares, from the struct to the heads of its operations.
-ghost use Rattle.plc_syntax.specs.Table.{IsRow, after_file, after_fields, after_pointers, after_functions, after_pointer_word, after_use, after_scheme, after_ghosts, after_ghost_kind, after_more_names, after_init, after_initial_sets, after_ops, after_parameters};
+ghost use Rattle.plc_syntax.specs.Table.{IsRow, after_file, after_fields, after_pointers, after_functions};
+ghost use Rattle.plc_syntax.specs.Table.{after_pointer_word, after_use, after_scheme, after_ghosts, after_ghost_kind};
+ghost use Rattle.plc_syntax.specs.Table.{after_more_names, after_init, after_initial_sets, after_ops, after_parameters};
 
 use crate::expected::Expected::{self, Name, Part, Symbol};
 use crate::expected::Part::{
@@ -16,7 +18,8 @@ pub fn after_file(kind: &TokenKind) -> Option<&'static [Expected]>
 {
     match kind {
         TokenKind::Word(Keyword::Struct) =>
-            row! { Name, Symbol(OpenBrace), Part(Fields), Symbol(CloseBrace), Part(Pointers), Part(Functions), Part(Use), Part(Ghosts), Part(Init), Part(Ops), Part(Outline) },
+            row! { Name, Symbol(OpenBrace), Part(Fields), Symbol(CloseBrace), Part(Pointers), Part(Functions),
+                Part(Use), Part(Ghosts), Part(Init), Part(Ops), Part(Outline) },
         _ => None,
     }
 }
@@ -135,7 +138,8 @@ pub fn after_ops(kind: &TokenKind) -> Option<&'static [Expected]>
 {
     match kind {
         TokenKind::Word(Keyword::Op) =>
-            row! { Name, Symbol(OpenParen), Part(Parameters), Symbol(CloseParen), Symbol(OpenBrace), Part(Fields), Part(Statements), Symbol(CloseBrace), Part(Ops) },
+            row! { Name, Symbol(OpenParen), Part(Parameters), Symbol(CloseParen), Symbol(OpenBrace),
+                Part(Fields), Part(Statements), Symbol(CloseBrace), Part(Ops) },
         _ => None,
     }
 }

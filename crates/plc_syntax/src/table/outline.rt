@@ -1,5 +1,7 @@
 // The rows of the proof outline.
-ghost use Rattle.plc_syntax.specs.Table.{IsRow, after_outline, after_depth, after_items, after_bound, after_second_name, after_or_literals, after_literal, after_flag, after_equality, after_term};
+ghost use Rattle.plc_syntax.specs.Table.{IsRow, after_outline, after_depth, after_items, after_bound};
+ghost use Rattle.plc_syntax.specs.Table.{after_second_name, after_or_literals, after_literal};
+ghost use Rattle.plc_syntax.specs.Table.{after_flag, after_equality, after_term};
 
 use crate::expected::Expected::{self, Name, Number, Part, Symbol};
 use crate::expected::Part::{
@@ -38,7 +40,8 @@ pub fn after_items(kind: &TokenKind) -> Option<&'static [Expected]>
         TokenKind::Word(Keyword::Over) =>
             row! { Name, Symbol(Colon), Part(Bound), Part(Literal), Part(OrLiterals), Symbol(Semicolon), Part(Items) },
         TokenKind::Word(Keyword::At) =>
-            row! { Name, Part(MoreNames), Symbol(Colon), Part(Bound), Part(Literal), Part(OrLiterals), Symbol(Semicolon), Part(Items) },
+            row! { Name, Part(MoreNames), Symbol(Colon), Part(Bound), Part(Literal), Part(OrLiterals),
+                Symbol(Semicolon), Part(Items) },
         _ => None,
     }
 }

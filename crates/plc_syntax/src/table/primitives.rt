@@ -1,5 +1,7 @@
 // The rows of primitives, and of the values and tests in them.
-ghost use Rattle.plc_syntax.specs.Table.{IsRow, after_primitives, after_assignment_tail, after_set_tail, after_field_tail, after_value, after_place, after_dot_name, after_atom, after_ghost_value, after_test, after_comparison};
+ghost use Rattle.plc_syntax.specs.Table.{IsRow, after_primitives, after_assignment_tail, after_set_tail};
+ghost use Rattle.plc_syntax.specs.Table.{after_field_tail, after_value, after_place, after_dot_name};
+ghost use Rattle.plc_syntax.specs.Table.{after_atom, after_ghost_value, after_test, after_comparison};
 
 use crate::expected::Expected::{self, Name, Part, Symbol};
 use crate::expected::Part::{

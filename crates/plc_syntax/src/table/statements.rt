@@ -1,6 +1,8 @@
 // The rows of statements and conditions. A block counts its braces by the two symbols that it is
 // made of, so that the machine's stack grows and shrinks with it.
-ghost use Rattle.plc_syntax.specs.Table.{IsRow, after_statements, after_block, after_else, after_second_block, after_further_blocks, after_named_tail, after_argument, after_during, after_condition, after_condition_tail, after_active_word, after_name_or_null};
+ghost use Rattle.plc_syntax.specs.Table.{IsRow, after_statements, after_block, after_else, after_second_block};
+ghost use Rattle.plc_syntax.specs.Table.{after_further_blocks, after_named_tail, after_argument, after_during};
+ghost use Rattle.plc_syntax.specs.Table.{after_condition, after_condition_tail, after_active_word, after_name_or_null};
 
 use crate::expected::Expected::{self, Name, Part, Symbol};
 use crate::expected::Part::{
@@ -111,7 +113,8 @@ pub fn after_condition(kind: &TokenKind) -> Option<&'static [Expected]>
     match kind {
         TokenKind::Name(_) => row! { Part(ConditionTail) },
         TokenKind::Word(Keyword::Cas) =>
-            row! { Symbol(OpenParen), Part(ActiveWord), Name, Symbol(Comma), Part(NameOrNull), Symbol(Comma), Part(NameOrNull), Symbol(CloseParen) },
+            row! { Symbol(OpenParen), Part(ActiveWord), Name, Symbol(Comma), Part(NameOrNull),
+                Symbol(Comma), Part(NameOrNull), Symbol(CloseParen) },
         _ => None,
     }
 }
