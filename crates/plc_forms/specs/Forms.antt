@@ -2,13 +2,13 @@
 use Rattle.std.specs.Prelude.{Bool, true, false, if◌then◌else◌, Option, Some, None, List, ◌∷◌}
 use denote.Enum.Bare.{sameb}
 use Rattle.plc_lex.specs.contracts.token.Keyword as keyword
-use Rattle.plc_lex.specs.contracts.token.Symbol as punctuation
 use Rattle.plc_lex.specs.declared.token.TokenKind.{TokenKind}
 use Rattle.plc_lex.specs.declared.token.TokenKind.TheVariants.{Word, Name, Number, Symbol}
 use Rattle.plc_lex.specs.declared.token.Keyword.{Keyword}
 use Rattle.plc_lex.specs.declared.token.Keyword.TheVariants.{Struct, Ptr, Data, Shared, Call, Use, Hazard, Epoch, Ghost, Thread, Init, Op, Atomic, If, Else, Loop, Break, Return, Skip, Choose, Or, Label, During, Active, Assume, New, Null, Cas, Me, None as NoneWord}
 use Rattle.plc_lex.specs.declared.token.Symbol.{Symbol as Punctuation}
 use Rattle.plc_lex.specs.declared.token.Symbol.TheVariants.{Assign, Refresh, Equal, Unequal, AtLeast, Less, OpenBrace, CloseBrace, OpenParen, CloseParen, Semicolon, Comma, Dot}
+use Rattle.plc_syntax.specs.Table.{same_symbol}
 use Rattle.plc_syntax.specs.Trees.{Text, FieldTree, PointerField, DataField, PlaceTree, PlaceOf, AtomTree, NullAtom, NumberAtom, NameAtom, ValueTree, NullValue, NewValue, NumberValue, PlaceValue, SetTree, SetName, SetField, RefreshTree, RefreshName, RefreshField, GhostValueTree, NameGhost, MeGhost, NoneGhost, GhostSetTree, SetGhost, InitialTree, InitialSet, InitialGhost, Comparison, SameAs, OtherThan, LessThan, NotLessThan, TestTree, Compares, ConditionTree, TestCondition, RefreshCondition, CasCondition, PrimitiveTree, SetPrimitive, RefreshPrimitive, GhostPrimitive, ActivePrimitive, AssumePrimitive, SkipPrimitive, ArgumentTree, NoArgument, NullArgument, NameArgument, ActiveArgument, FunctionTree, Declares, WatchTree, UseHazard, UseEpoch}
 
 infixl 10 ◌>>=◌
@@ -44,10 +44,6 @@ is_word word (Symbol s) = false
 abbrev pub word_of : Keyword → List TokenKind → Option (List TokenKind)
 word_of word (Word found ∷ rest) = if same_word found word then Some rest else None
 word_of word ts = None
-
--- whether two symbols are one
-abbrev pub same_symbol : Punctuation → Punctuation → Bool
-same_symbol a b = sameb punctuation.the_type a b
 
 -- a symbol
 abbrev pub symbol_of : Punctuation → List TokenKind → Option (List TokenKind)

@@ -1,9 +1,12 @@
 // Assignments and refreshes.
 ghost use Rattle.std.specs.Prelude.{◌≡◌, ◌+◌, ◌-◌, Some, None};
 ghost use Rattle.plc_syntax.specs.Syntax.{kinds};
-ghost use Rattle.plc_forms.specs.Forms.{dot_name_of, place_of_name, place_of, value_of, atom_of, set_name_of, set_field_of, set_of, refresh_name_of, refresh_field_of, refresh_of, ghost_value_of, ghost_set_of};
+ghost use Rattle.plc_forms.specs.Forms.{dot_name_of, place_of_name, place_of, value_of, atom_of};
+ghost use Rattle.plc_forms.specs.Forms.{set_name_of, set_field_of, set_of, refresh_name_of};
+ghost use Rattle.plc_forms.specs.Forms.{refresh_field_of, refresh_of, ghost_value_of, ghost_set_of};
 ghost use Rattle.plc_forms.specs.Sizes.{place_size, value_size, set_size, refresh_size, ghost_set_size};
-ghost use Rattle.plc_forms.specs.Views.{Behind, place_tree, value_tree, atom_tree, set_tree, refresh_tree, ghost_value_tree, ghost_set_tree, Reads, text_of};
+ghost use Rattle.plc_forms.specs.Views.{Behind, place_tree, value_tree, atom_tree, set_tree, refresh_tree};
+ghost use Rattle.plc_forms.specs.Views.{ghost_value_tree, ghost_set_tree, Reads, text_of};
 
 use crate::form::{Atom, GhostSet, GhostValue, Place, Refresh, Set, Value};
 use crate::front::{first, name_at, name_symbol_at, symbol_name_at, word_name_at};

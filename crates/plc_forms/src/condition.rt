@@ -1,9 +1,11 @@
 // Tests and the conditions of `if`.
 ghost use Rattle.std.specs.Prelude.{◌≡◌, ◌-◌, IfSome, Some, None};
 ghost use Rattle.plc_syntax.specs.Syntax.{kinds};
-ghost use Rattle.plc_forms.specs.Forms.{comparison_of, test_of, name_or_null_of, comma_name_or_null_of, active_word_of, cas_of, cas_condition_of, named_condition_of, condition_of};
+ghost use Rattle.plc_forms.specs.Forms.{comparison_of, test_of, name_or_null_of, comma_name_or_null_of, active_word_of};
+ghost use Rattle.plc_forms.specs.Forms.{cas_of, cas_condition_of, named_condition_of, condition_of};
 ghost use Rattle.plc_forms.specs.Sizes.{word_size, test_size, condition_size};
-ghost use Rattle.plc_forms.specs.Views.{Behind, text_or_none, relation_tree, test_tree, cas_tree, condition_tree, Reads};
+ghost use Rattle.plc_forms.specs.Views.{Behind, text_or_none, relation_tree, test_tree};
+ghost use Rattle.plc_forms.specs.Views.{cas_tree, condition_tree, Reads};
 
 use crate::assignment::{atom_at, refresh_name_at};
 use crate::form::{Cas, Condition, Relation, Test};

@@ -1,7 +1,10 @@
 // The declarations of a file.
 ghost use Rattle.std.specs.Prelude.{◌≡◌, Some, None};
 ghost use Rattle.plc_syntax.specs.Syntax.{kinds};
-ghost use Rattle.plc_forms.specs.Forms.{struct_of, field_of, shared_of, head_of, comma_name_of, opening_of, closing_of, semicolon_of, parenthesis_of, end_of, pointer_word_of, function_of, hazard_of, epoch_of, watch_of, ghost_of, thread_of, first_value_of, values_end_of, init_of};
+ghost use Rattle.plc_forms.specs.Forms.{struct_of, field_of, shared_of, head_of, comma_name_of, opening_of};
+ghost use Rattle.plc_forms.specs.Forms.{closing_of, semicolon_of, parenthesis_of, end_of, pointer_word_of};
+ghost use Rattle.plc_forms.specs.Forms.{function_of, hazard_of, epoch_of, watch_of, ghost_of, thread_of};
+ghost use Rattle.plc_forms.specs.Forms.{first_value_of, values_end_of, init_of};
 ghost use Rattle.plc_forms.specs.Sizes.{word_size, function_size, watch_size};
 ghost use Rattle.plc_forms.specs.Views.{Behind, field_tree, function_tree, watch_tree, Passes, Reads, text_of};
 

@@ -2,7 +2,8 @@
 // names, or answers `None` where another token stands; larger forms are chains of these.
 ghost use Rattle.std.specs.Prelude.{◌≡◌, ◌+◌, IfSome, MatchOption, Some, None, [], ◌∷◌};
 ghost use Rattle.plc_syntax.specs.Syntax.{kinds};
-ghost use Rattle.plc_forms.specs.Forms.{is_word, word_of, symbol_of, name_of, word_symbol_of, symbol_name_of, name_symbol_of, word_name_of};
+ghost use Rattle.plc_forms.specs.Forms.{is_word, word_of, symbol_of, name_of, word_symbol_of};
+ghost use Rattle.plc_forms.specs.Forms.{symbol_name_of, name_symbol_of, word_name_of};
 ghost use Rattle.plc_forms.specs.Views.{Behind, Passes, Reads, text_of};
 
 use crate::rest::Rest;

@@ -1,7 +1,9 @@
 // Statements other than primitives.
 ghost use Rattle.std.specs.Prelude.{◌≡◌, Some, None};
 ghost use Rattle.plc_syntax.specs.Syntax.{kinds};
-ghost use Rattle.plc_forms.specs.Forms.{atomic_of, if_of, else_of, choose_of, or_of, loop_of, break_of, return_of, label_of, active_name_of, argument_of, call_of, during_name_of, during_of};
+ghost use Rattle.plc_forms.specs.Forms.{atomic_of, if_of, else_of, choose_of, or_of, loop_of};
+ghost use Rattle.plc_forms.specs.Forms.{break_of, return_of, label_of, active_name_of, argument_of};
+ghost use Rattle.plc_forms.specs.Forms.{call_of, during_name_of, during_of};
 ghost use Rattle.plc_forms.specs.Sizes.{argument_size, call_size, during_size};
 ghost use Rattle.plc_forms.specs.Views.{Behind, text_or_none, argument_tree, call_tree, Passes, Reads, text_of};
 
