@@ -22,7 +22,7 @@ use Rattle.plc_scope.specs.declared.fault.ParseFault.{ParseFault}
 use Rattle.plc_scope.specs.declared.fault.ParseFault.TheVariants as faults
 use Rattle.plc_scope.specs.declared.scope.Scope.{Scope}
 use Rattle.plc_scope.specs.declared.binding.Role.{Role}
-use Rattle.plc_scope.specs.declared.binding.Role.TheVariants.{PointerVariable as pointer_variable, DataLocal as data_local, PointerField as pointer_field, DataField as data_field, Function as function, Auxiliary as auxiliary, Value as value, NoValue as no_value}
+use Rattle.plc_scope.specs.declared.binding.Role.TheVariants.{PointerVariable as pointer_variable, DataLocal as data_local, PointerField as pointer_field, DataField as data_field}
 use Rattle.plc_scope.specs.Scope.{◌>>=◌, needed, any_role, role_of, pointer_at, pointer_local_at, data_at, pointer_field_at, data_field_at, function_at, auxiliary_at, value_at, thread_at}
 
 -- ---- assignments
@@ -57,12 +57,7 @@ data_value s x at (PlaceValue (PlaceOf n (Some f))) = do
 abbrev pub value_into : Scope → ℕ → ValueTree → Role → ℕ → Result Primitive ParseFault
 value_into s at v (pointer_variable p) left = pointer_value s p at v
 value_into s at v (data_local x) left = data_value s x at v
-value_into s at v (pointer_field f) left = Err (faults.WrongSort left)
-value_into s at v (data_field f) left = Err (faults.WrongSort left)
-value_into s at v (function f p) left = Err (faults.WrongSort left)
-value_into s at v (auxiliary g t) left = Err (faults.WrongSort left)
-value_into s at v (value g w) left = Err (faults.WrongSort left)
-value_into s at v no_value left = Err (faults.WrongSort left)
+value_into s at v _ left = Err (faults.WrongSort left)
 
 -- what is put into a pointer field
 abbrev pub pointer_atom : Scope → Var → FieldId → ℕ → AtomTree → Result Primitive ParseFault
@@ -84,12 +79,7 @@ data_atom s p f at (NameAtom n) = do
 abbrev pub atom_into : Scope → Var → ℕ → AtomTree → Role → ℕ → Result Primitive ParseFault
 atom_into s p at a (pointer_field f) field = pointer_atom s p f at a
 atom_into s p at a (data_field f) field = data_atom s p f at a
-atom_into s p at a (pointer_variable v) field = Err (faults.WrongSort field)
-atom_into s p at a (data_local x) field = Err (faults.WrongSort field)
-atom_into s p at a (function f b) field = Err (faults.WrongSort field)
-atom_into s p at a (auxiliary g t) field = Err (faults.WrongSort field)
-atom_into s p at a (value g w) field = Err (faults.WrongSort field)
-atom_into s p at a no_value field = Err (faults.WrongSort field)
+atom_into s p at a _ field = Err (faults.WrongSort field)
 
 -- the left side before the right
 unfoldable pub set_means : Scope → ℕ → SetTree → Result Primitive ParseFault
@@ -188,12 +178,7 @@ data_test s x r at (NameAtom n) = do
 abbrev pub test_of : Scope → ℕ → Comparison → AtomTree → Role → Result Primitive ParseFault
 test_of s at c a (pointer_variable p) = pointer_test s p (at + 1) c a
 test_of s at c a (data_local x) = data_test s x (relation c) (at + 2) a
-test_of s at c a (pointer_field f) = Err (faults.WrongSort at)
-test_of s at c a (data_field f) = Err (faults.WrongSort at)
-test_of s at c a (function f p) = Err (faults.WrongSort at)
-test_of s at c a (auxiliary g t) = Err (faults.WrongSort at)
-test_of s at c a (value g v) = Err (faults.WrongSort at)
-test_of s at c a no_value = Err (faults.WrongSort at)
+test_of s at c a _ = Err (faults.WrongSort at)
 
 -- the left side before the relation and the right
 unfoldable pub test_means : Scope → ℕ → TestTree → Result Primitive ParseFault

@@ -164,13 +164,7 @@ any_role r = Some r
 -- a pointer variable
 abbrev pub as_pointer : Role → Option Var
 as_pointer (pointer_variable v) = Some v
-as_pointer (data_local x) = None
-as_pointer (pointer_field f) = None
-as_pointer (data_field f) = None
-as_pointer (function f p) = None
-as_pointer (auxiliary g t) = None
-as_pointer (value g v) = None
-as_pointer no_value = None
+as_pointer _ = None
 
 -- a local of the two kinds of pointer variables
 abbrev pub as_local : Var → Option ℕ
@@ -180,57 +174,27 @@ as_local (LocalVar k) = Some k
 -- a pointer local
 abbrev pub as_pointer_local : Role → Option ℕ
 as_pointer_local (pointer_variable v) = as_local v
-as_pointer_local (data_local x) = None
-as_pointer_local (pointer_field f) = None
-as_pointer_local (data_field f) = None
-as_pointer_local (function f p) = None
-as_pointer_local (auxiliary g t) = None
-as_pointer_local (value g v) = None
-as_pointer_local no_value = None
+as_pointer_local _ = None
 
 -- a data local
 abbrev pub as_data : Role → Option ℕ
-as_data (pointer_variable v) = None
 as_data (data_local x) = Some x
-as_data (pointer_field f) = None
-as_data (data_field f) = None
-as_data (function f p) = None
-as_data (auxiliary g t) = None
-as_data (value g v) = None
-as_data no_value = None
+as_data _ = None
 
 -- a pointer field
 abbrev pub as_pointer_field : Role → Option FieldId
-as_pointer_field (pointer_variable v) = None
-as_pointer_field (data_local x) = None
 as_pointer_field (pointer_field f) = Some f
-as_pointer_field (data_field f) = None
-as_pointer_field (function f p) = None
-as_pointer_field (auxiliary g t) = None
-as_pointer_field (value g v) = None
-as_pointer_field no_value = None
+as_pointer_field _ = None
 
 -- a data field
 abbrev pub as_data_field : Role → Option FieldId
-as_data_field (pointer_variable v) = None
-as_data_field (data_local x) = None
-as_data_field (pointer_field f) = None
 as_data_field (data_field f) = Some f
-as_data_field (function f p) = None
-as_data_field (auxiliary g t) = None
-as_data_field (value g v) = None
-as_data_field no_value = None
+as_data_field _ = None
 
 -- a function, and whether it takes a pointer
 abbrev pub as_function : Role → Option (FuncId × Bool)
-as_function (pointer_variable v) = None
-as_function (data_local x) = None
-as_function (pointer_field f) = None
-as_function (data_field f) = None
 as_function (function f p) = Some (f, p)
-as_function (auxiliary g t) = None
-as_function (value g v) = None
-as_function no_value = None
+as_function _ = None
 
 -- a function with a pointer that isn't `retire`
 abbrev pub protecting : FuncId → Bool → Option FuncId
@@ -238,14 +202,8 @@ protecting f p = if p && not (is_retire f) then Some f else None
 
 -- the same of a name
 abbrev pub as_protecting : Role → Option FuncId
-as_protecting (pointer_variable v) = None
-as_protecting (data_local x) = None
-as_protecting (pointer_field f) = None
-as_protecting (data_field f) = None
 as_protecting (function f p) = protecting f p
-as_protecting (auxiliary g t) = None
-as_protecting (value g v) = None
-as_protecting no_value = None
+as_protecting _ = None
 
 -- a function without a pointer
 abbrev pub without_pointer : FuncId → Bool → Option FuncId
@@ -253,25 +211,13 @@ without_pointer f p = if p then None else Some f
 
 -- the same of a name
 abbrev pub as_without_pointer : Role → Option FuncId
-as_without_pointer (pointer_variable v) = None
-as_without_pointer (data_local x) = None
-as_without_pointer (pointer_field f) = None
-as_without_pointer (data_field f) = None
 as_without_pointer (function f p) = without_pointer f p
-as_without_pointer (auxiliary g t) = None
-as_without_pointer (value g v) = None
-as_without_pointer no_value = None
+as_without_pointer _ = None
 
 -- an auxiliary field, and whether it holds a thread
 abbrev pub as_auxiliary : Role → Option (ℕ × Bool)
-as_auxiliary (pointer_variable v) = None
-as_auxiliary (data_local x) = None
-as_auxiliary (pointer_field f) = None
-as_auxiliary (data_field f) = None
-as_auxiliary (function f p) = None
 as_auxiliary (auxiliary g t) = Some (g, t)
-as_auxiliary (value g v) = None
-as_auxiliary no_value = None
+as_auxiliary _ = None
 
 -- a value of auxiliary field h
 abbrev pub value_of_field : ℕ → ℕ → ℕ → Option ℕ
@@ -279,14 +225,8 @@ value_of_field h g v = if g == h then Some v else None
 
 -- the same of a name
 abbrev pub as_value_of : ℕ → Role → Option ℕ
-as_value_of h (pointer_variable v) = None
-as_value_of h (data_local x) = None
-as_value_of h (pointer_field f) = None
-as_value_of h (data_field f) = None
-as_value_of h (function f p) = None
-as_value_of h (auxiliary g t) = None
 as_value_of h (value g v) = value_of_field h g v
-as_value_of h no_value = None
+as_value_of h _ = None
 
 -- no name is a thread
 abbrev pub as_thread : Role → Option ℕ

@@ -5,7 +5,8 @@ ghost use Rattle.std.specs.Prelude.{◌+◌, ◌<◌, ◌≤◌, ◌^◌, length
 ghost use Rattle.plc_forms.specs.Sizes.{value_size, set_size};
 ghost use Rattle.plc_forms.specs.Views.{value_tree, atom_tree, set_tree};
 ghost use Rattle.plc_scope.specs.Answers.{Gives};
-ghost use Rattle.plc_scope.specs.Primitives.{pointer_value, data_value, value_into, pointer_atom, data_atom, atom_into, set_means};
+ghost use Rattle.plc_scope.specs.Primitives.{pointer_value, data_value, value_into, pointer_atom};
+ghost use Rattle.plc_scope.specs.Primitives.{data_atom, atom_into, set_means};
 ghost use Rattle.plc_scope.specs.Scope.{most_locals};
 
 use crate::binding::Role;
@@ -25,19 +26,15 @@ fn pointer_value(scope: &Scope, p: Var, at: u32, value: Value) -> Result<Prim, P
         Value::Null => Ok(Prim::Null { p }),
         Value::New => Ok(Prim::New { p }),
         Value::Number(_) => Err(ParseFault::WrongSort { at }),
-        Value::Place(Place { name, field: None }) => {
-            let q = scope.pointer_at(name, at)?;
-            Ok(Prim::Copy { p, q })
-        }
-        Value::Place(
-            Place {
-                name,
-                field: Some(field),
-            },
-        ) => {
-            let q = scope.pointer_at(name, at)?;
-            let f = scope.pointer_field_at(field, at + 2)?;
-            Ok(Prim::Load { p, q, f })
+        Value::Place(place) => {
+            let q = scope.pointer_at(place.name, at)?;
+            match place.field {
+                None => Ok(Prim::Copy { p, q }),
+                Some(field) => {
+                    let f = scope.pointer_field_at(field, at + 2)?;
+                    Ok(Prim::Load { p, q, f })
+                }
+            }
         }
     }
 }

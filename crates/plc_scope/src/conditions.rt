@@ -4,7 +4,8 @@ ghost use Rattle.std.specs.Prelude.{◌+◌, ◌<◌, ◌≤◌, ◌^◌, length
 ghost use Rattle.plc_forms.specs.Sizes.{test_size, condition_size};
 ghost use Rattle.plc_forms.specs.Views.{text_or_none, atom_tree, relation_tree, test_tree, cas_tree, condition_tree};
 ghost use Rattle.plc_scope.specs.Answers.{Gives};
-ghost use Rattle.plc_scope.specs.Primitives.{pointer_equality, pointer_test, relation, data_test, test_of, test_means, pointer_or_null, cas_means, condition_means};
+ghost use Rattle.plc_scope.specs.Primitives.{pointer_equality, pointer_test, relation, data_test, test_of};
+ghost use Rattle.plc_scope.specs.Primitives.{test_means, pointer_or_null, cas_means, condition_means};
 ghost use Rattle.plc_scope.specs.Scope.{most_locals};
 
 use crate::binding::Role;

@@ -1,8 +1,11 @@
 // What names mean in an operation: each is looked up among the present locals first, and then among
 // the names of the file; a name without a declaration is a fault before one of the wrong kind.
-ghost use Rattle.std.specs.Prelude.{◌≡◌, ◌<◌, ◌≤◌, if◌then◌else◌, length};
+ghost use Rattle.std.specs.Prelude.{◌≡◌, ◌<◌, ◌≤◌, ◌^◌, if◌then◌else◌, length};
 ghost use Rattle.plc_scope.specs.Answers.{Gives};
-ghost use Rattle.plc_scope.specs.Scope.{most_locals, any_role, needed, role_of, role_at, role_outside, role_inside, pointer_at, data_at, pointer_field_at, data_field_at, pointer_local_at, function_at, protecting_at, without_pointer_at, auxiliary_at, value_at, thread_at};
+ghost use Rattle.plc_scope.specs.Scope.{most_locals, any_role, needed, role_of, role_at, role_outside};
+ghost use Rattle.plc_scope.specs.Scope.{role_inside, pointer_at, data_at, pointer_field_at, data_field_at};
+ghost use Rattle.plc_scope.specs.Scope.{pointer_local_at, function_at, protecting_at, without_pointer_at};
+ghost use Rattle.plc_scope.specs.Scope.{auxiliary_at, value_at, thread_at};
 
 use crate::binding::{Binding, Role};
 use crate::fault::ParseFault;
@@ -27,7 +30,7 @@ fn role_outside(binding: Binding) -> Option<Role>
 
 // The local with a name's number; pointers and data are counted apart.
 fn role_inside(locals: &[Local], number: u16) -> Option<Role>
-    requires { length locals.now < 65536 }
+    requires { length locals.now < 2 ^ 16 }
     ensures { result ≡ role_inside 0 0 locals.now number }
 {
     let mut pointers = 0;

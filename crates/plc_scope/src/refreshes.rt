@@ -4,7 +4,8 @@ ghost use Rattle.std.specs.Prelude.{◌+◌, ◌<◌, ◌≤◌, ◌^◌, length
 ghost use Rattle.plc_forms.specs.Sizes.{place_size, refresh_size, ghost_set_size};
 ghost use Rattle.plc_forms.specs.Views.{place_tree, refresh_tree, ghost_value_tree, ghost_set_tree};
 ghost use Rattle.plc_scope.specs.Answers.{Gives};
-ghost use Rattle.plc_scope.specs.Primitives.{refresh_from, refresh_name_means, refresh_means, ghost_value_means, ghost_set_means};
+ghost use Rattle.plc_scope.specs.Primitives.{refresh_from, refresh_name_means, refresh_means};
+ghost use Rattle.plc_scope.specs.Primitives.{ghost_value_means, ghost_set_means};
 ghost use Rattle.plc_scope.specs.Scope.{most_locals};
 
 use crate::fault::ParseFault;
