@@ -1,6 +1,6 @@
 // Whole answers of `run` over files in memory. That there is memory for an answer, and which bytes an
 // output is handed, is what no contract can say. `rows.rt` has the files, and the rows of answers.
-use crate::rows::{CHECKED, FILES, PRINTED, REPLAYED, SCHEDULES, UNLISTED};
+use crate::rows::{CHECKED, FILES, OUTLINED, PRINTED, REPLAYED, SCHEDULES, UNLISTED};
 use plc_cli::{ByList, FailSink, Files, Leak, MemFiles, Reclaimer, VecSink, run};
 use std::alloc::{AllocError, Global};
 
@@ -51,6 +51,17 @@ fn put_sections(alloc: Global, files: &mut Entries, text: &str) -> Result<(), Al
     Ok(())
 }
 
+fn put_schedules(alloc: Global, files: &mut Entries) -> Result<(), AllocError> {
+    for (name, pieces) in &SCHEDULES {
+        let mut text = String::new(alloc);
+        for piece in *pieces {
+            text.push_str(*piece)?;
+        }
+        put(alloc, files, *name, text.into_bytes())?;
+    }
+    Ok(())
+}
+
 // The bytes of a file that no section has.
 fn made_bytes(alloc: Global, name: &str) -> Result<Vec<u8>, AllocError> {
     match name {
@@ -62,11 +73,12 @@ fn made_bytes(alloc: Global, name: &str) -> Result<Vec<u8>, AllocError> {
         "points-outlined" => points(alloc, 254, " outline { }"),
         "points-over" => points(alloc, 255, " outline { }"),
         "open-atomic" => Vec::from_slice(alloc, OPEN.as_bytes()),
+        "outlined" => Vec::from_slice(alloc, OUTLINED.as_bytes()),
         _ => Ok(vec![in alloc; 200u8]?),
     }
 }
 
-const MADE: [&str; 9] = [
+const MADE: [&str; 10] = [
     "most",
     "long",
     "longest",
@@ -75,6 +87,7 @@ const MADE: [&str; 9] = [
     "points-outlined",
     "points-over",
     "open-atomic",
+    "outlined",
     "byte",
 ];
 
@@ -88,7 +101,7 @@ fn put_made(alloc: Global, files: &mut Entries) -> Result<(), AllocError> {
 fn entries(alloc: Global) -> Result<Entries, AllocError> {
     let mut files = Vec::new(alloc);
     put_sections(alloc, &mut files, FILES)?;
-    put_sections(alloc, &mut files, SCHEDULES)?;
+    put_schedules(alloc, &mut files)?;
     put_made(alloc, &mut files)?;
     Ok(files)
 }
@@ -239,5 +252,12 @@ fn a_print_is_printed_the_same(rt: HostRuntime) -> Result<(), AllocError> {
             }
         }
     }
+    Ok(())
+}
+
+#[test]
+fn what_is_spelled_as_printed_stays(rt: HostRuntime) -> Result<(), AllocError> {
+    let text = printed(rt.alloc(), OUTLINED)?;
+    assert_eq!(rt; text.as_str().strip_prefix("0\n").unwrap_or(""), OUTLINED);
     Ok(())
 }

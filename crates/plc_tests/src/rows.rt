@@ -1,5 +1,6 @@
-// Files, schedules, and the answers that are wanted of them, as texts of sections. A section's head stands
-// after `#`: a file's name, or a row's words and status; its lines are the file, or the answer.
+// Files, schedules, and the answers that are wanted of them. Files and answers are texts of sections: a
+// section's head stands after `#`, a file's name, or a row's words and status; its lines are the file, or
+// the answer. A schedule is a name and the pieces of its text.
 
 // `dead` and `endless`: no step leads to the statements after a `return`, or after a loop without a
 // `break`; they are typed all the same. `rounds`: what is read of `T` comes to `c` in the third turn.
@@ -120,160 +121,173 @@ op put() { ptr n; n := new; Top := n; }
 op take() { ptr t; t := Top; Top := null; retire(t); }
 op look() { ptr t; ptr s; t := Top; protect(t); t ?= Top; s := t.next; }
 op peek() { ptr t; ptr s; t := Top; s := t.next; }
-# outlined
-struct Node { ptr next; data val; }
-shared Top;
-call protect(ptr);
-use hazard(protect);
-ghost st { made, linked, cut };
-ghost owner thread;
-op push(v) {
-ptr n; ptr t;
-atomic { n := new; ghost n.owner := me; }
-n.val := v;
+";
+
+// The file of the stack with an outline, in the spelling that is printed.
+pub(crate) const OUTLINED: &str = "\
+struct Node {
+ptr next ;
+data val ;
+}
+shared Top ;
+call protect ( ptr ) ;
+use hazard ( protect ) ;
+ghost st {
+made , linked , cut }
+;
+ghost owner thread ;
+op push ( v ) {
+ptr n ;
+ptr t ;
+atomic {
+n := new ;
+ghost n . owner := me ;
+}
+n . val := v ;
 loop {
-t := Top;
-n.next := t;
+t := Top ;
+n . next := t ;
 choose {
-atomic { n.next ?= Top; ghost n.st := linked; ghost n.owner := none; Top := n; n := null; }
-return;
-} or { }
+atomic {
+n . next ?= Top ;
+ghost n . st := linked ;
+ghost n . owner := none ;
+Top := n ;
+n := null ;
+}
+return ;
+}
+or {
 }
 }
-op pop() {
-ptr t; ptr s;
+}
+op pop ( ) {
+ptr t ;
+ptr s ;
 loop {
-t := Top;
-if (t == null) { return; }
-protect(t);
-choose {
-atomic { t ?= Top; active t; }
-s := t.next;
-label d;
-choose {
-label e;
-atomic { active Top; assume Top == t; ghost t.st := cut; ghost t.owner := me; Top := s; }
-label f;
-retire(active t);
-return;
-} or {
-atomic { active Top; assume Top != t; }
+t := Top ;
+if ( t == null ) {
+return ;
 }
-} or { }
+protect ( t ) ;
+choose {
+atomic {
+t ?= Top ;
+active t ;
+}
+s := t . next ;
+label d ;
+choose {
+label e ;
+atomic {
+active Top ;
+assume Top == t ;
+ghost t . st := cut ;
+ghost t . owner := me ;
+Top := s ;
+}
+label f ;
+retire ( active t ) ;
+return ;
+}
+or {
+atomic {
+active Top ;
+assume Top != t ;
+}
+}
+}
+or {
+}
 }
 }
 outline {
-inv Top == null or Top.st == linked;
-inv all x: x.st != linked or not retired(x);
-inv all x, y: x.st != linked or x.next != y or y.st == linked;
-inv all x: Top == null or x.st != linked or x.next != Top;
-inv all x, y: x.st != linked or y.st != linked or x.next == null or x.next != y.next or x == y;
-over push: n == null or n.st == made;
-over push: n == null or n.owner == me;
-over push: n == null or not retired(n);
-over pop: t == null or t.st != made;
-at d, e: t != null;
-at d, e: t.next == s;
-at f: t.st == cut;
-at f: t.owner == me;
-at f: not retired(t);
+inv Top == null or Top . st == linked ;
+inv all x : x . st != linked or not retired ( x ) ;
+inv all x , y : x . st != linked or x . next != y or y . st == linked ;
+inv all x : Top == null or x . st != linked or x . next != Top ;
+inv all x , y : x . st != linked or y . st != linked or x . next == null or x . next != y . next or x == y ;
+over push : n == null or n . st == made ;
+over push : n == null or n . owner == me ;
+over push : n == null or not retired ( n ) ;
+over pop : t == null or t . st != made ;
+at d , e : t != null ;
+at d , e : t . next == s ;
+at f : t . st == cut ;
+at f : t . owner == me ;
+at f : not retired ( t ) ;
 }
+";
+
+// What schedules share: thread 1 puts a node, takes it, whereupon the reclaimer is asked, and ends that
+// operation to put a node at the same address.
+const PUT: &str = "threads 2
+start 1 put
+step 1 0 1
+step 1 0
+step 1 0
+return 1
+";
+
+const TAKE: &str = "start 1 take
+step 1 0
+step 1 0
+step 1 0
+tick
+";
+
+const PUT_AGAIN: &str = "step 1 0
+step 1 0
+return 1
+start 1 put
+step 1 0 1
+step 1 0
 ";
 
 // `reused`: the node is freed and its address is allocated again between the read of `Top` and the look
 // after it; `stale`: the same without a hazard pointer; `kept`: the reclaimer is asked while a hazard
 // pointer keeps the node.
-pub(crate) const SCHEDULES: &str = "# reused
-threads 2
-start 1 put
-step 1 0 1
-step 1 0
-step 1 0
-return 1
-start 0 look
-step 0 0
-start 1 take
-step 1 0
-step 1 0
-step 1 0
-tick
-step 1 0
-step 1 0
-return 1
-start 1 put
-step 1 0 1
-step 1 0
-step 0 0
-step 0 0
-step 0 0
-step 0 0
-# stale
-threads 2
-start 1 put
-step 1 0 1
-step 1 0
-step 1 0
-return 1
-start 0 peek
-step 0 0
-start 1 take
-step 1 0
-step 1 0
-step 1 0
-tick
-step 1 0
-step 1 0
-return 1
-start 1 put
-step 1 0 1
-step 1 0
-step 0 0
-# kept
-threads 2
-start 1 put
-step 1 0 1
-step 1 0
-step 1 0
-return 1
-start 0 look
-step 0 0
-step 0 0
-step 0 0
-start 1 take
-step 1 0
-step 1 0
-step 1 0
-tick
-# double
-threads 1
-start 0 twice
-step 0 0 5
-step 0 0
-step 0 0
-step 0 0
-# freed
-threads 1
-start 0 twice
-step 0 0 5
-step 0 0
-tick
-step 0 0
-step 0 0
-# addressless
-threads 1
-start 0 twice
-step 0 0
-step 0 0
-step 0 0
-step 0 0
-# no-threads
-threads 0
-# one
-threads 1
-# no-operation
-threads 1
-start 0 loop
-";
+pub(crate) const SCHEDULES: [(&str, &[&str]); 9] = [
+    (
+        "reused",
+        &[
+            PUT,
+            "start 0 look\nstep 0 0\n",
+            TAKE,
+            PUT_AGAIN,
+            "step 0 0\nstep 0 0\nstep 0 0\nstep 0 0\n",
+        ],
+    ),
+    (
+        "stale",
+        &[
+            PUT,
+            "start 0 peek\nstep 0 0\n",
+            TAKE,
+            PUT_AGAIN,
+            "step 0 0\n",
+        ],
+    ),
+    (
+        "kept",
+        &[PUT, "start 0 look\nstep 0 0\nstep 0 0\nstep 0 0\n", TAKE],
+    ),
+    (
+        "double",
+        &["threads 1\nstart 0 twice\nstep 0 0 5\nstep 0 0\nstep 0 0\nstep 0 0\n"],
+    ),
+    (
+        "freed",
+        &["threads 1\nstart 0 twice\nstep 0 0 5\nstep 0 0\ntick\nstep 0 0\nstep 0 0\n"],
+    ),
+    (
+        "addressless",
+        &["threads 1\nstart 0 twice\nstep 0 0\nstep 0 0\nstep 0 0\nstep 0 0\n"],
+    ),
+    ("no-threads", &["threads 0\n"]),
+    ("one", &["threads 1\n"]),
+    ("no-operation", &["threads 1\nstart 0 loop\n"]),
+];
 
 pub(crate) const CHECKED: &str = "# check publish: 0
 safe points 5 steps 4 locations 2 obligations 0
@@ -400,99 +414,6 @@ ptr n ;
 n := new ;
 protect ( n ) ;
 label a ;
-}
-# print outlined: 0
-struct Node {
-ptr next ;
-data val ;
-}
-shared Top ;
-call protect ( ptr ) ;
-use hazard ( protect ) ;
-ghost st {
-made , linked , cut }
-;
-ghost owner thread ;
-op push ( v ) {
-ptr n ;
-ptr t ;
-atomic {
-n := new ;
-ghost n . owner := me ;
-}
-n . val := v ;
-loop {
-t := Top ;
-n . next := t ;
-choose {
-atomic {
-n . next ?= Top ;
-ghost n . st := linked ;
-ghost n . owner := none ;
-Top := n ;
-n := null ;
-}
-return ;
-}
-or {
-}
-}
-}
-op pop ( ) {
-ptr t ;
-ptr s ;
-loop {
-t := Top ;
-if ( t == null ) {
-return ;
-}
-protect ( t ) ;
-choose {
-atomic {
-t ?= Top ;
-active t ;
-}
-s := t . next ;
-label d ;
-choose {
-label e ;
-atomic {
-active Top ;
-assume Top == t ;
-ghost t . st := cut ;
-ghost t . owner := me ;
-Top := s ;
-}
-label f ;
-retire ( active t ) ;
-return ;
-}
-or {
-atomic {
-active Top ;
-assume Top != t ;
-}
-}
-}
-or {
-}
-}
-}
-outline {
-inv Top == null or Top . st == linked ;
-inv all x : x . st != linked or not retired ( x ) ;
-inv all x , y : x . st != linked or x . next != y or y . st == linked ;
-inv all x : Top == null or x . st != linked or x . next != Top ;
-inv all x , y : x . st != linked or y . st != linked or x . next == null or x . next != y . next or x == y ;
-over push : n == null or n . st == made ;
-over push : n == null or n . owner == me ;
-over push : n == null or not retired ( n ) ;
-over pop : t == null or t . st != made ;
-at d , e : t != null ;
-at d , e : t . next == s ;
-at f : t . st == cut ;
-at f : t . owner == me ;
-at f : not retired ( t ) ;
 }
 # print brace: 2
 refused syntax token 4 line 1
