@@ -1,9 +1,9 @@
 -- One step after another keeps what is known of the environments on the way to the strongest.
-use Rattle.std.proofs.Common.{◌≡◌, ◌≢◌, ℕ, ◌+◌, ◌*◌, ◌<◌, ◌≤◌, Bool, true, false, below_more, List, length, get_or, set, refl, sym, ap, subst, ◌∙◌, arith, inl, inr, get_or-set_same, get_or-set_other, length-set}
+use Rattle.std.proofs.Common.{◌≡◌, ◌≢◌, ℕ, ◌*◌, ◌<◌, ◌≤◌, Bool, true, false, List, length, get_or, set, sym, subst, arith, inl, inr, get_or-set_same, get_or-set_other, length-set}
 use Rattle.std.proofs.lemmas.List.Sums.{sum_by-set, sum_by-le}
 use Rattle.std.proofs.lemmas.Bool.{cases_eq}
 use Rattle.std.proofs.lemmas.List.Elements.{All-from_get_or}
-use Rattle.plc_infer.specs.Iteration.{Graph, Laws, env_at, Shaped, Stays, IsStrongest, Rising, Relaxed, Progress, Rounds, Rounded, total, Holds, IsFirstFailing, IsStuckAt, IsEarlier}
+use Rattle.plc_infer.specs.Iteration.{Graph, Laws, env_at, Shaped, IsStrongest, Rising, total, Holds, IsFirstFailing, IsStuckAt, IsEarlier}
 
 -- what holds of the written element and of the others
 at_set : {E : Type 0} (Q : ℕ → E → Type 0) (xs : List E) (i : ℕ) (v d : E) → i < length xs → Q i v → ((p : ℕ) → p ≢ i → Q p (get_or xs p d)) → (p : ℕ) → Q p (get_or (set xs i v) p d)
@@ -22,7 +22,7 @@ module _ {E : Type 0} (g : Graph E) (laws : Laws g) where
   abbrev raised_at : List E → ℕ → List E
   raised_at envs k = set envs (g.to k) (higher envs k)
 
-  led_fits : (envs : List E) (k : ℕ) → k < g.steps → Shaped g envs → g.fits (g.to k) (led envs k) ≡ true
+  pub led_fits : (envs : List E) (k : ℕ) → k < g.steps → Shaped g envs → g.fits (g.to k) (led envs k) ≡ true
   led_fits envs k small s = laws.after_fits k _ small (s.fitting (g.from k) (laws.from_in k small))
 
   to_in : (envs : List E) (k : ℕ) → k < g.steps → Shaped g envs → g.to k < length envs
@@ -36,7 +36,7 @@ module _ {E : Type 0} (g : Graph E) (laws : Laws g) where
         (λ p ne h. s.fitting p h);
   }
 
-  rising_raised : (starts envs : List E) (k : ℕ) → k < g.steps → Shaped g starts → Rising g starts envs → Rising g starts (raised_at envs k)
+  pub rising_raised : (starts envs : List E) (k : ℕ) → k < g.steps → Shaped g starts → Rising g starts envs → Rising g starts (raised_at envs k)
   rising_raised starts envs k small first r = record {
     shaped = shaped_raised envs k small r.shaped;
     above = at_set (λ p e. p < g.points → g.below (env_at g starts p) e ≡ true) envs (g.to k) (higher envs k) g.bottom (to_in envs k small r.shaped)
@@ -52,42 +52,10 @@ module _ {E : Type 0} (g : Graph E) (laws : Laws g) where
         (λ p ne h. r.below_all others t p h);
   }
 
-  total_raised : (envs : List E) (k : ℕ) → k < g.steps → Shaped g envs → g.below (led envs k) (env_at g envs (g.to k)) ≡ false → total g envs < total g (raised_at envs k)
+  pub total_raised : (envs : List E) (k : ℕ) → k < g.steps → Shaped g envs → g.below (led envs k) (env_at g envs (g.to k)) ≡ false → total g envs < total g (raised_at envs k)
   total_raised envs k small s out =
       let more : g.size (env_at g envs (g.to k)) < g.size (higher envs k) = laws.grows (g.to k) _ _ (s.fitting (g.to k) (laws.to_in k small)) (led_fits envs k small s) out in
       omega (arith, more, sum_by-set g.size envs (g.to k) (higher envs k) g.bottom (to_in envs k small s))
-
-  shaped_step : (n : ℕ) (envs new : List E) (raised : Bool) → n < g.steps → Shaped g envs → Relaxed g n envs new raised → Shaped g new
-  shaped_step n envs new true small s x = subst (Shaped g) (sym x.1) (shaped_raised envs n small s)
-  shaped_step n envs new false small s x = subst (Shaped g) (sym x.1) s
-
-  rising_step : (n : ℕ) (starts envs new : List E) (raised : Bool) → n < g.steps → Shaped g starts → Relaxed g n envs new raised → Rising g starts envs → Rising g starts new
-  rising_step n starts envs new true small first x r = subst (Rising g starts) (sym x.1) (rising_raised starts envs n small first r)
-  rising_step n starts envs new false small first x r = subst (Rising g starts) (sym x.1) r
-
-  progress_step : (n : ℕ) (old envs new : List E) (before raised later : Bool) → n < g.steps → Shaped g envs → Relaxed g n envs new raised →
-      (raised ≡ true → later ≡ true) → (raised ≡ false → later ≡ before) → Progress g n old envs before → Progress g (n + 1) old new later
-  progress_step n old envs new before true later small s x up flat p =
-      subst (Progress g (n + 1) old new) (sym (up refl)) (rw x.1 (grown before p))
-    where
-      grown : (b : Bool) → Progress g n old envs b → total g old < total g (raised_at envs n)
-      grown true q = let h = total_raised envs n small s x.0 in omega arith
-      grown false q = let h = total_raised envs n small s x.0 in let e = ap (total g) q.0 in omega arith
-  progress_step n old envs new before false later small s x up flat p =
-      subst (Progress g (n + 1) old new) (sym (flat refl)) (kept before p)
-    where
-      kept : (b : Bool) → Progress g n old envs b → Progress g (n + 1) old new b
-      kept true q = rw x.1 q
-      kept false q = (x.1 ∙ q.0, below_more (Stays g old) n q.1 (subst (λ (es : List E). Stays g es n) q.0 x.0))
-
-  -- one step more of a round
-  pub round_more : (n : ℕ) (old envs new : List E) (before raised later : Bool) → n < g.steps → Shaped g old → Rounds g n old envs before → Relaxed g n envs new raised →
-      (raised ≡ true → later ≡ true) → (raised ≡ false → later ≡ before) → Rounds g (n + 1) old new later
-  round_more n old envs new before raised later small first r x up flat = record {
-    shaped = shaped_step n envs new raised small r.shaped x;
-    rising = λ starts s h. rising_step n starts envs new raised small s x (r.rising starts s h);
-    progress = progress_step n old envs new before raised later small r.shaped x up flat r.progress;
-  }
 
   -- no environments are larger than this
   pub total_most : (envs : List E) → Shaped g envs → total g envs ≤ g.points * g.most
@@ -100,13 +68,6 @@ module _ {E : Type 0} (g : Graph E) (laws : Laws g) where
     above = λ p small. laws.same p _ (s.fitting p small);
     below_all = λ others t p small. t.above p small;
   }
-
-  -- no step was left to relax
-  pub strongest_is : (starts envs new : List E) → Rising g starts envs → Rounded g envs new false → IsStrongest g starts new
-  strongest_is starts envs new r x = subst (IsStrongest g starts) (sym x.progress.0) (record {
-    pretyping = record { shaped = r.shaped; above = r.above; stays = x.progress.1 };
-    below_all = r.below_all;
-  })
 
   -- what fails first in the strongest pre-typing fails in all
   pub stuck_at : (starts envs : List E) (k i : ℕ) → IsStrongest g starts envs → IsFirstFailing g envs k i → IsStuckAt g starts k i

@@ -1,20 +1,19 @@
 -- The first fault of a step, found by running it, and of a flow, step by step.
 use Rattle.std.proofs.Common.{◌≡◌, ℕ, suc, ◌+◌, ◌<◌, true, false, List, ◌∷◌, length, get_or, drop, Option, Some, None, sym, ap, subst, ◌∙◌, arith, below_more, drop-cons}
-use Rattle.std.specs.Prelude.{slice_get, is_none}
+use Rattle.std.specs.Prelude.{is_none}
 use Rattle.plc_lang.specs.declared.syntax.Primitive.{Primitive}
 use Rattle.plc_auto.specs.declared.observer.Observer.{Observer}
-use Rattle.plc_flow.specs.declared.flow.Step.{Step}
-use Rattle.plc_flow.specs.declared.flow.Flow.{Flow}
-use Rattle.plc_flow.specs.WellFormed.{IsWellFormed}
 use Rattle.plc_type.specs.declared.env.Env.{Env}
 use Rattle.plc_xfer.specs.declared.fault.TypeFault.{TypeFault}
 use Rattle.plc_xfer.specs.Rules.{fault_of, env_after}
 use Rattle.plc_xfer.specs.Typings.{env_at, fault_at}
 use Rattle.plc_lang.specs.Skeleton.{Passage}
-use Rattle.plc_flow.specs.Skeleton.{skeleton_of, passage_of}
-use Rattle.plc_infer.specs.Graphs.{passage_at, graph_of}
+use Rattle.plc_infer.specs.declared.program.Edge.{Edge}
+use Rattle.plc_infer.specs.declared.program.Program.{Program}
+use Rattle.plc_infer.specs.Programs.{edge_of, program_of, passage_at, IsProgram}
+use Rattle.plc_infer.specs.Graphs.{graph_of}
 use Rattle.plc_infer.specs.Iteration.{Shaped, Holds, HoldBelow, IsFirstFailing}
-use Rattle.plc_infer.proofs.Flows.{passage_is, passages_length, from_there}
+use Rattle.plc_infer.proofs.Programs.{step_is, steps_length, from_there}
 
 module _ (o : Observer) (first e : Env) (prims : List Primitive) (i : ℕ) (d : Primitive) (small : i < length prims)
     (from_here : (j : ℕ) → fault_at o first prims (i + j) ≡ fault_at o e (drop i prims) j) where
@@ -51,23 +50,23 @@ Faulty o envs i f x = (i < length x.prims) × (fault_at o (env_at envs x.from) x
 abbrev Faultless : Observer → List Env → Passage → Type 0
 Faultless o envs x = (i : ℕ) → i < length x.prims → is_none (fault_at o (env_at envs x.from) x.prims i) ≡ true
 
-module _ (o : Observer) (flow : Flow) (envs : List Env) (k : ℕ) (s : Step) (e : Env) (w : IsWellFormed flow) (shaped : Shaped (graph_of o (skeleton_of flow)) envs) (small : k < length flow.steps)
-    (there : slice_get flow.steps k ≡ Some s) (read : e ≡ get_or envs s.from.0 e) where
-  same : e ≡ env_at envs s.from.0
-  same = (from_there o flow envs k s e w shaped there read).0
+module _ (o : Observer) (p : Program) (envs : List Env) (k : ℕ) (x : Edge) (e : Env) (well : IsProgram (program_of p)) (shaped : Shaped (graph_of o (program_of p)) envs) (small : k < length p.steps.now)
+    (is : x ≡ get_or p.steps.now k x) (read : e ≡ get_or envs x.from.0 e) where
+  same : e ≡ env_at envs x.from.0
+  same = (from_there o p envs k x well shaped small is e read).0
 
-  pub holds_here : ((i : ℕ) → i < length s.prims → fault_at o e s.prims i ≡ None) → (i : ℕ) → i < length (passage_at (skeleton_of flow) k).prims → Holds (graph_of o (skeleton_of flow)) envs k i
+  pub holds_here : ((i : ℕ) → i < length x.prims.now → fault_at o e x.prims.now i ≡ None) → (i : ℕ) → i < length (passage_at (program_of p) k).prims → Holds (graph_of o (program_of p)) envs k i
   holds_here h =
-      let here : Faultless o envs (passage_of s) = λ i within. none_is _ (ap (λ (x : Env). fault_at o x s.prims i) (sym same) ∙ h i within) in
-      subst (Faultless o envs) (sym (passage_is flow k s there)) here
+      let here : Faultless o envs (edge_of x) = λ i within. none_is _ (ap (λ (a : Env). fault_at o a x.prims.now i) (sym same) ∙ h i within) in
+      subst (Faultless o envs) (sym (step_is p k x small is)) here
 
-  pub first_failing : (i : ℕ) (f : TypeFault) → HoldBelow (graph_of o (skeleton_of flow)) envs k → i < length s.prims → fault_at o e s.prims i ≡ Some f → ((j : ℕ) → j < i → fault_at o e s.prims j ≡ None)
-      → IsFirstFailing (graph_of o (skeleton_of flow)) envs k i × (fault_at o (env_at envs (passage_at (skeleton_of flow) k).from) (passage_at (skeleton_of flow) k).prims i ≡ Some f)
+  pub first_failing : (i : ℕ) (f : TypeFault) → HoldBelow (graph_of o (program_of p)) envs k → i < length x.prims.now → fault_at o e x.prims.now i ≡ Some f → ((j : ℕ) → j < i → fault_at o e x.prims.now j ≡ None)
+      → IsFirstFailing (graph_of o (program_of p)) envs k i × (fault_at o (env_at envs (passage_at (program_of p) k).from) (passage_at (program_of p) k).prims i ≡ Some f)
   first_failing i f earlier within found before =
-      let here : Faulty o envs i f (passage_of s) = (within, ap (λ (x : Env). fault_at o x s.prims i) (sym same) ∙ found, λ j less. ap (λ (x : Env). fault_at o x s.prims j) (sym same) ∙ before j less) in
-      let at = subst (Faulty o envs i f) (sym (passage_is flow k s there)) here in (
+      let here : Faulty o envs i f (edge_of x) = (within, ap (λ (a : Env). fault_at o a x.prims.now i) (sym same) ∙ found, λ j less. ap (λ (a : Env). fault_at o a x.prims.now j) (sym same) ∙ before j less) in
+      let at = subst (Faulty o envs i f) (sym (step_is p k x small is)) here in (
         record {
-          step_in = omega (arith, passages_length flow);
+          step_in = omega (arith, steps_length p);
           condition_in = at.0;
           fails = some_is _ f at.1;
           earlier = earlier;

@@ -1,7 +1,10 @@
+pub mod Lists
 pub mod Climb
+pub mod StepsByPoint
+pub mod Listed
 pub mod Environments
 pub mod Skeletal
+pub mod Programs
 pub mod Points
 pub mod Flows
 pub mod Failing
-pub mod Blocks

@@ -1,18 +1,12 @@
 -- The points of a flow: where they begin, and that the starts and the counts of locals are theirs.
-use Rattle.std.proofs.Common.{◌≡◌, ℕ, zero, suc, ◌+◌, ◌-◌, ◌<◌, ◌≤◌, List, [], ◌∷◌, length, get_or, map, replicate, Some, sym, ap, subst, ◌∙◌, arith, inl, inr, length-append}
-use Rattle.std.specs.Prelude.{slice_get, ◌⊎◌}
-use Rattle.std.proofs.lemmas.Bool.{cases_lt}
+use Rattle.std.proofs.Common.{◌≡◌, ℕ, zero, suc, ◌+◌, ◌-◌, ◌<◌, ◌≤◌, List, [], ◌∷◌, length, get_or, map, replicate, Some, sym, ap, subst, ◌∙◌, arith, length-append}
+use Rattle.std.specs.Prelude.{slice_get}
 use Rattle.std.proofs.lemmas.List.{get_or-append_right, get_or_append_left, get_or-replicate}
 use Rattle.plc_lang.specs.declared.syntax.Op.{Op}
-use Rattle.plc_auto.specs.declared.observer.Observer.{Observer}
-use Rattle.plc_auto.specs.Sets.{all_locations}
 use Rattle.plc_flow.specs.declared.flow.Gate.{Gate}
 use Rattle.plc_flow.specs.WellFormed.{GatesFrom, IsPointOf}
-use Rattle.plc_type.specs.declared.env.Env.{Env}
-use Rattle.plc_type.specs.Environments.{bottom, entry}
 use Rattle.plc_lang.specs.Locals.{pointers_of}
 use Rattle.plc_flow.specs.Skeleton.{pointers_by_point}
-use Rattle.plc_infer.specs.Starts.{op_starts, starts_of}
 use Rattle.plc_infer.proofs.Environments.{length_of}
 
 abbrev pub entries_of : List Gate → List ℕ
@@ -70,82 +64,6 @@ entries_within n (g ∷ gs) end zero p (first, entry_is, exit_is, wide, rest) e 
     let r = ends_behind g.after gs end rest in
     (omega arith, omega arith)
 entries_within n (g ∷ gs) end (suc i) p (first, entry_is, exit_is, wide, rest) e = let r = entries_within g.after gs end i p rest e in (let l = r.0 in omega arith, r.1)
-
-pub starts_length : (o : Observer) (shared n : ℕ) (os : List Op) (gs : List Gate) (end : ℕ) → length os ≡ length gs → GatesFrom n gs end → n + length (starts_of o shared os gs) ≡ end
-starts_length o shared n [] [] end same h = omega arith
-starts_length o shared n (op ∷ os) [] end same h = absurd (omega arith)
-starts_length o shared n [] (g ∷ gs) end same h = absurd (omega arith)
-starts_length o shared n (op ∷ os) (g ∷ gs) end same (first, entry_is, exit_is, wide, rest) =
-    let r = starts_length o shared g.after os gs end (omega arith) rest in
-    omega (arith, r, length-append (op_starts o shared (pointers_of op) g) (starts_of o shared os gs), length_of (g.after - g.first - 1) (bottom shared (pointers_of op)))
-
--- a point is an entry and has the entry environment, or it is none and has the environment below all others
-abbrev IsStartOf : Observer → ℕ → ℕ → List Op → List Gate → ℕ → Env → Type 0
-IsStartOf o shared n os gs p d =
-    ((i : ℕ) × (slice_get (entries_of gs) i ≡ Some p) × (get_or (starts_of o shared os gs) (p - n) d ≡ entry shared (get_or (pointers_by_point os gs) (p - n) 0) (all_locations o)))
-    ⊎ (((i : ℕ) → slice_get (entries_of gs) i ≡ Some p → ⊥) × (get_or (starts_of o shared os gs) (p - n) d ≡ bottom shared (get_or (pointers_by_point os gs) (p - n) 0)))
-
-pub starts_at : (o : Observer) (shared n : ℕ) (os : List Op) (gs : List Gate) (end p : ℕ) (d : Env) → length os ≡ length gs → GatesFrom n gs end → n ≤ p → p < end → IsStartOf o shared n os gs p d
-starts_at o shared n [] [] end p d same h low high = absurd (omega arith)
-starts_at o shared n (op ∷ os) [] end p d same h low high = absurd (omega arith)
-starts_at o shared n [] (g ∷ gs) end p d same h low high = absurd (omega arith)
-starts_at o shared n (op ∷ os) (g ∷ gs) end p d same (first, entry_is, exit_is, wide, rest) low high = elim (cases_lt p g.after) [
-  | inl early ↦ here (cases_lt n p) early
-  | inr late ↦ there late (starts_at o shared g.after os gs end p d (omega arith) rest late high)
-]
-  where
-    locals_here : p < g.after → get_or (pointers_by_point (op ∷ os) (g ∷ gs)) (p - n) 0 ≡ pointers_of op
-    locals_here early =
-        let long = length_of (g.after - g.first) (pointers_of op) in
-        get_or_append_left (replicate (g.after - g.first) (pointers_of op)) (pointers_by_point os gs) 0 (p - n) (omega arith)
-        ∙ get_or-replicate (g.after - g.first) (p - n) (pointers_of op) 0 (omega arith)
-
-    not_entry : n < p → p < g.after → (i : ℕ) → slice_get (entries_of (g ∷ gs)) i ≡ Some p → ⊥
-    not_entry after early zero e = let is : g.entry.0 ≡ p = cc in omega arith
-    not_entry after early (suc i) e = let r = entries_within g.after gs end i p rest e in let l = r.0 in omega arith
-
-    here : (n < p) ⊎ (p ≤ n) → p < g.after → IsStartOf o shared n (op ∷ os) (g ∷ gs) p d
-    here (inr le) early =
-        let at : p ≡ n = omega arith in
-        let zero_is : p - n ≡ 0 = omega arith in
-        inl (
-          0,
-          ap Some (entry_is ∙ sym at),
-          ap (λ (i : ℕ). get_or (starts_of o shared (op ∷ os) (g ∷ gs)) i d) zero_is
-              ∙ ap (λ (m : ℕ). entry shared m (all_locations o)) (sym (locals_here early)),
-        )
-    here (inl after) early =
-        let one_less : p - n ≡ suc (p - n - 1) = omega arith in
-        let long = length_of (g.after - g.first - 1) (bottom shared (pointers_of op)) in
-        inr (
-          not_entry after early,
-          ap (λ (i : ℕ). get_or (starts_of o shared (op ∷ os) (g ∷ gs)) i d) one_less
-              ∙ get_or_append_left (replicate (g.after - g.first - 1) (bottom shared (pointers_of op))) (starts_of o shared os gs) d (p - n - 1) (omega arith)
-              ∙ get_or-replicate (g.after - g.first - 1) (p - n - 1) (bottom shared (pointers_of op)) d (omega arith)
-              ∙ ap (bottom shared) (sym (locals_here early)),
-        )
-
-    moved : g.after ≤ p → p - n - (g.after - g.first) ≡ p - g.after
-    moved late = omega arith
-
-    locals_later : g.after ≤ p → get_or (pointers_by_point (op ∷ os) (g ∷ gs)) (p - n) 0 ≡ get_or (pointers_by_point os gs) (p - g.after) 0
-    locals_later late =
-        get_or-append_right (replicate (g.after - g.first) (pointers_of op)) (pointers_by_point os gs) (g.after - g.first) (p - n) 0 (length_of (g.after - g.first) (pointers_of op)) (omega arith)
-        ∙ ap (λ (i : ℕ). get_or (pointers_by_point os gs) i 0) (moved late)
-
-    starts_later : g.after ≤ p → get_or (starts_of o shared (op ∷ os) (g ∷ gs)) (p - n) d ≡ get_or (starts_of o shared os gs) (p - g.after) d
-    starts_later late =
-        let long = length_of (g.after - g.first - 1) (bottom shared (pointers_of op)) in
-        get_or-append_right (op_starts o shared (pointers_of op) g) (starts_of o shared os gs) (g.after - g.first) (p - n) d (omega arith) (omega arith)
-        ∙ ap (λ (i : ℕ). get_or (starts_of o shared os gs) i d) (moved late)
-
-    shifted : g.after ≤ p → ((i : ℕ) → slice_get (entries_of gs) i ≡ Some p → ⊥) → (i : ℕ) → slice_get (entries_of (g ∷ gs)) i ≡ Some p → ⊥
-    shifted late away zero e = let is : g.entry.0 ≡ p = cc in omega arith
-    shifted late away (suc i) e = away i e
-
-    there : g.after ≤ p → IsStartOf o shared g.after os gs p d → IsStartOf o shared n (op ∷ os) (g ∷ gs) p d
-    there late (inl x) = inl (suc x.0, x.1, starts_later late ∙ x.2 ∙ ap (λ (m : ℕ). entry shared m (all_locations o)) (sym (locals_later late)))
-    there late (inr x) = inr (shifted late x.0, starts_later late ∙ x.1 ∙ ap (bottom shared) (sym (locals_later late)))
 
 -- an operation has at least its entry and its exit
 pub gate_wide : (n : ℕ) (gs : List Gate) (end k : ℕ) (g : Gate) → GatesFrom n gs end → slice_get gs k ≡ Some g → g.first < g.after

@@ -1,7 +1,8 @@
 -- A skeleton as a graph of environments, and what its pre-typings are.
-use Rattle.std.proofs.Common.{◌≡◌, ℕ, zero, suc, ◌+◌, ◌*◌, ◌<◌, ◌≤◌, true, List, [], ◌∷◌, length, get_or, replicate, Option, Some, None, refl, sym, ap, subst, ◌∙◌, arith, inl, inr}
-use Rattle.std.specs.Prelude.{slice_get, is_none, ◌⊎◌}
-use Rattle.std.proofs.lemmas.Bool.{cases_lt}
+use Rattle.std.proofs.Common.{◌≡◌, ◌≢◌, ℕ, zero, suc, ◌+◌, ◌*◌, ◌<◌, ◌≤◌, Bool, true, false, List, [], ◌∷◌, length, get_or, replicate, Option, Some, None, refl, sym, ap, subst, ◌∙◌, arith, inl, inr}
+use Rattle.std.specs.Prelude.{◌==◌, slice_get, is_none, ◌⊎◌, if◌then◌else◌}
+use Rattle.std.specs.List.{list_any}
+use Rattle.std.proofs.lemmas.Bool.{cases_lt, cases_eq, eq-eqb, ne_eqb, or_left, or_right, or_from}
 use Rattle.std.proofs.lemmas.Option.{slice_get-get_or, slice_get_within, get_or_from_slice_get, slice_get_past}
 use Rattle.plc_lang.specs.declared.syntax.Primitive.{Primitive}
 use Rattle.plc_auto.specs.declared.observer.Observer.{Observer}
@@ -16,16 +17,12 @@ use Rattle.plc_xfer.specs.Typings.{IsEnvironment, env_at, led, fault_at, fault_i
 use Rattle.plc_lang.specs.Skeleton.{Skeleton, Passage, locals_at}
 use Rattle.plc_xfer.specs.Laws.{RulesKeepOrder}
 use Rattle.plc_infer.specs.Iteration as graph
-use Rattle.plc_infer.specs.Graphs.{passage_at, some_passage, total, graph_of}
+use Rattle.plc_infer.specs.Programs.{passage_at, some_passage, IsProgram}
+use Rattle.plc_infer.specs.Starts.{start_at, starts_of}
+use Rattle.plc_infer.specs.Graphs.{total, graph_of}
 use Rattle.plc_infer.proofs.Environments.{fits_is, is_fits, length_of}
 use Rattle.plc_infer.proofs.Climb.{stuck_at}
-
--- points are in range, and a step stays within its operation
-pub record IsSkeleton (s : Skeleton) : Type 0 where
-  pub from_in : (k : ℕ) → k < length s.passages → (passage_at s k).from < length s.locals
-  pub to_in : (k : ℕ) → k < length s.passages → (passage_at s k).to < length s.locals
-  pub same_locals : (k : ℕ) → k < length s.passages → locals_at s (passage_at s k).to ≡ locals_at s (passage_at s k).from
-  pub entries_in : (i p : ℕ) → slice_get s.entries i ≡ Some p → p < length s.locals
+use Rattle.plc_infer.proofs.Lists.{table_length, table_at}
 
 get_most : (xs : List ℕ) (p : ℕ) → get_or xs p 0 ≤ total xs
 get_most [] p = omega arith
@@ -39,6 +36,30 @@ none_is (Some f) h = absurd cc
 is_none_of : (o : Option TypeFault) → o ≡ None → is_none o ≡ true
 is_none_of o h = ap is_none h
 
+-- whether a point is in a list
+entry_found : (es : List ℕ) (i p : ℕ) → slice_get es i ≡ Some p → list_any (λ (e : ℕ). e == p) es ≡ true
+entry_found [] i p h = absurd cc
+entry_found (e ∷ es) zero p h = let is : e ≡ p = cc in or_left _ _ (eq-eqb e p is)
+entry_found (e ∷ es) (suc i) p h = or_right _ _ (entry_found es i p h)
+
+entry_or_not : (es : List ℕ) (p : ℕ) → ((i : ℕ) × (slice_get es i ≡ Some p)) ⊎ ((i : ℕ) → slice_get es i ≡ Some p → ⊥)
+entry_or_not [] p = inr (λ i h. absurd cc)
+entry_or_not (e ∷ es) p = elim (cases_eq e p) [
+  | inl is ↦ inl (0, ap Some is)
+  | inr ne ↦ elim (entry_or_not es p) [
+    | inl found ↦ inl (suc found.0, found.1)
+    | inr away ↦ inr (later e es p ne away)
+  ]
+]
+  where
+    later : (e : ℕ) (es : List ℕ) (p : ℕ) → e ≢ p → ((i : ℕ) → slice_get es i ≡ Some p → ⊥) → (i : ℕ) → slice_get (e ∷ es) i ≡ Some p → ⊥
+    later e es p ne away zero h = let is : e ≡ p = cc in ne is
+    later e es p ne away (suc i) h = away i h
+
+no_entry : (es : List ℕ) (p : ℕ) → ((i : ℕ) → slice_get es i ≡ Some p → ⊥) → list_any (λ (e : ℕ). e == p) es ≡ false
+no_entry [] p away = refl
+no_entry (e ∷ es) p away = or_from _ _ (ne_eqb e p (λ is. away 0 (ap Some is))) (no_entry es p (λ i h. away (suc i) h))
+
 module _ (order : EnvironmentsAreOrdered) (rules : RulesKeepOrder) (o : Observer) (s : Skeleton) where
   abbrev is : ℕ → Env → Type 0
   is p e = IsEnvironment o s.shared (locals_at s p) e
@@ -49,7 +70,7 @@ module _ (order : EnvironmentsAreOrdered) (rules : RulesKeepOrder) (o : Observer
       long : (w : ℕ) → length (replicate s.shared (bare w)) ≡ s.shared
       long w = length_of s.shared (bare w)
 
-  pub lawful : IsSkeleton s → graph.Laws (graph_of o s)
+  pub lawful : IsProgram s → graph.Laws (graph_of o s)
   lawful k = record {
     from_in = k.from_in;
     to_in = k.to_in;
@@ -57,6 +78,7 @@ module _ (order : EnvironmentsAreOrdered) (rules : RulesKeepOrder) (o : Observer
     trans = λ p a b c x y z. order.trans a b c;
     join_fits = λ p a b x y. is_fits o _ _ _ (rules.join_is o _ _ a b (fits_is o _ _ a x) (fits_is o _ _ b y));
     left = λ p a b x y. order.left a b (shape p a b (fits_is o _ _ a x) (fits_is o _ _ b y));
+    right = λ p a b x y. order.right a b (shape p a b (fits_is o _ _ a x) (fits_is o _ _ b y));
     least = λ p a b c x y z. order.least a b c;
     grows = λ p a b x y. let i = fits_is o _ _ a x in let j = fits_is o _ _ b y in order.grows a b (shape p a b i j) (rules.range o _ _ a i) (rules.range o _ _ b j);
     bounded = λ p a x. small p a (fits_is o _ _ a x);
@@ -79,6 +101,20 @@ module _ (order : EnvironmentsAreOrdered) (rules : RulesKeepOrder) (o : Observer
     pub others : (p : ℕ) → p < length s.locals → ((i : ℕ) → slice_get s.entries i ≡ Some p → ⊥) → env_at starts p ≡ bottom s.shared (locals_at s p)
     pub each : (p : ℕ) → p < length s.locals → ((i : ℕ) × (slice_get s.entries i ≡ Some p)) ⊎ ((i : ℕ) → slice_get s.entries i ≡ Some p → ⊥)
 
+  pub starts_are : IsProgram s → IsStarts (starts_of o s)
+  starts_are k = record {
+    count = table_length 0 (length s.locals) (start_at o s);
+    entries = λ i p e. at p (k.entries_in i p e) ∙ ap (λ (b : Bool). if b then entry s.shared (locals_at s p) (all_locations o) else bottom s.shared (locals_at s p)) (entry_found s.entries i p e);
+    others = λ p small away. at p small ∙ ap (λ (b : Bool). if b then entry s.shared (locals_at s p) (all_locations o) else bottom s.shared (locals_at s p)) (no_entry s.entries p away);
+    each = λ p small. entry_or_not s.entries p;
+  }
+    where
+      added : (p : ℕ) → 0 + p ≡ p
+      added p = omega arith
+
+      at : (p : ℕ) → p < length s.locals → env_at (starts_of o s) p ≡ start_at o s p
+      at p small = table_at 0 (length s.locals) p (start_at o s) (bottom 0 0) small ∙ ap (start_at o s) (added p)
+
   module _ (starts : List Env) (st : IsStarts starts) where
     pub starts_shaped : graph.Shaped (graph_of o s) starts
     starts_shaped = record {
@@ -92,7 +128,7 @@ module _ (order : EnvironmentsAreOrdered) (rules : RulesKeepOrder) (o : Observer
     step_of : (k : ℕ) → k < length s.passages → slice_get s.passages k ≡ Some (passage_at s k)
     step_of k small = slice_get-get_or s.passages k some_passage small
 
-    pub into_graph : IsSkeleton s → (envs : List Env) → IsPretyping o s envs → graph.IsPretyping (graph_of o s) starts envs
+    pub into_graph : IsProgram s → (envs : List Env) → IsPretyping o s envs → graph.IsPretyping (graph_of o s) starts envs
     into_graph k envs p = record {
       shaped = record { count = p.count; fitting = λ q small. is_fits o _ _ _ (p.environments q small) };
       above = λ q small. elim (st.each q small) [
@@ -105,7 +141,7 @@ module _ (order : EnvironmentsAreOrdered) (rules : RulesKeepOrder) (o : Observer
     passage_is : (k : ℕ) (x : Passage) → slice_get s.passages k ≡ Some x → (k < length s.passages) × (passage_at s k ≡ x)
     passage_is k x h = (slice_get_within s.passages k x h, get_or_from_slice_get s.passages k x some_passage h)
 
-    pub from_graph : IsSkeleton s → (envs : List Env) → graph.IsPretyping (graph_of o s) starts envs → IsPretyping o s envs
+    pub from_graph : IsProgram s → (envs : List Env) → graph.IsPretyping (graph_of o s) starts envs → IsPretyping o s envs
     from_graph k envs p = record {
       count = p.shaped.count;
       environments = λ q small. fits_is o _ _ _ (p.shaped.fitting q small);
@@ -135,21 +171,21 @@ module _ (order : EnvironmentsAreOrdered) (rules : RulesKeepOrder) (o : Observer
       ]
     ]
 
-    pub strongest_is : IsSkeleton s → (envs : List Env) → graph.IsStrongest (graph_of o s) starts envs → IsStrongest o s envs
+    pub strongest_is : IsProgram s → (envs : List Env) → graph.IsStrongest (graph_of o s) starts envs → IsStrongest o s envs
     strongest_is k envs p = record {
       pretyping = from_graph k envs p.pretyping;
       least = λ others q. p.below_all others (into_graph k others q);
     }
 
     -- the conditions of all steps hold
-    pub typing_is : IsSkeleton s → (envs : List Env) → graph.IsStrongest (graph_of o s) starts envs → graph.HoldBelow (graph_of o s) envs (length s.passages) → IsTyping o s envs
+    pub typing_is : IsProgram s → (envs : List Env) → graph.IsStrongest (graph_of o s) starts envs → graph.HoldBelow (graph_of o s) envs (length s.passages) → IsTyping o s envs
     typing_is k envs p h = record {
       pretyping = from_graph k envs p.pretyping;
       holding = λ l i. held envs l i (λ small within. none_is _ (h l small i within));
     }
 
     -- the first condition that fails in the strongest pre-typing
-    pub stuck_is : IsSkeleton s → (envs : List Env) (k i : ℕ) (fault : TypeFault) → graph.IsStrongest (graph_of o s) starts envs → graph.IsFirstFailing (graph_of o s) envs k i
+    pub stuck_is : IsProgram s → (envs : List Env) (k i : ℕ) (fault : TypeFault) → graph.IsStrongest (graph_of o s) starts envs → graph.IsFirstFailing (graph_of o s) envs k i
         → fault_at o (env_at envs (passage_at s k).from) (passage_at s k).prims i ≡ Some fault → IsStuckAt o s k i fault
     stuck_is sk envs k i fault p first found =
         let stuck = stuck_at (graph_of o s) (lawful sk) starts envs k i p first in

@@ -1,5 +1,5 @@
--- A flow's skeleton as a graph of environments.
-use Rattle.std.specs.Prelude.{◌==◌, ◌&&◌, ◌+◌, ◌*◌, ℕ, Bool, true, List, [], ◌∷◌, length, get_or, is_none}
+-- A program as a graph of environments.
+use Rattle.std.specs.Prelude.{◌==◌, ◌&&◌, ◌+◌, ◌*◌, ℕ, Bool, true, List, [], ◌∷◌, length, is_none}
 use Rattle.plc_base.specs.Mask.{within}
 use Rattle.plc_auto.specs.declared.observer.Observer.{Observer}
 use Rattle.plc_auto.specs.Sets.{all_locations}
@@ -8,8 +8,9 @@ use Rattle.plc_type.specs.declared.env.Env.{Env}
 use Rattle.plc_type.specs.Environments.{env_below, env_join, bottom}
 use Rattle.plc_type.specs.Laws.{env_size}
 use Rattle.plc_xfer.specs.Typings.{led, fault_at, all_types}
-use Rattle.plc_lang.specs.Skeleton.{Skeleton, Passage, locals_at}
+use Rattle.plc_lang.specs.Skeleton.{Skeleton, locals_at}
 use Rattle.plc_infer.specs.Iteration.{Graph}
+use Rattle.plc_infer.specs.Programs.{passage_at}
 
 -- whether an environment is one of a pre-typing, as a test
 abbrev pub all_bare : ℕ → List PtrType → Bool
@@ -19,14 +20,6 @@ all_bare w (t ∷ ts) = (t.g.0 == 0) && ((t.m == w) && all_bare w ts)
 -- an environment of the observer, with so many types
 unfoldable pub fits : Observer → ℕ → ℕ → Env → Bool
 fits o shared locals e = within e.w (all_locations o) && ((length e.shared == shared) && (all_bare e.w e.shared && ((length e.locals == locals) && all_types o e.w e.locals)))
-
--- a passage that stands in no skeleton
-abbrev pub some_passage : Passage
-some_passage = record { from = 0; to = 0; prims = [] }
-
--- the k-th passage
-abbrev pub passage_at : Skeleton → ℕ → Passage
-passage_at s k = get_or s.passages k some_passage
 
 -- the sum of numbers
 abbrev pub total : List ℕ → ℕ

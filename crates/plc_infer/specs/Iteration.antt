@@ -1,5 +1,5 @@
 -- What the iteration to the strongest pre-typing keeps, for any points, environments and steps that are ordered: its lemmas then see no types.
--- `Graphs` says which graph a flow is, and that its pre-typings are those of the typing rules.
+-- `Graphs` says which graph a program is, and that its pre-typings are those of the typing rules.
 use Rattle.std.specs.Prelude.{◌≡◌, ℕ, ◌<◌, ◌≤◌, Bool, true, false, List, length, slice_index_or, slice_set, ◌⊎◌}
 use Rattle.std.specs.List.{sum_by}
 
@@ -31,6 +31,7 @@ pub record Laws {E : Type 0} (g : Graph E) : Type 0 where
   pub trans : (p : ℕ) (a b c : E) → g.fits p a ≡ true → g.fits p b ≡ true → g.fits p c ≡ true → g.below a b ≡ true → g.below b c ≡ true → g.below a c ≡ true
   pub join_fits : (p : ℕ) (a b : E) → g.fits p a ≡ true → g.fits p b ≡ true → g.fits p (g.joined a b) ≡ true
   pub left : (p : ℕ) (a b : E) → g.fits p a ≡ true → g.fits p b ≡ true → g.below a (g.joined a b) ≡ true
+  pub right : (p : ℕ) (a b : E) → g.fits p a ≡ true → g.fits p b ≡ true → g.below b (g.joined a b) ≡ true
   pub least : (p : ℕ) (a b c : E) → g.fits p a ≡ true → g.fits p b ≡ true → g.fits p c ≡ true → g.below a c ≡ true → g.below b c ≡ true → g.below (g.joined a b) c ≡ true
   pub grows : (p : ℕ) (a b : E) → g.fits p a ≡ true → g.fits p b ≡ true → g.below b a ≡ false → g.size a < g.size (g.joined a b)
   pub bounded : (p : ℕ) (a : E) → g.fits p a ≡ true → g.size a ≤ g.most
@@ -110,18 +111,3 @@ Relaxed g k old new false = Stays g old k × (new ≡ old)
 -- the sum of the sizes
 abbrev pub total : {E : Type 0} → Graph E → List E → ℕ
 total g envs = sum_by g.size envs
-
--- what the first n steps did: some environment was raised, or all these steps stay
-abbrev pub Progress : {E : Type 0} → Graph E → ℕ → List E → List E → Bool → Type 0
-Progress g n old new true = total g old < total g new
-Progress g n old new false = (new ≡ old) × ((k : ℕ) → k < n → Stays g old k)
-
--- what a round over the first n steps comes to
-pub record Rounds {E : Type 0} (g : Graph E) (n : ℕ) (old new : List E) (raised : Bool) : Type 0 where
-  pub shaped : Shaped g new
-  pub rising : (starts : List E) → Shaped g starts → Rising g starts old → Rising g starts new
-  pub progress : Progress g n old new raised
-
--- what a whole round comes to
-abbrev pub Rounded : {E : Type 0} → Graph E → List E → List E → Bool → Type 0
-Rounded g old new raised = Rounds g g.steps old new raised

@@ -1,4 +1,7 @@
--- words of private functions alone
+-- what contracts of public calls say
+pub mod Programs
+-- words of private functions
 pub mod Graphs
 pub mod Iteration
 pub mod Starts
+pub mod WorkLists

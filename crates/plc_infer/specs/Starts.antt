@@ -1,19 +1,19 @@
--- Where the iteration begins: the entry environment at the first point of each operation, and at its other points the environment below all others.
-use Rattle.std.specs.Prelude.{ℕ, ◌-◌, List, [], ◌∷◌, ◌++◌, replicate}
-use Rattle.plc_lang.specs.declared.syntax.Op.{Op}
+-- Where the iteration begins: the entry environment where an operation begins, and elsewhere the environment below all others.
+use Rattle.std.specs.Prelude.{ℕ, ◌==◌, List, length, if◌then◌else◌}
+use Rattle.std.specs.List.{list_any}
+use Rattle.plc_lang.specs.Skeleton.{Skeleton, locals_at}
 use Rattle.plc_auto.specs.declared.observer.Observer.{Observer}
 use Rattle.plc_auto.specs.Sets.{all_locations}
-use Rattle.plc_flow.specs.declared.flow.Gate.{Gate}
 use Rattle.plc_type.specs.declared.env.Env.{Env}
 use Rattle.plc_type.specs.Environments.{bottom, entry}
-use Rattle.plc_lang.specs.Locals.{pointers_of}
+use Rattle.plc_xfer.specs.Rules.{table}
 
--- the points of one operation with so many pointer locals
-abbrev pub op_starts : Observer → ℕ → ℕ → Gate → List Env
-op_starts o shared locals g = entry shared locals (all_locations o) ∷ replicate (g.after - g.first - 1) (bottom shared locals)
+-- the environment of a point
+abbrev pub start_at : Observer → Skeleton → ℕ → Env
+start_at o s p =
+    if list_any (λ (e : ℕ). e == p) s.entries then entry s.shared (locals_at s p) (all_locations o)
+    else bottom s.shared (locals_at s p)
 
--- the environments of all points at the start, operation by operation
-abbrev pub starts_of : Observer → ℕ → List Op → List Gate → List Env
-starts_of o shared (op ∷ ops) (g ∷ gs) = op_starts o shared (pointers_of op) g ++ starts_of o shared ops gs
-starts_of o shared [] gs = []
-starts_of o shared (op ∷ ops) [] = []
+-- the environments of all points, in order
+abbrev pub starts_of : Observer → Skeleton → List Env
+starts_of o s = table 0 (length s.locals) (start_at o s)

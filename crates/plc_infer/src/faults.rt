@@ -1,15 +1,14 @@
 // The first condition that fails as the steps run from the environments of their first points.
 ghost use Rattle.std.specs.Prelude.{◌≡◌, ◌<◌, ℕ, Some, None, IfOk, MatchOption, length};
-ghost use Rattle.plc_flow.specs.WellFormed.{IsWellFormed};
 ghost use Rattle.plc_xfer.specs.Rules.{FitsObserver};
 ghost use Rattle.plc_xfer.specs.Typings.{fault_at, env_at};
-ghost use Rattle.plc_flow.specs.Skeleton.{skeleton_of};
-ghost use Rattle.plc_infer.specs.Graphs.{graph_of, passage_at};
+ghost use Rattle.plc_infer.specs.Programs.{IsProgram, program_of, passage_at};
+ghost use Rattle.plc_infer.specs.Graphs.{graph_of};
 ghost use Rattle.plc_infer.specs.Iteration.{Shaped, HoldBelow, IsFirstFailing};
 
+use crate::program::Program;
 use plc_auto::Observer;
 use plc_base::{NoMemory, StepId};
-use plc_flow::Flow;
 use plc_lang::Prim;
 use plc_type::Env;
 use plc_xfer::{TypeFault, apply, condition};
@@ -18,22 +17,22 @@ use std::alloc::Global;
 /// The first step and primitive whose condition fails, with the fault.
 pub(crate) fn first_fault(
     alloc: Global,
-    flow: &Flow,
+    program: &Program,
     observer: &Observer,
     envs: &[Env],
 ) -> Result<Option<(StepId, u16, TypeFault)>, NoMemory>
-    requires flow { IsWellFormed flow.now }
-    requires shaped { Shaped (graph_of observer.now (skeleton_of flow.now)) envs.now }
+    requires program { IsProgram (program_of program.now) }
+    requires shaped { Shaped (graph_of observer.now (program_of program.now)) envs.now }
     ensures { IfOk result (λ found. MatchOption found
-        (HoldBelow (graph_of observer.now (skeleton_of flow.now)) envs.now (length flow.now.steps))
-        (λ at. IsFirstFailing (graph_of observer.now (skeleton_of flow.now)) envs.now at.0.0 at.1
-        × (let x = passage_at (skeleton_of flow.now) at.0.0
+        (HoldBelow (graph_of observer.now (program_of program.now)) envs.now (length program.now.steps.now))
+        (λ at. IsFirstFailing (graph_of observer.now (program_of program.now)) envs.now at.0.0 at.1
+        × (let x = passage_at (program_of program.now) at.0.0
         in fault_at observer.now (env_at envs.now x.from) x.prims at.1 ≡ Some at.2))) }
 {
-    for k in 0..flow.steps.len() {
-        let step = &flow.steps.as_slice()[k];
+    for k in 0..program.steps.len() {
+        let step = &program.steps[k];
         let env = &envs[step.from.0 as usize];
-        match fault_in_step(alloc, observer, step.prims.as_slice(), env)? {
+        match fault_in_step(alloc, observer, step.prims, env)? {
             Some((prim, fault)) => return Ok(Some((StepId(k as u16), prim, fault))),
             None => {}
         }

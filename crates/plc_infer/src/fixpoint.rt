@@ -1,82 +1,111 @@
-// From the least environments on, each step that leads too far raises the environment of its last
-// point to the join, until a round over all steps raises none. Every pre-typing stays above what is
-// reached, so the end is the strongest. A list of the steps that are still to be looked at would
-// save rounds; in straight lines one round raises all and a second finds nothing.
-ghost use Rattle.std.specs.Prelude.{◌≡◌, ◌<◌, IfOk, length};
-ghost use Rattle.plc_lang.specs.Fit.{FileFits};
-ghost use Rattle.plc_flow.specs.WellFormed.{IsWellFormed};
+// From the least environments on, each point is taken from a work list, and each step that leaves it and
+// leads too far raises the environment of its last point to the join, which puts that point on the
+// list. Every pre-typing stays above what is reached, so the end is the strongest. The list begins with
+// all points: also a step that nothing reaches has to lead to no more than its last point has.
+ghost use Rattle.std.specs.Prelude.{◌≡◌, ◌<◌, [], IfOk, length};
 ghost use Rattle.plc_xfer.specs.Rules.{FitsObserver};
 ghost use Rattle.plc_xfer.specs.Typings.{led};
-ghost use Rattle.plc_flow.specs.Skeleton.{skeleton_of};
+ghost use Rattle.plc_infer.specs.Programs.{IsProgram, program_of};
 ghost use Rattle.plc_infer.specs.Graphs.{graph_of};
-ghost use Rattle.plc_infer.specs.Iteration.{Shaped, Relaxed, Rounded, IsStrongest as IsLeast};
+ghost use Rattle.plc_infer.specs.Iteration.{Shaped, Relaxed, IsStrongest as IsLeast};
+ghost use Rattle.plc_infer.specs.WorkLists.{UnderWay, Looked, Gains};
 ghost use Rattle.plc_infer.specs.Starts.{starts_of};
 
+use crate::leaving::leaving;
+use crate::program::Program;
 use crate::starts::starts;
+use crate::work_list::WorkList;
 use plc_auto::Observer;
 use plc_base::NoMemory;
-use plc_flow::Flow;
 use plc_lang::Prim;
 use plc_type::{Env, env_below, env_join};
 use plc_xfer::{apply, interfere};
 use std::alloc::Global;
 
-/// The strongest pre-typing of a flow.
+/// The strongest pre-typing of a program.
 pub(crate) fn strongest(
     alloc: Global,
-    flow: &Flow,
+    program: &Program,
     observer: &Observer,
 ) -> Result<Vec<Env>, NoMemory>
-    requires flow { IsWellFormed flow.now }
-    requires file { FileFits flow.now.file }
-    ensures { IfOk result (λ envs. IsLeast (graph_of observer.now (skeleton_of flow.now))
-        (starts_of observer.now (length flow.now.file.shared) flow.now.file.ops flow.now.gates) envs.items) }
+    requires { IsProgram (program_of program.now) }
+    ensures { let graph = graph_of observer.now (program_of program.now)
+        in IfOk result (λ envs. IsLeast graph (starts_of observer.now (program_of program.now)) envs.items) }
 {
-    let mut envs = starts(alloc, flow, observer)?;
-    while round(alloc, flow, observer, &mut envs)? {}
+    let leaving = leaving(alloc, program)?;
+    let mut envs = starts(alloc, program, observer)?;
+    let mut list = WorkList::of_all(alloc, program.locals.len())?;
+    while let Some(point) = list.take() {
+        let steps = leaving[point as usize].as_slice();
+        relax_all(alloc, program, observer, steps, &mut envs, &mut list)?;
+    }
     Ok(envs)
 }
 
-/// Relaxes each step once, and answers whether an environment was raised.
-fn round(
+/// Relaxes steps one after another.
+fn relax_all(
     alloc: Global,
-    flow: &Flow,
+    program: &Program,
     observer: &Observer,
+    steps: &[u16],
     envs: &mut Vec<Env>,
-) -> Result<bool, NoMemory>
-    requires flow { IsWellFormed flow.now }
-    requires shaped { Shaped (graph_of observer.now (skeleton_of flow.now)) envs.old.items }
-    ensures { let graph = graph_of observer.now (skeleton_of flow.now)
-        in IfOk result (λ raised. Rounded graph envs.old.items envs.new.items raised) }
+    list: &mut WorkList,
+) -> Result<(), NoMemory>
+    requires program { IsProgram (program_of program.now) }
+    requires under_way { UnderWay (graph_of observer.now (program_of program.now))
+        (starts_of observer.now (program_of program.now)) envs.old.items list.old.queue.items list.old.marks.items steps.now }
+    ensures under_way { IfOk result (λ _. UnderWay (graph_of observer.now (program_of program.now))
+        (starts_of observer.now (program_of program.now)) envs.new.items list.new.queue.items list.new.marks.items []) }
+    ensures gains { IfOk result (λ _. Gains (graph_of observer.now (program_of program.now))
+        envs.old.items envs.new.items list.old.queue.items list.new.queue.items) }
 {
-    let mut raised = false;
-    for k in 0..flow.steps.len() {
-        if relax(alloc, flow, observer, k, envs)? {
-            raised = true;
-        }
+    for k in steps {
+        relax_listed(alloc, program, observer, *k as usize, envs, list)?;
     }
-    Ok(raised)
+    Ok(())
+}
+
+/// Relaxes a step, and puts its last point on the list where that raises the environment there.
+fn relax_listed(
+    alloc: Global,
+    program: &Program,
+    observer: &Observer,
+    k: usize,
+    envs: &mut Vec<Env>,
+    list: &mut WorkList,
+) -> Result<(), NoMemory>
+    requires program { IsProgram (program_of program.now) }
+    requires known { k < length program.now.steps.now }
+    requires shaped { Shaped (graph_of observer.now (program_of program.now)) envs.old.items }
+    requires marks { length list.old.marks.items ≡ length program.now.locals.now }
+    ensures { IfOk result (λ _. Looked (graph_of observer.now (program_of program.now)) k
+        envs.old.items envs.new.items list.old.queue.items list.new.queue.items list.old.marks.items list.new.marks.items) }
+{
+    if !relax(alloc, program, observer, k, envs)? {
+        return Ok(());
+    }
+    list.put(program.steps[k].to.0)
 }
 
 /// Raises the environment of a step's last point to hold what the step leads to, and answers whether
 /// it wasn't as large before.
 fn relax(
     alloc: Global,
-    flow: &Flow,
+    program: &Program,
     observer: &Observer,
     k: usize,
     envs: &mut Vec<Env>,
 ) -> Result<bool, NoMemory>
-    requires flow { IsWellFormed flow.now }
-    requires known { k < length flow.now.steps }
-    requires shaped { Shaped (graph_of observer.now (skeleton_of flow.now)) envs.old.items }
-    ensures { let graph = graph_of observer.now (skeleton_of flow.now)
+    requires program { IsProgram (program_of program.now) }
+    requires known { k < length program.now.steps.now }
+    requires shaped { Shaped (graph_of observer.now (program_of program.now)) envs.old.items }
+    ensures { let graph = graph_of observer.now (program_of program.now)
         in IfOk result (λ raised. Relaxed graph k envs.old.items envs.new.items raised) }
 {
-    let step = &flow.steps.as_slice()[k];
+    let step = &program.steps[k];
     let from = step.from.0 as usize;
     let to = step.to.0 as usize;
-    let reached = led_from(alloc, observer, step.prims.as_slice(), &envs[from])?;
+    let reached = led_from(alloc, observer, step.prims, &envs[from])?;
     if env_below(&reached, &envs[to]) {
         return Ok(false);
     }

@@ -4,7 +4,11 @@
 
 mod faults;
 mod fixpoint;
+mod leaving;
+mod program;
 mod starts;
 mod typing;
+mod work_list;
 
-pub use typing::{InferFault, Typing, infer};
+pub use program::{Edge, Program, edges, entries, pointers_by_point};
+pub use typing::{InferFault, Typing, infer, infer_program};

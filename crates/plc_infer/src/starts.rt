@@ -1,67 +1,50 @@
-// Where the iteration begins: at the first point of each operation with the entry environment, at
-// its other points with the one below all others, so that points that no step reaches cost nothing.
-ghost use Rattle.std.specs.Prelude.{◌≡◌, ◌++◌, ◌≤◌, ◌<◌, IfOk, OnOk, length};
+// Where the iteration begins: with the entry environment where an operation begins, and elsewhere with
+// the one below all others, so that points that no step reaches cost nothing.
+ghost use Rattle.std.specs.Prelude.{◌≡◌, ◌==◌, ◌≤◌, ◌<◌, IfOk, length};
+ghost use Rattle.std.specs.List.{list_any};
 ghost use Rattle.plc_base.specs.Limits.{most};
 ghost use Rattle.plc_base.specs.declared.limits.What1.TheVariants as limits;
-ghost use Rattle.plc_lang.specs.Fit.{FileFits};
-ghost use Rattle.plc_flow.specs.WellFormed.{IsWellFormed};
-ghost use Rattle.plc_lang.specs.Locals.{pointers_of};
-ghost use Rattle.plc_infer.specs.Starts.{op_starts, starts_of};
+ghost use Rattle.plc_base.specs.declared.ids.PointId.{PointId};
+ghost use Rattle.plc_infer.specs.Programs.{program_of};
+ghost use Rattle.plc_infer.specs.Starts.{start_at, starts_of};
 
+use crate::program::Program;
 use plc_auto::Observer;
-use plc_base::NoMemory;
-use plc_flow::{Flow, Gate};
-use plc_lang::{Op, count_pointers};
+use plc_base::{NoMemory, PointId};
 use plc_type::Env;
 use std::alloc::Global;
 
-// How many pointer locals an operation has, as environments count them.
-fn pointer_count(op: &Op) -> u16
-    requires { length op.now.locals ≤ most limits.Locals }
-    ensures { result ≡ pointers_of op.now }
+// Whether an operation begins at a point.
+fn is_entry(entries: &[PointId], point: u16) -> bool
+    ensures { result ≡ list_any (λ (e : PointId). e.0 == point) entries.now }
 {
-    count_pointers(op) as u16
+    entries.iter().any(|e| e.0 == point)
 }
 
-// The environments of one operation's points, behind those of the operations before.
-fn push_points(
-    alloc: Global,
-    shared: u16,
-    locals: u16,
-    observer: &Observer,
-    gate: Gate,
-    envs: &mut Vec<Env>,
-) -> Result<(), NoMemory>
-    requires { gate.first < gate.after }
-    ensures { OnOk result (envs.new.items ≡ envs.old.items ++ op_starts observer.now shared locals gate) }
+// The environment of a point at the start.
+fn start(alloc: Global, program: &Program, observer: &Observer, point: u16) -> Result<Env, NoMemory>
+    requires { point < length program.now.locals.now }
+    ensures { IfOk result (λ env. env ≡ start_at observer.now (program_of program.now) point) }
 {
-    envs.push(Env::entry(alloc, shared, locals, &observer.all())?)?;
-    for _ in gate.first + 1..gate.after {
-        envs.push(Env::bottom(alloc, shared, locals)?)?;
+    let locals = program.locals[point as usize];
+    if is_entry(program.entries, point) {
+        return Env::entry(alloc, program.shared, locals, &observer.all());
     }
-    Ok(())
+    Env::bottom(alloc, program.shared, locals)
 }
 
 /// The environments with which the iteration begins.
-pub(crate) fn starts(alloc: Global, flow: &Flow, observer: &Observer) -> Result<Vec<Env>, NoMemory>
-    requires flow { IsWellFormed flow.now }
-    requires file { FileFits flow.now.file }
-    ensures { IfOk result (λ envs. envs.items
-        ≡ starts_of observer.now (length flow.now.file.shared) flow.now.file.ops flow.now.gates) }
+pub(crate) fn starts(
+    alloc: Global,
+    program: &Program,
+    observer: &Observer,
+) -> Result<Vec<Env>, NoMemory>
+    requires { length program.now.locals.now ≤ most limits.Points }
+    ensures { IfOk result (λ envs. envs.items ≡ starts_of observer.now (program_of program.now)) }
 {
-    let shared = flow.file.shared.len() as u16;
-    let ops = flow.file.ops.as_slice();
-    let gates = flow.gates.as_slice();
     let mut envs = Vec::new(alloc);
-    for k in 0..ops.len() {
-        push_points(
-            alloc,
-            shared,
-            pointer_count(&ops[k]),
-            observer,
-            gates[k],
-            &mut envs,
-        )?;
+    for p in 0..program.locals.len() {
+        envs.push(start(alloc, program, observer, p as u16)?)?;
     }
     Ok(envs)
 }

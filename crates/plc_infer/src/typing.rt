@@ -8,10 +8,12 @@ ghost use Rattle.plc_flow.specs.WellFormed.{IsWellFormed};
 ghost use Rattle.plc_xfer.specs.declared.fault.TypeFault.{TypeFault as AFault};
 ghost use Rattle.plc_xfer.specs.Typings.{IsTyping, IsStrongest, IsStuckAt};
 ghost use Rattle.plc_flow.specs.Skeleton.{skeleton_of};
+ghost use Rattle.plc_infer.specs.Programs.{IsProgram, program_of};
 ghost use Rattle.plc_infer.specs.declared.typing.InferFault.TheVariants.{Memory};
 
 use crate::faults::first_fault;
 use crate::fixpoint::strongest;
+use crate::program::{Program, edges, entries, pointers_by_point};
 use plc_auto::Observer;
 use plc_base::{Items, NoMemory, StepId};
 use plc_flow::Flow;
@@ -65,8 +67,33 @@ pub fn infer(alloc: Global, flow: &Flow, observer: &Observer) -> Result<Typing, 
     ensures stuck { (k : StepId) (i : ℕ) (fault : AFault) → result ≡ Err (InferFault.Stuck k i fault)
         → IsStuckAt observer.now (skeleton_of flow.now) k.0 i fault }
 {
-    let envs = strongest(alloc, flow, observer)?;
-    match first_fault(alloc, flow, observer, &envs)? {
+    let locals = pointers_by_point(alloc, flow)?;
+    let entries = entries(alloc, flow)?;
+    let steps = edges(alloc, flow)?;
+    let program = Program {
+        shared: flow.file.shared.len() as u16,
+        locals: locals.as_slice(),
+        entries: entries.as_slice(),
+        steps: steps.as_slice(),
+    };
+    infer_program(alloc, &program, observer)
+}
+
+/// The strongest typing of a program, or the least step and primitive whose condition no pre-typing
+/// meets. Every point is typed, also where no step leads.
+pub fn infer_program(
+    alloc: Global,
+    program: &Program,
+    observer: &Observer,
+) -> Result<Typing, InferFault>
+    requires { IsProgram (program_of program.now) }
+    ensures typing { IfOk result (λ typing. IsTyping observer.now (program_of program.now) typing.env) }
+    ensures strongest { IfOk result (λ typing. IsStrongest observer.now (program_of program.now) typing.env) }
+    ensures stuck { (k : StepId) (i : ℕ) (fault : AFault) → result ≡ Err (InferFault.Stuck k i fault)
+        → IsStuckAt observer.now (program_of program.now) k.0 i fault }
+{
+    let envs = strongest(alloc, program, observer)?;
+    match first_fault(alloc, program, observer, &envs)? {
         Some((step, prim, fault)) => Err(InferFault::Stuck { step, prim, fault }),
         None => Ok(Typing {
             env: Items::from_vec(envs),

@@ -1,23 +1,54 @@
-use Rattle.std.proofs.Common.{arith}
-use Rattle.plc_flow.specs.Skeleton.{skeleton_of}
+use Rattle.std.proofs.Common.{◌≡◌, ℕ, suc, ◌+◌, ◌<◌, ◌≤◌, Bool, List, [], ◌∷◌, length, get_or, refl, sym, ap, subst, ◌∙◌, inl, arith}
+use Rattle.std.proofs.lemmas.List.{get_or_read}
+use Rattle.plc_infer.specs.Programs.{program_of, passage_at}
 use Rattle.plc_infer.specs.Graphs.{graph_of}
-use Rattle.plc_infer.proofs.Climb.{total_most, rising_start}
-use Rattle.plc_infer.proofs.Flows.{flow_laws, flow_starts, starts}
+use Rattle.plc_infer.specs.Iteration.{total}
+use Rattle.plc_infer.specs.Starts.{starts_of}
+use Rattle.plc_infer.specs.WorkLists.{Among, UnderWay}
+use Rattle.plc_infer.proofs.Climb.{total_most}
+use Rattle.plc_infer.proofs.Listed.{begun, taken}
+use Rattle.plc_infer.proofs.Programs.{steps_length, program_laws, program_starts}
 use Rattle.plc_infer.proofs.fixpoint.strongest.Goals as goal
 
-pub loop-envs-init : goal.loop-envs-init
-loop-envs-init c =
-    let graph = graph_of c.args.observer.now (skeleton_of c.args.flow.now) in
-    rw c.in_ok-envs.ensures (rising_start graph (flow_laws c.args.observer.now c.args.flow.now c.requires.flow) (starts c.args.observer.now c.args.flow.now) (flow_starts c.args.observer.now c.args.flow.now c.requires.flow))
+pub loop-point-init : goal.loop-point-init
+loop-point-init c =
+    let o = c.args.observer.now in
+    let s = program_of c.args.program.now in
+    rw c.in_ok-envs.ensures
+    (begun (graph_of o s) (program_laws o s c.requires) (starts_of o s) c.in_ok-list.list.queue.items c.in_ok-list.list.marks.items (program_starts o s c.requires) c.in_ok-list.ensures.0 c.in_ok-list.ensures.1)
 
-pub loop-envs-smaller : goal.loop-envs-smaller
-loop-envs-smaller c =
-    let graph = graph_of c.args.observer.now (skeleton_of c.args.flow.now) in
-    let r = rw c.if-branch.true at c.in_ok-round.ensures in
-    let most = total_most graph (flow_laws c.args.observer.now c.args.flow.now c.requires.flow) c.round.new.envs.items r.shaped in
-    omega (arith, most, r.progress)
+pub index-requires : goal.index-requires
+index-requires c =
+    let h = c.loop-point.invariant.points c.in-Some.point (subst (λ (xs : List ℕ). Among xs c.in-Some.point) (sym c.in-Some.ensures.0) (inl refl)) in
+    let count = c.in_ok-leaving.ensures.count in
+    omega (arith, h, count)
 
-pub loop-envs-preserved : goal.loop-envs-preserved
-loop-envs-preserved c =
-    let r = rw c.if-branch.true at c.in_ok-round.ensures in
-    r.rising (starts c.args.observer.now c.args.flow.now) (flow_starts c.args.observer.now c.args.flow.now c.requires.flow) c.loop-envs.invariant
+pub relax_all-requires-clause-under_way : goal.relax_all-requires-clause-under_way
+relax_all-requires-clause-under_way c =
+    let o = c.args.observer.now in
+    let s = program_of c.args.program.now in
+    let graph = graph_of o s in
+    let starts = starts_of o s in
+    let p = c.in-Some.point in
+    let envs = c.loop-point.envs.items in
+    let queue = c.take.new.self.queue.items in
+    let marks = c.loop-point.list.marks.items in
+    let steps = c.as_slice-steps.result.now in
+    let index = c.in_ok-leaving.ensures in
+    let before : UnderWay graph starts envs (p ∷ queue) marks [] = subst (λ (xs : List ℕ). UnderWay graph starts envs xs marks []) c.in-Some.ensures.0 c.loop-point.invariant in
+    let within : p < length s.locals = before.points p (inl refl) in
+    let inside : p < length c.in_ok-leaving.leaving.items = subst (λ (n : ℕ). p < n) (sym index.count) within in
+    let row : steps ≡ get_or c.in_ok-leaving.leaving.items p [] = c.as_slice-steps.ensures ∙ get_or_read c.in_ok-leaving.leaving.items p c.index.result.now inside c.index.ensures [] in
+    let all : (k : ℕ) → k < length s.passages → (passage_at s k).from ≡ p → Among steps k = λ k small e. subst (λ (ks : List ℕ). Among ks k) (sym row) (index.all p k within (subst (λ (n : ℕ). k < n) (steps_length c.args.program.now) small) e) in
+    let known : (k : ℕ) → Among steps k → k < length s.passages = λ k a. subst (λ (n : ℕ). k < n) (sym (steps_length c.args.program.now)) (index.leave p k within (subst (λ (ks : List ℕ). Among ks k) row a)).0 in
+    subst (λ (ms : List Bool). UnderWay graph starts envs queue ms steps) (sym c.in-Some.ensures.1) (taken graph (program_laws o s c.requires) starts envs p queue marks steps before all known)
+
+pub loop-point-smaller : goal.loop-point-smaller
+loop-point-smaller c =
+    let o = c.args.observer.now in
+    let s = program_of c.args.program.now in
+    let graph = graph_of o s in
+    let most = total_most graph (program_laws o s c.requires) c.relax_all.new.envs.items c.in_ok-relax_all.ensures.under_way.rising.shaped in
+    let gained : length c.relax_all.new.list.queue.items + total graph c.loop-point.envs.items ≤ length c.take.new.self.queue.items + total graph c.relax_all.new.envs.items = c.in_ok-relax_all.ensures.gains in
+    let one_less : length c.loop-point.list.queue.items ≡ suc (length c.take.new.self.queue.items) = ap length c.in-Some.ensures.0 in
+    omega (arith, most, gained, one_less)

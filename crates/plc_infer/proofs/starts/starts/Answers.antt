@@ -1,11 +1,8 @@
-use Rattle.std.proofs.Common.{◌<◌, List, length, ap, arith}
-use Rattle.std.proofs.lemmas.Option.{slice_get-get_or}
-use Rattle.plc_lang.specs.declared.syntax.Op.{Op}
-use Rattle.plc_infer.proofs.Points.{gate_wide}
+use Rattle.plc_infer.specs.Programs.{program_of}
+use Rattle.plc_infer.specs.Starts.{start_at}
+use Rattle.plc_infer.proofs.Lists.{table_push}
 use Rattle.plc_infer.proofs.starts.starts.Goals as goal
 
-pub push_points-requires : goal.push_points-requires
-push_points-requires c =
-    let gates = c.args.flow.now.gates in
-    let small : c.loop-k.k < length gates = omega (arith, c.requires.flow.gates, ap (λ (os : List Op). length os) c.as_slice-ops.ensures) in
-    rw c.as_slice-gates.ensures (gate_wide 0 gates c.args.flow.now.points c.loop-k.k _ c.requires.flow.ranges (slice_get-get_or gates c.loop-k.k _ small))
+pub loop-p-preserved : goal.loop-p-preserved
+loop-p-preserved c =
+    rw (c.in_ok-push.ensures.items, c.loop-p.invariant, c.in_ok-start.ensures) (table_push c.loop-p.p (start_at c.args.observer.now (program_of c.args.program.now)))

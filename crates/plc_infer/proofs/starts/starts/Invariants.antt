@@ -1,6 +1,8 @@
-use Rattle.std.proofs.Common.{◌≡◌, ◌++◌, drop, length}
-use Rattle.plc_infer.specs.Starts.{starts_of}
+use Rattle.std.proofs.Common.{◌≡◌}
+use Rattle.plc_xfer.specs.Rules.{table}
+use Rattle.plc_infer.specs.Programs.{program_of}
+use Rattle.plc_infer.specs.Starts.{start_at}
 use Rattle.plc_infer.proofs.starts.starts.Given as goal
 
-abbrev pub invariant-loop-k : goal.invariant-loop-k
-invariant-loop-k l = l.envs.items ++ starts_of l.observer (length l.flow.file.shared) (drop l.k l.flow.file.ops) (drop l.k l.flow.gates) ≡ starts_of l.observer (length l.flow.file.shared) l.flow.file.ops l.flow.gates
+abbrev pub invariant-loop-p : goal.invariant-loop-p
+invariant-loop-p l = l.envs.items ≡ table 0 l.p (start_at l.observer (program_of l.program))

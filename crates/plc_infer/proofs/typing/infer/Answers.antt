@@ -1,34 +1,31 @@
-use Rattle.std.proofs.Common.{◌≡◌, length, subst, sym}
-use Rattle.plc_type.proofs.Ordered.{ordered}
-use Rattle.plc_xfer.proofs.Order.{kept}
-use Rattle.plc_flow.specs.Skeleton.{skeleton_of}
-use Rattle.plc_infer.specs.Graphs.{graph_of}
-use Rattle.plc_infer.specs.Iteration.{HoldBelow}
-use Rattle.plc_infer.proofs.Skeletal.{stuck_is, typing_is, strongest_is}
-use Rattle.plc_infer.proofs.Flows.{skeleton_is, starts, starts_are, passages_length}
+use Rattle.std.proofs.Common.{map, sym, ap, subst, ◌∙◌}
+use Rattle.std.specs.Prelude.{IfOk}
+use Rattle.plc_lang.specs.Skeleton.{Skeleton}
+use Rattle.plc_xfer.specs.Typings.{IsTyping, IsStrongest, IsStuckAt}
+use Rattle.plc_infer.specs.Programs.{edge_of, IsProgram}
+use Rattle.plc_infer.proofs.Flows.{flow_is_program, program_is}
 use Rattle.plc_infer.proofs.typing.infer.Goals as goal
 
-pub returns-in-Some-clause-stuck : goal.returns-in-Some-clause-stuck
-returns-in-Some-clause-stuck c = λ k i fault e.
-    let step : c.in-Some.step ≡ k = cc in
-    let prim : c.in-Some.prim ≡ i = cc in
-    let why : c.in-Some.fault ≡ fault = cc in
-    let at = rw (c.in-Some.is, c.deref.ensures.value) at c.in_ok-step.ensures in
-    rw (← step, ← prim, ← why)
-    (stuck_is ordered kept c.args.observer.now (skeleton_of c.args.flow.now) (starts c.args.observer.now c.args.flow.now) (starts_are c.args.observer.now c.args.flow.now c.requires.flow)
-    (skeleton_is c.args.flow.now c.requires.flow) c.in_ok-envs.envs.items c.in-Some.step.0 c.in-Some.prim c.in-Some.fault c.in_ok-envs.ensures at.0 at.1)
+pub infer_program-requires : goal.infer_program-requires
+infer_program-requires c =
+    let is = program_is c.args.flow.now (record { shared = c.len.result; locals = c.as_slice.result; entries = c.as_slice-2.result; steps = c.as_slice-3.result }) c.len.ensures (c.as_slice.ensures.value ∙ c.in_ok-locals.ensures)
+    (c.as_slice-2.ensures.value ∙ c.in_ok-entries.ensures) (ap (map edge_of) c.as_slice-3.ensures.value ∙ c.in_ok-steps.ensures) in
+    subst IsProgram (sym is) (flow_is_program c.args.flow.now c.requires.flow)
 
-pub returns-in-None-clause-typing : goal.returns-in-None-clause-typing
-returns-in-None-clause-typing c =
-    let at = rw (c.in-None.is, c.deref.ensures.value) at c.in_ok-step.ensures in
-    let all : HoldBelow (graph_of c.args.observer.now (skeleton_of c.args.flow.now)) c.in_ok-envs.envs.items (length (skeleton_of c.args.flow.now).passages) =
-    subst (HoldBelow (graph_of c.args.observer.now (skeleton_of c.args.flow.now)) c.in_ok-envs.envs.items) (sym (passages_length c.args.flow.now)) at in
-    rw c.from_vec.ensures
-    (typing_is ordered kept c.args.observer.now (skeleton_of c.args.flow.now) (starts c.args.observer.now c.args.flow.now) (starts_are c.args.observer.now c.args.flow.now c.requires.flow)
-    (skeleton_is c.args.flow.now c.requires.flow) c.in_ok-envs.envs.items c.in_ok-envs.ensures all)
+pub returns-clause-typing : goal.returns-clause-typing
+returns-clause-typing c =
+    let is = program_is c.args.flow.now (record { shared = c.len.result; locals = c.as_slice.result; entries = c.as_slice-2.result; steps = c.as_slice-3.result }) c.len.ensures (c.as_slice.ensures.value ∙ c.in_ok-locals.ensures)
+    (c.as_slice-2.ensures.value ∙ c.in_ok-entries.ensures) (ap (map edge_of) c.as_slice-3.ensures.value ∙ c.in_ok-steps.ensures) in
+    subst (λ (s : Skeleton). IfOk c.infer_program.result (λ typing. IsTyping c.args.observer.now s typing.env)) is c.infer_program.ensures.typing
 
-pub returns-in-None-clause-strongest : goal.returns-in-None-clause-strongest
-returns-in-None-clause-strongest c =
-    rw c.from_vec.ensures
-    (strongest_is ordered kept c.args.observer.now (skeleton_of c.args.flow.now) (starts c.args.observer.now c.args.flow.now) (starts_are c.args.observer.now c.args.flow.now c.requires.flow)
-    (skeleton_is c.args.flow.now c.requires.flow) c.in_ok-envs.envs.items c.in_ok-envs.ensures)
+pub returns-clause-strongest : goal.returns-clause-strongest
+returns-clause-strongest c =
+    let is = program_is c.args.flow.now (record { shared = c.len.result; locals = c.as_slice.result; entries = c.as_slice-2.result; steps = c.as_slice-3.result }) c.len.ensures (c.as_slice.ensures.value ∙ c.in_ok-locals.ensures)
+    (c.as_slice-2.ensures.value ∙ c.in_ok-entries.ensures) (ap (map edge_of) c.as_slice-3.ensures.value ∙ c.in_ok-steps.ensures) in
+    subst (λ (s : Skeleton). IfOk c.infer_program.result (λ typing. IsStrongest c.args.observer.now s typing.env)) is c.infer_program.ensures.strongest
+
+pub returns-clause-stuck : goal.returns-clause-stuck
+returns-clause-stuck c = λ k i fault e.
+    let is = program_is c.args.flow.now (record { shared = c.len.result; locals = c.as_slice.result; entries = c.as_slice-2.result; steps = c.as_slice-3.result }) c.len.ensures (c.as_slice.ensures.value ∙ c.in_ok-locals.ensures)
+    (c.as_slice-2.ensures.value ∙ c.in_ok-entries.ensures) (ap (map edge_of) c.as_slice-3.ensures.value ∙ c.in_ok-steps.ensures) in
+    subst (λ (s : Skeleton). IsStuckAt c.args.observer.now s k.0 i fault) is (c.infer_program.ensures.stuck k i fault e)
