@@ -1,0 +1,191 @@
+-- What each change leaves: the only file that opens `value`, `entry`, `put` and `update`.
+use Rattle.std.proofs.Common.{◌≡◌, ℕ, zero, suc, ◌≤◌, List, [], ◌∷◌, ◌++◌, Option, Some, None, length, get_or, refl, sym, ap, ◌∙◌, subst, arith, inl, inr, length-append}
+use Rattle.std.proofs.lemmas.Bool.{cases_eq}
+use Rattle.std.proofs.lemmas.List.{get_or_past}
+use Rattle.plc_base.specs.Tables.{put_at}
+use Rattle.plc_base.proofs.Tables.{get-put_same, get-put_other, get-replicate}
+use Rattle.plc_gc.proofs.Rows.{length_put}
+use Rattle.plc_lang.specs.declared.syntax.Field.{Field}
+use Rattle.plc_gc.specs.State.{GcState, Row, Locals, Slot, in_shared, in_local, in_data, Map, pointer_field, data_field, auxiliary_field, retirement, no_row, fresh_row, row_entry, row_with, locals_or_none, locals_of, with_locals, value, entry, count, put, update, made, fresh_state}
+use Rattle.plc_gc.specs.Laws.{Put, Updated, WasMade, HasLocals, IsFirst, GcStateLaws}
+
+-- ---- locals
+
+locals-with_same : (g : GcState) (t : ℕ) (l : Option Locals) → locals_of (with_locals g t l) t ≡ locals_or_none l
+unfolding locals_of with_locals
+locals-with_same g t l = ap locals_or_none (get-put_same None g.locals t l)
+
+locals-with_other : (g : GcState) (t : ℕ) (l : Option Locals) (u : ℕ) → (u ≡ t → ⊥) → locals_of (with_locals g t l) u ≡ locals_of g u
+unfolding locals_of with_locals
+locals-with_other g t l u ne = ap locals_or_none (get-put_other None g.locals t l u ne)
+
+pub gives : (g : GcState) (t : ℕ) (l : Option Locals) → HasLocals g t l (with_locals g t l)
+unfolding value entry count with_locals
+gives g t l = record {
+  pointers = λ v. ap (λ (m : Locals). get_or m.pointers v 0) (locals-with_same g t l);
+  values = λ x. ap (λ (m : Locals). get_or m.values x 0) (locals-with_same g t l);
+  shared = λ i. refl;
+  others = λ u v ne. ap (λ (m : Locals). get_or m.pointers v 0) (locals-with_other g t l u ne);
+  other_values = λ u x ne. ap (λ (m : Locals). get_or m.values x 0) (locals-with_other g t l u ne);
+  nodes = record { entries = λ m k. refl; count = refl };
+}
+
+-- ---- values
+
+shared_put : (g : GcState) (i n : ℕ) → Put g (in_shared i) n (put g (in_shared i) n)
+unfolding value entry count put
+shared_put g i n = record {
+  here = get-put_same 0 g.shared i n;
+  elsewhere = elim [
+    | in_shared j ↦ λ ne. get-put_other 0 g.shared i n j (λ e. ne (ap in_shared e))
+    | in_local t v ↦ λ ne. refl
+    | in_data t x ↦ λ ne. refl
+  ];
+  nodes = record { entries = λ m k. refl; count = refl };
+}
+
+local_put : (g : GcState) (t v n : ℕ) → Put g (in_local t v) n (put g (in_local t v) n)
+unfolding value put
+local_put g t v n =
+    let l : Locals = record (locals_of g t) { pointers = put_at 0 (locals_of g t).pointers v n } in
+    let h = gives g t (Some l) in
+    record {
+      here = h.pointers v ∙ get-put_same 0 (locals_of g t).pointers v n;
+      elsewhere = elim [
+        | in_shared j ↦ λ ne. h.shared j
+        | in_local u w ↦ λ ne. elim (cases_eq u t) [
+          | inl e ↦ subst (λ u. (in_local u w ≡ in_local t v → ⊥) → value (with_locals g t (Some l)) (in_local u w) ≡ value g (in_local u w)) (sym e)
+              (λ ne. h.pointers w ∙ get-put_other 0 (locals_of g t).pointers v n w (λ e. ne (ap (in_local t) e))) ne
+          | inr other ↦ h.others u w other
+        ]
+        | in_data u x ↦ λ ne. elim (cases_eq u t) [
+          | inl e ↦ subst (λ u. value (with_locals g t (Some l)) (in_data u x) ≡ value g (in_data u x)) (sym e) (h.values x)
+          | inr other ↦ h.other_values u x other
+        ]
+      ];
+      nodes = h.nodes;
+    }
+
+data_put : (g : GcState) (t x n : ℕ) → Put g (in_data t x) n (put g (in_data t x) n)
+unfolding value put
+data_put g t x n =
+    let l : Locals = record (locals_of g t) { values = put_at 0 (locals_of g t).values x n } in
+    let h = gives g t (Some l) in
+    record {
+      here = h.values x ∙ get-put_same 0 (locals_of g t).values x n;
+      elsewhere = elim [
+        | in_shared j ↦ λ ne. h.shared j
+        | in_local u w ↦ λ ne. elim (cases_eq u t) [
+          | inl e ↦ subst (λ u. value (with_locals g t (Some l)) (in_local u w) ≡ value g (in_local u w)) (sym e) (h.pointers w)
+          | inr other ↦ h.others u w other
+        ]
+        | in_data u y ↦ λ ne. elim (cases_eq u t) [
+          | inl e ↦ subst (λ u. (in_data u y ≡ in_data t x → ⊥) → value (with_locals g t (Some l)) (in_data u y) ≡ value g (in_data u y)) (sym e)
+              (λ ne. h.values y ∙ get-put_other 0 (locals_of g t).values x n y (λ e. ne (ap (in_data t) e))) ne
+          | inr other ↦ h.other_values u y other
+        ]
+      ];
+      nodes = h.nodes;
+    }
+
+pub puts : (g : GcState) (p : Slot) (n : ℕ) → Put g p n (put g p n)
+puts g (in_shared i) n = shared_put g i n
+puts g (in_local t v) n = local_put g t v n
+puts g (in_data t x) n = data_put g t x n
+
+-- ---- rows
+
+row_same : (r : Row) (m : Map) (n : ℕ) → row_entry (row_with r m n) m ≡ n
+row_same r (pointer_field f) n = get-put_same 0 r.pointers f n
+row_same r (data_field f) n = get-put_same 0 r.values f n
+row_same r (auxiliary_field h) n = get-put_same 0 r.auxiliary h n
+row_same r retirement n = refl
+
+row_other : (r : Row) (m : Map) (n : ℕ) (l : Map) → (l ≡ m → ⊥) → row_entry (row_with r m n) l ≡ row_entry r l
+row_other r (pointer_field f) n (pointer_field e) ne = get-put_other 0 r.pointers f n e (λ q. ne (ap pointer_field q))
+row_other r (data_field f) n (data_field e) ne = get-put_other 0 r.values f n e (λ q. ne (ap data_field q))
+row_other r (auxiliary_field f) n (auxiliary_field e) ne = get-put_other 0 r.auxiliary f n e (λ q. ne (ap auxiliary_field q))
+row_other r retirement n retirement ne = absurd (ne refl)
+row_other r (pointer_field f) n (data_field e) ne = refl
+row_other r (pointer_field f) n (auxiliary_field e) ne = refl
+row_other r (pointer_field f) n retirement ne = refl
+row_other r (data_field f) n (pointer_field e) ne = refl
+row_other r (data_field f) n (auxiliary_field e) ne = refl
+row_other r (data_field f) n retirement ne = refl
+row_other r (auxiliary_field f) n (pointer_field e) ne = refl
+row_other r (auxiliary_field f) n (data_field e) ne = refl
+row_other r (auxiliary_field f) n retirement ne = refl
+row_other r retirement n (pointer_field e) ne = refl
+row_other r retirement n (data_field e) ne = refl
+row_other r retirement n (auxiliary_field e) ne = refl
+
+no_entry : (m : Map) → row_entry no_row m ≡ 0
+no_entry (pointer_field f) = refl
+no_entry (data_field f) = refl
+no_entry (auxiliary_field h) = refl
+no_entry retirement = refl
+
+fresh_entry : (fields ghosts : ℕ) (m : Map) → row_entry (fresh_row fields ghosts) m ≡ 0
+fresh_entry fields ghosts (pointer_field f) = get-replicate 0 fields f
+fresh_entry fields ghosts (data_field f) = get-replicate 0 fields f
+fresh_entry fields ghosts (auxiliary_field h) = get-replicate 0 ghosts h
+fresh_entry fields ghosts retirement = refl
+
+pub updates : (g : GcState) (m : Map) (k n : ℕ) → Updated g m k n (update g m k n)
+unfolding value entry count update
+updates g m k n =
+    let r = row_with (get_or g.rows k no_row) m n in
+    record {
+      here = ap (λ r. row_entry r m) (get-put_same no_row g.rows k r) ∙ row_same (get_or g.rows k no_row) m n;
+      other_node = λ l j ne. ap (λ r. row_entry r l) (get-put_other no_row g.rows k r j ne);
+      other_map = λ l j ne. elim (cases_eq j k) [
+        | inl e ↦ subst (λ j. row_entry (get_or (put_at no_row g.rows k r) j no_row) l ≡ row_entry (get_or g.rows j no_row) l) (sym e)
+            (ap (λ r. row_entry r l) (get-put_same no_row g.rows k r) ∙ row_other (get_or g.rows k no_row) m n l ne)
+        | inr other ↦ ap (λ r. row_entry r l) (get-put_other no_row g.rows k r j other)
+      ];
+      values = elim [ in_shared i ↦ refl | in_local t v ↦ refl | in_data t x ↦ refl ];
+      count = λ small. length_put no_row g.rows k r small;
+    }
+
+-- a row behind the others reads as the default
+pushed : (rows : List Row) (r : Row) (m : Map) (k : ℕ) → row_entry r m ≡ 0 → row_entry (get_or (rows ++ r ∷ []) k no_row) m ≡ row_entry (get_or rows k no_row) m
+pushed [] r m zero e = e ∙ sym (no_entry m)
+pushed [] r m (suc k) e = refl
+pushed (x ∷ rows) r m zero e = refl
+pushed (x ∷ rows) r m (suc k) e = pushed rows r m k e
+
+pub makes : (g : GcState) → WasMade g (made g)
+unfolding value entry count made
+makes g = record {
+  entries = λ m k. pushed g.rows (fresh_row (length g.fields) g.ghosts) m k (fresh_entry (length g.fields) g.ghosts m);
+  values = elim [ in_shared i ↦ refl | in_local t v ↦ refl | in_data t x ↦ refl ];
+  count = (let e = length-append g.rows (fresh_row (length g.fields) g.ghosts ∷ []) in omega (arith, e));
+}
+
+pub unmade : (g : GcState) (m : Map) (k : ℕ) → count g ≤ k → entry g m k ≡ 0
+unfolding entry count
+unmade g m k past = ap (λ r. row_entry r m) (get_or_past g.rows k no_row past) ∙ no_entry m
+
+-- ---- the first state
+
+first_value : (fields : List Field) (ghosts shared threads : ℕ) (q : Slot) → value (fresh_state fields ghosts shared threads) q ≡ 0
+unfolding value locals_of
+first_value fields ghosts shared threads (in_shared i) = get-replicate 0 shared i
+first_value fields ghosts shared threads (in_local t v) = ap (λ l. get_or (locals_or_none l).pointers v 0) (get-replicate None threads t)
+first_value fields ghosts shared threads (in_data t x) = ap (λ l. get_or (locals_or_none l).values x 0) (get-replicate None threads t)
+
+first_entry : (fields : List Field) (ghosts shared threads : ℕ) (m : Map) (k : ℕ) → entry (fresh_state fields ghosts shared threads) m k ≡ 0
+unfolding entry
+first_entry fields ghosts shared threads m zero = fresh_entry (length fields) ghosts m
+first_entry fields ghosts shared threads m (suc k) = no_entry m
+
+pub first : (fields : List Field) (ghosts shared threads : ℕ) → IsFirst (fresh_state fields ghosts shared threads)
+unfolding count
+first fields ghosts shared threads = record {
+  values = first_value fields ghosts shared threads;
+  entries = first_entry fields ghosts shared threads;
+  count = refl;
+}
+
+pub state_laws : GcStateLaws
+state_laws = record { puts = puts; updates = updates; makes = makes; gives = gives; unmade = unmade; first = first }

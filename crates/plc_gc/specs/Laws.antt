@@ -1,0 +1,53 @@
+-- What each change of a garbage-collected state leaves at each place and at each node.
+use Rattle.std.specs.Prelude.{◌≡◌, ℕ, suc, ◌<◌, ◌≤◌, List, Option, get_or}
+use Rattle.plc_lang.specs.declared.syntax.Field.{Field}
+use Rattle.plc_gc.specs.State.{GcState, Locals, Slot, in_shared, in_local, in_data, Map, value, entry, count, put, update, made, with_locals, locals_or_none, fresh_state}
+
+-- every map has at every node what it had, and there are as many nodes
+pub record SameNodes (g new : GcState) : Type 0 where
+  pub entries : (m : Map) (k : ℕ) → entry new m k ≡ entry g m k
+  pub count : count new ≡ count g
+
+-- the value was put into this place
+pub record Put (g : GcState) (p : Slot) (n : ℕ) (new : GcState) : Type 0 where
+  pub here : value new p ≡ n
+  pub elsewhere : (q : Slot) → (q ≡ p → ⊥) → value new q ≡ value g q
+  pub nodes : SameNodes g new
+
+-- the map was changed at this node
+pub record Updated (g : GcState) (m : Map) (k n : ℕ) (new : GcState) : Type 0 where
+  pub here : entry new m k ≡ n
+  pub other_node : (l : Map) (j : ℕ) → (j ≡ k → ⊥) → entry new l j ≡ entry g l j
+  pub other_map : (l : Map) (j : ℕ) → (l ≡ m → ⊥) → entry new l j ≡ entry g l j
+  pub values : (q : Slot) → value new q ≡ value g q
+  pub count : k < count g → count new ≡ count g
+
+-- there is one node more, which reads as it read before
+pub record WasMade (g new : GcState) : Type 0 where
+  pub entries : (m : Map) (k : ℕ) → entry new m k ≡ entry g m k
+  pub values : (q : Slot) → value new q ≡ value g q
+  pub count : count new ≡ suc (count g)
+
+-- thread t has these locals now, or none; all else stays
+pub record HasLocals (g : GcState) (t : ℕ) (l : Option Locals) (new : GcState) : Type 0 where
+  pub pointers : (v : ℕ) → value new (in_local t v) ≡ get_or (locals_or_none l).pointers v 0
+  pub values : (x : ℕ) → value new (in_data t x) ≡ get_or (locals_or_none l).values x 0
+  pub shared : (i : ℕ) → value new (in_shared i) ≡ value g (in_shared i)
+  pub others : (u v : ℕ) → (u ≡ t → ⊥) → value new (in_local u v) ≡ value g (in_local u v)
+  pub other_values : (u x : ℕ) → (u ≡ t → ⊥) → value new (in_data u x) ≡ value g (in_data u x)
+  pub nodes : SameNodes g new
+
+-- before anything happened every value is 0, and null is the only row
+pub record IsFirst (g : GcState) : Type 0 where
+  pub values : (q : Slot) → value g q ≡ 0
+  pub entries : (m : Map) (k : ℕ) → entry g m k ≡ 0
+  pub count : count g ≡ 1
+
+-- what is put is read, and elsewhere nothing changes
+pub record GcStateLaws : Type 0 where
+  pub puts : (g : GcState) (p : Slot) (n : ℕ) → Put g p n (put g p n)
+  pub updates : (g : GcState) (m : Map) (k n : ℕ) → Updated g m k n (update g m k n)
+  pub makes : (g : GcState) → WasMade g (made g)
+  pub gives : (g : GcState) (t : ℕ) (l : Option Locals) → HasLocals g t l (with_locals g t l)
+  pub unmade : (g : GcState) (m : Map) (k : ℕ) → count g ≤ k → entry g m k ≡ 0
+  pub first : (fields : List Field) (ghosts shared threads : ℕ) → IsFirst (fresh_state fields ghosts shared threads)

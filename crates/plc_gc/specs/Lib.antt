@@ -1,0 +1,12 @@
+-- what contracts of public calls say
+pub mod Claims
+pub mod Clauses
+pub mod Laws
+pub mod Primitives
+pub mod Ranges
+pub mod Reached
+pub mod Run
+pub mod RunLaws
+pub mod State
+-- words of private functions alone
+pub mod Reach

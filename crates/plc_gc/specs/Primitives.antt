@@ -1,0 +1,92 @@
+-- The table of the primitives in the garbage-collected meaning, a function for each column: where it isn't blocked, and the state after it. No primitive is a race, and a refresh is the plain assignment.
+use Rattle.std.specs.Prelude.{ℕ, suc, Bool, true, false, not, ◌==◌}
+use Rattle.plc_lang.specs.declared.syntax.Var.{Var}
+use Rattle.plc_lang.specs.declared.syntax.Arg.{Arg}
+use Rattle.plc_lang.specs.declared.syntax.Arg.TheVariants as args
+use Rattle.plc_lang.specs.declared.syntax.GhostVal.{GhostVal}
+use Rattle.plc_lang.specs.declared.syntax.GhostVal.TheVariants as ghosts
+use Rattle.plc_lang.specs.declared.syntax.Primitive.{Primitive}
+use Rattle.plc_lang.specs.declared.syntax.Primitive.TheVariants.{Null, Copy, New, Load, Store, StoreNull, DataSet, DataLoad, DataStore, Eq, Ne, IsNull, NotNull, DataTest, Refresh, RefreshLoad, RefreshStore, Call, Done, Active, Ghost}
+use Rattle.plc_base.specs.Functions.{is_retire}
+use Rattle.plc_lang.specs.Comparison.{compares}
+use Rattle.plc_gc.specs.State.{GcState, in_local, in_data, pointer_field, data_field, auxiliary_field, retirement, value, entry, count, put, update, made, slot, number_of}
+
+-- the node that the variable of thread t holds
+abbrev pub node_at : GcState → ℕ → Var → ℕ
+node_at g t v = value g (slot t v)
+
+-- the node that the field holds of the node to which the variable points
+abbrev pub field_at : GcState → ℕ → Var → ℕ → ℕ
+field_at g t v f = entry g (pointer_field f) (node_at g t v)
+
+-- the variable isn't null
+abbrev pub some_node : GcState → ℕ → Var → Bool
+some_node g t v = not (node_at g t v == 0)
+
+-- what a `ghost` write puts into an auxiliary field
+abbrev pub ghost_number : ℕ → GhostVal → ℕ
+ghost_number t (ghosts.Value k) = k
+ghost_number t ghosts.Me = suc t
+ghost_number t ghosts.None = 0
+
+-- of the calls that of `retire` alone is blocked, with null
+abbrev pub goes_call : GcState → ℕ → Bool → Arg → Bool
+goes_call g t true (args.Var p) = some_node g t p
+goes_call g t true args.Null = true
+goes_call g t true args.None = true
+goes_call g t false r = true
+
+-- the first column: whether it isn't blocked
+abbrev pub goes : GcState → ℕ → Primitive → Bool
+goes g t (Null p) = true
+goes g t (Copy p q) = true
+goes g t (New p) = true
+goes g t (Load p q f) = some_node g t q
+goes g t (Store p f q) = some_node g t p
+goes g t (StoreNull p f) = some_node g t p
+goes g t (DataSet x e) = true
+goes g t (DataLoad x q f) = some_node g t q
+goes g t (DataStore p f e) = some_node g t p
+goes g t (Eq p q) = node_at g t p == node_at g t q
+goes g t (Ne p q) = not (node_at g t p == node_at g t q)
+goes g t (IsNull p) = node_at g t p == 0
+goes g t (NotNull p) = some_node g t p
+goes g t (DataTest r x e) = compares r (value g (in_data t x)) (number_of g t e)
+goes g t (Refresh p q) = true
+goes g t (RefreshLoad p q f) = some_node g t q
+goes g t (RefreshStore p f q) = some_node g t p
+goes g t (Call f r) = goes_call g t (is_retire f) r
+goes g t (Done f) = true
+goes g t (Active p) = true
+goes g t (Ghost p h v) = true
+
+-- of the calls that of `retire` alone changes the state
+abbrev pub after_call : GcState → ℕ → Bool → Arg → GcState
+after_call g t true (args.Var p) = update g retirement (node_at g t p) 1
+after_call g t true args.Null = g
+after_call g t true args.None = g
+after_call g t false r = g
+
+-- the second column: the state after it
+abbrev pub after : GcState → ℕ → Primitive → GcState
+after g t (Null p) = put g (slot t p) 0
+after g t (Copy p q) = put g (slot t p) (node_at g t q)
+after g t (New p) = put (made g) (slot t p) (count g)
+after g t (Load p q f) = put g (slot t p) (field_at g t q f.0)
+after g t (Store p f q) = update g (pointer_field f.0) (node_at g t p) (node_at g t q)
+after g t (StoreNull p f) = update g (pointer_field f.0) (node_at g t p) 0
+after g t (DataSet x e) = put g (in_data t x) (number_of g t e)
+after g t (DataLoad x q f) = put g (in_data t x) (entry g (data_field f.0) (node_at g t q))
+after g t (DataStore p f e) = update g (data_field f.0) (node_at g t p) (number_of g t e)
+after g t (Eq p q) = g
+after g t (Ne p q) = g
+after g t (IsNull p) = g
+after g t (NotNull p) = g
+after g t (DataTest r x e) = g
+after g t (Refresh p q) = put g (in_local t p) (node_at g t q)
+after g t (RefreshLoad p q f) = put g (in_local t p) (field_at g t q f.0)
+after g t (RefreshStore p f q) = update g (pointer_field f.0) (node_at g t p) (node_at g t q)
+after g t (Call f r) = after_call g t (is_retire f) r
+after g t (Done f) = g
+after g t (Active p) = g
+after g t (Ghost p h v) = update g (auxiliary_field h) (node_at g t p) (ghost_number t v)

@@ -1,0 +1,180 @@
+-- A state of the garbage-collected meaning: nodes are numbered from 1 in order of allocation, and no node is taken back.
+use Rattle.std.specs.Prelude.{ℕ, Bool, false, ◌&&◌, nat_lt, if◌then◌else◌, ◌==◌, List, [], ◌∷◌, ◌++◌, length, get_or, slice_get, replicate, Option, Some, None}
+use Rattle.plc_base.specs.Tables.{put_at}
+use Rattle.plc_lang.specs.declared.syntax.Var.{Var}
+use Rattle.plc_lang.specs.declared.syntax.Var.TheVariants.{Shared, Local}
+use Rattle.plc_lang.specs.declared.syntax.Num.{Num}
+use Rattle.plc_lang.specs.declared.syntax.Num.TheVariants.{Lit, Local as DataLocal}
+use Rattle.plc_lang.specs.declared.syntax.Field.{Field}
+use Rattle.plc_lang.specs.declared.syntax.Local.{Local as ALocal}
+use Rattle.plc_lang.specs.declared.syntax.Op.{Op}
+use Rattle.plc_lang.specs.Locals.{starting_pointers, starting_values}
+use Rattle.plc_flow.specs.declared.flow.Flow.{Flow}
+use Rattle.plc_flow.specs.declared.flow.Place.{Place}
+use Rattle.plc_flow.specs.declared.flow.Place.TheVariants as places
+
+-- Every value is a number, and every default is 0: null, the data 0, the first value of an auxiliary
+-- field, no thread (thread t is t + 1), not retired. So a node that isn't made reads as a fresh one.
+
+-- a node, of which a pointer field has the node and a data field the number; retired is 1 where it was retired
+pub record Row : Type 0 where
+  pub pointers : List ℕ
+  pub values : List ℕ
+  pub auxiliary : List ℕ
+  pub retired : ℕ
+
+-- the locals of a thread that is in an operation, with their declarations, since clauses count pointers and data together
+pub record Locals : Type 0 where
+  pub declared : List ALocal
+  pub pointers : List ℕ
+  pub values : List ℕ
+
+-- rows has a row for each node, the row 0 for null; the fields as they are declared, and how many auxiliary fields there are
+pub record GcState : Type 0 where
+  pub fields : List Field
+  pub ghosts : ℕ
+  pub shared : List ℕ
+  pub locals : List (Option Locals)
+  pub rows : List Row
+
+-- where a value stands
+pub data Slot : Type 0 where
+  in_shared : ℕ → Slot
+  in_local : ℕ → ℕ → Slot
+  in_data : ℕ → ℕ → Slot
+
+-- what is known of each node
+pub data Map : Type 0 where
+  pointer_field : ℕ → Map
+  data_field : ℕ → Map
+  auxiliary_field : ℕ → Map
+  retirement : Map
+
+-- ---- rows
+
+-- a node without fields
+abbrev pub no_row : Row
+no_row = record { pointers = []; values = []; auxiliary = []; retired = 0 }
+
+-- a node that was just allocated, and null
+abbrev pub fresh_row : ℕ → ℕ → Row
+fresh_row fields ghosts = record { pointers = replicate fields 0; values = replicate fields 0; auxiliary = replicate ghosts 0; retired = 0 }
+
+-- what a map has at a row
+abbrev pub row_entry : Row → Map → ℕ
+row_entry r (pointer_field f) = get_or r.pointers f 0
+row_entry r (data_field f) = get_or r.values f 0
+row_entry r (auxiliary_field g) = get_or r.auxiliary g 0
+row_entry r retirement = r.retired
+
+-- the row with a number put into a map
+abbrev pub row_with : Row → Map → ℕ → Row
+row_with r (pointer_field f) n = record r { pointers = put_at 0 r.pointers f n }
+row_with r (data_field f) n = record r { values = put_at 0 r.values f n }
+row_with r (auxiliary_field g) n = record r { auxiliary = put_at 0 r.auxiliary g n }
+row_with r retirement n = record r { retired = n }
+
+-- ---- locals
+
+-- what an idle thread has
+abbrev pub no_locals : Locals
+no_locals = record { declared = []; pointers = []; values = [] }
+
+-- the locals of a thread, none for an idle one
+abbrev pub locals_or_none : Option Locals → Locals
+locals_or_none None = no_locals
+locals_or_none (Some l) = l
+
+-- the locals of thread t
+unfoldable pub locals_of : GcState → ℕ → Locals
+locals_of g t = locals_or_none (get_or g.locals t None)
+
+-- the state with the locals of thread t put in
+unfoldable pub with_locals : GcState → ℕ → Option Locals → GcState
+with_locals g t l = record g { locals = put_at None g.locals t l }
+
+-- ---- the words by which a state is read and written
+
+-- the value of a place
+unfoldable pub value : GcState → Slot → ℕ
+unfolding locals_of
+value g (in_shared i) = get_or g.shared i 0
+value g (in_local t v) = get_or (locals_of g t).pointers v 0
+value g (in_data t x) = get_or (locals_of g t).values x 0
+
+-- the entry of a map at a node
+unfoldable pub entry : GcState → Map → ℕ → ℕ
+entry g m k = row_entry (get_or g.rows k no_row) m
+
+-- the node was retired
+abbrev pub is_retired : GcState → ℕ → Bool
+is_retired g k = entry g retirement k == 1
+
+-- the number of the next node: null and the nodes that were made
+unfoldable pub count : GcState → ℕ
+count g = length g.rows
+
+-- the state with a value put into a place
+unfoldable pub put : GcState → Slot → ℕ → GcState
+unfolding locals_of with_locals
+put g (in_shared i) n = record g { shared = put_at 0 g.shared i n }
+put g (in_local t v) n = with_locals g t (Some (record (locals_of g t) { pointers = put_at 0 (locals_of g t).pointers v n }))
+put g (in_data t x) n = with_locals g t (Some (record (locals_of g t) { values = put_at 0 (locals_of g t).values x n }))
+
+-- the state with a map changed at a node
+unfoldable pub update : GcState → Map → ℕ → ℕ → GcState
+update g m k n = record g { rows = put_at no_row g.rows k (row_with (get_or g.rows k no_row) m n) }
+
+-- the state with one node more
+unfoldable pub made : GcState → GcState
+made g = record g { rows = g.rows ++ fresh_row (length g.fields) g.ghosts ∷ [] }
+
+-- ---- variables
+
+-- the place of a pointer variable for thread t
+abbrev pub slot : ℕ → Var → Slot
+slot t (Shared i) = in_shared i
+slot t (Local v) = in_local t v
+
+-- the number that is put into data
+abbrev pub number_of : GcState → ℕ → Num → ℕ
+number_of g t (Lit n) = n
+number_of g t (DataLocal x) = value g (in_data t x)
+
+-- ---- where runs and operations begin
+
+-- null alone, shared pointers null, every thread idle
+abbrev pub fresh_state : List Field → ℕ → ℕ → ℕ → GcState
+fresh_state fields ghosts shared threads = record { fields = fields; ghosts = ghosts; shared = replicate shared 0; locals = replicate threads None; rows = fresh_row (length fields) ghosts ∷ [] }
+
+-- the state of a flow before its `init`
+abbrev pub first_state : Flow → ℕ → GcState
+first_state flow threads = fresh_state flow.file.fields (length flow.file.ghosts) (length flow.file.shared) threads
+
+-- the locals with which a thread starts this operation
+abbrev pub starting : Op → List ℕ → Locals
+starting o args = record { declared = o.locals; pointers = starting_pointers 0 o; values = starting_values o args }
+
+-- ---- places that the program names
+
+-- there is such a field, and it is a pointer field
+abbrev pub is_pointer_field : Option Field → Bool
+is_pointer_field None = false
+is_pointer_field (Some f) = f.pointer
+
+-- a pointer place that there is: a shared pointer, a pointer local of a busy thread, a pointer field of a node that was made; a cell is named by its node
+unfoldable pub has_place : GcState → Place → Bool
+unfolding locals_of count
+has_place g (places.Shared i) = nat_lt i (length g.shared)
+has_place g (places.Cell k f) = nat_lt 0 k && nat_lt k (count g) && is_pointer_field (slice_get g.fields f.0)
+has_place g (places.Local t v) = nat_lt v (length (locals_of g t).pointers)
+
+-- the node that it holds
+abbrev pub pointer_in : GcState → Place → ℕ
+pointer_in g (places.Shared i) = value g (in_shared i)
+pointer_in g (places.Cell k f) = entry g (pointer_field f.0) k
+pointer_in g (places.Local t v) = value g (in_local t v)
+
+-- the node that a place holds, if there is such a place
+abbrev pub node_of : GcState → Place → Option ℕ
+node_of g p = if has_place g p then Some (pointer_in g p) else None

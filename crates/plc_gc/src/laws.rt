@@ -1,0 +1,40 @@
+// The laws stand over the definitions, so that proofs above never open them.
+ghost use Rattle.std.specs.Prelude.{ℕ};
+ghost use Rattle.plc_flow.specs.declared.flow.Flow.{Flow};
+ghost use Rattle.plc_flow.specs.WellSorted.{FlowIsWellSorted};
+ghost use Rattle.plc_gc.specs.Laws.{GcStateLaws};
+ghost use Rattle.plc_gc.specs.Ranges.{RunsStayInRange, RunsKeepValues};
+ghost use Rattle.plc_gc.specs.Reached.{ClaimsAreReached};
+ghost use Rattle.plc_gc.specs.RunLaws.{GcRunLaws};
+
+/// What is put into a place or a map is read back, and nothing else changes with it. A node that isn't
+/// made yet reads as one that was just allocated, so an allocation changes no entry.
+pub fn collected_state_reads_back()
+    ensures { GcStateLaws }
+{}
+
+/// Garbage-collected runs begin, and go on by starts, by steps that aren't blocked, by returns and by
+/// frees, of which none changes anything. Each move leads to one configuration at most, whatever
+/// address it names, and so do the moves of a whole run.
+pub fn collected_runs_go_on()
+    ensures { (flow : Flow) (threads : ℕ) → GcRunLaws flow threads }
+{}
+
+/// In every state of every garbage-collected run, and between the primitives of a step, each pointer
+/// leads to null or to a node that was made, null has null and 0 in its fields and isn't retired, and
+/// what isn't made has 0 in every map.
+pub fn collected_runs_stay_in_range()
+    ensures { (flow : Flow) (threads : ℕ) → RunsStayInRange flow threads }
+{}
+
+/// In every state of every garbage-collected run of a flow of a file that was read, and between the
+/// primitives of a step, an enumerated auxiliary field has one of its values at every node.
+pub fn collected_runs_keep_values()
+    ensures { (flow : Flow) (threads : ℕ) → FlowIsWellSorted flow → RunsKeepValues flow threads }
+{}
+
+/// Where all claims that a step reaches are true, each is true in the state in which it is reached, and
+/// the list of their truths has no `false`.
+pub fn claims_are_reached()
+    ensures { ClaimsAreReached }
+{}

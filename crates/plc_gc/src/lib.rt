@@ -1,0 +1,11 @@
+//! Garbage-collected runs, the second meaning of a program, in which no node is taken back: what each
+//! primitive and each move does, and which clauses and claims are true. A move leads where the definition
+//! says, and a clause is true exactly where some literal is.
+#![tactic(auto)]
+
+mod laws;
+
+pub use laws::{
+    claims_are_reached, collected_runs_go_on, collected_runs_keep_values,
+    collected_runs_stay_in_range, collected_state_reads_back,
+};
