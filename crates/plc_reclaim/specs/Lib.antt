@@ -1,7 +1,10 @@
 -- what contracts of public calls say
+pub mod Histories
 pub mod Lookup
 pub mod Meanings
 pub mod Rows
 pub mod Schemes
 -- words of private functions alone
+pub mod Tables
 pub mod Waiting
+pub mod Watch

@@ -1,10 +1,15 @@
 -- What a reclaimer picks, by the schemes and all the events that it was handed: its row.
 use Rattle.std.specs.Prelude.{◌≡◌, ℕ, Bool, true, false, ◌==◌, ◌&&◌, not, if◌then◌else◌, List, [], ◌∷◌, fold, Option, Some, None}
-use Rattle.std.specs.List.{list_any}
+use Rattle.std.specs.List.{list_any, filter_map}
+use Rattle.plc_base.specs.Functions.{is_retire}
 use Rattle.plc_auto.specs.declared.event.Event.{Event}
 use Rattle.plc_auto.specs.declared.event.Event.TheVariants.{Call as Called, Done as Returned, Free as Freed}
-use Rattle.plc_base.specs.Functions.{is_retire}
+use Rattle.plc_auto.specs.declared.observer.Observer.{Observer}
+use Rattle.plc_auto.specs.declared.observer.Observer.TheVariants as observers
+use Rattle.plc_auto.specs.Table.{r_kept}
+use Rattle.plc_auto.specs.Location.{location}
 use Rattle.plc_reclaim.specs.declared.scheme.Scheme.{Scheme}
+use Rattle.plc_reclaim.specs.declared.scheme.Scheme.TheVariants.{Hazard, Epoch}
 use Rattle.plc_reclaim.specs.Meanings.{Meanings}
 
 -- the event frees the address
@@ -34,6 +39,8 @@ abbrev pub first_waiting : (ℕ → Bool) → List Event → Option ℕ
 first_waiting may [] = None
 first_waiting may (e ∷ events) = waits_or may events (retired_by e) (first_waiting may events)
 
+-- ---- those that ask no thread
+
 -- `leak` frees nothing
 abbrev pub leak_row : List Scheme → List Event → Option ℕ
 leak_row schemes events = None
@@ -41,6 +48,56 @@ leak_row schemes events = None
 -- `list` frees in the order of retirement
 abbrev pub list_row : List Scheme → List Event → Option ℕ
 list_row schemes events = first_waiting (λ a. true) events
+
+-- ---- what threads keep
+
+-- the threads that call or return, one for each such event
+abbrev pub threads_in : List Event → List ℕ
+threads_in [] = []
+threads_in (Called t f b ∷ events) = t ∷ threads_in events
+threads_in (Returned t f ∷ events) = t ∷ threads_in events
+threads_in (Freed a ∷ events) = threads_in events
+
+-- the location is `r.kept`, which has one number in both tables; `bad` isn't
+abbrev pub is_kept_at : Option ℕ → Bool
+is_kept_at None = false
+is_kept_at (Some l) = l == r_kept
+
+-- some thread stands in `r.kept` for the address
+abbrev pub is_kept_by : List Event → ℕ → Observer → Bool
+is_kept_by events a o = list_any (λ t. is_kept_at (location o events t a)) (threads_in events)
+
+-- no thread stands there for the address, by the table of any of these observers
+abbrev pub is_kept_by_none : List Observer → List Event → ℕ → Bool
+is_kept_by_none os events a = not (list_any (is_kept_by events a) os)
+
+-- the observer of a Hazard scheme
+abbrev pub hazard_of : Scheme → Option Observer
+hazard_of (Hazard f) = Some (observers.Hazard f)
+hazard_of (Epoch e l) = None
+
+-- those of the Hazard schemes
+abbrev pub hazards : List Scheme → List Observer
+hazards schemes = filter_map hazard_of schemes
+
+-- the observer of an Epoch scheme
+abbrev pub epoch_of : Scheme → Option Observer
+epoch_of (Hazard f) = None
+epoch_of (Epoch e l) = Some (observers.Epoch e l)
+
+-- those of the Epoch schemes
+abbrev pub epochs : List Scheme → List Observer
+epochs schemes = filter_map epoch_of schemes
+
+-- `hazard` frees in the order of retirement what no thread keeps by a Hazard scheme
+abbrev pub hazard_row : List Scheme → List Event → Option ℕ
+hazard_row schemes events = first_waiting (is_kept_by_none (hazards schemes) events) events
+
+-- `epoch` frees in the order of retirement what no thread keeps by an Epoch scheme
+abbrev pub epoch_row : List Scheme → List Event → Option ℕ
+epoch_row schemes events = first_waiting (is_kept_by_none (epochs schemes) events) events
+
+-- ---- acting as a row
 
 -- these meanings act as a row: a pick takes nothing out, and it is the row's address for all schemes and events
 pub record ActsAs (row : List Scheme → List Event → Option ℕ) (m : Meanings) : Type 0 where
