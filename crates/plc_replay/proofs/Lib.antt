@@ -3,3 +3,5 @@ mod Operations
 mod Taking
 mod OneEnd
 mod Coming
+mod Speaking
+mod Forbidding

@@ -87,7 +87,7 @@ last_stays flow o threads c d move line (Race kind n k) a m = (run_laws flow o t
 last_stays flow o threads c d move line (Impossible n) a m = a.1.no_move d m
 last_stays flow o threads c d move line (ForbiddenFree x n) a m = forbidden_stays flow o threads c d move a.2 m
 
-same_after : (h es fs : List Event) → h ++ es ≡ h ++ fs → es ≡ fs
+pub same_after : (h es fs : List Event) → h ++ es ≡ h ++ fs → es ≡ fs
 same_after [] es fs e = e
 same_after (x ∷ h) es fs e = same_after h es fs (cc)
 
