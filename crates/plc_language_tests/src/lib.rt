@@ -3,4 +3,22 @@
 #![tactic(auto)]
 
 #[cfg(test)]
-mod language;
+mod files;
+#[cfg(test)]
+mod flows;
+#[cfg(test)]
+mod limits;
+#[cfg(test)]
+mod names;
+#[cfg(test)]
+mod negation;
+#[cfg(test)]
+mod numbers;
+#[cfg(test)]
+mod outlines;
+#[cfg(test)]
+mod spellings;
+#[cfg(test)]
+mod statements;
+#[cfg(test)]
+mod texts;

@@ -3,4 +3,14 @@
 #![tactic(auto)]
 
 #[cfg(test)]
-mod runs;
+mod copying;
+#[cfg(test)]
+mod moves;
+#[cfg(test)]
+mod primitives;
+#[cfg(test)]
+mod reclaimers;
+#[cfg(test)]
+mod replays;
+#[cfg(test)]
+mod schedules;
