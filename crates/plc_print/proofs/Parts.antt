@@ -1,11 +1,12 @@
 -- Tokens behind a form are those of the form with nothing behind it, and then these; so is their text.
-use Rattle.std.proofs.Common.{◌≡◌, ◌++◌, ◌∷◌, [], List, Option, Some, None, Bool, true, false, ℕ, refl, ap, sym, ◌∙◌, append_assoc}
+use Rattle.std.proofs.Common.{◌≡◌, ◌+◌, ◌<◌, ◌++◌, ◌∷◌, [], List, length, drop, get_or, Option, Some, None, Bool, true, false, ℕ, refl, ap, sym, ◌∙◌, append_assoc}
 use Rattle.plc_lex.specs.declared.token.TokenKind.{TokenKind}
 use Rattle.plc_lex.specs.declared.token.TokenKind.TheVariants.{Word, Name, Symbol}
 use Rattle.plc_lex.specs.declared.token.Keyword.TheVariants.{Struct, Ghost, Init, Op, Atomic, If, Else, Loop, Choose, Or, Active, Cas, Inv, Over, At, Not}
 use Rattle.plc_lex.specs.declared.token.Symbol.TheVariants.{OpenBrace, CloseBrace, OpenParen, CloseParen, Semicolon, Comma, Colon}
 use Rattle.plc_syntax.specs.Trees.{each_then, maybe_then, word_if_then, comma_name_then, FieldTree, PointerField, DataField, field_then, struct_then, shared_then, FunctionTree, Declares, function_then, WatchTree, UseHazard, UseEpoch, watch_then, GhostKindTree, OneOf, OfThreads, ghost_kind_then, GhostTree, Auxiliary, ghost_then, Text, PlaceTree, PlaceOf, place_then, AtomTree, NullAtom, NumberAtom, NameAtom, atom_then, ValueTree, NullValue, NewValue, NumberValue, PlaceValue, value_then, SetTree, SetName, SetField, set_then, RefreshTree, RefreshName, RefreshField, refresh_then, GhostValueTree, NameGhost, MeGhost, NoneGhost, ghost_value_then, GhostSetTree, SetGhost, ghost_set_then, InitialTree, InitialSet, InitialGhost, initial_then, init_then, TestTree, Compares, test_then, name_or_null_then, ConditionTree, TestCondition, RefreshCondition, CasCondition, condition_then, PrimitiveTree, SetPrimitive, RefreshPrimitive, GhostPrimitive, ActivePrimitive, AssumePrimitive, SkipPrimitive, primitive_then, primitive_line_then, ArgumentTree, NoArgument, NullArgument, NameArgument, ActiveArgument, argument_then, during_then, StatementTree, PrimitiveStatement, AtomicStatement, CallStatement, IfStatement, ChooseStatement, LoopStatement, BreakStatement, ReturnStatement, LabelStatement, BlockTree, NoStatement, Then as ThenStatement, ElseTree, NoElse, ElseBlock, OrTree, NoOr, OrBlock, statement_then, statements_then, else_then, or_then, parameters_then, OpTree, Operates, op_then, TermTree, PlaceTerm, NullTerm, NumberTerm, MeTerm, NoneTerm, term_then, FlagTree, RetiredFlag, flag_then, equality_symbol, LiteralTree, FlagLiteral, NotLiteral, EqualityLiteral, literal_then, or_literal_then, BoundTree, NoBound, AllOf, bound_then, ClauseTree, Claims, clause_then, ItemTree, InvariantItem, OverItem, AtItem, item_then, depth_then}
 use Rattle.plc_print.specs.Text.{token_text, behind, text_of}
+use Rattle.plc_print.proofs.Items.{copy_left, item_left}
 
 -- what a form adds stands before what is behind it
 abbrev pub Leads : (List TokenKind → List TokenKind) → Type 0
@@ -25,8 +26,26 @@ pub then_prints : (form : List TokenKind → List TokenKind) → Leads form → 
 then_prints form leads rest old e f = f ∙ ap (λ x. x ++ text_of rest) e ∙ append_assoc old (text_of (form [])) (text_of rest) ∙ ap (λ x. old ++ x) (sym (text_leads form leads rest))
 
 -- a form that was left to print has been printed
-pub then_left : (form : List TokenKind → List TokenKind) → Leads form → (rest : List TokenKind) → (mid : List ℕ) → {new whole : List ℕ} → mid ++ text_of (form rest) ≡ whole → new ≡ mid ++ text_of (form []) → new ++ text_of rest ≡ whole
+then_left : (form : List TokenKind → List TokenKind) → Leads form → (rest : List TokenKind) → (mid : List ℕ) → {new whole : List ℕ} → mid ++ text_of (form rest) ≡ whole → new ≡ mid ++ text_of (form []) → new ++ text_of rest ≡ whole
 then_left form leads rest mid left e = ap (λ x. x ++ text_of rest) e ∙ append_assoc mid (text_of (form [])) (text_of rest) ∙ ap (λ x. mid ++ x) (sym (text_leads form leads rest)) ∙ left
+
+-- the same of the form of an item, where items were left to print
+item_first : {A : Type 0} → (form : A → List TokenKind → List TokenKind) → ((x : A) → Leads (form x)) → (tokens : List A → List TokenKind) → ((x : A) (others : List A) → tokens (x ∷ others) ≡ form x (tokens others))
+    → (now others : List A) (x : A) → now ≡ x ∷ others → (mid : List ℕ) → {new whole : List ℕ} → mid ++ text_of (tokens now) ≡ whole → new ≡ mid ++ text_of (form x []) → new ++ text_of (tokens others) ≡ whole
+item_first form leads tokens first now others x split mid left e =
+    then_left (form x) (leads x) (tokens others) mid (ap (λ ts. mid ++ text_of ts) (sym (first x others)) ∙ ap (λ ys. mid ++ text_of (tokens ys)) (sym split) ∙ left) e
+
+-- in a loop over items
+pub item_printed : {A : Type 0} → (form : A → List TokenKind → List TokenKind) → ((x : A) → Leads (form x)) → (tokens : List A → List TokenKind) → ((x : A) (others : List A) → tokens (x ∷ others) ≡ form x (tokens others))
+    → (xs : List A) (i : ℕ) (x : A) → i < length xs → x ≡ get_or xs i x
+    → (mid : List ℕ) → {new whole : List ℕ} → mid ++ text_of (tokens (drop i xs)) ≡ whole → new ≡ mid ++ text_of (form x []) → new ++ text_of (tokens (drop (i + 1) xs)) ≡ whole
+item_printed form leads tokens first xs i x within is = item_first form leads tokens first (drop i xs) (drop (i + 1) xs) x (item_left xs i x within is)
+
+-- in a loop over items that are copied
+pub copy_printed : {A : Type 0} → (form : A → List TokenKind → List TokenKind) → ((x : A) → Leads (form x)) → (tokens : List A → List TokenKind) → ((x : A) (others : List A) → tokens (x ∷ others) ≡ form x (tokens others))
+    → (xs : List A) (i : ℕ) (d : A) → i < length xs
+    → (mid : List ℕ) → {new whole : List ℕ} → mid ++ text_of (tokens (drop i xs)) ≡ whole → new ≡ mid ++ text_of (form (get_or xs i d) []) → new ++ text_of (tokens (drop (i + 1) xs)) ≡ whole
+copy_printed form leads tokens first xs i d within = item_first form leads tokens first (drop i xs) (drop (i + 1) xs) (get_or xs i d) (copy_left xs i d within)
 
 pub place_leads : (p : PlaceTree) → Leads (place_then p)
 place_leads (PlaceOf n None) rest = refl
@@ -120,11 +139,20 @@ condition_leads (CasCondition false n old new) rest = ap (λ ts. Word Cas ∷ Sy
 null_token : (n : Option Text) (k : TokenKind) → name_or_null_then n [] ≡ k ∷ [] → (rest : List TokenKind) → name_or_null_then n rest ≡ k ∷ rest
 null_token n k e rest = name_or_null_leads n rest ∙ ap (λ ts. ts ++ rest) e
 
-pub cas_tokens : (active : Bool) (n : Text) (old new : Option Text) (k l : TokenKind) → name_or_null_then old [] ≡ k ∷ [] → name_or_null_then new [] ≡ l ∷ []
+cas_tokens : (active : Bool) (n : Text) (old new : Option Text) (k l : TokenKind) → name_or_null_then old [] ≡ k ∷ [] → name_or_null_then new [] ≡ l ∷ []
     → condition_then (CasCondition active n old new) [] ≡ Word Cas ∷ Symbol OpenParen ∷ word_if_then Active active (Name n ∷ Symbol Comma ∷ k ∷ Symbol Comma ∷ l ∷ Symbol CloseParen ∷ [])
 cas_tokens active n old new k l e f =
     ap (λ ts. Word Cas ∷ Symbol OpenParen ∷ word_if_then Active active (Name n ∷ Symbol Comma ∷ ts)) (null_token old k e (Symbol Comma ∷ name_or_null_then new (Symbol CloseParen ∷ []))
     ∙ ap (λ ts. k ∷ Symbol Comma ∷ ts) (null_token new l f (Symbol CloseParen ∷ [])))
+
+-- the text of a `cas`, with or without `active`
+pub cas_text : (shown given : Bool) (n name : Text) (old new : Option Text) (k l : TokenKind) → name_or_null_then old [] ≡ k ∷ [] → name_or_null_then new [] ≡ l ∷ [] → n ≡ name → given ≡ shown
+    → text_of (Word Cas ∷ Symbol OpenParen ∷ word_if_then Active shown (Name n ∷ Symbol Comma ∷ k ∷ Symbol Comma ∷ l ∷ Symbol CloseParen ∷ []))
+    ≡ text_of (condition_then (CasCondition given name old new) [])
+cas_text shown given n name old new k l e f same chosen =
+    sym (ap text_of (cas_tokens shown n old new k l e f))
+    ∙ ap (λ (m : Text). text_of (condition_then (CasCondition shown m old new) [])) same
+    ∙ ap (λ (a : Bool). text_of (condition_then (CasCondition a name old new) [])) (sym chosen)
 
 -- ---- statements
 

@@ -1,4 +1,5 @@
--- The tree of a unit's canonical text: each number is spelled by the name that it stands for, and optional parts that are empty are left out.
+-- The tree of a unit's canonical text: each number is spelled by the name that it stands for, and optional parts that
+-- are empty are left out.
 use Rattle.std.specs.Prelude.{ℕ, Bool, true, false, not, Option, Some, None, List, [], ◌∷◌, map, filter, drop, option_map}
 use Rattle.plc_base.specs.declared.ids.FieldId.{FieldId}
 use Rattle.plc_lang.specs.Locals.{is_parameter}
@@ -114,9 +115,13 @@ module _ (file : File) (locals : List Local) where
   primitive_tree (prims.IsNull p) = AssumePrimitive (test_tree (prims.IsNull p))
   primitive_tree (prims.NotNull p) = AssumePrimitive (test_tree (prims.NotNull p))
   primitive_tree (prims.DataTest r x e) = AssumePrimitive (test_tree (prims.DataTest r x e))
-  primitive_tree (prims.Refresh p q) = RefreshPrimitive (RefreshName (pointer_name file locals p) (PlaceOf (variable_name file locals q) None))
-  primitive_tree (prims.RefreshLoad p q f) = RefreshPrimitive (RefreshName (pointer_name file locals p) (PlaceOf (variable_name file locals q) (Some (field_name file f))))
-  primitive_tree (prims.RefreshStore p f q) = RefreshPrimitive (RefreshField (variable_name file locals p) (field_name file f) (variable_name file locals q))
+  primitive_tree (prims.Refresh p q) =
+      RefreshPrimitive (RefreshName (pointer_name file locals p) (PlaceOf (variable_name file locals q) None))
+  primitive_tree (prims.RefreshLoad p q f) =
+      RefreshPrimitive
+      (RefreshName (pointer_name file locals p) (PlaceOf (variable_name file locals q) (Some (field_name file f))))
+  primitive_tree (prims.RefreshStore p f q) =
+      RefreshPrimitive (RefreshField (variable_name file locals p) (field_name file f) (variable_name file locals q))
   primitive_tree (prims.Call f a) = SkipPrimitive
   primitive_tree (prims.Done f) = SkipPrimitive
   primitive_tree (prims.Active p) = ActivePrimitive (variable_name file locals p)
@@ -130,15 +135,18 @@ module _ (file : File) (locals : List Local) where
 
   -- a refresh into a variable, as a condition
   abbrev pub refresh_condition : Primitive → ConditionTree
-  refresh_condition (prims.Refresh p q) = RefreshCondition (pointer_name file locals p) (PlaceOf (variable_name file locals q) None)
-  refresh_condition (prims.RefreshLoad p q f) = RefreshCondition (pointer_name file locals p) (PlaceOf (variable_name file locals q) (Some (field_name file f)))
+  refresh_condition (prims.Refresh p q) =
+      RefreshCondition (pointer_name file locals p) (PlaceOf (variable_name file locals q) None)
+  refresh_condition (prims.RefreshLoad p q f) =
+      RefreshCondition (pointer_name file locals p) (PlaceOf (variable_name file locals q) (Some (field_name file f)))
   refresh_condition k = RefreshCondition [] (PlaceOf [] None)
 
   -- the condition of an `if`
   abbrev pub condition_tree : Cond → ConditionTree
   condition_tree (conds.Test k) = TestCondition (test_tree k)
   condition_tree (conds.Refresh k) = refresh_condition k
-  condition_tree (conds.Cas active p old new) = CasCondition active (variable_name file locals p) (name_or_null old) (name_or_null new)
+  condition_tree (conds.Cas active p old new) =
+      CasCondition active (variable_name file locals p) (name_or_null old) (name_or_null new)
 
   -- what a function is called with
   abbrev pub argument_tree : Arg → Bool → ArgumentTree
@@ -153,7 +161,8 @@ module _ (file : File) (locals : List Local) where
     pub statement_tree : Statement → StatementTree
     statement_tree (One k) = PrimitiveStatement (primitive_tree k)
     statement_tree (Atomic ks) = AtomicStatement (map primitive_tree ks)
-    statement_tree (Call f a active d) = CallStatement (function_name file f) (argument_tree a active) (option_map (label_name file) d)
+    statement_tree (Call f a active d) =
+        CallStatement (function_name file f) (argument_tree a active) (option_map (label_name file) d)
     statement_tree (If c y n) = IfStatement (condition_tree c) (block_tree y) (else_block n (block_tree n))
     statement_tree (Choose bs) = choice_tree (blocks_tree bs)
     statement_tree (Loop b) = LoopStatement (block_tree b)

@@ -1,6 +1,7 @@
 -- What is read back from a canonical text: the same unit but for the lines of its tokens.
 use Rattle.std.specs.Prelude.{◌≡◌, ℕ, ◌≤◌, List, map, length, Ok}
 use Rattle.std.specs.List.{AllByRecursion}
+use Rattle.plc_base.specs.Limits.{largest_file}
 use Rattle.plc_lex.specs.declared.token.Token.{Token}
 use Rattle.plc_lex.specs.declared.token.TokenKind.{TokenKind}
 use Rattle.plc_lex.specs.Spelling.{IsKind, Spells}
@@ -47,18 +48,24 @@ unit_without_lines u = record u { file = record u.file { ops = map op_without_li
 abbrev pub SameUpToLines : FileUnit → FileUnit → Type 0
 SameUpToLines u v = unit_without_lines u ≡ unit_without_lines v
 
--- the canonical tree of a unit that a tree means: it means the same unit on any lines, and no block stands too deep in it and its tokens
--- are a text's where that holds of the first tree
+-- the canonical tree of a unit that a tree means: it means the same unit on any lines, and no block stands too deep
+-- in it and its tokens are a text's where that holds of the first tree
 pub record CanonicalTreesReadBack : Type 0 where
-  pub means : (lines others : List ℕ) (f : FileTree) (u : FileUnit) → file_means lines f ≡ Ok u → (v : FileUnit) × (file_means others (canonical_tree u) ≡ Ok v) × SameUpToLines u v
-  pub shallow : (lines : List ℕ) (f : FileTree) (u : FileUnit) → file_means lines f ≡ Ok u → NoneTooDeep (file_tokens f) → NoneTooDeep (file_tokens (canonical_tree u))
-  pub kinds : (lines : List ℕ) (f : FileTree) (u : FileUnit) → file_means lines f ≡ Ok u → AllByRecursion IsKind (file_tokens f) → AllByRecursion IsKind (file_tokens (canonical_tree u))
+  pub means : (lines others : List ℕ) (f : FileTree) (u : FileUnit) → file_means lines f ≡ Ok u
+      → (v : FileUnit) × (file_means others (canonical_tree u) ≡ Ok v) × SameUpToLines u v
+  pub shallow : (lines : List ℕ) (f : FileTree) (u : FileUnit) → file_means lines f ≡ Ok u
+      → NoneTooDeep (file_tokens f) → NoneTooDeep (file_tokens (canonical_tree u))
+  pub kinds : (lines : List ℕ) (f : FileTree) (u : FileUnit) → file_means lines f ≡ Ok u
+      → AllByRecursion IsKind (file_tokens f) → AllByRecursion IsKind (file_tokens (canonical_tree u))
 
 -- the text of tokens, each of which bytes can spell, spells these tokens
 abbrev pub TextIsReadBack : Type 0
-TextIsReadBack = (ts : List TokenKind) → AllByRecursion IsKind ts → (us : List Token) × Spells 0 1 (text_of ts) us × (kinds us ≡ ts)
+TextIsReadBack = (ts : List TokenKind) → AllByRecursion IsKind ts
+    → (us : List Token) × Spells 0 1 (text_of ts) us × (kinds us ≡ ts)
 
--- whoever reads the canonical text of a unit that was read from a text gets that unit again; it may be longer than what may be read
+-- whoever reads the canonical text of a unit that was read from a text gets that unit again; it may be longer than
+-- what may be read
 abbrev pub CanonicalTextReadsBack : Type 0
-CanonicalTextReadsBack = (text : List ℕ) (ts : List Token) (u : FileUnit) → Spells 0 1 text ts → IsUnitOf ts u → length (canonical_text u) ≤ 1048576 →
+CanonicalTextReadsBack = (text : List ℕ) (ts : List Token) (u : FileUnit) → Spells 0 1 text ts → IsUnitOf ts u
+    → length (canonical_text u) ≤ largest_file →
     (us : List Token) × (v : FileUnit) × Spells 0 1 (canonical_text u) us × IsUnitOf us v × SameUpToLines u v

@@ -1,4 +1,5 @@
--- The tree of an outline's canonical text: invariants before the other items, and nothing at all for an outline of depth 0 that says nothing.
+-- The tree of an outline's canonical text: invariants before the other items, and nothing at all for an outline of
+-- depth 0 that says nothing.
 use Rattle.std.specs.Prelude.{ℕ, zero, suc, Bool, true, false, Option, Some, None, List, [], ◌∷◌, ◌++◌, map, get_or}
 use Rattle.plc_lang.specs.declared.syntax.Local.{Local}
 use Rattle.plc_lang.specs.declared.syntax.File.{File}
@@ -77,7 +78,8 @@ claims_tree b (l ∷ ls) = Claims b l ls
 
 -- a clause where these locals are in reach
 abbrev pub clause_tree : File → List Local → Clause → ClauseTree
-clause_tree file locals c = claims_tree (bound_tree c.bound.names) (map (literal_tree file locals c.bound.names) c.literals)
+clause_tree file locals c =
+    claims_tree (bound_tree c.bound.names) (map (literal_tree file locals c.bound.names) c.literals)
 
 -- ---- items
 

@@ -1,19 +1,15 @@
-use Rattle.std.proofs.Common.{◌+◌, ◌++◌, [], List, get_or, drop, map, ap, sym, ◌∙◌}
+use Rattle.std.proofs.Common.{[], List, map, refl}
 use Rattle.plc_lang.specs.declared.syntax.Var.TheVariants as vars
 use Rattle.plc_lang.specs.declared.syntax.Primitive.{Primitive}
 use Rattle.plc_lang.specs.declared.syntax.Primitive.TheVariants as prims
 use Rattle.plc_syntax.specs.Trees.{each_then, primitive_line_then}
 use Rattle.plc_print.specs.Canonical.{primitive_tree}
-use Rattle.plc_print.specs.Text.{text_of}
-use Rattle.plc_print.proofs.Items.{copy_left}
-use Rattle.plc_print.proofs.Parts.{then_left, line_leads}
+use Rattle.plc_print.proofs.Parts.{copy_printed, line_leads}
 use Rattle.plc_print.proofs.primitives.primitive_lines.Goals as goal
 
 pub loop-prim-preserved : goal.loop-prim-preserved
 loop-prim-preserved c =
-    let none = prims.Null (vars.Shared 0) in
-    let tree = primitive_tree c.args.reach.file.now c.args.reach.locals.now (get_or c.args.prims.now c.loop-prim.prim-index none) in
-    let trees = λ (ks : List Primitive). each_then primitive_line_then (map (primitive_tree c.args.reach.file.now c.args.reach.locals.now) ks) [] in
-    let split = copy_left c.args.prims.now c.loop-prim.prim-index none c.loop-prim-test.true in
-    then_left (primitive_line_then tree) (line_leads tree) (trees (drop (c.loop-prim.prim-index + 1) c.args.prims.now)) c.loop-prim.out.text.items
-    (ap (λ (ks : List Primitive). c.loop-prim.out.text.items ++ text_of (trees ks)) (sym split) ∙ c.loop-prim.invariant) c.in_ok-primitive_line.ensures
+    let tree = primitive_tree c.args.reach.file.now c.args.reach.locals.now in
+    let tokens = λ (ks : List Primitive). each_then primitive_line_then (map tree ks) [] in
+    copy_printed (λ (k : Primitive). primitive_line_then (tree k)) (λ k. line_leads (tree k)) tokens (λ k others. refl) c.args.prims.now c.loop-prim.prim-index (prims.Null (vars.Shared 0)) c.loop-prim-test.true
+    c.loop-prim.out.text.items c.loop-prim.invariant c.in_ok-primitive_line.ensures

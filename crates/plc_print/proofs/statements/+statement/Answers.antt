@@ -9,8 +9,8 @@ use Rattle.plc_lex.specs.declared.token.Symbol.TheVariants.{OpenBrace, CloseBrac
 use Rattle.plc_syntax.specs.Trees.{condition_then, statement_then, statements_then, else_then, or_then}
 use Rattle.plc_print.specs.Canonical.{condition_tree, else_block, choice_tree, statement_tree, block_tree, blocks_tree}
 use Rattle.plc_print.specs.Text.{text_of}
-use Rattle.plc_print.proofs.Items.{item_left, one_item, two_items}
-use Rattle.plc_print.proofs.Parts.{then_prints, then_left, condition_leads, statement_leads, statements_leads, braces_then, braces_leads}
+use Rattle.plc_print.proofs.Items.{one_item, two_items}
+use Rattle.plc_print.proofs.Parts.{then_prints, item_printed, condition_leads, statement_leads, statements_leads, braces_then, braces_leads}
 use Rattle.plc_lang.proofs.Sizes.{line_is_smaller, block_is_no_larger}
 use Rattle.plc_print.proofs.statements.+statement.Goals as goal
 
@@ -59,11 +59,10 @@ or_blocks-or_block-requires t c =
 
 pub or_blocks-loop-block-preserved : goal.or_blocks-loop-block-preserved
 or_blocks-loop-block-preserved t c =
-    let trees = λ (bs : List Statements). or_then (blocks_tree c.args.reach.file.now c.args.reach.locals.now (blocks_of bs)) [] in
-    let tree = block_tree c.args.reach.file.now c.args.reach.locals.now c.block-item.result in
-    let split = item_left c.args.blocks.now c.loop-block.block-index c.block-item.result c.loop-block-test.true c.block-item.is in
-    then_left (λ ts. Word Or ∷ braces_then tree ts) (λ ts. ap (λ us. Word Or ∷ us) (braces_leads tree ts)) (trees (drop (c.loop-block.block-index + 1) c.args.blocks.now)) c.loop-block.out.text.items
-    (ap (λ (bs : List Statements). c.loop-block.out.text.items ++ text_of (trees bs)) (sym split) ∙ c.loop-block.invariant) c.in_ok-or_block.ensures
+    let tokens = λ (bs : List Statements). or_then (blocks_tree c.args.reach.file.now c.args.reach.locals.now (blocks_of bs)) [] in
+    let tree = block_tree c.args.reach.file.now c.args.reach.locals.now in
+    item_printed (λ (b : Statements) ts. Word Or ∷ braces_then (tree b) ts) (λ b ts. ap (λ us. Word Or ∷ us) (braces_leads (tree b) ts)) tokens (λ b others. refl) c.args.blocks.now c.loop-block.block-index c.block-item.result c.loop-block-test.true c.block-item.is
+    c.loop-block.out.text.items c.loop-block.invariant c.in_ok-or_block.ensures
 
 pub statements-statement-requires : goal.statements-statement-requires
 statements-statement-requires t c =
@@ -75,8 +74,7 @@ statements-statement-requires t c =
 
 pub statements-loop-line-preserved : goal.statements-loop-line-preserved
 statements-loop-line-preserved t c =
-    let trees = λ (ls : List Line). statements_then (block_tree c.args.reach.file.now c.args.reach.locals.now (block_of ls)) [] in
-    let tree = statement_tree c.args.reach.file.now c.args.reach.locals.now (statement_of c.line-item.result.stmt) in
-    let split = item_left c.lines-line-items.result.now c.loop-line.line-index c.line-item.result c.loop-line-test.true c.line-item.is in
-    then_left (statement_then tree) (statement_leads tree) (trees (drop (c.loop-line.line-index + 1) c.lines-line-items.result.now)) c.loop-line.out.text.items
-    (ap (λ (ls : List Line). c.loop-line.out.text.items ++ text_of (trees ls)) (sym split) ∙ c.loop-line.invariant) c.in_ok-statement.ensures
+    let tokens = λ (ls : List Line). statements_then (block_tree c.args.reach.file.now c.args.reach.locals.now (block_of ls)) [] in
+    let tree = λ (l : Line). statement_tree c.args.reach.file.now c.args.reach.locals.now (statement_of l.stmt) in
+    item_printed (λ (l : Line). statement_then (tree l)) (λ l. statement_leads (tree l)) tokens (λ l others. refl) c.lines-line-items.result.now c.loop-line.line-index c.line-item.result c.loop-line-test.true c.line-item.is
+    c.loop-line.out.text.items c.loop-line.invariant c.in_ok-statement.ensures
