@@ -6,7 +6,7 @@ use Rattle.std.proofs.lemmas.Option.{slice_get-map, slice_get-get_or, get_or_fro
 use Rattle.plc_flow.specs.declared.flow.Step.{Step}
 use Rattle.plc_flow.specs.declared.flow.Gate.{Gate}
 use Rattle.plc_flow.specs.declared.flow.Flow.{Flow}
-use Rattle.plc_flow.specs.WellFormed.{IsWellFormed, most_step_primitives}
+use Rattle.plc_flow.specs.WellFormed.{IsWellFormed}
 use Rattle.plc_lang.specs.Skeleton.{Skeleton, Passage, locals_at}
 use Rattle.plc_flow.specs.Skeleton.{skeleton_of, passage_of, pointers_by_point}
 use Rattle.plc_infer.specs.declared.program.Program.{Program}
@@ -53,7 +53,7 @@ pub flow_is_program : (flow : Flow) → IsWellFormed flow → IsProgram (skeleto
 flow_is_program flow w = record {
   few = let points = points_length flow w in let few = w.few in omega (arith, points, few);
   few_steps = let few = w.few_steps in omega (arith, passages_length flow, few);
-  short = λ k small. subst (λ (x : Passage). length x.prims ≤ most_step_primitives) (sym (at k small).0) (w.short k (step_at flow k) (there k small));
+  short = λ k small. subst (λ (x : Passage). length x.prims < 65536) (sym (at k small).0) (let short = w.short k (step_at flow k) (there k small) in omega (arith, short));
   from_in = λ k small. subst (λ (x : Passage). x.from < length (skeleton_of flow).locals) (sym (at k small).0) ((at k small).1.from_in);
   to_in = λ k small. subst (λ (x : Passage). x.to < length (skeleton_of flow).locals) (sym (at k small).0) ((at k small).1.to_in);
   same_locals = λ k small. subst (λ (x : Passage). locals_at (skeleton_of flow) x.to ≡ locals_at (skeleton_of flow) x.from) (sym (at k small).0) ((at k small).1.same);

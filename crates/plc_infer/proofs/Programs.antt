@@ -1,11 +1,10 @@
 -- What the code reads of a program and of the environments at its points.
-use Rattle.std.proofs.Common.{◌≡◌, ℕ, ◌<◌, ◌≤◌, List, [], length, get_or, refl, sym, ap, subst, ◌∙◌, arith}
+use Rattle.std.proofs.Common.{◌≡◌, ℕ, ◌<◌, List, [], length, get_or, refl, sym, ap, subst, ◌∙◌, arith}
 use Rattle.std.specs.Prelude.{slice_set, true, false}
 use Rattle.std.proofs.lemmas.List.{length-map, get_or-map, get_or_default}
 use Rattle.std.proofs.lemmas.Option.{slice_get_read, get_or_from_slice_get}
 use Rattle.plc_auto.specs.declared.observer.Observer.{Observer}
 use Rattle.plc_lang.specs.Skeleton.{Skeleton, Passage, locals_at}
-use Rattle.plc_flow.specs.WellFormed.{most_step_primitives}
 use Rattle.plc_type.specs.declared.env.Env.{Env}
 use Rattle.plc_type.specs.Environments.{bottom, env_below, env_join, SameShape}
 use Rattle.plc_type.proofs.Ordered.{ordered}
@@ -50,8 +49,8 @@ from_point p k well small = subst (λ (n : ℕ). n < length (program_of p).local
 pub to_point : (p : Program) (k : ℕ) → IsProgram (program_of p) → k < length p.steps.now → (step_at p k).to.0 < length (program_of p).locals
 to_point p k well small = subst (λ (n : ℕ). n < length (program_of p).locals) (step_to p k small) (well.to_in k (subst (λ (n : ℕ). k < n) (sym (steps_length p)) small))
 
-pub step_short : (p : Program) (k : ℕ) → IsProgram (program_of p) → k < length p.steps.now → length (step_at p k).prims.now ≤ most_step_primitives
-step_short p k well small = subst (λ (x : Passage). length x.prims ≤ most_step_primitives) (step_is p k (step_at p k) small (step_read p k small)) (well.short k (subst (λ (n : ℕ). k < n) (sym (steps_length p)) small))
+pub step_short : (p : Program) (k : ℕ) → IsProgram (program_of p) → k < length p.steps.now → length (step_at p k).prims.now < 65536
+step_short p k well small = subst (λ (x : Passage). length x.prims < 65536) (step_is p k (step_at p k) small (step_read p k small)) (well.short k (subst (λ (n : ℕ). k < n) (sym (steps_length p)) small))
 
 -- what the lemmas on climbing need of a program
 pub program_laws : (o : Observer) (s : Skeleton) → IsProgram s → Laws (graph_of o s)

@@ -4,7 +4,6 @@ use Rattle.plc_base.specs.Limits.{most}
 use Rattle.plc_base.specs.declared.limits.What1.TheVariants as limits
 use Rattle.plc_base.specs.declared.ids.PointId.{PointId}
 use Rattle.plc_lang.specs.Skeleton.{Skeleton, Passage, locals_at}
-use Rattle.plc_flow.specs.WellFormed.{most_step_primitives}
 use Rattle.plc_infer.specs.declared.program.Edge.{Edge}
 use Rattle.plc_infer.specs.declared.program.Program.{Program}
 
@@ -33,11 +32,11 @@ some_passage = record { from = 0; to = 0; prims = [] }
 abbrev pub passage_at : Skeleton → ℕ → Passage
 passage_at s k = get_or s.passages k some_passage
 
--- both ends of a step are points with as many pointer locals, operations begin at points, and there is no more of anything than a flow may have
+-- both ends of a step are points with as many pointer locals, operations begin at points, and points, steps and primitives can be numbered
 pub record IsProgram (s : Skeleton) : Type 0 where
   pub few : length s.locals ≤ most limits.Points
   pub few_steps : length s.passages < 65536
-  pub short : (k : ℕ) → k < length s.passages → length (passage_at s k).prims ≤ most_step_primitives
+  pub short : (k : ℕ) → k < length s.passages → length (passage_at s k).prims < 65536
   pub from_in : (k : ℕ) → k < length s.passages → (passage_at s k).from < length s.locals
   pub to_in : (k : ℕ) → k < length s.passages → (passage_at s k).to < length s.locals
   pub same_locals : (k : ℕ) → k < length s.passages → locals_at s (passage_at s k).to ≡ locals_at s (passage_at s k).from

@@ -52,10 +52,12 @@ fn relax_all(
     list: &mut WorkList,
 ) -> Result<(), NoMemory>
     requires program { IsProgram (program_of program.now) }
-    requires under_way { UnderWay (graph_of observer.now (program_of program.now))
-        (starts_of observer.now (program_of program.now)) envs.old.items list.old.queue.items list.old.marks.items steps.now }
-    ensures under_way { IfOk result (λ _. UnderWay (graph_of observer.now (program_of program.now))
-        (starts_of observer.now (program_of program.now)) envs.new.items list.new.queue.items list.new.marks.items []) }
+    requires under_way { let s = program_of program.now
+        in UnderWay (graph_of observer.now s) (starts_of observer.now s) envs.old.items
+        list.old.queue.items list.old.marks.items steps.now }
+    ensures under_way { let s = program_of program.now
+        in IfOk result (λ _. UnderWay (graph_of observer.now s) (starts_of observer.now s) envs.new.items
+        list.new.queue.items list.new.marks.items []) }
     ensures gains { IfOk result (λ _. Gains (graph_of observer.now (program_of program.now))
         envs.old.items envs.new.items list.old.queue.items list.new.queue.items) }
 {
@@ -78,8 +80,9 @@ fn relax_listed(
     requires known { k < length program.now.steps.now }
     requires shaped { Shaped (graph_of observer.now (program_of program.now)) envs.old.items }
     requires marks { length list.old.marks.items ≡ length program.now.locals.now }
-    ensures { IfOk result (λ _. Looked (graph_of observer.now (program_of program.now)) k
-        envs.old.items envs.new.items list.old.queue.items list.new.queue.items list.old.marks.items list.new.marks.items) }
+    ensures { let graph = graph_of observer.now (program_of program.now)
+        in IfOk result (λ _. Looked graph k envs.old.items envs.new.items
+        list.old.queue.items list.new.queue.items list.old.marks.items list.new.marks.items) }
 {
     if !relax(alloc, program, observer, k, envs)? {
         return Ok(());

@@ -1,9 +1,8 @@
 // For each point the steps that leave it, found once, so that no step but those of a point is looked at
 // when the point is taken from the work list.
-ghost use Rattle.std.specs.Prelude.{◌≡◌, [], IfOk, replicate};
+ghost use Rattle.std.specs.Prelude.{◌≡◌, [], IfOk, length, replicate};
 ghost use Rattle.plc_infer.specs.Programs.{IsProgram, program_of};
 ghost use Rattle.plc_infer.specs.WorkLists.{LeavingBelow};
-ghost use Rattle.std.specs.Prelude.{length};
 
 use crate::program::Program;
 use plc_base::{Items, NoMemory};
