@@ -4,4 +4,4 @@ mod Taking
 mod OneEnd
 mod Coming
 mod Speaking
-mod Forbidding
+pub mod Forbidding
