@@ -1,12 +1,11 @@
 -- After an allowed history a free is judged by its own address alone, for all threads.
-use Rattle.std.proofs.Common.{length, get_or, drop, ◌≡◌, ℕ, zero, suc, ◌+◌, ◌<◌, Bool, true, false, List, [], ◌∷◌, ◌++◌, Option, Some, None, is_some, refl, sym, ◌∙◌, subst, arith, inl, inr}
+use Rattle.std.proofs.Common.{◌≡◌, ℕ, zero, suc, ◌+◌, ◌<◌, Bool, true, false, List, [], ◌∷◌, ◌++◌, Option, Some, None, is_some, refl, sym, ◌∙◌, subst, arith, inl, inr}
 use Rattle.std.proofs.lemmas.Bool.{and_parts, and_from, cases_eq, cases_Bool}
 use Rattle.plc_lang.specs.declared.syntax.Primitive.{Primitive}
 use Rattle.plc_auto.specs.declared.event.Event.{Event}
 use Rattle.plc_auto.specs.declared.event.Event.TheVariants.{Free as Freed}
 use Rattle.plc_auto.specs.declared.observer.Observer.{Observer}
-use Rattle.std.proofs.lemmas.List.{at_drop_more}
-use Rattle.plc_auto.specs.Location.{location, location_from, step_by, advance, Allowed}
+use Rattle.plc_auto.specs.Location.{location, advance, Allowed}
 use Rattle.plc_auto.proofs.Histories.{location_longer, allowed_empty, allowed_free, allowed_last}
 use Rattle.plc_flow.specs.declared.flow.Flow.{Flow}
 use Rattle.plc_flow.specs.declared.flow.Move.{Move}
@@ -28,26 +27,26 @@ some_if : {A : Type 0} (q : Option A) → (q ≡ None → ⊥) → is_some q ≡
 some_if None f = absurd (f refl)
 some_if (Some x) f = refl
 
-free_at : (o : Observer) (h : List Event) (a n t : ℕ) → may_free o h a n ≡ true → t < n → advance o t a (Freed a) (location o h t a) ≡ None → ⊥
-free_at o h a zero t may l bad = absurd (omega arith)
-free_at o h a (suc n) t may l bad =
-    let parts = and_parts (may_free o h a n) (is_some (advance o n a (Freed a) (location o h n a))) may in
+free_at : (o : Observer) (at : ℕ → Option ℕ) (a n t : ℕ) → may_free o at a n ≡ true → t < n → advance o t a (Freed a) (at t) ≡ None → ⊥
+free_at o at a zero t may l bad = absurd (omega arith)
+free_at o at a (suc n) t may l bad =
+    let parts = and_parts (may_free o at a n) (is_some (advance o n a (Freed a) (at n))) may in
     elim (cases_eq t n) [
-      | inl e ↦ is_some_of (advance o n a (Freed a) (location o h n a)) parts.1 (subst (λ u. advance o u a (Freed a) (location o h u a) ≡ None) e bad)
-      | inr ne ↦ free_at o h a n t parts.0 (omega arith) bad
+      | inl e ↦ is_some_of (advance o n a (Freed a) (at n)) parts.1 (subst (λ u. advance o u a (Freed a) (at u) ≡ None) e bad)
+      | inr ne ↦ free_at o at a n t parts.0 (omega arith) bad
     ]
 
-free_from : (o : Observer) (h : List Event) (a n : ℕ) → ((t : ℕ) → t < n → advance o t a (Freed a) (location o h t a) ≡ None → ⊥) → may_free o h a n ≡ true
-free_from o h a zero f = refl
-free_from o h a (suc n) f =
-    and_from (may_free o h a n) (is_some (advance o n a (Freed a) (location o h n a))) (free_from o h a n (λ t l. f t (omega arith))) (some_if _ (f n (omega arith)))
+free_from : (o : Observer) (at : ℕ → Option ℕ) (a n : ℕ) → ((t : ℕ) → t < n → advance o t a (Freed a) (at t) ≡ None → ⊥) → may_free o at a n ≡ true
+free_from o at a zero f = refl
+free_from o at a (suc n) f =
+    and_from (may_free o at a n) (is_some (advance o n a (Freed a) (at n))) (free_from o at a n (λ t l. f t (omega arith))) (some_if _ (f n (omega arith)))
 
-pub judged_allowed : (o : Observer) (threads : ℕ) (h : List Event) (a : ℕ) → Allowed o threads h → may_free o h a threads ≡ true → Allowed o threads (h ++ Freed a ∷ [])
-judged_allowed o threads h a fine may = allowed_free o threads h a fine (λ t small bad. free_at o h a threads t may small (sym (location_longer o h (Freed a) t a) ∙ bad))
+pub judged_allowed : (o : Observer) (threads : ℕ) (h : List Event) (a : ℕ) → Allowed o threads h → may_free o (λ t. location o h t a) a threads ≡ true → Allowed o threads (h ++ Freed a ∷ [])
+judged_allowed o threads h a fine may = allowed_free o threads h a fine (λ t small bad. free_at o (λ t. location o h t a) a threads t may small (sym (location_longer o h (Freed a) t a) ∙ bad))
 
-pub judged_forbidden : (o : Observer) (threads : ℕ) (h : List Event) (a : ℕ) → 0 < a → may_free o h a threads ≡ false → Allowed o threads (h ++ Freed a ∷ []) → ⊥
+pub judged_forbidden : (o : Observer) (threads : ℕ) (h : List Event) (a : ℕ) → 0 < a → may_free o (λ t. location o h t a) a threads ≡ false → Allowed o threads (h ++ Freed a ∷ []) → ⊥
 judged_forbidden o threads h a pos may fine =
-    let contrary : may_free o h a threads ≡ true = free_from o h a threads (λ t small bad. allowed_last o threads (h ++ Freed a ∷ []) t a fine small pos (location_longer o h (Freed a) t a ∙ bad)) in
+    let contrary : may_free o (λ t. location o h t a) a threads ≡ true = free_from o (λ t. location o h t a) a threads (λ t small bad. allowed_last o threads (h ++ Freed a ∷ []) t a fine small pos (location_longer o h (Freed a) t a ∙ bad)) in
     cc
 
 -- ---- every history of a run is allowed
@@ -93,12 +92,8 @@ none_if_not None e = refl
 none_if_not (Some x) e = cc
 
 -- one thread that doesn't bear the free is enough
-pub not_free : (o : Observer) (h : List Event) (a n t : ℕ) → t < n → is_some (advance o t a (Freed a) (location o h t a)) ≡ false → may_free o h a n ≡ false
-not_free o h a n t small none = elim (cases_Bool (may_free o h a n)) [
-  | inl may ↦ absurd (free_at o h a n t may small (none_if_not (advance o t a (Freed a) (location o h t a)) none))
+pub not_free : (o : Observer) (at : ℕ → Option ℕ) (a n t : ℕ) → t < n → is_some (advance o t a (Freed a) (at t)) ≡ false → may_free o at a n ≡ false
+not_free o at a n t small none = elim (cases_Bool (may_free o at a n)) [
+  | inl may ↦ absurd (free_at o at a n t may small (none_if_not (advance o t a (Freed a) (at t)) none))
   | inr kept ↦ kept
 ]
-
--- one event more from a location on the way
-pub location_next : (o : Observer) (t a l i : ℕ) (h : List Event) (d : Event) → i < length h → location_from o t a (Some l) (drop i h) ≡ location_from o t a (step_by o t a (get_or h i d) l) (drop (i + 1) h)
-location_next o t a l i h d small = at_drop_more (location_from o t a (Some l)) h i d small

@@ -9,7 +9,7 @@ use Rattle.plc_base.specs.Tables.{put_at}
 use Rattle.plc_lang.specs.declared.syntax.Op.{Op}
 use Rattle.plc_auto.specs.declared.event.Event.TheVariants.{Free as Freed}
 use Rattle.plc_auto.specs.declared.observer.Observer.{Observer}
-use Rattle.plc_auto.specs.Location.{Allowed}
+use Rattle.plc_auto.specs.Location.{location, Allowed}
 use Rattle.plc_base.specs.declared.ids.OpId.{OpId}
 use Rattle.plc_flow.specs.declared.flow.Step.{Step}
 use Rattle.plc_flow.specs.declared.flow.Gate.{Gate}
@@ -145,13 +145,13 @@ positive a e = grind (arith, nat_tests)
 free_leads : (flow : Flow) (o : Observer) (c : Configuration) (a : ℕ) → Allowed o (length c.points) c.history → LeadsTo flow o (length c.points) c (Free a) (free_of o c a)
 free_leads flow o c a fine = go (a == 0) refl
   where
-    judged : (b : Bool) → may_free o c.history a (length c.points) ≡ b → 0 < a → LeadsTo flow o (length c.points) c (Free a) (cond b (Goes (record c { state = freed c.state a; history = c.history ++ Freed a ∷ [] })) Forbids)
+    judged : (b : Bool) → may_free o (λ t. location o c.history t a) a (length c.points) ≡ b → 0 < a → LeadsTo flow o (length c.points) c (Free a) (cond b (Goes (record c { state = freed c.state a; history = c.history ++ Freed a ∷ [] })) Forbids)
     judged true e pos = (pos, judged_allowed o (length c.points) c.history a fine e, refl)
     judged false e pos = (pos, judged_forbidden o (length c.points) c.history a pos e)
 
-    go : (b : Bool) → (a == 0) ≡ b → LeadsTo flow o (length c.points) c (Free a) (cond b Blocks (cond (may_free o c.history a (length c.points)) (Goes (record c { state = freed c.state a; history = c.history ++ Freed a ∷ [] })) Forbids))
+    go : (b : Bool) → (a == 0) ≡ b → LeadsTo flow o (length c.points) c (Free a) (cond b Blocks (cond (may_free o (λ t. location o c.history t a) a (length c.points)) (Goes (record c { state = freed c.state a; history = c.history ++ Freed a ∷ [] })) Forbids))
     go true e = let zero : a ≡ 0 = eqb-true a 0 e in record { no_move = λ d m. absurd (omega (arith, m.0)); no_race = λ kind k r. r; not_forbidden = λ r. absurd (omega (arith, r.0)) }
-    go false e = judged (may_free o c.history a (length c.points)) refl (positive a e)
+    go false e = judged (may_free o (λ t. location o c.history t a) a (length c.points)) refl (positive a e)
 
 pub reach_leads : (flow : Flow) (o : Observer) (c : Configuration) (move : Move) → Allowed o (length c.points) c.history → LeadsTo flow o (length c.points) c move (reach flow o c move)
 unfolding reach

@@ -28,7 +28,7 @@ use Rattle.plc_run.specs.Run.{Ending, Fine, Stuck, Raced, turn, recorded, execut
 use Rattle.plc_flow.specs.Points.{steps_from, names_rightly}
 use Rattle.plc_run.specs.Reach.{Reached, Goes, Blocks, Forbids, Breaks, is_idle, start_op, start_from, return_to, return_from, ended_as, take_step, step_from, free_of, reach}
 use Rattle.plc_run.specs.declared.moved.Moved.{Moved}
-use Rattle.plc_run.specs.Position.{Position, threads_of, IsOfRun, Answers, answer, reached}
+use Rattle.plc_run.specs.Position.{Position, threads_of, Follows, IsOfRun, Answers, answer, Reaches}
 use Rattle.plc_run.proofs.Reaching.{LeadsTo, reach_leads}
 use Rattle.plc_run.proofs.Judged.{run_allowed}
 
@@ -102,29 +102,29 @@ move_threads flow o c d (Take t nth addr) m = ap (λ (x : Configuration). length
 move_threads flow o c d (Return t) m = ap (λ (x : Configuration). length x.points) m.6 ∙ length_put None c.points t _ m.2
 move_threads flow o c d (Free a) m = ap (λ (x : Configuration). length x.points) m.2
 
-pub of_run_more : (flow : Flow) (o : Observer) (p : Position) (d : Configuration) (move : Move) → IsOfRun flow o p → Moves flow o (length p.here.points) p.here move d → IsOfRun flow o (record p { here = d })
-of_run_more flow o p d move run m = (suc run.0, subst (λ n. Run flow o n (suc run.0) d) (sym (move_threads flow o p.here d move m)) (more run.1 move m))
+run_more : (flow : Flow) (o : Observer) (c d : Configuration) (move : Move) (n : ℕ) → Run flow o (length c.points) n c → Moves flow o (length c.points) c move d → Run flow o (length d.points) (suc n) d
+run_more flow o c d move n run m = subst (λ k. Run flow o k (suc n) d) (sym (move_threads flow o c d move m)) (more run move m)
 
 -- what each result of a move says of the answer
-answers_so : (flow : Flow) (o : Observer) (p : Position) (move : Move) (r : Reached) → p.ended ≡ false → LeadsTo flow o (threads_of p) p.here move r → Answers flow o p move (answer r) (reached r p)
-answers_so flow o p move (Goes d) live leads = (live, live, leads)
-answers_so flow o p move Blocks live leads = (λ e. leads, refl)
-answers_so flow o p move Forbids live leads = (live, leads, refl)
-answers_so flow o p move (Breaks kind k) live leads = (live, leads, refl)
+answers_so : (flow : Flow) (o : Observer) (p q : Position) (move : Move) (r : Reached) → p.ended ≡ false → LeadsTo flow o (threads_of p) p.here move r → Reaches r p q → Answers flow o p move (answer r) q
+answers_so flow o p q move (Goes d) live leads to = (live, to.1 ∙ live, subst (Moves flow o (threads_of p) p.here move) (sym to.0) leads)
+answers_so flow o p q move Blocks live leads to = (λ e. leads, to)
+answers_so flow o p q move Forbids live leads to = (live, leads, to)
+answers_so flow o p q move (Breaks kind k) live leads to = (live, leads, to)
 
-run_so : (flow : Flow) (o : Observer) (p : Position) (move : Move) (r : Reached) → IsOfRun flow o p → LeadsTo flow o (threads_of p) p.here move r → IsOfRun flow o (reached r p)
-run_so flow o p move (Goes d) run leads = of_run_more flow o p d move run leads
-run_so flow o p move Blocks run leads = run
-run_so flow o p move Forbids run leads = run
-run_so flow o p move (Breaks kind k) run leads = run
+run_so : (flow : Flow) (o : Observer) (p q : Position) (move : Move) (r : Reached) → IsOfRun flow o p → LeadsTo flow o (threads_of p) p.here move r → Reaches r p q → Follows o q → IsOfRun flow o q
+run_so flow o p q move (Goes d) run leads to follows = (suc run.0, subst (λ (c : Configuration). Run flow o (length c.points) (suc run.0) c) (sym to.0) (run_more flow o p.here d move run.0 run.1 leads), follows)
+run_so flow o p q move Blocks run leads to follows = subst (IsOfRun flow o) (sym to) run
+run_so flow o p q move Forbids run leads to follows = subst (IsOfRun flow o) (sym to) run
+run_so flow o p q move (Breaks kind k) run leads to follows = subst (IsOfRun flow o) (sym to) run
 
-pub answered : (flow : Flow) (o : Observer) (p q : Position) (move : Move) (r : Moved) → p.ended ≡ false → IsOfRun flow o p → r ≡ answer (reach flow o p.here move) → q ≡ reached (reach flow o p.here move) p → Answers flow o p move r q
-answered flow o p q move r live run e f =
-    rw (e, f) (answers_so flow o p move (reach flow o p.here move) live (reach_leads flow o p.here move (run_allowed flow o (threads_of p) run.0 p.here run.1)))
+pub answered : (flow : Flow) (o : Observer) (p q : Position) (move : Move) (r : Moved) → p.ended ≡ false → IsOfRun flow o p → r ≡ answer (reach flow o p.here move) → Reaches (reach flow o p.here move) p q → Answers flow o p move r q
+answered flow o p q move r live run e to =
+    rw e (answers_so flow o p q move (reach flow o p.here move) live (reach_leads flow o p.here move (run_allowed flow o (threads_of p) run.0 p.here run.1)) to)
 
-pub run_answered : (flow : Flow) (o : Observer) (p q : Position) (move : Move) → IsOfRun flow o p → q ≡ reached (reach flow o p.here move) p → IsOfRun flow o q
-run_answered flow o p q move run f =
-    rw f (run_so flow o p move (reach flow o p.here move) run (reach_leads flow o p.here move (run_allowed flow o (threads_of p) run.0 p.here run.1)))
+pub run_answered : (flow : Flow) (o : Observer) (p q : Position) (move : Move) → IsOfRun flow o p → Reaches (reach flow o p.here move) p q → Follows o q → IsOfRun flow o q
+run_answered flow o p q move run to follows =
+    run_so flow o p q move (reach flow o p.here move) run (reach_leads flow o p.here move (run_allowed flow o (threads_of p) run.0 p.here run.1)) to follows
 
 -- ---- starts and returns in code
 
@@ -133,10 +133,10 @@ begun_threads threads (Fine s h) c e = (let same : replicate threads None ≡ c.
 begun_threads threads Stuck c e = cc
 begun_threads threads (Raced kind k) c e = cc
 
-pub begun_run : (flow : Flow) (o : Observer) (threads : ℕ) (p : Position) → first_configuration flow threads ≡ Some p.here → IsOfRun flow o p × (threads_of p ≡ threads)
-begun_run flow o threads p e =
+pub begun_run : (flow : Flow) (o : Observer) (threads : ℕ) (p : Position) → first_configuration flow threads ≡ Some p.here → Follows o p → IsOfRun flow o p × (threads_of p ≡ threads)
+begun_run flow o threads p e follows =
     let many = begun_threads threads (initialised flow threads) p.here e in
-    ((0, subst (λ n. Run flow o n 0 p.here) (sym many) (begin e)), many)
+    ((0, subst (λ n. Run flow o n 0 p.here) (sym many) (begin e), follows), many)
 
 pub returned : (flow : Flow) (c : Configuration) (t : ℕ) (p : Point) (g : Gate) (s : State) (ps : List (Option Point)) → ConfigurationFits flow (length c.points) c → point_of c t ≡ Some p → slice_get flow.gates p.op ≡ Some g → p.at ≡ g.exit.0
     → s ≡ record c.state { locals = set c.state.locals t None } → ps ≡ set c.points t None → return_from flow c t (point_of c t) ≡ Goes (record c { state = s; points = ps })
@@ -180,10 +180,10 @@ reach_free flow o c a = refl
 
 -- ---- the answer of a move, or running out of memory
 
-pub step_answers : (flow : Flow) (o : Observer) (p q : Position) (move : Move) (r : Result Moved NoMemory) → p.ended ≡ false → IsOfRun flow o p → IfOk r (λ m. m ≡ answer (reach flow o p.here move)) → OnOk r (q ≡ reached (reach flow o p.here move) p) → IfOk r (λ m. Answers flow o p move m q)
-step_answers flow o p q move (Ok m) live run e f = answered flow o p q move m live run e f
-step_answers flow o p q move (Err x) live run e f = tt
+pub step_answers : (flow : Flow) (o : Observer) (p q : Position) (move : Move) (r : Result Moved NoMemory) → p.ended ≡ false → IsOfRun flow o p → IfOk r (λ m. m ≡ answer (reach flow o p.here move)) → OnOk r (Reaches (reach flow o p.here move) p q) → IfOk r (λ m. Answers flow o p move m q)
+step_answers flow o p q move (Ok m) live run e to = answered flow o p q move m live run e to
+step_answers flow o p q move (Err x) live run e to = tt
 
-pub step_run : (flow : Flow) (o : Observer) (p q : Position) (move : Move) (r : Result Moved NoMemory) → IsOfRun flow o p → OnOk r (q ≡ reached (reach flow o p.here move) p) → OnErr r (q ≡ p) → IsOfRun flow o q
-step_run flow o p q move (Ok m) run f g = run_answered flow o p q move run f
-step_run flow o p q move (Err x) run f g = subst (IsOfRun flow o) (sym g) run
+pub step_run : (flow : Flow) (o : Observer) (p q : Position) (move : Move) (r : Result Moved NoMemory) → IsOfRun flow o p → OnOk r (Reaches (reach flow o p.here move) p q) → Follows o q → OnErr r (q ≡ p) → IsOfRun flow o q
+step_run flow o p q move (Ok m) run to follows g = run_answered flow o p q move run to follows
+step_run flow o p q move (Err x) run to follows g = subst (IsOfRun flow o) (sym g) run

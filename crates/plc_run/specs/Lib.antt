@@ -8,3 +8,4 @@ pub mod Run
 -- words of private functions alone
 pub mod Ended
 pub mod Reach
+pub mod Table

@@ -2,7 +2,7 @@
 use Rattle.std.specs.Prelude.{◌≡◌, ℕ, ◌<◌, Bool, true, false, [], ◌∷◌, ◌++◌, length, Option, Some, None, Result, Ok, Err}
 use Rattle.plc_auto.specs.declared.event.Event.TheVariants.{Free as Freed}
 use Rattle.plc_auto.specs.declared.observer.Observer.{Observer}
-use Rattle.plc_auto.specs.Location.{Allowed}
+use Rattle.plc_auto.specs.Location.{location, Allowed}
 use Rattle.plc_flow.specs.declared.flow.Flow.{Flow}
 use Rattle.plc_flow.specs.declared.flow.Move.{Move}
 use Rattle.plc_flow.specs.declared.flow.Move.TheVariants.{Start, Step as Take, Return, Free}
@@ -10,22 +10,28 @@ use Rattle.plc_mem.specs.declared.cell.RaceKind.{RaceKind}
 use Rattle.plc_run.specs.declared.moved.Moved.{Moved}
 use Rattle.plc_run.specs.declared.moved.Moved.TheVariants as moved
 use Rattle.plc_run.specs.Run.{Configuration, Run, Moves, Races, first_configuration}
+use Rattle.plc_run.specs.Table.{Locations, stands}
 use Rattle.plc_run.specs.Reach.{Reached, Goes, Blocks, Forbids, Breaks}
 use Rattle.plc_flow.specs.declared.flow.StartFault.{StartFault}
 use Rattle.plc_flow.specs.declared.flow.StartFault.TheVariants as faults
 
--- the configuration of a run, and whether a race has ended it
+-- the configuration of a run, whether a race has ended it, and where the observer stands for each thread and each address
 pub record Position : Type 0 where
   pub here : Configuration
   pub ended : Bool
+  pub located : Locations
 
 -- how many threads it has
 abbrev pub threads_of : Position → ℕ
 threads_of p = length p.here.points
 
+-- each thread and each address stands where this observer comes to by the history
+abbrev pub Follows : Observer → Position → Type 0
+Follows o p = (t a : ℕ) → t < threads_of p → stands p.located t a ≡ location o p.here.history t a
+
 -- a run of this flow and observer leads there
 abbrev pub IsOfRun : Flow → Observer → Position → Type 0
-IsOfRun flow o p = (n : ℕ) × Run flow o (threads_of p) n p.here
+IsOfRun flow o p = (n : ℕ) × Run flow o (threads_of p) n p.here × Follows o p
 
 -- an address is freed that the observer keeps
 abbrev pub IsForbidden : Observer → ℕ → Configuration → Move → Type 0
@@ -47,17 +53,23 @@ answer Blocks = moved.Blocked
 answer Forbids = moved.Forbidden
 answer (Breaks kind k) = moved.Race kind k
 
--- the position after it
-abbrev pub reached : Reached → Position → Position
-reached (Goes d) p = record p { here = d }
-reached Blocks p = p
-reached Forbids p = p
-reached (Breaks kind k) p = record p { ended = true }
+-- the position after it; where a move goes on the observer goes on too
+abbrev pub Reaches : Reached → Position → Position → Type 0
+Reaches (Goes d) p q = (q.here ≡ d) × (q.ended ≡ p.ended)
+Reaches Blocks p q = q ≡ p
+Reaches Forbids p q = q ≡ p
+Reaches (Breaks kind k) p q = q ≡ record p { ended = true }
+
+-- a move of which the observer hears nothing
+pub record IsUnheard (p q : Position) : Type 0 where
+  pub threads : threads_of q ≡ threads_of p
+  pub history : q.here.history ≡ p.here.history
+  pub located : q.located ≡ p.located
 
 -- where the runs begin, or nowhere
-abbrev pub Begins : Flow → ℕ → Option Position → Type 0
-Begins flow threads (Some p) = (p.ended ≡ false) × (first_configuration flow threads ≡ Some p.here)
-Begins flow threads None = first_configuration flow threads ≡ None
+abbrev pub Begins : Flow → Observer → ℕ → Option Position → Type 0
+Begins flow o threads (Some p) = (p.ended ≡ false) × (first_configuration flow threads ≡ Some p.here) × Follows o p
+Begins flow o threads None = first_configuration flow threads ≡ None
 
 -- what the answer of a start says
 abbrev pub Starts : Flow → ℕ → Result Position StartFault → Type 0

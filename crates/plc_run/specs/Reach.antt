@@ -65,16 +65,16 @@ abbrev pub return_from : Flow → Configuration → ℕ → Option Point → Rea
 return_from flow c t None = Blocks
 return_from flow c t (Some p) = return_to c t p (slice_get flow.gates p.op)
 
--- for no thread below n does a free of the address lead to `bad`
-abbrev pub may_free : Observer → List Event → ℕ → ℕ → Bool
-may_free o h a zero = true
-may_free o h a (suc n) = may_free o h a n && is_some (advance o n a (Freed a) (location o h n a))
+-- for no thread below n does a free of the address lead to `bad` from where the thread stands for it
+abbrev pub may_free : Observer → (ℕ → Option ℕ) → ℕ → ℕ → Bool
+may_free o at a zero = true
+may_free o at a (suc n) = may_free o at a n && is_some (advance o n a (Freed a) (at n))
 
 -- a free
 abbrev pub free_of : Observer → Configuration → ℕ → Reached
 free_of o c a =
     if a == 0 then Blocks else
-    if may_free o c.history a (length c.points) then Goes (record c { state = freed c.state a; history = c.history ++ Freed a ∷ [] }) else Forbids
+    if may_free o (λ t. location o c.history t a) a (length c.points) then Goes (record c { state = freed c.state a; history = c.history ++ Freed a ∷ [] }) else Forbids
 
 -- each kind of move
 unfoldable pub reach : Flow → Observer → Configuration → Move → Reached

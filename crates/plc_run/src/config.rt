@@ -1,17 +1,17 @@
-// A configuration of a run in code. What a move leads to is computed beside it: nothing of the
-// configuration is touched before the last call that may lack memory, so that a move that is
-// blocked or forbidden, and running out of memory, leave it as it was.
+// A configuration of a run in code, with the table by which frees are judged. A move takes its memory
+// first: nothing that is seen of the configuration is touched before the last call that may lack
+// memory, so that a move that is blocked or forbidden, and running out of memory, leave it as it was.
 ghost use Rattle.std.specs.Prelude.{◌≡◌, ℕ, ◌<◌, length, get_or, set, replicate, IfOk, OnOk, OnErr, None};
 ghost use Rattle.plc_flow.specs.WellFormed.{FlowFits};
 ghost use Rattle.plc_run.specs.Run.{point_of, taken};
 ghost use Rattle.plc_run.specs.Ended.{IsReady};
 ghost use Rattle.plc_run.specs.Fit.{ConfigurationFits};
 ghost use Rattle.plc_run.specs.Reach.{is_idle, start_from, step_from, ended_as, return_from, free_of, reach};
-ghost use Rattle.plc_run.specs.Position.{threads_of, IsOfRun, Answers, Starts, Begins, answer, reached};
+ghost use Rattle.plc_run.specs.Position.{threads_of, Follows, IsOfRun, IsUnheard, Answers, Starts, Begins, answer, Reaches};
 
 use crate::execute::{Ended, execute, try_step};
-use crate::judge::may_free;
 use crate::moved::Moved;
+use crate::table::Table;
 use plc_auto::{Event, Observer};
 use plc_base::{NoMemory, OpId};
 use plc_flow::{Flow, Move, Point, StartFault, Step, names_rightly, nth_step};
@@ -20,12 +20,14 @@ use plc_mem::{Locals, Memory};
 use std::alloc::Global;
 use std::marker::Model;
 
-/// The configuration of a run: memory, history, and where each thread stands.
+/// The configuration of a run: memory, history, where the observer stands for each thread and each
+/// address, and where each thread stands.
 #[derive(Drop)]
 pub struct Config {
     alloc: Global,
     memory: Memory,
     history: Vec<Event>,
+    table: Table,
     points: Vec<Option<Point>>,
     ended: bool,
 }
@@ -36,7 +38,7 @@ impl Model for Config {
 
     ghost Value = { Position };
 
-    ghost view = { λ c. record { here = record { state = c.memory; history = c.history.items; points = c.points.items }; ended = c.ended } };
+    ghost view = { λ c. record { here = record { state = c.memory; history = c.history.items; points = c.points.items }; ended = c.ended; located = c.table.locations } };
 
     ghost invariant = { λ c. (0 < length c.points.items) × (length c.points.items < 2 ^ 32) };
 }
@@ -91,7 +93,7 @@ impl Config {
         ensures starts { Starts flow.now threads result }
         ensures of_run { IfOk result (λ c. IsOfRun flow.now observer.now c × (threads_of c ≡ threads)) }
     {
-        match Config::began(alloc, flow, threads) {
+        match Config::began(alloc, flow, observer, threads) {
             Ok(Some(c)) => Ok(c),
             Ok(None) => Err(StartFault::NoStart),
             Err(_) => Err(StartFault::Memory),
@@ -99,10 +101,15 @@ impl Config {
     }
 
     // What `init` leaves, or nothing where it is blocked.
-    fn began(alloc: Global, flow: &Flow, threads: u32) -> Result<Option<Config>, NoMemory>
+    fn began(
+        alloc: Global,
+        flow: &Flow,
+        observer: &Observer,
+        threads: u32,
+    ) -> Result<Option<Config>, NoMemory>
         requires fits { FlowFits flow.now }
         requires some { 0 < threads }
-        ensures { IfOk result (λ c. Begins flow.now threads c) }
+        ensures { IfOk result (λ c. Begins flow.now observer.now threads c) }
     {
         let mut memory = Memory::new(alloc, flow, threads)?;
         let mut me = Locals::none(alloc)?;
@@ -112,6 +119,7 @@ impl Config {
             Ended::Fine => Ok(Some(Config {
                 alloc,
                 memory,
+                table: Table::after(alloc, observer, threads, &history)?,
                 history,
                 points: idle_points(alloc, threads)?,
                 ended: false,
@@ -135,9 +143,9 @@ impl Config {
         &self.memory
     }
 
-    /// One move, with the flow and the observer of the start. After `Blocked`, `Forbidden` and want of
-    /// memory the configuration is as it was. After a race it is ended, with its history as before
-    /// the step, and every further move is `Blocked`.
+    /// One move, with the flow and the observer of the start. After `Blocked` and `Forbidden`, and where
+    /// memory runs out, the configuration is as it was. After a race it is ended, with its history as
+    /// before the step, and every further move is `Blocked`.
     pub fn step(&mut self, flow: &Flow, observer: &Observer, m: &Move) -> Result<Moved, NoMemory>
         requires fits { FlowFits flow.now }
         requires of_run { IsOfRun flow.now observer.now self.old }
@@ -155,13 +163,15 @@ impl Config {
     fn advance(&mut self, flow: &Flow, observer: &Observer, m: &Move) -> Result<Moved, NoMemory>
         requires flow { FlowFits flow.now }
         requires fits { ConfigurationFits flow.now (threads_of self.old) self.old.here }
+        requires follows { Follows observer.now self.old }
         ensures answer { IfOk result (λ r. r ≡ answer (reach flow.now observer.now self.old.here m.now)) }
-        ensures after { OnOk result (self.new ≡ reached (reach flow.now observer.now self.old.here m.now) self.old) }
+        ensures after { OnOk result (Reaches (reach flow.now observer.now self.old.here m.now) self.old self.new) }
+        ensures follows { Follows observer.now self.new }
         ensures err { OnErr result (self.new ≡ self.old) }
     {
         match m {
             Move::Start { t, op, args } => self.start_move(flow, *t, *op, args.as_slice()),
-            Move::Step { t, nth, addr } => self.step_move(flow, *t, *nth, *addr),
+            Move::Step { t, nth, addr } => self.step_move(flow, observer, *t, *nth, *addr),
             Move::Return { t } => Ok(self.return_move(flow, *t)),
             Move::Free { a } => self.free_move(observer, *a),
         }
@@ -171,7 +181,8 @@ impl Config {
     fn start_move(&mut self, flow: &Flow, t: u32, op: OpId, args: &[u32]) -> Result<Moved, NoMemory>
         requires { ConfigurationFits flow.now (threads_of self.old) self.old.here }
         ensures answer { IfOk result (λ r. r ≡ answer (start_from flow.now self.old.here t op.0 args.now)) }
-        ensures after { OnOk result (self.new ≡ reached (start_from flow.now self.old.here t op.0 args.now) self.old) }
+        ensures after { OnOk result (Reaches (start_from flow.now self.old.here t op.0 args.now) self.old self.new) }
+        ensures unheard { IsUnheard self.old self.new }
         ensures err { OnErr result (self.new ≡ self.old) }
     {
         if !is_idle(&self.points, t) {
@@ -200,16 +211,19 @@ impl Config {
     fn step_move(
         &mut self,
         flow: &Flow,
+        observer: &Observer,
         t: u32,
         nth: u16,
         addr: Option<u32>,
     ) -> Result<Moved, NoMemory>
         requires flow { FlowFits flow.now }
         requires fits { ConfigurationFits flow.now (threads_of self.old) self.old.here }
+        requires follows { Follows observer.now self.old }
         ensures answer { let to = step_from flow.now self.old.here t nth addr (point_of self.old.here t)
             in IfOk result (λ r. r ≡ answer to) }
         ensures after { let to = step_from flow.now self.old.here t nth addr (point_of self.old.here t)
-            in OnOk result (self.new ≡ reached to self.old) }
+            in OnOk result (Reaches to self.old self.new) }
+        ensures follows { Follows observer.now self.new }
         ensures err { OnErr result (self.new ≡ self.old) }
     {
         let Some(point) = point_at(&self.points, t) else {
@@ -221,22 +235,25 @@ impl Config {
         if !names_rightly(step, addr) {
             return Ok(Moved::Blocked);
         }
-        self.take(step, point, t, addr)
+        self.take(observer, step, point, t, addr)
     }
 
     // A step is taken on a copy of the memory, which then takes the place of the memory.
     fn take(
         &mut self,
+        observer: &Observer,
         step: &Step,
         point: Point,
         t: u32,
         addr: Option<u32>,
     ) -> Result<Moved, NoMemory>
-        requires { IsReady self.old.here t point step.now }
+        requires ready { IsReady self.old.here t point step.now }
+        requires follows { Follows observer.now self.old }
         ensures answer { let to = ended_as self.old.here t point step.now.to.0 (taken self.old.here t addr step.now)
             in IfOk result (λ r. r ≡ answer to) }
         ensures after { let to = ended_as self.old.here t point step.now.to.0 (taken self.old.here t addr step.now)
-            in OnOk result (self.new ≡ reached to self.old) }
+            in OnOk result (Reaches to self.old self.new) }
+        ensures follows { Follows observer.now self.new }
         ensures err { OnErr result (self.new ≡ self.old) }
     {
         let tried = try_step(self.alloc, &self.memory, step, t, addr)?;
@@ -247,7 +264,9 @@ impl Config {
                 Ok(Moved::Race { kind, prim })
             }
             Ended::Fine => {
+                self.table.admit(&tried.events)?;
                 self.history.extend_from_slice(&tried.events)?;
+                self.table.hear(observer, &tried.events);
                 self.memory = tried.memory;
                 let to = Point {
                     op: point.op,
@@ -263,7 +282,8 @@ impl Config {
     fn return_move(&mut self, flow: &Flow, t: u32) -> Moved
         requires { ConfigurationFits flow.now (threads_of self.old) self.old.here }
         ensures answer { result ≡ answer (return_from flow.now self.old.here t (point_of self.old.here t)) }
-        ensures after { self.new ≡ reached (return_from flow.now self.old.here t (point_of self.old.here t)) self.old }
+        ensures after { Reaches (return_from flow.now self.old.here t (point_of self.old.here t)) self.old self.new }
+        ensures unheard { IsUnheard self.old self.new }
     {
         let Some(point) = point_at(&self.points, t) else {
             return Moved::Blocked;
@@ -279,20 +299,25 @@ impl Config {
         Moved::Done
     }
 
-    // A free, judged for each thread.
+    // A free, judged by the table for each thread.
     fn free_move(&mut self, observer: &Observer, a: u32) -> Result<Moved, NoMemory>
+        requires follows { Follows observer.now self.old }
         ensures answer { IfOk result (λ r. r ≡ answer (free_of observer.now self.old.here a)) }
-        ensures after { OnOk result (self.new ≡ reached (free_of observer.now self.old.here a) self.old) }
+        ensures after { OnOk result (Reaches (free_of observer.now self.old.here a) self.old self.new) }
+        ensures follows { Follows observer.now self.new }
         ensures err { OnErr result (self.new ≡ self.old) }
     {
         if a == 0 {
             return Ok(Moved::Blocked);
         }
         let threads = self.points.len() as u32;
-        if !may_free(observer, &self.history, threads, a) {
+        if !self.table.may_free(observer, threads, a) {
             return Ok(Moved::Forbidden);
         }
-        self.history.push(Event::Free { a })?;
+        let events = [Event::Free { a }];
+        self.table.admit(&events)?;
+        self.history.extend_from_slice(&events)?;
+        self.table.hear(observer, &events);
         self.memory.free(a);
         Ok(Moved::Done)
     }

@@ -1,4 +1,7 @@
-use Rattle.std.proofs.Common.{◌≡◌, refl, ap, ◌∙◌, Some, None, [], replicate}
+use Rattle.std.proofs.Common.{◌≡◌, refl, ap, ◌∙◌, Option, Some, None, [], length, replicate, arith}
+use Rattle.std.proofs.lemmas.List.{length-replicate}
+use Rattle.plc_auto.specs.Location.{location}
+use Rattle.plc_flow.specs.declared.points.Point.{Point}
 use Rattle.plc_mem.specs.State.{State, Locals, with_locals, first_state, no_locals}
 use Rattle.plc_run.specs.Run.{Fine, execute}
 use Rattle.plc_run.proofs.Stepping.{begun_with}
@@ -17,4 +20,4 @@ returns-in_ok-idle_points-in-Fine c =
     ∙ ap (λ (l : Locals). execute (with_locals (first_state flow threads) 0 (Some l)) c.new-history.result.items 0 1 0 c.as_slice-init.result.now) c.in_ok-me.ensures
     ∙ ap (λ h. execute (with_locals (first_state flow threads) 0 (Some no_locals)) h 0 1 0 c.as_slice-init.result.now) c.new-history.ensures.items
     ∙ ap (execute (with_locals (first_state flow threads) 0 (Some no_locals)) [] 0 1 0) c.as_slice-init.ensures in
-    (refl, begun_with flow threads m c.execute.new.me c.execute.new.events.items c.in_ok-idle_points-in-Fine.field-0.items c.requires.some idle c.in_ok-idle_points-in-Fine.ensures same)
+    (refl, begun_with flow threads m c.execute.new.me c.execute.new.events.items c.in_ok-idle_points-in-Fine.field-0.items c.requires.some idle c.in_ok-idle_points-in-Fine.ensures same, λ t a small. c.in_ok-after-in-Fine.ensures t a (omega (arith, small, ap length c.in_ok-idle_points-in-Fine.ensures, length-replicate {A = Option Point} threads None)) ∙ ap (λ h. location c.args.observer.now h t a) c.deref.ensures.value)

@@ -1,8 +1,8 @@
-use Rattle.std.proofs.Common.{Some, sym, ap, ◌∙◌}
+use Rattle.std.proofs.Common.{Some, refl, sym, ap, ◌∙◌, subst}
 use Rattle.std.specs.Option.{option_copied}
 use Rattle.plc_mem.specs.State.{with_locals}
-use Rattle.plc_run.specs.Position.{reached}
-use Rattle.plc_run.specs.Reach.{is_idle}
+use Rattle.plc_run.specs.Position.{Reaches}
+use Rattle.plc_run.specs.Reach.{Reached, is_idle}
 use Rattle.plc_run.specs.contracts.config.Config.{the_view}
 use Rattle.plc_run.proofs.Stepping.{started_so}
 use Rattle.plc_run.proofs.config.Config.start_move.Goals as goal
@@ -16,4 +16,4 @@ returns-clause-after c =
     let counted = c.if-args-count_parameters.false ∙ c.count_parameters.ensures in
     let given = c.put.ensures.given ∙ ap (λ l. with_locals c.self.inside.memory c.args.t (Some l)) c.in_ok-l.ensures in
     let to = started_so c.args.flow.now v.here c.args.t c.args.op.0 c.args.args.now c.in-Some.operation.now c.in-Some-get.gate.now c.put.new.self c.set_point.new.points.items idle named opens counted given c.set_point.ensures in
-    rw (← c.self.view_is) (sym (ap (λ r. reached r v) to))
+    rw (← c.self.view_is) (subst (λ (r : Reached). Reaches r v (record { here = record { state = c.put.new.self; history = v.here.history; points = c.set_point.new.points.items }; ended = v.ended; located = v.located })) (sym to) (refl, refl))

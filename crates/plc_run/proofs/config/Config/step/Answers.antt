@@ -16,4 +16,4 @@ returns-clause-answers c =
     step_answers c.args.flow.now c.args.observer.now c.args.self.now c.advance.new.self c.args.m.now c.advance.result live c.requires.of_run c.advance.ensures.answer c.advance.ensures.after
 
 pub returns-clause-of_run : goal.returns-clause-of_run
-returns-clause-of_run c = step_run c.args.flow.now c.args.observer.now c.args.self.now c.advance.new.self c.args.m.now c.advance.result c.requires.of_run c.advance.ensures.after c.advance.ensures.err
+returns-clause-of_run c = step_run c.args.flow.now c.args.observer.now c.args.self.now c.advance.new.self c.args.m.now c.advance.result c.requires.of_run c.advance.ensures.after c.advance.ensures.follows c.advance.ensures.err

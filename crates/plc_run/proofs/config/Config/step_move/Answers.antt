@@ -2,14 +2,14 @@ use Rattle.std.proofs.Common.{◌≡◌, Some, None, IfOk, OnOk, subst, sym, ap,
 use Rattle.std.specs.Option.{option_copied}
 use Rattle.plc_run.specs.Reach.{Reached}
 use Rattle.plc_run.specs.Run.{point_of}
-use Rattle.plc_run.specs.Position.{Position, answer, reached}
+use Rattle.plc_run.specs.Position.{Position, answer, Reaches}
 use Rattle.plc_run.specs.contracts.config.Config.{the_view}
 use Rattle.plc_run.proofs.Threads.{busy_at, step_fits}
 use Rattle.plc_run.proofs.Stepping.{stepped}
 use Rattle.plc_run.proofs.config.Config.step_move.Goals as goal
 
-pub take-requires : goal.take-requires
-take-requires c =
+pub take-requires-clause-ready : goal.take-requires-clause-ready
+take-requires-clause-ready c =
     let v = the_view c.self.inside in
     let fits = rw (← c.self.view_is) at c.requires.fits in
     let busy = sym (c.point_at.ensures ∙ ap (λ xs. get_or xs c.args.t None) c.deref.ensures.value) ∙ c.in-Some.is in
@@ -27,6 +27,7 @@ returns c =
     let to = sym (stepped c.args.flow.now c.args.self.now.here c.args.t c.args.nth c.args.addr c.in-Some.point c.in-Some-nth_step.step.now stands there shaped) in
     record {
       answer = subst (λ (x : Reached). IfOk c.take.result (λ r. r ≡ answer x)) to c.take.ensures.answer;
-      after = subst (λ (x : Reached). OnOk c.take.result (c.take.new.self ≡ reached x c.args.self.now)) to c.take.ensures.after;
+      after = subst (λ (x : Reached). OnOk c.take.result (Reaches x c.args.self.now c.take.new.self)) to c.take.ensures.after;
+      follows = c.take.ensures.follows;
       err = c.take.ensures.err;
     }
