@@ -561,6 +561,17 @@ const TYPINGS: &str = "# struct N { } shared T;
 -0123456 / -012346 ALS ALS / 0123456
 # struct N { ptr f; data d; } shared T; op g(v) { ptr n; n := new; T := n; n.d := v; }
 Stuck { step: StepId(2), prim: 0, fault: DerefNotSafe { var: Local(0) } }
+# struct N { ptr f; } shared T; op g() { ptr p; ptr q; loop { choose { break; } or { q := p; p := T; } } }
+-01 / ALS ALS / 01
+-01 / -01 -01 / 01
+-01 / -01 -01 / 01
+-01 / -01 -01 / 01
+-01 / -01 -01 / 01
+- / ALS ALS / 
+-01 / -01 -01 / 01
+-01 / -01 -01 / 01
+-01 / -01 -01 / 01
+-01 / -01 -01 / 01
 ";
 
 #[test]
