@@ -38,7 +38,11 @@ impl Model for Config {
 
     ghost Value = { Position };
 
-    ghost view = { λ c. record { here = record { state = c.memory; history = c.history.items; points = c.points.items }; ended = c.ended; located = c.table.locations } };
+    ghost view = { λ c. record {
+      here = record { state = c.memory; history = c.history.items; points = c.points.items };
+      ended = c.ended;
+      located = c.table.locations;
+    } };
 
     ghost invariant = { λ c. (0 < length c.points.items) × (length c.points.items < 2 ^ 32) };
 }

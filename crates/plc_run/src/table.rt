@@ -49,7 +49,10 @@ impl Model for Table {
 
     ghost Value = { Table };
 
-    ghost view = { λ t. record { locations = record { rows = take t.count t.rows.items; others = map target_of t.others.items }; all = t.rows.items } };
+    ghost view = { λ t. record {
+      locations = record { rows = take t.count t.rows.items; others = map target_of t.others.items };
+      all = t.rows.items;
+    } };
 
     ghost invariant = { λ t. t.count ≤ length t.rows.items };
 }
