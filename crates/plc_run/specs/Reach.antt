@@ -2,7 +2,6 @@
 use Rattle.std.specs.Prelude.{ℕ, zero, suc, Bool, true, ◌&&◌, ◌==◌, nat_lt, if◌then◌else◌, List, [], ◌∷◌, ◌++◌, length, get_or, slice_get, Option, Some, None, is_some, is_none}
 use Rattle.plc_lang.specs.declared.syntax.Op.{Op}
 use Rattle.plc_lang.specs.Locals.{parameters_of}
-use Rattle.plc_auto.specs.declared.event.Event.{Event}
 use Rattle.plc_auto.specs.declared.event.Event.TheVariants.{Free as Freed}
 use Rattle.plc_auto.specs.declared.observer.Observer.{Observer}
 use Rattle.plc_auto.specs.Location.{location, advance}
