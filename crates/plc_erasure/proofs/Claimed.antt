@@ -6,7 +6,8 @@ use Rattle.plc_lang.specs.declared.syntax.Primitive.TheVariants.{Active}
 use Rattle.plc_mem.specs.State.{State, is_null, is_retired}
 use Rattle.plc_mem.specs.Primitives.{cell_at}
 use Rattle.plc_mem.specs.Coherence.{IsCoherent}
-use Rattle.plc_gc.specs.State.{GcState, retirement, entry, is_retired as is_retired_node}
+use Rattle.plc_gc.specs.declared.slot.Map.TheVariants.{Retirement as retirement}
+use Rattle.plc_gc.specs.State.{GcState, entry, is_retired as is_retired_node}
 use Rattle.plc_gc.specs.Primitives.{node_at}
 use Rattle.plc_gc.specs.Claims.{claim_holds}
 use Rattle.plc_erasure.specs.Trace.{Trace}

@@ -6,7 +6,9 @@ use Rattle.plc_flow.specs.declared.flow.Flow.{Flow}
 use Rattle.plc_mem.specs.State.{State, Place, at_shared, at_local, at_field, Locals, null_cell, at, value_at, is_used, with_locals, locals_or_none, locals_of, no_locals, starting, first_state, fresh_state, holds_pointer}
 use Rattle.plc_base.proofs.Tables.{get-replicate}
 use Rattle.plc_mem.proofs.Views.{gives, fresh_is_null, fresh_is_unused}
-use Rattle.plc_gc.specs.State.{GcState, in_shared, in_local, in_data, pointer_field, data_field, retirement, value, with_locals as gc_with_locals, locals_or_none as gc_locals_or_none, Locals as GcLocals, no_locals as gc_no_locals, starting as gc_starting, first_state as gc_first_state}
+use Rattle.plc_gc.specs.declared.slot.Slot.TheVariants.{Shared as in_shared, Local as in_local, Data as in_data}
+use Rattle.plc_gc.specs.declared.slot.Map.TheVariants.{Pointer as pointer_field, Number as data_field, Retirement as retirement}
+use Rattle.plc_gc.specs.State.{GcState, value, with_locals as gc_with_locals, locals_or_none as gc_locals_or_none, Locals as GcLocals, no_locals as gc_no_locals, starting as gc_starting, first_state as gc_first_state}
 use Rattle.plc_gc.proofs.Views.{gives as gc_gives, first}
 use Rattle.plc_erasure.specs.Trace.{Trace, last_node, no_trace}
 use Rattle.plc_erasure.specs.Erasure.{node_in, Shows, IsErased}

@@ -15,7 +15,9 @@ use Rattle.plc_mem.specs.declared.cell.Cell.{Cell}
 use Rattle.plc_mem.specs.State.{State, at_field, null_cell, fresh_cell, is_null, same_pointer, put, put_value, field_value, put_field_value, number_of, is_used, with_node, with_retired}
 use Rattle.plc_mem.specs.Primitives.{cell_at, field_at, access, comparison, retirement as retirement_race, race_of_call, goes_call, after_call, race_of, goes, after}
 use Rattle.plc_mem.specs.Coherence.{CellCoherent, IsCoherent}
-use Rattle.plc_gc.specs.State.{GcState, in_data, pointer_field, data_field, retirement, entry, count, put as gc_put, update, made, number_of as gc_number_of}
+use Rattle.plc_gc.specs.declared.slot.Slot.TheVariants.{Data as in_data}
+use Rattle.plc_gc.specs.declared.slot.Map.TheVariants.{Pointer as pointer_field, Number as data_field, Retirement as retirement}
+use Rattle.plc_gc.specs.State.{GcState, entry, count, put as gc_put, update, made, number_of as gc_number_of}
 use Rattle.plc_gc.specs.Primitives.{node_at, field_at as gc_field_at, some_node, ghost_number, goes_call as gc_goes_call, after_call as gc_after_call, goes as gc_goes, after as gc_after}
 use Rattle.plc_erasure.specs.Trace.{Trace, last_node, noted}
 use Rattle.plc_erasure.specs.Erasure.{Shows, IsErased}

@@ -6,7 +6,9 @@ use Rattle.plc_lang.specs.declared.syntax.Arg.TheVariants as args
 use Rattle.plc_lang.specs.declared.syntax.Primitive.TheVariants.{New, Call}
 use Rattle.plc_mem.specs.State.{State, Locals, null_cell, at_local, at, put, with_node, with_retired, with_locals, locals_of, freed, fresh_state}
 use Rattle.plc_mem.specs.Primitives.{after}
-use Rattle.plc_gc.specs.State.{GcState, Locals as GcLocals, in_local, retirement, value, entry, count, put as gc_put, update, made, with_locals as gc_with_locals, locals_of as gc_locals_of, fresh_state as gc_fresh_state}
+use Rattle.plc_gc.specs.declared.slot.Slot.TheVariants.{Local as in_local}
+use Rattle.plc_gc.specs.declared.slot.Map.TheVariants.{Retirement as retirement}
+use Rattle.plc_gc.specs.State.{GcState, Locals as GcLocals, value, entry, count, put as gc_put, update, made, with_locals as gc_with_locals, locals_of as gc_locals_of, fresh_state as gc_fresh_state}
 use Rattle.plc_gc.specs.Primitives.{after as gc_after}
 use Rattle.plc_erasure.specs.Trace.{last_node}
 

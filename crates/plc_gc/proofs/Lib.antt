@@ -1,7 +1,12 @@
 pub mod Claims
+pub mod Executing
+pub mod Frames
+pub mod Kept
 pub mod Moving
 pub mod Ranges
 pub mod Reaching
 pub mod Rows
+pub mod Stepping
+pub mod Threads
 pub mod Values
 pub mod Views

@@ -12,7 +12,11 @@ use Rattle.plc_flow.specs.declared.flow.Flow.{Flow}
 use Rattle.plc_flow.specs.declared.flow.Move.{Move}
 use Rattle.plc_flow.specs.declared.flow.Move.TheVariants.{Start, Step as Take, Return, Free}
 use Rattle.plc_base.proofs.Tables.{get-replicate}
-use Rattle.plc_gc.specs.State.{GcState, Locals, Slot, in_shared, in_local, in_data, Map, pointer_field, data_field, auxiliary_field, retirement, value, entry, count, put, update, made, slot, with_locals, locals_or_none, no_locals, starting, first_state}
+use Rattle.plc_gc.specs.declared.slot.Slot.{Slot}
+use Rattle.plc_gc.specs.declared.slot.Slot.TheVariants.{Shared as in_shared, Local as in_local, Data as in_data}
+use Rattle.plc_gc.specs.declared.slot.Map.{Map}
+use Rattle.plc_gc.specs.declared.slot.Map.TheVariants.{Pointer as pointer_field, Number as data_field, Auxiliary as auxiliary_field, Retirement as retirement}
+use Rattle.plc_gc.specs.State.{GcState, Locals, value, entry, count, put, update, made, slot, with_locals, locals_or_none, no_locals, starting, first_state}
 use Rattle.plc_gc.specs.Primitives.{node_at, some_node, goes_call, after_call, goes, after}
 use Rattle.plc_gc.specs.Run.{GcConfiguration, GcRun, begin, more, turn, execute, beginning, initialised, first_configuration, Moves}
 use Rattle.plc_gc.specs.Ranges.{IsInRange, RunsStayInRange}
@@ -131,7 +135,7 @@ ranged_update g m k n small fits s =
       bit = new_bit g m k n fits s;
     }
 
-ranged_given : (g : GcState) (t : ℕ) (l : Option Locals) → ((v : ℕ) → get_or (locals_or_none l).pointers v 0 ≡ 0) → IsInRange g → IsInRange (with_locals g t l)
+pub ranged_given : (g : GcState) (t : ℕ) (l : Option Locals) → ((v : ℕ) → get_or (locals_or_none l).pointers v 0 ≡ 0) → IsInRange g → IsInRange (with_locals g t l)
 ranged_given g t l null k =
     let u = gives g t l in
     ranged_nodes g (with_locals g t l) u.nodes.entries u.nodes.count
@@ -143,7 +147,7 @@ ranged_given g t l null k =
 
 -- ---- primitives
 
-small_at : (g : GcState) (t : ℕ) (v : Var) → IsInRange g → node_at g t v < count g
+pub small_at : (g : GcState) (t : ℕ) (v : Var) → IsInRange g → node_at g t v < count g
 small_at g t (Shared i) k = k.shared i
 small_at g t (Local v) k = k.locals t v
 
@@ -156,7 +160,7 @@ ranged_call g t true args.Null may k = k
 ranged_call g t true args.None may k = k
 ranged_call g t false r may k = k
 
-ranged_primitive : (g : GcState) (t : ℕ) (p : Primitive) → goes g t p ≡ true → IsInRange g → IsInRange (after g t p)
+pub ranged_primitive : (g : GcState) (t : ℕ) (p : Primitive) → goes g t p ≡ true → IsInRange g → IsInRange (after g t p)
 ranged_primitive g t (Null p) may k = ranged_put g (slot t p) 0 k.null_made k
 ranged_primitive g t (Copy p q) may k = ranged_put g (slot t p) _ (small_at g t q k) k
 ranged_primitive g t (New p) may k = ranged_put (made g) (slot t p) (count g) (let c = (makes g).count in omega arith) (ranged_made g k)
@@ -195,7 +199,7 @@ ranged_move flow threads c d (Take t nth addr) m k = subst (λ (d : GcConfigurat
 ranged_move flow threads c d (Return t) m k = subst (λ (d : GcConfiguration). IsInRange d.state) (sym m.6) (ranged_given c.state t None (λ v. refl) k)
 ranged_move flow threads c d (Free a) m k = subst (λ (d : GcConfiguration). IsInRange d.state) (sym m) k
 
-ranged_first : (flow : Flow) (threads : ℕ) → IsInRange (first_state flow threads)
+pub ranged_first : (flow : Flow) (threads : ℕ) → IsInRange (first_state flow threads)
 ranged_first flow threads =
     let k = first flow.file.fields (length flow.file.ghosts) (length flow.file.shared) threads in
     record {
@@ -220,7 +224,7 @@ ranged_begun flow threads c e = go (initialised flow threads) refl e
         subst (λ (c : GcConfiguration). IsInRange c.state) same (ranged_given g 0 None (λ v. refl) (ranged_primitives _ g 0 flow.file.init is before))
     go None is e = cc
 
-ranged_run : (flow : Flow) (threads : ℕ) (moves : List Move) (c : GcConfiguration) → GcRun flow threads moves c → IsInRange c.state
+pub ranged_run : (flow : Flow) (threads : ℕ) (moves : List Move) (c : GcConfiguration) → GcRun flow threads moves c → IsInRange c.state
 ranged_run flow threads moves c (begin e) = ranged_begun flow threads c e
 ranged_run flow threads moves d (more {moves = ms} {c = c} run move m) = ranged_move flow threads c d move m (ranged_run flow threads ms c run)
 

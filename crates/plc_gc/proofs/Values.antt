@@ -18,7 +18,10 @@ use Rattle.plc_flow.specs.declared.flow.Step.{Step}
 use Rattle.plc_flow.specs.Points.{steps_from, leaves}
 use Rattle.plc_flow.specs.WellSorted.{FlowIsWellSorted}
 use Rattle.plc_flow.proofs.Leaving.{filter_member}
-use Rattle.plc_gc.specs.State.{GcState, Locals, Slot, Map, pointer_field, data_field, auxiliary_field, retirement, entry, put, update, made, slot, with_locals, no_locals, first_state, starting}
+use Rattle.plc_gc.specs.declared.slot.Slot.{Slot}
+use Rattle.plc_gc.specs.declared.slot.Map.{Map}
+use Rattle.plc_gc.specs.declared.slot.Map.TheVariants.{Pointer as pointer_field, Number as data_field, Auxiliary as auxiliary_field, Retirement as retirement}
+use Rattle.plc_gc.specs.State.{GcState, Locals, entry, put, update, made, slot, with_locals, no_locals, first_state, starting}
 use Rattle.plc_gc.specs.Primitives.{node_at, ghost_number, after_call, goes, after}
 use Rattle.plc_gc.specs.Run.{GcConfiguration, GcRun, begin, more, turn, execute, beginning, initialised, first_configuration, Moves}
 use Rattle.plc_gc.specs.Ranges.{ValuesAreInRange, RunsKeepValues}

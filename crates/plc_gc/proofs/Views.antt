@@ -6,7 +6,11 @@ use Rattle.plc_base.specs.Tables.{put_at}
 use Rattle.plc_base.proofs.Tables.{get-put_same, get-put_other, get-replicate}
 use Rattle.plc_gc.proofs.Rows.{length_put}
 use Rattle.plc_lang.specs.declared.syntax.Field.{Field}
-use Rattle.plc_gc.specs.State.{GcState, Row, Locals, Slot, in_shared, in_local, in_data, Map, pointer_field, data_field, auxiliary_field, retirement, no_row, fresh_row, row_entry, row_with, locals_or_none, locals_of, with_locals, value, entry, count, put, update, made, fresh_state}
+use Rattle.plc_gc.specs.declared.slot.Slot.{Slot}
+use Rattle.plc_gc.specs.declared.slot.Slot.TheVariants.{Shared as in_shared, Local as in_local, Data as in_data}
+use Rattle.plc_gc.specs.declared.slot.Map.{Map}
+use Rattle.plc_gc.specs.declared.slot.Map.TheVariants.{Pointer as pointer_field, Number as data_field, Auxiliary as auxiliary_field, Retirement as retirement}
+use Rattle.plc_gc.specs.State.{GcState, Row, Locals, no_row, fresh_row, row_entry, row_with, locals_or_none, locals_of, with_locals, value, entry, count, put, update, made, fresh_state}
 use Rattle.plc_gc.specs.Laws.{Put, Updated, WasMade, HasLocals, IsFirst, GcStateLaws}
 
 -- ---- locals
@@ -119,7 +123,7 @@ row_other r retirement n (pointer_field e) ne = refl
 row_other r retirement n (data_field e) ne = refl
 row_other r retirement n (auxiliary_field e) ne = refl
 
-no_entry : (m : Map) → row_entry no_row m ≡ 0
+pub no_entry : (m : Map) → row_entry no_row m ≡ 0
 no_entry (pointer_field f) = refl
 no_entry (data_field f) = refl
 no_entry (auxiliary_field h) = refl

@@ -11,7 +11,10 @@ use Rattle.plc_logic.specs.declared.clause.Term.TheVariants as terms
 use Rattle.plc_logic.specs.declared.clause.Literal.{Literal}
 use Rattle.plc_logic.specs.declared.clause.Clause.{Clause}
 use Rattle.plc_logic.specs.Negation.{Atom, AreEqual, IsRetired, atom_of, affirms}
-use Rattle.plc_gc.specs.State.{GcState, in_shared, in_local, in_data, Map, pointer_field, data_field, auxiliary_field, is_retired, value, entry, count, locals_of}
+use Rattle.plc_gc.specs.declared.slot.Slot.TheVariants.{Shared as in_shared, Local as in_local, Data as in_data}
+use Rattle.plc_gc.specs.declared.slot.Map.{Map}
+use Rattle.plc_gc.specs.declared.slot.Map.TheVariants.{Pointer as pointer_field, Number as data_field, Auxiliary as auxiliary_field}
+use Rattle.plc_gc.specs.State.{GcState, is_retired, value, entry, count, locals_of}
 
 -- the value of a local of thread t by its number i among all locals that are declared; 0 where there is none
 abbrev pub declared_value : GcState → ℕ → List Local → ℕ → Option Local → ℕ

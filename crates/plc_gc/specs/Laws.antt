@@ -1,7 +1,10 @@
 -- What each change of a garbage-collected state leaves at each place and at each node.
 use Rattle.std.specs.Prelude.{◌≡◌, ℕ, suc, ◌<◌, ◌≤◌, List, Option, get_or}
 use Rattle.plc_lang.specs.declared.syntax.Field.{Field}
-use Rattle.plc_gc.specs.State.{GcState, Locals, Slot, in_shared, in_local, in_data, Map, value, entry, count, put, update, made, with_locals, locals_or_none, fresh_state}
+use Rattle.plc_gc.specs.declared.slot.Slot.{Slot}
+use Rattle.plc_gc.specs.declared.slot.Slot.TheVariants.{Shared as in_shared, Local as in_local, Data as in_data}
+use Rattle.plc_gc.specs.declared.slot.Map.{Map}
+use Rattle.plc_gc.specs.State.{GcState, Locals, value, entry, count, put, update, made, with_locals, locals_or_none, fresh_state}
 
 -- every map has at every node what it had, and there are as many nodes
 pub record SameNodes (g new : GcState) : Type 0 where

@@ -9,7 +9,9 @@ use Rattle.plc_lang.specs.declared.syntax.Primitive.{Primitive}
 use Rattle.plc_lang.specs.declared.syntax.Primitive.TheVariants.{Null, Copy, New, Load, Store, StoreNull, DataSet, DataLoad, DataStore, Eq, Ne, IsNull, NotNull, DataTest, Refresh, RefreshLoad, RefreshStore, Call, Done, Active, Ghost}
 use Rattle.plc_base.specs.Functions.{is_retire}
 use Rattle.plc_lang.specs.Comparison.{compares}
-use Rattle.plc_gc.specs.State.{GcState, in_local, in_data, pointer_field, data_field, auxiliary_field, retirement, value, entry, count, put, update, made, slot, number_of}
+use Rattle.plc_gc.specs.declared.slot.Slot.TheVariants.{Local as in_local, Data as in_data}
+use Rattle.plc_gc.specs.declared.slot.Map.TheVariants.{Pointer as pointer_field, Number as data_field, Auxiliary as auxiliary_field, Retirement as retirement}
+use Rattle.plc_gc.specs.State.{GcState, value, entry, count, put, update, made, slot, number_of}
 
 -- the node that the variable of thread t holds
 abbrev pub node_at : GcState → ℕ → Var → ℕ

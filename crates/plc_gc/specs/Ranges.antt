@@ -6,7 +6,10 @@ use Rattle.plc_lang.specs.declared.syntax.File.{File}
 use Rattle.plc_lang.specs.WellSorted.{IsWellSorted}
 use Rattle.plc_flow.specs.declared.flow.Flow.{Flow}
 use Rattle.plc_flow.specs.declared.flow.Move.{Move}
-use Rattle.plc_gc.specs.State.{GcState, Map, in_shared, in_local, pointer_field, data_field, auxiliary_field, retirement, value, entry, count}
+use Rattle.plc_gc.specs.declared.slot.Slot.TheVariants.{Shared as in_shared, Local as in_local}
+use Rattle.plc_gc.specs.declared.slot.Map.{Map}
+use Rattle.plc_gc.specs.declared.slot.Map.TheVariants.{Pointer as pointer_field, Number as data_field, Auxiliary as auxiliary_field, Retirement as retirement}
+use Rattle.plc_gc.specs.State.{GcState, value, entry, count}
 use Rattle.plc_gc.specs.Primitives.{goes, after}
 use Rattle.plc_gc.specs.Run.{GcConfiguration, GcRun, Moves, first_configuration}
 

@@ -9,6 +9,10 @@ use Rattle.plc_lang.specs.declared.syntax.Field.{Field}
 use Rattle.plc_lang.specs.declared.syntax.Local.{Local as ALocal}
 use Rattle.plc_lang.specs.declared.syntax.Op.{Op}
 use Rattle.plc_lang.specs.Locals.{starting_pointers, starting_values}
+use Rattle.plc_gc.specs.declared.slot.Slot.{Slot}
+use Rattle.plc_gc.specs.declared.slot.Slot.TheVariants.{Shared as in_shared, Local as in_local, Data as in_data}
+use Rattle.plc_gc.specs.declared.slot.Map.{Map}
+use Rattle.plc_gc.specs.declared.slot.Map.TheVariants.{Pointer as pointer_field, Number as data_field, Auxiliary as auxiliary_field, Retirement as retirement}
 use Rattle.plc_flow.specs.declared.flow.Flow.{Flow}
 use Rattle.plc_flow.specs.declared.flow.Place.{Place}
 use Rattle.plc_flow.specs.declared.flow.Place.TheVariants as places
@@ -36,19 +40,6 @@ pub record GcState : Type 0 where
   pub shared : List ℕ
   pub locals : List (Option Locals)
   pub rows : List Row
-
--- where a value stands
-pub data Slot : Type 0 where
-  in_shared : ℕ → Slot
-  in_local : ℕ → ℕ → Slot
-  in_data : ℕ → ℕ → Slot
-
--- what is known of each node
-pub data Map : Type 0 where
-  pointer_field : ℕ → Map
-  data_field : ℕ → Map
-  auxiliary_field : ℕ → Map
-  retirement : Map
 
 -- ---- rows
 
@@ -157,6 +148,11 @@ starting o args = record { declared = o.locals; pointers = starting_pointers 0 o
 
 -- ---- places that the program names
 
+-- a node that was made and isn't null
+unfoldable pub is_made : GcState → ℕ → Bool
+unfolding count
+is_made g k = nat_lt 0 k && nat_lt k (count g)
+
 -- there is such a field, and it is a pointer field
 abbrev pub is_pointer_field : Option Field → Bool
 is_pointer_field None = false
@@ -164,9 +160,9 @@ is_pointer_field (Some f) = f.pointer
 
 -- a pointer place that there is: a shared pointer, a pointer local of a busy thread, a pointer field of a node that was made; a cell is named by its node
 unfoldable pub has_place : GcState → Place → Bool
-unfolding locals_of count
+unfolding locals_of
 has_place g (places.Shared i) = nat_lt i (length g.shared)
-has_place g (places.Cell k f) = nat_lt 0 k && nat_lt k (count g) && is_pointer_field (slice_get g.fields f.0)
+has_place g (places.Cell k f) = is_made g k && is_pointer_field (slice_get g.fields f.0)
 has_place g (places.Local t v) = nat_lt v (length (locals_of g t).pointers)
 
 -- the node that it holds

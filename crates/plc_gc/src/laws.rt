@@ -1,11 +1,15 @@
 // The laws stand over the definitions, so that proofs above never open them.
-ghost use Rattle.std.specs.Prelude.{ℕ};
+ghost use Rattle.std.specs.Prelude.{ℕ, ◌<◌, List};
 ghost use Rattle.plc_flow.specs.declared.flow.Flow.{Flow};
+ghost use Rattle.plc_flow.specs.declared.flow.Move.{Move};
+ghost use Rattle.plc_flow.specs.WellFormed.{FlowFits};
 ghost use Rattle.plc_flow.specs.WellSorted.{FlowIsWellSorted};
 ghost use Rattle.plc_gc.specs.Laws.{GcStateLaws};
 ghost use Rattle.plc_gc.specs.Ranges.{RunsStayInRange, RunsKeepValues};
 ghost use Rattle.plc_gc.specs.Reached.{ClaimsAreReached};
+ghost use Rattle.plc_gc.specs.Run.{GcConfiguration, GcRun};
 ghost use Rattle.plc_gc.specs.RunLaws.{GcRunLaws};
+ghost use Rattle.plc_gc.specs.Threads.{GcConfigurationFits};
 
 /// What is put into a place or a map is read back, and nothing else changes with it. A node that isn't
 /// made yet reads as one that was just allocated, so an allocation changes no entry.
@@ -37,4 +41,12 @@ pub fn collected_runs_keep_values()
 /// the list of their truths has no `false`.
 pub fn claims_are_reached()
     ensures { ClaimsAreReached }
+{}
+
+/// In every configuration of a garbage-collected run of a flow of a file that was read, each busy thread stands at
+/// a point of its operation and holds that operation's locals, and an idle one holds none.
+pub fn collected_threads_hold_their_locals()
+    ensures { (flow : Flow) (threads : ℕ) (moves : List Move) (c : GcConfiguration)
+        → FlowFits flow → FlowIsWellSorted flow → 0 < threads → GcRun flow threads moves c
+        → GcConfigurationFits flow threads c }
 {}

@@ -3,9 +3,19 @@
 //! says, and a clause is true exactly where some literal is.
 #![tactic(auto)]
 
+mod clauses;
+mod config;
+mod execute;
 mod laws;
+mod locals;
+mod primitives;
+mod row;
+mod slot;
+mod state;
 
+pub use clauses::holds;
+pub use config::{GcConfig, GcMoved};
 pub use laws::{
     claims_are_reached, collected_runs_go_on, collected_runs_keep_values,
-    collected_runs_stay_in_range, collected_state_reads_back,
+    collected_runs_stay_in_range, collected_state_reads_back, collected_threads_hold_their_locals,
 };

@@ -1,0 +1,164 @@
+-- What primitives keep: how many variables and fields there are, and the other threads' locals.
+use Rattle.std.proofs.Common.{◌≡◌, ℕ, ◌<◌, Bool, true, false, List, [], ◌∷◌, Some, None, length, get_or, refl, sym, ap, ◌∙◌, subst}
+use Rattle.plc_base.specs.Functions.{is_retire}
+use Rattle.plc_base.specs.Tables.{put_at}
+use Rattle.plc_base.proofs.Tables.{get-put_same, get-put_other}
+use Rattle.plc_lang.specs.declared.syntax.Var.{Var}
+use Rattle.plc_lang.specs.declared.syntax.Var.TheVariants as vars
+use Rattle.plc_lang.specs.declared.syntax.Arg.{Arg}
+use Rattle.plc_lang.specs.declared.syntax.Arg.TheVariants as args
+use Rattle.plc_lang.specs.declared.syntax.Primitive.{Primitive}
+use Rattle.plc_lang.specs.declared.syntax.Primitive.TheVariants.{Null, Copy, New, Load, Store, StoreNull, DataSet, DataLoad, DataStore, Eq, Ne, IsNull, NotNull, DataTest, Refresh, RefreshLoad, RefreshStore, Call, Done, Active, Ghost}
+use Rattle.plc_lang.specs.Shape.{VarIn, PrimitiveIn}
+use Rattle.plc_gc.specs.declared.slot.Slot.{Slot}
+use Rattle.plc_gc.specs.declared.slot.Slot.TheVariants.{Shared as in_shared, Local as in_local, Data as in_data}
+use Rattle.plc_gc.specs.declared.slot.Map.{Map}
+use Rattle.plc_gc.specs.State.{GcState, Locals, locals_or_none, locals_of, with_locals, put, update, made, slot}
+use Rattle.plc_gc.specs.Primitives.{after_call, goes, after}
+use Rattle.plc_gc.specs.Run.{turn, execute}
+use Rattle.plc_gc.specs.Fit.{Frame, frame, FrameHasAll, SlotIn}
+use Rattle.plc_gc.proofs.Rows.{length_put, held_below}
+
+-- thread t held locals l before and holds m now; all else has its old frame
+pub record KeepsFrame (t : ℕ) (g : GcState) (l : Locals) (new : GcState) (m : Locals) : Type 0 where
+  pub fields : new.fields ≡ g.fields
+  pub ghosts : new.ghosts ≡ g.ghosts
+  pub shared : length new.shared ≡ length g.shared
+  pub threads : length new.locals ≡ length g.locals
+  pub others : (u : ℕ) → (u ≡ t → ⊥) → get_or new.locals u None ≡ get_or g.locals u None
+  pub held : get_or new.locals t None ≡ Some m
+  pub declared : m.declared ≡ l.declared
+  pub pointers : length m.pointers ≡ length l.pointers
+  pub values : length m.values ≡ length l.values
+
+abbrev pub Keeps : ℕ → GcState → Locals → GcState → Type 0
+Keeps t g l new = (m : Locals) × KeepsFrame t g l new m
+
+pub held_is : (g : GcState) (t : ℕ) (l : Locals) → get_or g.locals t None ≡ Some l → locals_of g t ≡ l
+unfolding locals_of
+held_is g t l held = ap locals_or_none held
+
+-- the frame of a thread that holds these locals
+abbrev pub frame_by : GcState → Locals → Frame
+frame_by g l = record {
+  shape = record { shared = length g.shared; pointers = length l.pointers; values = length l.values; fields = length g.fields };
+  ghosts = g.ghosts;
+}
+
+pub frame_held : (g : GcState) (t : ℕ) (l : Locals) → get_or g.locals t None ≡ Some l → frame g t ≡ frame_by g l
+frame_held g t l held = ap (frame_by g) (held_is g t l held)
+
+pub same_frame : {t : ℕ} {g new : GcState} {l m : Locals} → KeepsFrame t g l new m → frame_by new m ≡ frame_by g l
+same_frame k = (let a = k.shared in let b = k.pointers in let c = k.values in let d = ap length k.fields in let e = k.ghosts in cc)
+
+itself : (t : ℕ) (g : GcState) (l : Locals) → get_or g.locals t None ≡ Some l → KeepsFrame t g l g l
+itself t g l held = record { fields = refl; ghosts = refl; shared = refl; threads = refl; others = λ u ne. refl; held = held; declared = refl; pointers = refl; values = refl }
+
+-- locals put in the place of those that were held
+given : (t : ℕ) (g : GcState) (l m : Locals) → get_or g.locals t None ≡ Some l → m.declared ≡ l.declared → length m.pointers ≡ length l.pointers → length m.values ≡ length l.values → KeepsFrame t g l (with_locals g t (Some m)) m
+unfolding with_locals
+given t g l m held d p v = record {
+  fields = refl;
+  ghosts = refl;
+  shared = refl;
+  threads = length_put None g.locals t (Some m) (held_below g.locals t l held);
+  others = λ u ne. get-put_other None g.locals t (Some m) u ne;
+  held = get-put_same None g.locals t (Some m);
+  declared = d;
+  pointers = p;
+  values = v;
+}
+
+-- a value that is put where thread t may put it
+slot_keeps : (t : ℕ) (g : GcState) (l : Locals) (p : Slot) (n : ℕ) → get_or g.locals t None ≡ Some l → SlotIn g p → ((u v : ℕ) → p ≡ in_local u v → u ≡ t) → ((u x : ℕ) → p ≡ in_data u x → u ≡ t) → Keeps t g l (put g p n)
+unfolding put
+slot_keeps t g l (in_shared i) n held h a b = (l, record { fields = refl; ghosts = refl; shared = length_put 0 g.shared i n h; threads = refl; others = λ u ne. refl; held = held; declared = refl; pointers = refl; values = refl })
+slot_keeps t g l (in_local u v) n held h a b =
+    let own : u ≡ t = a u v refl in
+    let e = held_is g t l held in
+    subst (λ u. v < length (locals_of g u).pointers → Keeps t g l (with_locals g u (Some (record (locals_of g u) { pointers = put_at 0 (locals_of g u).pointers v n })))) (sym own)
+    (λ small. (_, given t g l (record (locals_of g t) { pointers = put_at 0 (locals_of g t).pointers v n }) held (rw e refl) (length_put 0 (locals_of g t).pointers v n small ∙ ap (λ (m : Locals). length m.pointers) e) (rw e refl))) h
+slot_keeps t g l (in_data u x) n held h a b =
+    let own : u ≡ t = b u x refl in
+    let e = held_is g t l held in
+    subst (λ u. x < length (locals_of g u).values → Keeps t g l (with_locals g u (Some (record (locals_of g u) { values = put_at 0 (locals_of g u).values x n })))) (sym own)
+    (λ small. (_, given t g l (record (locals_of g t) { values = put_at 0 (locals_of g t).values x n }) held (rw e refl) (rw e refl) (length_put 0 (locals_of g t).values x n small ∙ ap (λ (m : Locals). length m.values) e))) h
+
+pub var_in : (g : GcState) (t : ℕ) (p : Var) → VarIn (frame g t).shape p → SlotIn g (slot t p)
+var_in g t (vars.Shared i) h = h
+var_in g t (vars.Local v) h = h
+
+var_keeps : (t : ℕ) (g : GcState) (l : Locals) (p : Var) (n : ℕ) → get_or g.locals t None ≡ Some l → VarIn (frame g t).shape p → Keeps t g l (put g (slot t p) n)
+var_keeps t g l (vars.Shared i) n held h = slot_keeps t g l (in_shared i) n held h (λ u v e. cc) (λ u x e. cc)
+var_keeps t g l (vars.Local v) n held h = slot_keeps t g l (in_local t v) n held h (λ u w e. cc) (λ u x e. cc)
+
+data_keeps : (t : ℕ) (g : GcState) (l : Locals) (x n : ℕ) → get_or g.locals t None ≡ Some l → x < (frame g t).shape.values → Keeps t g l (put g (in_data t x) n)
+data_keeps t g l x n held h = slot_keeps t g l (in_data t x) n held h (λ u w e. cc) (λ u y e. cc)
+
+update_keeps : (t : ℕ) (g : GcState) (l : Locals) (m : Map) (k n : ℕ) → get_or g.locals t None ≡ Some l → Keeps t g l (update g m k n)
+unfolding update
+update_keeps t g l m k n held = (l, record { fields = refl; ghosts = refl; shared = refl; threads = refl; others = λ u ne. refl; held = held; declared = refl; pointers = refl; values = refl })
+
+new_keeps : (t : ℕ) (g : GcState) (l : Locals) (p : Var) (n : ℕ) → get_or g.locals t None ≡ Some l → VarIn (frame g t).shape p → Keeps t g l (put (made g) (slot t p) n)
+unfolding made locals_of
+new_keeps t g l p n held h = let k = var_keeps t (made g) l p n held h in (k.0, record { fields = k.1.fields; ghosts = k.1.ghosts; shared = k.1.shared; threads = k.1.threads; others = k.1.others; held = k.1.held; declared = k.1.declared; pointers = k.1.pointers; values = k.1.values })
+
+call_keeps : (t : ℕ) (g : GcState) (l : Locals) (b : Bool) (r : Arg) → get_or g.locals t None ≡ Some l → Keeps t g l (after_call g t b r)
+call_keeps t g l true (args.Var p) held = update_keeps t g l _ _ _ held
+call_keeps t g l true args.Null held = (l, itself t g l held)
+call_keeps t g l true args.None held = (l, itself t g l held)
+call_keeps t g l false r held = (l, itself t g l held)
+
+pub after_keeps : (t : ℕ) (g : GcState) (l : Locals) (k : Primitive) → get_or g.locals t None ≡ Some l → PrimitiveIn (frame g t).shape k → Keeps t g l (after g t k)
+after_keeps t g l (Null p) held h = var_keeps t g l p _ held h
+after_keeps t g l (Copy p q) held h = var_keeps t g l p _ held h.0
+after_keeps t g l (New p) held h = new_keeps t g l p _ held h
+after_keeps t g l (Load p q f) held h = var_keeps t g l p _ held h.0
+after_keeps t g l (Store p f q) held h = update_keeps t g l _ _ _ held
+after_keeps t g l (StoreNull p f) held h = update_keeps t g l _ _ _ held
+after_keeps t g l (DataSet x e) held h = data_keeps t g l x _ held h.0
+after_keeps t g l (DataLoad x q f) held h = data_keeps t g l x _ held h.0
+after_keeps t g l (DataStore p f e) held h = update_keeps t g l _ _ _ held
+after_keeps t g l (Eq p q) held h = (l, itself t g l held)
+after_keeps t g l (Ne p q) held h = (l, itself t g l held)
+after_keeps t g l (IsNull p) held h = (l, itself t g l held)
+after_keeps t g l (NotNull p) held h = (l, itself t g l held)
+after_keeps t g l (DataTest r x e) held h = (l, itself t g l held)
+after_keeps t g l (Refresh p q) held h = var_keeps t g l (vars.Local p) _ held h.0
+after_keeps t g l (RefreshLoad p q f) held h = var_keeps t g l (vars.Local p) _ held h.0
+after_keeps t g l (RefreshStore p f q) held h = update_keeps t g l _ _ _ held
+after_keeps t g l (Call f r) held h = call_keeps t g l (is_retire f) r held
+after_keeps t g l (Done f) held h = (l, itself t g l held)
+after_keeps t g l (Active p) held h = (l, itself t g l held)
+after_keeps t g l (Ghost p x v) held h = update_keeps t g l _ _ _ held
+
+pub frame_kept : {t : ℕ} {g : GcState} {l : Locals} {new : GcState} → get_or g.locals t None ≡ Some l → Keeps t g l new → frame new t ≡ frame g t
+frame_kept {t = t} {g = g} {l = l} {new = new} held k = frame_held new t k.0 k.1.held ∙ same_frame k.1 ∙ sym (frame_held g t l held)
+
+-- ---- primitives in order
+
+keeps_then : {t : ℕ} {g new last : GcState} {l m n : Locals} → KeepsFrame t g l new m → KeepsFrame t new m last n → KeepsFrame t g l last n
+keeps_then k j = record {
+  fields = j.fields ∙ k.fields;
+  ghosts = j.ghosts ∙ k.ghosts;
+  shared = j.shared ∙ k.shared;
+  threads = j.threads ∙ k.threads;
+  others = λ u ne. j.others u ne ∙ k.others u ne;
+  held = j.held;
+  declared = j.declared ∙ k.declared;
+  pointers = j.pointers ∙ k.pointers;
+  values = j.values ∙ k.values;
+}
+
+pub execute_keeps : (t : ℕ) (g new : GcState) (l : Locals) (ps : List Primitive) → get_or g.locals t None ≡ Some l → FrameHasAll (frame g t) ps → execute g t ps ≡ Some new → Keeps t g l new
+execute_keeps t g new l [] held fit e = let same : g ≡ new = cc in subst (Keeps t g l) same (l, itself t g l held)
+execute_keeps t g new l (p ∷ ps) held fit e =
+    let one = after_keeps t g l p held fit.0.0 in
+    go (goes g t p) e (λ rest. (
+    let later = execute_keeps t (after g t p) new one.0 ps one.1.held (subst (λ f. FrameHasAll f ps) (sym (frame_kept held one)) fit.1) rest in
+    (later.0, keeps_then one.1 later.1)
+    ))
+  where
+    go : (b : Bool) → turn b (execute (after g t p) t ps) ≡ Some new → (execute (after g t p) t ps ≡ Some new → Keeps t g l new) → Keeps t g l new
+    go true e next = next e
+    go false e next = cc

@@ -1,0 +1,13 @@
+use Rattle.std.proofs.Common.{◌≡◌, drop}
+use Rattle.plc_gc.specs.Run.{execute}
+use Rattle.plc_gc.specs.Ranges.{IsInRange}
+use Rattle.plc_gc.specs.Fit.{IsHeld, frame}
+use Rattle.plc_gc.proofs.execute.execute.Given as goal
+
+abbrev pub invariant-loop-k : goal.invariant-loop-k
+invariant-loop-k l = record {
+  same : execute l.state l.t (drop l.k l.prims) ≡ execute l.fn.state l.t l.prims;
+  held : IsHeld l.state l.t;
+  frame : frame l.state l.t ≡ frame l.fn.state l.t;
+  ranges : IsInRange l.state;
+}

@@ -1,0 +1,7 @@
+use Rattle.std.proofs.Common.{sym, ap}
+use Rattle.plc_gc.specs.contracts.locals.Locals.{the_view}
+use Rattle.plc_gc.proofs.Rows.{put_is_set}
+use Rattle.plc_gc.proofs.locals.Locals.set_value.Goals as goal
+
+pub returns : goal.returns
+returns c = let h = rw (← c.self.view_is) at c.requires in rw (← c.self.view_is) (ap (λ xs. record (the_view c.self.inside) { values = xs }) (sym (put_is_set 0 c.self.inside.values.items c.args.x c.args.n h)))

@@ -1,0 +1,25 @@
+use Rattle.std.proofs.Common.{sym, ap, refl}
+use Rattle.plc_gc.specs.State.{put, with_locals, locals_of}
+use Rattle.plc_gc.specs.contracts.state.State.{the_view}
+use Rattle.plc_gc.proofs.Rows.{put_is_set}
+use Rattle.plc_gc.proofs.state.State.put.Goals as goal
+
+pub put_pointer-requires : goal.put_pointer-requires
+unfolding locals_of
+put_pointer-requires c = rw (c.in-Local.is, ← c.self.view_is) at c.requires
+
+pub put_value-requires : goal.put_value-requires
+unfolding locals_of
+put_value-requires c = rw (c.in-Data.is, ← c.self.view_is) at c.requires
+
+pub returns-in-Shared : goal.returns-in-Shared
+unfolding put
+returns-in-Shared c = let h = rw (c.in-Shared.is, ← c.self.view_is) at c.requires in rw (c.in-Shared.is, ← c.self.view_is) (ap (λ xs. record (the_view c.self.inside) { shared = xs }) (sym (put_is_set 0 c.self.inside.shared.items c.in-Shared.i c.args.n h)))
+
+pub returns-in-Local : goal.returns-in-Local
+unfolding put with_locals locals_of
+returns-in-Local c = rw (c.in-Local.is, c.put_pointer.ensures, ← c.self.view_is) refl
+
+pub returns-in-Data : goal.returns-in-Data
+unfolding put with_locals locals_of
+returns-in-Data c = rw (c.in-Data.is, c.put_value.ensures, ← c.self.view_is) refl

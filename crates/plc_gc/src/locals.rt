@@ -1,0 +1,211 @@
+// The locals of a thread that is in an operation. Clauses count pointer and data locals together, so the
+// declarations stand beside the values.
+ghost use Rattle.std.specs.Prelude.{◌≡◌, ℕ, ◌<◌, get_or, slice_get, set, replicate, length, nat_lt, if◌then◌else◌, IfOk, Some, None};
+ghost use Rattle.std.specs.Option.{option_copied};
+ghost use Rattle.plc_base.specs.Tables.{put_at};
+ghost use Rattle.plc_gc.specs.State.{GcState, Locals, locals_of, locals_or_none, no_locals, starting};
+ghost use Rattle.plc_gc.specs.Clauses.{declared_value};
+
+use crate::row::number_at;
+use plc_base::NoMemory;
+use plc_lang::{Local, Op, count_other_data, count_pointers, data_number, pointer_number};
+use std::alloc::Global;
+use std::marker::Model;
+
+// The pointer locals and the data locals of a thread, with the declarations of both.
+#[derive(Drop)]
+pub struct Locals {
+    declared: Vec<Local>,
+    pointers: Vec<u32>,
+    values: Vec<u32>,
+}
+
+impl Model for Locals {
+    ghost use Rattle.plc_gc.specs.State.{Locals};
+
+    ghost Value = { Locals };
+
+    ghost view = { λ l. record { declared = l.declared.items; pointers = l.pointers.items; values = l.values.items } };
+}
+
+impl Locals {
+    // The locals at the start of an operation: pointers null, parameters as given, other data 0.
+    pub fn new(alloc: Global, op: &Op, args: &[u32]) -> Result<Locals, NoMemory>
+        ensures { IfOk result (λ l. l ≡ starting op.now args.now) }
+    {
+        let zeros = vec![in alloc; 0; count_other_data(op)]?;
+        let mut values = Vec::from_slice(alloc, args)?;
+        values.extend_from_slice(&zeros)?;
+        Ok(Locals {
+            declared: Vec::from_slice(alloc, op.locals.as_slice())?,
+            pointers: vec![in alloc; 0; count_pointers(op)]?,
+            values,
+        })
+    }
+
+    // The locals of `init`, which has none.
+    pub fn none(alloc: Global) -> Locals
+        ensures { result ≡ no_locals }
+    {
+        Locals {
+            declared: Vec::new(alloc),
+            pointers: Vec::new(alloc),
+            values: Vec::new(alloc),
+        }
+    }
+
+    // A copy.
+    pub fn copy(&self) -> Result<Locals, NoMemory>
+        ensures { IfOk result (λ l. l ≡ self.now) }
+    {
+        Ok(Locals {
+            declared: self.declared.clone()?,
+            pointers: self.pointers.clone()?,
+            values: self.values.clone()?,
+        })
+    }
+
+    // The pointer local, 0 past the last.
+    pub fn pointer(&self, v: u16) -> u32
+        ensures { result ≡ get_or self.now.pointers v 0 }
+    {
+        number_at(&self.pointers, v as usize)
+    }
+
+    // The data local, 0 past the last.
+    pub fn value(&self, x: u16) -> u32
+        ensures { result ≡ get_or self.now.values x 0 }
+    {
+        number_at(&self.values, x as usize)
+    }
+
+    // The pointer local, if there is one of this number.
+    pub fn find(&self, v: u16) -> Option<u32>
+        ensures { result
+            ≡ (if nat_lt v (length self.now.pointers) then Some (get_or self.now.pointers v 0) else None) }
+    {
+        let v = v as usize;
+        if v < self.pointers.len() {
+            Some(self.pointers[v])
+        } else {
+            None
+        }
+    }
+
+    // The local by its number among all that are declared, 0 past the last.
+    pub fn named(&self, i: u16) -> u32
+        ensures { (g : GcState) (t : ℕ) → locals_of g t ≡ self.now
+            → result ≡ declared_value g t self.now.declared i (slice_get self.now.declared i) }
+    {
+        let i = i as usize;
+        match self.declared.get(i) {
+            None => 0,
+            Some(l) => {
+                if l.pointer {
+                    number_at(&self.pointers, pointer_number(&self.declared, i))
+                } else {
+                    number_at(&self.values, data_number(&self.declared, i))
+                }
+            }
+        }
+    }
+
+    // Puts a number into a pointer local.
+    pub fn set_pointer(&mut self, v: u16, n: u32)
+        requires { v < length self.old.pointers }
+        ensures { self.new ≡ record self.old { pointers = put_at 0 self.old.pointers v n } }
+    {
+        self.pointers[v as usize] = n;
+    }
+
+    // Puts a number into a data local.
+    pub fn set_value(&mut self, x: u16, n: u32)
+        requires { x < length self.old.values }
+        ensures { self.new ≡ record self.old { values = put_at 0 self.old.values x n } }
+    {
+        self.values[x as usize] = n;
+    }
+}
+
+// The locals of a thread, if it has any.
+pub fn held(locals: &[Option<Locals>], t: u32) -> Option<&Locals>
+    ensures { option_copied result ≡ get_or locals.now t None }
+{
+    match locals.get(t as usize) {
+        Some(Some(l)) => Some(l),
+        Some(None) => None,
+        None => None,
+    }
+}
+
+// A pointer local of a thread, if there is one of this number.
+pub fn local_of(locals: &[Option<Locals>], t: u32, v: u16) -> Option<u32>
+    ensures { let l = locals_or_none (get_or locals.now t None)
+        in result ≡ (if nat_lt v (length l.pointers) then Some (get_or l.pointers v 0) else None) }
+{
+    let t = t as usize;
+    if t >= locals.len() {
+        return None;
+    }
+    match &locals[t] {
+        Some(l) => l.find(v),
+        None => None,
+    }
+}
+
+// Puts a number into a pointer local of a thread.
+pub fn put_pointer(locals: &mut Vec<Option<Locals>>, t: u32, v: u16, n: u32)
+    requires { v < length (locals_or_none (get_or locals.old.items t None)).pointers }
+    ensures { let l = locals_or_none (get_or locals.old.items t None)
+        in locals.new.items ≡ put_at None locals.old.items t (Some (record l { pointers = put_at 0 l.pointers v n })) }
+{
+    if let Some(l) = &mut locals[t as usize] {
+        l.set_pointer(v, n);
+    }
+}
+
+// Puts a number into a data local of a thread.
+pub fn put_value(locals: &mut Vec<Option<Locals>>, t: u32, x: u16, n: u32)
+    requires { x < length (locals_or_none (get_or locals.old.items t None)).values }
+    ensures { let l = locals_or_none (get_or locals.old.items t None)
+        in locals.new.items ≡ put_at None locals.old.items t (Some (record l { values = put_at 0 l.values x n })) }
+{
+    if let Some(l) = &mut locals[t as usize] {
+        l.set_value(x, n);
+    }
+}
+
+// A copy of the locals of a thread, if it has any.
+fn copy_held(held: &Option<Locals>) -> Result<Option<Locals>, NoMemory>
+    ensures { IfOk result (λ copy. copy ≡ held.now) }
+{
+    match held {
+        Some(l) => Ok(Some(l.copy()?)),
+        None => Ok(None),
+    }
+}
+
+// Copies of the locals of all threads.
+pub fn copy_locals(
+    alloc: Global,
+    locals: &[Option<Locals>],
+) -> Result<Vec<Option<Locals>>, NoMemory>
+    ensures { IfOk result (λ copy. copy.items ≡ locals.now) }
+{
+    let mut copy = Vec::new(alloc);
+    for held in locals {
+        copy.push(copy_held(held)?)?;
+    }
+    Ok(copy)
+}
+
+// So many idle threads.
+pub fn idle_threads(alloc: Global, threads: usize) -> Result<Vec<Option<Locals>>, NoMemory>
+    ensures { IfOk result (λ locals. locals.items ≡ replicate threads None) }
+{
+    let mut locals = Vec::new(alloc);
+    for _t in 0..threads {
+        locals.push(None)?;
+    }
+    Ok(locals)
+}

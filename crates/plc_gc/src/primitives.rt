@@ -1,0 +1,255 @@
+// One primitive, column by column of the table: where it isn't blocked, and what it changes. The second
+// takes its memory before it changes anything.
+ghost use Rattle.std.specs.Prelude.{◌≡◌, ℕ, ◌+◌, ◌<◌, ◌^◌, if◌then◌else◌, IfOk, OnOk, OnErr};
+ghost use Rattle.plc_base.specs.Functions.{is_retire};
+ghost use Rattle.plc_lang.specs.Shape.{VarIn, ArgIn};
+ghost use Rattle.plc_gc.specs.State.{number_of, count, made, put, update, slot};
+ghost use Rattle.plc_gc.specs.Primitives.{node_at, field_at, some_node, ghost_number, goes, goes_call, after, after_call};
+ghost use Rattle.plc_gc.specs.Claims.{claim_holds};
+ghost use Rattle.plc_gc.specs.Ranges.{IsInRange};
+ghost use Rattle.plc_gc.specs.Fit.{MapIn, IsHeld, frame, FrameHas};
+
+use crate::slot::{Map, Slot, slot_of};
+use crate::state::State;
+use plc_base::{FieldId, FuncId, NoMemory};
+use plc_lang::{Arg, GhostVal, Num, Prim, Var, compares};
+
+// What a `ghost` write puts into an auxiliary field: a value, or a thread by its number and one more.
+fn ghost_number(t: u32, v: GhostVal) -> u32
+    requires { t + 1 < 2 ^ 32 }
+    ensures { result ≡ ghost_number t v }
+{
+    match v {
+        GhostVal::Value(k) => k as u32,
+        GhostVal::Me => t + 1,
+        GhostVal::None => 0,
+    }
+}
+
+impl State {
+    // The node that a variable of a thread leads to.
+    pub fn node(&self, t: u32, v: Var) -> u32
+        ensures { result ≡ node_at self.now t v }
+    {
+        self.value(slot_of(t, v))
+    }
+
+    // Whether a variable isn't null.
+    fn some_node(&self, t: u32, v: Var) -> bool
+        ensures { result ≡ some_node self.now t v }
+    {
+        self.node(t, v) != 0
+    }
+
+    // The node in a pointer field of the node that a variable leads to.
+    fn field_at(&self, t: u32, v: Var, f: FieldId) -> u32
+        ensures { result ≡ field_at self.now t v f.0 }
+    {
+        self.entry(Map::Pointer(f.0), self.node(t, v))
+    }
+
+    // The number that is put into data.
+    fn number(&self, t: u32, e: Num) -> u32
+        ensures { result ≡ number_of self.now t e }
+    {
+        match e {
+            Num::Lit(n) => n,
+            Num::Local(x) => self.value(Slot::Data { t, x }),
+        }
+    }
+
+    // Whether a primitive isn't blocked.
+    pub fn goes(&self, t: u32, prim: &Prim) -> bool
+        ensures { result ≡ goes self.now t prim.now }
+    {
+        match *prim {
+            Prim::Null { .. } => true,
+            Prim::Copy { .. } => true,
+            Prim::New { .. } => true,
+            Prim::Load { q, .. } => self.some_node(t, q),
+            Prim::Store { p, .. } => self.some_node(t, p),
+            Prim::StoreNull { p, .. } => self.some_node(t, p),
+            Prim::DataSet { .. } => true,
+            Prim::DataLoad { q, .. } => self.some_node(t, q),
+            Prim::DataStore { p, .. } => self.some_node(t, p),
+            Prim::Eq { p, q } => self.node(t, p) == self.node(t, q),
+            Prim::Ne { p, q } => self.node(t, p) != self.node(t, q),
+            Prim::IsNull { p } => self.node(t, p) == 0,
+            Prim::NotNull { p } => self.some_node(t, p),
+            Prim::DataTest { rel, x, e } => {
+                compares(rel, self.value(Slot::Data { t, x }), self.number(t, e))
+            }
+            Prim::Refresh { .. } => true,
+            Prim::RefreshLoad { q, .. } => self.some_node(t, q),
+            Prim::RefreshStore { p, .. } => self.some_node(t, p),
+            Prim::Call { func, arg } => self.goes_call(t, func, arg),
+            Prim::Done { .. } => true,
+            Prim::Active { .. } => true,
+            Prim::Ghost { .. } => true,
+        }
+    }
+
+    // Whether a call isn't blocked.
+    fn goes_call(&self, t: u32, func: FuncId, arg: Arg) -> bool
+        ensures { result ≡ goes_call self.now t (is_retire func) arg }
+    {
+        if !func.is_retire() {
+            return true;
+        }
+        match arg {
+            Arg::Var(p) => self.some_node(t, p),
+            Arg::Null => true,
+            Arg::None => true,
+        }
+    }
+
+    // Puts a node into a variable of a thread.
+    fn write(&mut self, t: u32, p: Var, node: u32)
+        requires { VarIn (frame self.old t).shape p }
+        ensures { self.new ≡ put self.old (slot t p) node }
+    {
+        self.put(slot_of(t, p), node);
+    }
+
+    // Changes a map at the node that a variable of a thread leads to.
+    fn change_at(&mut self, t: u32, p: Var, map: Map, n: u32)
+        requires ranges { IsInRange self.old }
+        requires var { VarIn (frame self.old t).shape p }
+        requires there { MapIn self.old map }
+        ensures { self.new ≡ update self.old map (node_at self.old t p) n }
+    {
+        self.update(map, self.node(t, p), n);
+    }
+
+    // A node that is made, and to which a variable of a thread leads then.
+    fn change_by_new(&mut self, t: u32, p: Var) -> Result<(), NoMemory>
+        requires { VarIn (frame self.old t).shape p }
+        ensures after { OnOk result (self.new ≡ put (made self.old) (slot t p) (count self.old)) }
+        ensures err { OnErr result (self.new ≡ self.old) }
+    {
+        let node = self.make()?;
+        self.write(t, p, node);
+        Ok(())
+    }
+
+    // What a call changes.
+    fn change_by_call(&mut self, t: u32, func: FuncId, arg: Arg)
+        requires ranges { IsInRange self.old }
+        requires there { ArgIn (frame self.old t).shape arg }
+        ensures { self.new ≡ after_call self.old t (is_retire func) arg }
+    {
+        if !func.is_retire() {
+            return;
+        }
+        match arg {
+            Arg::Var(p) => self.change_at(t, p, Map::Retirement, 1),
+            Arg::Null => {}
+            Arg::None => {}
+        }
+    }
+
+    // What a primitive changes.
+    pub fn change(&mut self, t: u32, prim: &Prim) -> Result<(), NoMemory>
+        requires small { t + 1 < 2 ^ 32 }
+        requires there { FrameHas (frame self.old t) prim.now }
+        requires ranges { IsInRange self.old }
+        ensures after { OnOk result (self.new ≡ after self.old t prim.now) }
+        ensures err { OnErr result (self.new ≡ self.old) }
+    {
+        match *prim {
+            Prim::Null { p } => {
+                self.write(t, p, 0);
+                Ok(())
+            }
+            Prim::Copy { p, q } => {
+                self.write(t, p, self.node(t, q));
+                Ok(())
+            }
+            Prim::New { p } => self.change_by_new(t, p),
+            Prim::Load { p, q, f } => {
+                self.write(t, p, self.field_at(t, q, f));
+                Ok(())
+            }
+            Prim::Store { p, f, q } => {
+                self.change_at(t, p, Map::Pointer(f.0), self.node(t, q));
+                Ok(())
+            }
+            Prim::StoreNull { p, f } => {
+                self.change_at(t, p, Map::Pointer(f.0), 0);
+                Ok(())
+            }
+            Prim::DataSet { x, e } => {
+                self.put(Slot::Data { t, x }, self.number(t, e));
+                Ok(())
+            }
+            Prim::DataLoad { x, q, f } => {
+                self.put(
+                    Slot::Data { t, x },
+                    self.entry(Map::Number(f.0), self.node(t, q)),
+                );
+                Ok(())
+            }
+            Prim::DataStore { p, f, e } => {
+                self.change_at(t, p, Map::Number(f.0), self.number(t, e));
+                Ok(())
+            }
+            Prim::Eq { .. } => Ok(()),
+            Prim::Ne { .. } => Ok(()),
+            Prim::IsNull { .. } => Ok(()),
+            Prim::NotNull { .. } => Ok(()),
+            Prim::DataTest { .. } => Ok(()),
+            Prim::Refresh { p, q } => {
+                self.write(t, Var::Local(p), self.node(t, q));
+                Ok(())
+            }
+            Prim::RefreshLoad { p, q, f } => {
+                self.write(t, Var::Local(p), self.field_at(t, q, f));
+                Ok(())
+            }
+            Prim::RefreshStore { p, f, q } => {
+                self.change_at(t, p, Map::Pointer(f.0), self.node(t, q));
+                Ok(())
+            }
+            Prim::Call { func, arg } => {
+                self.change_by_call(t, func, arg);
+                Ok(())
+            }
+            Prim::Done { .. } => Ok(()),
+            Prim::Active { .. } => Ok(()),
+            Prim::Ghost { p, g, v } => {
+                self.change_at(t, p, Map::Auxiliary(g), ghost_number(t, v));
+                Ok(())
+            }
+        }
+    }
+
+    // One primitive, if it isn't blocked; whether it is not.
+    pub fn apply(&mut self, t: u32, prim: &Prim) -> Result<bool, NoMemory>
+        requires small { t + 1 < 2 ^ 32 }
+        requires held { IsHeld self.old t }
+        requires there { FrameHas (frame self.old t) prim.now }
+        requires ranges { IsInRange self.old }
+        ensures goes { IfOk result (λ went. went ≡ goes self.old t prim.now) }
+        ensures next { OnOk result (self.new
+            ≡ (if goes self.old t prim.now then after self.old t prim.now else self.old)) }
+        ensures held { OnOk result (IsHeld self.new t) }
+        ensures frame { OnOk result (frame self.new t ≡ frame self.old t) }
+        ensures ranges { OnOk result (IsInRange self.new) }
+    {
+        if !self.goes(t, prim) {
+            return Ok(false);
+        }
+        self.change(t, prim)?;
+        Ok(true)
+    }
+
+    // The truth of the claim of a primitive; true where it is no claim.
+    pub fn claim_holds(&self, t: u32, prim: &Prim) -> bool
+        ensures { result ≡ claim_holds self.now t prim.now }
+    {
+        match *prim {
+            Prim::Active { p } => self.node(t, p) == 0 || !self.is_retired(self.node(t, p)),
+            _ => true,
+        }
+    }
+}

@@ -1,0 +1,96 @@
+// The row of a node: a number for each field, of which a pointer field has the node in `pointers` and a
+// data field the number in `values`, one for each auxiliary field, and the retirement.
+ghost use Rattle.std.specs.Prelude.{◌≡◌, get_or, IfOk};
+ghost use Rattle.plc_gc.specs.State.{row_entry, row_with, fresh_row};
+ghost use Rattle.plc_gc.specs.Fit.{EntryIn};
+
+use crate::slot::Map;
+use plc_base::NoMemory;
+use std::alloc::Global;
+use std::marker::Model;
+
+// What is known of a node.
+#[derive(Drop)]
+pub struct Row {
+    pointers: Vec<u32>,
+    values: Vec<u32>,
+    auxiliary: Vec<u32>,
+    retired: u32,
+}
+
+impl Model for Row {
+    ghost use Rattle.plc_gc.specs.State.{Row};
+
+    ghost Value = { Row };
+
+    ghost view = { λ r. record { pointers = r.pointers.items; values = r.values.items; auxiliary = r.auxiliary.items; retired = r.retired } };
+}
+
+// The number at a place of a table, 0 past its end.
+pub fn number_at(numbers: &[u32], i: usize) -> u32
+    ensures { result ≡ get_or numbers.now i 0 }
+{
+    if i < numbers.len() { numbers[i] } else { 0 }
+}
+
+impl Row {
+    // A node that was just allocated, and null.
+    pub fn fresh(alloc: Global, fields: usize, ghosts: usize) -> Result<Row, NoMemory>
+        ensures { IfOk result (λ r. r ≡ fresh_row fields ghosts) }
+    {
+        Ok(Row {
+            pointers: vec![in alloc; 0; fields]?,
+            values: vec![in alloc; 0; fields]?,
+            auxiliary: vec![in alloc; 0; ghosts]?,
+            retired: 0,
+        })
+    }
+
+    // A copy.
+    pub fn copy(&self) -> Result<Row, NoMemory>
+        ensures { IfOk result (λ r. r ≡ self.now) }
+    {
+        Ok(Row {
+            pointers: self.pointers.clone()?,
+            values: self.values.clone()?,
+            auxiliary: self.auxiliary.clone()?,
+            retired: self.retired,
+        })
+    }
+
+    // What a map has at this node.
+    pub fn entry(&self, map: Map) -> u32
+        ensures { result ≡ row_entry self.now map }
+    {
+        match map {
+            Map::Pointer(f) => number_at(&self.pointers, f as usize),
+            Map::Number(f) => number_at(&self.values, f as usize),
+            Map::Auxiliary(h) => number_at(&self.auxiliary, h as usize),
+            Map::Retirement => self.retired,
+        }
+    }
+
+    // Puts a number into a map at this node.
+    pub fn set(&mut self, map: Map, n: u32)
+        requires { EntryIn self.old map }
+        ensures { self.new ≡ row_with self.old map n }
+    {
+        match map {
+            Map::Pointer(f) => self.pointers[f as usize] = n,
+            Map::Number(f) => self.values[f as usize] = n,
+            Map::Auxiliary(h) => self.auxiliary[h as usize] = n,
+            Map::Retirement => self.retired = n,
+        }
+    }
+}
+
+// Copies of rows.
+pub fn copy_rows(alloc: Global, rows: &[Row]) -> Result<Vec<Row>, NoMemory>
+    ensures { IfOk result (λ copy. copy.items ≡ rows.now) }
+{
+    let mut copy = Vec::new(alloc);
+    for row in rows {
+        copy.push(row.copy()?)?;
+    }
+    Ok(copy)
+}

@@ -1,0 +1,41 @@
+// Where values stand, and what is known of each node. Every value is a number, and every default is 0:
+// null, the data 0, the first value of an auxiliary field, no thread (thread t is t + 1), not retired. So
+// one word reads a place and one a map, and a node that isn't made reads as a fresh one.
+ghost use Rattle.std.specs.Prelude.{◌≡◌};
+ghost use Rattle.plc_gc.specs.State.{slot};
+
+use plc_lang::Var;
+
+/// Where a value stands.
+#[derive(Clone, Copy, Debug, PartialEq, Eq)]
+pub enum Slot {
+    /// A shared pointer.
+    Shared(u16),
+    /// A pointer local of thread `t`.
+    Local { t: u32, v: u16 },
+    /// A data local of thread `t`.
+    Data { t: u32, x: u16 },
+}
+
+/// What is known of each node.
+#[derive(Clone, Copy, Debug, PartialEq, Eq)]
+pub enum Map {
+    /// The node that a pointer field holds.
+    Pointer(u16),
+    /// The number that a data field holds.
+    Number(u16),
+    /// What an auxiliary field holds.
+    Auxiliary(u16),
+    /// 1 where the node was retired, else 0.
+    Retirement,
+}
+
+/// The place of a pointer variable for thread `t`.
+pub fn slot_of(t: u32, v: Var) -> Slot
+    ensures { result ≡ slot t v }
+{
+    match v {
+        Var::Shared(i) => Slot::Shared(i),
+        Var::Local(v) => Slot::Local { t, v },
+    }
+}

@@ -1,0 +1,223 @@
+// The values of a garbage-collected state. A node's number is the place of its row, and no row is taken
+// back, so that a look-up is an index. What it is seen as is the state of the definitions; reads are total.
+ghost use Rattle.std.specs.Prelude.{◌≡◌, ℕ, ◌<◌, nat_lt, if◌then◌else◌, get_or, slice_get, length, IfOk, OnOk, OnErr, Some, None};
+ghost use Rattle.plc_gc.specs.State.{GcState, first_state, with_locals, value, entry, count, put, update, made, is_retired, is_made, is_pointer_field, node_of};
+ghost use Rattle.plc_gc.specs.Clauses.{local_value, field_map};
+ghost use Rattle.plc_gc.specs.Fit.{SlotIn, MapIn};
+
+use crate::locals::{Locals, copy_locals, held, idle_threads, local_of, put_pointer, put_value};
+use crate::row::{Row, copy_rows, number_at};
+use crate::slot::{Map, Slot};
+use plc_base::{FieldId, NoMemory};
+use plc_flow::{Flow, Place};
+use plc_lang::Field;
+use std::alloc::Global;
+use std::marker::Model;
+
+// What shared pointers and locals hold, and what is known of each node; the row 0 is that of null.
+#[derive(Drop)]
+pub struct State {
+    alloc: Global,
+    fields: Vec<Field>,
+    ghosts: usize,
+    shared: Vec<u32>,
+    locals: Vec<Option<Locals>>,
+    rows: Vec<Row>,
+}
+
+impl Model for State {
+    ghost use Rattle.std.specs.Prelude.{length};
+    ghost use Rattle.plc_gc.specs.State.{GcState};
+    ghost use Rattle.plc_gc.specs.Fit.{RowsFit};
+
+    ghost Value = { GcState };
+
+    ghost view = { λ s. record { fields = s.fields.items; ghosts = s.ghosts; shared = s.shared.items; locals = s.locals.items; rows = s.rows.items } };
+
+    ghost invariant = { λ s. RowsFit (length s.fields.items) s.ghosts s.rows.items };
+}
+
+impl State {
+    // The state of a flow before its `init`: null alone, shared pointers null, every thread idle.
+    pub fn first(alloc: Global, flow: &Flow, threads: u32) -> Result<State, NoMemory>
+        ensures { IfOk result (λ s. s ≡ first_state flow.now threads) }
+    {
+        let fields = Vec::from_slice(alloc, flow.file.fields.as_slice())?;
+        let ghosts = flow.file.ghosts.len();
+        let null = Row::fresh(alloc, fields.len(), ghosts)?;
+        let mut rows = Vec::new(alloc);
+        rows.push(null)?;
+        Ok(State {
+            alloc,
+            fields,
+            ghosts,
+            shared: vec![in alloc; 0; flow.file.shared.len()]?,
+            locals: idle_threads(alloc, threads as usize)?,
+            rows,
+        })
+    }
+
+    // A copy.
+    pub fn copy(&self) -> Result<State, NoMemory>
+        ensures { IfOk result (λ s. s ≡ self.now) }
+    {
+        Ok(State {
+            alloc: self.alloc,
+            fields: self.fields.clone()?,
+            ghosts: self.ghosts,
+            shared: self.shared.clone()?,
+            locals: copy_locals(self.alloc, &self.locals)?,
+            rows: copy_rows(self.alloc, &self.rows)?,
+        })
+    }
+
+    // Gives a thread its locals, or takes them.
+    pub fn give(&mut self, t: u32, l: Option<Locals>)
+        requires { t < length self.old.locals }
+        ensures { self.new ≡ with_locals self.old t l }
+    {
+        self.locals[t as usize] = l;
+    }
+
+    // The value of a place.
+    pub fn value(&self, slot: Slot) -> u32
+        ensures { result ≡ value self.now slot }
+    {
+        match slot {
+            Slot::Shared(i) => number_at(&self.shared, i as usize),
+            Slot::Local { t, v } => match held(&self.locals, t) {
+                Some(l) => l.pointer(v),
+                None => 0,
+            },
+            Slot::Data { t, x } => match held(&self.locals, t) {
+                Some(l) => l.value(x),
+                None => 0,
+            },
+        }
+    }
+
+    // The entry of a map at a node.
+    pub fn entry(&self, map: Map, node: u32) -> u32
+        ensures { result ≡ entry self.now map node }
+    {
+        match self.rows.get(node as usize) {
+            Some(row) => row.entry(map),
+            None => 0,
+        }
+    }
+
+    // Whether a node was retired.
+    pub fn is_retired(&self, node: u32) -> bool
+        ensures { result ≡ is_retired self.now node }
+    {
+        self.entry(Map::Retirement, node) == 1
+    }
+
+    // Puts a value into a place.
+    pub fn put(&mut self, slot: Slot, n: u32)
+        requires { SlotIn self.old slot }
+        ensures { self.new ≡ put self.old slot n }
+    {
+        match slot {
+            Slot::Shared(i) => self.shared[i as usize] = n,
+            Slot::Local { t, v } => put_pointer(&mut self.locals, t, v, n),
+            Slot::Data { t, x } => put_value(&mut self.locals, t, x, n),
+        }
+    }
+
+    // Changes a map at a node that was made.
+    pub fn update(&mut self, map: Map, node: u32, n: u32)
+        requires made { node < count self.old }
+        requires there { MapIn self.old map }
+        ensures { self.new ≡ update self.old map node n }
+    {
+        self.rows[node as usize].set(map, n);
+    }
+
+    // Makes a node, whose number is how many there were with null. There are at most 2^32.
+    pub fn make(&mut self) -> Result<u32, NoMemory>
+        ensures node { IfOk result (λ node. node ≡ count self.old) }
+        ensures made { OnOk result (self.new ≡ made self.old) }
+        ensures err { OnErr result (self.new ≡ self.old) }
+    {
+        let made = self.rows.len();
+        if made > u32::MAX as usize {
+            return Err(NoMemory);
+        }
+        let row = Row::fresh(self.alloc, self.fields.len(), self.ghosts)?;
+        self.rows.push(row)?;
+        Ok(made as u32)
+    }
+
+    // The node that a pointer place holds, if there is such a place.
+    pub fn node_in(&self, place: &Place) -> Option<u32>
+        ensures { result ≡ node_of self.now place.now }
+    {
+        match *place {
+            Place::Shared(i) => self.shared_pointer(i),
+            Place::Cell { a, f } => {
+                if self.is_made(a) && self.is_pointer_field(f) {
+                    Some(self.entry(Map::Pointer(f.0), a))
+                } else {
+                    None
+                }
+            }
+            Place::Local { t, v } => local_of(&self.locals, t, v),
+        }
+    }
+
+    // The shared pointer, if there is one of this number.
+    fn shared_pointer(&self, i: u16) -> Option<u32>
+        ensures { result
+            ≡ (if nat_lt i (length self.now.shared) then Some (get_or self.now.shared i 0) else None) }
+    {
+        let i = i as usize;
+        if i < self.shared.len() {
+            Some(self.shared[i])
+        } else {
+            None
+        }
+    }
+
+    // Whether a node was made and isn't null.
+    #[tactic(auto, unfolding(crate::specs::State::is_made, crate::specs::State::count))]
+    fn is_made(&self, node: u32) -> bool
+        ensures { result ≡ is_made self.now node }
+    {
+        0 < node && (node as usize) < self.rows.len()
+    }
+
+    // Whether there is such a field, and it is a pointer field.
+    fn is_pointer_field(&self, f: FieldId) -> bool
+        ensures { result ≡ is_pointer_field (slice_get self.now.fields f.0) }
+    {
+        match self.fields.get(f.0 as usize) {
+            Some(field) => field.pointer,
+            None => false,
+        }
+    }
+
+    // The local of a thread by its number among all that are declared; 0 where there is none.
+    pub fn local(&self, thread: Option<u32>, i: u16) -> u32
+        ensures { result ≡ local_value self.now thread i }
+    {
+        let Some(t) = thread else {
+            return 0;
+        };
+        match held(&self.locals, t) {
+            Some(l) => l.named(i),
+            None => 0,
+        }
+    }
+
+    // What a field holds at a node, whichever kind it has.
+    pub fn field(&self, f: FieldId, node: u32) -> u32
+        ensures { result ≡ entry self.now (field_map self.now f.0) node }
+    {
+        match self.fields.get(f.0 as usize) {
+            Some(Field { pointer: true, .. }) => self.entry(Map::Pointer(f.0), node),
+            Some(Field { pointer: false, .. }) => self.entry(Map::Number(f.0), node),
+            None => self.entry(Map::Number(f.0), node),
+        }
+    }
+}
