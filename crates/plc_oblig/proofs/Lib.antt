@@ -1,0 +1,2 @@
+pub mod ClaimCounts
+pub mod Walking

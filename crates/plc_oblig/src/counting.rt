@@ -1,0 +1,77 @@
+// How many obligations there are, kind by kind. No list of them is made: there may be a million.
+ghost use Rattle.std.specs.Prelude.{◌≡◌, ◌≤◌, ◌*◌, length};
+ghost use Rattle.plc_flow.specs.WellFormed.{IsWellFormed};
+ghost use Rattle.plc_lang.specs.Fit.{FileFits};
+ghost use Rattle.plc_logic.specs.Fit.{OutlineFits};
+ghost use Rattle.plc_oblig.specs.Obligations.{enters, owns, parts_from, others_at, below, claims, obligations};
+ghost use Rattle.plc_oblig.specs.Fit.{HasFewParts, Fits};
+
+use crate::claims::count_claims;
+use crate::points::count_at;
+use plc_flow::Flow;
+use plc_logic::Outline;
+
+// Those of entries.
+fn count_enters(flow: &Flow, outline: &Outline) -> u64
+    requires { HasFewParts flow.now outline.now }
+    ensures count { result ≡ length (enters flow.now outline.now) }
+    ensures few { result ≤ length flow.now.gates * 256 }
+{
+    let mut total = 0;
+    for gate in flow.gates.as_slice() {
+        total += count_at(flow, outline, gate.entry.0) as u64;
+    }
+    total
+}
+
+// Those of own steps.
+fn count_owns(flow: &Flow, outline: &Outline) -> u64
+    requires { HasFewParts flow.now outline.now }
+    ensures count { result ≡ length (owns flow.now outline.now) }
+    ensures few { result ≤ length flow.now.steps * 320 }
+{
+    let mut total = 0;
+    for step in flow.steps.as_slice() {
+        total += (outline.invariants.len() + count_at(flow, outline, step.to.0)) as u64;
+    }
+    total
+}
+
+/// Those of one step at the points of another thread: one for each clause of each point.
+pub(crate) fn count_points(flow: &Flow, outline: &Outline) -> u64
+    requires { HasFewParts flow.now outline.now }
+    ensures count { result ≡ length (parts_from (others_at flow.now outline.now 0) 0 (below flow.now.points)) }
+    ensures few { result ≤ 1048576 }
+{
+    let mut total = 0;
+    for p in 0..flow.points {
+        total += count_at(flow, outline, p) as u64;
+    }
+    total
+}
+
+// Those of claims.
+fn count_all_claims(flow: &Flow, outline: &Outline) -> u64
+    requires { HasFewParts flow.now outline.now }
+    ensures count { result ≡ length (claims flow.now) }
+    ensures few { result ≤ length flow.now.steps * 112 }
+{
+    let mut total = 0;
+    for step in flow.steps.as_slice() {
+        total += count_claims(step.prims.as_slice()) as u64;
+    }
+    total
+}
+
+/// How many obligations an outline has. It takes no memory.
+pub fn count(flow: &Flow, outline: &Outline) -> u64
+    requires { Fits flow.now outline.now }
+    ensures { result ≡ length (obligations flow.now outline.now) }
+{
+    let others = flow.steps.len() as u64 * count_points(flow, outline);
+    outline.invariants.len() as u64
+        + count_enters(flow, outline)
+        + count_owns(flow, outline)
+        + others
+        + count_all_claims(flow, outline)
+}

@@ -1,0 +1,191 @@
+// The obligation with a number. Each kind takes away as many as it has and hands on what is left, so that
+// no obligation before it is looked at one by one.
+ghost use Rattle.std.specs.Prelude.{◌≡◌, ◌≤◌, ◌++◌, length, slice_get};
+ghost use Rattle.plc_oblig.specs.Obligations.{starts, enters, owns, parts_from, others_at, others, below, claims_in, claims, obligations};
+ghost use Rattle.plc_oblig.specs.Fit.{HasFewParts, Fits};
+ghost use Rattle.plc_oblig.specs.Finding.{IsFoundIn};
+
+use crate::claims::is_claim;
+use crate::counting::count_points;
+use crate::obligations::Obligation;
+use crate::points::count_at;
+use plc_base::{OpId, PointId, StepId};
+use plc_flow::Flow;
+use plc_lang::Prim;
+use plc_logic::Outline;
+
+// Each of these answers its obligation with the number, or, where it has too few, the number counted
+// behind all of them.
+
+fn nth_start(flow: &Flow, outline: &Outline, i: u64) -> Result<Obligation, u64>
+    requires { HasFewParts flow.now outline.now }
+    ensures { IsFoundIn (starts outline.now) i result }
+{
+    let count = outline.invariants.len() as u64;
+    if i < count {
+        return Ok(Obligation::Start { inv: i as u16 });
+    }
+    Err(i - count)
+}
+
+fn nth_enter(flow: &Flow, outline: &Outline, i: u64) -> Result<Obligation, u64>
+    requires { HasFewParts flow.now outline.now }
+    ensures { IsFoundIn (enters flow.now outline.now) i result }
+{
+    let mut left = i;
+    for (op, gate) in flow.gates.as_slice().iter().enumerate() {
+        let count = count_at(flow, outline, gate.entry.0) as u64;
+        if left < count {
+            return Ok(Obligation::Enter {
+                op: OpId(op as u16),
+                clause: left as u16,
+            });
+        }
+        left -= count;
+    }
+    Err(left)
+}
+
+fn nth_own(flow: &Flow, outline: &Outline, i: u64) -> Result<Obligation, u64>
+    requires { HasFewParts flow.now outline.now }
+    ensures { IsFoundIn (owns flow.now outline.now) i result }
+{
+    let mut left = i;
+    for (step, s) in flow.steps.as_slice().iter().enumerate() {
+        let count = (outline.invariants.len() + count_at(flow, outline, s.to.0)) as u64;
+        if left < count {
+            return Ok(Obligation::Own {
+                step: StepId(step as u16),
+                clause: left as u16,
+            });
+        }
+        left -= count;
+    }
+    Err(left)
+}
+
+// Of one step.
+fn nth_at_points(flow: &Flow, outline: &Outline, step: StepId, i: u64) -> Result<Obligation, u64>
+    requires { HasFewParts flow.now outline.now }
+    ensures { IsFoundIn (parts_from (others_at flow.now outline.now step.0) 0 (below flow.now.points)) i result }
+{
+    let mut left = i;
+    for p in 0..flow.points {
+        let count = count_at(flow, outline, p) as u64;
+        if left < count {
+            return Ok(Obligation::Other {
+                step,
+                point: PointId(p),
+                clause: left as u16,
+            });
+        }
+        left -= count;
+    }
+    Err(left)
+}
+
+fn nth_other(flow: &Flow, outline: &Outline, i: u64) -> Result<Obligation, u64>
+    requires { HasFewParts flow.now outline.now }
+    ensures { IsFoundIn (others flow.now outline.now) i result }
+{
+    let each = count_points(flow, outline);
+    let mut left = i;
+    for step in 0..flow.steps.len() {
+        if left < each {
+            return nth_at_points(flow, outline, StepId(step as u16), left);
+        }
+        left -= each;
+    }
+    Err(left)
+}
+
+// Of one step.
+fn nth_claim_of(step: StepId, prims: &[Prim], i: u64) -> Result<Obligation, u64>
+    requires { length prims.now ≤ 112 }
+    ensures { IsFoundIn (claims_in step.0 0 prims.now) i result }
+{
+    let mut left = i;
+    for (k, prim) in prims.iter().enumerate() {
+        if is_claim(prim) {
+            if left == 0 {
+                return Ok(Obligation::Claim {
+                    step,
+                    prim: k as u16,
+                });
+            }
+            left -= 1;
+        }
+    }
+    Err(left)
+}
+
+fn nth_claim(flow: &Flow, outline: &Outline, i: u64) -> Result<Obligation, u64>
+    requires { HasFewParts flow.now outline.now }
+    ensures { IsFoundIn (claims flow.now) i result }
+{
+    let mut left = i;
+    for (step, s) in flow.steps.as_slice().iter().enumerate() {
+        match nth_claim_of(StepId(step as u16), s.prims.as_slice(), left) {
+            Ok(o) => return Ok(o),
+            Err(behind) => left = behind,
+        }
+    }
+    Err(left)
+}
+
+// Those of steps at other points, and claims behind them.
+fn nth_from_other(flow: &Flow, outline: &Outline, i: u64) -> Result<Obligation, u64>
+    requires { HasFewParts flow.now outline.now }
+    ensures { IsFoundIn (others flow.now outline.now ++ claims flow.now) i result }
+{
+    match nth_other(flow, outline, i) {
+        Ok(o) => Ok(o),
+        Err(left) => nth_claim(flow, outline, left),
+    }
+}
+
+// The same behind those of own steps.
+fn nth_from_own(flow: &Flow, outline: &Outline, i: u64) -> Result<Obligation, u64>
+    requires { HasFewParts flow.now outline.now }
+    ensures { IsFoundIn (owns flow.now outline.now ++ (others flow.now outline.now ++ claims flow.now)) i result }
+{
+    match nth_own(flow, outline, i) {
+        Ok(o) => Ok(o),
+        Err(left) => nth_from_other(flow, outline, left),
+    }
+}
+
+// The same behind those of entries.
+fn nth_from_enter(flow: &Flow, outline: &Outline, i: u64) -> Result<Obligation, u64>
+    requires { HasFewParts flow.now outline.now }
+    ensures { IsFoundIn (enters flow.now outline.now ++ (owns flow.now outline.now
+        ++ (others flow.now outline.now ++ claims flow.now))) i result }
+{
+    match nth_enter(flow, outline, i) {
+        Ok(o) => Ok(o),
+        Err(left) => nth_from_own(flow, outline, left),
+    }
+}
+
+// All of them.
+fn nth_of_all(flow: &Flow, outline: &Outline, i: u64) -> Result<Obligation, u64>
+    requires { HasFewParts flow.now outline.now }
+    ensures { IsFoundIn (obligations flow.now outline.now) i result }
+{
+    match nth_start(flow, outline, i) {
+        Ok(o) => Ok(o),
+        Err(left) => nth_from_enter(flow, outline, left),
+    }
+}
+
+/// The obligation with a number, counted from 0; `None` exactly where there are no more than that. It takes
+/// no memory.
+pub fn nth(flow: &Flow, outline: &Outline, i: u64) -> Option<Obligation>
+    requires { Fits flow.now outline.now }
+    ensures { result ≡ slice_get (obligations flow.now outline.now) i }
+{
+    match nth_of_all(flow, outline, i) {
+        Ok(o) => Some(o),
+        Err(_) => None,
+    }
+}

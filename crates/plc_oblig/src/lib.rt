@@ -1,0 +1,16 @@
+//! Proof obligations of outlines: which there are, in which order, how many, and the one with a number.
+//!
+//! An outline holds where each obligation is kept: after `init`, at the entry of each operation, behind
+//! each step of the thread that takes it, at each point of another thread meanwhile, and at each claim.
+//! The layers above go over them by their numbers; no list of them is made.
+#![tactic(auto)]
+
+mod claims;
+mod counting;
+mod finding;
+mod obligations;
+mod points;
+
+pub use counting::count;
+pub use finding::nth;
+pub use obligations::Obligation;
