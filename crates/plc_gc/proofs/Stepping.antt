@@ -123,3 +123,8 @@ reach_return flow c t = refl
 pub reach_free : (flow : Flow) (c : GcConfiguration) (a : ℕ) → reach flow c (Free a) ≡ Some c
 unfolding reach
 reach_free flow c a = refl
+
+-- what holds of every value holds of that of an answer
+pub of_any : {A E : Type 0} (r : Result A E) (P : A → Type 0) → ((x : A) → P x) → IfOk r P
+of_any (Ok x) P f = f x
+of_any (Err e) P f = tt

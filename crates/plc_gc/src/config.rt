@@ -1,7 +1,7 @@
 // A garbage-collected configuration in code. What a move leads to is computed beside it: nothing of the
 // configuration is touched before the last call that may need memory, so that a move that is blocked, and
 // running out of memory, leave it as it was.
-ghost use Rattle.std.specs.Prelude.{◌≡◌, ℕ, ◌<◌, length, get_or, replicate, IfOk, OnOk, OnErr, None};
+ghost use Rattle.std.specs.Prelude.{◌≡◌, ℕ, ◌<◌, [], length, get_or, replicate, IfOk, OnOk, OnErr, Some, None};
 ghost use Rattle.plc_base.specs.Tables.{put_at};
 ghost use Rattle.plc_flow.specs.declared.flow.Step.{Step as AStep};
 ghost use Rattle.plc_flow.specs.declared.points.Point.{Point as APoint};
@@ -272,15 +272,17 @@ impl GcConfig {
     }
 
     /// The truth of each `active` that a step reaches before it is blocked, in order. The step is the `nth` of
-    /// those that leave the point of thread `t`, which is busy.
+    /// those that leave the point of thread `t`; where the thread is idle, or no such step leaves, there is none.
     pub fn claims(&self, flow: &Flow, t: u32, nth: u16) -> Result<Vec<bool>, NoMemory>
         requires fits { FlowFits flow.now }
         requires sorted { FlowIsWellSorted flow.now }
         requires of_run { IsOfRun flow.now self.now }
-        requires takes { (p : APoint) × (step : AStep) × MayTake flow.now (threads_of self.now) self.now t nth p step }
-        ensures { IfOk result (λ truths. (p : APoint) (step : AStep)
+        ensures claims { IfOk result (λ truths. (p : APoint) (step : AStep)
             → MayTake flow.now (threads_of self.now) self.now t nth p step
             → truths.items ≡ claims self.now.state t step.prims) }
+        ensures none { IfOk result (λ truths. ((p : APoint) (step : AStep)
+            → MayTake flow.now (threads_of self.now) self.now t nth p step → ⊥)
+            → truths.items ≡ []) }
     {
         let Some(point) = point_at(&self.points, t) else {
             return Ok(Vec::new(self.alloc));
