@@ -1,0 +1,4 @@
+-- what contracts of public calls say
+pub mod Shape
+pub mod Written
+pub mod Fits

@@ -1,0 +1,25 @@
+// Writing and reading together. Each law is the contract of a function without a body, over the words
+// that the contracts of `write` and `read` cite.
+ghost use Rattle.std.specs.Prelude.{◌≡◌, ◌++◌, ◌∷◌, [], ℕ, List, Some, Ok};
+ghost use Rattle.plc_cert.specs.declared.cert.Cert.{Cert};
+ghost use Rattle.plc_cert.specs.Shape.{json_of, reading};
+ghost use Rattle.plc_cert.specs.Written.{cert, text};
+ghost use Rattle.plc_cert.specs.Fits.{CertFits, stored};
+
+/// The text of a certificate whose guarantees are of the four sets is read as that certificate, without
+/// the types of shared pointers. That its other numbers are in range is so of every `Cert`.
+pub fn written_is_read()
+    ensures { (c : Cert) → CertFits c → reading (text c) ≡ Ok (stored c) }
+{}
+
+/// So is the text with a line feed after it.
+pub fn line_is_read()
+    ensures { (c : Cert) → CertFits c → reading (text c ++ 10 ∷ []) ≡ Ok (stored c) }
+{}
+
+/// Bytes that are read are, as a JSON value, the one that their certificate is written as, and the
+/// guarantees of that certificate are of the four sets.
+pub fn only_written_is_read()
+    ensures { (bytes : List ℕ) (c : Cert) → reading bytes ≡ Ok c
+        → (json_of bytes ≡ Some (cert c)) × CertFits c }
+{}

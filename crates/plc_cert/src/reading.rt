@@ -1,0 +1,89 @@
+// Reading, over the JSON value of the whole text. Refusals come in one order: what isn't JSON at all,
+// the members of the object, the version, and only then the two lists, since another version may
+// have another form.
+ghost use Rattle.std.specs.Prelude.{◌≡◌, option_map};
+ghost use Rattle.serde_json.specs.View.{view};
+ghost use Rattle.plc_cert.specs.Shape.{whole_of, with_version, root_of, certificate_of, reading, Answers};
+
+use crate::cert::{Cert, CertFault, CertField};
+use crate::part::list;
+use serde_json::Value;
+use std::alloc::Global;
+
+// The values at `env`, `trees` and `version`, where these are the members. An object has its members
+// in the order of their names, however the text has them.
+fn root(value: &Value) -> Option<(&Value, &Value, &Value)>
+    ensures { option_map (λ r. (view r.0.now, view r.1.now, view r.2.now)) result
+        ≡ root_of (view value.now) }
+{
+    let mut members = value.as_object()?.iter();
+    let (first, env) = members.next()?;
+    let (second, trees) = members.next()?;
+    let (third, version) = members.next()?;
+    if members.next().is_some() {
+        return None;
+    }
+    if first.as_str() == "env" && second.as_str() == "trees" && third.as_str() == "version" {
+        Some((env, trees, version))
+    } else {
+        None
+    }
+}
+
+// That it is version 1.
+fn version(value: &Value) -> Result<(), CertFault>
+    ensures { result ≡ with_version (whole_of (view value.now)) (Ok tt) }
+{
+    match value.as_u64() {
+        None => Err(CertFault::Shape {
+            field: CertField::Version,
+        }),
+        Some(n) => if n == 1 {
+            Ok(())
+        } else {
+            Err(CertFault::Version { n })
+        },
+    }
+}
+
+// The certificate that a JSON value is.
+fn certificate(alloc: Global, value: &Value) -> Result<Cert, CertFault>
+    ensures { Answers result (certificate_of (view value.now)) }
+{
+    let Some((env, trees, number)) = root(value) else {
+        return Err(CertFault::Shape {
+            field: CertField::Root,
+        });
+    };
+    version(number)?;
+    let Some(env) = list(alloc, env)? else {
+        return Err(CertFault::Shape {
+            field: CertField::Env,
+        });
+    };
+    let Some(trees) = list(alloc, trees)? else {
+        return Err(CertFault::Shape {
+            field: CertField::Trees,
+        });
+    };
+    Ok(Cert { env, trees })
+}
+
+/// The certificate that the bytes are: JSON as `serde_json` reads it, white space and the order of
+/// members as the writer likes. Its environments have no types of shared pointers.
+///
+/// Of several refusals the first in this order is the answer: `NotJson`; `Shape` with `Root`; `Shape`
+/// with `Version`; `Version` with the number; `Shape` with `Env`; `Shape` with `Trees`. `Memory`
+/// may come in place of any answer.
+pub fn read(alloc: Global, bytes: &[u8]) -> Result<Cert, CertFault>
+    ensures { Answers result (reading bytes.now) }
+{
+    match Value::from_slice(alloc, bytes) {
+        Ok(value) => certificate(alloc, &value),
+        Err(error) => if error.is_memory() {
+            Err(CertFault::Memory)
+        } else {
+            Err(CertFault::NotJson)
+        },
+    }
+}
