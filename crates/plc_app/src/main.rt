@@ -3,10 +3,23 @@
 //! where a word isn't UTF-8; then nothing is written.
 #![tactic(auto)]
 
-use plc_cli::{ByList, Leak, NO_MEMORY, NOT_UTF8, OutSink, RealFiles, Reclaimer, run};
+use plc_cli::{
+    ByList, Epoch, Hazard, Leak, NO_MEMORY, NOT_UTF8, OutSink, RealFiles, Reclaimer, run,
+};
+use std::alloc::{AllocError, Global};
 use std::env;
 use std::io::{self, ErrorKind};
 use std::process::ExitCode;
+
+// The reclaimers that a replay may ask for; of those of one name the first counts.
+fn reclaimers(alloc: Global) -> Result<Vec<Box<dyn Reclaimer>>, AllocError> {
+    let mut reclaimers: Vec<Box<dyn Reclaimer>> = Vec::new(alloc);
+    reclaimers.push(Box::new(alloc, Leak::new(alloc))?)?;
+    reclaimers.push(Box::new(alloc, ByList::new(alloc))?)?;
+    reclaimers.push(Box::new(alloc, Hazard::new(alloc))?)?;
+    reclaimers.push(Box::new(alloc, Epoch::new(alloc))?)?;
+    Ok(reclaimers)
+}
 
 fn main(rt: HostRuntime) -> ExitCode {
     let alloc = rt.alloc();
@@ -21,21 +34,14 @@ fn main(rt: HostRuntime) -> ExitCode {
             return ExitCode::from(NO_MEMORY);
         }
     }
-    let mut boxes: Vec<Box<dyn Reclaimer>> = Vec::new(alloc);
-    let Ok(leak) = Box::new(alloc, Leak::new(alloc)) else {
+    let Ok(reclaimers) = reclaimers(alloc) else {
         return ExitCode::from(NO_MEMORY);
     };
-    let Ok(list) = Box::new(alloc, ByList::new(alloc)) else {
-        return ExitCode::from(NO_MEMORY);
-    };
-    if boxes.push(leak).is_err() || boxes.push(list).is_err() {
-        return ExitCode::from(NO_MEMORY);
-    }
     let host = match rt.clone() {
         Ok(host) => host,
         Err(_) => return ExitCode::from(NO_MEMORY),
     };
     let mut out = OutSink::new(io::writer(&rt));
     let mut files = RealFiles::new(alloc, host);
-    ExitCode::from(run(alloc, &words, &mut files, &mut out, boxes))
+    ExitCode::from(run(alloc, &words, &mut files, &mut out, reclaimers))
 }

@@ -23,7 +23,7 @@ use Rattle.plc_cli.specs.Headline.{Headline, IsSafeProgram, IsSafeRead, IsTypabl
 use Rattle.plc_cli.proofs.Racing.{never_races}
 
 -- bytes that a read gave, where the content is told
-told_is : (told : Option (List ℕ)) (bytes content : List ℕ) → IfSome told (λ c. bytes ≡ c) → told ≡ Some content → bytes ≡ content
+pub told_is : (told : Option (List ℕ)) (bytes content : List ℕ) → IfSome told (λ c. bytes ≡ c) → told ≡ Some content → bytes ≡ content
 told_is None bytes content h e = absurd cc
 told_is (Some c) bytes content h e = cc
 

@@ -4,6 +4,7 @@ pub mod Headline
 pub mod Reads
 pub mod Refusals
 pub mod Requests
+pub mod Served
 pub mod Statuses
 -- words of private functions alone
 pub mod Views

@@ -17,6 +17,13 @@
 //! real files too, whose content no clause can tell: the bytes that a read gave are noted for proofs
 //! alone. Running out of memory and faults of the outside aside, it ends so exactly where a typing by
 //! those rules exists.
+//!
+//! # What `replay` rules out
+//!
+//! `run` also promises, as the clause `served`, that a replay under a reclaimer that serves the file never
+//! ends in a free that the observer forbids: under one that acts as `hazard` where the file has no
+//! `use epoch`, and under one that acts as `epoch` where it has no `use hazard`. So it is of `Hazard` and
+//! `Epoch`, whose `new` promises how they act.
 #![tactic(auto)]
 
 mod answer;
@@ -31,6 +38,6 @@ mod words;
 pub use plc_outside::{
     FailSink, FileFault, Files, MemFiles, OutSink, RealFiles, Sink, SinkFault, VecSink,
 };
-pub use plc_reclaim::{ByList, Leak, Reclaimer};
+pub use plc_reclaim::{ByList, Epoch, Hazard, Leak, Reclaimer};
 pub use program::run;
 pub use status::{NO_MEMORY, NOT_UTF8};

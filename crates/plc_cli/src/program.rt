@@ -5,6 +5,7 @@ ghost use Rattle.plc_cli.specs.Requests.{request_of};
 ghost use Rattle.plc_cli.specs.Reads.{FilesAreKept};
 ghost use Rattle.plc_cli.specs.Answer.{IsDueFor, Outcome};
 ghost use Rattle.plc_cli.specs.Headline.{Headline};
+ghost use Rattle.plc_cli.specs.Served.{ServedReplays};
 
 use crate::answer::{Answer, refused_words};
 use crate::checking::check_file;
@@ -46,27 +47,31 @@ fn answer_to<F: Files>(
 
 /// All that the program does: the status, after the text was written.
 ///
-/// `words` are those after the program's name, and `boxes` the reclaimers that a replay may ask for by
-/// name; of those of one name the first counts, and all are dropped at the end. The statuses and the
-/// causes of each are in docs/formats.md; what a 0 of `check` means stands above, and in docs/runs.md.
+/// `words` are those after the program's name, and `reclaimers` those that a replay may ask for by name;
+/// of those of one name the first counts, and all are dropped at the end. The statuses and the causes of
+/// each are in docs/formats.md; what a 0 of `check` means and what `replay` rules out stands at the head
+/// of this crate, and in docs/runs.md.
 pub fn run<F: Files, S: Sink>(
     alloc: Global,
     words: &[String],
     files: &mut F,
     out: &mut S,
-    mut boxes: Vec<Box<dyn Reclaimer>>,
+    mut reclaimers: Vec<Box<dyn Reclaimer>>,
 ) -> u8
-    ensures outcome { Outcome (map meanings boxes.items)
-        (request_of (map named boxes.items) (map string_bytes words.now))
+    ensures outcome { Outcome (map meanings reclaimers.items)
+        (request_of (map named reclaimers.items) (map string_bytes words.now))
         (F.known files.old) (F.known files.new) (S.known out.old) (S.known out.new) result }
-    ensures headline { Headline (request_of (map named boxes.items) (map string_bytes words.now))
+    ensures headline { Headline (request_of (map named reclaimers.items) (map string_bytes words.now))
         (F.known files.old) (F.known files.new) result }
-    ensures untouched { request_of (map named boxes.items) (map string_bytes words.now) ≡ None
+    ensures served { ServedReplays (map meanings reclaimers.items)
+        (request_of (map named reclaimers.items) (map string_bytes words.now))
+        (F.known files.old) (F.known files.new) (S.known out.old) (S.known out.new) result }
+    ensures untouched { request_of (map named reclaimers.items) (map string_bytes words.now) ≡ None
         → F.known files.new ≡ F.known files.old }
     ensures files_kept { FilesAreKept (F.known files.old) (F.known files.new) }
     ensures count_kept { (S.known out.old).faults ≤ (S.known out.new).faults }
 {
-    match answer_to(alloc, words, files, &mut boxes) {
+    match answer_to(alloc, words, files, &mut reclaimers) {
         Err(AllocError) => NO_MEMORY,
         Ok(answer) => match write_text(out, &answer.text) {
             Ok(()) => answer.status,

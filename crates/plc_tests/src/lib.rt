@@ -12,4 +12,6 @@ mod outside;
 #[cfg(test)]
 mod program;
 #[cfg(test)]
+mod reclaimers;
+#[cfg(test)]
 mod rows;

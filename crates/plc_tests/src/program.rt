@@ -1,7 +1,7 @@
 // Whole answers of `run` over files in memory. That there is memory for an answer, and which bytes an
 // output is handed, is what no contract can say. `rows.rt` has the files, and the rows of answers.
 use crate::rows::{CHECKED, FILES, OUTLINED, PRINTED, REPLAYED, SCHEDULES, UNLISTED};
-use plc_cli::{ByList, FailSink, Files, Leak, MemFiles, Reclaimer, VecSink, run};
+use plc_cli::{ByList, Epoch, FailSink, Files, Hazard, Leak, MemFiles, Reclaimer, VecSink, run};
 use std::alloc::{AllocError, Global};
 
 // As many lines `tick` as a schedule may not have, after its first line.
@@ -30,14 +30,18 @@ fn points(alloc: Global, statements: u32, after: &str) -> Result<Vec<u8>, AllocE
 // A file that ends within a block, on its first line.
 const OPEN: &str = "struct N { } op f ( ) { ptr n ; atomic { n := new ;";
 
-type Entries = Vec<(String, Vec<u8>)>;
+pub(crate) type Entries = Vec<(String, Vec<u8>)>;
 
 fn put(alloc: Global, files: &mut Entries, name: &str, bytes: Vec<u8>) -> Result<(), AllocError> {
     files.push((String::from_str(alloc, name)?, bytes))?;
     Ok(())
 }
 
-fn put_sections(alloc: Global, files: &mut Entries, text: &str) -> Result<(), AllocError> {
+pub(crate) fn put_sections(
+    alloc: Global,
+    files: &mut Entries,
+    text: &str,
+) -> Result<(), AllocError> {
     for section in text.split("# ") {
         if let Some((name, lines)) = section.split_once("\n") {
             put(
@@ -112,7 +116,7 @@ fn some_files(alloc: Global, failing: &[u64]) -> Result<MemFiles, AllocError> {
     Ok(MemFiles::new(alloc, entries(alloc)?, failing))
 }
 
-fn words_of(alloc: Global, words: &str) -> Result<Vec<String>, AllocError> {
+pub(crate) fn words_of(alloc: Global, words: &str) -> Result<Vec<String>, AllocError> {
     let mut list = Vec::new(alloc);
     if !words.is_empty() {
         for word in words.split(" ") {
@@ -122,25 +126,39 @@ fn words_of(alloc: Global, words: &str) -> Result<Vec<String>, AllocError> {
     Ok(list)
 }
 
-// The two reclaimers of the program.
-fn push_reclaimers(alloc: Global, boxes: &mut Vec<Box<dyn Reclaimer>>) -> Result<(), AllocError> {
-    boxes.push(Box::new(alloc, Leak::new(alloc))?)?;
-    boxes.push(Box::new(alloc, ByList::new(alloc))?)?;
+type Reclaimers = Vec<Box<dyn Reclaimer>>;
+
+// The reclaimers of the program, in its order.
+fn push_reclaimers(alloc: Global, reclaimers: &mut Reclaimers) -> Result<(), AllocError> {
+    reclaimers.push(Box::new(alloc, Leak::new(alloc))?)?;
+    reclaimers.push(Box::new(alloc, ByList::new(alloc))?)?;
+    reclaimers.push(Box::new(alloc, Hazard::new(alloc))?)?;
+    reclaimers.push(Box::new(alloc, Epoch::new(alloc))?)?;
     Ok(())
 }
 
-// The status and then the text, where the reclaimers of the program are handed in.
+// The status and then the text, where these reclaimers are handed in.
+pub(crate) fn answered_under<F: Files>(
+    alloc: Global,
+    files: &mut F,
+    words: &[String],
+    reclaimers: Reclaimers,
+) -> Result<String, AllocError> {
+    let mut out = VecSink::new(alloc);
+    let status = run(alloc, words, files, &mut out, reclaimers);
+    let text = str::from_utf8(out.written()).unwrap_or("?");
+    format!(in alloc; "{status}\n{text}")
+}
+
+// The same where those of the program are handed in.
 fn answered<F: Files>(
     alloc: Global,
     files: &mut F,
     words: &[String],
 ) -> Result<String, AllocError> {
-    let mut out = VecSink::new(alloc);
-    let mut boxes = Vec::new(alloc);
-    push_reclaimers(alloc, &mut boxes)?;
-    let status = run(alloc, words, files, &mut out, boxes);
-    let text = str::from_utf8(out.written()).unwrap_or("?");
-    format!(in alloc; "{status}\n{text}")
+    let mut reclaimers = Vec::new(alloc);
+    push_reclaimers(alloc, &mut reclaimers)?;
+    answered_under(alloc, files, words, reclaimers)
 }
 
 fn answer<F: Files>(alloc: Global, files: &mut F, words: &str) -> Result<String, AllocError> {
@@ -150,7 +168,11 @@ fn answer<F: Files>(alloc: Global, files: &mut F, words: &str) -> Result<String,
 }
 
 // The answers of the rows that have another one; a row is its words, its status and its text.
-fn wrong_rows<F: Files>(alloc: Global, files: &mut F, rows: &str) -> Result<String, AllocError> {
+pub(crate) fn wrong_rows<F: Files>(
+    alloc: Global,
+    files: &mut F,
+    rows: &str,
+) -> Result<String, AllocError> {
     let mut wrong = String::new(alloc);
     for row in rows.split("# ") {
         if let Some((words, _)) = row.split_once(": ") {

@@ -490,8 +490,6 @@ words refused
 words refused
 # replay publish publish nobody: 3
 words refused
-# replay publish publish hazard: 3
-words refused
 # print publish list: 3
 words refused
 ";

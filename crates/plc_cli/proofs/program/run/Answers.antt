@@ -12,8 +12,8 @@ returns-in-Ok-write_text-clause-headline g c =
     let new = g.F.Files.known c.answer_to.new.files in
     let status = c.in-Ok.answer.status in
     let text = c.in-Ok.answer.text.items in
-    let due = subst (λ boxes. IsDueFor (map (λ b. (goal.Reclaimer-dyn g (b.vtable, b.value)).meanings b.value) boxes)
-    (request_of (map (λ b. (goal.Reclaimer-dyn g (b.vtable, b.value)).named b.value) boxes) (map string_bytes c.args.words.now)) old new status text) c.deref_mut.ensures.value c.in-Ok.ensures.due in
+    let due = subst (λ reclaimers. IsDueFor (map (λ b. (goal.Reclaimer-dyn g (b.vtable, b.value)).meanings b.value) reclaimers)
+    (request_of (map (λ b. (goal.Reclaimer-dyn g (b.vtable, b.value)).named b.value) reclaimers) (map string_bytes c.args.words.now)) old new status text) c.deref_mut.ensures.value c.in-Ok.ensures.due in
     headline_of _ _ _ _ status text due
 
 pub returns-in-Ok-write_text-clause-outcome : goal.returns-in-Ok-write_text-clause-outcome
@@ -22,10 +22,10 @@ returns-in-Ok-write_text-clause-outcome g c =
     let new = g.F.Files.known c.answer_to.new.files in
     let status = c.in-Ok.answer.status in
     let text = c.in-Ok.answer.text.items in
-    let due = subst (λ boxes. IsDueFor (map (λ b. (goal.Reclaimer-dyn g (b.vtable, b.value)).meanings b.value) boxes)
-    (request_of (map (λ b. (goal.Reclaimer-dyn g (b.vtable, b.value)).named b.value) boxes) (map string_bytes c.args.words.now)) old new status text) c.deref_mut.ensures.value c.in-Ok.ensures.due in
-    all_written status text (map (λ b. (goal.Reclaimer-dyn g (b.vtable, b.value)).meanings b.value) c.args.boxes.items)
-    (request_of (map (λ b. (goal.Reclaimer-dyn g (b.vtable, b.value)).named b.value) c.args.boxes.items) (map string_bytes c.args.words.now)) old new due
+    let due = subst (λ reclaimers. IsDueFor (map (λ b. (goal.Reclaimer-dyn g (b.vtable, b.value)).meanings b.value) reclaimers)
+    (request_of (map (λ b. (goal.Reclaimer-dyn g (b.vtable, b.value)).named b.value) reclaimers) (map string_bytes c.args.words.now)) old new status text) c.deref_mut.ensures.value c.in-Ok.ensures.due in
+    all_written status text (map (λ b. (goal.Reclaimer-dyn g (b.vtable, b.value)).meanings b.value) c.args.reclaimers.items)
+    (request_of (map (λ b. (goal.Reclaimer-dyn g (b.vtable, b.value)).named b.value) c.args.reclaimers.items) (map string_bytes c.args.words.now)) old new due
     (g.S.Sink.known c.args.out.now) (g.S.Sink.known c.write_text.new.out)
     (subst (Appends _ _) c.deref.ensures.value c.in-Ok-write_text.ensures.ok)
 
@@ -35,10 +35,10 @@ returns-in-Err-Failed-clause-outcome g c =
     let new = g.F.Files.known c.answer_to.new.files in
     let status = c.in-Ok.answer.status in
     let text = c.in-Ok.answer.text.items in
-    let due = subst (λ boxes. IsDueFor (map (λ b. (goal.Reclaimer-dyn g (b.vtable, b.value)).meanings b.value) boxes)
-    (request_of (map (λ b. (goal.Reclaimer-dyn g (b.vtable, b.value)).named b.value) boxes) (map string_bytes c.args.words.now)) old new status text) c.deref_mut.ensures.value c.in-Ok.ensures.due in
-    part_written status text (map (λ b. (goal.Reclaimer-dyn g (b.vtable, b.value)).meanings b.value) c.args.boxes.items)
-    (request_of (map (λ b. (goal.Reclaimer-dyn g (b.vtable, b.value)).named b.value) c.args.boxes.items) (map string_bytes c.args.words.now)) old new due
+    let due = subst (λ reclaimers. IsDueFor (map (λ b. (goal.Reclaimer-dyn g (b.vtable, b.value)).meanings b.value) reclaimers)
+    (request_of (map (λ b. (goal.Reclaimer-dyn g (b.vtable, b.value)).named b.value) reclaimers) (map string_bytes c.args.words.now)) old new status text) c.deref_mut.ensures.value c.in-Ok.ensures.due in
+    part_written status text (map (λ b. (goal.Reclaimer-dyn g (b.vtable, b.value)).meanings b.value) c.args.reclaimers.items)
+    (request_of (map (λ b. (goal.Reclaimer-dyn g (b.vtable, b.value)).named b.value) c.args.reclaimers.items) (map string_bytes c.args.words.now)) old new due
     (g.S.Sink.known c.args.out.now) (g.S.Sink.known c.write_text.new.out)
     (subst (AppendsPart _ _) c.deref.ensures.value c.in-Err-Failed.ensures.err)
     (c.write_text.ensures.cause.failed (rw c.in-Err-Failed.is (ap Err c.in-Err-Failed.field-0-is)))
@@ -49,9 +49,9 @@ returns-clause-outcome g c =
     let new = g.F.Files.known c.answer_to.new.files in
     let status = c.in-Ok.answer.status in
     let text = c.in-Ok.answer.text.items in
-    let due = subst (λ boxes. IsDueFor (map (λ b. (goal.Reclaimer-dyn g (b.vtable, b.value)).meanings b.value) boxes)
-    (request_of (map (λ b. (goal.Reclaimer-dyn g (b.vtable, b.value)).named b.value) boxes) (map string_bytes c.args.words.now)) old new status text) c.deref_mut.ensures.value c.in-Ok.ensures.due in
-    memory_ran_out status text (map (λ b. (goal.Reclaimer-dyn g (b.vtable, b.value)).meanings b.value) c.args.boxes.items)
-    (request_of (map (λ b. (goal.Reclaimer-dyn g (b.vtable, b.value)).named b.value) c.args.boxes.items) (map string_bytes c.args.words.now)) old new due
+    let due = subst (λ reclaimers. IsDueFor (map (λ b. (goal.Reclaimer-dyn g (b.vtable, b.value)).meanings b.value) reclaimers)
+    (request_of (map (λ b. (goal.Reclaimer-dyn g (b.vtable, b.value)).named b.value) reclaimers) (map string_bytes c.args.words.now)) old new status text) c.deref_mut.ensures.value c.in-Ok.ensures.due in
+    memory_ran_out status text (map (λ b. (goal.Reclaimer-dyn g (b.vtable, b.value)).meanings b.value) c.args.reclaimers.items)
+    (request_of (map (λ b. (goal.Reclaimer-dyn g (b.vtable, b.value)).named b.value) c.args.reclaimers.items) (map string_bytes c.args.words.now)) old new due
     (g.S.Sink.known c.args.out.now) (g.S.Sink.known c.write_text.new.out)
     (subst (AppendsPart _ _) c.deref.ensures.value c.in-Err-Memory.ensures.err)
