@@ -1,5 +1,5 @@
 -- A replay that fails under a reclaimer that serves the file fails otherwise than by a forbidden free.
-use Rattle.std.proofs.Common.{◌≡◌, ℕ, List, [], ◌∷◌, ◌++◌, Option, Some, None, ◌⊎◌, refl, sym, ap, ◌∙◌, subst, arith, inl, inr}
+use Rattle.std.proofs.Common.{◌≡◌, ℕ, List, [], ◌∷◌, Option, Some, None, ◌⊎◌, refl, sym, ap, ◌∙◌, subst, arith, inl, inr}
 use Rattle.std.specs.Prelude.{slice_get, IfSome}
 use Rattle.std.proofs.lemmas.List.{append_cancel_left}
 use Rattle.plc_base.specs.Limits.{largest_schedule}
@@ -7,7 +7,6 @@ use Rattle.plc_outside.specs.Known.{KnownFiles, KnownSink}
 use Rattle.plc_outside.specs.Outside.{Appends}
 use Rattle.plc_outside.specs.Reading.{Reading}
 use Rattle.plc_parse.specs.declared.unit.Unit.{Unit as FileUnit}
-use Rattle.plc_check.specs.declared.judged.Judged.{Judged}
 use Rattle.plc_check.specs.declared.unjudged.Unjudged.TheVariants.{Outlines}
 use Rattle.plc_check.specs.Loading.{IsFileOf, judged_of}
 use Rattle.plc_check.proofs.Fitting.{all_files_fit}
@@ -16,9 +15,9 @@ use Rattle.plc_sched.specs.declared.schedule.Schedule.{Schedule}
 use Rattle.plc_reclaim.specs.Meanings.{Meanings}
 use Rattle.plc_replay.specs.declared.end.End.{End}
 use Rattle.plc_replay.specs.Outcome.{ComesTo}
-use Rattle.plc_replay.specs.Laws.{Serves, IsServed, IsAllowedEnd}
+use Rattle.plc_replay.specs.Laws.{Serves, IsAllowedEnd}
 use Rattle.plc_replay.proofs.Forbidding.{never_forbidden}
-use Rattle.plc_cli.specs.Reads.{IsUnread, IsUnreadPair, IsGivenPair, IsDueForPair, Gave, reading}
+use Rattle.plc_cli.specs.Reads.{IsUnread, IsUnreadPair, IsGivenPair, IsDueForPair, reading}
 use Rattle.plc_cli.specs.Requests.{Request, Replay}
 use Rattle.plc_cli.specs.Answer.{IsScheduleAnswered, IsReplayOf, IsDueFor, IsDueForReplay, Outcome}
 use Rattle.plc_cli.specs.Statuses.{unwritten, no_memory}

@@ -3,6 +3,7 @@ use Rattle.plc_outside.specs.Outside.{Appends, AppendsPart}
 use Rattle.plc_cli.specs.Requests.{request_of}
 use Rattle.plc_cli.specs.Answer.{IsDueFor}
 use Rattle.plc_cli.proofs.Judging.{headline_of}
+use Rattle.plc_cli.proofs.Serving.{served_replays}
 use Rattle.plc_cli.proofs.Statuses.{all_written, part_written, memory_ran_out}
 use Rattle.plc_cli.proofs.program.run.Goals as goal
 
@@ -28,6 +29,9 @@ returns-in-Ok-write_text-clause-outcome g c =
     (request_of (map (λ b. (goal.Reclaimer-dyn g (b.vtable, b.value)).named b.value) c.args.reclaimers.items) (map string_bytes c.args.words.now)) old new due
     (g.S.Sink.known c.args.out.now) (g.S.Sink.known c.write_text.new.out)
     (subst (Appends _ _) c.deref.ensures.value c.in-Ok-write_text.ensures.ok)
+
+pub returns-in-Ok-write_text-clause-served : goal.returns-in-Ok-write_text-clause-served
+returns-in-Ok-write_text-clause-served g c = served_replays _ _ _ _ _ _ _ (returns-in-Ok-write_text-clause-outcome g c)
 
 pub returns-in-Err-Failed-clause-outcome : goal.returns-in-Err-Failed-clause-outcome
 returns-in-Err-Failed-clause-outcome g c =
