@@ -17,7 +17,7 @@ use Rattle.plc_scope.specs.Scope.{◌>>=◌, first_scope, declared, declared_par
 use Rattle.plc_outparse.specs.Meaning.{outline_means}
 use Rattle.plc_outparse.specs.Reading.{outline_in}
 use Rattle.plc_outparse.proofs.Law.{outline_read}
-use Rattle.plc_parse.specs.Meaning.{listed, field_means, shared_means, function_means, value_means, values_mean, ghost_means, watch_means, init_means, initials_mean, others_mean, parameters_mean, local_means, locals_mean, line_at, statements_mean, op_means, outlined_means, retire, file_means}
+use Rattle.plc_parse.specs.Meaning.{listed, field_means, shared_means, function_means, value_means, values_mean, ghost_means, watch_means, init_means, initials_mean, others_mean, parameters_mean, local_means, locals_mean, line_at, statements_mean, op_means, outlined_means, file_means, file_from}
 use Rattle.plc_scope.specs.Read.{ReadTo, wanted_at}
 use Rattle.plc_parse.specs.Reading.{judged, fields_in, shared_in, functions_in, value_step, values_in, of_threads_in, all_values_in, of_values_in, ghost_in, ghosts_in, parameter_step, local_step, parameters_in, locals_in, all_locals_in, block_in, op_in, ops_in, struct_in, declarations_in, watch_in, init_in, outlined_in, file_in}
 use Rattle.plc_scope.proofs.Sequence.{bind_same, bind_joins, bind_within, read_within, read_same, limit_within}
@@ -201,7 +201,7 @@ file_read lines f =
     read_same (ghosts_in functions.1 observer.1 behind_watched) (listed ghost_means functions.1 0 observer.1 f.ghosts) (λ r. Ok (r, behind_ghosts)) _ _ (ghosts_read functions.1 observer.1 f.ghosts behind_ghosts no_ghost) (λ ghosts.
     read_same (init_in ghosts.1 ghosts.2 behind_ghosts) (init_means ghosts.1 ghosts.2 f.starts) (λ r. Ok (r, behind_starts)) _ _ (init_read ghosts.1 ghosts.2 f.starts behind_starts no_init) (λ starts.
     read_same (ops_in lines ghosts.1 starts.1 behind_starts) (listed (op_means lines) ghosts.1 0 starts.1 f.ops) (λ r. Ok (r, behind_ops)) _ _ (ops_read lines ghosts.1 starts.1 f.ops behind_ops no_op) (λ ops.
-    ap (λ r. r >>= λ outline. Ok (record { file = record { names = ops.1.names; fields = fields.0; shared = pointers.0; funcs = retire ∷ functions.0; ghosts = ghosts.0; init = starts.0; ops = ops.0; labels = ops.1.labels }; observer = observer.0; outline = outline })) (outlined_read ops.1 ops.0 ops.2 f.outlined)))))))))
+    ap (λ r. r >>= λ outline. Ok (record { file = file_from fields.0 pointers.0 functions.0 ghosts.0 starts.0 ops.0 ops.1; observer = observer.0; outline = outline })) (outlined_read ops.1 ops.0 ops.2 f.outlined)))))))))
   where
     behind_ops : List TokenKind
     behind_ops = outline_end f.outlined

@@ -17,6 +17,7 @@ pub mod Whole
 pub mod Growth
 pub mod Turning
 pub mod Stops
+pub mod LocalLoop
 pub mod FormLoop
 pub mod BlockLoop
 pub mod Answering

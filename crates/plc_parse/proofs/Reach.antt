@@ -122,13 +122,10 @@ module _ (P : Binding → Type 0) (of_local : P LocalOnly) where
 module _ (h : Shape) where
   outside_in : (b : Binding) → BindingIn h.shared h.fields b → IfSome (role_outside b) (RoleIn h)
   outside_in Taken is = tt
-  outside_in (Shared k) is = is
-  outside_in (PointerField f) is = is
-  outside_in (DataField f) is = is
-  outside_in (Function f p) is = is
   outside_in (Auxiliary g t) is = tt
   outside_in (Value g v) is = tt
   outside_in LocalOnly is = tt
+  outside_in b is = is
 
   -- a local, or one behind it
   local_in : (p v others_p others_v others_d : ℕ) (ls : List Local) (i : ℕ) (same pointer param : Bool)

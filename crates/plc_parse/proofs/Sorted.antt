@@ -31,9 +31,9 @@ use Rattle.plc_scope.specs.declared.fault.ParseFault.{ParseFault}
 use Rattle.plc_scope.specs.declared.fault.ParseFault.TheVariants as faults
 use Rattle.plc_scope.specs.declared.scope.Scope.{Scope}
 use Rattle.plc_scope.specs.declared.binding.Binding.{Binding}
-use Rattle.plc_scope.specs.declared.binding.Binding.TheVariants.{Taken, Shared, PointerField, DataField, Function, Auxiliary, Value, LocalOnly}
+use Rattle.plc_scope.specs.declared.binding.Binding.TheVariants.{Shared}
 use Rattle.plc_scope.specs.declared.binding.Role.{Role}
-use Rattle.plc_scope.specs.declared.binding.Role.TheVariants.{PointerVariable as pointer_variable, DataLocal as data_local, PointerField as pointer_field, DataField as data_field, Function as function, Auxiliary as auxiliary, Value as value, NoValue as no_value}
+use Rattle.plc_scope.specs.declared.binding.Role.TheVariants.{PointerVariable as pointer_variable, DataLocal as data_local, PointerField as pointer_field, DataField as data_field, Function as function, Auxiliary as auxiliary, Value as value}
 use Rattle.plc_scope.specs.Scope.{◌>>=◌, needed, any_role, role_of, role_inside, role_outside, value_of_field, as_pointer_field, as_data_field, as_function, as_protecting, as_without_pointer, as_auxiliary, as_value_of, as_thread, declared, pointer_at, pointer_local_at, data_at, pointer_field_at, data_field_at, function_at, protecting_at, without_pointer_at, auxiliary_at, value_at, thread_at}
 use Rattle.plc_scope.specs.Limits.{stands_at}
 use Rattle.plc_scope.specs.Primitives.{pointer_value, data_value, value_into, pointer_atom, data_atom, atom_into, set_means, refresh_from, refresh_name_means, refresh_means, ghost_value_means, ghost_set_means, pointer_equality, pointer_test, data_test, test_of, test_means, pointer_or_null, condition_means, primitive_means, initial_means, CallMeaning, argument_means, call_means}
@@ -41,20 +41,9 @@ use Rattle.plc_scope.proofs.Holds.{Has, weaker, next, any, unless, both_err}
 use Rattle.plc_outparse.specs.Fit.{holds_threads}
 use Rattle.plc_parse.specs.Meaning.{counted, before, allocates, count_of, forms_mean, atomic_means, one_or_skip, label_means, during_means, statement_means, statements_mean, else_means, or_means}
 use Rattle.plc_parse.proofs.Reach.{role_is, needed_in}
-use Rattle.plc_parse.proofs.There.{Lists, IsField, IsFunction, IsThere, AllThere, lists_of, Named, named}
+use Rattle.plc_parse.proofs.There.{Lists, IsField, IsFunction, RoleThere, IsThere, AllThere, lists_of, Named, named}
 
 -- ---- what a name is
-
--- what a name is in an operation is there; of locals nothing is asked
-abbrev RoleThere : Lists → Role → Type 0
-RoleThere d (pointer_variable v) = Unit {0}
-RoleThere d (data_local x) = Unit {0}
-RoleThere d (pointer_field f) = IsField d f.0 true
-RoleThere d (data_field f) = IsField d f.0 false
-RoleThere d (function f p) = IsFunction d f.0 p
-RoleThere d (auxiliary g t) = (h : Ghost) × (slice_get d.ghosts g ≡ Some h) × (t ≡ holds_threads h.values)
-RoleThere d (value g v) = (h : Ghost) × (slice_get d.ghosts g ≡ Some h) × (v < length h.values)
-RoleThere d no_value = Unit {0}
 
 -- a function with a pointer
 abbrev pub IsProtecting : Lists → FuncId → Type 0
@@ -66,14 +55,8 @@ IsWithoutPointer d f = IsFunction d f.0 false
 
 module _ (d : Lists) where
   outside_there : (b : Binding) → IsThere d b → IfSome (role_outside b) (RoleThere d)
-  outside_there Taken is = tt
   outside_there (Shared k) is = tt
-  outside_there (PointerField f) is = is
-  outside_there (DataField f) is = is
-  outside_there (Function f p) is = is
-  outside_there (Auxiliary g t) is = is
-  outside_there (Value g v) is = is
-  outside_there LocalOnly is = tt
+  outside_there b is = is
 
   local_there : (same pointer : Bool) (p v : ℕ) (a b : Option Role) → IfSome a (RoleThere d) → IfSome b (RoleThere d)
       → IfSome (if same then Some (if pointer then pointer_variable (LocalVar p) else data_local v) else (if pointer then a else b)) (RoleThere d)

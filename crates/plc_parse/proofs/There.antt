@@ -1,6 +1,6 @@
 -- What names stand for is there: each declaration stands in the lists of the file at its number, so a name that is in reach stands for
 -- what the file has. Nothing is asked of the lists before they are whole: whatever lists have what was declared have what is in reach.
-use Rattle.std.proofs.Common.{◌≡◌, ◌==◌, ℕ, suc, ◌+◌, ◌≤◌, ◌<◌, Bool, true, false, Option, Some, None, Result, Ok, Err, List, [], ◌∷◌, length, slice_get, refl, subst, ap, ◌∙◌, arith}
+use Rattle.std.proofs.Common.{◌≡◌, ◌==◌, ℕ, suc, ◌+◌, ◌≤◌, ◌<◌, Bool, true, false, Option, Some, None, IfSome, Result, Ok, Err, List, [], ◌∷◌, length, slice_get, refl, subst, ap, ◌∙◌, arith}
 use Rattle.std.proofs.lemmas.Option.{slice_get_within}
 use Rattle.std.proofs.lemmas.List.Elements.{All-nil, All-cons, All-push}
 use Rattle.plc_base.specs.Names.{place_of}
@@ -15,8 +15,10 @@ use Rattle.plc_syntax.specs.Trees.{Text, FieldTree, PointerField as PointerField
 use Rattle.plc_scope.specs.declared.fault.ParseFault.{ParseFault}
 use Rattle.plc_scope.specs.declared.scope.Scope.{Scope}
 use Rattle.plc_scope.specs.declared.binding.Binding.{Binding}
-use Rattle.plc_scope.specs.declared.binding.Binding.TheVariants.{Taken, Shared, PointerField, DataField, Function, Auxiliary, Value, LocalOnly}
-use Rattle.plc_scope.specs.Scope.{◌>>=◌, first_scope, if_new, with_name, declared}
+use Rattle.plc_scope.specs.declared.binding.Binding.TheVariants.{Shared, Function, Auxiliary, Value}
+use Rattle.plc_scope.specs.declared.binding.Role.{Role}
+use Rattle.plc_scope.specs.declared.binding.Role.TheVariants.{PointerVariable as pointer_variable, DataLocal as data_local, PointerField as pointer_field, DataField as data_field, Function as function, Auxiliary as auxiliary, Value as value, NoValue as no_value}
+use Rattle.plc_scope.specs.Scope.{◌>>=◌, first_scope, if_new, with_name, declared, role_outside}
 use Rattle.plc_scope.specs.Limits.{within_limit}
 use Rattle.plc_scope.proofs.Holds.{Has, next, unless}
 use Rattle.plc_outparse.specs.Fit.{holds_threads}
@@ -41,16 +43,21 @@ IsField d f is_pointer = (x : Field) × (slice_get d.fields f ≡ Some x) × (x.
 abbrev pub IsFunction : Lists → ℕ → Bool → Type 0
 IsFunction d f is_pointer = (x : Func) × (slice_get d.funcs f ≡ Some x) × (x.pointer ≡ is_pointer)
 
+-- what a name is in an operation is there; of locals nothing is asked
+abbrev pub RoleThere : Lists → Role → Type 0
+RoleThere d (pointer_variable v) = Unit {0}
+RoleThere d (data_local x) = Unit {0}
+RoleThere d (pointer_field f) = IsField d f.0 true
+RoleThere d (data_field f) = IsField d f.0 false
+RoleThere d (function f p) = IsFunction d f.0 p
+RoleThere d (auxiliary g t) = (h : Ghost) × (slice_get d.ghosts g ≡ Some h) × (t ≡ holds_threads h.values)
+RoleThere d (value g v) = (h : Ghost) × (slice_get d.ghosts g ≡ Some h) × (v < length h.values)
+RoleThere d no_value = Unit {0}
+
 -- what a name stands for is there, and is what the name says
 abbrev pub IsThere : Lists → Binding → Type 0
-IsThere d Taken = Unit {0}
 IsThere d (Shared k) = k < length d.shared
-IsThere d (PointerField f) = IsField d f.0 true
-IsThere d (DataField f) = IsField d f.0 false
-IsThere d (Function f p) = IsFunction d f.0 p
-IsThere d (Auxiliary g t) = (h : Ghost) × (slice_get d.ghosts g ≡ Some h) × (t ≡ holds_threads h.values)
-IsThere d (Value g v) = (h : Ghost) × (slice_get d.ghosts g ≡ Some h) × (v < length h.values)
-IsThere d LocalOnly = Unit {0}
+IsThere d b = IfSome (role_outside b) (RoleThere d)
 
 -- the same of all names in reach
 abbrev pub AllThere : Lists → Scope → Type 0

@@ -22,7 +22,7 @@ use Rattle.plc_outparse.proofs.Fits.{at_start}
 use Rattle.plc_parse.specs.declared.unit.Unit.{Unit as FileUnit}
 use Rattle.plc_parse.specs.Growth.{KeepsLists}
 use Rattle.plc_parse.specs.Fit.{WatchesDeclared}
-use Rattle.plc_parse.specs.Meaning.{field_means, shared_means, function_means, ghost_means, listed, initials_mean, watch_means, init_means, op_means, outlined_means, file_means, retire}
+use Rattle.plc_parse.specs.Meaning.{field_means, shared_means, function_means, ghost_means, listed, initials_mean, watch_means, init_means, op_means, outlined_means, file_means, file_from, retire}
 use Rattle.plc_parse.proofs.Holds.{EachOn, each_on}
 use Rattle.plc_parse.proofs.There.{Lists, AllThere, EachThere, each_there, kept_then, Named, named, FieldThere, field_there, SharedThere, shared_there, FunctionThere, function_there, behind_retire, GhostThere, ghost_there, first_there}
 use Rattle.plc_parse.proofs.Numbering.{Numbered, nothing, numbered_range}
@@ -91,16 +91,7 @@ unit_whole lines f =
     next (Starts d) IsWhole (init_means ghosts.1 ghosts.2 f.starts) _ (starts_sorted d ghosts.1 ghosts.2 f.starts all) (λ starts i.
     next (EachOn (OpSorted d) (BehindOps d) []) IsWhole (listed (op_means lines) ghosts.1 0 starts.1 f.ops) _
     (each_on (op_means lines) (OpSorted d) (BehindOps d) (op_sorted d lines) [] ghosts.1 0 starts.1 f.ops (record { there = all; locals = kept.locals; numbered = none })) (λ ops o.
-    let file : File = record {
-      names = ops.1.names;
-      fields = fields.0;
-      shared = pointers.0;
-      funcs = retire ∷ functions.0;
-      ghosts = ghosts.0;
-      init = starts.0;
-      ops = ops.0;
-      labels = ops.1.labels;
-    } in
+    let file : File = file_from fields.0 pointers.0 functions.0 ghosts.0 starts.0 ops.0 ops.1 in
     let w : With d = (file, refl) in
     next (OutlineFits file) IsWhole (outlined_means ops.1 ops.0 ops.2 f.outlined) _ (outlined_fits ops.1 file refl o.state.there ops.2 f.outlined) (λ outline fits.
     record {

@@ -15,6 +15,10 @@ pub record KeepsLists (old new : Scope) : Type 0 where
   pub locals : new.locals ≡ old.locals
   pub labels : new.labels ≡ old.labels
 
+-- the names that an auxiliary field declares: its own, its values, and the one past their limit
+abbrev pub ghost_names : ℕ
+ghost_names = most limits.Values + 2
+
 -- labels may be counted over the whole file
 abbrev pub most_labels : ℕ
 most_labels = most limits.Labels
@@ -32,11 +36,15 @@ pub record GrowsByLabels (old new : Scope) : Type 0 where
   pub names : length new.names.names + length old.labels ≤ length old.names.names + length new.labels
   pub limit : new.names.limit ≡ old.names.limit
 
--- an operation can be read: it needs 33 names beside its labels, and locals of none before are in reach
+-- the names that an operation declares beside its labels: its own and its locals
+abbrev pub op_names : ℕ
+op_names = most_locals + 1
+
+-- an operation can be read: there is room for its names, all labels and one past them, and locals of none before are in reach
 pub record CanOperate (scope : Scope) : Type 0 where
   pub locals : scope.locals ≡ []
   pub labels : length scope.labels ≤ most_labels
-  pub names : length scope.names.names + 290 ≤ scope.names.limit + length scope.labels
+  pub names : length scope.names.names + (op_names + most_labels + 1) ≤ scope.names.limit + length scope.labels
 
 -- so many names beside labels were declared, and no local is in reach
 pub record GrowsByOps (old new : Scope) (count : ℕ) : Type 0 where

@@ -5,6 +5,7 @@ use Rattle.plc_base.specs.declared.limits.What1.TheVariants as limits
 use Rattle.plc_base.specs.Limits.{most}
 use Rattle.plc_lang.specs.declared.syntax.Primitive.{Primitive}
 use Rattle.plc_lang.specs.Allocation.{is_new}
+use Rattle.plc_lang.specs.declared.syntax.File.{File}
 use Rattle.plc_lang.specs.declared.syntax.Op.{Op}
 use Rattle.plc_lang.specs.declared.syntax.Field.{Field}
 use Rattle.plc_lang.specs.declared.syntax.Func.{Func}
@@ -274,6 +275,19 @@ outlined_means s ops at (Some t) = do
 abbrev pub retire : Func
 retire = record { name = 0; pointer = true }
 
+-- a file of its parts: `retire` stands before the functions that it declares, and the names and labels are those in reach at its end
+abbrev pub file_from : List Field → List ℕ → List Func → List Ghost → List Primitive → List Op → Scope → File
+file_from fields pointers functions ghosts starts ops end = record {
+  names = end.names;
+  fields = fields;
+  shared = pointers;
+  funcs = retire ∷ functions;
+  ghosts = ghosts;
+  init = starts;
+  ops = ops;
+  labels = end.labels;
+}
+
 -- the parts of a file in order; lines are those of the tokens
 unfoldable pub file_means : List ℕ → FileTree → Result FileUnit ParseFault
 file_means lines f = do
@@ -286,17 +300,4 @@ file_means lines f = do
   starts ← init_means ghosts.1 ghosts.2 f.starts
   ops ← listed (op_means lines) ghosts.1 0 starts.1 f.ops
   outline ← outlined_means ops.1 ops.0 ops.2 f.outlined
-  Ok (record {
-    file = record {
-      names = ops.1.names;
-      fields = fields.0;
-      shared = pointers.0;
-      funcs = retire ∷ functions.0;
-      ghosts = ghosts.0;
-      init = starts.0;
-      ops = ops.0;
-      labels = ops.1.labels;
-    };
-    observer = observer.0;
-    outline = outline;
-  })
+  Ok (record { file = file_from fields.0 pointers.0 functions.0 ghosts.0 starts.0 ops.0 ops.1; observer = observer.0; outline = outline })

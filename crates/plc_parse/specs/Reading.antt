@@ -30,7 +30,7 @@ use Rattle.plc_logic.specs.declared.clause.Outline.{Outline}
 use Rattle.plc_outparse.specs.Reading.{outline_in}
 use Rattle.plc_parse.specs.declared.unit.Unit.{Unit as FileUnit}
 use Rattle.plc_scope.specs.Limits.{within_limit}
-use Rattle.plc_parse.specs.Meaning.{counted, allocates, before, line_at, one_or_skip, label_means, during_means, field_means, shared_means, function_means, value_means, watch_means, local_means, empty_outline, retire}
+use Rattle.plc_parse.specs.Meaning.{counted, allocates, before, line_at, one_or_skip, label_means, during_means, field_means, shared_means, function_means, value_means, watch_means, local_means, empty_outline, file_from}
 
 -- ---- forms that follow one another
 
@@ -400,17 +400,4 @@ file_in lines ts = do
   i ← init_in g.0.1 g.0.2 g.1
   ops ← ops_in lines g.0.1 i.0.1 i.1
   outline ← outlined_in ops.0.1 ops.0.0 ops.0.2 ops.1
-  Ok (record {
-    file = record {
-      names = ops.0.1.names;
-      fields = d.0.0;
-      shared = d.0.1;
-      funcs = retire ∷ d.0.2;
-      ghosts = g.0.0;
-      init = i.0.0;
-      ops = ops.0.0;
-      labels = ops.0.1.labels;
-    };
-    observer = w.0.0;
-    outline = outline;
-  })
+  Ok (record { file = file_from d.0.0 d.0.1 d.0.2 g.0.0 i.0.0 ops.0.0 ops.0.1; observer = w.0.0; outline = outline })

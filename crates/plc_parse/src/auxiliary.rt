@@ -1,9 +1,9 @@
 // Auxiliary fields. One is a thread or one of its values, whose names are declared with it.
-ghost use Rattle.std.specs.Prelude.{◌≡◌, ◌+◌, ◌<◌, ◌≤◌, ◌^◌, IfOk, [], ◌∷◌, length};
+ghost use Rattle.std.specs.Prelude.{◌≡◌, ◌+◌, ◌-◌, ◌*◌, ◌<◌, ◌≤◌, ◌^◌, IfOk, [], ◌∷◌, length};
 ghost use Rattle.plc_base.specs.Limits.{most};
 ghost use Rattle.plc_syntax.specs.Syntax.{kinds};
 ghost use Rattle.plc_scope.specs.Answers.{Gives, HasRoom, GrowsBy, Within};
-ghost use Rattle.plc_parse.specs.Growth.{KeepsLists};
+ghost use Rattle.plc_parse.specs.Growth.{KeepsLists, ghost_names};
 ghost use Rattle.plc_parse.specs.Meaning.{value_means};
 ghost use Rattle.plc_parse.specs.Reading.{values_in, of_threads_in, all_values_in, of_values_in, ghost_in, ghosts_in};
 
@@ -47,10 +47,10 @@ fn read_values<'a>(
     start: Rest<'a>,
 ) -> Result<(Items<u16>, Rest<'a>), ParseFault>
     requires owner { owner < most What1.Ghosts }
-    requires room { HasRoom scope.old 16 }
+    requires room { HasRoom scope.old (most What1.Values) }
     ensures read { Gives (λ r. ((r.0, scope.new, r.1.at), kinds r.1.tokens.now)) result
         (values_in owner (first ∷ [], scope.old, start.entry.at) (kinds start.entry.tokens.now)) }
-    ensures names { IfOk result (λ _. GrowsBy scope.old scope.new 15) }
+    ensures names { IfOk result (λ _. GrowsBy scope.old scope.new (most What1.Values - 1)) }
     ensures lists { IfOk result (λ _. KeepsLists scope.old scope.new) }
     ensures place { IfOk result (λ r. Within start.entry r.1) }
 {
@@ -76,11 +76,11 @@ fn read_all_values<'a>(
     start: Rest<'a>,
 ) -> Result<(Items<u16>, Rest<'a>), ParseFault>
     requires owner { owner < most What1.Ghosts }
-    requires room { HasRoom scope.old 17 }
+    requires room { HasRoom scope.old (most What1.Values + 1) }
     requires name { start.at ≡ at + 1 }
     ensures read { Gives (λ r. ((r.0, scope.new, r.1.at), kinds r.1.tokens.now)) result
         (all_values_in owner scope.old at name.now (kinds start.entry.tokens.now)) }
-    ensures names { IfOk result (λ _. GrowsBy scope.old scope.new 16) }
+    ensures names { IfOk result (λ _. GrowsBy scope.old scope.new (most What1.Values)) }
     ensures lists { IfOk result (λ _. KeepsLists scope.old scope.new) }
     ensures place { IfOk result (λ r. Within start.entry r.1) }
 {
@@ -104,11 +104,11 @@ fn read_of_values<'a>(
     start: Rest<'a>,
 ) -> Result<(Ghost, Rest<'a>), ParseFault>
     requires limit { count < most What1.Ghosts }
-    requires room { HasRoom scope.old 18 }
+    requires room { HasRoom scope.old ghost_names }
     requires value { start.at ≡ at + 4 }
     ensures read { Gives (λ r. ((r.0, scope.new, r.1.at), kinds r.1.tokens.now)) result
         (of_values_in scope.old count at name.now value.now (kinds start.entry.tokens.now)) }
-    ensures names { IfOk result (λ _. GrowsBy scope.old scope.new 17) }
+    ensures names { IfOk result (λ _. GrowsBy scope.old scope.new (most What1.Values + 1)) }
     ensures lists { IfOk result (λ _. KeepsLists scope.old scope.new) }
     ensures place { IfOk result (λ r. Within start.entry r.1) }
 {
@@ -152,12 +152,12 @@ fn read_ghost<'a>(
     start: Rest<'a>,
 ) -> Result<(Ghost, Rest<'a>), ParseFault>
     requires limit { count ≤ most What1.Ghosts }
-    requires room { HasRoom scope.old 18 }
+    requires room { HasRoom scope.old ghost_names }
     requires name { start.at ≡ at + 2 }
     ensures limit { IfOk result (λ _. count < most What1.Ghosts) }
     ensures read { Gives (λ r. ((r.0, scope.new, r.1.at), kinds r.1.tokens.now)) result
         (ghost_in scope.old count at name.now (kinds start.entry.tokens.now)) }
-    ensures names { IfOk result (λ _. GrowsBy scope.old scope.new 17) }
+    ensures names { IfOk result (λ _. GrowsBy scope.old scope.new (most What1.Values + 1)) }
     ensures lists { IfOk result (λ _. KeepsLists scope.old scope.new) }
     ensures place { IfOk result (λ r. Within start.entry r.1) }
 {
@@ -181,6 +181,7 @@ impl Listed for AuxiliaryFields {
     ghost use Rattle.plc_base.specs.Limits.{most};
     ghost use Rattle.plc_syntax.specs.Trees.{Text};
     ghost use Rattle.plc_forms.specs.Forms.{ghost_of};
+    ghost use Rattle.plc_parse.specs.Growth.{ghost_names};
     ghost use Rattle.plc_parse.specs.Reading.{ghost_in};
 
     type Item = Ghost;
@@ -193,7 +194,7 @@ impl Listed for AuxiliaryFields {
 
     ghost limit = { most Ghosts };
 
-    ghost names = { 18 };
+    ghost names = { ghost_names };
 
     fn next<'a>(
         alloc: Global,
@@ -215,10 +216,10 @@ pub fn read_ghosts<'a>(
     scope: &mut Scope,
     start: Rest<'a>,
 ) -> Result<(Items<Ghost>, Rest<'a>), ParseFault>
-    requires { HasRoom scope.old 90 }
+    requires { HasRoom scope.old (ghost_names * (most What1.Ghosts + 1)) }
     ensures read { Gives (λ r. ((r.0, scope.new, r.1.at), kinds r.1.tokens.now)) result
         (ghosts_in scope.old start.entry.at (kinds start.entry.tokens.now)) }
-    ensures names { IfOk result (λ _. GrowsBy scope.old scope.new 72) }
+    ensures names { IfOk result (λ _. GrowsBy scope.old scope.new (ghost_names * most What1.Ghosts)) }
     ensures lists { IfOk result (λ _. KeepsLists scope.old scope.new) }
     ensures place { IfOk result (λ r. Within start.entry r.1) }
 {

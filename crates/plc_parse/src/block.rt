@@ -7,7 +7,8 @@ ghost use Rattle.plc_lang.specs.Views.{statement_of, blocks_of};
 ghost use Rattle.plc_syntax.specs.Syntax.{kinds};
 ghost use Rattle.plc_scope.specs.Answers.{Gives};
 ghost use Rattle.plc_parse.specs.Growth.{IsLeftOf, CanLabel, GrowsByLabels};
-ghost use Rattle.plc_parse.specs.Reading.{loop_in, else_in, branches_in, if_in, blocks_in, choose_in, statement_in, block_in};
+ghost use Rattle.plc_parse.specs.Reading.{loop_in, else_in, branches_in, if_in, blocks_in};
+ghost use Rattle.plc_parse.specs.Reading.{choose_in, statement_in, block_in};
 ghost use Rattle.plc_parse.specs.Units.{lines_of};
 
 use crate::lines::line_at;

@@ -1,11 +1,11 @@
 // The operations: each is its name, its parameters, its locals and a block.
-ghost use Rattle.std.specs.Prelude.{◌≡◌, ◌+◌, ◌<◌, ◌≤◌, [], length, IfOk};
+ghost use Rattle.std.specs.Prelude.{◌≡◌, ◌+◌, ◌*◌, ◌<◌, ◌≤◌, [], length, IfOk};
 ghost use Rattle.plc_base.specs.Limits.{most};
 ghost use Rattle.plc_syntax.specs.Syntax.{kinds};
 ghost use Rattle.plc_scope.specs.Answers.{Gives, HasRoom};
 ghost use Rattle.plc_scope.specs.Scope.{most_locals};
 ghost use Rattle.plc_outparse.specs.Answers.{OpsFit};
-ghost use Rattle.plc_parse.specs.Growth.{IsLeftOf, CanOperate, GrowsByOps, most_labels};
+ghost use Rattle.plc_parse.specs.Growth.{IsLeftOf, CanOperate, GrowsByOps, op_names, most_labels};
 ghost use Rattle.plc_parse.specs.Reading.{op_in, ops_in};
 ghost use Rattle.plc_parse.specs.Units.{lines_of};
 
@@ -38,7 +38,7 @@ fn read_op<'a>(
     ensures limit { IfOk result (λ _. count < most What1.Ops) }
     ensures read { Gives (λ r. ((r.0, scope.new, r.1.at), kinds r.1.tokens.now)) result
         (op_in (lines_of tokens.now) scope.old count at name.now (kinds start.entry.tokens.now)) }
-    ensures grows { IfOk result (λ _. GrowsByOps scope.old scope.new 33) }
+    ensures grows { IfOk result (λ _. GrowsByOps scope.old scope.new op_names) }
     ensures locals { IfOk result (λ r. length r.0.locals ≤ most_locals) }
     ensures place { IfOk result (λ r. IsLeftOf (length tokens.now) r.1) }
 {
@@ -64,7 +64,7 @@ pub fn read_ops<'a>(
     tokens: &[Token],
     start: Rest<'a>,
 ) -> Result<(Items<Op>, Rest<'a>), ParseFault>
-    requires room { HasRoom scope.old 1400 }
+    requires room { HasRoom scope.old (op_names * (most What1.Ops + 1) + most_labels + 1) }
     requires locals { scope.old.locals ≡ [] }
     requires labels { scope.old.labels ≡ [] }
     requires place { IsLeftOf (length tokens.now) start }

@@ -1,6 +1,7 @@
 // The two passes. The first knows the grammar and no names; the second reads the forms again, where
 // they can stand in no other order, and looks each name up where it stands.
-ghost use Rattle.std.specs.Prelude.{◌≡◌, ◌≤◌, ◌<◌, ◌^◌, ◌+◌, ◌∷◌, Some, Ok, [], true, false, length, IfOk, IfErr};
+ghost use Rattle.std.specs.Prelude.{◌≡◌, ◌≤◌, ◌<◌, ◌^◌, ◌+◌, ◌-◌, ◌∷◌, Some, Ok, [], true, false, length, IfOk, IfErr};
+ghost use Rattle.plc_base.specs.Limits.{most};
 ghost use Rattle.plc_lang.specs.Fit.{FileFits, NamesWhatIsThere};
 ghost use Rattle.plc_lang.specs.WellSorted.{FileIsWellSorted};
 ghost use Rattle.plc_lex.specs.declared.token.Token.{Token};
@@ -8,7 +9,7 @@ ghost use Rattle.plc_syntax.specs.Syntax.{kinds};
 ghost use Rattle.plc_forms.specs.Sizes.{watch_size};
 ghost use Rattle.plc_forms.specs.Views.{watch_tree};
 ghost use Rattle.plc_scope.specs.Answers.{Gives, HasRoom, GrowsBy, Within};
-ghost use Rattle.plc_scope.specs.Scope.{most_locals};
+ghost use Rattle.plc_scope.specs.Scope.{most_names, most_locals};
 ghost use Rattle.plc_parse.specs.declared.unit.Unit.{Unit as FileUnit};
 ghost use Rattle.plc_parse.specs.Fit.{ObserverFits, UnitsFit};
 ghost use Rattle.plc_parse.specs.Growth.{IsLeftOf, KeepsLists, most_labels};
@@ -46,7 +47,7 @@ const RETIRE: Func = Func {
 fn read_struct(alloc: Global, tokens: &[Token]) -> Result<(Scope, Rest), ParseFault>
     requires { length tokens.now < 2 ^ 32 }
     ensures read { Gives (λ r. ((r.0, r.1.at), kinds r.1.tokens.now)) result (struct_in (kinds tokens.now)) }
-    ensures names { IfOk result (λ r. HasRoom r.0 65533) }
+    ensures names { IfOk result (λ r. HasRoom r.0 (most_names - 2)) }
     ensures locals { IfOk result (λ r. r.0.locals ≡ []) }
     ensures labels { IfOk result (λ r. r.0.labels ≡ []) }
     ensures place { IfOk result (λ r. IsLeftOf (length tokens.now) r.1) }
@@ -74,10 +75,11 @@ fn read_declarations<'a>(
     scope: &mut Scope,
     start: Rest<'a>,
 ) -> Result<(Declared, Rest<'a>), ParseFault>
-    requires { HasRoom scope.old 50 }
+    requires { HasRoom scope.old (most What1.Fields + most What1.Shared + most What1.Calls + 1) }
     ensures read { Gives (λ r. ((r.0.fields, r.0.shared, r.0.functions, scope.new, r.1.at), kinds r.1.tokens.now))
         result (declarations_in scope.old start.entry.at (kinds start.entry.tokens.now)) }
-    ensures names { IfOk result (λ _. GrowsBy scope.old scope.new 40) }
+    ensures names { IfOk result (λ _.
+        GrowsBy scope.old scope.new (most What1.Fields + most What1.Shared + most What1.Calls)) }
     ensures lists { IfOk result (λ _. KeepsLists scope.old scope.new) }
     ensures place { IfOk result (λ r. Within start.entry r.1) }
 {

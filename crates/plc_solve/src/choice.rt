@@ -7,7 +7,8 @@
 //
 // Most clauses stay true from one choice to the next by the same literal, so for each clause the
 // literal that was last seen true is tried first.
-ghost use Rattle.std.specs.Prelude.{◌≡◌, ◌<◌, ◌⊎◌, ℕ, IsTrue, IfSome, IfNone, Some, All, Any, false, length, slice_index};
+ghost use Rattle.std.specs.Prelude.{◌≡◌, ◌<◌, ◌⊎◌, ℕ, IsTrue, IfSome, IfNone, Some, All};
+ghost use Rattle.std.specs.Prelude.{Any, false, length, slice_index};
 ghost use Rattle.plc_ground.specs.Fit.{IsWellFormed, IsInRange};
 ghost use Rattle.plc_ground.specs.Model.{HoldsIn, FailsIn, literals};
 ghost use Rattle.plc_solve.specs.Search.{IsSurvey, IsFalse, AreFalse, AreInside};

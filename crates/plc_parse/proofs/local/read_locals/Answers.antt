@@ -10,8 +10,8 @@ use Rattle.plc_scope.specs.Scope.{◌>>=◌}
 use Rattle.plc_parse.specs.Meaning.{local_means}
 use Rattle.plc_parse.specs.Reading.{local_step}
 use Rattle.plc_parse.proofs.Loop.{each_ends}
-use Rattle.plc_parse.proofs.Stops.{each_turns, each_fails}
-use Rattle.plc_parse.proofs.Growth.{locals_then, within_then}
+use Rattle.plc_parse.proofs.Stops.{each_fails}
+use Rattle.plc_parse.proofs.LocalLoop.{locals_turn}
 use Rattle.plc_parse.proofs.local.read_locals.Goals as goal
 
 pub returns-in_err-declare_local-clause-read :
@@ -22,14 +22,8 @@ returns-in_err-declare_local-clause-read c =
     c.in-Some.ensures.read refl c.in_err-declare_local.ensures.read c.loop-declaration.invariant.read)
 
 pub loop-declaration-preserved : goal.loop-declaration-preserved
-loop-declaration-preserved c = record {
-  names = locals_then _ _ _ c.loop-declaration.invariant.names c.in_ok-declare_local.ensures.names;
-  labels = c.in_ok-declare_local.ensures.labels ∙ c.loop-declaration.invariant.labels;
-  place = within_then _ _ _ 3 c.loop-declaration.invariant.place c.in-Some.ensures.behind;
-  read = rw c.in-Some.ensures.behind.at
-      (sym (each_turns field_of local_step field_shrinks _ _ _ (field_tree c.in-Some.declaration, kinds c.in-Some.behind.tokens.now) c.in-Some.ensures.read
-      (ap (λ (r : Result Scope ParseFault). r >>= λ t. Ok (t, c.loop-declaration.rest.at + 3)) c.in_ok-declare_local.ensures.read)) ∙ c.loop-declaration.invariant.read);
-}
+loop-declaration-preserved c = locals_turn field_of local_step field_shrinks _ _ _ _ _ _ (field_tree c.in-Some.declaration) 3 c.loop-declaration.invariant c.in-Some.ensures.read c.in-Some.ensures.behind
+    (ap (λ (r : Result Scope ParseFault). r >>= λ t. Ok (t, c.loop-declaration.rest.at + 3)) c.in_ok-declare_local.ensures.read) c.in_ok-declare_local.ensures.names c.in_ok-declare_local.ensures.labels
 
 pub returns-clause-read : goal.returns-clause-read
 returns-clause-read c = sym c.loop-declaration.invariant.read ∙ each_ends field_of local_step field_shrinks _ _ c.in_default.ensures.read

@@ -8,8 +8,8 @@ use Rattle.plc_scope.specs.declared.scope.Scope.{Scope}
 use Rattle.plc_scope.specs.Scope.{◌>>=◌, declared_parameter}
 use Rattle.plc_parse.specs.Reading.{parameter_step}
 use Rattle.plc_parse.proofs.Loop.{each_ends}
-use Rattle.plc_parse.proofs.Stops.{each_turns, each_fails}
-use Rattle.plc_parse.proofs.Growth.{locals_then, within_then}
+use Rattle.plc_parse.proofs.Stops.{each_fails}
+use Rattle.plc_parse.proofs.LocalLoop.{locals_turn}
 use Rattle.plc_parse.proofs.local.read_others.Goals as goal
 
 pub returns-in_err-declare_parameter-clause-read :
@@ -20,14 +20,8 @@ returns-in_err-declare_parameter-clause-read c =
     c.in-Some.ensures.read refl c.in_err-declare_parameter.ensures.read c.loop-name.invariant.read)
 
 pub loop-name-preserved : goal.loop-name-preserved
-loop-name-preserved c = record {
-  names = locals_then _ _ _ c.loop-name.invariant.names c.in_ok-declare_parameter.ensures.names;
-  labels = c.in_ok-declare_parameter.ensures.labels ∙ c.loop-name.invariant.labels;
-  place = within_then _ _ _ 2 c.loop-name.invariant.place c.in-Some.ensures.behind;
-  read = rw c.in-Some.ensures.behind.at
-      (sym (each_turns comma_name_of parameter_step comma_name_shrinks _ _ _ (c.in-Some.name.now, kinds c.in-Some.behind.tokens.now) c.in-Some.ensures.read
-      (ap (λ (r : Result Scope ParseFault). r >>= λ t. Ok (t, c.loop-name.rest.at + 2)) c.in_ok-declare_parameter.ensures.read)) ∙ c.loop-name.invariant.read);
-}
+loop-name-preserved c = locals_turn comma_name_of parameter_step comma_name_shrinks _ _ _ _ _ _ c.in-Some.name.now 2 c.loop-name.invariant c.in-Some.ensures.read c.in-Some.ensures.behind
+    (ap (λ (r : Result Scope ParseFault). r >>= λ t. Ok (t, c.loop-name.rest.at + 2)) c.in_ok-declare_parameter.ensures.read) c.in_ok-declare_parameter.ensures.names c.in_ok-declare_parameter.ensures.labels
 
 pub returns-clause-read : goal.returns-clause-read
 returns-clause-read c = sym c.loop-name.invariant.read ∙ each_ends comma_name_of parameter_step comma_name_shrinks _ _ c.in_default.ensures.read
