@@ -1,6 +1,6 @@
 // Whole answers of `run` over files in memory. That there is memory for an answer, and which bytes an
 // output is handed, is what no contract can say. `rows.rt` has the files, and the rows of answers.
-use crate::rows::{CHECKED, FILES, OUTLINED, PRINTED, REPLAYED, SCHEDULES, UNLISTED};
+use crate::rows::{CHECKED, FILES, OUTLINED, PRINTED, REPLAYED, REUSE, SCHEDULES, UNLISTED};
 use plc_cli::{ByList, Epoch, FailSink, Files, Hazard, Leak, MemFiles, Reclaimer, VecSink, run};
 use std::alloc::{AllocError, Global};
 
@@ -9,6 +9,16 @@ fn ticks(alloc: Global) -> Result<Vec<u8>, AllocError> {
     let mut text = String::from_str(alloc, "threads 1\n")?;
     for _ in 0..100_000 {
         text.push_str("tick\n")?;
+    }
+    Ok(text.into_bytes())
+}
+
+// A node is put, taken and freed again and again, each time at the same address: nearly as many lines as a
+// schedule may have, so that a free which costs the length of the history would not end in time.
+fn reuses(alloc: Global) -> Result<Vec<u8>, AllocError> {
+    let mut text = String::from_str(alloc, "threads 1\n")?;
+    for _ in 0..7_692 {
+        text.push_str(REUSE)?;
     }
     Ok(text.into_bytes())
 }
@@ -73,6 +83,7 @@ fn made_bytes(alloc: Global, name: &str) -> Result<Vec<u8>, AllocError> {
         "long" => vec![in alloc; b' '; 1_048_577],
         "longest" => vec![in alloc; b' '; 4_194_305],
         "ticks" => ticks(alloc),
+        "reuses" => reuses(alloc),
         "points" => points(alloc, 254, ""),
         "points-outlined" => points(alloc, 254, " outline { }"),
         "points-over" => points(alloc, 255, " outline { }"),
@@ -82,11 +93,12 @@ fn made_bytes(alloc: Global, name: &str) -> Result<Vec<u8>, AllocError> {
     }
 }
 
-const MADE: [&str; 10] = [
+const MADE: [&str; 11] = [
     "most",
     "long",
     "longest",
     "ticks",
+    "reuses",
     "points",
     "points-outlined",
     "points-over",

@@ -244,6 +244,22 @@ step 1 0 1
 step 1 0
 ";
 
+// One thread puts a node, takes it and has it freed: thirteen lines, three events.
+pub(crate) const REUSE: &str = "start 0 put
+step 0 0 1
+step 0 0
+step 0 0
+return 0
+start 0 take
+step 0 0
+step 0 0
+step 0 0
+step 0 0
+step 0 0
+return 0
+tick
+";
+
 // `reused`: the node is freed and its address is allocated again between the read of `Top` and the look
 // after it; `stale`: the same without a hazard pointer; `kept`: the reclaimer is asked while a hazard
 // pointer keeps the node.
@@ -431,6 +447,8 @@ pub(crate) const REPLAYED: &str = "# replay stack reused list: 0
 end lines 23 events 5 freed 1
 # replay stack reused leak: 1
 impossible line 18
+# replay stack reuses list: 0
+end lines 99997 events 23076 freed 7692
 # replay stack stale list: 1
 race deref line 20 prim 0
 # replay stack kept list: 1
