@@ -1,0 +1,141 @@
+// Certificates with their whole texts, and texts with the refusal that is due, written by hand from the format.
+use plc_base::{Items, Mask, NoMemory};
+use plc_cert::{Cert, CertFault, CertField, read, write};
+use plc_ground::{Node, Tree};
+use plc_type::Env;
+use std::alloc::Global;
+
+// What is read of a text, written again.
+fn again(alloc: Global, text: &str) -> Result<Vec<u8>, CertFault> {
+    let cert = read(alloc, text.as_bytes())?;
+    match write(alloc, &cert) {
+        Ok(bytes) => Ok(bytes),
+        Err(NoMemory) => Err(CertFault::Memory),
+    }
+}
+
+// Whether a text is answered so: by this text, or by this refusal.
+fn is_answered(alloc: Global, text: &str, want: Result<&str, CertFault>) -> bool {
+    match (again(alloc, text), want) {
+        (Ok(bytes), Ok(written)) => bytes.as_slice() == written.as_bytes(),
+        (Err(fault), Err(other)) => fault == other,
+        _ => false,
+    }
+}
+
+const EMPTY: &str = r#"{"env":[],"trees":[],"version":1}"#;
+
+const WHOLE: &str =
+    r#"{"env":[[[0,7],[[0,[]],[1,[2]],[3,[]],[7,[0,2]]]],[[],[]]],"trees":[[[0,3],[1,0,4294967295]],[]],"version":1}"#;
+
+#[test]
+fn what_is_written_is_read(rt: HostRuntime) {
+    let rows = [
+        (EMPTY, EMPTY),
+        (WHOLE, WHOLE),
+        (
+            " {\"version\":1,\"trees\":[ [[1 ,2,3]] ],\r\n\t\"env\":[]}\n",
+            r#"{"env":[],"trees":[[[1,2,3]]],"version":1}"#,
+        ),
+        (r#"{"\u0065nv":[],"trees":[],"version":1}"#, EMPTY),
+        (r#"{"env":7,"env":[],"trees":[],"version":1}"#, EMPTY),
+    ];
+    for (text, written) in rows {
+        assert!(rt; is_answered(rt.alloc(), text, Ok(written)), "{text}");
+    }
+}
+
+#[test]
+fn each_refusal_comes_in_its_order(rt: HostRuntime) {
+    let shape = |field| CertFault::Shape { field };
+    let rows = [
+        ("", CertFault::NotJson),
+        ("{", CertFault::NotJson),
+        (
+            r#"{"env":1e999,"trees":[],"version":1}"#,
+            CertFault::NotJson,
+        ),
+        ("{}", shape(CertField::Root)),
+        ("[[],[],1]", shape(CertField::Root)),
+        (
+            r#"{"env":7,"trees":7,"version":2,"x":0}"#,
+            shape(CertField::Root),
+        ),
+        (r#"{"env":7,"tree":7,"version":2}"#, shape(CertField::Root)),
+        (
+            r#"{"env":7,"trees":7,"version":1.0}"#,
+            shape(CertField::Version),
+        ),
+        (
+            r#"{"env":7,"trees":7,"version":-1}"#,
+            shape(CertField::Version),
+        ),
+        (
+            r#"{"env":7,"trees":7,"version":18446744073709551616}"#,
+            shape(CertField::Version),
+        ),
+        (
+            r#"{"env":7,"trees":7,"version":18446744073709551615}"#,
+            CertFault::Version { n: u64::MAX },
+        ),
+        (
+            r#"{"env":7,"trees":7,"version":2}"#,
+            CertFault::Version { n: 2 },
+        ),
+        (r#"{"env":7,"trees":7,"version":1}"#, shape(CertField::Env)),
+        (
+            r#"{"env":[[[1,0],[]]],"trees":7,"version":1}"#,
+            shape(CertField::Env),
+        ),
+        (
+            r#"{"env":[[[8],[]]],"trees":7,"version":1}"#,
+            shape(CertField::Env),
+        ),
+        (
+            r#"{"env":[[[],[[2,[]]]]],"trees":7,"version":1}"#,
+            shape(CertField::Env),
+        ),
+        (
+            r#"{"env":[],"trees":7,"version":1}"#,
+            shape(CertField::Trees),
+        ),
+        (
+            r#"{"env":[],"trees":[[[1,0]]],"version":1}"#,
+            shape(CertField::Trees),
+        ),
+        (
+            r#"{"env":[],"trees":[[[0,4294967296]]],"version":1}"#,
+            shape(CertField::Trees),
+        ),
+    ];
+    for (text, fault) in rows {
+        assert!(rt; is_answered(rt.alloc(), text, Err(fault)), "{text}");
+    }
+}
+
+// One environment with a shared pointer and two locals, and one tree of a split and a leaf.
+fn example(alloc: Global) -> Result<Cert, NoMemory> {
+    let env = Env::entry(alloc, 1, 2, &Mask::full(3))?;
+    let nodes = vec![in alloc; Node::Split(12), Node::Leaf(5, 0)]?;
+    let tree = Tree {
+        nodes: Items::from_vec(nodes),
+    };
+    Ok(Cert {
+        env: Items::from_vec(vec![in alloc; env]?),
+        trees: Items::from_vec(vec![in alloc; tree]?),
+    })
+}
+
+fn written(alloc: Global) -> Result<Vec<u8>, NoMemory> {
+    let cert = example(alloc)?;
+    write(alloc, &cert)
+}
+
+// Types of shared pointers are left out.
+#[test]
+fn certificates_are_written_whole(rt: HostRuntime) -> Result<(), NoMemory> {
+    let text = written(rt.alloc())?;
+    let want = r#"{"env":[[[0,1,2],[[7,[]],[7,[]]]]],"trees":[[[0,12],[1,5,0]]],"version":1}"#;
+    assert!(rt; text.as_slice() == want.as_bytes());
+    Ok(())
+}
