@@ -69,7 +69,7 @@ fn text_of(
 
 // How many obligations a file has, and those with these numbers.
 fn answer(alloc: Global, file: &str, numbers: &[u64]) -> Result<String, AllocError> {
-    if file.len() > 1048576 {
+    if file.len() > LARGEST_FILE {
         return Err(AllocError);
     }
     let Ok(judged) = load(alloc, file.as_bytes(), Unjudged::Nothing) else {
