@@ -5,7 +5,7 @@ ghost use Rattle.plc_flow.specs.WellFormed.{FlowFits};
 ghost use Rattle.plc_flow.specs.WellSorted.{FlowIsWellSorted};
 ghost use Rattle.plc_gc.specs.Position.{IsOfRun};
 
-use plc_base::{FieldId, Items, NoMemory, OpId};
+use plc_base::{FieldId, Items, LARGEST_FILE, NoMemory, OpId};
 use plc_check::{Judged, Unjudged, load};
 use plc_flow::{Flow, Move, Place, StartFault};
 use plc_gc::{GcConfig, holds};
@@ -72,11 +72,11 @@ at f: not retired(t);
 ";
 
 // A file with its flow and its outline.
-fn loaded(alloc: Global, text: &str) -> Result<Judged, NoMemory>
+pub(crate) fn loaded(alloc: Global, text: &str) -> Result<Judged, NoMemory>
     ensures fits { IfOk result (λ judged. FlowFits judged.flow) }
     ensures sorted { IfOk result (λ judged. FlowIsWellSorted judged.flow) }
 {
-    if text.len() > 1048576 {
+    if text.len() > LARGEST_FILE {
         return Err(NoMemory);
     }
     match load(alloc, text.as_bytes(), Unjudged::Nothing) {
@@ -99,8 +99,14 @@ fn three(line: &str) -> (u32, u32, u32) {
     (first, second, number(words.next()))
 }
 
-// `start T OP [ARG]`, `step T NTH`, `return T` and, for each other word, `free`.
-fn move_of(alloc: Global, line: &str) -> Result<Move, AllocError> {
+// The address that a step names; 0 is none.
+fn address(number: u32) -> Option<u32> {
+    if number == 0 { None } else { Some(number) }
+}
+
+// `start T OP` with one argument to the first operation, `step T NTH [ADDRESS]`, `return T` and, for each other
+// word, `free`.
+pub(crate) fn move_of(alloc: Global, line: &str) -> Result<Move, AllocError> {
     let (t, second, third) = three(line);
     let nth = (second % 65536) as u16;
     if line.starts_with("start") {
@@ -116,7 +122,11 @@ fn move_of(alloc: Global, line: &str) -> Result<Move, AllocError> {
         });
     }
     if line.starts_with("step") {
-        return Ok(Move::Step { t, nth, addr: None });
+        return Ok(Move::Step {
+            t,
+            nth,
+            addr: address(third),
+        });
     }
     if line.starts_with("return") {
         return Ok(Move::Return { t });
