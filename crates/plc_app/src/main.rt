@@ -6,37 +6,50 @@
 use plc_cli::{
     ByList, Epoch, Hazard, Leak, NO_MEMORY, NOT_UTF8, OutSink, RealFiles, Reclaimer, run,
 };
-use std::alloc::{AllocError, Global};
 use std::env;
 use std::io::{self, ErrorKind};
 use std::process::ExitCode;
 
-// The reclaimers that a replay may ask for; of those of one name the first counts.
-fn reclaimers(alloc: Global) -> Result<Vec<Box<dyn Reclaimer>>, AllocError> {
-    let mut reclaimers: Vec<Box<dyn Reclaimer>> = Vec::new(alloc);
-    reclaimers.push(Box::new(alloc, Leak::new(alloc))?)?;
-    reclaimers.push(Box::new(alloc, ByList::new(alloc))?)?;
-    reclaimers.push(Box::new(alloc, Hazard::new(alloc))?)?;
-    reclaimers.push(Box::new(alloc, Epoch::new(alloc))?)?;
-    Ok(reclaimers)
-}
-
-fn main(rt: HostRuntime) -> ExitCode {
-    let alloc = rt.alloc();
-    let mut words = Vec::new(alloc);
-    let args = match env::args(&rt) {
+// The words after the program's name, or the status where there are none.
+fn words(rt: &HostRuntime) -> Result<Vec<String>, u8> {
+    let mut words = Vec::new(rt.alloc());
+    let args = match env::args(rt) {
         Ok(args) => args,
-        Err(fault) if fault.kind() == ErrorKind::InvalidData => return ExitCode::from(NOT_UTF8),
-        Err(_) => return ExitCode::from(NO_MEMORY),
+        Err(fault) if fault.kind() == ErrorKind::InvalidData => return Err(NOT_UTF8),
+        Err(_) => return Err(NO_MEMORY),
     };
     for word in args.skip(1) {
         if words.push(word).is_err() {
-            return ExitCode::from(NO_MEMORY);
+            return Err(NO_MEMORY);
         }
     }
-    let Ok(reclaimers) = reclaimers(alloc) else {
+    Ok(words)
+}
+
+// The reclaimers are made here, since a function may not hand out a value of a trait. Of those of one
+// name the first counts.
+fn main(rt: HostRuntime) -> ExitCode {
+    let alloc = rt.alloc();
+    let words = match words(&rt) {
+        Ok(words) => words,
+        Err(status) => return ExitCode::from(status),
+    };
+    let (Ok(leak), Ok(list), Ok(hazard), Ok(epoch)) = (
+        Box::new(alloc, Leak::new(alloc)),
+        Box::new(alloc, ByList::new(alloc)),
+        Box::new(alloc, Hazard::new(alloc)),
+        Box::new(alloc, Epoch::new(alloc)),
+    ) else {
         return ExitCode::from(NO_MEMORY);
     };
+    let mut reclaimers: Vec<Box<dyn Reclaimer>> = Vec::new(alloc);
+    if reclaimers.push(leak).is_err()
+        || reclaimers.push(list).is_err()
+        || reclaimers.push(hazard).is_err()
+        || reclaimers.push(epoch).is_err()
+    {
+        return ExitCode::from(NO_MEMORY);
+    }
     let host = match rt.clone() {
         Ok(host) => host,
         Err(_) => return ExitCode::from(NO_MEMORY),
