@@ -4,6 +4,7 @@
 ghost use Rattle.plc_oblig.specs.Fit.{Fits};
 
 use crate::files::{DEEP, EPOCHS, HAZARDS};
+use plc_base::LARGEST_FILE;
 use plc_check::{Unjudged, load};
 use plc_flow::Flow;
 use plc_logic::Outline;
