@@ -14,13 +14,9 @@ use Rattle.plc_auto.specs.Table.{count_of, step}
 use Rattle.plc_auto.specs.Location.{is_this, step_by, advance, location_from, location, Allowed}
 use Rattle.plc_auto.specs.Laws.{is_free, frees_one, LocationsFollowHistories, AllowedByTheLast}
 use Rattle.plc_auto.proofs.Tables.{step_live, bad_by_free}
+use Rattle.plc_auto.specs.Events.{kind_of}
 
 -- ---- an event as a table hears it
-
-abbrev pub kind_of : Event → EvKind
-kind_of (Called u f b) = Call f
-kind_of (Returned u f) = Done f
-kind_of (Freed b) = Free
 
 abbrev pub is_own : ℕ → Event → Bool
 is_own t (Called u f b) = u == t

@@ -17,7 +17,8 @@ use Rattle.plc_auto.specs.Sets.{unretired, safe}
 use Rattle.plc_auto.specs.Laws.{is_free, is_retirement, retired_by, is_retire_call, LettersTurn, RetiredForAllThreads, FreesFollowRetirements}
 use Rattle.plc_auto.proofs.Tables.{bad_by_free, unretired_stays, unretired_kept, retired_turns, retirement_turns}
 use Rattle.plc_auto.proofs.SetLemmas.{has-unretired, has-safe}
-use Rattle.plc_auto.proofs.Histories.{kind_of, is_own, is_on, step_by_is, step_by_live, initial_live, from_bad, location_longer, location_live, allowed_last, allowed_shorter}
+use Rattle.plc_auto.specs.Events.{kind_of}
+use Rattle.plc_auto.proofs.Histories.{is_own, is_on, step_by_is, step_by_live, initial_live, from_bad, location_longer, location_live, allowed_last, allowed_shorter}
 
 from_unretired : (o : Observer) → is_well_formed o ≡ true → (l k : ℕ) (kind : EvKind) (by_own on_this : Bool) → l < count_of o → is_retired_location o l ≡ false → step o l kind by_own on_this ≡ Some k → is_retired_location o k ≡ (is_retirement kind && on_this)
 from_unretired o w l k kind by_own on_this h u e = elim (cases_Bool (is_retirement kind && on_this)) [

@@ -1,5 +1,6 @@
 -- what contracts of public calls say
 pub mod Table
 pub mod Location
+pub mod Events
 pub mod Sets
 pub mod Laws

@@ -17,7 +17,8 @@ use Rattle.plc_auto.specs.Table.{count_of, step, is_well_formed, r_kept}
 use Rattle.plc_auto.specs.Location.{is_this, advance, location_from, location, Allowed, is_retired_location, stands_retired, is_retired_after}
 use Rattle.plc_auto.specs.Laws.{retired_by}
 use Rattle.plc_auto.proofs.Tables.{implies, implied, each, each_at}
-use Rattle.plc_auto.proofs.Histories.{kind_of, is_own, is_on, step_by_is, from_bad, location_longer, location_live, allowed_empty, allowed_last, allowed_spoken, allowed_free, step_by_live, initial_live, location_empty}
+use Rattle.plc_auto.specs.Events.{kind_of}
+use Rattle.plc_auto.proofs.Histories.{is_own, is_on, step_by_is, from_bad, location_longer, location_live, allowed_empty, allowed_last, allowed_spoken, allowed_free, step_by_live, initial_live, location_empty}
 use Rattle.plc_auto.proofs.Letters.{retired_longer, initial_unretired}
 use Rattle.plc_reclaim.specs.declared.scheme.Scheme.{Scheme}
 use Rattle.plc_reclaim.specs.Waiting.{waiting_after}
@@ -311,13 +312,13 @@ careful_plain os = record {
 }
 
 pub hazards_allowed : (schemes : List Scheme) (m : Meanings) → ActsAs hazard_row m → MakesAllowed (hazards schemes) schemes m
-hazards_allowed schemes m acts h held threads happens = (
-  (happens_stands Plain refl hazard_row schemes (careful_plain (hazards schemes)) m acts threads h held happens).allowed,
-  λ o there w. (happens_stands o w hazard_row schemes (careful_kept (hazards schemes) o there) m acts threads h held happens).allowed,
-)
+hazards_allowed schemes m acts = record {
+  plain = λ h held threads happens. (happens_stands Plain refl hazard_row schemes (careful_plain (hazards schemes)) m acts threads h held happens).allowed;
+  each_scheme = λ h held threads happens o there w. (happens_stands o w hazard_row schemes (careful_kept (hazards schemes) o there) m acts threads h held happens).allowed;
+}
 
 pub epochs_allowed : (schemes : List Scheme) (m : Meanings) → ActsAs epoch_row m → MakesAllowed (epochs schemes) schemes m
-epochs_allowed schemes m acts h held threads happens = (
-  (happens_stands Plain refl epoch_row schemes (careful_plain (epochs schemes)) m acts threads h held happens).allowed,
-  λ o there w. (happens_stands o w epoch_row schemes (careful_kept (epochs schemes) o there) m acts threads h held happens).allowed,
-)
+epochs_allowed schemes m acts = record {
+  plain = λ h held threads happens. (happens_stands Plain refl epoch_row schemes (careful_plain (epochs schemes)) m acts threads h held happens).allowed;
+  each_scheme = λ h held threads happens o there w. (happens_stands o w epoch_row schemes (careful_kept (epochs schemes) o there) m acts threads h held happens).allowed;
+}

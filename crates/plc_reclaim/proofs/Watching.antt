@@ -16,7 +16,8 @@ use Rattle.plc_reclaim.specs.declared.scheme.Scheme.{Scheme}
 use Rattle.plc_reclaim.specs.Waiting.{waiting_after}
 use Rattle.plc_reclaim.specs.Meanings.{Meanings}
 use Rattle.plc_reclaim.specs.Rows.{ActsAs, first_waiting, threads_in, is_kept_at, is_kept_by, is_kept_by_none}
-use Rattle.plc_reclaim.specs.Tables.{kind_of, thread_of, address_of, moved, same_location, Cell, Column, location_in, cell_after, cells_after, with_cell, column_after, Heard, Table, column_of, fresh_table, is_thread, others_after, own_after, table_after, keeps}
+use Rattle.plc_auto.specs.Events.{kind_of, thread_of, address_of}
+use Rattle.plc_reclaim.specs.Tables.{moved, same_location, Cell, Column, location_in, cell_after, cells_after, with_cell, column_after, Heard, Table, column_of, fresh_table, is_thread, others_after, own_after, table_after, keeps}
 use Rattle.plc_reclaim.specs.Watch.{Watch, fresh_watch, watch_after, is_kept, first_free, numbers_of, begun_with, held_after, free_of}
 use Rattle.plc_reclaim.proofs.Picks.{may_be_picked}
 use Rattle.plc_reclaim.proofs.Numbers.{begun_with_is, held_after_is, free_of_is}

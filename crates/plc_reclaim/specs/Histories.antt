@@ -18,6 +18,6 @@ pub data Happens (schemes : List Scheme) (m : Meanings) : List Event → List �
   frees : (h : List Event) (held : List ℕ) (a : ℕ) → m.pick_of held ≡ Some a → Happens schemes m h held → Happens schemes m (h ++ Freed a ∷ []) (m.after (m.picked held) (Freed a))
 
 -- every history that it makes is allowed, for any number of threads, by `plain` and by each well-formed one of these observers
-abbrev pub MakesAllowed : List Observer → List Scheme → Meanings → Type 0
-MakesAllowed os schemes m = (h : List Event) (held : List ℕ) (threads : ℕ) → Happens schemes m h held →
-    Allowed Plain threads h × ((o : Observer) → Contains os o → is_well_formed o ≡ true → Allowed o threads h)
+pub record MakesAllowed (os : List Observer) (schemes : List Scheme) (m : Meanings) : Type 0 where
+  pub plain : (h : List Event) (held : List ℕ) (threads : ℕ) → Happens schemes m h held → Allowed Plain threads h
+  pub each_scheme : (h : List Event) (held : List ℕ) (threads : ℕ) → Happens schemes m h held → (o : Observer) → Contains os o → is_well_formed o ≡ true → Allowed o threads h

@@ -19,11 +19,11 @@ is_free_of a (Returned t f) = false
 is_free_of a (Freed b) = a == b
 
 -- the address that a call of `retire` names; null is none
-abbrev pub retired_by : Event → Option ℕ
-retired_by (Called t f None) = None
-retired_by (Called t f (Some a)) = if is_retire f && not (a == 0) then Some a else None
-retired_by (Returned t f) = None
-retired_by (Freed b) = None
+abbrev pub retirement_of : Event → Option ℕ
+retirement_of (Called t f None) = None
+retirement_of (Called t f (Some a)) = if is_retire f && not (a == 0) then Some a else None
+retirement_of (Returned t f) = None
+retirement_of (Freed b) = None
 
 -- the address may be freed, and none of these events frees it
 abbrev pub waits : (ℕ → Bool) → List Event → ℕ → Bool
@@ -37,7 +37,7 @@ waits_or may after (Some a) other = if waits may after a then Some a else other
 -- the address of the first retirement after which it isn't freed, of those that may be freed
 abbrev pub first_waiting : (ℕ → Bool) → List Event → Option ℕ
 first_waiting may [] = None
-first_waiting may (e ∷ events) = waits_or may events (retired_by e) (first_waiting may events)
+first_waiting may (e ∷ events) = waits_or may events (retirement_of e) (first_waiting may events)
 
 -- ---- those that ask no thread
 

@@ -7,29 +7,11 @@ use Rattle.plc_auto.specs.declared.event.Event.TheVariants.{Call as Called, Done
 use Rattle.plc_auto.specs.declared.event.EvKind.{EvKind}
 use Rattle.plc_auto.specs.declared.event.EvKind.TheVariants.{Call, Done, Free}
 use Rattle.plc_auto.specs.declared.observer.Observer.{Observer}
+use Rattle.plc_auto.specs.Events.{kind_of, thread_of, address_of}
 use Rattle.plc_auto.specs.Table.{step}
 use Rattle.plc_reclaim.specs.Rows.{is_kept_at}
 
 -- ---- events
-
--- an event without its thread and address
-abbrev pub kind_of : Event → EvKind
-kind_of (Called t f b) = Call f
-kind_of (Returned t f) = Done f
-kind_of (Freed b) = Free
-
--- the thread of a call or a return
-abbrev pub thread_of : Event → Option ℕ
-thread_of (Called t f b) = Some t
-thread_of (Returned t f) = Some t
-thread_of (Freed b) = None
-
--- the address that an event names; null where it names none
-abbrev pub address_of : Event → ℕ
-address_of (Called t f None) = 0
-address_of (Called t f (Some b)) = b
-address_of (Returned t f) = 0
-address_of (Freed b) = b
 
 -- where a kind of event leads; `bad` is never left
 abbrev pub moved : Observer → EvKind → Bool → Bool → Option ℕ → Option ℕ

@@ -4,7 +4,8 @@
 // out; moving the cells in place would leave it half moved.
 ghost use Rattle.std.specs.Prelude.{◌≡◌, ◌==◌, not, map, filter, IfOk};
 ghost use Rattle.plc_auto.specs.Table.{step, target_of};
-ghost use Rattle.plc_reclaim.specs.Tables.{moved, same_location, location_in, fresh_column, cell_after, cells_after, column_after};
+ghost use Rattle.plc_reclaim.specs.Tables.{moved, same_location, location_in};
+ghost use Rattle.plc_reclaim.specs.Tables.{fresh_column, cell_after, cells_after, column_after};
 
 use plc_auto::{EvKind, Observer};
 use plc_base::{LocId, NoMemory};

@@ -1,4 +1,4 @@
-// Reclaimers are asked for by name. They are handed on as a plain list of boxes, and not as a struct
+// Reclaimers are asked for by name. They are handed on as a plain list, and not as a struct
 // with a view of its own: the value of a view may hold no functions, and meanings are functions.
 ghost use Rattle.std.specs.Prelude.{◌≡◌, ◌<◌, IfSome, length, map};
 ghost use Rattle.std.specs.Str.{bytes_eq};

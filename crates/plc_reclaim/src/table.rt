@@ -3,7 +3,9 @@
 ghost use Rattle.std.specs.Prelude.{◌≡◌, ◌==◌, ◌++◌, not, map, filter, IfOk};
 ghost use Rattle.plc_auto.specs.Table.{target_of};
 ghost use Rattle.plc_reclaim.specs.Rows.{is_kept_at};
-ghost use Rattle.plc_reclaim.specs.Tables.{kind_of, thread_of, address_of, column_of, fresh_table, is_thread, others_after, own_after, table_after, keeps};
+ghost use Rattle.plc_auto.specs.Events.{kind_of, thread_of, address_of};
+ghost use Rattle.plc_reclaim.specs.Tables.{is_thread, column_of};
+ghost use Rattle.plc_reclaim.specs.Tables.{fresh_table, others_after, own_after, table_after, keeps};
 
 use crate::column::Column;
 use plc_auto::{EvKind, Event, Observer};

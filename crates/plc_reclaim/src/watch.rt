@@ -1,5 +1,6 @@
 // What the reclaimers keep that watch threads: the addresses that wait, and a table for each scheme
-// that they serve. Which schemes these are is all in which they differ.
+// that they serve. Which schemes these are is all in which they differ. A pick that finds all that waits
+// kept has asked for each address in each column, so it is remembered until the next event.
 ghost use Rattle.std.specs.Prelude.{◌≡◌, [], not, map, find, OnOk, OnErr, IfOk};
 ghost use Rattle.std.specs.List.{list_any};
 ghost use Rattle.plc_reclaim.specs.Tables.{fresh_table, keeps, table_after};
@@ -18,14 +19,19 @@ pub struct Watch {
     alloc: Global,
     waiting: Vec<u32>,
     tables: Vec<Table>,
+    // A pick found all that waits kept, and no event was heard since.
+    all_kept: bool,
 }
 
 impl Model for Watch {
-    ghost use Rattle.plc_reclaim.specs.Watch.{Watch};
+    ghost use Rattle.std.specs.Prelude.{◌≡◌, true, None, find, not};
+    ghost use Rattle.plc_reclaim.specs.Watch.{Watch, is_kept};
 
     ghost Value = { Watch };
 
     ghost view = { λ w. record { waiting = w.waiting.items; tables = w.tables.items } };
+
+    ghost invariant = { λ w. w.all_kept ≡ true → find (λ a. not (is_kept w.tables.items a)) w.waiting.items ≡ None };
 }
 
 impl Watch {
@@ -37,6 +43,7 @@ impl Watch {
             alloc,
             waiting: Vec::new(alloc),
             tables: Vec::new(alloc),
+            all_kept: false,
         }
     }
 
@@ -53,6 +60,7 @@ impl Watch {
         let tables = fresh_tables(self.alloc, observers)?;
         self.waiting.clear();
         self.tables = tables;
+        self.all_kept = false;
         Ok(())
     }
 
@@ -64,18 +72,29 @@ impl Watch {
         let tables = tables_after(self.alloc, &self.tables, e)?;
         note(&mut self.waiting, e)?;
         self.tables = tables;
+        self.all_kept = false;
         Ok(())
     }
 
     /// The first that waits and that no table keeps.
-    pub fn first_free(&self) -> Option<u32>
-        ensures { result ≡ first_free self.now }
+    pub fn first_free(&mut self) -> Option<u32>
+        ensures free { result ≡ first_free self.old }
+        ensures same { self.new ≡ self.old }
     {
-        self.waiting
-            .iter()
-            .copied()
-            .find(|a| !is_kept(&self.tables, *a))
+        if self.all_kept {
+            return None;
+        }
+        let free = first_unkept(&self.waiting, &self.tables);
+        self.all_kept = free.is_none();
+        free
     }
+}
+
+// The first of these addresses that no table keeps.
+fn first_unkept(waiting: &[u32], tables: &[Table]) -> Option<u32>
+    ensures { result ≡ find (λ a. not (is_kept tables.now a)) waiting.now }
+{
+    waiting.iter().copied().find(|a| !is_kept(tables, *a))
 }
 
 // Whether a table keeps the address.

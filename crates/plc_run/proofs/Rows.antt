@@ -12,7 +12,8 @@ use Rattle.plc_base.proofs.Tables.{any-map}
 use Rattle.std.proofs.lemmas.List.{at_drop_more}
 use Rattle.plc_auto.specs.Table.{target_of}
 use Rattle.plc_run.specs.Reach.{may_free}
-use Rattle.plc_run.specs.Table.{Row, named, thread_of, has_rows, row_of, located, has_row, all_after, row_after, AddsRows}
+use Rattle.plc_auto.specs.Events.{thread_of, address_of}
+use Rattle.plc_run.specs.Table.{Row, has_rows, row_of, located, has_row, all_after, row_after, AddsRows}
 use Rattle.plc_run.proofs.Stays.{on_named, advance_same, advance_stays, null_off}
 
 -- ---- one row
@@ -72,12 +73,12 @@ own_none (Called v f b) u by = cc
 own_none (Returned v f) u by = cc
 own_none (Freed b) u by = refl
 
-pub row_by : (o : Observer) (e : Event) (a t : ℕ) (ls : List (Option ℕ)) → is_this (Some (named e)) a ≡ false → thread_of e ≡ Some t → set ls t (advance o t a e (get_or ls t None)) ≡ all_after o e a 0 ls
+pub row_by : (o : Observer) (e : Event) (a t : ℕ) (ls : List (Option ℕ)) → is_this (Some (address_of e)) a ≡ false → thread_of e ≡ Some t → set ls t (advance o t a e (get_or ls t None)) ≡ all_after o e a 0 ls
 row_by o e a t ls off by =
     let same : 0 + t ≡ t = omega arith in
     sym (one_moves o e a 0 t (λ u q ne. advance_stays o u a e q (own_other e t u by (λ is. ne (is ∙ sym same))) (on_named a e ∙ off)) ls ∙ ap (λ u. set ls t (advance o u a e (get_or ls t None))) same)
 
-pub row_by_none : (o : Observer) (e : Event) (a : ℕ) (ls : List (Option ℕ)) → is_this (Some (named e)) a ≡ false → thread_of e ≡ None → ls ≡ all_after o e a 0 ls
+pub row_by_none : (o : Observer) (e : Event) (a : ℕ) (ls : List (Option ℕ)) → is_this (Some (address_of e)) a ≡ false → thread_of e ≡ None → ls ≡ all_after o e a 0 ls
 row_by_none o e a ls off by = sym (all_stay o e a (λ u q. advance_stays o u a e q (own_none e u by) (on_named a e ∙ off)) ls)
 
 -- ---- all rows
@@ -95,15 +96,15 @@ row_moves o e b (r ∷ rows) others why = go (row_moves o e b rows others) (r.ad
     go later false is why = later why
 
 -- an address without a row isn't named
-unnamed : (e : Event) (b : ℕ) (rows : List Row) → has_row rows (named e) ≡ true → (list_any (λ r. r.address == b) rows ≡ true) ⊎ (is_on 0 e ≡ is_on b e)
-unnamed e b rows has = go (named e == b) refl (named e == 0) refl has
+unnamed : (e : Event) (b : ℕ) (rows : List Row) → has_row rows (address_of e) ≡ true → (list_any (λ r. r.address == b) rows ≡ true) ⊎ (is_on 0 e ≡ is_on b e)
+unnamed e b rows has = go (address_of e == b) refl (address_of e == 0) refl has
   where
-    go : (x : Bool) → (named e == b) ≡ x → (y : Bool) → (named e == 0) ≡ y → (y || list_any (λ r. r.address == named e) rows) ≡ true → (list_any (λ r. r.address == b) rows ≡ true) ⊎ (is_on 0 e ≡ is_on b e)
-    go false is y null has = inr (null_off e ∙ sym (on_named b e ∙ ap (λ z. z && not (named e == 0)) is))
-    go true is true null has = inr (null_off e ∙ sym (on_named b e ∙ ap (λ z. z && not (named e == 0)) is ∙ ap (λ z. not z) null))
-    go true is false null has = inl (subst (λ c. list_any (λ r. r.address == c) rows ≡ true) (eqb-true (named e) b is) has)
+    go : (x : Bool) → (address_of e == b) ≡ x → (y : Bool) → (address_of e == 0) ≡ y → (y || list_any (λ r. r.address == address_of e) rows) ≡ true → (list_any (λ r. r.address == b) rows ≡ true) ⊎ (is_on 0 e ≡ is_on b e)
+    go false is y null has = inr (null_off e ∙ sym (on_named b e ∙ ap (λ z. z && not (address_of e == 0)) is))
+    go true is true null has = inr (null_off e ∙ sym (on_named b e ∙ ap (λ z. z && not (address_of e == 0)) is ∙ ap (λ z. not z) null))
+    go true is false null has = inl (subst (λ c. list_any (λ r. r.address == c) rows ≡ true) (eqb-true (address_of e) b is) has)
 
-pub rows_move : (o : Observer) (e : Event) (rows : List Row) (others : List (Option ℕ)) (t b : ℕ) → has_row rows (named e) ≡ true → located (map (row_after o e) rows) (all_after o e 0 0 others) t b ≡ advance o t b e (located rows others t b)
+pub rows_move : (o : Observer) (e : Event) (rows : List Row) (others : List (Option ℕ)) (t b : ℕ) → has_row rows (address_of e) ≡ true → located (map (row_after o e) rows) (all_after o e 0 0 others) t b ≡ advance o t b e (located rows others t b)
 rows_move o e rows others t b has = ap (λ ls. get_or ls t None) (row_moves o e b rows others (unnamed e b rows has)) ∙ get_after o e b 0 (row_of rows others b) t ∙ (let same : 0 + t ≡ t = omega arith in ap (λ u. advance o u b e (get_or (row_of rows others b) t None)) same)
 
 pub row_kept : (o : Observer) (e : Event) (rows : List Row) (a : ℕ) → has_row (map (row_after o e) rows) a ≡ has_row rows a
@@ -111,7 +112,7 @@ row_kept o e rows a = ap (λ x. (a == 0) || x) (any-map (λ (r : Row). r.address
 
 each_kept : (rows new : List Row) → ((a : ℕ) → has_row new a ≡ has_row rows a) → (events : List Event) → has_rows new events ≡ has_rows rows events
 each_kept rows new same [] = refl
-each_kept rows new same (e ∷ events) = rw (same (named e)) (ap (λ x. has_row rows (named e) && x) (each_kept rows new same events))
+each_kept rows new same (e ∷ events) = rw (same (address_of e)) (ap (λ x. has_row rows (address_of e) && x) (each_kept rows new same events))
 
 -- ---- a row more
 
@@ -182,9 +183,9 @@ all_more p q so (e ∷ es) (suc i) d small has this =
     let parts = and_parts _ _ has in
     and_from (q e) (list_all q (take (suc i) es)) (so e parts.0) (all_more p q so es i d (omega arith) parts.1 this)
 
-pub rows_more : (others : List (Option ℕ)) (rows new : List Row) (events : List Event) (i : ℕ) (d : Event) → i < length events → AddsRows others rows new → has_rows rows (take i events) ≡ true → has_row new (named (get_or events i d)) ≡ true → has_rows new (take (i + 1) events) ≡ true
+pub rows_more : (others : List (Option ℕ)) (rows new : List Row) (events : List Event) (i : ℕ) (d : Event) → i < length events → AddsRows others rows new → has_rows rows (take i events) ≡ true → has_row new (address_of (get_or events i d)) ≡ true → has_rows new (take (i + 1) events) ≡ true
 rows_more others rows new events i d small adds has this =
-    rw add-one (all_more (λ e. has_row rows (named e)) (λ e. has_row new (named e)) (λ e has. adds.kept (named e) has) events i d small has this)
+    rw add-one (all_more (λ e. has_row rows (address_of e)) (λ e. has_row new (address_of e)) (λ e has. adds.kept (address_of e) has) events i d small has this)
 
 -- an event heard
 pub hear_more : (o : Observer) (rows : List Row) (others : List (Option ℕ)) (events : List Event) (i : ℕ) (d : Event) (t a : ℕ) (end : Option ℕ) → i < length events → has_rows rows (drop i events) ≡ true → location_from o t a (located rows others t a) (drop i events) ≡ end

@@ -10,8 +10,8 @@ use Rattle.plc_auto.specs.declared.observer.Observer.{Observer}
 use Rattle.plc_auto.specs.declared.observer.Observer.TheVariants.{Plain, Hazard, Epoch}
 use Rattle.plc_auto.specs.Table.{Label, Edge, thread_fits, address_fits, edge_fits, reached, bears, along, edges_of, count_of, step}
 use Rattle.plc_auto.specs.Location.{is_this, advance}
-use Rattle.plc_auto.proofs.Histories.{kind_of, is_own, is_on, step_by_is}
-use Rattle.plc_run.specs.Table.{named}
+use Rattle.plc_auto.specs.Events.{kind_of, address_of}
+use Rattle.plc_auto.proofs.Histories.{is_own, is_on, step_by_is}
 
 -- ---- tables in which no edge fits
 
@@ -62,7 +62,7 @@ and_no : (x : Bool) → (x && false) ≡ false
 and_no true = refl
 and_no false = refl
 
-pub on_named : (a : ℕ) (e : Event) → is_on a e ≡ is_this (Some (named e)) a
+pub on_named : (a : ℕ) (e : Event) → is_on a e ≡ is_this (Some (address_of e)) a
 on_named a (Called t f None) = sym (and_no (0 == a))
 on_named a (Called t f (Some b)) = refl
 on_named a (Returned t f) = sym (and_no (0 == a))

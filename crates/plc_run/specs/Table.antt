@@ -3,24 +3,9 @@
 use Rattle.std.specs.Prelude.{◌≡◌, ℕ, suc, Bool, true, ◌==◌, ◌||◌, if◌then◌else◌, List, [], ◌∷◌, ◌++◌, get_or, Option, Some, None}
 use Rattle.std.specs.List.{list_any, list_all}
 use Rattle.plc_auto.specs.declared.event.Event.{Event}
-use Rattle.plc_auto.specs.declared.event.Event.TheVariants.{Call as Called, Done as Returned, Free as Freed}
 use Rattle.plc_auto.specs.declared.observer.Observer.{Observer}
+use Rattle.plc_auto.specs.Events.{thread_of, address_of}
 use Rattle.plc_auto.specs.Location.{advance}
-
--- ---- events
-
--- the address that an event names, null where it names none
-abbrev pub named : Event → ℕ
-named (Called t f None) = 0
-named (Called t f (Some a)) = a
-named (Returned t f) = 0
-named (Freed a) = a
-
--- the thread of a call or a return
-abbrev pub thread_of : Event → Option ℕ
-thread_of (Called t f b) = Some t
-thread_of (Returned t f) = Some t
-thread_of (Freed b) = None
 
 -- ---- rows
 
@@ -44,7 +29,7 @@ has_row rows a = (a == 0) || list_any (λ r. r.address == a) rows
 
 -- there is a row for each address that these events name
 abbrev pub has_rows : List Row → List Event → Bool
-has_rows rows events = list_all (λ e. has_row rows (named e)) events
+has_rows rows events = list_all (λ e. has_row rows (address_of e)) events
 
 -- what an event makes of the row of an address, the first of whose threads is number t
 abbrev pub all_after : Observer → Event → ℕ → ℕ → List (Option ℕ) → List (Option ℕ)

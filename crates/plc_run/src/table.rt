@@ -8,7 +8,8 @@ ghost use Rattle.plc_auto.specs.Table.{target_of};
 ghost use Rattle.plc_auto.specs.Location.{is_this, step_by, advance, location_from, location};
 ghost use Rattle.plc_auto.specs.declared.event.Event.TheVariants.{Free as Freed};
 ghost use Rattle.plc_run.specs.Reach.{may_free};
-ghost use Rattle.plc_run.specs.Table.{named, thread_of, has_row, has_rows, row_of, located, all_after, row_after, AddsRows, stands, IsReadyFor};
+ghost use Rattle.plc_auto.specs.Events.{thread_of, address_of};
+ghost use Rattle.plc_run.specs.Table.{has_row, has_rows, row_of, located, all_after, row_after, AddsRows, stands, IsReadyFor};
 
 use plc_auto::{EvKind, Event, Observer};
 use plc_base::{LocId, NoMemory};
@@ -59,7 +60,7 @@ impl Model for Table {
 
 // The address that an event names, null where it names none.
 pub fn named(event: &Event) -> u32
-    ensures { result ≡ named event.now }
+    ensures { result ≡ address_of event.now }
 {
     match *event {
         Event::Call { t: _, f: _, a } => match a {
@@ -110,7 +111,7 @@ fn advance(observer: &Observer, event: &Event, t: usize, a: u32, at: Option<LocI
 
 // Whether an event names the address; none names null.
 fn is_on(event: &Event, a: u32) -> bool
-    ensures { result ≡ is_this (Some (named event.now)) a }
+    ensures { result ≡ is_this (Some (address_of event.now)) a }
 {
     is_this(Some(named(event)), a)
 }

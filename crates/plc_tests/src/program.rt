@@ -163,7 +163,7 @@ pub(crate) fn answered_under<F: Files>(
 }
 
 // The same where those of the program are handed in.
-fn answered<F: Files>(
+pub(crate) fn answered<F: Files>(
     alloc: Global,
     files: &mut F,
     words: &[String],

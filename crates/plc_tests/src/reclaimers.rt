@@ -2,7 +2,7 @@
 // by its row; these are whole answers of replays, of which no contract says that there is memory for them.
 ghost use Rattle.std.specs.Prelude.{[], None, codes};
 
-use crate::program::{answered_under, put_sections, words_of, wrong_rows};
+use crate::program::{answered, answered_under, put_sections, words_of, wrong_rows};
 use plc_auto::Event;
 use plc_base::NoMemory;
 use plc_cli::{ByList, MemFiles, Reclaimer};
@@ -135,6 +135,133 @@ fn wrong_answers(alloc: Global) -> Result<String, AllocError> {
 #[test]
 fn each_replay_has_its_end(rt: HostRuntime) -> Result<(), AllocError> {
     assert_eq!(rt; wrong_answers(rt.alloc())?.as_str(), "");
+    Ok(())
+}
+
+// The number that is drawn after another.
+fn drawn_after(number: u32) -> u32 {
+    number.wrapping_mul(1_664_525).wrapping_add(1_013_904_223)
+}
+
+// The next line of a thread that puts a node at an address and takes it, in twelve lines.
+fn writer_line(alloc: Global, at: u32, address: u32) -> Result<String, AllocError> {
+    match at {
+        0 => String::from_str(alloc, "start 0 put\n"),
+        1 => format!(in alloc; "step 0 0 {address}\n"),
+        4 | 11 => String::from_str(alloc, "return 0\n"),
+        5 => String::from_str(alloc, "start 0 take\n"),
+        _ => String::from_str(alloc, "step 0 0\n"),
+    }
+}
+
+// The next line of a thread that reads. What it reads it hands on at once, while the node is there.
+fn reader_line(
+    alloc: Global,
+    thread: u32,
+    at: u32,
+    op: &str,
+    last: u32,
+) -> Result<String, AllocError> {
+    if at == 0 {
+        format!(in alloc; "start {thread} {op}\nstep {thread} 0\nstep {thread} 0\n")
+    } else if at == last {
+        format!(in alloc; "return {thread}\n")
+    } else {
+        format!(in alloc; "step {thread} 0\n")
+    }
+}
+
+fn next_of(at: u32, last: u32) -> u32 {
+    if at == last { 0 } else { at.wrapping_add(1) }
+}
+
+// Three hundred moves in an order that a number draws: a thread puts and takes nodes, two others read, and
+// the reclaimer is asked now and then.
+fn drawn_schedule(alloc: Global, op: &str, last: u32, seed: u32) -> Result<Vec<u8>, AllocError> {
+    let mut text = String::from_str(alloc, "threads 3\n")?;
+    let mut number = seed;
+    let mut address = 1u32;
+    let mut writer = 0u32;
+    let mut first = 0u32;
+    let mut second = 0u32;
+    for _ in 0..300 {
+        number = drawn_after(number);
+        let line = match number / 536_870_912 {
+            0 | 1 => String::from_str(alloc, "tick\n")?,
+            2 => {
+                let line = reader_line(alloc, 1, first, op, last)?;
+                first = next_of(first, last);
+                line
+            }
+            3 => {
+                let line = reader_line(alloc, 2, second, op, last)?;
+                second = next_of(second, last);
+                line
+            }
+            _ => {
+                let line = writer_line(alloc, writer, address)?;
+                writer = next_of(writer, 11);
+                if writer == 0 {
+                    address = address.wrapping_add(1);
+                }
+                line
+            }
+        };
+        text.push_str(line.as_str())?;
+    }
+    Ok(text.into_bytes())
+}
+
+// The answer to a replay of a drawn schedule.
+fn drawn_answer(
+    alloc: Global,
+    words: &str,
+    op: &str,
+    last: u32,
+    seed: u32,
+) -> Result<String, AllocError> {
+    let mut files = Vec::new(alloc);
+    put_sections(alloc, &mut files, FILES)?;
+    let schedule = drawn_schedule(alloc, op, last, seed)?;
+    files.push((String::from_str(alloc, "drawn")?, schedule))?;
+    let mut files = MemFiles::new(alloc, files, Vec::new(alloc));
+    let words = words_of(alloc, words)?;
+    answered(alloc, &mut files, &words)
+}
+
+// A replay of a file with its operation that reads, how many lines that has, and whether it may end in a
+// free that is forbidden: not under the reclaimer that serves the file's scheme, and not where none is freed.
+const DRAWN: [(&str, &str, u32, bool); 8] = [
+    ("replay hazards drawn leak", "hold", 5, false),
+    ("replay hazards drawn list", "hold", 5, true),
+    ("replay hazards drawn hazard", "hold", 5, false),
+    ("replay hazards drawn epoch", "hold", 5, true),
+    ("replay epochs drawn leak", "stay", 4, false),
+    ("replay epochs drawn list", "stay", 4, true),
+    ("replay epochs drawn hazard", "stay", 4, true),
+    ("replay epochs drawn epoch", "stay", 4, false),
+];
+
+fn wrong_drawn(alloc: Global, seed: u32) -> Result<String, AllocError> {
+    let mut wrong = String::new(alloc);
+    for (words, op, last, may_be_forbidden) in DRAWN {
+        let answer = drawn_answer(alloc, words, op, last, seed)?;
+        let text = answer.as_str();
+        let ended = text.starts_with("0\nend lines ");
+        let forbidden = text.starts_with("1\nforbidden free ");
+        if !ended && !(may_be_forbidden && forbidden) {
+            wrong.push_str(words)?;
+            wrong.push_str(text)?;
+        }
+    }
+    Ok(wrong)
+}
+
+#[test]
+fn a_drawn_schedule_ends_in_no_forbidden_free(rt: HostRuntime) -> Result<(), AllocError> {
+    for seed in [1, 2, 3, 5, 8] {
+        assert_eq!(rt; wrong_drawn(rt.alloc(), seed)?.as_str(), "", "{seed}");
+    }
     Ok(())
 }
 

@@ -455,6 +455,8 @@ race deref line 20 prim 0
 forbidden free 1 line 15
 # replay stack kept leak: 0
 end lines 15 events 3 freed 0
+# replay stack kept hazard: 0
+end lines 15 events 3 freed 0
 # replay twice double leak: 1
 race double line 6 prim 0
 # replay twice freed list: 1

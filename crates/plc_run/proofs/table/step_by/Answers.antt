@@ -1,5 +1,6 @@
 use Rattle.std.proofs.Common.{sym, ◌∙◌, arith}
-use Rattle.plc_auto.proofs.Histories.{kind_of, is_own, is_on, step_by_is}
+use Rattle.plc_auto.specs.Events.{kind_of}
+use Rattle.plc_auto.proofs.Histories.{is_own, is_on, step_by_is}
 use Rattle.plc_run.proofs.Stays.{past_all}
 use Rattle.plc_run.proofs.table.step_by.Goals as goal
 
