@@ -3,7 +3,7 @@
 // point and its clause, `c0.1` that of a step and its primitive.
 ghost use Rattle.plc_oblig.specs.Fit.{Fits};
 
-use crate::files::{DEEP, EPOCHS, HAZARDS};
+use crate::files::{DEEP, epochs, hazards};
 use plc_base::LARGEST_FILE;
 use plc_check::{Unjudged, load};
 use plc_flow::Flow;
@@ -82,15 +82,15 @@ fn answer(alloc: Global, file: &str, numbers: &[u64]) -> Result<String, AllocErr
 #[test]
 fn obligations_are_those_of_the_lists(rt: HostRuntime) -> Result<(), AllocError> {
     let alloc = rt.alloc();
-    let hazards: [u64; 19] = [
+    let of_hazards: [u64; 19] = [
         0, 5, 6, 9, 13, 14, 17, 60, 120, 200, 267, 300, 777, 1500, 2222, 2840, 2841, 2844, 2845,
     ];
     assert_eq!(rt;
-        answer(alloc, HAZARDS, &hazards)?.as_str(),
+        answer(alloc, hazards(alloc)?.as_str(), &of_hazards)?.as_str(),
         "2845: s0 e0.0 e0.1 o0.0 o0.4 o0.5 o1.0 o6.3 o15.1 o27.3 i0.0.0 i0.12.0 i7.26.0 i18.23.0 i29.19.0 i38.36.0 c23.1 c31.0 none"
     );
     assert_eq!(rt;
-        answer(alloc, EPOCHS, &[0, 2559])?.as_str(),
+        answer(alloc, epochs(alloc)?.as_str(), &[0, 2559])?.as_str(),
         "2559: s0 none"
     );
     let deep: [u64; 16] = [

@@ -5,71 +5,13 @@ ghost use Rattle.plc_flow.specs.WellFormed.{FlowFits};
 ghost use Rattle.plc_flow.specs.WellSorted.{FlowIsWellSorted};
 ghost use Rattle.plc_gc.specs.Position.{IsOfRun};
 
+use crate::files::hazards;
 use plc_base::{FieldId, Items, LARGEST_FILE, NoMemory, OpId};
 use plc_check::{Judged, Unjudged, load};
 use plc_flow::{Flow, Move, Place, StartFault};
 use plc_gc::{GcConfig, holds};
 use plc_logic::{Clause, Item};
 use std::alloc::{AllocError, Global};
-
-const STACK: &str = "struct Node { ptr next; data val; }
-shared Top;
-call protect(ptr);
-use hazard(protect);
-ghost st { made, linked, cut };
-ghost owner thread;
-op push(v) {
-ptr n; ptr t;
-atomic { n := new; ghost n.owner := me; }
-n.val := v;
-loop {
-t := Top;
-n.next := t;
-choose {
-atomic { n.next ?= Top; ghost n.st := linked; ghost n.owner := none; Top := n; n := null; }
-return;
-} or { }
-}
-}
-op pop() {
-ptr t; ptr s;
-loop {
-t := Top;
-if (t == null) { return; }
-protect(t);
-choose {
-atomic { t ?= Top; active t; }
-s := t.next;
-label d;
-choose {
-label e;
-atomic { active Top; assume Top == t; ghost t.st := cut; ghost t.owner := me; Top := s; }
-label f;
-retire(active t);
-return;
-} or {
-atomic { active Top; assume Top != t; }
-}
-} or { }
-}
-}
-outline {
-inv Top == null or Top.st == linked;
-inv all x: x.st != linked or not retired(x);
-inv all x, y: x.st != linked or x.next != y or y.st == linked;
-inv all x: Top == null or x.st != linked or x.next != Top;
-inv all x, y: x.st != linked or y.st != linked or x.next == null or x.next != y.next or x == y;
-over push: n == null or n.st == made;
-over push: n == null or n.owner == me;
-over push: n == null or not retired(n);
-over pop: t == null or t.st != made;
-at d, e: t != null;
-at d, e: t.next == s;
-at f: t.st == cut;
-at f: t.owner == me;
-at f: not retired(t);
-}
-";
 
 // A file with its flow and its outline.
 pub(crate) fn loaded(alloc: Global, text: &str) -> Result<Judged, NoMemory>
@@ -401,7 +343,7 @@ invariants 0 1 2 => yyyyy
 
 #[test]
 fn runs_of_a_stack(rt: HostRuntime) -> Result<(), NoMemory> {
-    let text = ran(rt.alloc(), STACK, RUN)?;
+    let text = ran(rt.alloc(), hazards(rt.alloc())?.as_str(), RUN)?;
     assert_eq!(rt; text.as_str(), RUN);
     Ok(())
 }

@@ -1,12 +1,21 @@
 // Stacks whose nodes are protected by hazard pointers and by epochs, and a file with every form that an outline
-// and a step may have.
+// and a step may have. The two stacks differ in their observer and in how they take a node.
+use std::alloc::{AllocError, Global};
 
-/// A stack with hazard pointers.
-pub const HAZARDS: &str = "struct Node { ptr next; data val; }
+const STRUCT: &str = "struct Node { ptr next; data val; }
 shared Top;
-call protect(ptr);
+";
+
+const HAZARD_OBSERVER: &str = "call protect(ptr);
 use hazard(protect);
-ghost st { made, linked, cut };
+";
+
+const EPOCH_OBSERVER: &str = "call enter();
+call leave();
+use epoch(enter, leave);
+";
+
+const PUSH: &str = "ghost st { made, linked, cut };
 ghost owner thread;
 op push(v) {
 ptr n; ptr t;
@@ -21,7 +30,9 @@ return;
 } or { }
 }
 }
-op pop() {
+";
+
+const HAZARD_POP: &str = "op pop() {
 ptr t; ptr s;
 loop {
 t := Top;
@@ -43,46 +54,9 @@ atomic { active Top; assume Top != t; }
 } or { }
 }
 }
-outline {
-inv Top == null or Top.st == linked;
-inv all x: x.st != linked or not retired(x);
-inv all x, y: x.st != linked or x.next != y or y.st == linked;
-inv all x: Top == null or x.st != linked or x.next != Top;
-inv all x, y: x.st != linked or y.st != linked or x.next == null or x.next != y.next or x == y;
-over push: n == null or n.st == made;
-over push: n == null or n.owner == me;
-over push: n == null or not retired(n);
-over pop: t == null or t.st != made;
-at d, e: t != null;
-at d, e: t.next == s;
-at f: t.st == cut;
-at f: t.owner == me;
-at f: not retired(t);
-}
 ";
 
-/// The same stack with epochs.
-pub const EPOCHS: &str = "struct Node { ptr next; data val; }
-shared Top;
-call enter();
-call leave();
-use epoch(enter, leave);
-ghost st { made, linked, cut };
-ghost owner thread;
-op push(v) {
-ptr n; ptr t;
-atomic { n := new; ghost n.owner := me; }
-n.val := v;
-loop {
-t := Top;
-n.next := t;
-choose {
-atomic { n.next ?= Top; ghost n.st := linked; ghost n.owner := none; Top := n; n := null; }
-return;
-} or { }
-}
-}
-op pop() {
+const EPOCH_POP: &str = "op pop() {
 ptr t; ptr s;
 enter();
 loop {
@@ -102,7 +76,9 @@ atomic { active Top; assume Top != t; }
 }
 leave();
 }
-outline {
+";
+
+const OUTLINE: &str = "outline {
 inv Top == null or Top.st == linked;
 inv all x: x.st != linked or not retired(x);
 inv all x, y: x.st != linked or x.next != y or y.st == linked;
@@ -119,6 +95,16 @@ at f: t.owner == me;
 at f: not retired(t);
 }
 ";
+
+/// The stack with hazard pointers.
+pub fn hazards(alloc: Global) -> Result<String, AllocError> {
+    format!(in alloc; "{STRUCT}{HAZARD_OBSERVER}{PUSH}{HAZARD_POP}{OUTLINE}")
+}
+
+/// The same stack with epochs.
+pub fn epochs(alloc: Global) -> Result<String, AllocError> {
+    format!(in alloc; "{STRUCT}{EPOCH_OBSERVER}{PUSH}{EPOCH_POP}{OUTLINE}")
+}
 
 /// Two operations over a struct with two pointer fields and a data field, with deep premises.
 pub const DEEP: &str = "struct Node { ptr next; data val; ptr other; }

@@ -1,0 +1,15 @@
+//! Tests of what outlines need: garbage-collected configurations, alone and beside those of memory, and obligations,
+//! as an independent reading of the lists gives them. Whole answers to rows of texts, with memory enough. They
+//! stand on top of the crates that they test, as plc_tests says.
+#![tactic(auto)]
+
+#[cfg(test)]
+mod collected;
+#[cfg(test)]
+mod erased;
+#[cfg(test)]
+mod files;
+#[cfg(test)]
+mod obligations;
+#[cfg(test)]
+mod sets;
