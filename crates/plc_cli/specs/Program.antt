@@ -26,7 +26,8 @@ pub record AreOwn (reclaimers : List Meanings) : Type 0 where
   pub epoch_acts : ActsAs epoch_row epoch
 
 -- what `run` says of these, under these names
-pub record RunsWithOwn (words : List (List ℕ)) (old new : KnownFiles) (sink sink_now : KnownSink) (result : ℕ) : Type 0 where
+pub record RunsWithOwn (words : List (List ℕ)) (old new : KnownFiles) (sink sink_now : KnownSink) (result : ℕ)
+    : Type 0 where
   pub reclaimers : List Meanings
   pub own : AreOwn reclaimers
   pub outcome : Outcome reclaimers (request_of own_names words) old new sink sink_now result
@@ -41,4 +42,5 @@ pub record HasNoReclaimers (old new : KnownFiles) (sink sink_now : KnownSink) (r
 
 -- either of these
 abbrev pub IsProgram : List (List ℕ) → KnownFiles → KnownFiles → KnownSink → KnownSink → ℕ → Type 0
-IsProgram words old new sink sink_now result = HasNoReclaimers old new sink sink_now result ⊎ RunsWithOwn words old new sink sink_now result
+IsProgram words old new sink sink_now result =
+    HasNoReclaimers old new sink sink_now result ⊎ RunsWithOwn words old new sink sink_now result

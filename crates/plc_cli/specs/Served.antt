@@ -43,5 +43,7 @@ pub record ServedReplays (reclaimers : List Meanings) (request : Option Request)
       → request ≡ Some (Replay file schedule number) → slice_get reclaimers number ≡ Some reclaimer
       → old.content file ≡ Some bytes → old.content schedule ≡ Some second → (served : IsServedBy reclaimer bytes)
       → result ≡ fails → FailsOtherwise served.unit reclaimer second sink sink_now
-  pub never : (bytes : List ℕ) (reclaimer : Meanings) (served : IsServedBy reclaimer bytes) (schedule : Schedule) (end : End)
-      → ComesTo (judged_of served.unit).flow served.unit.observer reclaimer (judged_of served.unit).schemes schedule end → IsAllowedEnd end
+  pub never : (bytes : List ℕ) (reclaimer : Meanings) (served : IsServedBy reclaimer bytes)
+      → (schedule : Schedule) (end : End)
+      → ComesTo (judged_of served.unit).flow served.unit.observer reclaimer (judged_of served.unit).schemes schedule end
+      → IsAllowedEnd end
