@@ -1,5 +1,5 @@
 -- What each symbol of the machine stands for: the tree that it is read into, and the tokens of that tree.
-use Rattle.std.proofs.Common.{ℕ, Bool, Option, List, ◌∷◌}
+use Rattle.std.proofs.Common.{ℕ, List, ◌∷◌}
 use Rattle.plc_lex.specs.declared.token.TokenKind.{TokenKind}
 use Rattle.plc_lex.specs.declared.token.TokenKind.TheVariants.{Name, Number, Symbol}
 use Rattle.plc_lex.specs.declared.token.Keyword.TheVariants as words
@@ -7,8 +7,8 @@ use Rattle.plc_syntax.specs.declared.expected.Expected.{Expected}
 use Rattle.plc_syntax.specs.declared.expected.Expected.TheVariants as expected
 use Rattle.plc_syntax.specs.declared.expected.Part.{Part as PartName}
 use Rattle.plc_syntax.specs.declared.expected.Part.TheVariants as parts
-use Rattle.plc_syntax.specs.Trees.{Text, each_then, maybe_then, word_if_then, comma_name_then, FieldTree, field_then, shared_then, FunctionTree, function_then, WatchTree, scheme_then, watch_then, GhostKindTree, ghost_kind_then, GhostTree, ghost_then, dot_name_then, PlaceTree, place_then, AtomTree, atom_then, ValueTree, value_then, GhostValueTree, ghost_value_then, InitialTree, initial_then, init_then, TestTree, test_then, name_or_null_then, ConditionTree, condition_then, PrimitiveTree, primitive_line_then, ArgumentTree, argument_then, during_then, BlockTree, ElseTree, OrTree, statements_then, else_then, or_then, parameters_then, OpTree, op_then, TermTree, term_then, FlagTree, flag_then, LiteralTree, literal_then, BoundTree, bound_then, or_literal_then, ItemTree, item_then, depth_then, OutlineTree, outline_then, FileTree, file_then}
-use Rattle.plc_syntax.proofs.Tails.{SetTail, set_tail_then, FieldTail, field_tail_then, AssignmentTail, assignment_tail_then, NamedTail, named_tail_then, ComparisonTail, comparison_tail_then, ConditionTail, condition_tail_then, EqualityTail, equality_tail_then, block_then, second_block_then}
+use Rattle.plc_syntax.specs.Trees.{Text, each_then, maybe_then, word_if_then, comma_name_then, field_then, shared_then, function_then, scheme_then, watch_then, ghost_kind_then, ghost_then, dot_name_then, place_then, atom_then, value_then, ghost_value_then, initial_then, init_then, test_then, name_or_null_then, condition_then, primitive_line_then, argument_then, during_then, statements_then, else_then, or_then, parameters_then, op_then, term_then, flag_then, literal_then, bound_then, or_literal_then, item_then, depth_then, outline_then, file_then}
+use Rattle.plc_syntax.proofs.Tails.{set_tail_then, field_tail_then, assignment_tail_then, named_tail_then, comparison_tail_then, condition_tail_then, equality_tail_then, block_then, second_block_then}
 
 -- what a part is read into, and how that is spelled before other tokens
 pub record Spelling : Type 1 where
