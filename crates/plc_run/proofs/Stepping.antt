@@ -134,7 +134,15 @@ pub run_answered : (flow : Flow) (o : Observer) (p q : Position) (move : Move) �
 run_answered flow o p q move run to follows =
     run_so flow o p q move (reach flow o p.here move) run (reach_leads flow o p.here move (run_allowed flow o (threads_of p) run.moves p.here run.run)) to follows
 
--- ---- a step of one primitive
+-- ---- a step of no or one primitive
+
+-- without primitives
+pub none_taken : (c : Configuration) (t : ℕ) (addr : Option ℕ) (p : Point) (step : Step) (ps : List (Option Point)) → t < length c.points
+    → step.prims ≡ [] → ps ≡ set c.points t (Some (record p { at = step.to.0 })) → Goes (record c { points = ps }) ≡ ended_as c t p step.to.0 (taken c t addr step)
+none_taken c t addr p step ps small none points =
+    let there : Option Point = Some (record p { at = step.to.0 }) in
+    let here : ps ≡ put_at None c.points t there = points ∙ sym (put_is_set None c.points t there small) in
+    (λ i. Goes (record c { points = here i })) ∙ ap (λ ks. ended_as c t p step.to.0 (execute c.state c.history t (address_or_null addr) 0 ks)) (sym none)
 
 -- what it comes to, by the primitive's outcome
 pub one_taken : (c : Configuration) (t : ℕ) (addr : Option ℕ) (step : Step) (k : Primitive) (o : Outcome) → step.prims ≡ k ∷ [] → o ≡ outcome_of c.state t (address_or_null addr) k

@@ -1,9 +1,9 @@
 // A configuration of a run in code, with the table by which frees are judged. A move takes its memory
 // first: nothing that is seen of the configuration is changed before the last call that may run out of
 // memory, so that a move that is blocked or forbidden, and running out of memory, leave it as it was.
-// A step of one primitive, as most are, works on the memory itself, since a primitive that fails changes
-// nothing. A step of several works on a copy, because its first primitives may succeed and a later one not.
-ghost use Rattle.std.specs.Prelude.{◌≡◌, ℕ, ◌<◌, ◌++◌, ◌∷◌, [], length, get_or, set, replicate, IfOk, OnOk, OnErr, Some, None};
+// A step of no or one primitive, as most are, works on the memory itself, since a primitive that fails
+// changes nothing. A step of several works on a copy, because its first primitives may succeed and a later one not.
+ghost use Rattle.std.specs.Prelude.{◌≡◌, ℕ, ◌<◌, ◌++◌, ◌∷◌, [], Option, length, get_or, set, replicate, IfOk, OnOk, OnErr, Some, None};
 ghost use Rattle.plc_lang.specs.Shape.{PrimitiveIn};
 ghost use Rattle.plc_flow.specs.WellFormed.{FlowFits};
 ghost use Rattle.plc_mem.specs.State.{with_locals};
@@ -258,7 +258,7 @@ impl Config {
         self.take(observer, step, point, t, addr)
     }
 
-    // A step is taken: of one primitive in place, of several on a copy.
+    // A step is taken: of no or one primitive in place, of several on a copy.
     fn take(
         &mut self,
         observer: &Observer,
@@ -277,9 +277,24 @@ impl Config {
         ensures err { OnErr result (self.new ≡ self.old) }
     {
         match step.prims.as_slice() {
+            [] => Ok(self.pass(step, point, t)),
             [prim] => self.take_in_place(observer, step, prim, point, t, addr),
             _ => self.take_on_copy(observer, step, point, t, addr),
         }
+    }
+
+    // A step without primitives moves its thread alone.
+    fn pass(&mut self, step: &Step, point: Point, t: u32) -> Moved
+        requires none { step.now.prims ≡ [] }
+        requires ready { IsReady self.old.here t point step.now }
+        ensures answer { (addr : Option ℕ)
+            → result ≡ answer (ended_as self.old.here t point step.now.to.0 (taken self.old.here t addr step.now)) }
+        ensures after { (addr : Option ℕ)
+            → Reaches (ended_as self.old.here t point step.now.to.0 (taken self.old.here t addr step.now)) self.old self.new }
+        ensures unheard { IsUnheard self.old self.new }
+    {
+        set_point(&mut self.points, t, Some(arrival(point, step)));
+        Moved::Done
     }
 
     // A step of one primitive, which works on the memory itself.
