@@ -2,16 +2,14 @@
 // no set is made for it.
 ghost use Rattle.std.specs.Prelude.{◌≡◌, ◌≤◌, ◌<◌, length, count_by, sum_by, slice_get, option_copied};
 ghost use Rattle.plc_lang.specs.Locals.{is_pointer, is_other_data};
-ghost use Rattle.plc_oblig.specs.Fit.{Fits};
-ghost use Rattle.plc_oblig.specs.Points.{clauses_at};
-ghost use Rattle.plc_oblig.specs.Parts.{acting_locals, owner_locals, executed, acting_premises, owner_premises, clauses_before, conclusion, claim_made};
-ghost use Rattle.plc_oblig.specs.Setting.{setting_of};
-ghost use Rattle.plc_oblig.specs.Items.{clauses_of};
+ghost use Rattle.plc_setting.specs.Fit.{Fits};
+ghost use Rattle.plc_setting.specs.Points.{clauses_at};
+ghost use Rattle.plc_setting.specs.Parts.{acting_locals, owner_locals, executed, acting_premises, owner_premises, clauses_before, conclusion, claim_made};
+ghost use Rattle.plc_setting.specs.Setting.{setting_of};
+ghost use Rattle.plc_items.specs.Items.{clauses_of};
 ghost use Rattle.plc_oblig.specs.Size.{has_values, is_pointer_field, is_pointer_load, prim_size};
 
-use crate::obligations::Obligation;
-use crate::parts::{acting_locals, claim_made, conclusion, executed, owner_locals};
-use crate::points::stands_at;
+use plc_setting::{Obligation, acting_locals, claim_made, conclusion, executed, owner_locals, stands_at};
 use plc_base::{PointId, StepId};
 use plc_flow::{Flow, Step};
 use plc_lang::{Arg, Field, Ghost, Local, Prim, Rel, is_new};

@@ -1,0 +1,5 @@
+-- what contracts of public calls say
+pub mod Terms
+pub mod Keys
+pub mod Same
+pub mod Numbering
