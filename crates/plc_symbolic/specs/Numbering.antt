@@ -1,5 +1,5 @@
 -- The numbering of clauses over symbolic terms: a term is listed at its first occurrence, its arguments before it, left before right.
-use Rattle.std.specs.Prelude.{ℕ, List, [], ◌∷◌, ◌++◌, map, fold}
+use Rattle.std.specs.Prelude.{ℕ, ◌<◌, List, [], ◌∷◌, ◌++◌, length, map, fold}
 use Rattle.std.specs.List.{position_or_len}
 use Rattle.indexmap.specs.IndexSet.{insert_key}
 use Rattle.plc_logic.specs.declared.clause.Sort.{Sort}
@@ -8,7 +8,6 @@ use Rattle.plc_ground.specs.declared.terms.GroundTerm.{GroundTerm}
 use Rattle.plc_ground.specs.declared.terms.GroundTerm.TheVariants.{Const, App}
 use Rattle.plc_ground.specs.declared.terms.Lit.{Lit}
 use Rattle.plc_ground.specs.declared.terms.GroundSet.{GroundSet}
-use Rattle.plc_symbolic.specs.declared.symbolic.NodeTerm.{NodeTerm}
 use Rattle.plc_symbolic.specs.declared.symbolic.NodeTerm.TheVariants.{At, Behind}
 use Rattle.plc_symbolic.specs.declared.symbolic.SymbolicTerm.{SymbolicTerm}
 use Rattle.plc_symbolic.specs.declared.symbolic.SymbolicTerm.TheVariants.{Constant, Application}
@@ -64,9 +63,12 @@ written_all d cs = fold written d cs
 
 -- ---- numbers
 
--- the place of a term
+-- the place of a term, and that it has one
 unfoldable pub place : List SymbolicTerm → SymbolicTerm → ℕ
 place ts t = position_or_len (same_term t) ts
+
+abbrev pub IsListed : List SymbolicTerm → SymbolicTerm → Type 0
+IsListed ts t = place ts t < length ts
 
 -- terms and literals by places
 abbrev pub number : List SymbolicTerm → SymbolicTerm → GroundTerm

@@ -1,8 +1,6 @@
 -- Terms before they are numbered, and literals over them.
-use Rattle.std.specs.Prelude.{ℕ, true, false, List}
-use Rattle.plc_ground.specs.declared.terms.Symbol.{Symbol}
+use Rattle.std.specs.Prelude.{true, false, List}
 use Rattle.plc_ground.specs.declared.terms.Symbol.TheVariants as symbols
-use Rattle.plc_ground.specs.declared.terms.Map.{Map}
 use Rattle.plc_ground.specs.declared.terms.Map.TheVariants as maps
 use Rattle.plc_symbolic.specs.declared.symbolic.NodeTerm.{NodeTerm}
 use Rattle.plc_symbolic.specs.declared.symbolic.NodeTerm.TheVariants.{At, Behind}

@@ -6,9 +6,12 @@
 #![tactic(auto)]
 
 mod draft;
+mod laws;
+mod listing;
 mod symbolic;
 mod terms;
 
 pub use draft::Draft;
+pub use laws::drafts_are_well_formed;
 pub use symbolic::{NodeTerm, SymbolicLit, SymbolicTerm};
 pub use terms::{applied, is, is_not, term_of};

@@ -1,10 +1,9 @@
 // Terms before they are numbered. A term is a constant, or a version of a map at a node; a node is a
 // constant, or a pointer field of one in the state before the step. No term of a ground set is deeper.
 ghost use Rattle.std.specs.Prelude.{◌≡◌};
-ghost use Rattle.std.specs.Hash as fed;
-ghost use Rattle.std.specs.Cmp.Rules.{comparing, hashing};
-ghost use Rattle.std.proofs.Common.{rules};
-ghost use Rattle.plc_symbolic.specs.Keys.{symbol_key, node_key, map_key, term_input};
+ghost use Rattle.std.proofs.Common.{ap};
+ghost use Rattle.plc_symbolic.specs.Keys.{symbol_key, node_key, map_key, term_key, term_input};
+ghost use Rattle.plc_symbolic.specs.Equal.{term_is};
 
 use plc_base::FieldId;
 use plc_ground::{Map, Symbol};
@@ -49,13 +48,13 @@ fn symbol_key(symbol: Symbol) -> u64
         Symbol::Nobody => 3,
         Symbol::Me => 4,
         Symbol::You => 5,
-        Symbol::Shared(i) => 16 + 16 * i as u64,
-        Symbol::Mine(i) => 17 + 16 * i as u64,
-        Symbol::Theirs(i) => 18 + 16 * i as u64,
-        Symbol::Bound(i) => 19 + 16 * i as u64,
-        Symbol::Loaded(i) => 20 + 16 * i as u64,
-        Symbol::Value(i) => 21 + 16 * i as u64,
-        Symbol::Number(n) => 22 + 16 * n as u64,
+        Symbol::Shared(i) => 8 + 16 * i as u64,
+        Symbol::Mine(i) => 9 + 16 * i as u64,
+        Symbol::Theirs(i) => 10 + 16 * i as u64,
+        Symbol::Bound(i) => 11 + 16 * i as u64,
+        Symbol::Loaded(i) => 12 + 16 * i as u64,
+        Symbol::Value(i) => 13 + 16 * i as u64,
+        Symbol::Number(n) => 14 + 16 * n as u64,
     }
 }
 
@@ -65,33 +64,39 @@ fn node_key(node: NodeTerm) -> u64
 {
     match node {
         NodeTerm::At(symbol) => symbol_key(symbol),
-        NodeTerm::Behind { f, of } => symbol_key(of) + 0x1000_0000_0000 * (1 + f.0 as u64),
+        NodeTerm::Behind { f, of } => symbol_key(of) + 0x10_0000 * (1 + f.0 as u64),
     }
 }
 
-// The same of a version of a map.
-fn map_key(map: Map, version: u16) -> u64
-    ensures { result ≡ map_key map version }
+// The same of a map.
+fn map_key(map: Map) -> u64
+    ensures { result ≡ map_key map }
 {
     match map {
-        Map::Field(f) => 1 + 4 * f.0 as u64 + 0x100_0000 * version as u64,
-        Map::Ghost(g) => 2 + 4 * g as u64 + 0x100_0000 * version as u64,
-        Map::Retired => 3 + 0x100_0000 * version as u64,
+        Map::Field(f) => 1 + 4 * f.0 as u64,
+        Map::Ghost(g) => 2 + 4 * g as u64,
+        Map::Retired => 3,
+    }
+}
+
+// The same of a term.
+fn term_key(term: SymbolicTerm) -> u64
+    ensures { result ≡ term_key term }
+{
+    match term {
+        SymbolicTerm::Constant(symbol) => symbol_key(symbol),
+        SymbolicTerm::Application { map, version, node } => {
+            node_key(node) + 0x10_0000_0000 * map_key(map) + 0x1000_0000_0000 * version as u64
+        }
     }
 }
 
 impl Hash for SymbolicTerm {
     ghost hash_input = { term_input };
 
-    ghost respects_eq = { Prim.search (hashing, rules) };
+    ghost respects_eq = { λ a b same. ap term_input (term_is a b same) };
 
     fn hash<H: Hasher>(&self, state: &mut H) {
-        match *self {
-            SymbolicTerm::Constant(symbol) => state.write_u64(symbol_key(symbol)),
-            SymbolicTerm::Application { map, version, node } => {
-                state.write_u64(node_key(node));
-                state.write_u64(map_key(map, version));
-            }
-        }
+        state.write_u64(term_key(*self));
     }
 }
