@@ -22,7 +22,7 @@ use Rattle.plc_symbolic.specs.Terms.{Clauses, term_of, null}
 use Rattle.plc_symbolic.specs.Numbering.{note, note_clause, place, number, number_lit, numbered, IsListed, Drafted, listed, written, listed_all, written_all}
 use Rattle.plc_symbolic.specs.Tidy.{IsTidy, HasArgument, HasSides, Grows}
 use Rattle.plc_symbolic.specs.Drafts.{IsDraft, begun, lists, writes, DraftsAreWellFormed}
-use Rattle.plc_symbolic.proofs.Places.{place_read, listed_at, tidy_none, argument_listed}
+use Rattle.plc_symbolic.proofs.Places.{grows_not, grows_twice, place_read, listed_at, tidy_none, argument_listed}
 use Rattle.plc_symbolic.proofs.Noting.{tidy_note, tidy_clause, grows_note, grows_clause, sides_clause, clause_grown}
 
 -- ---- what each draft keeps
@@ -73,6 +73,17 @@ written_all-clauses (c ∷ cs) d = written_all-clauses cs (written d c) ∙ appe
 pub listed_all-clauses : (ts : List SymbolicTerm) (d : Drafted) → (listed_all d ts).clauses ≡ d.clauses
 listed_all-clauses [] d = refl
 listed_all-clauses (t ∷ ts) d = listed_all-clauses ts (listed d t)
+
+-- places stay
+pub grows_listed_all : (ts : List SymbolicTerm) (d : Drafted) → Grows d.terms (listed_all d ts).terms
+grows_listed_all [] d = grows_not d.terms
+grows_listed_all (t ∷ ts) d =
+    grows_twice d.terms (note d.terms t) (listed_all (listed d t) ts).terms (grows_note d.terms t) (grows_listed_all ts (listed d t))
+
+pub grows_written_all : (cs : Clauses) (d : Drafted) → Grows d.terms (written_all d cs).terms
+grows_written_all [] d = grows_not d.terms
+grows_written_all (c ∷ cs) d =
+    grows_twice d.terms (note_clause d.terms c) (written_all (written d c) cs).terms (grows_clause c d.terms) (grows_written_all cs (written d c))
 
 -- ---- numbered terms
 

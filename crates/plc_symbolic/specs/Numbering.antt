@@ -1,4 +1,5 @@
--- The numbering of clauses over symbolic terms: a term is listed at its first occurrence, its arguments before it, left before right.
+-- The numbering of clauses over symbolic terms: a term is listed at its first occurrence, its arguments before it,
+-- left before right.
 use Rattle.std.specs.Prelude.{ℕ, ◌<◌, List, [], ◌∷◌, ◌++◌, length, map, fold}
 use Rattle.std.specs.List.{position_or_len}
 use Rattle.indexmap.specs.IndexSet.{insert_key}

@@ -2,7 +2,8 @@
 // its hash. The place of a term is settled when it is first noted.
 ghost use Rattle.std.specs.Prelude.{◌≡◌, ◌<◌, ◌^◌, [], length, slice_get, map, OnOk, IfOk};
 ghost use Rattle.plc_symbolic.specs.Terms.{term_of};
-ghost use Rattle.plc_symbolic.specs.Numbering.{put, note, note_literal, note_clause, place, number, number_lit, IsListed};
+ghost use Rattle.plc_symbolic.specs.Numbering.{put, note, note_literal, note_clause};
+ghost use Rattle.plc_symbolic.specs.Numbering.{place, number, number_lit, IsListed};
 ghost use Rattle.plc_symbolic.specs.Tidy.{IsTidy, HasArgument, IsAppliedTo, Grows};
 
 use crate::symbolic::{NodeTerm, SymbolicLit, SymbolicTerm};
@@ -154,7 +155,7 @@ impl Listing {
         ensures { result ≡ place self.now term }
     {
         match self.terms.get_index_of(&term) {
-            None => 0,
+            None => unreachable!(),
             Some(at) => at as u32,
         }
     }
