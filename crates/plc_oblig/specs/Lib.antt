@@ -1,6 +1,7 @@
 -- what contracts of public calls say
-pub mod Points
 pub mod Obligations
-pub mod Fit
+pub mod GroundSets
+pub mod Size
+
 -- words of private functions alone
 pub mod Finding

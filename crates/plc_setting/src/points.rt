@@ -1,6 +1,6 @@
 // Which clauses an outline puts at a point: those of the items that stand there, in their order.
 ghost use Rattle.std.specs.Prelude.{◌≡◌, ◌≤◌, length, slice_get, option_copied};
-ghost use Rattle.plc_oblig.specs.Points.{is_over, names_point, stands_at, count_at, clauses_at};
+ghost use Rattle.plc_setting.specs.Points.{is_over, names_point, stands_at, count_at, clauses_at};
 ghost use Rattle.std.specs.List.{list_any};
 
 use plc_base::PointId;
@@ -35,7 +35,7 @@ fn is_named(labels: &[PointId], p: u16, named: &[u16]) -> bool
 }
 
 /// Whether the item puts its clause at the point.
-pub(crate) fn stands_at(flow: &Flow, p: u16, item: &Item) -> bool
+pub fn stands_at(flow: &Flow, p: u16, item: &Item) -> bool
     ensures { result ≡ stands_at flow.now p item.now }
 {
     match &item.site {
@@ -45,7 +45,7 @@ pub(crate) fn stands_at(flow: &Flow, p: u16, item: &Item) -> bool
 }
 
 /// How many clauses the outline puts at a point.
-pub(crate) fn count_at(flow: &Flow, outline: &Outline, p: u16) -> usize
+pub fn count_at(flow: &Flow, outline: &Outline, p: u16) -> usize
     ensures count { result ≡ count_at flow.now outline.now p }
     ensures few { result ≤ length outline.now.items }
 {
@@ -58,7 +58,7 @@ pub(crate) fn count_at(flow: &Flow, outline: &Outline, p: u16) -> usize
 }
 
 /// The clause with a number among those at a point, if there are so many.
-pub(crate) fn clause_at<'a>(
+pub fn clause_at<'a>(
     flow: &Flow,
     outline: &'a Outline,
     p: u16,
