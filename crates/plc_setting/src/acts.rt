@@ -16,9 +16,14 @@ use std::alloc::Global;
 #[derive(Clone, Copy, Debug, PartialEq, Eq)]
 pub enum Act {
     /// The variable's constant becomes that of the other.
-    Assign { to: Symbol, from: Symbol },
+    Assign {
+        to: Symbol,
+        from: Symbol,
+    },
     /// The variable's constant becomes that of the new node.
-    Make { to: Symbol },
+    Make {
+        to: Symbol,
+    },
     /// A field of a node that isn't null is read into a constant of its own.
     Fetch {
         to: Symbol,

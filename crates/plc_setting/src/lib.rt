@@ -15,7 +15,10 @@ mod sorts;
 pub use acts::{Act, pointer_symbol};
 pub use constants::constants_of;
 pub use obligations::Obligation;
-pub use parts::{acting_locals, acting_point, claim_made, conclusion, executed, has_owner, invariants_before, owner_locals, owner_point};
+pub use parts::{
+    acting_locals, acting_point, claim_made, conclusion, executed, has_owner, invariants_before,
+    owner_locals, owner_point,
+};
 pub use points::{clause_at, count_at, stands_at};
 pub use setting::{Setting, Variables, local_symbol, setting_of};
 pub use sorts::sort_of;

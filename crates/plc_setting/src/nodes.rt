@@ -1,9 +1,9 @@
 // The nodes of a ground set: constants and, at depth 1, their pointer fields in the state before.
 use crate::acts::Act;
 use crate::setting::push_all;
-use plc_symbolic::NodeTerm;
 use plc_base::{FieldId, Items, NoMemory};
 use plc_ground::Symbol;
+use plc_symbolic::NodeTerm;
 use std::alloc::Global;
 
 /// The constants of what is read into pointers, each by its number among all that is read.

@@ -3,12 +3,12 @@ use crate::acts::{Act, acts_of};
 use crate::nodes::{loaded_pointers, node_constants, nodes_of, plain_nodes};
 use crate::obligations::Obligation;
 use crate::parts::{acting_locals, conclusion, executed, has_owner, owner_locals};
-use plc_symbolic::NodeTerm;
 use plc_base::{FieldId, Items, NoMemory};
 use plc_flow::Flow;
 use plc_ground::Symbol;
 use plc_lang::{Field, Local, Prim, is_new};
 use plc_logic::{Clause, Outline};
+use plc_symbolic::NodeTerm;
 use std::alloc::Global;
 
 /// The locals of a thread: the constants of its pointer locals and of its data locals.
@@ -139,8 +139,20 @@ pub fn setting_of(
     let constants = node_constants(alloc, pointers.as_slice(), makes, bound, loaded.as_slice())?;
     let plain = plain_nodes(alloc, pointers.as_slice(), bound, loaded.as_slice())?;
     let deep = outline.depth == 1;
-    let nodes = nodes_of(alloc, constants.as_slice(), deep, constants.as_slice(), fields.as_slice())?;
-    let instances = nodes_of(alloc, plain.as_slice(), deep, constants.as_slice(), fields.as_slice())?;
+    let nodes = nodes_of(
+        alloc,
+        constants.as_slice(),
+        deep,
+        constants.as_slice(),
+        fields.as_slice(),
+    )?;
+    let instances = nodes_of(
+        alloc,
+        plain.as_slice(),
+        deep,
+        constants.as_slice(),
+        fields.as_slice(),
+    )?;
     Ok(Setting {
         mine,
         theirs,

@@ -6,11 +6,11 @@ ghost use Rattle.plc_setting.specs.Sorts.{map_sort, symbol_sort, sort_of};
 use crate::acts::Act;
 use crate::obligations::Obligation;
 use crate::parts::{acting_locals, owner_locals};
-use plc_symbolic::SymbolicTerm;
 use plc_base::FieldId;
 use plc_flow::Flow;
 use plc_ground::{Map, Sort, Symbol};
 use plc_lang::{Field, File, Ghost, Local, value_at};
+use plc_symbolic::SymbolicTerm;
 
 fn pointer_sort(pointer: bool) -> Sort
     ensures { result ≡ pointer_sort pointer }
