@@ -11,6 +11,7 @@ mod parts;
 mod points;
 mod setting;
 mod sorts;
+mod symbols;
 
 pub use acts::{Act, pointer_symbol};
 pub use constants::constants_of;
