@@ -91,13 +91,13 @@ pub fn push_pointer_loads(list: &mut Items<Symbol>, acts: &[Act]) -> Result<(), 
     requires { length acts.now < 65536 }
     ensures { OnOk result (list.new ≡ list.old ++ pointer_loads_from 0 acts.now) }
 {
-    let mut loads = 0;
+    let mut reads = 0;
     for act in acts {
         if let Act::Fetch { pointer, .. } = act {
             if *pointer {
-                list.push(Symbol::Loaded(loads))?;
+                list.push(Symbol::Loaded(reads))?;
             }
-            loads += 1;
+            reads += 1;
         }
     }
     Ok(())
