@@ -1,5 +1,5 @@
 -- What primitives do in ground sets: a table with a row for each. A variable is named by the constant that it has at first; every other constant names itself.
-use Rattle.std.specs.Prelude.{ℕ, Bool, true, false, List, [], ◌∷◌, map, slice_index_or}
+use Rattle.std.specs.Prelude.{ℕ, Bool, true, false, List, [], ◌∷◌, map, slice_get, unwrap_or}
 use Rattle.plc_base.specs.Functions.{is_retire}
 use Rattle.plc_lang.specs.declared.syntax.Arg.{Arg}
 use Rattle.plc_lang.specs.declared.syntax.Arg.TheVariants as args
@@ -24,7 +24,7 @@ use Rattle.plc_setting.specs.declared.setting.Variables.{Variables}
 
 -- the constant with a number; null where there is none, which a primitive that fits never asks
 abbrev pub symbol_at : List Symbol → ℕ → Symbol
-symbol_at ss k = slice_index_or ss k symbols.Null
+symbol_at ss k = unwrap_or (slice_get ss k) symbols.Null
 
 -- the constant of a pointer variable
 abbrev pub pointer_symbol : Variables → Var → Symbol

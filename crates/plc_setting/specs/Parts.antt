@@ -1,6 +1,7 @@
 -- The parts of an obligation: what is executed, whose locals it names, what holds before and what is to hold behind.
 use Rattle.std.specs.Prelude.{ℕ, Bool, true, false, ◌&&◌, ◌++◌, nat_le, nat_lt, Option, Some, None, List, [], take, slice_get}
 use Rattle.std.specs.List.{position}
+use Rattle.plc_base.specs.declared.ids.PointId.{PointId}
 use Rattle.plc_lang.specs.declared.syntax.Local.{Local}
 use Rattle.plc_lang.specs.declared.syntax.Primitive.{Primitive}
 use Rattle.plc_lang.specs.Locals.{locals_of}
@@ -121,3 +122,38 @@ claim_made flow (Enter o c) = None
 claim_made flow (Own k c) = None
 claim_made flow (Other k p c) = None
 claim_made flow (Claim k j) = slice_get (step_prims flow k.0) j
+
+-- ---- what holds before, by the points at which the threads stand
+
+abbrev pub first_point : Option Step → Option PointId
+first_point None = None
+first_point (Some s) = Some s.from
+
+-- the point at which the acting thread stands before, if it is in an operation
+abbrev pub acting_point : Flow → Obligation → Option PointId
+acting_point flow (Start i) = None
+acting_point flow (Enter o c) = None
+acting_point flow (Own k c) = first_point (slice_get flow.steps k.0)
+acting_point flow (Other k p c) = first_point (slice_get flow.steps k.0)
+acting_point flow (Claim k j) = first_point (slice_get flow.steps k.0)
+
+-- the point at which the owner stands
+abbrev pub owner_point : Obligation → Option PointId
+owner_point (Start i) = None
+owner_point (Enter o c) = None
+owner_point (Own k c) = None
+owner_point (Other k p c) = Some p
+owner_point (Claim k j) = None
+
+-- the invariants, but not before `init`
+abbrev pub invariants_before : Outline → Obligation → List Clause
+invariants_before outline (Start i) = []
+invariants_before outline (Enter o c) = outline.invariants
+invariants_before outline (Own k c) = outline.invariants
+invariants_before outline (Other k p c) = outline.invariants
+invariants_before outline (Claim k j) = outline.invariants
+
+-- the clauses at a point, and none where no thread stands
+abbrev pub clauses_of : Flow → Outline → Option PointId → List Clause
+clauses_of flow outline None = []
+clauses_of flow outline (Some p) = clauses_at flow outline p.0

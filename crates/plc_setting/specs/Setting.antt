@@ -1,7 +1,7 @@
 -- What every item of a ground set rests on: the constants and the nodes.
 use Rattle.std.specs.Prelude.{ℕ, ◌+◌, ◌==◌, Bool, true, false, List, [], ◌∷◌, ◌++◌, length, map, fold, flat_map, if◌then◌else◌, Option, Some, None}
 use Rattle.std.specs.List.{list_any, range_with_len, sum_by}
-use Rattle.std.specs.Cmp.{nat_cmp}
+use Rattle.std.specs.Ordering.{nat_cmp}
 use Rattle.std.specs.BTreeSet.{insert_key}
 use Rattle.plc_base.specs.declared.ids.FieldId.{FieldId}
 use Rattle.plc_lang.specs.declared.syntax.Field.{Field}
@@ -46,6 +46,11 @@ abbrev pub local_symbol : Bool → ℕ → Symbol
 local_symbol false k = symbols.Mine k
 local_symbol true k = symbols.Theirs k
 
+-- the pointer locals, or the data locals
+abbrev pub is_kind : Bool → Local → Bool
+is_kind true l = is_pointer l
+is_kind false l = is_data l
+
 -- the constants of the pointer locals and of the data locals of a thread
 abbrev pub variables_of : Bool → List Local → Variables
 variables_of owner ls = record {
@@ -74,7 +79,7 @@ loads_from k (Update checked m p e ∷ more) = loads_from k more
 loads_from k (Test a b equal ∷ more) = loads_from k more
 loads_from k (Skip ∷ more) = loads_from k more
 
--- those of them that are nodes
+-- those of them that are nodes, each by its number among all reads
 abbrev pub pointer_loads_from : ℕ → List Act → List Symbol
 pointer_loads_from k [] = []
 pointer_loads_from k (Fetch p q f true ∷ more) = symbols.Loaded k ∷ pointer_loads_from (k + 1) more
@@ -104,9 +109,12 @@ abbrev pub pointer_fields_from : ℕ → List Field → List FieldId
 pointer_fields_from k [] = []
 pointer_fields_from k (f ∷ fs) = if f.pointer then record { 0 = k } ∷ pointer_fields_from (k + 1) fs else pointer_fields_from (k + 1) fs
 
--- the pointer fields of nodes, node by node
+-- the pointer fields of a node, and of nodes, node by node
+abbrev pub fields_of : List FieldId → Symbol → List NodeTerm
+fields_of fs s = map (λ f. Behind f s) fs
+
 abbrev pub fields_behind : List FieldId → List Symbol → List NodeTerm
-fields_behind fs ss = flat_map (λ s. map (λ f. Behind f s) fs) ss
+fields_behind fs ss = flat_map (fields_of fs) ss
 
 abbrev pub if_deep : Bool → List NodeTerm → List NodeTerm
 if_deep true ns = ns
@@ -176,17 +184,27 @@ literal_numbers (literals.Retired x is_so) = []
 abbrev pub clause_numbers : Clause → List ℕ
 clause_numbers c = flat_map literal_numbers c.literals
 
+abbrev pub step_numbers : Step → List ℕ
+step_numbers s = flat_map prim_numbers s.prims
+
+abbrev pub item_numbers : Item → List ℕ
+item_numbers i = clause_numbers i.clause
+
 -- 0 and all numbers of the file; that of the depth is none of a clause
 abbrev pub all_numbers : Flow → Outline → List ℕ
 all_numbers flow outline =
     0 ∷ (flat_map prim_numbers flow.file.init
-    ++ (flat_map (λ (s : Step). flat_map prim_numbers s.prims) flow.steps
+    ++ (flat_map step_numbers flow.steps
     ++ (flat_map clause_numbers outline.invariants
-    ++ flat_map (λ (i : Item). clause_numbers i.clause) outline.items)))
+    ++ flat_map item_numbers outline.items)))
 
--- the same ascending, each once
+-- numbers in ascending order and these, each put in its place if it isn't there
+abbrev pub with_numbers : List ℕ → List ℕ → List ℕ
+with_numbers ks ns = fold (insert_key nat_cmp) ks ns
+
+-- the numbers of the file ascending, each once
 abbrev pub numbers_of : Flow → Outline → List ℕ
-numbers_of flow outline = fold (insert_key nat_cmp) [] (all_numbers flow outline)
+numbers_of flow outline = with_numbers [] (all_numbers flow outline)
 
 abbrev pub if_owned : Bool → List Symbol
 if_owned true = symbols.You ∷ []
@@ -202,4 +220,4 @@ constants_of flow outline s =
     ++ (loads_from 0 s.acts
     ++ (symbols.Yes ∷ symbols.Nobody ∷ symbols.Me ∷ (if_owned s.owned
     ++ (map symbols.Value (below (sum_by values_in flow.file.ghosts))
-    ++ map symbols.Number (numbers_of flow outline)))))))))))
+    ++ map symbols.Number (numbers_of flow outline))))))))))))

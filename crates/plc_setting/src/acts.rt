@@ -2,23 +2,29 @@
 // first, and every other constant names itself, so the right sides need no type of their own.
 ghost use Rattle.std.specs.Prelude.{◌≡◌, true, IfOk};
 ghost use Rattle.plc_ground.specs.declared.terms.Map.TheVariants as maps;
+ghost use Rattle.plc_lang.specs.Fit.{FileFits};
+ghost use Rattle.plc_lang.specs.WellSorted.{WriteIsWellSorted, IsWellSorted, AreWellSorted};
 ghost use Rattle.plc_setting.specs.declared.acts.Act.TheVariants.{Assign, Fetch, Update, Test};
 ghost use Rattle.plc_setting.specs.Acts.{symbol_at, pointer_symbol, number_symbol, ghost_symbol, data_test, call_act, act_of, acts_of};
 
 use crate::setting::Variables;
 use plc_base::{FieldId, Items, NoMemory};
-use plc_flow::Flow;
 use plc_ground::{Map, Symbol};
-use plc_lang::{Arg, Ghost, GhostVal, Num, Prim, Rel, Var, value_number};
+use plc_lang::{Arg, File, GhostVal, Num, Prim, Rel, Var, value_number};
 use std::alloc::Global;
 
 /// What a primitive does.
 #[derive(Clone, Copy, Debug, PartialEq, Eq)]
 pub enum Act {
     /// The variable's constant becomes that of the other.
-    Assign { to: Symbol, from: Symbol },
+    Assign {
+        to: Symbol,
+        from: Symbol,
+    },
     /// The variable's constant becomes that of the new node.
-    Make { to: Symbol },
+    Make {
+        to: Symbol,
+    },
     /// A field of a node that isn't null is read into a constant of its own.
     Fetch {
         to: Symbol,
@@ -77,9 +83,15 @@ fn number_symbol(variables: &Variables, e: Num) -> Symbol
     }
 }
 
-fn ghost_symbol(ghosts: &[Ghost], g: u16, v: GhostVal) -> Symbol {
+fn ghost_symbol(file: &File, g: u16, v: GhostVal) -> Symbol
+    requires fits { FileFits file.now }
+    requires sorted { WriteIsWellSorted file.now g v }
+    ensures { result ≡ ghost_symbol file.now.ghosts g v }
+{
     match v {
-        GhostVal::Value(v) => Symbol::Value(value_number(ghosts, g as usize, v) as u16),
+        GhostVal::Value(v) => Symbol::Value(
+            value_number(file.ghosts.as_slice(), g as usize, v) as u16,
+        ),
         GhostVal::Me => Symbol::Me,
         GhostVal::None => Symbol::Nobody,
     }
@@ -146,8 +158,10 @@ fn call(variables: &Variables, retires: bool, arg: Arg) -> Act
 }
 
 /// What a primitive of a thread with these variables does.
-pub fn act_of(ghosts: &[Ghost], v: &Variables, prim: &Prim) -> Act
-    ensures { result ≡ act_of ghosts.now v.now prim.now }
+pub fn act_of(file: &File, v: &Variables, prim: &Prim) -> Act
+    requires fits { FileFits file.now }
+    requires sorted { IsWellSorted file.now prim.now }
+    ensures { result ≡ act_of file.now.ghosts v.now prim.now }
 {
     match *prim {
         Prim::Null { p } => assign(pointer_symbol(v, p), Symbol::Null),
@@ -178,7 +192,7 @@ pub fn act_of(ghosts: &[Ghost], v: &Variables, prim: &Prim) -> Act
             checked: false,
             map: Map::Ghost(g),
             at: pointer_symbol(v, p),
-            value: ghost_symbol(ghosts, g, value),
+            value: ghost_symbol(file, g, value),
         },
     }
 }
@@ -186,15 +200,17 @@ pub fn act_of(ghosts: &[Ghost], v: &Variables, prim: &Prim) -> Act
 /// What primitives do, in their order.
 pub fn acts_of(
     alloc: Global,
-    flow: &Flow,
+    file: &File,
     variables: &Variables,
     prims: &[Prim],
 ) -> Result<Items<Act>, NoMemory>
-    ensures { IfOk result (λ acts. acts ≡ acts_of flow.now.file.ghosts variables.now prims.now) }
+    requires fits { FileFits file.now }
+    requires sorted { AreWellSorted file.now prims.now }
+    ensures { IfOk result (λ acts. acts ≡ acts_of file.now.ghosts variables.now prims.now) }
 {
     let mut acts = Items::new(alloc);
     for prim in prims {
-        acts.push(act_of(flow.file.ghosts.as_slice(), variables, prim))?;
+        acts.push(act_of(file, variables, prim))?;
     }
     Ok(acts)
 }

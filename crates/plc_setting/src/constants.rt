@@ -1,101 +1,87 @@
 // The constants of a ground set, in the order in which they are listed.
-use crate::acts::Act;
+ghost use Rattle.std.specs.Prelude.{◌≡◌, ◌≤◌, ◌<◌, ◌++◌, ◌∷◌, length, map, OnOk, IfOk};
+ghost use Rattle.std.specs.List.{sum_by};
+ghost use Rattle.plc_lang.specs.Numbering.{values_in};
+ghost use Rattle.plc_flow.specs.WellFormed.{most_step_primitives};
+ghost use Rattle.plc_ground.specs.declared.terms.Symbol.TheVariants as symbols;
+ghost use Rattle.plc_setting.specs.Fit.{Fits};
+ghost use Rattle.plc_setting.specs.Setting.{if_owned, constants_of};
+
 use crate::numbers::numbers_of;
-use crate::setting::{Setting, push_all};
+use crate::setting::Setting;
+use crate::symbols::{
+    push_all, push_bound, push_loads, push_made, push_owner, push_shared, push_values,
+};
 use plc_base::{Items, NoMemory};
 use plc_flow::Flow;
 use plc_ground::Symbol;
 use plc_lang::Ghost;
 use plc_logic::Outline;
 use std::alloc::Global;
+use std::collections::BTreeSet;
 
-// A constant for each load.
-fn push_loaded(symbols: &mut Items<Symbol>, acts: &[Act]) -> Result<(), NoMemory> {
-    let mut loads = 0;
-    for act in acts {
-        if let Act::Fetch { .. } = act {
-            symbols.push(Symbol::Loaded(loads))?;
-            loads += 1;
-        }
+fn count_values(ghosts: &[Ghost]) -> u16
+    requires { sum_by values_in ghosts.now < 65536 }
+    ensures { result ≡ sum_by values_in ghosts.now }
+{
+    let mut count = 0;
+    for field in ghosts {
+        count += field.values.len() as u16;
+    }
+    count
+}
+
+fn push_numbers(list: &mut Items<Symbol>, numbers: &BTreeSet<u32>) -> Result<(), NoMemory>
+    ensures { OnOk result (list.new ≡ list.old ++ map symbols.Number numbers.now.keys) }
+{
+    for n in numbers {
+        list.push(Symbol::Number(*n))?;
     }
     Ok(())
 }
 
-fn push_bound(symbols: &mut Items<Symbol>, bound: u16) -> Result<(), NoMemory> {
-    for i in 0..bound {
-        symbols.push(Symbol::Bound(i))?;
-    }
-    Ok(())
-}
-
-fn push_shared(symbols: &mut Items<Symbol>, count: usize) -> Result<(), NoMemory> {
-    for i in 0..count {
-        symbols.push(Symbol::Shared(i as u16))?;
-    }
-    Ok(())
-}
-
-fn count_values(ghosts: &[Ghost]) -> usize {
-    ghosts.iter().map(|g| g.values.len()).sum()
-}
-
-fn push_values(symbols: &mut Items<Symbol>, count: usize) -> Result<(), NoMemory> {
-    for v in 0..count {
-        symbols.push(Symbol::Value(v as u16))?;
-    }
-    Ok(())
-}
-
-fn push_numbers(
-    alloc: Global,
-    flow: &Flow,
-    outline: &Outline,
-    symbols: &mut Items<Symbol>,
-) -> Result<(), NoMemory> {
-    let numbers = numbers_of(alloc, flow, outline)?;
-    for n in &numbers {
-        symbols.push(Symbol::Number(*n))?;
-    }
-    Ok(())
-}
-
-// Null, the variables of the threads, the new node, and the nodes of which the conclusion speaks.
-fn push_nodes(symbols: &mut Items<Symbol>, flow: &Flow, s: &Setting) -> Result<(), NoMemory> {
-    symbols.push(Symbol::Null)?;
-    push_shared(symbols, flow.file.shared.len())?;
-    push_all(symbols, s.mine.pointers.as_slice())?;
-    push_all(symbols, s.mine.values.as_slice())?;
-    push_all(symbols, s.theirs.pointers.as_slice())?;
-    push_all(symbols, s.theirs.values.as_slice())?;
-    if s.makes {
-        symbols.push(Symbol::New)?;
-    }
-    push_bound(symbols, s.bound)
+// The locals of both threads.
+fn push_variables(list: &mut Items<Symbol>, s: &Setting) -> Result<(), NoMemory>
+    ensures { OnOk result (list.new ≡ list.old ++ (s.now.mine.pointers ++ (s.now.mine.values
+        ++ (s.now.theirs.pointers ++ s.now.theirs.values)))) }
+{
+    push_all(list, s.mine.pointers.as_slice())?;
+    push_all(list, s.mine.values.as_slice())?;
+    push_all(list, s.theirs.pointers.as_slice())?;
+    push_all(list, s.theirs.values.as_slice())
 }
 
 // What `retired` is for a retired node, and the threads.
-fn push_flags(symbols: &mut Items<Symbol>, owned: bool) -> Result<(), NoMemory> {
-    symbols.push(Symbol::Yes)?;
-    symbols.push(Symbol::Nobody)?;
-    symbols.push(Symbol::Me)?;
-    if owned {
-        symbols.push(Symbol::You)?;
-    }
-    Ok(())
+fn push_threads(list: &mut Items<Symbol>, owned: bool) -> Result<(), NoMemory>
+    ensures { OnOk result (list.new ≡ list.old ++ (symbols.Yes ∷ symbols.Nobody ∷ symbols.Me ∷ if_owned owned)) }
+{
+    list.push(Symbol::Yes)?;
+    list.push(Symbol::Nobody)?;
+    list.push(Symbol::Me)?;
+    push_owner(list, owned)
 }
 
-/// The constants, in order.
+/// The constants of a setting, in order.
 pub fn constants_of(
     alloc: Global,
     flow: &Flow,
     outline: &Outline,
     s: &Setting,
-) -> Result<Items<Symbol>, NoMemory> {
-    let mut symbols = Items::new(alloc);
-    push_nodes(&mut symbols, flow, s)?;
-    push_loaded(&mut symbols, s.acts.as_slice())?;
-    push_flags(&mut symbols, s.owned)?;
-    push_values(&mut symbols, count_values(flow.file.ghosts.as_slice()))?;
-    push_numbers(alloc, flow, outline, &mut symbols)?;
-    Ok(symbols)
+) -> Result<Items<Symbol>, NoMemory>
+    requires fits { Fits flow.now outline.now }
+    requires few { length s.now.acts ≤ most_step_primitives }
+    ensures { IfOk result (λ list. list ≡ constants_of flow.now outline.now s.now) }
+{
+    let mut list = Items::new(alloc);
+    list.push(Symbol::Null)?;
+    push_shared(&mut list, flow.file.shared.len())?;
+    push_variables(&mut list, s)?;
+    push_made(&mut list, s.makes)?;
+    push_bound(&mut list, s.bound)?;
+    push_loads(&mut list, s.acts.as_slice())?;
+    push_threads(&mut list, s.owned)?;
+    push_values(&mut list, count_values(flow.file.ghosts.as_slice()))?;
+    let numbers = numbers_of(alloc, flow, outline)?;
+    push_numbers(&mut list, &numbers)?;
+    Ok(list)
 }

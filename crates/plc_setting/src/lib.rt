@@ -11,11 +11,15 @@ mod parts;
 mod points;
 mod setting;
 mod sorts;
+mod symbols;
 
 pub use acts::{Act, pointer_symbol};
 pub use constants::constants_of;
 pub use obligations::Obligation;
-pub use parts::{acting_locals, acting_point, claim_made, conclusion, executed, has_owner, invariants_before, owner_locals, owner_point};
+pub use parts::{
+    acting_locals, acting_point, claim_made, conclusion, executed, has_owner, invariants_before,
+    owner_locals, owner_point,
+};
 pub use points::{clause_at, count_at, stands_at};
 pub use setting::{Setting, Variables, local_symbol, setting_of};
 pub use sorts::sort_of;

@@ -1,8 +1,11 @@
 // The parts of an obligation: which primitives are executed, whose locals they name, at which points the
 // threads stand before, and the clause that is to hold behind.
-ghost use Rattle.std.specs.Prelude.{◌≡◌, ◌≤◌, ◌++◌, length, take, slice_get, option_copied};
+ghost use Rattle.std.specs.Prelude.{◌≡◌, ◌++◌, take, slice_get, option_copied};
 ghost use Rattle.plc_lang.specs.Locals.{locals_of};
-ghost use Rattle.plc_setting.specs.Parts.{prims_of, executed, locals_of_step, acting_locals, has_point, point_locals, owner_locals, entry_clauses, clauses_behind, conclusion, claim_made};
+ghost use Rattle.plc_flow.specs.declared.flow.Flow.{Flow as AFlow};
+ghost use Rattle.plc_logic.specs.declared.clause.Outline.{Outline as AnOutline};
+ghost use Rattle.plc_setting.specs.Fit.{Fits};
+ghost use Rattle.plc_setting.specs.Parts.{prims_of, executed, locals_of_step, acting_locals, has_point, point_locals, owner_locals, has_owner, first_point, acting_point, owner_point, invariants_before, clauses_of, acting_premises, owner_premises, entry_clauses, clauses_behind, conclusion, claim_made};
 
 use crate::obligations::Obligation;
 use crate::points::clause_at;
@@ -41,7 +44,10 @@ pub fn executed<'a>(flow: &'a Flow, o: &Obligation) -> &'a [Prim]
         Obligation::Enter { .. } => &[],
         Obligation::Own { step, .. } => prims_of(step_at(flow, step)),
         Obligation::Other { step, .. } => prims_of(step_at(flow, step)),
-        Obligation::Claim { step, prim } => first_prims(prims_of(step_at(flow, step)), prim as usize),
+        Obligation::Claim { step, prim } => first_prims(
+            prims_of(step_at(flow, step)),
+            prim as usize,
+        ),
     }
 }
 
@@ -102,11 +108,15 @@ pub fn owner_locals<'a>(flow: &'a Flow, o: &Obligation) -> &'a [Local]
 }
 
 /// Whether the clause is another thread's.
-pub fn has_owner(o: &Obligation) -> bool {
+pub fn has_owner(o: &Obligation) -> bool
+    ensures { result ≡ has_owner o.now }
+{
     matches!(o, Obligation::Other { .. })
 }
 
-fn from_of(step: Option<&Step>) -> Option<PointId> {
+fn first_point(step: Option<&Step>) -> Option<PointId>
+    ensures { result ≡ first_point (option_copied step.entry) }
+{
     match step {
         None => None,
         Some(step) => Some(step.from),
@@ -114,18 +124,26 @@ fn from_of(step: Option<&Step>) -> Option<PointId> {
 }
 
 /// The point at which the acting thread stands before, if it stands at one.
-pub fn acting_point(flow: &Flow, o: &Obligation) -> Option<PointId> {
+pub fn acting_point(flow: &Flow, o: &Obligation) -> Option<PointId>
+    ensures point { result ≡ acting_point flow.now o.now }
+    ensures premises { (outline : AnOutline) → acting_premises flow.now outline o.now
+        ≡ invariants_before outline o.now ++ clauses_of flow.now outline result }
+{
     match *o {
         Obligation::Start { .. } => None,
         Obligation::Enter { .. } => None,
-        Obligation::Own { step, .. } => from_of(step_at(flow, step)),
-        Obligation::Other { step, .. } => from_of(step_at(flow, step)),
-        Obligation::Claim { step, .. } => from_of(step_at(flow, step)),
+        Obligation::Own { step, .. } => first_point(step_at(flow, step)),
+        Obligation::Other { step, .. } => first_point(step_at(flow, step)),
+        Obligation::Claim { step, .. } => first_point(step_at(flow, step)),
     }
 }
 
 /// The point at which another thread stands, if its clause is looked at.
-pub fn owner_point(o: &Obligation) -> Option<PointId> {
+pub fn owner_point(o: &Obligation) -> Option<PointId>
+    ensures point { result ≡ owner_point o.now }
+    ensures premises { (flow : AFlow) (outline : AnOutline) → owner_premises flow outline o.now
+        ≡ clauses_of flow outline result }
+{
     match *o {
         Obligation::Other { point, .. } => Some(point),
         _ => None,
@@ -133,7 +151,9 @@ pub fn owner_point(o: &Obligation) -> Option<PointId> {
 }
 
 /// The invariants that hold before; before `init` there are none.
-pub fn invariants_before<'a>(outline: &'a Outline, o: &Obligation) -> &'a [Clause] {
+pub fn invariants_before<'a>(outline: &'a Outline, o: &Obligation) -> &'a [Clause]
+    ensures { result.now ≡ invariants_before outline.now o.now }
+{
     match o {
         Obligation::Start { .. } => &[],
         _ => outline.invariants.as_slice(),
@@ -177,7 +197,7 @@ fn own_clause<'a>(
     step: StepId,
     clause: u16,
 ) -> Option<&'a Clause>
-    requires { length outline.now.invariants ≤ 64 }
+    requires { Fits flow.now outline.now }
     ensures { option_copied result ≡ slice_get (outline.now.invariants
         ++ clauses_behind flow.now outline.now (slice_get flow.now.steps step.0)) clause }
 {
@@ -189,12 +209,8 @@ fn own_clause<'a>(
 }
 
 /// The clause that is to hold behind, if it isn't a claim.
-pub fn conclusion<'a>(
-    flow: &Flow,
-    outline: &'a Outline,
-    o: &Obligation,
-) -> Option<&'a Clause>
-    requires { length outline.now.invariants ≤ 64 }
+pub fn conclusion<'a>(flow: &Flow, outline: &'a Outline, o: &Obligation) -> Option<&'a Clause>
+    requires { Fits flow.now outline.now }
     ensures { option_copied result ≡ conclusion flow.now outline.now o.now }
 {
     match *o {
@@ -213,7 +229,9 @@ pub fn claim_made(flow: &Flow, o: &Obligation) -> Option<Prim>
     ensures { result ≡ claim_made flow.now o.now }
 {
     match *o {
-        Obligation::Claim { step, prim } => prims_of(step_at(flow, step)).get(prim as usize).copied(),
+        Obligation::Claim { step, prim } => prims_of(step_at(flow, step))
+            .get(prim as usize)
+            .copied(),
         _ => None,
     }
 }

@@ -58,12 +58,7 @@ pub fn count_at(flow: &Flow, outline: &Outline, p: u16) -> usize
 }
 
 /// The clause with a number among those at a point, if there are so many.
-pub fn clause_at<'a>(
-    flow: &Flow,
-    outline: &'a Outline,
-    p: u16,
-    clause: u16,
-) -> Option<&'a Clause>
+pub fn clause_at<'a>(flow: &Flow, outline: &'a Outline, p: u16, clause: u16) -> Option<&'a Clause>
     ensures { option_copied result ≡ slice_get (clauses_at flow.now outline.now p) clause }
 {
     let mut left = clause;

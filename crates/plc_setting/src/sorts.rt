@@ -1,16 +1,20 @@
 // The sort of each term.
-ghost use Rattle.std.specs.Prelude.{◌≡◌};
-ghost use Rattle.plc_logic.specs.Fit.{pointer_sort};
-ghost use Rattle.plc_setting.specs.Sorts.{map_sort, symbol_sort, sort_of};
+ghost use Rattle.std.specs.Prelude.{◌≡◌, ◌≤◌, length, slice_get};
+ghost use Rattle.plc_base.specs.Limits.{most};
+ghost use Rattle.plc_base.specs.declared.limits.What1.TheVariants as limits;
+ghost use Rattle.plc_lang.specs.Fit.{FileFits};
+ghost use Rattle.plc_lang.specs.Numbering.{value_at};
+ghost use Rattle.plc_logic.specs.Fit.{pointer_sort, ghost_sort};
+ghost use Rattle.plc_setting.specs.Sorts.{field_sort, auxiliary_sort, local_sort, value_sort, loads_of, load_sort, map_sort, symbol_sort, sort_of};
 
 use crate::acts::Act;
 use crate::obligations::Obligation;
 use crate::parts::{acting_locals, owner_locals};
-use plc_symbolic::SymbolicTerm;
 use plc_base::FieldId;
 use plc_flow::Flow;
 use plc_ground::{Map, Sort, Symbol};
 use plc_lang::{Field, File, Ghost, Local, value_at};
+use plc_symbolic::SymbolicTerm;
 
 fn pointer_sort(pointer: bool) -> Sort
     ensures { result ≡ pointer_sort pointer }
@@ -18,22 +22,31 @@ fn pointer_sort(pointer: bool) -> Sort
     if pointer { Sort::Node } else { Sort::Number }
 }
 
-fn field_sort(fields: &[Field], f: FieldId) -> Sort {
+fn field_sort(fields: &[Field], f: FieldId) -> Sort
+    ensures { result ≡ field_sort (slice_get fields.now f.0) }
+{
     match fields.get(f.0 as usize) {
         None => Sort::Node,
         Some(field) => pointer_sort(field.pointer),
     }
 }
 
-fn ghost_sort(ghosts: &[Ghost], g: u16) -> Sort {
-    match ghosts.get(g as usize) {
-        None => Sort::Thread,
-        Some(held) => values_sort(g, held.values.is_empty()),
+fn values_sort(g: u16, values: &[u16]) -> Sort
+    ensures { result ≡ ghost_sort g values.now }
+{
+    match values {
+        [] => Sort::Thread,
+        [_, ..] => Sort::Value(g),
     }
 }
 
-fn values_sort(g: u16, none: bool) -> Sort {
-    if none { Sort::Thread } else { Sort::Value(g) }
+fn auxiliary_sort(ghosts: &[Ghost], g: u16) -> Sort
+    ensures { result ≡ auxiliary_sort g (slice_get ghosts.now g) }
+{
+    match ghosts.get(g as usize) {
+        None => Sort::Thread,
+        Some(held) => values_sort(g, held.values.as_slice()),
+    }
 }
 
 fn map_sort(file: &File, map: Map) -> Sort
@@ -41,12 +54,14 @@ fn map_sort(file: &File, map: Map) -> Sort
 {
     match map {
         Map::Field(f) => field_sort(file.fields.as_slice(), f),
-        Map::Ghost(g) => ghost_sort(file.ghosts.as_slice(), g),
+        Map::Ghost(g) => auxiliary_sort(file.ghosts.as_slice(), g),
         Map::Retired => Sort::Truth,
     }
 }
 
-fn local_sort(locals: &[Local], place: u16) -> Sort {
+fn local_sort(locals: &[Local], place: u16) -> Sort
+    ensures { result ≡ local_sort (slice_get locals.now place) }
+{
     match locals.get(place as usize) {
         None => Sort::Node,
         Some(local) => pointer_sort(local.pointer),
@@ -54,7 +69,9 @@ fn local_sort(locals: &[Local], place: u16) -> Sort {
 }
 
 // The sort of what is read, by its number among all that is read.
-fn load_sort(acts: &[Act], k: u16) -> Sort {
+fn load_sort(acts: &[Act], k: u16) -> Sort
+    ensures { result ≡ load_sort (slice_get (loads_of acts.now) k) }
+{
     let mut left = k;
     for act in acts {
         if let Act::Fetch { pointer, .. } = act {
@@ -67,7 +84,10 @@ fn load_sort(acts: &[Act], k: u16) -> Sort {
     Sort::Node
 }
 
-fn value_sort(ghosts: &[Ghost], v: u16) -> Sort {
+fn value_sort(ghosts: &[Ghost], v: u16) -> Sort
+    requires { length ghosts.now ≤ most limits.Ghosts }
+    ensures { result ≡ value_sort (value_at ghosts.now v) }
+{
     match value_at(ghosts, v as u32) {
         None => Sort::Value(0),
         Some((g, _)) => Sort::Value(g as u16),
@@ -75,6 +95,7 @@ fn value_sort(ghosts: &[Ghost], v: u16) -> Sort {
 }
 
 fn symbol_sort(flow: &Flow, o: &Obligation, acts: &[Act], symbol: Symbol) -> Sort
+    requires { FileFits flow.now.file }
     ensures { result ≡ symbol_sort flow.now o.now acts.now symbol }
 {
     match symbol {
@@ -96,6 +117,7 @@ fn symbol_sort(flow: &Flow, o: &Obligation, acts: &[Act], symbol: Symbol) -> Sor
 
 /// The sort of a term.
 pub fn sort_of(flow: &Flow, o: &Obligation, acts: &[Act], term: SymbolicTerm) -> Sort
+    requires { FileFits flow.now.file }
     ensures { result ≡ sort_of flow.now o.now acts.now term }
 {
     match term {
