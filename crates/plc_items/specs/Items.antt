@@ -1,5 +1,5 @@
 -- The clauses of a ground set over symbolic terms, item by item.
-use Rattle.std.specs.Prelude.{ℕ, suc, ◌+◌, ◌==◌, Bool, true, false, not, ◌&&◌, List, [], ◌∷◌, ◌++◌, length, map, flat_map, get_or, slice_index_or, if◌then◌else◌, Option, Some, None}
+use Rattle.std.specs.Prelude.{ℕ, zero, suc, ◌+◌, ◌==◌, Bool, true, false, not, ◌&&◌, List, [], ◌∷◌, ◌++◌, length, map, flat_map, get_or, slice_index_or, if◌then◌else◌, Option, Some, None}
 use Rattle.std.specs.List.{range_with_len}
 use Rattle.plc_base.specs.declared.ids.FieldId.{FieldId}
 use Rattle.plc_lang.specs.declared.syntax.Field.{Field}
@@ -167,7 +167,7 @@ instance_at ghosts makes owner ls names = flat_map (escapes makes) names ++ map 
 
 -- all lists of so many of these nodes
 abbrev pub tuples : ℕ → List NodeTerm → List (List NodeTerm)
-tuples 0 ts = [] ∷ []
+tuples zero ts = [] ∷ []
 tuples (suc n) ts = flat_map (λ t. map (λ rest. t ∷ rest) (tuples n ts)) ts
 
 abbrev pub instances : List Ghost → Setting → Bool → Clause → Clauses

@@ -1,15 +1,6 @@
-//! The clauses of an obligation's ground set, item by item: values, the beginning, the new node, premises, what
-//! is executed, and the negated conclusion. Each item is written into a draft in the order of the format.
+//! The clauses of an obligation's ground set, item by item.
 #![tactic(auto)]
 
-mod beginning;
-mod conclusion;
 mod execution;
-mod freshness;
-mod instances;
-mod items;
-mod reading;
-mod values;
 
 pub use execution::Execution;
-pub use items::push_items;

@@ -1,7 +1,6 @@
 -- what contracts of public calls say
 pub mod Obligations
 pub mod GroundSets
-pub mod Size
-
 -- words of private functions alone
 pub mod Finding
+pub mod Size

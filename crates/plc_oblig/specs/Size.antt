@@ -10,6 +10,8 @@ use Rattle.plc_lang.specs.declared.syntax.Rel.TheVariants as rels
 use Rattle.plc_lang.specs.declared.syntax.Primitive.{Primitive}
 use Rattle.plc_lang.specs.declared.syntax.Primitive.TheVariants.{Null, Copy, New, Load, Store, StoreNull, DataSet, DataLoad, DataStore, Eq, Ne, IsNull, NotNull, DataTest, Refresh, RefreshLoad, RefreshStore, Call, Done, Active, Ghost}
 use Rattle.plc_logic.specs.declared.clause.Clause.{Clause}
+use Rattle.plc_setting.specs.declared.setting.Setting.{Setting}
+use Rattle.plc_oblig.specs.declared.size.Sizes.{Sizes}
 
 abbrev pub is_pointer_field : Field → Bool
 is_pointer_field f = f.pointer
@@ -21,6 +23,29 @@ abbrev pub is_pointer_load : Primitive → Bool
 is_pointer_load (Load p q f) = true
 is_pointer_load (RefreshLoad p q f) = true
 is_pointer_load k = false
+
+-- ---- what a set rests on
+
+-- these are the sizes of what a set rests on
+pub record AreSizesOf (s : Setting) (z : Sizes) : Type 0 where
+  pub mine : z.mine ≡ length s.mine.pointers
+  pub pointers : z.pointers ≡ length s.pointers
+  pub fields : z.fields ≡ length s.fields
+  pub bound : z.bound ≡ s.bound
+  pub made : z.made ≡ s.makes
+  pub nodes : z.nodes ≡ length s.nodes
+  pub instances : z.instances ≡ length s.instances
+
+-- they are small
+pub record AreFew (z : Sizes) : Type 0 where
+  pub mine : z.mine ≤ 32
+  pub pointers : z.pointers ≤ 80
+  pub fields : z.fields ≤ 8
+  pub bound : z.bound ≤ 2
+  pub nodes : z.nodes ≤ 2000
+  pub instances : z.instances ≤ 2000
+
+-- ---- items
 
 abbrev pub test_size : Rel → ℕ
 test_size rels.Eq = 1
@@ -51,3 +76,7 @@ prim_size nodes (DataTest r x e) = test_size r
 prim_size nodes (Call f a) = call_size nodes (is_retire f) a
 prim_size nodes (Ghost p g e) = 2 * nodes
 prim_size nodes k = 0
+
+-- of the instances of a clause, where its names stand for so many nodes
+abbrev pub clause_size : ℕ → Clause → ℕ
+clause_size instances c = instances ^ length c.bound.names

@@ -8,9 +8,9 @@ ghost use Rattle.plc_oblig.specs.Obligations.{enters, owns, parts_from, others_a
 ghost use Rattle.plc_setting.specs.Fit.{HasFewParts, Fits};
 
 use crate::claims::count_claims;
-use plc_setting::count_at;
 use plc_flow::Flow;
 use plc_logic::Outline;
+use plc_setting::count_at;
 
 // Those of entries.
 fn count_enters(flow: &Flow, outline: &Outline) -> u64

@@ -8,11 +8,11 @@ ghost use Rattle.plc_oblig.specs.Finding.{IsFoundIn};
 
 use crate::claims::is_claim;
 use crate::counting::count_points;
-use plc_setting::{Obligation, count_at};
 use plc_base::{OpId, PointId, StepId};
 use plc_flow::Flow;
 use plc_lang::Prim;
 use plc_logic::Outline;
+use plc_setting::{Obligation, count_at};
 
 // Each of these answers its obligation with the number, or, where it has too few, the number counted
 // behind all of them.

@@ -1,6 +1,5 @@
-use Rattle.std.proofs.Common.{◌≡◌, ◌+◌, ◌≤◌, drop, count_by}
-use Rattle.plc_lang.specs.Locals.{is_pointer, is_other_data}
-use Rattle.plc_oblig.specs.Size.{is_pointer_field, has_values, is_pointer_load}
+use Rattle.std.proofs.Common.{◌≡◌, ◌+◌, drop, count_by}
+use Rattle.plc_oblig.specs.Size.{is_pointer_load}
 use Rattle.plc_oblig.proofs.size.count_pointer_loads.Given as goal
 
 abbrev pub invariant-loop-prim : goal.invariant-loop-prim
