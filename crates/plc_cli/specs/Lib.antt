@@ -1,6 +1,7 @@
 -- what contracts of public calls say
 pub mod Answer
 pub mod Headline
+pub mod Program
 pub mod Reads
 pub mod Refusals
 pub mod Requests

@@ -23,11 +23,12 @@
 //! `run` also promises, as the clause `served`, that a replay under a reclaimer that serves the file never
 //! ends in a free that the observer forbids: under one that acts as `hazard` where the file has no
 //! `use epoch`, and under one that acts as `epoch` where it has no `use hazard`. So it is of `Hazard` and
-//! `Epoch`, whose `new` promises how they act.
+//! `Epoch`, whose `new` promises how they act; `run_with_own` is `run` with these two, `leak` and `list`.
 #![tactic(auto)]
 
 mod answer;
 mod checking;
+mod own;
 mod printing;
 mod program;
 mod reading;
@@ -35,6 +36,7 @@ mod replaying;
 mod status;
 mod words;
 
+pub use own::run_with_own;
 pub use plc_outside::{
     FailSink, FileFault, Files, MemFiles, OutSink, RealFiles, Sink, SinkFault, VecSink,
 };

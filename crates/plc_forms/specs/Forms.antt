@@ -5,7 +5,7 @@ use Rattle.plc_lex.specs.contracts.token.Keyword as keyword
 use Rattle.plc_lex.specs.declared.token.TokenKind.{TokenKind}
 use Rattle.plc_lex.specs.declared.token.TokenKind.TheVariants.{Word, Name, Number, Symbol}
 use Rattle.plc_lex.specs.declared.token.Keyword.{Keyword}
-use Rattle.plc_lex.specs.declared.token.Keyword.TheVariants.{Struct, Ptr, Data, Shared, Call, Use, Hazard, Epoch, Ghost, Thread, Init, Op, Atomic, If, Else, Loop, Break, Return, Skip, Choose, Or, Label, During, Active, Assume, New, Null, Cas, Me, None as NoneWord}
+use Rattle.plc_lex.specs.declared.token.Keyword.TheVariants.{Struct, Ptr, Data, Shared, Call, Use, Hazard, Epoch, Ghost, Thread, Init, Op, Skip, Label, During, Active, Assume, New, Null, Cas, Me, None as NoneWord}
 use Rattle.plc_lex.specs.declared.token.Symbol.{Symbol as Punctuation}
 use Rattle.plc_lex.specs.declared.token.Symbol.TheVariants.{Assign, Refresh, Equal, Unequal, AtLeast, Less, OpenBrace, CloseBrace, OpenParen, CloseParen, Semicolon, Comma, Dot}
 use Rattle.plc_syntax.specs.Table.{same_symbol}
@@ -389,38 +389,6 @@ name_or_none None ts = (None, ts)
 -- "during" and a label, which may be left out
 abbrev pub during_of : List TokenKind → Option Text × List TokenKind
 during_of ts = name_or_none (during_name_of ts) ts
-
--- "atomic" and an opening brace
-abbrev pub atomic_of : List TokenKind → Option (List TokenKind)
-atomic_of ts = word_symbol_of Atomic OpenBrace ts
-
--- "if" and an opening parenthesis; behind the condition stands what stands behind parameters
-abbrev pub if_of : List TokenKind → Option (List TokenKind)
-if_of ts = word_symbol_of If OpenParen ts
-
--- "else" and an opening brace
-abbrev pub else_of : List TokenKind → Option (List TokenKind)
-else_of ts = word_symbol_of Else OpenBrace ts
-
--- "choose" and an opening brace
-abbrev pub choose_of : List TokenKind → Option (List TokenKind)
-choose_of ts = word_symbol_of Choose OpenBrace ts
-
--- "or" and an opening brace
-abbrev pub or_of : List TokenKind → Option (List TokenKind)
-or_of ts = word_symbol_of Or OpenBrace ts
-
--- "loop" and an opening brace
-abbrev pub loop_of : List TokenKind → Option (List TokenKind)
-loop_of ts = word_symbol_of Loop OpenBrace ts
-
--- "break" and its semicolon
-abbrev pub break_of : List TokenKind → Option (List TokenKind)
-break_of ts = word_symbol_of Break Semicolon ts
-
--- "return" and its semicolon
-abbrev pub return_of : List TokenKind → Option (List TokenKind)
-return_of ts = word_symbol_of Return Semicolon ts
 
 -- "label", a name and a semicolon
 abbrev pub label_of : List TokenKind → Option (Text × List TokenKind)

@@ -28,7 +28,4 @@ pub use front::{
 };
 pub use primitive::{initial_line_at, primitive_line_at};
 pub use rest::Rest;
-pub use statement::{
-    atomic_at, break_at, call_at, choose_at, during_at, else_at, if_at, label_at, loop_at, or_at,
-    return_at,
-};
+pub use statement::{call_at, during_at, label_at};

@@ -1,73 +1,16 @@
-// Statements other than primitives.
+// Statements other than primitives. One that begins with a word and a symbol, as a loop, is read by
+// [`crate::word_symbol_at`].
 ghost use Rattle.std.specs.Prelude.{◌≡◌, Some, None};
 ghost use Rattle.plc_syntax.specs.Syntax.{kinds};
-ghost use Rattle.plc_forms.specs.Forms.{atomic_of, if_of, else_of, choose_of, or_of, loop_of};
-ghost use Rattle.plc_forms.specs.Forms.{break_of, return_of, label_of, active_name_of, argument_of};
-ghost use Rattle.plc_forms.specs.Forms.{call_of, during_name_of, during_of};
+ghost use Rattle.plc_forms.specs.Forms.{label_of, active_name_of, argument_of, call_of, during_name_of, during_of};
 ghost use Rattle.plc_forms.specs.Sizes.{argument_size, call_size, during_size};
-ghost use Rattle.plc_forms.specs.Views.{Behind, text_or_none, argument_tree, call_tree, Passes, Reads, text_of};
+ghost use Rattle.plc_forms.specs.Views.{Behind, text_or_none, argument_tree, call_tree, Reads, text_of};
 
 use crate::declaration::parenthesis_at;
 use crate::form::{Argument, Call};
-use crate::front::{name_at, name_symbol_at, word_at, word_name_at, word_symbol_at};
+use crate::front::{name_at, name_symbol_at, word_at, word_name_at};
 use crate::rest::Rest;
 use plc_lex::{Keyword, Symbol};
-
-/// The first word of a step of several primitives, and its opening brace.
-pub fn atomic_at<'a>(rest: Rest<'a>) -> Option<Rest<'a>>
-    ensures { Passes atomic_of 2 rest.entry result }
-{
-    word_symbol_at(rest, Keyword::Atomic, Symbol::OpenBrace)
-}
-
-/// The first word of an `if` and its opening parenthesis.
-pub fn if_at<'a>(rest: Rest<'a>) -> Option<Rest<'a>>
-    ensures { Passes if_of 2 rest.entry result }
-{
-    word_symbol_at(rest, Keyword::If, Symbol::OpenParen)
-}
-
-/// The word before the second block of an `if`, and its opening brace.
-pub fn else_at<'a>(rest: Rest<'a>) -> Option<Rest<'a>>
-    ensures { Passes else_of 2 rest.entry result }
-{
-    word_symbol_at(rest, Keyword::Else, Symbol::OpenBrace)
-}
-
-/// The first word of a choice and its opening brace.
-pub fn choose_at<'a>(rest: Rest<'a>) -> Option<Rest<'a>>
-    ensures { Passes choose_of 2 rest.entry result }
-{
-    word_symbol_at(rest, Keyword::Choose, Symbol::OpenBrace)
-}
-
-/// The word before a further block of a choice, and its opening brace.
-pub fn or_at<'a>(rest: Rest<'a>) -> Option<Rest<'a>>
-    ensures { Passes or_of 2 rest.entry result }
-{
-    word_symbol_at(rest, Keyword::Or, Symbol::OpenBrace)
-}
-
-/// The first word of a loop and its opening brace.
-pub fn loop_at<'a>(rest: Rest<'a>) -> Option<Rest<'a>>
-    ensures { Passes loop_of 2 rest.entry result }
-{
-    word_symbol_at(rest, Keyword::Loop, Symbol::OpenBrace)
-}
-
-/// A `break` and its semicolon.
-pub fn break_at<'a>(rest: Rest<'a>) -> Option<Rest<'a>>
-    ensures { Passes break_of 2 rest.entry result }
-{
-    word_symbol_at(rest, Keyword::Break, Symbol::Semicolon)
-}
-
-/// A `return` and its semicolon.
-pub fn return_at<'a>(rest: Rest<'a>) -> Option<Rest<'a>>
-    ensures { Passes return_of 2 rest.entry result }
-{
-    word_symbol_at(rest, Keyword::Return, Symbol::Semicolon)
-}
 
 /// A label's name.
 pub fn label_at<'a>(rest: Rest<'a>) -> Option<(&'a [u8], Rest<'a>)>

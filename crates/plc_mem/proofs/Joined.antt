@@ -1,8 +1,12 @@
 -- The state with the acting thread's locals put in: what is read and written there, and what is apart from them.
-use Rattle.std.proofs.Common.{◌≡◌, ℕ, ◌<◌, length, set, get_or, Some, None, refl, sym, ap, ◌∙◌}
+use Rattle.std.proofs.Common.{◌≡◌, ℕ, ◌<◌, ◌==◌, Bool, true, false, not, length, set, get_or, Some, None, refl, sym, ap, ◌∙◌}
+use Rattle.std.proofs.lemmas.Bool.{and_parts}
+use Rattle.plc_lang.specs.declared.syntax.Var.{Var}
+use Rattle.plc_lang.specs.declared.syntax.Primitive.TheVariants.{New}
 use Rattle.plc_mem.specs.declared.cell.Cell.{Cell}
 use Rattle.plc_mem.specs.State.{State, Locals, at_shared, at_local, at_field, null_cell, with_locals, is_used, is_retired, at, put, value_at, put_value, field_value, put_field_value, with_node, with_retired}
 use Rattle.plc_base.specs.Tables.{put_at}
+use Rattle.plc_mem.specs.Primitives.{goes}
 use Rattle.plc_mem.specs.Fit.{Kept}
 use Rattle.plc_mem.proofs.Places.{put_is_set, put_put}
 use Rattle.plc_mem.proofs.Views.{locals-with_same}
@@ -76,6 +80,14 @@ used_join s t l a = refl
 pub retired_join : (s : State) (t : ℕ) (l : Locals) (a : ℕ) → is_retired (with_locals s t (Some l)) a ≡ is_retired s a
 unfolding is_retired with_locals
 retired_join s t l a = refl
+
+-- where a `new` isn't blocked its address isn't used
+pub new_is_unused : (s : State) (t : ℕ) (l : Locals) (a : ℕ) (p : Var) → goes (with_locals s t (Some l)) t a (New p) ≡ true → is_used s a ≡ false
+new_is_unused s t l a p e = sym (used_join s t l a) ∙ go _ (and_parts (not (a == 0)) (not (is_used (with_locals s t (Some l)) a)) e).1
+  where
+    go : (b : Bool) → not b ≡ true → b ≡ false
+    go true e = cc
+    go false e = refl
 
 -- ---- what keeps the shape
 

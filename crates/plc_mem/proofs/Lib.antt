@@ -1,4 +1,5 @@
 pub mod Coherence
+pub mod Index
 pub mod Joined
 pub mod Nodes
 pub mod Outcomes

@@ -1,12 +1,12 @@
 -- The tables and nodes of the definitions against std's lists: what is written at a place in range, and where the node of an address stands.
-use Rattle.std.proofs.Common.{◌≡◌, ℕ, zero, suc, ◌+◌, ◌<◌, ◌≤◌, List, [], ◌∷◌, ◌++◌, Bool, true, false, not, ◌&&◌, ◌==◌, cond, length, set, get_or, take, drop, map, filter, Some, None, Vec, refl, sym, ap, ◌∙◌, subst, arith, add-one, length-set}
+use Rattle.std.proofs.Common.{◌≡◌, ℕ, zero, suc, ◌+◌, ◌<◌, ◌≤◌, List, [], ◌∷◌, ◌++◌, Bool, true, false, not, ◌&&◌, ◌==◌, cond, if◌then◌else◌, length, set, get_or, take, drop, map, filter, Some, None, Vec, refl, sym, ap, ◌∙◌, subst, arith, add-one, length-set}
 use Rattle.std.specs.Vec.{with_items}
 use Rattle.std.specs.List.{position, position_or_len}
 use Rattle.std.proofs.lemmas.Bool.{eq-eqb, ne_eqb}
 use Rattle.std.proofs.lemmas.Bool.Decides.{nat_tests}
-use Rattle.std.proofs.lemmas.List.{length-map, with_items_is, get_or_default, get_or_past}
+use Rattle.std.proofs.lemmas.List.{length-map, length-replicate, with_items_is, get_or_default, get_or_past}
 use Rattle.plc_mem.specs.declared.cell.Cell.{Cell}
-use Rattle.plc_mem.specs.State.{Node, null_cell, node_of, put_node, empty_node, cut, cut_node}
+use Rattle.plc_mem.specs.State.{State, Node, null_cell, node_of, put_node, empty_node, fresh_node, with_node, cut, cut_node}
 use Rattle.plc_base.specs.Tables.{put_at}
 use Rattle.plc_mem.specs.Fit.{NodesFit}
 
@@ -127,6 +127,16 @@ nodes_fit_at k (n ∷ ns) (suc i) d fit h = nodes_fit_at k ns i d fit.2 (omega a
 pub nodes_fit_push : (k : ℕ) (ns : List Node) (r : Node) → NodesFit k ns → length r.cells ≡ k → length r.values ≡ k → NodesFit k (ns ++ r ∷ [])
 nodes_fit_push k [] r fit c v = (c, v, tt)
 nodes_fit_push k (n ∷ ns) r fit c v = (fit.0, fit.1, nodes_fit_push k ns r fit.2 c v)
+
+-- a node that was added, or wasn't
+pub nodes_fit_add : (k : ℕ) (ns : List Node) (a : ℕ) (b : Bool) → NodesFit k ns → NodesFit k (if b then ns ++ fresh_node k a ∷ [] else ns)
+nodes_fit_add k ns a true fit = nodes_fit_push k ns (fresh_node k a) fit (length-replicate k null_cell) (length-replicate k 0)
+nodes_fit_add k ns a false fit = fit
+
+pub node_added : (m : State) (a : ℕ) (b : Bool) → record m { nodes = if b then m.nodes ++ fresh_node (length m.fields) a ∷ [] else m.nodes } ≡ (if b then with_node m a else m)
+unfolding with_node
+node_added m a true = refl
+node_added m a false = refl
 
 pub nodes_fit_filter : (k : ℕ) (p : Node → Bool) (ns : List Node) → NodesFit k ns → NodesFit k (filter p ns)
 nodes_fit_filter k p [] fit = tt

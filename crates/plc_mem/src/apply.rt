@@ -1,7 +1,7 @@
 // One primitive, column by column of the table: where it is a race, where it is blocked, its event,
 // what it changes. The first three only read, and the last takes its memory before it changes
 // anything, so that a race, a blocked primitive and running out of memory leave all as it was.
-ghost use Rattle.std.specs.Prelude.{◌≡◌, ℕ, IfOk, OnOk, OnErr, Some};
+ghost use Rattle.std.specs.Prelude.{◌≡◌, ℕ, true, IfOk, OnOk, OnErr, Some};
 ghost use Rattle.plc_lang.specs.Shape.{PrimitiveIn};
 ghost use Rattle.plc_base.specs.Functions.{is_retire};
 ghost use Rattle.plc_mem.specs.State.{with_locals};
@@ -38,16 +38,27 @@ impl Memory {
         ensures unchanged { IfOk result (λ o. Stays o → (self.new ≡ self.old) × (me.new ≡ me.old)) }
         ensures err { OnErr result ((self.new ≡ self.old) × (me.new ≡ me.old)) }
     {
+        match self.outcome(prim, me, t, addr) {
+            Outcome::Next(event) => {
+                self.change(me, prim, addr.unwrap_or(0))?;
+                Ok(Outcome::Next(event))
+            }
+            Outcome::Blocked => Ok(Outcome::Blocked),
+            Outcome::Race(kind) => Ok(Outcome::Race(kind)),
+        }
+    }
+
+    /// What `apply` would answer, memory aside. It changes nothing.
+    pub fn outcome(&self, prim: &Prim, me: &Locals, t: u32, addr: Option<u32>) -> Outcome
+        ensures { result ≡ outcome_of (with_locals self.now t (Some me.now)) t (address_or_null addr) prim.now }
+    {
         if let Some(kind) = self.race(me, prim) {
-            return Ok(Outcome::Race(kind));
+            return Outcome::Race(kind);
         }
-        let a = addr.unwrap_or(0);
-        if !self.goes(me, prim, a) {
-            return Ok(Outcome::Blocked);
+        if !self.goes(me, prim, addr.unwrap_or(0)) {
+            return Outcome::Blocked;
         }
-        let event = self.event(me, prim, t);
-        self.change(me, prim, a)?;
-        Ok(Outcome::Next(event))
+        Outcome::Next(self.event(me, prim, t))
     }
 
     // The race of a primitive, if it is one.
@@ -190,7 +201,8 @@ impl Memory {
 
     // What a primitive changes.
     fn change(&mut self, me: &mut Locals, prim: &Prim, a: u32) -> Result<(), NoMemory>
-        requires { PrimitiveIn (shape self.old me.old) prim.now }
+        requires named { PrimitiveIn (shape self.old me.old) prim.now }
+        requires goes { (t : ℕ) × (goes (with_locals self.old t (Some me.old)) t a prim.now ≡ true) }
         ensures after { OnOk result ((t : ℕ) → with_locals self.new t (Some me.new)
             ≡ after (with_locals self.old t (Some me.old)) t a prim.now) }
         ensures kept { Kept self.old me.old self.new me.new }

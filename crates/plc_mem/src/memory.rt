@@ -1,6 +1,5 @@
-// The memory that programs run on. Its nodes and retired addresses are lists that are searched: what
-// it is seen as is the state of the definitions, and every read is total, so that nothing here rests
-// on how an address came to be used.
+// The memory that programs run on. What it is seen as is the state of the definitions, whatever index
+// its nodes have, and every read is total, so that nothing here rests on how an address came to be used.
 ghost use Rattle.std.specs.Prelude.{◌≡◌, ℕ, ◌<◌, ◌==◌, not, length, nat_lt, get_or, slice_set, filter, map, false, if◌then◌else◌, is_ok, IfOk, IfSome, Some, None};
 ghost use Rattle.plc_lang.specs.Shape.{VarIn};
 ghost use Rattle.plc_mem.specs.State.{State, null_cell, at, put, at_field, place, field_value, put_field_value, with_node, with_retired, with_locals, is_used, is_retired, freed, fresh_state, first_state, holds_pointer, cell_of, number_at, valid_at, place_of};
@@ -11,9 +10,7 @@ ghost use Rattle.plc_mem.specs.Coherence.{IsCoherent, LocalsCoherent};
 use crate::cell::Cell;
 use crate::cells::{cell_or_null, cut_cells};
 use crate::locals::{Locals, copy_locals, cut_threads, idle_threads, local_of};
-use crate::node::{
-    Node, cell_in, copy_nodes, cut_nodes, drop_node, holds_node, set_cell, set_value, value_in,
-};
+use crate::node::Nodes;
 use plc_base::{FieldId, NoMemory};
 use plc_flow::{Flow, Place};
 use plc_lang::{Field, Var};
@@ -27,7 +24,7 @@ pub struct Memory {
     fields: Vec<bool>,
     shared: Vec<Cell>,
     locals: Vec<Option<Locals>>,
-    nodes: Vec<Node>,
+    nodes: Nodes,
     retired: Vec<u32>,
 }
 
@@ -38,9 +35,9 @@ impl Model for Memory {
 
     ghost Value = { State };
 
-    ghost view = { λ m. record { fields = m.fields.items; shared = m.shared.items; locals = m.locals.items; nodes = m.nodes.items; retired = m.retired.items } };
+    ghost view = { λ m. record { fields = m.fields.items; shared = m.shared.items; locals = m.locals.items; nodes = m.nodes; retired = m.retired.items } };
 
-    ghost invariant = { λ m. NodesFit (length m.fields.items) m.nodes.items };
+    ghost invariant = { λ m. NodesFit (length m.fields.items) m.nodes };
 }
 
 // Which of the fields are pointer fields.
@@ -87,7 +84,7 @@ impl Memory {
             fields,
             shared: vec![in alloc; null; shared]?,
             locals: idle_threads(alloc, threads)?,
-            nodes: Vec::new(alloc),
+            nodes: Nodes::new(alloc),
             retired: Vec::new(alloc),
         })
     }
@@ -101,7 +98,7 @@ impl Memory {
             fields: self.fields.clone()?,
             shared: self.shared.clone()?,
             locals: copy_locals(self.alloc, &self.locals)?,
-            nodes: copy_nodes(self.alloc, &self.nodes)?,
+            nodes: self.nodes.copy(self.alloc)?,
             retired: self.retired.clone()?,
         })
     }
@@ -137,8 +134,7 @@ impl Memory {
         ensures freed { self.new ≡ freed self.old a }
         ensures coherent { IsCoherent self.old → IsCoherent self.new }
     {
-        drop_node(&mut self.nodes, a);
-        cut_nodes(&mut self.nodes, a);
+        self.nodes.free(a);
         cut_cells(&mut self.shared, a);
         cut_threads(&mut self.locals, a);
         drop_address(&mut self.retired, a);
@@ -148,7 +144,7 @@ impl Memory {
     pub fn used(&self, a: u32) -> bool
         ensures { result ≡ is_used self.now a }
     {
-        holds_node(&self.nodes, a)
+        self.nodes.holds(a)
     }
 
     /// Whether an address is retired.
@@ -249,7 +245,7 @@ impl Memory {
     pub(crate) fn field(&self, a: u32, f: FieldId) -> Cell
         ensures { result ≡ at self.now (at_field a f.0) }
     {
-        cell_in(&self.nodes, a, f.0 as usize)
+        self.nodes.cell(a, f.0 as usize)
     }
 
     // Puts a cell into a field of a node.
@@ -257,14 +253,14 @@ impl Memory {
         requires { f.0 < length self.old.fields }
         ensures { self.new ≡ put self.old (at_field a f.0) c }
     {
-        set_cell(&mut self.nodes, a, f.0 as usize, c);
+        self.nodes.set_cell(a, f.0 as usize, c);
     }
 
     // The number of a data field of a node.
     pub(crate) fn field_value(&self, a: u32, f: FieldId) -> u32
         ensures { result ≡ field_value self.now a f.0 }
     {
-        value_in(&self.nodes, a, f.0 as usize)
+        self.nodes.value(a, f.0 as usize)
     }
 
     // Puts a number into a data field of a node.
@@ -272,16 +268,15 @@ impl Memory {
         requires { f.0 < length self.old.fields }
         ensures { self.new ≡ put_field_value self.old a f.0 n }
     {
-        set_value(&mut self.nodes, a, f.0 as usize, n);
+        self.nodes.set_value(a, f.0 as usize, n);
     }
 
-    // A fresh node of an address.
+    // A fresh node of an address that isn't used.
     pub(crate) fn add_node(&mut self, a: u32) -> Result<(), NoMemory>
+        requires { is_used self.old a ≡ false }
         ensures { self.new ≡ (if is_ok result then with_node self.old a else self.old) }
     {
-        let node = Node::fresh(self.alloc, self.fields.len(), a)?;
-        self.nodes.push(node)?;
-        Ok(())
+        self.nodes.add(self.alloc, self.fields.len(), a)
     }
 
     // An address is handed to the reclaimer.

@@ -1,6 +1,7 @@
-// The nodes of the used addresses, in order of allocation, looked up by their addresses. A table
-// indexed by address would be as long as the largest address that a schedule names.
-ghost use Rattle.std.specs.Prelude.{◌≡◌, ℕ, ◌==◌, ◌<◌, not, get_or, map, filter, IfOk};
+// The nodes of the used addresses, in order of allocation, with an index from address to place beside
+// them, so that no look-up searches the nodes. A table indexed by address would be as long as the
+// largest address that a schedule names.
+ghost use Rattle.std.specs.Prelude.{◌≡◌, ℕ, ◌==◌, ◌<◌, ◌++◌, ◌∷◌, [], false, not, get_or, set, map, filter, is_ok, if◌then◌else◌, length, IfOk};
 ghost use Rattle.std.specs.List.{list_any, position};
 ghost use Rattle.plc_mem.specs.State.{Node, null_cell, node_of, put_node, fresh_node, cut_node};
 ghost use Rattle.plc_base.specs.Tables.{put_at};
@@ -8,6 +9,7 @@ ghost use Rattle.plc_mem.specs.Fit.{NodesFit};
 
 use crate::cell::Cell;
 use crate::cells::{cell_or_null, cut_cells, value_or_0};
+use indexmap::IndexSet;
 use plc_base::NoMemory;
 use std::alloc::Global;
 use std::marker::Model;
@@ -31,7 +33,7 @@ impl Model for Node {
 
 impl Node {
     // A node that was just allocated: pointer fields null, data fields 0.
-    pub fn fresh(alloc: Global, fields: usize, a: u32) -> Result<Node, NoMemory>
+    fn fresh(alloc: Global, fields: usize, a: u32) -> Result<Node, NoMemory>
         ensures { IfOk result (λ n. n ≡ fresh_node fields a) }
     {
         let null = Cell::null();
@@ -43,7 +45,7 @@ impl Node {
     }
 
     // A copy.
-    pub fn copy(&self) -> Result<Node, NoMemory>
+    fn copy(&self) -> Result<Node, NoMemory>
         ensures { IfOk result (λ n. n ≡ self.now) }
     {
         Ok(Node {
@@ -55,7 +57,7 @@ impl Node {
 }
 
 // Copies of nodes.
-pub fn copy_nodes(alloc: Global, nodes: &[Node]) -> Result<Vec<Node>, NoMemory>
+fn copy_nodes(alloc: Global, nodes: &[Node]) -> Result<Vec<Node>, NoMemory>
     ensures { IfOk result (λ copy. copy.items ≡ nodes.now) }
 {
     let mut copy = Vec::new(alloc);
@@ -65,72 +67,30 @@ pub fn copy_nodes(alloc: Global, nodes: &[Node]) -> Result<Vec<Node>, NoMemory>
     Ok(copy)
 }
 
-// The place of the node of an address.
-fn find(nodes: &[Node], a: u32) -> Option<usize>
-    ensures { result ≡ position (λ n. n.address == a) nodes.now }
+// Puts a cell into a field of the node at a place.
+fn put_cell(nodes: &mut Vec<Node>, i: usize, f: usize, c: Cell)
+    requires place { i < length nodes.old.items }
+    requires field { (n : Node) → f < length (get_or nodes.old.items i n).cells }
+    ensures { (n : Node) → nodes.new.items ≡ set nodes.old.items i
+        (record (get_or nodes.old.items i n) { cells = set (get_or nodes.old.items i n).cells f c }) }
 {
-    nodes.iter().position(|n| n.address == a)
+    let node = &mut nodes[i];
+    node.cells[f] = c;
 }
 
-// Whether an address has a node.
-pub fn holds_node(nodes: &[Node], a: u32) -> bool
-    ensures { result ≡ list_any (λ n. n.address == a) nodes.now }
+// Puts a number into a field of the node at a place.
+fn put_value(nodes: &mut Vec<Node>, i: usize, f: usize, n: u32)
+    requires place { i < length nodes.old.items }
+    requires field { (m : Node) → f < length (get_or nodes.old.items i m).values }
+    ensures { (m : Node) → nodes.new.items ≡ set nodes.old.items i
+        (record (get_or nodes.old.items i m) { values = set (get_or nodes.old.items i m).values f n }) }
 {
-    nodes.iter().any(|n| n.address == a)
-}
-
-// What a field holds; null where the address has no node.
-pub fn cell_in(nodes: &[Node], a: u32, f: usize) -> Cell
-    ensures { result ≡ get_or (node_of nodes.now a).cells f null_cell }
-{
-    match find(nodes, a) {
-        Some(i) => {
-            let node = &nodes[i];
-            cell_or_null(&node.cells, f)
-        }
-        None => Cell::null(),
-    }
-}
-
-// Puts a cell into a field; nothing where the address has no node.
-pub fn set_cell(nodes: &mut [Node], a: u32, f: usize, c: Cell)
-    requires { (k : ℕ) × (f < k) × NodesFit k nodes.old }
-    ensures { nodes.new ≡ put_node nodes.old a
-        (record (node_of nodes.old a) { cells = put_at null_cell (node_of nodes.old a).cells f c }) }
-{
-    if let Some(i) = find(nodes, a) {
-        let node = &mut nodes[i];
-        node.cells[f] = c;
-    }
-}
-
-// The number of a data field; 0 where the address has no node.
-pub fn value_in(nodes: &[Node], a: u32, f: usize) -> u32
-    ensures { result ≡ get_or (node_of nodes.now a).values f 0 }
-{
-    match find(nodes, a) {
-        Some(i) => {
-            let node = &nodes[i];
-            value_or_0(&node.values, f)
-        }
-        None => 0,
-    }
-}
-
-// Puts a number into a data field; nothing where the address has no node.
-pub fn set_value(nodes: &mut [Node], a: u32, f: usize, n: u32)
-    requires { (k : ℕ) × (f < k) × NodesFit k nodes.old }
-    ensures { nodes.new ≡ put_node nodes.old a
-        (record (node_of nodes.old a) { values = put_at 0 (node_of nodes.old a).values f n }) }
-{
-    if let Some(i) = find(nodes, a) {
-        let node = &mut nodes[i];
-        node.values[f] = n;
-    }
+    let node = &mut nodes[i];
+    node.values[f] = n;
 }
 
 // Makes the fields invalid that hold an address.
-pub fn cut_nodes(nodes: &mut [Node], a: u32)
+fn cut_nodes(nodes: &mut [Node], a: u32)
     ensures { nodes.new ≡ map (cut_node a) nodes.old }
 {
     for node in nodes.iter_mut() {
@@ -139,8 +99,139 @@ pub fn cut_nodes(nodes: &mut [Node], a: u32)
 }
 
 // Takes the node of an address out.
-pub fn drop_node(nodes: &mut Vec<Node>, a: u32)
+fn drop_node(nodes: &mut Vec<Node>, a: u32)
     ensures { nodes.new.items ≡ filter (λ n. not (n.address == a)) nodes.old.items }
 {
     nodes.retain(|n| n.address != a);
+}
+
+// Takes an address out of the index.
+fn drop_address(addresses: &mut IndexSet<u32>, a: u32)
+    ensures { addresses.new.keys ≡ filter (λ x. not (x == a)) addresses.old.keys }
+{
+    addresses.retain(|x| *x != a);
+}
+
+// The nodes of the used addresses. The place of an address in the index is that of its node.
+#[derive(Drop)]
+pub struct Nodes {
+    addresses: IndexSet<u32>,
+    nodes: Vec<Node>,
+}
+
+impl Model for Nodes {
+    ghost use Rattle.std.specs.Prelude.{◌≡◌, List};
+    ghost use Rattle.plc_mem.specs.State.{Node};
+    ghost use Rattle.plc_mem.specs.Fit.{addresses_of};
+
+    ghost Value = { List Node };
+
+    ghost view = { λ n. n.nodes.items };
+
+    ghost invariant = { λ n. n.addresses.keys ≡ addresses_of n.nodes.items };
+}
+
+impl Nodes {
+    // No nodes.
+    pub fn new(alloc: Global) -> Nodes
+        ensures { result ≡ [] }
+    {
+        Nodes {
+            addresses: IndexSet::new(alloc),
+            nodes: Vec::new(alloc),
+        }
+    }
+
+    // A copy.
+    pub fn copy(&self, alloc: Global) -> Result<Nodes, NoMemory>
+        ensures { IfOk result (λ copy. copy ≡ self.now) }
+    {
+        Ok(Nodes {
+            addresses: self.addresses.clone()?,
+            nodes: copy_nodes(alloc, &self.nodes)?,
+        })
+    }
+
+    // The place of the node of an address.
+    fn find(&self, a: u32) -> Option<usize>
+        ensures { result ≡ position (λ n. n.address == a) self.now }
+    {
+        self.addresses.get_index_of(&a)
+    }
+
+    // Whether an address has a node.
+    pub fn holds(&self, a: u32) -> bool
+        ensures { result ≡ list_any (λ n. n.address == a) self.now }
+    {
+        self.addresses.contains(&a)
+    }
+
+    // What a field holds; null where the address has no node.
+    pub fn cell(&self, a: u32, f: usize) -> Cell
+        ensures { result ≡ get_or (node_of self.now a).cells f null_cell }
+    {
+        match self.find(a) {
+            Some(i) => {
+                let node = &self.nodes[i];
+                cell_or_null(&node.cells, f)
+            }
+            None => Cell::null(),
+        }
+    }
+
+    // Puts a cell into a field; nothing where the address has no node.
+    pub fn set_cell(&mut self, a: u32, f: usize, c: Cell)
+        requires { (k : ℕ) × (f < k) × NodesFit k self.old }
+        ensures { self.new ≡ put_node self.old a
+            (record (node_of self.old a) { cells = put_at null_cell (node_of self.old a).cells f c }) }
+    {
+        if let Some(i) = self.find(a) {
+            put_cell(&mut self.nodes, i, f, c);
+        }
+    }
+
+    // The number of a data field; 0 where the address has no node.
+    pub fn value(&self, a: u32, f: usize) -> u32
+        ensures { result ≡ get_or (node_of self.now a).values f 0 }
+    {
+        match self.find(a) {
+            Some(i) => {
+                let node = &self.nodes[i];
+                value_or_0(&node.values, f)
+            }
+            None => 0,
+        }
+    }
+
+    // Puts a number into a data field; nothing where the address has no node.
+    pub fn set_value(&mut self, a: u32, f: usize, n: u32)
+        requires { (k : ℕ) × (f < k) × NodesFit k self.old }
+        ensures { self.new ≡ put_node self.old a
+            (record (node_of self.old a) { values = put_at 0 (node_of self.old a).values f n }) }
+    {
+        if let Some(i) = self.find(a) {
+            put_value(&mut self.nodes, i, f, n);
+        }
+    }
+
+    // A fresh node of an address that has none, with so many fields.
+    pub fn add(&mut self, alloc: Global, fields: usize, a: u32) -> Result<(), NoMemory>
+        requires { list_any (λ n. n.address == a) self.old ≡ false }
+        ensures { self.new ≡ (if is_ok result then self.old ++ fresh_node fields a ∷ [] else self.old) }
+    {
+        let node = Node::fresh(alloc, fields, a)?;
+        self.nodes.reserve(1)?;
+        self.addresses.insert(a)?;
+        self.nodes.push(node)?;
+        Ok(())
+    }
+
+    // Takes the node of an address out, and makes the fields invalid that hold the address.
+    pub fn free(&mut self, a: u32)
+        ensures { self.new ≡ map (cut_node a) (filter (λ n. not (n.address == a)) self.old) }
+    {
+        drop_address(&mut self.addresses, a);
+        drop_node(&mut self.nodes, a);
+        cut_nodes(&mut self.nodes, a);
+    }
 }

@@ -1,2 +1,6 @@
 pub mod ClaimCounts
 pub mod Walking
+mod Lengths
+mod Executed
+mod Wholes
+mod Bounds

@@ -7,10 +7,11 @@ use Rattle.plc_flow.specs.declared.flow.Gate.{Gate}
 use Rattle.plc_flow.specs.declared.flow.Step.{Step}
 use Rattle.plc_flow.specs.declared.flow.Flow.{Flow}
 use Rattle.plc_logic.specs.declared.clause.Outline.{Outline}
-use Rattle.plc_oblig.specs.declared.obligations.Obligation.TheVariants.{Start}
+use Rattle.plc_setting.specs.declared.obligations.Obligation.TheVariants.{Start}
 use Rattle.plc_oblig.specs.Finding.{IsFoundIn}
-use Rattle.plc_oblig.specs.Obligations.{below, parts_from, others_at, others_of, starts, enters, owns, others, claims, obligations}
-use Rattle.plc_oblig.specs.Points.{count_at}
+use Rattle.plc_setting.specs.Setting.{below}
+use Rattle.plc_oblig.specs.Obligations.{parts_from, others_at, others_of, starts, enters, owns, others, claims, obligations}
+use Rattle.plc_setting.specs.Points.{count_at}
 
 -- ---- the rest of a list behind i items
 

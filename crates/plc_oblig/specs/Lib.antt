@@ -1,6 +1,6 @@
 -- what contracts of public calls say
-pub mod Points
 pub mod Obligations
-pub mod Fit
+pub mod GroundSets
 -- words of private functions alone
 pub mod Finding
+pub mod Size

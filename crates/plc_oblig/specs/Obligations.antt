@@ -1,6 +1,5 @@
 -- The obligations of an outline, in order.
 use Rattle.std.specs.Prelude.{ℕ, ◌+◌, if◌then◌else◌, List, [], ◌∷◌, ◌++◌, length, map}
-use Rattle.std.specs.List.{range_with_len}
 use Rattle.plc_base.specs.declared.ids.OpId.{OpId}
 use Rattle.plc_base.specs.declared.ids.PointId.{PointId}
 use Rattle.plc_base.specs.declared.ids.StepId.{StepId}
@@ -10,9 +9,10 @@ use Rattle.plc_flow.specs.declared.flow.Gate.{Gate}
 use Rattle.plc_flow.specs.declared.flow.Step.{Step}
 use Rattle.plc_flow.specs.declared.flow.Flow.{Flow}
 use Rattle.plc_logic.specs.declared.clause.Outline.{Outline}
-use Rattle.plc_oblig.specs.declared.obligations.Obligation.{Obligation}
-use Rattle.plc_oblig.specs.declared.obligations.Obligation.TheVariants.{Start, Enter, Own, Other, Claim}
-use Rattle.plc_oblig.specs.Points.{count_at}
+use Rattle.plc_setting.specs.declared.obligations.Obligation.{Obligation}
+use Rattle.plc_setting.specs.declared.obligations.Obligation.TheVariants.{Start, Enter, Own, Other, Claim}
+use Rattle.plc_setting.specs.Points.{count_at}
+use Rattle.plc_setting.specs.Setting.{below}
 
 abbrev pub op_id : ℕ → OpId
 op_id o = record { 0 = o }
@@ -22,10 +22,6 @@ step_id k = record { 0 = k }
 
 abbrev pub point_id : ℕ → PointId
 point_id p = record { 0 = p }
-
--- the numbers below n
-abbrev pub below : ℕ → List ℕ
-below n = range_with_len 0 n
 
 -- what each item gives with its number, where so many items stand before, one behind the other
 abbrev pub parts_from : {A X : Type 0} → (ℕ → A → List X) → ℕ → List A → List X

@@ -3,13 +3,14 @@ ghost use Rattle.std.specs.Prelude.{◌≡◌, ◌≤◌, ◌*◌, length};
 ghost use Rattle.plc_flow.specs.WellFormed.{IsWellFormed};
 ghost use Rattle.plc_lang.specs.Fit.{FileFits};
 ghost use Rattle.plc_logic.specs.Fit.{OutlineFits};
-ghost use Rattle.plc_oblig.specs.Obligations.{enters, owns, parts_from, others_at, below, claims, obligations};
-ghost use Rattle.plc_oblig.specs.Fit.{HasFewParts, Fits};
+ghost use Rattle.plc_setting.specs.Setting.{below};
+ghost use Rattle.plc_oblig.specs.Obligations.{enters, owns, parts_from, others_at, claims, obligations};
+ghost use Rattle.plc_setting.specs.Fit.{HasFewParts, Fits};
 
 use crate::claims::count_claims;
-use crate::points::count_at;
 use plc_flow::Flow;
 use plc_logic::Outline;
+use plc_setting::count_at;
 
 // Those of entries.
 fn count_enters(flow: &Flow, outline: &Outline) -> u64

@@ -1,18 +1,18 @@
 // The obligation with a number. Each kind takes away as many as it has and hands on what is left, so that
 // no obligation before it is looked at one by one.
 ghost use Rattle.std.specs.Prelude.{◌≡◌, ◌≤◌, ◌++◌, length, slice_get};
-ghost use Rattle.plc_oblig.specs.Obligations.{starts, enters, owns, parts_from, others_at, others, below, claims_in, claims, obligations};
-ghost use Rattle.plc_oblig.specs.Fit.{HasFewParts, Fits};
+ghost use Rattle.plc_setting.specs.Setting.{below};
+ghost use Rattle.plc_oblig.specs.Obligations.{starts, enters, owns, parts_from, others_at, others, claims_in, claims, obligations};
+ghost use Rattle.plc_setting.specs.Fit.{HasFewParts, Fits};
 ghost use Rattle.plc_oblig.specs.Finding.{IsFoundIn};
 
 use crate::claims::is_claim;
 use crate::counting::count_points;
-use crate::obligations::Obligation;
-use crate::points::count_at;
 use plc_base::{OpId, PointId, StepId};
 use plc_flow::Flow;
 use plc_lang::Prim;
 use plc_logic::Outline;
+use plc_setting::{Obligation, count_at};
 
 // Each of these answers its obligation with the number, or, where it has too few, the number counted
 // behind all of them.

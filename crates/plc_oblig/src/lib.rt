@@ -1,4 +1,5 @@
-//! Proof obligations of outlines: which there are, in which order, how many, and the one with a number.
+//! Proof obligations of outlines: which there are, in which order, how many, and for each the ground set of
+//! clauses that has no model exactly where the obligation is kept.
 //!
 //! An outline holds where each obligation is kept: after `init`, at the entry of each operation, behind
 //! each step of the thread that takes it, at each point of another thread meanwhile, and at each claim.
@@ -8,9 +9,9 @@
 mod claims;
 mod counting;
 mod finding;
-mod obligations;
-mod points;
+mod size;
 
 pub use counting::count;
 pub use finding::nth;
-pub use obligations::Obligation;
+pub use plc_setting::Obligation;
+pub use size::clauses;

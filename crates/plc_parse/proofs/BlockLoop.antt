@@ -4,7 +4,9 @@ use Rattle.plc_lex.specs.declared.token.TokenKind.{TokenKind}
 use Rattle.plc_lang.specs.declared.syntax.Line.{Line}
 use Rattle.plc_lang.specs.Statements.{Statements, Empty, Then, Blocks, NoBlock, And}
 use Rattle.plc_lang.specs.Views.{statement_of, block_of, blocks_of}
-use Rattle.plc_forms.specs.Forms.{closing_of, or_of}
+use Rattle.plc_lex.specs.declared.token.Keyword.TheVariants as words
+use Rattle.plc_lex.specs.declared.token.Symbol.TheVariants as symbols
+use Rattle.plc_forms.specs.Forms.{word_symbol_of, closing_of}
 use Rattle.plc_scope.specs.declared.fault.ParseFault.{ParseFault}
 use Rattle.plc_scope.specs.declared.fault.ParseFault.TheVariants as faults
 use Rattle.plc_scope.specs.declared.scope.Scope.{Scope}
@@ -92,11 +94,11 @@ module _ (block : BlockReader) (in_loop : Bool) where
   ors_next : ℕ → Scope → ℕ → List TokenKind → ReadTo (Blocks × Scope × ℕ)
   ors_next n s at us = block s in_loop (at + 2) us >>= λ b. ors_in block n b.0.1 in_loop b.0.2 b.1 >>= λ o. Ok ((And b.0.0 o.0.0, o.0.1, o.0.2), o.1)
 
-  ors_goes : (k n : ℕ) (s : Scope) (at : ℕ) (ts us : List TokenKind) → k ≡ suc n → or_of ts ≡ Some us → ors_in block k s in_loop at ts ≡ ors_next n s at us
+  ors_goes : (k n : ℕ) (s : Scope) (at : ℕ) (ts us : List TokenKind) → k ≡ suc n → word_symbol_of words.Or symbols.OpenBrace ts ≡ Some us → ors_in block k s in_loop at ts ≡ ors_next n s at us
   unfolding ors_in ors_next
   ors_goes k n s at ts us l e = rw l (ap (λ o. where_read o (λ vs. ors_next n s at vs) (Ok ((NoBlock, s, at), ts))) e)
 
-  ors_ends : (k n : ℕ) (s : Scope) (at : ℕ) (ts : List TokenKind) → k ≡ suc n → or_of ts ≡ None → ors_in block k s in_loop at ts ≡ Ok ((NoBlock, s, at), ts)
+  ors_ends : (k n : ℕ) (s : Scope) (at : ℕ) (ts : List TokenKind) → k ≡ suc n → word_symbol_of words.Or symbols.OpenBrace ts ≡ None → ors_in block k s in_loop at ts ≡ Ok ((NoBlock, s, at), ts)
   unfolding ors_in ors_next
   ors_ends k n s at ts l e = rw l (ap (λ o. where_read o (λ vs. ors_next n s at vs) (Ok ((NoBlock, s, at), ts))) e)
 
@@ -104,11 +106,11 @@ module _ (block : BlockReader) (in_loop : Bool) where
   unfolding ors_in
   ors_out k bs s at ts total l so_far = sym so_far ∙ rw l refl
 
-  pub ors_end : (k n : ℕ) (bs : List Statements) (s : Scope) (at : ℕ) (ts : List TokenKind) (total : ReadTo (Blocks × Scope × ℕ)) → k ≡ suc n → or_of ts ≡ None
+  pub ors_end : (k n : ℕ) (bs : List Statements) (s : Scope) (at : ℕ) (ts : List TokenKind) (total : ReadTo (Blocks × Scope × ℕ)) → k ≡ suc n → word_symbol_of words.Or symbols.OpenBrace ts ≡ None
       → blocks_before bs (ors_in block k s in_loop at ts) ≡ total → total ≡ Ok ((blocks_of bs, s, at), ts)
   ors_end k n bs s at ts total l e so_far = sym so_far ∙ ap (blocks_before bs) (ors_ends k n s at ts l e) ∙ ap (λ o. Ok ((o, s, at), ts)) (blocks_all bs)
 
-  pub ors_turn : (k n : ℕ) (bs : List Statements) (b : Statements) (s t : Scope) (at behind : ℕ) (ts us vs : List TokenKind) → k ≡ suc n → or_of ts ≡ Some us
+  pub ors_turn : (k n : ℕ) (bs : List Statements) (b : Statements) (s t : Scope) (at behind : ℕ) (ts us vs : List TokenKind) → k ≡ suc n → word_symbol_of words.Or symbols.OpenBrace ts ≡ Some us
       → block s in_loop (at + 2) us ≡ Ok ((b, t, behind), vs)
       → blocks_before bs (ors_in block k s in_loop at ts) ≡ blocks_before (bs ++ b ∷ []) (ors_in block n t in_loop behind vs)
   unfolding ors_next
@@ -118,7 +120,7 @@ module _ (block : BlockReader) (in_loop : Bool) where
       ∙ bind_joins (ors_in block n t in_loop behind vs) _ _
       ∙ bind_same (ors_in block n t in_loop behind vs) _ _ (λ o. ap (λ c. Ok ((c, o.0.1, o.0.2), o.1)) (sym (blocks_more bs b o.0.0)))
 
-  pub ors_stop : (f : ParseFault) (k n : ℕ) (bs : List Statements) (s : Scope) (at : ℕ) (ts us : List TokenKind) (total : ReadTo (Blocks × Scope × ℕ)) → k ≡ suc n → or_of ts ≡ Some us
+  pub ors_stop : (f : ParseFault) (k n : ℕ) (bs : List Statements) (s : Scope) (at : ℕ) (ts us : List TokenKind) (total : ReadTo (Blocks × Scope × ℕ)) → k ≡ suc n → word_symbol_of words.Or symbols.OpenBrace ts ≡ Some us
       → FailsAs f (block s in_loop (at + 2) us) → blocks_before bs (ors_in block k s in_loop at ts) ≡ total → FailsAs f total
   unfolding ors_next
   ors_stop f k n bs s at ts us total l e h so_far =

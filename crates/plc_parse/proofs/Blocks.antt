@@ -7,7 +7,9 @@ use Rattle.plc_lex.specs.declared.token.Symbol.TheVariants.{CloseBrace, OpenBrac
 use Rattle.plc_lang.specs.declared.syntax.Primitive.{Primitive}
 use Rattle.plc_lang.specs.Statements.{If, Choose, Statements, Blocks, And}
 use Rattle.plc_syntax.specs.Trees.{Text, each_then, maybe_then, during_then, PrimitiveTree, primitive_then, primitive_line_then, InitialTree, initial_then, ArgumentTree, StatementTree, statement_then, PrimitiveStatement, AtomicStatement, CallStatement, IfStatement, ChooseStatement, LoopStatement, BreakStatement, ReturnStatement, LabelStatement, BlockTree, NoStatement, Then, statements_then, ElseTree, NoElse, ElseBlock, else_then, OrTree, NoOr, OrBlock, or_then}
-use Rattle.plc_forms.specs.Forms.{closing_of, opening_of, else_of, or_of, atomic_of, if_of, choose_of, loop_of, break_of, return_of, label_of, call_of, primitive_line_of, initial_line_of}
+use Rattle.plc_lex.specs.declared.token.Keyword.TheVariants as words
+use Rattle.plc_lex.specs.declared.token.Symbol.TheVariants as symbols
+use Rattle.plc_forms.specs.Forms.{word_symbol_of, closing_of, opening_of, label_of, call_of, primitive_line_of, initial_line_of}
 use Rattle.plc_forms.specs.Sizes.{initial_size, primitive_size, condition_size}
 use Rattle.plc_scope.specs.declared.fault.ParseFault.{ParseFault}
 use Rattle.plc_scope.specs.declared.scope.Scope.{Scope}
@@ -93,13 +95,13 @@ module _ (lines : List ℕ) where
   primitive_read n s in_loop at p rest =
       let ts = primitive_then p (Symbol Semicolon ∷ rest) in
       let b = primitive_begins p (Symbol Semicolon ∷ rest) in
-      reads_other (loop_of ts) _ _ b.no_loop
-      ∙ reads_other (choose_of ts) _ _ b.no_choose
-      ∙ reads_other (if_of ts) _ _ b.no_if
-      ∙ reads_other (break_of ts) _ _ b.no_break
-      ∙ reads_other (return_of ts) _ _ b.no_return
+      reads_other (word_symbol_of words.Loop symbols.OpenBrace ts) _ _ b.no_loop
+      ∙ reads_other (word_symbol_of words.Choose symbols.OpenBrace ts) _ _ b.no_choose
+      ∙ reads_other (word_symbol_of words.If symbols.OpenParen ts) _ _ b.no_if
+      ∙ reads_other (word_symbol_of words.Break symbols.Semicolon ts) _ _ b.no_break
+      ∙ reads_other (word_symbol_of words.Return symbols.Semicolon ts) _ _ b.no_return
       ∙ reads_other (label_of ts) _ _ b.no_label
-      ∙ reads_other (atomic_of ts) _ _ b.no_atomic
+      ∙ reads_other (word_symbol_of words.Atomic symbols.OpenBrace ts) _ _ b.no_atomic
       ∙ reads_other (call_of ts) _ _ b.no_call
       ∙ reads_this (primitive_line_of ts) (p, rest) _ _ (primitive_line_reads p rest)
       ∙ bind_within (primitive_means s at p) _ _ _ (λ k. refl)
@@ -107,7 +109,7 @@ module _ (lines : List ℕ) where
   mutual
     unfolding statement_in flat_in step_in loop_in else_in branches_in if_in ors_in blocks_in choose_in block_in
 
-    statement_read : (st : StatementTree) (n : ℕ) (s : Scope) (in_loop : Bool) (at : ℕ) (rest : List TokenKind) → statement_weight st < n → else_of rest ≡ None → or_of rest ≡ None
+    statement_read : (st : StatementTree) (n : ℕ) (s : Scope) (in_loop : Bool) (at : ℕ) (rest : List TokenKind) → statement_weight st < n → word_symbol_of words.Else symbols.OpenBrace rest ≡ None → word_symbol_of words.Or symbols.OpenBrace rest ≡ None
         → statement_in (block_in lines n) n s in_loop at (statement_then st rest) ≡ (statement_means lines s in_loop at st >>= λ r. Ok (r, rest))
     statement_read (PrimitiveStatement p) n s in_loop at rest w no_else no_or = primitive_read n s in_loop at p rest
     statement_read (AtomicStatement ps) n s in_loop at rest w no_else no_or =
@@ -149,18 +151,18 @@ module _ (lines : List ℕ) where
         let us = statements_then b (Symbol CloseBrace ∷ rest) in
         reads_other (closing_of (statement_then st us)) _ _ (not_at_statement closing_of closing_no_statement st us)
         ∙ read_within (statement_in (block_in lines n) n s in_loop at (statement_then st us)) (statement_means lines s in_loop at st) (λ x. Ok (x, us)) _ _ _
-        (statement_read st n s in_loop at us (omega arith) (not_at_statements else_of else_no_statement (λ ts. refl) b rest) (not_at_statements or_of or_no_statement (λ ts. refl) b rest)) (λ x.
+        (statement_read st n s in_loop at us (omega arith) (not_at_statements (word_symbol_of words.Else symbols.OpenBrace) else_no_statement (λ ts. refl) b rest) (not_at_statements (word_symbol_of words.Or symbols.OpenBrace) or_no_statement (λ ts. refl) b rest)) (λ x.
         read_within (block_in lines n x.1 in_loop x.2 us) (statements_mean lines x.1 in_loop x.2 b) (λ y. Ok ((y.0, y.1, y.2 + 1), rest)) _ _ _ (block_read b n x.1 in_loop x.2 rest (omega arith)) (λ y. refl))
 
-    else_read : (e : ElseTree) (n : ℕ) (s : Scope) (in_loop : Bool) (at : ℕ) (rest : List TokenKind) → else_weight e < n → else_of rest ≡ None
+    else_read : (e : ElseTree) (n : ℕ) (s : Scope) (in_loop : Bool) (at : ℕ) (rest : List TokenKind) → else_weight e < n → word_symbol_of words.Else symbols.OpenBrace rest ≡ None
         → else_in (block_in lines n) s in_loop at (else_then e rest) ≡ (else_means lines s in_loop at e >>= λ r. Ok (r, rest))
-    else_read NoElse n s in_loop at rest w no_else = reads_other (else_of rest) _ _ no_else
+    else_read NoElse n s in_loop at rest w no_else = reads_other (word_symbol_of words.Else symbols.OpenBrace rest) _ _ no_else
     else_read (ElseBlock b) n s in_loop at rest w no_else = block_read b n s in_loop (at + 2) rest w ∙ bind_within (statements_mean lines s in_loop (at + 2) b) _ _ _ (λ x. refl)
 
-    ors_read : (os : OrTree) (n m : ℕ) (s : Scope) (in_loop : Bool) (at : ℕ) (rest : List TokenKind) → or_weight os < n → or_weight os < m → or_of rest ≡ None
+    ors_read : (os : OrTree) (n m : ℕ) (s : Scope) (in_loop : Bool) (at : ℕ) (rest : List TokenKind) → or_weight os < n → or_weight os < m → word_symbol_of words.Or symbols.OpenBrace rest ≡ None
         → ors_in (block_in lines n) m s in_loop at (or_then os rest) ≡ (or_means lines s in_loop at os >>= λ r. Ok (r, rest))
     ors_read os n zero s in_loop at rest w v no_or = absurd (omega arith)
-    ors_read NoOr n (suc m) s in_loop at rest w v no_or = reads_other (or_of rest) _ _ no_or
+    ors_read NoOr n (suc m) s in_loop at rest w v no_or = reads_other (word_symbol_of words.Or symbols.OpenBrace rest) _ _ no_or
     ors_read (OrBlock b os) n (suc m) s in_loop at rest w v no_or =
         read_within (block_in lines n s in_loop (at + 2) (statements_then b (Symbol CloseBrace ∷ or_then os rest))) (statements_mean lines s in_loop (at + 2) b) (λ x. Ok ((x.0, x.1, x.2 + 1), or_then os rest)) _ _ _ (block_read b n s in_loop (at + 2) (or_then os rest) (omega arith)) (λ x.
         read_within (ors_in (block_in lines n) m x.1 in_loop (x.2 + 1) (or_then os rest)) (or_means lines x.1 in_loop (x.2 + 1) os) (λ y. Ok (y, rest)) _ _ _ (ors_read os n m x.1 in_loop (x.2 + 1) rest (omega arith) (omega arith) no_or) (λ y. refl))

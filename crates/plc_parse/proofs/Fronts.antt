@@ -5,7 +5,9 @@ use Rattle.plc_lex.specs.declared.token.TokenKind.TheVariants.{Word, Name, Symbo
 use Rattle.plc_lex.specs.declared.token.Keyword.TheVariants.{Use, Ghost, Init, Op, Outline, Active, Assume, Skip, Atomic, If, Choose, Loop, Break, Return, Label}
 use Rattle.plc_lex.specs.declared.token.Symbol.TheVariants.{CloseBrace}
 use Rattle.plc_syntax.specs.Trees.{Text, each_then, maybe_then, WatchTree, watch_then, GhostTree, Auxiliary, ghost_then, RefreshName, RefreshField, SetGhost, SetName, SetField, InitialTree, init_then, PrimitiveTree, primitive_then, SetPrimitive, RefreshPrimitive, GhostPrimitive, ActivePrimitive, AssumePrimitive, SkipPrimitive, StatementTree, statement_then, PrimitiveStatement, AtomicStatement, CallStatement, IfStatement, ChooseStatement, LoopStatement, BreakStatement, ReturnStatement, LabelStatement, BlockTree, NoStatement, Then, statements_then, OpTree, Operates, op_then, OutlineTree, Outlined, outline_then}
-use Rattle.plc_forms.specs.Forms.{field_of, closing_of, else_of, or_of, atomic_of, if_of, choose_of, loop_of, break_of, return_of, label_of, call_of}
+use Rattle.plc_lex.specs.declared.token.Keyword.TheVariants as words
+use Rattle.plc_lex.specs.declared.token.Symbol.TheVariants as symbols
+use Rattle.plc_forms.specs.Forms.{word_symbol_of, field_of, closing_of, label_of, call_of}
 
 -- no statement begins so, nor does the end of a block
 pub record BeginsNoStatement {X : Type 0} (item : List TokenKind → Option X) : Type 0 where
@@ -51,10 +53,10 @@ local_no_statement = record { name = λ n ts. refl; ghost = λ ts. refl; active 
 pub closing_no_statement : BeginsNoStatement closing_of
 closing_no_statement = record { name = λ n ts. refl; ghost = λ ts. refl; active = λ ts. refl; assume = λ ts. refl; skip = λ ts. refl; atomic = λ ts. refl; if_word = λ ts. refl; choose = λ ts. refl; loop = λ ts. refl; break = λ ts. refl; return = λ ts. refl; label = λ ts. refl }
 
-pub else_no_statement : BeginsNoStatement else_of
+pub else_no_statement : BeginsNoStatement (word_symbol_of words.Else symbols.OpenBrace)
 else_no_statement = record { name = λ n ts. refl; ghost = λ ts. refl; active = λ ts. refl; assume = λ ts. refl; skip = λ ts. refl; atomic = λ ts. refl; if_word = λ ts. refl; choose = λ ts. refl; loop = λ ts. refl; break = λ ts. refl; return = λ ts. refl; label = λ ts. refl }
 
-pub or_no_statement : BeginsNoStatement or_of
+pub or_no_statement : BeginsNoStatement (word_symbol_of words.Or symbols.OpenBrace)
 or_no_statement = record { name = λ n ts. refl; ghost = λ ts. refl; active = λ ts. refl; assume = λ ts. refl; skip = λ ts. refl; atomic = λ ts. refl; if_word = λ ts. refl; choose = λ ts. refl; loop = λ ts. refl; break = λ ts. refl; return = λ ts. refl; label = λ ts. refl }
 
 pub statements_no_local : (b : BlockTree) (rest : List TokenKind) → field_of (statements_then b (Symbol CloseBrace ∷ rest)) ≡ None
@@ -62,13 +64,13 @@ statements_no_local b rest = not_at_statements field_of local_no_statement (λ t
 
 -- a primitive begins as no other statement does
 pub record BeginsPrimitive (ts : List TokenKind) : Type 0 where
-  pub no_loop : loop_of ts ≡ None
-  pub no_choose : choose_of ts ≡ None
-  pub no_if : if_of ts ≡ None
-  pub no_break : break_of ts ≡ None
-  pub no_return : return_of ts ≡ None
+  pub no_loop : word_symbol_of words.Loop symbols.OpenBrace ts ≡ None
+  pub no_choose : word_symbol_of words.Choose symbols.OpenBrace ts ≡ None
+  pub no_if : word_symbol_of words.If symbols.OpenParen ts ≡ None
+  pub no_break : word_symbol_of words.Break symbols.Semicolon ts ≡ None
+  pub no_return : word_symbol_of words.Return symbols.Semicolon ts ≡ None
   pub no_label : label_of ts ≡ None
-  pub no_atomic : atomic_of ts ≡ None
+  pub no_atomic : word_symbol_of words.Atomic symbols.OpenBrace ts ≡ None
   pub no_call : call_of ts ≡ None
 
 pub primitive_begins : (p : PrimitiveTree) (rest : List TokenKind) → BeginsPrimitive (primitive_then p rest)

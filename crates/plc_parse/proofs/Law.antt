@@ -17,9 +17,10 @@ use Rattle.plc_scope.specs.Scope.{◌>>=◌, first_scope, declared, declared_par
 use Rattle.plc_outparse.specs.Meaning.{outline_means}
 use Rattle.plc_outparse.specs.Reading.{outline_in}
 use Rattle.plc_outparse.proofs.Law.{outline_read}
+use Rattle.plc_parse.specs.declared.unit.Unit.{Unit as FileUnit}
 use Rattle.plc_parse.specs.Meaning.{listed, field_means, shared_means, function_means, value_means, values_mean, ghost_means, watch_means, init_means, initials_mean, others_mean, parameters_mean, local_means, locals_mean, line_at, statements_mean, op_means, outlined_means, file_means, file_from}
 use Rattle.plc_scope.specs.Read.{ReadTo, wanted_at}
-use Rattle.plc_parse.specs.Reading.{judged, fields_in, shared_in, functions_in, value_step, values_in, of_threads_in, all_values_in, of_values_in, ghost_in, ghosts_in, parameter_step, local_step, parameters_in, locals_in, all_locals_in, block_in, op_in, ops_in, struct_in, declarations_in, watch_in, init_in, outlined_in, file_in}
+use Rattle.plc_parse.specs.Reading.{judged, fields_in, shared_in, functions_in, value_step, values_in, of_threads_in, all_values_in, of_values_in, ghost_in, ghosts_in, parameter_step, local_step, parameters_in, locals_in, all_locals_in, block_in, op_in, ops_in, struct_in, declarations_in, watch_in, init_in, outlined_in, front_in, body_in, unit_from, file_in}
 use Rattle.plc_scope.proofs.Sequence.{bind_same, bind_joins, bind_within, read_within, read_same, limit_within}
 use Rattle.plc_parse.proofs.Loop.{reads_this, reads_other, steps, each_goes, each_ends, each_reads}
 use Rattle.plc_parse.proofs.Listed.{IsFault, listed_read}
@@ -186,10 +187,39 @@ outlined_read s ops at None = refl
 outlined_read s ops at (Some (Outlined d items)) =
     read_same (outline_in s ops at (outline_then (Outlined d items) [])) (outline_means s ops at (Outlined d items)) (λ r. Ok (r, [])) _ _ (outline_read s ops at (Outlined d items) []) (λ r. refl)
 
+-- the parts of a file one by one
+abbrev in_order : List ℕ → List TokenKind → Result FileUnit ParseFault
+in_order lines ts = do
+  s ← struct_in ts
+  d ← declarations_in s.0.0 s.0.1 s.1
+  w ← watch_in d.0.3 d.0.4 d.1
+  g ← ghosts_in d.0.3 w.0.1 w.1
+  i ← init_in g.0.1 g.0.2 g.1
+  ops ← ops_in lines g.0.1 i.0.1 i.1
+  outline ← outlined_in ops.0.1 ops.0.0 ops.0.2 ops.1
+  Ok (unit_from (d.0.0, d.0.1, d.0.2, w.0.0, g.0.0, i.0.0) (ops.0.0, outline, ops.0.1))
+
+parts_in_order : (lines : List ℕ) (ts : List TokenKind) → file_in lines ts ≡ in_order lines ts
+unfolding file_in front_in body_in
+parts_in_order lines ts =
+    bind_same (struct_in ts) _ _ (λ s.
+    bind_joins (declarations_in s.0.0 s.0.1 s.1) _ _
+    ∙ bind_same (declarations_in s.0.0 s.0.1 s.1) _ _ (λ d.
+    bind_joins (watch_in d.0.3 d.0.4 d.1) _ _
+    ∙ bind_same (watch_in d.0.3 d.0.4 d.1) _ _ (λ w.
+    bind_joins (ghosts_in d.0.3 w.0.1 w.1) _ _
+    ∙ bind_same (ghosts_in d.0.3 w.0.1 w.1) _ _ (λ g.
+    bind_joins (init_in g.0.1 g.0.2 g.1) _ _
+    ∙ bind_same (init_in g.0.1 g.0.2 g.1) _ _ (λ i.
+    bind_joins (ops_in lines g.0.1 i.0.1 i.1) _ _
+    ∙ bind_same (ops_in lines g.0.1 i.0.1 i.1) _ _ (λ ops.
+    bind_joins (outlined_in ops.0.1 ops.0.0 ops.0.2 ops.1) _ _))))))
+
 pub file_read : (lines : List ℕ) (f : FileTree) → file_in lines (file_tokens f) ≡ file_means lines f
-unfolding file_in struct_in declarations_in file_means
+unfolding struct_in declarations_in file_means
 file_read lines f =
-    bind_joins (declared first_scope f.name 1 Taken) _ _
+    parts_in_order lines (file_tokens f)
+    ∙ bind_joins (declared first_scope f.name 1 Taken) _ _
     ∙ bind_same (declared first_scope f.name 1 Taken) _ _ (λ s.
     bind_joins (fields_in s 3 (each_then field_then f.fields (Symbol CloseBrace ∷ behind_fields))) _ _
     ∙ read_same (fields_in s 3 (each_then field_then f.fields (Symbol CloseBrace ∷ behind_fields))) (listed field_means s 0 3 f.fields) (λ r. Ok (r, Symbol CloseBrace ∷ behind_fields)) _ _ (fields_read s 3 f.fields behind_fields) (λ fields.

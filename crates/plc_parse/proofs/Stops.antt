@@ -5,9 +5,9 @@ use Rattle.plc_scope.specs.declared.fault.ParseFault.{ParseFault}
 use Rattle.plc_scope.specs.declared.scope.Scope.{Scope}
 use Rattle.plc_scope.specs.Answers.{FailsAs}
 use Rattle.plc_scope.specs.Scope.{◌>>=◌}
-use Rattle.plc_scope.proofs.Sequence.{bind_stops, fails_along}
+use Rattle.plc_scope.proofs.Sequence.{bind_joins, bind_stops, fails_along}
 use Rattle.plc_scope.specs.Read.{ReadTo}
-use Rattle.plc_parse.specs.Reading.{each, with_listed, listed_within}
+use Rattle.plc_parse.specs.Reading.{each, with_listed, added, listed_within}
 use Rattle.plc_parse.proofs.Loop.{each_goes}
 use Rattle.plc_parse.proofs.Listed.{listed_goes}
 
@@ -35,3 +35,17 @@ module _ {H Y : Type 0} (head : List TokenKind → Option (H × List TokenKind))
       → FailsAs f (body s.1 (length s.0) s.2 h.0 h.1) → listed_within head body k s ts ≡ total → FailsAs f total
   listed_stops f k n s ts h total l e b so_far =
       fails_along f _ total (sym (listed_goes head body k n s ts h l e) ∙ so_far) (bind_stops f (body s.1 (length s.0) s.2 h.0 h.1) (λ o. listed_within head body n (with_listed s.0 o.0) o.1) b)
+
+  -- the same where what was read is added before the loop goes on
+  added_goes : (k n : ℕ) (s : List Y × Scope × ℕ) (ts : List TokenKind) (h : H × List TokenKind) → k ≡ suc n → head ts ≡ Some h
+      → listed_within head body k s ts ≡ (added s.0 (body s.1 (length s.0) s.2 h.0 h.1) >>= λ u. listed_within head body n u.0 u.1)
+  added_goes k n s ts h l e = listed_goes head body k n s ts h l e ∙ sym (bind_joins (body s.1 (length s.0) s.2 h.0 h.1) (λ r. Ok (with_listed s.0 r.0, r.1)) (λ u. listed_within head body n u.0 u.1))
+
+  pub added_turns : (k n : ℕ) (s : List Y × Scope × ℕ) (ts : List TokenKind) (h : H × List TokenKind) (o : (List Y × Scope × ℕ) × List TokenKind) → k ≡ suc n → head ts ≡ Some h
+      → added s.0 (body s.1 (length s.0) s.2 h.0 h.1) ≡ Ok o → listed_within head body k s ts ≡ listed_within head body n o.0 o.1
+  added_turns k n s ts h o l e b = added_goes k n s ts h l e ∙ ap (λ r. r >>= λ u. listed_within head body n u.0 u.1) b
+
+  pub added_stops : (f : ParseFault) (k n : ℕ) (s : List Y × Scope × ℕ) (ts : List TokenKind) (h : H × List TokenKind) (total : ReadTo (List Y × Scope × ℕ)) → k ≡ suc n → head ts ≡ Some h
+      → FailsAs f (added s.0 (body s.1 (length s.0) s.2 h.0 h.1)) → listed_within head body k s ts ≡ total → FailsAs f total
+  added_stops f k n s ts h total l e b so_far =
+      fails_along f _ total (sym (added_goes k n s ts h l e) ∙ so_far) (bind_stops f (added s.0 (body s.1 (length s.0) s.2 h.0 h.1)) (λ u. listed_within head body n u.0 u.1) b)

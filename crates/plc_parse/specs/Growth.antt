@@ -1,5 +1,5 @@
 -- What is left of the tokens, and how the names in reach grow.
-use Rattle.std.specs.Prelude.{◌≡◌, ◌+◌, ◌≤◌, ℕ, [], length}
+use Rattle.std.specs.Prelude.{◌≡◌, ◌+◌, ◌*◌, ◌≤◌, ℕ, [], length}
 use Rattle.plc_base.specs.declared.limits.What1.TheVariants as limits
 use Rattle.plc_base.specs.Limits.{most}
 use Rattle.plc_forms.specs.declared.rest.Rest.{Rest}
@@ -18,6 +18,10 @@ pub record KeepsLists (old new : Scope) : Type 0 where
 -- the names that an auxiliary field declares: its own, its values, and the one past their limit
 abbrev pub ghost_names : ℕ
 ghost_names = most limits.Values + 2
+
+-- the names that are declared before the operations
+abbrev pub front_names : ℕ
+front_names = most limits.Fields + most limits.Shared + most limits.Calls + ghost_names * most limits.Ghosts
 
 -- labels may be counted over the whole file
 abbrev pub most_labels : ℕ

@@ -6,3 +6,4 @@ pub mod Fit
 pub mod Reading
 pub mod Growth
 pub mod Turns
+pub mod Front

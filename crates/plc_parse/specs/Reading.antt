@@ -17,7 +17,9 @@ use Rattle.plc_syntax.specs.Syntax.{kinds}
 use Rattle.plc_forms.specs.declared.rest.Rest.{Rest}
 use Rattle.plc_forms.specs.Views.{Behind}
 use Rattle.plc_scope.specs.Answers.{Gives}
-use Rattle.plc_forms.specs.Forms.{struct_of, field_of, shared_of, function_of, watch_of, ghost_of, thread_of, first_value_of, values_end_of, init_of, initial_line_of, head_of, name_of, comma_name_of, opening_of, closing_of, semicolon_of, atomic_of, if_of, condition_of, else_of, choose_of, or_of, loop_of, break_of, return_of, label_of, call_of, during_of, primitive_line_of}
+use Rattle.plc_lex.specs.declared.token.Keyword.TheVariants as words
+use Rattle.plc_lex.specs.declared.token.Symbol.TheVariants as symbols
+use Rattle.plc_forms.specs.Forms.{word_symbol_of, struct_of, field_of, shared_of, function_of, watch_of, ghost_of, thread_of, first_value_of, values_end_of, init_of, initial_line_of, head_of, name_of, comma_name_of, opening_of, closing_of, semicolon_of, condition_of, label_of, call_of, during_of, primitive_line_of}
 use Rattle.plc_forms.specs.Sizes.{initial_size, primitive_size, condition_size, call_size, during_size}
 use Rattle.plc_scope.specs.declared.fault.ParseFault.{ParseFault}
 use Rattle.plc_scope.specs.declared.fault.ParseFault.TheVariants as faults
@@ -58,6 +60,12 @@ where_read None next other = other
 -- one more of what is listed
 abbrev pub with_listed : {Y : Type 0} → List Y → Y × Scope × ℕ → List Y × Scope × ℕ
 with_listed ys r = (ys ++ r.0 ∷ [], r.1, r.2)
+
+-- what is read, added to what is listed
+abbrev pub added : {Y : Type 0} → List Y → ReadTo (Y × Scope × ℕ) → ReadTo (List Y × Scope × ℕ)
+added ys read = do
+  r ← read
+  Ok (with_listed ys r.0, r.1)
 
 -- where a declaration begins it is read, and then those behind it
 abbrev pub listed_from : {H Y : Type 0} → (Scope → ℕ → ℕ → H → List TokenKind → ReadTo (Y × Scope × ℕ)) → (List Y × Scope × ℕ → List TokenKind → ReadTo (List Y × Scope × ℕ)) → List Y × Scope × ℕ → List TokenKind → Option (H × List TokenKind) → ReadTo (List Y × Scope × ℕ)
@@ -212,7 +220,7 @@ primitive_in s at p ts = do
 -- a call before a primitive, since both begin with a name
 unfoldable pub step_in : Scope → ℕ → List TokenKind → StatementRead
 step_in s at ts =
-    where_read (atomic_of ts) (λ us. atomic_in s at us)
+    where_read (word_symbol_of words.Atomic symbols.OpenBrace ts) (λ us. atomic_in s at us)
     (where_read (call_of ts) (λ c. called_in s at c.0.0 c.0.1 c.1)
     (where_read (primitive_line_of ts) (λ p. primitive_in s at p.0 p.1)
     (Err (faults.Syntax at))))
@@ -220,8 +228,8 @@ step_in s at ts =
 -- a statement that has no block of statements
 unfoldable pub flat_in : Scope → Bool → ℕ → List TokenKind → StatementRead
 flat_in s in_loop at ts =
-    where_read (break_of ts) (λ us. break_in s in_loop at us)
-    (where_read (return_of ts) (λ us. Ok ((Return, s, at + 2), us))
+    where_read (word_symbol_of words.Break symbols.Semicolon ts) (λ us. break_in s in_loop at us)
+    (where_read (word_symbol_of words.Return symbols.Semicolon ts) (λ us. Ok ((Return, s, at + 2), us))
     (where_read (label_of ts) (λ n. label_in s at n.0 n.1)
     (step_in s at ts)))
 
@@ -239,7 +247,7 @@ loop_in block s at ts = do
 
 -- an absent `else` is an empty block
 unfoldable pub else_in : BlockReader → BlockReader
-else_in block s in_loop at ts = where_read (else_of ts) (λ us. block s in_loop (at + 2) us) (Ok ((Empty, s, at), ts))
+else_in block s in_loop at ts = where_read (word_symbol_of words.Else symbols.OpenBrace ts) (λ us. block s in_loop (at + 2) us) (Ok ((Empty, s, at), ts))
 
 -- the two blocks of an `if`, from behind the first one's brace
 unfoldable pub branches_in : BlockReader → Scope → Bool → ℕ → List TokenKind → ReadTo ((Statements × Statements) × Scope × ℕ)
@@ -260,7 +268,7 @@ if_in block s in_loop at ts = do
 -- at most so many further blocks of a choice
 unfoldable pub ors_in : BlockReader → ℕ → Scope → Bool → ℕ → List TokenKind → ReadTo (Blocks × Scope × ℕ)
 ors_in block zero s in_loop at ts = Err (faults.Syntax at)
-ors_in block (suc n) s in_loop at ts = where_read (or_of ts)
+ors_in block (suc n) s in_loop at ts = where_read (word_symbol_of words.Or symbols.OpenBrace ts)
     (λ us. block s in_loop (at + 2) us >>= λ b. ors_in block n b.0.1 in_loop b.0.2 b.1 >>= λ o. Ok ((And b.0.0 o.0.0, o.0.1, o.0.2), o.1))
     (Ok ((NoBlock, s, at), ts))
 
@@ -280,9 +288,9 @@ choose_in block n s in_loop at ts = do
 -- a statement
 unfoldable pub statement_in : BlockReader → ℕ → Scope → Bool → ℕ → List TokenKind → StatementRead
 statement_in block n s in_loop at ts =
-    where_read (loop_of ts) (λ us. loop_in block s (at + 2) us)
-    (where_read (choose_of ts) (λ us. choose_in block n s in_loop (at + 2) us)
-    (where_read (if_of ts) (λ us. if_in block s in_loop (at + 2) us)
+    where_read (word_symbol_of words.Loop symbols.OpenBrace ts) (λ us. loop_in block s (at + 2) us)
+    (where_read (word_symbol_of words.Choose symbols.OpenBrace ts) (λ us. choose_in block n s in_loop (at + 2) us)
+    (where_read (word_symbol_of words.If symbols.OpenParen ts) (λ us. if_in block s in_loop (at + 2) us)
     (flat_in s in_loop at ts)))
 
 -- a statement and those behind it, up to "}"
@@ -390,14 +398,33 @@ outlined_in s ops at (t ∷ ts) = do
   end ← nothing_left o.0.1 o.1
   Ok o.0.0
 
+-- what stands before the operations: the declarations, the observer, the auxiliary fields and `init`
+abbrev pub FrontParts : Type 0
+FrontParts = List Field × List ℕ × List Func × Observer × List Ghost × List Primitive
+
+unfoldable pub front_in : Scope → ℕ → List TokenKind → ReadTo (FrontParts × Scope × ℕ)
+front_in s at ts = do
+  d ← declarations_in s at ts
+  w ← watch_in d.0.3 d.0.4 d.1
+  g ← ghosts_in d.0.3 w.0.1 w.1
+  i ← init_in g.0.1 g.0.2 g.1
+  Ok (((d.0.0, d.0.1, d.0.2, w.0.0, g.0.0, i.0.0), g.0.1, i.0.1), i.1)
+
+-- the operations and the outline, with the scope behind them
+unfoldable pub body_in : List ℕ → Scope → ℕ → List TokenKind → Result (List Op × Outline × Scope) ParseFault
+body_in lines s at ts = do
+  ops ← ops_in lines s at ts
+  outline ← outlined_in ops.0.1 ops.0.0 ops.0.2 ops.1
+  Ok (ops.0.0, outline, ops.0.1)
+
+-- the unit of these parts
+abbrev pub unit_from : FrontParts → List Op × Outline × Scope → FileUnit
+unit_from f b = record { file = file_from f.0 f.1 f.2 f.4 f.5 b.0 b.2; observer = f.3; outline = b.1 }
+
 -- the parts of a file in order
 unfoldable pub file_in : List ℕ → List TokenKind → Result FileUnit ParseFault
 file_in lines ts = do
   s ← struct_in ts
-  d ← declarations_in s.0.0 s.0.1 s.1
-  w ← watch_in d.0.3 d.0.4 d.1
-  g ← ghosts_in d.0.3 w.0.1 w.1
-  i ← init_in g.0.1 g.0.2 g.1
-  ops ← ops_in lines g.0.1 i.0.1 i.1
-  outline ← outlined_in ops.0.1 ops.0.0 ops.0.2 ops.1
-  Ok (record { file = file_from d.0.0 d.0.1 d.0.2 g.0.0 i.0.0 ops.0.0 ops.0.1; observer = w.0.0; outline = outline })
+  f ← front_in s.0.0 s.0.1 s.1
+  b ← body_in lines f.0.1 f.0.2 f.1
+  Ok (unit_from f.0.0 b)

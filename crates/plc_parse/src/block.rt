@@ -13,11 +13,9 @@ ghost use Rattle.plc_parse.specs.Units.{lines_of};
 
 use crate::lines::line_at;
 use crate::statement::read_flat;
-use plc_forms::{
-    Rest, choose_at, closing_at, condition_at, else_at, if_at, loop_at, opening_at, or_at,
-};
+use plc_forms::{Rest, closing_at, condition_at, opening_at, word_symbol_at};
 use plc_lang::{Block, Line, Stmt};
-use plc_lex::Token;
+use plc_lex::{Keyword, Symbol, Token};
 use plc_scope::{ParseFault, Scope, condition};
 use std::alloc::Global;
 
@@ -61,7 +59,7 @@ fn read_else<'a>(
     ensures grows { IfOk result (λ _. GrowsByLabels scope.old scope.new) }
     ensures place { IfOk result (λ r. IsLeftOf (length tokens.now) r.1) }
 {
-    match else_at(start) {
+    match word_symbol_at(start, Keyword::Else, Symbol::OpenBrace) {
         Some(behind) => read_block(alloc, scope, tokens, most, in_loop, behind),
         None => Ok((Block::new(Vec::new(alloc)), start)),
     }
@@ -144,7 +142,7 @@ fn read_blocks<'a>(
     choices.push(first)?;
     let mut rest = start;
     for _ in 0..most {
-        let Some(behind) = or_at(rest) else {
+        let Some(behind) = word_symbol_at(rest, Keyword::Or, Symbol::OpenBrace) else {
             return Ok((choices, rest));
         };
         let (block, end) = read_block(alloc, scope, tokens, most, in_loop, behind)?;
@@ -197,13 +195,13 @@ fn read_statement<'a>(
     ensures grows { IfOk result (λ _. GrowsByLabels scope.old scope.new) }
     ensures place { IfOk result (λ r. IsLeftOf (length tokens.now) r.1) }
 {
-    if let Some(behind) = loop_at(start) {
+    if let Some(behind) = word_symbol_at(start, Keyword::Loop, Symbol::OpenBrace) {
         return read_loop(alloc, scope, tokens, most, behind);
     }
-    if let Some(behind) = choose_at(start) {
+    if let Some(behind) = word_symbol_at(start, Keyword::Choose, Symbol::OpenBrace) {
         return read_choose(alloc, scope, tokens, most, in_loop, behind);
     }
-    match if_at(start) {
+    match word_symbol_at(start, Keyword::If, Symbol::OpenParen) {
         Some(behind) => read_if(alloc, scope, tokens, most, in_loop, behind),
         None => read_flat(alloc, scope, in_loop, start),
     }

@@ -6,7 +6,7 @@ ghost use Rattle.plc_scope.specs.Answers.{Gives, HasRoom};
 ghost use Rattle.plc_scope.specs.Scope.{most_locals};
 ghost use Rattle.plc_outparse.specs.Answers.{OpsFit};
 ghost use Rattle.plc_parse.specs.Growth.{IsLeftOf, CanOperate, GrowsByOps, op_names, most_labels};
-ghost use Rattle.plc_parse.specs.Reading.{op_in, ops_in};
+ghost use Rattle.plc_parse.specs.Reading.{added, op_in, ops_in};
 ghost use Rattle.plc_parse.specs.Units.{lines_of};
 
 use crate::block::read_block;
@@ -57,6 +57,32 @@ fn read_op<'a>(
     Ok((op, rest))
 }
 
+// The operation at a place, from behind its name and `(`, added to those before.
+fn read_next<'a>(
+    alloc: Global,
+    scope: &mut Scope,
+    tokens: &[Token],
+    ops: &mut Items<Op>,
+    at: u32,
+    name: &[u8],
+    start: Rest<'a>,
+) -> Result<Rest<'a>, ParseFault>
+    requires fit { OpsFit ops.old }
+    requires room { CanOperate scope.old }
+    requires place { IsLeftOf (length tokens.now) start }
+    requires head { start.at ≡ at + 3 }
+    ensures read { Gives (λ r. ((ops.new, scope.new, r.at), kinds r.tokens.now)) result (added ops.old
+        (op_in (lines_of tokens.now) scope.old (length ops.old) at name.now (kinds start.entry.tokens.now))) }
+    ensures fit { IfOk result (λ _. OpsFit ops.new) }
+    ensures one { IfOk result (λ _. length ops.new ≡ length ops.old + 1) }
+    ensures grows { IfOk result (λ _. GrowsByOps scope.old scope.new op_names) }
+    ensures place { IfOk result (λ r. IsLeftOf (length tokens.now) r) }
+{
+    let (op, end) = read_op(alloc, scope, tokens, ops.len(), at, name, start)?;
+    ops.push(op)?;
+    Ok(end)
+}
+
 /// Reads the operations.
 pub fn read_ops<'a>(
     alloc: Global,
@@ -76,9 +102,7 @@ pub fn read_ops<'a>(
     let mut ops = Items::new(alloc);
     let mut rest = start;
     while let Some((name, behind)) = head_at(rest) {
-        let (op, end) = read_op(alloc, scope, tokens, ops.len(), rest.at, name, behind)?;
-        ops.push(op)?;
-        rest = end;
+        rest = read_next(alloc, scope, tokens, &mut ops, rest.at, name, behind)?;
     }
     Ok((ops, rest))
 }

@@ -1,6 +1,6 @@
 // The two passes. The first knows the grammar and no names; the second reads the forms again, where
 // they can stand in no other order, and looks each name up where it stands.
-ghost use Rattle.std.specs.Prelude.{◌≡◌, ◌≤◌, ◌<◌, ◌^◌, ◌+◌, ◌-◌, ◌∷◌, Some, Ok, [], true, false, length, IfOk, IfErr};
+ghost use Rattle.std.specs.Prelude.{◌≡◌, ◌≤◌, ◌<◌, ◌^◌, ◌+◌, ◌-◌, ◌*◌, ◌∷◌, Some, Ok, [], true, false, length, IfOk, IfErr};
 ghost use Rattle.plc_base.specs.Limits.{most};
 ghost use Rattle.plc_lang.specs.Fit.{FileFits, NamesWhatIsThere};
 ghost use Rattle.plc_lang.specs.WellSorted.{FileIsWellSorted};
@@ -12,11 +12,13 @@ ghost use Rattle.plc_scope.specs.Answers.{Gives, HasRoom, GrowsBy, Within};
 ghost use Rattle.plc_scope.specs.Scope.{most_names, most_locals};
 ghost use Rattle.plc_parse.specs.declared.unit.Unit.{Unit as FileUnit};
 ghost use Rattle.plc_parse.specs.Fit.{ObserverFits, UnitsFit};
-ghost use Rattle.plc_parse.specs.Growth.{IsLeftOf, KeepsLists, most_labels};
+ghost use Rattle.plc_parse.specs.Growth.{IsLeftOf, KeepsLists, most_labels, op_names, ghost_names, front_names};
 ghost use Rattle.plc_parse.specs.Meaning.{retire, watch_means};
 ghost use Rattle.plc_logic.specs.Fit.{OutlineFits};
 ghost use Rattle.plc_outparse.specs.Answers.{OpsFit};
-ghost use Rattle.plc_parse.specs.Reading.{struct_in, declarations_in, watch_in, init_in, outlined_in, file_in};
+ghost use Rattle.plc_parse.specs.Reading.{struct_in, declarations_in, watch_in, init_in, front_in};
+ghost use Rattle.plc_parse.specs.Reading.{outlined_in, body_in, unit_from, file_in};
+ghost use Rattle.plc_parse.specs.Front.{front_of};
 ghost use Rattle.plc_parse.specs.Units.{lines_of, IsUnitOf, IsFaultOf, IsShallowFile, UnitsAreUnique, FaultsAreOne};
 
 use crate::auxiliary::read_ghosts;
@@ -28,7 +30,7 @@ use crate::unit::Unit;
 use plc_auto::Observer;
 use plc_base::{Items, What1};
 use plc_forms::{Rest, Watch, closing_at, init_at, struct_at, watch_at};
-use plc_lang::{Field, File, Func, Op, Prim};
+use plc_lang::{Field, File, Func, Ghost, Op, Prim};
 use plc_lex::Token;
 use plc_logic::Outline;
 use plc_outparse::read_outline;
@@ -185,6 +187,91 @@ fn read_outlined(
     Ok(outline)
 }
 
+/// What stands before the operations.
+#[derive(Drop)]
+struct Front {
+    declared: Declared,
+    observer: Observer,
+    ghosts: Items<Ghost>,
+    init: Items<Prim>,
+}
+
+// What stands before the operations. Each part has a function of its own, so that few values live where
+// one may fail.
+#[tactic(auto, unfolding(crate::specs::Reading::front_in))]
+fn read_front<'a>(
+    alloc: Global,
+    scope: &mut Scope,
+    start: Rest<'a>,
+) -> Result<(Front, Rest<'a>), ParseFault>
+    requires room { HasRoom scope.old (front_names + ghost_names) }
+    requires locals { scope.old.locals ≡ [] }
+    ensures read { Gives (λ r. ((front_of r.0, scope.new, r.1.at), kinds r.1.tokens.now)) result
+        (front_in scope.old start.entry.at (kinds start.entry.tokens.now)) }
+    ensures names { IfOk result (λ _. GrowsBy scope.old scope.new front_names) }
+    ensures lists { IfOk result (λ _. KeepsLists scope.old scope.new) }
+    ensures place { IfOk result (λ r. Within start.entry r.1) }
+{
+    let (declared, rest) = read_declarations(alloc, scope, start)?;
+    let (observer, rest) = read_watch(scope, rest)?;
+    let (ghosts, rest) = read_ghosts(alloc, scope, rest)?;
+    let (init, rest) = read_init(alloc, scope, rest)?;
+    let front = Front {
+        declared,
+        observer,
+        ghosts,
+        init,
+    };
+    Ok((front, rest))
+}
+
+// The operations and the outline.
+#[tactic(auto, unfolding(crate::specs::Reading::body_in))]
+fn read_body(
+    alloc: Global,
+    scope: &mut Scope,
+    tokens: &[Token],
+    start: Rest,
+) -> Result<(Items<Op>, Outline), ParseFault>
+    requires room { HasRoom scope.old (op_names * (most What1.Ops + 1) + most_labels + 1) }
+    requires locals { scope.old.locals ≡ [] }
+    requires labels { scope.old.labels ≡ [] }
+    requires place { IsLeftOf (length tokens.now) start }
+    ensures { Gives (λ r. (r.0, r.1, scope.new)) result
+        (body_in (lines_of tokens.now) scope.old start.entry.at (kinds start.entry.tokens.now)) }
+{
+    let (ops, rest) = read_ops(alloc, scope, tokens, start)?;
+    let outline = read_outlined(alloc, scope, ops.as_slice(), rest)?;
+    Ok((ops, outline))
+}
+
+// The unit of these parts, with the names and labels in reach at its end.
+fn unit(scope: Scope, front: Front, ops: Items<Op>, outline: Outline) -> Result<Unit, ParseFault>
+    ensures { Gives (λ unit. unit) result (Ok (unit_from (front_of front) (ops, outline, scope))) }
+{
+    let Declared {
+        fields,
+        shared,
+        functions,
+    } = front.declared;
+    let funcs = with_retire(functions)?;
+    let file = File {
+        names: scope.names,
+        fields,
+        shared,
+        funcs,
+        ghosts: front.ghosts,
+        init: front.init,
+        ops,
+        labels: scope.labels,
+    };
+    Ok(Unit {
+        file,
+        observer: front.observer,
+        outline,
+    })
+}
+
 // The unit of tokens that are a file's.
 #[tactic(auto, unfolding(crate::specs::Reading::file_in))]
 fn read_file(alloc: Global, tokens: &[Token]) -> Result<Unit, ParseFault>
@@ -192,27 +279,9 @@ fn read_file(alloc: Global, tokens: &[Token]) -> Result<Unit, ParseFault>
     ensures { Gives (λ unit. unit) result (file_in (lines_of tokens.now) (kinds tokens.now)) }
 {
     let (mut scope, rest) = read_struct(alloc, tokens)?;
-    let (declared, rest) = read_declarations(alloc, &mut scope, rest)?;
-    let (observer, rest) = read_watch(&scope, rest)?;
-    let (ghosts, rest) = read_ghosts(alloc, &mut scope, rest)?;
-    let (init, rest) = read_init(alloc, &scope, rest)?;
-    let (ops, rest) = read_ops(alloc, &mut scope, tokens, rest)?;
-    let outline = read_outlined(alloc, &scope, ops.as_slice(), rest)?;
-    let file = File {
-        names: scope.names,
-        fields: declared.fields,
-        shared: declared.shared,
-        funcs: with_retire(declared.functions)?,
-        ghosts,
-        init,
-        ops,
-        labels: scope.labels,
-    };
-    Ok(Unit {
-        file,
-        observer,
-        outline,
-    })
+    let (front, rest) = read_front(alloc, &mut scope, rest)?;
+    let (ops, outline) = read_body(alloc, &mut scope, tokens, rest)?;
+    unit(scope, front, ops, outline)
 }
 
 fn check_syntax(alloc: Global, tokens: &[Token]) -> Result<(), ParseFault>

@@ -13,10 +13,11 @@ ghost use Rattle.plc_parse.specs.Reading.{break_in, label_in, atomic_in, called_
 use crate::step::read_primitives;
 use plc_base::What1;
 use plc_forms::{
-    Call, Primitive, Rest, atomic_at, break_at, call_at, during_at, label_at, primitive_line_at,
-    return_at, semicolon_at,
+    Call, Primitive, Rest, call_at, during_at, label_at, primitive_line_at, semicolon_at,
+    word_symbol_at,
 };
 use plc_lang::Stmt;
+use plc_lex::{Keyword, Symbol};
 use plc_scope::{ParseFault, Scope, call, primitive};
 use std::alloc::Global;
 
@@ -167,7 +168,7 @@ fn read_step<'a>(
     ensures grows { IfOk result (λ _. GrowsByLabels scope.old scope.new) }
     ensures place { IfOk result (λ r. Within start.entry r.1) }
 {
-    if let Some(behind) = atomic_at(start) {
+    if let Some(behind) = word_symbol_at(start, Keyword::Atomic, Symbol::OpenBrace) {
         return read_atomic(alloc, scope, start.at, behind);
     }
     if let Some((form, behind)) = call_at(start) {
@@ -193,10 +194,10 @@ pub fn read_flat<'a>(
     ensures grows { IfOk result (λ _. GrowsByLabels scope.old scope.new) }
     ensures place { IfOk result (λ r. Within start.entry r.1) }
 {
-    if let Some(behind) = break_at(start) {
+    if let Some(behind) = word_symbol_at(start, Keyword::Break, Symbol::Semicolon) {
         return read_break(in_loop, start.at, behind);
     }
-    if let Some(behind) = return_at(start) {
+    if let Some(behind) = word_symbol_at(start, Keyword::Return, Symbol::Semicolon) {
         return Ok((Stmt::Return, behind));
     }
     match label_at(start) {

@@ -1,8 +1,8 @@
 -- The tables have the location of each thread and address after the events, so that the reclaimers that keep them act as their rows.
-use Rattle.std.proofs.Common.{◌≡◌, ℕ, Bool, true, false, not, cond, ◌&&◌, ◌||◌, ◌==◌, if◌then◌else◌, List, [], ◌∷◌, ◌++◌, map, Option, Some, None, refl, sym, ap, ◌∙◌, subst}
-use Rattle.std.specs.Prelude.{fold, filter, find}
+use Rattle.std.proofs.Common.{◌≡◌, ℕ, ◌<◌, arith, Bool, true, false, not, cond, ◌&&◌, ◌||◌, ◌==◌, if◌then◌else◌, List, [], ◌∷◌, ◌++◌, map, Option, Some, None, refl, sym, ap, ◌∙◌, subst}
+use Rattle.std.specs.Prelude.{fold, filter, find, nat_lt}
 use Rattle.std.specs.List.{list_any}
-use Rattle.std.proofs.lemmas.Bool.{eqb-true, eq-eqb, both_ways}
+use Rattle.std.proofs.lemmas.Bool.{eqb-true, eq-eqb, ltb-true, both_ways}
 use Rattle.std.proofs.lemmas.List.Folds.{list_any-append}
 use Rattle.plc_auto.specs.declared.event.Event.{Event}
 use Rattle.plc_auto.specs.declared.event.Event.TheVariants.{Call as Called, Done as Returned, Free as Freed}
@@ -17,7 +17,7 @@ use Rattle.plc_reclaim.specs.Waiting.{waiting_after}
 use Rattle.plc_reclaim.specs.Meanings.{Meanings}
 use Rattle.plc_reclaim.specs.Rows.{ActsAs, first_waiting, threads_in, is_kept_at, is_kept_by, is_kept_by_none}
 use Rattle.plc_auto.specs.Events.{kind_of, thread_of, address_of}
-use Rattle.plc_reclaim.specs.Tables.{moved, same_location, Cell, Column, location_in, cell_after, cells_after, with_cell, column_after, Heard, Table, column_of, fresh_table, is_thread, others_after, own_after, table_after, keeps}
+use Rattle.plc_reclaim.specs.Tables.{moved, same_location, Cell, Column, location_in, cell_after, cells_after, put_cell, with_cell, column_after, Heard, Table, column_of, fresh_table, is_thread, others_after, own_after, table_after, keeps}
 use Rattle.plc_reclaim.specs.Watch.{Watch, fresh_watch, watch_after, is_kept, first_free, numbers_of, begun_with, held_after, free_of}
 use Rattle.plc_reclaim.proofs.Picks.{may_be_picked}
 use Rattle.plc_reclaim.proofs.Numbers.{begun_with_is, held_after_is, free_of_is}
@@ -33,21 +33,32 @@ same_is None (Some k) e = cc
 same_is (Some l) None e = cc
 same_is (Some l) (Some k) e = ap (λ n. Some n) (eqb-true l k e)
 
--- the cell that is put last is that of its address where no cell before it is
-put_last : (cells : List Cell) (others at_it : Option ℕ) (b a : ℕ) → location_in (with_cell cells others b at_it) others a ≡ location_in cells (if b == a then at_it else others) a
-put_last cells others at_it b a = go (same_location at_it others) refl
+-- a cell that is put in comes first of those with its address
+passed : (at_it at_c others : Option ℕ) (b k a : ℕ) (s r : Bool) → (b == a) ≡ s → (k == a) ≡ r → k < b → (if r then at_c else (if s then at_it else others)) ≡ (if s then at_it else (if r then at_c else others))
+passed at_it at_c others b k a true true is_b is_k lt = absurd (let same : b ≡ a = eqb-true b a is_b in let also : k ≡ a = eqb-true k a is_k in omega arith)
+passed at_it at_c others b k a true false is_b is_k lt = refl
+passed at_it at_c others b k a false r is_b is_k lt = refl
+
+put_there : (cells : List Cell) (others at_it : Option ℕ) (b a : ℕ) → location_in (put_cell cells (record { address = b; at = at_it })) others a ≡ (if b == a then at_it else location_in cells others a)
+put_there [] others at_it b a = refl
+put_there (c ∷ cells) others at_it b a = here (nat_lt c.address b) refl (put_there cells others at_it b a)
   where
-    put_there : (cells : List Cell) → location_in (cells ++ record { address = b; at = at_it } ∷ []) others a ≡ location_in cells (if b == a then at_it else others) a
-    put_there [] = refl
-    put_there (c ∷ cells) = ap (λ r. if c.address == a then c.at else r) (put_there cells)
+    here : (v : Bool) → nat_lt c.address b ≡ v → location_in (put_cell cells (record { address = b; at = at_it })) others a ≡ (if b == a then at_it else location_in cells others a) →
+        location_in (if v then c ∷ put_cell cells (record { address = b; at = at_it }) else record { address = b; at = at_it } ∷ c ∷ cells) others a ≡ (if b == a then at_it else location_in (c ∷ cells) others a)
+    here true lt later = ap (λ r. if c.address == a then c.at else r) later ∙ passed at_it c.at (location_in cells others a) b c.address a (b == a) (c.address == a) refl refl (ltb-true c.address b lt)
+    here false _ later = refl
 
-    either : (s : Bool) → at_it ≡ others → others ≡ (if s then at_it else others)
-    either true e = sym e
-    either false e = refl
+-- where none of the other cells is that of its address
+put_in : (cells : List Cell) (others at_it : Option ℕ) (b a : ℕ) → location_in cells others b ≡ others → location_in (with_cell cells others b at_it) others a ≡ (if b == a then at_it else location_in cells others a)
+put_in cells others at_it b a none = go (same_location at_it others) refl
+  where
+    either : (s : Bool) → (b == a) ≡ s → at_it ≡ others → location_in cells others a ≡ (if s then at_it else location_in cells others a)
+    either true is e = ap (location_in cells others) (sym (eqb-true b a is)) ∙ none ∙ sym e
+    either false is e = refl
 
-    go : (v : Bool) → same_location at_it others ≡ v → location_in (if v then cells else cells ++ record { address = b; at = at_it } ∷ []) others a ≡ location_in cells (if b == a then at_it else others) a
-    go true e = ap (λ d. location_in cells d a) (either (b == a) (same_is at_it others e))
-    go false e = put_there cells
+    go : (v : Bool) → same_location at_it others ≡ v → location_in (if v then cells else put_cell cells (record { address = b; at = at_it })) others a ≡ (if b == a then at_it else location_in cells others a)
+    go true e = either (b == a) refl (same_is at_it others e)
+    go false e = put_there cells others at_it b a
 
 -- the cells of the other addresses move as the others do
 others_move : (o : Observer) (kind : EvKind) (by_own : Bool) (b a : ℕ) (cells : List Cell) (others : Option ℕ) → (b == a) ≡ false →
@@ -74,11 +85,11 @@ none_other o kind by_own b (c ∷ cells) others = go (c.address == b) refl (none
 
 -- the column after an event, at an address
 column_moves : (o : Observer) (kind : EvKind) (by_own : Bool) (b a : ℕ) (c : Column) → at (column_after o kind by_own b c) a ≡ moved o kind by_own (is_this (Some b) a) (at c a)
-column_moves o kind by_own b a c = put_last (cells_after o kind by_own b c.cells) (moved o kind by_own false c.others) (moved o kind by_own (not (b == 0)) (at c b)) b a ∙ go (b == a) refl
+column_moves o kind by_own b a c = put_in (cells_after o kind by_own b c.cells) (moved o kind by_own false c.others) (moved o kind by_own (not (b == 0)) (at c b)) b a (none_other o kind by_own b c.cells (moved o kind by_own false c.others)) ∙ go (b == a) refl
   where
     go : (s : Bool) → (b == a) ≡ s →
-        location_in (cells_after o kind by_own b c.cells) (if s then moved o kind by_own (not (b == 0)) (at c b) else moved o kind by_own false c.others) a ≡ moved o kind by_own (s && not (b == 0)) (at c a)
-    go true e = ap (location_in (cells_after o kind by_own b c.cells) (moved o kind by_own (not (b == 0)) (at c b))) (sym (eqb-true b a e)) ∙ none_other o kind by_own b c.cells (moved o kind by_own (not (b == 0)) (at c b)) ∙ ap (λ a. moved o kind by_own (not (b == 0)) (at c a)) (eqb-true b a e)
+        (if s then moved o kind by_own (not (b == 0)) (at c b) else location_in (cells_after o kind by_own b c.cells) (moved o kind by_own false c.others) a) ≡ moved o kind by_own (s && not (b == 0)) (at c a)
+    go true e = ap (λ a. moved o kind by_own (not (b == 0)) (at c a)) (eqb-true b a e)
     go false e = others_move o kind by_own b a c.cells c.others e
 
 and_no : (x : Bool) → (x && false) ≡ false

@@ -1,11 +1,9 @@
 -- Where threads and addresses stand, event by event: a table for each scheme, in it a column for each thread that was heard,
--- and in a column a cell for each address that stands elsewhere than the others do.
-use Rattle.std.specs.Prelude.{ℕ, Bool, true, false, ◌==◌, not, if◌then◌else◌, List, [], ◌∷◌, ◌++◌, map, filter, Option, Some, None}
+-- and in a column a cell for each address that stands elsewhere than the others do, in the order of addresses.
+use Rattle.std.specs.Prelude.{ℕ, ◌<◌, ◌≤◌, length, slice_index_or, Bool, true, false, ◌==◌, nat_lt, not, if◌then◌else◌, List, [], ◌∷◌, ◌++◌, map, filter, Option, Some, None}
 use Rattle.std.specs.List.{list_any}
 use Rattle.plc_auto.specs.declared.event.Event.{Event}
-use Rattle.plc_auto.specs.declared.event.Event.TheVariants.{Call as Called, Done as Returned, Free as Freed}
 use Rattle.plc_auto.specs.declared.event.EvKind.{EvKind}
-use Rattle.plc_auto.specs.declared.event.EvKind.TheVariants.{Call, Done, Free}
 use Rattle.plc_auto.specs.declared.observer.Observer.{Observer}
 use Rattle.plc_auto.specs.Events.{kind_of, thread_of, address_of}
 use Rattle.plc_auto.specs.Table.{step}
@@ -54,9 +52,30 @@ cell_after o kind by_own c = record { address = c.address; at = moved o kind by_
 abbrev pub cells_after : Observer → EvKind → Bool → ℕ → List Cell → List Cell
 cells_after o kind by_own a cells = map (cell_after o kind by_own) (filter (λ c. not (c.address == a)) cells)
 
+-- a cell more, before the first whose address isn't smaller
+abbrev pub put_cell : List Cell → Cell → List Cell
+put_cell [] more = more ∷ []
+put_cell (c ∷ cells) more = if nat_lt c.address more.address then c ∷ put_cell cells more else more ∷ c ∷ cells
+
 -- a cell more, unless the address stands where the others do
 abbrev pub with_cell : List Cell → Option ℕ → ℕ → Option ℕ → List Cell
-with_cell cells others a at = if same_location at others then cells else cells ++ record { address = a; at = at } ∷ []
+with_cell cells others a at = if same_location at others then cells else put_cell cells (record { address = a; at = at })
+
+-- no address is smaller
+abbrev pub AllFrom : ℕ → List Cell → Type 0
+AllFrom a [] = Unit {0}
+AllFrom a (c ∷ cells) = (a ≤ c.address) × AllFrom a cells
+
+-- the addresses don't fall
+abbrev pub IsInOrder : List Cell → Type 0
+IsInOrder [] = Unit {0}
+IsInOrder (c ∷ cells) = AllFrom c.address cells × IsInOrder cells
+
+-- the smaller addresses stand before this place, and no other does
+pub record IsPlaceFor (cells : List Cell) (a i : ℕ) : Type 0 where
+  pub within : i ≤ length cells
+  pub before : (j : ℕ) (d : Cell) → j < i → (slice_index_or cells j d).address < a
+  pub after : (j : ℕ) (d : Cell) → i ≤ j → j < length cells → a ≤ (slice_index_or cells j d).address
 
 -- the column after an event, by the thread itself or another
 abbrev pub column_after : Observer → EvKind → Bool → ℕ → Column → Column

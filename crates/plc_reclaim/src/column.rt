@@ -1,11 +1,14 @@
 // Where one thread stands for each address, by the table of an observer. An address that stands where
 // those do that were never named needs no cell, so a column is as long as the addresses that are
-// retired or asked for. An event makes a new column, so that the old one stays whole where memory runs
+// retired or asked for. The cells stand in the order of their addresses: a pick asks for each address that
+// waits, so a search from the first cell on would cost it the square of what waits, and one by halves costs
+// little more than the list. An event makes a new column, so that the old one stays whole where memory runs
 // out; moving the cells in place would leave it half moved.
 ghost use Rattle.std.specs.Prelude.{◌≡◌, ◌==◌, not, map, filter, IfOk};
 ghost use Rattle.plc_auto.specs.Table.{step, target_of};
 ghost use Rattle.plc_reclaim.specs.Tables.{moved, same_location, location_in};
-ghost use Rattle.plc_reclaim.specs.Tables.{fresh_column, cell_after, cells_after, column_after};
+ghost use Rattle.plc_reclaim.specs.Tables.{fresh_column, cell_after, cells_after, with_cell, column_after};
+ghost use Rattle.plc_reclaim.specs.Tables.{IsInOrder, IsPlaceFor};
 
 use plc_auto::{EvKind, Observer};
 use plc_base::{LocId, NoMemory};
@@ -37,11 +40,13 @@ pub struct Column {
 
 impl Model for Column {
     ghost use Rattle.plc_auto.specs.Table.{target_of};
-    ghost use Rattle.plc_reclaim.specs.Tables.{Column};
+    ghost use Rattle.plc_reclaim.specs.Tables.{Column, IsInOrder};
 
     ghost Value = { Column };
 
     ghost view = { λ c. record { others = target_of c.others; cells = c.cells.items } };
+
+    ghost invariant = { λ c. IsInOrder c.cells.items };
 }
 
 impl Cell {
@@ -115,15 +120,11 @@ impl Column {
     pub fn location(&self, a: u32) -> Option<LocId>
         ensures { target_of result ≡ location_in self.now.cells self.now.others a }
     {
-        for cell in &self.cells {
-            if cell.address == a {
-                return cell.at;
-            }
-        }
-        self.others
+        location_in(&self.cells, self.others, a)
     }
 
     /// The column after an event that names an address, or null.
+    #[tactic(auto, using(crate::proofs::Places::order_after, crate::proofs::Places::order_with))]
     pub fn after(
         &self,
         alloc: Global,
@@ -136,10 +137,8 @@ impl Column {
     {
         let others = moved(observer, kind, by_own, false, self.others);
         let at = moved(observer, kind, by_own, a != 0, self.location(a));
-        let mut cells = cells_after(alloc, observer, kind, by_own, a, &self.cells)?;
-        if !same_location(at, others) {
-            cells.push(Cell { address: a, at })?;
-        }
+        let moved = cells_after(alloc, observer, kind, by_own, a, &self.cells)?;
+        let cells = with_cell(moved, others, a, at)?;
         Ok(Column { others, cells })
     }
 }
@@ -162,4 +161,45 @@ fn cells_after(
             .map(|cell| cell.after(observer, kind, by_own))
             .collect(alloc)?,
     )
+}
+
+// The place of an address in cells that are in order: all before it have smaller addresses.
+fn place_for(cells: &[Cell], a: u32) -> usize
+    requires { IsInOrder cells.now }
+    ensures { IsPlaceFor cells.now a result }
+{
+    cells.partition_point(|cell| cell.address < a)
+}
+
+// Where an address stands by these cells, or where the others do.
+fn location_in(cells: &[Cell], others: Option<LocId>, a: u32) -> Option<LocId>
+    requires { IsInOrder cells.now }
+    ensures { target_of result ≡ location_in cells.now (target_of others) a }
+{
+    let place = place_for(cells, a);
+    if place < cells.len() {
+        let cell = &cells[place];
+        if cell.address == a {
+            return cell.at;
+        }
+    }
+    others
+}
+
+// These cells and that of an address, unless it stands where the others do.
+fn with_cell(
+    mut cells: Vec<Cell>,
+    others: Option<LocId>,
+    a: u32,
+    at: Option<LocId>,
+) -> Result<Vec<Cell>, NoMemory>
+    requires { IsInOrder cells.items }
+    ensures { IfOk result (λ after. after.items ≡ with_cell cells.items (target_of others) a (target_of at)) }
+{
+    if same_location(at, others) {
+        return Ok(cells);
+    }
+    let place = place_for(&cells, a);
+    cells.insert(place, Cell { address: a, at })?;
+    Ok(cells)
 }

@@ -98,10 +98,10 @@ module _ (schemes : List Scheme) (m : Meanings) where
 -- ---- reclaimers that serve an observer
 
 served_fine : (o : Observer) (m : Meanings) (threads : ℕ) → Serves o m → is_well_formed o ≡ true → (h : List Event) (held : List ℕ) → Happens (schemes_of o) m h held → Allowed o threads h
-served_fine Plain m threads (inl acts) w h held made = (hazards_allowed [] m acts h held threads made).0
-served_fine Plain m threads (inr acts) w h held made = (epochs_allowed [] m acts h held threads made).0
-served_fine (Hazard f) m threads acts w h held made = (hazards_allowed (schemes_of (Hazard f)) m acts h held threads made).1 (Hazard f) (0, omega arith, refl) w
-served_fine (Epoch e l) m threads acts w h held made = (epochs_allowed (schemes_of (Epoch e l)) m acts h held threads made).1 (Epoch e l) (0, omega arith, refl) w
+served_fine Plain m threads (inl acts) w h held made = (hazards_allowed [] m acts).plain h held threads made
+served_fine Plain m threads (inr acts) w h held made = (epochs_allowed [] m acts).plain h held threads made
+served_fine (Hazard f) m threads acts w h held made = (hazards_allowed (schemes_of (Hazard f)) m acts).each_scheme h held threads made (Hazard f) (0, omega arith, refl) w
+served_fine (Epoch e l) m threads acts w h held made = (epochs_allowed (schemes_of (Epoch e l)) m acts).each_scheme h held threads made (Epoch e l) (0, omega arith, refl) w
 
 pub never_forbidden : (flow : Flow) (o : Observer) (schemes : List Scheme) (m : Meanings) (s : Schedule) → IsServed flow o schemes m → NeverForbidden flow o m schemes s
 never_forbidden flow o schemes m s served a line comes =

@@ -6,11 +6,11 @@ use Rattle.plc_auto.specs.declared.event.Event.TheVariants.{Free as Freed}
 use Rattle.plc_auto.specs.declared.observer.Observer.{Observer}
 use Rattle.plc_auto.specs.Location.{location, location_from}
 use Rattle.plc_auto.proofs.Histories.{location_append}
-use Rattle.plc_run.specs.Table.{stands}
+use Rattle.plc_run.specs.Locations.{stands}
 use Rattle.plc_mem.specs.State.{freed}
-use Rattle.plc_run.specs.Reach.{Goes, Blocks, Forbids, may_free, free_of}
+use Rattle.plc_run.specs.Reach.{Goes, Blocks, Forbids, may_free, free_of, IsUnheard, Reaches}
 use Rattle.plc_run.proofs.Rows.{may_free_same}
-use Rattle.plc_run.specs.Position.{Position, threads_of, Follows, IsUnheard, Reaches}
+use Rattle.plc_run.specs.Position.{Position, threads_of, Follows}
 
 pub unheard : (o : Observer) (p q : Position) → IsUnheard p q → Follows o p → Follows o q
 unheard o p q same follows = λ t a small.

@@ -13,7 +13,8 @@ use Rattle.std.proofs.lemmas.List.{at_drop_more}
 use Rattle.plc_auto.specs.Table.{target_of}
 use Rattle.plc_run.specs.Reach.{may_free}
 use Rattle.plc_auto.specs.Events.{thread_of, address_of}
-use Rattle.plc_run.specs.Table.{Row, has_rows, row_of, located, has_row, all_after, row_after, AddsRows}
+use Rattle.plc_run.specs.Locations.{Row, row_of, located}
+use Rattle.plc_run.specs.Table.{has_rows, has_row, all_after, row_after, AddsRows}
 use Rattle.plc_run.proofs.Stays.{on_named, advance_same, advance_stays, null_off}
 
 -- ---- one row

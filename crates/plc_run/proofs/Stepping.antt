@@ -21,14 +21,18 @@ use Rattle.plc_mem.specs.declared.cell.RaceKind.{RaceKind}
 use Rattle.plc_mem.specs.State.{State, Locals, with_locals, starting}
 use Rattle.plc_base.specs.Tables.{put_at}
 use Rattle.plc_mem.specs.Primitives.{race_of, goes, after, event_of}
-use Rattle.plc_mem.specs.Outcomes.{address_or_null}
+use Rattle.plc_mem.specs.declared.cell.Outcome.{Outcome}
+use Rattle.plc_mem.specs.declared.cell.Outcome.TheVariants.{Next}
+use Rattle.plc_mem.specs.Outcomes.{outcome_of, next_of, address_or_null}
+use Rattle.plc_run.specs.Ended.{heard}
+use Rattle.plc_run.proofs.Executing.{turned, execute_first, given_back}
 use Rattle.plc_mem.proofs.Places.{put_is_set, put_put, length_put}
 use Rattle.plc_flow.specs.declared.points.Point.{Point}
 use Rattle.plc_run.specs.Run.{Ending, Fine, Stuck, Raced, turn, recorded, execute, Configuration, point_of, taken, Moves, Run, begin, more, beginning, initialised, first_configuration}
 use Rattle.plc_flow.specs.Points.{steps_from, names_rightly}
-use Rattle.plc_run.specs.Reach.{Reached, Goes, Blocks, Forbids, Breaks, is_idle, start_op, start_from, return_to, return_from, ended_as, take_step, step_from, free_of, reach}
+use Rattle.plc_run.specs.Reach.{Reached, Goes, Blocks, Forbids, Breaks, is_idle, start_op, start_from, return_to, return_from, ended_as, take_step, step_from, free_of, reach, answer, Reaches}
 use Rattle.plc_run.specs.declared.moved.Moved.{Moved}
-use Rattle.plc_run.specs.Position.{Position, threads_of, Follows, IsOfRun, Answers, answer, Reaches}
+use Rattle.plc_run.specs.Position.{Position, threads_of, Follows, IsOfRun, Answers}
 use Rattle.plc_run.proofs.Reaching.{LeadsTo, reach_leads}
 use Rattle.plc_run.proofs.Judged.{run_allowed}
 
@@ -113,18 +117,60 @@ answers_so flow o p q move Forbids live leads to = (live, leads, to)
 answers_so flow o p q move (Breaks kind k) live leads to = (live, leads, to)
 
 run_so : (flow : Flow) (o : Observer) (p q : Position) (move : Move) (r : Reached) → IsOfRun flow o p → LeadsTo flow o (threads_of p) p.here move r → Reaches r p q → Follows o q → IsOfRun flow o q
-run_so flow o p q move (Goes d) run leads to follows = (suc run.0, subst (λ (c : Configuration). Run flow o (length c.points) (suc run.0) c) (sym to.0) (run_more flow o p.here d move run.0 run.1 leads), follows)
+run_so flow o p q move (Goes d) run leads to follows = record {
+  moves = suc run.moves;
+  run = subst (λ (c : Configuration). Run flow o (length c.points) (suc run.moves) c) (sym to.0) (run_more flow o p.here d move run.moves run.run leads);
+  follows = follows;
+}
 run_so flow o p q move Blocks run leads to follows = subst (IsOfRun flow o) (sym to) run
 run_so flow o p q move Forbids run leads to follows = subst (IsOfRun flow o) (sym to) run
-run_so flow o p q move (Breaks kind k) run leads to follows = subst (IsOfRun flow o) (sym to) run
+run_so flow o p q move (Breaks kind k) run leads to follows = subst (IsOfRun flow o) (sym to) (record { moves = run.moves; run = run.run; follows = run.follows })
 
 pub answered : (flow : Flow) (o : Observer) (p q : Position) (move : Move) (r : Moved) → p.ended ≡ false → IsOfRun flow o p → r ≡ answer (reach flow o p.here move) → Reaches (reach flow o p.here move) p q → Answers flow o p move r q
 answered flow o p q move r live run e to =
-    rw e (answers_so flow o p q move (reach flow o p.here move) live (reach_leads flow o p.here move (run_allowed flow o (threads_of p) run.0 p.here run.1)) to)
+    rw e (answers_so flow o p q move (reach flow o p.here move) live (reach_leads flow o p.here move (run_allowed flow o (threads_of p) run.moves p.here run.run)) to)
 
 pub run_answered : (flow : Flow) (o : Observer) (p q : Position) (move : Move) → IsOfRun flow o p → Reaches (reach flow o p.here move) p q → Follows o q → IsOfRun flow o q
 run_answered flow o p q move run to follows =
-    run_so flow o p q move (reach flow o p.here move) run (reach_leads flow o p.here move (run_allowed flow o (threads_of p) run.0 p.here run.1)) to follows
+    run_so flow o p q move (reach flow o p.here move) run (reach_leads flow o p.here move (run_allowed flow o (threads_of p) run.moves p.here run.run)) to follows
+
+-- ---- a step of no or one primitive
+
+-- without primitives
+pub none_taken : (c : Configuration) (t : ℕ) (addr : Option ℕ) (p : Point) (step : Step) (ps : List (Option Point)) → t < length c.points
+    → step.prims ≡ [] → ps ≡ set c.points t (Some (record p { at = step.to.0 })) → Goes (record c { points = ps }) ≡ ended_as c t p step.to.0 (taken c t addr step)
+none_taken c t addr p step ps small none points =
+    let there : Option Point = Some (record p { at = step.to.0 }) in
+    let here : ps ≡ put_at None c.points t there = points ∙ sym (put_is_set None c.points t there small) in
+    (λ i. Goes (record c { points = here i })) ∙ ap (λ ks. ended_as c t p step.to.0 (execute c.state c.history t (address_or_null addr) 0 ks)) (sym none)
+
+-- what it comes to, by the primitive's outcome
+pub one_taken : (c : Configuration) (t : ℕ) (addr : Option ℕ) (step : Step) (k : Primitive) (o : Outcome) → step.prims ≡ k ∷ [] → o ≡ outcome_of c.state t (address_or_null addr) k
+    → turned o 0 (Fine (next_of c.state t (address_or_null addr) k) (heard c.history o)) ≡ taken c t addr step
+one_taken c t addr step k o one is =
+    let a = address_or_null addr in
+    ap (λ o. turned o 0 (Fine (next_of c.state t a k) (heard c.history o))) is ∙ sym (execute_first c.state c.history t a 0 k []) ∙ ap (execute c.state c.history t a 0) (sym one)
+
+-- it went
+pub one_went : (c : Configuration) (t : ℕ) (addr : Option ℕ) (p : Point) (step : Step) (k : Primitive) (e : Option Event) (s : State) (h : List Event) (ps : List (Option Point)) → t < length c.points
+    → step.prims ≡ k ∷ [] → Next e ≡ outcome_of c.state t (address_or_null addr) k → s ≡ next_of c.state t (address_or_null addr) k → h ≡ heard c.history (Next e) → ps ≡ set c.points t (Some (record p { at = step.to.0 }))
+    → Goes (record { state = s; history = h; points = ps }) ≡ ended_as c t p step.to.0 (taken c t addr step)
+one_went c t addr p step k e s h ps small one out to longer points =
+    let there : Option Point = Some (record p { at = step.to.0 }) in
+    let here : ps ≡ put_at None c.points t there = points ∙ sym (put_is_set None c.points t there small) in
+    (λ i. Goes (record { state = to i; history = longer i; points = here i })) ∙ ap (ended_as c t p step.to.0) (one_taken c t addr step k (Next e) one out)
+
+-- it stayed, and its locals were put back
+pub restored : (v q : Position) (mid s : State) (t : ℕ) (l m : Locals) → get_or v.here.state.locals t None ≡ Some l → mid ≡ record v.here.state { locals = set v.here.state.locals t None }
+    → q ≡ record v { here = record v.here { state = mid } } → m ≡ l → s ≡ with_locals q.here.state t (Some m) → record q { here = record q.here { state = s } } ≡ v
+restored v q mid s t l m held rest same as_lent given =
+    let back : with_locals mid t (Some l) ≡ v.here.state = ap (λ s. with_locals s t (Some l)) rest ∙ given_back v.here.state t l held in
+    let state : s ≡ v.here.state = given ∙ (λ i. with_locals (same i).here.state t (Some (as_lent i))) ∙ back in
+    λ i. record { here = record { state = state i; history = (same i).here.history; points = (same i).here.points }; ended = (same i).ended; located = (same i).located }
+
+pub if_err : {A E P : Type 0} (r : Result A E) → P → OnErr r P
+if_err (Ok x) p = tt
+if_err (Err x) p = p
 
 -- ---- starts and returns in code
 
@@ -136,7 +182,7 @@ begun_threads threads (Raced kind k) c e = cc
 pub begun_run : (flow : Flow) (o : Observer) (threads : ℕ) (p : Position) → first_configuration flow threads ≡ Some p.here → Follows o p → IsOfRun flow o p × (threads_of p ≡ threads)
 begun_run flow o threads p e follows =
     let many = begun_threads threads (initialised flow threads) p.here e in
-    ((0, subst (λ n. Run flow o n 0 p.here) (sym many) (begin e), follows), many)
+    (record { moves = 0; run = subst (λ n. Run flow o n 0 p.here) (sym many) (begin e); follows = follows }, many)
 
 pub returned : (flow : Flow) (c : Configuration) (t : ℕ) (p : Point) (g : Gate) (s : State) (ps : List (Option Point)) → ConfigurationFits flow (length c.points) c → point_of c t ≡ Some p → slice_get flow.gates p.op ≡ Some g → p.at ≡ g.exit.0
     → s ≡ record c.state { locals = set c.state.locals t None } → ps ≡ set c.points t None → return_from flow c t (point_of c t) ≡ Goes (record c { state = s; points = ps })

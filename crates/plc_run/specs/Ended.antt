@@ -12,7 +12,7 @@ use Rattle.plc_run.specs.declared.execute.Ended.{Ended}
 use Rattle.plc_run.specs.declared.execute.Ended.TheVariants as ends
 use Rattle.plc_run.specs.Run.{Configuration, Ending, Fine, Stuck, Raced, point_of, recorded}
 
--- a history with the event of an outcome behind it, if there is one
+-- a history with the event of an outcome after it, if there is one
 abbrev pub heard : List Event → Outcome → List Event
 heard h (Next e) = recorded h e
 heard h Blocked = h

@@ -1,6 +1,7 @@
 -- what contracts of public calls say
 pub mod Fit
 pub mod Laws
+pub mod Locations
 pub mod Observed
 pub mod Position
 pub mod Quiet

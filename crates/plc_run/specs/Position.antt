@@ -1,5 +1,5 @@
 -- What the code keeps of a run, and what each answer of a move says.
-use Rattle.std.specs.Prelude.{◌≡◌, ℕ, ◌<◌, Bool, true, false, [], ◌∷◌, ◌++◌, length, Option, Some, None, Result, Ok, Err}
+use Rattle.std.specs.Prelude.{◌≡◌, ℕ, ◌<◌, Bool, true, false, [], ◌∷◌, ◌++◌, length, Some, None, Result, Ok, Err}
 use Rattle.plc_auto.specs.declared.event.Event.TheVariants.{Free as Freed}
 use Rattle.plc_auto.specs.declared.observer.Observer.{Observer}
 use Rattle.plc_auto.specs.Location.{location, Allowed}
@@ -10,12 +10,11 @@ use Rattle.plc_mem.specs.declared.cell.RaceKind.{RaceKind}
 use Rattle.plc_run.specs.declared.moved.Moved.{Moved}
 use Rattle.plc_run.specs.declared.moved.Moved.TheVariants as moved
 use Rattle.plc_run.specs.Run.{Configuration, Run, Moves, Races, first_configuration}
-use Rattle.plc_run.specs.Table.{Locations, stands}
-use Rattle.plc_run.specs.Reach.{Reached, Goes, Blocks, Forbids, Breaks}
+use Rattle.plc_run.specs.Locations.{Locations, stands}
 use Rattle.plc_flow.specs.declared.flow.StartFault.{StartFault}
 use Rattle.plc_flow.specs.declared.flow.StartFault.TheVariants as faults
 
--- the configuration of a run, whether a race has ended it, and where the observer stands for each thread and each address
+-- the configuration of a run, whether a race has ended it, and where each thread stands for each address by the table
 pub record Position : Type 0 where
   pub here : Configuration
   pub ended : Bool
@@ -25,13 +24,15 @@ pub record Position : Type 0 where
 abbrev pub threads_of : Position → ℕ
 threads_of p = length p.here.points
 
--- each thread and each address stands where this observer comes to by the history
+-- each thread stands for each address where this observer comes to by the history
 abbrev pub Follows : Observer → Position → Type 0
 Follows o p = (t a : ℕ) → t < threads_of p → stands p.located t a ≡ location o p.here.history t a
 
--- a run of this flow and observer leads there
-abbrev pub IsOfRun : Flow → Observer → Position → Type 0
-IsOfRun flow o p = (n : ℕ) × Run flow o (threads_of p) n p.here × Follows o p
+-- so many moves of a run of this flow and observer lead there, and the table follows the history
+pub record IsOfRun (flow : Flow) (o : Observer) (p : Position) : Type 0 where
+  pub moves : ℕ
+  pub run : Run flow o (threads_of p) moves p.here
+  pub follows : Follows o p
 
 -- an address is freed that the observer keeps
 abbrev pub IsForbidden : Observer → ℕ → Configuration → Move → Type 0
@@ -45,31 +46,6 @@ pub record HasNone (flow : Flow) (o : Observer) (threads : ℕ) (c : Configurati
   pub no_move : (d : Configuration) → Moves flow o threads c move d → ⊥
   pub no_race : (kind : RaceKind) (k : ℕ) → Races flow threads c move kind k → ⊥
   pub not_forbidden : IsForbidden o threads c move → ⊥
-
--- the answer by what the move leads to
-abbrev pub answer : Reached → Moved
-answer (Goes d) = moved.Done
-answer Blocks = moved.Blocked
-answer Forbids = moved.Forbidden
-answer (Breaks kind k) = moved.Race kind k
-
--- the position after it; where a move goes on the observer goes on too
-abbrev pub Reaches : Reached → Position → Position → Type 0
-Reaches (Goes d) p q = (q.here ≡ d) × (q.ended ≡ p.ended)
-Reaches Blocks p q = q ≡ p
-Reaches Forbids p q = q ≡ p
-Reaches (Breaks kind k) p q = q ≡ record p { ended = true }
-
--- a move of which the observer hears nothing
-pub record IsUnheard (p q : Position) : Type 0 where
-  pub threads : threads_of q ≡ threads_of p
-  pub history : q.here.history ≡ p.here.history
-  pub located : q.located ≡ p.located
-
--- where the runs begin, or nowhere
-abbrev pub Begins : Flow → Observer → ℕ → Option Position → Type 0
-Begins flow o threads (Some p) = (p.ended ≡ false) × (first_configuration flow threads ≡ Some p.here) × Follows o p
-Begins flow o threads None = first_configuration flow threads ≡ None
 
 -- what the answer of a start says
 abbrev pub Starts : Flow → ℕ → Result Position StartFault → Type 0

@@ -1,5 +1,5 @@
 -- What a move leads to, as a function: the code answers by it, and the law beside it says that it is what `Moves` and `Races` say.
-use Rattle.std.specs.Prelude.{ℕ, zero, suc, Bool, true, ◌&&◌, ◌==◌, nat_lt, if◌then◌else◌, List, [], ◌∷◌, ◌++◌, length, get_or, slice_get, Option, Some, None, is_some, is_none}
+use Rattle.std.specs.Prelude.{◌≡◌, ℕ, zero, suc, Bool, true, false, ◌&&◌, ◌==◌, nat_lt, if◌then◌else◌, List, [], ◌∷◌, ◌++◌, length, get_or, slice_get, Option, Some, None, is_some, is_none}
 use Rattle.plc_lang.specs.declared.syntax.Op.{Op}
 use Rattle.plc_lang.specs.Locals.{parameters_of}
 use Rattle.plc_auto.specs.declared.event.Event.TheVariants.{Free as Freed}
@@ -14,7 +14,10 @@ use Rattle.plc_mem.specs.declared.cell.RaceKind.{RaceKind}
 use Rattle.plc_mem.specs.State.{with_locals, freed, starting}
 use Rattle.plc_base.specs.Tables.{put_at}
 use Rattle.plc_flow.specs.declared.points.Point.{Point}
-use Rattle.plc_run.specs.Run.{Ending, Fine, Stuck, Raced, Configuration, point_of, taken}
+use Rattle.plc_run.specs.declared.moved.Moved.{Moved}
+use Rattle.plc_run.specs.declared.moved.Moved.TheVariants as moved
+use Rattle.plc_run.specs.Run.{Ending, Fine, Stuck, Raced, Configuration, point_of, taken, first_configuration}
+use Rattle.plc_run.specs.Position.{Position, threads_of, Follows}
 use Rattle.plc_flow.specs.Points.{steps_from, names_rightly}
 
 -- a configuration, none, a free that the observer forbids, or a race
@@ -28,6 +31,7 @@ pub data Reached : Type 0 where
 abbrev pub is_idle : List (Option Point) → ℕ → Bool
 is_idle ps t = nat_lt t (length ps) && is_none (get_or ps t None)
 
+-- a start of this operation, where it and its gate are there and have so many parameters
 abbrev pub start_op : Configuration → ℕ → ℕ → List ℕ → Option Op → Option Gate → Reached
 start_op c t op args None g = Blocks
 start_op c t op args (Some o) None = Blocks
@@ -40,6 +44,7 @@ start_op c t op args (Some o) (Some g) =
 abbrev pub start_from : Flow → Configuration → ℕ → ℕ → List ℕ → Reached
 start_from flow c t op args = if is_idle c.points t then start_op c t op args (slice_get flow.file.ops op) (slice_get flow.gates op) else Blocks
 
+-- what a step leads to by how its primitives end
 abbrev pub ended_as : Configuration → ℕ → Point → ℕ → Ending → Reached
 ended_as c t p to (Fine s h) = Goes (record { state = s; history = h; points = put_at None c.points t (Some (record p { at = to })) })
 ended_as c t p to Stuck = Blocks
@@ -55,6 +60,7 @@ abbrev pub step_from : Flow → Configuration → ℕ → ℕ → Option ℕ →
 step_from flow c t nth addr None = Blocks
 step_from flow c t nth addr (Some p) = take_step c t addr p (slice_get (steps_from flow p.at) nth)
 
+-- a return through this gate, if the thread stands at its exit
 abbrev pub return_to : Configuration → ℕ → Point → Option Gate → Reached
 return_to c t p None = Blocks
 return_to c t p (Some g) = if p.at == g.exit.0 then Goes (record c { state = with_locals c.state t None; points = put_at None c.points t None }) else Blocks
@@ -81,3 +87,28 @@ reach flow o c (Start t op args) = start_from flow c t op.0 args
 reach flow o c (Take t nth addr) = step_from flow c t nth addr (point_of c t)
 reach flow o c (Return t) = return_from flow c t (point_of c t)
 reach flow o c (Free a) = free_of o c a
+
+-- the answer by what the move leads to
+abbrev pub answer : Reached → Moved
+answer (Goes d) = moved.Done
+answer Blocks = moved.Blocked
+answer Forbids = moved.Forbidden
+answer (Breaks kind k) = moved.Race kind k
+
+-- the position after it; where a move goes on so does the table, which `Follows` says
+abbrev pub Reaches : Reached → Position → Position → Type 0
+Reaches (Goes d) p q = (q.here ≡ d) × (q.ended ≡ p.ended)
+Reaches Blocks p q = q ≡ p
+Reaches Forbids p q = q ≡ p
+Reaches (Breaks kind k) p q = q ≡ record p { ended = true }
+
+-- a move of which the observer hears nothing
+pub record IsUnheard (p q : Position) : Type 0 where
+  pub threads : threads_of q ≡ threads_of p
+  pub history : q.here.history ≡ p.here.history
+  pub located : q.located ≡ p.located
+
+-- where the runs begin, or nowhere
+abbrev pub Begins : Flow → Observer → ℕ → Option Position → Type 0
+Begins flow o threads (Some p) = (p.ended ≡ false) × (first_configuration flow threads ≡ Some p.here) × Follows o p
+Begins flow o threads None = first_configuration flow threads ≡ None

@@ -26,7 +26,7 @@ pub data Ending : Type 0 where
   Stuck : Ending
   Raced : RaceKind → ℕ → Ending
 
--- a history with an event behind it, if there is one
+-- a history with an event after it, if there is one
 abbrev pub recorded : List Event → Option Event → List Event
 recorded h None = h
 recorded h (Some e) = h ++ e ∷ []

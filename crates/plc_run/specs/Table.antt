@@ -1,27 +1,14 @@
--- Where the observer stands for each thread and each address, as the code keeps it beside the history: a row for each address that
--- occurred, and one for the others, which stand where the events left an address that none of them named.
-use Rattle.std.specs.Prelude.{◌≡◌, ℕ, suc, Bool, true, ◌==◌, ◌||◌, if◌then◌else◌, List, [], ◌∷◌, ◌++◌, get_or, Option, Some, None}
+-- The table of locations as the code keeps it beside the history: a row for each address that occurred, and one for the others,
+-- which stand where the events left an address that none of them named.
+use Rattle.std.specs.Prelude.{◌≡◌, ℕ, suc, Bool, true, ◌==◌, ◌||◌, List, [], ◌∷◌, ◌++◌, Option}
 use Rattle.std.specs.List.{list_any, list_all}
 use Rattle.plc_auto.specs.declared.event.Event.{Event}
 use Rattle.plc_auto.specs.declared.observer.Observer.{Observer}
-use Rattle.plc_auto.specs.Events.{thread_of, address_of}
+use Rattle.plc_auto.specs.Events.{address_of}
 use Rattle.plc_auto.specs.Location.{advance}
+use Rattle.plc_run.specs.Locations.{Row, Locations, located, stands}
 
 -- ---- rows
-
--- where each thread stands for an address
-pub record Row : Type 0 where
-  pub address : ℕ
-  pub at : List (Option ℕ)
-
--- the row of an address: its first, or that of the others
-abbrev pub row_of : List Row → List (Option ℕ) → ℕ → List (Option ℕ)
-row_of [] others a = others
-row_of (r ∷ rows) others a = if r.address == a then r.at else row_of rows others a
-
--- where thread t and address a stand
-abbrev pub located : List Row → List (Option ℕ) → ℕ → ℕ → Option ℕ
-located rows others t a = get_or (row_of rows others a) t None
 
 -- null needs no row, since no event is on it
 abbrev pub has_row : List Row → ℕ → Bool
@@ -49,16 +36,7 @@ pub record AddsRows (others : List (Option ℕ)) (rows new : List Row) : Type 0 
 
 -- ---- the table
 
--- the rows that count, and the others' row
-pub record Locations : Type 0 where
-  pub rows : List Row
-  pub others : List (Option ℕ)
-
--- where thread t and address a stand
-abbrev pub stands : Locations → ℕ → ℕ → Option ℕ
-stands l t a = located l.rows l.others t a
-
--- the locations, and all rows: behind those that count are those that were made for events to come
+-- the locations, and all rows: after those that count come those that were made for events to come
 pub record Table : Type 0 where
   pub locations : Locations
   pub all : List Row

@@ -1,13 +1,19 @@
 // A configuration of a run in code, with the table by which frees are judged. A move takes its memory
-// first: nothing that is seen of the configuration is touched before the last call that may lack
+// first: nothing that is seen of the configuration is changed before the last call that may run out of
 // memory, so that a move that is blocked or forbidden, and running out of memory, leave it as it was.
-ghost use Rattle.std.specs.Prelude.{◌≡◌, ℕ, ◌<◌, length, get_or, set, replicate, IfOk, OnOk, OnErr, None};
+// A step of no or one primitive, as most are, works on the memory itself, since a primitive that fails
+// changes nothing. A step of several works on a copy, because its first primitives may succeed and a later one not.
+ghost use Rattle.std.specs.Prelude.{◌≡◌, ℕ, ◌<◌, ◌++◌, ◌∷◌, [], Option, length, get_or, set, replicate, IfOk, OnOk, OnErr, Some, None};
+ghost use Rattle.plc_lang.specs.Shape.{PrimitiveIn};
 ghost use Rattle.plc_flow.specs.WellFormed.{FlowFits};
+ghost use Rattle.plc_mem.specs.State.{with_locals};
+ghost use Rattle.plc_mem.specs.Outcomes.{outcome_of, next_of, address_or_null, Stays};
+ghost use Rattle.plc_mem.specs.Fit.{shape, Kept};
 ghost use Rattle.plc_run.specs.Run.{point_of, taken};
-ghost use Rattle.plc_run.specs.Ended.{IsReady};
+ghost use Rattle.plc_run.specs.Ended.{IsReady, heard};
 ghost use Rattle.plc_run.specs.Fit.{ConfigurationFits};
-ghost use Rattle.plc_run.specs.Reach.{is_idle, start_from, step_from, ended_as, return_from, free_of, reach};
-ghost use Rattle.plc_run.specs.Position.{threads_of, Follows, IsOfRun, IsUnheard, Answers, Starts, Begins, answer, Reaches};
+ghost use Rattle.plc_run.specs.Reach.{Breaks, is_idle, start_from, step_from, ended_as, return_from, free_of, reach, answer, Reaches, IsUnheard, Begins};
+ghost use Rattle.plc_run.specs.Position.{threads_of, Follows, IsOfRun, Answers, Starts};
 
 use crate::execute::{Ended, execute, try_step};
 use crate::moved::Moved;
@@ -15,8 +21,8 @@ use crate::table::Table;
 use plc_auto::{Event, Observer};
 use plc_base::{NoMemory, OpId};
 use plc_flow::{Flow, Move, Point, StartFault, Step, names_rightly, nth_step};
-use plc_lang::count_parameters;
-use plc_mem::{Locals, Memory};
+use plc_lang::{Prim, count_parameters};
+use plc_mem::{Locals, Memory, Outcome, RaceKind};
 use std::alloc::Global;
 use std::marker::Model;
 
@@ -80,6 +86,16 @@ fn set_point(points: &mut Vec<Option<Point>>, t: u32, p: Option<Point>)
     ensures { points.new.items ≡ set points.old.items t p }
 {
     points[t as usize] = p;
+}
+
+// The point to which a step leads.
+fn arrival(point: Point, step: &Step) -> Point
+    ensures { result ≡ record point { at = step.now.to.0 } }
+{
+    Point {
+        op: point.op,
+        at: step.to.0,
+    }
 }
 
 impl Config {
@@ -242,8 +258,133 @@ impl Config {
         self.take(observer, step, point, t, addr)
     }
 
-    // A step is taken on a copy of the memory, which then takes the place of the memory.
+    // A step is taken: of no or one primitive in place, of several on a copy.
     fn take(
+        &mut self,
+        observer: &Observer,
+        step: &Step,
+        point: Point,
+        t: u32,
+        addr: Option<u32>,
+    ) -> Result<Moved, NoMemory>
+        requires ready { IsReady self.old.here t point step.now }
+        requires follows { Follows observer.now self.old }
+        ensures answer { let to = ended_as self.old.here t point step.now.to.0 (taken self.old.here t addr step.now)
+            in IfOk result (λ r. r ≡ answer to) }
+        ensures after { let to = ended_as self.old.here t point step.now.to.0 (taken self.old.here t addr step.now)
+            in OnOk result (Reaches to self.old self.new) }
+        ensures follows { Follows observer.now self.new }
+        ensures err { OnErr result (self.new ≡ self.old) }
+    {
+        match step.prims.as_slice() {
+            [] => Ok(self.pass(step, point, t)),
+            [prim] => self.take_in_place(observer, step, prim, point, t, addr),
+            _ => self.take_on_copy(observer, step, point, t, addr),
+        }
+    }
+
+    // A step without primitives moves its thread alone.
+    fn pass(&mut self, step: &Step, point: Point, t: u32) -> Moved
+        requires none { step.now.prims ≡ [] }
+        requires ready { IsReady self.old.here t point step.now }
+        ensures answer { (addr : Option ℕ)
+            → result ≡ answer (ended_as self.old.here t point step.now.to.0 (taken self.old.here t addr step.now)) }
+        ensures after { (addr : Option ℕ)
+            → Reaches (ended_as self.old.here t point step.now.to.0 (taken self.old.here t addr step.now)) self.old self.new }
+        ensures unheard { IsUnheard self.old self.new }
+    {
+        set_point(&mut self.points, t, Some(arrival(point, step)));
+        Moved::Done
+    }
+
+    // A step of one primitive, which works on the memory itself.
+    fn take_in_place(
+        &mut self,
+        observer: &Observer,
+        step: &Step,
+        prim: &Prim,
+        point: Point,
+        t: u32,
+        addr: Option<u32>,
+    ) -> Result<Moved, NoMemory>
+        requires one { step.now.prims ≡ prim.now ∷ [] }
+        requires ready { IsReady self.old.here t point step.now }
+        requires follows { Follows observer.now self.old }
+        ensures answer { let to = ended_as self.old.here t point step.now.to.0 (taken self.old.here t addr step.now)
+            in IfOk result (λ r. r ≡ answer to) }
+        ensures after { let to = ended_as self.old.here t point step.now.to.0 (taken self.old.here t addr step.now)
+            in OnOk result (Reaches to self.old self.new) }
+        ensures follows { Follows observer.now self.new }
+        ensures err { OnErr result (self.new ≡ self.old) }
+    {
+        let Some(mut me) = self.memory.take(t) else {
+            return Ok(Moved::Blocked);
+        };
+        let done = self.act(observer, prim, &mut me, t, addr);
+        self.memory.put(t, me);
+        match done? {
+            Outcome::Next(_) => {
+                set_point(&mut self.points, t, Some(arrival(point, step)));
+                Ok(Moved::Done)
+            }
+            Outcome::Blocked => Ok(Moved::Blocked),
+            Outcome::Race(kind) => Ok(self.race(kind, 0)),
+        }
+    }
+
+    // One primitive of a thread that lends its locals. The table's row and the history's place are had
+    // before the primitive changes anything.
+    fn act(
+        &mut self,
+        observer: &Observer,
+        prim: &Prim,
+        me: &mut Locals,
+        t: u32,
+        addr: Option<u32>,
+    ) -> Result<Outcome, NoMemory>
+        requires named { PrimitiveIn (shape self.old.here.state me.old) prim.now }
+        requires follows { Follows observer.now self.old }
+        ensures outcome { let s = with_locals self.old.here.state t (Some me.old)
+            in IfOk result (λ o. o ≡ outcome_of s t (address_or_null addr) prim.now) }
+        ensures next { let s = with_locals self.old.here.state t (Some me.old)
+            in OnOk result (with_locals self.new.here.state t (Some me.new) ≡ next_of s t (address_or_null addr) prim.now) }
+        ensures kept { Kept self.old.here.state me.old self.new.here.state me.new }
+        ensures history { IfOk result (λ o. self.new.here.history ≡ heard self.old.here.history o) }
+        ensures points { self.new.here.points ≡ self.old.here.points }
+        ensures ended { self.new.ended ≡ self.old.ended }
+        ensures follows { Follows observer.now self.new }
+        ensures unchanged { IfOk result (λ o. Stays o → (self.new ≡ self.old) × (me.new ≡ me.old)) }
+        ensures err { OnErr result ((self.new ≡ self.old) × (me.new ≡ me.old)) }
+    {
+        match self.memory.outcome(prim, me, t, addr) {
+            Outcome::Next(Some(event)) => {
+                self.table.admit(&[event])?;
+                self.history.reserve(1)?;
+                self.memory.apply(prim, me, t, addr)?;
+                self.history.push(event)?;
+                self.table.hear(observer, &[event]);
+                Ok(Outcome::Next(Some(event)))
+            }
+            Outcome::Next(None) => {
+                self.memory.apply(prim, me, t, addr)?;
+                Ok(Outcome::Next(None))
+            }
+            Outcome::Blocked => Ok(Outcome::Blocked),
+            Outcome::Race(kind) => Ok(Outcome::Race(kind)),
+        }
+    }
+
+    // A race ends the run.
+    fn race(&mut self, kind: RaceKind, prim: u16) -> Moved
+        ensures answer { result ≡ answer (Breaks kind prim) }
+        ensures after { Reaches (Breaks kind prim) self.old self.new }
+    {
+        self.ended = true;
+        Moved::Race { kind, prim }
+    }
+
+    // A step on a copy of the memory, which then takes the place of the memory.
+    fn take_on_copy(
         &mut self,
         observer: &Observer,
         step: &Step,
@@ -263,23 +404,29 @@ impl Config {
         let tried = try_step(self.alloc, &self.memory, step, t, addr)?;
         match tried.ended {
             Ended::Stuck => Ok(Moved::Blocked),
-            Ended::Raced { kind, prim } => {
-                self.ended = true;
-                Ok(Moved::Race { kind, prim })
-            }
+            Ended::Raced { kind, prim } => Ok(self.race(kind, prim)),
             Ended::Fine => {
-                self.table.admit(&tried.events)?;
-                self.history.extend_from_slice(&tried.events)?;
-                self.table.hear(observer, &tried.events);
+                self.hear(observer, &tried.events)?;
                 self.memory = tried.memory;
-                let to = Point {
-                    op: point.op,
-                    at: step.to.0,
-                };
-                set_point(&mut self.points, t, Some(to));
+                set_point(&mut self.points, t, Some(arrival(point, step)));
                 Ok(Moved::Done)
             }
         }
+    }
+
+    // Puts events after the history, and moves the table by them. The table's rows are had first.
+    fn hear(&mut self, observer: &Observer, events: &[Event]) -> Result<(), NoMemory>
+        requires follows { Follows observer.now self.old }
+        ensures here { OnOk result (self.new.here
+            ≡ record self.old.here { history = self.old.here.history ++ events.now }) }
+        ensures ended { self.new.ended ≡ self.old.ended }
+        ensures follows { Follows observer.now self.new }
+        ensures err { OnErr result (self.new ≡ self.old) }
+    {
+        self.table.admit(events)?;
+        self.history.extend_from_slice(events)?;
+        self.table.hear(observer, events);
+        Ok(())
     }
 
     // A return: the thread's locals are gone.
@@ -318,10 +465,7 @@ impl Config {
         if !self.table.may_free(observer, threads, a) {
             return Ok(Moved::Forbidden);
         }
-        let events = [Event::Free { a }];
-        self.table.admit(&events)?;
-        self.history.extend_from_slice(&events)?;
-        self.table.hear(observer, &events);
+        self.hear(observer, &[Event::Free { a }])?;
         self.memory.free(a);
         Ok(Moved::Done)
     }

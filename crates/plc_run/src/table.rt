@@ -9,7 +9,8 @@ ghost use Rattle.plc_auto.specs.Location.{is_this, step_by, advance, location_fr
 ghost use Rattle.plc_auto.specs.declared.event.Event.TheVariants.{Free as Freed};
 ghost use Rattle.plc_run.specs.Reach.{may_free};
 ghost use Rattle.plc_auto.specs.Events.{thread_of, address_of};
-ghost use Rattle.plc_run.specs.Table.{has_row, has_rows, row_of, located, all_after, row_after, AddsRows, stands, IsReadyFor};
+ghost use Rattle.plc_run.specs.Locations.{row_of, located, stands};
+ghost use Rattle.plc_run.specs.Table.{has_row, has_rows, all_after, row_after, AddsRows, IsReadyFor};
 
 use plc_auto::{EvKind, Event, Observer};
 use plc_base::{LocId, NoMemory};
@@ -26,7 +27,7 @@ struct Row {
 impl Model for Row {
     ghost use Rattle.std.specs.Prelude.{map};
     ghost use Rattle.plc_auto.specs.Table.{target_of};
-    ghost use Rattle.plc_run.specs.Table.{Row};
+    ghost use Rattle.plc_run.specs.Locations.{Row};
 
     ghost Value = { Row };
 

@@ -1,5 +1,5 @@
 -- What each symbol of the machine stands for: the tree that it is read into, and the tokens of that tree.
-use Rattle.std.proofs.Common.{ℕ, Bool, Option, List, ◌∷◌}
+use Rattle.std.proofs.Common.{ℕ, List, ◌∷◌}
 use Rattle.plc_lex.specs.declared.token.TokenKind.{TokenKind}
 use Rattle.plc_lex.specs.declared.token.TokenKind.TheVariants.{Name, Number, Symbol}
 use Rattle.plc_lex.specs.declared.token.Keyword.TheVariants as words
@@ -7,110 +7,75 @@ use Rattle.plc_syntax.specs.declared.expected.Expected.{Expected}
 use Rattle.plc_syntax.specs.declared.expected.Expected.TheVariants as expected
 use Rattle.plc_syntax.specs.declared.expected.Part.{Part as PartName}
 use Rattle.plc_syntax.specs.declared.expected.Part.TheVariants as parts
-use Rattle.plc_syntax.specs.Trees.{Text, each_then, maybe_then, word_if_then, comma_name_then, FieldTree, field_then, shared_then, FunctionTree, function_then, WatchTree, scheme_then, watch_then, GhostKindTree, ghost_kind_then, GhostTree, ghost_then, dot_name_then, PlaceTree, place_then, AtomTree, atom_then, ValueTree, value_then, GhostValueTree, ghost_value_then, InitialTree, initial_then, init_then, TestTree, test_then, name_or_null_then, ConditionTree, condition_then, PrimitiveTree, primitive_line_then, ArgumentTree, argument_then, during_then, BlockTree, ElseTree, OrTree, statements_then, else_then, or_then, parameters_then, OpTree, op_then, TermTree, term_then, FlagTree, flag_then, LiteralTree, literal_then, BoundTree, bound_then, or_literal_then, ItemTree, item_then, depth_then, OutlineTree, outline_then, FileTree, file_then}
-use Rattle.plc_syntax.proofs.Tails.{SetTail, set_tail_then, FieldTail, field_tail_then, AssignmentTail, assignment_tail_then, NamedTail, named_tail_then, ComparisonTail, comparison_tail_then, ConditionTail, condition_tail_then, EqualityTail, equality_tail_then, block_then, second_block_then}
+use Rattle.plc_syntax.specs.Trees.{Text, each_then, maybe_then, word_if_then, comma_name_then, field_then, shared_then, function_then, scheme_then, watch_then, ghost_kind_then, ghost_then, dot_name_then, place_then, atom_then, value_then, ghost_value_then, initial_then, init_then, test_then, name_or_null_then, condition_then, primitive_line_then, argument_then, during_then, statements_then, else_then, or_then, parameters_then, op_then, term_then, flag_then, literal_then, bound_then, or_literal_then, item_then, depth_then, outline_then, file_then}
+use Rattle.plc_syntax.proofs.Tails.{set_tail_then, field_tail_then, assignment_tail_then, named_tail_then, comparison_tail_then, condition_tail_then, equality_tail_then, block_then, second_block_then}
+
+-- what a part is read into, and how that is spelled before other tokens
+pub record Spelling : Type 1 where
+  pub Form : Type 0
+  pub tokens : Form → List TokenKind → List TokenKind
+
+abbrev by : {A : Type 0} → (A → List TokenKind → List TokenKind) → Spelling
+by {A} tokens = record { Form = A; tokens = tokens }
+
+-- the spelling of each part
+abbrev part : PartName → Spelling
+part parts.File = by file_then
+part parts.Fields = by (each_then field_then)
+part parts.Pointers = by (each_then shared_then)
+part parts.Functions = by (each_then function_then)
+part parts.PointerWord = by (word_if_then words.Ptr)
+part parts.Use = by (maybe_then watch_then)
+part parts.Scheme = by scheme_then
+part parts.Ghosts = by (each_then ghost_then)
+part parts.GhostKind = by ghost_kind_then
+part parts.MoreNames = by (each_then comma_name_then)
+part parts.Init = by (maybe_then init_then)
+part parts.InitialSets = by (each_then initial_then)
+part parts.SetTail = by set_tail_then
+part parts.Value = by value_then
+part parts.DotName = by (maybe_then dot_name_then)
+part parts.Atom = by atom_then
+part parts.GhostValue = by ghost_value_then
+part parts.Ops = by (each_then op_then)
+part parts.Parameters = by parameters_then
+part parts.Statements = by statements_then
+part parts.Block = by block_then
+part parts.Else = by else_then
+part parts.SecondBlock = by second_block_then
+part parts.FurtherBlocks = by or_then
+part parts.NamedTail = by named_tail_then
+part parts.FieldTail = by field_tail_then
+part parts.Argument = by argument_then
+part parts.During = by (maybe_then during_then)
+part parts.Primitives = by (each_then primitive_line_then)
+part parts.AssignmentTail = by assignment_tail_then
+part parts.Place = by place_then
+part parts.Test = by test_then
+part parts.Comparison = by comparison_tail_then
+part parts.Condition = by condition_then
+part parts.ConditionTail = by condition_tail_then
+part parts.ActiveWord = by (word_if_then words.Active)
+part parts.NameOrNull = by name_or_null_then
+part parts.Outline = by (maybe_then outline_then)
+part parts.WholeOutline = by outline_then
+part parts.Depth = by (maybe_then depth_then)
+part parts.Items = by (each_then item_then)
+part parts.Bound = by bound_then
+part parts.SecondName = by (maybe_then comma_name_then)
+part parts.OrLiterals = by (each_then or_literal_then)
+part parts.Literal = by literal_then
+part parts.Flag = by flag_then
+part parts.Equality = by equality_tail_then
+part parts.Term = by term_then
 
 -- the tree of each part
 abbrev pub PartTree : PartName → Type 0
-PartTree parts.File = FileTree
-PartTree parts.Fields = List FieldTree
-PartTree parts.Pointers = List Text
-PartTree parts.Functions = List FunctionTree
-PartTree parts.PointerWord = Bool
-PartTree parts.Use = Option WatchTree
-PartTree parts.Scheme = WatchTree
-PartTree parts.Ghosts = List GhostTree
-PartTree parts.GhostKind = GhostKindTree
-PartTree parts.MoreNames = List Text
-PartTree parts.Init = Option (List InitialTree)
-PartTree parts.InitialSets = List InitialTree
-PartTree parts.SetTail = SetTail
-PartTree parts.Value = ValueTree
-PartTree parts.DotName = Option Text
-PartTree parts.Atom = AtomTree
-PartTree parts.GhostValue = GhostValueTree
-PartTree parts.Ops = List OpTree
-PartTree parts.Parameters = List Text
-PartTree parts.Statements = BlockTree
-PartTree parts.Block = BlockTree
-PartTree parts.Else = ElseTree
-PartTree parts.SecondBlock = BlockTree
-PartTree parts.FurtherBlocks = OrTree
-PartTree parts.NamedTail = NamedTail
-PartTree parts.FieldTail = FieldTail
-PartTree parts.Argument = ArgumentTree
-PartTree parts.During = Option Text
-PartTree parts.Primitives = List PrimitiveTree
-PartTree parts.AssignmentTail = AssignmentTail
-PartTree parts.Place = PlaceTree
-PartTree parts.Test = TestTree
-PartTree parts.Comparison = ComparisonTail
-PartTree parts.Condition = ConditionTree
-PartTree parts.ConditionTail = ConditionTail
-PartTree parts.ActiveWord = Bool
-PartTree parts.NameOrNull = Option Text
-PartTree parts.Outline = Option OutlineTree
-PartTree parts.WholeOutline = OutlineTree
-PartTree parts.Depth = Option ℕ
-PartTree parts.Items = List ItemTree
-PartTree parts.Bound = BoundTree
-PartTree parts.SecondName = Option Text
-PartTree parts.OrLiterals = List LiteralTree
-PartTree parts.Literal = LiteralTree
-PartTree parts.Flag = FlagTree
-PartTree parts.Equality = EqualityTail
-PartTree parts.Term = TermTree
+PartTree p = (part p).Form
 
 -- the tokens of a tree of each part, followed by others
 abbrev pub part_then : (p : PartName) → PartTree p → List TokenKind → List TokenKind
-part_then parts.File = file_then
-part_then parts.Fields = each_then field_then
-part_then parts.Pointers = each_then shared_then
-part_then parts.Functions = each_then function_then
-part_then parts.PointerWord = word_if_then words.Ptr
-part_then parts.Use = maybe_then watch_then
-part_then parts.Scheme = scheme_then
-part_then parts.Ghosts = each_then ghost_then
-part_then parts.GhostKind = ghost_kind_then
-part_then parts.MoreNames = each_then comma_name_then
-part_then parts.Init = maybe_then init_then
-part_then parts.InitialSets = each_then initial_then
-part_then parts.SetTail = set_tail_then
-part_then parts.Value = value_then
-part_then parts.DotName = maybe_then dot_name_then
-part_then parts.Atom = atom_then
-part_then parts.GhostValue = ghost_value_then
-part_then parts.Ops = each_then op_then
-part_then parts.Parameters = parameters_then
-part_then parts.Statements = statements_then
-part_then parts.Block = block_then
-part_then parts.Else = else_then
-part_then parts.SecondBlock = second_block_then
-part_then parts.FurtherBlocks = or_then
-part_then parts.NamedTail = named_tail_then
-part_then parts.FieldTail = field_tail_then
-part_then parts.Argument = argument_then
-part_then parts.During = maybe_then during_then
-part_then parts.Primitives = each_then primitive_line_then
-part_then parts.AssignmentTail = assignment_tail_then
-part_then parts.Place = place_then
-part_then parts.Test = test_then
-part_then parts.Comparison = comparison_tail_then
-part_then parts.Condition = condition_then
-part_then parts.ConditionTail = condition_tail_then
-part_then parts.ActiveWord = word_if_then words.Active
-part_then parts.NameOrNull = name_or_null_then
-part_then parts.Outline = maybe_then outline_then
-part_then parts.WholeOutline = outline_then
-part_then parts.Depth = maybe_then depth_then
-part_then parts.Items = each_then item_then
-part_then parts.Bound = bound_then
-part_then parts.SecondName = maybe_then comma_name_then
-part_then parts.OrLiterals = each_then or_literal_then
-part_then parts.Literal = literal_then
-part_then parts.Flag = flag_then
-part_then parts.Equality = equality_tail_then
-part_then parts.Term = term_then
+part_then p = (part p).tokens
 
 -- the same for all that may be expected
 abbrev pub Tree : Expected → Type 0

@@ -1,6 +1,7 @@
 use Rattle.std.proofs.Common.{refl, arith}
 use Rattle.std.proofs.lemmas.List.FromFn.{length-range_with_len}
-use Rattle.plc_oblig.specs.Obligations.{others_at, below}
+use Rattle.plc_setting.specs.Setting.{below}
+use Rattle.plc_oblig.specs.Obligations.{others_at}
 use Rattle.plc_oblig.proofs.Walking.{count_more, numbered_length, below_at, below_lt, none_left}
 use Rattle.plc_oblig.proofs.counting.count_points.Goals as goal
 

@@ -1,5 +1,6 @@
 use Rattle.std.proofs.Common.{◌≡◌, ◌+◌, ◌*◌, ◌≤◌, length, drop}
-use Rattle.plc_oblig.specs.Obligations.{parts_from, others_at, below}
+use Rattle.plc_setting.specs.Setting.{below}
+use Rattle.plc_oblig.specs.Obligations.{parts_from, others_at}
 use Rattle.plc_oblig.proofs.counting.count_points.Given as goal
 
 abbrev pub invariant-loop-p : goal.invariant-loop-p

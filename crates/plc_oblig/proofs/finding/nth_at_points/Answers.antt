@@ -1,7 +1,8 @@
 use Rattle.std.proofs.Common.{arith, refl}
 use Rattle.std.proofs.lemmas.List.FromFn.{length-range_with_len}
-use Rattle.plc_oblig.specs.declared.obligations.Obligation.TheVariants.{Other}
-use Rattle.plc_oblig.specs.Obligations.{others_at, below, step_id, point_id}
+use Rattle.plc_setting.specs.declared.obligations.Obligation.TheVariants.{Other}
+use Rattle.plc_setting.specs.Setting.{below}
+use Rattle.plc_oblig.specs.Obligations.{others_at, step_id, point_id}
 use Rattle.plc_oblig.proofs.Walking.{walk_found, walk_step, walk_end, slice_starts, numbered_length, below_at, below_lt}
 use Rattle.plc_oblig.proofs.finding.nth_at_points.Goals as goal
 

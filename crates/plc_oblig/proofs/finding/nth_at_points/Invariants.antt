@@ -1,5 +1,6 @@
 use Rattle.std.proofs.Common.{drop}
-use Rattle.plc_oblig.specs.Obligations.{parts_from, others_at, below}
+use Rattle.plc_setting.specs.Setting.{below}
+use Rattle.plc_oblig.specs.Obligations.{parts_from, others_at}
 use Rattle.plc_oblig.proofs.Walking.{Walk}
 use Rattle.plc_oblig.proofs.finding.nth_at_points.Given as goal
 

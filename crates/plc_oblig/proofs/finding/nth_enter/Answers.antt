@@ -1,6 +1,6 @@
 use Rattle.std.proofs.Common.{get_or, arith}
 use Rattle.plc_flow.specs.declared.flow.Gate.{Gate}
-use Rattle.plc_oblig.specs.declared.obligations.Obligation.TheVariants.{Enter}
+use Rattle.plc_setting.specs.declared.obligations.Obligation.TheVariants.{Enter}
 use Rattle.plc_oblig.specs.Obligations.{enters, enters_of, op_id}
 use Rattle.plc_oblig.proofs.Walking.{any_default, no_gate, walk_found, walk_step, slice_starts, numbered_length}
 use Rattle.plc_oblig.proofs.finding.nth_enter.Goals as goal

@@ -1,5 +1,5 @@
 use Rattle.std.proofs.Common.{◌≡◌, ◌+◌, arith}
-use Rattle.plc_oblig.specs.declared.obligations.Obligation.TheVariants.{Own}
+use Rattle.plc_setting.specs.declared.obligations.Obligation.TheVariants.{Own}
 use Rattle.plc_oblig.specs.Obligations.{owns_of, own_count, step_id}
 use Rattle.plc_oblig.proofs.Walking.{walk_found, walk_step, slice_starts, numbered_length}
 use Rattle.plc_oblig.proofs.finding.nth_own.Goals as goal

@@ -1,5 +1,5 @@
 use Rattle.std.proofs.Common.{arith}
-use Rattle.plc_oblig.specs.declared.obligations.Obligation.TheVariants.{Start}
+use Rattle.plc_setting.specs.declared.obligations.Obligation.TheVariants.{Start}
 use Rattle.plc_oblig.proofs.Walking.{slice_starts, numbered_length}
 use Rattle.plc_oblig.proofs.finding.nth_start.Goals as goal
 

@@ -1,7 +1,8 @@
 use Rattle.std.proofs.Common.{◌≡◌, ℕ, true, map, drop}
 use Rattle.plc_auto.specs.Table.{target_of}
 use Rattle.plc_auto.specs.Location.{location_from}
-use Rattle.plc_run.specs.Table.{located, has_rows}
+use Rattle.plc_run.specs.Locations.{located}
+use Rattle.plc_run.specs.Table.{has_rows}
 use Rattle.plc_run.proofs.table.hear_all.Given as goal
 
 abbrev pub invariant-loop-event : goal.invariant-loop-event

@@ -1,29 +1,30 @@
-use Rattle.std.proofs.Common.{subst, Some, sym, ap, ◌∙◌}
+use Rattle.std.proofs.Common.{Some, sym, subst, ap, ◌∙◌}
 use Rattle.plc_mem.specs.State.{with_locals}
-use Rattle.plc_mem.specs.Outcomes.{outcome_of, next_of}
-use Rattle.plc_mem.specs.declared.cell.Outcome.TheVariants.{Next}
-use Rattle.plc_mem.proofs.Outcomes.{raced, blocked, went}
+use Rattle.plc_mem.specs.Primitives.{goes, after}
+use Rattle.plc_mem.specs.Outcomes.{address_or_null}
+use Rattle.plc_mem.proofs.Outcomes.{has_gone, has_stayed}
 use Rattle.plc_mem.specs.Coherence.{IsCoherent}
 use Rattle.plc_mem.proofs.Coherence.{coherence}
 use Rattle.plc_mem.proofs.memory.Memory.apply.Goals as goal
 
-pub returns-in-Some-clause-outcome : goal.returns-in-Some-clause-outcome
-returns-in-Some-clause-outcome c = (raced (with_locals c.args.self.now c.args.t (Some c.args.me.now)) c.args.t _ c.args.prim.now c.in-Some.kind (sym (c.race.ensures c.args.t) ∙ c.in-Some.is)).0
+pub change-requires-clause-goes : goal.change-requires-clause-goes
+change-requires-clause-goes c =
+    let s = with_locals c.args.self.now c.args.t (Some c.args.me.now) in
+    let gone = has_gone s c.args.t (address_or_null c.args.addr) c.args.prim.now c.in-Next.event (sym c.in-Next.is ∙ c.outcome.ensures) in
+    (c.args.t, ap (λ a. goes s c.args.t a c.args.prim.now) c.unwrap_or.ensures ∙ gone.unblocked)
 
-pub returns-then-not-goes-clause-outcome : goal.returns-then-not-goes-clause-outcome
-returns-then-not-goes-clause-outcome c = (blocked (with_locals c.args.self.now c.args.t (Some c.args.me.now)) c.args.t c.unwrap_or-a.result c.args.prim.now (sym (c.race.ensures c.args.t) ∙ c.in_default.is) (sym (c.goes.ensures c.args.t) ∙ c.if-not-goes.true)).0 ∙ ap (λ a. outcome_of (with_locals c.args.self.now c.args.t (Some c.args.me.now)) c.args.t a c.args.prim.now) c.unwrap_or-a.ensures
+pub returns-in_ok-change-in-Next-clause-next : goal.returns-in_ok-change-in-Next-clause-next
+returns-in_ok-change-in-Next-clause-next c =
+    let s = with_locals c.args.self.now c.args.t (Some c.args.me.now) in
+    let gone = has_gone s c.args.t (address_or_null c.args.addr) c.args.prim.now c.in-Next.event (sym c.in-Next.is ∙ c.outcome.ensures) in
+    c.in_ok-change-in-Next.ensures.after c.args.t ∙ ap (λ a. after s c.args.t a c.args.prim.now) c.unwrap_or.ensures ∙ gone.next
 
-pub returns-clause-outcome : goal.returns-clause-outcome
-returns-clause-outcome c = ap Next c.event-event.ensures ∙ (went (with_locals c.args.self.now c.args.t (Some c.args.me.now)) c.args.t c.unwrap_or-a.result c.args.prim.now (sym (c.race.ensures c.args.t) ∙ c.in_default.is) (sym (c.goes.ensures c.args.t) ∙ c.if-not-goes.false)).0 ∙ ap (λ a. outcome_of (with_locals c.args.self.now c.args.t (Some c.args.me.now)) c.args.t a c.args.prim.now) c.unwrap_or-a.ensures
+pub returns-in_ok-change-in-Next-clause-coherent : goal.returns-in_ok-change-in-Next-clause-coherent
+returns-in_ok-change-in-Next-clause-coherent c = λ k.
+    subst IsCoherent (sym (returns-in_ok-change-in-Next-clause-next c)) (coherence.by_any_primitive (with_locals c.args.self.now c.args.t (Some c.args.me.now)) c.args.t (address_or_null c.args.addr) c.args.prim.now k)
 
-pub returns-in-Some-clause-next : goal.returns-in-Some-clause-next
-returns-in-Some-clause-next c = (raced (with_locals c.args.self.now c.args.t (Some c.args.me.now)) c.args.t _ c.args.prim.now c.in-Some.kind (sym (c.race.ensures c.args.t) ∙ c.in-Some.is)).1
+pub returns-in-Blocked-clause-next : goal.returns-in-Blocked-clause-next
+returns-in-Blocked-clause-next c = has_stayed (with_locals c.args.self.now c.args.t (Some c.args.me.now)) c.args.t (address_or_null c.args.addr) c.args.prim.now _ tt (sym c.in-Blocked.is ∙ c.outcome.ensures)
 
-pub returns-then-not-goes-clause-next : goal.returns-then-not-goes-clause-next
-returns-then-not-goes-clause-next c = (blocked (with_locals c.args.self.now c.args.t (Some c.args.me.now)) c.args.t c.unwrap_or-a.result c.args.prim.now (sym (c.race.ensures c.args.t) ∙ c.in_default.is) (sym (c.goes.ensures c.args.t) ∙ c.if-not-goes.true)).1 ∙ ap (λ a. next_of (with_locals c.args.self.now c.args.t (Some c.args.me.now)) c.args.t a c.args.prim.now) c.unwrap_or-a.ensures
-
-pub returns-clause-next : goal.returns-clause-next
-returns-clause-next c = c.in_ok-change.ensures.after c.args.t ∙ (went (with_locals c.args.self.now c.args.t (Some c.args.me.now)) c.args.t c.unwrap_or-a.result c.args.prim.now (sym (c.race.ensures c.args.t) ∙ c.in_default.is) (sym (c.goes.ensures c.args.t) ∙ c.if-not-goes.false)).1 ∙ ap (λ a. next_of (with_locals c.args.self.now c.args.t (Some c.args.me.now)) c.args.t a c.args.prim.now) c.unwrap_or-a.ensures
-
-pub returns-clause-coherent : goal.returns-clause-coherent
-returns-clause-coherent c = λ k. subst IsCoherent (sym (c.in_ok-change.ensures.after c.args.t)) (coherence.by_primitive (with_locals c.args.self.now c.args.t (Some c.args.me.now)) c.args.t c.unwrap_or-a.result c.args.prim.now (sym (c.race.ensures c.args.t) ∙ c.in_default.is) (sym (c.goes.ensures c.args.t) ∙ c.if-not-goes.false) k)
+pub returns-in-Race-clause-next : goal.returns-in-Race-clause-next
+returns-in-Race-clause-next c = has_stayed (with_locals c.args.self.now c.args.t (Some c.args.me.now)) c.args.t (address_or_null c.args.addr) c.args.prim.now _ tt (sym c.in-Race.is ∙ c.outcome.ensures)

@@ -4,4 +4,4 @@ use Rattle.plc_mem.proofs.memory.Memory.field.Goals as goal
 
 pub returns : goal.returns
 unfolding at
-returns c = rw (c.cell_in.ensures, c.deref.ensures.value, ← c.self.view_is) refl
+returns c = rw (c.cell.ensures, ← c.self.view_is) refl

@@ -4,4 +4,4 @@ use Rattle.plc_mem.proofs.memory.Memory.field_value.Goals as goal
 
 pub returns : goal.returns
 unfolding field_value
-returns c = rw (c.value_in.ensures, c.deref.ensures.value, ← c.self.view_is) refl
+returns c = rw (c.value.ensures, ← c.self.view_is) refl

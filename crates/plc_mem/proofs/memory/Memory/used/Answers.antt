@@ -4,4 +4,4 @@ use Rattle.plc_mem.proofs.memory.Memory.used.Goals as goal
 
 pub returns : goal.returns
 unfolding is_used
-returns c = rw (c.holds_node.ensures, c.deref.ensures.value, ← c.self.view_is) refl
+returns c = rw (c.holds.ensures, ← c.self.view_is) refl

@@ -1,6 +1,5 @@
 use Rattle.std.proofs.Common.{◌≡◌, IfOk, OnOk, subst, sym, ap, ◌∙◌}
-use Rattle.plc_run.specs.Reach.{Reached, reach, start_from}
-use Rattle.plc_run.specs.Position.{answer, Reaches}
+use Rattle.plc_run.specs.Reach.{Reached, reach, start_from, answer, Reaches}
 use Rattle.plc_run.proofs.Follow.{unheard}
 use Rattle.plc_run.proofs.Stepping.{reach_start, reach_take, reach_return, reach_free}
 use Rattle.plc_run.proofs.config.Config.advance.Goals as goal

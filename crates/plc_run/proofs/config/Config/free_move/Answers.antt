@@ -1,11 +1,11 @@
-use Rattle.std.proofs.Common.{◌≡◌, ◌∷◌, [], length, true, false, refl, sym, ap, ◌∙◌, subst}
-use Rattle.plc_auto.specs.declared.event.Event.TheVariants.{Free as Freed}
-use Rattle.plc_auto.specs.Location.{location_from}
-use Rattle.plc_run.specs.Reach.{Reached, may_free}
-use Rattle.plc_run.specs.Table.{Locations, stands}
-use Rattle.plc_run.specs.Position.{Position, answer, Reaches}
+use Rattle.std.proofs.Common.{◌≡◌, length, true, false, refl, sym, ap, ◌∙◌, subst}
+use Rattle.plc_mem.specs.State.{freed}
+use Rattle.plc_run.specs.Run.{Configuration}
+use Rattle.plc_run.specs.Reach.{Reached, may_free, answer, Reaches}
+use Rattle.plc_run.specs.Locations.{stands}
+use Rattle.plc_run.specs.Position.{Position}
 use Rattle.plc_run.specs.contracts.config.Config.{the_view}
-use Rattle.plc_run.proofs.Follow.{heard, free_forbidden, free_goes, free_done}
+use Rattle.plc_run.proofs.Follow.{free_forbidden, free_goes, free_done}
 use Rattle.plc_run.proofs.config.Config.free_move.Goals as goal
 
 pub returns-then-not-may_free-clause-answer : goal.returns-then-not-may_free-clause-answer
@@ -45,15 +45,9 @@ returns-clause-after c =
     let a = c.args.a in
     let many = c.len-threads.ensures ∙ c.self.inside.points.ok.0 in
     let frees : may_free o (λ t. stands v.located t a) a (length v.here.points) ≡ true = sym (ap (may_free o (λ t. stands v.located t a) a) many) ∙ sym c.may_free.ensures ∙ c.if-not-may_free.false in
-    let follows = rw (← c.self.view_is) at c.requires.follows in
-    let q : Position = record { here = record { state = c.free.new.self; history = c.extend_from_slice.new.self.items; points = v.here.points }; ended = v.ended; located = c.hear.new.self.locations } in
-    rw (← c.self.view_is) (free_done o v q a follows c.if-a-eq0.false frees c.free.ensures.freed c.in_ok-extend_from_slice.ensures.items refl refl)
-
-pub returns-clause-follows : goal.returns-clause-follows
-returns-clause-follows c =
-    let v = the_view c.self.inside in
-    let o = c.args.observer.now in
-    let follows = rw (← c.self.view_is) at c.requires.follows in
-    let q : Position = record { here = record { state = c.free.new.self; history = c.extend_from_slice.new.self.items; points = v.here.points }; ended = v.ended; located = c.hear.new.self.locations } in
-    heard o v q (Freed c.args.a ∷ []) refl c.in_ok-extend_from_slice.ensures.items
-    (λ t b. c.hear.ensures t b ∙ ap (λ (l : Locations). location_from o t b (stands l t b) (Freed c.args.a ∷ [])) c.in_ok-admit.ensures.same) follows
+    let p = c.args.self.now in
+    let may = subst (λ (p : Position). may_free o (λ t. stands p.located t a) a (length p.here.points) ≡ true) c.self.view_is frees in
+    let here = ap (λ (q : Position). q.here) c.self-2.view_is ∙ c.in_ok-hear.ensures.here in
+    let q : Position = record (the_view c.self-2.inside) { here = record (the_view c.self-2.inside).here { state = c.free.new.self } } in
+    let state = c.free.ensures.freed ∙ ap (λ (x : Configuration). freed x.state a) here in
+    free_done o p q a c.requires.follows c.if-a-eq0.false may state (ap (λ (x : Configuration). x.history) here) (ap (λ (x : Configuration). x.points) here) (ap (λ (q : Position). q.ended) c.self-2.view_is ∙ c.hear.ensures.ended)

@@ -1,7 +1,6 @@
 use Rattle.std.proofs.Common.{None, get_or, refl, sym, ap, ◌∙◌, subst}
 use Rattle.std.specs.Option.{option_copied}
-use Rattle.plc_run.specs.Reach.{Reached}
-use Rattle.plc_run.specs.Position.{Reaches}
+use Rattle.plc_run.specs.Reach.{Reached, Reaches}
 use Rattle.plc_run.specs.contracts.config.Config.{the_view}
 use Rattle.plc_run.proofs.Stepping.{returned}
 use Rattle.plc_run.proofs.config.Config.return_move.Goals as goal

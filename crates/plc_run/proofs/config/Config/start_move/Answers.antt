@@ -1,8 +1,7 @@
 use Rattle.std.proofs.Common.{Some, refl, sym, ap, ◌∙◌, subst}
 use Rattle.std.specs.Option.{option_copied}
 use Rattle.plc_mem.specs.State.{with_locals}
-use Rattle.plc_run.specs.Position.{Reaches}
-use Rattle.plc_run.specs.Reach.{Reached, is_idle}
+use Rattle.plc_run.specs.Reach.{Reached, is_idle, Reaches}
 use Rattle.plc_run.specs.contracts.config.Config.{the_view}
 use Rattle.plc_run.proofs.Stepping.{started_so}
 use Rattle.plc_run.proofs.config.Config.start_move.Goals as goal

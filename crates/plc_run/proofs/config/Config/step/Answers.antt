@@ -8,7 +8,7 @@ pub advance-requires-clause-fits : goal.advance-requires-clause-fits
 advance-requires-clause-fits c =
     let p = c.args.self.now in
     let some = subst (λ (p : Position). 0 < length p.here.points) c.self.view_is c.self.invariant.0 in
-    run_fits c.args.flow.now c.requires.fits c.args.observer.now (threads_of p) some c.requires.of_run.0 p.here c.requires.of_run.1
+    run_fits c.args.flow.now c.requires.fits c.args.observer.now (threads_of p) some c.requires.of_run.moves p.here c.requires.of_run.run
 
 pub returns-clause-answers : goal.returns-clause-answers
 returns-clause-answers c =

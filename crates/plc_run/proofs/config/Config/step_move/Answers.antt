@@ -1,8 +1,8 @@
 use Rattle.std.proofs.Common.{◌≡◌, Some, None, IfOk, OnOk, subst, sym, ap, ◌∙◌, get_or, length}
 use Rattle.std.specs.Option.{option_copied}
-use Rattle.plc_run.specs.Reach.{Reached}
+use Rattle.plc_run.specs.Reach.{Reached, answer, Reaches}
 use Rattle.plc_run.specs.Run.{point_of}
-use Rattle.plc_run.specs.Position.{Position, answer, Reaches}
+use Rattle.plc_run.specs.Position.{Position}
 use Rattle.plc_run.specs.contracts.config.Config.{the_view}
 use Rattle.plc_run.proofs.Threads.{busy_at, step_fits}
 use Rattle.plc_run.proofs.Stepping.{stepped}

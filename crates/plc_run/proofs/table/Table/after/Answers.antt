@@ -1,6 +1,6 @@
 use Rattle.std.proofs.Common.{ap, ◌∙◌}
 use Rattle.plc_auto.specs.Location.{location_from}
-use Rattle.plc_run.specs.Table.{Locations, stands}
+use Rattle.plc_run.specs.Locations.{Locations, stands}
 use Rattle.plc_run.proofs.Follow.{from_first}
 use Rattle.plc_run.proofs.table.Table.after.Goals as goal
 

@@ -1,0 +1,46 @@
+-- What the program does with its own reclaimers.
+use Rattle.std.specs.Prelude.{◌≡◌, ℕ, List, [], ◌∷◌, ◌⊎◌, codes}
+use Rattle.plc_outside.specs.Known.{KnownFiles, KnownSink}
+use Rattle.plc_reclaim.specs.Meanings.{Meanings}
+use Rattle.plc_reclaim.specs.Rows.{ActsAs, leak_row, list_row, hazard_row, epoch_row}
+use Rattle.plc_cli.specs.Requests.{request_of}
+use Rattle.plc_cli.specs.Answer.{Outcome}
+use Rattle.plc_cli.specs.Headline.{Headline}
+use Rattle.plc_cli.specs.Served.{ServedReplays}
+use Rattle.plc_cli.specs.Statuses.{no_memory}
+
+-- the names of its reclaimers, in this order
+abbrev pub own_names : List (List ℕ)
+own_names = codes "leak" ∷ codes "list" ∷ codes "hazard" ∷ codes "epoch" ∷ []
+
+-- its reclaimers, each of which acts as the row of its name
+pub record AreOwn (reclaimers : List Meanings) : Type 0 where
+  pub leak : Meanings
+  pub list : Meanings
+  pub hazard : Meanings
+  pub epoch : Meanings
+  pub are : reclaimers ≡ leak ∷ list ∷ hazard ∷ epoch ∷ []
+  pub leak_acts : ActsAs leak_row leak
+  pub list_acts : ActsAs list_row list
+  pub hazard_acts : ActsAs hazard_row hazard
+  pub epoch_acts : ActsAs epoch_row epoch
+
+-- what `run` says of these, under these names
+pub record RunsWithOwn (words : List (List ℕ)) (old new : KnownFiles) (sink sink_now : KnownSink) (result : ℕ)
+    : Type 0 where
+  pub reclaimers : List Meanings
+  pub own : AreOwn reclaimers
+  pub outcome : Outcome reclaimers (request_of own_names words) old new sink sink_now result
+  pub headline : Headline (request_of own_names words) old new result
+  pub served : ServedReplays reclaimers (request_of own_names words) old new sink sink_now result
+
+-- memory ran out for a reclaimer, and nothing was read or written
+pub record HasNoReclaimers (old new : KnownFiles) (sink sink_now : KnownSink) (result : ℕ) : Type 0 where
+  pub status_is : result ≡ no_memory
+  pub unread : new ≡ old
+  pub unwritten : sink_now ≡ sink
+
+-- either of these
+abbrev pub IsProgram : List (List ℕ) → KnownFiles → KnownFiles → KnownSink → KnownSink → ℕ → Type 0
+IsProgram words old new sink sink_now result =
+    HasNoReclaimers old new sink sink_now result ⊎ RunsWithOwn words old new sink sink_now result

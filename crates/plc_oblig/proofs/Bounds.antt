@@ -1,0 +1,133 @@
+-- How much there is at most of what a set is made of.
+use Rattle.std.proofs.Common.{◌≡◌, ℕ, ◌+◌, ◌≤◌, Bool, List, [], ◌∷◌, ◌++◌, map, filter, length, count_by, take, length-take, refl, sym, ap, ◌∙◌, subst, arith, slice_get, Option, Some, None}
+use Rattle.std.specs.List.{All, position}
+use Rattle.std.proofs.lemmas.List.Elements.{All-nil, All-get_or, All-filter, All-map, All-append, All-weaker}
+use Rattle.std.proofs.lemmas.Option.{get_or_from_slice_get, slice_get_within, none-some}
+use Rattle.plc_lang.specs.declared.syntax.File.{File}
+use Rattle.plc_lang.specs.declared.syntax.Op.{Op}
+use Rattle.plc_lang.specs.Fit.{FileFits}
+use Rattle.plc_lang.specs.Locals.{locals_of, locals_or_none}
+use Rattle.plc_flow.specs.declared.flow.Flow.{Flow}
+use Rattle.plc_flow.specs.declared.flow.Gate.{Gate}
+use Rattle.plc_flow.specs.declared.flow.Step.{Step}
+use Rattle.plc_logic.specs.declared.clause.Clause.{Clause}
+use Rattle.plc_logic.specs.declared.clause.Item.{Item}
+use Rattle.plc_logic.specs.declared.clause.Outline.{Outline}
+use Rattle.plc_logic.specs.declared.clause.Site.{Site}
+use Rattle.plc_logic.specs.declared.clause.Site.TheVariants.{Over, At}
+use Rattle.plc_logic.specs.Fit.{OutlineFits, ItemFits, SiteFits, InvariantFits}
+use Rattle.plc_setting.specs.declared.obligations.Obligation.{Obligation}
+use Rattle.plc_setting.specs.declared.obligations.Obligation.TheVariants.{Start, Enter, Own, Other, Claim}
+use Rattle.plc_setting.specs.Fit.{Fits}
+use Rattle.plc_setting.specs.Parts.{acting_locals, owner_locals, locals_of_step, point_locals, has_point, executed, prims_of, conclusion, entry_clauses, clauses_behind, invariants_before}
+use Rattle.plc_setting.specs.Parts.{locals_or_none as locals_at}
+use Rattle.plc_setting.specs.Setting.{bound_of}
+use Rattle.plc_setting.specs.Points.{clauses_at, stands_at}
+
+-- ---- clauses
+
+pub record Small (c : Clause) : Type 0 where
+  pub bound : length c.bound.names ≤ 2
+  pub literals : length c.literals ≤ 16
+
+pub found_in : {A : Type 0} (P : A → Type 0) (xs : List A) (k : ℕ) (x : A) → slice_get xs k ≡ Some x → All P xs → P x
+found_in P xs k x is all = subst P (get_or_from_slice_get xs k x x is) (All-get_or P xs k x (slice_get_within xs k x is) all)
+
+small_at : (file : File) (c : Clause) (site : Site) → SiteFits file c site → Small c
+small_at file c (Over o) f = record { bound = f.2.bound; literals = f.2.literals }
+small_at file c (At labels) f = record { bound = f.4.bound; literals = f.4.literals }
+
+pub small_invariants : (file : File) (outline : Outline) → OutlineFits file outline → All Small outline.invariants
+small_invariants file outline f = All-weaker (InvariantFits file) Small (λ c i. record { bound = i.bound; literals = i.literals }) outline.invariants f.each_invariant
+
+pub small_items : (file : File) (outline : Outline) → OutlineFits file outline → All (λ (i : Item). Small i.clause) outline.items
+small_items file outline f = All-weaker (ItemFits file) (λ (i : Item). Small i.clause) (λ (i : Item) fits. small_at file i.clause i.site fits) outline.items f.each_item
+
+pub small_at_point : (flow : Flow) (outline : Outline) (p : ℕ) → OutlineFits flow.file outline → All Small (clauses_at flow outline p)
+small_at_point flow outline p f = All-map Small (λ (i : Item). i.clause) (filter (stands_at flow p) outline.items)
+    (All-filter (stands_at flow p) (λ (i : Item). Small i.clause) outline.items (small_items flow.file outline f))
+
+small_behind : (flow : Flow) (outline : Outline) (s : Option Step) → OutlineFits flow.file outline → All Small (clauses_behind flow outline s)
+small_behind flow outline None f = All-nil Small
+small_behind flow outline (Some s) f = small_at_point flow outline s.to.0 f
+
+small_entry : (flow : Flow) (outline : Outline) (g : Option Gate) → OutlineFits flow.file outline → All Small (entry_clauses flow outline g)
+small_entry flow outline None f = All-nil Small
+small_entry flow outline (Some g) f = small_at_point flow outline g.entry.0 f
+
+pub small_conclusion : (flow : Flow) (outline : Outline) (o : Obligation) (c : Clause) → OutlineFits flow.file outline → conclusion flow outline o ≡ Some c → Small c
+small_conclusion flow outline (Start i) c f is = found_in Small outline.invariants i c is (small_invariants flow.file outline f)
+small_conclusion flow outline (Enter o k) c f is = found_in Small _ k c is (small_entry flow outline (slice_get flow.gates o.0) f)
+small_conclusion flow outline (Own s k) c f is = found_in Small _ k c is
+    (All-append Small outline.invariants (clauses_behind flow outline (slice_get flow.steps s.0)) (small_invariants flow.file outline f) (small_behind flow outline (slice_get flow.steps s.0) f))
+small_conclusion flow outline (Other s p k) c f is = found_in Small (clauses_at flow outline p.0) k c is (small_at_point flow outline p.0 f)
+small_conclusion flow outline (Claim s j) c f is = absurd (none-some c is)
+
+-- ---- locals
+
+few_in : (file : File) (q : Option Op) (k : ℕ) → FileFits file → slice_get file.ops k ≡ q → length (locals_or_none q) ≤ 32
+few_in file None k f is = omega arith
+few_in file (Some o) k f is = (f.each_op k o is).locals
+
+few_of : (file : File) (k : ℕ) → FileFits file → length (locals_of file.ops k) ≤ 32
+few_of file k f = few_in file (slice_get file.ops k) k f refl
+
+few_of_step : (flow : Flow) (s : Option Step) → FileFits flow.file → length (locals_of_step flow s) ≤ 32
+few_of_step flow None f = omega arith
+few_of_step flow (Some s) f = few_of flow.file s.op.0 f
+
+few_of_point : (flow : Flow) (q : Option ℕ) → FileFits flow.file → length (locals_at flow q) ≤ 32
+few_of_point flow None f = omega arith
+few_of_point flow (Some o) f = few_of flow.file o f
+
+pub few_mine : (flow : Flow) (o : Obligation) → FileFits flow.file → length (acting_locals flow o) ≤ 32
+few_mine flow (Start i) f = omega arith
+few_mine flow (Enter o c) f = few_of flow.file o.0 f
+few_mine flow (Own k c) f = few_of_step flow (slice_get flow.steps k.0) f
+few_mine flow (Other k p c) f = few_of_step flow (slice_get flow.steps k.0) f
+few_mine flow (Claim k j) f = few_of_step flow (slice_get flow.steps k.0) f
+
+pub few_theirs : (flow : Flow) (o : Obligation) → FileFits flow.file → length (owner_locals flow o) ≤ 32
+few_theirs flow (Start i) f = omega arith
+few_theirs flow (Enter o c) f = omega arith
+few_theirs flow (Own k c) f = omega arith
+few_theirs flow (Other k p c) f = few_of_point flow (position (has_point p.0) flow.gates) f
+few_theirs flow (Claim k j) f = omega arith
+
+-- ---- primitives
+
+short_step : (flow : Flow) (outline : Outline) (s : Option Step) (k : ℕ) → Fits flow outline → slice_get flow.steps k ≡ s → length (prims_of s) ≤ 112
+short_step flow outline None k f is = omega arith
+short_step flow outline (Some s) k f is = f.flow_fits.well.short k s is
+
+pub short_executed : (flow : Flow) (outline : Outline) (o : Obligation) → Fits flow outline → length (executed flow o) ≤ 112
+short_executed flow outline (Start i) f = let short = f.flow_fits.short_init in omega arith
+short_executed flow outline (Enter o c) f = omega arith
+short_executed flow outline (Own k c) f = short_step flow outline (slice_get flow.steps k.0) k.0 f refl
+short_executed flow outline (Other k p c) f = short_step flow outline (slice_get flow.steps k.0) k.0 f refl
+short_executed flow outline (Claim k j) f =
+    let short = short_step flow outline (slice_get flow.steps k.0) k.0 f refl in
+    let taken = length-take j (prims_of (slice_get flow.steps k.0)) in omega (arith, short, taken)
+
+pub short_before : (outline : Outline) (o : Obligation) → length outline.invariants ≤ 64 → length (invariants_before outline o) ≤ 256
+short_before outline (Start i) e = omega arith
+short_before outline (Enter o c) e = omega arith
+short_before outline (Own k c) e = omega arith
+short_before outline (Other k p c) e = omega arith
+short_before outline (Claim k j) e = omega arith
+
+pub small_before : (flow : Flow) (outline : Outline) (o : Obligation) → OutlineFits flow.file outline → All Small (invariants_before outline o)
+small_before flow outline (Start i) f = All-nil Small
+small_before flow outline (Enter o c) f = small_invariants flow.file outline f
+small_before flow outline (Own k c) f = small_invariants flow.file outline f
+small_before flow outline (Other k p c) f = small_invariants flow.file outline f
+small_before flow outline (Claim k j) f = small_invariants flow.file outline f
+
+-- ---- names
+
+few_names : (q : Option Clause) → ((c : Clause) → q ≡ Some c → Small c) → bound_of q ≤ 2
+few_names None small = omega arith
+few_names (Some c) small = (small c refl).bound
+
+pub few_bound : (flow : Flow) (outline : Outline) (o : Obligation) → OutlineFits flow.file outline → bound_of (conclusion flow outline o) ≤ 2
+few_bound flow outline o f = few_names (conclusion flow outline o) (λ c is. small_conclusion flow outline o c f is)

@@ -1,0 +1,25 @@
+-- The ground set of an obligation: the constants and the nodes are listed first, then the clauses are written.
+use Rattle.std.specs.Prelude.{List, ◌++◌, map}
+use Rattle.plc_flow.specs.declared.flow.Flow.{Flow}
+use Rattle.plc_logic.specs.declared.clause.Outline.{Outline}
+use Rattle.plc_ground.specs.declared.terms.GroundSet.{GroundSet}
+use Rattle.plc_symbolic.specs.declared.symbolic.SymbolicTerm.{SymbolicTerm}
+use Rattle.plc_symbolic.specs.declared.symbolic.SymbolicTerm.TheVariants.{Constant}
+use Rattle.plc_symbolic.specs.Numbering.{blank, listed_all, written_all, numbered}
+use Rattle.plc_symbolic.specs.Terms.{term_of}
+use Rattle.plc_setting.specs.declared.obligations.Obligation.{Obligation}
+use Rattle.plc_setting.specs.declared.setting.Setting.{Setting}
+use Rattle.plc_setting.specs.Setting.{setting_of, constants_of}
+use Rattle.plc_setting.specs.Sorts.{sort_of}
+use Rattle.plc_items.specs.Items.{clauses_of}
+
+-- the terms that are listed first
+abbrev pub listed_first : Flow → Outline → Setting → List SymbolicTerm
+listed_first flow outline s = map Constant (constants_of flow outline s) ++ map term_of s.nodes
+
+-- the ground set of an obligation
+unfoldable pub ground_set : Flow → Outline → Obligation → GroundSet
+ground_set flow outline o =
+    let s = setting_of flow outline o in
+    let d = written_all (listed_all blank (listed_first flow outline s)) (clauses_of flow outline s o) in
+    numbered (map (sort_of flow o s.acts) d.terms) d

@@ -1,0 +1,82 @@
+-- How many clauses each part of a ground set has.
+use Rattle.std.specs.Prelude.{◌≡◌, ◌≤◌, ◌==◌, ℕ, ◌+◌, ◌*◌, ◌^◌, Bool, true, false, not, length, Option, Some, None}
+use Rattle.plc_base.specs.Functions.{is_retire}
+use Rattle.plc_lang.specs.declared.syntax.Arg.{Arg}
+use Rattle.plc_lang.specs.declared.syntax.Arg.TheVariants as args
+use Rattle.plc_lang.specs.declared.syntax.Field.{Field}
+use Rattle.plc_lang.specs.declared.syntax.Ghost.{Ghost as AuxiliaryField}
+use Rattle.plc_lang.specs.declared.syntax.Rel.{Rel}
+use Rattle.plc_lang.specs.declared.syntax.Rel.TheVariants as rels
+use Rattle.plc_lang.specs.declared.syntax.Primitive.{Primitive}
+use Rattle.plc_lang.specs.declared.syntax.Primitive.TheVariants.{Null, Copy, New, Load, Store, StoreNull, DataSet, DataLoad, DataStore, Eq, Ne, IsNull, NotNull, DataTest, Refresh, RefreshLoad, RefreshStore, Call, Done, Active, Ghost}
+use Rattle.plc_logic.specs.declared.clause.Clause.{Clause}
+use Rattle.plc_setting.specs.declared.setting.Setting.{Setting}
+use Rattle.plc_oblig.specs.declared.size.Sizes.{Sizes}
+
+abbrev pub is_pointer_field : Field → Bool
+is_pointer_field f = f.pointer
+
+abbrev pub has_values : AuxiliaryField → Bool
+has_values g = not (length g.values == 0)
+
+abbrev pub is_pointer_load : Primitive → Bool
+is_pointer_load (Load p q f) = true
+is_pointer_load (RefreshLoad p q f) = true
+is_pointer_load k = false
+
+-- ---- what a set rests on
+
+-- these are the sizes of what a set rests on
+pub record AreSizesOf (s : Setting) (z : Sizes) : Type 0 where
+  pub mine : z.mine ≡ length s.mine.pointers
+  pub pointers : z.pointers ≡ length s.pointers
+  pub fields : z.fields ≡ length s.fields
+  pub bound : z.bound ≡ s.bound
+  pub made : z.made ≡ s.makes
+  pub nodes : z.nodes ≡ length s.nodes
+  pub instances : z.instances ≡ length s.instances
+
+-- they are small
+pub record AreFew (z : Sizes) : Type 0 where
+  pub mine : z.mine ≤ 32
+  pub pointers : z.pointers ≤ 80
+  pub fields : z.fields ≤ 8
+  pub bound : z.bound ≤ 2
+  pub nodes : z.nodes ≤ 2000
+  pub instances : z.instances ≤ 2000
+
+-- ---- items
+
+abbrev pub test_size : Rel → ℕ
+test_size rels.Eq = 1
+test_size rels.Ne = 1
+test_size rels.Lt = 0
+test_size rels.Ge = 0
+
+abbrev pub call_size : ℕ → Bool → Arg → ℕ
+call_size nodes true (args.Var p) = 1 + 2 * nodes
+call_size nodes true args.Null = 0
+call_size nodes true args.None = 0
+call_size nodes false a = 0
+
+-- of a primitive, where there are so many nodes
+abbrev pub prim_size : ℕ → Primitive → ℕ
+prim_size nodes (Load p q f) = 2
+prim_size nodes (DataLoad x q f) = 2
+prim_size nodes (RefreshLoad p q f) = 2
+prim_size nodes (Store p f q) = 1 + 2 * nodes
+prim_size nodes (StoreNull p f) = 1 + 2 * nodes
+prim_size nodes (DataStore p f e) = 1 + 2 * nodes
+prim_size nodes (RefreshStore p f q) = 1 + 2 * nodes
+prim_size nodes (Eq p q) = 1
+prim_size nodes (Ne p q) = 1
+prim_size nodes (IsNull p) = 1
+prim_size nodes (NotNull p) = 1
+prim_size nodes (DataTest r x e) = test_size r
+prim_size nodes (Call f a) = call_size nodes (is_retire f) a
+prim_size nodes (Ghost p g e) = 2 * nodes
+prim_size nodes k = 0
+
+-- of the instances of a clause, where its names stand for so many nodes
+abbrev pub clause_size : ℕ → Clause → ℕ
+clause_size instances c = instances ^ length c.bound.names

@@ -1,0 +1,356 @@
+// How many clauses the ground set of an obligation has, item by item: a limit is asked of every obligation, and
+// no set is made for it.
+ghost use Rattle.std.specs.Prelude.{◌≡◌, ◌≤◌, ◌<◌, ◌*◌, ◌+◌, ℕ, Bool, cond, List, length, count_by, sum_by, flat_map, slice_get, option_copied, All};
+ghost use Rattle.std.specs.List.{list_any};
+ghost use Rattle.plc_lang.specs.Locals.{is_pointer, is_other_data};
+ghost use Rattle.plc_lang.specs.Allocation.{is_new};
+ghost use Rattle.plc_lang.specs.Fit.{FileFits};
+ghost use Rattle.plc_setting.specs.Fit.{Fits, HasFewParts};
+ghost use Rattle.plc_setting.specs.Points.{clauses_at};
+ghost use Rattle.plc_setting.specs.Parts.{acting_locals, owner_locals, executed, conclusion, claim_made, clauses_of};
+ghost use Rattle.plc_setting.specs.Setting.{setting_of, bound_of};
+ghost use Rattle.plc_setting.specs.declared.setting.Setting.{Setting};
+ghost use Rattle.plc_setting.specs.declared.setting.Variables.{Variables};
+ghost use Rattle.plc_setting.specs.Acts.{acts_of};
+ghost use Rattle.plc_symbolic.specs.declared.symbolic.NodeTerm.{NodeTerm};
+ghost use Rattle.plc_items.specs.declared.execution.Execution.{Execution};
+ghost use Rattle.plc_items.specs.Execution.{executed_clauses};
+ghost use Rattle.plc_items.specs.Items.{values_from, beginning, freshness, denied};
+ghost use Rattle.plc_oblig.specs.GroundSets.{ground_set};
+ghost use Rattle.plc_lang.specs.declared.syntax.Ghost.{Ghost};
+ghost use Rattle.plc_oblig.specs.Size.{has_values, is_pointer_field, is_pointer_load, prim_size, clause_size, AreSizesOf, AreFew};
+
+use plc_base::PointId;
+use plc_flow::Flow;
+use plc_lang::{Arg, Field, File, Ghost, Local, Prim, Rel, is_new};
+use plc_logic::{Clause, Outline};
+use plc_setting::{
+    Obligation, acting_locals, acting_point, claim_made, conclusion, executed, invariants_before,
+    owner_locals, owner_point, stands_at,
+};
+
+/// How many there are of what a set rests on.
+#[derive(Clone, Copy, Debug)]
+pub struct Sizes {
+    /// The pointer locals of the acting thread.
+    pub mine: u64,
+    /// The pointer variables of all threads.
+    pub pointers: u64,
+    /// The pointer fields of the struct.
+    pub fields: u64,
+    /// The nodes of which the conclusion speaks.
+    pub bound: u64,
+    /// Whether a node is made.
+    pub made: bool,
+    pub nodes: u64,
+    /// The nodes at which premises are instantiated.
+    pub instances: u64,
+}
+
+fn count_pointers(locals: &[Local]) -> u64
+    ensures { result ≡ count_by is_pointer locals.now }
+{
+    locals.iter().filter(|l| l.pointer).count() as u64
+}
+
+fn count_other_data(locals: &[Local]) -> u64
+    ensures { result ≡ count_by is_other_data locals.now }
+{
+    locals.iter().filter(|l| !l.pointer && !l.param).count() as u64
+}
+
+fn count_pointer_fields(fields: &[Field]) -> u64
+    ensures { result ≡ count_by is_pointer_field fields.now }
+{
+    fields.iter().filter(|f| f.pointer).count() as u64
+}
+
+// Auxiliary fields that have values.
+fn count_enumerated(ghosts: &[Ghost]) -> u64
+    ensures { result ≡ count_by has_values ghosts.now }
+{
+    ghosts.iter().filter(|g| !g.values.is_empty()).count() as u64
+}
+
+fn count_pointer_loads(prims: &[Prim]) -> u64
+    ensures { result ≡ count_by is_pointer_load prims.now }
+{
+    let mut total = 0;
+    for prim in prims {
+        if matches!(prim, Prim::Load { .. } | Prim::RefreshLoad { .. }) {
+            total += 1;
+        }
+    }
+    total
+}
+
+fn has_new(prims: &[Prim]) -> bool
+    ensures { result ≡ list_any is_new prims.now }
+{
+    prims.iter().any(|p| is_new(p))
+}
+
+fn bound_of(clause: Option<&Clause>) -> u64
+    ensures { result ≡ bound_of (option_copied clause.entry) }
+{
+    match clause {
+        None => 0,
+        Some(clause) => clause.bound.len() as u64,
+    }
+}
+
+// How many clauses a primitive gives, where there are so many nodes.
+fn prim_size(nodes: u64, prim: &Prim) -> u64
+    requires { nodes ≤ 2000 }
+    ensures size { result ≡ prim_size nodes prim.now }
+    ensures few { result ≤ 4001 }
+{
+    match *prim {
+        Prim::Load { .. } | Prim::DataLoad { .. } | Prim::RefreshLoad { .. } => 2,
+        Prim::Store { .. } | Prim::StoreNull { .. } => 1 + 2 * nodes,
+        Prim::DataStore { .. } | Prim::RefreshStore { .. } => 1 + 2 * nodes,
+        Prim::Eq { .. } | Prim::Ne { .. } | Prim::IsNull { .. } | Prim::NotNull { .. } => 1,
+        Prim::DataTest { rel: Rel::Eq, .. } | Prim::DataTest { rel: Rel::Ne, .. } => 1,
+        Prim::Call {
+            func,
+            arg: Arg::Var(_),
+        } if func.is_retire() => 1 + 2 * nodes,
+        Prim::Ghost { .. } => 2 * nodes,
+        _ => 0,
+    }
+}
+
+// The pointer fields of so many nodes, where premises are deep.
+fn deep_nodes(deep: bool, nodes: u64, fields: u64) -> u64
+    requires nodes { nodes ≤ 196 }
+    requires fields { fields ≤ 8 }
+    ensures size { result ≡ cond deep (nodes * fields) 0 }
+    ensures small { result ≤ 1568 }
+{
+    if deep {
+        return nodes * fields;
+    }
+    0
+}
+
+fn one_if(made: bool) -> u64
+    ensures { result ≡ cond made 1 0 }
+{
+    if made { 1 } else { 0 }
+}
+
+// The pointer locals of the acting thread.
+fn count_mine(flow: &Flow, o: &Obligation) -> u64
+    requires { FileFits flow.now.file }
+    ensures count { result ≡ count_by is_pointer (acting_locals flow.now o.now) }
+    ensures few { result ≤ 32 }
+{
+    count_pointers(acting_locals(flow, o))
+}
+
+// Those of the owner.
+fn count_theirs(flow: &Flow, o: &Obligation) -> u64
+    requires { FileFits flow.now.file }
+    ensures count { result ≡ count_by is_pointer (owner_locals flow.now o.now) }
+    ensures few { result ≤ 32 }
+{
+    count_pointers(owner_locals(flow, o))
+}
+
+fn count_fields(file: &File) -> u64
+    requires { FileFits file.now }
+    ensures count { result ≡ count_by is_pointer_field file.now.fields }
+    ensures few { result ≤ 8 }
+{
+    count_pointer_fields(file.fields.as_slice())
+}
+
+fn count_loads(flow: &Flow, outline: &Outline, o: &Obligation) -> u64
+    requires { Fits flow.now outline.now }
+    ensures count { result ≡ count_by is_pointer_load (executed flow.now o.now) }
+    ensures few { result ≤ 112 }
+{
+    count_pointer_loads(executed(flow, o))
+}
+
+fn count_bound(flow: &Flow, outline: &Outline, o: &Obligation) -> u64
+    requires { Fits flow.now outline.now }
+    ensures count { result ≡ bound_of (conclusion flow.now outline.now o.now) }
+    ensures few { result ≤ 2 }
+{
+    bound_of(conclusion(flow, outline, o))
+}
+
+fn sizes_of(flow: &Flow, outline: &Outline, o: &Obligation) -> Sizes
+    requires { Fits flow.now outline.now }
+    ensures sizes { AreSizesOf (setting_of flow.now outline.now o.now) result }
+    ensures few { AreFew result }
+{
+    let mine = count_mine(flow, o);
+    let pointers = flow.file.shared.len() as u64 + mine + count_theirs(flow, o);
+    let fields = count_fields(&flow.file);
+    let bound = count_bound(flow, outline, o);
+    let made = has_new(executed(flow, o));
+    let plain = pointers + bound + count_loads(flow, outline, o);
+    let constants = plain + 1 + one_if(made);
+    let deep = deep_nodes(outline.depth == 1, constants, fields);
+    Sizes {
+        mine,
+        pointers,
+        fields,
+        bound,
+        made,
+        nodes: constants + deep,
+        instances: plain + deep,
+    }
+}
+
+// That each node has one of the values of each field.
+fn values_size(ghosts: &[Ghost], nodes: u64) -> u64
+    requires few { length ghosts.now ≤ 4 }
+    requires nodes { nodes ≤ 2000 }
+    ensures size { (ts : List NodeTerm) → nodes ≡ length ts → result ≡ length (values_from 0 0 ghosts.now ts) }
+    ensures small { result ≤ 8000 }
+{
+    count_enumerated(ghosts) * nodes
+}
+
+// How things are at first.
+fn beginning_size(flow: &Flow, z: Sizes, o: &Obligation) -> u64
+    requires few { AreFew z }
+    requires shared { length flow.now.file.shared ≤ 16 }
+    requires locals { length (acting_locals flow.now o.now) ≤ 32 }
+    ensures size { (s : Setting) → AreSizesOf s z → result ≡ length (beginning flow.now s o.now) }
+    ensures small { result ≤ 64 }
+{
+    match o {
+        Obligation::Start { .. } => flow.file.shared.len() as u64 + z.bound,
+        Obligation::Enter { .. } => z.mine + count_other_data(acting_locals(flow, o)),
+        _ => 0,
+    }
+}
+
+// What is known of the new node.
+fn freshness_size(file: &File, z: Sizes) -> u64
+    requires few { AreFew z }
+    requires fields { length file.now.fields ≤ 8 }
+    requires ghosts { length file.now.ghosts ≤ 4 }
+    ensures size { (s : Setting) → AreSizesOf s z → result ≡ length (freshness file.now s) }
+    ensures small { result ≤ 16094 }
+{
+    if z.made {
+        return 2
+            + z.pointers
+            + z.nodes * z.fields
+            + file.fields.len() as u64
+            + file.ghosts.len() as u64;
+    }
+    0
+}
+
+// The instances of a clause, where each name stands for so many nodes.
+fn instances_size(places: u64, clause: &Clause) -> u64
+    requires few { places ≤ 2000 }
+    requires bound { length clause.now.bound.names ≤ 2 }
+    ensures size { result ≡ clause_size places clause.now }
+    ensures small { result ≤ 4000000 }
+{
+    let names = clause.bound.len();
+    if names == 0 {
+        return 1;
+    }
+    if names == 1 {
+        return places;
+    }
+    places * places
+}
+
+// Those of clauses.
+fn premises_size(places: u64, clauses: &[Clause]) -> u64
+    requires few { places ≤ 2000 }
+    requires bound { All (λ c. length c.bound.names ≤ 2) clauses.now }
+    requires short { length clauses.now ≤ 256 }
+    ensures size { result ≡ sum_by (clause_size places) clauses.now }
+    ensures small { result ≤ length clauses.now * 4000000 }
+{
+    let mut total = 0;
+    for clause in clauses {
+        total += instances_size(places, clause);
+    }
+    total
+}
+
+// Those of the clauses at a point.
+fn point_size(places: u64, flow: &Flow, outline: &Outline, p: u16) -> u64
+    requires few { places ≤ 2000 }
+    requires bound { All (λ i. length i.clause.bound.names ≤ 2) outline.now.items }
+    requires short { length outline.now.items ≤ 256 }
+    ensures size { result ≡ sum_by (clause_size places) (clauses_at flow.now outline.now p) }
+    ensures small { result ≤ length outline.now.items * 4000000 }
+{
+    let mut total = 0;
+    for item in outline.items.as_slice() {
+        if stands_at(flow, p, item) {
+            total += instances_size(places, &item.clause);
+        }
+    }
+    total
+}
+
+// What is executed.
+fn executed_size(nodes: u64, prims: &[Prim]) -> u64
+    requires few { nodes ≤ 2000 }
+    requires short { length prims.now ≤ 112 }
+    ensures size { result ≡ sum_by (prim_size nodes) prims.now }
+    ensures small { result ≤ length prims.now * 4001 }
+{
+    let mut total = 0;
+    for prim in prims {
+        total += prim_size(nodes, prim);
+    }
+    total
+}
+
+// The clauses of a point, where a thread stands at one.
+fn standing_size(places: u64, flow: &Flow, outline: &Outline, point: Option<PointId>) -> u64
+    requires few { places ≤ 2000 }
+    requires fits { Fits flow.now outline.now }
+    ensures size { result ≡ sum_by (clause_size places) (clauses_of flow.now outline.now point) }
+    ensures small { result ≤ 256 * 4000000 }
+{
+    match point {
+        None => 0,
+        Some(point) => point_size(places, flow, outline, point.0),
+    }
+}
+
+// The negated conclusion.
+fn denied_size(flow: &Flow, outline: &Outline, o: &Obligation) -> u64
+    requires { Fits flow.now outline.now }
+    ensures size { (s : Setting) (x : Execution) → result ≡ length (denied flow.now outline.now s x o.now) }
+    ensures small { result ≤ 18 }
+{
+    if let Some(Prim::Active { .. }) = claim_made(flow, o) {
+        return 2;
+    }
+    match conclusion(flow, outline, o) {
+        None => 0,
+        Some(clause) => clause.bound.len() as u64 + clause.literals.len() as u64,
+    }
+}
+
+/// How many clauses the ground set of an obligation has, from 0 to a few thousand millions. It takes no memory.
+pub fn clauses(flow: &Flow, outline: &Outline, o: &Obligation) -> u64
+    requires { Fits flow.now outline.now }
+    ensures { result ≡ length (ground_set flow.now outline.now o.now).clauses }
+{
+    let z = sizes_of(flow, outline, o);
+    values_size(flow.file.ghosts.as_slice(), z.nodes)
+        + beginning_size(flow, z, o)
+        + freshness_size(&flow.file, z)
+        + premises_size(z.instances, invariants_before(outline, o))
+        + standing_size(z.instances, flow, outline, acting_point(flow, o))
+        + standing_size(z.instances, flow, outline, owner_point(o))
+        + executed_size(z.nodes, executed(flow, o))
+        + denied_size(flow, outline, o)
+}

@@ -1,0 +1,7 @@
+use Rattle.std.proofs.Common.{arith}
+use Rattle.plc_setting.proofs.Fitting.{sorted_at}
+use Rattle.plc_setting.proofs.acts.acts_of.Goals as goal
+
+pub act_of-requires-clause-sorted : goal.act_of-requires-clause-sorted
+act_of-requires-clause-sorted c =
+    sorted_at c.args.file.now c.args.prims.now c.loop-prim.prim-index _ c.requires.sorted (omega arith)

@@ -1,0 +1,7 @@
+-- what contracts of public calls say
+pub mod Points
+pub mod Parts
+pub mod Acts
+pub mod Setting
+pub mod Sorts
+pub mod Fit

@@ -1,0 +1,216 @@
+// What primitives do in ground sets, a row for each. A variable is named by the constant that it has at
+// first, and every other constant names itself, so the right sides need no type of their own.
+ghost use Rattle.std.specs.Prelude.{◌≡◌, true, IfOk};
+ghost use Rattle.plc_ground.specs.declared.terms.Map.TheVariants as maps;
+ghost use Rattle.plc_lang.specs.Fit.{FileFits};
+ghost use Rattle.plc_lang.specs.WellSorted.{WriteIsWellSorted, IsWellSorted, AreWellSorted};
+ghost use Rattle.plc_setting.specs.declared.acts.Act.TheVariants.{Assign, Fetch, Update, Test};
+ghost use Rattle.plc_setting.specs.Acts.{symbol_at, pointer_symbol, number_symbol, ghost_symbol, data_test, call_act, act_of, acts_of};
+
+use crate::setting::Variables;
+use plc_base::{FieldId, Items, NoMemory};
+use plc_ground::{Map, Symbol};
+use plc_lang::{Arg, File, GhostVal, Num, Prim, Rel, Var, value_number};
+use std::alloc::Global;
+
+/// What a primitive does.
+#[derive(Clone, Copy, Debug, PartialEq, Eq)]
+pub enum Act {
+    /// The variable's constant becomes that of the other.
+    Assign {
+        to: Symbol,
+        from: Symbol,
+    },
+    /// The variable's constant becomes that of the new node.
+    Make {
+        to: Symbol,
+    },
+    /// A field of a node that isn't null is read into a constant of its own.
+    Fetch {
+        to: Symbol,
+        node: Symbol,
+        f: FieldId,
+        pointer: bool,
+    },
+    /// A map is written at a node, which may have to be other than null.
+    Update {
+        checked: bool,
+        map: Map,
+        at: Symbol,
+        value: Symbol,
+    },
+    /// Two constants are equal, or are not.
+    Test {
+        left: Symbol,
+        right: Symbol,
+        equal: bool,
+    },
+    /// Nothing.
+    Skip,
+}
+
+fn symbol_at(symbols: &Items<Symbol>, k: u16) -> Symbol
+    ensures { result ≡ symbol_at symbols.now k }
+{
+    match symbols.get(k as usize) {
+        None => Symbol::Null,
+        Some(symbol) => *symbol,
+    }
+}
+
+/// The constant that a pointer variable has at first.
+pub fn pointer_symbol(variables: &Variables, p: Var) -> Symbol
+    ensures { result ≡ pointer_symbol variables.now p }
+{
+    match p {
+        Var::Shared(i) => Symbol::Shared(i),
+        Var::Local(v) => symbol_at(&variables.pointers, v),
+    }
+}
+
+fn data_symbol(variables: &Variables, x: u16) -> Symbol
+    ensures { result ≡ symbol_at variables.now.values x }
+{
+    symbol_at(&variables.values, x)
+}
+
+fn number_symbol(variables: &Variables, e: Num) -> Symbol
+    ensures { result ≡ number_symbol variables.now e }
+{
+    match e {
+        Num::Lit(n) => Symbol::Number(n),
+        Num::Local(x) => data_symbol(variables, x),
+    }
+}
+
+fn ghost_symbol(file: &File, g: u16, v: GhostVal) -> Symbol
+    requires fits { FileFits file.now }
+    requires sorted { WriteIsWellSorted file.now g v }
+    ensures { result ≡ ghost_symbol file.now.ghosts g v }
+{
+    match v {
+        GhostVal::Value(v) => Symbol::Value(
+            value_number(file.ghosts.as_slice(), g as usize, v) as u16,
+        ),
+        GhostVal::Me => Symbol::Me,
+        GhostVal::None => Symbol::Nobody,
+    }
+}
+
+fn assign(to: Symbol, from: Symbol) -> Act
+    ensures { result ≡ Assign to from }
+{
+    Act::Assign { to, from }
+}
+
+fn fetch(to: Symbol, node: Symbol, f: FieldId, pointer: bool) -> Act
+    ensures { result ≡ Fetch to node f pointer }
+{
+    Act::Fetch {
+        to,
+        node,
+        f,
+        pointer,
+    }
+}
+
+fn store(f: FieldId, at: Symbol, value: Symbol) -> Act
+    ensures { result ≡ Update true (maps.Field f) at value }
+{
+    Act::Update {
+        checked: true,
+        map: Map::Field(f),
+        at,
+        value,
+    }
+}
+
+fn test(left: Symbol, right: Symbol, equal: bool) -> Act
+    ensures { result ≡ Test left right equal }
+{
+    Act::Test { left, right, equal }
+}
+
+// A test of data: an order says nothing in ground sets.
+fn data_test(rel: Rel, left: Symbol, right: Symbol) -> Act
+    ensures { result ≡ data_test rel left right }
+{
+    match rel {
+        Rel::Eq => test(left, right, true),
+        Rel::Ne => test(left, right, false),
+        Rel::Lt | Rel::Ge => Act::Skip,
+    }
+}
+
+// A call retires its argument, where it is one of `retire`.
+fn call(variables: &Variables, retires: bool, arg: Arg) -> Act
+    ensures { result ≡ call_act variables.now retires arg }
+{
+    match arg {
+        Arg::Var(p) if retires => Act::Update {
+            checked: true,
+            map: Map::Retired,
+            at: pointer_symbol(variables, p),
+            value: Symbol::Yes,
+        },
+        _ => Act::Skip,
+    }
+}
+
+/// What a primitive of a thread with these variables does.
+pub fn act_of(file: &File, v: &Variables, prim: &Prim) -> Act
+    requires fits { FileFits file.now }
+    requires sorted { IsWellSorted file.now prim.now }
+    ensures { result ≡ act_of file.now.ghosts v.now prim.now }
+{
+    match *prim {
+        Prim::Null { p } => assign(pointer_symbol(v, p), Symbol::Null),
+        Prim::Copy { p, q } => assign(pointer_symbol(v, p), pointer_symbol(v, q)),
+        Prim::New { p } => Act::Make {
+            to: pointer_symbol(v, p),
+        },
+        Prim::Load { p, q, f } => fetch(pointer_symbol(v, p), pointer_symbol(v, q), f, true),
+        Prim::Store { p, f, q } => store(f, pointer_symbol(v, p), pointer_symbol(v, q)),
+        Prim::StoreNull { p, f } => store(f, pointer_symbol(v, p), Symbol::Null),
+        Prim::DataSet { x, e } => assign(data_symbol(v, x), number_symbol(v, e)),
+        Prim::DataLoad { x, q, f } => fetch(data_symbol(v, x), pointer_symbol(v, q), f, false),
+        Prim::DataStore { p, f, e } => store(f, pointer_symbol(v, p), number_symbol(v, e)),
+        Prim::Eq { p, q } => test(pointer_symbol(v, p), pointer_symbol(v, q), true),
+        Prim::Ne { p, q } => test(pointer_symbol(v, p), pointer_symbol(v, q), false),
+        Prim::IsNull { p } => test(pointer_symbol(v, p), Symbol::Null, true),
+        Prim::NotNull { p } => test(pointer_symbol(v, p), Symbol::Null, false),
+        Prim::DataTest { rel, x, e } => data_test(rel, data_symbol(v, x), number_symbol(v, e)),
+        Prim::Refresh { p, q } => assign(symbol_at(&v.pointers, p), pointer_symbol(v, q)),
+        Prim::RefreshLoad { p, q, f } => {
+            fetch(symbol_at(&v.pointers, p), pointer_symbol(v, q), f, true)
+        }
+        Prim::RefreshStore { p, f, q } => store(f, pointer_symbol(v, p), pointer_symbol(v, q)),
+        Prim::Call { func, arg } => call(v, func.is_retire(), arg),
+        Prim::Done { .. } => Act::Skip,
+        Prim::Active { .. } => Act::Skip,
+        Prim::Ghost { p, g, v: value } => Act::Update {
+            checked: false,
+            map: Map::Ghost(g),
+            at: pointer_symbol(v, p),
+            value: ghost_symbol(file, g, value),
+        },
+    }
+}
+
+/// What primitives do, in their order.
+pub fn acts_of(
+    alloc: Global,
+    file: &File,
+    variables: &Variables,
+    prims: &[Prim],
+) -> Result<Items<Act>, NoMemory>
+    requires fits { FileFits file.now }
+    requires sorted { AreWellSorted file.now prims.now }
+    ensures { IfOk result (λ acts. acts ≡ acts_of file.now.ghosts variables.now prims.now) }
+{
+    let mut acts = Items::new(alloc);
+    for prim in prims {
+        acts.push(act_of(file, variables, prim))?;
+    }
+    Ok(acts)
+}

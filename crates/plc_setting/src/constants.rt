@@ -1,0 +1,87 @@
+// The constants of a ground set, in the order in which they are listed.
+ghost use Rattle.std.specs.Prelude.{◌≡◌, ◌≤◌, ◌<◌, ◌++◌, ◌∷◌, length, map, OnOk, IfOk};
+ghost use Rattle.std.specs.List.{sum_by};
+ghost use Rattle.plc_lang.specs.Numbering.{values_in};
+ghost use Rattle.plc_flow.specs.WellFormed.{most_step_primitives};
+ghost use Rattle.plc_ground.specs.declared.terms.Symbol.TheVariants as symbols;
+ghost use Rattle.plc_setting.specs.Fit.{Fits};
+ghost use Rattle.plc_setting.specs.Setting.{if_owned, constants_of};
+
+use crate::numbers::numbers_of;
+use crate::setting::Setting;
+use crate::symbols::{
+    push_all, push_bound, push_loads, push_made, push_owner, push_shared, push_values,
+};
+use plc_base::{Items, NoMemory};
+use plc_flow::Flow;
+use plc_ground::Symbol;
+use plc_lang::Ghost;
+use plc_logic::Outline;
+use std::alloc::Global;
+use std::collections::BTreeSet;
+
+fn count_values(ghosts: &[Ghost]) -> u16
+    requires { sum_by values_in ghosts.now < 65536 }
+    ensures { result ≡ sum_by values_in ghosts.now }
+{
+    let mut count = 0;
+    for field in ghosts {
+        count += field.values.len() as u16;
+    }
+    count
+}
+
+fn push_numbers(list: &mut Items<Symbol>, numbers: &BTreeSet<u32>) -> Result<(), NoMemory>
+    ensures { OnOk result (list.new ≡ list.old ++ map symbols.Number numbers.now.keys) }
+{
+    for n in numbers {
+        list.push(Symbol::Number(*n))?;
+    }
+    Ok(())
+}
+
+// The locals of both threads.
+fn push_variables(list: &mut Items<Symbol>, s: &Setting) -> Result<(), NoMemory>
+    ensures { OnOk result (list.new ≡ list.old ++ (s.now.mine.pointers ++ (s.now.mine.values
+        ++ (s.now.theirs.pointers ++ s.now.theirs.values)))) }
+{
+    push_all(list, s.mine.pointers.as_slice())?;
+    push_all(list, s.mine.values.as_slice())?;
+    push_all(list, s.theirs.pointers.as_slice())?;
+    push_all(list, s.theirs.values.as_slice())
+}
+
+// What `retired` is for a retired node, and the threads.
+fn push_threads(list: &mut Items<Symbol>, owned: bool) -> Result<(), NoMemory>
+    ensures { OnOk result (list.new ≡ list.old ++ (symbols.Yes ∷ symbols.Nobody ∷ symbols.Me ∷ if_owned owned)) }
+{
+    list.push(Symbol::Yes)?;
+    list.push(Symbol::Nobody)?;
+    list.push(Symbol::Me)?;
+    push_owner(list, owned)
+}
+
+/// The constants of a setting, in order.
+pub fn constants_of(
+    alloc: Global,
+    flow: &Flow,
+    outline: &Outline,
+    s: &Setting,
+) -> Result<Items<Symbol>, NoMemory>
+    requires fits { Fits flow.now outline.now }
+    requires few { length s.now.acts ≤ most_step_primitives }
+    ensures { IfOk result (λ list. list ≡ constants_of flow.now outline.now s.now) }
+{
+    let mut list = Items::new(alloc);
+    list.push(Symbol::Null)?;
+    push_shared(&mut list, flow.file.shared.len())?;
+    push_variables(&mut list, s)?;
+    push_made(&mut list, s.makes)?;
+    push_bound(&mut list, s.bound)?;
+    push_loads(&mut list, s.acts.as_slice())?;
+    push_threads(&mut list, s.owned)?;
+    push_values(&mut list, count_values(flow.file.ghosts.as_slice()))?;
+    let numbers = numbers_of(alloc, flow, outline)?;
+    push_numbers(&mut list, &numbers)?;
+    Ok(list)
+}

@@ -1,0 +1,104 @@
+// Runs of constants, each put behind those that are there. The lists of a setting and the constants of a
+// ground set are made of these runs.
+ghost use Rattle.std.specs.Prelude.{◌≡◌, ◌≤◌, ◌<◌, ◌++◌, length, map, OnOk};
+ghost use Rattle.plc_base.specs.Limits.{most};
+ghost use Rattle.plc_base.specs.declared.limits.What1.TheVariants as limits;
+ghost use Rattle.plc_ground.specs.declared.terms.Symbol.TheVariants as symbols;
+ghost use Rattle.plc_setting.specs.Setting.{below, if_made, if_owned, loads_from, pointer_loads_from};
+
+use crate::acts::Act;
+use plc_base::{Items, NoMemory};
+use plc_ground::Symbol;
+
+/// Constants that are at hand.
+pub fn push_all(list: &mut Items<Symbol>, more: &[Symbol]) -> Result<(), NoMemory>
+    ensures { OnOk result (list.new ≡ list.old ++ more.now) }
+{
+    for symbol in more {
+        list.push(*symbol)?;
+    }
+    Ok(())
+}
+
+/// Those of the shared pointers.
+pub fn push_shared(list: &mut Items<Symbol>, count: usize) -> Result<(), NoMemory>
+    requires { count ≤ most limits.Shared }
+    ensures { OnOk result (list.new ≡ list.old ++ map symbols.Shared (below count)) }
+{
+    for i in 0..count {
+        list.push(Symbol::Shared(i as u16))?;
+    }
+    Ok(())
+}
+
+/// Those of the nodes of which the conclusion speaks.
+pub fn push_bound(list: &mut Items<Symbol>, count: u16) -> Result<(), NoMemory>
+    ensures { OnOk result (list.new ≡ list.old ++ map symbols.Bound (below count)) }
+{
+    for i in 0..count {
+        list.push(Symbol::Bound(i))?;
+    }
+    Ok(())
+}
+
+/// Those of the values of auxiliary fields.
+pub fn push_values(list: &mut Items<Symbol>, count: u16) -> Result<(), NoMemory>
+    ensures { OnOk result (list.new ≡ list.old ++ map symbols.Value (below count)) }
+{
+    for v in 0..count {
+        list.push(Symbol::Value(v))?;
+    }
+    Ok(())
+}
+
+/// The new node, where one is made.
+pub fn push_made(list: &mut Items<Symbol>, makes: bool) -> Result<(), NoMemory>
+    ensures { OnOk result (list.new ≡ list.old ++ if_made makes) }
+{
+    if makes {
+        list.push(Symbol::New)?;
+    }
+    Ok(())
+}
+
+/// The owner, where there is one.
+pub fn push_owner(list: &mut Items<Symbol>, owned: bool) -> Result<(), NoMemory>
+    ensures { OnOk result (list.new ≡ list.old ++ if_owned owned) }
+{
+    if owned {
+        list.push(Symbol::You)?;
+    }
+    Ok(())
+}
+
+/// What each read gives.
+pub fn push_loads(list: &mut Items<Symbol>, acts: &[Act]) -> Result<(), NoMemory>
+    requires { length acts.now < 65536 }
+    ensures { OnOk result (list.new ≡ list.old ++ loads_from 0 acts.now) }
+{
+    let mut loads = 0;
+    for act in acts {
+        if let Act::Fetch { .. } = act {
+            list.push(Symbol::Loaded(loads))?;
+            loads += 1;
+        }
+    }
+    Ok(())
+}
+
+/// What is read into pointers, each by its number among all that is read.
+pub fn push_pointer_loads(list: &mut Items<Symbol>, acts: &[Act]) -> Result<(), NoMemory>
+    requires { length acts.now < 65536 }
+    ensures { OnOk result (list.new ≡ list.old ++ pointer_loads_from 0 acts.now) }
+{
+    let mut reads = 0;
+    for act in acts {
+        if let Act::Fetch { pointer, .. } = act {
+            if *pointer {
+                list.push(Symbol::Loaded(reads))?;
+            }
+            reads += 1;
+        }
+    }
+    Ok(())
+}

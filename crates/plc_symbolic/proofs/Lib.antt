@@ -1,0 +1,4 @@
+pub mod Places
+pub mod Noting
+pub mod Reading
+pub mod Drafts

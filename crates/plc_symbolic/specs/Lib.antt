@@ -1,0 +1,8 @@
+-- what contracts of public calls say
+pub mod Terms
+pub mod Keys
+pub mod Same
+pub mod Equal
+pub mod Numbering
+pub mod Tidy
+pub mod Drafts

@@ -1,0 +1,194 @@
+// A list of terms while it grows. Each term stands once, its arguments before it, and a term is looked up by
+// its hash. The place of a term is settled when it is first noted.
+ghost use Rattle.std.specs.Prelude.{◌≡◌, ◌<◌, ◌^◌, [], length, slice_get, map, OnOk, IfOk};
+ghost use Rattle.plc_symbolic.specs.Terms.{term_of};
+ghost use Rattle.plc_symbolic.specs.Numbering.{put, note, note_literal, note_clause};
+ghost use Rattle.plc_symbolic.specs.Numbering.{place, number, number_lit, IsListed};
+ghost use Rattle.plc_symbolic.specs.Tidy.{IsTidy, HasArgument, IsAppliedTo, Grows};
+
+use crate::symbolic::{NodeTerm, SymbolicLit, SymbolicTerm};
+use crate::terms::term_of;
+use indexmap::IndexSet;
+use plc_base::{Items, NoMemory};
+use plc_ground::{GroundTerm, Lit};
+use std::alloc::Global;
+use std::marker::Model;
+
+/// The terms that are noted so far.
+#[derive(Drop)]
+pub struct Listing {
+    terms: IndexSet<SymbolicTerm>,
+}
+
+impl Model for Listing {
+    ghost use Rattle.std.specs.Prelude.{List};
+    ghost use Rattle.plc_symbolic.specs.declared.symbolic.SymbolicTerm.{SymbolicTerm};
+    ghost use Rattle.plc_symbolic.specs.Tidy.{IsTidy};
+
+    ghost Value = { List SymbolicTerm };
+
+    ghost view = { λ a. a.terms.keys };
+
+    ghost invariant = { λ a. IsTidy a.terms.keys };
+}
+
+// A place as ground sets have it. More than 2^32 terms count as memory that runs out.
+fn short(at: usize) -> Result<u32, NoMemory>
+    ensures { IfOk result (λ n. n ≡ at) }
+{
+    match u32::try_from(at) {
+        Ok(n) => Ok(n),
+        Err(_) => Err(NoMemory),
+    }
+}
+
+impl Listing {
+    /// No terms. It takes no memory.
+    pub fn new(alloc: Global) -> Listing
+        ensures { result ≡ [] }
+    {
+        Listing {
+            terms: IndexSet::new(alloc),
+        }
+    }
+
+    /// How many terms there are.
+    pub fn len(&self) -> usize
+        ensures { result ≡ length self.now }
+    {
+        self.terms.len()
+    }
+
+    /// The term at a place.
+    pub fn get(&self, k: usize) -> Option<SymbolicTerm>
+        ensures { result ≡ slice_get self.now k }
+    {
+        self.terms.get_index(k).copied()
+    }
+
+    // The place of a term whose argument is listed; it goes last where it is new.
+    fn put(&mut self, term: SymbolicTerm) -> Result<u32, NoMemory>
+        requires { HasArgument self.old term }
+        ensures grows { Grows self.old self.new }
+        ensures listed { OnOk result (self.new ≡ put self.old term) }
+        ensures place { IfOk result (λ n. n ≡ place self.new term) }
+    {
+        let (at, _) = self.terms.insert_full(term)?;
+        short(at)
+    }
+
+    // Lists a node and its argument.
+    fn put_node(&mut self, node: NodeTerm) -> Result<(), NoMemory>
+        ensures grows { Grows self.old self.new }
+        ensures listed { OnOk result (self.new ≡ note self.old (term_of node)) }
+    {
+        if let NodeTerm::Behind { of, .. } = node {
+            self.put(SymbolicTerm::Constant(of))?;
+        }
+        self.put(term_of(node))?;
+        Ok(())
+    }
+
+    // Lists an application that is new, its arguments before it. The answer is its place.
+    fn put_application(&mut self, node: NodeTerm, term: SymbolicTerm) -> Result<u32, NoMemory>
+        requires { IsAppliedTo node term }
+        ensures grows { Grows self.old self.new }
+        ensures listed { OnOk result (self.new ≡ note self.old term) }
+        ensures place { IfOk result (λ n. n ≡ place self.new term) }
+    {
+        self.put_node(node)?;
+        self.put(term)
+    }
+
+    /// Lists a term, its arguments before it, where they are new. The answer is its place.
+    pub fn note(&mut self, term: SymbolicTerm) -> Result<u32, NoMemory>
+        ensures grows { Grows self.old self.new }
+        ensures listed { OnOk result (self.new ≡ note self.old term) }
+        ensures place { IfOk result (λ n. n ≡ place self.new term) }
+    {
+        match term {
+            SymbolicTerm::Constant(_) => self.put(term),
+            SymbolicTerm::Application { node, .. } => match self.terms.get_index_of(&term) {
+                Some(at) => short(at),
+                None => self.put_application(node, term),
+            },
+        }
+    }
+
+    // The literal by places. Its sides are listed where they are new, the left one first.
+    fn note_literal(&mut self, l: SymbolicLit) -> Result<Lit, NoMemory>
+        ensures grows { Grows self.old self.new }
+        ensures listed { OnOk result (self.new ≡ note_literal self.old l) }
+        ensures lit { IfOk result (λ n. n ≡ number_lit self.new l) }
+    {
+        let left = self.note(l.left)?;
+        let right = self.note(l.right)?;
+        Ok(Lit {
+            left,
+            right,
+            equal: l.equal,
+        })
+    }
+
+    /// The clause by places. Its terms are listed where they are new, from left to right.
+    pub fn note_clause(
+        &mut self,
+        alloc: Global,
+        clause: &[SymbolicLit],
+    ) -> Result<Items<Lit>, NoMemory>
+        ensures grows { Grows self.old self.new }
+        ensures listed { OnOk result (self.new ≡ note_clause self.old clause.now) }
+        ensures lits { IfOk result (λ lits. lits ≡ map (number_lit self.new) clause.now) }
+    {
+        let mut lits = Vec::with_capacity(alloc, clause.len())?;
+        for l in clause {
+            let lit = self.note_literal(*l)?;
+            lits.push(lit)?;
+        }
+        Ok(Items::from_vec(lits))
+    }
+
+    // The place of a term that is listed.
+    fn place(&self, term: SymbolicTerm) -> u32
+        requires listed { IsListed self.now term }
+        requires few { length self.now < 2 ^ 32 }
+        ensures { result ≡ place self.now term }
+    {
+        match self.terms.get_index_of(&term) {
+            None => unreachable!(),
+            Some(at) => at as u32,
+        }
+    }
+
+    // A term by the place of its argument.
+    fn number(&self, term: SymbolicTerm) -> GroundTerm
+        requires listed { HasArgument self.now term }
+        requires few { length self.now < 2 ^ 32 }
+        ensures { result ≡ number self.now term }
+    {
+        match term {
+            SymbolicTerm::Constant(symbol) => GroundTerm::Const(symbol),
+            SymbolicTerm::Application { map, version, node } => GroundTerm::App {
+                map,
+                version,
+                arg: self.place(term_of(node)),
+            },
+        }
+    }
+
+    /// All terms, each by the place of its argument. 2^32 terms count as memory that runs out.
+    pub fn numbered(&self, alloc: Global) -> Result<Items<GroundTerm>, NoMemory>
+        ensures terms { IfOk result (λ terms. terms ≡ map (number self.now) self.now) }
+        ensures tidy { IsTidy self.now }
+        ensures few { OnOk result (length self.now < 2 ^ 32) }
+    {
+        if self.terms.len() > 0xffff_ffff {
+            return Err(NoMemory);
+        }
+        let mut terms = Items::new(alloc);
+        for term in self.terms.as_slice() {
+            terms.push(self.number(*term))?;
+        }
+        Ok(terms)
+    }
+}

@@ -1,0 +1,102 @@
+// Terms before they are numbered. A term is a constant, or a version of a map at a node; a node is a
+// constant, or a pointer field of one in the state before the step. No term of a ground set is deeper.
+ghost use Rattle.std.specs.Prelude.{◌≡◌};
+ghost use Rattle.std.proofs.Common.{ap};
+ghost use Rattle.plc_symbolic.specs.Keys.{symbol_key, node_key, map_key, term_key, term_input};
+ghost use Rattle.plc_symbolic.specs.Equal.{term_is};
+
+use plc_base::FieldId;
+use plc_ground::{Map, Symbol};
+use std::hash::{Hash, Hasher};
+
+/// A node of a ground set.
+#[derive(Clone, Copy, Debug, PartialEq, Eq)]
+pub enum NodeTerm {
+    At(Symbol),
+    /// A pointer field of a node, in the state before.
+    Behind { f: FieldId, of: Symbol },
+}
+
+/// A term of a ground set.
+#[derive(Clone, Copy, Debug, PartialEq, Eq)]
+pub enum SymbolicTerm {
+    Constant(Symbol),
+    /// A version of a map at a node.
+    Application {
+        map: Map,
+        version: u16,
+        node: NodeTerm,
+    },
+}
+
+/// An equation or an inequation of two terms.
+#[derive(Clone, Copy, Debug, PartialEq, Eq)]
+pub struct SymbolicLit {
+    pub left: SymbolicTerm,
+    pub right: SymbolicTerm,
+    pub equal: bool,
+}
+
+// A number of a constant, for hashing alone: different constants may share it.
+fn symbol_key(symbol: Symbol) -> u64
+    ensures { result ≡ symbol_key symbol }
+{
+    match symbol {
+        Symbol::Null => 0,
+        Symbol::New => 1,
+        Symbol::Yes => 2,
+        Symbol::Nobody => 3,
+        Symbol::Me => 4,
+        Symbol::You => 5,
+        Symbol::Shared(i) => 8 + 16 * i as u64,
+        Symbol::Mine(i) => 9 + 16 * i as u64,
+        Symbol::Theirs(i) => 10 + 16 * i as u64,
+        Symbol::Bound(i) => 11 + 16 * i as u64,
+        Symbol::Loaded(i) => 12 + 16 * i as u64,
+        Symbol::Value(i) => 13 + 16 * i as u64,
+        Symbol::Number(n) => 14 + 16 * n as u64,
+    }
+}
+
+// The same of a node.
+fn node_key(node: NodeTerm) -> u64
+    ensures { result ≡ node_key node }
+{
+    match node {
+        NodeTerm::At(symbol) => symbol_key(symbol),
+        NodeTerm::Behind { f, of } => symbol_key(of) + 0x10_0000 * (1 + f.0 as u64),
+    }
+}
+
+// The same of a map.
+fn map_key(map: Map) -> u64
+    ensures { result ≡ map_key map }
+{
+    match map {
+        Map::Field(f) => 1 + 4 * f.0 as u64,
+        Map::Ghost(g) => 2 + 4 * g as u64,
+        Map::Retired => 3,
+    }
+}
+
+// The same of a term.
+fn term_key(term: SymbolicTerm) -> u64
+    ensures { result ≡ term_key term }
+{
+    match term {
+        SymbolicTerm::Constant(symbol) => symbol_key(symbol),
+        SymbolicTerm::Application { map, version, node } => {
+            node_key(node) + 0x10_0000_0000 * map_key(map) + 0x1000_0000_0000 * version as u64
+        }
+    }
+}
+
+impl Hash for SymbolicTerm {
+    ghost hash_input = { term_input };
+
+    ghost respects_eq = { λ a b same. ap term_input (term_is a b same) };
+
+    fn hash<H: Hasher>(&self, state: &mut H) {
+        state.write_u64(term_key(*self));
+    }
+}
