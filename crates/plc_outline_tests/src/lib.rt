@@ -11,5 +11,3 @@ mod erased;
 mod files;
 #[cfg(test)]
 mod obligations;
-#[cfg(test)]
-mod sets;
