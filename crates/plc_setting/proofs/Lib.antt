@@ -1,3 +1,4 @@
+pub mod ActSorts
 pub mod Alike
 pub mod Fitting
 pub mod Runs

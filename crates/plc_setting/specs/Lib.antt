@@ -5,3 +5,4 @@ pub mod Acts
 pub mod Setting
 pub mod Sorts
 pub mod Fit
+pub mod WellSorted

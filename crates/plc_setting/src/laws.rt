@@ -1,0 +1,11 @@
+// Laws of settings: what the ground sets that are made of them rest on.
+ghost use Rattle.plc_flow.specs.declared.flow.Flow.{Flow};
+ghost use Rattle.plc_logic.specs.declared.clause.Outline.{Outline};
+ghost use Rattle.plc_setting.specs.declared.obligations.Obligation.{Obligation};
+ghost use Rattle.plc_setting.specs.Fit.{Fits};
+ghost use Rattle.plc_setting.specs.WellSorted.{ActsFit};
+
+/// The constants that an act names have the sorts that its row of the table asks.
+pub fn acts_fit()
+    ensures { (flow : Flow) (outline : Outline) (o : Obligation) → Fits flow outline → ActsFit flow outline o }
+{}
