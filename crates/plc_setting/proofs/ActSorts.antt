@@ -48,13 +48,13 @@ use Rattle.plc_setting.proofs.Fitting.{sorted_at, executed_sorted}
 
 -- ---- the local that a variable's constant names
 
-abbrev Stands : (Local → Bool) → List Local → ℕ → ℕ → Type 0
+abbrev pub Stands : (Local → Bool) → List Local → ℕ → ℕ → Type 0
 Stands k ls b p = (n : ℕ) × (l : Local) × (p ≡ b + n) × (slice_get ls n ≡ Some l) × (k l ≡ true)
 
 further : (k : Local → Bool) (l : Local) (ls : List Local) (b p : ℕ) → Stands k ls (b + 1) p → Stands k (l ∷ ls) b p
 further k l ls b p s = (suc (s.0), s.1, omega (arith, s.2), s.3, s.4)
 
-kind_at_place : (k : Local → Bool) (ls : List Local) (b v p : ℕ) → slice_get (places_from k b ls) v ≡ Some p → Stands k ls b p
+pub kind_at_place : (k : Local → Bool) (ls : List Local) (b v p : ℕ) → slice_get (places_from k b ls) v ≡ Some p → Stands k ls b p
 kind_at_place k [] b v p e = absurd cc
 kind_at_place k (l ∷ ls) b v p e = go (λ w f. kind_at_place k ls (b + 1) w p f) (k l) refl v e
   where

@@ -1,4 +1,5 @@
 pub mod ActSorts
 pub mod Alike
 pub mod Fitting
+pub mod NodeSorts
 pub mod Runs
