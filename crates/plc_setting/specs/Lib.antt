@@ -6,3 +6,4 @@ pub mod Setting
 pub mod Sorts
 pub mod Fit
 pub mod WellSorted
+pub mod Numbers
