@@ -9,4 +9,5 @@ use Rattle.plc_setting.specs.Setting.{all_numbers, numbers_of}
 -- they ascend, each once, and are those that stand in the file
 pub record NumbersFit (flow : Flow) (outline : Outline) : Type 0 where
   pub ascending : IsStrictlyIncreasing (numbers_of flow outline)
-  pub same : (n : ℕ) → list_any (λ k. k == n) (numbers_of flow outline) ≡ list_any (λ k. k == n) (all_numbers flow outline)
+  pub same : (n : ℕ) → list_any (λ k. k == n) (numbers_of flow outline)
+      ≡ list_any (λ k. k == n) (all_numbers flow outline)
