@@ -6,12 +6,11 @@ use Rattle.std.proofs.lemmas.List.Sums.{sum_by-cons}
 use Rattle.plc_base.specs.Limits.{most}
 use Rattle.plc_base.specs.declared.limits.What1.TheVariants as limits
 use Rattle.plc_lang.specs.declared.syntax.Ghost.{Ghost}
-use Rattle.plc_lang.specs.declared.syntax.Local.{Local}
 use Rattle.plc_lang.specs.declared.syntax.Op.{Op}
 use Rattle.plc_lang.specs.declared.syntax.File.{File}
 use Rattle.plc_lang.specs.declared.syntax.Primitive.{Primitive}
-use Rattle.plc_lang.specs.Fit.{FileFits, OpFits}
-use Rattle.plc_lang.specs.Locals.{locals_of, locals_or_none as locals_of_op}
+use Rattle.plc_lang.specs.Fit.{FileFits}
+use Rattle.plc_lang.specs.Locals.{locals_or_none as locals_of_op}
 use Rattle.plc_lang.specs.Numbering.{values_in, value_number, value_from, value_at}
 use Rattle.plc_lang.specs.WellSorted.{IsWellSorted, AreWellSorted}
 use Rattle.plc_flow.specs.declared.flow.Step.{Step}
@@ -24,7 +23,7 @@ use Rattle.plc_setting.specs.declared.acts.Act.{Act}
 use Rattle.plc_setting.specs.declared.setting.Variables.{Variables}
 use Rattle.plc_setting.specs.Acts.{act_of, acts_of}
 use Rattle.plc_setting.specs.Fit.{Fits}
-use Rattle.plc_setting.specs.Parts.{prims_of, executed, locals_of_step, locals_or_none, point_locals, has_point, acting_locals, owner_locals}
+use Rattle.plc_setting.specs.Parts.{prims_of, executed, locals_of_step, locals_or_none, has_point, acting_locals, owner_locals}
 
 -- ---- primitives
 

@@ -1,5 +1,6 @@
--- What primitives do in ground sets: a table with a row for each. A variable is named by the constant that it has at first; every other constant names itself.
-use Rattle.std.specs.Prelude.{ℕ, Bool, true, false, List, [], ◌∷◌, map, slice_get, unwrap_or}
+-- What primitives do in ground sets: a table with a row for each. A variable is named by the constant that it has at
+-- first; every other constant names itself.
+use Rattle.std.specs.Prelude.{ℕ, Bool, true, false, List, map, slice_get, unwrap_or}
 use Rattle.plc_base.specs.Functions.{is_retire}
 use Rattle.plc_lang.specs.declared.syntax.Arg.{Arg}
 use Rattle.plc_lang.specs.declared.syntax.Arg.TheVariants as args

@@ -5,3 +5,5 @@ pub mod Acts
 pub mod Setting
 pub mod Sorts
 pub mod Fit
+pub mod WellSorted
+pub mod Numbers

@@ -91,12 +91,14 @@ owner_locals flow (Own k c) = []
 owner_locals flow (Other k p c) = point_locals flow p.0
 owner_locals flow (Claim k j) = []
 
--- what holds before and is read for the acting thread: the invariants, but not before `init`; then the clauses of the step's first point
+-- what holds before and is read for the acting thread: the invariants, but not before `init`; then the clauses of the
+-- step's first point
 abbrev pub acting_premises : Flow → Outline → Obligation → List Clause
 acting_premises flow outline (Start i) = []
 acting_premises flow outline (Enter o c) = outline.invariants
 acting_premises flow outline (Own k c) = outline.invariants ++ clauses_before flow outline (slice_get flow.steps k.0)
-acting_premises flow outline (Other k p c) = outline.invariants ++ clauses_before flow outline (slice_get flow.steps k.0)
+acting_premises flow outline (Other k p c) =
+    outline.invariants ++ clauses_before flow outline (slice_get flow.steps k.0)
 acting_premises flow outline (Claim k j) = outline.invariants ++ clauses_before flow outline (slice_get flow.steps k.0)
 
 -- what holds before and is read for the owner: the clauses of its point
@@ -111,7 +113,8 @@ owner_premises flow outline (Claim k j) = []
 abbrev pub conclusion : Flow → Outline → Obligation → Option Clause
 conclusion flow outline (Start i) = slice_get outline.invariants i
 conclusion flow outline (Enter o c) = slice_get (entry_clauses flow outline (slice_get flow.gates o.0)) c
-conclusion flow outline (Own k c) = slice_get (outline.invariants ++ clauses_behind flow outline (slice_get flow.steps k.0)) c
+conclusion flow outline (Own k c) =
+    slice_get (outline.invariants ++ clauses_behind flow outline (slice_get flow.steps k.0)) c
 conclusion flow outline (Other k p c) = slice_get (clauses_at flow outline p.0) c
 conclusion flow outline (Claim k j) = None
 

@@ -5,7 +5,6 @@ use Rattle.std.specs.Ordering.{nat_cmp}
 use Rattle.std.specs.BTreeSet.{insert_key}
 use Rattle.plc_base.specs.declared.ids.FieldId.{FieldId}
 use Rattle.plc_lang.specs.declared.syntax.Field.{Field}
-use Rattle.plc_lang.specs.declared.syntax.Ghost.{Ghost}
 use Rattle.plc_lang.specs.declared.syntax.Local.{Local}
 use Rattle.plc_lang.specs.declared.syntax.Num.{Num}
 use Rattle.plc_lang.specs.declared.syntax.Num.TheVariants as nums
@@ -98,7 +97,8 @@ if_made false = []
 
 -- the constants that are nodes, in order, between null and the rest the pointer variables
 abbrev pub node_constants : List Symbol → Bool → ℕ → List Symbol → List Symbol
-node_constants pointers makes bound loads = symbols.Null ∷ (pointers ++ (if_made makes ++ (map symbols.Bound (below bound) ++ loads)))
+node_constants pointers makes bound loads =
+    symbols.Null ∷ (pointers ++ (if_made makes ++ (map symbols.Bound (below bound) ++ loads)))
 
 -- the same without null and `new`
 abbrev pub plain_constants : List Symbol → ℕ → List Symbol → List Symbol
@@ -107,7 +107,9 @@ plain_constants pointers bound loads = pointers ++ (map symbols.Bound (below bou
 -- the pointer fields of the struct, where k fields stand before
 abbrev pub pointer_fields_from : ℕ → List Field → List FieldId
 pointer_fields_from k [] = []
-pointer_fields_from k (f ∷ fs) = if f.pointer then record { 0 = k } ∷ pointer_fields_from (k + 1) fs else pointer_fields_from (k + 1) fs
+pointer_fields_from k (f ∷ fs) =
+    if f.pointer then record { 0 = k } ∷ pointer_fields_from (k + 1) fs
+    else pointer_fields_from (k + 1) fs
 
 -- the pointer fields of a node, and of nodes, node by node
 abbrev pub fields_of : List FieldId → Symbol → List NodeTerm

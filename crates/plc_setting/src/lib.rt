@@ -4,6 +4,7 @@
 
 mod acts;
 mod constants;
+mod laws;
 mod nodes;
 mod numbers;
 mod obligations;
@@ -15,6 +16,7 @@ mod symbols;
 
 pub use acts::{Act, pointer_symbol};
 pub use constants::constants_of;
+pub use laws::{acts_fit, nodes_fit, numbers_fit};
 pub use obligations::Obligation;
 pub use parts::{
     acting_locals, acting_point, claim_made, conclusion, executed, has_owner, invariants_before,

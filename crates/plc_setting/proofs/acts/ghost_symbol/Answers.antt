@@ -1,6 +1,5 @@
-use Rattle.std.proofs.Common.{◌≡◌, subst, sym, arith}
-use Rattle.std.specs.List.{sum_by}
-use Rattle.plc_lang.specs.Numbering.{values_in, value_number}
+use Rattle.std.proofs.Common.{◌≡◌, subst, arith}
+use Rattle.plc_lang.specs.Numbering.{value_number}
 use Rattle.plc_lang.specs.WellSorted.{WriteIsWellSorted}
 use Rattle.plc_setting.proofs.Fitting.{values_few, number_small}
 use Rattle.plc_setting.proofs.acts.ghost_symbol.Goals as goal

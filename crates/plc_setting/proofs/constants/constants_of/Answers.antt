@@ -3,7 +3,7 @@ use Rattle.std.specs.List.{sum_by}
 use Rattle.plc_lang.specs.Numbering.{values_in}
 use Rattle.plc_ground.specs.declared.terms.Symbol.{Symbol}
 use Rattle.plc_ground.specs.declared.terms.Symbol.TheVariants as symbols
-use Rattle.plc_setting.specs.Setting.{below, loads_from, if_made, if_owned, numbers_of}
+use Rattle.plc_setting.specs.Setting.{below, loads_from, if_made, if_owned}
 use Rattle.plc_setting.proofs.Fitting.{values_few}
 use Rattle.plc_setting.proofs.Runs.{follows, eight_runs}
 use Rattle.plc_setting.proofs.constants.constants_of.Goals as goal

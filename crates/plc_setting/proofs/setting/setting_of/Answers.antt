@@ -1,9 +1,7 @@
 use Rattle.std.proofs.Common.{true, false, length, refl, ap, ◌∙◌}
 use Rattle.std.specs.List.{list_any}
 use Rattle.plc_lang.specs.Allocation.{is_new}
-use Rattle.plc_lang.specs.WellSorted.{AreWellSorted}
 use Rattle.plc_setting.specs.Acts.{acts_of}
-use Rattle.plc_setting.specs.Parts.{acting_locals, owner_locals, executed}
 use Rattle.plc_setting.specs.Setting.{variables_of, bound_of, pointer_variables, pointer_loads_from, pointer_fields_from, node_constants, plain_constants, nodes_of}
 use Rattle.plc_setting.proofs.Fitting.{executed_sorted, acts_short}
 use Rattle.plc_setting.proofs.Alike.{both, all_three, all_four, one_setting}

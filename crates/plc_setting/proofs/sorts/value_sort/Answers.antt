@@ -1,4 +1,4 @@
-use Rattle.std.proofs.Common.{◌≡◌, Some, sym, ◌∙◌, arith}
+use Rattle.std.proofs.Common.{◌≡◌, Some, arith}
 use Rattle.plc_lang.specs.Numbering.{value_at}
 use Rattle.plc_setting.proofs.Fitting.{field_there}
 use Rattle.plc_setting.proofs.sorts.value_sort.Goals as goal
