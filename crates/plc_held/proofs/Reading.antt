@@ -1,0 +1,197 @@
+-- Clauses of outlines, read as terms, say what they say of the state.
+use Rattle.std.proofs.Common.{◌≡◌, ℕ, zero, suc, Bool, true, false, not, ◌||◌, ◌==◌, List, [], ◌∷◌, map, Option, Some, None, slice_get, refl, sym, ap, ◌∙◌, subst, inl, inr}
+use Rattle.std.specs.Prelude.{slice_index_or}
+use Rattle.std.specs.List.{list_any}
+use Rattle.std.proofs.lemmas.Bool.{eq-eqb, eqb-true, not-true, both_ways, or_parts}
+use Rattle.plc_lang.specs.declared.syntax.Local.{Local}
+use Rattle.plc_lang.specs.declared.syntax.File.{File}
+use Rattle.plc_lang.specs.Numbering.{value_number, value_at}
+use Rattle.plc_lang.proofs.Numbers.{values_are_numbered}
+use Rattle.plc_logic.specs.declared.clause.Base.{Base}
+use Rattle.plc_logic.specs.declared.clause.Base.TheVariants as bases
+use Rattle.plc_logic.specs.declared.clause.Term.{Term}
+use Rattle.plc_logic.specs.declared.clause.Term.TheVariants as terms
+use Rattle.plc_logic.specs.declared.clause.Sort.{Sort}
+use Rattle.plc_logic.specs.declared.clause.Sort.TheVariants as sorts
+use Rattle.plc_logic.specs.declared.clause.Literal.{Literal}
+use Rattle.plc_logic.specs.declared.clause.Literal.TheVariants.{Same, Retired}
+use Rattle.plc_logic.specs.Negation.{negation}
+use Rattle.plc_logic.specs.Fit.{InReach, pointer_sort, IsNode, HasSort, LiteralFits}
+use Rattle.plc_ground.specs.declared.terms.Symbol.{Symbol}
+use Rattle.plc_ground.specs.declared.terms.Symbol.TheVariants as symbols
+use Rattle.plc_ground.specs.declared.terms.Map.{Map}
+use Rattle.plc_ground.specs.declared.terms.Map.TheVariants as maps
+use Rattle.plc_setting.specs.Setting.{local_symbol}
+use Rattle.plc_setting.specs.Sorts.{field_sort, auxiliary_sort, local_sort}
+use Rattle.plc_items.specs.declared.execution.Execution.{Execution}
+use Rattle.plc_items.specs.Execution.{current, version, map_now}
+use Rattle.plc_items.specs.Items.{base_node, me, read_term, read_literal}
+use Rattle.plc_symbolic.specs.declared.symbolic.NodeTerm.{NodeTerm}
+use Rattle.plc_symbolic.specs.declared.symbolic.NodeTerm.TheVariants.{At}
+use Rattle.plc_gc.specs.State.{GcState, entry, is_retired}
+use Rattle.plc_gc.specs.Clauses.{local_value, thread_number, base_node as gc_base_node, term_value, literal_holds}
+use Rattle.plc_flow.proofs.Each.{Each}
+use Rattle.plc_held.proofs.Acts.{IsNamed}
+use Rattle.plc_held.proofs.Numbering.{LiteralIsTrue}
+use Rattle.plc_held.proofs.Meaning.{Meaning, node_in, value_in, sort_in, IsTrueIn, node_value, node_sort}
+use Rattle.plc_held.proofs.Executed.{IsCurrent}
+use Rattle.plc_held.proofs.Scene.{Scene, value_or, symbol_in, gc_map, seen, slot_of}
+use Rattle.plc_held.proofs.Variables.{SortsAre}
+
+-- ---- whose clause it is
+
+-- the locals of the acting thread, or of the owner
+abbrev pub locals_for : Scene → Bool → List Local
+locals_for w false = w.mine
+locals_for w true = w.theirs
+
+-- what a clause may name stands for what it names when it is asked for this thread, or for none
+pub record IsReadFor (w : Scene) (file : File) (reach : InReach) (g : GcState) (who : Option ℕ) (owner : Bool) : Type 0 where
+  pub of_file : reach.file ≡ file
+  pub declared : (k : ℕ) (l : Local) → slice_get reach.locals k ≡ Some l → slice_get (locals_for w owner) k ≡ Some l
+  pub value : (k : ℕ) (l : Local) → slice_get reach.locals k ≡ Some l → symbol_in w g (local_symbol owner k) ≡ local_value g who k
+  pub thread : reach.in_operation ≡ true → symbol_in w g (me owner) ≡ thread_number who
+
+-- what the meaning says of a state: constants that stand for the state's values, and maps
+pub record Means (e : Meaning) (file : File) (w : Scene) (x : Execution) (g : GcState) : Type 0 where
+  pub sorts_are : SortsAre e file w.mine w.theirs
+  pub ghosts : w.ghosts ≡ file.ghosts
+  pub now : IsCurrent e x (seen w g)
+  pub entries : (m : Map) (n : ℕ) → e.version m (version x m) n ≡ entry g (gc_map g m) n
+  pub constants : (s : Symbol) → slot_of w s ≡ None → IsNamed s → e.symbol s ≡ symbol_in w g s
+
+local_named : (owner : Bool) (k : ℕ) → IsNamed (local_symbol owner k)
+local_named false k = refl
+local_named true k = refl
+
+node_at : (e : Meaning) (names : List NodeTerm) (i : ℕ) → e.symbol_sort symbols.Null ≡ sorts.Node → Each (λ t. node_sort e t ≡ sorts.Node) names → node_sort e (slice_index_or names i (At symbols.Null)) ≡ sorts.Node
+node_at e [] i null h = null
+node_at e (t ∷ ts) zero null h = h.0
+node_at e (t ∷ ts) (suc i) null h = node_at e ts i null h.1
+
+module _ (e : Meaning) (file : File) (w : Scene) (x : Execution) (g : GcState) (means : Means e file w x g)
+    (reach : InReach) (who : Option ℕ) (owner : Bool) (reads : IsReadFor w file reach g who owner)
+    (names : List NodeTerm) (are_nodes : Each (λ t. node_sort e t ≡ sorts.Node) names) where
+  -- the quantified names
+  abbrev pub binding : ℕ → ℕ
+  binding i = node_in e (slice_index_or names i (At symbols.Null))
+
+  local_sorted : (k : ℕ) (l : Local) → slice_get reach.locals k ≡ Some l → e.symbol_sort (local_symbol owner k) ≡ pointer_sort l.pointer
+  local_sorted k l at = go owner (reads.declared k l at)
+    where
+      go : (b : Bool) → slice_get (locals_for w b) k ≡ Some l → e.symbol_sort (local_symbol b k) ≡ pointer_sort l.pointer
+      go false at = means.sorts_are.my k ∙ ap local_sort at
+      go true at = means.sorts_are.other k ∙ ap local_sort at
+
+  local_is : (k : ℕ) (l : Local) → slice_get reach.locals k ≡ Some l → e.symbol (current x (local_symbol owner k)) ≡ local_value g who k
+  local_is k l at = means.now.value (local_symbol owner k) (local_named owner k) ∙ reads.value k l at
+
+  -- ---- nodes and terms
+
+  base_is : (b : Base) → IsNode reach b → node_in e (base_node x owner names b) ≡ gc_base_node g who binding b
+  base_is (bases.Shared i) h = means.now.value (symbols.Shared i) refl
+  base_is (bases.Local k) h = local_is k h.0 h.1
+  base_is (bases.Bound i) h = refl
+
+  -- a term has its value, and its sort
+  record IsRead (t : Term) (s : Sort) : Type 0 where
+    value : value_in e (read_term file.ghosts x owner names t) ≡ term_value g who binding t
+    sort : sort_in e (read_term file.ghosts x owner names t) ≡ s
+
+  map_is : (m : Map) (b : Base) → IsNode reach b → value_in e (map_now x m (base_node x owner names b)) ≡ entry g (gc_map g m) (gc_base_node g who binding b)
+  map_is m b h = means.entries m (node_in e (base_node x owner names b)) ∙ ap (entry g (gc_map g m)) (base_is b h)
+
+  term_is : (t : Term) (s : Sort) → HasSort reach t s → IsRead t s
+  term_is (terms.Shared i) s h = record { value = means.now.value (symbols.Shared i) refl; sort = means.now.sort (symbols.Shared i) ∙ means.sorts_are.shared i ∙ sym h.1 }
+  term_is (terms.Local k) s h = record { value = local_is k h.0 h.1; sort = means.now.sort (local_symbol owner k) ∙ local_sorted k h.0 h.1 ∙ sym h.2 }
+  term_is (terms.Bound i) s h = record { value = node_value e (slice_index_or names i (At symbols.Null)); sort = node_at e names i means.sorts_are.null are_nodes ∙ sym h.1 }
+  term_is (terms.FieldOf b f) s h = record {
+    value = map_is (maps.Field f) b h.0;
+    sort = means.sorts_are.maps (maps.Field f) ∙ ap field_sort (subst (λ (file : File). slice_get file.fields f.0 ≡ Some h.1) reads.of_file h.2) ∙ sym h.3;
+  }
+  term_is (terms.GhostOf b i) s h = record {
+    value = map_is (maps.Ghost i) b h.0;
+    sort = means.sorts_are.maps (maps.Ghost i) ∙ ap (auxiliary_sort i) (subst (λ (file : File). slice_get file.ghosts i ≡ Some h.1) reads.of_file h.2) ∙ sym h.3;
+  }
+  term_is terms.Null s h = record { value = means.constants symbols.Null refl refl; sort = means.sorts_are.null ∙ sym h }
+  term_is (terms.Number n) s h = record { value = means.constants (symbols.Number n) refl refl; sort = means.sorts_are.number n ∙ sym h }
+  term_is (terms.Value i v) s h =
+      let there = (values_are_numbered file.ghosts).there i v h.0 (subst (λ (file : File). slice_get file.ghosts i ≡ Some h.0) reads.of_file h.1) h.2 in
+      record {
+        value = means.constants (symbols.Value (value_number file.ghosts i v)) refl refl
+            ∙ ap (λ gs. value_or (value_number file.ghosts i v) (value_at gs (value_number file.ghosts i v))) means.ghosts
+            ∙ ap (value_or (value_number file.ghosts i v)) there;
+        sort = means.sorts_are.value (value_number file.ghosts i v) ∙ ap Rattle.plc_setting.specs.Sorts.value_sort there ∙ sym h.3;
+      }
+  term_is terms.Me s h = record { value = me_is owner refl; sort = me_sorted owner ∙ sym h.1 }
+    where
+      me_sorted : (b : Bool) → e.symbol_sort (me b) ≡ sorts.Thread
+      me_sorted false = means.sorts_are.me
+      me_sorted true = means.sorts_are.you
+
+      me_fixed : (b : Bool) → e.symbol (me b) ≡ symbol_in w g (me b)
+      me_fixed false = means.constants symbols.Me refl refl
+      me_fixed true = means.constants symbols.You refl refl
+
+      me_is : (b : Bool) → owner ≡ b → e.symbol (me owner) ≡ thread_number who
+      me_is b same = me_fixed owner ∙ reads.thread h.0
+  term_is terms.Nobody s h = record { value = means.constants symbols.Nobody refl refl; sort = means.sorts_are.nobody ∙ sym h }
+
+  -- ---- literals
+
+  same_true : (a b : Term) (s : Sort) (equal : Bool) → HasSort reach a s → HasSort reach b s → literal_holds g who binding (Same a b equal) ≡ true
+      → LiteralIsTrue (sort_in e) (value_in e) (read_literal file.ghosts x owner names (Same a b equal))
+  same_true a b s true i j h = ((term_is a s i).sort ∙ sym (term_is b s j).sort, (term_is a s i).value ∙ eqb-true (term_value g who binding a) (term_value g who binding b) h ∙ sym (term_is b s j).value)
+  same_true a b s false i j h = λ same. both_ways (term_value g who binding a == term_value g who binding b) (not-true (term_value g who binding a == term_value g who binding b) h)
+      (eq-eqb (term_value g who binding a) (term_value g who binding b) (sym (term_is a s i).value ∙ same ∙ (term_is b s j).value))
+
+  retired_true : (b : Base) (is_so : Bool) → IsNode reach b → literal_holds g who binding (Retired b is_so) ≡ true
+      → LiteralIsTrue (sort_in e) (value_in e) (read_literal file.ghosts x owner names (Retired b is_so))
+  retired_true b true i h = (
+    means.sorts_are.maps maps.Retired ∙ sym means.sorts_are.yes,
+    map_is maps.Retired b i ∙ eqb-true (entry g (gc_map g maps.Retired) (gc_base_node g who binding b)) 1 h ∙ sym (means.constants symbols.Yes refl refl),
+  )
+  retired_true b false i h = λ same. both_ways (is_retired g (gc_base_node g who binding b)) (not-true (is_retired g (gc_base_node g who binding b)) h)
+      (eq-eqb (entry g (gc_map g maps.Retired) (gc_base_node g who binding b)) 1 (sym (map_is maps.Retired b i) ∙ same ∙ means.constants symbols.Yes refl refl))
+
+  literal_true : (l : Literal) → LiteralFits reach l → literal_holds g who binding l ≡ true → LiteralIsTrue (sort_in e) (value_in e) (read_literal file.ghosts x owner names l)
+  literal_true (Same a b equal) fits h = same_true a b fits.0 equal fits.1 fits.2 h
+  literal_true (Retired b is_so) fits h = retired_true b is_so fits h
+
+  -- a clause that holds is true
+  pub some_true : (ls : List Literal) → Each (LiteralFits reach) ls → list_any (literal_holds g who binding) ls ≡ true → IsTrueIn e (map (read_literal file.ghosts x owner names) ls)
+  some_true [] fits h = cc
+  some_true (l ∷ ls) fits h = go (some_true ls fits.1) (literal_holds g who binding l) refl h
+    where
+      go : (list_any (literal_holds g who binding) ls ≡ true → IsTrueIn e (map (read_literal file.ghosts x owner names) ls)) → (b : Bool) → literal_holds g who binding l ≡ b
+          → (b || list_any (literal_holds g who binding) ls) ≡ true → IsTrueIn e (map (read_literal file.ghosts x owner names) (l ∷ ls))
+      go rest true is h = inl (literal_true l fits.0 is)
+      go rest false is h = inr (rest h)
+
+  -- ---- negations
+
+  negated : (l : Literal) → literal_holds g who binding l ≡ false → literal_holds g who binding (negation l) ≡ true
+  negated (Same a b true) h = ap not h
+  negated (Same a b false) h = go (term_value g who binding a == term_value g who binding b) h
+    where
+      go : (b : Bool) → not b ≡ false → b ≡ true
+      go true h = refl
+      go false h = cc
+  negated (Retired b true) h = ap not h
+  negated (Retired b false) h = go (is_retired g (gc_base_node g who binding b)) h
+    where
+      go : (b : Bool) → not b ≡ false → b ≡ true
+      go true h = refl
+      go false h = cc
+
+  negation_fits : (l : Literal) → LiteralFits reach l → LiteralFits reach (negation l)
+  negation_fits (Same a b equal) h = h
+  negation_fits (Retired b is_so) h = h
+
+  -- of a clause that is false each literal's negation is true
+  pub none_true : (ls : List Literal) → Each (LiteralFits reach) ls → list_any (literal_holds g who binding) ls ≡ false
+      → Each (IsTrueIn e) (map (λ l. read_literal file.ghosts x owner names (negation l) ∷ []) ls)
+  none_true [] fits h = tt
+  none_true (l ∷ ls) fits h =
+      let parts = or_parts (literal_holds g who binding l) (list_any (literal_holds g who binding) ls) h in
+      (inl (literal_true (negation l) (negation_fits l fits.0) (negated l parts.0)), none_true ls fits.1 parts.1)

@@ -1,0 +1,150 @@
+-- Primitives that are executed are acts that run.
+use Rattle.std.proofs.Common.{◌≡◌, ℕ, ◌+◌, ◌<◌, ◌≤◌, Bool, true, false, List, [], ◌∷◌, Some, count_by, cond, refl, ap, ◌∙◌, subst, arith}
+use Rattle.std.proofs.lemmas.List.Sums.{sum_by-cons}
+use Rattle.plc_base.specs.Functions.{is_retire}
+use Rattle.plc_lang.specs.declared.syntax.Arg.{Arg}
+use Rattle.plc_lang.specs.declared.syntax.Arg.TheVariants as args
+use Rattle.plc_lang.specs.declared.syntax.File.{File}
+use Rattle.plc_lang.specs.declared.syntax.Rel.{Rel}
+use Rattle.plc_lang.specs.declared.syntax.Rel.TheVariants as rels
+use Rattle.plc_lang.specs.declared.syntax.Ghost.{Ghost as AuxiliaryField}
+use Rattle.plc_lang.specs.declared.syntax.Primitive.{Primitive}
+use Rattle.plc_lang.specs.declared.syntax.Primitive.TheVariants.{Null, Copy, New, Load, Store, StoreNull, DataSet, DataLoad, DataStore, DataTest, Refresh, RefreshLoad, RefreshStore, Call, Ghost}
+use Rattle.plc_lang.specs.Allocation.{is_new}
+use Rattle.plc_lang.specs.Shape.{Shape, PrimitiveIn, PrimitivesIn}
+use Rattle.plc_lang.specs.WellSorted.{IsWellSorted, AreWellSorted}
+use Rattle.plc_ground.specs.declared.terms.Symbol.{Symbol}
+use Rattle.plc_setting.specs.declared.acts.Act.{Act}
+use Rattle.plc_setting.specs.declared.acts.Act.TheVariants.{Assign, Make, Fetch, Update, Test, Skip}
+use Rattle.plc_setting.specs.declared.setting.Variables.{Variables}
+use Rattle.plc_setting.specs.Acts.{data_test, call_act, act_of, acts_of}
+use Rattle.plc_setting.specs.Setting.{variables_of}
+use Rattle.plc_gc.specs.State.{GcState, count, made}
+use Rattle.plc_gc.specs.Primitives.{goes, after_call, after}
+use Rattle.plc_gc.specs.Ranges.{IsInRange}
+use Rattle.plc_gc.specs.Run.{turn, execute}
+use Rattle.plc_gc.proofs.Ranges.{ranged_primitive}
+use Rattle.plc_held.proofs.Acts.{View, with_symbol, with_map, act_after, ActsRun}
+use Rattle.plc_held.proofs.Current.{bit}
+use Rattle.plc_held.proofs.Scene.{Scene, seen}
+use Rattle.plc_held.proofs.Changes.{put_fields, update_fields, made_fields}
+use Rattle.plc_held.proofs.Variables.{ShapeFits}
+use Rattle.plc_held.proofs.Rows.{RowFits, IsRow, row}
+
+-- ---- how many nodes there are
+
+abbrev pub made_by : Act → ℕ
+made_by (Assign p e) = 0
+made_by (Make p) = 1
+made_by (Fetch p q f pointer) = 0
+made_by (Update checked m p e) = 0
+made_by (Test a b equal) = 0
+made_by Skip = 0
+
+count_act : (v : View) (a : Act) → (act_after v a).count ≡ v.count + made_by a
+unfolding with_symbol with_map
+count_act v (Assign p e) = omega arith
+count_act v (Make p) = omega arith
+count_act v (Fetch p q f pointer) = omega arith
+count_act v (Update checked m p e) = omega arith
+count_act v (Test a b equal) = omega arith
+count_act v Skip = omega arith
+
+test_makes : (r : Rel) (a b : Symbol) → made_by (data_test r a b) ≡ 0
+test_makes rels.Eq a b = refl
+test_makes rels.Ne a b = refl
+test_makes rels.Lt a b = refl
+test_makes rels.Ge a b = refl
+
+call_makes : (v : Variables) (b : Bool) (a : Arg) → made_by (call_act v b a) ≡ 0
+call_makes v true (args.Var p) = refl
+call_makes v true args.Null = refl
+call_makes v true args.None = refl
+call_makes v false a = refl
+
+makes : (gs : List AuxiliaryField) (v : Variables) (k : Primitive) → made_by (act_of gs v k) ≡ bit (is_new k)
+makes gs v (New p) = refl
+makes gs v (DataTest r x e) = test_makes r _ _
+makes gs v (Call f a) = call_makes v (is_retire f) a
+makes gs v _ = refl
+
+-- ---- fields stay
+
+call_fields : (g : GcState) (t : ℕ) (b : Bool) (a : Arg) → (after_call g t b a).fields ≡ g.fields
+call_fields g t true (args.Var p) = update_fields g _ _ _
+call_fields g t true args.Null = refl
+call_fields g t true args.None = refl
+call_fields g t false a = refl
+
+after_fields : (g : GcState) (t : ℕ) (k : Primitive) → (after g t k).fields ≡ g.fields
+after_fields g t (Null p) = put_fields g _ _
+after_fields g t (Copy p q) = put_fields g _ _
+after_fields g t (New p) = put_fields (made g) _ _ ∙ made_fields g
+after_fields g t (Load p q f) = put_fields g _ _
+after_fields g t (Store p f q) = update_fields g _ _ _
+after_fields g t (StoreNull p f) = update_fields g _ _ _
+after_fields g t (DataSet x e) = put_fields g _ _
+after_fields g t (DataLoad x q f) = put_fields g _ _
+after_fields g t (DataStore p f e) = update_fields g _ _ _
+after_fields g t (Refresh p q) = put_fields g _ _
+after_fields g t (RefreshLoad p q f) = put_fields g _ _
+after_fields g t (RefreshStore p f q) = update_fields g _ _ _
+after_fields g t (Call f a) = call_fields g t (is_retire f) a
+after_fields g t (Ghost p i v) = update_fields g _ _ _
+after_fields g t _ = refl
+
+module _ (file : File) (w : Scene) (shape : Shape) (shaped : ShapeFits shape w.mine) (apart : w.owner ≡ w.acting → ⊥) (ghosts : w.ghosts ≡ file.ghosts) where
+  -- the acts of these primitives lead from one state to the other
+  pub record Ran (g : GcState) (ks : List Primitive) (h : GcState) : Type 0 where
+    pub runs : (limit : ℕ) → count h ≤ limit → ActsRun w.node limit (seen w g) (acts_of file.ghosts (variables_of false w.mine) ks) (seen w h)
+    pub count_is : count h ≡ count g + count_by is_new ks
+    pub ranges : IsInRange h
+    pub fields : h.fields ≡ file.fields
+
+  fits_at : (g : GcState) (limit : ℕ) → g.fields ≡ file.fields → IsInRange g → count g ≤ limit → RowFits file w g limit
+  fits_at g limit same ranges few = record { apart = apart; ghosts = ghosts; fields = same; ranges = ranges; few = few }
+
+  row_at : (g : GcState) (limit : ℕ) (k : Primitive) → g.fields ≡ file.fields → IsInRange g → count g ≤ limit → PrimitiveIn shape k → IsWellSorted file k → goes g w.acting k ≡ true → (is_new k ≡ true → w.node ≡ count g)
+      → IsRow w g limit (act_of file.ghosts (variables_of false w.mine) k) (after g w.acting k)
+  row_at g limit k same ranges few is sorted went node = row file w g limit (fits_at g limit same ranges few) shape shaped k is sorted went node
+
+  count_after : (g : GcState) (k : Primitive) → IsRow w g (count g) (act_of file.ghosts (variables_of false w.mine) k) (after g w.acting k) → count (after g w.acting k) ≡ count g + bit (is_new k)
+  count_after g k r = ap (λ (v : View). v.count) r.leads ∙ count_act (seen w g) (act_of file.ghosts (variables_of false w.mine) k) ∙ ap (λ n. count g + n) (makes file.ghosts (variables_of false w.mine) k)
+
+  pub ran : (ks : List Primitive) (g h : GcState) → execute g w.acting ks ≡ Some h → g.fields ≡ file.fields → IsInRange g → PrimitivesIn shape ks → AreWellSorted file ks
+      → (0 < count_by is_new ks → w.node ≡ count g) → count_by is_new ks ≤ 1 → Ran g ks h
+  ran [] g h e same ranges is sorted node one =
+      let end : g ≡ h = cc in
+      subst (Ran g []) end (record { runs = λ limit few. refl; count_is = omega arith; ranges = ranges; fields = same })
+  ran (k ∷ ks) g h e same ranges is sorted node one = go (goes g w.acting k) refl e (λ went rest node.
+      ran ks (after g w.acting k) h rest (after_fields g w.acting k ∙ same) (ranged_primitive g w.acting k went ranges) is.1 sorted.1 node (let c = sum_by-cons (λ x. cond (is_new x) 1 0) k ks in omega arith))
+    where
+      counted : count_by is_new (k ∷ ks) ≡ bit (is_new k) + count_by is_new ks
+      counted = sum_by-cons (λ x. cond (is_new x) 1 0) k ks
+
+      first : is_new k ≡ true → w.node ≡ count g
+      first new = node (let b : bit (is_new k) ≡ 1 = ap bit new in let c = counted in omega arith)
+
+      next : goes g w.acting k ≡ true → 0 < count_by is_new ks → w.node ≡ count (after g w.acting k)
+      next went some =
+          let c = counted in
+          let n = node (omega arith) in
+          let d = count_after g k (row_at g (count g) k same ranges (omega arith) is.0 sorted.0 went first) in
+          omega arith
+
+      go : (b : Bool) → goes g w.acting k ≡ b → turn b (execute (after g w.acting k) w.acting ks) ≡ Some h
+          → (goes g w.acting k ≡ true → execute (after g w.acting k) w.acting ks ≡ Some h → (0 < count_by is_new ks → w.node ≡ count (after g w.acting k)) → Ran (after g w.acting k) ks h) → Ran g (k ∷ ks) h
+      go false went e rest = cc
+      go true went e rest =
+          let later = rest went e (next went) in
+          let c = counted in
+          let d = count_after g k (row_at g (count g) k same ranges (omega arith) is.0 sorted.0 went first) in
+          let m = later.count_is in
+          record {
+            runs = λ limit few.
+                let r = row_at g limit k same ranges (omega arith) is.0 sorted.0 went first in
+                (r.acted, subst (λ v. ActsRun w.node limit v (acts_of file.ghosts (variables_of false w.mine) ks) (seen w h)) r.leads (later.runs limit few));
+            count_is = omega arith;
+            ranges = later.ranges;
+            fields = later.fields;
+          }

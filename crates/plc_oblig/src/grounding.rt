@@ -1,0 +1,76 @@
+// The ground set of an obligation: constants and nodes are listed, then the clauses are written item by item, and
+// each term that was listed has its sort.
+ghost use Rattle.std.specs.Prelude.{◌≡◌, map, OnOk, IfOk};
+ghost use Rattle.plc_lang.specs.Fit.{FileFits};
+ghost use Rattle.plc_symbolic.specs.declared.symbolic.SymbolicTerm.TheVariants.{Constant};
+ghost use Rattle.plc_symbolic.specs.Numbering.{listed_all};
+ghost use Rattle.plc_symbolic.specs.Terms.{term_of};
+ghost use Rattle.plc_setting.specs.Fit.{Fits};
+ghost use Rattle.plc_setting.specs.Sorts.{sort_of};
+ghost use Rattle.plc_oblig.specs.GroundSets.{ground_set};
+
+use plc_base::{Items, NoMemory};
+use plc_flow::Flow;
+use plc_ground::{GroundSet, Sort, Symbol};
+use plc_items::push_items;
+use plc_logic::Outline;
+use plc_setting::{Act, Obligation, Setting, constants_of, setting_of, sort_of};
+use plc_symbolic::{Draft, NodeTerm, SymbolicTerm, term_of};
+use std::alloc::Global;
+
+fn list_constants(symbols: &[Symbol], out: &mut Draft) -> Result<(), NoMemory>
+    ensures { OnOk result (out.new ≡ listed_all out.old (map Constant symbols.now)) }
+{
+    for symbol in symbols {
+        out.note(SymbolicTerm::Constant(*symbol))?;
+    }
+    Ok(())
+}
+
+fn list_nodes(nodes: &[NodeTerm], out: &mut Draft) -> Result<(), NoMemory>
+    ensures { OnOk result (out.new ≡ listed_all out.old (map term_of nodes.now)) }
+{
+    for node in nodes {
+        out.note(term_of(*node))?;
+    }
+    Ok(())
+}
+
+fn sorts_of(
+    alloc: Global,
+    flow: &Flow,
+    o: &Obligation,
+    acts: &[Act],
+    draft: &Draft,
+) -> Result<Items<Sort>, NoMemory>
+    requires { FileFits flow.now.file }
+    ensures { IfOk result (λ sorts. sorts ≡ map (sort_of flow.now o.now acts.now) draft.now.terms) }
+{
+    let mut sorts = Items::new(alloc);
+    for k in 0..draft.len() {
+        if let Some(term) = draft.term(k) {
+            sorts.push(sort_of(flow, o, acts, term))?;
+        }
+    }
+    Ok(sorts)
+}
+
+/// The ground set of an obligation, which has as many clauses as `clauses` counts. It fails only where memory runs out.
+pub fn ground(
+    alloc: Global,
+    flow: &Flow,
+    outline: &Outline,
+    o: &Obligation,
+) -> Result<GroundSet, NoMemory>
+    requires { Fits flow.now outline.now }
+    ensures { IfOk result (λ set. set ≡ ground_set flow.now outline.now o.now) }
+{
+    let s = setting_of(alloc, flow, outline, o)?;
+    let constants = constants_of(alloc, flow, outline, &s)?;
+    let mut draft = Draft::new(alloc);
+    list_constants(constants.as_slice(), &mut draft)?;
+    list_nodes(s.nodes.as_slice(), &mut draft)?;
+    push_items(alloc, flow, outline, &s, o, &mut draft)?;
+    let sorts = sorts_of(alloc, flow, o, s.acts.as_slice(), &draft)?;
+    draft.finish(sorts)
+}
