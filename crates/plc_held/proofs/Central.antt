@@ -25,7 +25,6 @@ use Rattle.plc_symbolic.specs.declared.symbolic.SymbolicTerm.TheVariants.{Consta
 use Rattle.plc_symbolic.specs.Numbering.{blank, listed_all, written_all, numbered}
 use Rattle.plc_gc.specs.State.{GcState, count}
 use Rattle.plc_flow.proofs.Each.{Each, each_both, each_so}
-use Rattle.plc_held.proofs.Listed.{draft_lists, each_drafted}
 use Rattle.plc_held.proofs.Numbering.{IsReading, true_has_model}
 use Rattle.plc_held.proofs.Acts.{ActsRun}
 use Rattle.plc_held.proofs.Meaning.{Meaning, value_in, sort_in, node_sort, IsTrueIn, node_value}
@@ -219,5 +218,4 @@ module _ (flow : Flow) (outline : Outline) (o : Obligation) (acting owner : ℕ)
   has_model =
       let d = written_all (listed_all blank (listed_first flow outline s)) (clauses_of flow outline s o) in
       subst (λ f. HasModel (numbered (map f d.terms) d)) (fun_ext same_sort)
-      (true_has_model (sort_in e) (value_in e) reading d (draft_lists (listed_first flow outline s) (clauses_of flow outline s o))
-      (each_drafted (IsTrueIn e) (listed_first flow outline s) (clauses_of flow outline s o) all_true))
+      (true_has_model (sort_in e) (value_in e) reading (listed_first flow outline s) (clauses_of flow outline s o) all_true)

@@ -1,6 +1,5 @@
 pub mod Equal
 pub mod Places
-pub mod Listed
 pub mod Numbering
 pub mod Lists
 pub mod Acts

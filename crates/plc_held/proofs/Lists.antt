@@ -42,3 +42,8 @@ pub all_of_each : {A : Type 0} (P : A → Type 0) (xs : List A) → Each P xs �
 all_of_each P [] h k d less = absurd (omega arith)
 all_of_each P (x ∷ xs) h zero d less = h.0
 all_of_each P (x ∷ xs) h (suc k) d less = all_of_each P xs h.1 k d (omega arith)
+
+-- of lists of lists
+pub each_all_of : {A : Type 0} (P : A → Type 0) (xs : List (List A)) → All (All P) xs → Each (Each P) xs
+each_all_of P [] h = tt
+each_all_of P (x ∷ xs) h = (each_of_all P x (h 0 x (omega arith)), each_all_of P xs (λ k d less. h (suc k) d (omega arith)))

@@ -1,9 +1,10 @@
 -- A draft whose clauses are true gives a ground set that has a model: terms of one sort and value are one class, which has the first of them as its name.
-use Rattle.std.proofs.Common.{◌≡◌, ℕ, zero, suc, ◌<◌, ◌≤◌, Bool, true, false, ◌&&◌, ◌==◌, List, [], ◌∷◌, map, length, slice_get, Some, refl, sym, ap, ◌∙◌, arith, inl, inr, ◌⊎◌}
+use Rattle.std.proofs.Common.{◌≡◌, ℕ, zero, suc, ◌<◌, ◌≤◌, Bool, true, false, ◌&&◌, ◌==◌, List, [], ◌∷◌, ◌++◌, map, length, slice_get, Some, refl, sym, ap, ◌∙◌, subst, arith, inl, inr, ◌⊎◌}
 use Rattle.std.specs.Prelude.{◌≢◌, MatchBool, slice_index, slice_index_or}
 use Rattle.std.specs.List.{Any, position_or_len}
 use Rattle.std.proofs.lemmas.Bool.{and_parts, and_from, eq-eqb, eqb-true}
 use Rattle.std.proofs.lemmas.List.{length-map}
+use Rattle.std.proofs.lemmas.Option.{slice_get-get_or}
 use Rattle.plc_logic.specs.declared.clause.Sort.{Sort}
 use Rattle.plc_ground.specs.declared.terms.Symbol.{Symbol}
 use Rattle.plc_ground.specs.declared.terms.Map.{Map}
@@ -15,13 +16,16 @@ use Rattle.plc_symbolic.specs.declared.symbolic.NodeTerm.{NodeTerm}
 use Rattle.plc_symbolic.specs.declared.symbolic.SymbolicTerm.{SymbolicTerm}
 use Rattle.plc_symbolic.specs.declared.symbolic.SymbolicTerm.TheVariants.{Constant, Application}
 use Rattle.plc_symbolic.specs.declared.symbolic.SymbolicLit.{SymbolicLit}
-use Rattle.plc_symbolic.specs.Same.{same_term}
 use Rattle.plc_symbolic.specs.Terms.{Clauses, term_of}
-use Rattle.plc_symbolic.specs.Numbering.{place, number, number_lit, Drafted, numbered}
+use Rattle.plc_symbolic.specs.Numbering.{place, IsListed, number, number_lit, blank, listed_all, written_all, numbered}
+use Rattle.plc_symbolic.specs.Drafts.{begun}
+use Rattle.plc_symbolic.specs.Tidy.{IsTidy, HasSides}
 use Rattle.plc_flow.proofs.Each.{Each}
-use Rattle.plc_held.proofs.Equal.{same_sort, same_sort_true, same_sort_refl, same_term_true, same_term_refl}
-use Rattle.plc_held.proofs.Places.{In, in_at, first_found, first_least, first_same, map_at, map_there, map_get, there}
-use Rattle.plc_held.proofs.Listed.{IsClosed, SidesIn, ClauseIn, IsListed}
+use Rattle.plc_symbolic.proofs.Places.{place_read, listed_at, argument_listed}
+use Rattle.plc_symbolic.proofs.Drafts.{kept, lists_all, writes_all, written_all-clauses, listed_all-clauses}
+use Rattle.plc_held.proofs.Equal.{same_sort, same_sort_true, same_sort_refl}
+use Rattle.plc_held.proofs.Lists.{each_all_of}
+use Rattle.plc_held.proofs.Places.{in_at, first_found, first_least, first_same, map_at, map_there, map_get, there}
 
 -- ---- truth
 
@@ -41,7 +45,11 @@ pub record IsReading (sort : SymbolicTerm → Sort) (value : SymbolicTerm → �
   pub apart : (a b : Symbol) → symbol_family a ≡ symbol_family b → symbol_family a ≢ Free → a ≢ b
       → sort (Constant a) ≡ sort (Constant b) → value (Constant a) ≢ value (Constant b)
 
-module _ (sort : SymbolicTerm → Sort) (value : SymbolicTerm → ℕ) (reading : IsReading sort value) (ts : List SymbolicTerm) (closed : IsClosed ts) where
+module _ (sort : SymbolicTerm → Sort) (value : SymbolicTerm → ℕ) (reading : IsReading sort value) (ts : List SymbolicTerm) (tidy : IsTidy ts) where
+  -- a listed term stands at its place
+  placed : (t : SymbolicTerm) → IsListed ts t → slice_get ts (place ts t) ≡ Some t
+  placed t i = slice_get-get_or ts (place ts t) t i ∙ ap Some (place_read ts t t i)
+
   -- ---- classes
 
   alike : SymbolicTerm → SymbolicTerm → Bool
@@ -68,9 +76,9 @@ module _ (sort : SymbolicTerm → Sort) (value : SymbolicTerm → ℕ) (reading 
   alike_refl t = and_from (same_sort (sort t) (sort t)) (value t == value t) (same_sort_refl (sort t)) (eq-eqb (value t) (value t) refl)
 
   -- a listed term is of the sort and value of its class
-  class_found : (t : SymbolicTerm) → In t ts → (x : SymbolicTerm) × (slice_get ts (class_of t) ≡ Some x) × IsAlike t x
+  class_found : (t : SymbolicTerm) → IsListed ts t → (x : SymbolicTerm) × (slice_get ts (class_of t) ≡ Some x) × IsAlike t x
   unfolding class_of
-  class_found t i = (let f = first_found (alike t) ts t i (alike_refl t) in (f.0, f.1, alike_true t f.0 f.2))
+  class_found t i = (let f = first_found (alike t) ts t (in_at ts (place ts t) t (placed t i)) (alike_refl t) in (f.0, f.1, alike_true t f.0 f.2))
 
   class_cong : (t u : SymbolicTerm) → IsAlike t u → class_of t ≡ class_of u
   unfolding class_of alike
@@ -80,7 +88,7 @@ module _ (sort : SymbolicTerm → Sort) (value : SymbolicTerm → ℕ) (reading 
   unfolding class_of
   class_least t i e = first_least (alike t) ts i t e (alike_refl t)
 
-  class_same : (t u : SymbolicTerm) → In t ts → In u ts → class_of t ≡ class_of u → IsAlike t u
+  class_same : (t u : SymbolicTerm) → IsListed ts t → IsListed ts u → class_of t ≡ class_of u → IsAlike t u
   class_same t u i j same =
       let a = class_found t i in
       let b = class_found u j in
@@ -96,11 +104,7 @@ module _ (sort : SymbolicTerm → Sort) (value : SymbolicTerm → ℕ) (reading 
 
   -- ---- places
 
-  placed : (t : SymbolicTerm) → In t ts → slice_get ts (place ts t) ≡ Some t
-  unfolding place
-  placed t i = (let f = first_found (same_term t) ts t i (same_term_refl t) in f.1 ∙ ap Some (sym (same_term_true t f.0 f.2)))
-
-  class_placed : (t : SymbolicTerm) → In t ts → slice_index classes (place ts t) ≡ class_of t
+  class_placed : (t : SymbolicTerm) → IsListed ts t → slice_index classes (place ts t) ≡ class_of t
   class_placed t i = class_at (place ts t) t (placed t i)
 
   -- ---- numbered terms
@@ -132,8 +136,8 @@ module _ (sort : SymbolicTerm → Sort) (value : SymbolicTerm → ℕ) (reading 
   congruent m v a b i j e f same =
       let x = applied m v a i e in
       let y = applied m v b j f in
-      let inx = closed (Application m v x.node) (in_at ts i (Application m v x.node) x.at) in
-      let iny = closed (Application m v y.node) (in_at ts j (Application m v y.node) y.at) in
+      let inx = argument_listed ts (Application m v x.node) tidy (listed_at ts i (Application m v x.node) x.at) in
+      let iny = argument_listed ts (Application m v y.node) tidy (listed_at ts j (Application m v y.node) y.at) in
       let arguments = class_same (term_of x.node) (term_of y.node) inx iny
       (sym (class_placed (term_of x.node) inx) ∙ ap (slice_index classes) x.argument ∙ same ∙ sym (ap (slice_index classes) y.argument) ∙ class_placed (term_of y.node) iny) in
       class_at i (Application m v x.node) x.at
@@ -143,20 +147,20 @@ module _ (sort : SymbolicTerm → Sort) (value : SymbolicTerm → ℕ) (reading 
 
   -- ---- literals
 
-  literal_holds : (l : SymbolicLit) → SidesIn ts l → LiteralIsTrue sort value l → HoldsIn (slice_index classes) (number_lit ts l)
+  literal_holds : (l : SymbolicLit) → HasSides ts l → LiteralIsTrue sort value l → HoldsIn (slice_index classes) (number_lit ts l)
   literal_holds l i h = go l.equal h
     where
       go : (b : Bool) → MatchBool b ((sort l.left ≡ sort l.right) × (value l.left ≡ value l.right)) (value l.left ≢ value l.right)
           → MatchBool b (slice_index classes (place ts l.left) ≡ slice_index classes (place ts l.right)) (slice_index classes (place ts l.left) ≢ slice_index classes (place ts l.right))
-      go true h = class_placed l.left i.0 ∙ class_cong l.left l.right (record { sort_is = h.0; value_is = h.1 }) ∙ sym (class_placed l.right i.1)
-      go false h = λ same. h (class_same l.left l.right i.0 i.1 (sym (class_placed l.left i.0) ∙ same ∙ class_placed l.right i.1)).value_is
+      go true h = class_placed l.left i.left ∙ class_cong l.left l.right (record { sort_is = h.0; value_is = h.1 }) ∙ sym (class_placed l.right i.right)
+      go false h = λ same. h (class_same l.left l.right i.left i.right (sym (class_placed l.left i.left) ∙ same ∙ class_placed l.right i.right)).value_is
 
-  some_holds : (c : List SymbolicLit) → ClauseIn ts c → SomeIsTrue sort value c → Any (HoldsIn (slice_index classes)) (map (number_lit ts) c)
+  some_holds : (c : List SymbolicLit) → Each (HasSides ts) c → SomeIsTrue sort value c → Any (HoldsIn (slice_index classes)) (map (number_lit ts) c)
   some_holds [] i h = absurd h
   some_holds (l ∷ c) i (inl h) = (0, number_lit ts l, omega arith, refl, literal_holds l i.0 h)
   some_holds (l ∷ c) i (inr h) = (let r = some_holds c i.1 h in (suc r.0, r.1, (let less = r.2 in omega arith), r.3, r.4))
 
-  all_hold : (cs : Clauses) → Each (ClauseIn ts) cs → Each (SomeIsTrue sort value) cs → (c : ℕ) → c < length (map (map (number_lit ts)) cs)
+  all_hold : (cs : Clauses) → Each (Each (HasSides ts)) cs → Each (SomeIsTrue sort value) cs → (c : ℕ) → c < length (map (map (number_lit ts)) cs)
       → Any (HoldsIn (slice_index classes)) (slice_index_or (map (map (number_lit ts)) cs) c [])
   all_hold [] i h c less = absurd (omega arith)
   all_hold (x ∷ cs) i h zero less = some_holds x i.0 h.0
@@ -173,13 +177,13 @@ module _ (sort : SymbolicTerm → Sort) (value : SymbolicTerm → ℕ) (reading 
   same_sorts i j h k same =
       let x = there ts i (long i h) in
       let y = there ts j (long j k) in
-      let a = class_same x.0 y.0 (in_at ts i x.0 x.1) (in_at ts j y.0 y.1) (sym (class_at i x.0 x.1) ∙ same ∙ class_at j y.0 y.1) in
+      let a = class_same x.0 y.0 (listed_at ts i x.0 x.1) (listed_at ts j y.0 y.1) (sym (class_at i x.0 x.1) ∙ same ∙ class_at j y.0 y.1) in
       map_there sort ts i x.0 x.1 ∙ ap Some a.sort_is ∙ sym (map_there sort ts j y.0 y.1)
 
   least : (i : ℕ) → i < length classes → slice_index classes (slice_index classes i) ≡ slice_index classes i
   least i h =
       let x = there ts i (long i h) in
-      let f = class_found x.0 (in_at ts i x.0 x.1) in
+      let f = class_found x.0 (listed_at ts i x.0 x.1) in
       let here = class_at i x.0 x.1 in
       ap (slice_index classes) here ∙ class_at (class_of x.0) f.0 f.1
       ∙ sym (class_cong x.0 f.0 f.2) ∙ sym here
@@ -191,7 +195,7 @@ module _ (sort : SymbolicTerm → Sort) (value : SymbolicTerm → ℕ) (reading 
   apart cs i j m same =
       let a = constant m.first i m.first_is in
       let b = constant m.second j m.second_is in
-      let h = class_same (Constant m.first) (Constant m.second) (in_at ts i (Constant m.first) a) (in_at ts j (Constant m.second) b)
+      let h = class_same (Constant m.first) (Constant m.second) (listed_at ts i (Constant m.first) a) (listed_at ts j (Constant m.second) b)
       (sym (class_at i (Constant m.first) a) ∙ same ∙ class_at j (Constant m.second) b) in
       reading.apart m.first m.second m.one_family m.distinguished m.differ h.sort_is h.value_is
 
@@ -199,7 +203,7 @@ module _ (sort : SymbolicTerm → Sort) (value : SymbolicTerm → ℕ) (reading 
   unfolding classes
   lengths = length-map ts class_of ∙ sym (length-map ts (number ts))
 
-  pub model : (cs : Clauses) → Each (ClauseIn ts) cs → Each (SomeIsTrue sort value) cs → HasModel (numbered (map sort ts) (record { terms = ts; clauses = cs }))
+  pub model : (cs : Clauses) → Each (Each (HasSides ts)) cs → Each (SomeIsTrue sort value) cs → HasModel (numbered (map sort ts) (record { terms = ts; clauses = cs }))
   model cs i h = (
     classes,
     record {
@@ -213,5 +217,11 @@ module _ (sort : SymbolicTerm → Sort) (value : SymbolicTerm → ℕ) (reading 
     },
   )
 
-pub true_has_model : (sort : SymbolicTerm → Sort) (value : SymbolicTerm → ℕ) → IsReading sort value → (d : Drafted) → IsListed d → Each (SomeIsTrue sort value) d.clauses → HasModel (numbered (map sort d.terms) d)
-true_has_model sort value reading d h true_ = model sort value reading d.terms h.closed d.clauses h.clauses true_
+-- the draft of these terms and clauses
+pub true_has_model : (sort : SymbolicTerm → Sort) (value : SymbolicTerm → ℕ) → IsReading sort value → (first : List SymbolicTerm) (cs : Clauses) → Each (SomeIsTrue sort value) cs
+    → HasModel (numbered (map sort (written_all (listed_all blank first) cs).terms) (written_all (listed_all blank first) cs))
+true_has_model sort value reading first cs all =
+    let d = written_all (listed_all blank first) cs in
+    let k = kept d (writes_all cs (listed_all blank first) (lists_all first blank begun)) in
+    model sort value reading d.terms k.terms d.clauses (each_all_of (HasSides d.terms) d.clauses k.sides)
+    (subst (Each (SomeIsTrue sort value)) (sym (written_all-clauses cs (listed_all blank first) ∙ ap (λ bs. bs ++ cs) (listed_all-clauses first blank))) all)

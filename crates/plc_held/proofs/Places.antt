@@ -1,5 +1,5 @@
 -- Places in lists: what is listed, and the first place that passes a test.
-use Rattle.std.proofs.Common.{◌≡◌, ℕ, zero, suc, ◌+◌, ◌<◌, ◌≤◌, Bool, true, false, not, cond, List, [], ◌∷◌, ◌++◌, map, get_or, length, slice_get, Some, refl, sym, ap, ◌∙◌, subst, arith, inl, inr, ◌⊎◌}
+use Rattle.std.proofs.Common.{◌≡◌, ℕ, zero, suc, ◌+◌, ◌<◌, ◌≤◌, Bool, true, false, not, cond, List, [], ◌∷◌, map, get_or, length, slice_get, Some, refl, sym, ap, ◌∙◌, subst, arith, inl, inr, ◌⊎◌}
 use Rattle.std.specs.List.{position_or_len}
 use Rattle.std.proofs.lemmas.Bool.{both_ways}
 
@@ -8,21 +8,6 @@ use Rattle.std.proofs.lemmas.Bool.{both_ways}
 abbrev pub In : {A : Type 0} → A → List A → Type 0
 In t [] = ⊥
 In t (x ∷ xs) = (t ≡ x) ⊎ In t xs
-
-pub in_left : {A : Type 0} (t : A) (xs ys : List A) → In t xs → In t (xs ++ ys)
-in_left t [] ys h = absurd h
-in_left t (x ∷ xs) ys (inl h) = inl h
-in_left t (x ∷ xs) ys (inr h) = inr (in_left t xs ys h)
-
-pub in_last : {A : Type 0} (t : A) (xs : List A) → In t (xs ++ t ∷ [])
-in_last t [] = inl refl
-in_last t (x ∷ xs) = inr (in_last t xs)
-
-pub in_cases : {A : Type 0} (t u : A) (xs : List A) → In t (xs ++ u ∷ []) → In t xs ⊎ (t ≡ u)
-in_cases t u [] (inl h) = inr h
-in_cases t u [] (inr h) = absurd h
-in_cases t u (x ∷ xs) (inl h) = inl (inl h)
-in_cases t u (x ∷ xs) (inr h) = elim (in_cases t u xs h) [ inl g ↦ inl (inr g) | inr g ↦ inr g ]
 
 pub in_at : {A : Type 0} (xs : List A) (i : ℕ) (x : A) → slice_get xs i ≡ Some x → In x xs
 in_at [] i x e = cc

@@ -1,4 +1,4 @@
--- The executed part of a ground set: the clauses of each act, and what is current behind it.
+-- The executed part of a ground set: the clauses of each act, and what is current after it.
 use Rattle.std.specs.Prelude.{ℕ, ◌+◌, Bool, true, false, List, [], ◌∷◌, ◌++◌, fold, flat_map, count_by, if◌then◌else◌}
 use Rattle.plc_ground.specs.declared.terms.Symbol.{Symbol}
 use Rattle.plc_ground.specs.declared.terms.Symbol.TheVariants as symbols
@@ -8,7 +8,7 @@ use Rattle.plc_setting.specs.declared.acts.Act.{Act}
 use Rattle.plc_setting.specs.declared.acts.Act.TheVariants.{Assign, Make, Fetch, Update, Test, Skip}
 use Rattle.plc_items.specs.declared.execution.Execution.{Execution}
 use Rattle.plc_symbolic.specs.declared.symbolic.NodeTerm.{NodeTerm}
-use Rattle.plc_symbolic.specs.declared.symbolic.NodeTerm.TheVariants.{At, Behind}
+use Rattle.plc_symbolic.specs.declared.symbolic.NodeTerm.TheVariants.{At}
 use Rattle.plc_symbolic.specs.declared.symbolic.SymbolicTerm.{SymbolicTerm}
 use Rattle.plc_symbolic.specs.declared.symbolic.SymbolicTerm.TheVariants.{Constant, Application}
 use Rattle.plc_symbolic.specs.declared.symbolic.SymbolicLit.{SymbolicLit}
@@ -38,16 +38,17 @@ map_now x m n = Application m (version x m) n
 abbrev pub assigned : Execution → Symbol → Symbol → Execution
 assigned x p s = record x { assigned = x.assigned ++ (p, s) ∷ [] }
 
--- what is current behind an act
+-- what is current after an act
 abbrev pub after : Execution → Act → Execution
 after x (Assign p e) = assigned x p (current x e)
 after x (Make p) = assigned x p symbols.New
-after x (Fetch p q f pointer) = record { assigned = x.assigned ++ (p, symbols.Loaded x.loads) ∷ []; written = x.written; loads = x.loads + 1 }
+after x (Fetch p q f pointer) =
+    record { assigned = x.assigned ++ (p, symbols.Loaded x.loads) ∷ []; written = x.written; loads = x.loads + 1 }
 after x (Update checked m p e) = record x { written = x.written ++ m ∷ [] }
 after x (Test a b equal) = x
 after x Skip = x
 
--- behind several
+-- after several
 abbrev pub after_all : Execution → List Act → Execution
 after_all x more = fold after x more
 

@@ -1,5 +1,5 @@
 -- The clauses of a ground set over symbolic terms, item by item.
-use Rattle.std.specs.Prelude.{ℕ, zero, suc, ◌+◌, ◌==◌, Bool, true, false, not, ◌&&◌, List, [], ◌∷◌, ◌++◌, length, map, flat_map, get_or, slice_index_or, if◌then◌else◌, Option, Some, None}
+use Rattle.std.specs.Prelude.{ℕ, zero, suc, ◌+◌, ◌==◌, Bool, true, false, List, [], ◌∷◌, ◌++◌, length, map, flat_map, slice_index_or, if◌then◌else◌, Option, Some, None}
 use Rattle.std.specs.List.{range_with_len}
 use Rattle.plc_base.specs.declared.ids.FieldId.{FieldId}
 use Rattle.plc_lang.specs.declared.syntax.Field.{Field}
@@ -28,24 +28,24 @@ use Rattle.plc_items.specs.declared.execution.Execution.{Execution}
 use Rattle.plc_setting.specs.declared.obligations.Obligation.{Obligation}
 use Rattle.plc_setting.specs.declared.obligations.Obligation.TheVariants.{Start, Enter, Own, Other, Claim}
 use Rattle.plc_setting.specs.declared.setting.Setting.{Setting}
-use Rattle.plc_setting.specs.declared.setting.Variables.{Variables}
 use Rattle.plc_symbolic.specs.declared.symbolic.NodeTerm.{NodeTerm}
-use Rattle.plc_symbolic.specs.declared.symbolic.NodeTerm.TheVariants.{At, Behind}
+use Rattle.plc_symbolic.specs.declared.symbolic.NodeTerm.TheVariants.{At}
 use Rattle.plc_symbolic.specs.declared.symbolic.SymbolicTerm.{SymbolicTerm}
 use Rattle.plc_symbolic.specs.declared.symbolic.SymbolicTerm.TheVariants.{Constant, Application}
 use Rattle.plc_symbolic.specs.declared.symbolic.SymbolicLit.{SymbolicLit}
 use Rattle.plc_setting.specs.Acts.{pointer_symbol}
-use Rattle.plc_items.specs.Execution.{start, current, map_now, held, after_all, not_null, executed_clauses}
+use Rattle.plc_items.specs.Execution.{start, current, map_now, after_all, not_null, executed_clauses}
 use Rattle.plc_setting.specs.Setting.{below}
 use Rattle.plc_setting.specs.Parts.{acting_locals, acting_premises, owner_premises, conclusion, claim_made}
-use Rattle.plc_setting.specs.Setting.{local_symbol, setting_of, bound_of}
+use Rattle.plc_setting.specs.Setting.{local_symbol}
 use Rattle.plc_symbolic.specs.Terms.{Clauses, term_of, is, is_not, null, new_node}
 
 -- ---- values: each node has one of the values of each enumerated auxiliary field
 
 -- the node has one of n values of field g, which are numbered over the file from first on
 abbrev pub one_of_values : ℕ → ℕ → ℕ → NodeTerm → List SymbolicLit
-one_of_values g first n t = map (λ v. is (Application (maps.Ghost g) 0 t) (Constant (symbols.Value v))) (range_with_len first n)
+one_of_values g first n t =
+    map (λ v. is (Application (maps.Ghost g) 0 t) (Constant (symbols.Value v))) (range_with_len first n)
 
 abbrev pub field_values : ℕ → ℕ → ℕ → List NodeTerm → Clauses
 field_values g first n ts = if n == 0 then [] else map (one_of_values g first n) ts
@@ -53,7 +53,8 @@ field_values g first n ts = if n == 0 then [] else map (one_of_values g first n)
 -- the fields from number g on, whose values are numbered from first on
 abbrev pub values_from : ℕ → ℕ → List Ghost → List NodeTerm → Clauses
 values_from g first [] ts = []
-values_from g first (h ∷ hs) ts = field_values g first (length h.values) ts ++ values_from (g + 1) (first + length h.values) hs ts
+values_from g first (h ∷ hs) ts =
+    field_values g first (length h.values) ts ++ values_from (g + 1) (first + length h.values) hs ts
 
 -- ---- the beginning of the file and of operations
 
@@ -66,7 +67,9 @@ only_new true c = equals c symbols.New
 only_new false c = []
 
 abbrev pub start_clauses : ℕ → Setting → Clauses
-start_clauses shared s = map (λ i. equals (symbols.Shared i) symbols.Null) (below shared) ++ map (λ i. only_new s.makes (symbols.Bound i)) (below s.bound)
+start_clauses shared s =
+    map (λ i. equals (symbols.Shared i) symbols.Null) (below shared)
+    ++ map (λ i. only_new s.makes (symbols.Bound i)) (below s.bound)
 
 -- pointer locals are null, data locals that are no parameters are 0
 abbrev pub enter_clauses : List Local → Setting → Clauses
@@ -96,7 +99,8 @@ field_default false = symbols.Number 0
 -- the fields from number k on
 abbrev pub field_defaults_from : ℕ → List Field → Clauses
 field_defaults_from k [] = []
-field_defaults_from k (f ∷ fs) = default_is (maps.Field (record { 0 = k })) (field_default f.pointer) ∷ field_defaults_from (k + 1) fs
+field_defaults_from k (f ∷ fs) =
+    default_is (maps.Field (record { 0 = k })) (field_default f.pointer) ∷ field_defaults_from (k + 1) fs
 
 -- the first of n values, which are numbered from first on; none where the field holds threads
 abbrev pub ghost_default : ℕ → ℕ → Symbol
@@ -105,7 +109,9 @@ ghost_default first n = if n == 0 then symbols.Nobody else symbols.Value first
 -- the auxiliary fields from number g on, whose values are numbered from first on
 abbrev pub ghost_defaults_from : ℕ → ℕ → List Ghost → Clauses
 ghost_defaults_from g first [] = []
-ghost_defaults_from g first (h ∷ hs) = default_is (maps.Ghost g) (ghost_default first (length h.values)) ∷ ghost_defaults_from (g + 1) (first + length h.values) hs
+ghost_defaults_from g first (h ∷ hs) =
+    default_is (maps.Ghost g) (ghost_default first (length h.values))
+    ∷ ghost_defaults_from (g + 1) (first + length h.values) hs
 
 abbrev pub no_field_leads : List FieldId → NodeTerm → Clauses
 no_field_leads fs t = map (λ f. is_other (Application (maps.Field f) 0 t)) fs
@@ -151,8 +157,10 @@ read_term ghosts x owner names terms.Me = Constant (me owner)
 read_term ghosts x owner names terms.Nobody = Constant symbols.Nobody
 
 abbrev pub read_literal : List Ghost → Execution → Bool → List NodeTerm → Literal → SymbolicLit
-read_literal ghosts x owner names (literals.Same a b equal) = record { left = read_term ghosts x owner names a; right = read_term ghosts x owner names b; equal = equal }
-read_literal ghosts x owner names (literals.Retired b is_so) = record { left = map_now x maps.Retired (base_node x owner names b); right = Constant symbols.Yes; equal = is_so }
+read_literal ghosts x owner names (literals.Same a b equal) =
+    record { left = read_term ghosts x owner names a; right = read_term ghosts x owner names b; equal = equal }
+read_literal ghosts x owner names (literals.Retired b is_so) =
+    record { left = map_now x maps.Retired (base_node x owner names b); right = Constant symbols.Yes; equal = is_so }
 
 -- ---- premises: each at all nodes that its names may stand for, the first name slowest
 
@@ -163,7 +171,8 @@ escapes false t = is (term_of t) null ∷ []
 
 -- the clause with these nodes for its names, in the state before
 abbrev pub instance_at : List Ghost → Bool → Bool → List Literal → List NodeTerm → List SymbolicLit
-instance_at ghosts makes owner ls names = flat_map (escapes makes) names ++ map (read_literal ghosts start owner names) ls
+instance_at ghosts makes owner ls names =
+    flat_map (escapes makes) names ++ map (read_literal ghosts start owner names) ls
 
 -- all lists of so many of these nodes
 abbrev pub tuples : ℕ → List NodeTerm → List (List NodeTerm)
@@ -171,14 +180,15 @@ tuples zero ts = [] ∷ []
 tuples (suc n) ts = flat_map (λ t. map (λ rest. t ∷ rest) (tuples n ts)) ts
 
 abbrev pub instances : List Ghost → Setting → Bool → Clause → Clauses
-instances ghosts s owner c = map (instance_at ghosts s.makes owner c.literals) (tuples (length c.bound.names) s.instances)
+instances ghosts s owner c =
+    map (instance_at ghosts s.makes owner c.literals) (tuples (length c.bound.names) s.instances)
 
 abbrev pub premises : Flow → Outline → Setting → Obligation → Clauses
 premises flow outline s o =
     flat_map (instances flow.file.ghosts s false) (acting_premises flow outline o)
     ++ flat_map (instances flow.file.ghosts s true) (owner_premises flow outline o)
 
--- ---- the negated conclusion: its nodes aren't null, and each of its literals is false behind
+-- ---- the negated conclusion: its nodes aren't null, and each of its literals is false after
 
 abbrev pub bound_nodes : ℕ → List NodeTerm
 bound_nodes n = map (λ i. At (symbols.Bound i)) (below n)
@@ -198,7 +208,8 @@ denied_claim s x (Some (prims.Active p)) =
 denied_claim s x o = []
 
 abbrev pub denied : Flow → Outline → Setting → Execution → Obligation → Clauses
-denied flow outline s x o = denied_clause flow.file.ghosts s x (conclusion flow outline o) ++ denied_claim s x (claim_made flow o)
+denied flow outline s x o =
+    denied_clause flow.file.ghosts s x (conclusion flow outline o) ++ denied_claim s x (claim_made flow o)
 
 -- ---- the whole
 

@@ -1,6 +1,16 @@
-//! The clauses of an obligation's ground set, item by item.
+//! The clauses of an obligation's ground set, item by item: values, the beginning, the new node, premises, what
+//! is executed, and the negated conclusion. Each item is written into a draft in the order of the format, so that
+//! what `push_items` writes is the list of the definition.
 #![tactic(auto)]
 
+mod beginning;
+mod conclusion;
 mod execution;
+mod freshness;
+mod instances;
+mod items;
+mod reading;
+mod values;
 
 pub use execution::Execution;
+pub use items::push_items;

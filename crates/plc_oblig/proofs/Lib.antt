@@ -4,3 +4,4 @@ mod Lengths
 mod Executed
 mod Wholes
 mod Bounds
+mod Assembled

@@ -5,7 +5,7 @@ use Rattle.plc_logic.specs.declared.clause.Outline.{Outline}
 use Rattle.plc_ground.specs.declared.terms.GroundSet.{GroundSet}
 use Rattle.plc_symbolic.specs.declared.symbolic.SymbolicTerm.{SymbolicTerm}
 use Rattle.plc_symbolic.specs.declared.symbolic.SymbolicTerm.TheVariants.{Constant}
-use Rattle.plc_symbolic.specs.Numbering.{blank, listed_all, written_all, numbered}
+use Rattle.plc_symbolic.specs.Numbering.{Drafted, blank, listed_all, written_all, numbered}
 use Rattle.plc_symbolic.specs.Terms.{term_of}
 use Rattle.plc_setting.specs.declared.obligations.Obligation.{Obligation}
 use Rattle.plc_setting.specs.declared.setting.Setting.{Setting}
@@ -17,9 +17,14 @@ use Rattle.plc_items.specs.Items.{clauses_of}
 abbrev pub listed_first : Flow → Outline → Setting → List SymbolicTerm
 listed_first flow outline s = map Constant (constants_of flow outline s) ++ map term_of s.nodes
 
+-- these are listed, and the clauses are written
+abbrev pub drafted : Flow → Outline → Setting → Obligation → Drafted
+drafted flow outline s o =
+    written_all (listed_all blank (listed_first flow outline s)) (clauses_of flow outline s o)
+
 -- the ground set of an obligation
 unfoldable pub ground_set : Flow → Outline → Obligation → GroundSet
 ground_set flow outline o =
     let s = setting_of flow outline o in
-    let d = written_all (listed_all blank (listed_first flow outline s)) (clauses_of flow outline s o) in
+    let d = drafted flow outline s o in
     numbered (map (sort_of flow o s.acts) d.terms) d

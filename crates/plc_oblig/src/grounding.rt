@@ -1,13 +1,15 @@
 // The ground set of an obligation: constants and nodes are listed, then the clauses are written item by item, and
 // each term that was listed has its sort.
-ghost use Rattle.std.specs.Prelude.{◌≡◌, map, OnOk, IfOk};
+ghost use Rattle.std.specs.Prelude.{◌≡◌, ◌<◌, ◌≤◌, map, length, slice_get, Some, OnOk, IfOk};
 ghost use Rattle.plc_lang.specs.Fit.{FileFits};
 ghost use Rattle.plc_symbolic.specs.declared.symbolic.SymbolicTerm.TheVariants.{Constant};
 ghost use Rattle.plc_symbolic.specs.Numbering.{listed_all};
 ghost use Rattle.plc_symbolic.specs.Terms.{term_of};
 ghost use Rattle.plc_setting.specs.Fit.{Fits};
 ghost use Rattle.plc_setting.specs.Sorts.{sort_of};
-ghost use Rattle.plc_oblig.specs.GroundSets.{ground_set};
+ghost use Rattle.plc_setting.specs.Setting.{setting_of};
+ghost use Rattle.plc_flow.specs.WellFormed.{most_step_primitives};
+ghost use Rattle.plc_oblig.specs.GroundSets.{drafted, ground_set};
 
 use plc_base::{Items, NoMemory};
 use plc_flow::Flow;
@@ -36,6 +38,18 @@ fn list_nodes(nodes: &[NodeTerm], out: &mut Draft) -> Result<(), NoMemory>
     Ok(())
 }
 
+// The sort of the term with a number.
+fn sort_at(flow: &Flow, o: &Obligation, acts: &[Act], draft: &Draft, k: usize) -> Sort
+    requires file { FileFits flow.now.file }
+    requires listed { k < length draft.now.terms }
+    ensures { slice_get (map (sort_of flow.now o.now acts.now) draft.now.terms) k ≡ Some result }
+{
+    match draft.term(k) {
+        None => Sort::Node,
+        Some(term) => sort_of(flow, o, acts, term),
+    }
+}
+
 fn sorts_of(
     alloc: Global,
     flow: &Flow,
@@ -48,14 +62,34 @@ fn sorts_of(
 {
     let mut sorts = Items::new(alloc);
     for k in 0..draft.len() {
-        if let Some(term) = draft.term(k) {
-            sorts.push(sort_of(flow, o, acts, term))?;
-        }
+        sorts.push(sort_at(flow, o, acts, draft, k))?;
     }
     Ok(sorts)
 }
 
-/// The ground set of an obligation, which has as many clauses as `clauses` counts. It fails only where memory runs out.
+// The clauses of the set, with the terms that are listed first.
+fn draft_of(
+    alloc: Global,
+    flow: &Flow,
+    outline: &Outline,
+    o: &Obligation,
+    s: &Setting,
+) -> Result<Draft, NoMemory>
+    requires fits { Fits flow.now outline.now }
+    requires setting { s.now ≡ setting_of flow.now outline.now o.now }
+    requires few { length s.now.acts ≤ most_step_primitives }
+    ensures { IfOk result (λ draft. draft ≡ drafted flow.now outline.now s.now o.now) }
+{
+    let constants = constants_of(alloc, flow, outline, s)?;
+    let mut draft = Draft::new(alloc);
+    list_constants(constants.as_slice(), &mut draft)?;
+    list_nodes(s.nodes.as_slice(), &mut draft)?;
+    push_items(alloc, flow, outline, s, o, &mut draft)?;
+    Ok(draft)
+}
+
+/// The ground set of an obligation, which has as many clauses as `clauses` counts. It fails only where memory
+/// runs out.
 pub fn ground(
     alloc: Global,
     flow: &Flow,
@@ -66,11 +100,8 @@ pub fn ground(
     ensures { IfOk result (λ set. set ≡ ground_set flow.now outline.now o.now) }
 {
     let s = setting_of(alloc, flow, outline, o)?;
-    let constants = constants_of(alloc, flow, outline, &s)?;
-    let mut draft = Draft::new(alloc);
-    list_constants(constants.as_slice(), &mut draft)?;
-    list_nodes(s.nodes.as_slice(), &mut draft)?;
-    push_items(alloc, flow, outline, &s, o, &mut draft)?;
+    let draft = draft_of(alloc, flow, outline, o, &s)?;
     let sorts = sorts_of(alloc, flow, o, s.acts.as_slice(), &draft)?;
-    draft.finish(sorts)
+    let set = draft.finish(sorts)?;
+    Ok(set)
 }

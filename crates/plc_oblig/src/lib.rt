@@ -9,9 +9,11 @@
 mod claims;
 mod counting;
 mod finding;
+mod grounding;
 mod size;
 
 pub use counting::count;
 pub use finding::nth;
+pub use grounding::ground;
 pub use plc_setting::Obligation;
 pub use size::clauses;

@@ -11,3 +11,5 @@ mod erased;
 mod files;
 #[cfg(test)]
 mod obligations;
+#[cfg(test)]
+mod sets;

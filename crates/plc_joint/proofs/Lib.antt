@@ -1,0 +1,4 @@
+pub mod Active
+pub mod Reached
+pub mod Joint
+pub mod ByRun

@@ -1,0 +1,10 @@
+//! The joint law of erasure, types and outlines: a flow with a typing and an outline that holds is safe, in
+//! every run. Its statement is all that the program's contract cites.
+#![tactic(auto)]
+
+mod laws;
+
+pub use laws::{
+    active_words_agree, claims_of_one_run_suffice, true_gc_claims_suffice,
+    typed_and_held_programs_are_safe,
+};
