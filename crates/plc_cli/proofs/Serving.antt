@@ -119,5 +119,4 @@ served_replays reclaimers request old new sink sink_now result outcome = record 
   told = λ file schedule bytes second number m asked there content contents served one.
       fails_otherwise reclaimers old new sink sink_now file schedule number m there request result outcome asked bytes second
       (λ given more pair. (told_is (old.content file) given bytes pair.read.told content, told_is (old.content schedule) more second pair.read_second.told contents)) served one;
-  never = λ bytes m served s end comes. end_allowed served.unit bytes served.spelled m served.serves s end comes;
 }

@@ -32,8 +32,7 @@ pub record FailsOtherwise (unit : FileUnit) (reclaimer : Meanings) (bytes : List
   pub allowed : IsAllowedEnd end
   pub text : Appends sink.written sink_now.written (end_text end)
 
--- where the words ask for a replay under a reclaimer that serves the file, by the bytes that the reads gave, and by the contents where they are told;
--- and whatever the status, also where the text isn't written or memory runs out, the end to which a replay of such a file comes is no forbidden free
+-- where the words ask for a replay under a reclaimer that serves the file, by the bytes that the reads gave, and by the contents where they are told
 pub record ServedReplays (reclaimers : List Meanings) (request : Option Request) (old new : KnownFiles) (sink sink_now : KnownSink) (result : ℕ) : Type 0 where
   pub read : (file schedule bytes second : List ℕ) (number : ℕ) (reclaimer : Meanings)
       → request ≡ Some (Replay file schedule number) → slice_get reclaimers number ≡ Some reclaimer
@@ -43,7 +42,3 @@ pub record ServedReplays (reclaimers : List Meanings) (request : Option Request)
       → request ≡ Some (Replay file schedule number) → slice_get reclaimers number ≡ Some reclaimer
       → old.content file ≡ Some bytes → old.content schedule ≡ Some second → (served : IsServedBy reclaimer bytes)
       → result ≡ fails → FailsOtherwise served.unit reclaimer second sink sink_now
-  pub never : (bytes : List ℕ) (reclaimer : Meanings) (served : IsServedBy reclaimer bytes)
-      → (schedule : Schedule) (end : End)
-      → ComesTo (judged_of served.unit).flow served.unit.observer reclaimer (judged_of served.unit).schemes schedule end
-      → IsAllowedEnd end
