@@ -1,5 +1,5 @@
 //! The joint law of erasure, types and outlines: a flow with a typing and an outline that holds is safe, in
-//! every run. Its statement is all that the program's contract cites.
+//! every run. The program's contract will cite this statement alone, once `check` judges outlines.
 #![tactic(auto)]
 
 mod laws;

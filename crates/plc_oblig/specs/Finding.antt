@@ -1,4 +1,4 @@
--- The item of a list with a number, or the number counted behind the list.
+-- The item of a list with a number, or the number counted after the list.
 use Rattle.std.specs.Prelude.{◌≡◌, ◌+◌, ℕ, List, length, slice_get, Some, Result, Ok, Err}
 
 abbrev pub IsFoundIn : {A : Type 0} → List A → ℕ → Result A ℕ → Type 0

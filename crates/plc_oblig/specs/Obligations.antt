@@ -23,7 +23,7 @@ step_id k = record { 0 = k }
 abbrev pub point_id : ℕ → PointId
 point_id p = record { 0 = p }
 
--- what each item gives with its number, where so many items stand before, one behind the other
+-- what each item gives with its number, where so many items stand before, one after the other
 abbrev pub parts_from : {A X : Type 0} → (ℕ → A → List X) → ℕ → List A → List X
 parts_from part k [] = []
 parts_from part k (a ∷ more) = part k a ++ parts_from part (k + 1) more

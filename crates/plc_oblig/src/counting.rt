@@ -1,8 +1,5 @@
 // How many obligations there are, kind by kind. No list of them is made: there may be a million.
 ghost use Rattle.std.specs.Prelude.{◌≡◌, ◌≤◌, ◌*◌, length};
-ghost use Rattle.plc_flow.specs.WellFormed.{IsWellFormed};
-ghost use Rattle.plc_lang.specs.Fit.{FileFits};
-ghost use Rattle.plc_logic.specs.Fit.{OutlineFits};
 ghost use Rattle.plc_setting.specs.Setting.{below};
 ghost use Rattle.plc_oblig.specs.Obligations.{enters, owns, parts_from, others_at, claims, obligations};
 ghost use Rattle.plc_setting.specs.Fit.{HasFewParts, Fits};

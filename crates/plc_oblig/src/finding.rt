@@ -15,7 +15,7 @@ use plc_logic::Outline;
 use plc_setting::{Obligation, count_at};
 
 // Each of these answers its obligation with the number, or, where it has too few, the number counted
-// behind all of them.
+// after all of them.
 
 fn nth_start(flow: &Flow, outline: &Outline, i: u64) -> Result<Obligation, u64>
     requires { HasFewParts flow.now outline.now }
@@ -127,13 +127,13 @@ fn nth_claim(flow: &Flow, outline: &Outline, i: u64) -> Result<Obligation, u64>
     for (step, s) in flow.steps.as_slice().iter().enumerate() {
         match nth_claim_of(StepId(step as u16), s.prims.as_slice(), left) {
             Ok(o) => return Ok(o),
-            Err(behind) => left = behind,
+            Err(after) => left = after,
         }
     }
     Err(left)
 }
 
-// Those of steps at other points, and claims behind them.
+// Those of steps at other points, and claims after them.
 fn nth_from_other(flow: &Flow, outline: &Outline, i: u64) -> Result<Obligation, u64>
     requires { HasFewParts flow.now outline.now }
     ensures { IsFoundIn (others flow.now outline.now ++ claims flow.now) i result }
@@ -144,7 +144,7 @@ fn nth_from_other(flow: &Flow, outline: &Outline, i: u64) -> Result<Obligation, 
     }
 }
 
-// The same behind those of own steps.
+// The same after those of own steps.
 fn nth_from_own(flow: &Flow, outline: &Outline, i: u64) -> Result<Obligation, u64>
     requires { HasFewParts flow.now outline.now }
     ensures { IsFoundIn (owns flow.now outline.now ++ (others flow.now outline.now ++ claims flow.now)) i result }
@@ -155,7 +155,7 @@ fn nth_from_own(flow: &Flow, outline: &Outline, i: u64) -> Result<Obligation, u6
     }
 }
 
-// The same behind those of entries.
+// The same after those of entries.
 fn nth_from_enter(flow: &Flow, outline: &Outline, i: u64) -> Result<Obligation, u64>
     requires { HasFewParts flow.now outline.now }
     ensures { IsFoundIn (enters flow.now outline.now ++ (owns flow.now outline.now

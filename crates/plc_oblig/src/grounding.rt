@@ -89,7 +89,7 @@ fn draft_of(
 }
 
 /// The ground set of an obligation, which has as many clauses as `clauses` counts. It fails only where memory
-/// runs out.
+/// runs out, which more than 2^32 terms or clauses count as.
 pub fn ground(
     alloc: Global,
     flow: &Flow,

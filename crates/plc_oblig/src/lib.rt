@@ -1,8 +1,8 @@
-//! Proof obligations of outlines: which there are, in which order, how many, and for each the ground set of
-//! clauses that has no model exactly where the obligation is kept.
+//! Proof obligations of outlines: which there are, in which order, how many, and the ground set of each, whose
+//! having no model is what it means that the obligation is kept.
 //!
-//! An outline holds where each obligation is kept: after `init`, at the entry of each operation, behind
-//! each step of the thread that takes it, at each point of another thread meanwhile, and at each claim.
+//! An outline holds where each obligation is kept: after `init`, at the entry of each operation, after each
+//! step of the thread that takes it, at each point of another thread meanwhile, and at each claim.
 //! The layers above go over them by their numbers; no list of them is made.
 #![tactic(auto)]
 

@@ -1,23 +1,19 @@
 // How many clauses the ground set of an obligation has, item by item: a limit is asked of every obligation, and
 // no set is made for it.
-ghost use Rattle.std.specs.Prelude.{◌≡◌, ◌≤◌, ◌<◌, ◌*◌, ◌+◌, ℕ, Bool, cond, List, length, count_by, sum_by, flat_map, slice_get, option_copied, All};
+ghost use Rattle.std.specs.Prelude.{◌≡◌, ◌≤◌, ◌*◌, cond, List, length, count_by, sum_by, option_copied, All};
 ghost use Rattle.std.specs.List.{list_any};
 ghost use Rattle.plc_lang.specs.Locals.{is_pointer, is_other_data};
 ghost use Rattle.plc_lang.specs.Allocation.{is_new};
 ghost use Rattle.plc_lang.specs.Fit.{FileFits};
-ghost use Rattle.plc_setting.specs.Fit.{Fits, HasFewParts};
+ghost use Rattle.plc_setting.specs.Fit.{Fits};
 ghost use Rattle.plc_setting.specs.Points.{clauses_at};
 ghost use Rattle.plc_setting.specs.Parts.{acting_locals, owner_locals, executed, conclusion, claim_made, clauses_of};
 ghost use Rattle.plc_setting.specs.Setting.{setting_of, bound_of};
 ghost use Rattle.plc_setting.specs.declared.setting.Setting.{Setting};
-ghost use Rattle.plc_setting.specs.declared.setting.Variables.{Variables};
-ghost use Rattle.plc_setting.specs.Acts.{acts_of};
 ghost use Rattle.plc_symbolic.specs.declared.symbolic.NodeTerm.{NodeTerm};
 ghost use Rattle.plc_items.specs.declared.execution.Execution.{Execution};
-ghost use Rattle.plc_items.specs.Execution.{executed_clauses};
 ghost use Rattle.plc_items.specs.Items.{values_from, beginning, freshness, denied};
 ghost use Rattle.plc_oblig.specs.GroundSets.{ground_set};
-ghost use Rattle.plc_lang.specs.declared.syntax.Ghost.{Ghost};
 ghost use Rattle.plc_oblig.specs.Size.{has_values, is_pointer_field, is_pointer_load, prim_size, clause_size, AreSizesOf, AreFew};
 
 use plc_base::PointId;

@@ -106,7 +106,7 @@ pub fn epochs(alloc: Global) -> Result<String, AllocError> {
     format!(in alloc; "{STRUCT}{EPOCH_OBSERVER}{PUSH}{EPOCH_POP}{OUTLINE}")
 }
 
-/// Two operations over a struct with two pointer fields and a data field, with deep premises.
+/// Two operations over a struct with two pointer fields and a data field, at depth 1.
 pub const DEEP: &str = "struct Node { ptr next; data val; ptr other; }
 shared Top; shared Spare;
 call enter(); call leave();

@@ -1,4 +1,5 @@
-// Ground sets of obligations, one of each kind, and one with deep premises, as an independent reading of the format gives them.
+// Ground sets of obligations, one of each kind, and one at depth 1, as an independent reading of the format gives
+// them.
 //
 // The first line has the terms. `s0` is a shared pointer, `a1` a local of the acting thread, `b1` one of the other
 // thread, `c0` a node of the conclusion, `l0` a load, `v0` a value, `n7` a number, `f0.1@3` version 1 of a field at
@@ -8,7 +9,7 @@ ghost use Rattle.plc_setting.specs.Fit.{Fits};
 
 use crate::files::{DEEP, hazards};
 use plc_base::LARGEST_FILE;
-use plc_check::{Judged, Unjudged, load};
+use plc_check::{Unjudged, load};
 use plc_flow::Flow;
 use plc_ground::{GroundSet, GroundTerm, Lit, Map, Sort, Symbol};
 use plc_logic::Outline;
@@ -294,7 +295,7 @@ N N N N T P P V0 V0 V0 D V0 V0 V0 V0 T T T N N N
 15=4
 ";
 
-// The first invariant after `init`, with deep premises.
+// The first invariant after `init`, at depth 1.
 const DEEP_START: &str = "\
 null s0 s1 new yes none me v0 v1 v2 n0 n3 n7 n12 f0.0@0 f2.0@0 f0.0@1 f2.0@1 f0.0@2 f2.0@2 f0.0@3 f2.0@3 g0.0@0 g0.0@1 g0.0@2 g0.0@3 g0.0@14 g0.0@15 g0.0@16 g0.0@17 g0.0@18 g0.0@19 g0.0@20 g0.0@21 f0.0@14 f2.0@14 f0.0@15 f2.0@15 f0.0@16 f2.0@16 f0.0@17 f2.0@17 f0.0@18 f2.0@18 f0.0@19 f2.0@19 f0.0@20 f2.0@20 f0.0@21 f2.0@21 f1.0@3 g1.0@3 retired.0@3 f1.1@0 f1.0@0 f1.1@1 f1.0@1 f1.1@2 f1.0@2 f1.1@3 f1.1@14 f1.0@14 f1.1@15 f1.0@15 f1.1@16 f1.0@16 f1.1@17 f1.0@17 f1.1@18 f1.0@18 f1.1@19 f1.0@19 f1.1@20 f1.0@20 f1.1@21 f1.0@21 g0.1@0 g0.1@1 g0.1@2 g0.1@3 g0.1@14 g0.1@15 g0.1@16 g0.1@17 g0.1@18 g0.1@19 g0.1@20 g0.1@21
 N N N N T P P V0 V0 V0 D D D D N N N N N N N N V0 V0 V0 V0 V0 V0 V0 V0 V0 V0 V0 V0 N N N N N N N N N N N N N N N N D P T D D D D D D D D D D D D D D D D D D D D D D D V0 V0 V0 V0 V0 V0 V0 V0 V0 V0 V0 V0
