@@ -1,7 +1,6 @@
 -- what contracts of public calls say
 pub mod Fit
 pub mod Loading
-pub mod Unjudged
 pub mod Verdicts
 -- words of private functions alone
 pub mod Refusals

@@ -1,28 +1,24 @@
 -- Which file bytes spell, and how they are answered.
-use Rattle.std.specs.Prelude.{◌≡◌, ◌≢◌, ◌⊎◌, ℕ, true, false, ◌<◌, ◌≤◌, ◌+◌, List, get_or, slice_get, Option, Some, None, Result, Ok, Err}
-use Rattle.std.specs.List.{list_any}
+use Rattle.std.specs.Prelude.{◌≡◌, ◌≢◌, ◌⊎◌, ℕ, ◌<◌, ◌≤◌, ◌+◌, List, length, get_or, Option, Some, None, Result, Ok, Err}
+use Rattle.plc_base.specs.Limits.{most}
 use Rattle.plc_base.specs.declared.limits.What1.{What1}
-use Rattle.plc_base.specs.declared.limits.What1.TheVariants.{Points}
-use Rattle.plc_lang.specs.WellSorted.{is_claim}
+use Rattle.plc_base.specs.declared.limits.What1.TheVariants as limits
 use Rattle.plc_lex.specs.declared.token.Token.{Token}
 use Rattle.plc_lex.specs.declared.fault.LexFault.{LexFault}
 use Rattle.plc_lex.specs.declared.fault.LexFault.TheVariants as lex
 use Rattle.plc_lex.specs.Spelling.{AreTokensOf, line_feeds}
 use Rattle.plc_lex.specs.Refused.{StopsWith}
-use Rattle.plc_syntax.specs.Syntax.{kinds}
 use Rattle.plc_scope.specs.declared.fault.ParseFault.{ParseFault}
 use Rattle.plc_scope.specs.declared.fault.ParseFault.TheVariants as parse
 use Rattle.plc_parse.specs.declared.unit.Unit.{Unit as FileUnit}
 use Rattle.plc_parse.specs.Units.{lines_of, IsUnitOf, IsFaultOf}
-use Rattle.plc_flow.specs.declared.flow.Step.{Step}
 use Rattle.plc_flow.specs.Lowering.{made_of, flow_of, most_points}
+use Rattle.plc_oblig.specs.Obligations.{obligations}
+use Rattle.plc_oblig.specs.Outlines.{HasFewObligations, HasSmallSets, HasLargeSet}
 use Rattle.plc_reclaim.specs.Schemes.{schemes_of}
 use Rattle.plc_check.specs.declared.judged.Judged.{Judged}
 use Rattle.plc_check.specs.declared.judged.LoadFault.{LoadFault}
 use Rattle.plc_check.specs.declared.judged.LoadFault.TheVariants as faults
-use Rattle.plc_check.specs.declared.unjudged.Unjudged.{Unjudged}
-use Rattle.plc_check.specs.declared.unjudged.Unjudged.TheVariants.{ClaimsAndOutlines}
-use Rattle.plc_check.specs.Unjudged.{unjudged_words, hold}
 
 -- the bytes spell these tokens, which spell the unit, whose flow has no more points than it may
 pub record SpellsUnit (bytes : List ℕ) (tokens : List Token) (u : FileUnit) : Type 0 where
@@ -30,15 +26,21 @@ pub record SpellsUnit (bytes : List ℕ) (tokens : List Token) (u : FileUnit) : 
   pub unit : IsUnitOf tokens u
   pub few : (made_of u.file).points ≤ most_points
 
--- the bytes spell the unit, and no token is a word of a form that isn't judged
-pub record IsFileOf (unjudged : Unjudged) (bytes : List ℕ) (u : FileUnit) : Type 0 where
+-- the bytes spell the unit, and its outline is within its limits
+pub record IsFileOf (bytes : List ℕ) (u : FileUnit) : Type 0 where
   pub tokens : List Token
   pub spells : SpellsUnit bytes tokens u
-  pub known : hold (kinds tokens) (unjudged_words unjudged) ≡ false
+  pub few : HasFewObligations (flow_of u.file) u.outline
+  pub small : HasSmallSets (flow_of u.file) u.outline
 
 -- what is judged of a unit
 abbrev pub judged_of : FileUnit → Judged
-judged_of u = record { unit_outline = u.outline; observer = u.observer; schemes = schemes_of u.observer; flow = flow_of u.file }
+judged_of u = record {
+  unit_outline = u.outline;
+  observer = u.observer;
+  schemes = schemes_of u.observer;
+  flow = flow_of u.file;
+}
 
 -- ---- refusals
 
@@ -46,13 +48,6 @@ judged_of u = record { unit_outline = u.outline; observer = u.observer; schemes 
 pub record HasLexFault (bytes : List ℕ) (fault : LexFault) : Type 0 where
   pub stops : StopsWith 0 bytes fault
   pub other : fault ≢ lex.Memory
-
--- the bytes spell a unit, and a token is a word of a form that isn't judged
-pub record HasUnjudged (unjudged : Unjudged) (bytes : List ℕ) : Type 0 where
-  pub tokens : List Token
-  pub unit : FileUnit
-  pub spells : SpellsUnit bytes tokens unit
-  pub held : hold (kinds tokens) (unjudged_words unjudged) ≡ true
 
 -- the place of a fault among the tokens; limits are told without one
 abbrev pub place_of : ParseFault → Option ℕ
@@ -90,33 +85,51 @@ pub record HasTooManyPoints (bytes : List ℕ) (what : What1) (count : ℕ) : Ty
   pub unit : FileUnit
   pub of_tokens : IsUnitOf tokens unit
   pub many : most_points < (made_of unit.file).points
-  pub what_is : what ≡ Points
+  pub what_is : what ≡ limits.Points
   pub count_is : count ≡ most_points + 1
 
+-- the bytes spell a unit whose outline has more obligations than it may
+pub record HasTooManyObligations (bytes : List ℕ) (what : What1) (count : ℕ) : Type 0 where
+  pub tokens : List Token
+  pub unit : FileUnit
+  pub spells : SpellsUnit bytes tokens unit
+  pub many : most limits.Obligations < length (obligations (flow_of unit.file) unit.outline)
+  pub what_is : what ≡ limits.Obligations
+  pub count_is : count ≡ most limits.Obligations + 1
+
+-- the bytes spell a unit whose outline has no more, but the ground set of one has more clauses than it may
+pub record HasTooManyClauses (bytes : List ℕ) (what : What1) (count : ℕ) : Type 0 where
+  pub tokens : List Token
+  pub unit : FileUnit
+  pub spells : SpellsUnit bytes tokens unit
+  pub few : HasFewObligations (flow_of unit.file) unit.outline
+  pub many : HasLargeSet (flow_of unit.file) unit.outline
+  pub what_is : what ≡ limits.Clauses
+  pub count_is : count ≡ most limits.Clauses + 1
+
+-- the limit that is passed: by the tokens, or else by the points, by the obligations or by the clauses of a ground set
+abbrev pub HasLimitFault : List ℕ → What1 → ℕ → Type 0
+HasLimitFault bytes what count =
+    PassesLimit bytes what count ⊎ HasTooManyPoints bytes what count
+    ⊎ HasTooManyObligations bytes what count ⊎ HasTooManyClauses bytes what count
+
 -- why bytes are refused; memory may run out anywhere
-abbrev pub HasFault : Unjudged → List ℕ → LoadFault → Type 0
-HasFault unjudged bytes (faults.Lex fault) = HasLexFault bytes fault
-HasFault unjudged bytes faults.Unjudged = HasUnjudged unjudged bytes
-HasFault unjudged bytes (faults.Parse fault line) = HasParseFault bytes fault line
-HasFault unjudged bytes (faults.Limit what count) = PassesLimit bytes what count ⊎ HasTooManyPoints bytes what count
-HasFault unjudged bytes faults.Memory = Unit {0}
+abbrev pub HasFault : List ℕ → LoadFault → Type 0
+HasFault bytes (faults.Lex fault) = HasLexFault bytes fault
+HasFault bytes (faults.Parse fault line) = HasParseFault bytes fault line
+HasFault bytes (faults.Limit what count) = HasLimitFault bytes what count
+HasFault bytes faults.Memory = Unit {0}
 
 -- what other refusals than running out of memory say: the bytes spell no file that is judged
-abbrev pub SpellsNothing : Unjudged → List ℕ → LoadFault → Type 0
-SpellsNothing unjudged bytes faults.Memory = Unit {0}
-SpellsNothing unjudged bytes other = (u : FileUnit) → IsFileOf unjudged bytes u → ⊥
+abbrev pub SpellsNothing : List ℕ → LoadFault → Type 0
+SpellsNothing bytes faults.Memory = Unit {0}
+SpellsNothing bytes other = (u : FileUnit) → IsFileOf bytes u → ⊥
 
 -- the answer to bytes: what they spell; or the fault that they have, and then they spell nothing
-abbrev pub IsLoaded : Unjudged → List ℕ → Result Judged LoadFault → Type 0
-IsLoaded unjudged bytes (Ok j) = (u : FileUnit) × IsFileOf unjudged bytes u × (j ≡ judged_of u)
-IsLoaded unjudged bytes (Err e) = HasFault unjudged bytes e × SpellsNothing unjudged bytes e
+abbrev pub IsLoaded : List ℕ → Result Judged LoadFault → Type 0
+IsLoaded bytes (Ok j) = (u : FileUnit) × IsFileOf bytes u × (j ≡ judged_of u)
+IsLoaded bytes (Err e) = HasFault bytes e × SpellsNothing bytes e
 
--- bytes spell at most one unit, whatever is judged of them
+-- bytes spell at most one unit
 abbrev pub FilesAreUnique : Type 0
-FilesAreUnique = (unjudged more : Unjudged) (bytes : List ℕ) (u v : FileUnit) → IsFileOf unjudged bytes u → IsFileOf more bytes v → u ≡ v
-
--- no step of the flow of a file that is judged without claims holds one
-abbrev pub JudgedFilesClaimNothing : Type 0
-JudgedFilesClaimNothing =
-    (bytes : List ℕ) (u : FileUnit) → IsFileOf ClaimsAndOutlines bytes u
-    → (k : ℕ) (s : Step) → slice_get (flow_of u.file).steps k ≡ Some s → list_any is_claim s.prims ≡ false
+FilesAreUnique = (bytes : List ℕ) (u v : FileUnit) → IsFileOf bytes u → IsFileOf bytes v → u ≡ v

@@ -1,6 +1,8 @@
 -- What a lower call's answer is here.
-use Rattle.std.specs.Prelude.{◌≡◌, ◌<◌, ◌≤◌, ◌+◌, ℕ, true, false, List, Result, Ok, Err}
-use Rattle.plc_base.specs.declared.limits.What1.TheVariants.{Points}
+use Rattle.std.specs.Prelude.{◌≡◌, ◌⊎◌, ◌<◌, ◌≤◌, ◌+◌, ℕ, List, length, Result, Ok, Err}
+use Rattle.plc_base.specs.Limits.{most}
+use Rattle.plc_base.specs.declared.limits.What1.{What1}
+use Rattle.plc_base.specs.declared.limits.What1.TheVariants as limits
 use Rattle.plc_lex.specs.declared.token.Token.{Token}
 use Rattle.plc_lex.specs.declared.fault.LexFault.{LexFault}
 use Rattle.plc_lex.specs.declared.fault.LexFault.TheVariants as lex
@@ -12,12 +14,11 @@ use Rattle.plc_lang.specs.WellSorted.{FileIsWellSorted}
 use Rattle.plc_flow.specs.Lowering.{made_of, most_points}
 use Rattle.plc_flow.specs.WellFormed.{FlowFits}
 use Rattle.plc_flow.specs.WellSorted.{FlowIsWellSorted}
-use Rattle.plc_syntax.specs.Syntax.{kinds}
+use Rattle.plc_oblig.specs.Obligations.{obligations}
+use Rattle.plc_oblig.specs.Outlines.{HasFewObligations, HasSmallSets, HasLargeSet}
 use Rattle.plc_check.specs.declared.judged.Judged.{Judged}
 use Rattle.plc_check.specs.declared.judged.LoadFault.{LoadFault}
 use Rattle.plc_check.specs.declared.judged.LoadFault.TheVariants as faults
-use Rattle.plc_check.specs.declared.unjudged.Unjudged.{Unjudged}
-use Rattle.plc_check.specs.Unjudged.{unjudged_words, hold}
 use Rattle.plc_check.specs.Loading.{judged_of, line_of}
 
 -- a lower call's fault, of which running out of memory is none
@@ -43,21 +44,27 @@ parse_refusal bytes ts (parse.Limit what count) = faults.Limit what count
 parse_refusal bytes ts parse.Memory = faults.Memory
 
 -- the points of a unit are too many
-pub record HasManyPoints (u : FileUnit) (e : LoadFault) : Type 0 where
+pub record HasManyPoints (u : FileUnit) (what : What1) (count : ℕ) : Type 0 where
   pub many : most_points < (made_of u.file).points
-  pub fault : e ≡ faults.Limit Points (most_points + 1)
+  pub what_is : what ≡ limits.Points
+  pub count_is : count ≡ most_points + 1
 
 -- what is judged of a unit, or too many points; memory may run out
 abbrev pub IsLowered : FileUnit → Result Judged LoadFault → Type 0
-IsLowered u (Ok j) = (j ≡ judged_of u) × ((made_of u.file).points ≤ most_points) × (FileFits u.file → NamesWhatIsThere u.file → FlowFits j.flow) × (FileIsWellSorted u.file → FlowIsWellSorted j.flow)
+IsLowered u (Ok j) = (j ≡ judged_of u) × ((made_of u.file).points ≤ most_points)
+    × (FileFits u.file → NamesWhatIsThere u.file → FlowFits j.flow)
+    × (FileIsWellSorted u.file → FlowIsWellSorted j.flow)
+IsLowered u (Err (faults.Limit what count)) = HasManyPoints u what count
 IsLowered u (Err faults.Memory) = Unit {0}
-IsLowered u (Err (faults.Limit what count)) = HasManyPoints u (faults.Limit what count)
-IsLowered u (Err faults.Unjudged) = ⊥
-IsLowered u (Err (faults.Lex f)) = ⊥
-IsLowered u (Err (faults.Parse f l)) = ⊥
+IsLowered u (Err (faults.Lex fault)) = ⊥
+IsLowered u (Err (faults.Parse fault line)) = ⊥
 
--- the same of the tokens of a unit: where a word is of a form that isn't judged, what is judged of the unit is refused
-abbrev pub IsJudgedOf : Unjudged → List Token → FileUnit → Result Judged LoadFault → Type 0
-IsJudgedOf unjudged ts u (Ok j) = IsLowered u (Ok j) × (hold (kinds ts) (unjudged_words unjudged) ≡ false)
-IsJudgedOf unjudged ts u (Err faults.Unjudged) = ((made_of u.file).points ≤ most_points) × (hold (kinds ts) (unjudged_words unjudged) ≡ true)
-IsJudgedOf unjudged ts u (Err e) = IsLowered u (Err e)
+-- what is judged of a unit is handed on where its outline is within its limits; else the first that is passed
+abbrev pub IsLimited : Judged → Result Judged LoadFault → Type 0
+IsLimited j (Ok k) = (k ≡ j) × HasFewObligations j.flow j.unit_outline × HasSmallSets j.flow j.unit_outline
+IsLimited j (Err (faults.Limit what count)) =
+    ((most limits.Obligations < length (obligations j.flow j.unit_outline)) × (what ≡ limits.Obligations) × (count ≡ most limits.Obligations + 1))
+    ⊎ (HasFewObligations j.flow j.unit_outline × HasLargeSet j.flow j.unit_outline × (what ≡ limits.Clauses) × (count ≡ most limits.Clauses + 1))
+IsLimited j (Err faults.Memory) = Unit {0}
+IsLimited j (Err (faults.Lex fault)) = ⊥
+IsLimited j (Err (faults.Parse fault line)) = ⊥

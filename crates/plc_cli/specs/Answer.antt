@@ -5,16 +5,12 @@ use Rattle.plc_outside.specs.Known.{KnownFiles, KnownSink}
 use Rattle.plc_outside.specs.Outside.{Rose, Appends, AppendsPart}
 use Rattle.plc_parse.specs.declared.unit.Unit.{Unit as FileUnit}
 use Rattle.plc_print.specs.Text.{canonical_text}
-use Rattle.plc_type.specs.declared.env.Env.{Env}
-use Rattle.plc_xfer.specs.declared.fault.TypeFault.{TypeFault}
-use Rattle.plc_xfer.specs.Typings.{IsTyping, IsStrongest, IsStuckAt}
-use Rattle.plc_flow.specs.Skeleton.{skeleton_of}
 use Rattle.plc_check.specs.declared.judged.Judged.{Judged}
 use Rattle.plc_check.specs.declared.judged.LoadFault.{LoadFault}
 use Rattle.plc_check.specs.declared.judged.LoadFault.TheVariants.{Memory}
-use Rattle.plc_check.specs.declared.unjudged.Unjudged.{Unjudged}
-use Rattle.plc_check.specs.declared.unjudged.Unjudged.TheVariants.{Nothing, Outlines, ClaimsAndOutlines}
+use Rattle.plc_check.specs.declared.verdict.Verdict.{Verdict}
 use Rattle.plc_check.specs.Loading.{IsFileOf, HasFault, judged_of}
+use Rattle.plc_check.specs.Verdicts.{IsVerdictOn}
 use Rattle.plc_sched.specs.declared.schedule.Schedule.{Schedule}
 use Rattle.plc_sched.specs.declared.fault.SchedFault.{SchedFault}
 use Rattle.plc_sched.specs.declared.fault.SchedFault.TheVariants as sched
@@ -23,63 +19,40 @@ use Rattle.plc_reclaim.specs.Meanings.{Meanings}
 use Rattle.plc_replay.specs.declared.end.End.{End}
 use Rattle.plc_replay.specs.Outcome.{ComesTo}
 use Rattle.plc_texts.specs.Refusals.{words_refused}
-use Rattle.plc_texts.specs.Typings.{safe_text}
-use Rattle.plc_texts.specs.Untyped.{untyped_text}
 use Rattle.plc_texts.specs.Replays.{schedule_text, end_text}
 use Rattle.plc_cli.specs.Refusals.{load_text}
+use Rattle.plc_cli.specs.Verdicts.{verdict_status, verdict_text}
 use Rattle.plc_cli.specs.Reads.{IsDueForFile, IsDueForPair}
 use Rattle.plc_cli.specs.Requests.{Request, Check, Print, Replay}
-use Rattle.plc_cli.specs.Statuses.{holds, fails, refused, bad_words, unwritten, no_memory, end_status}
+use Rattle.plc_cli.specs.Statuses.{holds, refused, bad_words, unwritten, no_memory, end_status}
 
 -- ---- the answer to the bytes of a file
 
--- the unit that bytes spell, where none of their words is one of a claim or an outline
-abbrev pub Spells : List ℕ → FileUnit → Type 0
-Spells bytes u = IsFileOf ClaimsAndOutlines bytes u
-
 -- the bytes have a fault that is told, and spell no file
-pub record IsRefusedFile (unjudged : Unjudged) (bytes : List ℕ) (status : ℕ) (text : List ℕ) : Type 0 where
+pub record IsRefusedFile (bytes : List ℕ) (status : ℕ) (text : List ℕ) : Type 0 where
   pub fault : LoadFault
-  pub has : HasFault unjudged bytes fault
+  pub has : HasFault bytes fault
   pub told : fault ≢ Memory
-  pub none : (u : FileUnit) → IsFileOf unjudged bytes u → ⊥
+  pub none : (u : FileUnit) → IsFileOf bytes u → ⊥
   pub status_is : status ≡ refused
   pub text_is : text ≡ load_text fault
 
--- these environments are the strongest typing of a flow
-pub record IsStrongestTyping (j : Judged) (envs : List Env) : Type 0 where
-  pub typing : IsTyping j.observer (skeleton_of j.flow) envs
-  pub strongest : IsStrongest j.observer (skeleton_of j.flow) envs
+-- the verdict on a file that was loaded: any that is right, since an outline that doesn't hold may have several models
+pub record IsJudgedAs (j : Judged) (status : ℕ) (text : List ℕ) : Type 0 where
+  pub verdict : Verdict
+  pub right : IsVerdictOn j verdict
+  pub status_is : status ≡ verdict_status verdict
+  pub text_is : text ≡ verdict_text j verdict
 
--- the flow has a typing, of which the strongest is told
-pub record IsSafe (j : Judged) (status : ℕ) (text : List ℕ) : Type 0 where
-  pub envs : List Env
-  pub typed : IsStrongestTyping j envs
-  pub status_is : status ≡ holds
-  pub text_is : text ≡ safe_text j.flow j.observer envs 0
-
--- a condition fails under every pre-typing, and this is the least
-pub record IsUntyped (j : Judged) (status : ℕ) (text : List ℕ) : Type 0 where
-  pub step : ℕ
-  pub primitive : ℕ
-  pub fault : TypeFault
-  pub stuck : IsStuckAt j.observer (skeleton_of j.flow) step primitive fault
-  pub status_is : status ≡ fails
-  pub text_is : text ≡ untyped_text j.flow step primitive fault
-
--- what is answered for a flow that was loaded
-abbrev pub IsJudgedAs : Judged → ℕ → List ℕ → Type 0
-IsJudgedAs j status text = IsSafe j status text ⊎ IsUntyped j status text
-
--- the bytes spell a file, which is safe or untyped
+-- the bytes spell a file, which is safe, untyped or unproved
 pub record IsJudgedFile (bytes : List ℕ) (status : ℕ) (text : List ℕ) : Type 0 where
   pub unit : FileUnit
-  pub spelled : Spells bytes unit
+  pub spelled : IsFileOf bytes unit
   pub answer : IsJudgedAs (judged_of unit) status text
 
--- what `check` answers to bytes: refused, safe or untyped
+-- what `check` answers to bytes: refused or judged
 abbrev pub IsAnswerTo : List ℕ → ℕ → List ℕ → Type 0
-IsAnswerTo bytes status text = IsRefusedFile ClaimsAndOutlines bytes status text ⊎ IsJudgedFile bytes status text
+IsAnswerTo bytes status text = IsRefusedFile bytes status text ⊎ IsJudgedFile bytes status text
 
 -- the unit that was loaded
 abbrev pub unit_of : Judged → FileUnit
@@ -88,13 +61,13 @@ unit_of j = record { file = j.flow.file; observer = j.observer; outline = j.unit
 -- the file in canonical text
 pub record IsPrintedFile (bytes : List ℕ) (status : ℕ) (text : List ℕ) : Type 0 where
   pub unit : FileUnit
-  pub spelled : IsFileOf Nothing bytes unit
+  pub spelled : IsFileOf bytes unit
   pub status_is : status ≡ holds
   pub text_is : text ≡ canonical_text unit
 
 -- what `print` answers to bytes: refused or printed
 abbrev pub IsPrintOf : List ℕ → ℕ → List ℕ → Type 0
-IsPrintOf bytes status text = IsRefusedFile Nothing bytes status text ⊎ IsPrintedFile bytes status text
+IsPrintOf bytes status text = IsRefusedFile bytes status text ⊎ IsPrintedFile bytes status text
 
 -- ---- the answer to the bytes of a file and of a schedule
 
@@ -126,12 +99,12 @@ IsScheduleAnswered j reclaimer bytes status text = IsRefusedSchedule bytes statu
 -- the file is read, and its schedule is refused or replayed
 pub record IsReplayedFile (reclaimer : Meanings) (bytes second : List ℕ) (status : ℕ) (text : List ℕ) : Type 0 where
   pub unit : FileUnit
-  pub spelled : IsFileOf Outlines bytes unit
+  pub spelled : IsFileOf bytes unit
   pub answer : IsScheduleAnswered (judged_of unit) reclaimer second status text
 
 -- what `replay` answers to the bytes of a file and of a schedule; the file's refusals go first
 abbrev pub IsReplayOf : Meanings → List ℕ → List ℕ → ℕ → List ℕ → Type 0
-IsReplayOf reclaimer bytes second status text = IsRefusedFile Outlines bytes status text ⊎ IsReplayedFile reclaimer bytes second status text
+IsReplayOf reclaimer bytes second status text = IsRefusedFile bytes status text ⊎ IsReplayedFile reclaimer bytes second status text
 
 -- ---- the answer to words
 

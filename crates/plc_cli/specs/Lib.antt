@@ -7,5 +7,6 @@ pub mod Refusals
 pub mod Requests
 pub mod Served
 pub mod Statuses
+pub mod Verdicts
 -- words of private functions alone
 pub mod Views

@@ -3,7 +3,6 @@ use Rattle.std.specs.Prelude.{◌≡◌, ℕ, List, [], ◌∷◌, Option, Some,
 use Rattle.plc_outside.specs.Known.{KnownFiles, KnownSink}
 use Rattle.plc_outside.specs.Outside.{Appends}
 use Rattle.plc_parse.specs.declared.unit.Unit.{Unit as FileUnit}
-use Rattle.plc_check.specs.declared.unjudged.Unjudged.TheVariants.{Outlines}
 use Rattle.plc_check.specs.Loading.{IsFileOf, judged_of}
 use Rattle.plc_sched.specs.declared.schedule.Schedule.{Schedule}
 use Rattle.plc_sched.specs.Schedules.{IsScheduleOf}
@@ -19,7 +18,7 @@ use Rattle.plc_cli.specs.Statuses.{fails, end_status}
 -- the bytes spell a file, and this reclaimer acts as one that serves its observer
 pub record IsServedBy (reclaimer : Meanings) (bytes : List ℕ) : Type 0 where
   pub unit : FileUnit
-  pub spelled : IsFileOf Outlines bytes unit
+  pub spelled : IsFileOf bytes unit
   pub serves : Serves unit.observer reclaimer
 
 -- the bytes spell a schedule, whose end is written; it is a failure, and no forbidden free

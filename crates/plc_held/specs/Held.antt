@@ -1,28 +1,23 @@
--- When an outline holds, and what it says of a configuration.
+-- What an outline that holds says of a configuration.
 use Rattle.std.specs.Prelude.{◌≡◌, ℕ, List, Some, None, All}
 use Rattle.plc_flow.specs.declared.flow.Step.{Step}
 use Rattle.plc_flow.specs.declared.flow.Flow.{Flow}
 use Rattle.plc_flow.specs.declared.flow.Move.{Move}
 use Rattle.plc_flow.specs.declared.points.Point.{Point}
 use Rattle.plc_logic.specs.declared.clause.Outline.{Outline}
-use Rattle.plc_ground.specs.Trees.{HasModel}
 use Rattle.plc_setting.specs.Points.{clauses_at}
-use Rattle.plc_oblig.specs.Obligations.{obligations}
-use Rattle.plc_oblig.specs.GroundSets.{ground_set}
+use Rattle.plc_oblig.specs.Outlines.{OutlineHolds}
 use Rattle.plc_gc.specs.Run.{GcConfiguration, GcRun, MayTake, point_of}
 use Rattle.plc_gc.specs.Clauses.{Holds}
 use Rattle.plc_gc.specs.Claims.{ClaimsHold, AllClaimsHold}
-
--- the ground set of no obligation has a model
-abbrev pub OutlineHolds : Flow → Outline → Type 0
-OutlineHolds flow outline = All (λ o. HasModel (ground_set flow outline o) → ⊥) (obligations flow outline)
 
 -- the invariants, the clauses of the point of each busy thread, and the claims that are reached by the steps that may
 -- be taken next
 pub record OutlineIsTrue (flow : Flow) (outline : Outline) (threads : ℕ) (c : GcConfiguration) : Type 0 where
   pub invariants : All (Holds c.state None) outline.invariants
   pub points : (t : ℕ) (p : Point) → point_of c t ≡ Some p → All (Holds c.state (Some t)) (clauses_at flow outline p.at)
-  pub claims : (t nth : ℕ) (p : Point) (step : Step) → MayTake flow threads c t nth p step → ClaimsHold c.state t step.prims
+  pub claims : (t nth : ℕ) (p : Point) (step : Step) → MayTake flow threads c t nth p step
+      → ClaimsHold c.state t step.prims
 
 -- a held outline is true in each configuration of each garbage-collected run
 abbrev pub HeldOutlinesAreTrue : Flow → Outline → ℕ → Type 0

@@ -16,7 +16,7 @@ use Rattle.plc_typesound.specs.Claims as types
 use Rattle.plc_gc.specs.Claims.{AllClaimsHold}
 use Rattle.plc_erasure.specs.Erasure as erasure
 use Rattle.plc_setting.specs.Fit.{Fits}
-use Rattle.plc_held.specs.Held.{OutlineHolds}
+use Rattle.plc_oblig.specs.Outlines.{OutlineHolds}
 
 -- the two words for an active pointer: erasure says that null is valid too, which coherence gives
 abbrev pub ActiveWordsAgree : Type 0

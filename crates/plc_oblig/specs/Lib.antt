@@ -1,6 +1,7 @@
 -- what contracts of public calls say
 pub mod Obligations
 pub mod GroundSets
+pub mod Outlines
 -- words of private functions alone
 pub mod Finding
 pub mod Size
