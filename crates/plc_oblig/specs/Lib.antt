@@ -2,6 +2,7 @@
 pub mod Obligations
 pub mod GroundSets
 pub mod Outlines
+pub mod Walk
 -- words of private functions alone
 pub mod Finding
 pub mod Size
