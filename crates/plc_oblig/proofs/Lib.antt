@@ -1,5 +1,6 @@
 pub mod ClaimCounts
 pub mod Walking
+mod Remaining
 mod Lengths
 mod Executed
 mod Wholes

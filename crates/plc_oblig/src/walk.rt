@@ -2,7 +2,7 @@
 // parts before for each of them; a walk keeps its place, and how many clauses there are at each point, which
 // each step asks again. The place is the obligation that would come next if its part went on: from there
 // each kind is searched on, and where it has no more the next kind is searched from its beginning.
-ghost use Rattle.std.specs.Prelude.{◌≡◌, ◌<◌, ◌++◌, length, map, [], IfOk};
+ghost use Rattle.std.specs.Prelude.{◌≡◌, ◌+◌, ◌<◌, ◌≤◌, length, [], IfOk};
 ghost use Rattle.plc_lang.specs.WellSorted.{is_claim};
 ghost use Rattle.plc_setting.specs.Points.{count_at};
 ghost use Rattle.plc_setting.specs.Setting.{below};
@@ -26,7 +26,6 @@ struct Counted<'a> {
     flow: &'a Flow,
     outline: &'a Outline,
     counts: &'a [u16],
-    ghost fits: { Fits flow.now outline.now },
     ghost each: { counts.now ≡ counts_of flow.now outline.now },
 }
 
@@ -43,9 +42,10 @@ fn counts_of(alloc: Global, flow: &Flow, outline: &Outline) -> Result<Items<u16>
 
 // How many clauses there are at a point.
 fn count_of(o: Counted<'_>, p: PointId) -> u16
-    requires { p.0 < o.flow.now.points }
+    requires point { p.0 < o.flow.now.points }
+    requires fits { Fits o.flow.now o.outline.now }
     ensures count { result ≡ count_at o.flow.now o.outline.now p.0 }
-    ensures few { result < 65000 }
+    ensures few { result ≤ 256 }
 {
     o.counts[p.0 as usize]
 }
@@ -53,6 +53,7 @@ fn count_of(o: Counted<'_>, p: PointId) -> u16
 // ---- the first obligation of a kind from a place on
 
 fn first_start(o: Counted<'_>, inv: u16) -> Option<Obligation>
+    requires { Fits o.flow.now o.outline.now }
     ensures { IsFirstOr o.flow.now o.outline.now (left_from o.flow.now o.outline.now (places.Start inv))
         (left_from o.flow.now o.outline.now (places.Enter (op_id 0) 0)) result }
 {
@@ -64,6 +65,7 @@ fn first_start(o: Counted<'_>, inv: u16) -> Option<Obligation>
 }
 
 fn first_enter(o: Counted<'_>, op: OpId, clause: u16) -> Option<Obligation>
+    requires { Fits o.flow.now o.outline.now }
     ensures { IsFirstOr o.flow.now o.outline.now (left_from o.flow.now o.outline.now (places.Enter op clause))
         (left_from o.flow.now o.outline.now (places.Own (step_id 0) 0)) result }
 {
@@ -82,6 +84,7 @@ fn first_enter(o: Counted<'_>, op: OpId, clause: u16) -> Option<Obligation>
 }
 
 fn first_own(o: Counted<'_>, step: StepId, clause: u16) -> Option<Obligation>
+    requires { Fits o.flow.now o.outline.now }
     ensures { IsFirstOr o.flow.now o.outline.now (left_from o.flow.now o.outline.now (places.Own step clause))
         (left_from o.flow.now o.outline.now (places.Other (step_id 0) (point_id 0) 0)) result }
 {
@@ -102,7 +105,8 @@ fn first_own(o: Counted<'_>, step: StepId, clause: u16) -> Option<Obligation>
 
 // Of one step.
 fn first_at_points(o: Counted<'_>, step: StepId, point: PointId, clause: u16) -> Option<Obligation>
-    requires { step.0 < length o.flow.now.steps }
+    requires fits { Fits o.flow.now o.outline.now }
+    requires step { step.0 < length o.flow.now.steps }
     ensures { IsFirstOr o.flow.now o.outline.now (left_from o.flow.now o.outline.now (places.Other step point clause))
         (left_from o.flow.now o.outline.now (places.Other (step_id (step.0 + 1)) (point_id 0) 0)) result }
 {
@@ -121,6 +125,7 @@ fn first_at_points(o: Counted<'_>, step: StepId, point: PointId, clause: u16) ->
 }
 
 fn first_other(o: Counted<'_>, step: StepId, point: PointId, clause: u16) -> Option<Obligation>
+    requires { Fits o.flow.now o.outline.now }
     ensures { IsFirstOr o.flow.now o.outline.now (left_from o.flow.now o.outline.now (places.Other step point clause))
         (left_from o.flow.now o.outline.now (places.Claim (step_id 0) 0)) result }
 {
@@ -139,7 +144,8 @@ fn first_other(o: Counted<'_>, step: StepId, point: PointId, clause: u16) -> Opt
 
 // Of one step.
 fn first_claim_of(o: Counted<'_>, step: StepId, prim: u16) -> Option<Obligation>
-    requires { step.0 < length o.flow.now.steps }
+    requires fits { Fits o.flow.now o.outline.now }
+    requires step { step.0 < length o.flow.now.steps }
     ensures { IsFirstOr o.flow.now o.outline.now (left_from o.flow.now o.outline.now (places.Claim step prim))
         (left_from o.flow.now o.outline.now (places.Claim (step_id (step.0 + 1)) 0)) result }
 {
@@ -156,6 +162,7 @@ fn first_claim_of(o: Counted<'_>, step: StepId, prim: u16) -> Option<Obligation>
 }
 
 fn first_claim(o: Counted<'_>, step: StepId, prim: u16) -> Option<Obligation>
+    requires { Fits o.flow.now o.outline.now }
     ensures { IsFirstOr o.flow.now o.outline.now (left_from o.flow.now o.outline.now (places.Claim step prim)) [] result }
 {
     let mut prim = prim;
@@ -172,6 +179,7 @@ fn first_claim(o: Counted<'_>, step: StepId, prim: u16) -> Option<Obligation>
 // ---- the first of all from a place on
 
 fn from_other(o: Counted<'_>, step: StepId, point: PointId, clause: u16) -> Option<Obligation>
+    requires { Fits o.flow.now o.outline.now }
     ensures { IsFirstOr o.flow.now o.outline.now (left_from o.flow.now o.outline.now (places.Other step point clause))
         [] result }
 {
@@ -182,6 +190,7 @@ fn from_other(o: Counted<'_>, step: StepId, point: PointId, clause: u16) -> Opti
 }
 
 fn from_own(o: Counted<'_>, step: StepId, clause: u16) -> Option<Obligation>
+    requires { Fits o.flow.now o.outline.now }
     ensures { IsFirstOr o.flow.now o.outline.now (left_from o.flow.now o.outline.now (places.Own step clause)) [] result }
 {
     match first_own(o, step, clause) {
@@ -191,6 +200,7 @@ fn from_own(o: Counted<'_>, step: StepId, clause: u16) -> Option<Obligation>
 }
 
 fn from_enter(o: Counted<'_>, op: OpId, clause: u16) -> Option<Obligation>
+    requires { Fits o.flow.now o.outline.now }
     ensures { IsFirstOr o.flow.now o.outline.now (left_from o.flow.now o.outline.now (places.Enter op clause)) [] result }
 {
     match first_enter(o, op, clause) {
@@ -200,6 +210,7 @@ fn from_enter(o: Counted<'_>, op: OpId, clause: u16) -> Option<Obligation>
 }
 
 fn from_start(o: Counted<'_>, inv: u16) -> Option<Obligation>
+    requires { Fits o.flow.now o.outline.now }
     ensures { IsFirstOr o.flow.now o.outline.now (left_from o.flow.now o.outline.now (places.Start inv)) [] result }
 {
     match first_start(o, inv) {
@@ -209,6 +220,7 @@ fn from_start(o: Counted<'_>, inv: u16) -> Option<Obligation>
 }
 
 fn first_from(o: Counted<'_>, at: Obligation) -> Option<Obligation>
+    requires { Fits o.flow.now o.outline.now }
     ensures { IsFirstOr o.flow.now o.outline.now (left_from o.flow.now o.outline.now at) [] result }
 {
     match at {
