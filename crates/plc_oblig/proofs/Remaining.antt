@@ -28,7 +28,7 @@ drop_past [] (suc i) h = refl
 drop_past (x ∷ xs) zero h = absurd (omega arith)
 drop_past (x ∷ xs) (suc i) h = drop_past xs i (omega arith)
 
-drop_nil : {A : Type 0} (n : ℕ) → drop n ([] : List A) ≡ []
+drop_nil : {A : Type 0} (n : ℕ) → drop {A = A} n [] ≡ []
 drop_nil zero = refl
 drop_nil (suc n) = refl
 

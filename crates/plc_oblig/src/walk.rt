@@ -2,7 +2,7 @@
 // parts before for each of them; a walk keeps its place, and how many clauses there are at each point, which
 // each step asks again. The place is the obligation that would come next if its part went on: from there
 // each kind is searched on, and where it has no more the next kind is searched from its beginning.
-ghost use Rattle.std.specs.Prelude.{◌≡◌, ◌+◌, ◌<◌, ◌≤◌, length, [], IfOk};
+ghost use Rattle.std.specs.Prelude.{◌≡◌, ◌+◌, ◌<◌, ◌≤◌, length, IfOk};
 ghost use Rattle.plc_lang.specs.WellSorted.{is_claim};
 ghost use Rattle.plc_setting.specs.Points.{count_at};
 ghost use Rattle.plc_setting.specs.Setting.{below};
@@ -10,7 +10,7 @@ ghost use Rattle.plc_setting.specs.Fit.{Fits};
 ghost use Rattle.plc_setting.specs.declared.obligations.Obligation.TheVariants as places;
 ghost use Rattle.plc_oblig.specs.Obligations.{op_id, step_id, point_id, obligations};
 ghost use Rattle.plc_oblig.specs.Walk.{IsNextOf};
-ghost use Rattle.plc_oblig.specs.Left.{counts_of, left_from, following, last_number, IsFirst, IsFirstOr};
+ghost use Rattle.plc_oblig.specs.Left.{counts_of, following, last_number, IsFirstOrOn, IsFirstOrNone};
 
 use crate::claims::is_claim;
 use plc_base::{Items, NoMemory, OpId, PointId, StepId};
@@ -44,7 +44,7 @@ fn counts_of(alloc: Global, flow: &Flow, outline: &Outline) -> Result<Items<u16>
 fn count_of(o: Counted<'_>, p: PointId) -> u16
     requires point { p.0 < o.flow.now.points }
     requires fits { Fits o.flow.now o.outline.now }
-    ensures count { result ≡ count_at o.flow.now o.outline.now p.0 }
+    ensures count { result ≡ count_at o.entry.flow.now o.entry.outline.now p.0 }
     ensures few { result ≤ 256 }
 {
     o.counts[p.0 as usize]
@@ -54,8 +54,7 @@ fn count_of(o: Counted<'_>, p: PointId) -> u16
 
 fn first_start(o: Counted<'_>, inv: u16) -> Option<Obligation>
     requires { Fits o.flow.now o.outline.now }
-    ensures { IsFirstOr o.flow.now o.outline.now (left_from o.flow.now o.outline.now (places.Start inv))
-        (left_from o.flow.now o.outline.now (places.Enter (op_id 0) 0)) result }
+    ensures { IsFirstOrOn o.entry.flow.now o.entry.outline.now (places.Start inv) (places.Enter (op_id 0) 0) result }
 {
     if (inv as usize) < o.outline.invariants.len() {
         Some(Obligation::Start { inv })
@@ -66,8 +65,7 @@ fn first_start(o: Counted<'_>, inv: u16) -> Option<Obligation>
 
 fn first_enter(o: Counted<'_>, op: OpId, clause: u16) -> Option<Obligation>
     requires { Fits o.flow.now o.outline.now }
-    ensures { IsFirstOr o.flow.now o.outline.now (left_from o.flow.now o.outline.now (places.Enter op clause))
-        (left_from o.flow.now o.outline.now (places.Own (step_id 0) 0)) result }
+    ensures { IsFirstOrOn o.entry.flow.now o.entry.outline.now (places.Enter op clause) (places.Own (step_id 0) 0) result }
 {
     let gates = o.flow.gates.as_slice();
     let mut clause = clause;
@@ -85,8 +83,7 @@ fn first_enter(o: Counted<'_>, op: OpId, clause: u16) -> Option<Obligation>
 
 fn first_own(o: Counted<'_>, step: StepId, clause: u16) -> Option<Obligation>
     requires { Fits o.flow.now o.outline.now }
-    ensures { IsFirstOr o.flow.now o.outline.now (left_from o.flow.now o.outline.now (places.Own step clause))
-        (left_from o.flow.now o.outline.now (places.Other (step_id 0) (point_id 0) 0)) result }
+    ensures { IsFirstOrOn o.entry.flow.now o.entry.outline.now (places.Own step clause) (places.Other (step_id 0) (point_id 0) 0) result }
 {
     let steps = o.flow.steps.as_slice();
     let invariants = o.outline.invariants.len() as u16;
@@ -107,8 +104,7 @@ fn first_own(o: Counted<'_>, step: StepId, clause: u16) -> Option<Obligation>
 fn first_at_points(o: Counted<'_>, step: StepId, point: PointId, clause: u16) -> Option<Obligation>
     requires fits { Fits o.flow.now o.outline.now }
     requires step { step.0 < length o.flow.now.steps }
-    ensures { IsFirstOr o.flow.now o.outline.now (left_from o.flow.now o.outline.now (places.Other step point clause))
-        (left_from o.flow.now o.outline.now (places.Other (step_id (step.0 + 1)) (point_id 0) 0)) result }
+    ensures { IsFirstOrOn o.entry.flow.now o.entry.outline.now (places.Other step point clause) (places.Other (step_id (step.0 + 1)) (point_id 0) 0) result }
 {
     let mut clause = clause;
     for p in point.0..o.flow.points {
@@ -126,8 +122,7 @@ fn first_at_points(o: Counted<'_>, step: StepId, point: PointId, clause: u16) ->
 
 fn first_other(o: Counted<'_>, step: StepId, point: PointId, clause: u16) -> Option<Obligation>
     requires { Fits o.flow.now o.outline.now }
-    ensures { IsFirstOr o.flow.now o.outline.now (left_from o.flow.now o.outline.now (places.Other step point clause))
-        (left_from o.flow.now o.outline.now (places.Claim (step_id 0) 0)) result }
+    ensures { IsFirstOrOn o.entry.flow.now o.entry.outline.now (places.Other step point clause) (places.Claim (step_id 0) 0) result }
 {
     let mut point = point;
     let mut clause = clause;
@@ -146,8 +141,7 @@ fn first_other(o: Counted<'_>, step: StepId, point: PointId, clause: u16) -> Opt
 fn first_claim_of(o: Counted<'_>, step: StepId, prim: u16) -> Option<Obligation>
     requires fits { Fits o.flow.now o.outline.now }
     requires step { step.0 < length o.flow.now.steps }
-    ensures { IsFirstOr o.flow.now o.outline.now (left_from o.flow.now o.outline.now (places.Claim step prim))
-        (left_from o.flow.now o.outline.now (places.Claim (step_id (step.0 + 1)) 0)) result }
+    ensures { IsFirstOrOn o.entry.flow.now o.entry.outline.now (places.Claim step prim) (places.Claim (step_id (step.0 + 1)) 0) result }
 {
     let prims = o.flow.steps.as_slice()[step.0 as usize].prims.as_slice();
     for j in prim as usize..prims.len() {
@@ -163,7 +157,7 @@ fn first_claim_of(o: Counted<'_>, step: StepId, prim: u16) -> Option<Obligation>
 
 fn first_claim(o: Counted<'_>, step: StepId, prim: u16) -> Option<Obligation>
     requires { Fits o.flow.now o.outline.now }
-    ensures { IsFirstOr o.flow.now o.outline.now (left_from o.flow.now o.outline.now (places.Claim step prim)) [] result }
+    ensures { IsFirstOrNone o.entry.flow.now o.entry.outline.now (places.Claim step prim) result }
 {
     let mut prim = prim;
     for k in step.0 as usize..o.flow.steps.len() {
@@ -180,8 +174,7 @@ fn first_claim(o: Counted<'_>, step: StepId, prim: u16) -> Option<Obligation>
 
 fn from_other(o: Counted<'_>, step: StepId, point: PointId, clause: u16) -> Option<Obligation>
     requires { Fits o.flow.now o.outline.now }
-    ensures { IsFirstOr o.flow.now o.outline.now (left_from o.flow.now o.outline.now (places.Other step point clause))
-        [] result }
+    ensures { IsFirstOrNone o.entry.flow.now o.entry.outline.now (places.Other step point clause) result }
 {
     match first_other(o, step, point, clause) {
         Some(found) => Some(found),
@@ -191,7 +184,7 @@ fn from_other(o: Counted<'_>, step: StepId, point: PointId, clause: u16) -> Opti
 
 fn from_own(o: Counted<'_>, step: StepId, clause: u16) -> Option<Obligation>
     requires { Fits o.flow.now o.outline.now }
-    ensures { IsFirstOr o.flow.now o.outline.now (left_from o.flow.now o.outline.now (places.Own step clause)) [] result }
+    ensures { IsFirstOrNone o.entry.flow.now o.entry.outline.now (places.Own step clause) result }
 {
     match first_own(o, step, clause) {
         Some(found) => Some(found),
@@ -201,7 +194,7 @@ fn from_own(o: Counted<'_>, step: StepId, clause: u16) -> Option<Obligation>
 
 fn from_enter(o: Counted<'_>, op: OpId, clause: u16) -> Option<Obligation>
     requires { Fits o.flow.now o.outline.now }
-    ensures { IsFirstOr o.flow.now o.outline.now (left_from o.flow.now o.outline.now (places.Enter op clause)) [] result }
+    ensures { IsFirstOrNone o.entry.flow.now o.entry.outline.now (places.Enter op clause) result }
 {
     match first_enter(o, op, clause) {
         Some(found) => Some(found),
@@ -211,7 +204,7 @@ fn from_enter(o: Counted<'_>, op: OpId, clause: u16) -> Option<Obligation>
 
 fn from_start(o: Counted<'_>, inv: u16) -> Option<Obligation>
     requires { Fits o.flow.now o.outline.now }
-    ensures { IsFirstOr o.flow.now o.outline.now (left_from o.flow.now o.outline.now (places.Start inv)) [] result }
+    ensures { IsFirstOrNone o.entry.flow.now o.entry.outline.now (places.Start inv) result }
 {
     match first_start(o, inv) {
         Some(found) => Some(found),
@@ -221,7 +214,7 @@ fn from_start(o: Counted<'_>, inv: u16) -> Option<Obligation>
 
 fn first_from(o: Counted<'_>, at: Obligation) -> Option<Obligation>
     requires { Fits o.flow.now o.outline.now }
-    ensures { IsFirstOr o.flow.now o.outline.now (left_from o.flow.now o.outline.now at) [] result }
+    ensures { IsFirstOrNone o.entry.flow.now o.entry.outline.now at result }
 {
     match at {
         Obligation::Start { inv } => from_start(o, inv),
