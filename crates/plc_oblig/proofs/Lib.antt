@@ -1,6 +1,9 @@
 pub mod ClaimCounts
 pub mod Walking
 mod Remaining
+mod Members
+mod Staying
+mod Still
 mod Lengths
 mod Executed
 mod Wholes

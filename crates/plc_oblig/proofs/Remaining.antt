@@ -1,18 +1,23 @@
 -- What is left of the obligations from a place on: the first of it, and where it goes on when a part is at its end.
 use Rattle.std.proofs.Common.{◌≡◌, ℕ, zero, suc, ◌+◌, ◌<◌, ◌≤◌, Bool, true, false, List, [], ◌∷◌, ◌++◌, map, length, drop, refl, sym, ap, ◌∙◌, subst, arith, slice_get, Option, Some, None}
-use Rattle.std.proofs.lemmas.List.FromFn.{length-range_with_len, length-map-range_with_len}
+use Rattle.std.specs.Prelude.{filter, slice_index_or}
+use Rattle.std.proofs.lemmas.List.FromFn.{length-range_with_len, length-map-range_with_len, get_or-map-range_with_len}
+use Rattle.std.proofs.lemmas.List.Sums.{length-filter, count_by-le-length}
+use Rattle.std.proofs.lemmas.Option.{slice_get-get_or}
 use Rattle.plc_lang.specs.declared.syntax.Primitive.{Primitive}
 use Rattle.plc_lang.specs.WellSorted.{is_claim}
 use Rattle.plc_flow.specs.declared.flow.Gate.{Gate}
 use Rattle.plc_flow.specs.declared.flow.Step.{Step}
 use Rattle.plc_flow.specs.declared.flow.Flow.{Flow}
+use Rattle.plc_flow.specs.WellFormed.{GatesFrom}
 use Rattle.plc_logic.specs.declared.clause.Outline.{Outline}
 use Rattle.plc_setting.specs.declared.obligations.Obligation.{Obligation}
 use Rattle.plc_setting.specs.declared.obligations.Obligation.TheVariants.{Start, Enter, Own, Other, Claim}
-use Rattle.plc_setting.specs.Points.{count_at}
+use Rattle.plc_setting.specs.Fit.{Fits}
+use Rattle.plc_setting.specs.Points.{count_at, stands_at}
 use Rattle.plc_setting.specs.Setting.{below}
 use Rattle.plc_oblig.specs.Obligations.{op_id, step_id, point_id, parts_from, starts, enters_of, own_count, owns_of, others_at, others_of, claims_in, claims_of, enters, owns, others, claims, obligations}
-use Rattle.plc_oblig.specs.Left.{rest_at, parts_left, enter_rest, own_rest, point_rest, other_rest, claim_rest, left_from, IsFirst, IsFirstOr}
+use Rattle.plc_oblig.specs.Left.{rest_at, parts_left, enter_rest, own_rest, point_rest, other_rest, claim_rest, counts_of, left_from, IsFirst, IsFirstOr}
 use Rattle.plc_oblig.proofs.Walking.{slice_below}
 
 -- ---- lists
@@ -233,3 +238,46 @@ module _ (flow : Flow) (outline : Outline) where
   pub found_later : (list later rest : List Obligation) (o : Option Obligation) → list ≡ later → IsFirstOr flow outline later rest o → IsFirstOr flow outline list rest o
   found_later list later rest None e h = e ∙ h
   found_later list later rest (Some o) e h = record { first = e ∙ h.first; small = h.small }
+
+-- ---- what is read
+
+-- the item at an index, whichever is read past the end
+pub at_index : {A : Type 0} (xs items : List A) (k : ℕ) (d : A) → items ≡ xs → k < length items → slice_get xs k ≡ Some (slice_index_or items k d)
+at_index xs items k d same lt = ap (λ ys. slice_get ys k) (sym same) ∙ slice_get-get_or items k d lt
+
+pub count_read : (flow : Flow) (outline : Outline) (counts : List ℕ) (p d : ℕ) → counts ≡ counts_of flow outline → p < flow.points
+    → slice_index_or counts p d ≡ count_at flow outline p
+count_read flow outline counts p d same lt =
+    ap (λ (cs : List ℕ). slice_index_or cs p d) same ∙ get_or-map-range_with_len (count_at flow outline) 0 flow.points p p d lt refl
+
+pub count_listed : (flow : Flow) (outline : Outline) (counts : List ℕ) (p : ℕ) → counts ≡ counts_of flow outline → p < flow.points → p < length counts
+count_listed flow outline counts p same lt = let e = ap length same ∙ length-map-range_with_len (count_at flow outline) 0 flow.points in omega arith
+
+pub count_small : (flow : Flow) (outline : Outline) (p n : ℕ) → length outline.items ≤ 256 → n ≡ count_at flow outline p → n ≤ 256
+count_small flow outline p n few e =
+    let a = length-filter (stands_at flow p) outline.items in
+    let b = count_by-le-length (stands_at flow p) outline.items in omega arith
+
+gates_rise : (n end : ℕ) (gs : List Gate) → GatesFrom n gs end → n ≤ end
+gates_rise n end [] h = omega arith
+gates_rise n end (g ∷ gs) h = let r = gates_rise g.after end gs h.4 in let a = h.3 in omega arith
+
+record IsWithin (end : ℕ) (g : Gate) : Type 0 where
+  entry : g.entry.0 < end
+  after : g.after ≤ end
+
+gate_within : (n end : ℕ) (gs : List Gate) (k : ℕ) (g : Gate) → GatesFrom n gs end → slice_get gs k ≡ Some g → IsWithin end g
+gate_within n end [] k g h is = cc
+gate_within n end (x ∷ gs) zero g h is =
+    (let same : x ≡ g = cc in let r = gates_rise x.after end gs h.4 in let a = h.1 in let b = h.3 in
+    subst (IsWithin end) same (record { entry = omega arith; after = r }))
+gate_within n end (x ∷ gs) (suc k) g h is = gate_within x.after end gs k g h.4 is
+
+pub entry_within : (flow : Flow) (outline : Outline) (k : ℕ) (g : Gate) → Fits flow outline → slice_get flow.gates k ≡ Some g → g.entry.0 < flow.points
+entry_within flow outline k g fits is = (gate_within 0 flow.points flow.gates k g fits.flow_fits.well.ranges is).entry
+
+pub last_within : (flow : Flow) (outline : Outline) (k : ℕ) (s : Step) → Fits flow outline → slice_get flow.steps k ≡ Some s → s.to.0 < flow.points
+last_within flow outline k s fits is =
+    let w = fits.flow_fits.well.steps k s is in
+    let less : s.to.0 < w.0.after = w.4 in
+    let a = (gate_within 0 flow.points flow.gates s.op.0 w.0 fits.flow_fits.well.ranges w.1).after in omega arith

@@ -68,15 +68,15 @@ fn first_enter(o: Counted<'_>, op: OpId, clause: u16) -> Option<Obligation>
     ensures { IsFirstOrOn o.entry.flow.now o.entry.outline.now (places.Enter op clause) (places.Own (step_id 0) 0) result }
 {
     let gates = o.flow.gates.as_slice();
-    let mut clause = clause;
+    let mut passed = clause;
     for k in op.0 as usize..gates.len() {
-        if clause < count_of(o, gates[k].entry) {
+        if passed < count_of(o, gates[k].entry) {
             return Some(Obligation::Enter {
                 op: OpId(k as u16),
-                clause,
+                clause: passed,
             });
         }
-        clause = 0;
+        passed = 0;
     }
     None
 }
@@ -87,15 +87,15 @@ fn first_own(o: Counted<'_>, step: StepId, clause: u16) -> Option<Obligation>
 {
     let steps = o.flow.steps.as_slice();
     let invariants = o.outline.invariants.len() as u16;
-    let mut clause = clause;
+    let mut passed = clause;
     for k in step.0 as usize..steps.len() {
-        if clause < invariants + count_of(o, steps[k].to) {
+        if passed < invariants + count_of(o, steps[k].to) {
             return Some(Obligation::Own {
                 step: StepId(k as u16),
-                clause,
+                clause: passed,
             });
         }
-        clause = 0;
+        passed = 0;
     }
     None
 }
@@ -106,16 +106,16 @@ fn first_at_points(o: Counted<'_>, step: StepId, point: PointId, clause: u16) ->
     requires step { step.0 < length o.flow.now.steps }
     ensures { IsFirstOrOn o.entry.flow.now o.entry.outline.now (places.Other step point clause) (places.Other (step_id (step.0 + 1)) (point_id 0) 0) result }
 {
-    let mut clause = clause;
+    let mut passed = clause;
     for p in point.0..o.flow.points {
-        if clause < count_of(o, PointId(p)) {
+        if passed < count_of(o, PointId(p)) {
             return Some(Obligation::Other {
                 step,
                 point: PointId(p),
-                clause,
+                clause: passed,
             });
         }
-        clause = 0;
+        passed = 0;
     }
     None
 }
@@ -124,15 +124,15 @@ fn first_other(o: Counted<'_>, step: StepId, point: PointId, clause: u16) -> Opt
     requires { Fits o.flow.now o.outline.now }
     ensures { IsFirstOrOn o.entry.flow.now o.entry.outline.now (places.Other step point clause) (places.Claim (step_id 0) 0) result }
 {
-    let mut point = point;
-    let mut clause = clause;
+    let mut reached = point;
+    let mut passed = clause;
     for k in step.0 as usize..o.flow.steps.len() {
-        let found = first_at_points(o, StepId(k as u16), point, clause);
+        let found = first_at_points(o, StepId(k as u16), reached, passed);
         if found.is_some() {
             return found;
         }
-        point = PointId(0);
-        clause = 0;
+        reached = PointId(0);
+        passed = 0;
     }
     None
 }
@@ -159,13 +159,13 @@ fn first_claim(o: Counted<'_>, step: StepId, prim: u16) -> Option<Obligation>
     requires { Fits o.flow.now o.outline.now }
     ensures { IsFirstOrNone o.entry.flow.now o.entry.outline.now (places.Claim step prim) result }
 {
-    let mut prim = prim;
+    let mut reached = prim;
     for k in step.0 as usize..o.flow.steps.len() {
-        let found = first_claim_of(o, StepId(k as u16), prim);
+        let found = first_claim_of(o, StepId(k as u16), reached);
         if found.is_some() {
             return found;
         }
-        prim = 0;
+        reached = 0;
     }
     None
 }
