@@ -3,7 +3,7 @@ pub mod Walking
 mod Remaining
 mod Members
 mod Staying
-mod Still
+mod Opposites
 mod Lengths
 mod Executed
 mod Wholes

@@ -57,7 +57,7 @@ use Rattle.plc_oblig.proofs.Staying.{Stays, start_stays, stays_after_all, none_n
 -- ---- a clause with the opposites of all its literals has no model
 
 -- the same terms, with the truth turned
-pub opposite : SymbolicLit → SymbolicLit
+abbrev pub opposite : SymbolicLit → SymbolicLit
 opposite l = record { left = l.left; right = l.right; equal = not l.equal }
 
 not_both : (A : Type 0) (b : Bool) → MatchBool b A (A → ⊥) → MatchBool (not b) A (A → ⊥) → ⊥
@@ -65,7 +65,6 @@ not_both A true h k = k h
 not_both A false h k = h k
 
 opposed : (ts : List SymbolicTerm) (class : ℕ → ℕ) (l : SymbolicLit) → HoldsIn class (number_lit ts l) → HoldsIn class (number_lit ts (opposite l)) → ⊥
-unfolding opposite
 opposed ts class l h k = not_both (class (number_lit ts l).left ≡ class (number_lit ts l).right) l.equal h k
 
 module _ (sorts : List Sort) (d : Drafted) (class : List ℕ) (model : IsModel (numbered sorts d) class) where
@@ -87,23 +86,20 @@ module _ (sorts : List Sort) (d : Drafted) (class : List ℕ) (model : IsModel (
 
 -- ---- the negated conclusion is the opposites of an instance of it
 
-alone : SymbolicLit → List SymbolicLit
+abbrev alone : SymbolicLit → List SymbolicLit
 alone l = opposite l ∷ []
 
 opposite_read : (ghosts : List AuxiliaryField) (x : Execution) (owner : Bool) (names : List NodeTerm) (l : Literal)
     → read_literal ghosts x owner names (negation l) ≡ opposite (read_literal ghosts x owner names l)
-unfolding opposite
 opposite_read ghosts x owner names (literal.Same a b is_so) = refl
 opposite_read ghosts x owner names (literal.Retired b is_so) = refl
 
 escapes_denied : (js : List ℕ) → map alone (flat_map (escapes false) (map (λ i. At (symbols.Bound i)) js)) ≡ map (λ i. is_not (Constant (symbols.Bound i)) null ∷ []) js
-unfolding alone opposite
 escapes_denied [] = refl
 escapes_denied (j ∷ js) = ap (λ cs. (is_not (Constant (symbols.Bound j)) null ∷ []) ∷ cs) (escapes_denied js)
 
 literals_denied : (ghosts : List AuxiliaryField) (x : Execution) → Stays x → (owner : Bool) (names : List NodeTerm) (ls : List Literal) → All (LiteralStays owner) ls
     → map alone (map (read_literal ghosts start owner names) ls) ≡ map (λ l. read_literal ghosts x owner names (negation l) ∷ []) ls
-unfolding alone
 literals_denied ghosts x stays owner names [] h = refl
 literals_denied ghosts x stays owner names (l ∷ ls) h =
     ap (λ k. (opposite k ∷ []) ∷ map alone (map (read_literal ghosts start owner names) ls)) (sym (literal_stays ghosts x stays owner names l (All-head (LiteralStays owner) l ls h)))
@@ -187,18 +183,14 @@ module _ (flow : Flow) (outline : Outline) (o : Obligation) where
       let i = instance_at flow.file.ghosts false (has_owner o) c.literals (bound_nodes (length c.bound.names)) in
       let made = none_new (executed flow o) quiet in
       let listed = subst (λ b. Contains (instances flow.file.ghosts s (has_owner o) c) (instance_at flow.file.ghosts b (has_owner o) c.literals (bound_nodes (length c.bound.names)))) made
-          (instance_listed (has_owner o) c is) in
+      (instance_listed (has_owner o) c is) in
       let whole = sym clauses_are in
       let there = subst (λ cs. Contains cs i) whole (premise_held i (premise i listed)) in
       let e = all_denied flow.file.ghosts s x stays c names_none ∙ ap (denied_clause flow.file.ghosts s x) (sym is) in
       refuted _ d model.0 model.1 i there
       (λ l h. subst (λ cs. Contains cs (opposite l ∷ [])) whole (denial_held (opposite l ∷ [])
       (Contains-append_left (denied_clause flow.file.ghosts s x (conclusion flow outline o)) (denied_claim s x (claim_made flow o)) (opposite l ∷ [])
-      (subst (λ cs. Contains cs (opposite l ∷ [])) e (opposite_listed i l h)))))
-    where
-      opposite_listed : (i : List SymbolicLit) (l : SymbolicLit) → Contains i l → Contains (map alone i) (opposite l ∷ [])
-      unfolding alone
-      opposite_listed i l h = contains_map alone i l h
+      (subst (λ cs. Contains cs (opposite l ∷ [])) e (contains_map alone i l h)))))
 
 -- ---- invariants name no local
 
