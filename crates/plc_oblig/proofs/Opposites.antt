@@ -2,7 +2,8 @@
 use Rattle.std.proofs.Common.{◌≡◌, ℕ, zero, suc, ◌+◌, ◌<◌, Bool, true, false, not, ◌&&◌, nat_lt, List, [], ◌∷◌, ◌++◌, map, length, slice_get, Option, Some, None, refl, sym, ap, ◌∙◌, subst, arith}
 use Rattle.std.specs.Prelude.{if◌then◌else◌, All, Any, Contains, MatchBool, flat_map, filter, slice_index, slice_index_or}
 use Rattle.std.specs.List.{list_any}
-use Rattle.std.proofs.lemmas.Bool.{and_parts}
+use Rattle.std.proofs.lemmas.Bool.{and_parts, ltb-true}
+use Rattle.std.proofs.lemmas.Option.{get_or_from_slice_get}
 use Rattle.std.proofs.lemmas.List.{length-map, map-append}
 use Rattle.std.proofs.lemmas.List.FromFn.{length-range_with_len, length-map-range_with_len, get_or-range_with_len}
 use Rattle.std.proofs.lemmas.List.Elements.{All-nil, All-cons, All-head, All-tail, All-append, All-map, All-contains, All-get_or, Contains-append_left, Contains-append_right}
@@ -70,7 +71,7 @@ opposed ts class l h k = not_both (class (number_lit ts l).left ≡ class (numbe
 module _ (sorts : List Sort) (d : Drafted) (class : List ℕ) (model : IsModel (numbered sorts d) class) where
   some_true : (c : List SymbolicLit) → Contains d.clauses c → Any (HoldsIn (slice_index class)) (map (number_lit d.terms) c)
   some_true c h =
-      let e = length-map (map (number_lit d.terms)) d.clauses in
+      let e = length-map d.clauses (map (number_lit d.terms)) in
       let less = h.1 in
       subst (Any (HoldsIn (slice_index class))) (map_read (map (number_lit d.terms)) d.clauses h.0 c [] h.1 h.2) (model.clauses h.0 (omega arith))
 
@@ -285,9 +286,10 @@ module _ (flow : Flow) (outline : Outline) where
   still_is_kept (Claim k j) fits listed still = cc
   still_is_kept (Own k c) fits listed still =
       let p = and_parts (nat_lt c (length outline.invariants)) (is_quiet flow k.0) still in
-      let f = found_at outline.invariants c (omega (arith, p.0)) in
+      let less = ltb-true c (length outline.invariants) p.0 in
+      let f = found_at outline.invariants c less in
       let inv = fits.outline_fits.each_invariant in
-      let fit = subst (InvariantFits flow.file) (get_found f.0 f.1) (inv c f.0 (omega (arith, p.0))) in
+      let fit = subst (InvariantFits flow.file) (get_found f.0 f.1) (inv c f.0 less) in
       kept_by flow outline (Own k c) f.0 (found_left outline.invariants _ c f.0 f.1) (quiet_step (list_any changes (step_prims flow k.0)) p.1)
       (λ n d less. fit_stays (in_reach_of flow.file [] false f.0) refl _ (fit.each n d less))
       (λ i h. Contains-append_left (flat_map (instances flow.file.ghosts (setting_of flow outline (Own k c)) false) (acting_premises flow outline (Own k c))) _ i
@@ -295,10 +297,10 @@ module _ (flow : Flow) (outline : Outline) where
       (Contains-append_left outline.invariants _ f.0 (at_place outline.invariants c f.0 f.1)) h))
     where
       get_found : (x : Clause) → slice_get outline.invariants c ≡ Some x → slice_index_or outline.invariants c x ≡ x
-      get_found x e = (at_place outline.invariants c x e).2
+      get_found x e = get_or_from_slice_get outline.invariants c x x e
   still_is_kept (Other k p c) fits listed still =
       let less = All-contains (HasClause flow outline) (obligations flow outline) (Other k p c) all_have listed in
-      let e = length-map (λ (i : Item). i.clause) (filter (stands_at flow p.0) outline.items) in
+      let e = length-map (filter (stands_at flow p.0) outline.items) (λ (i : Item). i.clause) in
       let f = found_at (clauses_at flow outline p.0) c (omega arith) in
       kept_by flow outline (Other k p c) f.0 f.1 (quiet_step (list_any changes (step_prims flow k.0)) still)
       (λ n d less. owner_literal _)

@@ -248,7 +248,7 @@ at_index xs items k d same lt = ap (λ ys. slice_get ys k) (sym same) ∙ slice_
 pub count_read : (flow : Flow) (outline : Outline) (counts : List ℕ) (p d : ℕ) → counts ≡ counts_of flow outline → p < flow.points
     → slice_index_or counts p d ≡ count_at flow outline p
 count_read flow outline counts p d same lt =
-    ap (λ (cs : List ℕ). slice_index_or cs p d) same ∙ get_or-map-range_with_len (count_at flow outline) 0 flow.points p p d lt refl
+    ap (λ (cs : List ℕ). slice_index_or cs p d) same ∙ get_or-map-range_with_len (count_at flow outline) 0 flow.points p p d lt (omega arith)
 
 pub count_listed : (flow : Flow) (outline : Outline) (counts : List ℕ) (p : ℕ) → counts ≡ counts_of flow outline → p < flow.points → p < length counts
 count_listed flow outline counts p same lt = let e = ap length same ∙ length-map-range_with_len (count_at flow outline) 0 flow.points in omega arith
@@ -279,5 +279,5 @@ entry_within flow outline k g fits is = (gate_within 0 flow.points flow.gates k 
 pub last_within : (flow : Flow) (outline : Outline) (k : ℕ) (s : Step) → Fits flow outline → slice_get flow.steps k ≡ Some s → s.to.0 < flow.points
 last_within flow outline k s fits is =
     let w = fits.flow_fits.well.steps k s is in
-    let less : s.to.0 < w.0.after = w.4 in
+    let less : s.to.0 < w.0.after = w.3.1 in
     let a = (gate_within 0 flow.points flow.gates s.op.0 w.0 fits.flow_fits.well.ranges w.1).after in omega arith

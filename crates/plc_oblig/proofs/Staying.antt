@@ -35,11 +35,16 @@ use Rattle.plc_items.specs.Items.{base_node, read_term, read_literal}
 use Rattle.plc_symbolic.specs.declared.symbolic.NodeTerm.{NodeTerm}
 use Rattle.plc_symbolic.specs.declared.symbolic.NodeTerm.TheVariants.{At}
 use Rattle.plc_symbolic.specs.declared.symbolic.SymbolicTerm.{SymbolicTerm}
-use Rattle.plc_symbolic.specs.declared.symbolic.SymbolicTerm.TheVariants.{Application}
+use Rattle.plc_symbolic.specs.declared.symbolic.SymbolicTerm.TheVariants.{Application, Constant}
 use Rattle.plc_symbolic.specs.declared.symbolic.SymbolicLit.{SymbolicLit}
 use Rattle.plc_symbolic.specs.Same.{same_symbol}
 use Rattle.plc_symbolic.specs.Terms.{term_of}
 use Rattle.plc_oblig.specs.Still.{is_shared, changes}
+
+neither : (b d : Bool) → (b || d) ≡ false → (b ≡ false) × (d ≡ false)
+neither true d e = cc
+neither false true e = cc
+neither false false e = (refl, refl)
 
 -- ---- what is given a value
 
@@ -130,12 +135,9 @@ module _ (ghosts : List AuxiliaryField) (ls : List Local) where
 
   pub stays_after_all : (x : Execution) (qs : List Primitive) → list_any changes qs ≡ false → Stays x → Stays (after_all x (acts_of ghosts (variables_of false ls) qs))
   stays_after_all x [] e h = h
-  stays_after_all x (q ∷ qs) e h = go (changes q) (list_any changes qs) refl refl e
-    where
-      go : (b d : Bool) → changes q ≡ b → list_any changes qs ≡ d → (b || d) ≡ false → Stays (after_all x (acts_of ghosts (variables_of false ls) (q ∷ qs)))
-      go true d eb ed f = cc
-      go false true eb ed f = cc
-      go false false eb ed f = stays_after_all (after x (act_of ghosts (variables_of false ls) q)) qs ed (stays_after x q eb h)
+  stays_after_all x (q ∷ qs) e h =
+      let n = neither (changes q) (list_any changes qs) e in
+      stays_after_all (after x (act_of ghosts (variables_of false ls) q)) qs n.1 (stays_after x q n.0 h)
 
 -- nothing is made
 new_changes : (q : Primitive) → changes q ≡ false → is_new q ≡ false
@@ -163,12 +165,9 @@ new_changes (Ghost p g v) e = refl
 
 pub none_new : (qs : List Primitive) → list_any changes qs ≡ false → list_any is_new qs ≡ false
 none_new [] e = refl
-none_new (q ∷ qs) e = go (changes q) (list_any changes qs) refl refl e
-  where
-    go : (b d : Bool) → changes q ≡ b → list_any changes qs ≡ d → (b || d) ≡ false → (is_new q || list_any is_new qs) ≡ false
-    go true d eb ed f = cc
-    go false true eb ed f = cc
-    go false false eb ed f = ap (λ (n : Bool). n || list_any is_new qs) (new_changes q eb) ∙ none_new qs ed
+none_new (q ∷ qs) e =
+    let n = neither (changes q) (list_any changes qs) e in
+    ap (λ (b : Bool). b || list_any is_new qs) (new_changes q n.0) ∙ none_new qs n.1
 
 -- ---- clauses are read as before
 
@@ -224,4 +223,4 @@ module _ (ghosts : List AuxiliaryField) (x : Execution) (stays : Stays x) (owner
       ap (λ t. record { left = t; right = read_term ghosts x owner names b; equal = is_so }) (term_stays a h.0)
       ∙ ap (λ t. record { left = read_term ghosts start owner names a; right = t; equal = is_so }) (term_stays b h.1)
   literal_stays (literals.Retired b is_so) h =
-      ap (λ t. record { left = t; right = _; equal = is_so }) (map_stays _ b h)
+      ap (λ t. record { left = t; right = Constant symbols.Yes; equal = is_so }) (map_stays _ b h)
