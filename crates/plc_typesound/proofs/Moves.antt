@@ -94,14 +94,14 @@ module _ (flow : Flow) (o : Observer) (threads : ℕ) (envs : List Env) (fits : 
   met_at n c run all t p small busy =
       let b = busy_at flow threads c t p (run_fits flow fits o threads (omega (arith, small)) n c run) busy in
       let inside = locals_there 0 flow.file.ops flow.gates flow.points p.op p.at b.gate (sym fits.well.gates)
-          fits.well.ranges b.opens b.within in
+      fits.well.ranges b.opens b.within in
       let points = points_length flow fits.well in
       let facts = typed.pretyping.environments p.at (let h = inside.1 in omega (arith, points)) in
       let mine = all t p small busy in
       let n' = (skeleton_of flow).shared in
       let m = locals_at (skeleton_of flow) p.at in
       env_weaker o c.history t c.state mine.env (env_at envs p.at)
-          (same_shape o n' m mine.env (env_at envs p.at) mine.facts facts) mine.below mine.met
+      (same_shape o n' m mine.env (env_at envs p.at) mine.facts facts) mine.below mine.met
 
   holds : (c : Configuration) (t : ℕ) (step : Step) → (r : Ready c t step) → (i : ℕ) → fault_at o (env_at envs step.from.0) step.prims i ≡ None
   holds c t step r i = subst (λ (q : Option Passage). fault_in o envs i q ≡ None) (passage_at flow r.number step r.there) (typed.holding r.number i)
