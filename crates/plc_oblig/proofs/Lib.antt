@@ -1,7 +1,14 @@
 pub mod ClaimCounts
 pub mod Walking
+pub mod Lists
+pub mod Places
+pub mod Equal
+pub mod Standing
+pub mod ValueSorts
+pub mod Sides
 mod Lengths
 mod Executed
 mod Wholes
 mod Bounds
 mod Assembled
+mod WellFormed
