@@ -1,6 +1,5 @@
 -- What is left of the obligations from a place on. The place is the obligation that would be there if its part went on.
-use Rattle.std.specs.Prelude.{◌≡◌, ℕ, ◌+◌, ◌<◌, List, [], ◌∷◌, ◌++◌, drop, map, Option, Some, None, slice_get, ⊤}
-use Rattle.plc_lang.specs.declared.syntax.Primitive.{Primitive}
+use Rattle.std.specs.Prelude.{◌≡◌, ℕ, ◌+◌, ◌<◌, List, [], ◌∷◌, ◌++◌, drop, map, Option, Some, None, slice_get}
 use Rattle.plc_flow.specs.declared.flow.Gate.{Gate}
 use Rattle.plc_flow.specs.declared.flow.Step.{Step}
 use Rattle.plc_flow.specs.declared.flow.Flow.{Flow}
