@@ -1,11 +1,8 @@
 pub mod ClaimCounts
+pub mod Equal
+pub mod Lists
+pub mod Places
+pub mod Sides
+pub mod Standing
+pub mod ValueSorts
 pub mod Walking
-mod Remaining
-mod Members
-mod Staying
-mod Opposites
-mod Lengths
-mod Executed
-mod Wholes
-mod Bounds
-mod Assembled
