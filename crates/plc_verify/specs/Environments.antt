@@ -69,10 +69,14 @@ pub record FailsAtPoint (o : Observer) (s : Skeleton) (envs : List Env) (p : ℕ
   pub fails : PointHolds o s envs p → ⊥
 
 -- the first operation that begins otherwise
-pub record FailsAtEntry (o : Observer) (s : Skeleton) (envs : List Env) (i : ℕ) : Type 0 where
-  pub points : PointsHold o s envs
+pub record IsFirstNarrow (o : Observer) (s : Skeleton) (envs : List Env) (i : ℕ) : Type 0 where
   pub before : (j : ℕ) → j < i → EntryHolds o s envs j
   pub fails : EntryHolds o s envs i → ⊥
+
+-- each point has an environment, and this is the first operation that begins otherwise
+pub record FailsAtEntry (o : Observer) (s : Skeleton) (envs : List Env) (i : ℕ) : Type 0 where
+  pub points : PointsHold o s envs
+  pub narrow : IsFirstNarrow o s envs i
 
 -- the first step that doesn't hold, and in it the first condition that fails
 pub record FailsInStep (o : Observer) (s : Skeleton) (envs : List Env) (k i : ℕ) : Type 0 where

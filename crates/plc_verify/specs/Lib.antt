@@ -2,3 +2,5 @@
 pub mod Environments
 pub mod Trees
 pub mod Validity
+-- words of private functions alone
+pub mod Tests

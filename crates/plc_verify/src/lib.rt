@@ -6,6 +6,9 @@
 //! certificate from elsewhere is as good as one from `certify`.
 #![tactic(auto)]
 
+mod environments;
 mod fault;
+mod steps;
+mod typing;
 
 pub use fault::{Slot, VerifyFault};
