@@ -1,5 +1,9 @@
 pub mod ClaimCounts
 pub mod Walking
+mod Remaining
+mod Members
+mod Staying
+mod Opposites
 mod Lengths
 mod Executed
 mod Wholes

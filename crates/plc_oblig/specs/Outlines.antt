@@ -23,7 +23,7 @@ pub record IsLeastOpen (flow : Flow) (outline : Outline) (o : Obligation) : Type
   pub after : List Obligation
   pub listed : obligations flow outline ≡ before ++ o ∷ after
   pub kept : All (IsKept flow outline) before
-  pub open : HasModel (ground_set flow outline o)
+  pub has_model : HasModel (ground_set flow outline o)
 
 -- ---- limits
 

@@ -11,9 +11,13 @@ mod counting;
 mod finding;
 mod grounding;
 mod size;
+mod stillness;
+mod walk;
 
 pub use counting::count;
 pub use finding::nth;
 pub use grounding::ground;
 pub use plc_setting::Obligation;
 pub use size::clauses;
+pub use stillness::{still, still_obligations_are_kept};
+pub use walk::Walk;
