@@ -59,12 +59,27 @@ IsLowered u (Err faults.Memory) = Unit {0}
 IsLowered u (Err (faults.Lex fault)) = ⊥
 IsLowered u (Err (faults.Parse fault line)) = ⊥
 
--- what is judged of a unit is handed on where its outline is within its limits; else the first that is passed
+-- the first limit that an outline passes, none where it passes none
+abbrev pub IsPassedLimit : Flow → Outline → Option What1 → Type 0
+IsPassedLimit flow outline None = HasFewObligations flow outline × HasSmallSets flow outline
+IsPassedLimit flow outline (Some limits.Obligations) = most limits.Obligations < length (obligations flow outline)
+IsPassedLimit flow outline (Some limits.Clauses) = HasFewObligations flow outline × HasLargeSet flow outline
+IsPassedLimit flow outline (Some other) = ⊥
+
+-- what is judged is handed on where its outline is within its limits; else the first that is passed is told
 abbrev pub IsLimited : Judged → Result Judged LoadFault → Type 0
-IsLimited j (Ok k) = (k ≡ j) × HasFewObligations j.flow j.unit_outline × HasSmallSets j.flow j.unit_outline
-IsLimited j (Err (faults.Limit what count)) =
-    ((most limits.Obligations < length (obligations j.flow j.unit_outline)) × (what ≡ limits.Obligations) × (count ≡ most limits.Obligations + 1))
-    ⊎ (HasFewObligations j.flow j.unit_outline × HasLargeSet j.flow j.unit_outline × (what ≡ limits.Clauses) × (count ≡ most limits.Clauses + 1))
+IsLimited j (Ok k) = (k ≡ j) × IsPassedLimit j.flow j.unit_outline None
+IsLimited j (Err (faults.Limit what count)) = IsPassedLimit j.flow j.unit_outline (Some what) × (count ≡ most what + 1)
 IsLimited j (Err faults.Memory) = Unit {0}
 IsLimited j (Err (faults.Lex fault)) = ⊥
 IsLimited j (Err (faults.Parse fault line)) = ⊥
+
+-- what is judged of a unit, or the first limit that its flow or its outline passes; memory may run out
+abbrev pub IsJudgedOf : FileUnit → Result Judged LoadFault → Type 0
+IsJudgedOf u (Ok j) = (j ≡ judged_of u) × ((made_of u.file).points ≤ most_points)
+    × IsPassedLimit (flow_of u.file) u.outline None
+IsJudgedOf u (Err (faults.Limit what count)) = HasManyPoints u what count
+    ⊎ (((made_of u.file).points ≤ most_points) × IsPassedLimit (flow_of u.file) u.outline (Some what) × (count ≡ most what + 1))
+IsJudgedOf u (Err faults.Memory) = Unit {0}
+IsJudgedOf u (Err (faults.Lex fault)) = ⊥
+IsJudgedOf u (Err (faults.Parse fault line)) = ⊥
