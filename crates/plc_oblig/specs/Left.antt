@@ -79,3 +79,11 @@ pub record IsFirst (flow : Flow) (outline : Outline) (list : List Obligation) (o
 abbrev pub IsFirstOr : Flow → Outline → List Obligation → List Obligation → Option Obligation → Type 0
 IsFirstOr flow outline list rest (Some o) = IsFirst flow outline list o
 IsFirstOr flow outline list rest None = list ≡ rest
+
+-- the first of what is left from a place on, or, where it has none of the kind, it is what is left from the next place on
+abbrev pub IsFirstOrOn : Flow → Outline → Obligation → Obligation → Option Obligation → Type 0
+IsFirstOrOn flow outline at next o = IsFirstOr flow outline (left_from flow outline at) (left_from flow outline next) o
+
+-- the first of what is left from a place on, or none
+abbrev pub IsFirstOrNone : Flow → Outline → Obligation → Option Obligation → Type 0
+IsFirstOrNone flow outline at o = IsFirstOr flow outline (left_from flow outline at) [] o

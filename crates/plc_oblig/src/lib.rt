@@ -19,5 +19,5 @@ pub use finding::nth;
 pub use grounding::ground;
 pub use plc_setting::Obligation;
 pub use size::clauses;
-pub use stillness::still;
+pub use stillness::{still, still_obligations_are_kept};
 pub use walk::Walk;
