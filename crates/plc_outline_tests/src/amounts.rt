@@ -60,8 +60,14 @@ fn add(sum: Amounts, set: &GroundSet) -> Amounts {
         sets: sum.sets.wrapping_add(1),
         terms: sum.terms.wrapping_add(set.terms.len() as u64),
         clauses: sum.clauses.wrapping_add(clauses),
-        literals: sum.literals.wrapping_add(literals_of(set.clauses.as_slice())),
-        most_clauses: if clauses > sum.most_clauses { clauses } else { sum.most_clauses },
+        literals: sum
+            .literals
+            .wrapping_add(literals_of(set.clauses.as_slice())),
+        most_clauses: if clauses > sum.most_clauses {
+            clauses
+        } else {
+            sum.most_clauses
+        },
     }
 }
 
@@ -108,7 +114,10 @@ fn answer(alloc: Global, file: &str, from: u64, most: u64) -> Result<String, All
         return Err(AllocError);
     };
     let sum = sum_of(alloc, &judged.flow, &judged.unit_outline, from, most)?;
-    format!(in alloc; "{} sets, {} terms, {} clauses, {} literals, at most {} clauses", sum.sets, sum.terms, sum.clauses, sum.literals, sum.most_clauses)
+    format!(in alloc;
+        "{} sets, {} terms, {} clauses, {} literals, at most {} clauses",
+        sum.sets, sum.terms, sum.clauses, sum.literals, sum.most_clauses
+    )
 }
 
 // How many clauses are counted for the obligation with a number.
@@ -122,6 +131,17 @@ fn counted(alloc: Global, file: &str, i: u64) -> Result<u64, AllocError> {
     match nth(&judged.flow, &judged.unit_outline, i) {
         None => Err(AllocError),
         Some(o) => Ok(clauses(&judged.flow, &judged.unit_outline, &o)),
+    }
+}
+
+// Why a file is refused.
+fn refusal(alloc: Global, file: &str) -> Result<String, AllocError> {
+    if file.len() > LARGEST_FILE {
+        return Err(AllocError);
+    }
+    match load(alloc, file.as_bytes()) {
+        Ok(_) => format!(in alloc; "none"),
+        Err(fault) => format!(in alloc; "{fault:?}"),
     }
 }
 
@@ -147,6 +167,9 @@ fn sets_are_as_large_as_the_format_says(rt: HostRuntime) -> Result<(), AllocErro
         "1 sets, 256 terms, 65536 clauses, 194048 literals, at most 65536 clauses"
     );
     let more = format!(in alloc; "{WIDE}{FULL}inv S0 == null;\nover go: p0 == null;\n}}\n")?;
-    assert_eq!(rt; counted(alloc, more.as_str(), 25)?, 65537);
+    assert_eq!(rt;
+        refusal(alloc, more.as_str())?.as_str(),
+        "Limit { what: Clauses, count: 65537 }"
+    );
     Ok(())
 }
