@@ -4,12 +4,12 @@ ghost use Rattle.std.specs.Prelude.{IfOk};
 ghost use Rattle.plc_setting.specs.Fit.{Fits};
 ghost use Rattle.plc_check.specs.Counterexamples.{IsCounterexampleAt, IsFirstCounterexample};
 
+use crate::tree::tree_at;
 use plc_base::NoMemory;
 use plc_flow::Flow;
 use plc_ground::{GroundModel, GroundSet};
 use plc_logic::Outline;
-use plc_oblig::{Obligation, Walk, ground};
-use plc_solve::{Answer, refute};
+use plc_oblig::{Obligation, Walk};
 use std::alloc::Global;
 
 /// An obligation that isn't kept, with its ground set and a model of it.
@@ -30,15 +30,10 @@ fn counterexample_at(
     requires { Fits flow.now outline.now }
     ensures { IfOk result (IsCounterexampleAt flow.now outline.now obligation) }
 {
-    let set = ground(alloc, flow, outline, &obligation)?;
-    match refute(alloc, &set) {
-        Ok(Answer::Closed(_)) => Ok(None),
-        Ok(Answer::Open(model)) => Ok(Some(Counterexample {
-            obligation,
-            set,
-            model,
-        })),
-        Err(NoMemory) => Err(NoMemory),
+    let found = tree_at(alloc, flow, outline, obligation)?;
+    match found {
+        Ok(_) => Ok(None),
+        Err(found) => Ok(Some(found)),
     }
 }
 
