@@ -1,5 +1,6 @@
-pub mod Claims
 pub mod Fitting
+pub mod Limiting
+pub mod Opening
 pub mod Refusals
-pub mod Silent
+pub mod SoFar
 pub mod Unique

@@ -4,3 +4,4 @@ pub mod Loading
 pub mod Verdicts
 -- words of private functions alone
 pub mod Refusals
+pub mod Counterexamples

@@ -32,11 +32,9 @@ pub enum LoadFault {
     /// The tokens spell no unit: a fault at a place, with the line of the token there, or of the end
     /// where the place is after the last token. It is neither `Limit` nor `Memory`.
     Parse { fault: ParseFault, line: u32 },
-    /// A limit on what a file may hold is passed, by the tokens or by the points of the flow; the count
-    /// is the limit plus one.
+    /// A limit on what a file may hold is passed: by the tokens, or else by the points of the flow, by the
+    /// obligations of the outline or by the clauses of a ground set; the count is the limit plus one.
     Limit { what: What1, count: u32 },
-    /// The bytes spell a file, and a token is a word of a form that isn't judged yet.
-    Unjudged,
     /// Memory ran out.
     Memory,
 }

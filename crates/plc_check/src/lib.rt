@@ -2,12 +2,12 @@
 //! and the outline that the bytes spell or the first refusal, and `check` the verdict of the definitions.
 #![tactic(auto)]
 
+mod counterexample;
 mod judged;
+mod limits;
 mod loading;
-mod unjudged;
 mod verdict;
 
 pub use judged::{Judged, LoadFault};
-pub use loading::{files_are_unique, files_fit, judged_files_claim_nothing, load};
-pub use unjudged::Unjudged;
+pub use loading::{files_are_unique, files_fit, load};
 pub use verdict::{Verdict, check};

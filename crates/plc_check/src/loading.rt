@@ -1,18 +1,14 @@
-// Bytes, tokens, unit, flow: the first refusal on this way is the answer.
+// Bytes, tokens, unit, flow, limits of the outline: the first refusal on this way is the answer.
 ghost use Rattle.std.specs.Prelude.{◌≡◌, ◌≤◌, ◌+◌, length, IfOk};
 ghost use Rattle.plc_base.specs.Limits.{largest_file};
-ghost use Rattle.plc_flow.specs.WellFormed.{FlowFits};
-ghost use Rattle.plc_flow.specs.WellSorted.{FlowIsWellSorted};
-ghost use Rattle.plc_lang.specs.Fit.{FileFits};
-ghost use Rattle.plc_check.specs.Fit.{FilesFit};
-ghost use Rattle.plc_check.specs.Loading.{IsLoaded, FilesAreUnique, JudgedFilesClaimNothing, line_of, place_of};
+ghost use Rattle.plc_check.specs.Fit.{FilesFit, JudgedFits};
+ghost use Rattle.plc_check.specs.Loading.{IsLoaded, FilesAreUnique, line_of, place_of};
 ghost use Rattle.plc_lex.specs.Spelling.{line_feeds};
-ghost use Rattle.plc_logic.specs.Fit.{OutlineFits};
-ghost use Rattle.plc_parse.specs.Fit.{ObserverFits};
+ghost use Rattle.plc_parse.specs.Fit.{UnitFits};
 ghost use Rattle.plc_check.specs.Refusals.{lex_refusal, parse_refusal, unplaced, IsLowered, IsJudgedOf};
 
 use crate::judged::{Judged, LoadFault};
-use crate::unjudged::{Unjudged, hold_unjudged};
+use crate::limits::limited;
 use plc_base::What1;
 use plc_flow::{FlowFault, lower};
 use plc_lex::{LexFault, Token, tokens};
@@ -118,46 +114,32 @@ fn lowered(alloc: Global, unit: Unit) -> Result<Judged, LoadFault>
     }
 }
 
-// The same where no token is a word of a form that isn't judged.
-fn judged_of(
-    alloc: Global,
-    unjudged: Unjudged,
-    tokens: &[Token],
-    unit: Unit,
-) -> Result<Judged, LoadFault>
-    ensures { IsJudgedOf unjudged tokens.now unit result }
+// What is judged of a unit, where its outline is within its limits.
+fn judged_of(alloc: Global, unit: Unit) -> Result<Judged, LoadFault>
+    requires { UnitFits unit }
+    ensures { IsJudgedOf unit result }
 {
     match lowered(alloc, unit) {
-        Ok(judged) => {
-            if hold_unjudged(unjudged, tokens) {
-                Err(LoadFault::Unjudged)
-            } else {
-                Ok(judged)
-            }
-        }
+        Ok(judged) => limited(alloc, judged),
         Err(fault) => Err(fault),
     }
 }
 
 /// Reads and lowers a file of at most 1 MiB. The first refusal on the way is the answer: `Lex` where
 /// the bytes spell no tokens, `Parse` or `Limit` where the tokens spell no unit, `Limit` where the flow
-/// would have more than 4,096 points, `Unjudged` where a token is a word of a form that isn't judged;
-/// `Memory` may come anywhere.
-pub fn load(alloc: Global, bytes: &[u8], unjudged: Unjudged) -> Result<Judged, LoadFault>
+/// would have more than 4,096 points, then where the outline has more than 1,000,000 obligations, then where
+/// the ground set of one has more than 65,536 clauses; `Memory` may come anywhere.
+pub fn load(alloc: Global, bytes: &[u8]) -> Result<Judged, LoadFault>
     requires { length bytes.now ≤ largest_file }
-    ensures loaded { IsLoaded unjudged bytes.now result }
-    ensures fits { IfOk result (λ j. FlowFits j.flow) }
-    ensures file { IfOk result (λ j. FileFits j.flow.file) }
-    ensures outline { IfOk result (λ j. OutlineFits j.flow.file j.unit_outline) }
-    ensures sorted { IfOk result (λ j. FlowIsWellSorted j.flow) }
-    ensures observer { IfOk result (λ j. ObserverFits j.flow.file j.observer) }
+    ensures loaded { IsLoaded bytes.now result }
+    ensures fits { IfOk result JudgedFits }
 {
     let found = match tokens(alloc, bytes) {
         Ok(found) => found,
         Err(fault) => return Err(lex_refusal(fault)),
     };
     match parse(alloc, &found) {
-        Ok(unit) => judged_of(alloc, unjudged, &found, unit),
+        Ok(unit) => judged_of(alloc, unit),
         Err(fault) => Err(parse_refusal(bytes, &found, fault)),
     }
 }
@@ -167,13 +149,7 @@ pub fn files_are_unique()
     ensures { FilesAreUnique }
 {}
 
-/// The law that whatever unit bytes spell, its flow, its observer and its outline fit.
+/// The law that whatever unit bytes spell, what is judged of it fits.
 pub fn files_fit()
     ensures { FilesFit }
-{}
-
-/// The law that no step of a file that `check` judges holds a claim: in the text each claim is the word
-/// `active`, and a file with that word is refused.
-pub fn judged_files_claim_nothing()
-    ensures { JudgedFilesClaimNothing }
 {}

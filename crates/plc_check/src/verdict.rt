@@ -1,20 +1,23 @@
-// The verdict on a flow: by its types alone, until outlines are judged.
+// The verdict on what is judged, by its types and by its outline.
 ghost use Rattle.std.specs.Prelude.{IfOk};
-ghost use Rattle.plc_flow.specs.WellFormed.{IsWellFormed};
-ghost use Rattle.plc_lang.specs.Fit.{FileFits};
+ghost use Rattle.plc_xfer.specs.Typings.{IsTyping, IsStrongest};
+ghost use Rattle.plc_flow.specs.Skeleton.{skeleton_of};
+ghost use Rattle.plc_check.specs.Fit.{JudgedFits};
 ghost use Rattle.plc_check.specs.Verdicts.{IsVerdictOn};
 
+use crate::counterexample::first_counterexample;
 use crate::judged::Judged;
 use plc_base::{NoMemory, StepId};
+use plc_ground::{GroundModel, GroundSet};
 use plc_infer::{InferFault, Typing, infer};
+use plc_oblig::{Obligation, count};
 use plc_xfer::TypeFault;
 use std::alloc::Global;
 
 /// What the checker says of a file.
 #[derive(Debug, Drop)]
 pub enum Verdict {
-    /// It has a typing, of which the strongest is given. Its outline isn't judged, so that the number of
-    /// obligations is 0.
+    /// It has a typing, of which the strongest is given, and its outline holds, with so many obligations.
     Safe {
         typing: Typing,
         obligations: u64,
@@ -25,21 +28,45 @@ pub enum Verdict {
         prim: u16,
         fault: TypeFault,
     },
+    /// It has a typing, but its outline doesn't hold: the least obligation that isn't kept, with its ground
+    /// set and a model of that.
+    Unproved {
+        obligation: Obligation,
+        set: GroundSet,
+        model: GroundModel,
+    },
 }
 
-/// The verdict by types on a file that [`crate::load`] gave: `Safe` exactly where it has a typing, else
-/// `Untyped`. Its outline isn't judged yet: who hands in a file with one, or with claims, is told nothing of
-/// them. The one error is that memory runs out.
+// The verdict where there is a typing: by the outline alone.
+fn judge_outline(alloc: Global, judged: &Judged, typing: Typing) -> Result<Verdict, NoMemory>
+    requires fits { JudgedFits judged.now }
+    requires typing { IsTyping judged.now.observer (skeleton_of judged.now.flow) typing.env }
+    requires strongest { IsStrongest judged.now.observer (skeleton_of judged.now.flow) typing.env }
+    ensures { IfOk result (IsVerdictOn judged.now) }
+{
+    match first_counterexample(alloc, &judged.flow, &judged.unit_outline) {
+        Ok(None) => Ok(Verdict::Safe {
+            typing,
+            obligations: count(&judged.flow, &judged.unit_outline),
+        }),
+        Ok(Some(found)) => Ok(Verdict::Unproved {
+            obligation: found.obligation,
+            set: found.set,
+            model: found.model,
+        }),
+        Err(NoMemory) => Err(NoMemory),
+    }
+}
+
+/// The verdict on what [`crate::load`] gave: `Untyped` where it has no typing, else `Unproved` where its outline
+/// doesn't hold, else `Safe`. The ground sets are made one at a time. The one error is that memory runs out,
+/// which more than 2^32 terms of a ground set count as.
 pub fn check(alloc: Global, judged: &Judged) -> Result<Verdict, NoMemory>
-    requires flow { IsWellFormed judged.now.flow }
-    requires file { FileFits judged.now.flow.file }
-    ensures { IfOk result (λ verdict. IsVerdictOn judged.now verdict) }
+    requires { JudgedFits judged.now }
+    ensures { IfOk result (IsVerdictOn judged.now) }
 {
     match infer(alloc, &judged.flow, &judged.observer) {
-        Ok(typing) => Ok(Verdict::Safe {
-            typing,
-            obligations: 0,
-        }),
+        Ok(typing) => judge_outline(alloc, judged, typing),
         Err(InferFault::Stuck { step, prim, fault }) => Ok(Verdict::Untyped { step, prim, fault }),
         Err(InferFault::Memory) => Err(NoMemory),
     }

@@ -1,6 +1,7 @@
 -- From the answer that is due to what a 0 says, and when it comes: the bytes spell one unit, which has a typing or is stuck, and not both.
-use Rattle.std.proofs.Common.{◌≡◌, ◌<◌, ◌≤◌, inl, inr, ℕ, List, [], length, Option, Some, None, Result, Ok, Err, ap, sym, subst, arith}
-use Rattle.std.specs.Prelude.{IfSome, IfOk}
+use Rattle.std.proofs.Common.{◌≡◌, ◌<◌, ◌≤◌, inl, inr, ℕ, List, [], length, Option, Some, None, Result, Ok, Err, ap, sym, subst, refl, ◌∙◌, arith}
+use Rattle.std.specs.Prelude.{◌++◌, ◌∷◌, All, Contains, IfSome, IfOk}
+use Rattle.std.proofs.lemmas.List.Elements.{All-contains, Contains-append_right}
 use Rattle.plc_base.specs.Limits.{largest_file}
 use Rattle.plc_outside.specs.Known.{KnownFiles}
 use Rattle.plc_parse.specs.declared.unit.Unit.{Unit as FileUnit}
@@ -12,14 +13,21 @@ use Rattle.plc_xfer.specs.Typings.{HasTyping, IsStuckAt}
 use Rattle.plc_lang.specs.Skeleton.{Skeleton}
 use Rattle.plc_flow.specs.Skeleton.{skeleton_of}
 use Rattle.plc_reclaim.specs.Meanings.{Meanings}
-use Rattle.plc_check.specs.declared.unjudged.Unjudged.TheVariants.{Nothing, ClaimsAndOutlines}
+use Rattle.plc_flow.specs.declared.flow.Flow.{Flow}
+use Rattle.plc_logic.specs.declared.clause.Outline.{Outline}
+use Rattle.plc_setting.specs.declared.obligations.Obligation.{Obligation}
+use Rattle.plc_oblig.specs.Outlines.{IsKept, OutlineHolds, IsLeastOpen}
 use Rattle.plc_check.specs.declared.judged.Judged.{Judged}
-use Rattle.plc_check.specs.Loading.{IsLoaded, judged_of}
+use Rattle.plc_check.specs.declared.verdict.Verdict.{Verdict}
+use Rattle.plc_check.specs.declared.verdict.Verdict.TheVariants.{Safe, Untyped, Unproved}
+use Rattle.plc_check.specs.Loading.{IsFileOf, IsLoaded, judged_of}
+use Rattle.plc_check.specs.Verdicts.{IsVerdictOn}
 use Rattle.plc_check.proofs.Unique.{one_file}
 use Rattle.plc_cli.specs.Requests.{Request, Check}
 use Rattle.plc_cli.specs.Reads.{Only, IsUnread, IsGivenFile, IsDueForFile}
-use Rattle.plc_cli.specs.Answer.{IsAnswerTo, IsJudgedAs, IsPrintOf, IsDueFor, Spells, unit_of}
-use Rattle.plc_cli.specs.Headline.{Headline, IsSafeProgram, IsSafeRead, IsTypable}
+use Rattle.plc_cli.specs.Answer.{IsAnswerTo, IsJudgedAs, IsPrintOf, IsDueFor, unit_of}
+use Rattle.plc_cli.specs.Verdicts.{verdict_status, verdict_text}
+use Rattle.plc_cli.specs.Headline.{Headline, IsSafeProgram, IsSafeRead, IsProved}
 use Rattle.plc_cli.proofs.Racing.{never_races}
 
 -- bytes that a read gave, where the content is told
@@ -30,27 +38,46 @@ told_is (Some c) bytes content h e = cc
 stuck_or_typed : (o : Observer) (s : Skeleton) (k i : ℕ) (fault : TypeFault) → IsStuckAt o s k i fault → HasTyping o s → ⊥
 stuck_or_typed o s k i fault stuck typed = stuck.fails typed.0 typed.1.pretyping (typed.1.holding k i)
 
+-- what each thing of a list has has the one in its midst
+in_midst : {A : Type 0} (P : A → Type 0) (xs before after : List A) (x : A) → xs ≡ before ++ x ∷ after → All P xs → P x
+in_midst P xs before after x e all =
+    let here : Contains (x ∷ after) x = (0, omega arith, refl) in
+    All-contains P (before ++ x ∷ after) x (subst (All P) e all) (Contains-append_right before (x ∷ after) x here)
+
+open_or_held : (flow : Flow) (outline : Outline) (o : Obligation) → IsLeastOpen flow outline o → OutlineHolds flow outline → ⊥
+open_or_held flow outline o least held = in_midst (IsKept flow outline) _ least.before least.after o least.listed held least.has_model
+
+-- what is safe is proved, and the other way round
+module _ (v : FileUnit) where
+  proved_by : (verdict : Verdict) → IsVerdictOn (judged_of v) verdict → verdict_status verdict ≡ 0 → IsProved v
+  proved_by (Safe typing count) right zero = record { typed = (typing.env, right.0); held = right.2.0 }
+  proved_by (Untyped step prim fault) right zero = absurd (omega (arith, zero))
+  proved_by (Unproved o set model) right zero = absurd (omega (arith, zero))
+
+  zero_by : (verdict : Verdict) → IsVerdictOn (judged_of v) verdict → IsProved v → verdict_status verdict ≡ 0
+  zero_by (Safe typing count) right proved = refl
+  zero_by (Untyped step prim fault) right proved = absurd (stuck_or_typed v.observer (skeleton_of (flow_of v.file)) step.0 prim fault right proved.typed)
+  zero_by (Unproved o set model) right proved = absurd (open_or_held (flow_of v.file) v.outline o right.1 proved.held)
+
 module _ (bytes : List ℕ) (status : ℕ) (text : List ℕ) where
-  typed_by : (v : FileUnit) → IsJudgedAs (judged_of v) status text → status ≡ 0 → IsTypable v
-  typed_by v (inl safe) zero = (safe.envs, safe.typed.typing)
-  typed_by v (inr untyped) zero = let is = untyped.status_is in absurd cc
+  judged_proved : (v : FileUnit) → IsJudgedAs (judged_of v) status text → status ≡ 0 → IsProved v
+  judged_proved v judged zero = proved_by v judged.verdict judged.right (sym judged.status_is ∙ zero)
 
   pub safe_at_0 : IsAnswerTo bytes status text → status ≡ 0 → IsSafeProgram bytes
   safe_at_0 (inl refused) zero = let is = refused.status_is in absurd cc
-  safe_at_0 (inr judged) zero = record { unit = judged.unit; spelled = judged.spelled; safe = never_races bytes judged.unit judged.spelled (typed_by judged.unit judged.answer zero) }
+  safe_at_0 (inr judged) zero = record { unit = judged.unit; spelled = judged.spelled; safe = never_races bytes judged.unit judged.spelled (judged_proved judged.unit judged.answer zero) }
 
-  module _ (u : FileUnit) (spelled : Spells bytes u) where
-    pub typed_at_0 : IsAnswerTo bytes status text → status ≡ 0 → IsTypable u
-    typed_at_0 (inl refused) zero = let is = refused.status_is in absurd cc
-    typed_at_0 (inr judged) zero = subst IsTypable (one_file ClaimsAndOutlines ClaimsAndOutlines bytes judged.unit u judged.spelled spelled) (typed_by judged.unit judged.answer zero)
+  module _ (u : FileUnit) (spelled : IsFileOf bytes u) where
+    pub proved_at_0 : IsAnswerTo bytes status text → status ≡ 0 → IsProved u
+    proved_at_0 (inl refused) zero = let is = refused.status_is in absurd cc
+    proved_at_0 (inr judged) zero = subst IsProved (one_file bytes judged.unit u judged.spelled spelled) (judged_proved judged.unit judged.answer zero)
 
-    zero_by : (v : FileUnit) → IsJudgedAs (judged_of v) status text → IsTypable v → status ≡ 0
-    zero_by v (inl safe) typed = safe.status_is
-    zero_by v (inr untyped) typed = absurd (stuck_or_typed v.observer (skeleton_of (flow_of v.file)) untyped.step untyped.primitive untyped.fault untyped.stuck typed)
+    judged_zero : (v : FileUnit) → IsJudgedAs (judged_of v) status text → IsProved v → status ≡ 0
+    judged_zero v judged proved = judged.status_is ∙ zero_by v judged.verdict judged.right proved
 
-    pub at_0_where_typed : IsAnswerTo bytes status text → IsTypable u → status ≡ 0
-    at_0_where_typed (inl refused) typed = absurd (refused.none u spelled)
-    at_0_where_typed (inr judged) typed = zero_by judged.unit judged.answer (subst IsTypable (sym (one_file ClaimsAndOutlines ClaimsAndOutlines bytes judged.unit u judged.spelled spelled)) typed)
+    pub at_0_where_proved : IsAnswerTo bytes status text → IsProved u → status ≡ 0
+    at_0_where_proved (inl refused) proved = absurd (refused.none u spelled)
+    at_0_where_proved (inr judged) proved = judged_zero judged.unit judged.answer (subst IsProved (sym (one_file bytes judged.unit u judged.spelled spelled)) proved)
 
 module _ (old new : KnownFiles) (status : ℕ) (text : List ℕ) (name : List ℕ) where
   -- what `check` answers to the bytes
@@ -76,20 +103,20 @@ module _ (old new : KnownFiles) (status : ℕ) (text : List ℕ) (name : List �
   sound_for content told (inl unread) zero = absurd (read_at_0 unread zero)
   sound_for content told (inr due) zero = safe_at_0 content status text (answer_of content told due.0 due.1 due.2) zero
 
-  module _ (content : List ℕ) (told : old.content name ≡ Some content) (u : FileUnit) (spelled : Spells content u) where
-    typed_for : IsDue → status ≡ 0 → IsTypable u
-    typed_for (inl unread) zero = absurd (read_at_0 unread zero)
-    typed_for (inr due) zero = typed_at_0 content status text u spelled (answer_of content told due.0 due.1 due.2) zero
+  module _ (content : List ℕ) (told : old.content name ≡ Some content) (u : FileUnit) (spelled : IsFileOf content u) where
+    proved_for : IsDue → status ≡ 0 → IsProved u
+    proved_for (inl unread) zero = absurd (read_at_0 unread zero)
+    proved_for (inr due) zero = proved_at_0 content status text u spelled (answer_of content told due.0 due.1 due.2) zero
 
     -- a content that isn't too long isn't told as one
     long_told : (o : Option (List ℕ)) → IfSome o (λ c. largest_file < length c) → o ≡ Some content → length content ≤ largest_file → ⊥
     long_told None h e short = absurd cc
     long_told (Some c) h e short = let same : c ≡ content = cc in omega (arith, h, short, ap (λ (x : List ℕ). length x) same)
 
-    complete_for : IsDue → length content ≤ largest_file → new.faults name ≡ old.faults name → IsTypable u → status ≡ 0
-    complete_for (inl (inl failed)) short kept typed = absurd (omega (arith, failed.rose, kept))
-    complete_for (inl (inr long)) short kept typed = absurd (long_told (old.content name) long.told told short)
-    complete_for (inr due) short kept typed = at_0_where_typed content status text u spelled (answer_of content told due.0 due.1 due.2) typed
+    complete_for : IsDue → length content ≤ largest_file → new.faults name ≡ old.faults name → IsProved u → status ≡ 0
+    complete_for (inl (inl failed)) short kept proved = absurd (omega (arith, failed.rose, kept))
+    complete_for (inl (inr long)) short kept proved = absurd (long_told (old.content name) long.told told short)
+    complete_for (inr due) short kept proved = at_0_where_proved content status text u spelled (answer_of content told due.0 due.1 due.2) proved
 
 module _ (reclaimers : List Meanings) (request : Option Request) (old new : KnownFiles) (status : ℕ) (text : List ℕ) (due : IsDueFor reclaimers request old new status text) where
   due_for : (name : List ℕ) → request ≡ Some (Check name) → IsDue old new status text name
@@ -99,16 +126,20 @@ module _ (reclaimers : List Meanings) (request : Option Request) (old new : Know
   headline_of = record {
     read = λ name asked zero. read_for old new status text name (due_for name asked) zero;
     sound = λ name bytes asked told zero. sound_for old new status text name bytes told (due_for name asked) zero;
-    complete = λ name bytes asked told short kept u spelled typed. inl (complete_for old new status text name bytes told u spelled (due_for name asked) short kept typed);
-    only_typed = λ name bytes asked told u spelled zero. typed_for old new status text name bytes told u spelled (due_for name asked) zero;
+    complete = λ name bytes asked told short kept u spelled proved. inl (complete_for old new status text name bytes told u spelled (due_for name asked) short kept proved);
+    only_proved = λ name bytes asked told u spelled zero. proved_for old new status text name bytes told u spelled (due_for name asked) zero;
   }
 
+-- a right verdict that is told is the answer to what is judged
+pub verdict_answers : (j : Judged) (verdict : Verdict) (status : ℕ) (text : List ℕ) → IsVerdictOn j verdict → status ≡ verdict_status verdict → text ≡ verdict_text j verdict → IsJudgedAs j status text
+verdict_answers j verdict status text right status_is text_is = record { verdict = verdict; right = right; status_is = status_is; text_is = text_is }
+
 -- what is judged of a flow that was loaded is the answer to its bytes
-pub judged_answers : (bytes : List ℕ) (j : Judged) (status : ℕ) (text : List ℕ) → IsLoaded ClaimsAndOutlines bytes (Ok j) → IsJudgedAs j status text → IsAnswerTo bytes status text
+pub judged_answers : (bytes : List ℕ) (j : Judged) (status : ℕ) (text : List ℕ) → IsLoaded bytes (Ok j) → IsJudgedAs j status text → IsAnswerTo bytes status text
 judged_answers bytes j status text loaded h = inr (record { unit = loaded.0; spelled = loaded.1; answer = subst (λ (x : Judged). IsJudgedAs x status text) loaded.2 h })
 
 -- what is printed of a flow that was loaded is the answer to its bytes
-pub printed_answers : (bytes : List ℕ) (j : Judged) (status : ℕ) (text : List ℕ) → IsLoaded Nothing bytes (Ok j) → status ≡ 0 → text ≡ canonical_text (unit_of j) → IsPrintOf bytes status text
+pub printed_answers : (bytes : List ℕ) (j : Judged) (status : ℕ) (text : List ℕ) → IsLoaded bytes (Ok j) → status ≡ 0 → text ≡ canonical_text (unit_of j) → IsPrintOf bytes status text
 printed_answers bytes j status text loaded zero is =
     inr (record { unit = loaded.0; spelled = loaded.1; status_is = zero; text_is = subst (λ (x : Judged). text ≡ canonical_text (unit_of x)) loaded.2 is })
 

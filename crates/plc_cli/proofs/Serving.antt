@@ -7,7 +7,6 @@ use Rattle.plc_outside.specs.Known.{KnownFiles, KnownSink}
 use Rattle.plc_outside.specs.Outside.{Appends}
 use Rattle.plc_outside.specs.Reading.{Reading}
 use Rattle.plc_parse.specs.declared.unit.Unit.{Unit as FileUnit}
-use Rattle.plc_check.specs.declared.unjudged.Unjudged.TheVariants.{Outlines}
 use Rattle.plc_check.specs.Loading.{IsFileOf, judged_of}
 use Rattle.plc_check.proofs.Fitting.{all_files_fit}
 use Rattle.plc_check.proofs.Unique.{one_file}
@@ -26,12 +25,12 @@ use Rattle.plc_cli.proofs.Judging.{told_is}
 
 -- ---- the end of a schedule
 
-end_allowed : (u : FileUnit) (bytes : List ℕ) → IsFileOf Outlines bytes u → (m : Meanings) → Serves u.observer m → (s : Schedule) (end : End) →
+end_allowed : (u : FileUnit) (bytes : List ℕ) → IsFileOf bytes u → (m : Meanings) → Serves u.observer m → (s : Schedule) (end : End) →
     ComesTo (judged_of u).flow u.observer m (judged_of u).schemes s end → IsAllowedEnd end
 end_allowed u bytes spelled m serves s end comes a line e =
-    let fits = all_files_fit Outlines bytes u spelled in
+    let fits = all_files_fit bytes u spelled in
     never_forbidden (judged_of u).flow u.observer (judged_of u).schemes m s
-    (record { sorted = fits.sorted; well_formed = fits.observer.well_formed; schemes_are = refl; serves = serves })
+    (record { sorted = fits.fits.sorted; well_formed = fits.observer.well_formed; schemes_are = refl; serves = serves })
     a line (subst (ComesTo (judged_of u).flow u.observer m (judged_of u).schemes s) e comes)
 
 module _ (status : ℕ) (text : List ℕ) (one : status ≡ 1) where
@@ -51,7 +50,7 @@ module _ (status : ℕ) (text : List ℕ) (one : status ≡ 1) where
     replay_fails : IsReplayOf m bytes second status text → FailsOtherwise served.unit m second sink sink_now
     replay_fails (inl refused) = absurd (let is = refused.status_is in omega arith)
     replay_fails (inr replayed) =
-        schedule_fails (subst (λ (u : FileUnit). IsScheduleAnswered (judged_of u) m second status text) (one_file Outlines Outlines bytes replayed.unit served.unit replayed.spelled served.spelled) replayed.answer)
+        schedule_fails (subst (λ (u : FileUnit). IsScheduleAnswered (judged_of u) m second status text) (one_file bytes replayed.unit served.unit replayed.spelled served.spelled) replayed.answer)
 
   unread_fails : (may : List ℕ → Type 0) (old new : KnownFiles) (before : List Reading) (name : List ℕ) (most : ℕ) → IsUnread may old new before name most status text → ⊥
   unread_fails may old new before name most (inl failed) = let is = failed.status_is in omega arith

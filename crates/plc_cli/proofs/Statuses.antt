@@ -7,10 +7,13 @@ use Rattle.plc_reclaim.specs.Meanings.{Meanings}
 use Rattle.plc_replay.specs.declared.end.End.{End}
 use Rattle.plc_replay.specs.declared.end.End.TheVariants.{Ended, Race, Impossible, ForbiddenFree}
 use Rattle.plc_check.specs.declared.judged.Judged.{Judged}
+use Rattle.plc_check.specs.declared.verdict.Verdict.{Verdict}
+use Rattle.plc_check.specs.declared.verdict.Verdict.TheVariants.{Safe, Untyped, Unproved}
 use Rattle.plc_cli.specs.Requests.{Request, Check, Print, Replay}
 use Rattle.plc_cli.specs.Reads.{IsUnread, IsDueForFile, IsDueForPair}
 use Rattle.plc_cli.specs.Answer.{IsJudgedAs, IsAnswerTo, IsPrintOf, IsScheduleAnswered, IsReplayOf, IsDueFor, Outcome}
 use Rattle.plc_cli.specs.Statuses.{unwritten, no_memory, end_status}
+use Rattle.plc_cli.specs.Verdicts.{verdict_status}
 
 end_low : (end : End) → end_status end ≤ 4
 end_low (Ended lines events freed) = omega arith
@@ -18,10 +21,14 @@ end_low (Race kind line prim) = omega arith
 end_low (Impossible line) = omega arith
 end_low (ForbiddenFree a line) = omega arith
 
+verdict_low : (verdict : Verdict) → verdict_status verdict ≤ 4
+verdict_low (Safe typing count) = omega arith
+verdict_low (Untyped step prim fault) = omega arith
+verdict_low (Unproved o set model) = omega arith
+
 module _ (status : ℕ) (text : List ℕ) where
   judged_low : (j : Judged) → IsJudgedAs j status text → status ≤ 4
-  judged_low j (inl safe) = omega (arith, safe.status_is)
-  judged_low j (inr untyped) = omega (arith, untyped.status_is)
+  judged_low j judged = let low = verdict_low judged.verdict in omega (arith, judged.status_is, low)
 
   check_low : (bytes : List ℕ) → IsAnswerTo bytes status text → status ≤ 4
   check_low bytes (inl refused) = omega (arith, refused.status_is)

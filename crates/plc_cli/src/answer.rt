@@ -6,7 +6,7 @@ ghost use Rattle.plc_cli.specs.Statuses.{bad_words, refused};
 
 use crate::status::{BAD_WORDS, REFUSED};
 use plc_check::LoadFault;
-use plc_texts::{lexical, limit, parsed, refused_file, words_refused};
+use plc_texts::{lexical, limit, parsed, words_refused};
 use std::alloc::{AllocError, Global};
 
 /// A status with its text.
@@ -32,7 +32,6 @@ fn refusal_text(alloc: Global, fault: &LoadFault) -> Result<Vec<u8>, AllocError>
 {
     match fault {
         LoadFault::Lex(fault) => lexical(alloc, *fault),
-        LoadFault::Unjudged => refused_file(alloc),
         LoadFault::Parse { fault, line } => parsed(alloc, fault, *line),
         LoadFault::Limit { what, count } => limit(alloc, *what, *count),
         LoadFault::Memory => Ok(Vec::new(alloc)),

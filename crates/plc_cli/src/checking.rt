@@ -1,46 +1,73 @@
 // The verdict on a file.
-ghost use Rattle.std.specs.Prelude.{◌≤◌, IfOk, length};
+ghost use Rattle.std.specs.Prelude.{◌≡◌, ◌≤◌, IfOk, length};
 ghost use Rattle.plc_base.specs.Limits.{largest_file};
-ghost use Rattle.plc_flow.specs.WellFormed.{IsWellFormed};
-ghost use Rattle.plc_lang.specs.Fit.{FileFits};
+ghost use Rattle.plc_check.specs.Fit.{JudgedFits};
 ghost use Rattle.plc_cli.specs.Answer.{IsAnswerTo, IsJudgedAs};
 ghost use Rattle.plc_cli.specs.Reads.{FilesAreKept, IsDueForFile};
+ghost use Rattle.plc_cli.specs.Verdicts.{verdict_status, verdict_text};
 
 use crate::answer::{Answer, refusal};
 use crate::reading::{Content, read};
 use crate::status::{FAILS, HOLDS};
 use plc_base::{LARGEST_FILE, NoMemory};
-use plc_check::{Judged, LoadFault, Unjudged, Verdict, check, load};
+use plc_check::{Judged, LoadFault, Verdict, check, load};
 use plc_outside::Files;
-use plc_texts::{safe, untyped};
+use plc_texts::{safe, unproved, untyped};
 use std::alloc::{AllocError, Global};
+
+// The status of a verdict: that of a failure where the file isn't safe.
+fn status_of(verdict: &Verdict) -> u8
+    ensures { result ≡ verdict_status verdict.now }
+{
+    match verdict {
+        Verdict::Safe { .. } => HOLDS,
+        Verdict::Untyped { .. } | Verdict::Unproved { .. } => FAILS,
+    }
+}
+
+// The text of a verdict.
+fn text_of(alloc: Global, judged: &Judged, verdict: &Verdict) -> Result<Vec<u8>, AllocError>
+    ensures { IfOk result (λ text. text.items ≡ verdict_text judged.now verdict.now) }
+{
+    let flow = &judged.flow;
+    match verdict {
+        Verdict::Safe {
+            typing,
+            obligations,
+        } => safe(
+            alloc,
+            flow,
+            &judged.observer,
+            typing.env.as_slice(),
+            *obligations,
+        ),
+        Verdict::Untyped { step, prim, fault } => untyped(alloc, flow, step.0, *prim, *fault),
+        Verdict::Unproved {
+            obligation,
+            set,
+            model,
+        } => unproved(alloc, flow, obligation, set, model.class.as_slice()),
+    }
+}
+
+// The answer that tells a verdict.
+fn told(alloc: Global, judged: &Judged, verdict: &Verdict) -> Result<Answer, AllocError>
+    ensures { IfOk result (λ answer. (answer.status ≡ verdict_status verdict.now)
+        × (answer.text.items ≡ verdict_text judged.now verdict.now)) }
+{
+    Ok(Answer {
+        status: status_of(verdict),
+        text: text_of(alloc, judged, verdict)?,
+    })
+}
 
 // The answer to a file that was loaded.
 fn judge(alloc: Global, judged: &Judged) -> Result<Answer, AllocError>
-    requires flow { IsWellFormed judged.now.flow }
-    requires file { FileFits judged.now.flow.file }
+    requires { JudgedFits judged.now }
     ensures { IfOk result (λ answer. IsJudgedAs judged.now answer.status answer.text.items) }
 {
     match check(alloc, judged) {
-        Ok(
-            Verdict::Safe {
-                typing,
-                obligations,
-            },
-        ) => Ok(Answer {
-            status: HOLDS,
-            text: safe(
-                alloc,
-                &judged.flow,
-                &judged.observer,
-                typing.env.as_slice(),
-                obligations,
-            )?,
-        }),
-        Ok(Verdict::Untyped { step, prim, fault }) => Ok(Answer {
-            status: FAILS,
-            text: untyped(alloc, &judged.flow, step.0, prim, fault)?,
-        }),
+        Ok(verdict) => told(alloc, judged, &verdict),
         Err(NoMemory) => Err(AllocError),
     }
 }
@@ -50,7 +77,7 @@ fn checked(alloc: Global, bytes: &[u8]) -> Result<Answer, AllocError>
     requires { length bytes.now ≤ largest_file }
     ensures { IfOk result (λ answer. IsAnswerTo bytes.now answer.status answer.text.items) }
 {
-    match load(alloc, bytes, Unjudged::ClaimsAndOutlines) {
+    match load(alloc, bytes) {
         Ok(judged) => judge(alloc, &judged),
         Err(LoadFault::Memory) => Err(AllocError),
         Err(fault) => refusal(alloc, &fault),

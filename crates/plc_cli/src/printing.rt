@@ -10,7 +10,7 @@ use crate::answer::{Answer, refusal};
 use crate::reading::{Content, read};
 use crate::status::HOLDS;
 use plc_base::{LARGEST_FILE, NoMemory};
-use plc_check::{Judged, LoadFault, Unjudged, load};
+use plc_check::{Judged, LoadFault, load};
 use plc_outside::Files;
 use plc_parse::Unit;
 use plc_print::print;
@@ -43,7 +43,7 @@ fn printed(alloc: Global, bytes: &[u8]) -> Result<Answer, AllocError>
     requires { length bytes.now ≤ largest_file }
     ensures { IfOk result (λ answer. IsPrintOf bytes.now answer.status answer.text.items) }
 {
-    match load(alloc, bytes, Unjudged::Nothing) {
+    match load(alloc, bytes) {
         Ok(judged) => canonical(alloc, judged),
         Err(LoadFault::Memory) => Err(AllocError),
         Err(fault) => refusal(alloc, &fault),

@@ -11,7 +11,7 @@ use crate::answer::{Answer, refusal};
 use crate::reading::{Contents, read_both};
 use crate::status::{FAILS, HOLDS, REFUSED};
 use plc_base::{LARGEST_SCHEDULE, NoMemory};
-use plc_check::{Judged, LoadFault, Unjudged, load};
+use plc_check::{Judged, LoadFault, load};
 use plc_outside::Files;
 use plc_reclaim::Reclaimer;
 use plc_replay::{End, replay};
@@ -90,7 +90,7 @@ fn replayed(
     ensures { IfOk result (λ answer.
         IsReplayOf (meanings reclaimer.old) bytes.now second.now answer.status answer.text.items) }
 {
-    match load(alloc, bytes, Unjudged::Outlines) {
+    match load(alloc, bytes) {
         Ok(judged) => scheduled(alloc, &judged, second, reclaimer),
         Err(LoadFault::Memory) => Err(AllocError),
         Err(fault) => refusal(alloc, &fault),

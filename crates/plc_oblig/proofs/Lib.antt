@@ -1,5 +1,9 @@
 pub mod ClaimCounts
 pub mod Walking
+mod Remaining
+mod Members
+mod Staying
+mod Opposites
 pub mod Lists
 pub mod Places
 pub mod Equal

@@ -3,6 +3,8 @@ pub mod Obligations
 pub mod GroundSets
 pub mod Outlines
 pub mod Walk
+pub mod Still
 -- words of private functions alone
 pub mod Finding
 pub mod Size
+pub mod Left

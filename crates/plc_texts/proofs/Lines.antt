@@ -11,6 +11,7 @@ use Rattle.plc_auto.specs.declared.observer.Observer.{Observer}
 use Rattle.plc_type.specs.declared.env.Env.{Env}
 use Rattle.plc_flow.specs.declared.flow.Flow.{Flow}
 use Rattle.plc_texts.specs.Typings.{member_names, label_lines}
+use Rattle.plc_texts.specs.Unproved.{term_lines}
 
 -- what is left of a list begins with the item at that place
 left_at : {A : Type 0} (xs : List A) (i : ℕ) (x : A) → slice_get xs i ≡ Some x → drop i xs ≡ x ∷ drop (i + 1) xs
@@ -40,3 +41,11 @@ no_lines flow o envs ns ps i e = ap (label_lines flow o envs (drop i ns)) (drop_
 pub named_more : (xs : List (Bor (List ℕ))) (x : Bor (List ℕ)) (ys : List (List ℕ)) → map (λ n. n.now) (xs ++ x ∷ []) ++ ys ≡ (map (λ n. n.now) xs ++ x.now ∷ []) ++ ys
 named_more [] x ys = refl
 named_more (y ∷ xs) x ys = ap (λ zs. y.now ∷ zs) (named_more xs x ys)
+
+-- terms without a class have no lines
+pub no_term_lines : (i k : ℕ) (ts : List (List ℕ)) (cs : List ℕ) → length cs ≤ i → term_lines k ts (drop i cs) ≡ []
+no_term_lines i k ts cs e = ap (term_lines k ts) (drop_all i cs e) ∙ unclassed ts
+  where
+    unclassed : (us : List (List ℕ)) → term_lines k us [] ≡ []
+    unclassed [] = refl
+    unclassed (u ∷ us) = refl

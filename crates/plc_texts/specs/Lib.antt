@@ -4,3 +4,4 @@ pub mod Refusals
 pub mod Replays
 pub mod Typings
 pub mod Untyped
+pub mod Unproved

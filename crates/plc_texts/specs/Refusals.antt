@@ -7,7 +7,7 @@ use Rattle.plc_lex.specs.declared.fault.LexFault.TheVariants.{BadByte, LongName,
 use Rattle.plc_scope.specs.declared.fault.ParseFault.{ParseFault}
 use Rattle.plc_scope.specs.declared.fault.ParseFault.TheVariants.{Syntax, Undeclared, Duplicate, WrongSort, NoSuchCall, Limit, Memory}
 
--- the texts of words of no listed form, of a read that failed, of a file that is too long, and of a form that isn't judged
+-- the texts of words of no listed form, of a read that failed, and of a file that is too long
 abbrev pub words_refused : List ℕ
 words_refused = codes "words refused\n"
 
@@ -16,9 +16,6 @@ read_failed = codes "read failed\n"
 
 abbrev pub read_too_long : List ℕ
 read_too_long = codes "read too long\n"
-
-abbrev pub refused_file : List ℕ
-refused_file = codes "refused file\n"
 
 -- refused byte at N, and the same of names and numbers; running out of memory has no text
 abbrev pub lex_text : LexFault → List ℕ

@@ -3,6 +3,7 @@
 #![tactic(auto)]
 
 mod failing;
+mod models;
 mod names;
 mod push;
 mod refusals;
@@ -10,8 +11,7 @@ mod replays;
 mod typing;
 
 pub use failing::untyped;
-pub use refusals::{
-    lexical, limit, parsed, read_failed, read_too_long, refused_file, words_refused,
-};
+pub use models::unproved;
+pub use refusals::{lexical, limit, parsed, read_failed, read_too_long, words_refused};
 pub use replays::{ended, unscheduled};
 pub use typing::safe;

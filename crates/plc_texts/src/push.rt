@@ -24,3 +24,16 @@ pub(crate) fn push_number(alloc: Global, out: &mut Vec<u8>, number: u64) -> Resu
     let digits = number.to_string(alloc)?;
     out.extend_from_slice(digits.as_bytes())
 }
+
+/// A number after words.
+pub(crate) fn push_numbered(
+    alloc: Global,
+    out: &mut Vec<u8>,
+    words: &str,
+    number: u32,
+) -> Result<(), AllocError>
+    ensures { OnOk result (out.new.items ≡ out.old.items ++ words.now ++ decimal number) }
+{
+    push(out, words)?;
+    push_number(alloc, out, u64::from(number))
+}

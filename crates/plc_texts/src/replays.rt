@@ -1,8 +1,8 @@
 // What a schedule leads to, and why bytes are no schedule, as texts.
-ghost use Rattle.std.specs.Prelude.{◌≡◌, ◌++◌, IfOk, OnOk, codes, decimal};
+ghost use Rattle.std.specs.Prelude.{◌≡◌, ◌++◌, IfOk, codes, decimal};
 ghost use Rattle.plc_texts.specs.Replays.{end_text, race_name, schedule_text};
 
-use crate::push::{push, push_number};
+use crate::push::{push, push_numbered};
 use crate::refusals::{fixed, numbered};
 use plc_mem::RaceKind;
 use plc_replay::End;
@@ -19,19 +19,6 @@ fn race_name(kind: RaceKind) -> &'static str
         RaceKind::Pass => "pass",
         RaceKind::Double => "double",
     }
-}
-
-// A number after words.
-fn push_numbered(
-    alloc: Global,
-    out: &mut Vec<u8>,
-    words: &str,
-    number: u32,
-) -> Result<(), AllocError>
-    ensures { OnOk result (out.new.items ≡ out.old.items ++ words.now ++ decimal number) }
-{
-    push(out, words)?;
-    push_number(alloc, out, u64::from(number))
 }
 
 // The schedule was followed to its end.

@@ -1,0 +1,21 @@
+-- The first that is handed out of the obligations that aren't kept is the least of them.
+use Rattle.std.proofs.Common.{◌≡◌, List, ◌∷◌, ◌++◌, ap, ◌∙◌}
+use Rattle.plc_flow.specs.declared.flow.Flow.{Flow}
+use Rattle.plc_logic.specs.declared.clause.Outline.{Outline}
+use Rattle.plc_ground.specs.Trees.{HasModel}
+use Rattle.plc_setting.specs.declared.obligations.Obligation.{Obligation}
+use Rattle.plc_oblig.specs.Obligations.{obligations}
+use Rattle.plc_oblig.specs.GroundSets.{ground_set}
+use Rattle.plc_oblig.specs.Outlines.{IsKept, IsLeastOpen}
+use Rattle.plc_check.proofs.SoFar.{SoFar}
+
+pub least_open : (flow : Flow) (outline : Outline) (left new : List Obligation) (o : Obligation)
+    → SoFar (IsKept flow outline) (obligations flow outline) left → left ≡ o ∷ new
+    → HasModel (ground_set flow outline o) → IsLeastOpen flow outline o
+least_open flow outline left new o s e has = record {
+  before = s.before;
+  after = new;
+  listed = s.listed ∙ ap (λ (os : List Obligation). s.before ++ os) e;
+  kept = s.kept;
+  has_model = has;
+}
