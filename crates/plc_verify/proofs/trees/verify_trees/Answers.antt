@@ -1,5 +1,4 @@
-use Rattle.std.proofs.Common.{◌≡◌, length, Some, None, refl, ◌∙◌}
-use Rattle.plc_oblig.specs.Obligations.{obligations}
+use Rattle.std.proofs.Common.{refl, ◌∙◌}
 use Rattle.plc_verify.proofs.Points.{read_item}
 use Rattle.plc_verify.proofs.Closing.{goes_on, fails_here, all_close}
 use Rattle.plc_verify.proofs.trees.verify_trees.Goals as goal
