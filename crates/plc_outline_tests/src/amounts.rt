@@ -4,7 +4,7 @@ ghost use Rattle.plc_setting.specs.Fit.{Fits};
 
 use crate::files::{DEEP, epochs, hazards};
 use plc_base::{Items, LARGEST_FILE};
-use plc_check::{Unjudged, load};
+use plc_check::load;
 use plc_flow::Flow;
 use plc_ground::{GroundSet, Lit};
 use plc_logic::Outline;
@@ -104,7 +104,7 @@ fn answer(alloc: Global, file: &str, from: u64, most: u64) -> Result<String, All
     if file.len() > LARGEST_FILE {
         return Err(AllocError);
     }
-    let Ok(judged) = load(alloc, file.as_bytes(), Unjudged::Nothing) else {
+    let Ok(judged) = load(alloc, file.as_bytes()) else {
         return Err(AllocError);
     };
     let sum = sum_of(alloc, &judged.flow, &judged.unit_outline, from, most)?;
@@ -116,7 +116,7 @@ fn counted(alloc: Global, file: &str, i: u64) -> Result<u64, AllocError> {
     if file.len() > LARGEST_FILE {
         return Err(AllocError);
     }
-    let Ok(judged) = load(alloc, file.as_bytes(), Unjudged::Nothing) else {
+    let Ok(judged) = load(alloc, file.as_bytes()) else {
         return Err(AllocError);
     };
     match nth(&judged.flow, &judged.unit_outline, i) {
