@@ -61,4 +61,4 @@ one_run_suffices types erasure kept flow o threads envs fits w some typing n c r
     let law = types flow o threads envs fits w typing in
     let met = all_meet flow o threads envs law n c run (kept flow o threads w some n c run hold) in
     let next = next_claims flow o threads n c run ((erasure flow o threads w some).run n c run) in
-    record { met = met; no_race = λ move kind k claims race. law.no_race n c move kind k run met (next move claims) race }
+    record { met = law.met n c run met; no_race = λ move kind k claims race. law.no_race n c move kind k run met (next move claims) race }

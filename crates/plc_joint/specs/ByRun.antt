@@ -1,5 +1,5 @@
 -- What types give one run whose claims are true in its own garbage-collected run.
-use Rattle.std.specs.Prelude.{◌≡◌, ℕ, ◌<◌, true, List}
+use Rattle.std.specs.Prelude.{◌≡◌, ℕ, ◌<◌, true, List, Some}
 use Rattle.plc_auto.specs.declared.observer.Observer.{Observer}
 use Rattle.plc_auto.specs.Table.{is_well_formed}
 use Rattle.plc_flow.specs.declared.flow.Flow.{Flow}
@@ -10,10 +10,10 @@ use Rattle.plc_flow.specs.declared.points.Point.{Point}
 use Rattle.plc_flow.specs.Skeleton.{skeleton_of}
 use Rattle.plc_flow.specs.WellFormed.{FlowFits}
 use Rattle.plc_mem.specs.declared.cell.RaceKind.{RaceKind}
-use Rattle.plc_run.specs.Run.{Configuration, Run, Races, MayTake}
+use Rattle.plc_run.specs.Run.{Configuration, Run, Races, MayTake, point_of}
 use Rattle.plc_type.specs.declared.env.Env.{Env}
-use Rattle.plc_xfer.specs.Typings.{IsTyping}
-use Rattle.plc_typesound.specs.Laws.{AllMeet}
+use Rattle.plc_xfer.specs.Typings.{IsTyping, env_at}
+use Rattle.plc_typesound.specs.Meaning.{EnvMet}
 use Rattle.plc_gc.specs.Run.{GcConfiguration, GcRun}
 use Rattle.plc_gc.specs.Claims.{ClaimsHold}
 use Rattle.plc_erasure.specs.Trace.{moves_of}
@@ -31,7 +31,8 @@ NextClaimsHold flow o threads n c run move = Unit {0}
 pub record RunIsTyped
     (flow : Flow) (o : Observer) (threads : ℕ) (envs : List Env) (n : ℕ) (c : Configuration)
     (run : Run flow o threads n c) : Type 0 where
-  pub met : AllMeet flow o threads envs c
+  pub met : (t : ℕ) (p : Point) → t < threads → point_of c t ≡ Some p
+      → EnvMet o c.history t c.state (env_at envs p.at)
   pub no_race : (move : Move) (kind : RaceKind) (k : ℕ) → NextClaimsHold flow o threads n c run move
       → Races flow threads c move kind k → ⊥
 

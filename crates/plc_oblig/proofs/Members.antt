@@ -56,11 +56,6 @@ within_map f (x ∷ xs) ys h y c =
 
 -- ---- items by their places
 
-pub found_at : {A : Type 0} (xs : List A) (i : ℕ) → i < length xs → (x : A) × (slice_get xs i ≡ Some x)
-found_at [] i h = absurd (omega arith)
-found_at (x ∷ xs) zero h = (x, refl)
-found_at (x ∷ xs) (suc i) h = found_at xs i (omega arith)
-
 pub map_read : {A B : Type 0} (f : A → B) (xs : List A) (i : ℕ) (x : A) (d : B) → i < length xs → slice_index_or xs i x ≡ x → slice_index_or (map f xs) i d ≡ f x
 map_read f [] i x d less is = absurd (omega arith)
 map_read f (y ∷ xs) zero x d less is = ap f is

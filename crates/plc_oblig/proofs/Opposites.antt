@@ -52,7 +52,8 @@ use Rattle.plc_oblig.specs.Obligations.{parts_from, starts, enters_of, owns_of, 
 use Rattle.plc_oblig.specs.Outlines.{IsKept}
 use Rattle.plc_oblig.specs.Still.{changes, is_quiet, is_still}
 use Rattle.plc_oblig.proofs.Walking.{found_left}
-use Rattle.plc_oblig.proofs.Members.{at_head, in_tail, at_place, none_contained, contains_map, contains_flat_map, Within, within_left, within_right, within_itself, within_map, found_at, map_read, map_from}
+use Rattle.plc_oblig.proofs.Places.{there}
+use Rattle.plc_oblig.proofs.Members.{at_head, in_tail, at_place, none_contained, contains_map, contains_flat_map, Within, within_left, within_right, within_itself, within_map, map_read, map_from}
 use Rattle.plc_oblig.proofs.Staying.{Stays, start_stays, stays_after_all, none_new, BaseStays, TermStays, LiteralStays, literal_stays}
 
 -- ---- a clause with the opposites of all its literals has no model
@@ -186,9 +187,9 @@ module _ (flow : Flow) (outline : Outline) (o : Obligation) where
       let listed = subst (λ b. Contains (instances flow.file.ghosts s (has_owner o) c) (instance_at flow.file.ghosts b (has_owner o) c.literals (bound_nodes (length c.bound.names)))) made
       (instance_listed (has_owner o) c is) in
       let whole = sym clauses_are in
-      let there = subst (λ cs. Contains cs i) whole (premise_held i (premise i listed)) in
+      let held = subst (λ cs. Contains cs i) whole (premise_held i (premise i listed)) in
       let e = all_denied flow.file.ghosts s x stays c names_none ∙ ap (denied_clause flow.file.ghosts s x) (sym is) in
-      refuted _ d model.0 model.1 i there
+      refuted _ d model.0 model.1 i held
       (λ l h. subst (λ cs. Contains cs (opposite l ∷ [])) whole (denial_held (opposite l ∷ [])
       (Contains-append_left (denied_clause flow.file.ghosts s x (conclusion flow outline o)) (denied_claim s x (claim_made flow o)) (opposite l ∷ [])
       (subst (λ cs. Contains cs (opposite l ∷ [])) e (contains_map alone i l h)))))
@@ -287,7 +288,7 @@ module _ (flow : Flow) (outline : Outline) where
   still_is_kept (Own k c) fits listed still =
       let p = and_parts (nat_lt c (length outline.invariants)) (is_quiet flow k.0) still in
       let less = ltb-true c (length outline.invariants) p.0 in
-      let f = found_at outline.invariants c less in
+      let f = there outline.invariants c less in
       let inv = fits.outline_fits.each_invariant in
       let fit = subst (InvariantFits flow.file) (get_found f.0 f.1) (inv c f.0 less) in
       kept_by flow outline (Own k c) f.0 (found_left outline.invariants _ c f.0 f.1) (quiet_step (list_any changes (step_prims flow k.0)) p.1)
@@ -301,7 +302,7 @@ module _ (flow : Flow) (outline : Outline) where
   still_is_kept (Other k p c) fits listed still =
       let less = All-contains (HasClause flow outline) (obligations flow outline) (Other k p c) all_have listed in
       let e = length-map (filter (stands_at flow p.0) outline.items) (λ (i : Item). i.clause) in
-      let f = found_at (clauses_at flow outline p.0) c (omega arith) in
+      let f = there (clauses_at flow outline p.0) c (omega arith) in
       kept_by flow outline (Other k p c) f.0 f.1 (quiet_step (list_any changes (step_prims flow k.0)) still)
       (λ n d less. owner_literal _)
       (λ i h. Contains-append_right (flat_map (instances flow.file.ghosts (setting_of flow outline (Other k p c)) false) (acting_premises flow outline (Other k p c))) _ i

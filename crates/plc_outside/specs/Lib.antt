@@ -1,6 +1,8 @@
 -- what contracts of public calls say
 pub mod Counts
 pub mod Failures
+pub mod FixedBytes
+pub mod HonestFiles
 pub mod Known
 pub mod Outside
 pub mod Reading

@@ -13,6 +13,8 @@
 
 mod failures;
 mod files;
+mod fixed_sink;
+mod honest;
 mod memory;
 mod memory_sinks;
 mod readings;
@@ -21,6 +23,8 @@ mod sinks;
 mod writing;
 
 pub use files::{FileFault, Files};
+pub use fixed_sink::FixedSink;
+pub use honest::HonestFiles;
 pub use memory::MemFiles;
 pub use memory_sinks::{FailSink, VecSink};
 pub use real::{OutSink, RealFiles};

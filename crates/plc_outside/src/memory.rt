@@ -68,8 +68,8 @@ impl MemFiles {
     }
 }
 
-// The bytes of the first entry of the name.
-fn find<'a>(files: &'a [(String, Vec<u8>)], name: &str) -> Option<&'a Vec<u8>>
+/// The bytes of the first entry of the name.
+pub(crate) fn find<'a>(files: &'a [(String, Vec<u8>)], name: &str) -> Option<&'a Vec<u8>>
     ensures { option_map (λ v. v.now.items) result ≡ content_of (entries_of files.now) name.now }
 {
     for entry in files {

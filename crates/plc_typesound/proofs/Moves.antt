@@ -1,5 +1,5 @@
 -- The law over moves.
-use Rattle.std.proofs.Common.{◌≡◌, ℕ, ◌<◌, true, List, [], ◌∷◌, ◌++◌, get_or, replicate, map, Option, Some, None, sym, ap, ◌∙◌, subst, inl, inr}
+use Rattle.std.proofs.Common.{◌≡◌, ℕ, ◌<◌, true, List, [], ◌∷◌, ◌++◌, get_or, replicate, map, Option, Some, None, sym, ap, ◌∙◌, subst, inl, inr, arith}
 use Rattle.std.specs.Prelude.{slice_get, option_map}
 use Rattle.std.proofs.lemmas.Bool.{cases_eq, eqb-true}
 use Rattle.std.proofs.lemmas.Option.{slice_get-map}
@@ -20,10 +20,11 @@ use Rattle.plc_base.specs.Tables.{put_at}
 use Rattle.plc_mem.specs.Outcomes.{address_or_null}
 use Rattle.plc_base.proofs.Tables.{get-put_same, get-put_other, get-replicate}
 use Rattle.plc_flow.specs.declared.points.Point.{Point}
-use Rattle.plc_run.specs.Run.{Configuration, Ending, Fine, Stuck, Raced, Moves, Races, MayTake, point_of, taken, beginning, initialised, first_configuration}
+use Rattle.plc_run.specs.Run.{Configuration, Ending, Fine, Stuck, Raced, Run, Moves, Races, MayTake, point_of, taken, beginning, initialised, first_configuration}
 use Rattle.plc_flow.specs.Points.{leaves}
 use Rattle.plc_run.specs.Observed.{IsObserved}
 use Rattle.plc_run.proofs.Observed.{observed}
+use Rattle.plc_run.proofs.Threads.{busy_at, run_fits}
 use Rattle.plc_flow.proofs.Leaving.{filter_member}
 use Rattle.plc_type.specs.declared.env.Env.{Env}
 use Rattle.plc_xfer.specs.Rules.{env_after_all, FitsObserver}
@@ -32,7 +33,8 @@ use Rattle.plc_lang.specs.Skeleton.{Passage, locals_at}
 use Rattle.plc_xfer.proofs.Facts.{after_all_well_formed, well_formed_fits}
 use Rattle.plc_xfer.proofs.Order.{well_formed, same_shape, entry_is, led_is}
 use Rattle.plc_flow.specs.Skeleton.{skeleton_of, passage_of}
-use Rattle.plc_infer.proofs.Flows.{Ends, ends_of}
+use Rattle.plc_infer.proofs.Flows.{Ends, ends_of, points_length}
+use Rattle.plc_infer.proofs.Points.{locals_there}
 use Rattle.plc_typesound.specs.Meaning.{EnvMet}
 use Rattle.plc_typesound.specs.Claims.{MoveClaims}
 use Rattle.plc_typesound.specs.Laws.{MeetsPoint, AllMeet, entry_of, TypesAreSound}
@@ -85,6 +87,21 @@ module _ (flow : Flow) (o : Observer) (threads : ℕ) (envs : List Env) (fits : 
         facts = facts;
         met = env_weaker o c.history t c.state mine.env (env_at envs step.from.0) (same_shape o (skeleton_of flow).shared (locals_at (skeleton_of flow) step.from.0) mine.env (env_at envs step.from.0) mine.facts facts) mine.below mine.met;
       }
+
+  -- so it meets the environment of its point, which is one of its operation's
+  met_at : (n : ℕ) (c : Configuration) → Run flow o threads n c → AllMeet flow o threads envs c → (t : ℕ) (p : Point)
+      → t < threads → point_of c t ≡ Some p → EnvMet o c.history t c.state (env_at envs p.at)
+  met_at n c run all t p small busy =
+      let b = busy_at flow threads c t p (run_fits flow fits o threads (omega (arith, small)) n c run) busy in
+      let inside = locals_there 0 flow.file.ops flow.gates flow.points p.op p.at b.gate (sym fits.well.gates)
+      fits.well.ranges b.opens b.within in
+      let points = points_length flow fits.well in
+      let facts = typed.pretyping.environments p.at (let h = inside.1 in omega (arith, points)) in
+      let mine = all t p small busy in
+      let n' = (skeleton_of flow).shared in
+      let m = locals_at (skeleton_of flow) p.at in
+      env_weaker o c.history t c.state mine.env (env_at envs p.at)
+      (same_shape o n' m mine.env (env_at envs p.at) mine.facts facts) mine.below mine.met
 
   holds : (c : Configuration) (t : ℕ) (step : Step) → (r : Ready c t step) → (i : ℕ) → fault_at o (env_at envs step.from.0) step.prims i ≡ None
   holds c t step r i = subst (λ (q : Option Passage). fault_in o envs i q ≡ None) (passage_at flow r.number step r.there) (typed.holding r.number i)
@@ -222,5 +239,6 @@ sound flow o threads envs fits w typed = record {
   begun = begun flow o threads envs fits w typed;
   started = λ n c d t op args gate run m opens. started flow o threads envs fits w typed c d t op args gate ((observed o w threads).by_move flow c d (Start t op args) m ((observed o w threads).run flow n c run)) m opens;
   by_move = λ n c d move run all claims m. by_move flow o threads envs fits w typed c d move ((observed o w threads).run flow n c run) all claims m;
+  met = λ n c run all t p small busy. met_at flow o threads envs fits w typed n c run all t p small busy;
   no_race = λ n c move kind k run all claims m. no_race flow o threads envs fits w typed c move kind k ((observed o w threads).run flow n c run) all claims m;
 }

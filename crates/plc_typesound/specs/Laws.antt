@@ -51,3 +51,6 @@ pub record TypesAreSound (flow : Flow) (o : Observer) (threads : ℕ) (envs : Li
   -- and is no race
   pub no_race : (n : ℕ) (c : Configuration) (move : Move) (kind : RaceKind) (k : ℕ) → Run flow o threads n c
       → AllMeet flow o threads envs c → MoveClaims flow threads c move → Races flow threads c move kind k → ⊥
+  -- one that meets an environment below that of its point meets the environment of the point
+  pub met : (n : ℕ) (c : Configuration) → Run flow o threads n c → AllMeet flow o threads envs c → (t : ℕ) (p : Point)
+      → t < threads → point_of c t ≡ Some p → EnvMet o c.history t c.state (env_at envs p.at)

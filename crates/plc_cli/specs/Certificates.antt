@@ -1,0 +1,93 @@
+-- What `certify` and `verify` answer.
+use Rattle.std.specs.Prelude.{◌≡◌, ◌≢◌, ◌⊎◌, ℕ, List, ◌++◌, length, Ok, Err, codes}
+use Rattle.plc_parse.specs.declared.unit.Unit.{Unit as FileUnit}
+use Rattle.plc_oblig.specs.Obligations.{obligations}
+use Rattle.plc_cert.specs.declared.cert.Cert.{Cert}
+use Rattle.plc_cert.specs.declared.cert.CertFault.{CertFault}
+use Rattle.plc_cert.specs.declared.cert.CertFault.TheVariants as faults
+use Rattle.plc_cert.specs.Shape.{reading}
+use Rattle.plc_cert.specs.Written as written
+use Rattle.plc_verify.specs.declared.fault.VerifyFault.{VerifyFault}
+use Rattle.plc_verify.specs.Validity.{IsValid, IsFirstFault}
+use Rattle.plc_check.specs.declared.judged.Judged.{Judged}
+use Rattle.plc_check.specs.declared.certified.Certified.{Certified}
+use Rattle.plc_check.specs.declared.certified.Certified.TheVariants.{Yes, No}
+use Rattle.plc_check.specs.Loading.{IsFileOf, judged_of}
+use Rattle.plc_check.specs.Certified.{IsCertified}
+use Rattle.plc_texts.specs.Certificates.{certificate_text, verified_text, invalid_text}
+use Rattle.plc_cli.specs.Answer.{IsRefusedFile}
+use Rattle.plc_cli.specs.Statuses.{holds, fails, refused}
+use Rattle.plc_cli.specs.Verdicts.{verdict_status, verdict_text}
+
+-- ---- a certificate that is written
+
+abbrev pub certified_status : Certified → ℕ
+certified_status (Yes cert) = holds
+certified_status (No verdict) = verdict_status verdict
+
+-- the certificate with a line feed, or the verdict
+abbrev pub certified_text : Judged → Certified → List ℕ
+certified_text j (Yes cert) = written.text cert ++ codes "\n"
+certified_text j (No verdict) = verdict_text j verdict
+
+-- any certificate that is right, or the verdict on a file that isn't safe
+pub record IsCertifiedAs (j : Judged) (status : ℕ) (text : List ℕ) : Type 0 where
+  pub certified : Certified
+  pub right : IsCertified j certified
+  pub status_is : status ≡ certified_status certified
+  pub text_is : text ≡ certified_text j certified
+
+-- the bytes spell a file, which is certified or isn't safe
+pub record IsCertifiedFile (bytes : List ℕ) (status : ℕ) (text : List ℕ) : Type 0 where
+  pub unit : FileUnit
+  pub spelled : IsFileOf bytes unit
+  pub answer : IsCertifiedAs (judged_of unit) status text
+
+-- what `certify` answers to bytes: refused or certified
+abbrev pub IsCertificateOf : List ℕ → ℕ → List ℕ → Type 0
+IsCertificateOf bytes status text = IsRefusedFile bytes status text ⊎ IsCertifiedFile bytes status text
+
+-- ---- a certificate that is judged
+
+-- the bytes are no certificate, and this is why
+pub record IsRefusedCertificate (bytes : List ℕ) (status : ℕ) (text : List ℕ) : Type 0 where
+  pub fault : CertFault
+  pub is_fault : reading bytes ≡ Err fault
+  pub told : fault ≢ faults.Memory
+  pub status_is : status ≡ refused
+  pub text_is : text ≡ certificate_text fault
+
+-- the certificate is valid
+pub record IsVerified (j : Judged) (cert : Cert) (status : ℕ) (text : List ℕ) : Type 0 where
+  pub valid : IsValid j.flow j.observer j.unit_outline cert
+  pub status_is : status ≡ holds
+  pub text_is : text ≡ verified_text j.flow (length (obligations j.flow j.unit_outline))
+
+-- it isn't, and its first item that fails is told
+pub record IsInvalid (j : Judged) (cert : Cert) (status : ℕ) (text : List ℕ) : Type 0 where
+  pub fault : VerifyFault
+  pub first : IsFirstFault j.flow j.observer j.unit_outline cert fault
+  pub invalid : IsValid j.flow j.observer j.unit_outline cert → ⊥
+  pub status_is : status ≡ fails
+  pub text_is : text ≡ invalid_text j.flow fault
+
+-- the bytes are a certificate, which is judged
+pub record IsJudgedCertificate (j : Judged) (bytes : List ℕ) (status : ℕ) (text : List ℕ) : Type 0 where
+  pub cert : Cert
+  pub read : reading bytes ≡ Ok cert
+  pub answer : IsVerified j cert status text ⊎ IsInvalid j cert status text
+
+-- what is answered to a certificate for a flow that was loaded: refused or judged
+abbrev pub IsCertificateAnswered : Judged → List ℕ → ℕ → List ℕ → Type 0
+IsCertificateAnswered j bytes status text =
+    IsRefusedCertificate bytes status text ⊎ IsJudgedCertificate j bytes status text
+
+-- the file is read, and its certificate is refused or judged
+pub record IsVerifiedFile (bytes second : List ℕ) (status : ℕ) (text : List ℕ) : Type 0 where
+  pub unit : FileUnit
+  pub spelled : IsFileOf bytes unit
+  pub answer : IsCertificateAnswered (judged_of unit) second status text
+
+-- what `verify` answers to the bytes of a file and of a certificate; the file's refusals go first
+abbrev pub IsVerificationOf : List ℕ → List ℕ → ℕ → List ℕ → Type 0
+IsVerificationOf bytes second status text = IsRefusedFile bytes status text ⊎ IsVerifiedFile bytes second status text

@@ -1,0 +1,56 @@
+// The whole text of a sample, and the same without one line.
+ghost use Rattle.std.specs.Prelude.{◌≡◌, ◌≤◌, ◌++◌, ◌+◌, ◌*◌, IfOk, OnOk};
+ghost use Rattle.plc_sample.specs.Sample.{whole_text, line_after, kept_byte, without_from, sample_text};
+
+use crate::numbering::push_copies;
+use crate::parts::{clauses, declarations, ending, invariants, operations};
+use plc_base::NoMemory;
+use std::alloc::{AllocError, Global};
+
+fn whole_text(alloc: Global, copies: u8) -> Result<Vec<u8>, AllocError>
+    ensures { IfOk result (λ text. text.items ≡ whole_text copies) }
+{
+    let mut out = Vec::new(alloc);
+    out.extend_from_slice(declarations().as_bytes())?;
+    push_copies(alloc, &mut out, copies, operations())?;
+    out.extend_from_slice(invariants().as_bytes())?;
+    push_copies(alloc, &mut out, copies, clauses())?;
+    out.extend_from_slice(ending().as_bytes())?;
+    Ok(out)
+}
+
+// A byte of a line, where that isn't the line that is left out.
+fn push_kept(out: &mut Vec<u8>, without: usize, line: usize, byte: u8) -> Result<(), AllocError>
+    ensures { OnOk result (out.new.items ≡ out.old.items ++ kept_byte without line byte) }
+{
+    if line != without {
+        out.push(byte)?;
+    }
+    Ok(())
+}
+
+fn without_line(alloc: Global, text: &[u8], without: usize) -> Result<Vec<u8>, AllocError>
+    ensures { IfOk result (λ kept. kept.items ≡ without_from without 1 text.now) }
+{
+    let mut out = Vec::new(alloc);
+    let mut line = 1;
+    for byte in text {
+        push_kept(&mut out, without, line, *byte)?;
+        if *byte == b'\n' {
+            line += 1;
+        }
+    }
+    Ok(out)
+}
+
+/// The sample with `k` copies of the operations, from 1 to 16, without line `n`, which is one of its 44k + 13
+/// lines counted from 1, or whole where `n` is 0. The one error is that memory runs out.
+pub fn text(alloc: Global, k: u8, n: u16) -> Result<Vec<u8>, NoMemory>
+    requires copies { (1 ≤ k) × (k ≤ 16) }
+    requires line { n ≤ 44 * k + 13 }
+    ensures { IfOk result (λ text. text.items ≡ sample_text k n) }
+{
+    let whole = whole_text(alloc, k)?;
+    let text = without_line(alloc, &whole, n as usize)?;
+    Ok(text)
+}
