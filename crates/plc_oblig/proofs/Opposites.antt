@@ -1,14 +1,13 @@
 -- A still obligation is kept: an instance of what held before is, literal by literal, the opposite of the negated conclusion.
-use Rattle.std.proofs.Common.{◌≡◌, ℕ, zero, suc, ◌+◌, ◌<◌, Bool, true, false, not, ◌&&◌, nat_lt, List, [], ◌∷◌, ◌++◌, map, length, slice_get, Option, Some, None, refl, sym, ap, ◌∙◌, subst, arith}
+use Rattle.std.proofs.Common.{◌≡◌, ℕ, zero, suc, ◌+◌, ◌<◌, Bool, true, false, not, nat_lt, List, [], ◌∷◌, ◌++◌, map, length, slice_get, Some, refl, sym, ap, ◌∙◌, subst, arith}
 use Rattle.std.specs.Prelude.{if◌then◌else◌, All, Any, Contains, MatchBool, flat_map, filter, slice_index, slice_index_or}
 use Rattle.std.specs.List.{list_any}
 use Rattle.std.proofs.lemmas.Bool.{and_parts, ltb-true}
 use Rattle.std.proofs.lemmas.Option.{get_or_from_slice_get}
 use Rattle.std.proofs.lemmas.List.{length-map, map-append}
 use Rattle.std.proofs.lemmas.List.FromFn.{length-range_with_len, length-map-range_with_len, get_or-range_with_len}
-use Rattle.std.proofs.lemmas.List.Elements.{All-nil, All-cons, All-head, All-tail, All-append, All-map, All-contains, All-get_or, Contains-append_left, Contains-append_right}
+use Rattle.std.proofs.lemmas.List.Elements.{All-nil, All-cons, All-head, All-tail, All-append, All-map, All-contains, Contains-append_left, Contains-append_right}
 use Rattle.plc_lang.specs.declared.syntax.Ghost.{Ghost as AuxiliaryField}
-use Rattle.plc_lang.specs.declared.syntax.File.{File}
 use Rattle.plc_lang.specs.declared.syntax.Primitive.{Primitive}
 use Rattle.plc_lang.specs.WellSorted.{is_claim}
 use Rattle.plc_flow.specs.declared.flow.Flow.{Flow}
@@ -25,17 +24,14 @@ use Rattle.plc_logic.specs.declared.clause.Outline.{Outline}
 use Rattle.plc_logic.specs.Fit.{InReach, IsNode, HasSort, LiteralFits, InvariantFits, in_reach_of}
 use Rattle.plc_logic.specs.Negation.{negation}
 use Rattle.plc_ground.specs.declared.terms.Symbol.TheVariants as symbols
-use Rattle.plc_ground.specs.declared.terms.Lit.{Lit}
-use Rattle.plc_ground.specs.declared.terms.GroundSet.{GroundSet}
 use Rattle.plc_ground.specs.Model.{HoldsIn, IsModel, literals}
-use Rattle.plc_ground.specs.Trees.{HasModel}
 use Rattle.plc_setting.specs.declared.obligations.Obligation.{Obligation}
 use Rattle.plc_setting.specs.declared.obligations.Obligation.TheVariants.{Start, Enter, Own, Other, Claim}
 use Rattle.plc_setting.specs.declared.setting.Setting.{Setting}
 use Rattle.plc_setting.specs.Fit.{Fits}
-use Rattle.plc_setting.specs.Parts.{executed, has_owner, conclusion, acting_locals, owner_locals, acting_premises, owner_premises, claim_made, clauses_before, step_prims}
+use Rattle.plc_setting.specs.Parts.{executed, has_owner, conclusion, acting_locals, acting_premises, claim_made, step_prims}
 use Rattle.plc_setting.specs.Points.{clauses_at, count_at, stands_at}
-use Rattle.plc_setting.specs.Setting.{below, setting_of, bound_of, if_deep, fields_behind, pointer_loads_from, pointer_variables, pointer_fields_from}
+use Rattle.plc_setting.specs.Setting.{below, setting_of, bound_of, pointer_loads_from}
 use Rattle.plc_items.specs.declared.execution.Execution.{Execution}
 use Rattle.plc_items.specs.Execution.{start, after_all, executed_clauses}
 use Rattle.plc_items.specs.Items.{values_from, beginning, freshness, premises, denied, denied_clause, denied_claim, clauses_of, escapes, instance_at, tuples, instances, bound_nodes, read_literal}
@@ -44,8 +40,8 @@ use Rattle.plc_symbolic.specs.declared.symbolic.NodeTerm.TheVariants.{At}
 use Rattle.plc_symbolic.specs.declared.symbolic.SymbolicTerm.{SymbolicTerm}
 use Rattle.plc_symbolic.specs.declared.symbolic.SymbolicTerm.TheVariants.{Constant}
 use Rattle.plc_symbolic.specs.declared.symbolic.SymbolicLit.{SymbolicLit}
-use Rattle.plc_symbolic.specs.Terms.{Clauses, is_not, null}
-use Rattle.plc_symbolic.specs.Numbering.{Drafted, blank, listed_all, written_all, number_lit, numbered}
+use Rattle.plc_symbolic.specs.Terms.{is_not, null}
+use Rattle.plc_symbolic.specs.Numbering.{Drafted, blank, listed_all, number_lit, numbered}
 use Rattle.plc_symbolic.proofs.Drafts.{written_all-clauses, listed_all-clauses}
 use Rattle.plc_oblig.specs.GroundSets.{listed_first, drafted, ground_set}
 use Rattle.plc_oblig.specs.Obligations.{parts_from, starts, enters_of, owns_of, others_at, others_of, claims_in, claims_of, enters, owns, others, claims, obligations, step_id, point_id}
@@ -53,7 +49,7 @@ use Rattle.plc_oblig.specs.Outlines.{IsKept}
 use Rattle.plc_oblig.specs.Still.{changes, is_quiet, is_still}
 use Rattle.plc_oblig.proofs.Walking.{found_left}
 use Rattle.plc_oblig.proofs.Places.{there}
-use Rattle.plc_oblig.proofs.Members.{at_head, in_tail, at_place, none_contained, contains_map, contains_flat_map, Within, within_left, within_right, within_itself, within_map, map_read, map_from}
+use Rattle.plc_oblig.proofs.Members.{at_head, in_tail, at_place, contains_map, contains_flat_map, Within, within_left, within_right, within_itself, within_map, map_read, map_from}
 use Rattle.plc_oblig.proofs.Staying.{Stays, start_stays, stays_after_all, none_new, BaseStays, TermStays, LiteralStays, literal_stays}
 
 -- ---- a clause with the opposites of all its literals has no model

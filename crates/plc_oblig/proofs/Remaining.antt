@@ -1,6 +1,6 @@
 -- What is left of the obligations from a place on: the first of it, and where it goes on when a part is at its end.
-use Rattle.std.proofs.Common.{◌≡◌, ℕ, zero, suc, ◌+◌, ◌<◌, ◌≤◌, Bool, true, false, List, [], ◌∷◌, ◌++◌, map, length, drop, refl, sym, ap, ◌∙◌, subst, arith, slice_get, Option, Some, None}
-use Rattle.std.specs.Prelude.{filter, slice_index_or}
+use Rattle.std.proofs.Common.{◌≡◌, ℕ, zero, suc, ◌+◌, ◌<◌, ◌≤◌, true, false, List, [], ◌∷◌, ◌++◌, map, length, drop, refl, sym, ap, ◌∙◌, subst, arith, slice_get, Option, Some, None}
+use Rattle.std.specs.Prelude.{slice_index_or}
 use Rattle.std.proofs.lemmas.List.FromFn.{length-range_with_len, length-map-range_with_len, get_or-map-range_with_len}
 use Rattle.std.proofs.lemmas.List.Sums.{length-filter, count_by-le-length}
 use Rattle.std.proofs.lemmas.Option.{slice_get-get_or}
@@ -16,8 +16,8 @@ use Rattle.plc_setting.specs.declared.obligations.Obligation.TheVariants.{Start,
 use Rattle.plc_setting.specs.Fit.{Fits}
 use Rattle.plc_setting.specs.Points.{count_at, stands_at}
 use Rattle.plc_setting.specs.Setting.{below}
-use Rattle.plc_oblig.specs.Obligations.{op_id, step_id, point_id, parts_from, starts, enters_of, own_count, owns_of, others_at, others_of, claims_in, claims_of, enters, owns, others, claims, obligations}
-use Rattle.plc_oblig.specs.Left.{rest_at, parts_left, enter_rest, own_rest, point_rest, other_rest, claim_rest, counts_of, left_from, IsFirst, IsFirstOr}
+use Rattle.plc_oblig.specs.Obligations.{op_id, step_id, point_id, parts_from, enters_of, own_count, owns_of, others_at, others_of, claims_in, claims_of, enters, owns, others, claims, obligations}
+use Rattle.plc_oblig.specs.Left.{rest_at, parts_left, enter_rest, own_rest, point_rest, other_rest, claim_rest, counts_of, left_from, IsFirstOr}
 use Rattle.plc_oblig.proofs.Walking.{slice_below}
 
 -- ---- lists

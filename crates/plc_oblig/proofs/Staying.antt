@@ -1,6 +1,6 @@
 -- What a step without changes leaves as it was: shared pointers, the locals of another thread, and every map. So clauses that speak of these alone are read after it as before.
-use Rattle.std.proofs.Common.{◌≡◌, ℕ, zero, suc, ◌+◌, Bool, true, false, List, [], ◌∷◌, ◌++◌, map, slice_get, Option, Some, None, refl, sym, ap, ◌∙◌, subst}
-use Rattle.std.specs.Prelude.{if◌then◌else◌, ◌||◌, ⊤}
+use Rattle.std.proofs.Common.{◌≡◌, ℕ, zero, suc, ◌+◌, Bool, true, false, List, [], ◌∷◌, ◌++◌, map, None, refl, ap, ◌∙◌}
+use Rattle.std.specs.Prelude.{if◌then◌else◌, ◌||◌}
 use Rattle.std.specs.List.{list_any}
 use Rattle.std.proofs.lemmas.List.Sums.{fold_push}
 use Rattle.plc_base.specs.Functions.{is_retire}
@@ -26,17 +26,14 @@ use Rattle.plc_logic.specs.declared.clause.Literal.TheVariants as literals
 use Rattle.plc_ground.specs.declared.terms.Symbol.{Symbol}
 use Rattle.plc_ground.specs.declared.terms.Symbol.TheVariants as symbols
 use Rattle.plc_ground.specs.declared.terms.Map.{Map}
-use Rattle.plc_setting.specs.declared.acts.Act.{Act}
-use Rattle.plc_setting.specs.Acts.{symbol_at, pointer_symbol, number_symbol, data_test, call_act, act_of, acts_of}
+use Rattle.plc_setting.specs.Acts.{symbol_at, pointer_symbol, data_test, call_act, act_of, acts_of}
 use Rattle.plc_setting.specs.Setting.{local_symbol, variables_of}
 use Rattle.plc_items.specs.declared.execution.Execution.{Execution}
 use Rattle.plc_items.specs.Execution.{start, current, version, map_now, after, after_all}
 use Rattle.plc_items.specs.Items.{base_node, read_term, read_literal}
 use Rattle.plc_symbolic.specs.declared.symbolic.NodeTerm.{NodeTerm}
 use Rattle.plc_symbolic.specs.declared.symbolic.NodeTerm.TheVariants.{At}
-use Rattle.plc_symbolic.specs.declared.symbolic.SymbolicTerm.{SymbolicTerm}
 use Rattle.plc_symbolic.specs.declared.symbolic.SymbolicTerm.TheVariants.{Application, Constant}
-use Rattle.plc_symbolic.specs.declared.symbolic.SymbolicLit.{SymbolicLit}
 use Rattle.plc_symbolic.specs.Same.{same_symbol}
 use Rattle.plc_symbolic.specs.Terms.{term_of}
 use Rattle.plc_oblig.specs.Still.{is_shared, changes}

@@ -1,5 +1,5 @@
 -- Still obligations: what they say of another thread, or of all, holds before, and their step changes nothing of it.
-use Rattle.std.specs.Prelude.{◌≡◌, ℕ, Bool, true, false, not, ◌&&◌, nat_lt, List, length, Contains}
+use Rattle.std.specs.Prelude.{◌≡◌, ℕ, Bool, true, false, not, ◌&&◌, nat_lt, length, Contains}
 use Rattle.std.specs.List.{list_any}
 use Rattle.plc_base.specs.Functions.{is_retire}
 use Rattle.plc_lang.specs.declared.syntax.Var.{Var}

@@ -65,7 +65,8 @@ fn first_start(o: Counted<'_>, inv: u16) -> Option<Obligation>
 
 fn first_enter(o: Counted<'_>, op: OpId, clause: u16) -> Option<Obligation>
     requires { Fits o.flow.now o.outline.now }
-    ensures { IsFirstOrOn o.entry.flow.now o.entry.outline.now (places.Enter op clause) (places.Own (step_id 0) 0) result }
+    ensures { IsFirstOrOn o.entry.flow.now o.entry.outline.now (places.Enter op clause)
+        (places.Own (step_id 0) 0) result }
 {
     let gates = o.flow.gates.as_slice();
     let mut passed = clause;
@@ -83,7 +84,8 @@ fn first_enter(o: Counted<'_>, op: OpId, clause: u16) -> Option<Obligation>
 
 fn first_own(o: Counted<'_>, step: StepId, clause: u16) -> Option<Obligation>
     requires { Fits o.flow.now o.outline.now }
-    ensures { IsFirstOrOn o.entry.flow.now o.entry.outline.now (places.Own step clause) (places.Other (step_id 0) (point_id 0) 0) result }
+    ensures { IsFirstOrOn o.entry.flow.now o.entry.outline.now (places.Own step clause)
+        (places.Other (step_id 0) (point_id 0) 0) result }
 {
     let steps = o.flow.steps.as_slice();
     let invariants = o.outline.invariants.len() as u16;
@@ -104,7 +106,8 @@ fn first_own(o: Counted<'_>, step: StepId, clause: u16) -> Option<Obligation>
 fn first_at_points(o: Counted<'_>, step: StepId, point: PointId, clause: u16) -> Option<Obligation>
     requires fits { Fits o.flow.now o.outline.now }
     requires step { step.0 < length o.flow.now.steps }
-    ensures { IsFirstOrOn o.entry.flow.now o.entry.outline.now (places.Other step point clause) (places.Other (step_id (step.0 + 1)) (point_id 0) 0) result }
+    ensures { IsFirstOrOn o.entry.flow.now o.entry.outline.now (places.Other step point clause)
+        (places.Other (step_id (step.0 + 1)) (point_id 0) 0) result }
 {
     let mut passed = clause;
     for p in point.0..o.flow.points {
@@ -122,7 +125,8 @@ fn first_at_points(o: Counted<'_>, step: StepId, point: PointId, clause: u16) ->
 
 fn first_other(o: Counted<'_>, step: StepId, point: PointId, clause: u16) -> Option<Obligation>
     requires { Fits o.flow.now o.outline.now }
-    ensures { IsFirstOrOn o.entry.flow.now o.entry.outline.now (places.Other step point clause) (places.Claim (step_id 0) 0) result }
+    ensures { IsFirstOrOn o.entry.flow.now o.entry.outline.now (places.Other step point clause)
+        (places.Claim (step_id 0) 0) result }
 {
     let mut reached = point;
     let mut passed = clause;
@@ -141,7 +145,8 @@ fn first_other(o: Counted<'_>, step: StepId, point: PointId, clause: u16) -> Opt
 fn first_claim_of(o: Counted<'_>, step: StepId, prim: u16) -> Option<Obligation>
     requires fits { Fits o.flow.now o.outline.now }
     requires step { step.0 < length o.flow.now.steps }
-    ensures { IsFirstOrOn o.entry.flow.now o.entry.outline.now (places.Claim step prim) (places.Claim (step_id (step.0 + 1)) 0) result }
+    ensures { IsFirstOrOn o.entry.flow.now o.entry.outline.now (places.Claim step prim)
+        (places.Claim (step_id (step.0 + 1)) 0) result }
 {
     let prims = o.flow.steps.as_slice()[step.0 as usize].prims.as_slice();
     for j in prim as usize..prims.len() {

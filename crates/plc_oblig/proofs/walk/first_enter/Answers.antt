@@ -1,4 +1,4 @@
-use Rattle.std.proofs.Common.{◌∙◌, arith, ap, length, subst, ◌≤◌}
+use Rattle.std.proofs.Common.{◌∙◌, arith, ap, length}
 use Rattle.plc_oblig.proofs.Walking.{no_gate}
 use Rattle.plc_oblig.proofs.Remaining.{at_index, entry_within, enter_takes, enter_skips, enter_ends}
 use Rattle.plc_oblig.proofs.walk.first_enter.Goals as goal

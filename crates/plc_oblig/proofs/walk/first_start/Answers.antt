@@ -1,4 +1,4 @@
-use Rattle.std.proofs.Common.{◌∙◌, arith}
+use Rattle.std.proofs.Common.{arith}
 use Rattle.plc_oblig.proofs.Remaining.{start_takes, start_ends}
 use Rattle.plc_oblig.proofs.walk.first_start.Goals as goal
 
