@@ -17,7 +17,7 @@ use Rattle.plc_ground.specs.Fit.{ArgumentsInRange}
 use Rattle.plc_ground.specs.Classes.{Joins, IsMerged, IsClosure, IsClash, IsCoarser, IsTable, IsOfOneMap, AreApplications, IsApplication}
 use Rattle.plc_ground.specs.Changes.{undone, Extends, HasArgumentIn, AgreeAt, ClashOnlyIn, IsJoined, Settles, to_settle}
 use Rattle.plc_ground.proofs.Joining.{sum-set_less, new_class, merged_joined, clash_same, closure_extended, IsMerged-longer, Same-newest}
-use Rattle.plc_ground.proofs.Noting.{one_application}
+use Rattle.plc_ground.proofs.Listing.{one_application}
 
 undone-append : (xs ys : List Change) (class : List ℕ) → undone (xs ++ ys) class ≡ undone xs (undone ys class)
 undone-append [] ys class = refl
@@ -126,20 +126,20 @@ module _ (old new : List ℕ) (low high : ℕ) (joins : Joins old new low high) 
       elim (new_class old new low high joins k.first al) [
         | inl p ↦ subst (Contains (joined ++ low ∷ [])) (sym p.1) (Contains-push joined low)
         | inr p ↦ elim (new_class old new low high joins k.second bl) [
-            | inl q ↦ subst (Contains (joined ++ low ∷ [])) (sym (k.arguments ∙ q.1)) (Contains-push joined low)
-            | inr q ↦
-                let was : IsClash terms old i j = record {
-                  map = k.map;
-                  version = k.version;
-                  first = k.first;
-                  second = k.second;
-                  first_is = k.first_is;
-                  second_is = k.second_is;
-                  arguments = sym p.1 ∙ k.arguments ∙ q.1;
-                  differ = λ e. k.differ (coarser_joined i j il jl e);
-                } in
-                subst (Contains (joined ++ low ∷ [])) (sym p.1) (Contains-append_left joined (low ∷ []) _ (before i j was))
-          ]
+          | inl q ↦ subst (Contains (joined ++ low ∷ [])) (sym (k.arguments ∙ q.1)) (Contains-push joined low)
+          | inr q ↦
+              let was : IsClash terms old i j = record {
+                map = k.map;
+                version = k.version;
+                first = k.first;
+                second = k.second;
+                first_is = k.first_is;
+                second_is = k.second_is;
+                arguments = sym p.1 ∙ k.arguments ∙ q.1;
+                differ = λ e. k.differ (coarser_joined i j il jl e);
+              } in
+              subst (Contains (joined ++ low ∷ [])) (sym p.1) (Contains-append_left joined (low ∷ []) _ (before i j was))
+        ]
       ]
 
 -- the class of x takes the terms of the class of y

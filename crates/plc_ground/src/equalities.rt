@@ -160,13 +160,7 @@ fn is_other_in(set: &GroundSet, class: &[u32], i: usize, x: u32, own: u32) -> bo
 }
 
 /// The first place of an application whose argument has class `x`, and which has another than `own`.
-fn other_place_in(
-    set: &GroundSet,
-    class: &[u32],
-    list: &[u32],
-    x: u32,
-    own: u32,
-) -> Option<usize>
+fn other_place_in(set: &GroundSet, class: &[u32], list: &[u32], x: u32, own: u32) -> Option<usize>
     requires well { IsWellFormed set.now }
     requires one_each { length class.now ≡ length set.now.terms }
     requires list { IsOfOneMap set.now.terms list.now }
@@ -376,4 +370,22 @@ pub fn all_apart(alloc: Global, set: &GroundSet) -> Result<Equalities, AllocErro
         trail: Items::new(alloc),
         joined: Items::new(alloc),
     })
+}
+
+/// The table with these classes, and without a trail.
+pub fn of_classes(alloc: Global, class: &[u32]) -> Result<Equalities, AllocError>
+    ensures { IfOk result (λ equal. equal.class ≡ class.now) }
+{
+    Ok(Equalities {
+        class: Items::from_vec(Vec::from_slice(alloc, class)?),
+        trail: Items::new(alloc),
+        joined: Items::new(alloc),
+    })
+}
+
+/// The classes alone.
+pub fn into_classes(equal: Equalities) -> Vec<u32>
+    ensures { result.items ≡ equal.class }
+{
+    equal.class.into_vec()
 }
