@@ -1,9 +1,9 @@
 -- A table of equalities that is extended and taken back.
-use Rattle.std.proofs.Common.{◌≡◌, ◌≢◌, ◌<◌, ◌≤◌, ◌+◌, ◌-◌, ◌==◌, ℕ, zero, suc, Bool, true, false, List, [], ◌∷◌, ◌++◌, length, take, drop, set, get_or, sum, Some, ◌⊎◌, inl, inr, refl, sym, ◌∙◌, ap, subst, arith, append_assoc, below_more, drop-cons, Result, Ok, Err, if◌then◌else◌}
+use Rattle.std.proofs.Common.{◌≡◌, ◌≢◌, ◌<◌, ◌≤◌, ◌+◌, ◌-◌, ◌==◌, ℕ, suc, Bool, true, false, List, [], ◌∷◌, ◌++◌, length, take, drop, set, get_or, sum, Some, ◌⊎◌, inl, inr, refl, sym, ◌∙◌, ap, subst, arith, append_assoc, below_more, drop-cons, Result, Ok, Err, if◌then◌else◌}
 use Rattle.std.specs.Prelude.{OnOk, Contains, slice_get, slice_index, slice_index_or}
 use Rattle.std.proofs.lemmas.Grind.{common_steps}
 use Rattle.std.proofs.lemmas.Option.{slice_get_within}
-use Rattle.std.proofs.lemmas.List.{length-set, length-append, length-take-le, take-take, get_or-set_same, get_or-set_other, get_or-take, get_or_default, take_all, take-append-le, take-append-drop, drop_all, drop-append-le, append-nil, drop_at, set_past}
+use Rattle.std.proofs.lemmas.List.{length-set, length-append, length-take-le, take-take, get_or-set_same, get_or-set_other, get_or-take, get_or_default, take_all, take-append-le, take-append-drop, drop_all, drop-append-le, append-nil, set_past}
 use Rattle.std.proofs.lemmas.List.Elements.{Contains-push, Contains-append_left}
 use Rattle.plc_ground.specs.declared.terms.Map.{Map}
 use Rattle.plc_ground.specs.declared.terms.Lit.{Lit}
@@ -12,11 +12,11 @@ use Rattle.plc_ground.specs.declared.terms.GroundTerm.TheVariants.{App}
 use Rattle.plc_ground.specs.declared.equalities.Change.{Change}
 use Rattle.plc_ground.specs.declared.equalities.Equalities.{Equalities}
 use Rattle.plc_ground.specs.Model.{equation, IsCongruent}
-use Rattle.plc_ground.specs.Equality.{Same, back}
+use Rattle.plc_ground.specs.Equality.{back}
 use Rattle.plc_ground.specs.Fit.{ArgumentsInRange}
 use Rattle.plc_ground.specs.Classes.{Joins, IsMerged, IsClosure, IsClash, IsCoarser, IsTable, IsOfOneMap, AreApplications, IsApplication}
 use Rattle.plc_ground.specs.Changes.{undone, Extends, HasArgumentIn, AgreeAt, ClashOnlyIn, IsJoined, Settles, to_settle}
-use Rattle.plc_ground.proofs.Joining.{sum-set_less, new_class, merged_joined, clash_same, closure_extended, IsMerged-longer, Same-newest}
+use Rattle.plc_ground.proofs.Joining.{sum-set_less, new_class, merged_joined, clash_same, closure_extended}
 use Rattle.plc_ground.proofs.Listing.{one_application}
 
 undone-append : (xs ys : List Change) (class : List ℕ) → undone (xs ++ ys) class ≡ undone xs (undone ys class)

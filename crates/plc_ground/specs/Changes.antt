@@ -1,5 +1,5 @@
 -- One table of equalities that is extended and taken back: what its trail says, and where clashes are left.
-use Rattle.std.specs.Prelude.{◌≡◌, ◌<◌, ◌≤◌, ◌+◌, ℕ, length, sum, List, [], ◌∷◌, ◌++◌, slice_set, slice_get, slice_index, take, drop, Some, Contains}
+use Rattle.std.specs.Prelude.{◌≡◌, ◌<◌, ◌≤◌, ◌+◌, ℕ, length, sum, List, [], ◌∷◌, ◌++◌, slice_set, slice_get, slice_index, Some, Contains}
 use Rattle.plc_ground.specs.declared.terms.Map.{Map}
 use Rattle.plc_ground.specs.declared.terms.GroundTerm.{GroundTerm}
 use Rattle.plc_ground.specs.declared.terms.GroundTerm.TheVariants.{App}

@@ -1,4 +1,4 @@
-use Rattle.std.proofs.Common.{arith, ◌≡◌, ◌≢◌, ◌∙◌, ap, sym, subst, slice_index, ℕ}
+use Rattle.std.proofs.Common.{◌≢◌, ◌∙◌, ap, sym, subst, slice_index}
 use Rattle.plc_ground.specs.Classes.{IsClash}
 use Rattle.plc_ground.proofs.Changing.{clash_at}
 use Rattle.plc_ground.proofs.equalities.clash_in.Goals as goal

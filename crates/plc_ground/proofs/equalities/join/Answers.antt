@@ -1,4 +1,4 @@
-use Rattle.std.proofs.Common.{arith, ◌≡◌, ap, sym, List, ℕ, slice_index}
+use Rattle.std.proofs.Common.{arith, ap, sym, List, ℕ, slice_index}
 use Rattle.std.proofs.lemmas.Grind.{common_steps}
 use Rattle.std.proofs.lemmas.Result.{on_ok_weaker}
 use Rattle.plc_ground.proofs.Changing.{joined_answer, joined_other_way}

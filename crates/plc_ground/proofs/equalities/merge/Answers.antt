@@ -1,4 +1,4 @@
-use Rattle.std.proofs.Common.{arith, ◌≡◌, ◌≢◌, ◌∙◌, ap, refl, slice_index}
+use Rattle.std.proofs.Common.{arith, ◌≡◌, ◌≢◌, ◌∙◌, refl, slice_index}
 use Rattle.std.proofs.lemmas.Grind.{common_steps}
 use Rattle.plc_ground.proofs.Changing.{extends_same, extends_more, merged_first, merged_shifted, merged_other, merged_all}
 use Rattle.plc_ground.proofs.equalities.merge.Goals as goal

@@ -1,4 +1,4 @@
-use Rattle.std.proofs.Common.{arith, ◌≡◌, ◌∷◌, [], ◌∙◌, List, false, ap, sym, subst}
+use Rattle.std.proofs.Common.{arith, ◌≡◌, List, false, subst}
 use Rattle.std.specs.Prelude.{is_some}
 use Rattle.plc_ground.specs.declared.terms.Lit.{Lit}
 use Rattle.plc_ground.specs.Trees.{IsVerdict}

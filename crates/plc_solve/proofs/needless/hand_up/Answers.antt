@@ -1,6 +1,5 @@
-use Rattle.std.proofs.Common.{arith, ◌≡◌, ◌∙◌, ◌∷◌, [], ◌≤◌, List, ap, subst, sym, reverse}
+use Rattle.std.proofs.Common.{arith, ◌≡◌, ◌∷◌, [], ◌≤◌, List, ap, subst, sym, reverse}
 use Rattle.std.proofs.lemmas.Option.{slice_get_within}
-use Rattle.plc_ground.specs.declared.terms.Lit.{Lit}
 use Rattle.plc_ground.specs.declared.terms.Node.{Node}
 use Rattle.plc_solve.specs.declared.frame.Frame.{Frame}
 use Rattle.plc_ground.specs.Trees.{Close}
