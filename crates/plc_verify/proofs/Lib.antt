@@ -1,0 +1,4 @@
+pub mod Points
+pub mod Runs
+pub mod Fitting
+pub mod Passages

@@ -1,0 +1,6 @@
+-- what contracts of public calls say
+pub mod Environments
+pub mod Trees
+pub mod Validity
+-- words of private functions alone
+pub mod Tests

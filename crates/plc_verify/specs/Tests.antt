@@ -1,0 +1,49 @@
+-- What private functions test and hand on.
+use Rattle.std.specs.Prelude.{◌≡◌, ◌&&◌, ◌==◌, ◌<◌, ◌≤◌, ℕ, Bool, true, false, List, length, Option, Some, None, Result, Ok, Err}
+use Rattle.plc_base.specs.Mask.{within}
+use Rattle.plc_lang.specs.declared.syntax.Primitive.{Primitive}
+use Rattle.plc_lang.specs.Skeleton.{Skeleton}
+use Rattle.plc_auto.specs.declared.observer.Observer.{Observer}
+use Rattle.plc_auto.specs.Sets.{all_locations}
+use Rattle.plc_type.specs.declared.env.Env.{Env}
+use Rattle.plc_xfer.specs.Typings.{all_types, env_at, led, fault_at}
+use Rattle.plc_verify.specs.declared.fault.VerifyFault.{VerifyFault}
+use Rattle.plc_verify.specs.declared.fault.VerifyFault.TheVariants.{EnvCount, EnvAt, EntryAt, TypeAt, FlowAt, TreeCount, TreeAt, Memory}
+use Rattle.plc_verify.specs.Environments.{IsTypingFault, LocalBelow}
+
+-- so many locals, and sets that are as they have to be
+abbrev pub env_fits : Observer → ℕ → Env → Bool
+env_fits o locals e =
+    within e.w (all_locations o) && ((length e.locals == locals) && all_types o e.w e.locals)
+
+-- the first of these points whose environment doesn't fit
+pub record IsFirstUnfit (o : Observer) (locals : ℕ) (envs : List Env) (first after p : ℕ) : Type 0 where
+  pub from : first ≤ p
+  pub below : p < after
+  pub before : (q : ℕ) → first ≤ q → q < p → env_fits o locals (env_at envs q) ≡ true
+  pub fails : env_fits o locals (env_at envs p) ≡ false
+
+-- all of them fit
+abbrev pub AllFit : Observer → ℕ → List Env → ℕ → ℕ → Type 0
+AllFit o locals envs first after = (p : ℕ) → first ≤ p → p < after → env_fits o locals (env_at envs p) ≡ true
+
+-- where a step leads whose conditions hold; else the first primitive whose condition fails
+abbrev pub IsRun : Observer → Env → List Primitive → Result Env ℕ → Type 0
+IsRun o e prims (Ok reached) = (reached ≡ led o e prims) × ((i : ℕ) → fault_at o e prims i ≡ None)
+IsRun o e prims (Err i) =
+    ((j : ℕ) → j < i → fault_at o e prims j ≡ None) × (fault_at o e prims i ≡ None → ⊥)
+
+-- no part of an environment is above that of another
+abbrev pub NoneAbove : Env → Env → Type 0
+NoneAbove a b = (within a.w b.w ≡ true) × ((v : ℕ) → LocalBelow a b v)
+
+-- an item of the environments that fails, or memory that runs out
+abbrev pub MayFail : Observer → Skeleton → List Env → VerifyFault → Type 0
+MayFail o s envs (EnvCount have want) = IsTypingFault o s envs (EnvCount have want)
+MayFail o s envs (EnvAt point) = IsTypingFault o s envs (EnvAt point)
+MayFail o s envs (EntryAt op var) = IsTypingFault o s envs (EntryAt op var)
+MayFail o s envs (TypeAt step prim) = IsTypingFault o s envs (TypeAt step prim)
+MayFail o s envs (FlowAt step var) = IsTypingFault o s envs (FlowAt step var)
+MayFail o s envs (TreeCount have want) = ⊥
+MayFail o s envs (TreeAt obligation node) = ⊥
+MayFail o s envs Memory = Unit {0}

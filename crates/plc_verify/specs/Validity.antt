@@ -1,0 +1,33 @@
+-- When a certificate is valid for a flow and an outline, and why it isn't: the first item that fails.
+use Rattle.std.specs.Prelude.{◌⊎◌}
+use Rattle.plc_auto.specs.declared.observer.Observer.{Observer}
+use Rattle.plc_xfer.specs.Typings.{IsTyping}
+use Rattle.plc_flow.specs.declared.flow.Flow.{Flow}
+use Rattle.plc_flow.specs.Skeleton.{skeleton_of}
+use Rattle.plc_logic.specs.declared.clause.Outline.{Outline}
+use Rattle.plc_cert.specs.declared.cert.Cert.{Cert}
+use Rattle.plc_verify.specs.declared.fault.VerifyFault.{VerifyFault}
+use Rattle.plc_verify.specs.declared.fault.VerifyFault.TheVariants.{EnvCount, EnvAt, EntryAt, TypeAt, FlowAt, TreeCount, TreeAt, Memory}
+use Rattle.plc_verify.specs.Environments.{completed, IsTypingFault}
+use Rattle.plc_verify.specs.Trees.{TreesClose, IsTreeFault}
+
+-- the environments are a typing, and there is one tree for each obligation, in order, which closes its ground set
+pub record IsValid (flow : Flow) (o : Observer) (outline : Outline) (cert : Cert) : Type 0 where
+  pub typing : IsTyping o (skeleton_of flow) (completed flow cert.env)
+  pub trees : TreesClose flow outline cert.trees
+
+-- the trees are judged after the environments, where these are a typing
+pub record HasTreeFault (flow : Flow) (o : Observer) (outline : Outline) (cert : Cert) (fault : VerifyFault) : Type 0 where
+  pub typing : IsTyping o (skeleton_of flow) (completed flow cert.env)
+  pub is_fault : IsTreeFault flow outline cert.trees fault
+
+-- the first item that fails
+abbrev pub IsFirstFault : Flow → Observer → Outline → Cert → VerifyFault → Type 0
+IsFirstFault flow o outline cert fault =
+    IsTypingFault o (skeleton_of flow) (completed flow cert.env) fault ⊎ HasTreeFault flow o outline cert fault
+
+-- why a certificate is refused: the first item that fails, so that it isn't valid; memory may run out
+abbrev pub IsRefused : Flow → Observer → Outline → Cert → VerifyFault → Type 0
+IsRefused flow o outline cert Memory = Unit {0}
+IsRefused flow o outline cert fault =
+    IsFirstFault flow o outline cert fault × (IsValid flow o outline cert → ⊥)

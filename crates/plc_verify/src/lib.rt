@@ -1,0 +1,14 @@
+//! Certificates judged: `verify` answers Ok exactly where a certificate's environments are a typing and its trees
+//! close the ground sets of the obligations, and else the first item that fails, in a fixed order.
+//!
+//! It doesn't know who wrote the certificate or how: it stands on the typing rules, the obligations and the judge of
+//! trees, and on neither the inference nor the solver. So whoever trusts the answer needn't trust these two, and a
+//! certificate from elsewhere is as good as one from `certify`.
+#![tactic(auto)]
+
+mod environments;
+mod fault;
+mod steps;
+mod typing;
+
+pub use fault::{Slot, VerifyFault};
