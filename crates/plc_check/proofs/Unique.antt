@@ -1,5 +1,5 @@
 -- Bytes spell at most one file, since they spell at most one list of tokens, and tokens mean one thing.
-use Rattle.std.proofs.Common.{◌≡◌, ◌<◌, ◌≤◌, ◌+◌, ℕ, List, length, Result, Ok, Err, ap, sym, subst, inl, inr, arith}
+use Rattle.std.proofs.Common.{◌≡◌, ◌<◌, ◌≤◌, ◌+◌, ℕ, List, length, Some, Result, Ok, Err, ap, sym, subst, inl, inr, arith}
 use Rattle.std.specs.Prelude.{All, Any}
 use Rattle.plc_base.specs.Limits.{most}
 use Rattle.plc_base.specs.declared.limits.What1.{What1}
@@ -49,7 +49,7 @@ module _ (bytes : List ℕ) (ts : List Token) (spelled : AreTokensOf bytes ts) (
   passes : (what : What1) → IsPassedLimit (flow_of u.file) u.outline (Some what) → IsFileOf bytes u → ⊥
   passes limits.Obligations many f = omega (arith, many, f.few)
   passes limits.Clauses large f = not_all _ _ _ large.1 f.small
-  passes other h f = absurd (cc)
+  passes other h f = absurd h
 
   too_many : (what : What1) (count : ℕ) → (made_of u.file).points ≤ most_points
       → IsPassedLimit (flow_of u.file) u.outline (Some what) → count ≡ most what + 1 → HasLimitFault bytes what count
@@ -57,7 +57,7 @@ module _ (bytes : List ℕ) (ts : List Token) (spelled : AreTokensOf bytes ts) (
       inr (inr (inl (record { tokens = ts; unit = u; spells = spells few; many = h; what_is = cc; count_is = e })))
   too_many limits.Clauses count few h e =
       inr (inr (inr (record { tokens = ts; unit = u; spells = spells few; few = h.0; many = h.1; what_is = cc; count_is = e })))
-  too_many other count few h e = absurd (cc)
+  too_many other count few h e = absurd h
 
   pub judged_loaded : (r : Result Judged LoadFault) → IsJudgedOf u r → IsLoaded bytes r
   judged_loaded (Ok j) h = (u, record { tokens = ts; spells = spells h.1; few = h.2.0; small = h.2.1 }, h.0)
@@ -67,8 +67,8 @@ module _ (bytes : List ℕ) (ts : List Token) (spelled : AreTokensOf bytes ts) (
     many_points h.many,
   )
   judged_loaded (Err (faults.Limit what count)) (inr h) = (
-    too_many what count h.0 h.1 h.2,
-    λ v f. passes what h.1 (subst (IsFileOf bytes) (sym (its_unit v f)) f),
+    too_many what count h.few h.passed h.count_is,
+    λ v f. passes what h.passed (subst (IsFileOf bytes) (sym (its_unit v f)) f),
   )
   judged_loaded (Err (faults.Lex f)) h = absurd h
   judged_loaded (Err (faults.Parse f l)) h = absurd h

@@ -1,5 +1,5 @@
 -- What a lower call's answer is here.
-use Rattle.std.specs.Prelude.{◌≡◌, ◌⊎◌, ◌<◌, ◌≤◌, ◌+◌, ℕ, List, length, Result, Ok, Err}
+use Rattle.std.specs.Prelude.{◌≡◌, ◌⊎◌, ◌<◌, ◌≤◌, ◌+◌, ℕ, List, length, Option, Some, None, Result, Ok, Err}
 use Rattle.plc_base.specs.Limits.{most}
 use Rattle.plc_base.specs.declared.limits.What1.{What1}
 use Rattle.plc_base.specs.declared.limits.What1.TheVariants as limits
@@ -9,9 +9,11 @@ use Rattle.plc_lex.specs.declared.fault.LexFault.TheVariants as lex
 use Rattle.plc_scope.specs.declared.fault.ParseFault.{ParseFault}
 use Rattle.plc_scope.specs.declared.fault.ParseFault.TheVariants as parse
 use Rattle.plc_parse.specs.declared.unit.Unit.{Unit as FileUnit}
+use Rattle.plc_logic.specs.declared.clause.Outline.{Outline}
 use Rattle.plc_lang.specs.Fit.{FileFits, NamesWhatIsThere}
 use Rattle.plc_lang.specs.WellSorted.{FileIsWellSorted}
-use Rattle.plc_flow.specs.Lowering.{made_of, most_points}
+use Rattle.plc_flow.specs.declared.flow.Flow.{Flow}
+use Rattle.plc_flow.specs.Lowering.{made_of, flow_of, most_points}
 use Rattle.plc_flow.specs.WellFormed.{FlowFits}
 use Rattle.plc_flow.specs.WellSorted.{FlowIsWellSorted}
 use Rattle.plc_oblig.specs.Obligations.{obligations}
@@ -69,17 +71,23 @@ IsPassedLimit flow outline (Some other) = ⊥
 -- what is judged is handed on where its outline is within its limits; else the first that is passed is told
 abbrev pub IsLimited : Judged → Result Judged LoadFault → Type 0
 IsLimited j (Ok k) = (k ≡ j) × IsPassedLimit j.flow j.unit_outline None
-IsLimited j (Err (faults.Limit what count)) = IsPassedLimit j.flow j.unit_outline (Some what) × (count ≡ most what + 1)
+IsLimited j (Err (faults.Limit what count)) =
+    IsPassedLimit j.flow j.unit_outline (Some what) × (count ≡ most what + 1)
 IsLimited j (Err faults.Memory) = Unit {0}
 IsLimited j (Err (faults.Lex fault)) = ⊥
 IsLimited j (Err (faults.Parse fault line)) = ⊥
+
+-- the points of a unit are few enough, and its outline passes this limit as the first
+pub record PassesOutlineLimit (u : FileUnit) (what : What1) (count : ℕ) : Type 0 where
+  pub few : (made_of u.file).points ≤ most_points
+  pub passed : IsPassedLimit (flow_of u.file) u.outline (Some what)
+  pub count_is : count ≡ most what + 1
 
 -- what is judged of a unit, or the first limit that its flow or its outline passes; memory may run out
 abbrev pub IsJudgedOf : FileUnit → Result Judged LoadFault → Type 0
 IsJudgedOf u (Ok j) = (j ≡ judged_of u) × ((made_of u.file).points ≤ most_points)
     × IsPassedLimit (flow_of u.file) u.outline None
-IsJudgedOf u (Err (faults.Limit what count)) = HasManyPoints u what count
-    ⊎ (((made_of u.file).points ≤ most_points) × IsPassedLimit (flow_of u.file) u.outline (Some what) × (count ≡ most what + 1))
+IsJudgedOf u (Err (faults.Limit what count)) = HasManyPoints u what count ⊎ PassesOutlineLimit u what count
 IsJudgedOf u (Err faults.Memory) = Unit {0}
 IsJudgedOf u (Err (faults.Lex fault)) = ⊥
 IsJudgedOf u (Err (faults.Parse fault line)) = ⊥

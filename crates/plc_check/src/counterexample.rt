@@ -53,9 +53,8 @@ pub(crate) fn first_counterexample(
 {
     let mut walk = Walk::new(alloc, flow, outline)?;
     while let Some(obligation) = walk.next() {
-        let found = counterexample_at(alloc, flow, outline, obligation)?;
-        if found.is_some() {
-            return Ok(found);
+        if let Some(found) = counterexample_at(alloc, flow, outline, obligation)? {
+            return Ok(Some(found));
         }
     }
     Ok(None)

@@ -12,11 +12,17 @@
 //! retired already.
 //!
 //! `run` promises, as the clause `headline`, that where it ends with 0 for the words `check` and a
-//! name, the bytes that the read of that name gave spell a program, no run of which has such a step:
-//! under the written typing rules none does, whatever the program retires (`plc_typesound`). So it is of
-//! real files too, whose content no clause can tell: the bytes that a read gave are noted for proofs
-//! alone. Running out of memory and faults of the outside aside, it ends so exactly where a typing by
-//! those rules exists.
+//! name, the bytes that the read of that name gave spell a program, no run of which has such a step.
+//! This is so of every file, whatever its program retires and whatever its steps claim: the flow has a
+//! typing by the written rules, and its outline holds, so that each claim is true where it is made; from
+//! these two it follows (`plc_joint`). So it is of real files too, whose content no clause can tell: the
+//! bytes that a read gave are noted for proofs alone. Running out of memory and faults of the outside
+//! aside, it ends so exactly where a typing exists and the outline holds.
+//!
+//! Where it ends with 1 the analysis has failed, which is no proof of a race. The answer says where:
+//! `untyped` tells the primitive whose condition no typing meets, `unproved` the first obligation of the
+//! outline that isn't kept, with a model of its ground set, the state in which the step breaks the clause
+//! (docs/outlines.md).
 //!
 //! # What `replay` rules out
 //!

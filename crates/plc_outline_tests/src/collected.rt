@@ -7,7 +7,7 @@ ghost use Rattle.plc_gc.specs.Position.{IsOfRun};
 
 use crate::files::hazards;
 use plc_base::{FieldId, Items, LARGEST_FILE, NoMemory, OpId};
-use plc_check::{Judged, Unjudged, load};
+use plc_check::{Judged, load};
 use plc_flow::{Flow, Move, Place, StartFault};
 use plc_gc::{GcConfig, holds};
 use plc_logic::{Clause, Item};
@@ -21,7 +21,7 @@ pub(crate) fn loaded(alloc: Global, text: &str) -> Result<Judged, NoMemory>
     if text.len() > LARGEST_FILE {
         return Err(NoMemory);
     }
-    match load(alloc, text.as_bytes(), Unjudged::Nothing) {
+    match load(alloc, text.as_bytes()) {
         Ok(judged) => Ok(judged),
         Err(_) => Err(NoMemory),
     }

@@ -5,7 +5,7 @@ ghost use Rattle.plc_setting.specs.Fit.{Fits};
 
 use crate::files::{DEEP, epochs, hazards};
 use plc_base::LARGEST_FILE;
-use plc_check::{Unjudged, load};
+use plc_check::load;
 use plc_flow::Flow;
 use plc_logic::Outline;
 use plc_oblig::{Obligation, count, nth};
@@ -73,7 +73,7 @@ fn answer(alloc: Global, file: &str, numbers: &[u64]) -> Result<String, AllocErr
     if file.len() > LARGEST_FILE {
         return Err(AllocError);
     }
-    let Ok(judged) = load(alloc, file.as_bytes(), Unjudged::Nothing) else {
+    let Ok(judged) = load(alloc, file.as_bytes()) else {
         return Err(AllocError);
     };
     text_of(alloc, &judged.flow, &judged.unit_outline, numbers)

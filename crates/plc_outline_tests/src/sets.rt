@@ -9,7 +9,7 @@ ghost use Rattle.plc_setting.specs.Fit.{Fits};
 
 use crate::files::{DEEP, hazards};
 use plc_base::LARGEST_FILE;
-use plc_check::{Unjudged, load};
+use plc_check::load;
 use plc_flow::Flow;
 use plc_ground::{GroundSet, GroundTerm, Lit, Map, Sort, Symbol};
 use plc_logic::Outline;
@@ -517,7 +517,7 @@ fn answer(alloc: Global, file: &str, i: u64) -> Result<String, AllocError> {
     if file.len() > LARGEST_FILE {
         return Err(AllocError);
     }
-    let Ok(judged) = load(alloc, file.as_bytes(), Unjudged::Nothing) else {
+    let Ok(judged) = load(alloc, file.as_bytes()) else {
         return Err(AllocError);
     };
     match nth(&judged.flow, &judged.unit_outline, i) {

@@ -5,7 +5,7 @@ ghost use Rattle.plc_run.specs.Position.{IsOfRun};
 
 use plc_auto::{Event, Observer};
 use plc_base::{FieldId, Items, NoMemory, OpId};
-use plc_check::{Judged, Unjudged, load};
+use plc_check::{Judged, load};
 use plc_flow::{Flow, Move, Place};
 use plc_mem::Memory;
 use plc_run::{Config, Moved};
@@ -18,7 +18,7 @@ pub(crate) fn loaded(alloc: Global, text: &str) -> Result<Judged, NoMemory>
     if text.len() > 1048576 {
         return Err(NoMemory);
     }
-    match load(alloc, text.as_bytes(), Unjudged::Nothing) {
+    match load(alloc, text.as_bytes()) {
         Ok(judged) => Ok(judged),
         Err(_) => Err(NoMemory),
     }

@@ -6,7 +6,7 @@ ghost use Rattle.plc_xfer.specs.Rules.{FitsObserver};
 use crate::observers::{push_set, set_of};
 use plc_auto::Observer;
 use plc_base::{FieldId, FuncId, Items, Mask, NoMemory};
-use plc_check::{Unjudged, load};
+use plc_check::load;
 use plc_infer::infer;
 use plc_lang::{Arg, GhostVal, Num, Prim, Rel, Var};
 use plc_type::{Env, Guar, PtrType, below, env_below, env_join, join};
@@ -537,7 +537,7 @@ fn inferred(alloc: Global, text: &str) -> Result<String, AllocError> {
     if text.len() > 1048576 {
         return Err(AllocError);
     }
-    let Ok(judged) = load(alloc, text.as_bytes(), Unjudged::Nothing) else {
+    let Ok(judged) = load(alloc, text.as_bytes()) else {
         return Err(AllocError);
     };
     match infer(alloc, &judged.flow, &judged.observer) {

@@ -1,6 +1,4 @@
-use Rattle.std.proofs.Common.{◌≡◌, ◌∙◌, sym, subst, List}
-use Rattle.plc_lex.specs.declared.token.Token.{Token}
-use Rattle.plc_parse.specs.Units.{IsUnitOf}
+use Rattle.std.proofs.Common.{◌∙◌}
 use Rattle.plc_check.proofs.Fitting.{loaded_fits}
 use Rattle.plc_check.proofs.Refusals.{unit_of, parse_refused}
 use Rattle.plc_check.proofs.Unique.{judged_loaded}
@@ -8,9 +6,11 @@ use Rattle.plc_check.proofs.loading.load.Goals as goal
 
 pub returns-in-Ok-parse-clause-loaded : goal.returns-in-Ok-parse-clause-loaded
 returns-in-Ok-parse-clause-loaded c =
-    let same : c.deref.result.now ≡ c.deref-in-Ok-parse.result.now = c.deref.ensures.value ∙ sym c.deref-in-Ok-parse.ensures.value in
-    judged_loaded c.args.bytes.now c.deref-in-Ok-parse.result.now (rw c.deref-in-Ok-parse.ensures.value c.in-Ok.ensures.spelled) c.in-Ok-parse.unit
-    (subst (λ (ts : List Token). IsUnitOf ts c.in-Ok-parse.unit) same c.in-Ok-parse.ensures.ok) c.judged_of.result c.judged_of.ensures
+    judged_loaded c.args.bytes.now c.deref.result.now (rw c.deref.ensures.value c.in-Ok.ensures.spelled) c.in-Ok-parse.unit
+        c.in-Ok-parse.ensures.ok c.judged_of.result c.judged_of.ensures
+
+pub returns-in-Ok-parse-clause-fits : goal.returns-in-Ok-parse-clause-fits
+returns-in-Ok-parse-clause-fits c = loaded_fits c.args.bytes.now c.judged_of.result (returns-in-Ok-parse-clause-loaded c)
 
 pub returns-clause-loaded : goal.returns-clause-loaded
 returns-clause-loaded c =
