@@ -33,13 +33,16 @@
 #![tactic(auto)]
 
 mod answer;
+mod certifying;
 mod checking;
 mod own;
 mod printing;
 mod program;
 mod reading;
 mod replaying;
+mod sampling;
 mod status;
+mod verifying;
 mod words;
 
 pub use own::run_with_own;

@@ -1,0 +1,38 @@
+-- The number that a word spells is the one that is found among those in its range.
+use Rattle.std.proofs.Common.{◌≡◌, ℕ, zero, suc, ◌+◌, ◌-◌, ◌≤◌, ◌<◌, ◌^◌, Bool, true, false, List, Option, Some, None, refl, sym, subst, ◌∙◌, arith}
+use Rattle.std.specs.Prelude.{if◌then◌else◌, decimal}
+use Rattle.std.specs.Str.{bytes_eq}
+use Rattle.std.proofs.lemmas.Bool.{false≢true}
+use Rattle.std.proofs.lemmas.Slice.Eq.{bytes_eq-Decides}
+use Rattle.std.proofs.lemmas.Fmt.{decimal_injective}
+use Rattle.plc_sched.specs.Numbers.{IsNumberOf}
+use Rattle.plc_cli.specs.Requests.{number_among}
+
+there : (count least n : ℕ) (word : List ℕ) → least ≤ n → n < least + count → least + count ≤ 2 ^ 64 → decimal n ≡ word → number_among least count word ≡ Some n
+unfolding number_among
+there zero least n word low high small e = absurd (omega (arith, low, high))
+there (suc count) least n word low high small e = go (bytes_eq (decimal least) word) refl
+  where
+    go : (b : Bool) → bytes_eq (decimal least) word ≡ b → (if bytes_eq (decimal least) word then Some least else number_among (least + 1) count word) ≡ Some n
+    go true is =
+        let spelled : decimal least ≡ word = (bytes_eq-Decides (decimal least) word).0 is in
+        let same : least ≡ n = decimal_injective least n (omega (arith, small)) (omega (arith, high, small)) (spelled ∙ sym e) in
+        rw (is, same) refl
+    go false is =
+        let other : least ≡ n → ⊥ = λ same. false≢true (sym is ∙ (bytes_eq-Decides (decimal least) word).1 (subst (λ (m : ℕ). decimal m ≡ word) (sym same) e)) in
+        let above : least + 1 ≤ n = omega (arith, low, other) in
+        rw is (there count (least + 1) n word above (omega (arith, high)) (omega (arith, small)) e)
+
+absent : (count least : ℕ) (word : List ℕ) → ((n : ℕ) → least ≤ n → n < least + count → decimal n ≡ word → ⊥) → number_among least count word ≡ None
+unfolding number_among
+absent zero least word none = refl
+absent (suc count) least word none = go (bytes_eq (decimal least) word) refl
+  where
+    go : (b : Bool) → bytes_eq (decimal least) word ≡ b → (if bytes_eq (decimal least) word then Some least else number_among (least + 1) count word) ≡ None
+    go true is = absurd (none least (omega arith) (omega arith) ((bytes_eq-Decides (decimal least) word).0 is))
+    go false is = rw is (absent count (least + 1) word (λ n low high e. none n (omega (arith, low)) (omega (arith, high)) e))
+
+pub number_found : (word : List ℕ) (least most : ℕ) (r : Option ℕ) → least ≤ most → most < 2 ^ 32 → IsNumberOf word least most r → r ≡ number_among least (most - least + 1) word
+number_found word least most None some small none = sym (absent (most - least + 1) least word (λ n low high e. none n low (omega (arith, some, high)) e))
+number_found word least most (Some n) some small is =
+    sym (there (most - least + 1) least n word is.0 (omega (arith, some, is.1)) (omega (arith, some, small)) is.2)
