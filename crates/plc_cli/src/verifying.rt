@@ -11,7 +11,6 @@ use crate::status::{FAILS, HOLDS, REFUSED};
 use plc_base::LARGEST_CERTIFICATE;
 use plc_cert::{Cert, CertFault, read};
 use plc_check::{Judged, LoadFault, load};
-use plc_oblig::count;
 use plc_outside::Files;
 use plc_texts::{invalid, uncertified, verified};
 use plc_verify::{VerifyFault, verify};
@@ -30,13 +29,10 @@ fn judge_certificate(alloc: Global, judged: &Judged, cert: &Cert) -> Result<Answ
         &judged.unit_outline,
         cert,
     ) {
+        // It has a tree for each obligation.
         Ok(()) => Ok(Answer {
             status: HOLDS,
-            text: verified(
-                alloc,
-                &judged.flow,
-                count(&judged.flow, &judged.unit_outline),
-            )?,
+            text: verified(alloc, &judged.flow, cert.trees.len() as u64)?,
         }),
         Err(VerifyFault::Memory) => Err(AllocError),
         Err(fault) => Ok(Answer {

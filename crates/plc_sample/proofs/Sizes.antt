@@ -1,10 +1,10 @@
 -- No sample is longer than a file may be.
-use Rattle.std.proofs.Common.{◌≡◌, ◌≤◌, ◌+◌, ◌*◌, ◌==◌, ℕ, suc, zero, Bool, true, false, List, [], ◌∷◌, ◌++◌, length, refl, arith}
+use Rattle.std.proofs.Common.{◌≡◌, ◌≤◌, ◌+◌, ◌*◌, ◌==◌, ℕ, suc, zero, Bool, true, false, List, [], ◌∷◌, ◌++◌, length, refl, sym, subst, arith}
 use Rattle.std.specs.Prelude.{decimal}
 use Rattle.std.proofs.lemmas.List.{length-append}
 use Rattle.std.proofs.lemmas.Fmt.{length-decimal-le_succ}
 use Rattle.plc_base.specs.Limits.{largest_file}
-use Rattle.plc_sample.specs.Sample.{declarations, operations, invariants, clauses, ending, numbered_byte, numbered, copies, whole_text, kept_byte, line_after, without_from, sample_text}
+use Rattle.plc_sample.specs.Sample.{declarations, operations, invariants, clauses, ending, numbered_byte, numbered, copies, whole_text, kept_byte, line_after, without_from}
 
 -- ---- a copy
 
@@ -47,14 +47,17 @@ ending_short : length ending ≤ 1000
 unfolding ending
 ending_short = omega arith
 
+copies_bounded : (k : ℕ) (part : List ℕ) → k ≤ 16 → length part ≤ 1000 → length (copies k part) ≤ 272000
+copies_bounded k part few short = omega (arith, copies_short k part few short, few)
+
+together : (a b c d e : List ℕ) → length a ≤ 1000 → length b ≤ 272000 → length c ≤ 1000 → length d ≤ 272000 → length e ≤ 1000 → length (a ++ b ++ c ++ d ++ e) ≤ largest_file
+together a b c d e la lb lc ld le =
+    omega (arith, length-append (a ++ b ++ c ++ d) e, length-append (a ++ b ++ c) d, length-append (a ++ b) c, length-append a b, la, lb, lc, ld, le)
+
 whole_short : (k : ℕ) → k ≤ 16 → length (whole_text k) ≤ largest_file
-whole_short k few = omega (arith,
-    length-append declarations (copies k operations ++ invariants ++ copies k clauses ++ ending),
-    length-append (copies k operations) (invariants ++ copies k clauses ++ ending),
-    length-append invariants (copies k clauses ++ ending),
-    length-append (copies k clauses) ending,
-    declarations_short, copies_short k operations few operations_short, invariants_short,
-    copies_short k clauses few clauses_short, ending_short, few)
+whole_short k few =
+    together declarations (copies k operations) invariants (copies k clauses) ending
+    declarations_short (copies_bounded k operations few operations_short) invariants_short (copies_bounded k clauses few clauses_short) ending_short
 
 -- ---- a line left out
 
@@ -70,5 +73,10 @@ without_short without line [] = omega arith
 without_short without line (byte ∷ more) =
     omega (arith, length-append (kept_byte without line byte) (without_from without (line_after line byte) more), kept_short without line byte, without_short without (line_after line byte) more)
 
-pub sample_short : (k n : ℕ) → k ≤ 16 → length (sample_text k n) ≤ largest_file
-sample_short k n few = omega (arith, without_short n 1 (whole_text k), whole_short k few)
+pub kept_is_short : (k n : ℕ) (whole kept : List ℕ) → k ≤ 16 → whole ≡ whole_text k → kept ≡ without_from n 1 whole → length kept ≤ largest_file
+kept_is_short k n whole kept few whole_is kept_is =
+    let short : length whole ≤ largest_file = subst (λ (t : List ℕ). length t ≤ largest_file) (sym whole_is) (whole_short k few) in
+    subst (λ (t : List ℕ). length t ≤ largest_file) (sym kept_is) (bounded n whole short)
+  where
+    bounded : (without : ℕ) (text : List ℕ) → length text ≤ largest_file → length (without_from without 1 text) ≤ largest_file
+    bounded without text short = omega (arith, without_short without 1 text, short)
