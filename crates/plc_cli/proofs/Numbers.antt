@@ -6,10 +6,9 @@ use Rattle.std.proofs.lemmas.Bool.{false≢true}
 use Rattle.std.proofs.lemmas.Slice.Eq.{bytes_eq-Decides}
 use Rattle.std.proofs.lemmas.Fmt.{decimal_injective}
 use Rattle.plc_sched.specs.Numbers.{IsNumberOf}
-use Rattle.plc_cli.specs.Requests.{number_among}
+use Rattle.plc_cli.specs.Requests.{number_among, number_in}
 
 there : (count least n : ℕ) (word : List ℕ) → least ≤ n → n < least + count → least + count ≤ 2 ^ 64 → decimal n ≡ word → number_among least count word ≡ Some n
-unfolding number_among
 there zero least n word low high small e = absurd (omega (arith, low, high))
 there (suc count) least n word low high small e = go (bytes_eq (decimal least) word) refl
   where
@@ -24,7 +23,6 @@ there (suc count) least n word low high small e = go (bytes_eq (decimal least) w
         rw is (there count (least + 1) n word above (omega (arith, high)) (omega (arith, small)) e)
 
 absent : (count least : ℕ) (word : List ℕ) → ((n : ℕ) → least ≤ n → n < least + count → decimal n ≡ word → ⊥) → number_among least count word ≡ None
-unfolding number_among
 absent zero least word none = refl
 absent (suc count) least word none = go (bytes_eq (decimal least) word) refl
   where
@@ -32,7 +30,8 @@ absent (suc count) least word none = go (bytes_eq (decimal least) word) refl
     go true is = absurd (none least (omega arith) (omega arith) ((bytes_eq-Decides (decimal least) word).0 is))
     go false is = rw is (absent count (least + 1) word (λ n low high e. none n (omega (arith, low)) (omega (arith, high)) e))
 
-pub number_found : (word : List ℕ) (least most : ℕ) (r : Option ℕ) → least ≤ most → most < 2 ^ 32 → IsNumberOf word least most r → r ≡ number_among least (most - least + 1) word
+pub number_found : (word : List ℕ) (least most : ℕ) (r : Option ℕ) → least ≤ most → most < 2 ^ 32 → IsNumberOf word least most r → r ≡ number_in least most word
+unfolding number_in
 number_found word least most None some small none = sym (absent (most - least + 1) least word (λ n low high e. none n low (omega (arith, some, high)) e))
 number_found word least most (Some n) some small is =
     sym (there (most - least + 1) least n word is.0 (omega (arith, some, is.1)) (omega (arith, some, small)) is.2)

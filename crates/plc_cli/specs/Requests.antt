@@ -1,5 +1,5 @@
 -- What words ask for: they are compared whole, and there are no options.
-use Rattle.std.specs.Prelude.{ℕ, ◌+◌, ◌*◌, zero, suc, Bool, true, false, if◌then◌else◌, List, [], ◌∷◌, Option, Some, None, option_map, option_and_then, codes, decimal}
+use Rattle.std.specs.Prelude.{ℕ, ◌+◌, ◌*◌, ◌-◌, zero, suc, Bool, true, false, if◌then◌else◌, List, [], ◌∷◌, Option, Some, None, option_map, option_and_then, codes, decimal}
 use Rattle.std.specs.Str.{bytes_eq}
 use Rattle.plc_reclaim.specs.Lookup.{first_named}
 
@@ -31,15 +31,19 @@ request_of_two command file =
     (if bytes_eq command (codes "print") then Some (Print file) else None))
 
 -- the number that a word spells in decimal, without a sign or zeros in front, among so many from the least on
-unfoldable pub number_among : ℕ → ℕ → List ℕ → Option ℕ
+abbrev pub number_among : ℕ → ℕ → List ℕ → Option ℕ
 number_among least zero word = None
 number_among least (suc count) word =
     if bytes_eq (decimal least) word then Some least else number_among (least + 1) count word
 
+-- the same among those from one to another
+unfoldable pub number_in : ℕ → ℕ → List ℕ → Option ℕ
+number_in least most word = number_among least (most - least + 1) word
+
 -- `sample K N`: K is from 1 to 16, and N from 0 to the number of the sample's lines, 44 K + 13
 abbrev pub sample_of : List ℕ → List ℕ → Option Request
 sample_of copies line =
-    option_and_then (λ k. option_map (λ n. Sample k n) (number_among 0 (44 * k + 14) line)) (number_among 1 16 copies)
+    option_and_then (λ k. option_map (λ n. Sample k n) (number_in 0 (44 * k + 13) line)) (number_in 1 16 copies)
 
 -- `verify FILE CERTIFICATE` and `sample K N`
 abbrev pub request_of_three : List ℕ → List ℕ → List ℕ → Option Request

@@ -1,6 +1,7 @@
 //! The command line: `run` does all that the program does. It takes the words, reads the files that
-//! they name, and answers with a status and a text: the verdict on a file (`check`), its canonical text
-//! (`print`), or what a recorded schedule leads to (`replay`).
+//! they name, and answers with a status and a text: the verdict on a file (`check`), its certificate
+//! (`certify`), whether a certificate is valid for it (`verify`), its canonical text (`print`), what a
+//! recorded schedule leads to (`replay`), or the verdict on a file that is made (`sample`).
 //!
 //! # What a 0 of `check` means
 //!
@@ -23,6 +24,9 @@
 //! `untyped` tells the primitive whose condition no typing meets, `unproved` the first obligation of the
 //! outline that isn't kept, with a model of its ground set, the state in which the step breaks the clause
 //! (docs/outlines.md).
+//!
+//! A 0 of `verify` says the same: a certificate that is valid for a file shows that its flow has a typing and that
+//! its outline holds (`plc_verify`), whoever wrote it. What it says rests on neither the inference nor the solver.
 //!
 //! # What `replay` rules out
 //!

@@ -1,7 +1,7 @@
 // The words after the program's name, compared whole and by hand: there are no options.
-ghost use Rattle.std.specs.Prelude.{◌≡◌, ◌≤◌, ℕ, ◌+◌, ◌-◌, IfSome, length, map, string_bytes};
+ghost use Rattle.std.specs.Prelude.{◌≡◌, ◌≤◌, ℕ, IfSome, length, map, string_bytes};
 ghost use Rattle.std.specs.Option.{option_map};
-ghost use Rattle.plc_cli.specs.Requests.{request_of, request_of_two, request_of_three, request_of_four, sample_of, number_among};
+ghost use Rattle.plc_cli.specs.Requests.{request_of, request_of_two, request_of_three, request_of_four, sample_of, number_in};
 ghost use Rattle.plc_cli.specs.Views.{request_view, IsInRange};
 
 use plc_reclaim::{Reclaimer, find_named};
@@ -56,7 +56,7 @@ fn request_of_two<'a>(command: &str, file: &'a str) -> Option<Request<'a>>
 // The number that a word spells, among those from `least` to `most`.
 fn number_in(word: &str, least: u32, most: u32) -> Option<u32>
     requires { least ≤ most }
-    ensures spelled { result ≡ number_among least (most - least + 1) word.now }
+    ensures spelled { result ≡ number_in least most word.now }
     ensures in_range { IfSome result (λ n. (least ≤ n) × (n ≤ most)) }
 {
     number_of(word.as_bytes(), least, most)
