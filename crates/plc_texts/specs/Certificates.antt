@@ -1,6 +1,6 @@
 -- What is said of a certificate: why its bytes are none, that it is valid, or its first item that fails. Each line ends
 -- with a line feed.
-use Rattle.std.specs.Prelude.{ℕ, List, [], ◌++◌, length, codes, decimal, slice_get}
+use Rattle.std.specs.Prelude.{ℕ, List, [], ◌++◌, codes, decimal, slice_get}
 use Rattle.plc_lang.specs.declared.syntax.Var.TheVariants as vars
 use Rattle.plc_lang.specs.declared.syntax.File.{File}
 use Rattle.plc_lang.specs.Names.{operation_name}
