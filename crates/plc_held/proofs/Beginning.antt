@@ -23,7 +23,7 @@ use Rattle.plc_gc.specs.declared.slot.Slot.TheVariants.{Shared as in_shared, Loc
 use Rattle.plc_gc.specs.State.{GcState, value, count}
 use Rattle.plc_gc.specs.Clauses.{declared_value}
 use Rattle.plc_flow.proofs.Each.{Each, each_both, each_so}
-use Rattle.plc_held.proofs.Lists.{each_map, each_all, each_from}
+use Rattle.plc_oblig.proofs.Lists.{each_map, each_all, each_from}
 use Rattle.plc_held.proofs.Meaning.{Meaning, IsTrueIn, equal_is_true}
 use Rattle.plc_held.proofs.Scene.{Scene}
 use Rattle.plc_held.proofs.Nodes.{IsBefore, IsPlace, each_place_of, new_is}

@@ -14,7 +14,7 @@ use Rattle.plc_gc.specs.declared.slot.Map.TheVariants.{Pointer as pointer_field,
 use Rattle.plc_gc.specs.State.{GcState, value, entry, count, put, update, made, with_locals}
 use Rattle.plc_gc.specs.Clauses.{declared_map}
 use Rattle.plc_gc.proofs.Views.{puts, updates, makes}
-use Rattle.plc_held.proofs.Equal.{same_symbol_true, same_symbol_refl, same_map_true, same_map_refl, field_id}
+use Rattle.plc_oblig.proofs.Equal.{same_symbol_true, same_symbol_refl, same_map_true, same_map_refl, field_id}
 use Rattle.plc_held.proofs.Acts.{View, with_symbol, with_map, changed}
 use Rattle.plc_held.proofs.Scene.{Scene, symbol_in, gc_map, seen, slot_of, symbol_there, symbol_fixed, one_symbol}
 

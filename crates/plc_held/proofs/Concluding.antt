@@ -21,7 +21,7 @@ use Rattle.plc_gc.specs.Claims.{claim_holds}
 use Rattle.plc_gc.specs.Ranges.{IsInRange, ValuesAreInRange}
 use Rattle.plc_gc.specs.Run.{execute}
 use Rattle.plc_flow.proofs.Each.{Each}
-use Rattle.plc_held.proofs.Lists.{each_of_all}
+use Rattle.plc_oblig.proofs.Lists.{each_of_all}
 use Rattle.plc_held.proofs.Scene.{Scene}
 use Rattle.plc_held.proofs.Variables.{ShapeFits}
 use Rattle.plc_held.proofs.Reading.{IsReadFor}

@@ -29,7 +29,7 @@ use Rattle.plc_gc.specs.Claims.{claim_holds}
 use Rattle.plc_gc.specs.Primitives.{node_at}
 use Rattle.plc_gc.specs.declared.slot.Map.TheVariants.{Retirement as retirement}
 use Rattle.plc_flow.proofs.Each.{Each, each_both}
-use Rattle.plc_held.proofs.Lists.{each_map, each_all, each_from}
+use Rattle.plc_oblig.proofs.Lists.{each_map, each_all, each_from}
 use Rattle.plc_held.proofs.Meaning.{Meaning, node_in, node_sort, IsTrueIn, equal_is_true, unequal_is_true}
 use Rattle.plc_held.proofs.Scene.{Scene, symbol_there}
 use Rattle.plc_held.proofs.Variables.{ShapeFits, variable}

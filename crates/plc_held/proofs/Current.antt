@@ -1,5 +1,5 @@
--- What is current after an act: constants of variables, versions of maps, and how many fields were read.
-use Rattle.std.proofs.Common.{◌≡◌, ℕ, ◌+◌, Bool, true, false, cond, [], ◌∷◌, ◌++◌, refl, ◌∙◌, arith}
+-- What is current after an act: versions of maps, and how many fields were read.
+use Rattle.std.proofs.Common.{◌≡◌, ℕ, ◌+◌, Bool, true, false, cond, refl, ◌∙◌, arith}
 use Rattle.std.specs.Prelude.{if◌then◌else◌}
 use Rattle.std.proofs.lemmas.List.Sums.{fold_push}
 use Rattle.plc_ground.specs.declared.terms.Symbol.{Symbol}
@@ -8,14 +8,10 @@ use Rattle.plc_setting.specs.declared.acts.Act.{Act}
 use Rattle.plc_setting.specs.declared.acts.Act.TheVariants.{Assign, Make, Fetch, Update, Test, Skip}
 use Rattle.plc_setting.specs.Setting.{is_fetch}
 use Rattle.plc_items.specs.declared.execution.Execution.{Execution}
-use Rattle.plc_items.specs.Execution.{current, version, after}
-use Rattle.plc_symbolic.specs.Same.{same_symbol, same_map}
-use Rattle.plc_held.proofs.Equal.{same_map_refl}
+use Rattle.plc_items.specs.Execution.{version, after}
+use Rattle.plc_symbolic.specs.Same.{same_map}
+use Rattle.plc_oblig.proofs.Equal.{same_map_refl}
 use Rattle.plc_held.proofs.Acts.{View, act_after, with_symbol, with_map, changed}
-
--- a variable was given a constant
-pub current_given : (x : Execution) (p c s : Symbol) (loads : ℕ) → current (record { assigned = x.assigned ++ (p, c) ∷ []; written = x.written; loads = loads }) s ≡ (if same_symbol p s then c else current x s)
-current_given x p c s loads = fold_push (λ (now : Symbol) (a : Symbol × Symbol). if same_symbol a.0 s then a.1 else now) s x.assigned (p, c)
 
 abbrev pub bit : Bool → ℕ
 bit b = cond b 1 0

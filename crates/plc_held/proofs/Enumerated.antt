@@ -1,16 +1,13 @@
 -- Each node has one of the values of each enumerated auxiliary field.
-use Rattle.std.proofs.Common.{◌≡◌, ℕ, zero, suc, ◌+◌, ◌<◌, Bool, true, false, ◌==◌, List, [], ◌∷◌, map, take, length, get_or, Some, slice_get, refl, sym, ap, ◌∙◌, subst, arith, inl, inr}
+use Rattle.std.proofs.Common.{◌≡◌, ℕ, zero, suc, ◌+◌, ◌<◌, Bool, true, false, ◌==◌, List, [], ◌∷◌, map, length, Some, slice_get, refl, sym, ap, ◌∙◌, subst, arith, inl, inr}
 use Rattle.std.specs.Prelude.{if◌then◌else◌}
-use Rattle.std.specs.List.{range_with_len, sum_by}
+use Rattle.std.specs.List.{range_with_len}
 use Rattle.std.proofs.lemmas.Bool.{eqb-false}
-use Rattle.std.proofs.lemmas.List.Sums.{sum_by_more}
-use Rattle.std.proofs.lemmas.Option.{slice_get_within, get_or_from_slice_get}
 use Rattle.plc_lang.specs.declared.syntax.File.{File}
 use Rattle.plc_lang.specs.declared.syntax.Ghost.{Ghost}
-use Rattle.plc_lang.specs.Numbering.{values_in, value_number, value_at}
+use Rattle.plc_lang.specs.Numbering.{value_number, value_at}
 use Rattle.plc_lang.proofs.Numbers.{values_are_numbered}
 use Rattle.plc_logic.specs.declared.clause.Sort.TheVariants as sorts
-use Rattle.plc_logic.specs.Fit.{ghost_sort}
 use Rattle.plc_ground.specs.declared.terms.Symbol.TheVariants as symbols
 use Rattle.plc_ground.specs.declared.terms.Map.TheVariants as maps
 use Rattle.plc_setting.specs.Sorts.{auxiliary_sort, value_sort}
@@ -23,7 +20,8 @@ use Rattle.plc_gc.specs.declared.slot.Map.TheVariants.{Auxiliary as auxiliary_fi
 use Rattle.plc_gc.specs.State.{GcState, entry}
 use Rattle.plc_gc.specs.Ranges.{ValuesAreInRange}
 use Rattle.plc_flow.proofs.Each.{Each, each_both}
-use Rattle.plc_held.proofs.Lists.{each_map, each_all}
+use Rattle.plc_oblig.proofs.Lists.{each_map, each_all}
+use Rattle.plc_oblig.proofs.ValueSorts.{NumberedFrom, numbered_next, enumerated}
 use Rattle.plc_held.proofs.Meaning.{Meaning, node_in, IsTrueIn, equal_is_true}
 use Rattle.plc_held.proofs.Scene.{Scene, value_or}
 use Rattle.plc_held.proofs.Nodes.{IsBefore}
@@ -33,20 +31,6 @@ some_of_range : (e : Meaning) (l : ℕ → SymbolicLit) (first n a : ℕ) → a 
 some_of_range e l first zero a less h = absurd (omega arith)
 some_of_range e l first (suc n) zero less h = elim (h first (omega arith)) [ inl t ↦ inl t | inr t ↦ absurd t ]
 some_of_range e l first (suc n) (suc a) less h = inr (some_of_range e l (first + 1) n a (omega arith) (λ k same. h k (omega arith)))
-
--- the values of field g are numbered from here on
-abbrev pub NumberedFrom : List Ghost → ℕ → ℕ → Type 0
-NumberedFrom all g first = sum_by values_in (take g all) ≡ first
-
-pub numbered_next : (all : List Ghost) (g first : ℕ) (h : Ghost) → slice_get all g ≡ Some h → NumberedFrom all g first → NumberedFrom all (g + 1) (first + length h.values)
-numbered_next all g first h at is =
-    let more = sum_by_more values_in all g h (slice_get_within all g h at) in
-    let same = ap values_in (get_or_from_slice_get all g h h at) in
-    more ∙ (let e : sum_by values_in (take g all) + values_in (get_or all g h) ≡ first + length h.values = omega (arith, same, is) in e)
-
-pub enumerated : (g : ℕ) (vs : List ℕ) → 0 < length vs → ghost_sort g vs ≡ sorts.Value g
-enumerated g [] some = absurd (omega arith)
-enumerated g (v ∷ vs) some = refl
 
 module _ (e : Meaning) (file : File) (w : Scene) (g : GcState) (limit : ℕ) (before : IsBefore e file w g limit) where
   -- the constant of a value

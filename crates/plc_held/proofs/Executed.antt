@@ -18,10 +18,11 @@ use Rattle.plc_symbolic.specs.declared.symbolic.SymbolicTerm.TheVariants.{Consta
 use Rattle.plc_symbolic.specs.Same.{same_symbol}
 use Rattle.plc_symbolic.specs.Terms.{term_of, is, is_not, null}
 use Rattle.plc_flow.proofs.Each.{Each, each_both, each_so}
-use Rattle.plc_held.proofs.Equal.{same_symbol_true, same_map_refl}
-use Rattle.plc_held.proofs.Lists.{each_flat}
+use Rattle.plc_oblig.proofs.Equal.{same_symbol_true, same_map_refl}
+use Rattle.plc_oblig.proofs.Lists.{each_flat}
 use Rattle.plc_held.proofs.Acts.{View, tests, goes_checked, with_symbol, with_map, changed, act_after, IsNamed, Acted, ActsRun}
-use Rattle.plc_held.proofs.Current.{current_given, version_next}
+use Rattle.plc_oblig.proofs.Sides.{current_given}
+use Rattle.plc_held.proofs.Current.{version_next}
 use Rattle.plc_held.proofs.Meaning.{Meaning, node_in, IsTrueIn, node_value, node_sort, equal_is_true, unequal_is_true, later_is_true}
 use Rattle.plc_held.proofs.Future.{Foresees, map_now as map_is, later}
 

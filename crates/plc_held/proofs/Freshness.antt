@@ -24,11 +24,12 @@ use Rattle.plc_symbolic.specs.declared.symbolic.SymbolicLit.{SymbolicLit}
 use Rattle.plc_symbolic.specs.Terms.{null, new_node}
 use Rattle.plc_gc.specs.State.{GcState, count}
 use Rattle.plc_flow.proofs.Each.{Each, each_both, each_so}
-use Rattle.plc_held.proofs.Lists.{each_flat, each_map, each_all}
+use Rattle.plc_oblig.proofs.Lists.{each_flat, each_map, each_all}
 use Rattle.plc_held.proofs.Meaning.{Meaning, node_in, value_in, IsTrueIn, equal_is_true, unequal_is_true}
 use Rattle.plc_held.proofs.Scene.{Scene, gc_map}
 use Rattle.plc_held.proofs.Nodes.{IsBefore, IsBelow, new_is, field_below}
-use Rattle.plc_held.proofs.Enumerated.{NumberedFrom, numbered_next, enumerated, value_is}
+use Rattle.plc_oblig.proofs.ValueSorts.{NumberedFrom, numbered_next, enumerated}
+use Rattle.plc_held.proofs.Enumerated.{value_is}
 
 module _ (e : Meaning) (file : File) (w : Scene) (g : GcState) (limit : ℕ) (before : IsBefore e file w g limit) where
   other_true : (t : SymbolicTerm) → value_in e t < count g → IsTrueIn e (is_other t)

@@ -24,7 +24,7 @@ use Rattle.plc_gc.proofs.Threads.{busy_at, run_fits}
 use Rattle.plc_gc.proofs.Values.{runs_keep_values}
 use Rattle.plc_flow.proofs.Each.{Each}
 use Rattle.plc_held.specs.Held.{OutlineIsTrue, HeldOutlinesAreTrue, HeldClaimsAreTrue}
-use Rattle.plc_held.proofs.Lists.{all_of_each}
+use Rattle.plc_oblig.proofs.Lists.{all_of_each}
 use Rattle.plc_held.proofs.Obliged.{AreMet, are_met}
 use Rattle.plc_held.proofs.Steps.{IsAt, claims_true, invariants_after, own_after, other_after}
 use Rattle.plc_held.proofs.Runs.{IsKept, begun, anew_invariants, anew_points, started}

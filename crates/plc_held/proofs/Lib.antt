@@ -1,7 +1,4 @@
-pub mod Equal
-pub mod Places
 pub mod Numbering
-pub mod Lists
 pub mod Acts
 pub mod Meaning
 pub mod Current
@@ -24,7 +21,6 @@ pub mod Apart
 pub mod Broken
 pub mod Central
 pub mod Agreement
-pub mod Standing
 pub mod Obliged
 pub mod Concluding
 pub mod Parameters

@@ -28,7 +28,7 @@ use Rattle.plc_gc.specs.State.{GcState, value, entry, count}
 use Rattle.plc_gc.specs.Clauses.{declared_map, declared_value}
 use Rattle.plc_gc.specs.Ranges.{IsInRange}
 use Rattle.plc_flow.proofs.Each.{Each, each_both, each_so}
-use Rattle.plc_held.proofs.Lists.{each_flat, each_map, each_all, each_from}
+use Rattle.plc_oblig.proofs.Lists.{each_flat, each_map, each_all, each_from}
 use Rattle.plc_held.proofs.Acts.{View, act_after, ActsRun}
 use Rattle.plc_held.proofs.Meaning.{Meaning, node_in, node_sort}
 use Rattle.plc_held.proofs.Future.{Foresees, later}

@@ -17,7 +17,7 @@ use Rattle.plc_oblig.specs.GroundSets.{ground_set}
 use Rattle.plc_oblig.specs.Obligations.{op_id, step_id, point_id, parts_from, starts, enters_of, own_count, owns_of, others_at, others_of, claims_in, claims_of, enters, owns, others, claims, obligations}
 use Rattle.plc_flow.proofs.Each.{Each}
 use Rattle.plc_oblig.specs.Outlines.{OutlineHolds}
-use Rattle.plc_held.proofs.Lists.{each_left, each_right, each_of_all}
+use Rattle.plc_oblig.proofs.Lists.{each_left, each_right, each_of_all}
 
 -- ---- lists, backwards
 

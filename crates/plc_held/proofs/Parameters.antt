@@ -14,7 +14,7 @@ use Rattle.plc_lang.specs.Shape.{shape_of, init_shape}
 use Rattle.plc_lang.specs.WellSorted.{ParametersAreFirst}
 use Rattle.plc_flow.proofs.Each.{Each}
 use Rattle.plc_held.proofs.Current.{bit}
-use Rattle.plc_held.proofs.Standing.{each_filter}
+use Rattle.plc_oblig.proofs.Standing.{each_filter}
 use Rattle.plc_held.proofs.Variables.{ShapeFits}
 
 -- a parameter is data

@@ -27,10 +27,10 @@ use Rattle.plc_gc.specs.Run.{GcConfiguration, point_of, beginning, initialised, 
 use Rattle.plc_gc.proofs.Views.{gives, first}
 use Rattle.plc_gc.proofs.Ranges.{ranged_given, ranged_first}
 use Rattle.plc_flow.proofs.Each.{Each, each_get}
-use Rattle.plc_held.proofs.Lists.{each_place, each_of_all}
+use Rattle.plc_oblig.proofs.Lists.{each_place, each_of_all}
 use Rattle.plc_held.proofs.Agreement.{each_same, nobody_sees, other_sees, given_fields}
 use Rattle.plc_held.proofs.Broken.{scene_of}
-use Rattle.plc_held.proofs.Standing.{Stands, point_clauses_fit, op_locals}
+use Rattle.plc_oblig.proofs.Standing.{Stands, point_clauses_fit, op_locals}
 use Rattle.plc_held.proofs.Obliged.{AreMet}
 use Rattle.plc_held.proofs.Concluding.{invariant_read, acting_read, invariants_hold, IsReady, concludes}
 use Rattle.plc_held.proofs.Parameters.{shape_fits, no_shape_fits, others_zero}

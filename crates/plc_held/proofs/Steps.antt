@@ -36,11 +36,11 @@ use Rattle.plc_gc.specs.Run.{turn, execute}
 use Rattle.plc_gc.specs.Threads.{IsBusyAt}
 use Rattle.plc_gc.proofs.Frames.{held_is}
 use Rattle.plc_flow.proofs.Each.{Each, each_both, each_get}
-use Rattle.plc_held.proofs.Lists.{each_place, each_of_all}
+use Rattle.plc_oblig.proofs.Lists.{each_place, each_of_all}
 use Rattle.plc_held.proofs.Premises.{IsPremise}
 use Rattle.plc_held.proofs.Beginning.{BeginsAs}
 use Rattle.plc_held.proofs.Broken.{scene_of}
-use Rattle.plc_held.proofs.Standing.{Stands, point_clauses_fit, op_locals, locals_at}
+use Rattle.plc_oblig.proofs.Standing.{Stands, point_clauses_fit, op_locals, locals_at}
 use Rattle.plc_held.proofs.Obliged.{AreMet}
 use Rattle.plc_held.proofs.Concluding.{invariant_read, acting_read, owner_read, invariants_hold, acting_hold, owner_hold, IsReady, concludes, claims_truly}
 use Rattle.plc_held.proofs.Parameters.{shape_fits}

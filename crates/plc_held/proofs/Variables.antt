@@ -26,7 +26,7 @@ use Rattle.plc_setting.specs.Sorts.{local_sort, value_sort, map_sort}
 use Rattle.plc_gc.specs.declared.slot.Slot.{Slot}
 use Rattle.plc_gc.specs.declared.slot.Slot.TheVariants.{Local as in_local, Data as in_data}
 use Rattle.plc_gc.specs.State.{GcState, slot, number_of}
-use Rattle.plc_held.proofs.Places.{there, map_there}
+use Rattle.plc_oblig.proofs.Places.{there, map_there}
 use Rattle.plc_held.proofs.Acts.{IsNamed}
 use Rattle.plc_held.proofs.Meaning.{Meaning}
 use Rattle.plc_held.proofs.Scene.{Scene, symbol_in, slot_of, local_slot, symbol_there}

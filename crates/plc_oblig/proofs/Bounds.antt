@@ -3,6 +3,8 @@ use Rattle.std.proofs.Common.{◌≡◌, ℕ, ◌+◌, ◌≤◌, Bool, List, []
 use Rattle.std.specs.List.{All, position}
 use Rattle.std.proofs.lemmas.List.Elements.{All-nil, All-get_or, All-filter, All-map, All-append, All-weaker}
 use Rattle.std.proofs.lemmas.Option.{get_or_from_slice_get, slice_get_within, none-some}
+use Rattle.plc_base.specs.Limits.{most, most_bound}
+use Rattle.plc_base.specs.declared.limits.What1.TheVariants as limits
 use Rattle.plc_lang.specs.declared.syntax.File.{File}
 use Rattle.plc_lang.specs.declared.syntax.Op.{Op}
 use Rattle.plc_lang.specs.Fit.{FileFits}
@@ -10,6 +12,7 @@ use Rattle.plc_lang.specs.Locals.{locals_of, locals_or_none}
 use Rattle.plc_flow.specs.declared.flow.Flow.{Flow}
 use Rattle.plc_flow.specs.declared.flow.Gate.{Gate}
 use Rattle.plc_flow.specs.declared.flow.Step.{Step}
+use Rattle.plc_flow.specs.WellFormed.{most_step_primitives}
 use Rattle.plc_logic.specs.declared.clause.Clause.{Clause}
 use Rattle.plc_logic.specs.declared.clause.Item.{Item}
 use Rattle.plc_logic.specs.declared.clause.Outline.{Outline}
@@ -27,8 +30,8 @@ use Rattle.plc_setting.specs.Points.{clauses_at, stands_at}
 -- ---- clauses
 
 pub record Small (c : Clause) : Type 0 where
-  pub bound : length c.bound.names ≤ 2
-  pub literals : length c.literals ≤ 16
+  pub bound : length c.bound.names ≤ most_bound
+  pub literals : length c.literals ≤ most limits.Literals
 
 pub found_in : {A : Type 0} (P : A → Type 0) (xs : List A) (k : ℕ) (x : A) → slice_get xs k ≡ Some x → All P xs → P x
 found_in P xs k x is all = subst P (get_or_from_slice_get xs k x x is) (All-get_or P xs k x (slice_get_within xs k x is) all)
@@ -65,29 +68,29 @@ small_conclusion flow outline (Claim s j) c f is = absurd (none-some c is)
 
 -- ---- locals
 
-few_in : (file : File) (q : Option Op) (k : ℕ) → FileFits file → slice_get file.ops k ≡ q → length (locals_or_none q) ≤ 32
+few_in : (file : File) (q : Option Op) (k : ℕ) → FileFits file → slice_get file.ops k ≡ q → length (locals_or_none q) ≤ most limits.Locals
 few_in file None k f is = omega arith
 few_in file (Some o) k f is = (f.each_op k o is).locals
 
-few_of : (file : File) (k : ℕ) → FileFits file → length (locals_of file.ops k) ≤ 32
+few_of : (file : File) (k : ℕ) → FileFits file → length (locals_of file.ops k) ≤ most limits.Locals
 few_of file k f = few_in file (slice_get file.ops k) k f refl
 
-few_of_step : (flow : Flow) (s : Option Step) → FileFits flow.file → length (locals_of_step flow s) ≤ 32
+few_of_step : (flow : Flow) (s : Option Step) → FileFits flow.file → length (locals_of_step flow s) ≤ most limits.Locals
 few_of_step flow None f = omega arith
 few_of_step flow (Some s) f = few_of flow.file s.op.0 f
 
-few_of_point : (flow : Flow) (q : Option ℕ) → FileFits flow.file → length (locals_at flow q) ≤ 32
+few_of_point : (flow : Flow) (q : Option ℕ) → FileFits flow.file → length (locals_at flow q) ≤ most limits.Locals
 few_of_point flow None f = omega arith
 few_of_point flow (Some o) f = few_of flow.file o f
 
-pub few_mine : (flow : Flow) (o : Obligation) → FileFits flow.file → length (acting_locals flow o) ≤ 32
+pub few_mine : (flow : Flow) (o : Obligation) → FileFits flow.file → length (acting_locals flow o) ≤ most limits.Locals
 few_mine flow (Start i) f = omega arith
 few_mine flow (Enter o c) f = few_of flow.file o.0 f
 few_mine flow (Own k c) f = few_of_step flow (slice_get flow.steps k.0) f
 few_mine flow (Other k p c) f = few_of_step flow (slice_get flow.steps k.0) f
 few_mine flow (Claim k j) f = few_of_step flow (slice_get flow.steps k.0) f
 
-pub few_theirs : (flow : Flow) (o : Obligation) → FileFits flow.file → length (owner_locals flow o) ≤ 32
+pub few_theirs : (flow : Flow) (o : Obligation) → FileFits flow.file → length (owner_locals flow o) ≤ most limits.Locals
 few_theirs flow (Start i) f = omega arith
 few_theirs flow (Enter o c) f = omega arith
 few_theirs flow (Own k c) f = omega arith
@@ -96,11 +99,11 @@ few_theirs flow (Claim k j) f = omega arith
 
 -- ---- primitives
 
-short_step : (flow : Flow) (outline : Outline) (s : Option Step) (k : ℕ) → Fits flow outline → slice_get flow.steps k ≡ s → length (prims_of s) ≤ 112
+short_step : (flow : Flow) (outline : Outline) (s : Option Step) (k : ℕ) → Fits flow outline → slice_get flow.steps k ≡ s → length (prims_of s) ≤ most_step_primitives
 short_step flow outline None k f is = omega arith
 short_step flow outline (Some s) k f is = f.flow_fits.well.short k s is
 
-pub short_executed : (flow : Flow) (outline : Outline) (o : Obligation) → Fits flow outline → length (executed flow o) ≤ 112
+pub short_executed : (flow : Flow) (outline : Outline) (o : Obligation) → Fits flow outline → length (executed flow o) ≤ most_step_primitives
 short_executed flow outline (Start i) f = let short = f.flow_fits.short_init in omega arith
 short_executed flow outline (Enter o c) f = omega arith
 short_executed flow outline (Own k c) f = short_step flow outline (slice_get flow.steps k.0) k.0 f refl
@@ -109,7 +112,7 @@ short_executed flow outline (Claim k j) f =
     let short = short_step flow outline (slice_get flow.steps k.0) k.0 f refl in
     let taken = length-take j (prims_of (slice_get flow.steps k.0)) in omega (arith, short, taken)
 
-pub short_before : (outline : Outline) (o : Obligation) → length outline.invariants ≤ 64 → length (invariants_before outline o) ≤ 256
+pub short_before : (outline : Outline) (o : Obligation) → length outline.invariants ≤ most limits.Invariants → length (invariants_before outline o) ≤ most limits.Invariants
 short_before outline (Start i) e = omega arith
 short_before outline (Enter o c) e = omega arith
 short_before outline (Own k c) e = omega arith
@@ -125,9 +128,9 @@ small_before flow outline (Claim k j) f = small_invariants flow.file outline f
 
 -- ---- names
 
-few_names : (q : Option Clause) → ((c : Clause) → q ≡ Some c → Small c) → bound_of q ≤ 2
+few_names : (q : Option Clause) → ((c : Clause) → q ≡ Some c → Small c) → bound_of q ≤ most_bound
 few_names None small = omega arith
 few_names (Some c) small = (small c refl).bound
 
-pub few_bound : (flow : Flow) (outline : Outline) (o : Obligation) → OutlineFits flow.file outline → bound_of (conclusion flow outline o) ≤ 2
+pub few_bound : (flow : Flow) (outline : Outline) (o : Obligation) → OutlineFits flow.file outline → bound_of (conclusion flow outline o) ≤ most_bound
 few_bound flow outline o f = few_names (conclusion flow outline o) (λ c is. small_conclusion flow outline o c f is)

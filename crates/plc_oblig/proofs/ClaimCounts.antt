@@ -6,6 +6,7 @@ use Rattle.plc_lang.specs.declared.syntax.Primitive.{Primitive}
 use Rattle.plc_lang.specs.WellSorted.{is_claim}
 use Rattle.plc_flow.specs.declared.flow.Step.{Step}
 use Rattle.plc_flow.specs.declared.flow.Flow.{Flow}
+use Rattle.plc_flow.specs.WellFormed.{most_step_primitives}
 use Rattle.plc_logic.specs.declared.clause.Outline.{Outline}
 use Rattle.plc_setting.specs.declared.obligations.Obligation.TheVariants.{Claim}
 use Rattle.plc_setting.specs.Fit.{HasFewParts}
@@ -21,7 +22,7 @@ claims_are k j (p ∷ ps) = go (is_claim p) (claims_are k (j + 1) ps) ∙ sym (s
     go false h = omega arith
 
 pub few_claims : (flow : Flow) (outline : Outline) → HasFewParts flow outline → (i : ℕ) (items : List Step) (s : Step) → items ≡ flow.steps → i < length items → s ≡ get_or items i s →
-    count_by is_claim s.prims ≤ 112
+    count_by is_claim s.prims ≤ most_step_primitives
 few_claims flow outline few i items s same lt is =
     let there : slice_get flow.steps i ≡ Some s = subst (λ xs. slice_get xs i ≡ Some s) same (slice_get-get_or items i s lt ∙ ap Some (sym is)) in
     let a = few.primitives i s there in let b = count_by-le-length is_claim s.prims in omega arith

@@ -1,7 +1,18 @@
 pub mod ClaimCounts
 pub mod Walking
+mod Remaining
+mod Members
+mod Staying
+mod Opposites
+pub mod Lists
+pub mod Places
+pub mod Equal
+pub mod Standing
+pub mod ValueSorts
+pub mod Sides
 mod Lengths
 mod Executed
 mod Wholes
 mod Bounds
 mod Assembled
+mod WellFormed

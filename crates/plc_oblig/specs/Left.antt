@@ -1,6 +1,5 @@
 -- What is left of the obligations from a place on. The place is the obligation that would be there if its part went on.
-use Rattle.std.specs.Prelude.{◌≡◌, ℕ, ◌+◌, ◌<◌, List, [], ◌∷◌, ◌++◌, drop, map, Option, Some, None, slice_get, ⊤}
-use Rattle.plc_lang.specs.declared.syntax.Primitive.{Primitive}
+use Rattle.std.specs.Prelude.{◌≡◌, ℕ, ◌+◌, ◌<◌, List, [], ◌∷◌, ◌++◌, drop, map, Option, Some, None, slice_get}
 use Rattle.plc_flow.specs.declared.flow.Gate.{Gate}
 use Rattle.plc_flow.specs.declared.flow.Step.{Step}
 use Rattle.plc_flow.specs.declared.flow.Flow.{Flow}
@@ -79,3 +78,11 @@ pub record IsFirst (flow : Flow) (outline : Outline) (list : List Obligation) (o
 abbrev pub IsFirstOr : Flow → Outline → List Obligation → List Obligation → Option Obligation → Type 0
 IsFirstOr flow outline list rest (Some o) = IsFirst flow outline list o
 IsFirstOr flow outline list rest None = list ≡ rest
+
+-- the first of what is left from a place on, or, where none of its kind is left, the same is left from the next place on
+abbrev pub IsFirstOrOn : Flow → Outline → Obligation → Obligation → Option Obligation → Type 0
+IsFirstOrOn flow outline at next o = IsFirstOr flow outline (left_from flow outline at) (left_from flow outline next) o
+
+-- the first of what is left from a place on, or none
+abbrev pub IsFirstOrNone : Flow → Outline → Obligation → Option Obligation → Type 0
+IsFirstOrNone flow outline at o = IsFirstOr flow outline (left_from flow outline at) [] o

@@ -1,5 +1,7 @@
 -- How many clauses each part of a ground set has.
 use Rattle.std.specs.Prelude.{◌≡◌, ◌≤◌, ◌==◌, ℕ, ◌+◌, ◌*◌, ◌^◌, Bool, true, false, not, length, Option, Some, None}
+use Rattle.plc_base.specs.Limits.{most, most_bound}
+use Rattle.plc_base.specs.declared.limits.What1.TheVariants as limits
 use Rattle.plc_base.specs.Functions.{is_retire}
 use Rattle.plc_lang.specs.declared.syntax.Arg.{Arg}
 use Rattle.plc_lang.specs.declared.syntax.Arg.TheVariants as args
@@ -9,6 +11,7 @@ use Rattle.plc_lang.specs.declared.syntax.Rel.{Rel}
 use Rattle.plc_lang.specs.declared.syntax.Rel.TheVariants as rels
 use Rattle.plc_lang.specs.declared.syntax.Primitive.{Primitive}
 use Rattle.plc_lang.specs.declared.syntax.Primitive.TheVariants.{Null, Copy, New, Load, Store, StoreNull, DataSet, DataLoad, DataStore, Eq, Ne, IsNull, NotNull, DataTest, Refresh, RefreshLoad, RefreshStore, Call, Done, Active, Ghost}
+use Rattle.plc_flow.specs.WellFormed.{most_step_primitives}
 use Rattle.plc_logic.specs.declared.clause.Clause.{Clause}
 use Rattle.plc_setting.specs.declared.setting.Setting.{Setting}
 use Rattle.plc_oblig.specs.declared.size.Sizes.{Sizes}
@@ -36,14 +39,29 @@ pub record AreSizesOf (s : Setting) (z : Sizes) : Type 0 where
   pub nodes : z.nodes ≡ length s.nodes
   pub instances : z.instances ≡ length s.instances
 
--- they are small
+-- the pointer variables of two threads
+abbrev pub most_pointers : ℕ
+most_pointers = most limits.Shared + 2 * most limits.Locals
+
+-- the constants that are nodes: these variables, the names of a clause, what is read, null and the new node
+abbrev pub most_constants : ℕ
+most_constants = most_pointers + most_bound + most_step_primitives + 2
+
+-- their pointer fields, and all nodes
+abbrev pub most_behind : ℕ
+most_behind = most_constants * most limits.Fields
+
+abbrev pub most_nodes : ℕ
+most_nodes = most_constants + most_behind
+
+-- the limits allow no more
 pub record AreFew (z : Sizes) : Type 0 where
-  pub mine : z.mine ≤ 32
-  pub pointers : z.pointers ≤ 80
-  pub fields : z.fields ≤ 8
-  pub bound : z.bound ≤ 2
-  pub nodes : z.nodes ≤ 2000
-  pub instances : z.instances ≤ 2000
+  pub mine : z.mine ≤ most limits.Locals
+  pub pointers : z.pointers ≤ most_pointers
+  pub fields : z.fields ≤ most limits.Fields
+  pub bound : z.bound ≤ most_bound
+  pub nodes : z.nodes ≤ most_nodes
+  pub instances : z.instances ≤ most_nodes
 
 -- ---- items
 
@@ -77,6 +95,14 @@ prim_size nodes (Call f a) = call_size nodes (is_retire f) a
 prim_size nodes (Ghost p g e) = 2 * nodes
 prim_size nodes k = 0
 
+-- no primitive gives more
+abbrev pub most_of_primitive : ℕ
+most_of_primitive = 1 + 2 * most_nodes
+
 -- of the instances of a clause, where its names stand for so many nodes
 abbrev pub clause_size : ℕ → Clause → ℕ
 clause_size instances c = instances ^ length c.bound.names
+
+-- no clause gives more
+abbrev pub most_instances : ℕ
+most_instances = most_nodes * most_nodes

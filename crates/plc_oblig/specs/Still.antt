@@ -1,5 +1,5 @@
 -- Still obligations: what they say of another thread, or of all, holds before, and their step changes nothing of it.
-use Rattle.std.specs.Prelude.{ℕ, Bool, true, false, not, ◌&&◌, nat_lt, List, length}
+use Rattle.std.specs.Prelude.{◌≡◌, ℕ, Bool, true, false, not, ◌&&◌, nat_lt, length, Contains}
 use Rattle.std.specs.List.{list_any}
 use Rattle.plc_base.specs.Functions.{is_retire}
 use Rattle.plc_lang.specs.declared.syntax.Var.{Var}
@@ -10,7 +10,10 @@ use Rattle.plc_flow.specs.declared.flow.Flow.{Flow}
 use Rattle.plc_logic.specs.declared.clause.Outline.{Outline}
 use Rattle.plc_setting.specs.declared.obligations.Obligation.{Obligation}
 use Rattle.plc_setting.specs.declared.obligations.Obligation.TheVariants.{Start, Enter, Own, Other, Claim}
+use Rattle.plc_setting.specs.Fit.{Fits}
 use Rattle.plc_setting.specs.Parts.{step_prims}
+use Rattle.plc_oblig.specs.Obligations.{obligations}
+use Rattle.plc_oblig.specs.Outlines.{IsKept}
 
 abbrev pub is_shared : Var → Bool
 is_shared (vars.Shared i) = true
@@ -51,3 +54,8 @@ is_still flow outline (Enter o c) = false
 is_still flow outline (Own k c) = nat_lt c (length outline.invariants) && is_quiet flow k.0
 is_still flow outline (Other k p c) = is_quiet flow k.0
 is_still flow outline (Claim k j) = false
+
+-- the ground set of a still obligation has no model
+abbrev pub StillObligationsAreKept : Type 0
+StillObligationsAreKept = (flow : Flow) (outline : Outline) (o : Obligation) → Fits flow outline
+    → Contains (obligations flow outline) o → is_still flow outline o ≡ true → IsKept flow outline o

@@ -1,5 +1,8 @@
 // How many obligations there are, kind by kind. No list of them is made: there may be a million.
-ghost use Rattle.std.specs.Prelude.{◌≡◌, ◌≤◌, ◌*◌, length};
+ghost use Rattle.std.specs.Prelude.{◌≡◌, ◌≤◌, ◌+◌, ◌*◌, length};
+ghost use Rattle.plc_base.specs.Limits.{most};
+ghost use Rattle.plc_base.specs.declared.limits.What1.TheVariants as limits;
+ghost use Rattle.plc_flow.specs.WellFormed.{most_step_primitives};
 ghost use Rattle.plc_setting.specs.Setting.{below};
 ghost use Rattle.plc_oblig.specs.Obligations.{enters, owns, parts_from, others_at, claims, obligations};
 ghost use Rattle.plc_setting.specs.Fit.{HasFewParts, Fits};
@@ -13,7 +16,7 @@ use plc_setting::count_at;
 fn count_enters(flow: &Flow, outline: &Outline) -> u64
     requires { HasFewParts flow.now outline.now }
     ensures count { result ≡ length (enters flow.now outline.now) }
-    ensures few { result ≤ length flow.now.gates * 256 }
+    ensures few { result ≤ length flow.now.gates * most limits.Items }
 {
     let mut total = 0;
     for gate in flow.gates.as_slice() {
@@ -26,7 +29,7 @@ fn count_enters(flow: &Flow, outline: &Outline) -> u64
 fn count_owns(flow: &Flow, outline: &Outline) -> u64
     requires { HasFewParts flow.now outline.now }
     ensures count { result ≡ length (owns flow.now outline.now) }
-    ensures few { result ≤ length flow.now.steps * 320 }
+    ensures few { result ≤ length flow.now.steps * (most limits.Invariants + most limits.Items) }
 {
     let mut total = 0;
     for step in flow.steps.as_slice() {
@@ -39,7 +42,7 @@ fn count_owns(flow: &Flow, outline: &Outline) -> u64
 pub(crate) fn count_points(flow: &Flow, outline: &Outline) -> u64
     requires { HasFewParts flow.now outline.now }
     ensures count { result ≡ length (parts_from (others_at flow.now outline.now 0) 0 (below flow.now.points)) }
-    ensures few { result ≤ 1048576 }
+    ensures few { result ≤ most limits.Points * most limits.Items }
 {
     let mut total = 0;
     for p in 0..flow.points {
@@ -52,7 +55,7 @@ pub(crate) fn count_points(flow: &Flow, outline: &Outline) -> u64
 fn count_all_claims(flow: &Flow, outline: &Outline) -> u64
     requires { HasFewParts flow.now outline.now }
     ensures count { result ≡ length (claims flow.now) }
-    ensures few { result ≤ length flow.now.steps * 112 }
+    ensures few { result ≤ length flow.now.steps * most_step_primitives }
 {
     let mut total = 0;
     for step in flow.steps.as_slice() {

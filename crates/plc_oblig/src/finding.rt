@@ -1,6 +1,7 @@
 // The obligation with a number. Each kind takes away as many as it has and hands on what is left, so that
 // no obligation before it is looked at one by one.
 ghost use Rattle.std.specs.Prelude.{◌≡◌, ◌≤◌, ◌++◌, length, slice_get};
+ghost use Rattle.plc_flow.specs.WellFormed.{most_step_primitives};
 ghost use Rattle.plc_setting.specs.Setting.{below};
 ghost use Rattle.plc_oblig.specs.Obligations.{starts, enters, owns, parts_from, others_at, others, claims_in, claims, obligations};
 ghost use Rattle.plc_setting.specs.Fit.{HasFewParts, Fits};
@@ -101,7 +102,7 @@ fn nth_other(flow: &Flow, outline: &Outline, i: u64) -> Result<Obligation, u64>
 
 // Of one step.
 fn nth_claim_of(step: StepId, prims: &[Prim], i: u64) -> Result<Obligation, u64>
-    requires { length prims.now ≤ 112 }
+    requires { length prims.now ≤ most_step_primitives }
     ensures { IsFoundIn (claims_in step.0 0 prims.now) i result }
 {
     let mut left = i;

@@ -2,6 +2,7 @@
 // each term that was listed has its sort.
 ghost use Rattle.std.specs.Prelude.{◌≡◌, ◌<◌, ◌≤◌, map, length, slice_get, Some, OnOk, IfOk};
 ghost use Rattle.plc_lang.specs.Fit.{FileFits};
+ghost use Rattle.plc_ground.specs.Fit.{IsWellFormed};
 ghost use Rattle.plc_symbolic.specs.declared.symbolic.SymbolicTerm.TheVariants.{Constant};
 ghost use Rattle.plc_symbolic.specs.Numbering.{listed_all};
 ghost use Rattle.plc_symbolic.specs.Terms.{term_of};
@@ -45,7 +46,7 @@ fn sort_at(flow: &Flow, o: &Obligation, acts: &[Act], draft: &Draft, k: usize) -
     ensures { slice_get (map (sort_of flow.now o.now acts.now) draft.now.terms) k ≡ Some result }
 {
     match draft.term(k) {
-        None => Sort::Node,
+        None => unreachable!(),
         Some(term) => sort_of(flow, o, acts, term),
     }
 }
@@ -88,8 +89,8 @@ fn draft_of(
     Ok(draft)
 }
 
-/// The ground set of an obligation, which has as many clauses as `clauses` counts. It fails only where memory
-/// runs out, which more than 2^32 terms or clauses count as.
+/// The ground set of an obligation, which has as many clauses as `clauses` counts, and keeps the rules that
+/// every ground set keeps. It fails only where memory runs out, which 2^32 terms or clauses count as.
 pub fn ground(
     alloc: Global,
     flow: &Flow,
@@ -97,7 +98,8 @@ pub fn ground(
     o: &Obligation,
 ) -> Result<GroundSet, NoMemory>
     requires { Fits flow.now outline.now }
-    ensures { IfOk result (λ set. set ≡ ground_set flow.now outline.now o.now) }
+    ensures set { IfOk result (λ set. set ≡ ground_set flow.now outline.now o.now) }
+    ensures well { IfOk result (λ set. IsWellFormed set) }
 {
     let s = setting_of(alloc, flow, outline, o)?;
     let draft = draft_of(alloc, flow, outline, o, &s)?;

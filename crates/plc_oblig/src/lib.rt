@@ -3,7 +3,8 @@
 //!
 //! An outline holds where each obligation is kept: after `init`, at the entry of each operation, after each
 //! step of the thread that takes it, at each point of another thread meanwhile, and at each claim.
-//! The layers above go over them by their numbers; no list of them is made.
+//! The layers above go over them by a walk, or by their numbers; no list of them is made. Still obligations need
+//! no ground set.
 #![tactic(auto)]
 
 mod claims;
@@ -19,5 +20,5 @@ pub use finding::nth;
 pub use grounding::ground;
 pub use plc_setting::Obligation;
 pub use size::clauses;
-pub use stillness::still;
+pub use stillness::{still, still_obligations_are_kept};
 pub use walk::Walk;

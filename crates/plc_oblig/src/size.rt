@@ -1,10 +1,13 @@
 // How many clauses the ground set of an obligation has, item by item: a limit is asked of every obligation, and
 // no set is made for it.
-ghost use Rattle.std.specs.Prelude.{◌≡◌, ◌≤◌, ◌*◌, cond, List, length, count_by, sum_by, option_copied, All};
+ghost use Rattle.std.specs.Prelude.{◌≡◌, ◌≤◌, ◌+◌, ◌*◌, cond, List, length, count_by, sum_by, option_copied, All};
 ghost use Rattle.std.specs.List.{list_any};
+ghost use Rattle.plc_base.specs.Limits.{most, most_bound};
+ghost use Rattle.plc_base.specs.declared.limits.What1.TheVariants as limits;
 ghost use Rattle.plc_lang.specs.Locals.{is_pointer, is_other_data};
 ghost use Rattle.plc_lang.specs.Allocation.{is_new};
 ghost use Rattle.plc_lang.specs.Fit.{FileFits};
+ghost use Rattle.plc_flow.specs.WellFormed.{most_step_primitives};
 ghost use Rattle.plc_setting.specs.Fit.{Fits};
 ghost use Rattle.plc_setting.specs.Points.{clauses_at};
 ghost use Rattle.plc_setting.specs.Parts.{acting_locals, owner_locals, executed, conclusion, claim_made, clauses_of};
@@ -14,7 +17,7 @@ ghost use Rattle.plc_symbolic.specs.declared.symbolic.NodeTerm.{NodeTerm};
 ghost use Rattle.plc_items.specs.declared.execution.Execution.{Execution};
 ghost use Rattle.plc_items.specs.Items.{values_from, beginning, freshness, denied};
 ghost use Rattle.plc_oblig.specs.GroundSets.{ground_set};
-ghost use Rattle.plc_oblig.specs.Size.{has_values, is_pointer_field, is_pointer_load, prim_size, clause_size, AreSizesOf, AreFew};
+ghost use Rattle.plc_oblig.specs.Size.{has_values, is_pointer_field, is_pointer_load, prim_size, clause_size, AreSizesOf, AreFew, most_constants, most_pointers, most_behind, most_nodes, most_of_primitive, most_instances};
 
 use plc_base::PointId;
 use plc_flow::Flow;
@@ -97,9 +100,9 @@ fn bound_of(clause: Option<&Clause>) -> u64
 
 // How many clauses a primitive gives, where there are so many nodes.
 fn prim_size(nodes: u64, prim: &Prim) -> u64
-    requires { nodes ≤ 2000 }
+    requires { nodes ≤ most_nodes }
     ensures size { result ≡ prim_size nodes prim.now }
-    ensures few { result ≤ 4001 }
+    ensures few { result ≤ most_of_primitive }
 {
     match *prim {
         Prim::Load { .. } | Prim::DataLoad { .. } | Prim::RefreshLoad { .. } => 2,
@@ -118,10 +121,10 @@ fn prim_size(nodes: u64, prim: &Prim) -> u64
 
 // The pointer fields of so many nodes, where premises are deep.
 fn deep_nodes(deep: bool, nodes: u64, fields: u64) -> u64
-    requires nodes { nodes ≤ 196 }
-    requires fields { fields ≤ 8 }
+    requires nodes { nodes ≤ most_constants }
+    requires fields { fields ≤ most limits.Fields }
     ensures size { result ≡ cond deep (nodes * fields) 0 }
-    ensures small { result ≤ 1568 }
+    ensures small { result ≤ most_behind }
 {
     if deep {
         return nodes * fields;
@@ -139,7 +142,7 @@ fn one_if(made: bool) -> u64
 fn count_mine(flow: &Flow, o: &Obligation) -> u64
     requires { FileFits flow.now.file }
     ensures count { result ≡ count_by is_pointer (acting_locals flow.now o.now) }
-    ensures few { result ≤ 32 }
+    ensures few { result ≤ most limits.Locals }
 {
     count_pointers(acting_locals(flow, o))
 }
@@ -148,7 +151,7 @@ fn count_mine(flow: &Flow, o: &Obligation) -> u64
 fn count_theirs(flow: &Flow, o: &Obligation) -> u64
     requires { FileFits flow.now.file }
     ensures count { result ≡ count_by is_pointer (owner_locals flow.now o.now) }
-    ensures few { result ≤ 32 }
+    ensures few { result ≤ most limits.Locals }
 {
     count_pointers(owner_locals(flow, o))
 }
@@ -156,7 +159,7 @@ fn count_theirs(flow: &Flow, o: &Obligation) -> u64
 fn count_fields(file: &File) -> u64
     requires { FileFits file.now }
     ensures count { result ≡ count_by is_pointer_field file.now.fields }
-    ensures few { result ≤ 8 }
+    ensures few { result ≤ most limits.Fields }
 {
     count_pointer_fields(file.fields.as_slice())
 }
@@ -164,7 +167,7 @@ fn count_fields(file: &File) -> u64
 fn count_loads(flow: &Flow, outline: &Outline, o: &Obligation) -> u64
     requires { Fits flow.now outline.now }
     ensures count { result ≡ count_by is_pointer_load (executed flow.now o.now) }
-    ensures few { result ≤ 112 }
+    ensures few { result ≤ most_step_primitives }
 {
     count_pointer_loads(executed(flow, o))
 }
@@ -172,7 +175,7 @@ fn count_loads(flow: &Flow, outline: &Outline, o: &Obligation) -> u64
 fn count_bound(flow: &Flow, outline: &Outline, o: &Obligation) -> u64
     requires { Fits flow.now outline.now }
     ensures count { result ≡ bound_of (conclusion flow.now outline.now o.now) }
-    ensures few { result ≤ 2 }
+    ensures few { result ≤ most_bound }
 {
     bound_of(conclusion(flow, outline, o))
 }
@@ -203,10 +206,10 @@ fn sizes_of(flow: &Flow, outline: &Outline, o: &Obligation) -> Sizes
 
 // That each node has one of the values of each field.
 fn values_size(ghosts: &[Ghost], nodes: u64) -> u64
-    requires few { length ghosts.now ≤ 4 }
-    requires nodes { nodes ≤ 2000 }
+    requires few { length ghosts.now ≤ most limits.Ghosts }
+    requires nodes { nodes ≤ most_nodes }
     ensures size { (ts : List NodeTerm) → nodes ≡ length ts → result ≡ length (values_from 0 0 ghosts.now ts) }
-    ensures small { result ≤ 8000 }
+    ensures small { result ≤ most limits.Ghosts * most_nodes }
 {
     count_enumerated(ghosts) * nodes
 }
@@ -214,10 +217,10 @@ fn values_size(ghosts: &[Ghost], nodes: u64) -> u64
 // How things are at first.
 fn beginning_size(flow: &Flow, z: Sizes, o: &Obligation) -> u64
     requires few { AreFew z }
-    requires shared { length flow.now.file.shared ≤ 16 }
-    requires locals { length (acting_locals flow.now o.now) ≤ 32 }
+    requires shared { length flow.now.file.shared ≤ most limits.Shared }
+    requires locals { length (acting_locals flow.now o.now) ≤ most limits.Locals }
     ensures size { (s : Setting) → AreSizesOf s z → result ≡ length (beginning flow.now s o.now) }
-    ensures small { result ≤ 64 }
+    ensures small { result ≤ 2 * most limits.Locals }
 {
     match o {
         Obligation::Start { .. } => flow.file.shared.len() as u64 + z.bound,
@@ -229,10 +232,11 @@ fn beginning_size(flow: &Flow, z: Sizes, o: &Obligation) -> u64
 // What is known of the new node.
 fn freshness_size(file: &File, z: Sizes) -> u64
     requires few { AreFew z }
-    requires fields { length file.now.fields ≤ 8 }
-    requires ghosts { length file.now.ghosts ≤ 4 }
+    requires fields { length file.now.fields ≤ most limits.Fields }
+    requires ghosts { length file.now.ghosts ≤ most limits.Ghosts }
     ensures size { (s : Setting) → AreSizesOf s z → result ≡ length (freshness file.now s) }
-    ensures small { result ≤ 16094 }
+    ensures small { result ≤ 2 + most_pointers + most_nodes * most limits.Fields + most limits.Fields
+        + most limits.Ghosts }
 {
     if z.made {
         return 2
@@ -246,10 +250,10 @@ fn freshness_size(file: &File, z: Sizes) -> u64
 
 // The instances of a clause, where each name stands for so many nodes.
 fn instances_size(places: u64, clause: &Clause) -> u64
-    requires few { places ≤ 2000 }
-    requires bound { length clause.now.bound.names ≤ 2 }
+    requires few { places ≤ most_nodes }
+    requires bound { length clause.now.bound.names ≤ most_bound }
     ensures size { result ≡ clause_size places clause.now }
-    ensures small { result ≤ 4000000 }
+    ensures small { result ≤ most_instances }
 {
     let names = clause.bound.len();
     if names == 0 {
@@ -263,11 +267,11 @@ fn instances_size(places: u64, clause: &Clause) -> u64
 
 // Those of clauses.
 fn premises_size(places: u64, clauses: &[Clause]) -> u64
-    requires few { places ≤ 2000 }
-    requires bound { All (λ c. length c.bound.names ≤ 2) clauses.now }
-    requires short { length clauses.now ≤ 256 }
+    requires few { places ≤ most_nodes }
+    requires bound { All (λ c. length c.bound.names ≤ most_bound) clauses.now }
+    requires short { length clauses.now ≤ most limits.Invariants }
     ensures size { result ≡ sum_by (clause_size places) clauses.now }
-    ensures small { result ≤ length clauses.now * 4000000 }
+    ensures small { result ≤ length clauses.now * most_instances }
 {
     let mut total = 0;
     for clause in clauses {
@@ -278,11 +282,11 @@ fn premises_size(places: u64, clauses: &[Clause]) -> u64
 
 // Those of the clauses at a point.
 fn point_size(places: u64, flow: &Flow, outline: &Outline, p: u16) -> u64
-    requires few { places ≤ 2000 }
-    requires bound { All (λ i. length i.clause.bound.names ≤ 2) outline.now.items }
-    requires short { length outline.now.items ≤ 256 }
+    requires few { places ≤ most_nodes }
+    requires bound { All (λ i. length i.clause.bound.names ≤ most_bound) outline.now.items }
+    requires short { length outline.now.items ≤ most limits.Items }
     ensures size { result ≡ sum_by (clause_size places) (clauses_at flow.now outline.now p) }
-    ensures small { result ≤ length outline.now.items * 4000000 }
+    ensures small { result ≤ length outline.now.items * most_instances }
 {
     let mut total = 0;
     for item in outline.items.as_slice() {
@@ -295,10 +299,10 @@ fn point_size(places: u64, flow: &Flow, outline: &Outline, p: u16) -> u64
 
 // What is executed.
 fn executed_size(nodes: u64, prims: &[Prim]) -> u64
-    requires few { nodes ≤ 2000 }
-    requires short { length prims.now ≤ 112 }
+    requires few { nodes ≤ most_nodes }
+    requires short { length prims.now ≤ most_step_primitives }
     ensures size { result ≡ sum_by (prim_size nodes) prims.now }
-    ensures small { result ≤ length prims.now * 4001 }
+    ensures small { result ≤ length prims.now * most_of_primitive }
 {
     let mut total = 0;
     for prim in prims {
@@ -309,10 +313,10 @@ fn executed_size(nodes: u64, prims: &[Prim]) -> u64
 
 // The clauses of a point, where a thread stands at one.
 fn standing_size(places: u64, flow: &Flow, outline: &Outline, point: Option<PointId>) -> u64
-    requires few { places ≤ 2000 }
+    requires few { places ≤ most_nodes }
     requires fits { Fits flow.now outline.now }
     ensures size { result ≡ sum_by (clause_size places) (clauses_of flow.now outline.now point) }
-    ensures small { result ≤ 256 * 4000000 }
+    ensures small { result ≤ most limits.Items * most_instances }
 {
     match point {
         None => 0,
@@ -324,7 +328,7 @@ fn standing_size(places: u64, flow: &Flow, outline: &Outline, point: Option<Poin
 fn denied_size(flow: &Flow, outline: &Outline, o: &Obligation) -> u64
     requires { Fits flow.now outline.now }
     ensures size { (s : Setting) (x : Execution) → result ≡ length (denied flow.now outline.now s x o.now) }
-    ensures small { result ≤ 18 }
+    ensures small { result ≤ most_bound + most limits.Literals }
 {
     if let Some(Prim::Active { .. }) = claim_made(flow, o) {
         return 2;

@@ -3,7 +3,7 @@
 ghost use Rattle.std.specs.Prelude.{◌≡◌, not};
 ghost use Rattle.std.specs.List.{list_any};
 ghost use Rattle.plc_setting.specs.Parts.{executed};
-ghost use Rattle.plc_oblig.specs.Still.{is_shared, changes, is_still};
+ghost use Rattle.plc_oblig.specs.Still.{is_shared, changes, is_still, StillObligationsAreKept};
 
 use plc_flow::Flow;
 use plc_lang::{Prim, Var};
@@ -36,11 +36,17 @@ fn changes(prim: &Prim) -> bool
     }
 }
 
+fn any_changes(prims: &[Prim]) -> bool
+    ensures { result ≡ list_any changes prims.now }
+{
+    prims.iter().any(|prim| changes(prim))
+}
+
 // Whether no primitive that is executed does.
 fn is_quiet(flow: &Flow, o: &Obligation) -> bool
     ensures { result ≡ not (list_any changes (executed flow.now o.now)) }
 {
-    !executed(flow, o).iter().any(|prim| changes(prim))
+    !any_changes(executed(flow, o))
 }
 
 /// Whether the obligation is still: it says an invariant, or a clause of another thread, after a step that
@@ -57,3 +63,8 @@ pub fn still(flow: &Flow, outline: &Outline, o: &Obligation) -> bool
         _ => false,
     }
 }
+
+/// The law that a still obligation is kept: its ground set has no model, and needn't be made.
+pub fn still_obligations_are_kept()
+    ensures { StillObligationsAreKept }
+{}

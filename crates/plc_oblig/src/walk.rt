@@ -2,7 +2,7 @@
 // parts before for each of them; a walk keeps its place, and how many clauses there are at each point, which
 // each step asks again. The place is the obligation that would come next if its part went on: from there
 // each kind is searched on, and where it has no more the next kind is searched from its beginning.
-ghost use Rattle.std.specs.Prelude.{◌≡◌, ◌<◌, ◌++◌, length, map, [], IfOk};
+ghost use Rattle.std.specs.Prelude.{◌≡◌, ◌+◌, ◌<◌, ◌≤◌, length, IfOk};
 ghost use Rattle.plc_lang.specs.WellSorted.{is_claim};
 ghost use Rattle.plc_setting.specs.Points.{count_at};
 ghost use Rattle.plc_setting.specs.Setting.{below};
@@ -10,7 +10,7 @@ ghost use Rattle.plc_setting.specs.Fit.{Fits};
 ghost use Rattle.plc_setting.specs.declared.obligations.Obligation.TheVariants as places;
 ghost use Rattle.plc_oblig.specs.Obligations.{op_id, step_id, point_id, obligations};
 ghost use Rattle.plc_oblig.specs.Walk.{IsNextOf};
-ghost use Rattle.plc_oblig.specs.Left.{counts_of, left_from, following, last_number, IsFirst, IsFirstOr};
+ghost use Rattle.plc_oblig.specs.Left.{counts_of, following, last_number, IsFirstOrOn, IsFirstOrNone};
 
 use crate::claims::is_claim;
 use plc_base::{Items, NoMemory, OpId, PointId, StepId};
@@ -26,7 +26,6 @@ struct Counted<'a> {
     flow: &'a Flow,
     outline: &'a Outline,
     counts: &'a [u16],
-    ghost fits: { Fits flow.now outline.now },
     ghost each: { counts.now ≡ counts_of flow.now outline.now },
 }
 
@@ -43,9 +42,10 @@ fn counts_of(alloc: Global, flow: &Flow, outline: &Outline) -> Result<Items<u16>
 
 // How many clauses there are at a point.
 fn count_of(o: Counted<'_>, p: PointId) -> u16
-    requires { p.0 < o.flow.now.points }
-    ensures count { result ≡ count_at o.flow.now o.outline.now p.0 }
-    ensures few { result < 65000 }
+    requires point { p.0 < o.flow.now.points }
+    requires fits { Fits o.flow.now o.outline.now }
+    ensures count { result ≡ count_at o.entry.flow.now o.entry.outline.now p.0 }
+    ensures few { result ≤ 256 }
 {
     o.counts[p.0 as usize]
 }
@@ -53,8 +53,8 @@ fn count_of(o: Counted<'_>, p: PointId) -> u16
 // ---- the first obligation of a kind from a place on
 
 fn first_start(o: Counted<'_>, inv: u16) -> Option<Obligation>
-    ensures { IsFirstOr o.flow.now o.outline.now (left_from o.flow.now o.outline.now (places.Start inv))
-        (left_from o.flow.now o.outline.now (places.Enter (op_id 0) 0)) result }
+    requires { Fits o.flow.now o.outline.now }
+    ensures { IsFirstOrOn o.entry.flow.now o.entry.outline.now (places.Start inv) (places.Enter (op_id 0) 0) result }
 {
     if (inv as usize) < o.outline.invariants.len() {
         Some(Obligation::Start { inv })
@@ -64,84 +64,89 @@ fn first_start(o: Counted<'_>, inv: u16) -> Option<Obligation>
 }
 
 fn first_enter(o: Counted<'_>, op: OpId, clause: u16) -> Option<Obligation>
-    ensures { IsFirstOr o.flow.now o.outline.now (left_from o.flow.now o.outline.now (places.Enter op clause))
-        (left_from o.flow.now o.outline.now (places.Own (step_id 0) 0)) result }
+    requires { Fits o.flow.now o.outline.now }
+    ensures { IsFirstOrOn o.entry.flow.now o.entry.outline.now (places.Enter op clause)
+        (places.Own (step_id 0) 0) result }
 {
     let gates = o.flow.gates.as_slice();
-    let mut clause = clause;
+    let mut passed = clause;
     for k in op.0 as usize..gates.len() {
-        if clause < count_of(o, gates[k].entry) {
+        if passed < count_of(o, gates[k].entry) {
             return Some(Obligation::Enter {
                 op: OpId(k as u16),
-                clause,
+                clause: passed,
             });
         }
-        clause = 0;
+        passed = 0;
     }
     None
 }
 
 fn first_own(o: Counted<'_>, step: StepId, clause: u16) -> Option<Obligation>
-    ensures { IsFirstOr o.flow.now o.outline.now (left_from o.flow.now o.outline.now (places.Own step clause))
-        (left_from o.flow.now o.outline.now (places.Other (step_id 0) (point_id 0) 0)) result }
+    requires { Fits o.flow.now o.outline.now }
+    ensures { IsFirstOrOn o.entry.flow.now o.entry.outline.now (places.Own step clause)
+        (places.Other (step_id 0) (point_id 0) 0) result }
 {
     let steps = o.flow.steps.as_slice();
     let invariants = o.outline.invariants.len() as u16;
-    let mut clause = clause;
+    let mut passed = clause;
     for k in step.0 as usize..steps.len() {
-        if clause < invariants + count_of(o, steps[k].to) {
+        if passed < invariants + count_of(o, steps[k].to) {
             return Some(Obligation::Own {
                 step: StepId(k as u16),
-                clause,
+                clause: passed,
             });
         }
-        clause = 0;
+        passed = 0;
     }
     None
 }
 
 // Of one step.
 fn first_at_points(o: Counted<'_>, step: StepId, point: PointId, clause: u16) -> Option<Obligation>
-    requires { step.0 < length o.flow.now.steps }
-    ensures { IsFirstOr o.flow.now o.outline.now (left_from o.flow.now o.outline.now (places.Other step point clause))
-        (left_from o.flow.now o.outline.now (places.Other (step_id (step.0 + 1)) (point_id 0) 0)) result }
+    requires fits { Fits o.flow.now o.outline.now }
+    requires step { step.0 < length o.flow.now.steps }
+    ensures { IsFirstOrOn o.entry.flow.now o.entry.outline.now (places.Other step point clause)
+        (places.Other (step_id (step.0 + 1)) (point_id 0) 0) result }
 {
-    let mut clause = clause;
+    let mut passed = clause;
     for p in point.0..o.flow.points {
-        if clause < count_of(o, PointId(p)) {
+        if passed < count_of(o, PointId(p)) {
             return Some(Obligation::Other {
                 step,
                 point: PointId(p),
-                clause,
+                clause: passed,
             });
         }
-        clause = 0;
+        passed = 0;
     }
     None
 }
 
 fn first_other(o: Counted<'_>, step: StepId, point: PointId, clause: u16) -> Option<Obligation>
-    ensures { IsFirstOr o.flow.now o.outline.now (left_from o.flow.now o.outline.now (places.Other step point clause))
-        (left_from o.flow.now o.outline.now (places.Claim (step_id 0) 0)) result }
+    requires { Fits o.flow.now o.outline.now }
+    ensures { IsFirstOrOn o.entry.flow.now o.entry.outline.now (places.Other step point clause)
+        (places.Claim (step_id 0) 0) result }
 {
-    let mut point = point;
-    let mut clause = clause;
+    let mut reached = point;
+    let mut passed = clause;
     for k in step.0 as usize..o.flow.steps.len() {
-        let found = first_at_points(o, StepId(k as u16), point, clause);
+        let found = first_at_points(o, StepId(k as u16), reached, passed);
         if found.is_some() {
             return found;
         }
-        point = PointId(0);
-        clause = 0;
+        reached = PointId(0);
+        passed = 0;
     }
     None
 }
 
 // Of one step.
 fn first_claim_of(o: Counted<'_>, step: StepId, prim: u16) -> Option<Obligation>
-    requires { step.0 < length o.flow.now.steps }
-    ensures { IsFirstOr o.flow.now o.outline.now (left_from o.flow.now o.outline.now (places.Claim step prim))
-        (left_from o.flow.now o.outline.now (places.Claim (step_id (step.0 + 1)) 0)) result }
+    requires fits { Fits o.flow.now o.outline.now }
+    requires step { step.0 < length o.flow.now.steps }
+    ensures { IsFirstOrOn o.entry.flow.now o.entry.outline.now (places.Claim step prim)
+        (places.Claim (step_id (step.0 + 1)) 0) result }
 {
     let prims = o.flow.steps.as_slice()[step.0 as usize].prims.as_slice();
     for j in prim as usize..prims.len() {
@@ -156,15 +161,16 @@ fn first_claim_of(o: Counted<'_>, step: StepId, prim: u16) -> Option<Obligation>
 }
 
 fn first_claim(o: Counted<'_>, step: StepId, prim: u16) -> Option<Obligation>
-    ensures { IsFirstOr o.flow.now o.outline.now (left_from o.flow.now o.outline.now (places.Claim step prim)) [] result }
+    requires { Fits o.flow.now o.outline.now }
+    ensures { IsFirstOrNone o.entry.flow.now o.entry.outline.now (places.Claim step prim) result }
 {
-    let mut prim = prim;
+    let mut reached = prim;
     for k in step.0 as usize..o.flow.steps.len() {
-        let found = first_claim_of(o, StepId(k as u16), prim);
+        let found = first_claim_of(o, StepId(k as u16), reached);
         if found.is_some() {
             return found;
         }
-        prim = 0;
+        reached = 0;
     }
     None
 }
@@ -172,8 +178,8 @@ fn first_claim(o: Counted<'_>, step: StepId, prim: u16) -> Option<Obligation>
 // ---- the first of all from a place on
 
 fn from_other(o: Counted<'_>, step: StepId, point: PointId, clause: u16) -> Option<Obligation>
-    ensures { IsFirstOr o.flow.now o.outline.now (left_from o.flow.now o.outline.now (places.Other step point clause))
-        [] result }
+    requires { Fits o.flow.now o.outline.now }
+    ensures { IsFirstOrNone o.entry.flow.now o.entry.outline.now (places.Other step point clause) result }
 {
     match first_other(o, step, point, clause) {
         Some(found) => Some(found),
@@ -182,7 +188,8 @@ fn from_other(o: Counted<'_>, step: StepId, point: PointId, clause: u16) -> Opti
 }
 
 fn from_own(o: Counted<'_>, step: StepId, clause: u16) -> Option<Obligation>
-    ensures { IsFirstOr o.flow.now o.outline.now (left_from o.flow.now o.outline.now (places.Own step clause)) [] result }
+    requires { Fits o.flow.now o.outline.now }
+    ensures { IsFirstOrNone o.entry.flow.now o.entry.outline.now (places.Own step clause) result }
 {
     match first_own(o, step, clause) {
         Some(found) => Some(found),
@@ -191,7 +198,8 @@ fn from_own(o: Counted<'_>, step: StepId, clause: u16) -> Option<Obligation>
 }
 
 fn from_enter(o: Counted<'_>, op: OpId, clause: u16) -> Option<Obligation>
-    ensures { IsFirstOr o.flow.now o.outline.now (left_from o.flow.now o.outline.now (places.Enter op clause)) [] result }
+    requires { Fits o.flow.now o.outline.now }
+    ensures { IsFirstOrNone o.entry.flow.now o.entry.outline.now (places.Enter op clause) result }
 {
     match first_enter(o, op, clause) {
         Some(found) => Some(found),
@@ -200,7 +208,8 @@ fn from_enter(o: Counted<'_>, op: OpId, clause: u16) -> Option<Obligation>
 }
 
 fn from_start(o: Counted<'_>, inv: u16) -> Option<Obligation>
-    ensures { IsFirstOr o.flow.now o.outline.now (left_from o.flow.now o.outline.now (places.Start inv)) [] result }
+    requires { Fits o.flow.now o.outline.now }
+    ensures { IsFirstOrNone o.entry.flow.now o.entry.outline.now (places.Start inv) result }
 {
     match first_start(o, inv) {
         Some(found) => Some(found),
@@ -209,7 +218,8 @@ fn from_start(o: Counted<'_>, inv: u16) -> Option<Obligation>
 }
 
 fn first_from(o: Counted<'_>, at: Obligation) -> Option<Obligation>
-    ensures { IsFirstOr o.flow.now o.outline.now (left_from o.flow.now o.outline.now at) [] result }
+    requires { Fits o.flow.now o.outline.now }
+    ensures { IsFirstOrNone o.entry.flow.now o.entry.outline.now at result }
 {
     match at {
         Obligation::Start { inv } => from_start(o, inv),

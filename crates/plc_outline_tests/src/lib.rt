@@ -4,6 +4,8 @@
 #![tactic(auto)]
 
 #[cfg(test)]
+mod amounts;
+#[cfg(test)]
 mod collected;
 #[cfg(test)]
 mod erased;

@@ -1,5 +1,5 @@
-// Ground sets of obligations, one of each kind, and one at depth 1, as an independent reading of the format gives
-// them.
+// Ground sets of obligations as an independent reading of the format gives them: one of each kind and one at depth 1
+// whole, others by checksums, with loads, `retire` and premises at depth 1 among them, and sums over whole files.
 //
 // The first line has the terms. `s0` is a shared pointer, `a1` a local of the acting thread, `b1` one of the other
 // thread, `c0` a node of the conclusion, `l0` a load, `v0` a value, `n7` a number, `f0.1@3` version 1 of a field at
@@ -490,6 +490,15 @@ fn set_text(alloc: Global, set: &GroundSet) -> Result<String, AllocError> {
     Ok(text)
 }
 
+// That of FNV-1a.
+fn checksum(text: &str) -> u32 {
+    let mut sum: u32 = 0x811c_9dc5;
+    for byte in text.as_bytes() {
+        sum = (sum ^ *byte as u32).wrapping_mul(0x0100_0193);
+    }
+    sum
+}
+
 // The set of an obligation, if it has as many clauses as are counted.
 fn text_of(
     alloc: Global,
@@ -541,5 +550,70 @@ fn sets_are_those_of_the_format(rt: HostRuntime) -> Result<(), AllocError> {
         assert_eq!(rt; answer(alloc, file.as_str(), *i)?.as_str(), *text);
     }
     assert_eq!(rt; answer(alloc, DEEP, 0)?.as_str(), DEEP_START);
+    Ok(())
+}
+
+#[test]
+fn other_sets_have_their_checksums(rt: HostRuntime) -> Result<(), AllocError> {
+    let alloc = rt.alloc();
+    let of_hazards: [(u64, u32); 13] = [
+        (6, 0x02be_20ff),
+        (9, 0xb3fc_e87d),
+        (14, 0x7bec_4624),
+        (17, 0x9bb1_f6ee),
+        (60, 0x24f5_9697),
+        (120, 0x4f21_baad),
+        (200, 0x2d37_15f0),
+        (267, 0x5c00_dc9d),
+        (300, 0x5c00_dc9d),
+        (777, 0x41c7_d821),
+        (1500, 0x9833_5bcd),
+        (2222, 0x9833_5bcd),
+        (2844, 0x805f_49e6),
+    ];
+    for (i, sum) in &of_hazards {
+        let file = hazards(alloc)?;
+        assert_eq!(rt; checksum(answer(alloc, file.as_str(), *i)?.as_str()), *sum);
+    }
+    let deep: [(u64, u32); 35] = [
+        (1, 0xb390_8d91),
+        (2, 0x8b92_79d1),
+        (3, 0x3857_3a91),
+        (4, 0x982e_7dc5),
+        (8, 0x15e5_3516),
+        (17, 0x5cdf_b2d4),
+        (26, 0x0ca9_2a6c),
+        (35, 0xe947_7a26),
+        (44, 0xbf14_1963),
+        (53, 0xcb61_a41d),
+        (62, 0xe151_28b4),
+        (71, 0x489b_d19e),
+        (80, 0x6647_0b9c),
+        (89, 0xbf14_1963),
+        (98, 0xbb23_c910),
+        (115, 0xf25d_f25b),
+        (144, 0xdab3_626f),
+        (173, 0xc126_3cfd),
+        (202, 0x2d9a_60bd),
+        (231, 0x34f6_e71a),
+        (260, 0x37ce_5351),
+        (289, 0x73ce_a600),
+        (318, 0x37ce_5351),
+        (347, 0x7d17_5bba),
+        (376, 0xd87c_cc7e),
+        (405, 0x72d8_5bf7),
+        (434, 0xe1aa_4f00),
+        (463, 0xae3a_13ee),
+        (492, 0x7d17_5bba),
+        (521, 0xb5b0_8551),
+        (550, 0x9c3f_d854),
+        (579, 0x42db_7274),
+        (674, 0xfd8d_5af7),
+        (675, 0xb9bf_75ae),
+        (676, 0xb9bf_75ae),
+    ];
+    for (i, sum) in &deep {
+        assert_eq!(rt; checksum(answer(alloc, DEEP, *i)?.as_str()), *sum);
+    }
     Ok(())
 }

@@ -2,3 +2,5 @@ pub mod Points
 pub mod Runs
 pub mod Fitting
 pub mod Passages
+pub mod Closing
+pub mod Refused

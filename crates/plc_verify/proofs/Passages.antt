@@ -38,7 +38,7 @@ use Rattle.plc_verify.proofs.Points.{There, there, point_count, entry_point}
 
 -- ---- two environments
 
-local_at : (e : Env) (v : ℕ) → type_of e (vars.Local v) ≡ get_or e.locals v (bare e.w)
+pub local_at : (e : Env) (v : ℕ) → type_of e (vars.Local v) ≡ get_or e.locals v (bare e.w)
 unfolding type_of
 local_at e v = refl
 
@@ -56,7 +56,7 @@ bare_below : (m n : ℕ) → within m n ≡ true → type_below (bare m) (bare n
 bare_below m n h = and_from _ _ refl h
 
 -- there are no locals past the end
-past_end : (a b : Env) (v : ℕ) → length a.locals ≤ v → length a.locals ≡ length b.locals → within a.w b.w ≡ true → LocalBelow a b v
+pub past_end : (a b : Env) (v : ℕ) → length a.locals ≤ v → length a.locals ≡ length b.locals → within a.w b.w ≡ true → LocalBelow a b v
 past_end a b v past same h =
     let first : type_of a (vars.Local v) ≡ bare a.w = local_at a v ∙ get_or_past a.locals v (bare a.w) past in
     let second : type_of b (vars.Local v) ≡ bare b.w = local_at b v ∙ get_or_past b.locals v (bare b.w) (omega arith) in

@@ -7,9 +7,13 @@ use Rattle.plc_auto.specs.declared.observer.Observer.{Observer}
 use Rattle.plc_auto.specs.Sets.{all_locations}
 use Rattle.plc_type.specs.declared.env.Env.{Env}
 use Rattle.plc_xfer.specs.Typings.{all_types, env_at, led, fault_at}
+use Rattle.plc_flow.specs.declared.flow.Flow.{Flow}
+use Rattle.plc_logic.specs.declared.clause.Outline.{Outline}
+use Rattle.plc_ground.specs.declared.terms.Tree.{Tree}
 use Rattle.plc_verify.specs.declared.fault.VerifyFault.{VerifyFault}
 use Rattle.plc_verify.specs.declared.fault.VerifyFault.TheVariants.{EnvCount, EnvAt, EntryAt, TypeAt, FlowAt, TreeCount, TreeAt, Memory}
 use Rattle.plc_verify.specs.Environments.{IsTypingFault, LocalBelow}
+use Rattle.plc_verify.specs.Trees.{IsTreeFault}
 
 -- so many locals, and sets that are as they have to be
 abbrev pub env_fits : Observer → ℕ → Env → Bool
@@ -47,3 +51,14 @@ MayFail o s envs (FlowAt step var) = IsTypingFault o s envs (FlowAt step var)
 MayFail o s envs (TreeCount have want) = ⊥
 MayFail o s envs (TreeAt obligation node) = ⊥
 MayFail o s envs Memory = Unit {0}
+
+-- an item of the trees that fails, or memory that runs out
+abbrev pub MayNotClose : Flow → Outline → List Tree → VerifyFault → Type 0
+MayNotClose flow outline trees (TreeCount have want) = IsTreeFault flow outline trees (TreeCount have want)
+MayNotClose flow outline trees (TreeAt obligation node) = IsTreeFault flow outline trees (TreeAt obligation node)
+MayNotClose flow outline trees (EnvCount have want) = ⊥
+MayNotClose flow outline trees (EnvAt point) = ⊥
+MayNotClose flow outline trees (EntryAt op var) = ⊥
+MayNotClose flow outline trees (TypeAt step prim) = ⊥
+MayNotClose flow outline trees (FlowAt step var) = ⊥
+MayNotClose flow outline trees Memory = Unit {0}

@@ -1,10 +1,11 @@
 -- When a certificate is valid for a flow and an outline, and why it isn't: the first item that fails.
 use Rattle.std.specs.Prelude.{◌⊎◌}
 use Rattle.plc_auto.specs.declared.observer.Observer.{Observer}
-use Rattle.plc_xfer.specs.Typings.{IsTyping}
+use Rattle.plc_xfer.specs.Typings.{IsTyping, HasTyping}
 use Rattle.plc_flow.specs.declared.flow.Flow.{Flow}
 use Rattle.plc_flow.specs.Skeleton.{skeleton_of}
 use Rattle.plc_logic.specs.declared.clause.Outline.{Outline}
+use Rattle.plc_oblig.specs.Outlines.{OutlineHolds}
 use Rattle.plc_cert.specs.declared.cert.Cert.{Cert}
 use Rattle.plc_verify.specs.declared.fault.VerifyFault.{VerifyFault}
 use Rattle.plc_verify.specs.declared.fault.VerifyFault.TheVariants.{EnvCount, EnvAt, EntryAt, TypeAt, FlowAt, TreeCount, TreeAt, Memory}
@@ -31,3 +32,9 @@ abbrev pub IsRefused : Flow → Observer → Outline → Cert → VerifyFault �
 IsRefused flow o outline cert Memory = Unit {0}
 IsRefused flow o outline cert fault =
     IsFirstFault flow o outline cert fault × (IsValid flow o outline cert → ⊥)
+
+-- a valid certificate shows that there is a typing, and that the outline holds
+abbrev pub ValidCertificatesProve : Type 0
+ValidCertificatesProve =
+    (flow : Flow) (o : Observer) (outline : Outline) (cert : Cert) → IsValid flow o outline cert
+    → HasTyping o (skeleton_of flow) × OutlineHolds flow outline

@@ -8,7 +8,12 @@
 
 mod environments;
 mod fault;
+mod judging;
+mod laws;
 mod steps;
+mod trees;
 mod typing;
 
 pub use fault::{Slot, VerifyFault};
+pub use judging::verify;
+pub use laws::valid_certificates_prove;

@@ -1,10 +1,24 @@
 use Rattle.std.proofs.Common.{◌≡◌, map, ap, ◌∙◌}
+use Rattle.plc_ground.specs.declared.terms.GroundSet.{GroundSet}
 use Rattle.plc_setting.specs.Sorts.{sort_of}
+use Rattle.plc_setting.specs.Setting.{setting_of}
+use Rattle.plc_oblig.specs.GroundSets.{drafted, ground_set}
 use Rattle.plc_oblig.proofs.Assembled.{assembled}
+use Rattle.plc_oblig.proofs.WellFormed.{made_well_formed}
 use Rattle.plc_oblig.proofs.grounding.ground.Goals as goal
 
 pub returns : goal.returns
-returns c = assembled c.args.flow.now c.args.outline.now c.args.o.now c.in_ok-s.s c.in_ok-sorts.sorts c.in_ok-draft.draft c.in_ok-set.set
+returns c =
+    let flow = c.args.flow.now in
+    let outline = c.args.outline.now in
+    let o = c.args.o.now in
+    let draft = c.in_ok-draft.ensures ∙ ap (λ s. drafted flow outline s o) c.in_ok-s.ensures.setting in
+    let set = assembled flow outline o c.in_ok-s.s c.in_ok-sorts.sorts c.in_ok-draft.draft c.in_ok-set.set
     c.in_ok-s.ensures.setting c.in_ok-draft.ensures
-    (c.in_ok-sorts.ensures ∙ ap (λ acts. map (sort_of c.args.flow.now c.args.o.now acts) c.in_ok-draft.draft.terms) c.as_slice.ensures)
-    c.in_ok-set.ensures.set
+    (c.in_ok-sorts.ensures ∙ ap (λ acts. map (sort_of flow o acts) c.in_ok-draft.draft.terms) c.as_slice.ensures)
+    c.in_ok-set.ensures.set in
+    record {
+      set = set;
+      well = made_well_formed flow outline o c.in_ok-draft.draft c.in_ok-set.set c.requires draft set
+          c.in_ok-set.ensures.few_terms c.in_ok-set.ensures.few_clauses;
+    }

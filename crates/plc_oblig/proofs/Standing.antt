@@ -1,5 +1,5 @@
 -- The clauses of a point fit the operation that has the point, and a point is one of one operation.
-use Rattle.std.proofs.Common.{◌≡◌, ℕ, Bool, true, false, not, ◌&&◌, ◌||◌, ◌==◌, nat_le, nat_lt, cond, List, [], ◌∷◌, filter, length, Option, Some, None, slice_get, refl, sym, ap, ◌∙◌, subst}
+use Rattle.std.proofs.Common.{◌≡◌, ℕ, Bool, true, false, not, ◌&&◌, ◌||◌, ◌==◌, nat_le, nat_lt, cond, List, [], ◌∷◌, filter, length, Option, Some, None, slice_get, refl, sym, ap, ◌∙◌, subst, arith}
 use Rattle.std.specs.List.{list_any, position, position_or_len}
 use Rattle.std.proofs.lemmas.Bool.{and_parts, and_from, eqb-true, ltb-true, lt-ltb, leb-true, le-leb}
 use Rattle.std.proofs.lemmas.Option.{slice_get_within, same_Some}
@@ -21,8 +21,8 @@ use Rattle.plc_setting.specs.Fit.{Fits}
 use Rattle.plc_setting.specs.Parts.{has_point, locals_or_none, point_locals}
 use Rattle.plc_setting.specs.Points.{is_over, is_point, names_point, site_is_at, stands_at, clauses_at}
 use Rattle.plc_flow.proofs.Each.{Each, each_so}
-use Rattle.plc_held.proofs.Lists.{each_map, each_of_all}
-use Rattle.plc_held.proofs.Places.{in_at, first_found}
+use Rattle.plc_oblig.proofs.Lists.{each_map, each_of_all}
+use Rattle.plc_oblig.proofs.Places.{in_at, first_found, there}
 
 -- what passes a test
 pub each_filter : {A : Type 0} (P : A → Type 0) (test : A → Bool) (xs : List A) → Each P xs → Each (λ x. P x × (test x ≡ true)) (filter test xs)
@@ -60,35 +60,47 @@ over_point p g h =
     let b = and_parts (nat_le g.first p) (nat_lt p g.after) a.0 in
     (leb-true g.first p b.0, ltb-true p g.after b.1)
 
--- the clause of an item that stands at a point fits the point's operation
-site_fits : (flow : Flow) (outline : Outline) → Fits flow outline → (op p : ℕ) (operation : Op) → Stands flow op p operation → (c : Clause) (site : Site) → SiteFits flow.file c site → site_is_at flow p site ≡ true
-    → ClauseFits flow.file operation.locals true c
-site_fits flow outline fits op p operation s c (Over o) h at = go (slice_get flow.gates o.0) refl at
+-- a clause fits the operation that has the point
+pub record Placed (flow : Flow) (p : ℕ) (c : Clause) : Type 0 where
+  pub op : ℕ
+  pub operation : Op
+  pub stands : Stands flow op p operation
+  pub fits : ClauseFits flow.file operation.locals true c
+
+-- so does the clause of an item that stands at the point
+item_placed : (flow : Flow) (outline : Outline) → Fits flow outline → (p : ℕ) (c : Clause) (site : Site) → SiteFits flow.file c site → site_is_at flow p site ≡ true → Placed flow p c
+item_placed flow outline fits p c (Over o) h at = go (slice_get flow.gates o.0) refl at
   where
-    go : (g : Option Gate) → slice_get flow.gates o.0 ≡ g → is_over g p ≡ true → ClauseFits flow.file operation.locals true c
+    go : (g : Option Gate) → slice_get flow.gates o.0 ≡ g → is_over g p ≡ true → Placed flow p c
     go None opens at = cc
-    go (Some g) opens at =
-        let same = one_op flow outline fits op o.0 p operation g s opens (over_point p g at) in
-        let its : h.0 ≡ operation = same_Some h.0 operation (sym h.1 ∙ ap (slice_get flow.file.ops) same ∙ s.named) in
-        subst (λ (x : Op). ClauseFits flow.file x.locals true c) its h.2
-site_fits flow outline fits op p operation s c (At labels) h at =
+    go (Some g) opens at = record { op = o.0; operation = h.0; stands = record { gate = g; opens = opens; within = over_point p g at; named = h.1 }; fits = h.2 }
+item_placed flow outline fits p c (At labels) h at =
     let l = some_passes (λ l. op_of_label (labels_by_op flow.file.ops) l ≡ Some h.0) (names_point flow.labels p) labels (each_of_all (λ l. op_of_label (labels_by_op flow.file.ops) l ≡ Some h.0) labels h.3.within) at in
     go l.0 l.1 (slice_get flow.labels l.0) refl l.2
   where
-    go : (l : ℕ) → op_of_label (labels_by_op flow.file.ops) l ≡ Some h.0 → (q : Option PointId) → slice_get flow.labels l ≡ q → is_point p q ≡ true → ClauseFits flow.file operation.locals true c
+    go : (l : ℕ) → op_of_label (labels_by_op flow.file.ops) l ≡ Some h.0 → (q : Option PointId) → slice_get flow.labels l ≡ q → is_point p q ≡ true → Placed flow p c
     go l stands None there is = cc
     go l stands (Some q) there is =
         let i = fits.sorted.each_label l q there in
         let k : i.op ≡ h.0 = same_Some i.op h.0 (sym i.stands ∙ stands) in
-        let same = one_op flow outline fits op i.op p operation i.gate s i.opens (subst (IsPointOf i.gate) (eqb-true q.0 p is) i.within) in
-        let its : h.1 ≡ operation = same_Some h.1 operation (sym h.2 ∙ ap (slice_get flow.file.ops) (sym k ∙ same) ∙ s.named) in
-        subst (λ (x : Op). ClauseFits flow.file x.locals true c) its h.4
+        let within = subst (IsPointOf i.gate) (eqb-true q.0 p is) i.within in
+        record { op = i.op; operation = h.1; stands = record { gate = i.gate; opens = i.opens; within = within; named = ap (slice_get flow.file.ops) k ∙ h.2 }; fits = h.4 }
 
-pub point_clauses_fit : (flow : Flow) (outline : Outline) → Fits flow outline → (op p : ℕ) (operation : Op) → Stands flow op p operation → Each (ClauseFits flow.file operation.locals true) (clauses_at flow outline p)
-point_clauses_fit flow outline fits op p operation s = each_map (ClauseFits flow.file operation.locals true) (λ (i : Item). i.clause) (filter (stands_at flow p) outline.items)
-    (each_so (λ i. ItemFits flow.file i × (stands_at flow p i ≡ true)) (λ (i : Item). ClauseFits flow.file operation.locals true i.clause) (λ i h. site_fits flow outline fits op p operation s i.clause i.site h.0 h.1)
+clauses_placed : (flow : Flow) (outline : Outline) → Fits flow outline → (p : ℕ) → Each (Placed flow p) (clauses_at flow outline p)
+clauses_placed flow outline fits p = each_map (Placed flow p) (λ (i : Item). i.clause) (filter (stands_at flow p) outline.items)
+    (each_so (λ i. ItemFits flow.file i × (stands_at flow p i ≡ true)) (λ (i : Item). Placed flow p i.clause) (λ i h. item_placed flow outline fits p i.clause i.site h.0 h.1)
     (filter (stands_at flow p) outline.items)
     (each_filter (ItemFits flow.file) (stands_at flow p) outline.items (each_of_all (ItemFits flow.file) outline.items fits.outline_fits.each_item)))
+
+-- a point has one operation
+fits_same : (flow : Flow) (outline : Outline) → Fits flow outline → (op p : ℕ) (operation : Op) → Stands flow op p operation → (c : Clause) → Placed flow p c → ClauseFits flow.file operation.locals true c
+fits_same flow outline fits op p operation s c placed =
+    let same = one_op flow outline fits op placed.op p operation placed.stands.gate s placed.stands.opens placed.stands.within in
+    let its : placed.operation ≡ operation = same_Some placed.operation operation (sym placed.stands.named ∙ ap (slice_get flow.file.ops) same ∙ s.named) in
+    subst (λ (x : Op). ClauseFits flow.file x.locals true c) its placed.fits
+
+pub point_clauses_fit : (flow : Flow) (outline : Outline) → Fits flow outline → (op p : ℕ) (operation : Op) → Stands flow op p operation → Each (ClauseFits flow.file operation.locals true) (clauses_at flow outline p)
+point_clauses_fit flow outline fits op p operation s = each_so (Placed flow p) (ClauseFits flow.file operation.locals true) (fits_same flow outline fits op p operation s) (clauses_at flow outline p) (clauses_placed flow outline fits p)
 
 -- ---- the locals of a point
 
@@ -104,3 +116,17 @@ locals_at flow outline fits op p operation s =
     let inside = lt-ltb (position_or_len (has_point p) flow.gates) (length flow.gates) (slice_get_within flow.gates (position_or_len (has_point p) flow.gates) f.0 f.1) in
     let found : position (has_point p) flow.gates ≡ Some op = rw inside (ap Some same) in
     ap (locals_or_none flow) found ∙ op_locals flow op operation s.named
+
+-- the clauses of a point fit its locals
+pub clauses_at_fit : (flow : Flow) (outline : Outline) → Fits flow outline → (p : ℕ) → Each (ClauseFits flow.file (point_locals flow p) true) (clauses_at flow outline p)
+clauses_at_fit flow outline fits p = each_so (Placed flow p) (ClauseFits flow.file (point_locals flow p) true)
+    (λ c q. subst (λ ls. ClauseFits flow.file ls true c) (sym (locals_at flow outline fits q.op p q.operation q.stands)) q.fits) (clauses_at flow outline p) (clauses_placed flow outline fits p)
+
+-- those of a point of an operation
+pub gate_locals : (flow : Flow) (outline : Outline) → Fits flow outline → (op : ℕ) (g : Gate) → slice_get flow.gates op ≡ Some g → (p : ℕ) → IsPointOf g p → point_locals flow p ≡ locals_of flow.file.ops op
+gate_locals flow outline fits op g opens p within =
+    let inside = slice_get_within flow.gates op g opens in
+    let same = fits.flow_fits.well.gates in
+    let o = there flow.file.ops op (omega (arith, inside, same)) in
+    let s : Stands flow op p o.0 = record { gate = g; opens = opens; within = within; named = o.1 } in
+    locals_at flow outline fits op p o.0 s ∙ sym (op_locals flow op o.0 o.1)

@@ -1,0 +1,306 @@
+-- A still obligation is kept: an instance of what held before is, literal by literal, the opposite of the negated conclusion.
+use Rattle.std.proofs.Common.{◌≡◌, ℕ, zero, suc, ◌+◌, ◌<◌, Bool, true, false, not, nat_lt, List, [], ◌∷◌, ◌++◌, map, length, slice_get, Some, refl, sym, ap, ◌∙◌, subst, arith}
+use Rattle.std.specs.Prelude.{if◌then◌else◌, All, Any, Contains, MatchBool, flat_map, filter, slice_index, slice_index_or}
+use Rattle.std.specs.List.{list_any}
+use Rattle.std.proofs.lemmas.Bool.{and_parts, ltb-true}
+use Rattle.std.proofs.lemmas.Option.{get_or_from_slice_get}
+use Rattle.std.proofs.lemmas.List.{length-map, map-append}
+use Rattle.std.proofs.lemmas.List.FromFn.{length-range_with_len, length-map-range_with_len, get_or-range_with_len}
+use Rattle.std.proofs.lemmas.List.Elements.{All-nil, All-cons, All-head, All-tail, All-append, All-map, All-contains, Contains-append_left, Contains-append_right}
+use Rattle.plc_lang.specs.declared.syntax.Ghost.{Ghost as AuxiliaryField}
+use Rattle.plc_lang.specs.declared.syntax.Primitive.{Primitive}
+use Rattle.plc_lang.specs.WellSorted.{is_claim}
+use Rattle.plc_flow.specs.declared.flow.Flow.{Flow}
+use Rattle.plc_logic.specs.declared.clause.Base.{Base}
+use Rattle.plc_logic.specs.declared.clause.Base.TheVariants as bases
+use Rattle.plc_logic.specs.declared.clause.Clause.{Clause}
+use Rattle.plc_logic.specs.declared.clause.Item.{Item}
+use Rattle.plc_logic.specs.declared.clause.Literal.{Literal}
+use Rattle.plc_logic.specs.declared.clause.Literal.TheVariants as literal
+use Rattle.plc_logic.specs.declared.clause.Term.{Term}
+use Rattle.plc_logic.specs.declared.clause.Term.TheVariants as terms
+use Rattle.plc_logic.specs.declared.clause.Sort.{Sort}
+use Rattle.plc_logic.specs.declared.clause.Outline.{Outline}
+use Rattle.plc_logic.specs.Fit.{InReach, IsNode, HasSort, LiteralFits, InvariantFits, in_reach_of}
+use Rattle.plc_logic.specs.Negation.{negation}
+use Rattle.plc_ground.specs.declared.terms.Symbol.TheVariants as symbols
+use Rattle.plc_ground.specs.Model.{HoldsIn, IsModel, literals}
+use Rattle.plc_setting.specs.declared.obligations.Obligation.{Obligation}
+use Rattle.plc_setting.specs.declared.obligations.Obligation.TheVariants.{Start, Enter, Own, Other, Claim}
+use Rattle.plc_setting.specs.declared.setting.Setting.{Setting}
+use Rattle.plc_setting.specs.Fit.{Fits}
+use Rattle.plc_setting.specs.Parts.{executed, has_owner, conclusion, acting_locals, acting_premises, claim_made, step_prims}
+use Rattle.plc_setting.specs.Points.{clauses_at, count_at, stands_at}
+use Rattle.plc_setting.specs.Setting.{below, setting_of, bound_of, pointer_loads_from}
+use Rattle.plc_items.specs.declared.execution.Execution.{Execution}
+use Rattle.plc_items.specs.Execution.{start, after_all, executed_clauses}
+use Rattle.plc_items.specs.Items.{values_from, beginning, freshness, premises, denied, denied_clause, denied_claim, clauses_of, escapes, instance_at, tuples, instances, bound_nodes, read_literal}
+use Rattle.plc_symbolic.specs.declared.symbolic.NodeTerm.{NodeTerm}
+use Rattle.plc_symbolic.specs.declared.symbolic.NodeTerm.TheVariants.{At}
+use Rattle.plc_symbolic.specs.declared.symbolic.SymbolicTerm.{SymbolicTerm}
+use Rattle.plc_symbolic.specs.declared.symbolic.SymbolicTerm.TheVariants.{Constant}
+use Rattle.plc_symbolic.specs.declared.symbolic.SymbolicLit.{SymbolicLit}
+use Rattle.plc_symbolic.specs.Terms.{is_not, null}
+use Rattle.plc_symbolic.specs.Numbering.{Drafted, blank, listed_all, number_lit, numbered}
+use Rattle.plc_symbolic.proofs.Drafts.{written_all-clauses, listed_all-clauses}
+use Rattle.plc_oblig.specs.GroundSets.{listed_first, drafted, ground_set}
+use Rattle.plc_oblig.specs.Obligations.{parts_from, starts, enters_of, owns_of, others_at, others_of, claims_in, claims_of, enters, owns, others, claims, obligations, step_id, point_id}
+use Rattle.plc_oblig.specs.Outlines.{IsKept}
+use Rattle.plc_oblig.specs.Still.{changes, is_quiet, is_still}
+use Rattle.plc_oblig.proofs.Walking.{found_left}
+use Rattle.plc_oblig.proofs.Places.{there}
+use Rattle.plc_oblig.proofs.Members.{at_head, in_tail, at_place, contains_map, contains_flat_map, Within, within_left, within_right, within_itself, within_map, map_read, map_from}
+use Rattle.plc_oblig.proofs.Staying.{Stays, start_stays, stays_after_all, none_new, BaseStays, TermStays, LiteralStays, literal_stays}
+
+-- ---- a clause with the opposites of all its literals has no model
+
+-- the same terms, with the truth turned
+abbrev pub opposite : SymbolicLit → SymbolicLit
+opposite l = record { left = l.left; right = l.right; equal = not l.equal }
+
+not_both : (A : Type 0) (b : Bool) → MatchBool b A (A → ⊥) → MatchBool (not b) A (A → ⊥) → ⊥
+not_both A true h k = k h
+not_both A false h k = h k
+
+opposed : (ts : List SymbolicTerm) (class : ℕ → ℕ) (l : SymbolicLit) → HoldsIn class (number_lit ts l) → HoldsIn class (number_lit ts (opposite l)) → ⊥
+opposed ts class l h k = not_both (class (number_lit ts l).left ≡ class (number_lit ts l).right) l.equal h k
+
+module _ (sorts : List Sort) (d : Drafted) (class : List ℕ) (model : IsModel (numbered sorts d) class) where
+  some_true : (c : List SymbolicLit) → Contains d.clauses c → Any (HoldsIn (slice_index class)) (map (number_lit d.terms) c)
+  some_true c h =
+      let e = length-map d.clauses (map (number_lit d.terms)) in
+      let less = h.1 in
+      subst (Any (HoldsIn (slice_index class))) (map_read (map (number_lit d.terms)) d.clauses h.0 c [] h.1 h.2) (model.clauses h.0 (omega arith))
+
+  only_true : (l : SymbolicLit) → Any (HoldsIn (slice_index class)) (map (number_lit d.terms) (l ∷ [])) → HoldsIn (slice_index class) (number_lit d.terms l)
+  only_true l (zero, y, less, is, holds) = subst (HoldsIn (slice_index class)) (sym is) holds
+  only_true l (suc k, y, less, is, holds) = absurd (omega arith)
+
+  refuted : (c : List SymbolicLit) → Contains d.clauses c → ((l : SymbolicLit) → Contains c l → Contains d.clauses (opposite l ∷ [])) → ⊥
+  refuted c h all =
+      let t = some_true c h in
+      let f = map_from (number_lit d.terms) c t.0 t.1 t.2 t.3 in
+      opposed d.terms (slice_index class) f.0 (subst (HoldsIn (slice_index class)) (sym f.2) t.4) (only_true (opposite f.0) (some_true (opposite f.0 ∷ []) (all f.0 f.1)))
+
+-- ---- the negated conclusion is the opposites of an instance of it
+
+abbrev alone : SymbolicLit → List SymbolicLit
+alone l = opposite l ∷ []
+
+opposite_read : (ghosts : List AuxiliaryField) (x : Execution) (owner : Bool) (names : List NodeTerm) (l : Literal)
+    → read_literal ghosts x owner names (negation l) ≡ opposite (read_literal ghosts x owner names l)
+opposite_read ghosts x owner names (literal.Same a b is_so) = refl
+opposite_read ghosts x owner names (literal.Retired b is_so) = refl
+
+escapes_denied : (js : List ℕ) → map alone (flat_map (escapes false) (map (λ i. At (symbols.Bound i)) js)) ≡ map (λ i. is_not (Constant (symbols.Bound i)) null ∷ []) js
+escapes_denied [] = refl
+escapes_denied (j ∷ js) = ap (λ cs. (is_not (Constant (symbols.Bound j)) null ∷ []) ∷ cs) (escapes_denied js)
+
+literals_denied : (ghosts : List AuxiliaryField) (x : Execution) → Stays x → (owner : Bool) (names : List NodeTerm) (ls : List Literal) → All (LiteralStays owner) ls
+    → map alone (map (read_literal ghosts start owner names) ls) ≡ map (λ l. read_literal ghosts x owner names (negation l) ∷ []) ls
+literals_denied ghosts x stays owner names [] h = refl
+literals_denied ghosts x stays owner names (l ∷ ls) h =
+    ap (λ k. (opposite k ∷ []) ∷ map alone (map (read_literal ghosts start owner names) ls)) (sym (literal_stays ghosts x stays owner names l (All-head (LiteralStays owner) l ls h)))
+    ∙ ap (λ k. (k ∷ []) ∷ map alone (map (read_literal ghosts start owner names) ls)) (sym (opposite_read ghosts x owner names l))
+    ∙ ap (λ cs. (read_literal ghosts x owner names (negation l) ∷ []) ∷ cs) (literals_denied ghosts x stays owner names ls (All-tail (LiteralStays owner) l ls h))
+
+all_denied : (ghosts : List AuxiliaryField) (s : Setting) (x : Execution) → Stays x → (c : Clause) → All (LiteralStays s.owned) c.literals
+    → map alone (instance_at ghosts false s.owned c.literals (bound_nodes (length c.bound.names))) ≡ denied_clause ghosts s x (Some c)
+all_denied ghosts s x stays c h =
+    let n = length c.bound.names in
+    map-append alone (flat_map (escapes false) (bound_nodes n)) (map (read_literal ghosts start s.owned (bound_nodes n)) c.literals)
+    ∙ ap (λ cs. cs ++ map alone (map (read_literal ghosts start s.owned (bound_nodes n)) c.literals)) (escapes_denied (below n))
+    ∙ ap (λ cs. map (λ i. is_not (Constant (symbols.Bound i)) null ∷ []) (below n) ++ cs) (literals_denied ghosts x stays s.owned (bound_nodes n) c.literals h)
+
+-- ---- the instance is among the premises
+
+tuple_listed : (names ts : List NodeTerm) → Within names ts → Contains (tuples (length names) ts) names
+tuple_listed [] ts h = at_head [] []
+tuple_listed (t ∷ rest) ts h =
+    contains_flat_map (λ u. map (λ more. u ∷ more) (tuples (length rest) ts)) ts t (t ∷ rest) (h t (at_head t rest))
+    (contains_map (λ more. t ∷ more) (tuples (length rest) ts) rest (tuple_listed rest ts (λ u c. h u (in_tail t u rest c))))
+
+map_twice : (js : List ℕ) → map At (map symbols.Bound js) ≡ map (λ i. At (symbols.Bound i)) js
+map_twice [] = refl
+map_twice (j ∷ js) = ap (λ ts. At (symbols.Bound j) ∷ ts) (map_twice js)
+
+module _ (flow : Flow) (outline : Outline) (o : Obligation) where
+  names_listed : Within (bound_nodes (bound_of (conclusion flow outline o))) (setting_of flow outline o).instances
+  names_listed =
+      let s = setting_of flow outline o in
+      let n = bound_of (conclusion flow outline o) in
+      let loads = pointer_loads_from 0 s.acts in
+      subst (λ ts. Within ts s.instances) (map_twice (below n))
+      (within_left (map At (map symbols.Bound (below n))) (map At (s.pointers ++ (map symbols.Bound (below n) ++ loads))) _
+      (within_map At (map symbols.Bound (below n)) (s.pointers ++ (map symbols.Bound (below n) ++ loads))
+      (within_right (map symbols.Bound (below n)) s.pointers (map symbols.Bound (below n) ++ loads)
+      (within_left (map symbols.Bound (below n)) (map symbols.Bound (below n)) loads (within_itself (map symbols.Bound (below n)))))))
+
+  instance_listed : (owner : Bool) (c : Clause) → conclusion flow outline o ≡ Some c
+      → Contains (instances flow.file.ghosts (setting_of flow outline o) owner c)
+      (instance_at flow.file.ghosts (setting_of flow outline o).makes owner c.literals (bound_nodes (length c.bound.names)))
+  instance_listed owner c is =
+      let s = setting_of flow outline o in
+      let n = length c.bound.names in
+      contains_map (instance_at flow.file.ghosts s.makes owner c.literals) (tuples n s.instances) (bound_nodes n)
+      (subst (λ m. Contains (tuples m s.instances) (bound_nodes n)) (length-map-range_with_len (λ i. At (symbols.Bound i)) 0 n)
+      (tuple_listed (bound_nodes n) s.instances (subst (λ q. Within (bound_nodes (bound_of q)) s.instances) is names_listed)))
+
+  -- ---- the whole
+
+  premise_held : (c : List SymbolicLit) → Contains (premises flow outline (setting_of flow outline o) o) c → Contains (clauses_of flow outline (setting_of flow outline o) o) c
+  unfolding clauses_of
+  premise_held c h =
+      let s = setting_of flow outline o in
+      Contains-append_right (values_from 0 0 flow.file.ghosts s.nodes) _ c (Contains-append_right (beginning flow s o) _ c (Contains-append_right (freshness flow.file s) _ c
+      (Contains-append_left (premises flow outline s o) _ c h)))
+
+  denial_held : (c : List SymbolicLit) → Contains (denied flow outline (setting_of flow outline o) (after_all start (setting_of flow outline o).acts) o) c
+      → Contains (clauses_of flow outline (setting_of flow outline o) o) c
+  unfolding clauses_of
+  denial_held c h =
+      let s = setting_of flow outline o in
+      Contains-append_right (values_from 0 0 flow.file.ghosts s.nodes) _ c (Contains-append_right (beginning flow s o) _ c (Contains-append_right (freshness flow.file s) _ c
+      (Contains-append_right (premises flow outline s o) _ c (Contains-append_right (executed_clauses s.nodes start s.acts) _ c h))))
+
+  clauses_are : (drafted flow outline (setting_of flow outline o) o).clauses ≡ clauses_of flow outline (setting_of flow outline o) o
+  clauses_are =
+      let s = setting_of flow outline o in
+      written_all-clauses (clauses_of flow outline s o) (listed_all blank (listed_first flow outline s))
+      ∙ ap (λ cs. cs ++ clauses_of flow outline s o) (listed_all-clauses (listed_first flow outline s) blank)
+
+  kept_by : (c : Clause) → conclusion flow outline o ≡ Some c → list_any changes (executed flow o) ≡ false → All (LiteralStays (has_owner o)) c.literals
+      → ((i : List SymbolicLit) → Contains (instances flow.file.ghosts (setting_of flow outline o) (has_owner o) c) i → Contains (premises flow outline (setting_of flow outline o) o) i)
+      → IsKept flow outline o
+  unfolding ground_set
+  kept_by c is quiet names_none premise model =
+      let s = setting_of flow outline o in
+      let d = drafted flow outline s o in
+      let x = after_all start s.acts in
+      let stays = stays_after_all flow.file.ghosts (acting_locals flow o) start (executed flow o) quiet start_stays in
+      let i = instance_at flow.file.ghosts false (has_owner o) c.literals (bound_nodes (length c.bound.names)) in
+      let made = none_new (executed flow o) quiet in
+      let listed = subst (λ b. Contains (instances flow.file.ghosts s (has_owner o) c) (instance_at flow.file.ghosts b (has_owner o) c.literals (bound_nodes (length c.bound.names)))) made
+      (instance_listed (has_owner o) c is) in
+      let whole = sym clauses_are in
+      let held = subst (λ cs. Contains cs i) whole (premise_held i (premise i listed)) in
+      let e = all_denied flow.file.ghosts s x stays c names_none ∙ ap (denied_clause flow.file.ghosts s x) (sym is) in
+      refuted _ d model.0 model.1 i held
+      (λ l h. subst (λ cs. Contains cs (opposite l ∷ [])) whole (denial_held (opposite l ∷ [])
+      (Contains-append_left (denied_clause flow.file.ghosts s x (conclusion flow outline o)) (denied_claim s x (claim_made flow o)) (opposite l ∷ [])
+      (subst (λ cs. Contains cs (opposite l ∷ [])) e (contains_map alone i l h)))))
+
+-- ---- invariants name no local
+
+node_stays : (w : InReach) → w.locals ≡ [] → (b : Base) → IsNode w b → BaseStays false b
+node_stays w none (bases.Shared i) h = tt
+node_stays w none (bases.Local k) h = (let e = ap (λ ls. slice_get ls k) (sym none) ∙ h.1 in cc)
+node_stays w none (bases.Bound i) h = tt
+
+sort_stays : (w : InReach) → w.locals ≡ [] → (t : Term) (s : Sort) → HasSort w t s → TermStays false t
+sort_stays w none (terms.Shared i) s h = tt
+sort_stays w none (terms.Local k) s h = (let e = ap (λ ls. slice_get ls k) (sym none) ∙ h.1 in cc)
+sort_stays w none (terms.Bound i) s h = tt
+sort_stays w none (terms.FieldOf b f) s h = node_stays w none b h.0
+sort_stays w none (terms.GhostOf b g) s h = node_stays w none b h.0
+sort_stays w none terms.Null s h = tt
+sort_stays w none (terms.Number n) s h = tt
+sort_stays w none (terms.Value g v) s h = tt
+sort_stays w none terms.Me s h = tt
+sort_stays w none terms.Nobody s h = tt
+
+fit_stays : (w : InReach) → w.locals ≡ [] → (l : Literal) → LiteralFits w l → LiteralStays false l
+fit_stays w none (literal.Same a b is_so) h = (sort_stays w none a h.0 h.1, sort_stays w none b h.0 h.2)
+fit_stays w none (literal.Retired b is_so) h = node_stays w none b h
+
+owner_base : (b : Base) → BaseStays true b
+owner_base (bases.Shared i) = tt
+owner_base (bases.Local k) = refl
+owner_base (bases.Bound i) = tt
+
+owner_term : (t : Term) → TermStays true t
+owner_term (terms.Shared i) = tt
+owner_term (terms.Local k) = refl
+owner_term (terms.Bound i) = tt
+owner_term (terms.FieldOf b f) = owner_base b
+owner_term (terms.GhostOf b g) = owner_base b
+owner_term terms.Null = tt
+owner_term (terms.Number n) = tt
+owner_term (terms.Value g v) = tt
+owner_term terms.Me = tt
+owner_term terms.Nobody = tt
+
+owner_literal : (l : Literal) → LiteralStays true l
+owner_literal (literal.Same a b is_so) = (owner_term a, owner_term b)
+owner_literal (literal.Retired b is_so) = owner_base b
+
+-- ---- each obligation at a point of another thread has its clause
+
+abbrev HasClause : Flow → Outline → Obligation → Type 0
+HasClause flow outline (Start i) = Unit {0}
+HasClause flow outline (Enter o c) = Unit {0}
+HasClause flow outline (Own k c) = Unit {0}
+HasClause flow outline (Other k p c) = c < count_at flow outline p.0
+HasClause flow outline (Claim k j) = Unit {0}
+
+all_parts : {A X : Type 0} (P : X → Type 0) (part : ℕ → A → List X) → ((k : ℕ) (a : A) → All P (part k a)) → (k : ℕ) (xs : List A) → All P (parts_from part k xs)
+all_parts P part h k [] = All-nil P
+all_parts P part h k (x ∷ xs) = All-append P (part k x) (parts_from part (k + 1) xs) (h k x) (all_parts P part h (k + 1) xs)
+
+all_below : (n : ℕ) → All (λ c. c < n) (below n)
+all_below n k d less =
+    let e = length-range_with_len 0 n in
+    let g = get_or-range_with_len 0 n k d (omega arith) in
+    omega arith
+
+module _ (flow : Flow) (outline : Outline) where
+  all_claims : (k j : ℕ) (ps : List Primitive) → All (HasClause flow outline) (claims_in k j ps)
+  all_claims k j [] = All-nil (HasClause flow outline)
+  all_claims k j (p ∷ ps) = go (is_claim p) (all_claims k (j + 1) ps)
+    where
+      go : (b : Bool) → All (HasClause flow outline) (claims_in k (j + 1) ps) → All (HasClause flow outline) (if b then Claim (step_id k) j ∷ claims_in k (j + 1) ps else claims_in k (j + 1) ps)
+      go true h = All-cons (HasClause flow outline) (Claim (step_id k) j) (claims_in k (j + 1) ps) tt h
+      go false h = h
+
+  all_have : All (HasClause flow outline) (obligations flow outline)
+  unfolding obligations
+  all_have =
+      All-append (HasClause flow outline) (starts outline) _ (All-map (HasClause flow outline) _ (below _) (λ k d less. tt))
+      (All-append (HasClause flow outline) (enters flow outline) _ (all_parts (HasClause flow outline) (enters_of flow outline) (λ k g. All-map (HasClause flow outline) _ (below _) (λ j d less. tt)) 0 flow.gates)
+      (All-append (HasClause flow outline) (owns flow outline) _ (all_parts (HasClause flow outline) (owns_of flow outline) (λ k s. All-map (HasClause flow outline) _ (below _) (λ j d less. tt)) 0 flow.steps)
+      (All-append (HasClause flow outline) (others flow outline) (claims flow)
+      (all_parts (HasClause flow outline) (others_of flow outline)
+      (λ k s. all_parts (HasClause flow outline) (others_at flow outline k) (λ j p. All-map (HasClause flow outline) (Other (step_id k) (point_id p)) (below (count_at flow outline p)) (all_below (count_at flow outline p))) 0 (below flow.points)) 0 flow.steps)
+      (all_parts (HasClause flow outline) claims_of (λ k s. all_claims k 0 s.prims) 0 flow.steps))))
+
+  quiet_step : (b : Bool) → not b ≡ true → b ≡ false
+  quiet_step true h = cc
+  quiet_step false h = refl
+
+  pub still_is_kept : (o : Obligation) → Fits flow outline → Contains (obligations flow outline) o → is_still flow outline o ≡ true → IsKept flow outline o
+  still_is_kept (Start i) fits listed still = cc
+  still_is_kept (Enter o c) fits listed still = cc
+  still_is_kept (Claim k j) fits listed still = cc
+  still_is_kept (Own k c) fits listed still =
+      let p = and_parts (nat_lt c (length outline.invariants)) (is_quiet flow k.0) still in
+      let less = ltb-true c (length outline.invariants) p.0 in
+      let f = there outline.invariants c less in
+      let inv = fits.outline_fits.each_invariant in
+      let fit = subst (InvariantFits flow.file) (get_found f.0 f.1) (inv c f.0 less) in
+      kept_by flow outline (Own k c) f.0 (found_left outline.invariants _ c f.0 f.1) (quiet_step (list_any changes (step_prims flow k.0)) p.1)
+      (λ n d less. fit_stays (in_reach_of flow.file [] false f.0) refl _ (fit.each n d less))
+      (λ i h. Contains-append_left (flat_map (instances flow.file.ghosts (setting_of flow outline (Own k c)) false) (acting_premises flow outline (Own k c))) _ i
+      (contains_flat_map (instances flow.file.ghosts (setting_of flow outline (Own k c)) false) (acting_premises flow outline (Own k c)) f.0 i
+      (Contains-append_left outline.invariants _ f.0 (at_place outline.invariants c f.0 f.1)) h))
+    where
+      get_found : (x : Clause) → slice_get outline.invariants c ≡ Some x → slice_index_or outline.invariants c x ≡ x
+      get_found x e = get_or_from_slice_get outline.invariants c x x e
+  still_is_kept (Other k p c) fits listed still =
+      let less = All-contains (HasClause flow outline) (obligations flow outline) (Other k p c) all_have listed in
+      let e = length-map (filter (stands_at flow p.0) outline.items) (λ (i : Item). i.clause) in
+      let f = there (clauses_at flow outline p.0) c (omega arith) in
+      kept_by flow outline (Other k p c) f.0 f.1 (quiet_step (list_any changes (step_prims flow k.0)) still)
+      (λ n d less. owner_literal _)
+      (λ i h. Contains-append_right (flat_map (instances flow.file.ghosts (setting_of flow outline (Other k p c)) false) (acting_premises flow outline (Other k p c))) _ i
+      (contains_flat_map (instances flow.file.ghosts (setting_of flow outline (Other k p c)) true) (clauses_at flow outline p.0) f.0 i
+      (at_place (clauses_at flow outline p.0) c f.0 f.1) h))

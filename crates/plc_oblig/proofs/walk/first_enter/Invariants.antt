@@ -1,0 +1,10 @@
+use Rattle.std.proofs.Common.{◌≡◌}
+use Rattle.plc_setting.specs.declared.obligations.Obligation.TheVariants as places
+use Rattle.plc_oblig.specs.Obligations.{op_id}
+use Rattle.plc_oblig.specs.Left.{left_from}
+use Rattle.plc_oblig.proofs.walk.first_enter.Given as goal
+
+abbrev pub invariant-loop-k : goal.invariant-loop-k
+invariant-loop-k l =
+    left_from l.fn.o.flow.now l.fn.o.outline.now (places.Enter l.fn.op l.fn.clause)
+    ≡ left_from l.fn.o.flow.now l.fn.o.outline.now (places.Enter (op_id l.k) l.passed)

@@ -1,0 +1,10 @@
+use Rattle.std.proofs.Common.{◌≡◌}
+use Rattle.plc_setting.specs.declared.obligations.Obligation.TheVariants as places
+use Rattle.plc_oblig.specs.Obligations.{step_id}
+use Rattle.plc_oblig.specs.Left.{left_from}
+use Rattle.plc_oblig.proofs.walk.first_other.Given as goal
+
+abbrev pub invariant-loop-k : goal.invariant-loop-k
+invariant-loop-k l =
+    left_from l.fn.o.flow.now l.fn.o.outline.now (places.Other l.fn.step l.fn.point l.fn.clause)
+    ≡ left_from l.fn.o.flow.now l.fn.o.outline.now (places.Other (step_id l.k) l.reached l.passed)

@@ -1,0 +1,69 @@
+-- Going over the obligations with a tree for each.
+use Rattle.std.proofs.Common.{◌≡◌, ℕ, zero, suc, ◌+◌, ◌<◌, ◌≤◌, List, [], ◌∷◌, length, drop, get_or, Some, None, refl, sym, ap, subst, ◌∙◌, arith, below_more, drop-cons}
+use Rattle.std.specs.Prelude.{slice_get}
+use Rattle.std.proofs.lemmas.Option.{slice_get_within, slice_get-get_or}
+use Rattle.plc_flow.specs.declared.flow.Flow.{Flow}
+use Rattle.plc_logic.specs.declared.clause.Outline.{Outline}
+use Rattle.plc_ground.specs.declared.terms.Tree.{Tree}
+use Rattle.plc_ground.specs.Trees.{IsVerdict}
+use Rattle.plc_setting.specs.declared.obligations.Obligation.{Obligation}
+use Rattle.plc_oblig.specs.Obligations.{obligations}
+use Rattle.plc_oblig.specs.GroundSets.{ground_set}
+use Rattle.plc_verify.specs.Trees.{ClosesAt, TreesClose, FailsAtTree}
+
+at_drop : {A : Type 0} (xs : List A) (i : ℕ) (x : A) (ys : List A) → drop i xs ≡ x ∷ ys → (slice_get xs i ≡ Some x) × (drop (suc i) xs ≡ ys)
+at_drop [] zero x ys h = absurd cc
+at_drop [] (suc i) x ys h = absurd cc
+at_drop (y ∷ xs) zero x ys h = (let is : y ≡ x = cc in ap Some is, let rest : xs ≡ ys = cc in rest)
+at_drop (y ∷ xs) (suc i) x ys h = at_drop xs i x ys h
+
+none_left : {A : Type 0} (xs : List A) (i : ℕ) → drop i xs ≡ [] → i < length xs → ⊥
+none_left [] i h small = absurd (omega arith)
+none_left (x ∷ xs) zero h small = absurd cc
+none_left (x ∷ xs) (suc i) h small = none_left xs i h (omega arith)
+
+module _ (flow : Flow) (outline : Outline) (trees : List Tree) where
+  -- the trees before number i close their sets, and the obligations from there on are left
+  pub record IsAt (i : ℕ) (left : List Obligation) : Type 0 where
+    pub rest : drop i (obligations flow outline) ≡ left
+    pub closed : (j : ℕ) → j < i → ClosesAt flow outline trees j
+
+  pub at_start : (left : List Obligation) → left ≡ obligations flow outline → IsAt 0 left
+  at_start left is = record { rest = sym is; closed = λ j h. absurd (omega arith) }
+
+  pub not_done : (i : ℕ) (left : List Obligation) → IsAt i left → left ≡ [] → length trees ≡ length (obligations flow outline) → i < length trees → ⊥
+  not_done i left at empty same small = none_left (obligations flow outline) i (at.rest ∙ empty) (omega arith)
+
+  module _ (i : ℕ) (left after : List Obligation) (o : Obligation) (t : Tree) (at : IsAt i left) (next : left ≡ o ∷ after) (is : slice_get trees i ≡ Some t) where
+    here : (slice_get (obligations flow outline) i ≡ Some o) × (drop (suc i) (obligations flow outline) ≡ after)
+    here = at_drop (obligations flow outline) i o after (at.rest ∙ next)
+
+    pub goes_on : IsVerdict (ground_set flow outline o) [] t.nodes None → IsAt (i + 1) after
+    goes_on closes = record {
+      rest = let one : i + 1 ≡ suc i = omega arith in ap (λ (n : ℕ). drop n (obligations flow outline)) one ∙ here.1;
+      closed = below_more (ClosesAt flow outline trees) i at.closed this;
+    }
+      where
+        this : ClosesAt flow outline trees i
+        this p u p_is u_is =
+            let same_o : o ≡ p = let both : Some o ≡ Some p = sym here.0 ∙ p_is in cc in
+            let same_t : t ≡ u = let both : Some t ≡ Some u = sym is ∙ u_is in cc in
+            subst (λ (x : Tree). IsVerdict (ground_set flow outline p) [] x.nodes None) same_t
+            (subst (λ (q : Obligation). IsVerdict (ground_set flow outline q) [] t.nodes None) same_o closes)
+
+    pub fails_here : (k : ℕ) → IsVerdict (ground_set flow outline o) [] t.nodes (Some k) → length trees ≡ length (obligations flow outline) → FailsAtTree flow outline trees i k
+    fails_here k bad same = record {
+      one_each = same;
+      before = at.closed;
+      obligation = o;
+      obligation_is = here.0;
+      tree = t;
+      tree_is = is;
+      fails = bad;
+    }
+
+  pub all_close : (i : ℕ) (left : List Obligation) → IsAt i left → length trees ≤ i → length trees ≡ length (obligations flow outline) → TreesClose flow outline trees
+  all_close i left at past same = record {
+    one_each = same;
+    closed = λ j o t o_is t_is. let small = slice_get_within trees j t t_is in at.closed j (omega arith) o t o_is t_is;
+  }

@@ -1,0 +1,23 @@
+use Rattle.std.proofs.Common.{◌≡◌, length, Some, None, refl, ◌∙◌}
+use Rattle.plc_oblig.specs.Obligations.{obligations}
+use Rattle.plc_verify.proofs.Points.{read_item}
+use Rattle.plc_verify.proofs.Closing.{goes_on, fails_here, all_close}
+use Rattle.plc_verify.proofs.trees.verify_trees.Goals as goal
+
+pub returns-in-Some-2 : goal.returns-in-Some-2
+returns-in-Some-2 c =
+    let t = c.index-trees-i.result in
+    let is = read_item c.args.trees.now c.args.trees.now c.loop-i.i t refl c.loop-i-test.true c.index-trees-i.is in
+    let bad = rw c.in-Some-2.is at c.in_ok-node.ensures in
+    fails_here c.args.flow.now c.args.outline.now c.args.trees.now c.loop-i.i c.loop-i.walk c.next.new.self c.in-Some.o t c.loop-i.invariant c.in-Some.ensures is c.in-Some-2.node bad
+    (c.if-have-want.false ∙ c.count-want.ensures)
+
+pub loop-i-preserved : goal.loop-i-preserved
+loop-i-preserved c =
+    let t = c.index-trees-i.result in
+    let is = read_item c.args.trees.now c.args.trees.now c.loop-i.i t refl c.loop-i-test.true c.index-trees-i.is in
+    let closes = rw c.in_default-2.is at c.in_ok-node.ensures in
+    goes_on c.args.flow.now c.args.outline.now c.args.trees.now c.loop-i.i c.loop-i.walk c.next.new.self c.in-Some.o t c.loop-i.invariant c.in-Some.ensures is closes
+
+pub returns : goal.returns
+returns c = all_close c.args.flow.now c.args.outline.now c.args.trees.now c.loop-i.i c.loop-i.walk c.loop-i.invariant c.loop-i-test.false (c.if-have-want.false ∙ c.count-want.ensures)
