@@ -1,5 +1,5 @@
 -- Environments as a certificate has them, and with types of shared pointers.
-use Rattle.std.proofs.Common.{◌≡◌, ℕ, ◌+◌, ◌<◌, ◌≤◌, true, false, length, drop, Some, List, [], get_or, refl, sym, ap, subst, ◌∙◌, arith, inl, inr}
+use Rattle.std.proofs.Common.{◌≡◌, ℕ, ◌+◌, ◌<◌, ◌≤◌, true, false, length, drop, Some, List, [], refl, sym, subst, ◌∙◌, arith, inl, inr}
 use Rattle.std.specs.Prelude.{slice_get}
 use Rattle.std.proofs.lemmas.Bool.{and_parts, and_from, eq-eqb, eqb-true, cases_lt}
 use Rattle.std.proofs.lemmas.List.{length-map, get_or-map, drop_all}
@@ -16,7 +16,7 @@ use Rattle.plc_flow.specs.Skeleton.{skeleton_of}
 use Rattle.plc_flow.specs.WellFormed.{IsWellFormed, IsPointOf}
 use Rattle.plc_verify.specs.Environments.{with_shared, completed, PointHolds, FailsAtPoint}
 use Rattle.plc_verify.specs.Tests.{env_fits, IsFirstUnfit, AllFit}
-use Rattle.plc_verify.proofs.Points.{There, there, Extent, extent, begins, begins_at, point_count}
+use Rattle.plc_verify.proofs.Points.{there, extent, begins, begins_at, point_count}
 
 -- the test says whether an environment is one
 is_env : (o : Observer) (n m : ℕ) (e : Env) → env_fits o m e ≡ true → IsEnvironment o n m (with_shared n e)

@@ -1,16 +1,16 @@
 -- Steps of a flow over environments, part by part and together.
-use Rattle.std.proofs.Common.{◌≡◌, ℕ, zero, suc, ◌+◌, ◌<◌, ◌≤◌, true, false, List, [], ◌∷◌, length, get_or, replicate, map, Option, Some, None, refl, sym, ap, subst, ◌∙◌, arith, inl, inr}
+use Rattle.std.proofs.Common.{◌≡◌, ℕ, zero, suc, ◌<◌, ◌≤◌, true, false, List, [], ◌∷◌, length, get_or, replicate, Some, None, refl, sym, ap, subst, ◌∙◌, arith, inl, inr}
 use Rattle.std.specs.Prelude.{slice_get, option_map, Result, Ok, Err, MatchResult}
 use Rattle.std.proofs.lemmas.Bool.{and_from, cases_lt}
 use Rattle.std.proofs.lemmas.List.{length-map, get_or_default, get_or_past}
 use Rattle.std.proofs.lemmas.List.Sums.{count_by-le-length}
-use Rattle.std.proofs.lemmas.Option.{slice_get-map, slice_get_within, slice_get_past, slice_get_cases, slice_get_read}
+use Rattle.std.proofs.lemmas.Option.{slice_get-map, slice_get_within, slice_get_past, slice_get_cases}
 use Rattle.plc_base.specs.Mask.{within}
 use Rattle.plc_base.specs.Limits.{most}
 use Rattle.plc_base.specs.declared.limits.What1.TheVariants as limits
 use Rattle.plc_lang.specs.declared.syntax.Op.{Op}
 use Rattle.plc_lang.specs.declared.syntax.Primitive.{Primitive}
-use Rattle.plc_lang.specs.Locals.{is_pointer, pointers_of}
+use Rattle.plc_lang.specs.Locals.{is_pointer}
 use Rattle.plc_lang.specs.Fit.{FileFits}
 use Rattle.plc_lang.specs.declared.syntax.Var.TheVariants as vars
 use Rattle.plc_lang.specs.Skeleton.{Passage, locals_at}
@@ -34,7 +34,7 @@ use Rattle.plc_verify.specs.declared.fault.Slot.{Slot}
 use Rattle.plc_verify.specs.Environments.{PointsHold, EntryHolds, EntriesHold, StepHolds, LocalBelow, IsFirstAbove, FailsInStep, FailsAfterStep}
 use Rattle.plc_verify.specs.declared.fault.VerifyFault.{VerifyFault}
 use Rattle.plc_verify.specs.Tests.{NoneAbove, IsRun, MayFail}
-use Rattle.plc_verify.proofs.Points.{There, there, point_count, entry_point}
+use Rattle.plc_verify.proofs.Points.{there, point_count, entry_point}
 
 -- ---- two environments
 
@@ -63,10 +63,13 @@ past_end a b v past same h =
     ap (λ (z : PtrType). type_below z (type_of b (vars.Local v))) first ∙ ap (type_below (bare a.w)) second ∙ bare_below a.w b.w h
 
 pub none_above : (a b : Env) (n : ℕ) → length a.locals ≤ n → length a.locals ≡ length b.locals → within a.w b.w ≡ true → ((u : ℕ) → u < n → LocalBelow a b u) → NoneAbove a b
-none_above a b n all same h below = (h, λ v. elim (cases_lt v n) [
-  | inl low ↦ below v low
-  | inr high ↦ past_end a b v (omega arith) same h
-])
+none_above a b n all same h below = (
+  h,
+  λ v. elim (cases_lt v n) [
+    | inl low ↦ below v low
+    | inr high ↦ past_end a b v (omega arith) same h
+  ],
+)
 
 types_from : (x y : List PtrType) (t u : PtrType) → length x ≡ length y → ((v : ℕ) → type_below (get_or x v t) (get_or y v u) ≡ true) → types_below x y ≡ true
 types_from [] y t u same h = refl
@@ -181,9 +184,12 @@ module _ (o : Observer) (flow : Flow) (envs : List Env) (k : ℕ) (s : Step) (w 
       omega arith
 
   pub step_holds : ((i : ℕ) → fault_at o (env_at envs s.from.0) s.prims i ≡ None) → NoneAbove (led o (env_at envs s.from.0) s.prims) (env_at envs s.to.0) → StepHolds o (skeleton_of flow) envs k
-  step_holds runs none = (λ i. under i ∙ runs i, λ x e.
-      let same : passage_of s ≡ x = let both : Some (passage_of s) ≡ Some x = sym passage_here ∙ e in cc in
-      subst (λ (y : Passage). env_below (led o (env_at envs y.from) y.prims) (env_at envs y.to) ≡ true) same below)
+  step_holds runs none = (
+    λ i. under i ∙ runs i,
+    λ x e.
+        let same : passage_of s ≡ x = let both : Some (passage_of s) ≡ Some x = sym passage_here ∙ e in cc in
+        subst (λ (y : Passage). env_below (led o (env_at envs y.from) y.prims) (env_at envs y.to) ≡ true) same below,
+  )
     where
       below : env_below (led o (env_at envs s.from.0) s.prims) (env_at envs s.to.0) ≡ true
       below =

@@ -1,10 +1,9 @@
 -- A certificate with an item that fails isn't valid; what a valid one shows.
-use Rattle.std.proofs.Common.{◌≡◌, ℕ, zero, suc, ◌<◌, ◌≤◌, true, false, List, [], ◌∷◌, length, get_or, Some, None, refl, sym, ap, subst, ◌∙◌, arith, inl, inr}
-use Rattle.std.specs.Prelude.{slice_get, option_map, All, Result, Ok, Err, MatchResult}
+use Rattle.std.proofs.Common.{◌≡◌, ℕ, zero, suc, ◌<◌, true, List, [], ◌∷◌, length, get_or, Some, None, sym, ap, subst, ◌∙◌, arith, inl, inr}
+use Rattle.std.specs.Prelude.{option_map, Result, Ok, Err, MatchResult}
 use Rattle.std.proofs.lemmas.Bool.{and_parts, cases_lt}
 use Rattle.std.proofs.lemmas.List.{length-map}
 use Rattle.std.proofs.lemmas.Option.{slice_get-map, slice_get_within, slice_get_cases, slice_get-get_or}
-use Rattle.plc_lang.specs.declared.syntax.Var.TheVariants as vars
 use Rattle.plc_lang.specs.Skeleton.{Passage, locals_at}
 use Rattle.plc_auto.specs.declared.observer.Observer.{Observer}
 use Rattle.plc_auto.specs.Sets.{all_locations}
@@ -15,28 +14,24 @@ use Rattle.plc_type.specs.Environments.{types_below, env_below, entry}
 use Rattle.plc_type.proofs.Ordered.{env_parts}
 use Rattle.plc_xfer.specs.Rules.{type_of}
 use Rattle.plc_xfer.specs.Typings.{env_at, led}
-use Rattle.plc_flow.specs.declared.flow.Step.{Step}
 use Rattle.plc_flow.specs.declared.flow.Flow.{Flow}
 use Rattle.plc_flow.specs.Skeleton.{skeleton_of, passage_of}
 use Rattle.plc_logic.specs.declared.clause.Outline.{Outline}
-use Rattle.plc_ground.specs.declared.terms.Tree.{Tree}
 use Rattle.plc_ground.proofs.Verdicts.{one_verdict}
 use Rattle.plc_ground.proofs.Refuting.{closed_has_no_model}
-use Rattle.plc_setting.specs.declared.obligations.Obligation.{Obligation}
 use Rattle.plc_setting.specs.Fit.{Fits}
 use Rattle.plc_oblig.specs.Obligations.{obligations}
 use Rattle.plc_oblig.specs.GroundSets.{ground_set}
-use Rattle.plc_oblig.specs.Outlines.{IsKept, OutlineHolds}
 use Rattle.plc_cert.specs.declared.cert.Cert.{Cert}
 use Rattle.plc_verify.specs.declared.fault.Slot.{Slot}
 use Rattle.plc_verify.specs.declared.fault.Slot.TheVariants.{W, Local}
 use Rattle.plc_verify.specs.declared.fault.VerifyFault.{VerifyFault}
 use Rattle.plc_verify.specs.declared.fault.VerifyFault.TheVariants.{EnvCount, EnvAt, EntryAt, TypeAt, FlowAt, TreeCount, TreeAt, Memory}
-use Rattle.plc_verify.specs.Environments.{completed, LocalBelow, IsFirstAbove, FailsAfterStep, EntryHolds, FailsAtEntry}
-use Rattle.plc_verify.specs.Trees.{TreesClose, IsTreeFault}
+use Rattle.plc_verify.specs.Environments.{completed, IsFirstAbove, FailsAfterStep, FailsAtEntry}
+use Rattle.plc_verify.specs.Trees.{TreesClose}
 use Rattle.plc_verify.specs.Validity.{IsValid, IsRefused, ValidCertificatesProve}
 use Rattle.plc_verify.specs.Tests.{MayFail, MayNotClose}
-use Rattle.plc_verify.proofs.Passages.{past_end, same_locals, local_at}
+use Rattle.plc_verify.proofs.Passages.{past_end, same_locals}
 use Rattle.plc_xfer.specs.Typings.{IsTyping}
 
 types_at : (x y : List PtrType) (v : ℕ) (t u : PtrType) → types_below x y ≡ true → length x ≡ length y → v < length x → type_below (get_or x v t) (get_or y v u) ≡ true
@@ -89,8 +84,11 @@ module _ (flow : Flow) (o : Observer) (outline : Outline) (cert : Cert) (fits : 
 
   pub trees_refuse : IsTyping o (skeleton_of flow) envs → (fault : VerifyFault) → MayNotClose flow outline cert.trees fault → IsRefused flow o outline cert fault
   trees_refuse t (TreeCount have want) h = (inr (record { typing = t; is_fault = h }), λ v. h.differ (h.have_is ∙ v.trees.one_each ∙ sym h.want_is))
-  trees_refuse t (TreeAt i node) h = (inr (record { typing = t; is_fault = h }), λ v.
-      let both = one_verdict (ground_set flow outline h.obligation) [] h.tree.nodes None (Some node) (v.trees.closed i h.obligation h.tree h.obligation_is h.tree_is) h.fails in absurd cc)
+  trees_refuse t (TreeAt i node) h = (
+    inr (record { typing = t; is_fault = h }),
+    λ v.
+        let both = one_verdict (ground_set flow outline h.obligation) [] h.tree.nodes None (Some node) (v.trees.closed i h.obligation h.tree h.obligation_is h.tree_is) h.fails in absurd cc,
+  )
   trees_refuse t (EnvCount have want) h = absurd h
   trees_refuse t (EnvAt point) h = absurd h
   trees_refuse t (EntryAt op var) h = absurd h
@@ -105,8 +103,11 @@ module _ (flow : Flow) (o : Observer) (outline : Outline) (cert : Cert) (fits : 
   judged t (Err fault) h = trees_refuse t fault h
 
 pub valid_prove : ValidCertificatesProve
-valid_prove flow o outline cert v = ((completed flow cert.env, v.typing), λ i d small. elim (slice_get_cases cert.trees i).1 [
-  | inl found ↦ closed_has_no_model (ground_set flow outline (get_or (obligations flow outline) i d)) found.0.nodes
-      (v.trees.closed i (get_or (obligations flow outline) i d) found.0 (slice_get-get_or (obligations flow outline) i d small) found.2)
-  | inr past ↦ let same = v.trees.one_each in let p = past.0 in absurd (omega arith)
-])
+valid_prove flow o outline cert v = (
+  (completed flow cert.env, v.typing),
+  λ i d small. elim (slice_get_cases cert.trees i).1 [
+    | inl found ↦ closed_has_no_model (ground_set flow outline (get_or (obligations flow outline) i d)) found.0.nodes
+        (v.trees.closed i (get_or (obligations flow outline) i d) found.0 (slice_get-get_or (obligations flow outline) i d small) found.2)
+    | inr past ↦ let same = v.trees.one_each in let p = past.0 in absurd (omega arith)
+  ],
+)

@@ -15,7 +15,8 @@ use Rattle.plc_flow.specs.declared.flow.Flow.{Flow}
 use Rattle.plc_verify.specs.declared.fault.Slot.{Slot}
 use Rattle.plc_verify.specs.declared.fault.Slot.TheVariants.{W, Local}
 use Rattle.plc_verify.specs.declared.fault.VerifyFault.{VerifyFault}
-use Rattle.plc_verify.specs.declared.fault.VerifyFault.TheVariants.{EnvCount, EnvAt, EntryAt, TypeAt, FlowAt, TreeCount, TreeAt, Memory}
+use Rattle.plc_verify.specs.declared.fault.VerifyFault.TheVariants.{EnvCount, EnvAt, EntryAt, TypeAt, FlowAt}
+use Rattle.plc_verify.specs.declared.fault.VerifyFault.TheVariants.{TreeCount, TreeAt, Memory}
 
 -- a certificate has no types of shared pointers: each of them guarantees nothing and stands where any address may
 abbrev pub with_shared : ℕ → Env → Env

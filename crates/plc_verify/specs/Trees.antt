@@ -8,7 +8,8 @@ use Rattle.plc_setting.specs.declared.obligations.Obligation.{Obligation}
 use Rattle.plc_oblig.specs.Obligations.{obligations}
 use Rattle.plc_oblig.specs.GroundSets.{ground_set}
 use Rattle.plc_verify.specs.declared.fault.VerifyFault.{VerifyFault}
-use Rattle.plc_verify.specs.declared.fault.VerifyFault.TheVariants.{EnvCount, EnvAt, EntryAt, TypeAt, FlowAt, TreeCount, TreeAt, Memory}
+use Rattle.plc_verify.specs.declared.fault.VerifyFault.TheVariants.{EnvCount, EnvAt, EntryAt, TypeAt, FlowAt}
+use Rattle.plc_verify.specs.declared.fault.VerifyFault.TheVariants.{TreeCount, TreeAt, Memory}
 use Rattle.plc_verify.specs.Environments.{AreOther}
 
 -- the tree with this number closes the ground set of the obligation with this number

@@ -8,7 +8,7 @@ use Rattle.plc_logic.specs.declared.clause.Outline.{Outline}
 use Rattle.plc_oblig.specs.Outlines.{OutlineHolds}
 use Rattle.plc_cert.specs.declared.cert.Cert.{Cert}
 use Rattle.plc_verify.specs.declared.fault.VerifyFault.{VerifyFault}
-use Rattle.plc_verify.specs.declared.fault.VerifyFault.TheVariants.{EnvCount, EnvAt, EntryAt, TypeAt, FlowAt, TreeCount, TreeAt, Memory}
+use Rattle.plc_verify.specs.declared.fault.VerifyFault.TheVariants.{Memory}
 use Rattle.plc_verify.specs.Environments.{completed, IsTypingFault}
 use Rattle.plc_verify.specs.Trees.{TreesClose, IsTreeFault}
 
@@ -18,7 +18,8 @@ pub record IsValid (flow : Flow) (o : Observer) (outline : Outline) (cert : Cert
   pub trees : TreesClose flow outline cert.trees
 
 -- the trees are judged after the environments, where these are a typing
-pub record HasTreeFault (flow : Flow) (o : Observer) (outline : Outline) (cert : Cert) (fault : VerifyFault) : Type 0 where
+pub record HasTreeFault (flow : Flow) (o : Observer) (outline : Outline) (cert : Cert)
+    (fault : VerifyFault) : Type 0 where
   pub typing : IsTyping o (skeleton_of flow) (completed flow cert.env)
   pub is_fault : IsTreeFault flow outline cert.trees fault
 

@@ -19,7 +19,12 @@ use std::alloc::Global;
 
 // What the primitives of a step and then interference make of an environment; or the first primitive whose
 // condition fails.
-fn run(alloc: Global, env: &Env, prims: &[Prim], observer: &Observer) -> Result<Result<Env, u16>, NoMemory>
+fn run(
+    alloc: Global,
+    env: &Env,
+    prims: &[Prim],
+    observer: &Observer,
+) -> Result<Result<Env, u16>, NoMemory>
     requires short { length prims.now < 65536 }
     requires fits { FitsObserver observer.now env.now }
     ensures { IfOk result (λ run. IsRun observer.now env.now prims.now run) }

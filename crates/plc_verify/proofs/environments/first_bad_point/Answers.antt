@@ -1,6 +1,5 @@
-use Rattle.std.proofs.Common.{get_or, ap, sym, subst, ◌<◌, ◌≤◌, List, length, arith}
+use Rattle.std.proofs.Common.{get_or, subst, ◌<◌, ◌≤◌, List, length, arith}
 use Rattle.plc_lang.specs.declared.syntax.Op.{Op}
-use Rattle.plc_flow.specs.declared.flow.Gate.{Gate}
 use Rattle.plc_verify.proofs.Points.{no_gate, read_gate, read_item}
 use Rattle.plc_verify.proofs.Fitting.{gate_ends, next_holds, first_bad, all_hold}
 use Rattle.plc_verify.proofs.environments.first_bad_point.Goals as goal

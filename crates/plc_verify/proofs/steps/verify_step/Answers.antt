@@ -1,8 +1,8 @@
-use Rattle.std.proofs.Common.{Ok, Err, ◌≡◌, ◌<◌, ◌≤◌, ℕ, length, List, ap, sym, subst, ◌∙◌, arith}
+use Rattle.std.proofs.Common.{Ok, Err, ◌≤◌, length, List, ap, sym, subst, ◌∙◌, arith}
 use Rattle.plc_lang.specs.declared.syntax.Primitive.{Primitive}
 use Rattle.plc_type.specs.declared.env.Env.{Env}
 use Rattle.plc_xfer.specs.Rules.{FitsObserver}
-use Rattle.plc_xfer.specs.Typings.{env_at, led}
+use Rattle.plc_xfer.specs.Typings.{env_at}
 use Rattle.plc_verify.specs.Environments.{IsFirstAbove}
 use Rattle.plc_verify.specs.Tests.{NoneAbove}
 use Rattle.plc_verify.proofs.Points.{read_item}

@@ -1,8 +1,7 @@
-use Rattle.std.proofs.Common.{inl, inr, ℕ, ◌≡◌, true, false, get_or, ◌<◌, ◌≤◌, List, length, ap, sym, subst, ◌∙◌, arith, below_more}
+use Rattle.std.proofs.Common.{inl, inr, ℕ, get_or, ◌<◌, ◌≤◌, List, length, ap, sym, subst, ◌∙◌, arith, below_more}
 use Rattle.std.proofs.lemmas.Bool.{cases_lt}
 use Rattle.plc_base.specs.Mask.{within}
 use Rattle.plc_type.specs.declared.env.Env.{Env}
-use Rattle.plc_auto.specs.Sets.{all_locations}
 use Rattle.plc_flow.specs.declared.flow.Gate.{Gate}
 use Rattle.plc_flow.specs.Skeleton.{skeleton_of}
 use Rattle.plc_verify.specs.Environments.{EntryHolds}
