@@ -1,7 +1,6 @@
 -- What bytes spell fits, since it is the unit of tokens, whose flow and outline are within their limits.
 use Rattle.std.proofs.Common.{◌≤◌, List, ℕ, Result, Ok, Err, sym, subst}
 use Rattle.std.specs.Prelude.{IfOk}
-use Rattle.plc_base.specs.Limits.{most}
 use Rattle.plc_parse.specs.declared.unit.Unit.{Unit as FileUnit}
 use Rattle.plc_parse.specs.Fit.{UnitFits}
 use Rattle.plc_parse.proofs.Answering.{spelled_fits}

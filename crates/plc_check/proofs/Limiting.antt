@@ -1,13 +1,12 @@
 -- The limit of what is judged of a unit is that of the unit.
-use Rattle.std.proofs.Common.{◌≡◌, ◌≤◌, ◌+◌, ℕ, Option, Some, None, Result, Ok, Err, inl, inr, sym, subst}
-use Rattle.plc_base.specs.declared.limits.What1.{What1}
+use Rattle.std.proofs.Common.{◌≡◌, ◌≤◌, Result, Ok, Err, inl, inr, subst}
 use Rattle.plc_parse.specs.declared.unit.Unit.{Unit as FileUnit}
 use Rattle.plc_flow.specs.Lowering.{made_of, most_points}
 use Rattle.plc_check.specs.declared.judged.Judged.{Judged}
 use Rattle.plc_check.specs.declared.judged.LoadFault.{LoadFault}
 use Rattle.plc_check.specs.declared.judged.LoadFault.TheVariants as faults
 use Rattle.plc_check.specs.Loading.{judged_of}
-use Rattle.plc_check.specs.Refusals.{IsPassedLimit, IsLowered, IsLimited, IsJudgedOf}
+use Rattle.plc_check.specs.Refusals.{IsLowered, IsLimited, IsJudgedOf}
 
 pub limited_of : (u : FileUnit) (j : Judged) → j ≡ judged_of u → (made_of u.file).points ≤ most_points
     → (r : Result Judged LoadFault) → IsLimited j r → IsJudgedOf u r

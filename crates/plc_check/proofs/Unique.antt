@@ -1,5 +1,5 @@
 -- Bytes spell at most one file, since they spell at most one list of tokens, and tokens mean one thing.
-use Rattle.std.proofs.Common.{◌≡◌, ◌<◌, ◌≤◌, ◌+◌, ℕ, List, length, Some, Result, Ok, Err, ap, sym, subst, inl, inr, arith}
+use Rattle.std.proofs.Common.{◌≡◌, ◌<◌, ◌≤◌, ◌+◌, ℕ, List, Some, Result, Ok, Err, ap, sym, subst, inl, inr, arith}
 use Rattle.std.specs.Prelude.{All, Any}
 use Rattle.plc_base.specs.Limits.{most}
 use Rattle.plc_base.specs.declared.limits.What1.{What1}
@@ -10,18 +10,12 @@ use Rattle.plc_lex.proofs.Unique.{same_tokens}
 use Rattle.plc_parse.specs.declared.unit.Unit.{Unit as FileUnit}
 use Rattle.plc_parse.specs.Units.{IsUnitOf}
 use Rattle.plc_parse.proofs.Answering.{one_meaning}
-use Rattle.plc_flow.specs.declared.flow.Flow.{Flow}
 use Rattle.plc_flow.specs.Lowering.{made_of, flow_of, most_points}
-use Rattle.plc_logic.specs.declared.clause.Outline.{Outline}
-use Rattle.plc_setting.specs.declared.obligations.Obligation.{Obligation}
-use Rattle.plc_oblig.specs.Obligations.{obligations}
-use Rattle.plc_oblig.specs.GroundSets.{ground_set}
-use Rattle.plc_oblig.specs.Outlines.{HasFewObligations, HasSmallSets, HasLargeSet}
 use Rattle.plc_check.specs.declared.judged.Judged.{Judged}
 use Rattle.plc_check.specs.declared.judged.LoadFault.{LoadFault}
 use Rattle.plc_check.specs.declared.judged.LoadFault.TheVariants as faults
 use Rattle.plc_check.specs.Loading.{IsFileOf, SpellsUnit, IsLoaded, HasLimitFault, FilesAreUnique}
-use Rattle.plc_check.specs.Refusals.{HasManyPoints, IsPassedLimit, IsJudgedOf}
+use Rattle.plc_check.specs.Refusals.{IsPassedLimit, IsJudgedOf}
 use Rattle.plc_check.proofs.Refusals.{unit_of}
 
 pub one_unit : (ts : List Token) (u v : FileUnit) → IsUnitOf ts u → IsUnitOf ts v → u ≡ v

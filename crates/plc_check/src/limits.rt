@@ -28,11 +28,7 @@ fn has_large_set(alloc: Global, flow: &Flow, outline: &Outline) -> Result<bool, 
 }
 
 // The first limit that the outline passes, if it passes one.
-fn passed_limit(
-    alloc: Global,
-    flow: &Flow,
-    outline: &Outline,
-) -> Result<Option<What1>, NoMemory>
+fn passed_limit(alloc: Global, flow: &Flow, outline: &Outline) -> Result<Option<What1>, NoMemory>
     requires { Fits flow.now outline.now }
     ensures { IfOk result (IsPassedLimit flow.now outline.now) }
 {

@@ -48,7 +48,7 @@ open_or_held flow outline o least held = in_midst (IsKept flow outline) _ least.
 -- what is safe is proved, and the other way round
 module _ (v : FileUnit) where
   proved_by : (verdict : Verdict) → IsVerdictOn (judged_of v) verdict → verdict_status verdict ≡ 0 → IsProved v
-  proved_by (Safe typing count) right zero = record { typed = (typing.env, right.0); held = right.2.0 }
+  proved_by (Safe typing count) right zero = record { typed = (typing.env, right.0); held = right.2 }
   proved_by (Untyped step prim fault) right zero = absurd (omega (arith, zero))
   proved_by (Unproved o set model) right zero = absurd (omega (arith, zero))
 

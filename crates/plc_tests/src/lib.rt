@@ -8,6 +8,8 @@
 #![tactic(auto)]
 
 #[cfg(test)]
+mod outlines;
+#[cfg(test)]
 mod outside;
 #[cfg(test)]
 mod program;

@@ -1,6 +1,8 @@
 // Whole answers of `run` over files in memory. That there is memory for an answer, and which bytes an
 // output is handed, is what no contract can say. `rows.rt` has the files, and the rows of answers.
-use crate::rows::{CHECKED, FILES, OUTLINED, PRINTED, REPLAYED, REUSE, SCHEDULES, UNLISTED};
+use crate::rows::{
+    CHANGED, CHECKED, FILES, OUTLINED, PRINTED, REPLAYED, REUSE, SCHEDULES, UNLISTED,
+};
 use plc_cli::{ByList, Epoch, FailSink, Files, Hazard, Leak, MemFiles, Reclaimer, VecSink, run};
 use std::alloc::{AllocError, Global};
 
@@ -87,13 +89,14 @@ fn made_bytes(alloc: Global, name: &str) -> Result<Vec<u8>, AllocError> {
         "points" => points(alloc, 254, ""),
         "points-outlined" => points(alloc, 254, " outline { }"),
         "points-over" => points(alloc, 255, " outline { }"),
+        "many-obligations" => points(alloc, 254, " outline { over f0: me == me; }"),
         "open-atomic" => Vec::from_slice(alloc, OPEN.as_bytes()),
         "outlined" => Vec::from_slice(alloc, OUTLINED.as_bytes()),
         _ => Ok(vec![in alloc; 200u8]?),
     }
 }
 
-const MADE: [&str; 11] = [
+const MADE: [&str; 12] = [
     "most",
     "long",
     "longest",
@@ -102,6 +105,7 @@ const MADE: [&str; 11] = [
     "points",
     "points-outlined",
     "points-over",
+    "many-obligations",
     "open-atomic",
     "outlined",
     "byte",
@@ -114,11 +118,58 @@ fn put_made(alloc: Global, files: &mut Entries) -> Result<(), AllocError> {
     Ok(())
 }
 
+// The text of a file that a section has.
+pub(crate) fn section(name: &str) -> &'static str {
+    for section in FILES.split("# ") {
+        if let Some((head, lines)) = section.split_once("\n") {
+            if head == name {
+                return lines;
+            }
+        }
+    }
+    ""
+}
+
+// What stands in the place of a line, if something else does.
+fn change_at(changes: &'static [(usize, &'static str)], number: usize) -> Option<&'static str> {
+    for (at, text) in changes {
+        if *at == number {
+            return Some(*text);
+        }
+    }
+    None
+}
+
+// A text with some of its lines put otherwise.
+pub(crate) fn changed(
+    alloc: Global,
+    text: &str,
+    changes: &'static [(usize, &'static str)],
+) -> Result<String, AllocError> {
+    let mut out = String::new(alloc);
+    for (i, line) in text.split_inclusive("\n").enumerate() {
+        match change_at(changes, i.wrapping_add(1)) {
+            Some(other) => out.push_str(other)?,
+            None => out.push_str(line)?,
+        }
+    }
+    Ok(out)
+}
+
+fn put_changed(alloc: Global, files: &mut Entries) -> Result<(), AllocError> {
+    for (name, base, changes) in &CHANGED {
+        let text = changed(alloc, section(*base), *changes)?;
+        put(alloc, files, *name, text.into_bytes())?;
+    }
+    Ok(())
+}
+
 fn entries(alloc: Global) -> Result<Entries, AllocError> {
     let mut files = Vec::new(alloc);
     put_sections(alloc, &mut files, FILES)?;
     put_schedules(alloc, &mut files)?;
     put_made(alloc, &mut files)?;
+    put_changed(alloc, &mut files)?;
     Ok(files)
 }
 

@@ -4,7 +4,8 @@
 
 // `dead` and `endless`: no step leads to the statements after a `return`, or after a loop without a
 // `break`; they are typed all the same. `rounds`: what is read of `T` comes to `c` in the third turn.
-// `stack`: nodes are put, taken, and looked at through a hazard pointer or without one.
+// `stack`: nodes are put, taken, and looked at through a hazard pointer or without one. `hazards` and
+// `epochs-held`: a stack with its outline, whose nodes hazard pointers or epochs protect.
 pub(crate) const FILES: &str = "# publish
 struct Node { ptr next; data val; }
 shared Top;
@@ -121,7 +122,162 @@ op put() { ptr n; n := new; Top := n; }
 op take() { ptr t; t := Top; Top := null; retire(t); }
 op look() { ptr t; ptr s; t := Top; protect(t); t ?= Top; s := t.next; }
 op peek() { ptr t; ptr s; t := Top; s := t.next; }
+# hazards
+struct Node { ptr next; data val; }
+shared Top;
+call protect(ptr);
+use hazard(protect);
+ghost st { made, linked, cut };
+ghost owner thread;
+op push(v) {
+ptr n; ptr t;
+atomic { n := new; ghost n.owner := me; }
+n.val := v;
+loop {
+t := Top;
+n.next := t;
+choose {
+atomic { n.next ?= Top; ghost n.st := linked; ghost n.owner := none; Top := n; n := null; }
+return;
+} or { }
+}
+}
+op pop() {
+ptr t; ptr s;
+loop {
+t := Top;
+if (t == null) { return; }
+protect(t);
+choose {
+atomic { t ?= Top; active t; }
+s := t.next;
+label d;
+choose {
+label e;
+atomic { active Top; assume Top == t; ghost t.st := cut; ghost t.owner := me; Top := s; }
+label f;
+retire(active t);
+return;
+} or {
+atomic { active Top; assume Top != t; }
+}
+} or { }
+}
+}
+outline {
+inv Top == null or Top.st == linked;
+inv all x: x.st != linked or not retired(x);
+inv all x, y: x.st != linked or x.next != y or y.st == linked;
+inv all x: Top == null or x.st != linked or x.next != Top;
+inv all x, y: x.st != linked or y.st != linked or x.next == null or x.next != y.next or x == y;
+over push: n == null or n.st == made;
+over push: n == null or n.owner == me;
+over push: n == null or not retired(n);
+over pop: t == null or t.st != made;
+at d, e: t != null;
+at d, e: t.next == s;
+at f: t.st == cut;
+at f: t.owner == me;
+at f: not retired(t);
+}
+# epochs-held
+struct Node { ptr next; data val; }
+shared Top;
+call enter();
+call leave();
+use epoch(enter, leave);
+ghost st { made, linked, cut };
+ghost owner thread;
+op push(v) {
+ptr n; ptr t;
+atomic { n := new; ghost n.owner := me; }
+n.val := v;
+loop {
+t := Top;
+n.next := t;
+choose {
+atomic { n.next ?= Top; ghost n.st := linked; ghost n.owner := none; Top := n; n := null; }
+return;
+} or { }
+}
+}
+op pop() {
+ptr t; ptr s;
+enter();
+loop {
+atomic { t := Top; active t; }
+if (t == null) { break; }
+s := t.next;
+label d;
+choose {
+label e;
+atomic { active Top; assume Top == t; ghost t.st := cut; ghost t.owner := me; Top := s; }
+label f;
+retire(active t);
+break;
+} or {
+atomic { active Top; assume Top != t; }
+}
+}
+leave();
+}
+outline {
+inv Top == null or Top.st == linked;
+inv all x: x.st != linked or not retired(x);
+inv all x, y: x.st != linked or x.next != y or y.st == linked;
+inv all x: Top == null or x.st != linked or x.next != Top;
+inv all x, y: x.st != linked or y.st != linked or x.next == null or x.next != y.next or x == y;
+over push: n == null or n.st == made;
+over push: n == null or n.owner == me;
+over push: n == null or not retired(n);
+over pop: t == null or t.st != made;
+at d, e: t != null;
+at d, e: t.next == s;
+at f: t.st == cut;
+at f: t.owner == me;
+at f: not retired(t);
+}
+# many-clauses
+struct N { ptr a; ptr b; ptr c; ptr d; ptr e; ptr f; ptr g; ptr h; }
+shared A; shared B; shared C; shared D; shared E; shared F; shared G; shared H;
+shared I; shared J; shared K; shared L; shared M; shared O; shared P; shared Q;
+op r() { skip; }
+outline { depth 1; inv all x, y: x == y; inv all x, y: x == y; inv all x, y: x == y; }
 ";
+
+// Files that differ from another in some lines, each by its number and with what stands in its place.
+pub(crate) const CHANGED: [(&str, &str, &[(usize, &str)]); 7] = [
+    ("unclaimed", "hazards", &[(27, "atomic { t ?= Top; }\n")]),
+    (
+        "retired-again",
+        "hazards",
+        &[(34, "retire(active t);\nretire(t);\n")],
+    ),
+    (
+        "claimed-late",
+        "hazards",
+        &[
+            (
+                34,
+                "retire(active t) during h;\nlabel g;\nretire(active t);\n",
+            ),
+            (54, "at f, g, h: t.st == cut;\n"),
+            (55, "at f, g, h: t.owner == me;\n"),
+        ],
+    ),
+    (
+        "left-early",
+        "epochs-held",
+        &[(27, "leave();\ns := t.next;\n")],
+    ),
+    (
+        "unchecked",
+        "hazards",
+        &[(23, "atomic { t := Top; active t; }\n"), (27, "")],
+    ),
+    ("weaker", "hazards", &[(46, "")]),
+    ("interfered", "hazards", &[(49, "")]),
+];
 
 // The file of the stack with an outline, in the spelling that is printed.
 pub(crate) const OUTLINED: &str = "\
@@ -321,12 +477,62 @@ refused syntax token 4 line 1
 refused undeclared token 14 line 1
 # check loop: 0
 safe points 5 steps 4 locations 2 obligations 0
-# check claim: 2
-refused file
-# check outline: 2
-refused file
-# check outlined: 2
-refused file
+# check claim: 1
+unproved claim step 0 prim 0 line 1
+term 0 null class 0
+term 1 a:n class 1
+term 2 yes class 2
+term 3 none class 3
+term 4 me class 4
+term 5 0 class 5
+term 6 retired.0(a:n) class 2
+# check outline: 0
+safe points 0 steps 0 locations 2 obligations 0
+# check outlined: 0
+at d W {u.idle u.held r.idle r.held r.kept}
+at d t S {u.held r.kept}
+at d s - {u.idle u.held r.idle r.held r.kept}
+at e W {u.idle u.held r.idle r.held r.kept}
+at e t S {u.held r.kept}
+at e s - {u.idle u.held r.idle r.held r.kept}
+at f W {u.idle u.held r.idle r.held r.kept}
+at f t S {u.held r.kept}
+at f s - {u.idle u.held r.idle r.held r.kept}
+safe points 37 steps 39 locations 7 obligations 2845
+# check hazards: 0
+at d W {u.idle u.held r.idle r.held r.kept}
+at d t S {u.held r.kept}
+at d s - {u.idle u.held r.idle r.held r.kept}
+at e W {u.idle u.held r.idle r.held r.kept}
+at e t S {u.held r.kept}
+at e s - {u.idle u.held r.idle r.held r.kept}
+at f W {u.idle u.held r.idle r.held r.kept}
+at f t S {u.held r.kept}
+at f s - {u.idle u.held r.idle r.held r.kept}
+safe points 37 steps 39 locations 7 obligations 2845
+# check epochs-held: 0
+at d W {u.in r.in r.kept}
+at d t S {u.in r.kept}
+at d s - {u.in r.in r.kept}
+at e W {u.in r.in r.kept}
+at e t S {u.in r.kept}
+at e s - {u.in r.in r.kept}
+at f W {u.in r.in r.kept}
+at f t S {u.in r.kept}
+at f s - {u.in r.in r.kept}
+safe points 35 steps 36 locations 7 obligations 2559
+# check unclaimed: 1
+untyped step 24 prim 0 line 28 deref t
+# check retired-again: 1
+untyped step 29 prim 0 line 35 retire t
+# check left-early: 1
+untyped step 24 prim 0 line 28 deref t
+# check unchecked: 1
+untyped step 23 prim 0 line 27 deref t
+# check many-clauses: 2
+refused limit clauses 65537
+# check many-obligations: 2
+refused limit obligations 1000001
 # check open-atomic: 2
 refused syntax token 18 line 1
 # check unknown-local: 2
@@ -353,8 +559,8 @@ refused duplicate token 4 line 1
 refused limit news 2
 # check points: 0
 safe points 4096 steps 4080 locations 2 obligations 0
-# check points-outlined: 2
-refused file
+# check points-outlined: 0
+safe points 4096 steps 4080 locations 2 obligations 0
 # check points-over: 2
 refused limit points 4097
 # check compared: 1
@@ -431,6 +637,10 @@ n := new ;
 protect ( n ) ;
 label a ;
 }
+# print many-clauses: 2
+refused limit clauses 65537
+# print many-obligations: 2
+refused limit obligations 1000001
 # print brace: 2
 refused syntax token 4 line 1
 # print stray: 2
@@ -483,10 +693,14 @@ read too long
 refused syntax token 4 line 1
 # replay claim one leak: 0
 end lines 1 events 0 freed 0
-# replay outline one leak: 2
-refused file
+# replay outline one leak: 0
+end lines 1 events 0 freed 0
 # replay outline no-threads leak: 2
-refused file
+refused schedule line 1
+# replay many-clauses one leak: 2
+refused limit clauses 65537
+# replay many-obligations no-threads leak: 2
+refused limit obligations 1000001
 # replay unknown-outline one leak: 2
 refused undeclared token 7 line 1
 # replay stack absent leak: 4

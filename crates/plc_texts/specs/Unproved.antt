@@ -81,7 +81,8 @@ term_texts file mine theirs terms = fold (λ before t. before ++ term_text file 
 
 -- term I TEXT class C
 abbrev pub term_line : ℕ → List ℕ → ℕ → List ℕ
-term_line i text class = codes "term " ++ decimal i ++ codes " " ++ text ++ codes " class " ++ decimal class ++ codes "\n"
+term_line i text class =
+    codes "term " ++ decimal i ++ codes " " ++ text ++ codes " class " ++ decimal class ++ codes "\n"
 
 -- a line for each term that has a class, from term i on
 abbrev pub term_lines : ℕ → List (List ℕ) → List ℕ → List ℕ

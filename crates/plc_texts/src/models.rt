@@ -82,9 +82,7 @@ fn push_obligation(
     ensures { OnOk result (out.new.items ≡ out.old.items ++ obligation_text flow.now o.now) }
 {
     match *o {
-        Obligation::Start { inv } => {
-            push_numbered(alloc, out, "start clause ", u32::from(inv))
-        }
+        Obligation::Start { inv } => { push_numbered(alloc, out, "start clause ", u32::from(inv)) }
         Obligation::Enter { op, clause } => {
             push_named(out, "enter ", operation_name(&flow.file, op))?;
             push_clause(alloc, out, clause)

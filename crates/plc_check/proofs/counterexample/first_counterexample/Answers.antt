@@ -8,10 +8,10 @@ use Rattle.plc_check.proofs.counterexample.first_counterexample.Goals as goal
 pub loop-obligation-preserved : goal.loop-obligation-preserved
 loop-obligation-preserved c =
     advanced (IsKept c.args.flow.now c.args.outline.now) (obligations c.args.flow.now c.args.outline.now)
-        c.loop-obligation.walk c.next.new.self c.in-Some.obligation c.loop-obligation.invariant c.in-Some.ensures
-        (subst (IsCounterexampleAt c.args.flow.now c.args.outline.now c.in-Some.obligation) c.in_default-2.is c.in_ok-found.ensures)
+    c.loop-obligation.walk c.next.new.self c.in-Some.obligation c.loop-obligation.invariant c.in-Some.ensures
+    (subst (IsCounterexampleAt c.args.flow.now c.args.outline.now c.in-Some.obligation) c.in_default-2.is c.in_ok-found.ensures)
 
 pub returns : goal.returns
 returns c =
     ended (IsKept c.args.flow.now c.args.outline.now) (obligations c.args.flow.now c.args.outline.now)
-        c.loop-obligation.walk c.loop-obligation.invariant c.in_default.ensures.0
+    c.loop-obligation.walk c.loop-obligation.invariant c.in_default.ensures.0

@@ -10,5 +10,5 @@ use Rattle.plc_check.proofs.limits.has_large_set.Goals as goal
 pub loop-obligation-preserved : goal.loop-obligation-preserved
 loop-obligation-preserved c =
     advanced (λ (o : Obligation). length (ground_set c.args.flow.now c.args.outline.now o).clauses ≤ most limits.Clauses)
-        (obligations c.args.flow.now c.args.outline.now) c.loop-obligation.walk c.next.new.self c.in-Some.obligation
-        c.loop-obligation.invariant c.in-Some.ensures (omega (arith, c.if-clauses-most.false, c.clauses.ensures, c.most.ensures))
+    (obligations c.args.flow.now c.args.outline.now) c.loop-obligation.walk c.next.new.self c.in-Some.obligation
+    c.loop-obligation.invariant c.in-Some.ensures (omega (arith, c.if-clauses-most.false, c.clauses.ensures, c.most.ensures))

@@ -7,7 +7,7 @@ use Rattle.plc_check.proofs.loading.load.Goals as goal
 pub returns-in-Ok-parse-clause-loaded : goal.returns-in-Ok-parse-clause-loaded
 returns-in-Ok-parse-clause-loaded c =
     judged_loaded c.args.bytes.now c.deref.result.now (rw c.deref.ensures.value c.in-Ok.ensures.spelled) c.in-Ok-parse.unit
-        c.in-Ok-parse.ensures.ok c.judged_of.result c.judged_of.ensures
+    c.in-Ok-parse.ensures.ok c.judged_of.result c.judged_of.ensures
 
 pub returns-in-Ok-parse-clause-fits : goal.returns-in-Ok-parse-clause-fits
 returns-in-Ok-parse-clause-fits c = loaded_fits c.args.bytes.now c.judged_of.result (returns-in-Ok-parse-clause-loaded c)

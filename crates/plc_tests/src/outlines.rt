@@ -1,0 +1,130 @@
+// Outlines that don't hold: the first line of the answer, and that the classes which it prints are a model of the
+// ground set of the obligation that it tells. Which model is printed is left open, so no row has it.
+ghost use Rattle.std.specs.Prelude.{IfOk};
+ghost use Rattle.plc_check.specs.Fit.{JudgedFits};
+
+use crate::program::{answered, changed, section, words_of};
+use crate::rows::CHANGED;
+use plc_base::{Items, LARGEST_FILE, NoMemory};
+use plc_check::{Judged, load};
+use plc_cli::MemFiles;
+use plc_ground::{GroundModel, GroundSet, is_model};
+use plc_oblig::{Obligation, count, ground, nth};
+use plc_texts::unproved;
+use std::alloc::{AllocError, Global};
+
+fn loaded(alloc: Global, text: &str) -> Result<Judged, NoMemory>
+    ensures { IfOk result JudgedFits }
+{
+    if text.len() > LARGEST_FILE {
+        return Err(NoMemory);
+    }
+    match load(alloc, text.as_bytes()) {
+        Ok(judged) => Ok(judged),
+        Err(_) => Err(NoMemory),
+    }
+}
+
+// The classes that an answer prints, each at the end of a term's line.
+fn classes(alloc: Global, answer: &str) -> Result<GroundModel, AllocError> {
+    let mut class = Vec::new(alloc);
+    for line in answer.split("\n") {
+        if line.starts_with("term ") {
+            if let Some((_, number)) = line.rsplit_once(" ") {
+                class.push(number.parse::<u32>().unwrap_or(u32::MAX))?;
+            }
+        }
+    }
+    Ok(GroundModel {
+        class: Items::from_vec(class),
+    })
+}
+
+// The line that tells an obligation.
+fn line_of(alloc: Global, judged: &Judged, o: &Obligation) -> Result<String, AllocError> {
+    let set = GroundSet {
+        terms: Items::from_vec(Vec::new(alloc)),
+        sorts: Items::from_vec(Vec::new(alloc)),
+        clauses: Items::from_vec(Vec::new(alloc)),
+    };
+    let text = unproved(alloc, &judged.flow, o, &set, &[])?;
+    String::from_str(alloc, str::from_utf8(&text).unwrap_or("?"))
+}
+
+// Whether the classes are a model of the obligation's ground set.
+fn is_model_of(
+    alloc: Global,
+    judged: &Judged,
+    o: &Obligation,
+    model: &GroundModel,
+) -> Result<bool, NoMemory>
+    requires { JudgedFits judged.now }
+{
+    let set = ground(alloc, &judged.flow, &judged.unit_outline, o)?;
+    Ok(is_model(&set, model))
+}
+
+// Whether the answer's classes are a model of the set of the obligation that its first line tells.
+fn has_model(alloc: Global, judged: &Judged, answer: &str) -> Result<bool, NoMemory>
+    requires { JudgedFits judged.now }
+{
+    let model = classes(alloc, answer)?;
+    for i in 0..count(&judged.flow, &judged.unit_outline) {
+        if let Some(o) = nth(&judged.flow, &judged.unit_outline, i) {
+            if answer.starts_with(line_of(alloc, judged, &o)?.as_str()) {
+                return is_model_of(alloc, judged, &o, &model);
+            }
+        }
+    }
+    Ok(false)
+}
+
+// What `check` answers to a text, without its status.
+fn answer_to(alloc: Global, text: &str) -> Result<String, AllocError> {
+    let file = (
+        String::from_str(alloc, "file")?,
+        Vec::from_slice(alloc, text.as_bytes())?,
+    );
+    let mut files = MemFiles::new(alloc, vec![in alloc; file]?, Vec::new(alloc));
+    let words = words_of(alloc, "check file")?;
+    let text = answered(alloc, &mut files, &words)?;
+    String::from_str(alloc, text.as_str().strip_prefix("1\n").unwrap_or(""))
+}
+
+// The first line of what is answered to a file that is changed, where its classes are a model.
+fn first_line(alloc: Global, name: &str) -> Result<String, NoMemory> {
+    for (changed_name, base, changes) in &CHANGED {
+        if *changed_name == name {
+            let text = changed(alloc, section(*base), *changes)?;
+            return first_line_of(alloc, text.as_str());
+        }
+    }
+    Ok(String::new(alloc))
+}
+
+fn first_line_of(alloc: Global, text: &str) -> Result<String, NoMemory> {
+    let judged = loaded(alloc, text)?;
+    let answer = answer_to(alloc, text)?;
+    if !has_model(alloc, &judged, answer.as_str())? {
+        return Ok(String::new(alloc));
+    }
+    match answer.as_str().split_once("\n") {
+        Some((line, _)) => Ok(String::from_str(alloc, line)?),
+        None => Ok(String::new(alloc)),
+    }
+}
+
+#[test]
+fn what_is_printed_is_a_model(rt: HostRuntime) -> Result<(), NoMemory> {
+    for (name, want) in [
+        ("claimed-late", "unproved claim step 29 prim 0 line 36"),
+        ("weaker", "unproved own step 6 line 15 clause 3"),
+        (
+            "interfered",
+            "unproved other step 6 line 15 point 0 clause 0",
+        ),
+    ] {
+        assert_eq!(rt; first_line(rt.alloc(), name)?.as_str(), want);
+    }
+    Ok(())
+}
