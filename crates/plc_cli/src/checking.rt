@@ -26,7 +26,11 @@ pub(crate) fn status_of(verdict: &Verdict) -> u8
 }
 
 /// The text of a verdict.
-pub(crate) fn text_of(alloc: Global, judged: &Judged, verdict: &Verdict) -> Result<Vec<u8>, AllocError>
+pub(crate) fn text_of(
+    alloc: Global,
+    judged: &Judged,
+    verdict: &Verdict,
+) -> Result<Vec<u8>, AllocError>
     ensures { IfOk result (λ text. text.items ≡ verdict_text judged.now verdict.now) }
 {
     let flow = &judged.flow;

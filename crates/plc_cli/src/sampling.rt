@@ -50,12 +50,7 @@ fn told_sample(
 }
 
 // The answer to a sample that was loaded.
-fn judge_loaded(
-    alloc: Global,
-    copies: u8,
-    line: u16,
-    judged: &Judged,
-) -> Result<Answer, AllocError>
+fn judge_loaded(alloc: Global, copies: u8, line: u16, judged: &Judged) -> Result<Answer, AllocError>
     requires { JudgedFits judged.now }
     ensures { IfOk result (λ answer. IsSampledAs copies line judged.now answer.status answer.text.items) }
 {
@@ -66,12 +61,7 @@ fn judge_loaded(
 }
 
 // The answer to the bytes of a sample.
-fn judge_bytes(
-    alloc: Global,
-    copies: u8,
-    line: u16,
-    bytes: &[u8],
-) -> Result<Answer, AllocError>
+fn judge_bytes(alloc: Global, copies: u8, line: u16, bytes: &[u8]) -> Result<Answer, AllocError>
     requires { length bytes.now ≤ largest_file }
     ensures { IfOk result (λ answer. IsSampledFile copies line bytes.now answer.status answer.text.items) }
 {

@@ -91,13 +91,7 @@ fn slot_name(file: &File, operation: u16, slot: Slot) -> &[u8]
 }
 
 // Two numbers, each after words.
-fn paired(
-    alloc: Global,
-    first: &str,
-    a: u64,
-    second: &str,
-    b: u64,
-) -> Result<Vec<u8>, AllocError>
+fn paired(alloc: Global, first: &str, a: u64, second: &str, b: u64) -> Result<Vec<u8>, AllocError>
     ensures { IfOk result (λ v. v.items ≡ pair_text first.now a second.now b) }
 {
     let mut out = fixed(alloc, first)?;
