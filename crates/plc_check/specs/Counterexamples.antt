@@ -1,9 +1,12 @@
--- What breaks obligations.
-use Rattle.std.specs.Prelude.{◌≡◌, Option, Some, None}
+-- What breaks obligations, and what shows that they are kept.
+use Rattle.std.specs.Prelude.{◌≡◌, ℕ, List, [], ◌∷◌, Option, Some, None, Result, Ok, Err}
 use Rattle.plc_flow.specs.declared.flow.Flow.{Flow}
 use Rattle.plc_logic.specs.declared.clause.Outline.{Outline}
 use Rattle.plc_setting.specs.declared.obligations.Obligation.{Obligation}
+use Rattle.plc_ground.specs.declared.terms.Tree.{Tree}
 use Rattle.plc_ground.specs.Model.{IsModel}
+use Rattle.plc_ground.specs.Trees.{Closes, SplitsOnce}
+use Rattle.plc_oblig.specs.Obligations.{obligations}
 use Rattle.plc_oblig.specs.GroundSets.{ground_set}
 use Rattle.plc_oblig.specs.Outlines.{IsKept, OutlineHolds, IsLeastOpen}
 use Rattle.plc_check.specs.declared.counterexample.Counterexample.{Counterexample}
@@ -22,3 +25,25 @@ IsCounterexampleAt flow outline o (Some x) = (x.obligation ≡ o) × IsCounterex
 abbrev pub IsFirstCounterexample : Flow → Outline → Option Counterexample → Type 0
 IsFirstCounterexample flow outline None = OutlineHolds flow outline
 IsFirstCounterexample flow outline (Some x) = IsLeastOpen flow outline x.obligation × IsCounterexample flow outline x
+
+-- the tree closes the ground set of the obligation, and no branch of it splits one clause twice
+abbrev pub IsTreeOf : Flow → Outline → Obligation → Tree → Type 0
+IsTreeOf flow outline o t =
+    Closes (ground_set flow outline o) t.nodes × SplitsOnce (ground_set flow outline o) ([] ∷ []) t.nodes
+
+-- such a tree, or what breaks the obligation
+abbrev pub IsTreeAt : Flow → Outline → Obligation → Result Tree Counterexample → Type 0
+IsTreeAt flow outline o (Ok t) = IsTreeOf flow outline o t
+IsTreeAt flow outline o (Err x) = (x.obligation ≡ o) × IsCounterexample flow outline x
+
+-- one tree for each of these obligations, in order
+abbrev pub AreTreesFor : Flow → Outline → List Obligation → List Tree → Type 0
+AreTreesFor flow outline [] [] = Unit {0}
+AreTreesFor flow outline [] (t ∷ ts) = ⊥
+AreTreesFor flow outline (o ∷ os) [] = ⊥
+AreTreesFor flow outline (o ∷ os) (t ∷ ts) = IsTreeOf flow outline o t × AreTreesFor flow outline os ts
+
+-- one for each obligation, or what breaks the least that isn't kept
+abbrev pub AreTreesOrBroken : Flow → Outline → Result (List Tree) Counterexample → Type 0
+AreTreesOrBroken flow outline (Ok ts) = AreTreesFor flow outline (obligations flow outline) ts
+AreTreesOrBroken flow outline (Err x) = IsLeastOpen flow outline x.obligation × IsCounterexample flow outline x

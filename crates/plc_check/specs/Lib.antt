@@ -2,6 +2,7 @@
 pub mod Fit
 pub mod Loading
 pub mod Verdicts
+pub mod Certified
 -- words of private functions alone
 pub mod Refusals
 pub mod Counterexamples

@@ -1,13 +1,17 @@
-//! From bytes to the verdict, on the parser, the lowering and the inference: `load` gives the flow
-//! and the outline that the bytes spell or the first refusal, and `check` the verdict of the definitions.
+//! From bytes to the verdict, on the parser, the lowering, the inference and the solver: `load` gives the flow
+//! and the outline that the bytes spell or the first refusal, `check` the verdict of the definitions, and
+//! `certify` what shows that a file is safe.
 #![tactic(auto)]
 
+mod certified;
 mod counterexample;
 mod judged;
 mod limits;
 mod loading;
+mod tree;
 mod verdict;
 
+pub use certified::{Certified, certify};
 pub use judged::{Judged, LoadFault};
 pub use loading::{files_are_unique, files_fit, load};
 pub use verdict::{Verdict, check};

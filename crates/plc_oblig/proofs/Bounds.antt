@@ -1,5 +1,5 @@
 -- How much there is at most of what a set is made of.
-use Rattle.std.proofs.Common.{◌≡◌, ℕ, ◌+◌, ◌≤◌, Bool, List, [], ◌∷◌, ◌++◌, map, filter, length, count_by, take, length-take, refl, sym, ap, ◌∙◌, subst, arith, slice_get, Option, Some, None}
+use Rattle.std.proofs.Common.{◌≡◌, ℕ, ◌≤◌, List, filter, length, length-take, refl, subst, arith, slice_get, Option, Some, None}
 use Rattle.std.specs.List.{All, position}
 use Rattle.std.proofs.lemmas.List.Elements.{All-nil, All-get_or, All-filter, All-map, All-append, All-weaker}
 use Rattle.std.proofs.lemmas.Option.{get_or_from_slice_get, slice_get_within, none-some}
@@ -22,7 +22,7 @@ use Rattle.plc_logic.specs.Fit.{OutlineFits, ItemFits, SiteFits, InvariantFits}
 use Rattle.plc_setting.specs.declared.obligations.Obligation.{Obligation}
 use Rattle.plc_setting.specs.declared.obligations.Obligation.TheVariants.{Start, Enter, Own, Other, Claim}
 use Rattle.plc_setting.specs.Fit.{Fits}
-use Rattle.plc_setting.specs.Parts.{acting_locals, owner_locals, locals_of_step, point_locals, has_point, executed, prims_of, conclusion, entry_clauses, clauses_behind, invariants_before}
+use Rattle.plc_setting.specs.Parts.{acting_locals, owner_locals, locals_of_step, has_point, executed, prims_of, conclusion, entry_clauses, clauses_behind, invariants_before}
 use Rattle.plc_setting.specs.Parts.{locals_or_none as locals_at}
 use Rattle.plc_setting.specs.Setting.{bound_of}
 use Rattle.plc_setting.specs.Points.{clauses_at, stands_at}

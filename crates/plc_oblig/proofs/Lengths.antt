@@ -1,8 +1,8 @@
 -- How long the items of a ground set are.
-use Rattle.std.proofs.Common.{◌≡◌, ℕ, zero, suc, ◌+◌, ◌*◌, ◌^◌, ◌<◌, ◌≤◌, ◌==◌, Bool, true, false, not, ◌&&◌, if◌then◌else◌, cond, List, [], ◌∷◌, ◌++◌, map, flat_map, length, count_by, sum_by, drop, refl, sym, ap, ◌∙◌, arith, Option, Some, None, length-append}
+use Rattle.std.proofs.Common.{◌≡◌, ℕ, suc, ◌+◌, ◌*◌, ◌^◌, ◌==◌, Bool, true, false, not, if◌then◌else◌, cond, List, [], ◌∷◌, ◌++◌, map, flat_map, length, count_by, refl, sym, ap, ◌∙◌, arith, length-append}
 use Rattle.std.proofs.Math.Nat.{pow-zero, pow-suc}
 use Rattle.std.proofs.lemmas.List.{length-map}
-use Rattle.std.proofs.lemmas.List.FromFn.{length-range_with_len, length-map-range_with_len}
+use Rattle.std.proofs.lemmas.List.FromFn.{length-map-range_with_len}
 use Rattle.std.proofs.lemmas.List.Recursion.{is_count_by}
 use Rattle.plc_base.specs.declared.ids.FieldId.{FieldId}
 use Rattle.plc_lang.specs.declared.syntax.Field.{Field}
@@ -19,7 +19,7 @@ use Rattle.plc_setting.specs.declared.setting.Setting.{Setting}
 use Rattle.plc_setting.specs.declared.obligations.Obligation.{Obligation}
 use Rattle.plc_setting.specs.declared.obligations.Obligation.TheVariants.{Start, Enter}
 use Rattle.plc_setting.specs.Parts.{acting_locals}
-use Rattle.plc_setting.specs.Setting.{below, variables_of, fields_behind, pointer_fields_from}
+use Rattle.plc_setting.specs.Setting.{variables_of, fields_behind, pointer_fields_from}
 use Rattle.plc_symbolic.specs.Terms.{Clauses, null}
 use Rattle.plc_items.specs.Items.{values_from, field_values, one_of_values, start_clauses, enter_clauses, freshness, field_defaults_from, ghost_defaults_from, no_field_leads, if_fresh, is_other, beginning}
 use Rattle.plc_oblig.specs.Size.{is_pointer_field, has_values}

@@ -1,5 +1,5 @@
 -- The two sides of each literal of a ground set have one sort, item by item.
-use Rattle.std.proofs.Common.{◌≡◌, ℕ, zero, suc, ◌+◌, ◌<◌, ◌≤◌, Bool, true, false, not, ◌&&◌, ◌==◌, unwrap_or, List, [], ◌∷◌, ◌++◌, length, map, slice_get, Option, Some, None, refl, sym, ap, ◌∙◌, arith}
+use Rattle.std.proofs.Common.{◌≡◌, ℕ, zero, suc, ◌+◌, Bool, true, false, not, ◌&&◌, ◌==◌, unwrap_or, List, [], ◌∷◌, ◌++◌, length, map, slice_get, Option, Some, None, refl, sym, ap, ◌∙◌, arith}
 use Rattle.std.specs.Prelude.{if◌then◌else◌, flat_map, slice_index_or}
 use Rattle.std.specs.List.{range_with_len}
 use Rattle.std.proofs.lemmas.Bool.{eqb-true, eqb-false}
@@ -47,7 +47,7 @@ use Rattle.plc_setting.specs.Sorts.{field_sort, auxiliary_sort, local_sort, load
 use Rattle.plc_setting.specs.WellSorted.{ActFits, NodesFit}
 use Rattle.plc_setting.proofs.ActSorts.{kind_at_place}
 use Rattle.plc_items.specs.declared.execution.Execution.{Execution}
-use Rattle.plc_items.specs.Execution.{start, current, version, held, map_now, after, after_all, not_null, update_at, if_checked, test_lit, act_clauses, executed_clauses}
+use Rattle.plc_items.specs.Execution.{start, current, version, held, after, after_all, not_null, update_at, if_checked, test_lit, act_clauses, executed_clauses}
 use Rattle.plc_items.specs.Items.{one_of_values, field_values, values_from, equals, only_new, start_clauses, enter_clauses, beginning, is_other, field_default, field_defaults_from, ghost_default, ghost_defaults_from, no_field_leads, unretired, default_is, if_fresh, freshness, me, read_term, read_literal, escapes, instance_at, tuples, instances, bound_nodes, denied_clause, denied_claim}
 use Rattle.plc_oblig.proofs.Equal.{same_symbol_true}
 use Rattle.plc_oblig.proofs.Lists.{each_flat, each_map, each_all, each_from, each_place, each_of_all}

@@ -1,5 +1,5 @@
 -- Ground sets keep the rules of ground sets.
-use Rattle.std.proofs.Common.{◌≡◌, ℕ, zero, suc, ◌<◌, ◌^◌, Bool, true, false, List, [], ◌∷◌, ◌++◌, length, map, slice_get, All, Option, Some, None, refl, sym, ap, ◌∙◌, subst}
+use Rattle.std.proofs.Common.{◌≡◌, ℕ, zero, suc, ◌<◌, ◌^◌, Bool, true, false, List, [], ◌∷◌, ◌++◌, length, slice_get, All, Option, Some, None, refl, sym, ap, ◌∙◌, subst}
 use Rattle.std.specs.Prelude.{flat_map}
 use Rattle.plc_lang.specs.declared.syntax.Local.{Local}
 use Rattle.plc_lang.specs.Locals.{locals_of}
@@ -11,14 +11,12 @@ use Rattle.plc_flow.proofs.Each.{Each, each_both, each_so}
 use Rattle.plc_flow.proofs.Gates.{gate_from}
 use Rattle.plc_logic.specs.declared.clause.Clause.{Clause}
 use Rattle.plc_logic.specs.declared.clause.Outline.{Outline}
-use Rattle.plc_logic.specs.declared.clause.Sort.{Sort}
-use Rattle.plc_logic.specs.declared.clause.Sort.TheVariants as sorts
 use Rattle.plc_logic.specs.Fit.{InvariantFits, ClauseFits, pointer_sort}
 use Rattle.plc_ground.specs.declared.terms.GroundSet.{GroundSet}
 use Rattle.plc_ground.specs.Fit.{IsWellFormed}
 use Rattle.plc_symbolic.specs.declared.symbolic.SymbolicLit.{SymbolicLit}
 use Rattle.plc_symbolic.specs.Drafts.{IsDraft, begun, SortsFit}
-use Rattle.plc_symbolic.specs.Numbering.{Drafted, blank, listed_all, written_all, numbered}
+use Rattle.plc_symbolic.specs.Numbering.{Drafted, blank, listed_all}
 use Rattle.plc_symbolic.specs.Terms.{Clauses}
 use Rattle.plc_symbolic.proofs.Drafts.{lists_all, writes_all, written_all-clauses, listed_all-clauses, well_formed}
 use Rattle.plc_setting.specs.declared.obligations.Obligation.{Obligation}

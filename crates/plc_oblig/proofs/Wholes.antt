@@ -6,8 +6,6 @@ use Rattle.std.proofs.lemmas.Option.{none-some}
 use Rattle.std.proofs.lemmas.List.FromFn.{length-map-range_with_len}
 use Rattle.std.proofs.lemmas.List.Sums.{sum_by-cons, sum_by-append}
 use Rattle.plc_lang.specs.declared.syntax.Ghost.{Ghost}
-use Rattle.plc_lang.specs.declared.syntax.Primitive.{Primitive}
-use Rattle.plc_lang.specs.declared.syntax.Primitive.TheVariants.{Null, Copy, New, Load, Store, StoreNull, DataSet, DataLoad, DataStore, Eq, Ne, IsNull, NotNull, DataTest, Refresh, RefreshLoad, RefreshStore, Call, Done, Active, Ghost as GhostSet}
 use Rattle.plc_flow.specs.declared.flow.Flow.{Flow}
 use Rattle.plc_logic.specs.declared.clause.Clause.{Clause}
 use Rattle.plc_logic.specs.declared.clause.Outline.{Outline}
@@ -24,7 +22,7 @@ use Rattle.plc_setting.specs.declared.setting.Setting.{Setting}
 use Rattle.plc_setting.specs.Parts.{conclusion, claim_made, acting_locals, owner_locals, executed, acting_premises, owner_premises, invariants_before}
 use Rattle.plc_setting.specs.Parts.{clauses_of as point_clauses}
 use Rattle.plc_base.specs.declared.ids.PointId.{PointId}
-use Rattle.plc_setting.specs.Setting.{nodes_of, fields_behind, if_deep, if_made, node_constants, plain_constants, pointer_loads_from, setting_of, bound_of, variables_of, below}
+use Rattle.plc_setting.specs.Setting.{nodes_of, fields_behind, if_deep, if_made, node_constants, plain_constants, pointer_loads_from, setting_of, bound_of, below}
 use Rattle.plc_items.specs.declared.execution.Execution.{Execution}
 use Rattle.plc_items.specs.Execution.{start, after_all, executed_clauses}
 use Rattle.plc_items.specs.Items.{tuples, instances, denied, denied_clause, denied_claim, values_from, beginning, freshness, premises, clauses_of}

@@ -75,4 +75,5 @@ claims flow = parts_from claims_of 0 flow.steps
 
 -- all of them, kind by kind
 unfoldable pub obligations : Flow → Outline → List Obligation
-obligations flow outline = starts outline ++ (enters flow outline ++ (owns flow outline ++ (others flow outline ++ claims flow)))
+obligations flow outline =
+    starts outline ++ (enters flow outline ++ (owns flow outline ++ (others flow outline ++ claims flow)))

@@ -1,5 +1,5 @@
 -- How many clauses each part of a ground set has.
-use Rattle.std.specs.Prelude.{◌≡◌, ◌≤◌, ◌==◌, ℕ, ◌+◌, ◌*◌, ◌^◌, Bool, true, false, not, length, Option, Some, None}
+use Rattle.std.specs.Prelude.{◌≡◌, ◌≤◌, ◌==◌, ℕ, ◌+◌, ◌*◌, ◌^◌, Bool, true, false, not, length}
 use Rattle.plc_base.specs.Limits.{most, most_bound}
 use Rattle.plc_base.specs.declared.limits.What1.TheVariants as limits
 use Rattle.plc_base.specs.Functions.{is_retire}
@@ -10,7 +10,7 @@ use Rattle.plc_lang.specs.declared.syntax.Ghost.{Ghost as AuxiliaryField}
 use Rattle.plc_lang.specs.declared.syntax.Rel.{Rel}
 use Rattle.plc_lang.specs.declared.syntax.Rel.TheVariants as rels
 use Rattle.plc_lang.specs.declared.syntax.Primitive.{Primitive}
-use Rattle.plc_lang.specs.declared.syntax.Primitive.TheVariants.{Null, Copy, New, Load, Store, StoreNull, DataSet, DataLoad, DataStore, Eq, Ne, IsNull, NotNull, DataTest, Refresh, RefreshLoad, RefreshStore, Call, Done, Active, Ghost}
+use Rattle.plc_lang.specs.declared.syntax.Primitive.TheVariants.{Load, Store, StoreNull, DataLoad, DataStore, Eq, Ne, IsNull, NotNull, DataTest, RefreshLoad, RefreshStore, Call, Ghost}
 use Rattle.plc_flow.specs.WellFormed.{most_step_primitives}
 use Rattle.plc_logic.specs.declared.clause.Clause.{Clause}
 use Rattle.plc_setting.specs.declared.setting.Setting.{Setting}

@@ -1,4 +1,4 @@
-use Rattle.std.proofs.Common.{◌≡◌, map, sym, ap, ◌∙◌, refl}
+use Rattle.std.proofs.Common.{map, ap, ◌∙◌}
 use Rattle.plc_symbolic.specs.declared.symbolic.SymbolicTerm.TheVariants.{Constant}
 use Rattle.plc_symbolic.specs.Numbering.{listed_all}
 use Rattle.plc_symbolic.specs.Terms.{term_of}

@@ -1,8 +1,6 @@
-use Rattle.std.proofs.Common.{◌≡◌, map, ap, ◌∙◌}
-use Rattle.plc_ground.specs.declared.terms.GroundSet.{GroundSet}
+use Rattle.std.proofs.Common.{map, ap, ◌∙◌}
 use Rattle.plc_setting.specs.Sorts.{sort_of}
-use Rattle.plc_setting.specs.Setting.{setting_of}
-use Rattle.plc_oblig.specs.GroundSets.{drafted, ground_set}
+use Rattle.plc_oblig.specs.GroundSets.{drafted}
 use Rattle.plc_oblig.proofs.Assembled.{assembled}
 use Rattle.plc_oblig.proofs.WellFormed.{made_well_formed}
 use Rattle.plc_oblig.proofs.grounding.ground.Goals as goal

@@ -1,4 +1,4 @@
-use Rattle.std.proofs.Common.{◌≡◌, ◌++◌, ◌∷◌, [], ap, ◌∙◌}
+use Rattle.std.proofs.Common.{◌++◌, ◌∷◌, [], ap, ◌∙◌}
 use Rattle.plc_oblig.proofs.Assembled.{one_more_taken}
 use Rattle.plc_oblig.proofs.grounding.sorts_of.Goals as goal
 

@@ -1,4 +1,4 @@
-use Rattle.std.proofs.Common.{◌≡◌, ◌+◌, ap, sym, ◌∙◌, length, count_by, arith}
+use Rattle.std.proofs.Common.{ap, ◌∙◌, count_by, arith}
 use Rattle.plc_lang.specs.Locals.{is_other_data}
 use Rattle.plc_oblig.proofs.Lengths.{start_beginning, enter_beginning}
 use Rattle.plc_oblig.proofs.size.beginning_size.Goals as goal

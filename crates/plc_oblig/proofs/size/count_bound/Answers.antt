@@ -1,4 +1,4 @@
-use Rattle.std.proofs.Common.{◌≡◌, ◌≤◌, length, ap, ◌∙◌, arith}
+use Rattle.std.proofs.Common.{ap, ◌∙◌, arith}
 use Rattle.plc_setting.specs.Setting.{bound_of}
 use Rattle.plc_oblig.proofs.Bounds.{few_bound}
 use Rattle.plc_oblig.proofs.size.count_bound.Goals as goal

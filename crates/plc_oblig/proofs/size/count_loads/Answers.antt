@@ -1,6 +1,5 @@
-use Rattle.std.proofs.Common.{◌≡◌, ◌≤◌, length, ap, ◌∙◌, arith}
+use Rattle.std.proofs.Common.{length, ap, arith}
 use Rattle.std.proofs.lemmas.List.Sums.{count_by-le-length}
-use Rattle.plc_setting.specs.Parts.{executed}
 use Rattle.plc_oblig.specs.Size.{is_pointer_load}
 use Rattle.plc_oblig.proofs.Bounds.{short_executed}
 use Rattle.plc_oblig.proofs.size.count_loads.Goals as goal

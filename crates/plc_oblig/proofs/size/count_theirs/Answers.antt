@@ -1,7 +1,6 @@
-use Rattle.std.proofs.Common.{◌≡◌, ◌≤◌, length, ap, ◌∙◌, arith}
+use Rattle.std.proofs.Common.{length, ap, arith}
 use Rattle.std.proofs.lemmas.List.Sums.{count_by-le-length}
 use Rattle.plc_lang.specs.Locals.{is_pointer}
-use Rattle.plc_setting.specs.Parts.{owner_locals}
 use Rattle.plc_oblig.proofs.Bounds.{few_theirs}
 use Rattle.plc_oblig.proofs.size.count_theirs.Goals as goal
 

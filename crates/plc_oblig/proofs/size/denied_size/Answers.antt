@@ -1,4 +1,4 @@
-use Rattle.std.proofs.Common.{◌≡◌, ◌+◌, sym, ap, ◌∙◌, length, arith}
+use Rattle.std.proofs.Common.{sym, ap, ◌∙◌, arith}
 use Rattle.std.specs.Option.{option_copied}
 use Rattle.plc_oblig.proofs.Bounds.{small_conclusion}
 use Rattle.plc_oblig.proofs.Wholes.{denied_by_conclusion}

@@ -1,4 +1,4 @@
-use Rattle.std.proofs.Common.{◌≡◌, ◌+◌, ◌*◌, ap, sym, ◌∙◌, length, arith}
+use Rattle.std.proofs.Common.{◌*◌, ap, sym, ◌∙◌, length, arith}
 use Rattle.plc_oblig.proofs.Lengths.{made_length, none_length}
 use Rattle.plc_oblig.proofs.size.freshness_size.Goals as goal
 

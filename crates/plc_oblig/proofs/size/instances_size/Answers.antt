@@ -1,4 +1,4 @@
-use Rattle.std.proofs.Common.{◌≡◌, ◌^◌, ◌*◌, arith, ℕ}
+use Rattle.std.proofs.Common.{arith}
 use Rattle.plc_oblig.proofs.Lengths.{power_0, power_1, power_2}
 use Rattle.plc_oblig.proofs.size.instances_size.Goals as goal
 

@@ -1,4 +1,4 @@
-use Rattle.std.proofs.Common.{◌≡◌, ◌+◌, sym, ap, ◌∙◌, refl, arith}
+use Rattle.std.proofs.Common.{◌+◌, ap, ◌∙◌, refl}
 use Rattle.std.specs.List.{list_any}
 use Rattle.plc_lang.specs.Allocation.{is_new}
 use Rattle.plc_oblig.proofs.Wholes.{setting_sizes}

@@ -1,6 +1,5 @@
-use Rattle.std.proofs.Common.{◌≡◌, ◌*◌, ap, sym, ◌∙◌, length, count_by, List}
+use Rattle.std.proofs.Common.{◌*◌, ap, sym, ◌∙◌, count_by}
 use Rattle.plc_oblig.specs.Size.{has_values}
-use Rattle.plc_symbolic.specs.declared.symbolic.NodeTerm.{NodeTerm}
 use Rattle.plc_oblig.proofs.Lengths.{values_length}
 use Rattle.plc_oblig.proofs.size.values_size.Goals as goal
 

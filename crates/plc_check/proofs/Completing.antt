@@ -1,0 +1,44 @@
+-- A typing with its trees is a valid certificate: a certificate's types of shared pointers are those of a typing.
+use Rattle.std.proofs.Common.{◌≡◌, ◌<◌, ℕ, List, length, map, get_or, refl, sym, ap, ◌∙◌, subst, arith}
+use Rattle.std.proofs.lemmas.List.{ext_get_or, get_or-map, length-map}
+use Rattle.plc_type.specs.declared.env.PtrType.{PtrType}
+use Rattle.plc_type.specs.declared.env.Env.{Env}
+use Rattle.plc_type.specs.Environments.{bottom}
+use Rattle.plc_xfer.specs.Typings.{IsTyping, IsStrongest, IsPretyping, env_at}
+use Rattle.plc_flow.specs.declared.flow.Flow.{Flow}
+use Rattle.plc_flow.specs.Skeleton.{skeleton_of}
+use Rattle.plc_auto.specs.declared.observer.Observer.{Observer}
+use Rattle.plc_ground.specs.declared.terms.Tree.{Tree}
+use Rattle.plc_oblig.specs.Obligations.{obligations}
+use Rattle.plc_cert.specs.declared.cert.Cert.{Cert}
+use Rattle.plc_verify.specs.Environments.{with_shared, completed}
+use Rattle.plc_check.specs.declared.judged.Judged.{Judged}
+use Rattle.plc_check.specs.Certified.{IsCertificateOf}
+use Rattle.plc_check.specs.Counterexamples.{AreTreesFor}
+use Rattle.plc_check.proofs.Matching.{one_each, tree_of}
+
+complete : (o : Observer) (flow : Flow) (envs : List Env) → IsPretyping o (skeleton_of flow) envs → completed flow envs ≡ envs
+complete o flow envs h =
+    ext_get_or (bottom 0 0) (completed flow envs) envs (length-map envs (with_shared (length flow.file.shared))) at
+  where
+    at : (i : ℕ) → i < length (completed flow envs) → get_or (completed flow envs) i (bottom 0 0) ≡ get_or envs i (bottom 0 0)
+    at i lt =
+        let within : i < length envs = omega (arith, lt, length-map envs (with_shared (length flow.file.shared))) in
+        let is = h.environments i (omega (arith, within, h.count)) in
+        get_or-map (with_shared (length flow.file.shared)) envs i (bottom 0 0) (bottom 0 0) within
+        ∙ ap (λ (shared : List PtrType). record { shared = shared; locals = (env_at envs i).locals; w = (env_at envs i).w }) (sym is.shared_types)
+
+pub certificate : (j : Judged) (cert : Cert) → IsTyping j.observer (skeleton_of j.flow) cert.env
+    → IsStrongest j.observer (skeleton_of j.flow) cert.env
+    → AreTreesFor j.flow j.unit_outline (obligations j.flow j.unit_outline) cert.trees → IsCertificateOf j cert
+certificate j cert typing strongest trees = record {
+  valid = record {
+    typing = subst (IsTyping j.observer (skeleton_of j.flow)) (sym (complete j.observer j.flow cert.env typing.pretyping)) typing;
+    trees = record {
+      one_each = one_each j.flow j.unit_outline (obligations j.flow j.unit_outline) cert.trees trees;
+      closed = λ i o t e f. (tree_of j.flow j.unit_outline (obligations j.flow j.unit_outline) cert.trees i o t trees e f).0;
+    };
+  };
+  strongest = strongest;
+  once = λ i o t e f. (tree_of j.flow j.unit_outline (obligations j.flow j.unit_outline) cert.trees i o t trees e f).1;
+}

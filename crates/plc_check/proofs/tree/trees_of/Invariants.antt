@@ -1,0 +1,9 @@
+use Rattle.std.proofs.Common.{length}
+use Rattle.plc_check.proofs.Matching.{TreesSoFar}
+use Rattle.plc_check.proofs.tree.trees_of.Given as goal
+
+abbrev pub invariant-loop-obligation : goal.invariant-loop-obligation
+invariant-loop-obligation l = TreesSoFar l.flow l.outline l.walk l.trees
+
+abbrev pub decreases-loop-obligation : goal.decreases-loop-obligation
+decreases-loop-obligation l = length l.walk

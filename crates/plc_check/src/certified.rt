@@ -1,0 +1,62 @@
+// What shows that a file is safe: the strongest typing, and a tree for each obligation.
+ghost use Rattle.std.specs.Prelude.{IfOk};
+ghost use Rattle.plc_xfer.specs.Typings.{IsTyping, IsStrongest};
+ghost use Rattle.plc_flow.specs.Skeleton.{skeleton_of};
+ghost use Rattle.plc_check.specs.Certified.{IsCertified};
+ghost use Rattle.plc_check.specs.Fit.{JudgedFits};
+
+use crate::judged::Judged;
+use crate::tree::trees_of;
+use crate::verdict::Verdict;
+use plc_base::NoMemory;
+use plc_cert::Cert;
+use plc_infer::{InferFault, Typing, infer};
+use std::alloc::Global;
+
+/// What there is to show of a file.
+#[derive(Debug, Drop)]
+pub enum Certified {
+    /// It is safe: a certificate that is valid, with the strongest typing, and with trees in which no branch
+    /// splits one clause twice.
+    Yes(Cert),
+    /// It isn't: the verdict, which is never `Safe`.
+    No(Verdict),
+}
+
+// What there is to show where there is a typing: the trees decide.
+fn certify_outline(alloc: Global, judged: &Judged, typing: Typing) -> Result<Certified, NoMemory>
+    requires fits { JudgedFits judged.now }
+    requires typing { IsTyping judged.now.observer (skeleton_of judged.now.flow) typing.env }
+    requires strongest { IsStrongest judged.now.observer (skeleton_of judged.now.flow) typing.env }
+    ensures { IfOk result (IsCertified judged.now) }
+{
+    let found = trees_of(alloc, &judged.flow, &judged.unit_outline)?;
+    match found {
+        Ok(trees) => Ok(Certified::Yes(Cert {
+            env: typing.env,
+            trees,
+        })),
+        Err(found) => Ok(Certified::No(Verdict::Unproved {
+            obligation: found.obligation,
+            set: found.set,
+            model: found.model,
+        })),
+    }
+}
+
+/// A certificate of what [`crate::load`] gave, exactly where [`crate::check`] says `Safe`; else the verdict. The
+/// one error is that memory runs out, which more than 2^32 terms of a ground set count as.
+pub fn certify(alloc: Global, judged: &Judged) -> Result<Certified, NoMemory>
+    requires { JudgedFits judged.now }
+    ensures { IfOk result (IsCertified judged.now) }
+{
+    match infer(alloc, &judged.flow, &judged.observer) {
+        Ok(typing) => certify_outline(alloc, judged, typing),
+        Err(InferFault::Stuck { step, prim, fault }) => Ok(Certified::No(Verdict::Untyped {
+            step,
+            prim,
+            fault,
+        })),
+        Err(InferFault::Memory) => Err(NoMemory),
+    }
+}

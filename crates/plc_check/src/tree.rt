@@ -1,0 +1,55 @@
+// Trees that close the ground sets of obligations, as the solver finds them.
+ghost use Rattle.std.specs.Prelude.{IfOk};
+ghost use Rattle.plc_setting.specs.Fit.{Fits};
+ghost use Rattle.plc_check.specs.Counterexamples.{IsTreeAt, AreTreesOrBroken};
+
+use crate::counterexample::Counterexample;
+use plc_base::{Items, NoMemory};
+use plc_flow::Flow;
+use plc_ground::Tree;
+use plc_logic::Outline;
+use plc_oblig::{Obligation, Walk, ground};
+use plc_solve::{Answer, refute};
+use std::alloc::Global;
+
+/// A tree that closes the ground set of an obligation, or what breaks the obligation.
+pub(crate) fn tree_at(
+    alloc: Global,
+    flow: &Flow,
+    outline: &Outline,
+    obligation: Obligation,
+) -> Result<Result<Tree, Counterexample>, NoMemory>
+    requires { Fits flow.now outline.now }
+    ensures { IfOk result (IsTreeAt flow.now outline.now obligation) }
+{
+    let set = ground(alloc, flow, outline, &obligation)?;
+    match refute(alloc, &set) {
+        Ok(Answer::Closed(tree)) => Ok(Ok(tree)),
+        Ok(Answer::Open(model)) => Ok(Err(Counterexample {
+            obligation,
+            set,
+            model,
+        })),
+        Err(NoMemory) => Err(NoMemory),
+    }
+}
+
+/// A tree for each obligation, or what breaks the least that isn't kept.
+pub(crate) fn trees_of(
+    alloc: Global,
+    flow: &Flow,
+    outline: &Outline,
+) -> Result<Result<Items<Tree>, Counterexample>, NoMemory>
+    requires { Fits flow.now outline.now }
+    ensures { IfOk result (AreTreesOrBroken flow.now outline.now) }
+{
+    let mut trees = Items::new(alloc);
+    let mut walk = Walk::new(alloc, flow, outline)?;
+    while let Some(obligation) = walk.next() {
+        match tree_at(alloc, flow, outline, obligation)? {
+            Ok(tree) => trees.push(tree)?,
+            Err(found) => return Ok(Err(found)),
+        }
+    }
+    Ok(Ok(trees))
+}
