@@ -46,7 +46,8 @@ pub record IsReplayed (j : Judged) (reclaimer : Meanings) (bytes : List ℕ) (st
 
 -- what is answered to a schedule for a flow that was loaded: refused or replayed
 abbrev pub IsScheduleAnswered : Judged → Meanings → List ℕ → ℕ → List ℕ → Type 0
-IsScheduleAnswered j reclaimer bytes status text = IsRefusedSchedule bytes status text ⊎ IsReplayed j reclaimer bytes status text
+IsScheduleAnswered j reclaimer bytes status text =
+    IsRefusedSchedule bytes status text ⊎ IsReplayed j reclaimer bytes status text
 
 -- what `replay` answers to the bytes of a file and of a schedule; the file's refusals go first
 abbrev pub IsReplayOf : Meanings → List ℕ → List ℕ → ℕ → List ℕ → Type 0
@@ -62,10 +63,13 @@ pub record IsWordsRefused (old new : KnownFiles) (status : ℕ) (text : List ℕ
   pub text_is : text ≡ words_refused
 
 -- what is due for a replay under the reclaimer of this number
-pub record IsDueForReplay (reclaimers : List Meanings) (old new : KnownFiles) (file schedule : List ℕ) (number : ℕ) (status : ℕ) (text : List ℕ) : Type 0 where
+pub record IsDueForReplay
+    (reclaimers : List Meanings) (old new : KnownFiles) (file schedule : List ℕ) (number : ℕ) (status : ℕ)
+    (text : List ℕ) : Type 0 where
   pub reclaimer : Meanings
   pub there : slice_get reclaimers number ≡ Some reclaimer
-  pub due : IsDueForPair old new file schedule largest_schedule (λ bytes second. IsReplayOf reclaimer bytes second status text) status text
+  pub due : IsDueForPair old new file schedule largest_schedule
+      (λ bytes second. IsReplayOf reclaimer bytes second status text) status text
 
 -- what is due for a sample, which asks for no file
 pub record IsDueForSample (old new : KnownFiles) (k n : ℕ) (status : ℕ) (text : List ℕ) : Type 0 where
@@ -96,7 +100,9 @@ pub record Ends (status : ℕ) (text : List ℕ) (old new : KnownSink) (result :
   pub memory : result ≡ no_memory → AppendsPart old.written new.written text
 
 -- the due text was written as far as it went
-pub record IsWritten (reclaimers : List Meanings) (request : Option Request) (old new : KnownFiles) (sink sink_now : KnownSink) (result : ℕ) : Type 0 where
+pub record IsWritten
+    (reclaimers : List Meanings) (request : Option Request) (old new : KnownFiles) (sink sink_now : KnownSink)
+    (result : ℕ) : Type 0 where
   pub status : ℕ
   pub text : List ℕ
   pub due : IsDueFor reclaimers request old new status text

@@ -54,7 +54,8 @@ request_of_three command first second =
 -- `replay FILE SCHEDULE RECLAIMER`, where a reclaimer has this name; of those of one name the first counts
 abbrev pub request_of_four : List (List ℕ) → List ℕ → List ℕ → List ℕ → List ℕ → Option Request
 request_of_four reclaimers command file schedule name =
-    if bytes_eq command (codes "replay") then option_map (λ i. Replay file schedule i) (first_named reclaimers name) else None
+    if bytes_eq command (codes "replay") then option_map (λ i. Replay file schedule i) (first_named reclaimers name)
+    else None
 
 -- None where the words are of no listed form
 abbrev pub request_of : List (List ℕ) → List (List ℕ) → Option Request

@@ -37,9 +37,12 @@ pub record IsFound (old new : KnownFiles) (name : List ℕ) (most : ℕ) (bytes 
 -- what a read came to: bytes, or the answer where there are none
 abbrev pub IsContentOf : KnownFiles → KnownFiles → List ℕ → ℕ → Content → Type 0
 IsContentOf old new name most (one.Read bytes) = IsFound old new name most bytes.items
-IsContentOf old new name most (one.Unread answer) = IsUnread (Only name) old new [] name most answer.status answer.text.items
+IsContentOf old new name most (one.Unread answer) =
+    IsUnread (Only name) old new [] name most answer.status answer.text.items
 
 -- the same of two reads, one after the other
 abbrev pub AreContentsOf : KnownFiles → KnownFiles → List ℕ → List ℕ → ℕ → Contents → Type 0
-AreContentsOf old new first second most (two.Read bytes more) = IsGivenPair old new first second most bytes.items more.items
-AreContentsOf old new first second most (two.Unread answer) = IsUnreadPair old new first second most answer.status answer.text.items
+AreContentsOf old new first second most (two.Read bytes more) =
+    IsGivenPair old new first second most bytes.items more.items
+AreContentsOf old new first second most (two.Unread answer) =
+    IsUnreadPair old new first second most answer.status answer.text.items
