@@ -1,5 +1,5 @@
 -- The law of types over whole runs, by induction on their moves.
-use Rattle.std.proofs.Common.{◌≡◌, ℕ, ◌<◌, List}
+use Rattle.std.proofs.Common.{ℕ, ◌<◌, List}
 use Rattle.plc_auto.specs.declared.observer.Observer.{Observer}
 use Rattle.plc_flow.specs.declared.flow.Flow.{Flow}
 use Rattle.plc_run.specs.Run.{Configuration, Run, begin, more}
