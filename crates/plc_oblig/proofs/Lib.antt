@@ -4,6 +4,8 @@ mod Remaining
 mod Members
 mod Staying
 pub mod Opposites
+mod UnitTrees
+mod Ending
 pub mod Lists
 pub mod Places
 pub mod Equal

@@ -1,5 +1,5 @@
 -- What lists contain that are made of others.
-use Rattle.std.proofs.Common.{◌≡◌, ℕ, zero, suc, ◌+◌, ◌<◌, List, [], ◌∷◌, ◌++◌, map, length, slice_get, Some, refl, ap, subst, arith}
+use Rattle.std.proofs.Common.{◌≡◌, ℕ, zero, suc, ◌<◌, List, [], ◌∷◌, ◌++◌, map, length, slice_get, Some, refl, ap, subst, arith}
 use Rattle.std.specs.Prelude.{flat_map, Contains, slice_index_or}
 use Rattle.std.proofs.lemmas.Option.{get_or_from_slice_get, slice_get_within}
 use Rattle.std.proofs.lemmas.List.Elements.{Contains-append_left, Contains-append_right}
@@ -59,9 +59,3 @@ pub map_read : {A B : Type 0} (f : A → B) (xs : List A) (i : ℕ) (x : A) (d :
 map_read f [] i x d less is = absurd (omega arith)
 map_read f (y ∷ xs) zero x d less is = ap f is
 map_read f (y ∷ xs) (suc i) x d less is = map_read f xs i x d (omega arith) is
-
--- what a function gave it of
-pub map_from : {A B : Type 0} (f : A → B) (xs : List A) (i : ℕ) (y : B) → i < length (map f xs) → slice_index_or (map f xs) i y ≡ y → (x : A) × Contains xs x × (f x ≡ y)
-map_from f [] i y less is = absurd (omega arith)
-map_from f (x ∷ xs) zero y less is = (x, at_head x xs, is)
-map_from f (x ∷ xs) (suc i) y less is = let r = map_from f xs i y (omega arith) is in (r.0, in_tail x r.0 xs r.1, r.2)

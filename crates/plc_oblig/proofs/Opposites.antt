@@ -1,10 +1,10 @@
--- A still obligation is kept: an instance of what held before is, literal by literal, the opposite of the negated conclusion.
-use Rattle.std.proofs.Common.{◌≡◌, ℕ, zero, suc, ◌+◌, ◌<◌, Bool, true, false, not, nat_lt, List, [], ◌∷◌, ◌++◌, map, length, slice_get, Some, refl, sym, ap, ◌∙◌, subst, arith}
+-- The ground set of a still obligation ends with the opposites of an instance of what held before, and so has no model.
+use Rattle.std.proofs.Common.{◌≡◌, ℕ, zero, suc, ◌+◌, ◌<◌, Bool, true, false, not, nat_lt, List, [], ◌∷◌, ◌++◌, map, length, slice_get, Some, None, refl, sym, ap, ◌∙◌, subst, arith}
 use Rattle.std.specs.Prelude.{if◌then◌else◌, All, Any, Contains, MatchBool, flat_map, filter, slice_index, slice_index_or}
 use Rattle.std.specs.List.{list_any}
 use Rattle.std.proofs.lemmas.Bool.{and_parts, ltb-true}
 use Rattle.std.proofs.lemmas.Option.{get_or_from_slice_get}
-use Rattle.std.proofs.lemmas.List.{length-map, map-append}
+use Rattle.std.proofs.lemmas.List.{length-map, length-append, map-append, append-nil, append_assoc}
 use Rattle.std.proofs.lemmas.List.FromFn.{length-range_with_len, length-map-range_with_len, get_or-range_with_len}
 use Rattle.std.proofs.lemmas.List.Elements.{All-nil, All-cons, All-head, All-tail, All-append, All-map, All-contains, Contains-append_left, Contains-append_right}
 use Rattle.plc_lang.specs.declared.syntax.Ghost.{Ghost as AuxiliaryField}
@@ -24,7 +24,10 @@ use Rattle.plc_logic.specs.declared.clause.Outline.{Outline}
 use Rattle.plc_logic.specs.Fit.{InReach, IsNode, HasSort, LiteralFits, InvariantFits, in_reach_of}
 use Rattle.plc_logic.specs.Negation.{negation}
 use Rattle.plc_ground.specs.declared.terms.Symbol.TheVariants as symbols
-use Rattle.plc_ground.specs.Model.{HoldsIn, IsModel, literals}
+use Rattle.plc_ground.specs.declared.terms.Lit.{Lit}
+use Rattle.plc_ground.specs.declared.terms.GroundSet.{GroundSet}
+use Rattle.plc_ground.specs.Model.{HoldsIn, literals}
+use Rattle.plc_ground.specs.Trees.{HasModel}
 use Rattle.plc_setting.specs.declared.obligations.Obligation.{Obligation}
 use Rattle.plc_setting.specs.declared.obligations.Obligation.TheVariants.{Start, Enter, Own, Other, Claim}
 use Rattle.plc_setting.specs.declared.setting.Setting.{Setting}
@@ -40,57 +43,62 @@ use Rattle.plc_symbolic.specs.declared.symbolic.NodeTerm.TheVariants.{At}
 use Rattle.plc_symbolic.specs.declared.symbolic.SymbolicTerm.{SymbolicTerm}
 use Rattle.plc_symbolic.specs.declared.symbolic.SymbolicTerm.TheVariants.{Constant}
 use Rattle.plc_symbolic.specs.declared.symbolic.SymbolicLit.{SymbolicLit}
-use Rattle.plc_symbolic.specs.Terms.{is_not, null}
+use Rattle.plc_symbolic.specs.Terms.{Clauses, is_not, null}
 use Rattle.plc_symbolic.specs.Numbering.{Drafted, blank, listed_all, number_lit, numbered}
 use Rattle.plc_symbolic.proofs.Drafts.{written_all-clauses, listed_all-clauses}
 use Rattle.plc_oblig.specs.GroundSets.{listed_first, drafted, ground_set}
 use Rattle.plc_oblig.specs.Obligations.{parts_from, starts, enters_of, owns_of, others_at, others_of, claims_in, claims_of, enters, owns, others, claims, obligations, step_id, point_id}
-use Rattle.plc_oblig.specs.Outlines.{IsKept}
 use Rattle.plc_oblig.specs.Still.{changes, is_quiet, is_still}
 use Rattle.plc_oblig.proofs.Walking.{found_left}
 use Rattle.plc_oblig.proofs.Places.{there}
-use Rattle.plc_oblig.proofs.Members.{at_head, in_tail, at_place, contains_map, contains_flat_map, Within, within_left, within_right, within_itself, within_map, map_read, map_from}
+use Rattle.plc_oblig.specs.Outlines.{IsKept}
+use Rattle.plc_oblig.specs.Direct.{opposite, opposites, IsRefuted}
+use Rattle.plc_oblig.proofs.Members.{at_head, in_tail, at_place, contains_map, contains_flat_map, Within, within_left, within_right, within_itself, within_map, map_read}
 use Rattle.plc_oblig.proofs.Staying.{Stays, start_stays, stays_after_all, none_new, BaseStays, TermStays, LiteralStays, literal_stays}
 
--- ---- a clause with the opposites of all its literals has no model
-
--- the same terms, with the truth turned
-abbrev pub opposite : SymbolicLit → SymbolicLit
-opposite l = record { left = l.left; right = l.right; equal = not l.equal }
+-- ---- a set that ends with the opposites of an earlier clause has no model
 
 not_both : (A : Type 0) (b : Bool) → MatchBool b A (A → ⊥) → MatchBool (not b) A (A → ⊥) → ⊥
 not_both A true h k = k h
 not_both A false h k = h k
 
-opposed : (ts : List SymbolicTerm) (class : ℕ → ℕ) (l : SymbolicLit) → HoldsIn class (number_lit ts l) → HoldsIn class (number_lit ts (opposite l)) → ⊥
-opposed ts class l h k = not_both (class (number_lit ts l).left ≡ class (number_lit ts l).right) l.equal h k
+only_true : (class : ℕ → ℕ) (l : Lit) → Any (HoldsIn class) (l ∷ []) → HoldsIn class l
+only_true class l (zero, y, less, is, holds) = subst (HoldsIn class) (sym is) holds
+only_true class l (suc k, y, less, is, holds) = absurd (omega arith)
 
-module _ (sorts : List Sort) (d : Drafted) (class : List ℕ) (model : IsModel (numbered sorts d) class) where
-  some_true : (c : List SymbolicLit) → Contains d.clauses c → Any (HoldsIn (slice_index class)) (map (number_lit d.terms) c)
-  some_true c h =
-      let e = length-map d.clauses (map (number_lit d.terms)) in
-      let less = h.1 in
-      subst (Any (HoldsIn (slice_index class))) (map_read (map (number_lit d.terms)) d.clauses h.0 c [] h.1 h.2) (model.clauses h.0 (omega arith))
+read_right : {A : Type 0} (xs ys : List A) (j k : ℕ) (d : A) → j ≡ length xs + k → slice_index_or (xs ++ ys) j d ≡ slice_index_or ys k d
+read_right [] ys j k d e = let same : j ≡ k = omega (arith, e) in ap (λ i. slice_index_or ys i d) same
+read_right (x ∷ xs) ys zero k d e = absurd (omega (arith, e))
+read_right (x ∷ xs) ys (suc j) k d e = read_right xs ys j k d (omega (arith, e))
 
-  only_true : (l : SymbolicLit) → Any (HoldsIn (slice_index class)) (map (number_lit d.terms) (l ∷ [])) → HoldsIn (slice_index class) (number_lit d.terms l)
-  only_true l (zero, y, less, is, holds) = subst (HoldsIn (slice_index class)) (sym is) holds
-  only_true l (suc k, y, less, is, holds) = absurd (omega arith)
-
-  refuted : (c : List SymbolicLit) → Contains d.clauses c → ((l : SymbolicLit) → Contains c l → Contains d.clauses (opposite l ∷ [])) → ⊥
-  refuted c h all =
-      let t = some_true c h in
-      let f = map_from (number_lit d.terms) c t.0 t.1 t.2 t.3 in
-      opposed d.terms (slice_index class) f.0 (subst (HoldsIn (slice_index class)) (sym f.2) t.4) (only_true (opposite f.0) (some_true (opposite f.0 ∷ []) (all f.0 f.1)))
+pub refuted_has_no_model : (s : GroundSet) (c : ℕ) → IsRefuted s c → HasModel s → ⊥
+refuted_has_no_model s c r (class, model) =
+    let ls = literals s c in
+    let count = ap length r.whole ∙ length-append r.before (opposites ls) in
+    let units = length-map ls (λ (l : Lit). opposite l ∷ []) in
+    let earlier = r.earlier in
+    let t = model.clauses c (omega (arith, count, earlier)) in
+    let less = t.2 in
+    let unit : slice_index_or s.clauses (length r.before + t.0) [] ≡ opposite t.1 ∷ [] =
+    ap (λ cs. slice_index_or cs (length r.before + t.0) []) r.whole
+    ∙ read_right r.before (opposites ls) (length r.before + t.0) t.0 [] refl
+    ∙ map_read (λ (l : Lit). opposite l ∷ []) ls t.0 t.1 [] less t.3 in
+    let other = subst (Any (HoldsIn (slice_index class))) unit (model.clauses (length r.before + t.0) (omega (arith, count, units, less))) in
+    not_both (slice_index class t.1.left ≡ slice_index class t.1.right) t.1.equal t.4 (only_true (slice_index class) (opposite t.1) other)
 
 -- ---- the negated conclusion is the opposites of an instance of it
 
-abbrev alone : SymbolicLit → List SymbolicLit
-alone l = opposite l ∷ []
+-- the same terms, with the truth turned
+abbrev opposed : SymbolicLit → SymbolicLit
+opposed l = record { left = l.left; right = l.right; equal = not l.equal }
 
-opposite_read : (ghosts : List AuxiliaryField) (x : Execution) (owner : Bool) (names : List NodeTerm) (l : Literal)
-    → read_literal ghosts x owner names (negation l) ≡ opposite (read_literal ghosts x owner names l)
-opposite_read ghosts x owner names (literal.Same a b is_so) = refl
-opposite_read ghosts x owner names (literal.Retired b is_so) = refl
+abbrev alone : SymbolicLit → List SymbolicLit
+alone l = opposed l ∷ []
+
+opposed_read : (ghosts : List AuxiliaryField) (x : Execution) (owner : Bool) (names : List NodeTerm) (l : Literal)
+    → read_literal ghosts x owner names (negation l) ≡ opposed (read_literal ghosts x owner names l)
+opposed_read ghosts x owner names (literal.Same a b is_so) = refl
+opposed_read ghosts x owner names (literal.Retired b is_so) = refl
 
 escapes_denied : (js : List ℕ) → map alone (flat_map (escapes false) (map (λ i. At (symbols.Bound i)) js)) ≡ map (λ i. is_not (Constant (symbols.Bound i)) null ∷ []) js
 escapes_denied [] = refl
@@ -100,8 +108,8 @@ literals_denied : (ghosts : List AuxiliaryField) (x : Execution) → Stays x →
     → map alone (map (read_literal ghosts start owner names) ls) ≡ map (λ l. read_literal ghosts x owner names (negation l) ∷ []) ls
 literals_denied ghosts x stays owner names [] h = refl
 literals_denied ghosts x stays owner names (l ∷ ls) h =
-    ap (λ k. (opposite k ∷ []) ∷ map alone (map (read_literal ghosts start owner names) ls)) (sym (literal_stays ghosts x stays owner names l (All-head (LiteralStays owner) l ls h)))
-    ∙ ap (λ k. (k ∷ []) ∷ map alone (map (read_literal ghosts start owner names) ls)) (sym (opposite_read ghosts x owner names l))
+    ap (λ k. (opposed k ∷ []) ∷ map alone (map (read_literal ghosts start owner names) ls)) (sym (literal_stays ghosts x stays owner names l (All-head (LiteralStays owner) l ls h)))
+    ∙ ap (λ k. (k ∷ []) ∷ map alone (map (read_literal ghosts start owner names) ls)) (sym (opposed_read ghosts x owner names l))
     ∙ ap (λ cs. (read_literal ghosts x owner names (negation l) ∷ []) ∷ cs) (literals_denied ghosts x stays owner names ls (All-tail (LiteralStays owner) l ls h))
 
 all_denied : (ghosts : List AuxiliaryField) (s : Setting) (x : Execution) → Stays x → (c : Clause) → All (LiteralStays s.owned) c.literals
@@ -145,23 +153,62 @@ module _ (flow : Flow) (outline : Outline) (o : Obligation) where
       contains_map (instance_at flow.file.ghosts s.makes owner c.literals) (tuples n s.instances) (bound_nodes n)
       (subst (λ m. Contains (tuples m s.instances) (bound_nodes n)) (length-map-range_with_len (λ i. At (symbols.Bound i)) 0 n)
       (tuple_listed (bound_nodes n) s.instances (subst (λ q. Within (bound_nodes (bound_of q)) s.instances) is names_listed)))
-
   -- ---- the whole
 
-  premise_held : (c : List SymbolicLit) → Contains (premises flow outline (setting_of flow outline o) o) c → Contains (clauses_of flow outline (setting_of flow outline o) o) c
-  unfolding clauses_of
+pair_up : (ts : List SymbolicTerm) (i : List SymbolicLit) → map (map (number_lit ts)) (map alone i) ≡ opposites (map (number_lit ts) i)
+pair_up ts [] = refl
+pair_up ts (l ∷ ls) = ap (λ cs. map (number_lit ts) (alone l) ∷ cs) (pair_up ts ls)
+
+read_left : {A : Type 0} (xs ys : List A) (k : ℕ) (d : A) → k < length xs → slice_index_or (xs ++ ys) k d ≡ slice_index_or xs k d
+read_left [] ys k d less = absurd (omega arith)
+read_left (x ∷ xs) ys zero d less = refl
+read_left (x ∷ xs) ys (suc k) d less = read_left xs ys k d (omega arith)
+
+-- a draft that ends with the opposites of one of its earlier clauses is a ground set that does
+ends_refuted : (sorts : List Sort) (d : Drafted) (before : Clauses) (i : List SymbolicLit) → d.clauses ≡ before ++ map alone i → Contains before i
+    → (c : ℕ) × IsRefuted (numbered sorts d) c
+ends_refuted sorts d before i is there =
+    let f = map (number_lit d.terms) in
+    let less = there.1 in
+    let count = length-map before f in
+    let whole : map f d.clauses ≡ map f before ++ opposites (f i) = ap (map f) is ∙ map-append f before (map alone i) ∙ ap (λ cs. map f before ++ cs) (pair_up d.terms i) in
+    let short : there.0 < length (map f before) = omega arith in
+    let read : slice_index_or (map f d.clauses) there.0 [] ≡ f i = ap (λ cs. slice_index_or cs there.0 []) whole
+    ∙ read_left (map f before) (opposites (f i)) there.0 [] short ∙ map_read f before there.0 i [] there.1 there.2 in (
+      there.0,
+      record {
+        before = map f before;
+        whole = whole ∙ ap (λ ls. map f before ++ opposites ls) (sym read);
+        earlier = short;
+      },
+    )
+
+regroup : {A : Type 0} (a b c d e f : List A) → a ++ (b ++ (c ++ (d ++ (e ++ f)))) ≡ (a ++ (b ++ (c ++ (d ++ e)))) ++ f
+regroup a b c d e f =
+    sym (append_assoc a (b ++ (c ++ (d ++ e))) f ∙ ap (λ x. a ++ x) (append_assoc b (c ++ (d ++ e)) f
+    ∙ ap (λ x. b ++ x) (append_assoc c (d ++ e) f ∙ ap (λ x. c ++ x) (append_assoc d e f))))
+
+module _ (flow : Flow) (outline : Outline) (o : Obligation) where
+  -- what stands before the negated conclusion
+  abbrev earlier_clauses : Clauses
+  earlier_clauses =
+      let s = setting_of flow outline o in
+      values_from 0 0 flow.file.ghosts s.nodes
+      ++ (beginning flow s o ++ (freshness flow.file s ++ (premises flow outline s o ++ executed_clauses s.nodes start s.acts)))
+
+  premise_held : (c : List SymbolicLit) → Contains (premises flow outline (setting_of flow outline o) o) c → Contains earlier_clauses c
   premise_held c h =
       let s = setting_of flow outline o in
       Contains-append_right (values_from 0 0 flow.file.ghosts s.nodes) _ c (Contains-append_right (beginning flow s o) _ c (Contains-append_right (freshness flow.file s) _ c
       (Contains-append_left (premises flow outline s o) _ c h)))
 
-  denial_held : (c : List SymbolicLit) → Contains (denied flow outline (setting_of flow outline o) (after_all start (setting_of flow outline o).acts) o) c
-      → Contains (clauses_of flow outline (setting_of flow outline o) o) c
+  clauses_end : clauses_of flow outline (setting_of flow outline o) o
+      ≡ earlier_clauses ++ denied flow outline (setting_of flow outline o) (after_all start (setting_of flow outline o).acts) o
   unfolding clauses_of
-  denial_held c h =
+  clauses_end =
       let s = setting_of flow outline o in
-      Contains-append_right (values_from 0 0 flow.file.ghosts s.nodes) _ c (Contains-append_right (beginning flow s o) _ c (Contains-append_right (freshness flow.file s) _ c
-      (Contains-append_right (premises flow outline s o) _ c (Contains-append_right (executed_clauses s.nodes start s.acts) _ c h))))
+      regroup (values_from 0 0 flow.file.ghosts s.nodes) (beginning flow s o) (freshness flow.file s) (premises flow outline s o) (executed_clauses s.nodes start s.acts)
+      (denied flow outline s (after_all start s.acts) o)
 
   clauses_are : (drafted flow outline (setting_of flow outline o) o).clauses ≡ clauses_of flow outline (setting_of flow outline o) o
   clauses_are =
@@ -169,11 +216,11 @@ module _ (flow : Flow) (outline : Outline) (o : Obligation) where
       written_all-clauses (clauses_of flow outline s o) (listed_all blank (listed_first flow outline s))
       ∙ ap (λ cs. cs ++ clauses_of flow outline s o) (listed_all-clauses (listed_first flow outline s) blank)
 
-  kept_by : (c : Clause) → conclusion flow outline o ≡ Some c → list_any changes (executed flow o) ≡ false → All (LiteralStays (has_owner o)) c.literals
+  refuted_by : (c : Clause) → conclusion flow outline o ≡ Some c → claim_made flow o ≡ None → list_any changes (executed flow o) ≡ false → All (LiteralStays (has_owner o)) c.literals
       → ((i : List SymbolicLit) → Contains (instances flow.file.ghosts (setting_of flow outline o) (has_owner o) c) i → Contains (premises flow outline (setting_of flow outline o) o) i)
-      → IsKept flow outline o
+      → (k : ℕ) × IsRefuted (ground_set flow outline o) k
   unfolding ground_set
-  kept_by c is quiet names_none premise model =
+  refuted_by c is no_claim quiet names_none premise =
       let s = setting_of flow outline o in
       let d = drafted flow outline s o in
       let x = after_all start s.acts in
@@ -181,14 +228,11 @@ module _ (flow : Flow) (outline : Outline) (o : Obligation) where
       let i = instance_at flow.file.ghosts false (has_owner o) c.literals (bound_nodes (length c.bound.names)) in
       let made = none_new (executed flow o) quiet in
       let listed = subst (λ b. Contains (instances flow.file.ghosts s (has_owner o) c) (instance_at flow.file.ghosts b (has_owner o) c.literals (bound_nodes (length c.bound.names)))) made
-      (instance_listed (has_owner o) c is) in
-      let whole = sym clauses_are in
-      let held = subst (λ cs. Contains cs i) whole (premise_held i (premise i listed)) in
+      (instance_listed flow outline o (has_owner o) c is) in
       let e = all_denied flow.file.ghosts s x stays c names_none ∙ ap (denied_clause flow.file.ghosts s x) (sym is) in
-      refuted _ d model.0 model.1 i held
-      (λ l h. subst (λ cs. Contains cs (opposite l ∷ [])) whole (denial_held (opposite l ∷ [])
-      (Contains-append_left (denied_clause flow.file.ghosts s x (conclusion flow outline o)) (denied_claim s x (claim_made flow o)) (opposite l ∷ [])
-      (subst (λ cs. Contains cs (opposite l ∷ [])) e (contains_map alone i l h)))))
+      let ends = sym (append-nil (denied_clause flow.file.ghosts s x (conclusion flow outline o)))
+      ∙ ap (λ q. denied_clause flow.file.ghosts s x (conclusion flow outline o) ++ denied_claim s x q) (sym no_claim) in
+      ends_refuted _ d earlier_clauses i (clauses_are ∙ clauses_end ∙ ap (λ cs. earlier_clauses ++ cs) (sym (e ∙ ends))) (premise_held i (premise i listed))
 
 -- ---- invariants name no local
 
@@ -277,17 +321,17 @@ module _ (flow : Flow) (outline : Outline) where
   quiet_step true h = cc
   quiet_step false h = refl
 
-  pub still_is_kept : (o : Obligation) → Fits flow outline → Contains (obligations flow outline) o → is_still flow outline o ≡ true → IsKept flow outline o
-  still_is_kept (Start i) fits listed still = cc
-  still_is_kept (Enter o c) fits listed still = cc
-  still_is_kept (Claim k j) fits listed still = cc
-  still_is_kept (Own k c) fits listed still =
+  pub still_is_refuted : (o : Obligation) → Fits flow outline → Contains (obligations flow outline) o → is_still flow outline o ≡ true → (k : ℕ) × IsRefuted (ground_set flow outline o) k
+  still_is_refuted (Start i) fits listed still = cc
+  still_is_refuted (Enter o c) fits listed still = cc
+  still_is_refuted (Claim k j) fits listed still = cc
+  still_is_refuted (Own k c) fits listed still =
       let p = and_parts (nat_lt c (length outline.invariants)) (is_quiet flow k.0) still in
       let less = ltb-true c (length outline.invariants) p.0 in
       let f = there outline.invariants c less in
       let inv = fits.outline_fits.each_invariant in
       let fit = subst (InvariantFits flow.file) (get_found f.0 f.1) (inv c f.0 less) in
-      kept_by flow outline (Own k c) f.0 (found_left outline.invariants _ c f.0 f.1) (quiet_step (list_any changes (step_prims flow k.0)) p.1)
+      refuted_by flow outline (Own k c) f.0 (found_left outline.invariants _ c f.0 f.1) refl (quiet_step (list_any changes (step_prims flow k.0)) p.1)
       (λ n d less. fit_stays (in_reach_of flow.file [] false f.0) refl _ (fit.each n d less))
       (λ i h. Contains-append_left (flat_map (instances flow.file.ghosts (setting_of flow outline (Own k c)) false) (acting_premises flow outline (Own k c))) _ i
       (contains_flat_map (instances flow.file.ghosts (setting_of flow outline (Own k c)) false) (acting_premises flow outline (Own k c)) f.0 i
@@ -295,12 +339,17 @@ module _ (flow : Flow) (outline : Outline) where
     where
       get_found : (x : Clause) → slice_get outline.invariants c ≡ Some x → slice_index_or outline.invariants c x ≡ x
       get_found x e = get_or_from_slice_get outline.invariants c x x e
-  still_is_kept (Other k p c) fits listed still =
+  still_is_refuted (Other k p c) fits listed still =
       let less = All-contains (HasClause flow outline) (obligations flow outline) (Other k p c) all_have listed in
       let e = length-map (filter (stands_at flow p.0) outline.items) (λ (i : Item). i.clause) in
       let f = there (clauses_at flow outline p.0) c (omega arith) in
-      kept_by flow outline (Other k p c) f.0 f.1 (quiet_step (list_any changes (step_prims flow k.0)) still)
+      refuted_by flow outline (Other k p c) f.0 f.1 refl (quiet_step (list_any changes (step_prims flow k.0)) still)
       (λ n d less. owner_literal _)
       (λ i h. Contains-append_right (flat_map (instances flow.file.ghosts (setting_of flow outline (Other k p c)) false) (acting_premises flow outline (Other k p c))) _ i
       (contains_flat_map (instances flow.file.ghosts (setting_of flow outline (Other k p c)) true) (clauses_at flow outline p.0) f.0 i
       (at_place (clauses_at flow outline p.0) c f.0 f.1) h))
+
+  pub still_is_kept : (o : Obligation) → Fits flow outline → Contains (obligations flow outline) o → is_still flow outline o ≡ true → IsKept flow outline o
+  still_is_kept o fits listed still =
+      let r = still_is_refuted o fits listed still in
+      refuted_has_no_model (ground_set flow outline o) r.0 r.1

@@ -4,6 +4,7 @@ pub mod GroundSets
 pub mod Outlines
 pub mod Walk
 pub mod Still
+pub mod Direct
 -- words of private functions alone
 pub mod Finding
 pub mod Size

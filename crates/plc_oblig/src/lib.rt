@@ -11,8 +11,10 @@ mod claims;
 mod counting;
 mod finding;
 mod grounding;
+mod refuted;
 mod size;
 mod stillness;
+mod trees;
 mod walk;
 
 pub use counting::count;
@@ -21,4 +23,5 @@ pub use grounding::ground;
 pub use plc_setting::Obligation;
 pub use size::clauses;
 pub use stillness::{still, still_obligations_are_kept};
+pub use trees::direct;
 pub use walk::Walk;
