@@ -1,6 +1,6 @@
 -- What is known in the middle of a walk over a list: what was handed out so far keeps a property.
 use Rattle.std.proofs.Common.{◌≡◌, List, [], ◌∷◌, ◌++◌, length, refl, sym, ap, ◌∙◌, subst, arith}
-use Rattle.std.specs.Prelude.{All, Any}
+use Rattle.std.specs.Prelude.{All, Any, Contains}
 use Rattle.std.proofs.lemmas.List.{append_assoc, append-nil, length-append}
 use Rattle.std.proofs.Math.Seq.{get_or-append_seam}
 use Rattle.std.proofs.lemmas.List.Elements.{All-nil, All-push}
@@ -30,3 +30,9 @@ module _ {A : Type 0} (P : A → Type 0) (whole : List A) where
   stands Q left new x s e q =
       let split : whole ≡ s.before ++ x ∷ new = s.listed ∙ ap (λ (ys : List A). s.before ++ ys) e in
       subst (Any Q) (sym split) (length s.before, x, omega (arith, length-append s.before (x ∷ new)), get_or-append_seam s.before x new x, q)
+
+  pub is_listed : (left new : List A) (x : A) → SoFar P whole left → left ≡ x ∷ new → Contains whole x
+  is_listed left new x s e =
+      let split : whole ≡ s.before ++ x ∷ new = s.listed ∙ ap (λ (ys : List A). s.before ++ ys) e in
+      subst (λ (ys : List A). Contains ys x) (sym split)
+          (length s.before, omega (arith, length-append s.before (x ∷ new)), get_or-append_seam s.before x new x)

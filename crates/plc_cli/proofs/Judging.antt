@@ -23,17 +23,15 @@ use Rattle.plc_check.specs.declared.verdict.Verdict.TheVariants.{Safe, Untyped, 
 use Rattle.plc_check.specs.Loading.{IsFileOf, IsLoaded, judged_of}
 use Rattle.plc_check.specs.Verdicts.{IsVerdictOn}
 use Rattle.plc_check.proofs.Unique.{one_file}
-use Rattle.plc_cli.specs.Requests.{Request, Check}
+use Rattle.plc_cli.specs.Requests.{Request, Check, Verify}
 use Rattle.plc_cli.specs.Reads.{Only, IsUnread, IsGivenFile, IsDueForFile}
-use Rattle.plc_cli.specs.Answer.{IsAnswerTo, IsJudgedAs, IsPrintOf, IsDueFor, unit_of}
+use Rattle.plc_cli.specs.Answer.{IsDueFor}
+use Rattle.plc_cli.specs.Files.{IsAnswerTo, IsJudgedAs, IsPrintOf, unit_of}
 use Rattle.plc_cli.specs.Verdicts.{verdict_status, verdict_text}
 use Rattle.plc_cli.specs.Headline.{Headline, IsSafeProgram, IsSafeRead, IsProved}
 use Rattle.plc_cli.proofs.Racing.{never_races}
-
--- bytes that a read gave, where the content is told
-pub told_is : (told : Option (List ℕ)) (bytes content : List ℕ) → IfSome told (λ c. bytes ≡ c) → told ≡ Some content → bytes ≡ content
-told_is None bytes content h e = absurd cc
-told_is (Some c) bytes content h e = cc
+use Rattle.plc_cli.proofs.TwoReads.{told_is}
+use Rattle.plc_cli.proofs.Verified as verified
 
 stuck_or_typed : (o : Observer) (s : Skeleton) (k i : ℕ) (fault : TypeFault) → IsStuckAt o s k i fault → HasTyping o s → ⊥
 stuck_or_typed o s k i fault stuck typed = stuck.fails typed.0 typed.1.pretyping (typed.1.holding k i)
@@ -122,26 +120,27 @@ module _ (reclaimers : List Meanings) (request : Option Request) (old new : Know
   due_for : (name : List ℕ) → request ≡ Some (Check name) → IsDue old new status text name
   due_for name asked = subst (λ (r : Option Request). IsDueFor reclaimers r old new status text) asked due
 
+  pair_for : (name certificate : List ℕ) → request ≡ Some (Verify name certificate) → verified.IsDue status text old new name certificate
+  pair_for name certificate asked = subst (λ (r : Option Request). IsDueFor reclaimers r old new status text) asked due
+
   pub headline_of : Headline request old new status
   headline_of = record {
     read = λ name asked zero. read_for old new status text name (due_for name asked) zero;
     sound = λ name bytes asked told zero. sound_for old new status text name bytes told (due_for name asked) zero;
     complete = λ name bytes asked told short kept u spelled proved. inl (complete_for old new status text name bytes told u spelled (due_for name asked) short kept proved);
     only_proved = λ name bytes asked told u spelled zero. proved_for old new status text name bytes told u spelled (due_for name asked) zero;
+    read_verified = λ name certificate asked zero. verified.safe_pair status text zero old new name certificate (pair_for name certificate asked);
+    verified = λ name certificate bytes asked told zero. verified.safe_content status text zero old new name certificate bytes told (pair_for name certificate asked);
   }
 
 -- a right verdict that is told is the answer to what is judged
 pub verdict_answers : (j : Judged) (verdict : Verdict) (status : ℕ) (text : List ℕ) → IsVerdictOn j verdict → status ≡ verdict_status verdict → text ≡ verdict_text j verdict → IsJudgedAs j status text
 verdict_answers j verdict status text right status_is text_is = record { verdict = verdict; right = right; status_is = status_is; text_is = text_is }
 
--- what is judged of a flow that was loaded is the answer to its bytes
-pub judged_answers : (bytes : List ℕ) (j : Judged) (status : ℕ) (text : List ℕ) → IsLoaded bytes (Ok j) → IsJudgedAs j status text → IsAnswerTo bytes status text
-judged_answers bytes j status text loaded h = inr (record { unit = loaded.0; spelled = loaded.1; answer = subst (λ (x : Judged). IsJudgedAs x status text) loaded.2 h })
-
 -- what is printed of a flow that was loaded is the answer to its bytes
 pub printed_answers : (bytes : List ℕ) (j : Judged) (status : ℕ) (text : List ℕ) → IsLoaded bytes (Ok j) → status ≡ 0 → text ≡ canonical_text (unit_of j) → IsPrintOf bytes status text
 printed_answers bytes j status text loaded zero is =
-    inr (record { unit = loaded.0; spelled = loaded.1; status_is = zero; text_is = subst (λ (x : Judged). text ≡ canonical_text (unit_of x)) loaded.2 is })
+    inr (record { unit = loaded.0; spelled = loaded.1; answer = record { status_is = zero; text_is = subst (λ (x : Judged). text ≡ canonical_text (unit_of x)) loaded.2 is } })
 
 -- a fact on the value, where there is one, from another
 pub if_ok_from : {A E : Type 0} (r : Result A E) (P Q : A → Type 0) → ((a : A) → P a → Q a) → IfOk r P → IfOk r Q

@@ -21,7 +21,7 @@ use Rattle.plc_cli.specs.Requests.{Request, Replay}
 use Rattle.plc_cli.specs.Answer.{IsScheduleAnswered, IsReplayOf, IsDueFor, IsDueForReplay, Outcome}
 use Rattle.plc_cli.specs.Statuses.{unwritten, no_memory}
 use Rattle.plc_cli.specs.Served.{IsServedBy, FailsOtherwise, ServedReplays}
-use Rattle.plc_cli.proofs.Judging.{told_is}
+use Rattle.plc_cli.proofs.TwoReads.{told_is}
 
 -- ---- the end of a schedule
 

@@ -9,9 +9,18 @@ use Rattle.plc_replay.specs.declared.end.End.TheVariants.{Ended, Race, Impossibl
 use Rattle.plc_check.specs.declared.judged.Judged.{Judged}
 use Rattle.plc_check.specs.declared.verdict.Verdict.{Verdict}
 use Rattle.plc_check.specs.declared.verdict.Verdict.TheVariants.{Safe, Untyped, Unproved}
-use Rattle.plc_cli.specs.Requests.{Request, Check, Print, Replay}
+use Rattle.plc_parse.specs.declared.unit.Unit.{Unit as FileUnit}
+use Rattle.plc_cert.specs.declared.cert.Cert.{Cert}
+use Rattle.plc_check.specs.declared.certified.Certified.{Certified}
+use Rattle.plc_check.specs.declared.certified.Certified.TheVariants.{Yes, No}
+use Rattle.plc_check.specs.Loading.{judged_of}
+use Rattle.plc_cli.specs.Certificates.{IsCertifiedAs, IsCertificateOf, IsCertificateJudged, IsCertificateAnswered, IsVerificationOf, certified_status}
+use Rattle.plc_cli.specs.Files.{IsAnsweredFile, IsJudgedAs, IsAnswerTo, IsPrintedAs, IsPrintOf}
+use Rattle.plc_cli.specs.Samples.{IsSampledAs, IsSampleAnswer}
+use Rattle.plc_sample.specs.Sample.{sample_text}
+use Rattle.plc_cli.specs.Requests.{Request, Check, Certify, Print, Verify, Replay, Sample}
 use Rattle.plc_cli.specs.Reads.{IsUnread, IsDueForFile, IsDueForPair}
-use Rattle.plc_cli.specs.Answer.{IsJudgedAs, IsAnswerTo, IsPrintOf, IsScheduleAnswered, IsReplayOf, IsDueFor, Outcome}
+use Rattle.plc_cli.specs.Answer.{IsScheduleAnswered, IsReplayOf, IsDueFor, Outcome}
 use Rattle.plc_cli.specs.Statuses.{unwritten, no_memory, end_status}
 use Rattle.plc_cli.specs.Verdicts.{verdict_status}
 
@@ -26,25 +35,50 @@ verdict_low (Safe typing count) = omega arith
 verdict_low (Untyped step prim fault) = omega arith
 verdict_low (Unproved o set model) = omega arith
 
+certified_low : (certified : Certified) → certified_status certified ≤ 4
+certified_low (Yes cert) = omega arith
+certified_low (No verdict) = verdict_low verdict
+
 module _ (status : ℕ) (text : List ℕ) where
+  -- a file is refused, or what is due for its unit has a low status
+  answered_low : (IsDue : FileUnit → ℕ → List ℕ → Type 0) → ((u : FileUnit) → IsDue u status text → status ≤ 4) → (bytes : List ℕ) → IsAnsweredFile IsDue bytes status text → status ≤ 4
+  answered_low IsDue low bytes (inl refused) = omega (arith, refused.status_is)
+  answered_low IsDue low bytes (inr spelled) = low spelled.unit spelled.answer
+
   judged_low : (j : Judged) → IsJudgedAs j status text → status ≤ 4
   judged_low j judged = let low = verdict_low judged.verdict in omega (arith, judged.status_is, low)
 
   check_low : (bytes : List ℕ) → IsAnswerTo bytes status text → status ≤ 4
-  check_low bytes (inl refused) = omega (arith, refused.status_is)
-  check_low bytes (inr judged) = judged_low _ judged.answer
+  check_low bytes = answered_low (λ u. IsJudgedAs (judged_of u)) (λ u. judged_low (judged_of u)) bytes
+
+  certify_low : (bytes : List ℕ) → IsCertificateOf bytes status text → status ≤ 4
+  certify_low bytes = answered_low (λ u. IsCertifiedAs (judged_of u))
+      (λ u certified. let low = certified_low certified.certified in omega (arith, certified.status_is, low)) bytes
 
   print_low : (bytes : List ℕ) → IsPrintOf bytes status text → status ≤ 4
-  print_low bytes (inl refused) = omega (arith, refused.status_is)
-  print_low bytes (inr printed) = omega (arith, printed.status_is)
+  print_low bytes = answered_low IsPrintedAs (λ u printed. omega (arith, printed.status_is)) bytes
+
+  certificate_low : (j : Judged) (cert : Cert) → IsCertificateJudged j cert status text → status ≤ 4
+  certificate_low j cert (inl verified) = omega (arith, verified.status_is)
+  certificate_low j cert (inr invalid) = omega (arith, invalid.status_is)
+
+  second_low : (j : Judged) (second : List ℕ) → IsCertificateAnswered j second status text → status ≤ 4
+  second_low j second (inl refused) = omega (arith, refused.status_is)
+  second_low j second (inr judged) = certificate_low j judged.cert judged.answer
+
+  verify_low : (bytes second : List ℕ) → IsVerificationOf bytes second status text → status ≤ 4
+  verify_low bytes second = answered_low (λ u. IsCertificateAnswered (judged_of u) second) (λ u. second_low (judged_of u) second) bytes
 
   schedule_low : (j : Judged) (r : Meanings) (bytes : List ℕ) → IsScheduleAnswered j r bytes status text → status ≤ 4
   schedule_low j r bytes (inl refused) = omega (arith, refused.status_is)
   schedule_low j r bytes (inr replayed) = let low = end_low replayed.answer.end in omega (arith, replayed.answer.status_is, low)
 
   replay_low : (r : Meanings) (bytes second : List ℕ) → IsReplayOf r bytes second status text → status ≤ 4
-  replay_low r bytes second (inl refused) = omega (arith, refused.status_is)
-  replay_low r bytes second (inr read) = schedule_low _ r second read.answer
+  replay_low r bytes second = answered_low (λ u. IsScheduleAnswered (judged_of u) r second) (λ u. schedule_low (judged_of u) r second) bytes
+
+  sample_low : (k n : ℕ) → IsSampleAnswer k n status text → status ≤ 4
+  sample_low k n = answered_low (λ u. IsSampledAs k n (judged_of u))
+      (λ u sampled. let low = verdict_low sampled.verdict in omega (arith, sampled.status_is, low)) (sample_text k n)
 
   unread_low : (may : List ℕ → Type 0) (old new : KnownFiles) (before : List Reading) (name : List ℕ) (most : ℕ) → IsUnread may old new before name most status text → status ≤ 4
   unread_low may old new before name most (inl failed) = omega (arith, failed.status_is)
@@ -62,8 +96,11 @@ module _ (status : ℕ) (text : List ℕ) where
   due_low : (reclaimers : List Meanings) (request : Option Request) (old new : KnownFiles) → IsDueFor reclaimers request old new status text → status ≤ 4
   due_low reclaimers None old new refused = omega (arith, refused.status_is)
   due_low reclaimers (Some (Check name)) old new due = file_low _ _ _ _ check_low due
+  due_low reclaimers (Some (Certify name)) old new due = file_low _ _ _ _ certify_low due
   due_low reclaimers (Some (Print name)) old new due = file_low _ _ _ _ print_low due
+  due_low reclaimers (Some (Verify name certificate)) old new due = pair_low _ _ _ _ _ _ verify_low due
   due_low reclaimers (Some (Replay file schedule number)) old new replay = pair_low _ _ _ _ _ _ (replay_low replay.reclaimer) replay.due
+  due_low reclaimers (Some (Sample k n)) old new sample = sample_low k n sample.answer
 
   module _ (reclaimers : List Meanings) (request : Option Request) (old new : KnownFiles) (due : IsDueFor reclaimers request old new status text) (sink sink_now : KnownSink) where
     low : status ≤ 4

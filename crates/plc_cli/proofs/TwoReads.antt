@@ -1,5 +1,5 @@
 -- One read, and two, one after the other: what is known before the first and after the last.
-use Rattle.std.proofs.Common.{◌≡◌, ◌≢◌, ◌≤◌, ◌<◌, inl, inr, ℕ, Bool, true, false, List, [], ◌∷◌, ◌++◌, Option, length, refl, sym, ap, ◌∙◌, subst, arith, append_assoc, append-nil}
+use Rattle.std.proofs.Common.{◌≡◌, ◌≢◌, ◌≤◌, ◌<◌, inl, inr, ℕ, Bool, true, false, List, [], ◌∷◌, ◌++◌, Option, Some, None, length, refl, sym, ap, ◌∙◌, subst, arith, append_assoc, append-nil}
 use Rattle.std.specs.Prelude.{IfSome}
 use Rattle.std.specs.Str.{bytes_eq}
 use Rattle.std.proofs.lemmas.Bool.{false≢true}
@@ -8,6 +8,11 @@ use Rattle.plc_base.specs.Limits.{largest_file}
 use Rattle.plc_outside.specs.Known.{KnownFiles}
 use Rattle.plc_cli.specs.Reads.{FilesAreKept, NoFaultBut, Only, Either, IsUnread, IsGivenFile, IsSecondUnread, IsGivenPair, reading}
 use Rattle.plc_cli.specs.Views.{IsFound}
+
+-- bytes that a read gave, where the content is told
+pub told_is : (told : Option (List ℕ)) (bytes content : List ℕ) → IfSome told (λ c. bytes ≡ c) → told ≡ Some content → bytes ≡ content
+told_is None bytes content h e = absurd cc
+told_is (Some c) bytes content h e = cc
 
 -- a read lowers no count
 pub one_read_keeps : (old new : KnownFiles) (name : List ℕ) → ((other : List ℕ) → new.content other ≡ old.content other) → ((other : List ℕ) → other ≢ name → new.faults other ≡ old.faults other) → old.faults name ≤ new.faults name → FilesAreKept old new

@@ -1,16 +1,10 @@
 -- The status and the text that are due for words and files.
 use Rattle.std.specs.Prelude.{◌≡◌, ◌≢◌, ◌⊎◌, ℕ, List, [], Option, Some, None, slice_get}
-use Rattle.plc_base.specs.Limits.{largest_schedule}
+use Rattle.plc_base.specs.Limits.{largest_schedule, largest_certificate}
 use Rattle.plc_outside.specs.Known.{KnownFiles, KnownSink}
 use Rattle.plc_outside.specs.Outside.{Rose, Appends, AppendsPart}
-use Rattle.plc_parse.specs.declared.unit.Unit.{Unit as FileUnit}
-use Rattle.plc_print.specs.Text.{canonical_text}
 use Rattle.plc_check.specs.declared.judged.Judged.{Judged}
-use Rattle.plc_check.specs.declared.judged.LoadFault.{LoadFault}
-use Rattle.plc_check.specs.declared.judged.LoadFault.TheVariants.{Memory}
-use Rattle.plc_check.specs.declared.verdict.Verdict.{Verdict}
-use Rattle.plc_check.specs.Loading.{IsFileOf, HasFault, judged_of}
-use Rattle.plc_check.specs.Verdicts.{IsVerdictOn}
+use Rattle.plc_check.specs.Loading.{judged_of}
 use Rattle.plc_sched.specs.declared.schedule.Schedule.{Schedule}
 use Rattle.plc_sched.specs.declared.fault.SchedFault.{SchedFault}
 use Rattle.plc_sched.specs.declared.fault.SchedFault.TheVariants as sched
@@ -20,54 +14,12 @@ use Rattle.plc_replay.specs.declared.end.End.{End}
 use Rattle.plc_replay.specs.Outcome.{ComesTo}
 use Rattle.plc_texts.specs.Refusals.{words_refused}
 use Rattle.plc_texts.specs.Replays.{schedule_text, end_text}
-use Rattle.plc_cli.specs.Refusals.{load_text}
-use Rattle.plc_cli.specs.Verdicts.{verdict_status, verdict_text}
+use Rattle.plc_cli.specs.Certificates.{IsCertificateOf, IsVerificationOf}
+use Rattle.plc_cli.specs.Files.{IsAnsweredFile, IsAnswerTo, IsPrintOf}
 use Rattle.plc_cli.specs.Reads.{IsDueForFile, IsDueForPair}
-use Rattle.plc_cli.specs.Requests.{Request, Check, Print, Replay}
-use Rattle.plc_cli.specs.Statuses.{holds, refused, bad_words, unwritten, no_memory, end_status}
-
--- ---- the answer to the bytes of a file
-
--- the bytes have a fault that is told, and spell no file
-pub record IsRefusedFile (bytes : List ℕ) (status : ℕ) (text : List ℕ) : Type 0 where
-  pub fault : LoadFault
-  pub has : HasFault bytes fault
-  pub told : fault ≢ Memory
-  pub none : (u : FileUnit) → IsFileOf bytes u → ⊥
-  pub status_is : status ≡ refused
-  pub text_is : text ≡ load_text fault
-
--- the verdict on a file that was loaded: any that is right, since an outline that doesn't hold may have several models
-pub record IsJudgedAs (j : Judged) (status : ℕ) (text : List ℕ) : Type 0 where
-  pub verdict : Verdict
-  pub right : IsVerdictOn j verdict
-  pub status_is : status ≡ verdict_status verdict
-  pub text_is : text ≡ verdict_text j verdict
-
--- the bytes spell a file, which is safe, untyped or unproved
-pub record IsJudgedFile (bytes : List ℕ) (status : ℕ) (text : List ℕ) : Type 0 where
-  pub unit : FileUnit
-  pub spelled : IsFileOf bytes unit
-  pub answer : IsJudgedAs (judged_of unit) status text
-
--- what `check` answers to bytes: refused or judged
-abbrev pub IsAnswerTo : List ℕ → ℕ → List ℕ → Type 0
-IsAnswerTo bytes status text = IsRefusedFile bytes status text ⊎ IsJudgedFile bytes status text
-
--- the unit that was loaded
-abbrev pub unit_of : Judged → FileUnit
-unit_of j = record { file = j.flow.file; observer = j.observer; outline = j.unit_outline }
-
--- the file in canonical text
-pub record IsPrintedFile (bytes : List ℕ) (status : ℕ) (text : List ℕ) : Type 0 where
-  pub unit : FileUnit
-  pub spelled : IsFileOf bytes unit
-  pub status_is : status ≡ holds
-  pub text_is : text ≡ canonical_text unit
-
--- what `print` answers to bytes: refused or printed
-abbrev pub IsPrintOf : List ℕ → ℕ → List ℕ → Type 0
-IsPrintOf bytes status text = IsRefusedFile bytes status text ⊎ IsPrintedFile bytes status text
+use Rattle.plc_cli.specs.Requests.{Request, Check, Certify, Print, Verify, Replay, Sample}
+use Rattle.plc_cli.specs.Samples.{IsSampleAnswer}
+use Rattle.plc_cli.specs.Statuses.{refused, bad_words, unwritten, no_memory, end_status}
 
 -- ---- the answer to the bytes of a file and of a schedule
 
@@ -94,17 +46,13 @@ pub record IsReplayed (j : Judged) (reclaimer : Meanings) (bytes : List ℕ) (st
 
 -- what is answered to a schedule for a flow that was loaded: refused or replayed
 abbrev pub IsScheduleAnswered : Judged → Meanings → List ℕ → ℕ → List ℕ → Type 0
-IsScheduleAnswered j reclaimer bytes status text = IsRefusedSchedule bytes status text ⊎ IsReplayed j reclaimer bytes status text
-
--- the file is read, and its schedule is refused or replayed
-pub record IsReplayedFile (reclaimer : Meanings) (bytes second : List ℕ) (status : ℕ) (text : List ℕ) : Type 0 where
-  pub unit : FileUnit
-  pub spelled : IsFileOf bytes unit
-  pub answer : IsScheduleAnswered (judged_of unit) reclaimer second status text
+IsScheduleAnswered j reclaimer bytes status text =
+    IsRefusedSchedule bytes status text ⊎ IsReplayed j reclaimer bytes status text
 
 -- what `replay` answers to the bytes of a file and of a schedule; the file's refusals go first
 abbrev pub IsReplayOf : Meanings → List ℕ → List ℕ → ℕ → List ℕ → Type 0
-IsReplayOf reclaimer bytes second status text = IsRefusedFile bytes status text ⊎ IsReplayedFile reclaimer bytes second status text
+IsReplayOf reclaimer bytes second status text =
+    IsAnsweredFile (λ u. IsScheduleAnswered (judged_of u) reclaimer second) bytes status text
 
 -- ---- the answer to words
 
@@ -115,17 +63,34 @@ pub record IsWordsRefused (old new : KnownFiles) (status : ℕ) (text : List ℕ
   pub text_is : text ≡ words_refused
 
 -- what is due for a replay under the reclaimer of this number
-pub record IsDueForReplay (reclaimers : List Meanings) (old new : KnownFiles) (file schedule : List ℕ) (number : ℕ) (status : ℕ) (text : List ℕ) : Type 0 where
+pub record IsDueForReplay
+    (reclaimers : List Meanings) (old new : KnownFiles) (file schedule : List ℕ) (number : ℕ) (status : ℕ)
+    (text : List ℕ) : Type 0 where
   pub reclaimer : Meanings
   pub there : slice_get reclaimers number ≡ Some reclaimer
-  pub due : IsDueForPair old new file schedule largest_schedule (λ bytes second. IsReplayOf reclaimer bytes second status text) status text
+  pub due : IsDueForPair old new file schedule largest_schedule
+      (λ bytes second. IsReplayOf reclaimer bytes second status text) status text
+
+-- what is due for a sample, which asks for no file
+pub record IsDueForSample (old new : KnownFiles) (k n : ℕ) (status : ℕ) (text : List ℕ) : Type 0 where
+  pub untouched : new ≡ old
+  pub answer : IsSampleAnswer k n status text
 
 -- the status and the text that are due, each with its cause
 abbrev pub IsDueFor : List Meanings → Option Request → KnownFiles → KnownFiles → ℕ → List ℕ → Type 0
 IsDueFor reclaimers None old new status text = IsWordsRefused old new status text
-IsDueFor reclaimers (Some (Check name)) old new status text = IsDueForFile old new name (λ bytes. IsAnswerTo bytes status text) status text
-IsDueFor reclaimers (Some (Print name)) old new status text = IsDueForFile old new name (λ bytes. IsPrintOf bytes status text) status text
-IsDueFor reclaimers (Some (Replay file schedule number)) old new status text = IsDueForReplay reclaimers old new file schedule number status text
+IsDueFor reclaimers (Some (Check name)) old new status text =
+    IsDueForFile old new name (λ bytes. IsAnswerTo bytes status text) status text
+IsDueFor reclaimers (Some (Certify name)) old new status text =
+    IsDueForFile old new name (λ bytes. IsCertificateOf bytes status text) status text
+IsDueFor reclaimers (Some (Print name)) old new status text =
+    IsDueForFile old new name (λ bytes. IsPrintOf bytes status text) status text
+IsDueFor reclaimers (Some (Verify name certificate)) old new status text =
+    IsDueForPair old new name certificate largest_certificate
+    (λ bytes second. IsVerificationOf bytes second status text) status text
+IsDueFor reclaimers (Some (Replay file schedule number)) old new status text =
+    IsDueForReplay reclaimers old new file schedule number status text
+IsDueFor reclaimers (Some (Sample k n)) old new status text = IsDueForSample old new k n status text
 
 -- what was written for a due status: the whole text, or a part of it and the cause
 pub record Ends (status : ℕ) (text : List ℕ) (old new : KnownSink) (result : ℕ) : Type 0 where
@@ -135,7 +100,9 @@ pub record Ends (status : ℕ) (text : List ℕ) (old new : KnownSink) (result :
   pub memory : result ≡ no_memory → AppendsPart old.written new.written text
 
 -- the due text was written as far as it went
-pub record IsWritten (reclaimers : List Meanings) (request : Option Request) (old new : KnownFiles) (sink sink_now : KnownSink) (result : ℕ) : Type 0 where
+pub record IsWritten
+    (reclaimers : List Meanings) (request : Option Request) (old new : KnownFiles) (sink sink_now : KnownSink)
+    (result : ℕ) : Type 0 where
   pub status : ℕ
   pub text : List ℕ
   pub due : IsDueFor reclaimers request old new status text

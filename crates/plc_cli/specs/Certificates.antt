@@ -1,6 +1,5 @@
 -- What `certify` and `verify` answer.
 use Rattle.std.specs.Prelude.{◌≡◌, ◌≢◌, ◌⊎◌, ℕ, List, ◌++◌, length, Ok, Err, codes}
-use Rattle.plc_parse.specs.declared.unit.Unit.{Unit as FileUnit}
 use Rattle.plc_oblig.specs.Obligations.{obligations}
 use Rattle.plc_cert.specs.declared.cert.Cert.{Cert}
 use Rattle.plc_cert.specs.declared.cert.CertFault.{CertFault}
@@ -12,10 +11,10 @@ use Rattle.plc_verify.specs.Validity.{IsValid, IsFirstFault}
 use Rattle.plc_check.specs.declared.judged.Judged.{Judged}
 use Rattle.plc_check.specs.declared.certified.Certified.{Certified}
 use Rattle.plc_check.specs.declared.certified.Certified.TheVariants.{Yes, No}
-use Rattle.plc_check.specs.Loading.{IsFileOf, judged_of}
+use Rattle.plc_check.specs.Loading.{judged_of}
 use Rattle.plc_check.specs.Certified.{IsCertified}
 use Rattle.plc_texts.specs.Certificates.{certificate_text, verified_text, invalid_text}
-use Rattle.plc_cli.specs.Answer.{IsRefusedFile}
+use Rattle.plc_cli.specs.Files.{IsAnsweredFile}
 use Rattle.plc_cli.specs.Statuses.{holds, fails, refused}
 use Rattle.plc_cli.specs.Verdicts.{verdict_status, verdict_text}
 
@@ -37,15 +36,9 @@ pub record IsCertifiedAs (j : Judged) (status : ℕ) (text : List ℕ) : Type 0 
   pub status_is : status ≡ certified_status certified
   pub text_is : text ≡ certified_text j certified
 
--- the bytes spell a file, which is certified or isn't safe
-pub record IsCertifiedFile (bytes : List ℕ) (status : ℕ) (text : List ℕ) : Type 0 where
-  pub unit : FileUnit
-  pub spelled : IsFileOf bytes unit
-  pub answer : IsCertifiedAs (judged_of unit) status text
-
--- what `certify` answers to bytes: refused or certified
+-- what `certify` answers to bytes: refused, or certified, or not safe
 abbrev pub IsCertificateOf : List ℕ → ℕ → List ℕ → Type 0
-IsCertificateOf bytes status text = IsRefusedFile bytes status text ⊎ IsCertifiedFile bytes status text
+IsCertificateOf bytes status text = IsAnsweredFile (λ u. IsCertifiedAs (judged_of u)) bytes status text
 
 -- ---- a certificate that is judged
 
@@ -71,23 +64,22 @@ pub record IsInvalid (j : Judged) (cert : Cert) (status : ℕ) (text : List ℕ)
   pub status_is : status ≡ fails
   pub text_is : text ≡ invalid_text j.flow fault
 
+-- either of these
+abbrev pub IsCertificateJudged : Judged → Cert → ℕ → List ℕ → Type 0
+IsCertificateJudged j cert status text = IsVerified j cert status text ⊎ IsInvalid j cert status text
+
 -- the bytes are a certificate, which is judged
 pub record IsJudgedCertificate (j : Judged) (bytes : List ℕ) (status : ℕ) (text : List ℕ) : Type 0 where
   pub cert : Cert
   pub read : reading bytes ≡ Ok cert
-  pub answer : IsVerified j cert status text ⊎ IsInvalid j cert status text
+  pub answer : IsCertificateJudged j cert status text
 
 -- what is answered to a certificate for a flow that was loaded: refused or judged
 abbrev pub IsCertificateAnswered : Judged → List ℕ → ℕ → List ℕ → Type 0
 IsCertificateAnswered j bytes status text =
     IsRefusedCertificate bytes status text ⊎ IsJudgedCertificate j bytes status text
 
--- the file is read, and its certificate is refused or judged
-pub record IsVerifiedFile (bytes second : List ℕ) (status : ℕ) (text : List ℕ) : Type 0 where
-  pub unit : FileUnit
-  pub spelled : IsFileOf bytes unit
-  pub answer : IsCertificateAnswered (judged_of unit) second status text
-
 -- what `verify` answers to the bytes of a file and of a certificate; the file's refusals go first
 abbrev pub IsVerificationOf : List ℕ → List ℕ → ℕ → List ℕ → Type 0
-IsVerificationOf bytes second status text = IsRefusedFile bytes status text ⊎ IsVerifiedFile bytes second status text
+IsVerificationOf bytes second status text =
+    IsAnsweredFile (λ u. IsCertificateAnswered (judged_of u) second) bytes status text

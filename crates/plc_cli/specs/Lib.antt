@@ -1,10 +1,13 @@
 -- what contracts of public calls say
 pub mod Answer
+pub mod Certificates
+pub mod Files
 pub mod Headline
 pub mod Program
 pub mod Reads
 pub mod Refusals
 pub mod Requests
+pub mod Samples
 pub mod Served
 pub mod Statuses
 pub mod Verdicts

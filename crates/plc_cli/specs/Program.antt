@@ -1,10 +1,10 @@
 -- What the program does with its own reclaimers.
-use Rattle.std.specs.Prelude.{◌≡◌, ◌≤◌, ℕ, List, [], ◌∷◌, ◌⊎◌, None, codes}
+use Rattle.std.specs.Prelude.{◌≡◌, ◌≤◌, ℕ, List, [], ◌∷◌, ◌⊎◌, false, codes}
 use Rattle.plc_outside.specs.Known.{KnownFiles, KnownSink}
 use Rattle.plc_reclaim.specs.Meanings.{Meanings}
 use Rattle.plc_reclaim.specs.Rows.{ActsAs, leak_row, list_row, hazard_row, epoch_row}
 use Rattle.plc_cli.specs.Reads.{FilesAreKept}
-use Rattle.plc_cli.specs.Requests.{request_of}
+use Rattle.plc_cli.specs.Requests.{asks_for_files, request_of}
 use Rattle.plc_cli.specs.Answer.{Outcome}
 use Rattle.plc_cli.specs.Headline.{Headline}
 use Rattle.plc_cli.specs.Served.{ServedReplays}
@@ -34,7 +34,7 @@ pub record RunsWithOwn (words : List (List ℕ)) (old new : KnownFiles) (sink si
   pub outcome : Outcome reclaimers (request_of own_names words) old new sink sink_now result
   pub headline : Headline (request_of own_names words) old new result
   pub served : ServedReplays reclaimers (request_of own_names words) old new sink sink_now result
-  pub untouched : request_of own_names words ≡ None → new ≡ old
+  pub untouched : asks_for_files (request_of own_names words) ≡ false → new ≡ old
   pub files_kept : FilesAreKept old new
   pub count_kept : sink.faults ≤ sink_now.faults
 

@@ -2,7 +2,7 @@
 ghost use Rattle.std.specs.Prelude.{◌≡◌, ◌≤◌, IfOk, length};
 ghost use Rattle.plc_base.specs.Limits.{largest_file};
 ghost use Rattle.plc_check.specs.Fit.{JudgedFits};
-ghost use Rattle.plc_cli.specs.Answer.{IsAnswerTo, IsJudgedAs};
+ghost use Rattle.plc_cli.specs.Files.{IsAnswerTo, IsJudgedAs};
 ghost use Rattle.plc_cli.specs.Reads.{FilesAreKept, IsDueForFile};
 ghost use Rattle.plc_cli.specs.Verdicts.{verdict_status, verdict_text};
 
@@ -15,8 +15,8 @@ use plc_outside::Files;
 use plc_texts::{safe, unproved, untyped};
 use std::alloc::{AllocError, Global};
 
-// The status of a verdict: that of a failure where the file isn't safe.
-fn status_of(verdict: &Verdict) -> u8
+/// The status of a verdict: that of a failure where the file isn't safe.
+pub(crate) fn status_of(verdict: &Verdict) -> u8
     ensures { result ≡ verdict_status verdict.now }
 {
     match verdict {
@@ -25,8 +25,12 @@ fn status_of(verdict: &Verdict) -> u8
     }
 }
 
-// The text of a verdict.
-fn text_of(alloc: Global, judged: &Judged, verdict: &Verdict) -> Result<Vec<u8>, AllocError>
+/// The text of a verdict.
+pub(crate) fn text_of(
+    alloc: Global,
+    judged: &Judged,
+    verdict: &Verdict,
+) -> Result<Vec<u8>, AllocError>
     ensures { IfOk result (λ text. text.items ≡ verdict_text judged.now verdict.now) }
 {
     let flow = &judged.flow;
@@ -50,8 +54,8 @@ fn text_of(alloc: Global, judged: &Judged, verdict: &Verdict) -> Result<Vec<u8>,
     }
 }
 
-// The answer that tells a verdict.
-fn told(alloc: Global, judged: &Judged, verdict: &Verdict) -> Result<Answer, AllocError>
+/// The answer that tells a verdict.
+pub(crate) fn told(alloc: Global, judged: &Judged, verdict: &Verdict) -> Result<Answer, AllocError>
     ensures { IfOk result (λ answer. (answer.status ≡ verdict_status verdict.now)
         × (answer.text.items ≡ verdict_text judged.now verdict.now)) }
 {

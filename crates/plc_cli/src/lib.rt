@@ -1,6 +1,7 @@
 //! The command line: `run` does all that the program does. It takes the words, reads the files that
-//! they name, and answers with a status and a text: the verdict on a file (`check`), its canonical text
-//! (`print`), or what a recorded schedule leads to (`replay`).
+//! they name, and answers with a status and a text: the verdict on a file (`check`), its certificate
+//! (`certify`), whether a certificate is valid for it (`verify`), its canonical text (`print`), what a
+//! recorded schedule leads to (`replay`), or the verdict on a file that is made (`sample`).
 //!
 //! # What a 0 of `check` means
 //!
@@ -24,6 +25,9 @@
 //! outline that isn't kept, with a model of its ground set, the state in which the step breaks the clause
 //! (docs/outlines.md).
 //!
+//! A 0 of `verify` says the same: a certificate that is valid for a file shows that its flow has a typing and that
+//! its outline holds (`plc_verify`), whoever wrote it. What it says rests on neither the inference nor the solver.
+//!
 //! # What `replay` rules out
 //!
 //! `run` also promises, as the clause `served`, that a replay under a reclaimer that serves the file never
@@ -33,13 +37,16 @@
 #![tactic(auto)]
 
 mod answer;
+mod certifying;
 mod checking;
 mod own;
 mod printing;
 mod program;
 mod reading;
 mod replaying;
+mod sampling;
 mod status;
+mod verifying;
 mod words;
 
 pub use own::run_with_own;

@@ -2,7 +2,7 @@
 ghost use Rattle.std.specs.Prelude.{◌≡◌, ◌≤◌, IfOk, length};
 ghost use Rattle.plc_base.specs.Limits.{largest_file};
 ghost use Rattle.plc_print.specs.Text.{canonical_text};
-ghost use Rattle.plc_cli.specs.Answer.{IsPrintOf, unit_of};
+ghost use Rattle.plc_cli.specs.Files.{IsPrintOf, unit_of};
 ghost use Rattle.plc_cli.specs.Reads.{FilesAreKept, IsDueForFile};
 ghost use Rattle.plc_cli.specs.Statuses.{holds};
 

@@ -1,17 +1,20 @@
 // One way through the program: words, reads, answer, write. Nothing is written before the whole text
 // is there, so running out of memory before that leaves the output as it was.
-ghost use Rattle.std.specs.Prelude.{◌≡◌, ◌≤◌, None, IfOk, map, string_bytes};
-ghost use Rattle.plc_cli.specs.Requests.{request_of};
+ghost use Rattle.std.specs.Prelude.{◌≡◌, ◌≤◌, false, IfOk, map, string_bytes};
+ghost use Rattle.plc_cli.specs.Requests.{asks_for_files, request_of};
 ghost use Rattle.plc_cli.specs.Reads.{FilesAreKept};
 ghost use Rattle.plc_cli.specs.Answer.{IsDueFor, Outcome};
 ghost use Rattle.plc_cli.specs.Headline.{Headline};
 ghost use Rattle.plc_cli.specs.Served.{ServedReplays};
 
 use crate::answer::{Answer, refused_words};
+use crate::certifying::certify_file;
 use crate::checking::check_file;
 use crate::printing::print_file;
 use crate::replaying::replay_file;
+use crate::sampling::judge_sample;
 use crate::status::{NO_MEMORY, UNWRITTEN};
+use crate::verifying::verify_file;
 use crate::words::{Request, requested};
 use plc_outside::{Files, Sink, SinkFault, write_text};
 use plc_reclaim::Reclaimer;
@@ -25,7 +28,7 @@ fn answer_to<F: Files>(
     reclaimers: &mut [Box<dyn Reclaimer>],
 ) -> Result<Answer, AllocError>
     ensures kept { FilesAreKept (F.known files.old) (F.known files.new) }
-    ensures untouched { request_of (map named reclaimers.old) (map string_bytes words.now) ≡ None
+    ensures untouched { asks_for_files (request_of (map named reclaimers.old) (map string_bytes words.now)) ≡ false
         → F.known files.new ≡ F.known files.old }
     ensures due { IfOk result (λ answer. IsDueFor (map meanings reclaimers.old)
         (request_of (map named reclaimers.old) (map string_bytes words.now))
@@ -33,7 +36,11 @@ fn answer_to<F: Files>(
 {
     match requested(reclaimers, words) {
         Some(Request::Check { file }) => check_file(alloc, files, file),
+        Some(Request::Certify { file }) => certify_file(alloc, files, file),
         Some(Request::Print { file }) => print_file(alloc, files, file),
+        Some(Request::Verify { file, certificate }) => {
+            verify_file(alloc, files, file, certificate)
+        }
         Some(
             Request::Replay {
                 file,
@@ -41,6 +48,7 @@ fn answer_to<F: Files>(
                 reclaimer,
             },
         ) => replay_file(alloc, files, file, schedule, &mut reclaimers[reclaimer]),
+        Some(Request::Sample { copies, line }) => judge_sample(alloc, copies, line),
         None => refused_words(alloc),
     }
 }
@@ -66,7 +74,7 @@ pub fn run<F: Files, S: Sink>(
     ensures served { ServedReplays (map meanings reclaimers.items)
         (request_of (map named reclaimers.items) (map string_bytes words.now))
         (F.known files.old) (F.known files.new) (S.known out.old) (S.known out.new) result }
-    ensures untouched { request_of (map named reclaimers.items) (map string_bytes words.now) ≡ None
+    ensures untouched { asks_for_files (request_of (map named reclaimers.items) (map string_bytes words.now)) ≡ false
         → F.known files.new ≡ F.known files.old }
     ensures files_kept { FilesAreKept (F.known files.old) (F.known files.new) }
     ensures count_kept { (S.known out.old).faults ≤ (S.known out.new).faults }

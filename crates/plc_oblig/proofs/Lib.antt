@@ -3,7 +3,7 @@ pub mod Walking
 mod Remaining
 mod Members
 mod Staying
-mod Opposites
+pub mod Opposites
 pub mod Lists
 pub mod Places
 pub mod Equal

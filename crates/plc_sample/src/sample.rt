@@ -1,5 +1,6 @@
 // The whole text of a sample, and the same without one line.
-ghost use Rattle.std.specs.Prelude.{◌≡◌, ◌≤◌, ◌++◌, ◌+◌, ◌*◌, IfOk, OnOk};
+ghost use Rattle.std.specs.Prelude.{◌≡◌, ◌≤◌, ◌++◌, ◌+◌, ◌*◌, IfOk, OnOk, length};
+ghost use Rattle.plc_base.specs.Limits.{largest_file};
 ghost use Rattle.plc_sample.specs.Sample.{whole_text, line_after, kept_byte, without_from, sample_text};
 
 use crate::numbering::push_copies;
@@ -44,11 +45,13 @@ fn without_line(alloc: Global, text: &[u8], without: usize) -> Result<Vec<u8>, A
 }
 
 /// The sample with `k` copies of the operations, from 1 to 16, without line `n`, which is one of its 44k + 13
-/// lines counted from 1, or whole where `n` is 0. The one error is that memory runs out.
+/// lines counted from 1, or whole where `n` is 0. It is short enough for a file. The one error is that memory
+/// runs out.
 pub fn text(alloc: Global, k: u8, n: u16) -> Result<Vec<u8>, NoMemory>
     requires copies { (1 ≤ k) × (k ≤ 16) }
     requires line { n ≤ 44 * k + 13 }
-    ensures { IfOk result (λ text. text.items ≡ sample_text k n) }
+    ensures is { IfOk result (λ text. text.items ≡ sample_text k n) }
+    ensures short { IfOk result (λ text. length text.items ≤ largest_file) }
 {
     let whole = whole_text(alloc, k)?;
     let text = without_line(alloc, &whole, n as usize)?;

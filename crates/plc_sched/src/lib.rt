@@ -15,6 +15,8 @@
 //! with T below N. There are at most 100,000 lines. `Entries.antt` of the definitions spells each entry,
 //! `Schedules.antt` says which file is which schedule, and which line is the first that isn't so. Whether an
 //! entry is possible in a program isn't asked here.
+//!
+//! `number_of` reads one word alone, as numbers of the command line are written in the same way.
 #![tactic(auto)]
 
 mod entries;
@@ -26,5 +28,6 @@ mod schedule;
 mod words;
 
 pub use fault::SchedFault;
+pub use numbers::number_of;
 pub use reading::{read_schedule, schedules_are_unique, schedules_are_within_limits};
 pub use schedule::{Entry, Schedule};

@@ -20,8 +20,9 @@ fn is_plain(word: &[u8]) -> bool
     }
 }
 
-// The number that a word writes, from `least` to `most`.
-fn number_of(word: &[u8], least: u32, most: u32) -> Option<u32>
+/// The number that a word writes, from `least` to `most`, in plain decimal: without a sign and without zeros at the
+/// front. `None` where it writes no such number.
+pub fn number_of(word: &[u8], least: u32, most: u32) -> Option<u32>
     ensures { IsNumberOf word.now least most result }
 {
     if !is_plain(word) {

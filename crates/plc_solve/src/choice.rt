@@ -2,8 +2,8 @@
 // closure of the branch a false clause has no true literal; its inequations are contradicted, since
 // their sides share a class, and so is an equation whose classes hold two constants that differ, or
 // that an inequation keeps apart which stands alone in a clause. The other equations are what the
-// branch leaves open. A clause with none closes the branch at once, one with a single one is used
-// at once: the choice is the propagation.
+// branch leaves open. A clause with none closes the branch at once, so it is taken without a look at
+// the clauses after it; one with a single one is used at once: the choice is the propagation.
 //
 // Most clauses stay true from one choice to the next by the same literal, so for each clause the
 // literal that was last seen true is tried first.
@@ -175,7 +175,11 @@ fn choose(set: &GroundSet, survey: &Survey, class: &[u32], seen: &mut [usize]) -
     let mut best = None;
     for c in 0..set.clauses.len() {
         if is_false(set, class, c, &mut seen[c]) {
-            best = Some(better(set, survey, class, best, c));
+            let found = better(set, survey, class, best, c);
+            if found.open == 0 {
+                return Some(found);
+            }
+            best = Some(found);
         }
     }
     best

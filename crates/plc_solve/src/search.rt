@@ -13,7 +13,7 @@ use crate::needless::hand_up;
 use crate::split::{enter, take_child};
 use crate::survey::{Survey, take_survey};
 use plc_base::{Items, NoMemory};
-use plc_ground::{GroundModel, GroundSet, Tree, alone};
+use plc_ground::{GroundModel, GroundSet, Tree, all_apart, into_classes};
 use std::alloc::{AllocError, Global};
 
 /// What the solver finds.
@@ -37,7 +37,7 @@ fn begin(
     requires seen { length seen.old ≡ length set.now.clauses }
     ensures { IfOk result (λ r. (class : List ℕ) × Enters set.now [] class r) }
 {
-    let class = alone(alloc, set)?;
+    let class = into_classes(all_apart(alloc, set)?);
     Ok(enter(alloc, set, survey, seen, Vec::new(alloc), class))
 }
 

@@ -12,7 +12,7 @@ use crate::apart::conflict;
 use crate::choice::pick;
 use crate::frame::{Descent, Frame, Step, take_leaf};
 use crate::survey::Survey;
-use plc_ground::{GroundSet, Lit, add, clause};
+use plc_ground::{GroundSet, Lit, clause, into_classes, of_classes, put};
 use std::alloc::{AllocError, Global};
 
 /// A branch on which nothing is split yet: its classes are a model, or a false clause is to be split.
@@ -59,9 +59,9 @@ fn refined(
         → slice_index top.now.class.items l.left ≢ slice_index top.now.class.items l.right
         → sum new.items < sum top.now.class.items) }
 {
-    let mut new = Vec::from_slice(alloc, &top.class)?;
-    add(alloc, set, &survey.table, &mut new, l)?;
-    Ok(new)
+    let mut equal = of_classes(alloc, &top.class)?;
+    put(set, &survey.table, &mut equal, l)?;
+    Ok(into_classes(equal))
 }
 
 /// Puts one more equation on a branch.

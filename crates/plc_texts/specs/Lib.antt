@@ -1,7 +1,10 @@
 -- what contracts of public calls say
+pub mod Certificates
+pub mod Counts
 pub mod Names
 pub mod Refusals
 pub mod Replays
+pub mod Samples
 pub mod Typings
 pub mod Untyped
 pub mod Unproved

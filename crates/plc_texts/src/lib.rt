@@ -2,16 +2,21 @@
 //! written line, byte for byte.
 #![tactic(auto)]
 
+mod certificates;
+mod counts;
 mod failing;
 mod models;
 mod names;
 mod push;
 mod refusals;
 mod replays;
+mod samples;
 mod typing;
 
+pub use certificates::{invalid, uncertified, verified};
 pub use failing::untyped;
 pub use models::unproved;
 pub use refusals::{lexical, limit, parsed, read_failed, read_too_long, words_refused};
 pub use replays::{ended, unscheduled};
+pub use samples::sampled;
 pub use typing::safe;

@@ -2,7 +2,7 @@ use Rattle.std.proofs.Common.{subst}
 use Rattle.plc_oblig.specs.Obligations.{obligations}
 use Rattle.plc_oblig.specs.Outlines.{IsKept}
 use Rattle.plc_check.specs.Counterexamples.{IsCounterexampleAt}
-use Rattle.plc_check.proofs.SoFar.{advanced, ended}
+use Rattle.plc_check.proofs.SoFar.{advanced, ended, is_listed}
 use Rattle.plc_check.proofs.counterexample.first_counterexample.Goals as goal
 
 pub loop-obligation-preserved : goal.loop-obligation-preserved
@@ -15,3 +15,8 @@ pub returns : goal.returns
 returns c =
     ended (IsKept c.args.flow.now c.args.outline.now) (obligations c.args.flow.now c.args.outline.now)
     c.loop-obligation.walk c.loop-obligation.invariant c.in_default.ensures.0
+
+pub counterexample_at-requires-clause-there : goal.counterexample_at-requires-clause-there
+counterexample_at-requires-clause-there c =
+    is_listed (IsKept c.args.flow.now c.args.outline.now) (obligations c.args.flow.now c.args.outline.now)
+    c.loop-obligation.walk c.next.new.self c.in-Some.obligation c.loop-obligation.invariant c.in-Some.ensures

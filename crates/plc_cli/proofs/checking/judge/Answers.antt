@@ -1,5 +1,5 @@
 use Rattle.std.proofs.Common.{◌≡◌}
-use Rattle.plc_cli.specs.Answer.{IsJudgedAs}
+use Rattle.plc_cli.specs.Files.{IsJudgedAs}
 use Rattle.plc_cli.specs.Verdicts.{verdict_status, verdict_text}
 use Rattle.plc_cli.proofs.Judging.{verdict_answers, if_ok_from}
 use Rattle.plc_cli.proofs.checking.judge.Goals as goal

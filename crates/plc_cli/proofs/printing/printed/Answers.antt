@@ -1,6 +1,6 @@
 use Rattle.std.proofs.Common.{◌≡◌}
 use Rattle.plc_print.specs.Text.{canonical_text}
-use Rattle.plc_cli.specs.Answer.{IsPrintOf, unit_of}
+use Rattle.plc_cli.specs.Files.{IsPrintOf, unit_of}
 use Rattle.plc_cli.proofs.Judging.{printed_answers, if_ok_from}
 use Rattle.plc_cli.proofs.printing.printed.Goals as goal
 

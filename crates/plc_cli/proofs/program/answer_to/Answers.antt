@@ -9,7 +9,7 @@ use Rattle.plc_cli.proofs.program.answer_to.Goals as goal
 pub returns-in-Some-Replay-clause-due : goal.returns-in-Some-Replay-clause-due
 returns-in-Some-Replay-clause-due g c =
     let x = get_or c.args.reclaimers.now c.in-Some-Replay.reclaimer c.index-reclaimers-reclaimer.result in
-    let within : c.in-Some-Replay.reclaimer < length c.args.reclaimers.now = rw c.in-Some-Replay.field-0-is at c.in-Some-Replay.ensures.among in
+    let within : c.in-Some-Replay.reclaimer < length c.args.reclaimers.now = rw c.in-Some-Replay.field-0-is at c.in-Some-Replay.ensures.in_range in
     let here = slice_get-get_or c.args.reclaimers.now c.in-Some-Replay.reclaimer c.index-reclaimers-reclaimer.result within in
     let there = slice_get-map (λ b. (goal.Reclaimer-dyn g (b.vtable, b.value)).meanings b.value) c.args.reclaimers.now c.in-Some-Replay.reclaimer ∙ ap (option_map (λ b. (goal.Reclaimer-dyn g (b.vtable, b.value)).meanings b.value)) here in
     let asked = ap (λ r. Some (request_view r)) (sym c.in-Some-Replay.field-0-is) ∙ c.in-Some-Replay.ensures.asks in

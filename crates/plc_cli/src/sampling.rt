@@ -1,0 +1,85 @@
+// The verdict on a sample: its text is made, and then judged as that of a file is.
+ghost use Rattle.std.specs.Prelude.{◌≡◌, ◌≤◌, ◌+◌, ◌*◌, IfOk, length};
+ghost use Rattle.plc_base.specs.Limits.{largest_file};
+ghost use Rattle.plc_check.specs.Fit.{JudgedFits};
+ghost use Rattle.plc_sample.specs.Sample.{sample_text};
+ghost use Rattle.plc_cli.specs.Samples.{IsSampleAnswer, IsSampledAs, IsSampledFile, sampled_text};
+ghost use Rattle.plc_cli.specs.Verdicts.{verdict_status};
+
+use crate::answer::{Answer, refusal};
+use crate::checking::{status_of, text_of};
+use plc_base::NoMemory;
+use plc_check::{Judged, LoadFault, Verdict, check, load};
+use plc_sample::text;
+use plc_texts::sampled;
+use std::alloc::{AllocError, Global};
+
+// The text of a verdict: one line where the sample is safe.
+fn sampled_text(
+    alloc: Global,
+    copies: u8,
+    line: u16,
+    judged: &Judged,
+    verdict: &Verdict,
+) -> Result<Vec<u8>, AllocError>
+    ensures { IfOk result (λ text. text.items ≡ sampled_text copies line judged.now verdict.now) }
+{
+    match verdict {
+        Verdict::Safe { obligations, .. } => {
+            sampled(alloc, copies, line, &judged.flow, *obligations)
+        }
+        Verdict::Untyped { .. } | Verdict::Unproved { .. } => text_of(alloc, judged, verdict),
+    }
+}
+
+// The answer that tells a verdict.
+fn told_sample(
+    alloc: Global,
+    copies: u8,
+    line: u16,
+    judged: &Judged,
+    verdict: &Verdict,
+) -> Result<Answer, AllocError>
+    ensures { IfOk result (λ answer. (answer.status ≡ verdict_status verdict.now)
+        × (answer.text.items ≡ sampled_text copies line judged.now verdict.now)) }
+{
+    Ok(Answer {
+        status: status_of(verdict),
+        text: sampled_text(alloc, copies, line, judged, verdict)?,
+    })
+}
+
+// The answer to a sample that was loaded.
+fn judge_loaded(alloc: Global, copies: u8, line: u16, judged: &Judged) -> Result<Answer, AllocError>
+    requires { JudgedFits judged.now }
+    ensures { IfOk result (λ answer. IsSampledAs copies line judged.now answer.status answer.text.items) }
+{
+    match check(alloc, judged) {
+        Ok(verdict) => told_sample(alloc, copies, line, judged, &verdict),
+        Err(NoMemory) => Err(AllocError),
+    }
+}
+
+// The answer to the bytes of a sample.
+fn judge_bytes(alloc: Global, copies: u8, line: u16, bytes: &[u8]) -> Result<Answer, AllocError>
+    requires { length bytes.now ≤ largest_file }
+    ensures { IfOk result (λ answer. IsSampledFile copies line bytes.now answer.status answer.text.items) }
+{
+    match load(alloc, bytes) {
+        Ok(judged) => judge_loaded(alloc, copies, line, &judged),
+        Err(LoadFault::Memory) => Err(AllocError),
+        Err(fault) => refusal(alloc, &fault),
+    }
+}
+
+/// The answer to `sample K N`: `copies` is K, and `line` is N.
+pub(crate) fn judge_sample(alloc: Global, copies: u8, line: u16) -> Result<Answer, AllocError>
+    requires copies { (1 ≤ copies) × (copies ≤ 16) }
+    requires line { line ≤ 44 * copies + 13 }
+    ensures { IfOk result (λ answer. IsSampleAnswer copies line answer.status answer.text.items) }
+{
+    match text(alloc, copies, line) {
+        Ok(bytes) => judge_bytes(alloc, copies, line, &bytes),
+        Err(NoMemory) => Err(AllocError),
+    }
+}

@@ -1,0 +1,91 @@
+// Whether a certificate is valid for a file. No verdict is made: neither the inference nor the solver is called.
+ghost use Rattle.std.specs.Prelude.{◌≡◌, ◌≤◌, IfOk, length};
+ghost use Rattle.plc_base.specs.Limits.{largest_file, largest_certificate};
+ghost use Rattle.plc_check.specs.Fit.{JudgedFits};
+ghost use Rattle.plc_cli.specs.Certificates.{IsVerificationOf, IsCertificateAnswered, IsCertificateJudged};
+ghost use Rattle.plc_cli.specs.Reads.{FilesAreKept, IsDueForPair};
+
+use crate::answer::{Answer, refusal};
+use crate::reading::{Contents, read_both};
+use crate::status::{FAILS, HOLDS, REFUSED};
+use plc_base::LARGEST_CERTIFICATE;
+use plc_cert::{Cert, CertFault, read};
+use plc_check::{Judged, LoadFault, load};
+use plc_outside::Files;
+use plc_texts::{invalid, uncertified, verified};
+use plc_verify::{VerifyFault, verify};
+use std::alloc::{AllocError, Global};
+
+// The answer to a certificate that was read.
+fn judge_certificate(alloc: Global, judged: &Judged, cert: &Cert) -> Result<Answer, AllocError>
+    requires { JudgedFits judged.now }
+    ensures { IfOk result (λ answer.
+        IsCertificateJudged judged.now cert.now answer.status answer.text.items) }
+{
+    match verify(
+        alloc,
+        &judged.flow,
+        &judged.observer,
+        &judged.unit_outline,
+        cert,
+    ) {
+        // It has a tree for each obligation.
+        Ok(()) => Ok(Answer {
+            status: HOLDS,
+            text: verified(alloc, &judged.flow, cert.trees.len() as u64)?,
+        }),
+        Err(VerifyFault::Memory) => Err(AllocError),
+        Err(fault) => Ok(Answer {
+            status: FAILS,
+            text: invalid(alloc, &judged.flow, fault)?,
+        }),
+    }
+}
+
+// The answer to the bytes of a certificate.
+fn answer_certificate(alloc: Global, judged: &Judged, bytes: &[u8]) -> Result<Answer, AllocError>
+    requires { JudgedFits judged.now }
+    ensures { IfOk result (λ answer.
+        IsCertificateAnswered judged.now bytes.now answer.status answer.text.items) }
+{
+    match read(alloc, bytes) {
+        Ok(cert) => judge_certificate(alloc, judged, &cert),
+        Err(CertFault::Memory) => Err(AllocError),
+        Err(fault) => Ok(Answer {
+            status: REFUSED,
+            text: uncertified(alloc, fault)?,
+        }),
+    }
+}
+
+// The answer to the bytes of a file and of a certificate; the file's refusals go first.
+fn verified_file(alloc: Global, bytes: &[u8], second: &[u8]) -> Result<Answer, AllocError>
+    requires { length bytes.now ≤ largest_file }
+    ensures { IfOk result (λ answer.
+        IsVerificationOf bytes.now second.now answer.status answer.text.items) }
+{
+    match load(alloc, bytes) {
+        Ok(judged) => answer_certificate(alloc, &judged, second),
+        Err(LoadFault::Memory) => Err(AllocError),
+        Err(fault) => refusal(alloc, &fault),
+    }
+}
+
+/// The answer to `verify FILE CERTIFICATE`.
+pub(crate) fn verify_file<F: Files>(
+    alloc: Global,
+    files: &mut F,
+    file: &str,
+    certificate: &str,
+) -> Result<Answer, AllocError>
+    ensures kept { FilesAreKept (F.known files.old) (F.known files.new) }
+    ensures due { IfOk result (λ answer. IsDueForPair (F.known files.old) (F.known files.new)
+        file.now certificate.now largest_certificate
+        (λ bytes second. IsVerificationOf bytes second answer.status answer.text.items)
+        answer.status answer.text.items) }
+{
+    match read_both(alloc, files, file, certificate, LARGEST_CERTIFICATE)? {
+        Contents::Read(bytes, second) => verified_file(alloc, &bytes, &second),
+        Contents::Unread(answer) => Ok(answer),
+    }
+}

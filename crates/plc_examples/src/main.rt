@@ -1,0 +1,16 @@
+//! Judges the examples: each line of the input is a command as `plc` takes it, and what is printed is the command
+//! with its answer, so that the gate compares the answer of every example with the one that is written down.
+#![tactic(auto)]
+
+mod answers;
+
+use answers::answered;
+use std::io;
+
+fn main(rt: HostRuntime) -> io::Result<()> {
+    for line in rt.lines(rt.alloc()) {
+        let text = answered(&rt, line?.as_str())?;
+        println!(rt; "{text}")?;
+    }
+    Ok(())
+}

@@ -1,0 +1,16 @@
+use Rattle.std.proofs.Common.{◌++◌, ◌∷◌, [], subst}
+use Rattle.plc_ground.specs.declared.terms.Lit.{Lit}
+use Rattle.plc_ground.specs.Classes.{IsClosure}
+use Rattle.plc_ground.proofs.Along.{along_entered}
+use Rattle.plc_ground.proofs.path.enter.Goals as goal
+
+pub put-requires-clause-one_each : goal.put-requires-clause-one_each
+put-requires-clause-one_each c = c.requires.branch.1.merged.one_each
+
+pub put-requires-clause-congruent : goal.put-requires-clause-congruent
+put-requires-clause-congruent c = c.requires.branch.1.congruent
+
+pub returns-clause-along : goal.returns-clause-along
+returns-clause-along c =
+    along_entered c.args.set.now c.args.path.now.items c.push.new.self.items _ c.args.equal.now c.put.new.equal c.mark.ensures c.in_ok-put.ensures.extends c.in_ok-push.ensures.items
+    (λ branch k. subst (λ (l : Lit). IsClosure c.args.set.now.terms (branch ++ l ∷ []) c.put.new.equal.class) c.literal.ensures (c.in_ok-put.ensures.closure branch k))

@@ -1,0 +1,158 @@
+// What is said of a certificate: why its bytes are none, that it is valid, or its first item that fails.
+ghost use Rattle.std.specs.Prelude.{◌≡◌, ◌++◌, IfOk, slice_get, codes, decimal};
+ghost use Rattle.plc_lang.specs.Names.{operation_name};
+ghost use Rattle.plc_texts.specs.Certificates.{field_word, certificate_text, verified_text, slot_name, pair_text, invalid_text};
+ghost use Rattle.plc_texts.specs.Untyped.{step_operation};
+
+use crate::counts::push_counts;
+use crate::names::variable_in;
+use crate::push::{push, push_bytes, push_number};
+use crate::refusals::{fixed, numbered};
+use plc_base::{OpId, StepId};
+use plc_cert::{CertFault, CertField};
+use plc_flow::Flow;
+use plc_lang::{File, Var, operation_name};
+use plc_verify::{Slot, VerifyFault};
+use std::alloc::{AllocError, Global};
+
+// The name of a part of a certificate.
+fn field_word(field: CertField) -> &'static str
+    ensures { result.now ≡ field_word field }
+{
+    match field {
+        CertField::Root => "root",
+        CertField::Version => "version",
+        CertField::Env => "env",
+        CertField::Trees => "trees",
+    }
+}
+
+// A part that isn't of its form.
+fn misshapen(alloc: Global, field: CertField) -> Result<Vec<u8>, AllocError>
+    ensures { IfOk result (λ v. v.items ≡ codes "refused certificate field " ++ field_word field ++ codes "\n") }
+{
+    let mut out = fixed(alloc, "refused certificate field ")?;
+    push(&mut out, field_word(field))?;
+    push(&mut out, "\n")?;
+    Ok(out)
+}
+
+// Another version.
+fn other_version(alloc: Global, version: u64) -> Result<Vec<u8>, AllocError>
+    ensures { IfOk result (λ v. v.items ≡ codes "refused certificate version " ++ decimal version ++ codes "\n") }
+{
+    let mut out = fixed(alloc, "refused certificate version ")?;
+    push_number(alloc, &mut out, version)?;
+    push(&mut out, "\n")?;
+    Ok(out)
+}
+
+/// Bytes that are no certificate: no JSON, the part that isn't of its form, or another version. Running out of memory
+/// has no text.
+pub fn uncertified(alloc: Global, fault: CertFault) -> Result<Vec<u8>, AllocError>
+    ensures { IfOk result (λ v. v.items ≡ certificate_text fault) }
+{
+    match fault {
+        CertFault::NotJson => fixed(alloc, "refused certificate json\n"),
+        CertFault::Shape { field } => misshapen(alloc, field),
+        CertFault::Version { n } => other_version(alloc, n),
+        CertFault::Memory => Ok(Vec::new(alloc)),
+    }
+}
+
+/// A valid certificate: how many points, steps and obligations the file has.
+pub fn verified(alloc: Global, flow: &Flow, obligations: u64) -> Result<Vec<u8>, AllocError>
+    ensures { IfOk result (λ v. v.items ≡ verified_text flow.now obligations) }
+{
+    let mut out = fixed(alloc, "verified")?;
+    push_counts(alloc, &mut out, flow, obligations)?;
+    push(&mut out, "\n")?;
+    Ok(out)
+}
+
+// The operation of a step.
+fn operation_of(flow: &Flow, step: StepId) -> u16
+    ensures { result ≡ step_operation (slice_get flow.now.steps step.0) }
+{
+    match flow.steps.get(step.0 as usize) {
+        Some(step) => step.op.0,
+        None => 0,
+    }
+}
+
+// A part of an environment: W, or a pointer local of the operation.
+fn slot_name(file: &File, operation: u16, slot: Slot) -> &[u8]
+    ensures { result.now ≡ slot_name file.now operation slot }
+{
+    match slot {
+        Slot::W => "W".as_bytes(),
+        Slot::Local(v) => variable_in(file, operation, Var::Local(v)),
+    }
+}
+
+// Two numbers, each after words.
+fn paired(alloc: Global, first: &str, a: u64, second: &str, b: u64) -> Result<Vec<u8>, AllocError>
+    ensures { IfOk result (λ v. v.items ≡ pair_text first.now a second.now b) }
+{
+    let mut out = fixed(alloc, first)?;
+    push_number(alloc, &mut out, a)?;
+    push(&mut out, second)?;
+    push_number(alloc, &mut out, b)?;
+    push(&mut out, "\n")?;
+    Ok(out)
+}
+
+// An operation that begins otherwise.
+fn entry(alloc: Global, flow: &Flow, op: OpId, var: Slot) -> Result<Vec<u8>, AllocError>
+    ensures { IfOk result (λ v. v.items ≡ codes "invalid entry " ++ operation_name flow.now.file op
+        ++ codes " " ++ slot_name flow.now.file op.0 var ++ codes "\n") }
+{
+    let mut out = fixed(alloc, "invalid entry ")?;
+    push_bytes(&mut out, operation_name(&flow.file, op))?;
+    push(&mut out, " ")?;
+    push_bytes(&mut out, slot_name(&flow.file, op.0, var))?;
+    push(&mut out, "\n")?;
+    Ok(out)
+}
+
+// A step that leads to too much.
+fn passage(alloc: Global, flow: &Flow, step: StepId, var: Slot) -> Result<Vec<u8>, AllocError>
+    ensures { IfOk result (λ v. v.items ≡ codes "invalid flow step " ++ decimal step.0 ++ codes " "
+        ++ slot_name flow.now.file (step_operation (slice_get flow.now.steps step.0)) var ++ codes "\n") }
+{
+    let mut out = fixed(alloc, "invalid flow step ")?;
+    push_number(alloc, &mut out, u64::from(step.0))?;
+    push(&mut out, " ")?;
+    push_bytes(
+        &mut out,
+        slot_name(&flow.file, operation_of(flow, step), var),
+    )?;
+    push(&mut out, "\n")?;
+    Ok(out)
+}
+
+/// A certificate that isn't valid: its first item that fails. Running out of memory has no text.
+pub fn invalid(alloc: Global, flow: &Flow, fault: VerifyFault) -> Result<Vec<u8>, AllocError>
+    ensures { IfOk result (λ v. v.items ≡ invalid_text flow.now fault) }
+{
+    match fault {
+        VerifyFault::EnvCount { have, want } => {
+            paired(alloc, "invalid envs ", have, " ", u64::from(want))
+        }
+        VerifyFault::EnvAt { point } => numbered(alloc, "invalid env ", u32::from(point.0)),
+        VerifyFault::EntryAt { op, var } => entry(alloc, flow, op, var),
+        VerifyFault::TypeAt { step, prim } => paired(
+            alloc,
+            "invalid type step ",
+            u64::from(step.0),
+            " prim ",
+            u64::from(prim),
+        ),
+        VerifyFault::FlowAt { step, var } => passage(alloc, flow, step, var),
+        VerifyFault::TreeCount { have, want } => paired(alloc, "invalid trees ", have, " ", want),
+        VerifyFault::TreeAt { obligation, node } => {
+            paired(alloc, "invalid tree ", obligation, " node ", node)
+        }
+        VerifyFault::Memory => Ok(Vec::new(alloc)),
+    }
+}

@@ -1,0 +1,24 @@
+// How large a flow is, as answers to certificates and samples tell it.
+ghost use Rattle.std.specs.Prelude.{◌≡◌, ◌++◌, OnOk};
+ghost use Rattle.plc_texts.specs.Counts.{counts_text};
+
+use crate::push::{push, push_number};
+use plc_flow::Flow;
+use std::alloc::{AllocError, Global};
+
+/// The numbers of points, steps and obligations.
+pub(crate) fn push_counts(
+    alloc: Global,
+    out: &mut Vec<u8>,
+    flow: &Flow,
+    obligations: u64,
+) -> Result<(), AllocError>
+    ensures { OnOk result (out.new.items ≡ out.old.items ++ counts_text flow.now obligations) }
+{
+    push(out, " points ")?;
+    push_number(alloc, out, u64::from(flow.points))?;
+    push(out, " steps ")?;
+    push_number(alloc, out, flow.steps.len() as u64)?;
+    push(out, " obligations ")?;
+    push_number(alloc, out, obligations)
+}
