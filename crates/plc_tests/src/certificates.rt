@@ -20,8 +20,8 @@ fn answer(alloc: Global, words: &str, file: &str, certificate: &str) -> Result<S
     answered(alloc, &mut files, &words)
 }
 
-/// The certificate of a file, and no text where it has none.
-pub(crate) fn certificate_of(alloc: Global, file: &str) -> Result<String, AllocError> {
+// The certificate of a file, and no text where it has none.
+fn certificate_of(alloc: Global, file: &str) -> Result<String, AllocError> {
     let text = answer(alloc, "certify file", file, "")?;
     String::from_str(alloc, text.as_str().strip_prefix("0\n").unwrap_or(""))
 }
@@ -58,8 +58,12 @@ fn what_is_certified_is_verified(rt: HostRuntime) -> Result<(), AllocError> {
     Ok(())
 }
 
-// Certificates that no `certify` wrote. That of `publish` has its strongest typing: a node that is made is local
-// until it is shared, and then it may be retired.
+/// A certificate of `publish` with its strongest typing: a node that is made is local until it is shared, and then
+/// it may be retired.
+pub(crate) const PUBLISHED: &str =
+    r#"{"env":[[[0,1],[[7,[]]]],[[0,1],[[0,[0,1]]]],[[0,1],[[7,[0]]]],[[0,1],[[7,[0]]]],[[0,1],[[0,[0,1]]]]],"trees":[],"version":1}"#;
+
+// Certificates that no `certify` wrote.
 const WRITTEN: [(&str, &str, &str); 5] = [
     (
         "least",
@@ -68,7 +72,7 @@ const WRITTEN: [(&str, &str, &str); 5] = [
     ),
     (
         "publish",
-        r#"{"env":[[[0,1],[[7,[]]]],[[0,1],[[0,[0,1]]]],[[0,1],[[7,[0]]]],[[0,1],[[7,[0]]]],[[0,1],[[0,[0,1]]]]],"trees":[],"version":1}"#,
+        PUBLISHED,
         "0\nverified points 5 steps 4 obligations 0\n",
     ),
     ("hazards", "{}", "2\nrefused certificate field root\n"),

@@ -1,23 +1,24 @@
 // Calls of the outside that fail, each in its turn: a read that fails is answered with 4, and where an output fails
 // the status is 5 and a part of the answer was written. Files that never fail and an output with a fixed room
 // answer so too.
-use crate::certificates::certificate_of;
-use crate::program::{Entries, put, put_schedules, put_sections, section, words_of};
+use crate::certificates::PUBLISHED;
+use crate::program::{Entries, put, put_schedules, put_sections, words_of};
 use crate::rows::{CHECKED, FILES, REPLAYED};
 use plc_base::NoMemory;
 use plc_cli::{FailSink, Files, MemFiles, Sink, run_with_own};
 use plc_outside::{FixedSink, HonestFiles};
 use std::alloc::{AllocError, Global};
 
-// Words, how many reads they ask for, and how many bytes an output is to take at each call.
-const COMMANDS: [(&str, u64, usize); 3] = [
-    ("check hazards", 1, 100),
-    ("verify hazards certificate", 2, 20),
-    ("replay stack reused list", 2, 10),
+// Words, how many reads they ask for, how many bytes an output is to take at each call, and one call more than
+// it then needs.
+const COMMANDS: [(&str, u64, usize, usize); 3] = [
+    ("check hazards", 1, 150, 4),
+    ("verify publish certificate", 2, 20, 3),
+    ("replay stack reused list", 2, 10, 4),
 ];
 
-const VERIFIED: &str = "# verify hazards certificate: 0
-verified points 37 steps 39 obligations 2845
+const VERIFIED: &str = "# verify publish certificate: 0
+verified points 5 steps 4 obligations 0
 ";
 
 // The status and the text that are due to words.
@@ -45,11 +46,11 @@ fn due(alloc: Global, answer: &str, taken: usize) -> Result<String, AllocError> 
     }
 }
 
-fn entries(alloc: Global, certificate: &str) -> Result<Entries, AllocError> {
+fn entries(alloc: Global) -> Result<Entries, AllocError> {
     let mut files = Vec::new(alloc);
     put_sections(alloc, &mut files, FILES)?;
     put_schedules(alloc, &mut files)?;
-    let bytes = Vec::from_slice(alloc, certificate.as_bytes())?;
+    let bytes = Vec::from_slice(alloc, PUBLISHED.as_bytes())?;
     put(alloc, &mut files, "certificate", bytes)?;
     Ok(files)
 }
@@ -68,13 +69,12 @@ fn status<F: Files, S: Sink>(
 // calls are counted from 1.
 fn answered_failing(
     alloc: Global,
-    certificate: &str,
     words: &str,
     read: u64,
     put: u64,
     most: usize,
 ) -> Result<String, AllocError> {
-    let mut files = MemFiles::new(alloc, entries(alloc, certificate)?, vec![in alloc; read]?);
+    let mut files = MemFiles::new(alloc, entries(alloc)?, vec![in alloc; read]?);
     let mut out = FailSink::new(alloc, most, vec![in alloc; put]?);
     let status = status(alloc, words, &mut files, &mut out)?;
     let text = str::from_utf8(out.written()).unwrap_or("?");
@@ -82,17 +82,11 @@ fn answered_failing(
 }
 
 // The answers that aren't due where each read fails in its turn.
-fn wrong_reads(
-    alloc: Global,
-    certificate: &str,
-    words: &str,
-    reads: u64,
-    most: usize,
-) -> Result<String, AllocError> {
+fn wrong_reads(alloc: Global, words: &str, reads: u64, most: usize) -> Result<String, AllocError> {
     let mut wrong = String::new(alloc);
     for n in 0..reads {
         let read = n.wrapping_add(1);
-        let have = answered_failing(alloc, certificate, words, read, 0, most)?;
+        let have = answered_failing(alloc, words, read, 0, most)?;
         if have.as_str() != "4\nread failed\n" {
             wrong.push_str(have.as_str())?;
         }
@@ -100,17 +94,17 @@ fn wrong_reads(
     Ok(wrong)
 }
 
-// The same where each call of `put` fails in its turn, and one that isn't needed.
+// The same where each call of `put` fails in its turn, the last of which isn't needed.
 fn wrong_writes(
     alloc: Global,
-    certificate: &str,
     words: &str,
     most: usize,
+    writes: usize,
 ) -> Result<String, AllocError> {
     let mut wrong = String::new(alloc);
-    for n in 0..5 {
+    for n in 0..writes {
         let put = (n as u64).wrapping_add(1);
-        let have = answered_failing(alloc, certificate, words, 0, put, most)?;
+        let have = answered_failing(alloc, words, 0, put, most)?;
         let want = due(alloc, wanted(words), most.wrapping_mul(n))?;
         if have.as_str() != want.as_str() {
             wrong.push_str(have.as_str())?;
@@ -122,23 +116,16 @@ fn wrong_writes(
 #[test]
 fn each_call_of_the_outside_fails_in_turn(rt: HostRuntime) -> Result<(), AllocError> {
     let alloc = rt.alloc();
-    let certificate = certificate_of(alloc, section("hazards"))?;
-    for (words, reads, most) in COMMANDS {
-        assert_eq!(rt;
-            wrong_reads(alloc, certificate.as_str(), words, reads, most)?.as_str(),
-            ""
-        );
-        assert_eq!(rt;
-            wrong_writes(alloc, certificate.as_str(), words, most)?.as_str(),
-            ""
-        );
+    for (words, reads, most, writes) in COMMANDS {
+        assert_eq!(rt; wrong_reads(alloc, words, reads, most)?.as_str(), "");
+        assert_eq!(rt; wrong_writes(alloc, words, most, writes)?.as_str(), "");
     }
     Ok(())
 }
 
 // The status and the text over files that never fail, and an output with so much room.
 fn answered_honestly(alloc: Global, words: &str, room: usize) -> Result<String, NoMemory> {
-    let mut files = HonestFiles::new(alloc, entries(alloc, "")?);
+    let mut files = HonestFiles::new(alloc, entries(alloc)?);
     let mut out = FixedSink::new(alloc, room)?;
     let status = status(alloc, words, &mut files, &mut out)?;
     let text = str::from_utf8(out.written()).unwrap_or("?");
