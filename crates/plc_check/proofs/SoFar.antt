@@ -35,4 +35,4 @@ module _ {A : Type 0} (P : A → Type 0) (whole : List A) where
   is_listed left new x s e =
       let split : whole ≡ s.before ++ x ∷ new = s.listed ∙ ap (λ (ys : List A). s.before ++ ys) e in
       subst (λ (ys : List A). Contains ys x) (sym split)
-          (length s.before, omega (arith, length-append s.before (x ∷ new)), get_or-append_seam s.before x new x)
+      (length s.before, omega (arith, length-append s.before (x ∷ new)), get_or-append_seam s.before x new x)

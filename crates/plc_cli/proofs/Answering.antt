@@ -1,6 +1,5 @@
 -- What is due for a unit that was loaded is the answer to its bytes.
 use Rattle.std.proofs.Common.{inr, ℕ, List, Ok, subst}
-use Rattle.plc_parse.specs.declared.unit.Unit.{Unit as FileUnit}
 use Rattle.plc_check.specs.declared.judged.Judged.{Judged}
 use Rattle.plc_check.specs.Loading.{IsLoaded, judged_of}
 use Rattle.plc_cli.specs.Files.{IsAnsweredFile}

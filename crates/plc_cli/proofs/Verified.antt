@@ -1,5 +1,5 @@
 -- From a certificate that is valid to what a 0 of `verify` says: the file is safe.
-use Rattle.std.proofs.Common.{◌≡◌, inl, inr, ℕ, List, Option, Some, subst}
+use Rattle.std.proofs.Common.{◌≡◌, inl, inr, ℕ, List, Some, subst}
 use Rattle.plc_base.specs.Limits.{largest_certificate}
 use Rattle.plc_outside.specs.Known.{KnownFiles}
 use Rattle.plc_outside.specs.Reading.{Reading}

@@ -46,7 +46,8 @@ pub record Headline (request : Option Request) (old new : KnownFiles) (result : 
   -- where the file is read, 5 and 6 alone are left, each with its cause in the outcome
   pub complete : (name bytes : List ℕ) → request ≡ Some (Check name) → old.content name ≡ Some bytes
       → length bytes ≤ largest_file → new.faults name ≡ old.faults name
-      → (u : FileUnit) → IsFileOf bytes u → IsProved u → (result ≡ holds) ⊎ ((result ≡ unwritten) ⊎ (result ≡ no_memory))
+      → (u : FileUnit) → IsFileOf bytes u → IsProved u
+      → (result ≡ holds) ⊎ ((result ≡ unwritten) ⊎ (result ≡ no_memory))
   pub only_proved : (name bytes : List ℕ) → request ≡ Some (Check name) → old.content name ≡ Some bytes
       → (u : FileUnit) → IsFileOf bytes u → result ≡ holds → IsProved u
   -- a certificate that is valid shows as much, whoever wrote it

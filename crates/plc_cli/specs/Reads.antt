@@ -34,7 +34,8 @@ reading name bytes = record { name = name; bytes = bytes }
 -- ---- one read, after reads that gave bytes in this call
 
 -- the count of the name that was read rose
-pub record IsReadFailed (may : List ℕ → Type 0) (old new : KnownFiles) (before : List Reading) (name : List ℕ) (status : ℕ) (text : List ℕ) : Type 0 where
+pub record IsReadFailed (may : List ℕ → Type 0) (old new : KnownFiles) (before : List Reading) (name : List ℕ)
+    (status : ℕ) (text : List ℕ) : Type 0 where
   pub rose : old.faults name < new.faults name
   pub others : NoFaultBut may old new
   pub gave : Gave old new before
@@ -42,7 +43,8 @@ pub record IsReadFailed (may : List ℕ → Type 0) (old new : KnownFiles) (befo
   pub text_is : text ≡ read_failed
 
 -- more bytes were taken than the file may have, and where the content is told it is longer
-pub record IsReadTooLong (may : List ℕ → Type 0) (old new : KnownFiles) (before : List Reading) (name : List ℕ) (most : ℕ) (status : ℕ) (text : List ℕ) : Type 0 where
+pub record IsReadTooLong (may : List ℕ → Type 0) (old new : KnownFiles) (before : List Reading) (name : List ℕ)
+    (most : ℕ) (status : ℕ) (text : List ℕ) : Type 0 where
   pub others : NoFaultBut may old new
   pub gave : Gave old new before
   pub long : most < new.taken
@@ -52,7 +54,8 @@ pub record IsReadTooLong (may : List ℕ → Type 0) (old new : KnownFiles) (bef
 
 -- the read gave no bytes: it failed, or the file is too long
 abbrev pub IsUnread : (List ℕ → Type 0) → KnownFiles → KnownFiles → List Reading → List ℕ → ℕ → ℕ → List ℕ → Type 0
-IsUnread may old new before name most status text = IsReadFailed may old new before name status text ⊎ IsReadTooLong may old new before name most status text
+IsUnread may old new before name most status text =
+    IsReadFailed may old new before name status text ⊎ IsReadTooLong may old new before name most status text
 
 -- these bytes were read, which are the content where that is told
 pub record IsRead (old : KnownFiles) (name : List ℕ) (most : ℕ) (bytes : List ℕ) : Type 0 where
@@ -76,7 +79,8 @@ IsDueForFile old new name Answers status text =
 -- ---- a command that reads two files, of which the second has at most so many bytes
 
 -- the first file was read, and the second can't be
-pub record IsSecondUnread (old new : KnownFiles) (first second : List ℕ) (most : ℕ) (status : ℕ) (text : List ℕ) : Type 0 where
+pub record IsSecondUnread (old new : KnownFiles) (first second : List ℕ) (most : ℕ) (status : ℕ)
+    (text : List ℕ) : Type 0 where
   pub bytes : List ℕ
   pub read : IsRead old first largest_file bytes
   pub unread : IsUnread (Either first second) old new (reading first bytes ∷ []) second most status text
@@ -84,7 +88,8 @@ pub record IsSecondUnread (old new : KnownFiles) (first second : List ℕ) (most
 -- the first file that can't be read is the answer
 abbrev pub IsUnreadPair : KnownFiles → KnownFiles → List ℕ → List ℕ → ℕ → ℕ → List ℕ → Type 0
 IsUnreadPair old new first second most status text =
-    IsUnread (Only first) old new [] first largest_file status text ⊎ IsSecondUnread old new first second most status text
+    IsUnread (Only first) old new [] first largest_file status text
+    ⊎ IsSecondUnread old new first second most status text
 
 -- the reads of the two files gave these bytes, in their order, and there was no other
 pub record IsGivenPair (old new : KnownFiles) (first second : List ℕ) (most : ℕ) (bytes more : List ℕ) : Type 0 where
@@ -94,7 +99,8 @@ pub record IsGivenPair (old new : KnownFiles) (first second : List ℕ) (most : 
   pub gave : Gave old new (reading first bytes ∷ reading second more ∷ [])
 
 -- what a command with two files comes to
-abbrev pub IsDueForPair : KnownFiles → KnownFiles → List ℕ → List ℕ → ℕ → (List ℕ → List ℕ → Type 0) → ℕ → List ℕ → Type 0
+abbrev pub IsDueForPair : KnownFiles → KnownFiles → List ℕ → List ℕ → ℕ → (List ℕ → List ℕ → Type 0) → ℕ → List ℕ
+    → Type 0
 IsDueForPair old new first second most Answers status text =
     IsUnreadPair old new first second most status text
     ⊎ ((bytes : List ℕ) × (more : List ℕ) × IsGivenPair old new first second most bytes more × Answers bytes more)

@@ -22,7 +22,8 @@ pub record IsServedBy (reclaimer : Meanings) (bytes : List ℕ) : Type 0 where
   pub serves : Serves unit.observer reclaimer
 
 -- the bytes spell a schedule, whose end is written; it is a failure, and no forbidden free
-pub record FailsOtherwise (unit : FileUnit) (reclaimer : Meanings) (bytes : List ℕ) (sink sink_now : KnownSink) : Type 0 where
+pub record FailsOtherwise (unit : FileUnit) (reclaimer : Meanings) (bytes : List ℕ) (sink sink_now : KnownSink)
+    : Type 0 where
   pub schedule : Schedule
   pub spelled : IsScheduleOf bytes schedule
   pub end : End
@@ -31,8 +32,10 @@ pub record FailsOtherwise (unit : FileUnit) (reclaimer : Meanings) (bytes : List
   pub allowed : IsAllowedEnd end
   pub text : Appends sink.written sink_now.written (end_text end)
 
--- where the words ask for a replay under a reclaimer that serves the file, by the bytes that the reads gave, and by the contents where they are told
-pub record ServedReplays (reclaimers : List Meanings) (request : Option Request) (old new : KnownFiles) (sink sink_now : KnownSink) (result : ℕ) : Type 0 where
+-- where the words ask for a replay under a reclaimer that serves the file, by the bytes that the reads gave, and by
+-- the contents where they are told
+pub record ServedReplays (reclaimers : List Meanings) (request : Option Request) (old new : KnownFiles)
+    (sink sink_now : KnownSink) (result : ℕ) : Type 0 where
   pub read : (file schedule bytes second : List ℕ) (number : ℕ) (reclaimer : Meanings)
       → request ≡ Some (Replay file schedule number) → slice_get reclaimers number ≡ Some reclaimer
       → Gave old new (reading file bytes ∷ reading schedule second ∷ []) → (served : IsServedBy reclaimer bytes)

@@ -29,7 +29,7 @@ fn written(alloc: Global, cert: &Cert) -> Result<Vec<u8>, AllocError>
     }
 }
 
-// The answer that tells a certificate, or the verdict on a file that has none.
+// The answer that holds a certificate, or the verdict on a file that has none.
 fn told_certified(
     alloc: Global,
     judged: &Judged,

@@ -54,7 +54,7 @@ pub(crate) fn text_of(
     }
 }
 
-/// The answer that tells a verdict.
+/// The answer that says a verdict.
 pub(crate) fn told(alloc: Global, judged: &Judged, verdict: &Verdict) -> Result<Answer, AllocError>
     ensures { IfOk result (λ answer. (answer.status ≡ verdict_status verdict.now)
         × (answer.text.items ≡ verdict_text judged.now verdict.now)) }

@@ -21,7 +21,7 @@
 //! aside, it ends so exactly where a typing exists and the outline holds.
 //!
 //! Where it ends with 1 the analysis has failed, which is no proof of a race. The answer says where:
-//! `untyped` tells the primitive whose condition no typing meets, `unproved` the first obligation of the
+//! `untyped` names the primitive whose condition no typing meets, `unproved` the first obligation of the
 //! outline that isn't kept, with a model of its ground set, the state in which the step breaks the clause
 //! (docs/outlines.md).
 //!
@@ -51,7 +51,8 @@ mod words;
 
 pub use own::run_with_own;
 pub use plc_outside::{
-    FailSink, FileFault, Files, MemFiles, OutSink, RealFiles, Sink, SinkFault, VecSink,
+    FailSink, FileFault, Files, FixedSink, HonestFiles, MemFiles, OutSink, RealFiles, Sink,
+    SinkFault, VecSink,
 };
 pub use plc_reclaim::{ByList, Epoch, Hazard, Leak, Reclaimer};
 pub use program::run;

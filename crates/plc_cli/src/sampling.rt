@@ -32,7 +32,7 @@ fn sampled_text(
     }
 }
 
-// The answer that tells a verdict.
+// The answer that says a verdict.
 fn told_sample(
     alloc: Global,
     copies: u8,

@@ -1,5 +1,5 @@
 //! The joint law of erasure, types and outlines: a flow with a typing and an outline that holds is safe, in
-//! every run. The program's contract will cite this statement alone, once `check` judges outlines.
+//! every run. The headline of the program (`plc_cli`) rests on this statement, for `check` and for `verify`.
 #![tactic(auto)]
 
 mod laws;

@@ -20,8 +20,8 @@ abbrev pub no_faults : List ℕ → ℕ
 no_faults name = 0
 
 -- The files after a read of a name.
-pub record IsAfterHonestRead {Z : Type 0} (old new : HonestlyStored) (name : List ℕ) (result : Result (Vec ℕ Z) FileFault)
-    : Type 0 where
+pub record IsAfterHonestRead {Z : Type 0} (old new : HonestlyStored) (name : List ℕ)
+    (result : Result (Vec ℕ Z) FileFault) : Type 0 where
   pub files : new.files ≡ old.files
   pub taken : new.taken ≡ length (bytes_of old.files name)
   pub given : NotesReading old.given new.given name result

@@ -2,7 +2,8 @@
 use Rattle.std.specs.Prelude.{ℕ, List, Option}
 use Rattle.plc_outside.specs.Reading.{Reading}
 
--- the bytes under each name, where they are told; how many reads of each name failed; how many bytes the latest read took; and the reads that gave bytes, in order
+-- the bytes under each name, where they are told; how many reads of each name failed; how many bytes the latest read
+-- took; and the reads that gave bytes, in order
 pub record KnownFiles : Type 0 where
   pub content : List ℕ → Option (List ℕ)
   pub faults : List ℕ → ℕ

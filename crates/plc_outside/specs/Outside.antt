@@ -9,22 +9,27 @@ use Rattle.plc_outside.specs.declared.sinks.SinkFault.TheVariants as sink
 
 -- ---- reads
 
--- The cause of a read's fault: `Failed` comes only where the count of the name rose, from `before` to `now`, and `TooLong` only where more than `max` bytes were taken. The count never falls.
+-- The cause of a read's fault: `Failed` comes only where the count of the name rose, from `before` to `now`, and
+-- `TooLong` only where more than `max` bytes were taken. The count never falls.
 pub record ReadHasCause {T : Type 0} (before now taken max : ℕ) (result : Result T FileFault) : Type 0 where
   pub later : before ≤ now
   pub failed : IsErrOf result file.Failed → before < now
   pub long : IsErrOf result file.TooLong → max < taken
 
--- The answer goes by the content, where that is told: `Ok` has at most `max` bytes and is the content, and of the answers other than `Failed` and `Memory` it is `TooLong` exactly where the content is longer.
-pub record AgreesWith {Z : Type 0} (told : Option (List ℕ)) (max : ℕ) (result : Result (Vec ℕ Z) FileFault) : Type 0 where
+-- The answer goes by the content, where that is told: `Ok` has at most `max` bytes and is the content, and of the
+-- answers other than `Failed` and `Memory` it is `TooLong` exactly where the content is longer.
+pub record AgreesWith {Z : Type 0} (told : Option (List ℕ)) (max : ℕ) (result : Result (Vec ℕ Z) FileFault)
+    : Type 0 where
   pub bound : IfOk result (λ bytes. length bytes.items ≤ max)
   pub same : IfSome told (λ content. IfOk result (λ bytes. bytes.items ≡ content))
   pub long : IfSome told (λ content. IsErrOf result file.TooLong → max < length content)
-  pub exact : IfSome told (λ content. max < length content → ¬ IsErrOf result file.Failed → ¬ IsErrOf result file.Memory → IsErrOf result file.TooLong)
+  pub exact : IfSome told (λ content. max < length content → ¬ IsErrOf result file.Failed
+      → ¬ IsErrOf result file.Memory → IsErrOf result file.TooLong)
 
 -- A read that gives bytes is noted after the others, with the name that was asked for, and no other read is.
 abbrev pub NotesReading : {Z : Type 0} → List Reading → List Reading → List ℕ → Result (Vec ℕ Z) FileFault → Type 0
-NotesReading old new name result = MatchResult result (λ bytes. new ≡ old ++ record { name = name; bytes = bytes.items } ∷ []) (λ _. new ≡ old)
+NotesReading old new name result =
+    MatchResult result (λ bytes. new ≡ old ++ record { name = name; bytes = bytes.items } ∷ []) (λ _. new ≡ old)
 
 -- ---- writes
 
@@ -32,7 +37,8 @@ NotesReading old new name result = MatchResult result (λ bytes. new ≡ old ++ 
 abbrev pub Rose : ℕ → ℕ → Type 0
 Rose before now = (before < now) ⊎ (now ≡ last_count)
 
--- The cause of a write's fault: `Failed` comes only where the count of faults rose, from `before` to `now`, or can rise no more. The count never falls.
+-- The cause of a write's fault: `Failed` comes only where the count of faults rose, from `before` to `now`, or can
+-- rise no more. The count never falls.
 pub record PutHasCause {T : Type 0} (before now : ℕ) (result : Result T SinkFault) : Type 0 where
   pub later : before ≤ now
   pub failed : IsErrOf result sink.Failed → Rose before now

@@ -5,7 +5,8 @@ use Rattle.plc_outside.specs.Outside.{CountsFault}
 use Rattle.plc_outside.specs.declared.sinks.SinkFault.{SinkFault}
 use Rattle.plc_outside.specs.declared.sinks.SinkFault.TheVariants.{Failed}
 
--- The most bytes of a call, the calls that are to fail, how many calls there were, what was written, and the count of faults.
+-- The most bytes of a call, the calls that are to fail, how many calls there were, what was written, and the count of
+-- faults.
 pub record StoredBytes : Type 0 where
   pub most : ℕ
   pub failing : List ℕ

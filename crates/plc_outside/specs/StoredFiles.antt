@@ -8,7 +8,8 @@ use Rattle.plc_outside.specs.Reading.{Reading}
 use Rattle.plc_outside.specs.declared.files.FileFault.{FileFault}
 use Rattle.plc_outside.specs.declared.files.FileFault.TheVariants.{Failed, TooLong}
 
--- Names with their bytes, the calls that are to fail, how many calls there were, the names whose reads failed, the bytes that the latest read took, and the reads that gave bytes.
+-- Names with their bytes, the calls that are to fail, how many calls there were, the names whose reads failed, the
+-- bytes that the latest read took, and the reads that gave bytes.
 pub record StoredFiles : Type 0 where
   pub files : List (List ℕ × List ℕ)
   pub failing : List ℕ
@@ -30,14 +31,16 @@ content_of files name = option_map (λ entry. entry.1) (find (λ entry. bytes_eq
 abbrev pub found : StoredFiles → List ℕ → Option (List ℕ)
 found s name = if is_failing s.failing (one_more s.calls) then None else content_of s.files name
 
--- The answer to a read that finds these bytes: nothing found fails, too many bytes are too long, and the bytes themselves are `Ok`.
+-- The answer to a read that finds these bytes: nothing found fails, too many bytes are too long, and the bytes
+-- themselves are `Ok`.
 pub record Answers {Z : Type 0} (bytes : Option (List ℕ)) (max : ℕ) (result : Result (Vec ℕ Z) FileFault) : Type 0 where
   pub ok : IfOk result (λ v. (bytes ≡ Some v.items) × (length v.items ≤ max))
   pub failed : IsErrOf result Failed → bytes ≡ None
   pub long : IsErrOf result TooLong ↔ IsSomeAnd bytes (λ content. max < length content)
 
 -- The files after a read of a name.
-pub record IsAfterRead {Z : Type 0} (old new : StoredFiles) (name : List ℕ) (result : Result (Vec ℕ Z) FileFault) : Type 0 where
+pub record IsAfterRead {Z : Type 0} (old new : StoredFiles) (name : List ℕ)
+    (result : Result (Vec ℕ Z) FileFault) : Type 0 where
   pub files : new.files ≡ old.files
   pub failing : new.failing ≡ old.failing
   pub calls : new.calls ≡ one_more old.calls

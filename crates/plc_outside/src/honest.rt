@@ -66,7 +66,8 @@ impl Files for HonestFiles {
     } };
 
     fn read(&mut self, name: &str, max: usize) -> Result<Vec<u8>, FileFault>
-        ensures content { (other : List ℕ) → Some (bytes_of self.new.files other) ≡ Some (bytes_of self.old.files other) }
+        ensures content { (other : List ℕ) →
+            Some (bytes_of self.new.files other) ≡ Some (bytes_of self.old.files other) }
         ensures others { (other : List ℕ) → other ≢ name.now → no_faults other ≡ no_faults other }
         ensures cause { ReadHasCause (no_faults name.now) (no_faults name.now) self.new.taken max result }
         ensures told { AgreesWith (Some (bytes_of self.old.files name.now)) max result }

@@ -1,11 +1,8 @@
 -- What the law of types gives for whole runs.
-use Rattle.std.specs.Prelude.{◌≡◌, ℕ, ◌<◌, true, false, Some, slice_get}
-use Rattle.std.specs.List.{list_any}
-use Rattle.plc_lang.specs.WellSorted.{is_claim}
+use Rattle.std.specs.Prelude.{◌≡◌, ℕ, ◌<◌, true}
 use Rattle.plc_auto.specs.declared.observer.Observer.{Observer}
 use Rattle.plc_auto.specs.Table.{is_well_formed}
 use Rattle.plc_flow.specs.declared.flow.Flow.{Flow}
-use Rattle.plc_flow.specs.declared.flow.Step.{Step}
 use Rattle.plc_flow.specs.declared.flow.Move.{Move}
 use Rattle.plc_flow.specs.Skeleton.{skeleton_of}
 use Rattle.plc_flow.specs.WellFormed.{FlowFits}
@@ -24,13 +21,3 @@ abbrev pub TrueClaimsSuffice : Type 0
 TrueClaimsSuffice =
     (flow : Flow) (o : Observer) → FlowFits flow → is_well_formed o ≡ true
     → HasTyping o (skeleton_of flow) → ClaimsHold flow o → NeverRaces flow o
-
--- no step of the flow holds a claim
-abbrev pub ClaimsNothing : Flow → Type 0
-ClaimsNothing flow = (k : ℕ) (s : Step) → slice_get flow.steps k ≡ Some s → list_any is_claim s.prims ≡ false
-
--- where a flow has a typing and claims nothing, no step of any run is a race
-abbrev pub UnclaimedTypesSuffice : Type 0
-UnclaimedTypesSuffice =
-    (flow : Flow) (o : Observer) → FlowFits flow → is_well_formed o ≡ true
-    → HasTyping o (skeleton_of flow) → ClaimsNothing flow → NeverRaces flow o

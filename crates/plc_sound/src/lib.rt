@@ -1,7 +1,7 @@
-//! Laws over the definitions alone, on the law that types are sound, which the headline of the program
-//! cites: no run of a flow that has a typing and claims nothing races.
+//! The law of types for whole runs, over the definitions alone: no run of a flow with a typing races in which each
+//! claim that is reached is true. `plc_joint` cites it.
 #![tactic(auto)]
 
 mod laws;
 
-pub use laws::{true_claims_suffice, unclaimed_types_suffice};
+pub use laws::true_claims_suffice;

@@ -1,4 +1,4 @@
--- The names of variables, as faults tell them with the operation in which they are.
+-- The names of variables, as faults name them with the operation in which they are.
 use Rattle.std.specs.Prelude.{ℕ, List}
 use Rattle.plc_lang.specs.declared.syntax.Var.{Var}
 use Rattle.plc_lang.specs.declared.syntax.File.{File}

@@ -26,7 +26,8 @@ lex_text LexMemory = []
 
 -- refused KIND token K line N
 abbrev pub token_text : List ℕ → ℕ → ℕ → List ℕ
-token_text kind at line = codes "refused " ++ kind ++ codes " token " ++ decimal at ++ codes " line " ++ decimal line ++ codes "\n"
+token_text kind at line =
+    codes "refused " ++ kind ++ codes " token " ++ decimal at ++ codes " line " ++ decimal line ++ codes "\n"
 
 -- refused limit WHAT COUNT
 abbrev pub limit_text : What1 → ℕ → List ℕ

@@ -16,8 +16,11 @@ race_name Double = codes "double"
 
 -- end lines N events E freed F; race KIND line N prim K; impossible line N; forbidden free A line N
 abbrev pub end_text : End → List ℕ
-end_text (Ended lines events freed) = codes "end lines " ++ decimal lines ++ codes " events " ++ decimal events ++ codes " freed " ++ decimal freed ++ codes "\n"
-end_text (Race kind line prim) = codes "race " ++ race_name kind ++ codes " line " ++ decimal line ++ codes " prim " ++ decimal prim ++ codes "\n"
+end_text (Ended lines events freed) =
+    codes "end lines " ++ decimal lines ++ codes " events " ++ decimal events ++ codes " freed " ++ decimal freed
+    ++ codes "\n"
+end_text (Race kind line prim) =
+    codes "race " ++ race_name kind ++ codes " line " ++ decimal line ++ codes " prim " ++ decimal prim ++ codes "\n"
 end_text (Impossible line) = codes "impossible line " ++ decimal line ++ codes "\n"
 end_text (ForbiddenFree a line) = codes "forbidden free " ++ decimal a ++ codes " line " ++ decimal line ++ codes "\n"
 

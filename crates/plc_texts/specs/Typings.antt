@@ -1,5 +1,5 @@
 -- The text of a safe file. Each line ends with a line feed.
-use Rattle.std.specs.Prelude.{◌+◌, ℕ, Bool, true, false, if◌then◌else◌, List, [], ◌∷◌, ◌++◌, length, filter, codes, decimal, nat_lt, Option, Some, None, slice_get}
+use Rattle.std.specs.Prelude.{◌+◌, ℕ, if◌then◌else◌, List, [], ◌∷◌, ◌++◌, length, filter, codes, decimal, nat_lt, Option, Some, None, slice_get}
 use Rattle.plc_base.specs.Mask.{has}
 use Rattle.plc_base.specs.declared.ids.PointId.{PointId}
 use Rattle.plc_lang.specs.declared.syntax.Local.{Local}
@@ -22,7 +22,7 @@ abbrev pub member_names : ℕ → ℕ → List (List ℕ) → List (List ℕ)
 member_names m l [] = []
 member_names m l (n ∷ ns) = if has m l then n ∷ member_names m (l + 1) ns else member_names m (l + 1) ns
 
--- words behind the first, each behind a space
+-- words after the first, each after a space
 abbrev pub others : List (List ℕ) → List ℕ
 others [] = []
 others (w ∷ ws) = codes " " ++ w ++ others ws
@@ -38,7 +38,8 @@ set_text o m = codes "{" ++ parted (member_names m 0 (names_of o)) ++ codes "}"
 
 -- one of the four sets of guarantees
 abbrev pub guarantees_text : Guar → List ℕ
-guarantees_text g = if is_local g then codes "ALS" else if is_active g then codes "AS" else if is_safe g then codes "S" else codes "-"
+guarantees_text g =
+    if is_local g then codes "ALS" else if is_active g then codes "AS" else if is_safe g then codes "S" else codes "-"
 
 -- ---- the strongest typing at each label
 
@@ -48,15 +49,19 @@ anywhere_line label o w = codes "at " ++ label ++ codes " W " ++ set_text o w ++
 
 -- at L VAR G {..}
 abbrev pub local_line : List ℕ → Observer → List ℕ → PtrType → List ℕ
-local_line label o name t = codes "at " ++ label ++ codes " " ++ name ++ codes " " ++ guarantees_text t.g ++ codes " " ++ set_text o t.m ++ codes "\n"
+local_line label o name t =
+    codes "at " ++ label ++ codes " " ++ name ++ codes " " ++ guarantees_text t.g ++ codes " " ++ set_text o t.m
+    ++ codes "\n"
 
 -- a line for each pointer local
 abbrev pub local_lines : File → Observer → List ℕ → List Local → List PtrType → List ℕ
-local_lines file o label (l ∷ ls) (t ∷ ts) = local_line label o (name_at file l.name) t ++ local_lines file o label ls ts
+local_lines file o label (l ∷ ls) (t ∷ ts) =
+    local_line label o (name_at file l.name) t ++ local_lines file o label ls ts
 local_lines file o label [] ts = []
 local_lines file o label (l ∷ ls) [] = []
 
--- the operation of a point, from operation k on: gates stand one behind the other, so it is the first that ends behind the point
+-- the operation of a point, from operation k on: gates stand one after the other, so it is the first that ends
+-- after the point
 abbrev pub operation_from : ℕ → List Gate → ℕ → ℕ
 operation_from k [] p = k
 operation_from k (g ∷ gs) p = if nat_lt p g.after then k else operation_from (k + 1) gs p
@@ -68,11 +73,13 @@ pointers_at flow p = filter is_pointer (locals_of flow.file.ops (operation_from 
 -- the lines of a label: where any address may stand, then the pointer locals
 abbrev pub env_lines : Flow → Observer → List ℕ → ℕ → Option Env → List ℕ
 env_lines flow o label p None = []
-env_lines flow o label p (Some e) = anywhere_line label o e.w ++ local_lines flow.file o label (pointers_at flow p) e.locals
+env_lines flow o label p (Some e) =
+    anywhere_line label o e.w ++ local_lines flow.file o label (pointers_at flow p) e.locals
 
 -- the labels in the order of the file, by the numbers of their names and their points
 abbrev pub label_lines : Flow → Observer → List Env → List ℕ → List PointId → List ℕ
-label_lines flow o envs (n ∷ ns) (p ∷ ps) = env_lines flow o (name_at flow.file n) p.0 (slice_get envs p.0) ++ label_lines flow o envs ns ps
+label_lines flow o envs (n ∷ ns) (p ∷ ps) =
+    env_lines flow o (name_at flow.file n) p.0 (slice_get envs p.0) ++ label_lines flow o envs ns ps
 label_lines flow o envs [] ps = []
 label_lines flow o envs (n ∷ ns) [] = []
 

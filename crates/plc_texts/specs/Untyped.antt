@@ -34,4 +34,5 @@ abbrev pub untyped_text : Flow → ℕ → ℕ → TypeFault → List ℕ
 untyped_text flow k i fault =
     let step = slice_get flow.steps k in
     codes "untyped step " ++ decimal k ++ codes " prim " ++ decimal i ++ codes " line " ++ decimal (step_line step)
-    ++ codes " " ++ fault_word fault ++ codes " " ++ variable_in flow.file (step_operation step) (fault_variable fault) ++ codes "\n"
+    ++ codes " " ++ fault_word fault ++ codes " "
+    ++ variable_in flow.file (step_operation step) (fault_variable fault) ++ codes "\n"

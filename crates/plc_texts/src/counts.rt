@@ -1,4 +1,4 @@
-// How large a flow is, as answers to certificates and samples tell it.
+// How large a flow is, as answers to certificates and samples say it.
 ghost use Rattle.std.specs.Prelude.{◌≡◌, ◌++◌, OnOk};
 ghost use Rattle.plc_texts.specs.Counts.{counts_text};
 

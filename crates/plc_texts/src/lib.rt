@@ -1,4 +1,4 @@
-//! The texts of answers, on the types that they tell of. The layer above uses that each text is the
+//! The texts of answers, on the types of which they speak. The layer above uses that each text is the
 //! written line, byte for byte.
 #![tactic(auto)]
 

@@ -1,4 +1,4 @@
-// The names of variables, as faults tell them with the operation in which they are.
+// The names of variables, as faults name them with the operation in which they are.
 ghost use Rattle.std.specs.Prelude.{◌≡◌};
 ghost use Rattle.plc_texts.specs.Names.{variable_in};
 

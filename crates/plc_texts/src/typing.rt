@@ -13,7 +13,7 @@ use plc_lang::{File, Local, locals_of, name_at};
 use plc_type::{Env, Guar, PtrType};
 use std::alloc::{AllocError, Global};
 
-// The words behind the first.
+// The words after the first.
 fn push_others(out: &mut Vec<u8>, words: &[&[u8]]) -> Result<(), AllocError>
     ensures { OnOk result (out.new.items ≡ out.old.items ++ others (map (λ w. w.now) words.now)) }
 {

@@ -37,7 +37,7 @@ abbrev pub entry_of : Flow → Observer → Gate → Env
 entry_of flow o gate =
     entry (skeleton_of flow).shared (locals_at (skeleton_of flow) gate.entry.0) (all_locations o)
 
--- where a run begins, and what each move of it does
+-- where a run begins, what each move of it does, and what is met at each point
 pub record TypesAreSound (flow : Flow) (o : Observer) (threads : ℕ) (envs : List Env) : Type 0 where
   -- all meet where a run begins, since nobody is busy
   pub begun : (c : Configuration) → first_configuration flow threads ≡ Some c → AllMeet flow o threads envs c

@@ -13,4 +13,4 @@ returns-in-Ok c =
 pub returns-then-still : goal.returns-then-still
 returns-then-still c =
     still_is_kept c.args.flow.now c.args.outline.now c.args.obligation c.requires.fits c.requires.there
-        (sym c.still.ensures ∙ c.if-still.true)
+    (sym c.still.ensures ∙ c.if-still.true)
