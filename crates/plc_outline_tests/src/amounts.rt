@@ -30,21 +30,25 @@ const NOTHING: Amounts = Amounts {
     most_clauses: 0,
 };
 
-// A struct with eight pointer fields, sixteen shared pointers and an operation with eleven pointer locals.
+// A struct with eight pointer fields, sixteen shared pointers and an operation with nine pointer locals, whose one
+// step does nothing.
 const WIDE: &str = "struct Node { ptr a; ptr b; ptr c; ptr d; ptr e; ptr f; ptr g; ptr h; }
 shared S0; shared S1; shared S2; shared S3; shared S4; shared S5; shared S6; shared S7;
 shared S8; shared S9; shared S10; shared S11; shared S12; shared S13; shared S14; shared S15;
-op go() { ptr p0; ptr p1; ptr p2; ptr p3; ptr p4; ptr p5; ptr p6; ptr p7; ptr p8; ptr p9; ptr p10; p0 := null; }
+op go() { ptr p0; ptr p1; ptr p2; ptr p3; ptr p4; ptr p5; ptr p6; ptr p7; ptr p8; }
 ";
 
-// Premises with two names and with one, which are instantiated at 251 nodes, and with none. Before the entry of
-// `go` these are 63001, 2510 and 13 clauses; there are 11 more since the locals are null, and the denied literal.
+// Premises with two names and with one, which are instantiated at 251 nodes, and with none. Where the step keeps
+// the first of them these are 63001, 2510 and 22 clauses, and the denied conclusion has 3 more. The step has the
+// most clauses there, since the two names of the conclusion are nodes too.
 const FULL: &str = "outline { depth 1;
 inv all x, y: x == y;
 inv all x: x == null; inv all x: x == null; inv all x: x == null; inv all x: x == null; inv all x: x == null;
 inv all x: x == null; inv all x: x == null; inv all x: x == null; inv all x: x == null; inv all x: x == null;
 inv S0 == null; inv S0 == null; inv S0 == null; inv S0 == null; inv S0 == null; inv S0 == null; inv S0 == null;
-inv S0 == null; inv S0 == null; inv S0 == null; inv S0 == null; inv S0 == null; inv S0 == null;
+inv S0 == null; inv S0 == null; inv S0 == null; inv S0 == null; inv S0 == null; inv S0 == null; inv S0 == null;
+inv S0 == null; inv S0 == null; inv S0 == null; inv S0 == null; inv S0 == null; inv S0 == null; inv S0 == null;
+inv S0 == null;
 ";
 
 fn literals_of(clauses: &[Items<Lit>]) -> u64 {
@@ -157,13 +161,13 @@ fn sets_are_as_large_as_the_format_says(rt: HostRuntime) -> Result<(), AllocErro
         answer(alloc, DEEP, 0, 10000)?.as_str(),
         "677 sets, 81385 terms, 313503 clauses, 1759449 literals, at most 742 clauses"
     );
-    let full = format!(in alloc; "{WIDE}{FULL}over go: p0 == null;\n}}\n")?;
-    assert_eq!(rt; counted(alloc, full.as_str(), 24)?, 65536);
+    let full = format!(in alloc; "{WIDE}{FULL}}}\n")?;
+    assert_eq!(rt; counted(alloc, full.as_str(), 33)?, 65536);
     assert_eq!(rt;
-        answer(alloc, full.as_str(), 24, 1)?.as_str(),
+        answer(alloc, full.as_str(), 33, 1)?.as_str(),
         "1 sets, 256 terms, 65536 clauses, 194048 literals, at most 65536 clauses"
     );
-    let more = format!(in alloc; "{WIDE}{FULL}inv S0 == null;\nover go: p0 == null;\n}}\n")?;
+    let more = format!(in alloc; "{WIDE}{FULL}inv S0 == null;\n}}\n")?;
     assert_eq!(rt;
         refusal(alloc, more.as_str())?.as_str(),
         "Limit { what: Clauses, count: 65537 }"

@@ -8,6 +8,10 @@
 #![tactic(auto)]
 
 #[cfg(test)]
+mod certificates;
+#[cfg(test)]
+mod faults;
+#[cfg(test)]
 mod outlines;
 #[cfg(test)]
 mod outside;

@@ -1,5 +1,6 @@
 // Outlines that don't hold: the first line of the answer, and that the classes which it prints are a model of the
-// ground set of the obligation that it tells. Which model is printed is left open, so no row has it.
+// ground set of the obligation that it tells. Which model is printed is left open, so no row has it. Beside them a
+// sample that is larger than any file here.
 ghost use Rattle.std.specs.Prelude.{IfOk};
 ghost use Rattle.plc_check.specs.Fit.{JudgedFits};
 
@@ -125,6 +126,30 @@ fn what_is_printed_is_a_model(rt: HostRuntime) -> Result<(), NoMemory> {
         ),
     ] {
         assert_eq!(rt; first_line(rt.alloc(), name)?.as_str(), want);
+    }
+    Ok(())
+}
+
+// The status and the first line of what is answered to words without files.
+fn head(alloc: Global, words: &str) -> Result<String, AllocError> {
+    let mut files = MemFiles::new(alloc, Vec::new(alloc), Vec::new(alloc));
+    let words = words_of(alloc, words)?;
+    let text = answered(alloc, &mut files, &words)?;
+    let (status, rest) = text.as_str().split_once("\n").unwrap_or(("", ""));
+    let (line, _) = rest.split_once("\n").unwrap_or(("", ""));
+    format!(in alloc; "{status} {line}")
+}
+
+#[test]
+fn samples_have_their_verdicts(rt: HostRuntime) -> Result<(), AllocError> {
+    for (words, want) in [
+        ("sample 1 46", "1 unproved own step 6 line 15 clause 3"),
+        (
+            "sample 4 0",
+            "0 sample 4 0 points 148 steps 156 obligations 42253 safe",
+        ),
+    ] {
+        assert_eq!(rt; head(rt.alloc(), words)?.as_str(), want);
     }
     Ok(())
 }

@@ -1,7 +1,7 @@
 // Whole answers of `run` over files in memory. That there is memory for an answer, and which bytes an
 // output is handed, is what no contract can say. `rows.rt` has the files, and the rows of answers.
 use crate::rows::{
-    CHANGED, CHECKED, FILES, OUTLINED, PRINTED, REPLAYED, REUSE, SCHEDULES, UNLISTED,
+    CERTIFIED, CHANGED, CHECKED, FILES, OUTLINED, PRINTED, REPLAYED, REUSE, SCHEDULES, UNLISTED,
 };
 use plc_cli::{ByList, Epoch, FailSink, Files, Hazard, Leak, MemFiles, Reclaimer, VecSink, run};
 use std::alloc::{AllocError, Global};
@@ -44,7 +44,12 @@ const OPEN: &str = "struct N { } op f ( ) { ptr n ; atomic { n := new ;";
 
 pub(crate) type Entries = Vec<(String, Vec<u8>)>;
 
-fn put(alloc: Global, files: &mut Entries, name: &str, bytes: Vec<u8>) -> Result<(), AllocError> {
+pub(crate) fn put(
+    alloc: Global,
+    files: &mut Entries,
+    name: &str,
+    bytes: Vec<u8>,
+) -> Result<(), AllocError> {
     files.push((String::from_str(alloc, name)?, bytes))?;
     Ok(())
 }
@@ -67,7 +72,7 @@ pub(crate) fn put_sections(
     Ok(())
 }
 
-fn put_schedules(alloc: Global, files: &mut Entries) -> Result<(), AllocError> {
+pub(crate) fn put_schedules(alloc: Global, files: &mut Entries) -> Result<(), AllocError> {
     for (name, pieces) in &SCHEDULES {
         let mut text = String::new(alloc);
         for piece in *pieces {
@@ -260,6 +265,7 @@ fn each_row_has_its_answer(rt: HostRuntime) -> Result<(), AllocError> {
         (CHECKED, [0]),
         (PRINTED, [0]),
         (REPLAYED, [0]),
+        (CERTIFIED, [0]),
         (UNLISTED, [1]),
     ] {
         assert_eq!(rt; wrong_answers(rt.alloc(), rows, &failing)?.as_str(), "");

@@ -726,4 +726,78 @@ words refused
 words refused
 # print publish list: 3
 words refused
+# certify: 3
+words refused
+# certify publish lost: 3
+words refused
+# Certify publish: 3
+words refused
+# verify publish: 3
+words refused
+# verify publish lost stray: 3
+words refused
+# sample 0 0: 3
+words refused
+# sample 17 0: 3
+words refused
+# sample 04 0: 3
+words refused
+# sample 1 58: 3
+words refused
+# sample 16 718: 3
+words refused
+# sample 1: 3
+words refused
+# sample 1 : 3
+words refused
+";
+
+// `certify` where there is no certificate, `verify` before one is judged, and samples.
+pub(crate) const CERTIFIED: &str = "# certify lost: 1
+untyped step 3 prim 0 line 8 deref m
+# certify claim: 1
+unproved claim step 0 prim 0 line 1
+term 0 null class 0
+term 1 a:n class 1
+term 2 yes class 2
+term 3 none class 3
+term 4 me class 4
+term 5 0 class 5
+term 6 retired.0(a:n) class 2
+# certify unclaimed: 1
+untyped step 24 prim 0 line 28 deref t
+# certify stray: 2
+refused byte at 13
+# certify empty: 2
+refused syntax token 0 line 1
+# certify many-clauses: 2
+refused limit clauses 65537
+# certify long: 4
+read too long
+# certify absent: 4
+read failed
+# verify publish empty: 2
+refused certificate json
+# verify lost empty: 2
+refused certificate json
+# verify publish longest: 2
+refused certificate json
+# verify stray empty: 2
+refused byte at 13
+# verify many-obligations empty: 2
+refused limit obligations 1000001
+# verify stray absent: 4
+read failed
+# verify absent empty: 4
+read failed
+# verify long absent: 4
+read too long
+# sample 1 0: 0
+sample 1 0 points 37 steps 39 obligations 2845 safe
+# sample 1 1: 2
+refused syntax token 0 line 1
+# sample 1 27: 1
+untyped step 23 prim 0 line 27 deref t
+# sample 2 62: 1
+untyped step 62 prim 0 line 62 deref t
 ";
