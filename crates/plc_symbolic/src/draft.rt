@@ -1,7 +1,10 @@
 // A ground set while it is written. Clauses come in over symbolic terms, and each is kept over the places of its
 // terms. Whatever writes clauses never sees a place: a clause is read back through the list of terms, which only
 // grows.
-ghost use Rattle.std.specs.Prelude.{◌≡◌, ◌<◌, ◌^◌, length, slice_get, OnOk, IfOk};
+//
+// Sets are made one after another, each over the memory of the one before: the table of terms is emptied, and the
+// lists of a set that isn't needed any more take the clauses of the next.
+ghost use Rattle.std.specs.Prelude.{◌≡◌, ◌<◌, ◌^◌, [], length, slice_get, OnOk, IfOk};
 ghost use Rattle.plc_symbolic.specs.Numbering.{blank, listed, written, numbered};
 
 use crate::listing::Listing;
@@ -10,6 +13,7 @@ use plc_base::{Items, NoMemory};
 use plc_ground::{GroundSet, Lit, Sort};
 use std::alloc::Global;
 use std::marker::Model;
+use std::mem;
 
 /// The terms and the clauses so far.
 #[derive(Drop)]
@@ -17,6 +21,8 @@ pub struct Draft {
     alloc: Global,
     terms: Listing,
     clauses: Items<Items<Lit>>,
+    // lists whose memory is used again; what stands in them doesn't count
+    spare: Vec<Items<Lit>>,
 }
 
 impl Model for Draft {
@@ -40,7 +46,17 @@ impl Draft {
             alloc,
             terms: Listing::new(alloc),
             clauses: Items::new(alloc),
+            spare: Vec::new(alloc),
         }
+    }
+
+    /// No terms and no clauses, over the memory of this draft and of a set that isn't needed any more.
+    pub fn restart(&mut self, set: GroundSet)
+        ensures { self.new ≡ blank }
+    {
+        self.terms.clear();
+        self.clauses.truncate(0);
+        self.spare = set.clauses.into_vec();
     }
 
     /// Lists a term, its arguments before it, where they are new.
@@ -51,11 +67,26 @@ impl Draft {
         Ok(())
     }
 
+    // An empty list, over memory that is spare where there is some.
+    fn empty_list(&mut self) -> Items<Lit>
+        ensures kept { self.new ≡ self.old }
+        ensures empty { result ≡ [] }
+    {
+        match self.spare.pop() {
+            Some(mut lits) => {
+                lits.truncate(0);
+                lits
+            }
+            None => Items::new(self.alloc),
+        }
+    }
+
     /// One more clause. Its terms are listed where they are new, from left to right.
     pub fn push(&mut self, clause: &[SymbolicLit]) -> Result<(), NoMemory>
         ensures { OnOk result (self.new ≡ written self.old clause.now) }
     {
-        let lits = self.terms.note_clause(self.alloc, clause)?;
+        let mut lits = self.empty_list();
+        self.terms.note_clause(clause, &mut lits)?;
         self.clauses.push(lits)?;
         Ok(())
     }
@@ -74,11 +105,12 @@ impl Draft {
         self.terms.get(k)
     }
 
-    /// The set, with these sorts of its terms. 2^32 terms or clauses count as memory that runs out.
-    pub fn finish(self, sorts: Items<Sort>) -> Result<GroundSet, NoMemory>
-        ensures set { IfOk result (λ set. set ≡ numbered sorts self) }
-        ensures few_terms { OnOk result (length self.terms < 2 ^ 32) }
-        ensures few_clauses { OnOk result (length self.clauses < 2 ^ 32) }
+    /// The set, with these sorts of its terms. 2^32 terms or clauses count as memory that runs out. The draft is
+    /// left with its terms and without clauses.
+    pub fn finish(&mut self, sorts: Items<Sort>) -> Result<GroundSet, NoMemory>
+        ensures set { IfOk result (λ set. set ≡ numbered sorts self.old) }
+        ensures few_terms { OnOk result (length self.old.terms < 2 ^ 32) }
+        ensures few_clauses { OnOk result (length self.old.clauses < 2 ^ 32) }
     {
         let terms = self.terms.numbered(self.alloc)?;
         if self.clauses.len() > 0xffff_ffff {
@@ -87,7 +119,7 @@ impl Draft {
         Ok(GroundSet {
             terms,
             sorts,
-            clauses: self.clauses,
+            clauses: mem::replace(&mut self.clauses, Items::new(self.alloc)),
         })
     }
 }

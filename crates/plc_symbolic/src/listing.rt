@@ -52,6 +52,13 @@ impl Listing {
         }
     }
 
+    /// No terms, over the memory of those that were there.
+    pub fn clear(&mut self)
+        ensures { self.new ≡ [] }
+    {
+        self.terms.clear();
+    }
+
     /// How many terms there are.
     pub fn len(&self) -> usize
         ensures { result ≡ length self.now }
@@ -130,22 +137,23 @@ impl Listing {
         })
     }
 
-    /// The clause by places. Its terms are listed where they are new, from left to right.
+    /// Writes the clause by places into an empty list. Its terms are listed where they are new, from left to
+    /// right.
     pub fn note_clause(
         &mut self,
-        alloc: Global,
         clause: &[SymbolicLit],
-    ) -> Result<Items<Lit>, NoMemory>
+        lits: &mut Items<Lit>,
+    ) -> Result<(), NoMemory>
+        requires { lits.old ≡ [] }
         ensures grows { Grows self.old self.new }
         ensures listed { OnOk result (self.new ≡ note_clause self.old clause.now) }
-        ensures lits { IfOk result (λ lits. lits ≡ map (number_lit self.new) clause.now) }
+        ensures lits { OnOk result (lits.new ≡ map (number_lit self.new) clause.now) }
     {
-        let mut lits = Vec::with_capacity(alloc, clause.len())?;
         for l in clause {
             let lit = self.note_literal(*l)?;
             lits.push(lit)?;
         }
-        Ok(Items::from_vec(lits))
+        Ok(())
     }
 
     // The place of a term that is listed.
@@ -185,10 +193,10 @@ impl Listing {
         if self.terms.len() > 0xffff_ffff {
             return Err(NoMemory);
         }
-        let mut terms = Items::new(alloc);
+        let mut terms = Vec::with_capacity(alloc, self.terms.len())?;
         for term in self.terms.as_slice() {
             terms.push(self.number(*term))?;
         }
-        Ok(terms)
+        Ok(Items::from_vec(terms))
     }
 }

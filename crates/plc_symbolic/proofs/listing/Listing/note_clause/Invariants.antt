@@ -7,5 +7,5 @@ abbrev pub invariant-loop-l : goal.invariant-loop-l
 invariant-loop-l l = record {
   grows : Grows l.initial.self l.self;
   listed : l.self ≡ note_clause l.initial.self (take l.l-index l.clause);
-  lits : l.lits.items ≡ map (number_lit l.self) (take l.l-index l.clause);
+  lits : l.lits ≡ map (number_lit l.self) (take l.l-index l.clause);
 }
