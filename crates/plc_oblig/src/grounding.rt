@@ -1,10 +1,11 @@
 // The ground set of an obligation: constants and nodes are listed, then the clauses are written item by item, and
-// each term that was listed has its sort.
+// each term that was listed has its sort. Whoever goes over many obligations makes their sets one after another
+// over the same memory.
 ghost use Rattle.std.specs.Prelude.{◌≡◌, ◌<◌, ◌≤◌, map, length, slice_get, Some, OnOk, IfOk};
 ghost use Rattle.plc_lang.specs.Fit.{FileFits};
 ghost use Rattle.plc_ground.specs.Fit.{IsWellFormed};
 ghost use Rattle.plc_symbolic.specs.declared.symbolic.SymbolicTerm.TheVariants.{Constant};
-ghost use Rattle.plc_symbolic.specs.Numbering.{listed_all};
+ghost use Rattle.plc_symbolic.specs.Numbering.{blank, listed_all};
 ghost use Rattle.plc_symbolic.specs.Terms.{term_of};
 ghost use Rattle.plc_setting.specs.Fit.{Fits};
 ghost use Rattle.plc_setting.specs.Sorts.{sort_of};
@@ -61,32 +62,73 @@ fn sorts_of(
     requires { FileFits flow.now.file }
     ensures { IfOk result (λ sorts. sorts ≡ map (sort_of flow.now o.now acts.now) draft.now.terms) }
 {
-    let mut sorts = Items::new(alloc);
+    let mut sorts = Vec::with_capacity(alloc, draft.len())?;
     for k in 0..draft.len() {
         sorts.push(sort_at(flow, o, acts, draft, k))?;
     }
-    Ok(sorts)
+    Ok(Items::from_vec(sorts))
 }
 
-// The clauses of the set, with the terms that are listed first.
-fn draft_of(
+// Writes the clauses of the set, after the terms that are listed first.
+fn write_draft(
     alloc: Global,
     flow: &Flow,
     outline: &Outline,
     o: &Obligation,
     s: &Setting,
-) -> Result<Draft, NoMemory>
+    draft: &mut Draft,
+) -> Result<(), NoMemory>
     requires fits { Fits flow.now outline.now }
     requires setting { s.now ≡ setting_of flow.now outline.now o.now }
     requires few { length s.now.acts ≤ most_step_primitives }
-    ensures { IfOk result (λ draft. draft ≡ drafted flow.now outline.now s.now o.now) }
+    requires blank { draft.old ≡ blank }
+    ensures { OnOk result (draft.new ≡ drafted flow.now outline.now s.now o.now) }
 {
     let constants = constants_of(alloc, flow, outline, s)?;
-    let mut draft = Draft::new(alloc);
-    list_constants(constants.as_slice(), &mut draft)?;
-    list_nodes(s.nodes.as_slice(), &mut draft)?;
-    push_items(alloc, flow, outline, s, o, &mut draft)?;
-    Ok(draft)
+    list_constants(constants.as_slice(), draft)?;
+    list_nodes(s.nodes.as_slice(), draft)?;
+    push_items(alloc, flow, outline, s, o, draft)?;
+    Ok(())
+}
+
+/// Memory for ground sets that are made one after another.
+#[derive(Drop)]
+pub struct Grounding {
+    draft: Draft,
+}
+
+impl Grounding {
+    /// It takes no memory yet.
+    pub fn new(alloc: Global) -> Grounding {
+        Grounding {
+            draft: Draft::new(alloc),
+        }
+    }
+
+    /// The ground set of an obligation, as [`ground`] makes it.
+    pub fn ground(
+        &mut self,
+        alloc: Global,
+        flow: &Flow,
+        outline: &Outline,
+        o: &Obligation,
+    ) -> Result<GroundSet, NoMemory>
+        requires { Fits flow.now outline.now }
+        ensures set { IfOk result (λ set. set ≡ ground_set flow.now outline.now o.now) }
+        ensures well { IfOk result (λ set. IsWellFormed set) }
+    {
+        let s = setting_of(alloc, flow, outline, o)?;
+        self.draft.clear();
+        write_draft(alloc, flow, outline, o, &s, &mut self.draft)?;
+        let sorts = sorts_of(alloc, flow, o, s.acts.as_slice(), &self.draft)?;
+        let set = self.draft.finish(sorts)?;
+        Ok(set)
+    }
+
+    /// Takes the memory of a set that isn't needed any more, for those that are still to come.
+    pub fn reuse(&mut self, set: GroundSet) {
+        self.draft.reuse(set);
+    }
 }
 
 /// The ground set of an obligation, which has as many clauses as `clauses` counts, and keeps the rules that
@@ -101,9 +143,5 @@ pub fn ground(
     ensures set { IfOk result (λ set. set ≡ ground_set flow.now outline.now o.now) }
     ensures well { IfOk result (λ set. IsWellFormed set) }
 {
-    let s = setting_of(alloc, flow, outline, o)?;
-    let draft = draft_of(alloc, flow, outline, o, &s)?;
-    let sorts = sorts_of(alloc, flow, o, s.acts.as_slice(), &draft)?;
-    let set = draft.finish(sorts)?;
-    Ok(set)
+    Grounding::new(alloc).ground(alloc, flow, outline, o)
 }

@@ -19,7 +19,7 @@ mod walk;
 
 pub use counting::count;
 pub use finding::nth;
-pub use grounding::ground;
+pub use grounding::{Grounding, ground};
 pub use plc_setting::Obligation;
 pub use size::clauses;
 pub use stillness::{still, still_obligations_are_kept};

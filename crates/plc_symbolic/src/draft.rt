@@ -50,12 +50,18 @@ impl Draft {
         }
     }
 
-    /// No terms and no clauses, over the memory of this draft and of a set that isn't needed any more.
-    pub fn restart(&mut self, set: GroundSet)
+    /// No terms and no clauses, over the memory of those that were there.
+    pub fn clear(&mut self)
         ensures { self.new ≡ blank }
     {
         self.terms.clear();
         self.clauses.truncate(0);
+    }
+
+    /// Takes the memory of a set that isn't needed any more, for the clauses that are still to come.
+    pub fn reuse(&mut self, set: GroundSet)
+        ensures { self.new ≡ self.old }
+    {
         self.spare = set.clauses.into_vec();
     }
 

@@ -3,7 +3,7 @@ use Rattle.plc_setting.specs.Sorts.{sort_of}
 use Rattle.plc_oblig.specs.GroundSets.{drafted}
 use Rattle.plc_oblig.proofs.Assembled.{assembled}
 use Rattle.plc_oblig.proofs.WellFormed.{made_well_formed}
-use Rattle.plc_oblig.proofs.grounding.ground.Goals as goal
+use Rattle.plc_oblig.proofs.grounding.Grounding.ground.Goals as goal
 
 pub returns : goal.returns
 returns c =
