@@ -10,13 +10,13 @@ returns c =
     let flow = c.args.flow.now in
     let outline = c.args.outline.now in
     let o = c.args.o.now in
-    let draft = c.in_ok-draft.ensures ∙ ap (λ s. drafted flow outline s o) c.in_ok-s.ensures.setting in
-    let set = assembled flow outline o c.in_ok-s.s c.in_ok-sorts.sorts c.in_ok-draft.draft c.in_ok-set.set
-    c.in_ok-s.ensures.setting c.in_ok-draft.ensures
-    (c.in_ok-sorts.ensures ∙ ap (λ acts. map (sort_of flow o acts) c.in_ok-draft.draft.terms) c.as_slice.ensures)
+    let draft = c.in_ok-write_draft.ensures ∙ ap (λ s. drafted flow outline s o) c.in_ok-s.ensures.setting in
+    let set = assembled flow outline o c.in_ok-s.s c.in_ok-sorts.sorts c.write_draft.new.draft c.in_ok-set.set
+    c.in_ok-s.ensures.setting c.in_ok-write_draft.ensures
+    (c.in_ok-sorts.ensures ∙ ap (λ acts. map (sort_of flow o acts) c.write_draft.new.draft.terms) c.as_slice.ensures)
     c.in_ok-set.ensures.set in
     record {
       set = set;
-      well = made_well_formed flow outline o c.in_ok-draft.draft c.in_ok-set.set c.requires draft set
+      well = made_well_formed flow outline o c.write_draft.new.draft c.in_ok-set.set c.requires draft set
           c.in_ok-set.ensures.few_terms c.in_ok-set.ensures.few_clauses;
     }
