@@ -1,6 +1,7 @@
 -- What a set ends with, clause by clause, and the tree as it is written, node by node.
-use Rattle.std.proofs.Common.{◌≡◌, ℕ, zero, suc, ◌+◌, ◌-◌, ◌<◌, ◌≤◌, ◌⊎◌, inl, inr, List, [], ◌∷◌, ◌++◌, length, get_or, take, drop, refl, sym, ap, ◌∙◌, arith, slice_get, Some, get_or-drop}
+use Rattle.std.proofs.Common.{◌≡◌, ℕ, zero, suc, ◌+◌, ◌-◌, ◌<◌, ◌≤◌, ◌⊎◌, inl, inr, Bool, true, false, not, map, List, [], ◌∷◌, ◌++◌, length, get_or, take, drop, refl, sym, ap, ◌∙◌, arith, slice_get, Some, get_or-drop}
 use Rattle.std.specs.Prelude.{slice_index_or}
+use Rattle.std.proofs.Math.Seq.{drop-append_seam}
 use Rattle.std.proofs.lemmas.List.{length-drop, take-append-drop, get_or-append-add, length-take-le}
 use Rattle.std.proofs.lemmas.List.FromFn.{map-range_with_len_more}
 use Rattle.std.proofs.lemmas.Option.{get_or_from_slice_get}
@@ -8,7 +9,7 @@ use Rattle.plc_ground.specs.declared.terms.Lit.{Lit}
 use Rattle.plc_ground.specs.declared.terms.Node.TheVariants.{Split}
 use Rattle.plc_ground.specs.declared.terms.GroundSet.{GroundSet}
 use Rattle.plc_ground.specs.Model.{literals}
-use Rattle.plc_oblig.specs.Direct.{opposite, opposites, splits, IsRefuted}
+use Rattle.plc_oblig.specs.Direct.{opposite, opposites, splits, IsRefuted, IsRefutedByLast}
 use Rattle.plc_oblig.proofs.UnitTrees.{first_is}
 
 -- the clauses from a place on are the opposites of the first k literals
@@ -78,6 +79,36 @@ ends_short s c r =
     let e = first_is s c r in
     let earlier = r.earlier in
     omega arith
+
+-- ---- clauses of the same opposites
+
+turned_twice : (l : Lit) → opposite (opposite l) ≡ l
+turned_twice l = ap (λ b. record { left = l.left; right = l.right; equal = b }) (not_not l.equal)
+  where
+    not_not : (b : Bool) → not (not b) ≡ b
+    not_not true = refl
+    not_not false = refl
+
+no_lit : Lit
+no_lit = record { left = 0; right = 0; equal = false }
+
+turned_back : (ls : List Lit) → map (λ c. opposite (get_or c 0 no_lit)) (opposites ls) ≡ ls
+turned_back [] = refl
+turned_back (l ∷ ls) = ap (λ k. k ∷ map (λ c. opposite (get_or c 0 no_lit)) (opposites ls)) (turned_twice l) ∙ ap (λ ks. l ∷ ks) (turned_back ls)
+
+last_are : (s : GroundSet) (n c : ℕ) → IsRefutedByLast s n c → drop (length s.clauses - n) s.clauses ≡ opposites (literals s c)
+last_are s n c r =
+    ap (λ m. drop (length s.clauses - m) s.clauses) (sym r.count)
+    ∙ ap (λ m. drop m s.clauses) (first_is s c r.refuted)
+    ∙ ap (drop (length r.refuted.before)) r.refuted.whole
+    ∙ drop-append_seam r.refuted.before (opposites (literals s c))
+
+-- two clauses of whose literals the last n clauses are the opposites have the same literals
+pub one_clause : (s : GroundSet) (n c d : ℕ) → IsRefutedByLast s n c → IsRefutedByLast s n d → literals s c ≡ literals s d
+one_clause s n c d r q =
+    sym (turned_back (literals s c))
+    ∙ ap (map (λ c. opposite (get_or c 0 no_lit))) (sym (last_are s n c r) ∙ last_are s n d q)
+    ∙ turned_back (literals s d)
 
 -- ---- the tree as it is written
 

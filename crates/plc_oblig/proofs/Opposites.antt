@@ -52,7 +52,7 @@ use Rattle.plc_oblig.specs.Still.{changes, is_quiet, is_still}
 use Rattle.plc_oblig.proofs.Walking.{found_left}
 use Rattle.plc_oblig.proofs.Places.{there}
 use Rattle.plc_oblig.specs.Outlines.{IsKept}
-use Rattle.plc_oblig.specs.Direct.{opposite, opposites, IsRefuted}
+use Rattle.plc_oblig.specs.Direct.{opposite, opposites, IsRefuted, IsRefutedByLast, IsPremise, denied_count, instance_before}
 use Rattle.plc_oblig.proofs.Members.{at_head, in_tail, at_place, contains_map, contains_flat_map, Within, within_left, within_right, within_itself, within_map, map_read}
 use Rattle.plc_oblig.proofs.Staying.{Stays, start_stays, stays_after_all, none_new, BaseStays, TermStays, LiteralStays, literal_stays}
 
@@ -164,9 +164,9 @@ read_left [] ys k d less = absurd (omega arith)
 read_left (x ∷ xs) ys zero d less = refl
 read_left (x ∷ xs) ys (suc k) d less = read_left xs ys k d (omega arith)
 
--- a draft that ends with the opposites of one of its earlier clauses is a ground set that does
+-- a draft that ends with the opposites of one of its earlier clauses is a ground set that does, at the numbers of that clause
 ends_refuted : (sorts : List Sort) (d : Drafted) (before : Clauses) (i : List SymbolicLit) → d.clauses ≡ before ++ map alone i → Contains before i
-    → (c : ℕ) × IsRefuted (numbered sorts d) c
+    → (c : ℕ) × IsRefutedByLast (numbered sorts d) (length i) c × (literals (numbered sorts d) c ≡ map (number_lit d.terms) i)
 ends_refuted sorts d before i is there =
     let f = map (number_lit d.terms) in
     let less = there.1 in
@@ -177,10 +177,14 @@ ends_refuted sorts d before i is there =
     ∙ read_left (map f before) (opposites (f i)) there.0 [] short ∙ map_read f before there.0 i [] there.1 there.2 in (
       there.0,
       record {
-        before = map f before;
-        whole = whole ∙ ap (λ ls. map f before ++ opposites ls) (sym read);
-        earlier = short;
+        refuted = record {
+          before = map f before;
+          whole = whole ∙ ap (λ ls. map f before ++ opposites ls) (sym read);
+          earlier = short;
+        };
+        count = ap length read ∙ length-map i (number_lit d.terms);
       },
+      read,
     )
 
 regroup : {A : Type 0} (a b c d e f : List A) → a ++ (b ++ (c ++ (d ++ (e ++ f)))) ≡ (a ++ (b ++ (c ++ (d ++ e)))) ++ f
@@ -216,23 +220,39 @@ module _ (flow : Flow) (outline : Outline) (o : Obligation) where
       written_all-clauses (clauses_of flow outline s o) (listed_all blank (listed_first flow outline s))
       ∙ ap (λ cs. cs ++ clauses_of flow outline s o) (listed_all-clauses (listed_first flow outline s) blank)
 
+  -- the clause of a still obligation's premise, at its place in the set
+  abbrev pub IsRefutedPremise : ℕ → Type 0
+  IsRefutedPremise k = IsRefutedByLast (ground_set flow outline o) (denied_count flow outline o) k × IsPremise flow outline o (literals (ground_set flow outline o) k)
+
   refuted_by : (c : Clause) → conclusion flow outline o ≡ Some c → claim_made flow o ≡ None → list_any changes (executed flow o) ≡ false → All (LiteralStays (has_owner o)) c.literals
       → ((i : List SymbolicLit) → Contains (instances flow.file.ghosts (setting_of flow outline o) (has_owner o) c) i → Contains (premises flow outline (setting_of flow outline o) o) i)
-      → (k : ℕ) × IsRefuted (ground_set flow outline o) k
+      → (k : ℕ) × IsRefutedPremise k
   unfolding ground_set
   refuted_by c is no_claim quiet names_none premise =
       let s = setting_of flow outline o in
       let d = drafted flow outline s o in
       let x = after_all start s.acts in
       let stays = stays_after_all flow.file.ghosts (acting_locals flow o) start (executed flow o) quiet start_stays in
+      let at : Bool → List SymbolicLit = λ b. instance_at flow.file.ghosts b (has_owner o) c.literals (bound_nodes (length c.bound.names)) in
       let i = instance_at flow.file.ghosts false (has_owner o) c.literals (bound_nodes (length c.bound.names)) in
       let made = none_new (executed flow o) quiet in
-      let listed = subst (λ b. Contains (instances flow.file.ghosts s (has_owner o) c) (instance_at flow.file.ghosts b (has_owner o) c.literals (bound_nodes (length c.bound.names)))) made
-      (instance_listed flow outline o (has_owner o) c is) in
+      let among = premise (instance_before flow outline o c) (instance_listed flow outline o (has_owner o) c is) in
       let e = all_denied flow.file.ghosts s x stays c names_none ∙ ap (denied_clause flow.file.ghosts s x) (sym is) in
       let ends = sym (append-nil (denied_clause flow.file.ghosts s x (conclusion flow outline o)))
       ∙ ap (λ q. denied_clause flow.file.ghosts s x (conclusion flow outline o) ++ denied_claim s x q) (sym no_claim) in
-      ends_refuted _ d earlier_clauses i (clauses_are ∙ clauses_end ∙ ap (λ cs. earlier_clauses ++ cs) (sym (e ∙ ends))) (premise_held i (premise i listed))
+      let r = ends_refuted _ d earlier_clauses i (clauses_are ∙ clauses_end ∙ ap (λ cs. earlier_clauses ++ cs) (sym (e ∙ ends)))
+      (premise_held i (subst (λ b. Contains (premises flow outline s o) (at b)) made among)) in (
+        r.0,
+        (
+          subst (λ n. IsRefutedByLast (ground_set flow outline o) n r.0) (sym (length-map i alone) ∙ ap length (e ∙ ends)) r.1,
+          record {
+            clause = c;
+            concluded = is;
+            among = among;
+            numbered = r.2 ∙ ap (λ b. map (number_lit d.terms) (at b)) (sym made);
+          },
+        ),
+      )
 
 -- ---- invariants name no local
 
@@ -321,7 +341,7 @@ module _ (flow : Flow) (outline : Outline) where
   quiet_step true h = cc
   quiet_step false h = refl
 
-  pub still_is_refuted : (o : Obligation) → Fits flow outline → Contains (obligations flow outline) o → is_still flow outline o ≡ true → (k : ℕ) × IsRefuted (ground_set flow outline o) k
+  pub still_is_refuted : (o : Obligation) → Fits flow outline → Contains (obligations flow outline) o → is_still flow outline o ≡ true → (k : ℕ) × IsRefutedPremise flow outline o k
   still_is_refuted (Start i) fits listed still = cc
   still_is_refuted (Enter o c) fits listed still = cc
   still_is_refuted (Claim k j) fits listed still = cc
@@ -352,4 +372,4 @@ module _ (flow : Flow) (outline : Outline) where
   pub still_is_kept : (o : Obligation) → Fits flow outline → Contains (obligations flow outline) o → is_still flow outline o ≡ true → IsKept flow outline o
   still_is_kept o fits listed still =
       let r = still_is_refuted o fits listed still in
-      refuted_has_no_model (ground_set flow outline o) r.0 r.1
+      refuted_has_no_model (ground_set flow outline o) r.0 r.1.0.refuted

@@ -8,12 +8,14 @@ use Rattle.plc_setting.specs.declared.obligations.Obligation.{Obligation}
 use Rattle.plc_setting.specs.declared.obligations.Obligation.TheVariants.{Start, Enter, Own, Other, Claim}
 use Rattle.plc_setting.specs.Points.{count_at}
 use Rattle.plc_setting.specs.Setting.{below}
-use Rattle.plc_oblig.specs.Obligations.{parts_from, starts, enters_of, owns_of, others_at, others_of, claims_in, claims_of, enters, owns, others, claims}
+use Rattle.plc_oblig.specs.Obligations.{parts_from, starts, enters_of, owns_of, others_at, others_of, claims_in}
+use Rattle.plc_oblig.specs.Obligations.{claims_of, enters, owns, others, claims}
 
 -- how many clauses there are at each point
 abbrev pub counts_of : Flow → Outline → List ℕ
 counts_of flow outline = map (count_at flow outline) (below flow.points)
 
+-- what is left of an item's part, nothing where there is no such item
 abbrev pub rest_at : {A X : Type 0} → (A → List X) → Option A → List X
 rest_at rest None = []
 rest_at rest (Some a) = rest a
@@ -22,20 +24,24 @@ rest_at rest (Some a) = rest a
 abbrev pub parts_left : {A X : Type 0} → (ℕ → A → List X) → (A → List X) → ℕ → List A → List X
 parts_left part rest k xs = rest_at rest (slice_get xs k) ++ parts_from part (k + 1) (drop (k + 1) xs)
 
--- of each kind, without the first c clauses, or without the primitives before number j
+-- of an operation, without the first c clauses of its entry
 abbrev pub enter_rest : Flow → Outline → ℕ → ℕ → Gate → List Obligation
 enter_rest flow outline o c g = drop c (enters_of flow outline o g)
 
+-- of a step, without the first c clauses that it leads to
 abbrev pub own_rest : Flow → Outline → ℕ → ℕ → Step → List Obligation
 own_rest flow outline k c s = drop c (owns_of flow outline k s)
 
+-- of a step and a point, without the first c clauses of the point
 abbrev pub point_rest : Flow → Outline → ℕ → ℕ → ℕ → ℕ → List Obligation
 point_rest flow outline k p c q = drop c (others_at flow outline k p q)
 
+-- of a step, from clause c of point p on
 abbrev pub other_rest : Flow → Outline → ℕ → ℕ → ℕ → Step → List Obligation
 other_rest flow outline k p c s =
     parts_left (others_at flow outline k) (point_rest flow outline k p c) p (below flow.points)
 
+-- of a step, without the claims of the primitives before number j
 abbrev pub claim_rest : ℕ → ℕ → Step → List Obligation
 claim_rest k j s = claims_in k j (drop j s.prims)
 
@@ -79,7 +85,7 @@ abbrev pub IsFirstOr : Flow → Outline → List Obligation → List Obligation 
 IsFirstOr flow outline list rest (Some o) = IsFirst flow outline list o
 IsFirstOr flow outline list rest None = list ≡ rest
 
--- the first of what is left from a place on, or, where none of its kind is left, the same is left from the next place on
+-- the first of what is left from a place on, or, where its kind has none, the same is left from the next place on
 abbrev pub IsFirstOrOn : Flow → Outline → Obligation → Obligation → Option Obligation → Type 0
 IsFirstOrOn flow outline at next o = IsFirstOr flow outline (left_from flow outline at) (left_from flow outline next) o
 

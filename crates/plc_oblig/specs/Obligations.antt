@@ -14,6 +14,7 @@ use Rattle.plc_setting.specs.declared.obligations.Obligation.TheVariants.{Start,
 use Rattle.plc_setting.specs.Points.{count_at}
 use Rattle.plc_setting.specs.Setting.{below}
 
+-- numbers as the program writes them: of an operation, of a step, of a point
 abbrev pub op_id : ℕ → OpId
 op_id o = record { 0 = o }
 
@@ -57,6 +58,7 @@ abbrev pub claims_in : ℕ → ℕ → List Primitive → List Obligation
 claims_in k j [] = []
 claims_in k j (p ∷ ps) = if is_claim p then Claim (step_id k) j ∷ claims_in k (j + 1) ps else claims_in k (j + 1) ps
 
+-- of a step: one for each claim
 abbrev pub claims_of : ℕ → Step → List Obligation
 claims_of k s = claims_in k 0 s.prims
 

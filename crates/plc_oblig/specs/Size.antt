@@ -10,18 +10,23 @@ use Rattle.plc_lang.specs.declared.syntax.Ghost.{Ghost as AuxiliaryField}
 use Rattle.plc_lang.specs.declared.syntax.Rel.{Rel}
 use Rattle.plc_lang.specs.declared.syntax.Rel.TheVariants as rels
 use Rattle.plc_lang.specs.declared.syntax.Primitive.{Primitive}
-use Rattle.plc_lang.specs.declared.syntax.Primitive.TheVariants.{Load, Store, StoreNull, DataLoad, DataStore, Eq, Ne, IsNull, NotNull, DataTest, RefreshLoad, RefreshStore, Call, Ghost}
+use Rattle.plc_lang.specs.declared.syntax.Primitive.TheVariants.{Load, Store, StoreNull, DataLoad, DataStore, Eq, Ne}
+use Rattle.plc_lang.specs.declared.syntax.Primitive.TheVariants.{IsNull, NotNull, DataTest, RefreshLoad, RefreshStore}
+use Rattle.plc_lang.specs.declared.syntax.Primitive.TheVariants.{Call, Ghost}
 use Rattle.plc_flow.specs.WellFormed.{most_step_primitives}
 use Rattle.plc_logic.specs.declared.clause.Clause.{Clause}
 use Rattle.plc_setting.specs.declared.setting.Setting.{Setting}
 use Rattle.plc_oblig.specs.declared.size.Sizes.{Sizes}
 
+-- a field that holds nodes
 abbrev pub is_pointer_field : Field → Bool
 is_pointer_field f = f.pointer
 
+-- an auxiliary field that has values; the others hold threads
 abbrev pub has_values : AuxiliaryField → Bool
 has_values g = not (length g.values == 0)
 
+-- a primitive that reads a node from a field
 abbrev pub is_pointer_load : Primitive → Bool
 is_pointer_load (Load p q f) = true
 is_pointer_load (RefreshLoad p q f) = true
@@ -47,12 +52,13 @@ most_pointers = most limits.Shared + 2 * most limits.Locals
 abbrev pub most_constants : ℕ
 most_constants = most_pointers + most_bound + most_step_primitives + 2
 
--- their pointer fields, and all nodes
-abbrev pub most_behind : ℕ
-most_behind = most_constants * most limits.Fields
+-- the nodes that only deep premises have: the pointer fields of these constants
+abbrev pub most_deep_nodes : ℕ
+most_deep_nodes = most_constants * most limits.Fields
 
+-- both together
 abbrev pub most_nodes : ℕ
-most_nodes = most_constants + most_behind
+most_nodes = most_constants + most_deep_nodes
 
 -- the limits allow no more
 pub record AreFew (z : Sizes) : Type 0 where
@@ -65,12 +71,14 @@ pub record AreFew (z : Sizes) : Type 0 where
 
 -- ---- items
 
+-- of a test of numbers: only equations and inequations are written
 abbrev pub test_size : Rel → ℕ
 test_size rels.Eq = 1
 test_size rels.Ne = 1
 test_size rels.Lt = 0
 test_size rels.Ge = 0
 
+-- of a call, where there are so many nodes: whether it is one of `retire`, and what it hands over
 abbrev pub call_size : ℕ → Bool → Arg → ℕ
 call_size nodes true (args.Var p) = 1 + 2 * nodes
 call_size nodes true args.Null = 0

@@ -1,7 +1,8 @@
 // A ground set that ends with the opposites of an earlier clause's literals: which clause that is, and the
 // tree that closes the set. Nothing is searched for but the clause.
-ghost use Rattle.std.specs.Prelude.{◌≡◌, ◌≢◌, ◌<◌, ◌^◌, ℕ, IsTrue, false, IfOk, IfSome, IfNone, [], ◌∷◌, length};
-ghost use Rattle.plc_oblig.specs.Direct.{opposite, IsRefuted, direct_nodes};
+ghost use Rattle.std.specs.Prelude.{◌≡◌, ◌≢◌, ◌<◌, ◌^◌, ℕ, IsTrue, false, IfOk, IfSome, IfNone};
+ghost use Rattle.std.specs.Prelude.{[], ◌∷◌, length};
+ghost use Rattle.plc_oblig.specs.Direct.{opposite, IsRefuted, IsRefutedByLast, direct_nodes};
 
 use plc_base::{Items, NoMemory};
 use plc_ground::{GroundSet, Lit, Node, Tree, clause};
@@ -37,13 +38,22 @@ fn is_refuted(set: &GroundSet, c: usize) -> bool
     true
 }
 
-/// The first clause with the opposites of whose literals the set ends.
-pub(crate) fn find_refuted(set: &GroundSet) -> Option<usize>
-    ensures some { IfSome result (IsRefuted set.now) }
-    ensures none { IfNone result ((c : ℕ) → IsRefuted set.now c → ⊥) }
+// Whether the last n clauses are the opposites of this clause's literals, and the clause stands before them.
+fn is_refuted_by_last(set: &GroundSet, n: usize, c: usize) -> bool
+    requires { c < length set.now.clauses }
+    ensures yes { IsTrue result → IsRefutedByLast set.now n c }
+    ensures no { result ≡ false → IsRefutedByLast set.now n c → ⊥ }
+{
+    clause(set, c).len() == n && is_refuted(set, c)
+}
+
+/// The first clause of whose literals the last n clauses are the opposites.
+pub(crate) fn find_refuted(set: &GroundSet, n: usize) -> Option<usize>
+    ensures some { IfSome result (IsRefutedByLast set.now n) }
+    ensures none { IfNone result ((c : ℕ) → IsRefutedByLast set.now n c → ⊥) }
 {
     for c in 0..set.clauses.len() {
-        if is_refuted(set, c) {
+        if is_refuted_by_last(set, n, c) {
             return Some(c);
         }
     }

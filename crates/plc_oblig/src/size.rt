@@ -17,7 +17,9 @@ ghost use Rattle.plc_symbolic.specs.declared.symbolic.NodeTerm.{NodeTerm};
 ghost use Rattle.plc_items.specs.declared.execution.Execution.{Execution};
 ghost use Rattle.plc_items.specs.Items.{values_from, beginning, freshness, denied};
 ghost use Rattle.plc_oblig.specs.GroundSets.{ground_set};
-ghost use Rattle.plc_oblig.specs.Size.{has_values, is_pointer_field, is_pointer_load, prim_size, clause_size, AreSizesOf, AreFew, most_constants, most_pointers, most_behind, most_nodes, most_of_primitive, most_instances};
+ghost use Rattle.plc_oblig.specs.Size.{has_values, is_pointer_field, is_pointer_load, prim_size, clause_size};
+ghost use Rattle.plc_oblig.specs.Size.{AreSizesOf, AreFew, most_constants, most_pointers, most_deep_nodes, most_nodes};
+ghost use Rattle.plc_oblig.specs.Size.{most_of_primitive, most_instances};
 
 use plc_base::PointId;
 use plc_flow::Flow;
@@ -124,7 +126,7 @@ fn deep_nodes(deep: bool, nodes: u64, fields: u64) -> u64
     requires nodes { nodes ≤ most_constants }
     requires fields { fields ≤ most limits.Fields }
     ensures size { result ≡ cond deep (nodes * fields) 0 }
-    ensures small { result ≤ most_behind }
+    ensures small { result ≤ most_deep_nodes }
 {
     if deep {
         return nodes * fields;
@@ -324,8 +326,8 @@ fn standing_size(places: u64, flow: &Flow, outline: &Outline, point: Option<Poin
     }
 }
 
-// The negated conclusion.
-fn denied_size(flow: &Flow, outline: &Outline, o: &Obligation) -> u64
+/// The negated conclusion.
+pub(crate) fn denied_size(flow: &Flow, outline: &Outline, o: &Obligation) -> u64
     requires { Fits flow.now outline.now }
     ensures size { (s : Setting) (x : Execution) → result ≡ length (denied flow.now outline.now s x o.now) }
     ensures small { result ≤ most_bound + most limits.Literals }

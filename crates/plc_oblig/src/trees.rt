@@ -9,6 +9,7 @@ ghost use Rattle.plc_oblig.specs.Direct.{IsDirect};
 
 use crate::grounding::ground;
 use crate::refuted::{find_refuted, tree_of};
+use crate::size::denied_size;
 use crate::stillness::still;
 use plc_base::NoMemory;
 use plc_flow::Flow;
@@ -27,12 +28,13 @@ fn tree_of_still(
     requires fits { Fits flow.now outline.now }
     requires there { Contains (obligations flow.now outline.now) o.now }
     requires still { is_still flow.now outline.now o.now ≡ true }
-    ensures shape { IfOk result (λ tree. IsDirect (ground_set flow.now outline.now o.now) tree.nodes) }
+    ensures shape { IfOk result (λ tree. IsDirect flow.now outline.now o.now tree.nodes) }
     ensures closes { IfOk result (λ tree. Closes (ground_set flow.now outline.now o.now) tree.nodes) }
     ensures once { IfOk result (λ tree. SplitsOnce (ground_set flow.now outline.now o.now) ([] ∷ []) tree.nodes) }
 {
     let set = ground(alloc, flow, outline, o)?;
-    match find_refuted(&set) {
+    let count = denied_size(flow, outline, o) as usize;
+    match find_refuted(&set, count) {
         None => unreachable!(),
         Some(c) => {
             let tree = tree_of(alloc, &set, c)?;
@@ -42,7 +44,7 @@ fn tree_of_still(
 }
 
 /// The tree of an obligation of the file, exactly where the obligation is still. It closes the ground set of
-/// the obligation, and no branch of it splits one clause twice: it splits on the clauses of the negated
+/// the obligation, and no branch of it splits one clause twice: it splits on all clauses of the negated
 /// conclusion, in order, and then on the instance of a premise at the names of the conclusion, with one leaf
 /// for each literal. It fails only where memory runs out, which 2^32 terms or clauses count as.
 pub fn direct(
@@ -54,8 +56,7 @@ pub fn direct(
     requires fits { Fits flow.now outline.now }
     requires there { Contains (obligations flow.now outline.now) o.now }
     ensures still { IfOk result (λ tree. is_some tree ≡ is_still flow.now outline.now o.now) }
-    ensures shape { IfOk result (λ tree.
-        IfSome tree (λ t. IsDirect (ground_set flow.now outline.now o.now) t.nodes)) }
+    ensures shape { IfOk result (λ tree. IfSome tree (λ t. IsDirect flow.now outline.now o.now t.nodes)) }
     ensures closes { IfOk result (λ tree.
         IfSome tree (λ t. Closes (ground_set flow.now outline.now o.now) t.nodes)) }
     ensures once { IfOk result (λ tree.
