@@ -1,5 +1,5 @@
 -- Environments as a certificate has them, and with types of shared pointers.
-use Rattle.std.proofs.Common.{◌≡◌, ℕ, ◌+◌, ◌<◌, ◌≤◌, true, false, length, drop, Some, List, [], refl, sym, subst, ◌∙◌, arith, inl, inr}
+use Rattle.std.proofs.Common.{◌≡◌, ℕ, ◌+◌, ◌<◌, ◌≤◌, true, false, length, drop, get_or, Some, List, [], refl, sym, subst, ◌∙◌, arith, inl, inr}
 use Rattle.std.specs.Prelude.{slice_get}
 use Rattle.std.proofs.lemmas.Bool.{and_parts, and_from, eq-eqb, eqb-true, cases_lt}
 use Rattle.std.proofs.lemmas.List.{length-map, get_or-map, drop_all}
@@ -14,9 +14,9 @@ use Rattle.plc_flow.specs.declared.flow.Gate.{Gate}
 use Rattle.plc_flow.specs.declared.flow.Flow.{Flow}
 use Rattle.plc_flow.specs.Skeleton.{skeleton_of}
 use Rattle.plc_flow.specs.WellFormed.{IsWellFormed, IsPointOf}
-use Rattle.plc_verify.specs.Environments.{with_shared, completed, PointHolds, FailsAtPoint}
+use Rattle.plc_verify.specs.Environments.{with_shared, completed, PointHolds, PointsHold, EntryHolds, EntriesHold, FailsAtPoint}
 use Rattle.plc_verify.specs.Tests.{env_fits, IsFirstUnfit, AllFit}
-use Rattle.plc_verify.proofs.Points.{there, extent, begins, begins_at, point_count}
+use Rattle.plc_verify.proofs.Points.{no_gate, read_gate, read_item, there, extent, begins, begins_at, point_count}
 
 -- the test says whether an environment is one
 is_env : (o : Observer) (n m : ℕ) (e : Env) → env_fits o m e ≡ true → IsEnvironment o n m (with_shared n e)
@@ -40,6 +40,20 @@ module _ (flow : Flow) (w : IsWellFormed flow) (o : Observer) (envs : List Env) 
   abbrev Holds : ℕ → Type 0
   Holds p = PointHolds o (skeleton_of flow) (completed flow envs) p
 
+  one_for_each : length (completed flow envs) ≡ length (skeleton_of flow).locals
+  one_for_each = completed_length flow envs ∙ one_each ∙ sym (point_count flow w)
+
+  pub points_hold : ((p : ℕ) → Holds p) → PointsHold o (skeleton_of flow) (completed flow envs)
+  points_hold points = record { one_each = one_for_each; points = points }
+
+  -- the entries of what was completed are those of the environments with types of shared pointers
+  pub entries_hold : (read whole : List Env) → read ≡ whole → whole ≡ completed flow envs → ((p : ℕ) → Holds p)
+      → ((i : ℕ) → EntryHolds o (skeleton_of flow) read i) → EntriesHold o (skeleton_of flow) (completed flow envs)
+  entries_hold read whole same is points entries = record {
+    points = points_hold points;
+    entries = subst (λ (es : List Env). (i : ℕ) → EntryHolds o (skeleton_of flow) es i) (same ∙ is) entries;
+  }
+
   -- the points of the operations before number k hold
   abbrev pub Before : ℕ → Type 0
   Before k = (q : ℕ) → q < begins (drop k flow.gates) flow.points → Holds q
@@ -47,18 +61,32 @@ module _ (flow : Flow) (w : IsWellFormed flow) (o : Observer) (envs : List Env) 
   pub at_first : Before 0
   at_first q h = let zero_is = begins_at flow w in absurd (omega arith)
 
-  module _ (k : ℕ) (g : Gate) (op : Op) (m : ℕ) (gate_is : slice_get flow.gates k ≡ Some g) (op_is : slice_get flow.file.ops k ≡ Some op) (count : m ≡ pointers_of op) where
-    holds : (p : ℕ) → IsPointOf g p → env_fits o m (env_at envs p) ≡ true → Holds p
-    holds p at h small =
-        let t = there flow k p g op w gate_is op_is at in
+  -- what the code reads of operation k
+  module _ (k : ℕ) (gs : List Gate) (ops : List Op) (op : Op) (m : ℕ) (gates_are : gs ≡ flow.gates) (ops_are : ops ≡ flow.file.ops)
+      (small : k < length ops) (op_read : op ≡ get_or ops k op) (count : m ≡ pointers_of op) where
+    abbrev pub gate : Gate
+    gate = get_or gs k no_gate
+
+    here : k < length flow.file.ops
+    here = subst (λ (os : List Op). k < length os) ops_are small
+
+    gate_is : slice_get flow.gates k ≡ Some gate
+    gate_is = read_gate gs flow.gates k gates_are (let n = w.gates in let h = here in omega arith)
+
+    op_is : slice_get flow.file.ops k ≡ Some op
+    op_is = read_item ops flow.file.ops k op ops_are here op_read
+
+    holds : (p : ℕ) → IsPointOf gate p → env_fits o m (env_at envs p) ≡ true → Holds p
+    holds p at h inside_points =
+        let t = there flow k p gate op w gate_is op_is at in
         let inside : p < length envs = let s = t.point in omega arith in
         subst (λ (e : Env). IsEnvironment o (length flow.file.shared) (locals_at (skeleton_of flow) p) e) (sym (completed_at flow envs p inside))
         (subst (λ (n : ℕ). IsEnvironment o (length flow.file.shared) n (with_shared (length flow.file.shared) (env_at envs p))) (count ∙ sym t.locals)
         (is_env o (length flow.file.shared) m (env_at envs p) h))
 
-    fails : (p : ℕ) → IsPointOf g p → env_fits o m (env_at envs p) ≡ false → Holds p → ⊥
+    fails : (p : ℕ) → IsPointOf gate p → env_fits o m (env_at envs p) ≡ false → Holds p → ⊥
     fails p at h x =
-        let t = there flow k p g op w gate_is op_is at in
+        let t = there flow k p gate op w gate_is op_is at in
         let s = t.point in
         let inside : p < length envs = omega arith in
         let points = point_count flow w in
@@ -67,23 +95,23 @@ module _ (flow : Flow) (w : IsWellFormed flow) (o : Observer) (envs : List Env) 
         (subst (λ (n : ℕ). IsEnvironment o (length flow.file.shared) n (with_shared (length flow.file.shared) (env_at envs p))) (t.locals ∙ sym count)
         (subst (λ (a : Env). IsEnvironment o (length flow.file.shared) (locals_at (skeleton_of flow) p) a) (completed_at flow envs p inside) e))
 
-    pub gate_ends : g.after ≤ length envs
-    gate_ends = let x = (extent flow k g w gate_is).within in omega arith
+    pub gate_ends : gate.after ≤ length envs
+    gate_ends = let x = (extent flow k gate w gate_is).within in omega arith
 
-    pub next_holds : Before k → AllFit o m envs g.first g.after → Before (k + 1)
+    pub next_holds : Before k → AllFit o m envs gate.first gate.after → Before (k + 1)
     next_holds before all q h =
-        let x = extent flow k g w gate_is in
-        elim (cases_lt q g.first) [
+        let x = extent flow k gate w gate_is in
+        elim (cases_lt q gate.first) [
           | inl low ↦ before q (subst (λ (n : ℕ). q < n) (sym x.here) low)
-          | inr high ↦ let below : q < g.after = subst (λ (n : ℕ). q < n) x.next h in holds q (high, below) (all q high below)
+          | inr high ↦ let below : q < gate.after = subst (λ (n : ℕ). q < n) x.next h in holds q (high, below) (all q high below)
         ]
 
-    pub first_bad : Before k → (p : ℕ) → IsFirstUnfit o m envs g.first g.after p → FailsAtPoint o (skeleton_of flow) (completed flow envs) p
+    pub first_bad : Before k → (p : ℕ) → IsFirstUnfit o m envs gate.first gate.after p → FailsAtPoint o (skeleton_of flow) (completed flow envs) p
     first_bad before p f = record {
-      one_each = completed_length flow envs ∙ one_each ∙ sym (point_count flow w);
-      before = λ q h. elim (cases_lt q g.first) [
-        | inl low ↦ before q (subst (λ (n : ℕ). q < n) (sym (extent flow k g w gate_is).here) low)
-        | inr high ↦ let below : q < g.after = let b = f.below in omega arith in holds q (high, below) (f.before q high h)
+      one_each = one_for_each;
+      before = λ q h. elim (cases_lt q gate.first) [
+        | inl low ↦ before q (subst (λ (n : ℕ). q < n) (sym (extent flow k gate w gate_is).here) low)
+        | inr high ↦ let below : q < gate.after = let b = f.below in omega arith in holds q (high, below) (f.before q high h)
       ];
       fails = fails p (f.from, f.below) f.fails;
     }

@@ -4,3 +4,4 @@ pub mod Fitting
 pub mod Passages
 pub mod Closing
 pub mod Refused
+pub mod OneStep

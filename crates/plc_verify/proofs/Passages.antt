@@ -1,5 +1,5 @@
 -- Steps of a flow over environments, part by part and together.
-use Rattle.std.proofs.Common.{◌≡◌, ℕ, zero, suc, ◌<◌, ◌≤◌, true, false, List, [], ◌∷◌, length, get_or, replicate, Some, None, refl, sym, ap, subst, ◌∙◌, arith, inl, inr}
+use Rattle.std.proofs.Common.{◌≡◌, ℕ, zero, suc, ◌<◌, ◌≤◌, Bool, true, false, List, [], ◌∷◌, length, get_or, replicate, Some, None, refl, sym, ap, subst, ◌∙◌, arith, inl, inr}
 use Rattle.std.specs.Prelude.{slice_get, option_map, Result, Ok, Err, MatchResult}
 use Rattle.std.proofs.lemmas.Bool.{and_from, cases_lt}
 use Rattle.std.proofs.lemmas.List.{length-map, get_or_default, get_or_past}
@@ -34,7 +34,7 @@ use Rattle.plc_verify.specs.declared.fault.Slot.{Slot}
 use Rattle.plc_verify.specs.Environments.{PointsHold, EntryHolds, EntriesHold, StepHolds, LocalBelow, IsFirstAbove, FailsInStep, FailsAfterStep}
 use Rattle.plc_verify.specs.declared.fault.VerifyFault.{VerifyFault}
 use Rattle.plc_verify.specs.Tests.{NoneAbove, IsRun, MayFail}
-use Rattle.plc_verify.proofs.Points.{there, point_count, entry_point}
+use Rattle.plc_verify.proofs.Points.{no_gate, read_gate, there, point_count, entry_point}
 
 -- ---- two environments
 
@@ -199,23 +199,39 @@ module _ (o : Observer) (flow : Flow) (envs : List Env) (k : ℕ) (s : Step) (w 
 
 -- ---- entries
 
-module _ (o : Observer) (flow : Flow) (envs : List Env) (w : IsWellFormed flow) (one_each : length envs ≡ flow.points) (i : ℕ) (g : Gate) (is : slice_get flow.gates i ≡ Some g) where
-  entry_here : slice_get (skeleton_of flow).entries i ≡ Some g.entry.0
-  entry_here = slice_get-map (λ (x : Gate). x.entry.0) flow.gates i ∙ ap (option_map (λ (x : Gate). x.entry.0)) is
+module _ (o : Observer) (flow : Flow) (envs : List Env) (w : IsWellFormed flow) (one_each : length envs ≡ flow.points) (i : ℕ) (gs : List Gate) (gates_are : gs ≡ flow.gates)
+    (small : i < length gs) where
+  abbrev pub gate : Gate
+  gate = get_or gs i no_gate
 
-  pub entry_in : g.entry.0 < length envs
-  entry_in = let h = entry_point flow i g w is in omega arith
+  gate_is : slice_get flow.gates i ≡ Some gate
+  gate_is = read_gate gs flow.gates i gates_are (subst (λ (hs : List Gate). i < length hs) gates_are small)
 
-  pub entry_holds : (e : Env) → e ≡ get_or envs g.entry.0 e → within (all_locations o) e.w ≡ true → EntryHolds o (skeleton_of flow) envs i
-  entry_holds e read h p at =
-      let same : g.entry.0 ≡ p = let both : Some g.entry.0 ≡ Some p = sym entry_here ∙ at in cc in
-      subst (λ (q : ℕ). within (all_locations o) (env_at envs q).w ≡ true) same
-      (subst (λ (x : Env). within (all_locations o) x.w ≡ true) (env_read envs g.entry.0 e entry_in read) h)
+  entry_here : slice_get (skeleton_of flow).entries i ≡ Some gate.entry.0
+  entry_here = slice_get-map (λ (x : Gate). x.entry.0) flow.gates i ∙ ap (option_map (λ (x : Gate). x.entry.0)) gate_is
 
-  pub entry_fails : (e : Env) → e ≡ get_or envs g.entry.0 e → within (all_locations o) e.w ≡ false → EntryHolds o (skeleton_of flow) envs i → ⊥
-  entry_fails e read h holds =
-      let at : within (all_locations o) e.w ≡ true = subst (λ (x : Env). within (all_locations o) x.w ≡ true) (sym (env_read envs g.entry.0 e entry_in read)) (holds g.entry.0 entry_here) in
-      absurd cc
+  pub entry_in : gate.entry.0 < length envs
+  entry_in = let h = entry_point flow i gate w gate_is in omega arith
+
+  -- the environment that the code reads there, and how its locations compare with all
+  module _ (e : Env) (read : e ≡ get_or envs gate.entry.0 e) (all : ℕ) (all_are : all ≡ all_locations o) (test : Bool) (tested : test ≡ within all (get_or envs gate.entry.0 e).w) where
+    all_within : within (all_locations o) e.w ≡ test
+    all_within = ap (λ (m : ℕ). within m e.w) (sym all_are) ∙ ap (λ (x : Env). within all x.w) read ∙ sym tested
+
+    read_is : e ≡ env_at envs gate.entry.0
+    read_is = env_read envs gate.entry.0 e entry_in read
+
+    pub entry_holds : test ≡ true → EntryHolds o (skeleton_of flow) envs i
+    entry_holds h p at =
+        let same : gate.entry.0 ≡ p = let both : Some gate.entry.0 ≡ Some p = sym entry_here ∙ at in cc in
+        subst (λ (q : ℕ). within (all_locations o) (env_at envs q).w ≡ true) same
+        (subst (λ (x : Env). within (all_locations o) x.w ≡ true) read_is (all_within ∙ h))
+
+    pub entry_fails : test ≡ false → EntryHolds o (skeleton_of flow) envs i → ⊥
+    entry_fails h holds =
+        let at : within (all_locations o) e.w ≡ true = subst (λ (x : Env). within (all_locations o) x.w ≡ true) (sym read_is) (holds gate.entry.0 entry_here) in
+        let both : false ≡ true = sym h ∙ sym all_within ∙ at in
+        absurd cc
 
 pub no_entry : (o : Observer) (flow : Flow) (envs : List Env) (i : ℕ) → length flow.gates ≤ i → EntryHolds o (skeleton_of flow) envs i
 no_entry o flow envs i past p at =

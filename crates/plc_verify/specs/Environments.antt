@@ -50,6 +50,7 @@ abbrev pub StepFlows : Observer → Skeleton → List Env → ℕ → Type 0
 StepFlows o s envs k = (x : Passage) → slice_get s.passages k ≡ Some x
     → env_below (led o (env_at envs x.from) x.prims) (env_at envs x.to) ≡ true
 
+-- the step runs, and what it leads to is no more than there may be
 abbrev pub StepHolds : Observer → Skeleton → List Env → ℕ → Type 0
 StepHolds o s envs k = StepRuns o s envs k × StepFlows o s envs k
 

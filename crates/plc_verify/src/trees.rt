@@ -49,7 +49,7 @@ pub(crate) fn verify_trees(
     let mut walk = Walk::new(alloc, flow, outline)?;
     for i in 0..trees.len() {
         let Some(o) = walk.next() else {
-            return Ok(());
+            unreachable!();
         };
         if let Some(node) = first_bad_node(alloc, flow, outline, &o, &trees[i])? {
             return Err(VerifyFault::TreeAt {

@@ -3,8 +3,8 @@ use Rattle.plc_verify.proofs.Points.{read_item}
 use Rattle.plc_verify.proofs.Closing.{goes_on, fails_here, all_close, not_done}
 use Rattle.plc_verify.proofs.trees.verify_trees.Goals as goal
 
-pub returns-in_default : goal.returns-in_default
-returns-in_default c = absurd (not_done c.args.flow.now c.args.outline.now c.args.trees.now c.loop-i.i c.loop-i.walk c.loop-i.invariant c.in_default.ensures.0 (c.if-have-want.false ∙ c.count-want.ensures) c.loop-i-test.true)
+pub unreachable-requires : goal.unreachable-requires
+unreachable-requires c = not_done c.args.flow.now c.args.outline.now c.args.trees.now c.loop-i.i c.loop-i.walk c.loop-i.invariant c.in_default.ensures.0 (c.if-have-want.false ∙ c.count-want.ensures) c.loop-i-test.true
 
 pub returns-in-Some-2 : goal.returns-in-Some-2
 returns-in-Some-2 c =

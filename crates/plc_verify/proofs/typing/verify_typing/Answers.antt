@@ -1,9 +1,9 @@
-use Rattle.std.proofs.Common.{ℕ, List, refl, sym, subst, ◌∙◌}
+use Rattle.std.proofs.Common.{List, refl, sym, subst, ◌∙◌}
 use Rattle.plc_type.specs.declared.env.Env.{Env}
 use Rattle.plc_flow.specs.Skeleton.{skeleton_of}
-use Rattle.plc_verify.specs.Environments.{completed, EntryHolds, EntriesHold, IsFirstNarrow}
+use Rattle.plc_verify.specs.Environments.{completed, EntriesHold, IsFirstNarrow}
 use Rattle.plc_verify.proofs.Points.{point_count}
-use Rattle.plc_verify.proofs.Fitting.{completed_length}
+use Rattle.plc_verify.proofs.Fitting.{completed_length, points_hold, entries_hold}
 use Rattle.plc_verify.proofs.Passages.{typed}
 use Rattle.plc_verify.proofs.typing.verify_typing.Goals as goal
 
@@ -17,10 +17,7 @@ returns-then-envs-flow c = record {
 pub returns-in-Some-first_narrow_entry : goal.returns-in-Some-first_narrow_entry
 returns-in-Some-first_narrow_entry c = (
   record {
-    points = record {
-      one_each = completed_length c.args.flow.now c.args.envs.now ∙ c.if-envs-flow.false ∙ sym (point_count c.args.flow.now c.requires.flow);
-      points = c.in_default.ensures;
-    };
+    points = points_hold c.args.flow.now c.requires.flow c.args.observer.now c.args.envs.now c.if-envs-flow.false c.in_default.ensures;
     narrow = subst (λ (es : List Env). IsFirstNarrow c.args.observer.now (skeleton_of c.args.flow.now) es c.in-Some-first_narrow_entry.op.0) (c.deref.ensures.value ∙ c.in_ok-envs.ensures) c.in-Some-first_narrow_entry.ensures;
   },
   refl,
@@ -28,22 +25,13 @@ returns-in-Some-first_narrow_entry c = (
 
 pub verify_steps-requires-clause-entries : goal.verify_steps-requires-clause-entries
 verify_steps-requires-clause-entries c =
-    let here : EntriesHold c.args.observer.now (skeleton_of c.args.flow.now) (completed c.args.flow.now c.args.envs.now) = record {
-      points = record {
-        one_each = completed_length c.args.flow.now c.args.envs.now ∙ c.if-envs-flow.false ∙ sym (point_count c.args.flow.now c.requires.flow);
-        points = c.in_default.ensures;
-      };
-      entries = subst (λ (es : List Env). (i : ℕ) → EntryHolds c.args.observer.now (skeleton_of c.args.flow.now) es i) (c.deref.ensures.value ∙ c.in_ok-envs.ensures) c.in_default-first_narrow_entry.ensures;
-    } in
-    subst (λ (es : List Env). EntriesHold c.args.observer.now (skeleton_of c.args.flow.now) es) (sym (c.deref-2.ensures.value ∙ c.in_ok-envs.ensures)) here
+    subst (λ (es : List Env). EntriesHold c.args.observer.now (skeleton_of c.args.flow.now) es) (sym (c.deref-2.ensures.value ∙ c.in_ok-envs.ensures))
+    (entries_hold c.args.flow.now c.requires.flow c.args.observer.now c.args.envs.now c.if-envs-flow.false c.deref.result.now _
+    c.deref.ensures.value c.in_ok-envs.ensures c.in_default.ensures c.in_default-first_narrow_entry.ensures)
 
 pub returns : goal.returns
 returns c =
-    let here : EntriesHold c.args.observer.now (skeleton_of c.args.flow.now) (completed c.args.flow.now c.args.envs.now) = record {
-      points = record {
-        one_each = completed_length c.args.flow.now c.args.envs.now ∙ c.if-envs-flow.false ∙ sym (point_count c.args.flow.now c.requires.flow);
-        points = c.in_default.ensures;
-      };
-      entries = subst (λ (es : List Env). (i : ℕ) → EntryHolds c.args.observer.now (skeleton_of c.args.flow.now) es i) (c.deref.ensures.value ∙ c.in_ok-envs.ensures) c.in_default-first_narrow_entry.ensures;
-    } in
-    typed c.args.observer.now c.args.flow.now (completed c.args.flow.now c.args.envs.now) c.deref-2.result.now c.requires.flow (c.deref-2.ensures.value ∙ c.in_ok-envs.ensures) here c.verify_steps.result c.verify_steps.ensures
+    typed c.args.observer.now c.args.flow.now (completed c.args.flow.now c.args.envs.now) c.deref-2.result.now c.requires.flow (c.deref-2.ensures.value ∙ c.in_ok-envs.ensures)
+    (entries_hold c.args.flow.now c.requires.flow c.args.observer.now c.args.envs.now c.if-envs-flow.false c.deref.result.now _
+    c.deref.ensures.value c.in_ok-envs.ensures c.in_default.ensures c.in_default-first_narrow_entry.ensures)
+    c.verify_steps.result c.verify_steps.ensures

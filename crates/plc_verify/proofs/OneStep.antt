@@ -1,0 +1,70 @@
+-- What is known while one step is judged, from what the code reads of the flow and of the environments.
+use Rattle.std.proofs.Common.{◌≡◌, ℕ, ◌<◌, ◌≤◌, List, length, get_or, Some, Ok, Err, ap, sym, subst, ◌∙◌, arith}
+use Rattle.std.specs.Prelude.{slice_get}
+use Rattle.plc_lang.specs.declared.syntax.Primitive.{Primitive}
+use Rattle.plc_lang.specs.Fit.{FileFits}
+use Rattle.plc_auto.specs.declared.observer.Observer.{Observer}
+use Rattle.plc_type.specs.declared.env.Env.{Env}
+use Rattle.plc_xfer.specs.Rules.{FitsObserver}
+use Rattle.plc_xfer.specs.Typings.{env_at}
+use Rattle.plc_flow.specs.declared.flow.Step.{Step}
+use Rattle.plc_flow.specs.declared.flow.Flow.{Flow}
+use Rattle.plc_flow.specs.Skeleton.{skeleton_of}
+use Rattle.plc_flow.specs.WellFormed.{IsWellFormed}
+use Rattle.plc_verify.specs.declared.fault.Slot.{Slot}
+use Rattle.plc_verify.specs.Environments.{EntriesHold, StepHolds, IsFirstAbove, FailsInStep, FailsAfterStep}
+use Rattle.plc_verify.specs.Tests.{NoneAbove, IsRun}
+use Rattle.plc_verify.proofs.Points.{read_item}
+use Rattle.plc_verify.proofs.Passages.{Ends, ends, env_read, env_fits_observer, in_step, after_step, ran, same_locals, few_locals, step_holds}
+
+module _ (o : Observer) (flow : Flow) (envs : List Env) (k : ℕ) (s : Step) (steps : List Step) (w : IsWellFormed flow) (file : FileFits flow.file)
+    (entries : EntriesHold o (skeleton_of flow) envs) (steps_are : steps ≡ flow.steps) (known : k < length flow.steps) (read : s ≡ get_or steps k s) where
+  step_is : slice_get flow.steps k ≡ Some s
+  step_is = read_item steps flow.steps k s steps_are known read
+
+  pub its_ends : Ends o flow envs s
+  its_ends = ends o flow envs k s w file entries.points step_is
+
+  pub few_primitives : (prims : List Primitive) → prims ≡ s.prims → length prims < 65536
+  few_primitives prims are = let short = w.short k s step_is in omega (arith, short, ap (λ (ks : List Primitive). length ks) are)
+
+  -- the environment of the first point
+  module _ (from : Env) (from_read : from ≡ get_or envs s.from.0 from) where
+    from_is : from ≡ env_at envs s.from.0
+    from_is = env_read envs s.from.0 from its_ends.from_in from_read
+
+    pub from_fits : FitsObserver o from
+    from_fits = subst (λ (e : Env). FitsObserver o e) (sym from_is) (env_fits_observer o _ _ (env_at envs s.from.0) its_ends.from_is)
+
+    -- the primitives
+    module _ (prims : List Primitive) (prims_are : prims ≡ s.prims) where
+      pub fails_there : ((l : ℕ) → l < k → StepHolds o (skeleton_of flow) envs l) → (i : ℕ) → IsRun o from prims (Err i) → FailsInStep o (skeleton_of flow) envs k i
+      fails_there before i stopped =
+          let run = ran o flow envs k s w file entries step_is from prims (Err i) from_is prims_are stopped in
+          in_step o flow envs k s w file entries step_is i before run.0 run.1
+
+      -- the environment to which they lead
+      module _ (reached : Env) (arrived : IsRun o from prims (Ok reached)) where
+        run : IsRun o (env_at envs s.from.0) s.prims (Ok reached)
+        run = ran o flow envs k s w file entries step_is from prims (Ok reached) from_is prims_are arrived
+
+        pub few_reached : length reached.locals ≤ 65536
+        few_reached = subst (λ (e : Env). length e.locals ≤ 65536) (sym run.0) (few_locals o flow envs k s w file entries step_is)
+
+        -- the environment of the last point
+        module _ (to : Env) (to_read : to ≡ get_or envs s.to.0 to) where
+          to_is : to ≡ env_at envs s.to.0
+          to_is = env_read envs s.to.0 to its_ends.to_in to_read
+
+          pub as_many : length reached.locals ≡ length to.locals
+          as_many = ap (λ (e : Env). length e.locals) run.0 ∙ same_locals o flow envs k s w file entries step_is ∙ ap (λ (e : Env). length e.locals) (sym to_is)
+
+          pub fails_after : ((l : ℕ) → l < k → StepHolds o (skeleton_of flow) envs l) → (var : Slot) → IsFirstAbove reached to var → FailsAfterStep o (skeleton_of flow) envs k var
+          fails_after before var above =
+              after_step o flow envs k s w file entries step_is var before run.1
+              (subst (λ (e : Env). IsFirstAbove e (env_at envs s.to.0) var) run.0 (subst (λ (e : Env). IsFirstAbove reached e var) to_is above))
+
+          pub holds : NoneAbove reached to → StepHolds o (skeleton_of flow) envs k
+          holds none =
+              step_holds o flow envs k s w file entries step_is run.1
+              (subst (λ (e : Env). NoneAbove e (env_at envs s.to.0)) run.0 (subst (λ (e : Env). NoneAbove reached e) to_is none))
