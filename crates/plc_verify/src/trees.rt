@@ -12,12 +12,13 @@ use plc_base::NoMemory;
 use plc_flow::Flow;
 use plc_ground::{Tree, closes};
 use plc_logic::Outline;
-use plc_oblig::{Obligation, Walk, count, ground};
+use plc_oblig::{Grounding, Obligation, Walk, count};
 use std::alloc::Global;
 
 // None where the tree closes the ground set of the obligation, else its first bad node.
 fn first_bad_node(
     alloc: Global,
+    memory: &mut Grounding,
     flow: &Flow,
     outline: &Outline,
     o: &Obligation,
@@ -26,8 +27,10 @@ fn first_bad_node(
     requires { Fits flow.now outline.now }
     ensures { IfOk result (λ bad. IsVerdict (ground_set flow.now outline.now o.now) [] tree.now.nodes bad) }
 {
-    let set = ground(alloc, flow, outline, o)?;
-    closes(alloc, &set, tree)
+    let set = memory.ground(alloc, flow, outline, o)?;
+    let bad = closes(alloc, &set, tree)?;
+    memory.reuse(set);
+    Ok(bad)
 }
 
 /// Ok exactly where there is one tree for each obligation, which closes its ground set.
@@ -47,11 +50,12 @@ pub(crate) fn verify_trees(
         return Err(VerifyFault::TreeCount { have, want });
     }
     let mut walk = Walk::new(alloc, flow, outline)?;
+    let mut memory = Grounding::new(alloc);
     for i in 0..trees.len() {
         let Some(o) = walk.next() else {
             unreachable!();
         };
-        if let Some(node) = first_bad_node(alloc, flow, outline, &o, &trees[i])? {
+        if let Some(node) = first_bad_node(alloc, &mut memory, flow, outline, &o, &trees[i])? {
             return Err(VerifyFault::TreeAt {
                 obligation: i as u64,
                 node,
