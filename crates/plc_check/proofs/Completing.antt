@@ -1,5 +1,5 @@
 -- A typing with its trees is a valid certificate: a certificate's types of shared pointers are those of a typing.
-use Rattle.std.proofs.Common.{◌≡◌, ◌<◌, ℕ, List, length, map, get_or, refl, sym, ap, ◌∙◌, subst, arith}
+use Rattle.std.proofs.Common.{◌≡◌, ◌<◌, ℕ, List, length, get_or, sym, ap, ◌∙◌, subst, arith}
 use Rattle.std.proofs.lemmas.List.{ext_get_or, get_or-map, length-map}
 use Rattle.plc_type.specs.declared.env.PtrType.{PtrType}
 use Rattle.plc_type.specs.declared.env.Env.{Env}
@@ -8,7 +8,6 @@ use Rattle.plc_xfer.specs.Typings.{IsTyping, IsStrongest, IsPretyping, env_at}
 use Rattle.plc_flow.specs.declared.flow.Flow.{Flow}
 use Rattle.plc_flow.specs.Skeleton.{skeleton_of}
 use Rattle.plc_auto.specs.declared.observer.Observer.{Observer}
-use Rattle.plc_ground.specs.declared.terms.Tree.{Tree}
 use Rattle.plc_oblig.specs.Obligations.{obligations}
 use Rattle.plc_cert.specs.declared.cert.Cert.{Cert}
 use Rattle.plc_verify.specs.Environments.{with_shared, completed}

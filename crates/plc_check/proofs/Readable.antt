@@ -1,6 +1,6 @@
 -- What `certify` shows can be read again: the sets of a pre-typing's environments are those that a certificate may have,
 -- and the numbers of a tree that closes a ground set are places in that set.
-use Rattle.std.proofs.Common.{◌≡◌, ℕ, suc, ◌<◌, ◌^◌, List, [], ◌∷◌, ◌++◌, length, map, true, refl, sym, ap, subst, arith}
+use Rattle.std.proofs.Common.{◌≡◌, ℕ, suc, ◌<◌, List, [], ◌∷◌, ◌++◌, length, map, true, refl, sym, ap, subst, arith}
 use Rattle.std.specs.List.{AllByRecursion}
 use Rattle.std.proofs.lemmas.Bool.{and_parts}
 use Rattle.plc_base.proofs.MaskLemmas.{within_small}

@@ -15,7 +15,6 @@ use Rattle.plc_cert.specs.Shape.{reading}
 use Rattle.plc_cert.specs.Written.{text}
 use Rattle.plc_verify.specs.Validity.{IsValid}
 use Rattle.plc_check.specs.declared.judged.Judged.{Judged}
-use Rattle.plc_check.specs.declared.verdict.Verdict.{Verdict}
 use Rattle.plc_check.specs.declared.verdict.Verdict.TheVariants.{Safe, Untyped, Unproved}
 use Rattle.plc_check.specs.declared.certified.Certified.{Certified}
 use Rattle.plc_check.specs.declared.certified.Certified.TheVariants.{Yes, No}
