@@ -1,5 +1,5 @@
 -- A typing with its trees is a valid certificate: a certificate's types of shared pointers are those of a typing.
-use Rattle.std.proofs.Common.{◌≡◌, ◌<◌, ℕ, List, length, map, get_or, refl, sym, ap, ◌∙◌, subst, arith}
+use Rattle.std.proofs.Common.{◌≡◌, ◌<◌, ℕ, List, length, get_or, sym, ap, ◌∙◌, subst, arith}
 use Rattle.std.proofs.lemmas.List.{ext_get_or, get_or-map, length-map}
 use Rattle.plc_type.specs.declared.env.PtrType.{PtrType}
 use Rattle.plc_type.specs.declared.env.Env.{Env}
@@ -8,14 +8,14 @@ use Rattle.plc_xfer.specs.Typings.{IsTyping, IsStrongest, IsPretyping, env_at}
 use Rattle.plc_flow.specs.declared.flow.Flow.{Flow}
 use Rattle.plc_flow.specs.Skeleton.{skeleton_of}
 use Rattle.plc_auto.specs.declared.observer.Observer.{Observer}
-use Rattle.plc_ground.specs.declared.terms.Tree.{Tree}
 use Rattle.plc_oblig.specs.Obligations.{obligations}
 use Rattle.plc_cert.specs.declared.cert.Cert.{Cert}
 use Rattle.plc_verify.specs.Environments.{with_shared, completed}
 use Rattle.plc_check.specs.declared.judged.Judged.{Judged}
-use Rattle.plc_check.specs.Certified.{IsCertificateOf}
+use Rattle.plc_check.specs.Certified.{IsCertificationOf}
 use Rattle.plc_check.specs.Counterexamples.{AreTreesFor}
-use Rattle.plc_check.proofs.Matching.{one_each, tree_of}
+use Rattle.plc_check.proofs.Matching.{one_each, tree_of, trees_fit}
+use Rattle.plc_check.proofs.Readable.{envs_fit}
 
 complete : (o : Observer) (flow : Flow) (envs : List Env) → IsPretyping o (skeleton_of flow) envs → completed flow envs ≡ envs
 complete o flow envs h =
@@ -30,15 +30,16 @@ complete o flow envs h =
 
 pub certificate : (j : Judged) (cert : Cert) → IsTyping j.observer (skeleton_of j.flow) cert.env
     → IsStrongest j.observer (skeleton_of j.flow) cert.env
-    → AreTreesFor j.flow j.unit_outline (obligations j.flow j.unit_outline) cert.trees → IsCertificateOf j cert
+    → AreTreesFor j.flow j.unit_outline (obligations j.flow j.unit_outline) cert.trees → IsCertificationOf j cert
 certificate j cert typing strongest trees = record {
   valid = record {
     typing = subst (IsTyping j.observer (skeleton_of j.flow)) (sym (complete j.observer j.flow cert.env typing.pretyping)) typing;
     trees = record {
       one_each = one_each j.flow j.unit_outline (obligations j.flow j.unit_outline) cert.trees trees;
-      closed = λ i o t e f. (tree_of j.flow j.unit_outline (obligations j.flow j.unit_outline) cert.trees i o t trees e f).0;
+      closed = λ i o t e f. (tree_of j.flow j.unit_outline (obligations j.flow j.unit_outline) cert.trees i o t trees e f).closes;
     };
   };
   strongest = strongest;
-  once = λ i o t e f. (tree_of j.flow j.unit_outline (obligations j.flow j.unit_outline) cert.trees i o t trees e f).1;
+  once = λ i o t e f. (tree_of j.flow j.unit_outline (obligations j.flow j.unit_outline) cert.trees i o t trees e f).once;
+  fits = (envs_fit j.observer (skeleton_of j.flow) cert.env typing.pretyping, trees_fit j.flow j.unit_outline (obligations j.flow j.unit_outline) cert.trees trees);
 }

@@ -3,6 +3,7 @@ pub mod Fitting
 pub mod Limiting
 pub mod Matching
 pub mod Opening
+pub mod Readable
 pub mod Refusals
 pub mod SoFar
 pub mod Unique

@@ -1,6 +1,7 @@
 -- Trees in the middle of a walk: one for each obligation that was handed out.
 use Rattle.std.proofs.Common.{◌≡◌, ℕ, zero, suc, List, [], ◌∷◌, ◌++◌, length, slice_get, Some, refl, sym, ap, ◌∙◌, subst}
 use Rattle.std.specs.Prelude.{All}
+use Rattle.std.specs.List.{AllByRecursion}
 use Rattle.std.proofs.lemmas.List.{append_assoc, append-nil}
 use Rattle.std.proofs.lemmas.List.Elements.{All-nil, All-cons}
 use Rattle.plc_flow.specs.declared.flow.Flow.{Flow}
@@ -11,6 +12,7 @@ use Rattle.plc_setting.specs.declared.obligations.Obligation.{Obligation}
 use Rattle.plc_oblig.specs.Obligations.{obligations}
 use Rattle.plc_oblig.specs.GroundSets.{ground_set}
 use Rattle.plc_oblig.specs.Outlines.{IsKept}
+use Rattle.plc_cert.specs.Fits.{TreeFits}
 use Rattle.plc_check.specs.Counterexamples.{IsTreeOf, AreTreesFor}
 use Rattle.plc_check.proofs.SoFar.{SoFar}
 
@@ -46,11 +48,17 @@ module _ (flow : Flow) (outline : Outline) where
   kept_of : (os : List Obligation) (ts : List Tree) → AreTreesFor flow outline os ts → All (IsKept flow outline) os
   kept_of [] ts m = All-nil (IsKept flow outline)
   kept_of (o ∷ os) [] m = absurd m
-  kept_of (o ∷ os) (t ∷ ts) m = All-cons (IsKept flow outline) o os (closed_has_no_model (ground_set flow outline o) t.nodes m.0.0) (kept_of os ts m.1)
+  kept_of (o ∷ os) (t ∷ ts) m = All-cons (IsKept flow outline) o os (closed_has_no_model (ground_set flow outline o) t.nodes m.0.closes) (kept_of os ts m.1)
 
   -- obligations with trees are kept
   pub kept_so_far : (left : List Obligation) (ts : List Tree) → TreesSoFar left ts → SoFar (IsKept flow outline) (obligations flow outline) left
   kept_so_far left ts s = record { before = s.before; listed = s.listed; kept = kept_of s.before ts s.trees }
+
+  pub trees_fit : (os : List Obligation) (ts : List Tree) → AreTreesFor flow outline os ts → AllByRecursion TreeFits ts
+  trees_fit [] [] m = tt
+  trees_fit [] (t ∷ ts) m = absurd m
+  trees_fit (o ∷ os) [] m = absurd m
+  trees_fit (o ∷ os) (t ∷ ts) m = (m.0.fits, trees_fit os ts m.1)
 
   -- one tree for each
 

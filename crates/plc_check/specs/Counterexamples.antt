@@ -1,5 +1,5 @@
 -- What breaks obligations, and what shows that they are kept.
-use Rattle.std.specs.Prelude.{◌≡◌, ℕ, List, [], ◌∷◌, Option, Some, None, Result, Ok, Err}
+use Rattle.std.specs.Prelude.{◌≡◌, List, [], ◌∷◌, Option, Some, None, Result, Ok, Err}
 use Rattle.plc_flow.specs.declared.flow.Flow.{Flow}
 use Rattle.plc_logic.specs.declared.clause.Outline.{Outline}
 use Rattle.plc_setting.specs.declared.obligations.Obligation.{Obligation}
@@ -9,6 +9,7 @@ use Rattle.plc_ground.specs.Trees.{Closes, SplitsOnce}
 use Rattle.plc_oblig.specs.Obligations.{obligations}
 use Rattle.plc_oblig.specs.GroundSets.{ground_set}
 use Rattle.plc_oblig.specs.Outlines.{IsKept, OutlineHolds, IsLeastOpen}
+use Rattle.plc_cert.specs.Fits.{TreeFits}
 use Rattle.plc_check.specs.declared.counterexample.Counterexample.{Counterexample}
 
 -- the set is the obligation's, and the model is one of the set
@@ -26,10 +27,11 @@ abbrev pub IsFirstCounterexample : Flow → Outline → Option Counterexample �
 IsFirstCounterexample flow outline None = OutlineHolds flow outline
 IsFirstCounterexample flow outline (Some x) = IsLeastOpen flow outline x.obligation × IsCounterexample flow outline x
 
--- the tree closes the ground set of the obligation, and no branch of it splits one clause twice
-abbrev pub IsTreeOf : Flow → Outline → Obligation → Tree → Type 0
-IsTreeOf flow outline o t =
-    Closes (ground_set flow outline o) t.nodes × SplitsOnce (ground_set flow outline o) ([] ∷ []) t.nodes
+-- the tree closes the ground set of the obligation, no branch of it splits one clause twice, and its numbers have 32 bits
+pub record IsTreeOf (flow : Flow) (outline : Outline) (o : Obligation) (t : Tree) : Type 0 where
+  pub closes : Closes (ground_set flow outline o) t.nodes
+  pub once : SplitsOnce (ground_set flow outline o) ([] ∷ []) t.nodes
+  pub fits : TreeFits t
 
 -- such a tree, or what breaks the obligation
 abbrev pub IsTreeAt : Flow → Outline → Obligation → Result Tree Counterexample → Type 0

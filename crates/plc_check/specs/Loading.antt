@@ -1,5 +1,6 @@
 -- Which file bytes spell, and how they are answered.
-use Rattle.std.specs.Prelude.{◌≡◌, ◌≢◌, ◌⊎◌, ℕ, ◌<◌, ◌≤◌, ◌+◌, List, length, get_or, Option, Some, None, Result, Ok, Err}
+use Rattle.std.specs.Prelude.{◌≡◌, ◌≢◌, ◌⊎◌, ℕ, ◌<◌, ◌≤◌, ◌+◌, List, length, get_or}
+use Rattle.std.specs.Prelude.{Option, Some, None, Result, Ok, Err}
 use Rattle.plc_base.specs.Limits.{most}
 use Rattle.plc_base.specs.declared.limits.What1.{What1}
 use Rattle.plc_base.specs.declared.limits.What1.TheVariants as limits

@@ -2,8 +2,8 @@
 ghost use Rattle.std.specs.Prelude.{IfOk};
 ghost use Rattle.plc_xfer.specs.Typings.{IsTyping, IsStrongest};
 ghost use Rattle.plc_flow.specs.Skeleton.{skeleton_of};
+ghost use Rattle.plc_setting.specs.Fit.{Fits};
 ghost use Rattle.plc_check.specs.Certified.{IsCertified};
-ghost use Rattle.plc_check.specs.Fit.{JudgedFits};
 
 use crate::judged::Judged;
 use crate::tree::trees_of;
@@ -17,7 +17,7 @@ use std::alloc::Global;
 #[derive(Debug, Drop)]
 pub enum Certified {
     /// It is safe: a certificate that is valid, with the strongest typing, and with trees in which no branch
-    /// splits one clause twice.
+    /// splits one clause twice. What it is written as is read again, and valid too.
     Yes(Cert),
     /// It isn't: the verdict, which is never `Safe`.
     No(Verdict),
@@ -25,7 +25,7 @@ pub enum Certified {
 
 // What there is to show where there is a typing: the trees decide.
 fn certify_outline(alloc: Global, judged: &Judged, typing: Typing) -> Result<Certified, NoMemory>
-    requires fits { JudgedFits judged.now }
+    requires fits { Fits judged.now.flow judged.now.unit_outline }
     requires typing { IsTyping judged.now.observer (skeleton_of judged.now.flow) typing.env }
     requires strongest { IsStrongest judged.now.observer (skeleton_of judged.now.flow) typing.env }
     ensures { IfOk result (IsCertified judged.now) }
@@ -45,9 +45,9 @@ fn certify_outline(alloc: Global, judged: &Judged, typing: Typing) -> Result<Cer
 }
 
 /// A certificate of what [`crate::load`] gave, exactly where [`crate::check`] says `Safe`; else the verdict. The
-/// one error is that memory runs out, which more than 2^32 terms of a ground set count as.
+/// one error is that memory runs out, which 2^32 terms or clauses of a ground set count as.
 pub fn certify(alloc: Global, judged: &Judged) -> Result<Certified, NoMemory>
-    requires { JudgedFits judged.now }
+    requires { Fits judged.now.flow judged.now.unit_outline }
     ensures { IfOk result (IsCertified judged.now) }
 {
     match infer(alloc, &judged.flow, &judged.observer) {

@@ -6,6 +6,7 @@
 mod certified;
 mod counterexample;
 mod judged;
+mod laws;
 mod limits;
 mod loading;
 mod tree;
@@ -13,5 +14,6 @@ mod verdict;
 
 pub use certified::{Certified, certify};
 pub use judged::{Judged, LoadFault};
+pub use laws::certificates_are_verified;
 pub use loading::{files_are_unique, files_fit, load};
 pub use verdict::{Verdict, check};

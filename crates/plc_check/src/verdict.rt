@@ -2,7 +2,7 @@
 ghost use Rattle.std.specs.Prelude.{IfOk};
 ghost use Rattle.plc_xfer.specs.Typings.{IsTyping, IsStrongest};
 ghost use Rattle.plc_flow.specs.Skeleton.{skeleton_of};
-ghost use Rattle.plc_check.specs.Fit.{JudgedFits};
+ghost use Rattle.plc_setting.specs.Fit.{Fits};
 ghost use Rattle.plc_check.specs.Verdicts.{IsVerdictOn};
 
 use crate::counterexample::first_counterexample;
@@ -39,7 +39,7 @@ pub enum Verdict {
 
 // The verdict where there is a typing: by the outline alone.
 fn judge_outline(alloc: Global, judged: &Judged, typing: Typing) -> Result<Verdict, NoMemory>
-    requires fits { JudgedFits judged.now }
+    requires fits { Fits judged.now.flow judged.now.unit_outline }
     requires typing { IsTyping judged.now.observer (skeleton_of judged.now.flow) typing.env }
     requires strongest { IsStrongest judged.now.observer (skeleton_of judged.now.flow) typing.env }
     ensures { IfOk result (IsVerdictOn judged.now) }
@@ -60,9 +60,9 @@ fn judge_outline(alloc: Global, judged: &Judged, typing: Typing) -> Result<Verdi
 
 /// The verdict on what [`crate::load`] gave: `Untyped` where it has no typing, else `Unproved` where its outline
 /// doesn't hold, else `Safe`. The ground sets are made one at a time. The one error is that memory runs out,
-/// which more than 2^32 terms of a ground set count as.
+/// which 2^32 terms or clauses of a ground set count as.
 pub fn check(alloc: Global, judged: &Judged) -> Result<Verdict, NoMemory>
-    requires { JudgedFits judged.now }
+    requires { Fits judged.now.flow judged.now.unit_outline }
     ensures { IfOk result (IsVerdictOn judged.now) }
 {
     match infer(alloc, &judged.flow, &judged.observer) {

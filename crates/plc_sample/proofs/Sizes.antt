@@ -1,25 +1,26 @@
 -- No sample is longer than a file may be.
-use Rattle.std.proofs.Common.{◌≡◌, ◌≤◌, ◌+◌, ◌*◌, ◌==◌, ℕ, suc, zero, Bool, true, false, List, [], ◌∷◌, ◌++◌, length, refl, sym, subst, arith}
+use Rattle.std.proofs.Common.{◌≡◌, ◌≤◌, ◌*◌, ◌==◌, ℕ, suc, zero, Bool, true, false, List, [], ◌∷◌, ◌++◌, length, refl, sym, subst, arith}
 use Rattle.std.proofs.lemmas.List.{length-append}
 use Rattle.std.proofs.lemmas.Fmt.{length-decimal-le_succ}
 use Rattle.plc_base.specs.Limits.{largest_file}
+use Rattle.plc_sample.specs.Numbers.{most_copies}
 use Rattle.plc_sample.specs.Sample.{declarations, operations, invariants, clauses, ending, numbered_byte, numbered, copies, whole_text, kept_byte, line_after, without_from}
 
 -- ---- a copy
 
-byte_short : (number byte : ℕ) → number ≤ 16 → length (numbered_byte number byte) ≤ 17
+byte_short : (number byte : ℕ) → number ≤ most_copies → length (numbered_byte number byte) ≤ 17
 byte_short number byte few = go (byte == 35) refl
   where
     go : (b : Bool) → (byte == 35) ≡ b → length (numbered_byte number byte) ≤ 17
     go true e = rw e (let long = length-decimal-le_succ number (omega (arith, few)) in omega (arith, long, few))
     go false e = rw e (omega arith)
 
-numbered_short : (number : ℕ) (part : List ℕ) → number ≤ 16 → length (numbered number part) ≤ 17 * length part
+numbered_short : (number : ℕ) (part : List ℕ) → number ≤ most_copies → length (numbered number part) ≤ 17 * length part
 numbered_short number [] few = omega arith
 numbered_short number (byte ∷ more) few =
     omega (arith, length-append (numbered_byte number byte) (numbered number more), byte_short number byte few, numbered_short number more few)
 
-copies_short : (k : ℕ) (part : List ℕ) → k ≤ 16 → length part ≤ 1000 → length (copies k part) ≤ k * 17000
+copies_short : (k : ℕ) (part : List ℕ) → k ≤ most_copies → length part ≤ 1000 → length (copies k part) ≤ k * 17000
 copies_short zero part few short = omega arith
 copies_short (suc k) part few short =
     omega (arith, length-append (copies k part) (numbered (suc k) part), copies_short k part (omega (arith, few)) short, numbered_short (suc k) part few, short)
@@ -46,14 +47,14 @@ ending_short : length ending ≤ 1000
 unfolding ending
 ending_short = omega arith
 
-copies_bounded : (k : ℕ) (part : List ℕ) → k ≤ 16 → length part ≤ 1000 → length (copies k part) ≤ 272000
+copies_bounded : (k : ℕ) (part : List ℕ) → k ≤ most_copies → length part ≤ 1000 → length (copies k part) ≤ 272000
 copies_bounded k part few short = omega (arith, copies_short k part few short, few)
 
 together : (a b c d e : List ℕ) → length a ≤ 1000 → length b ≤ 272000 → length c ≤ 1000 → length d ≤ 272000 → length e ≤ 1000 → length (a ++ b ++ c ++ d ++ e) ≤ largest_file
 together a b c d e la lb lc ld le =
     omega (arith, length-append (a ++ b ++ c ++ d) e, length-append (a ++ b ++ c) d, length-append (a ++ b) c, length-append a b, la, lb, lc, ld, le)
 
-whole_short : (k : ℕ) → k ≤ 16 → length (whole_text k) ≤ largest_file
+whole_short : (k : ℕ) → k ≤ most_copies → length (whole_text k) ≤ largest_file
 whole_short k few =
     together declarations (copies k operations) invariants (copies k clauses) ending
     declarations_short (copies_bounded k operations few operations_short) invariants_short (copies_bounded k clauses few clauses_short) ending_short
@@ -72,7 +73,7 @@ without_short without line [] = omega arith
 without_short without line (byte ∷ more) =
     omega (arith, length-append (kept_byte without line byte) (without_from without (line_after line byte) more), kept_short without line byte, without_short without (line_after line byte) more)
 
-pub kept_is_short : (k n : ℕ) (whole kept : List ℕ) → k ≤ 16 → whole ≡ whole_text k → kept ≡ without_from n 1 whole → length kept ≤ largest_file
+pub kept_is_short : (k n : ℕ) (whole kept : List ℕ) → k ≤ most_copies → whole ≡ whole_text k → kept ≡ without_from n 1 whole → length kept ≤ largest_file
 kept_is_short k n whole kept few whole_is kept_is =
     let short : length whole ≤ largest_file = subst (λ (t : List ℕ). length t ≤ largest_file) (sym whole_is) (whole_short k few) in
     subst (λ (t : List ℕ). length t ≤ largest_file) (sym kept_is) (bounded n whole short)

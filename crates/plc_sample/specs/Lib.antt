@@ -1,2 +1,3 @@
 -- what contracts of public calls say
+pub mod Numbers
 pub mod Sample

@@ -86,6 +86,7 @@ ending =
 abbrev pub numbered_byte : ℕ → ℕ → List ℕ
 numbered_byte number byte = if byte == 35 then decimal number else byte ∷ []
 
+-- the same of each byte
 abbrev pub numbered : ℕ → List ℕ → List ℕ
 numbered number [] = []
 numbered number (byte ∷ more) = numbered_byte number byte ++ numbered number more
@@ -95,6 +96,7 @@ abbrev pub copies : ℕ → List ℕ → List ℕ
 copies zero part = []
 copies (suc k) part = copies k part ++ numbered (suc k) part
 
+-- a sample with k copies, whole
 abbrev pub whole_text : ℕ → List ℕ
 whole_text k = declarations ++ copies k operations ++ invariants ++ copies k clauses ++ ending
 

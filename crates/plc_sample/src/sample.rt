@@ -1,12 +1,24 @@
 // The whole text of a sample, and the same without one line.
-ghost use Rattle.std.specs.Prelude.{◌≡◌, ◌≤◌, ◌++◌, ◌+◌, ◌*◌, IfOk, OnOk, length};
+ghost use Rattle.std.specs.Prelude.{◌≡◌, ◌≤◌, ◌++◌, IfOk, OnOk, length};
 ghost use Rattle.plc_base.specs.Limits.{largest_file};
+ghost use Rattle.plc_sample.specs.Numbers.{most_copies, sample_lines};
 ghost use Rattle.plc_sample.specs.Sample.{whole_text, line_after, kept_byte, without_from, sample_text};
 
 use crate::numbering::push_copies;
 use crate::parts::{clauses, declarations, ending, invariants, operations};
 use plc_base::NoMemory;
 use std::alloc::{AllocError, Global};
+
+/// So many copies a sample may have.
+pub const MOST_COPIES: u32 = 16;
+
+/// How many lines a sample with so many copies has.
+pub fn lines_of(copies: u32) -> u32
+    requires { copies ≤ most_copies }
+    ensures { result ≡ sample_lines copies }
+{
+    44 * copies + 13
+}
 
 fn whole_text(alloc: Global, copies: u8) -> Result<Vec<u8>, AllocError>
     ensures { IfOk result (λ text. text.items ≡ whole_text copies) }
@@ -44,12 +56,12 @@ fn without_line(alloc: Global, text: &[u8], without: usize) -> Result<Vec<u8>, A
     Ok(out)
 }
 
-/// The sample with `k` copies of the operations, from 1 to 16, without line `n`, which is one of its 44k + 13
-/// lines counted from 1, or whole where `n` is 0. It is short enough for a file. The one error is that memory
-/// runs out.
+/// The sample with `k` copies of the operations, from 1 to [`MOST_COPIES`], without line `n`, which is one of its
+/// [`lines_of`] counted from 1, or whole where `n` is 0. It is short enough for a file. The one error is that
+/// memory runs out.
 pub fn text(alloc: Global, k: u8, n: u16) -> Result<Vec<u8>, NoMemory>
-    requires copies { (1 ≤ k) × (k ≤ 16) }
-    requires line { n ≤ 44 * k + 13 }
+    requires copies { (1 ≤ k) × (k ≤ most_copies) }
+    requires line { n ≤ sample_lines k }
     ensures is { IfOk result (λ text. text.items ≡ sample_text k n) }
     ensures short { IfOk result (λ text. length text.items ≤ largest_file) }
 {

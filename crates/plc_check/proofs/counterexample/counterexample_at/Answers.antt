@@ -8,7 +8,7 @@ use Rattle.plc_check.proofs.counterexample.counterexample_at.Goals as goal
 pub returns-in-Ok : goal.returns-in-Ok
 returns-in-Ok c =
     let tree = subst (IsTreeAt c.args.flow.now c.args.outline.now c.args.obligation) c.in-Ok.is c.in_ok-found.ensures in
-    closed_has_no_model (ground_set c.args.flow.now c.args.outline.now c.args.obligation) _ tree.0
+    closed_has_no_model (ground_set c.args.flow.now c.args.outline.now c.args.obligation) _ tree.closes
 
 pub returns-then-still : goal.returns-then-still
 returns-then-still c =
