@@ -1,6 +1,7 @@
--- From what a call comes to, to completeness: where the contents are told and no count of the files rises, what is due is due
--- to the contents, or a content is too long.
-use Rattle.std.proofs.Common.{◌≡◌, ◌≤◌, ◌<◌, inl, inr, ◌⊎◌, ℕ, List, [], ◌∷◌, length, Option, Some, None, refl, sym, ap, ◌∙◌, subst, arith}
+-- From what a call comes to, to completeness: where the contents are told and no count of the files rises, what is due
+-- is due to the contents, or a content is too long.
+use Rattle.std.proofs.Common.{◌≡◌, ◌≤◌, ◌<◌, inl, inr, ◌⊎◌, ℕ, List, [], ◌∷◌, length, Option, Some, None, refl, sym}
+use Rattle.std.proofs.Common.{ap, ◌∙◌, subst, arith}
 use Rattle.std.specs.Prelude.{All, Contains, IfSome, IsSome, IsSomeAnd, slice_get}
 use Rattle.std.proofs.lemmas.List.Elements.{All-contains}
 use Rattle.plc_base.specs.Limits.{largest_file, largest_schedule, largest_certificate}
@@ -13,7 +14,8 @@ use Rattle.plc_reclaim.specs.Meanings.{Meanings}
 use Rattle.plc_texts.specs.Refusals.{read_too_long}
 use Rattle.plc_cli.specs.Answer.{IsReplayOf, IsDueFor, IsWritten, Outcome}
 use Rattle.plc_cli.specs.Certificates.{IsCertificateOf, IsVerificationOf}
-use Rattle.plc_cli.specs.Completeness.{files_of, AreTold, AreShort, NoneRose, IsAnswerOf, IsAnswered, IsToldTooLong, HasRoom, Completeness, HonestlyOnlyTooLong}
+use Rattle.plc_cli.specs.Completeness.{files_of, AreTold, AreShort, NoneRose, IsAnswerOf, IsAnswered, IsToldTooLong}
+use Rattle.plc_cli.specs.Completeness.{HasRoom, Completeness, HonestlyOnlyTooLong}
 use Rattle.plc_cli.specs.Files.{IsAnswerTo, IsPrintOf}
 use Rattle.plc_cli.specs.Reads.{IsUnread, IsDueForFile, IsDueForPair}
 use Rattle.plc_cli.specs.Requests.{Request, Check, Certify, Print, Verify, Replay, Sample}
@@ -23,7 +25,8 @@ use Rattle.plc_cli.proofs.Statuses.{check_low, certify_low, print_low, verify_lo
 -- ---- what is told of one file
 
 -- what was read of a told content is the content
-read_told : (told : Option (List ℕ)) (bytes : List ℕ) (Q : List ℕ → Type 0) → IsSome told → IfSome told (λ c. bytes ≡ c) → Q bytes → IsSomeAnd told Q
+read_told : (told : Option (List ℕ)) (bytes : List ℕ) (Q : List ℕ → Type 0) → IsSome told →
+    IfSome told (λ c. bytes ≡ c) → Q bytes → IsSomeAnd told Q
 read_told None bytes Q some same q = absurd cc
 read_told (Some c) bytes Q some same q = subst Q same q
 
@@ -32,7 +35,8 @@ some_and : (told : Option (List ℕ)) (Q : List ℕ → Type 0) → IsSome told 
 some_and None Q some q = absurd cc
 some_and (Some c) Q some q = q
 
-long_or_short : (told : Option (List ℕ)) (most : ℕ) → IsSomeAnd told (λ c. most < length c) → IfSome told (λ c. length c ≤ most) → ⊥
+long_or_short : (told : Option (List ℕ)) (most : ℕ) → IsSomeAnd told (λ c. most < length c) →
+    IfSome told (λ c. length c ≤ most) → ⊥
 long_or_short None most long short = long
 long_or_short (Some c) most long short = omega (arith, long, short)
 
@@ -53,40 +57,7 @@ module _ (old new : KnownFiles) (status : ℕ) (text : List ℕ) where
   abbrev IsFine : List ℕ → Type 0
   IsFine name = IsSome (old.content name) × (new.faults name ≡ old.faults name)
 
-  unread_is_long : (may : List ℕ → Type 0) (before : List Reading) (name : List ℕ) (most : ℕ) → IsFine name → IsUnread may old new before name most status text → IsLong (name, most)
-  unread_is_long may before name most fine (inl failed) = absurd (omega (arith, failed.rose, fine.1))
-  unread_is_long may before name most fine (inr long) = record {
-    long = some_and (old.content name) (λ c. most < length c) fine.0 long.told;
-    status_is = long.status_is;
-    text_is = long.text_is;
-  }
-
-  -- a due status of an answer is at most 3
-  one_file : (name : List ℕ) (Answers : List ℕ → Type 0) → ((bytes : List ℕ) → Answers bytes → status ≤ 3) → IsFine name → IsDueForFile old new name Answers status text →
-      IsLong (name, largest_file) ⊎ (IsSomeAnd (old.content name) Answers × (status ≤ 3))
-  one_file name Answers low fine (inl unread) = inl (unread_is_long _ _ name largest_file fine unread)
-  one_file name Answers low fine (inr due) = inr (read_told (old.content name) due.0 Answers fine.0 due.1.read.told due.2, low due.0 due.2)
-
-  two_files : (name other : List ℕ) (most : ℕ) (Answers : List ℕ → List ℕ → Type 0) → ((bytes more : List ℕ) → Answers bytes more → status ≤ 3) → IsFine name → IsFine other →
-      IsDueForPair old new name other most Answers status text →
-      (IsLong (name, largest_file) ⊎ IsLong (other, most)) ⊎ (IsSomeAnd (old.content name) (λ bytes. IsSomeAnd (old.content other) (λ more. Answers bytes more)) × (status ≤ 3))
-  two_files name other most Answers low fine fine_other (inl (inl unread)) = inl (inl (unread_is_long _ _ name largest_file fine unread))
-  two_files name other most Answers low fine fine_other (inl (inr none)) = inl (inr (unread_is_long _ _ other most fine_other none.unread))
-  two_files name other most Answers low fine fine_other (inr due) =
-      let more = read_told (old.content other) due.1 (Answers due.0) fine_other.0 due.2.read_second.told due.3 in
-      inr (read_told (old.content name) due.0 (λ bytes. IsSomeAnd (old.content other) (λ more. Answers bytes more)) fine.0 due.2.read.told more, low due.0 due.1 due.3)
-
-  -- the file of the words, or one of the two, is the one that is too long
-  one_long : {Q : Type 0} (request : Option Request) (file : List ℕ × ℕ) → Contains (files_of request) file → IsLong file ⊎ Q → IsOneLong request ⊎ Q
-  one_long request file among (inl long) = inl (file, among, long)
-  one_long request file among (inr q) = inr q
-
-  two_long : {Q : Type 0} (request : Option Request) (file other : List ℕ × ℕ) → Contains (files_of request) file → Contains (files_of request) other → (IsLong file ⊎ IsLong other) ⊎ Q → IsOneLong request ⊎ Q
-  two_long request file other among among_other (inl (inl long)) = inl (file, among, long)
-  two_long request file other among among_other (inl (inr long)) = inl (other, among_other, long)
-  two_long request file other among among_other (inr q) = inr q
-
-  -- all files among the words are fine
+  -- so is each file among the words
   abbrev AreFine : Option Request → Type 0
   AreFine request = (file : List ℕ × ℕ) → Contains (files_of request) file → IsFine file.0
 
@@ -96,56 +67,115 @@ module _ (old new : KnownFiles) (status : ℕ) (text : List ℕ) where
     All-contains (λ (f : List ℕ × ℕ). new.faults f.0 ≡ old.faults f.0) (files_of request) file kept among,
   )
 
-  module _ (reclaimers : List Meanings) where
-    -- the answer to the contents, whose status is none of a read
-    abbrev IsLow : Option Request → Type 0
-    IsLow request = IsAnswerOf reclaimers request old status text × (status ≤ 3)
+  unread_is_long : (may : List ℕ → Type 0) (before : List Reading) (name : List ℕ) (most : ℕ) → IsFine name →
+      IsUnread may old new before name most status text → IsLong (name, most)
+  unread_is_long may before name most fine (inl failed) = absurd (omega (arith, failed.rose, fine.1))
+  unread_is_long may before name most fine (inr long) = record {
+    long = some_and (old.content name) (λ c. most < length c) fine.0 long.told;
+    status_is = long.status_is;
+    text_is = long.text_is;
+  }
 
-    one_file_of : (request : Option Request) (name : List ℕ) (Answers : List ℕ → Type 0) → ((bytes : List ℕ) → Answers bytes → status ≤ 3) → AreFine request → Contains (files_of request) (name, largest_file) →
-        IsDueForFile old new name Answers status text → IsOneLong request ⊎ (IsSomeAnd (old.content name) Answers × (status ≤ 3))
-    one_file_of request name Answers low fine among due = one_long request (name, largest_file) among (one_file name Answers low (fine (name, largest_file) among) due)
+  -- both contents are told, and so answered
+  abbrev AreAnswered : List ℕ → List ℕ → (List ℕ → List ℕ → Type 0) → Type 0
+  AreAnswered name other Answers =
+      IsSomeAnd (old.content name) (λ bytes. IsSomeAnd (old.content other) (λ more. Answers bytes more))
 
-    two_files_of : (request : Option Request) (name other : List ℕ) (most : ℕ) (Answers : List ℕ → List ℕ → Type 0) → ((bytes more : List ℕ) → Answers bytes more → status ≤ 3) → AreFine request →
+  -- the status of an answer is at most 3, so none of a read
+  module _ (request : Option Request) (fine : AreFine request) where
+    one_long : (may : List ℕ → Type 0) (before : List Reading) (name : List ℕ) (most : ℕ) →
+        Contains (files_of request) (name, most) → IsUnread may old new before name most status text →
+        IsOneLong request
+    one_long may before name most among none =
+        ((name, most), among, unread_is_long may before name most (fine (name, most) among) none)
+
+    one_file : (name : List ℕ) (Answers : List ℕ → Type 0) → ((bytes : List ℕ) → Answers bytes → status ≤ 3) →
+        Contains (files_of request) (name, largest_file) → IsDueForFile old new name Answers status text →
+        IsOneLong request ⊎ (IsSomeAnd (old.content name) Answers × (status ≤ 3))
+    one_file name Answers low among (inl none) = inl (one_long _ _ name largest_file among none)
+    one_file name Answers low among (inr due) =
+        let told = (fine (name, largest_file) among).0 in
+        inr (read_told (old.content name) due.0 Answers told due.1.read.told due.2, low due.0 due.2)
+
+    two_files : (name other : List ℕ) (most : ℕ) (Answers : List ℕ → List ℕ → Type 0) →
+        ((bytes more : List ℕ) → Answers bytes more → status ≤ 3) →
         Contains (files_of request) (name, largest_file) → Contains (files_of request) (other, most) →
-        IsDueForPair old new name other most Answers status text → IsOneLong request ⊎ (IsSomeAnd (old.content name) (λ bytes. IsSomeAnd (old.content other) (λ more. Answers bytes more)) × (status ≤ 3))
-    two_files_of request name other most Answers low fine among among_other due =
-        two_long request (name, largest_file) (other, most) among among_other (two_files name other most Answers low (fine (name, largest_file) among) (fine (other, most) among_other) due)
+        IsDueForPair old new name other most Answers status text →
+        IsOneLong request ⊎ (AreAnswered name other Answers × (status ≤ 3))
+    two_files name other most Answers low among after (inl (inl none)) =
+        inl (one_long _ _ name largest_file among none)
+    two_files name other most Answers low among after (inl (inr none)) =
+        inl (one_long _ _ other most after none.unread)
+    two_files name other most Answers low among after (inr due) =
+        let told = (fine (name, largest_file) among).0 in
+        let more = (fine (other, most) after).0 in
+        let both = read_told (old.content other) due.1 (Answers due.0) more due.2.read_second.told due.3 in
+        (inr (
+          read_told (old.content name) due.0 (λ bytes. IsSomeAnd (old.content other) (λ more. Answers bytes more))
+              told due.2.read.told both,
+          low due.0 due.1 due.3,
+        ))
 
-    replay_due : (file schedule : List ℕ) (number : ℕ) (reclaimer : Meanings) → slice_get reclaimers number ≡ Some reclaimer →
-        IsOneLong (Some (Replay file schedule number)) ⊎ (IsSomeAnd (old.content file) (λ bytes. IsSomeAnd (old.content schedule) (λ more. IsReplayOf reclaimer bytes more status text)) × (status ≤ 3)) →
-        IsOneLong (Some (Replay file schedule number)) ⊎ IsLow (Some (Replay file schedule number))
+  module _ (reclaimers : List Meanings) where
+    -- the answer to the contents
+    abbrev IsDue : Option Request → Type 0
+    IsDue request = IsOneLong request ⊎ (IsAnswerOf reclaimers request old status text × (status ≤ 3))
+
+    abbrev IsReplayed : List ℕ → List ℕ → Meanings → Type 0
+    IsReplayed file schedule reclaimer =
+        AreAnswered file schedule (λ bytes more. IsReplayOf reclaimer bytes more status text)
+
+    replay_due : (file schedule : List ℕ) (number : ℕ) (reclaimer : Meanings) →
+        slice_get reclaimers number ≡ Some reclaimer →
+        IsOneLong (Some (Replay file schedule number)) ⊎ (IsReplayed file schedule reclaimer × (status ≤ 3)) →
+        IsDue (Some (Replay file schedule number))
     replay_due file schedule number reclaimer there (inl long) = inl long
     replay_due file schedule number reclaimer there (inr answer) =
-        inr (subst (λ (o : Option Meanings). IsSomeAnd o (λ (r : Meanings). IsSomeAnd (old.content file) (λ bytes. IsSomeAnd (old.content schedule) (λ more. IsReplayOf r bytes more status text)))) (sym there) answer.0, answer.1)
+        inr (subst (λ (o : Option Meanings). IsSomeAnd o (IsReplayed file schedule)) (sym there) answer.0, answer.1)
 
-    due_is : (request : Option Request) → AreFine request → IsDueFor reclaimers request old new status text → IsOneLong request ⊎ IsLow request
+    due_is : (request : Option Request) → AreFine request → IsDueFor reclaimers request old new status text →
+        IsDue request
     due_is None fine refused = inr ((refused.status_is, refused.text_is), omega (arith, refused.status_is))
-    due_is (Some (Check name)) fine due = one_file_of (Some (Check name)) name (λ bytes. IsAnswerTo bytes status text) (check_low status text) fine (0, omega arith, refl) due
-    due_is (Some (Certify name)) fine due = one_file_of (Some (Certify name)) name (λ bytes. IsCertificateOf bytes status text) (certify_low status text) fine (0, omega arith, refl) due
-    due_is (Some (Print name)) fine due = one_file_of (Some (Print name)) name (λ bytes. IsPrintOf bytes status text) (print_low status text) fine (0, omega arith, refl) due
+    due_is (Some (Check name)) fine due =
+        one_file (Some (Check name)) fine name (λ bytes. IsAnswerTo bytes status text)
+        (check_low status text) (0, omega arith, refl) due
+    due_is (Some (Certify name)) fine due =
+        one_file (Some (Certify name)) fine name (λ bytes. IsCertificateOf bytes status text)
+        (certify_low status text) (0, omega arith, refl) due
+    due_is (Some (Print name)) fine due =
+        one_file (Some (Print name)) fine name (λ bytes. IsPrintOf bytes status text)
+        (print_low status text) (0, omega arith, refl) due
     due_is (Some (Verify name certificate)) fine due =
-        two_files_of (Some (Verify name certificate)) name certificate largest_certificate (λ bytes more. IsVerificationOf bytes more status text) (verify_low status text) fine (0, omega arith, refl) (1, omega arith, refl) due
+        two_files (Some (Verify name certificate)) fine name certificate largest_certificate
+        (λ bytes more. IsVerificationOf bytes more status text)
+        (verify_low status text) (0, omega arith, refl) (1, omega arith, refl) due
     due_is (Some (Replay file schedule number)) fine replay =
         replay_due file schedule number replay.reclaimer replay.there
-        (two_files_of (Some (Replay file schedule number)) file schedule largest_schedule (λ bytes more. IsReplayOf replay.reclaimer bytes more status text) (replay_low status text replay.reclaimer) fine (0, omega arith, refl) (1, omega arith, refl) replay.due)
+        (two_files (Some (Replay file schedule number)) fine file schedule largest_schedule
+        (λ bytes more. IsReplayOf replay.reclaimer bytes more status text)
+        (replay_low status text replay.reclaimer) (0, omega arith, refl) (1, omega arith, refl) replay.due)
     due_is (Some (Sample k n)) fine sample = inr (sample.answer, sample_low status text k n sample.answer)
 
 -- ---- what is written
 
-module _ (reclaimers : List Meanings) (request : Option Request) (old new : KnownFiles) (sink sink_now : KnownSink) (result : ℕ) where
-  module _ (w : IsWritten reclaimers request old new sink sink_now result) (told : AreTold request old) (kept : NoneRose request old new) where
-    abbrev IsDue : Type 0
-    IsDue = IsOneLong old new w.status w.text request ⊎ IsLow old new w.status w.text reclaimers request
+module _ (reclaimers : List Meanings) (request : Option Request) (old new : KnownFiles)
+    (sink sink_now : KnownSink) (result : ℕ) where
+  module _ (w : IsWritten reclaimers request old new sink sink_now result)
+      (told : AreTold request old) (kept : NoneRose request old new) where
+    abbrev Due : Type 0
+    Due = IsDue old new w.status w.text reclaimers request
 
-    due : IsDue
+    due : Due
     due = due_is old new w.status w.text reclaimers request (are_fine old new w.status w.text request told kept) w.due
 
     none_long : AreShort request old → IsOneLong old new w.status w.text request → ⊥
     none_long short long =
         long_or_short (old.content long.0.0) long.0.1 long.2.long
-        (All-contains (λ (f : List ℕ × ℕ). IfSome (old.content f.0) (λ bytes. length bytes ≤ f.1)) (files_of request) long.0 short long.1)
+        (All-contains (λ (f : List ℕ × ℕ). IfSome (old.content f.0) (λ bytes. length bytes ≤ f.1)) (files_of request)
+        long.0 short long.1)
 
-    whole_answered : AreShort request old → result ≡ w.status → IsDue → IsAnswered reclaimers request old sink sink_now result
+    whole_answered : AreShort request old → result ≡ w.status → Due →
+        IsAnswered reclaimers request old sink sink_now result
     whole_answered short is (inl long) = absurd (none_long short long)
     whole_answered short is (inr answer) = record {
       text = w.text;
@@ -153,17 +183,18 @@ module _ (reclaimers : List Meanings) (request : Option Request) (old new : Know
       written = w.ends.whole is;
     }
 
-    answered : AreShort request old → (Rose sink.faults sink_now.faults → ⊥) → (result ≡ w.status) ⊎ ((result ≡ unwritten) ⊎ (result ≡ no_memory)) →
+    answered : AreShort request old → (Rose sink.faults sink_now.faults → ⊥) →
+        (result ≡ w.status) ⊎ ((result ≡ unwritten) ⊎ (result ≡ no_memory)) →
         IsAnswered reclaimers request old sink sink_now result ⊎ (result ≡ no_memory)
     answered short held (inl is) = inl (whole_answered short is due)
     answered short held (inr (inl is)) = absurd (held (w.ends.failed is).rose)
     answered short held (inr (inr is)) = inr is
 
-    fits : HasRoom reclaimers request old sink → IsDue → length w.text ≤ sink.room
+    fits : HasRoom reclaimers request old sink → Due → length w.text ≤ sink.room
     fits room (inl long) = subst (λ (t : List ℕ). length t ≤ sink.room) (sym long.2.text_is) room.long
     fits room (inr answer) = room.due w.status w.text answer.0
 
-    whole_long : result ≡ unread → result ≡ w.status → IsDue → IsToldTooLong request old sink sink_now result
+    whole_long : result ≡ unread → result ≡ w.status → Due → IsToldTooLong request old sink sink_now result
     whole_long is same (inl long) = record {
       file = long.0;
       among = long.1;
@@ -173,7 +204,8 @@ module _ (reclaimers : List Meanings) (request : Option Request) (old new : Know
     }
     whole_long is same (inr answer) = absurd (omega (arith, is, same, answer.1))
 
-    too_long : HasRoom reclaimers request old sink → (result ≡ unread) ⊎ (result ≡ unwritten) → (result ≡ w.status) ⊎ ((result ≡ unwritten) ⊎ (result ≡ no_memory)) →
+    too_long : HasRoom reclaimers request old sink → (result ≡ unread) ⊎ (result ≡ unwritten) →
+        (result ≡ w.status) ⊎ ((result ≡ unwritten) ⊎ (result ≡ no_memory)) →
         IsToldTooLong request old sink sink_now result
     too_long room (inl is) (inl same) = whole_long is same due
     too_long room (inl is) (inr (inl other)) = absurd (omega (arith, is, other))
@@ -184,7 +216,8 @@ module _ (reclaimers : List Meanings) (request : Option Request) (old new : Know
   neither six (inl is) = omega (arith, six, is)
   neither six (inr is) = omega (arith, six, is)
 
-  pub completeness_of : Outcome reclaimers request old new sink sink_now result → Completeness reclaimers request old new sink sink_now result
+  pub completeness_of : Outcome reclaimers request old new sink sink_now result →
+      Completeness reclaimers request old new sink sink_now result
   completeness_of (inl none) = record {
     answered = λ told kept short held. inr none.0;
     only_too_long = λ told kept room is. absurd (neither none.0 is);
@@ -197,4 +230,5 @@ module _ (reclaimers : List Meanings) (request : Option Request) (old new : Know
 -- ---- files that never fail, and a sink with room
 
 pub honestly : HonestlyOnlyTooLong
-honestly reclaimers request old new sink sink_now result complete room is = complete.only_too_long (λ k d low. refl) (λ k d low. refl) room is
+honestly reclaimers request old new sink sink_now result complete room is =
+    complete.only_too_long (λ k d low. refl) (λ k d low. refl) room is

@@ -134,7 +134,8 @@ module _ (reclaimers : List Meanings) (request : Option Request) (old new : Know
   }
 
 -- where the whole text wasn't written, the status is none that says something of the file
-no_headline : (request : Option Request) (old new : KnownFiles) (result : ℕ) → (result ≡ unwritten) ⊎ (result ≡ no_memory) → Headline request old new result
+no_headline : (request : Option Request) (old new : KnownFiles) (result : ℕ) →
+    (result ≡ unwritten) ⊎ (result ≡ no_memory) → Headline request old new result
 no_headline request old new result unwhole = record {
   read = λ name asked zero. absurd (not_zero unwhole zero);
   sound = λ name bytes asked told zero. absurd (not_zero unwhole zero);
@@ -148,12 +149,17 @@ no_headline request old new result unwhole = record {
     not_zero (inl is) zero = omega (arith, is, zero)
     not_zero (inr is) zero = omega (arith, is, zero)
 
-pub headline_from : (reclaimers : List Meanings) (request : Option Request) (old new : KnownFiles) (sink sink_now : KnownSink) (result : ℕ) → Outcome reclaimers request old new sink sink_now result → Headline request old new result
-headline_from reclaimers request old new sink sink_now result (inl none) = no_headline request old new result (inr none.0)
+pub headline_from : (reclaimers : List Meanings) (request : Option Request) (old new : KnownFiles)
+    (sink sink_now : KnownSink) (result : ℕ) → Outcome reclaimers request old new sink sink_now result →
+    Headline request old new result
+headline_from reclaimers request old new sink sink_now result (inl none) =
+    no_headline request old new result (inr none.0)
 headline_from reclaimers request old new sink sink_now result (inr written) = go written.ends.only
   where
     go : (result ≡ written.status) ⊎ ((result ≡ unwritten) ⊎ (result ≡ no_memory)) → Headline request old new result
-    go (inl is) = subst (Headline request old new) (sym is) (headline_of reclaimers request old new written.status written.text written.due)
+    go (inl is) =
+        subst (Headline request old new) (sym is)
+        (headline_of reclaimers request old new written.status written.text written.due)
     go (inr unwhole) = no_headline request old new result unwhole
 
 -- a right verdict that is told is the answer to what is judged

@@ -1,5 +1,5 @@
--- The status that is due is never one that says how the writing went, and that of an answer never one that says how a read
--- went.
+-- The status that is due is never one that says how the writing went, and that of an answer never one that says how
+-- a read went.
 use Rattle.std.proofs.Common.{◌≤◌, inl, inr, ℕ, List, Option, Some, None, refl, arith}
 use Rattle.plc_outside.specs.Known.{KnownFiles, KnownSink}
 use Rattle.plc_outside.specs.Outside.{Appends, AppendsPart}
@@ -42,7 +42,8 @@ certified_low (No verdict) = verdict_low verdict
 
 module _ (status : ℕ) (text : List ℕ) where
   -- a file is refused, or what is due for its unit has a low status
-  answered_low : (IsDue : FileUnit → ℕ → List ℕ → Type 0) → ((u : FileUnit) → IsDue u status text → status ≤ 3) → (bytes : List ℕ) → IsAnsweredFile IsDue bytes status text → status ≤ 3
+  answered_low : (IsDue : FileUnit → ℕ → List ℕ → Type 0) → ((u : FileUnit) → IsDue u status text → status ≤ 3) →
+      (bytes : List ℕ) → IsAnsweredFile IsDue bytes status text → status ≤ 3
   answered_low IsDue low bytes (inl refused) = omega (arith, refused.status_is)
   answered_low IsDue low bytes (inr spelled) = low spelled.unit spelled.answer
 
@@ -81,12 +82,16 @@ module _ (status : ℕ) (text : List ℕ) where
   sample_low k n = answered_low (λ u. IsSampledAs k n (judged_of u))
       (λ u sampled. let low = verdict_low sampled.verdict in omega (arith, sampled.status_is, low)) (sample_text k n)
 
-  file_low : (old new : KnownFiles) (name : List ℕ) (Answers : List ℕ → Type 0) → ((bytes : List ℕ) → Answers bytes → status ≤ 3) → IsDueForFile old new name Answers status text → status ≤ 4
+  file_low : (old new : KnownFiles) (name : List ℕ) (Answers : List ℕ → Type 0) →
+      ((bytes : List ℕ) → Answers bytes → status ≤ 3) → IsDueForFile old new name Answers status text → status ≤ 4
   file_low old new name Answers low (inl none) = omega (arith, unread_status status text _ _ _ _ _ _ none)
   file_low old new name Answers low (inr due) = omega (arith, low due.0 due.2)
 
-  pair_low : (old new : KnownFiles) (first second : List ℕ) (most : ℕ) (Answers : List ℕ → List ℕ → Type 0) → ((bytes more : List ℕ) → Answers bytes more → status ≤ 3) → IsDueForPair old new first second most Answers status text → status ≤ 4
-  pair_low old new first second most Answers low (inl none) = omega (arith, unread_pair_status status text _ _ _ _ _ none)
+  pair_low : (old new : KnownFiles) (first second : List ℕ) (most : ℕ) (Answers : List ℕ → List ℕ → Type 0) →
+      ((bytes more : List ℕ) → Answers bytes more → status ≤ 3) →
+      IsDueForPair old new first second most Answers status text → status ≤ 4
+  pair_low old new first second most Answers low (inl none) =
+      omega (arith, unread_pair_status status text _ _ _ _ _ none)
   pair_low old new first second most Answers low (inr due) = omega (arith, low due.0 due.1 due.3)
 
   due_low : (reclaimers : List Meanings) (request : Option Request) (old new : KnownFiles) → IsDueFor reclaimers request old new status text → status ≤ 4
@@ -102,11 +107,43 @@ module _ (status : ℕ) (text : List ℕ) where
     low : status ≤ 4
     low = due_low reclaimers request old new due
 
-    pub all_written : Appends sink.written sink_now.written text → Outcome reclaimers request old new sink sink_now status
-    all_written a = inr (record { status = status; text = text; due = due; ends = record { only = inl refl; whole = λ e. a; failed = λ e. absurd (omega (arith, low, e)); memory = λ e. absurd (omega (arith, low, e)) } })
+    pub all_written : Appends sink.written sink_now.written text →
+        Outcome reclaimers request old new sink sink_now status
+    all_written a = inr (record {
+      status = status;
+      text = text;
+      due = due;
+      ends = record {
+        only = inl refl;
+        whole = λ e. a;
+        failed = λ e. absurd (omega (arith, low, e));
+        memory = λ e. absurd (omega (arith, low, e));
+      };
+    })
 
     pub part_written : IsUnwritten text sink sink_now → Outcome reclaimers request old new sink sink_now unwritten
-    part_written a = inr (record { status = status; text = text; due = due; ends = record { only = inr (inl refl); whole = λ e. absurd (omega (arith, low, e)); failed = λ e. a; memory = λ e. absurd (omega (arith, e)) } })
+    part_written a = inr (record {
+      status = status;
+      text = text;
+      due = due;
+      ends = record {
+        only = inr (inl refl);
+        whole = λ e. absurd (omega (arith, low, e));
+        failed = λ e. a;
+        memory = λ e. absurd (omega (arith, e));
+      };
+    })
 
-    pub memory_ran_out : AppendsPart sink.written sink_now.written text → Outcome reclaimers request old new sink sink_now no_memory
-    memory_ran_out a = inr (record { status = status; text = text; due = due; ends = record { only = inr (inr refl); whole = λ e. absurd (omega (arith, low, e)); failed = λ e. absurd (omega (arith, e)); memory = λ e. a } })
+    pub memory_ran_out : AppendsPart sink.written sink_now.written text →
+        Outcome reclaimers request old new sink sink_now no_memory
+    memory_ran_out a = inr (record {
+      status = status;
+      text = text;
+      due = due;
+      ends = record {
+        only = inr (inr refl);
+        whole = λ e. absurd (omega (arith, low, e));
+        failed = λ e. absurd (omega (arith, e));
+        memory = λ e. a;
+      };
+    })

@@ -7,7 +7,8 @@ use Rattle.std.proofs.lemmas.Slice.Eq.{bytes_eq-Decides}
 use Rattle.plc_base.specs.Limits.{largest_file}
 use Rattle.plc_outside.specs.Known.{KnownFiles}
 use Rattle.plc_outside.specs.Reading.{Reading}
-use Rattle.plc_cli.specs.Reads.{FilesAreKept, NoFaultBut, Only, Either, IsUnread, IsUnreadPair, IsGivenFile, IsSecondUnread, IsGivenPair, reading}
+use Rattle.plc_cli.specs.Reads.{FilesAreKept, NoFaultBut, Only, Either, reading}
+use Rattle.plc_cli.specs.Reads.{IsUnread, IsUnreadPair, IsGivenFile, IsSecondUnread, IsGivenPair}
 use Rattle.plc_cli.specs.Statuses.{unread}
 use Rattle.plc_cli.specs.Views.{IsFound}
 
@@ -18,11 +19,13 @@ told_is (Some c) bytes content h e = cc
 
 -- the status where a file can't be read
 module _ (status : ℕ) (text : List ℕ) where
-  pub unread_status : (may : List ℕ → Type 0) (old new : KnownFiles) (before : List Reading) (name : List ℕ) (most : ℕ) → IsUnread may old new before name most status text → status ≡ unread
+  pub unread_status : (may : List ℕ → Type 0) (old new : KnownFiles) (before : List Reading) (name : List ℕ)
+      (most : ℕ) → IsUnread may old new before name most status text → status ≡ unread
   unread_status may old new before name most (inl failed) = failed.status_is
   unread_status may old new before name most (inr long) = long.status_is
 
-  pub unread_pair_status : (old new : KnownFiles) (first second : List ℕ) (most : ℕ) → IsUnreadPair old new first second most status text → status ≡ unread
+  pub unread_pair_status : (old new : KnownFiles) (first second : List ℕ) (most : ℕ) →
+      IsUnreadPair old new first second most status text → status ≡ unread
   unread_pair_status old new first second most (inl none) = unread_status _ _ _ _ _ _ none
   unread_pair_status old new first second most (inr none) = unread_status _ _ _ _ _ _ none.unread
 

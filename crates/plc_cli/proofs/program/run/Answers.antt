@@ -10,14 +10,16 @@ use Rattle.plc_cli.proofs.program.run.Goals as goal
 
 pub returns-in-Ok-write_text-clause-outcome : goal.returns-in-Ok-write_text-clause-outcome
 returns-in-Ok-write_text-clause-outcome g c =
-    all_written c.in-Ok.answer.status c.in-Ok.answer.text.items _ _ _ _ (rw c.deref_mut.ensures.value at c.in-Ok.ensures.due) _ _
+    all_written c.in-Ok.answer.status c.in-Ok.answer.text.items _ _ _ _
+    (rw c.deref_mut.ensures.value at c.in-Ok.ensures.due) _ _
     (subst (Appends _ _) c.deref.ensures.value c.in-Ok-write_text.ensures.ok)
 
 pub returns-in-Ok-write_text-clause-headline : goal.returns-in-Ok-write_text-clause-headline
 returns-in-Ok-write_text-clause-headline g c = headline_from _ _ _ _ _ _ _ (returns-in-Ok-write_text-clause-outcome g c)
 
 pub returns-in-Ok-write_text-clause-completeness : goal.returns-in-Ok-write_text-clause-completeness
-returns-in-Ok-write_text-clause-completeness g c = completeness_of _ _ _ _ _ _ _ (returns-in-Ok-write_text-clause-outcome g c)
+returns-in-Ok-write_text-clause-completeness g c =
+    completeness_of _ _ _ _ _ _ _ (returns-in-Ok-write_text-clause-outcome g c)
 
 pub returns-in-Ok-write_text-clause-served : goal.returns-in-Ok-write_text-clause-served
 returns-in-Ok-write_text-clause-served g c = served_replays _ _ _ _ _ _ _ (returns-in-Ok-write_text-clause-outcome g c)
@@ -26,7 +28,8 @@ returns-in-Ok-write_text-clause-served g c = served_replays _ _ _ _ _ _ _ (retur
 
 pub returns-in-Err-Failed-clause-outcome : goal.returns-in-Err-Failed-clause-outcome
 returns-in-Err-Failed-clause-outcome g c =
-    part_written c.in-Ok.answer.status c.in-Ok.answer.text.items _ _ _ _ (rw c.deref_mut.ensures.value at c.in-Ok.ensures.due) _ _
+    part_written c.in-Ok.answer.status c.in-Ok.answer.text.items _ _ _ _
+    (rw c.deref_mut.ensures.value at c.in-Ok.ensures.due) _ _
     (record {
       part = subst (AppendsPart _ _) c.deref.ensures.value c.in-Err-Failed.ensures.err;
       rose = c.write_text.ensures.cause.failed (rw c.in-Err-Failed.is (ap Err c.in-Err-Failed.field-0-is));
@@ -41,7 +44,8 @@ returns-in-Err-Failed-clause-completeness g c = completeness_of _ _ _ _ _ _ _ (r
 
 pub returns-clause-outcome : goal.returns-clause-outcome
 returns-clause-outcome g c =
-    memory_ran_out c.in-Ok.answer.status c.in-Ok.answer.text.items _ _ _ _ (rw c.deref_mut.ensures.value at c.in-Ok.ensures.due) _ _
+    memory_ran_out c.in-Ok.answer.status c.in-Ok.answer.text.items _ _ _ _
+    (rw c.deref_mut.ensures.value at c.in-Ok.ensures.due) _ _
     (subst (AppendsPart _ _) c.deref.ensures.value c.in-Err-Memory.ensures.err)
 
 pub returns-clause-completeness : goal.returns-clause-completeness
