@@ -1,9 +1,9 @@
 -- From the answer that is due to what a 0 says, and when it comes: the bytes spell one unit, which has a typing or is stuck, and not both.
-use Rattle.std.proofs.Common.{◌≡◌, ◌<◌, ◌≤◌, inl, inr, ℕ, List, [], length, Option, Some, None, Result, Ok, Err, ap, sym, subst, refl, ◌∙◌, arith}
+use Rattle.std.proofs.Common.{◌≡◌, ◌<◌, ◌≤◌, ◌⊎◌, inl, inr, ℕ, List, [], length, Option, Some, None, Result, Ok, Err, ap, sym, subst, refl, ◌∙◌, arith}
 use Rattle.std.specs.Prelude.{◌++◌, ◌∷◌, All, Contains, IfSome, IfOk}
 use Rattle.std.proofs.lemmas.List.Elements.{All-contains, Contains-append_right}
 use Rattle.plc_base.specs.Limits.{largest_file}
-use Rattle.plc_outside.specs.Known.{KnownFiles}
+use Rattle.plc_outside.specs.Known.{KnownFiles, KnownSink}
 use Rattle.plc_parse.specs.declared.unit.Unit.{Unit as FileUnit}
 use Rattle.plc_auto.specs.declared.observer.Observer.{Observer}
 use Rattle.plc_print.specs.Text.{canonical_text}
@@ -25,12 +25,13 @@ use Rattle.plc_check.specs.Verdicts.{IsVerdictOn}
 use Rattle.plc_check.proofs.Unique.{one_file}
 use Rattle.plc_cli.specs.Requests.{Request, Check, Verify}
 use Rattle.plc_cli.specs.Reads.{Only, IsUnread, IsGivenFile, IsDueForFile}
-use Rattle.plc_cli.specs.Answer.{IsDueFor}
+use Rattle.plc_cli.specs.Answer.{IsDueFor, Outcome}
 use Rattle.plc_cli.specs.Files.{IsAnswerTo, IsJudgedAs, IsPrintOf, unit_of}
+use Rattle.plc_cli.specs.Statuses.{unwritten, no_memory}
 use Rattle.plc_cli.specs.Verdicts.{verdict_status, verdict_text}
 use Rattle.plc_cli.specs.Headline.{Headline, IsSafeProgram, IsSafeRead, IsProved}
 use Rattle.plc_cli.proofs.Racing.{never_races}
-use Rattle.plc_cli.proofs.TwoReads.{told_is}
+use Rattle.plc_cli.proofs.TwoReads.{told_is, unread_status}
 use Rattle.plc_cli.proofs.Verified as verified
 
 stuck_or_typed : (o : Observer) (s : Skeleton) (k i : ℕ) (fault : TypeFault) → IsStuckAt o s k i fault → HasTyping o s → ⊥
@@ -90,8 +91,7 @@ module _ (old new : KnownFiles) (status : ℕ) (text : List ℕ) (name : List �
   answer_of content told bytes given answer = subst Answers (told_is (old.content name) bytes content given.read.told told) answer
 
   read_at_0 : IsUnread (Only name) old new [] name largest_file status text → status ≡ 0 → ⊥
-  read_at_0 (inl failed) zero = let is = failed.status_is in absurd cc
-  read_at_0 (inr long) zero = let is = long.status_is in absurd cc
+  read_at_0 unread zero = let is = unread_status status text _ _ _ _ _ _ unread in absurd cc
 
   read_for : IsDue → status ≡ 0 → IsSafeRead old new name
   read_for (inl unread) zero = absurd (read_at_0 unread zero)
@@ -123,7 +123,7 @@ module _ (reclaimers : List Meanings) (request : Option Request) (old new : Know
   pair_for : (name certificate : List ℕ) → request ≡ Some (Verify name certificate) → verified.IsDue status text old new name certificate
   pair_for name certificate asked = subst (λ (r : Option Request). IsDueFor reclaimers r old new status text) asked due
 
-  pub headline_of : Headline request old new status
+  headline_of : Headline request old new status
   headline_of = record {
     read = λ name asked zero. read_for old new status text name (due_for name asked) zero;
     sound = λ name bytes asked told zero. sound_for old new status text name bytes told (due_for name asked) zero;
@@ -132,6 +132,35 @@ module _ (reclaimers : List Meanings) (request : Option Request) (old new : Know
     read_verified = λ name certificate asked zero. verified.safe_pair status text zero old new name certificate (pair_for name certificate asked);
     verified = λ name certificate bytes asked told zero. verified.safe_content status text zero old new name certificate bytes told (pair_for name certificate asked);
   }
+
+-- where the whole text wasn't written, the status is none that says something of the file
+no_headline : (request : Option Request) (old new : KnownFiles) (result : ℕ) →
+    (result ≡ unwritten) ⊎ (result ≡ no_memory) → Headline request old new result
+no_headline request old new result unwhole = record {
+  read = λ name asked zero. absurd (not_zero unwhole zero);
+  sound = λ name bytes asked told zero. absurd (not_zero unwhole zero);
+  complete = λ name bytes asked told short kept u spelled proved. inr unwhole;
+  only_proved = λ name bytes asked told u spelled zero. absurd (not_zero unwhole zero);
+  read_verified = λ name certificate asked zero. absurd (not_zero unwhole zero);
+  verified = λ name certificate bytes asked told zero. absurd (not_zero unwhole zero);
+}
+  where
+    not_zero : (result ≡ unwritten) ⊎ (result ≡ no_memory) → result ≡ 0 → ⊥
+    not_zero (inl is) zero = omega (arith, is, zero)
+    not_zero (inr is) zero = omega (arith, is, zero)
+
+pub headline_from : (reclaimers : List Meanings) (request : Option Request) (old new : KnownFiles)
+    (sink sink_now : KnownSink) (result : ℕ) → Outcome reclaimers request old new sink sink_now result →
+    Headline request old new result
+headline_from reclaimers request old new sink sink_now result (inl none) =
+    no_headline request old new result (inr none.0)
+headline_from reclaimers request old new sink sink_now result (inr written) = go written.ends.only
+  where
+    go : (result ≡ written.status) ⊎ ((result ≡ unwritten) ⊎ (result ≡ no_memory)) → Headline request old new result
+    go (inl is) =
+        subst (Headline request old new) (sym is)
+        (headline_of reclaimers request old new written.status written.text written.due)
+    go (inr unwhole) = no_headline request old new result unwhole
 
 -- a right verdict that is told is the answer to what is judged
 pub verdict_answers : (j : Judged) (verdict : Verdict) (status : ℕ) (text : List ℕ) → IsVerdictOn j verdict → status ≡ verdict_status verdict → text ≡ verdict_text j verdict → IsJudgedAs j status text

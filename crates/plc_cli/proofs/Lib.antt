@@ -1,4 +1,5 @@
 pub mod Answering
+pub mod Completing
 pub mod Judging
 pub mod Numbers
 pub mod Racing

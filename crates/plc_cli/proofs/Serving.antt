@@ -16,12 +16,12 @@ use Rattle.plc_replay.specs.declared.end.End.{End}
 use Rattle.plc_replay.specs.Outcome.{ComesTo}
 use Rattle.plc_replay.specs.Laws.{Serves, IsAllowedEnd}
 use Rattle.plc_replay.proofs.Forbidding.{never_forbidden}
-use Rattle.plc_cli.specs.Reads.{IsUnread, IsUnreadPair, IsGivenPair, IsDueForPair, reading}
+use Rattle.plc_cli.specs.Reads.{IsGivenPair, IsDueForPair, reading}
 use Rattle.plc_cli.specs.Requests.{Request, Replay}
 use Rattle.plc_cli.specs.Answer.{IsScheduleAnswered, IsReplayOf, IsDueFor, IsDueForReplay, Outcome}
 use Rattle.plc_cli.specs.Statuses.{unwritten, no_memory}
 use Rattle.plc_cli.specs.Served.{IsServedBy, FailsOtherwise, ServedReplays}
-use Rattle.plc_cli.proofs.TwoReads.{told_is}
+use Rattle.plc_cli.proofs.TwoReads.{told_is, unread_pair_status}
 
 -- ---- the end of a schedule
 
@@ -51,14 +51,6 @@ module _ (status : ℕ) (text : List ℕ) (one : status ≡ 1) where
     replay_fails (inl refused) = absurd (let is = refused.status_is in omega arith)
     replay_fails (inr replayed) =
         schedule_fails (subst (λ (u : FileUnit). IsScheduleAnswered (judged_of u) m second status text) (one_file bytes replayed.unit served.unit replayed.spelled served.spelled) replayed.answer)
-
-  unread_fails : (may : List ℕ → Type 0) (old new : KnownFiles) (before : List Reading) (name : List ℕ) (most : ℕ) → IsUnread may old new before name most status text → ⊥
-  unread_fails may old new before name most (inl failed) = let is = failed.status_is in omega arith
-  unread_fails may old new before name most (inr long) = let is = long.status_is in omega arith
-
-  unread_pair_fails : (old new : KnownFiles) (first second : List ℕ) (most : ℕ) → IsUnreadPair old new first second most status text → ⊥
-  unread_pair_fails old new first second most (inl none) = unread_fails _ _ _ _ _ _ none
-  unread_pair_fails old new first second most (inr none) = unread_fails _ _ _ _ _ _ none.unread
 
 -- ---- the bytes that are replayed
 
@@ -90,7 +82,7 @@ module _ (reclaimers : List Meanings) (old new : KnownFiles) (sink sink_now : Kn
       same = same_reclaimer reclaimers number due.reclaimer m due.there there
 
       go : IsDueForPair old new file schedule largest_schedule (λ bytes second. IsReplayOf due.reclaimer bytes second status text) status text → FailsOtherwise served.unit m second sink sink_now
-      go (inl none) = absurd (unread_pair_fails status text one _ _ _ _ _ none)
+      go (inl none) = absurd (let is = unread_pair_status status text _ _ _ _ _ none in omega arith)
       go (inr given) =
           let known = are given.0 given.1 given.2 in
           let at_bytes = subst (λ (b : List ℕ). IsReplayOf due.reclaimer b given.1 status text) known.0 given.3 in

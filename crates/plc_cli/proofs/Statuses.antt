@@ -1,8 +1,8 @@
--- The status that is due is never one that says how the writing went.
+-- The status that is due is never one that says how the writing went, and that of an answer never one that says how
+-- a read went.
 use Rattle.std.proofs.Common.{◌≤◌, inl, inr, ℕ, List, Option, Some, None, refl, arith}
 use Rattle.plc_outside.specs.Known.{KnownFiles, KnownSink}
-use Rattle.plc_outside.specs.Outside.{Rose, Appends, AppendsPart}
-use Rattle.plc_outside.specs.Reading.{Reading}
+use Rattle.plc_outside.specs.Outside.{Appends, AppendsPart}
 use Rattle.plc_reclaim.specs.Meanings.{Meanings}
 use Rattle.plc_replay.specs.declared.end.End.{End}
 use Rattle.plc_replay.specs.declared.end.End.TheVariants.{Ended, Race, Impossible, ForbiddenFree}
@@ -19,79 +19,80 @@ use Rattle.plc_cli.specs.Files.{IsAnsweredFile, IsJudgedAs, IsAnswerTo, IsPrinte
 use Rattle.plc_cli.specs.Samples.{IsSampledAs, IsSampleAnswer}
 use Rattle.plc_sample.specs.Sample.{sample_text}
 use Rattle.plc_cli.specs.Requests.{Request, Check, Certify, Print, Verify, Replay, Sample}
-use Rattle.plc_cli.specs.Reads.{IsUnread, IsDueForFile, IsDueForPair}
-use Rattle.plc_cli.specs.Answer.{IsScheduleAnswered, IsReplayOf, IsDueFor, Outcome}
+use Rattle.plc_cli.specs.Reads.{IsDueForFile, IsDueForPair}
+use Rattle.plc_cli.specs.Answer.{IsScheduleAnswered, IsReplayOf, IsDueFor, IsUnwritten, Outcome}
 use Rattle.plc_cli.specs.Statuses.{unwritten, no_memory, end_status}
 use Rattle.plc_cli.specs.Verdicts.{verdict_status}
+use Rattle.plc_cli.proofs.TwoReads.{unread_status, unread_pair_status}
 
-end_low : (end : End) → end_status end ≤ 4
+end_low : (end : End) → end_status end ≤ 3
 end_low (Ended lines events freed) = omega arith
 end_low (Race kind line prim) = omega arith
 end_low (Impossible line) = omega arith
 end_low (ForbiddenFree a line) = omega arith
 
-verdict_low : (verdict : Verdict) → verdict_status verdict ≤ 4
+verdict_low : (verdict : Verdict) → verdict_status verdict ≤ 3
 verdict_low (Safe typing count) = omega arith
 verdict_low (Untyped step prim fault) = omega arith
 verdict_low (Unproved o set model) = omega arith
 
-certified_low : (certified : Certified) → certified_status certified ≤ 4
+certified_low : (certified : Certified) → certified_status certified ≤ 3
 certified_low (Yes cert) = omega arith
 certified_low (No verdict) = verdict_low verdict
 
 module _ (status : ℕ) (text : List ℕ) where
   -- a file is refused, or what is due for its unit has a low status
-  answered_low : (IsDue : FileUnit → ℕ → List ℕ → Type 0) → ((u : FileUnit) → IsDue u status text → status ≤ 4) → (bytes : List ℕ) → IsAnsweredFile IsDue bytes status text → status ≤ 4
+  answered_low : (IsDue : FileUnit → ℕ → List ℕ → Type 0) → ((u : FileUnit) → IsDue u status text → status ≤ 3) →
+      (bytes : List ℕ) → IsAnsweredFile IsDue bytes status text → status ≤ 3
   answered_low IsDue low bytes (inl refused) = omega (arith, refused.status_is)
   answered_low IsDue low bytes (inr spelled) = low spelled.unit spelled.answer
 
-  judged_low : (j : Judged) → IsJudgedAs j status text → status ≤ 4
+  judged_low : (j : Judged) → IsJudgedAs j status text → status ≤ 3
   judged_low j judged = let low = verdict_low judged.verdict in omega (arith, judged.status_is, low)
 
-  check_low : (bytes : List ℕ) → IsAnswerTo bytes status text → status ≤ 4
+  pub check_low : (bytes : List ℕ) → IsAnswerTo bytes status text → status ≤ 3
   check_low bytes = answered_low (λ u. IsJudgedAs (judged_of u)) (λ u. judged_low (judged_of u)) bytes
 
-  certify_low : (bytes : List ℕ) → IsCertificateOf bytes status text → status ≤ 4
+  pub certify_low : (bytes : List ℕ) → IsCertificateOf bytes status text → status ≤ 3
   certify_low bytes = answered_low (λ u. IsCertifiedAs (judged_of u))
       (λ u certified. let low = certified_low certified.certified in omega (arith, certified.status_is, low)) bytes
 
-  print_low : (bytes : List ℕ) → IsPrintOf bytes status text → status ≤ 4
+  pub print_low : (bytes : List ℕ) → IsPrintOf bytes status text → status ≤ 3
   print_low bytes = answered_low IsPrintedAs (λ u printed. omega (arith, printed.status_is)) bytes
 
-  certificate_low : (j : Judged) (cert : Cert) → IsCertificateJudged j cert status text → status ≤ 4
+  certificate_low : (j : Judged) (cert : Cert) → IsCertificateJudged j cert status text → status ≤ 3
   certificate_low j cert (inl verified) = omega (arith, verified.status_is)
   certificate_low j cert (inr invalid) = omega (arith, invalid.status_is)
 
-  second_low : (j : Judged) (second : List ℕ) → IsCertificateAnswered j second status text → status ≤ 4
+  second_low : (j : Judged) (second : List ℕ) → IsCertificateAnswered j second status text → status ≤ 3
   second_low j second (inl refused) = omega (arith, refused.status_is)
   second_low j second (inr judged) = certificate_low j judged.cert judged.answer
 
-  verify_low : (bytes second : List ℕ) → IsVerificationOf bytes second status text → status ≤ 4
+  pub verify_low : (bytes second : List ℕ) → IsVerificationOf bytes second status text → status ≤ 3
   verify_low bytes second = answered_low (λ u. IsCertificateAnswered (judged_of u) second) (λ u. second_low (judged_of u) second) bytes
 
-  schedule_low : (j : Judged) (r : Meanings) (bytes : List ℕ) → IsScheduleAnswered j r bytes status text → status ≤ 4
+  schedule_low : (j : Judged) (r : Meanings) (bytes : List ℕ) → IsScheduleAnswered j r bytes status text → status ≤ 3
   schedule_low j r bytes (inl refused) = omega (arith, refused.status_is)
   schedule_low j r bytes (inr replayed) = let low = end_low replayed.answer.end in omega (arith, replayed.answer.status_is, low)
 
-  replay_low : (r : Meanings) (bytes second : List ℕ) → IsReplayOf r bytes second status text → status ≤ 4
+  pub replay_low : (r : Meanings) (bytes second : List ℕ) → IsReplayOf r bytes second status text → status ≤ 3
   replay_low r bytes second = answered_low (λ u. IsScheduleAnswered (judged_of u) r second) (λ u. schedule_low (judged_of u) r second) bytes
 
-  sample_low : (k n : ℕ) → IsSampleAnswer k n status text → status ≤ 4
+  pub sample_low : (k n : ℕ) → IsSampleAnswer k n status text → status ≤ 3
   sample_low k n = answered_low (λ u. IsSampledAs k n (judged_of u))
       (λ u sampled. let low = verdict_low sampled.verdict in omega (arith, sampled.status_is, low)) (sample_text k n)
 
-  unread_low : (may : List ℕ → Type 0) (old new : KnownFiles) (before : List Reading) (name : List ℕ) (most : ℕ) → IsUnread may old new before name most status text → status ≤ 4
-  unread_low may old new before name most (inl failed) = omega (arith, failed.status_is)
-  unread_low may old new before name most (inr long) = omega (arith, long.status_is)
+  file_low : (old new : KnownFiles) (name : List ℕ) (Answers : List ℕ → Type 0) →
+      ((bytes : List ℕ) → Answers bytes → status ≤ 3) → IsDueForFile old new name Answers status text → status ≤ 4
+  file_low old new name Answers low (inl none) = omega (arith, unread_status status text _ _ _ _ _ _ none)
+  file_low old new name Answers low (inr due) = omega (arith, low due.0 due.2)
 
-  file_low : (old new : KnownFiles) (name : List ℕ) (Answers : List ℕ → Type 0) → ((bytes : List ℕ) → Answers bytes → status ≤ 4) → IsDueForFile old new name Answers status text → status ≤ 4
-  file_low old new name Answers low (inl none) = unread_low _ _ _ _ _ _ none
-  file_low old new name Answers low (inr due) = low due.0 due.2
-
-  pair_low : (old new : KnownFiles) (first second : List ℕ) (most : ℕ) (Answers : List ℕ → List ℕ → Type 0) → ((bytes more : List ℕ) → Answers bytes more → status ≤ 4) → IsDueForPair old new first second most Answers status text → status ≤ 4
-  pair_low old new first second most Answers low (inl (inl none)) = unread_low _ _ _ _ _ _ none
-  pair_low old new first second most Answers low (inl (inr none)) = unread_low _ _ _ _ _ _ none.unread
-  pair_low old new first second most Answers low (inr due) = low due.0 due.1 due.3
+  pair_low : (old new : KnownFiles) (first second : List ℕ) (most : ℕ) (Answers : List ℕ → List ℕ → Type 0) →
+      ((bytes more : List ℕ) → Answers bytes more → status ≤ 3) →
+      IsDueForPair old new first second most Answers status text → status ≤ 4
+  pair_low old new first second most Answers low (inl none) =
+      omega (arith, unread_pair_status status text _ _ _ _ _ none)
+  pair_low old new first second most Answers low (inr due) = omega (arith, low due.0 due.1 due.3)
 
   due_low : (reclaimers : List Meanings) (request : Option Request) (old new : KnownFiles) → IsDueFor reclaimers request old new status text → status ≤ 4
   due_low reclaimers None old new refused = omega (arith, refused.status_is)
@@ -100,17 +101,49 @@ module _ (status : ℕ) (text : List ℕ) where
   due_low reclaimers (Some (Print name)) old new due = file_low _ _ _ _ print_low due
   due_low reclaimers (Some (Verify name certificate)) old new due = pair_low _ _ _ _ _ _ verify_low due
   due_low reclaimers (Some (Replay file schedule number)) old new replay = pair_low _ _ _ _ _ _ (replay_low replay.reclaimer) replay.due
-  due_low reclaimers (Some (Sample k n)) old new sample = sample_low k n sample.answer
+  due_low reclaimers (Some (Sample k n)) old new sample = omega (arith, sample_low k n sample.answer)
 
   module _ (reclaimers : List Meanings) (request : Option Request) (old new : KnownFiles) (due : IsDueFor reclaimers request old new status text) (sink sink_now : KnownSink) where
     low : status ≤ 4
     low = due_low reclaimers request old new due
 
-    pub all_written : Appends sink.written sink_now.written text → Outcome reclaimers request old new sink sink_now status
-    all_written a = inr (record { status = status; text = text; due = due; ends = record { only = inl refl; whole = λ e. a; failed = λ e. absurd (omega (arith, low, e)); memory = λ e. absurd (omega (arith, low, e)) } })
+    pub all_written : Appends sink.written sink_now.written text →
+        Outcome reclaimers request old new sink sink_now status
+    all_written a = inr (record {
+      status = status;
+      text = text;
+      due = due;
+      ends = record {
+        only = inl refl;
+        whole = λ e. a;
+        failed = λ e. absurd (omega (arith, low, e));
+        memory = λ e. absurd (omega (arith, low, e));
+      };
+    })
 
-    pub part_written : AppendsPart sink.written sink_now.written text → Rose sink.faults sink_now.faults → Outcome reclaimers request old new sink sink_now unwritten
-    part_written a rose = inr (record { status = status; text = text; due = due; ends = record { only = inr (inl refl); whole = λ e. absurd (omega (arith, low, e)); failed = λ e. (a, rose); memory = λ e. absurd (omega (arith, e)) } })
+    pub part_written : IsUnwritten text sink sink_now → Outcome reclaimers request old new sink sink_now unwritten
+    part_written a = inr (record {
+      status = status;
+      text = text;
+      due = due;
+      ends = record {
+        only = inr (inl refl);
+        whole = λ e. absurd (omega (arith, low, e));
+        failed = λ e. a;
+        memory = λ e. absurd (omega (arith, e));
+      };
+    })
 
-    pub memory_ran_out : AppendsPart sink.written sink_now.written text → Outcome reclaimers request old new sink sink_now no_memory
-    memory_ran_out a = inr (record { status = status; text = text; due = due; ends = record { only = inr (inr refl); whole = λ e. absurd (omega (arith, low, e)); failed = λ e. absurd (omega (arith, e)); memory = λ e. a } })
+    pub memory_ran_out : AppendsPart sink.written sink_now.written text →
+        Outcome reclaimers request old new sink sink_now no_memory
+    memory_ran_out a = inr (record {
+      status = status;
+      text = text;
+      due = due;
+      ends = record {
+        only = inr (inr refl);
+        whole = λ e. absurd (omega (arith, low, e));
+        failed = λ e. absurd (omega (arith, e));
+        memory = λ e. a;
+      };
+    })

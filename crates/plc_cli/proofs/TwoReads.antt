@@ -6,13 +6,28 @@ use Rattle.std.proofs.lemmas.Bool.{false≢true}
 use Rattle.std.proofs.lemmas.Slice.Eq.{bytes_eq-Decides}
 use Rattle.plc_base.specs.Limits.{largest_file}
 use Rattle.plc_outside.specs.Known.{KnownFiles}
-use Rattle.plc_cli.specs.Reads.{FilesAreKept, NoFaultBut, Only, Either, IsUnread, IsGivenFile, IsSecondUnread, IsGivenPair, reading}
+use Rattle.plc_outside.specs.Reading.{Reading}
+use Rattle.plc_cli.specs.Reads.{FilesAreKept, NoFaultBut, Only, Either, reading}
+use Rattle.plc_cli.specs.Reads.{IsUnread, IsUnreadPair, IsGivenFile, IsSecondUnread, IsGivenPair}
+use Rattle.plc_cli.specs.Statuses.{unread}
 use Rattle.plc_cli.specs.Views.{IsFound}
 
 -- bytes that a read gave, where the content is told
 pub told_is : (told : Option (List ℕ)) (bytes content : List ℕ) → IfSome told (λ c. bytes ≡ c) → told ≡ Some content → bytes ≡ content
 told_is None bytes content h e = absurd cc
 told_is (Some c) bytes content h e = cc
+
+-- the status where a file can't be read
+module _ (status : ℕ) (text : List ℕ) where
+  pub unread_status : (may : List ℕ → Type 0) (old new : KnownFiles) (before : List Reading) (name : List ℕ)
+      (most : ℕ) → IsUnread may old new before name most status text → status ≡ unread
+  unread_status may old new before name most (inl failed) = failed.status_is
+  unread_status may old new before name most (inr long) = long.status_is
+
+  pub unread_pair_status : (old new : KnownFiles) (first second : List ℕ) (most : ℕ) →
+      IsUnreadPair old new first second most status text → status ≡ unread
+  unread_pair_status old new first second most (inl none) = unread_status _ _ _ _ _ _ none
+  unread_pair_status old new first second most (inr none) = unread_status _ _ _ _ _ _ none.unread
 
 -- a read lowers no count
 pub one_read_keeps : (old new : KnownFiles) (name : List ℕ) → ((other : List ℕ) → new.content other ≡ old.content other) → ((other : List ℕ) → other ≢ name → new.faults other ≡ old.faults other) → old.faults name ≤ new.faults name → FilesAreKept old new

@@ -2,7 +2,6 @@
 use Rattle.std.proofs.Common.{◌≡◌, inl, inr, ℕ, List, Some, subst}
 use Rattle.plc_base.specs.Limits.{largest_certificate}
 use Rattle.plc_outside.specs.Known.{KnownFiles}
-use Rattle.plc_outside.specs.Reading.{Reading}
 use Rattle.plc_parse.specs.declared.unit.Unit.{Unit as FileUnit}
 use Rattle.plc_flow.specs.Lowering.{flow_of}
 use Rattle.plc_cert.specs.declared.cert.Cert.{Cert}
@@ -10,9 +9,9 @@ use Rattle.plc_verify.proofs.Refused.{valid_prove}
 use Rattle.plc_check.specs.Loading.{IsFileOf, judged_of}
 use Rattle.plc_cli.specs.Certificates.{IsVerificationOf, IsCertificateAnswered, IsCertificateJudged}
 use Rattle.plc_cli.specs.Headline.{IsSafeProgram, IsSafePair}
-use Rattle.plc_cli.specs.Reads.{IsUnread, IsUnreadPair, IsDueForPair}
+use Rattle.plc_cli.specs.Reads.{IsDueForPair}
 use Rattle.plc_cli.proofs.Racing.{never_races}
-use Rattle.plc_cli.proofs.TwoReads.{told_is}
+use Rattle.plc_cli.proofs.TwoReads.{told_is, unread_pair_status}
 
 -- what is due for a file and its certificate
 abbrev pub IsDue : ℕ → List ℕ → KnownFiles → KnownFiles → List ℕ → List ℕ → Type 0
@@ -20,14 +19,6 @@ IsDue status text old new name certificate =
     IsDueForPair old new name certificate largest_certificate (λ bytes second. IsVerificationOf bytes second status text) status text
 
 module _ (status : ℕ) (text : List ℕ) (is_0 : status ≡ 0) where
-  read_at_0 : (may : List ℕ → Type 0) (old new : KnownFiles) (before : List Reading) (name : List ℕ) (most : ℕ) → IsUnread may old new before name most status text → ⊥
-  read_at_0 may old new before name most (inl failed) = let is = failed.status_is in absurd cc
-  read_at_0 may old new before name most (inr long) = let is = long.status_is in absurd cc
-
-  pair_read_at_0 : (old new : KnownFiles) (first second : List ℕ) (most : ℕ) → IsUnreadPair old new first second most status text → ⊥
-  pair_read_at_0 old new first second most (inl none) = read_at_0 _ _ _ _ _ _ none
-  pair_read_at_0 old new first second most (inr none) = read_at_0 _ _ _ _ _ _ none.unread
-
   module _ (bytes : List ℕ) (u : FileUnit) (spelled : IsFileOf bytes u) where
     judged_safe : (cert : Cert) → IsCertificateJudged (judged_of u) cert status text → IsSafeProgram bytes
     judged_safe cert (inl verified) =
@@ -45,10 +36,10 @@ module _ (status : ℕ) (text : List ℕ) (is_0 : status ≡ 0) where
 
   module _ (old new : KnownFiles) (name certificate : List ℕ) where
     pub safe_pair : IsDue status text old new name certificate → IsSafePair old new name certificate
-    safe_pair (inl unread) = absurd (pair_read_at_0 _ _ _ _ _ unread)
+    safe_pair (inl unread) = let is = unread_pair_status status text _ _ _ _ _ unread in absurd cc
     safe_pair (inr due) = record { bytes = due.0; second = due.1; given = due.2; safe = verification_safe due.0 due.1 due.3 }
 
     pub safe_content : (content : List ℕ) → old.content name ≡ Some content → IsDue status text old new name certificate → IsSafeProgram content
-    safe_content content told (inl unread) = absurd (pair_read_at_0 _ _ _ _ _ unread)
+    safe_content content told (inl unread) = let is = unread_pair_status status text _ _ _ _ _ unread in absurd cc
     safe_content content told (inr due) =
         verification_safe content due.1 (subst (λ (bytes : List ℕ). IsVerificationOf bytes due.1 status text) (told_is (old.content name) due.0 content due.2.read.told told) due.3)

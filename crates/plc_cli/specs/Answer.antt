@@ -1,5 +1,5 @@
 -- The status and the text that are due for words and files.
-use Rattle.std.specs.Prelude.{◌≡◌, ◌≢◌, ◌⊎◌, ℕ, List, [], Option, Some, None, slice_get}
+use Rattle.std.specs.Prelude.{◌≡◌, ◌≢◌, ◌⊎◌, ◌<◌, ℕ, List, [], length, Option, Some, None, slice_get}
 use Rattle.plc_base.specs.Limits.{largest_schedule, largest_certificate}
 use Rattle.plc_outside.specs.Known.{KnownFiles, KnownSink}
 use Rattle.plc_outside.specs.Outside.{Rose, Appends, AppendsPart}
@@ -92,11 +92,17 @@ IsDueFor reclaimers (Some (Replay file schedule number)) old new status text =
     IsDueForReplay reclaimers old new file schedule number status text
 IsDueFor reclaimers (Some (Sample k n)) old new status text = IsDueForSample old new k n status text
 
+-- the sink took a part of the text alone: its count rose or can't rise, and its room was less than the text
+pub record IsUnwritten (text : List ℕ) (old new : KnownSink) : Type 0 where
+  pub part : AppendsPart old.written new.written text
+  pub rose : Rose old.faults new.faults
+  pub room : old.room < length text
+
 -- what was written for a due status: the whole text, or a part of it and the cause
 pub record Ends (status : ℕ) (text : List ℕ) (old new : KnownSink) (result : ℕ) : Type 0 where
   pub only : (result ≡ status) ⊎ ((result ≡ unwritten) ⊎ (result ≡ no_memory))
   pub whole : result ≡ status → Appends old.written new.written text
-  pub failed : result ≡ unwritten → AppendsPart old.written new.written text × Rose old.faults new.faults
+  pub failed : result ≡ unwritten → IsUnwritten text old new
   pub memory : result ≡ no_memory → AppendsPart old.written new.written text
 
 -- the due text was written as far as it went

@@ -1,6 +1,7 @@
 -- what contracts of public calls say
 pub mod Answer
 pub mod Certificates
+pub mod Completeness
 pub mod Files
 pub mod Headline
 pub mod Program

@@ -6,6 +6,7 @@ use Rattle.plc_reclaim.specs.Rows.{ActsAs, leak_row, list_row, hazard_row, epoch
 use Rattle.plc_cli.specs.Reads.{FilesAreKept}
 use Rattle.plc_cli.specs.Requests.{asks_for_files, request_of}
 use Rattle.plc_cli.specs.Answer.{Outcome}
+use Rattle.plc_cli.specs.Completeness.{Completeness}
 use Rattle.plc_cli.specs.Headline.{Headline}
 use Rattle.plc_cli.specs.Served.{ServedReplays}
 use Rattle.plc_cli.specs.Statuses.{no_memory}
@@ -33,6 +34,7 @@ pub record RunsWithOwn (words : List (List ℕ)) (old new : KnownFiles) (sink si
   pub own : AreOwn reclaimers
   pub outcome : Outcome reclaimers (request_of own_names words) old new sink sink_now result
   pub headline : Headline (request_of own_names words) old new result
+  pub completeness : Completeness reclaimers (request_of own_names words) old new sink sink_now result
   pub served : ServedReplays reclaimers (request_of own_names words) old new sink sink_now result
   pub untouched : asks_for_files (request_of own_names words) ≡ false → new ≡ old
   pub files_kept : FilesAreKept old new

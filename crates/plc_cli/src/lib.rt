@@ -34,11 +34,20 @@
 //! ends in a free that the observer forbids: under one that acts as `hazard` where the file has no
 //! `use epoch`, and under one that acts as `epoch` where it has no `use hazard`. So it is of `Hazard` and
 //! `Epoch`, whose `new` promises how they act; `run_with_own` is `run` with these two, `leak` and `list`.
+//!
+//! # Where the outside has no fault
+//!
+//! The clause `completeness` says when nothing but the files decides. Where their contents are told, no count of
+//! them and not the sink's rises, the sink's isn't at its last value, and no content is too long, the status and the
+//! text are those due to the contents, or memory ran out. Where the sink also has room for whatever may be due, the
+//! statuses 4 and 5 come only as `read too long`; so it is over `HonestFiles` and a `FixedSink` with room
+//! (`honest_runs_are_answered`).
 #![tactic(auto)]
 
 mod answer;
 mod certifying;
 mod checking;
+mod laws;
 mod own;
 mod printing;
 mod program;
@@ -49,6 +58,7 @@ mod status;
 mod verifying;
 mod words;
 
+pub use laws::honest_runs_are_answered;
 pub use own::run_with_own;
 pub use plc_outside::{
     FailSink, FileFault, Files, FixedSink, HonestFiles, MemFiles, OutSink, RealFiles, Sink,

@@ -4,6 +4,7 @@ ghost use Rattle.std.specs.Prelude.{◌≡◌, ◌≤◌, false, IfOk, map, stri
 ghost use Rattle.plc_cli.specs.Requests.{asks_for_files, request_of};
 ghost use Rattle.plc_cli.specs.Reads.{FilesAreKept};
 ghost use Rattle.plc_cli.specs.Answer.{IsDueFor, Outcome};
+ghost use Rattle.plc_cli.specs.Completeness.{Completeness};
 ghost use Rattle.plc_cli.specs.Headline.{Headline};
 ghost use Rattle.plc_cli.specs.Served.{ServedReplays};
 
@@ -57,8 +58,8 @@ fn answer_to<F: Files>(
 ///
 /// `words` are those after the program's name, and `reclaimers` those that a replay may ask for by name;
 /// of those of one name the first counts, and all are dropped at the end. The statuses and the causes of
-/// each are in docs/formats.md; what a 0 of `check` means and what `replay` rules out stands at the head
-/// of this crate, and in docs/runs.md.
+/// each are in docs/formats.md; what a 0 of `check` means, what `replay` rules out and when the contents of
+/// the files alone decide stands at the head of this crate, and in docs/runs.md.
 pub fn run<F: Files, S: Sink>(
     alloc: Global,
     words: &[String],
@@ -71,6 +72,9 @@ pub fn run<F: Files, S: Sink>(
         (F.known files.old) (F.known files.new) (S.known out.old) (S.known out.new) result }
     ensures headline { Headline (request_of (map named reclaimers.items) (map string_bytes words.now))
         (F.known files.old) (F.known files.new) result }
+    ensures completeness { Completeness (map meanings reclaimers.items)
+        (request_of (map named reclaimers.items) (map string_bytes words.now))
+        (F.known files.old) (F.known files.new) (S.known out.old) (S.known out.new) result }
     ensures served { ServedReplays (map meanings reclaimers.items)
         (request_of (map named reclaimers.items) (map string_bytes words.now))
         (F.known files.old) (F.known files.new) (S.known out.old) (S.known out.new) result }

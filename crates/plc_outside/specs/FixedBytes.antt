@@ -1,5 +1,7 @@
 -- A sink with a room that is there from the first, and what a write to it answers.
-use Rattle.std.specs.Prelude.{◌≡◌, ℕ, ◌<◌, ◌-◌, ◌++◌, ◌↔◌, List, length, min, take, Result, IfOk, IfErr, OnErr, IsErrOf}
+use Rattle.std.specs.Prelude.{◌≡◌, ℕ, ◌<◌, ◌-◌, ◌++◌, ◌↔◌, List, length, min, take, Some}
+use Rattle.std.specs.Prelude.{Result, IfOk, IfErr, OnErr, IsErrOf}
+use Rattle.plc_outside.specs.Known.{KnownSink}
 use Rattle.plc_outside.specs.Outside.{CountsFault}
 use Rattle.plc_outside.specs.declared.sinks.SinkFault.{SinkFault}
 use Rattle.plc_outside.specs.declared.sinks.SinkFault.TheVariants.{Failed}
@@ -13,6 +15,10 @@ pub record FixedBytes : Type 0 where
 -- what is left of the room
 abbrev pub left : FixedBytes → ℕ
 left s = s.room - length s.written
+
+-- what is known of it: all bytes for which there is room are taken
+abbrev pub known_of : FixedBytes → KnownSink
+known_of s = record { written = Some s.written; faults = s.faults; room = left s }
 
 -- The answer to a write of so many bytes: as many as there is room for, and a failure where there is none.
 pub record AnswersFixedPut (s : FixedBytes) (size : ℕ) (result : Result ℕ SinkFault) : Type 0 where

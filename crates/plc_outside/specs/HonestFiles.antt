@@ -1,5 +1,6 @@
 -- Files in memory whose reads never fail.
-use Rattle.std.specs.Prelude.{◌≡◌, ℕ, List, [], length, Vec, Result, unwrap_or}
+use Rattle.std.specs.Prelude.{◌≡◌, ℕ, List, [], length, Some, Vec, Result, unwrap_or}
+use Rattle.plc_outside.specs.Known.{KnownFiles}
 use Rattle.plc_outside.specs.Outside.{NotesReading}
 use Rattle.plc_outside.specs.Reading.{Reading}
 use Rattle.plc_outside.specs.StoredFiles.{content_of}
@@ -18,6 +19,10 @@ bytes_of files name = unwrap_or (content_of files name) []
 -- no read of any name fails
 abbrev pub no_faults : List ℕ → ℕ
 no_faults name = 0
+
+-- what is known of them: all contents are told, and no count is ever above 0
+abbrev pub known_of : HonestlyStored → KnownFiles
+known_of s = record { content = λ name. Some (bytes_of s.files name); faults = no_faults; taken = s.taken; given = s.given }
 
 -- The files after a read of a name.
 pub record IsAfterHonestRead {Z : Type 0} (old new : HonestlyStored) (name : List ℕ)

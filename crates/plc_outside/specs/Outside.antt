@@ -1,6 +1,8 @@
 -- What a read and a write may answer, and why.
-use Rattle.std.specs.Prelude.{◌≡◌, ℕ, ◌<◌, ◌≤◌, ◌⊎◌, List, [], ◌∷◌, ◌++◌, length, take, Option, Some, Vec, Result, MatchResult, IfOk, IfSome, IsErrOf}
+use Rattle.std.specs.Prelude.{◌≡◌, ℕ, ◌+◌, ◌<◌, ◌≤◌, ◌⊎◌, List, [], ◌∷◌, ◌++◌, length, take, Option, Some, Vec}
+use Rattle.std.specs.Prelude.{Result, MatchResult, IfOk, IfSome, OnErr, IsErrOf}
 use Rattle.plc_outside.specs.Counts.{last_count, one_more}
+use Rattle.plc_outside.specs.Known.{KnownSink}
 use Rattle.plc_outside.specs.Reading.{Reading}
 use Rattle.plc_outside.specs.declared.files.FileFault.{FileFault}
 use Rattle.plc_outside.specs.declared.files.FileFault.TheVariants as file
@@ -43,6 +45,13 @@ pub record PutHasCause {T : Type 0} (before now : ℕ) (result : Result T SinkFa
   pub later : before ≤ now
   pub failed : IsErrOf result sink.Failed → Rose before now
 
+-- The room after a write of so many bytes: what is taken is taken from it, and no more; a write of some bytes fails only
+-- where there is none, and a fault leaves it.
+pub record LeavesRoom (before now size : ℕ) (result : Result ℕ SinkFault) : Type 0 where
+  pub failed : IsErrOf result sink.Failed → 0 < size → before ≡ 0
+  pub taken : IfOk result (λ n. before ≤ now + n)
+  pub kept : OnErr result (now ≡ before)
+
 -- A count that a sink keeps as a u64: `Failed` raises it by one, up to its last value, and no other answer changes it.
 pub record CountsFault {T : Type 0} (old new : ℕ) (result : Result T SinkFault) : Type 0 where
   pub failed : IsErrOf result sink.Failed → new ≡ one_more old
@@ -55,3 +64,12 @@ Appends old new text = IfSome old (λ written. new ≡ Some (written ++ text))
 -- a prefix of the text was appended that is shorter than the text
 abbrev pub AppendsPart : Option (List ℕ) → Option (List ℕ) → List ℕ → Type 0
 AppendsPart old new text = (n : ℕ) × (n < length text) × Appends old new (take n text)
+
+-- A write of a piece: its first bytes are appended, at least one where there are any, or else nothing is, with a cause.
+pub record Puts (old new : KnownSink) (piece : List ℕ) (result : Result ℕ SinkFault) : Type 0 where
+  pub appends : IfOk result (λ n. Appends old.written new.written (take n piece))
+  pub bound : IfOk result (λ n. n ≤ length piece)
+  pub goes_on : IfOk result (λ n. 0 < length piece → 0 < n)
+  pub err : OnErr result (Appends old.written new.written [])
+  pub cause : PutHasCause old.faults new.faults result
+  pub room : LeavesRoom old.room new.room (length piece) result

@@ -1,5 +1,6 @@
 -- What is known of the files of the system and of a writer of std.
 use Rattle.std.specs.Prelude.{ℕ, List, Option}
+use Rattle.plc_outside.specs.Known.{KnownSink}
 use Rattle.plc_outside.specs.Reading.{Reading}
 
 -- The names whose reads failed, how many bytes the latest read took, and the reads that gave bytes.
@@ -12,3 +13,7 @@ pub record RealReads : Type 0 where
 pub record RealWrites : Type 0 where
   pub written : Option (List ℕ)
   pub faults : ℕ
+
+-- what is known of it: any write may fail, so no byte is surely taken
+abbrev pub known_of : RealWrites → KnownSink
+known_of s = record { written = s.written; faults = s.faults; room = 0 }

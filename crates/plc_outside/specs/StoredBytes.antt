@@ -1,9 +1,16 @@
--- A sink in memory that takes a few bytes a call and fails at given calls, and what a write to it answers.
-use Rattle.std.specs.Prelude.{◌≡◌, ℕ, ◌==◌, ◌||◌, ◌&&◌, ◌↔◌, ◌++◌, not, Bool, IsTrue, List, min, take, Result, IfOk, OnErr, IsErrOf}
+-- What is known of a sink in memory that grows; and a sink in memory that takes a few bytes a call and fails at given calls,
+-- with what a write to it answers.
+use Rattle.std.specs.Prelude.{◌≡◌, ℕ, ◌==◌, ◌||◌, ◌&&◌, ◌↔◌, ◌++◌, not, Bool, IsTrue, List, min, take, Some}
+use Rattle.std.specs.Prelude.{Result, IfOk, OnErr, IsErrOf}
 use Rattle.plc_outside.specs.Counts.{one_more, is_failing}
+use Rattle.plc_outside.specs.Known.{KnownSink}
 use Rattle.plc_outside.specs.Outside.{CountsFault}
 use Rattle.plc_outside.specs.declared.sinks.SinkFault.{SinkFault}
 use Rattle.plc_outside.specs.declared.sinks.SinkFault.TheVariants.{Failed}
+
+-- what is known of a sink that grows, by what was written: memory may run out at any byte
+abbrev pub known_bytes : List ℕ → KnownSink
+known_bytes bytes = record { written = Some bytes; faults = 0; room = 0 }
 
 -- The most bytes of a call, the calls that are to fail, how many calls there were, what was written, and the count of
 -- faults.
@@ -13,6 +20,10 @@ pub record StoredBytes : Type 0 where
   pub calls : ℕ
   pub written : List ℕ
   pub faults : ℕ
+
+-- what is known of it: it may fail at any call, so no byte is surely taken
+abbrev pub known_of : StoredBytes → KnownSink
+known_of s = record { written = Some s.written; faults = s.faults; room = 0 }
 
 -- the next write of so many bytes fails: the call is to fail, or it would take nothing of a piece with bytes
 abbrev pub put_fails : StoredBytes → ℕ → Bool

@@ -1,15 +1,16 @@
 // A sink whose room is there from the first, so that no write to it asks for memory: what it answers goes by
 // the room that is left alone.
-ghost use Rattle.std.specs.Prelude.{◌≡◌, ◌≤◌, ◌<◌, [], Some, IfOk, OnErr, length, take};
-ghost use Rattle.plc_outside.specs.Outside.{PutHasCause, Appends};
-ghost use Rattle.plc_outside.specs.FixedBytes.{AnswersFixedPut, IsAfterFixedPut};
+ghost use Rattle.std.specs.Prelude.{◌≡◌, [], IfOk, length};
+ghost use Rattle.plc_outside.specs.Outside.{Puts};
+ghost use Rattle.plc_outside.specs.FixedBytes.{known_of, AnswersFixedPut, IsAfterFixedPut};
 
 use crate::sinks::{Sink, SinkFault};
 use plc_base::NoMemory;
 use std::alloc::Global;
 use std::marker::Model;
 
-/// A sink that takes so many bytes and no more. Where it is full it counts a fault and fails.
+/// A sink that takes so many bytes and no more. Where it is full it counts a fault and fails, and only
+/// there.
 #[derive(Drop)]
 pub struct FixedSink {
     // the whole room, of which the first bytes were written
@@ -54,15 +55,10 @@ impl FixedSink {
 }
 
 impl Sink for FixedSink {
-    ghost known = { λ s. record { written = Some s.written; faults = s.faults } };
+    ghost known = { known_of };
 
     fn put(&mut self, piece: &[u8]) -> Result<usize, SinkFault>
-        ensures appends { IfOk result (λ n.
-            Appends (Some self.old.written) (Some self.new.written) (take n piece.now)) }
-        ensures bound { IfOk result (λ n. n ≤ length piece.now) }
-        ensures goes_on { IfOk result (λ n. 0 < length piece.now → 0 < n) }
-        ensures err { OnErr result (Appends (Some self.old.written) (Some self.new.written) []) }
-        ensures cause { PutHasCause self.old.faults self.new.faults result }
+        ensures puts { Puts (known_of self.old) (known_of self.new) piece.now result }
 
         // Each answer, and the sink after it.
         ensures answer { AnswersFixedPut self.old (length piece.now) result }

@@ -3,7 +3,7 @@
 ghost use Rattle.std.specs.Prelude.{◌≡◌, ◌≢◌, [], ℕ, List, Some};
 ghost use Rattle.plc_outside.specs.Outside.{ReadHasCause, AgreesWith, NotesReading};
 ghost use Rattle.plc_outside.specs.StoredFiles.{entries_of, Answers};
-ghost use Rattle.plc_outside.specs.HonestFiles.{bytes_of, no_faults, IsAfterHonestRead};
+ghost use Rattle.plc_outside.specs.HonestFiles.{bytes_of, no_faults, known_of, IsAfterHonestRead};
 
 use crate::files::{FileFault, Files};
 use crate::memory::find;
@@ -58,12 +58,7 @@ fn bytes_of<'a>(files: &'a [(String, Vec<u8>)], name: &str) -> &'a [u8]
 }
 
 impl Files for HonestFiles {
-    ghost known = { λ s. record {
-      content = λ name. Some (bytes_of s.files name);
-      faults = no_faults;
-      taken = s.taken;
-      given = s.given;
-    } };
+    ghost known = { known_of };
 
     fn read(&mut self, name: &str, max: usize) -> Result<Vec<u8>, FileFault>
         ensures content { (other : List ℕ) →

@@ -1,11 +1,10 @@
 // Sinks that keep what is written in memory. `VecSink` takes every piece whole. `FailSink` takes a
 // few bytes a call and fails at given calls, so a caller's loop and its handling of a fault can be
 // tried at each turn.
-ghost use Rattle.std.specs.Prelude.{◌≡◌, ◌≤◌, ◌<◌, ◌++◌, ◌==◌, ◌&&◌, ◌||◌, not};
-ghost use Rattle.std.specs.Prelude.{[], Some, IfOk, IfErr, OnErr, length, take};
+ghost use Rattle.std.specs.Prelude.{◌≡◌, ◌++◌, ◌==◌, ◌&&◌, ◌||◌, not, [], IfOk, IfErr, length};
 ghost use Rattle.plc_outside.specs.Counts.{is_failing};
-ghost use Rattle.plc_outside.specs.Outside.{PutHasCause, Appends};
-ghost use Rattle.plc_outside.specs.StoredBytes.{AnswersPut, IsAfterPut};
+ghost use Rattle.plc_outside.specs.Outside.{Puts};
+ghost use Rattle.plc_outside.specs.StoredBytes.{known_bytes, known_of, AnswersPut, IsAfterPut};
 
 use crate::sinks::{Sink, SinkFault};
 use std::alloc::Global;
@@ -44,14 +43,10 @@ impl VecSink {
 }
 
 impl Sink for VecSink {
-    ghost known = { λ s. record { written = Some s; faults = 0 } };
+    ghost known = { known_bytes };
 
     fn put(&mut self, piece: &[u8]) -> Result<usize, SinkFault>
-        ensures appends { IfOk result (λ n. Appends (Some self.old) (Some self.new) (take n piece.now)) }
-        ensures bound { IfOk result (λ n. n ≤ length piece.now) }
-        ensures goes_on { IfOk result (λ n. 0 < length piece.now → 0 < n) }
-        ensures err { OnErr result (Appends (Some self.old) (Some self.new) []) }
-        ensures cause { PutHasCause 0 0 result }
+        ensures puts { Puts (known_bytes self.old) (known_bytes self.new) piece.now result }
 
         // It takes the whole piece, and only running out of memory stops it.
         ensures whole { IfOk result (λ n. (n ≡ length piece.now) × (self.new ≡ self.old ++ piece.now)) }
@@ -124,15 +119,10 @@ fn fails(failing: &[u64], call: u64, most: usize, size: usize) -> bool
 }
 
 impl Sink for FailSink {
-    ghost known = { λ s. record { written = Some s.written; faults = s.faults } };
+    ghost known = { known_of };
 
     fn put(&mut self, piece: &[u8]) -> Result<usize, SinkFault>
-        ensures appends { IfOk result (λ n.
-            Appends (Some self.old.written) (Some self.new.written) (take n piece.now)) }
-        ensures bound { IfOk result (λ n. n ≤ length piece.now) }
-        ensures goes_on { IfOk result (λ n. 0 < length piece.now → 0 < n) }
-        ensures err { OnErr result (Appends (Some self.old.written) (Some self.new.written) []) }
-        ensures cause { PutHasCause self.old.faults self.new.faults result }
+        ensures puts { Puts (known_of self.old) (known_of self.new) piece.now result }
 
         // Each answer, and the sink after it.
         ensures answer { AnswersPut self.old (length piece.now) result }

@@ -3,8 +3,9 @@
 // and that no more is taken than was asked for. This module alone is trusted to do what it says.
 ghost use Rattle.std.specs.Prelude.{◌≡◌, ◌≢◌, ◌≤◌, ◌<◌, ◌+◌, ◌++◌, ℕ, Some, None, IfSome};
 ghost use Rattle.std.specs.Prelude.{List, [], IfOk, IfErr, OnOk, OnErr, IsErrOf, length, take, drop};
-ghost use Rattle.plc_outside.specs.Outside.{ReadHasCause, AgreesWith, NotesReading, PutHasCause, CountsFault, Appends};
+ghost use Rattle.plc_outside.specs.Outside.{ReadHasCause, AgreesWith, NotesReading, Puts, CountsFault};
 ghost use Rattle.plc_outside.specs.Failures.{times, NotesFailure};
+ghost use Rattle.plc_outside.specs.Real.{known_of};
 
 use crate::failures::FailedReads;
 use crate::files::{FileFault, Files};
@@ -179,14 +180,10 @@ impl<W: Write + Drop> OutSink<W> {
 }
 
 impl<W: Write + Drop> Sink for OutSink<W> {
-    ghost known = { λ s. record { written = s.written; faults = s.faults } };
+    ghost known = { known_of };
 
     fn put(&mut self, piece: &[u8]) -> Result<usize, SinkFault>
-        ensures appends { IfOk result (λ n. Appends self.old.written self.new.written (take n piece.now)) }
-        ensures bound { IfOk result (λ n. n ≤ length piece.now) }
-        ensures goes_on { IfOk result (λ n. 0 < length piece.now → 0 < n) }
-        ensures err { OnErr result (Appends self.old.written self.new.written []) }
-        ensures cause { PutHasCause self.old.faults self.new.faults result }
+        ensures puts { Puts (known_of self.old) (known_of self.new) piece.now result }
 
         // Each fault is `Failed`, and counted.
         ensures fault { IfErr result (λ fault. fault ≡ SinkFault.Failed) }

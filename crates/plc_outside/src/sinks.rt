@@ -2,9 +2,9 @@
 // piece as it likes, but never nothing of a piece that has bytes: a caller that goes on with the
 // rest comes to an end. What was written is known to proofs where the sink tells it, and a fault
 // raises a count, so that no sink can refuse without a cause.
-ghost use Rattle.std.specs.Prelude.{◌≡◌, ◌≤◌, ◌<◌, [], IfOk, OnErr, length, take};
+ghost use Rattle.std.specs.Prelude.{◌≡◌};
 ghost use Rattle.plc_outside.specs.Known.{KnownSink};
-ghost use Rattle.plc_outside.specs.Outside.{PutHasCause, Appends};
+ghost use Rattle.plc_outside.specs.Outside.{Puts};
 ghost use Rattle.plc_outside.specs.declared.sinks.SinkFault.TheVariants.{Memory};
 
 use std::alloc::AllocError;
@@ -31,8 +31,8 @@ impl From<AllocError> for SinkFault {
 
 /// A sink takes bytes, piece by piece.
 pub trait Sink {
-    /// What is known of it: what was written, where it is told, and how many writes failed. No call takes
-    /// written bytes back, and the count never falls.
+    /// What is known of it: what was written, where it is told, how many writes failed, and how many more
+    /// bytes it surely takes before a write fails. No call takes written bytes back, and the count never falls.
     ghost known: { Self → KnownSink };
 
     /// Writes the first bytes of the piece and answers how many they are, which is at least 1 where
@@ -40,12 +40,8 @@ pub trait Sink {
     ///
     /// After `Failed` and `Memory` nothing more is written. `Failed` comes only where the count of
     /// faults rose in this call or stands at the last value of a `u64`: a sink that takes nothing of
-    /// a piece with bytes counts a fault too.
+    /// a piece with bytes counts a fault too. Of such a piece it comes only where the sink has no room for
+    /// sure; each byte that is taken takes one of that room at most.
     fn put(&mut self, piece: &[u8]) -> Result<usize, SinkFault>
-        ensures appends { IfOk result (λ n.
-            Appends (known self.old).written (known self.new).written (take n piece.now)) }
-        ensures bound { IfOk result (λ n. n ≤ length piece.now) }
-        ensures goes_on { IfOk result (λ n. 0 < length piece.now → 0 < n) }
-        ensures err { OnErr result (Appends (known self.old).written (known self.new).written []) }
-        ensures cause { PutHasCause (known self.old).faults (known self.new).faults result };
+        ensures { Puts (known self.old) (known self.new) piece.now result };
 }
