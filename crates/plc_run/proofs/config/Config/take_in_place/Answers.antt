@@ -55,10 +55,8 @@ returns-in_err-done-clause-err c =
 
 pub returns-in-Next-clause-answer : goal.returns-in-Next-clause-answer
 returns-in-Next-clause-answer c =
-    let v = the_view c.self.inside in
-    let q = the_view c.self-2.inside in
     let stands = rw (← c.self.view_is) at c.requires.ready.stands in
-    let to = went v q c.act-done.new.self c.take.new.self c.put.new.self c.args.t c.args.addr c.in-Some.me c.act-done.new.me c.args.point c.arrival.result c.args.step.now c.args.prim.now c.in_ok-done.field-0 c.in-Next.field-0 c.set_point.new.points.items
+    let to = went (the_view c.self.inside) (the_view c.self-2.inside) c.act-done.new.self c.take.new.self c.put.new.self c.args.t c.args.addr c.in-Some.me c.act-done.new.me c.args.point c.arrival.result c.args.step.now c.args.prim.now c.in_ok-done.field-0 c.in-Next.field-0 c.set_point.new.points.items
     (sym c.take.ensures.taken ∙ c.in-Some.is) c.take.ensures.rest c.requires.one stands c.in_ok-done.ensures.outcome c.in-Next.is c.self-2.view_is c.in_ok-done.ensures.next c.in_ok-done.ensures.history c.act-done.ensures.points c.put.ensures.given c.set_point.ensures c.arrival.ensures in
     rw (← c.self.view_is) (ap answer to)
 
