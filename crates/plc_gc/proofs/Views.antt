@@ -151,7 +151,7 @@ updates g m k n =
       count = λ small. length_put no_row g.rows k r small;
     }
 
--- a row behind the others reads as the default
+-- a row after the others reads as the default
 pushed : (rows : List Row) (r : Row) (m : Map) (k : ℕ) → row_entry r m ≡ 0 → row_entry (get_or (rows ++ r ∷ []) k no_row) m ≡ row_entry (get_or rows k no_row) m
 pushed [] r m zero e = e ∙ sym (no_entry m)
 pushed [] r m (suc k) e = refl

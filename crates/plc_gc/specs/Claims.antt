@@ -24,7 +24,8 @@ ClaimsHold g t (p ∷ ps) = (claim_holds g t p ≡ true) × (goes g t p ≡ true
 -- the truth of each claim that the primitives reach before one is blocked
 abbrev pub claims : GcState → ℕ → List Primitive → List Bool
 claims g t [] = []
-claims g t (p ∷ ps) = (if is_claim p then claim_holds g t p ∷ [] else []) ++ (if goes g t p then claims (after g t p) t ps else [])
+claims g t (p ∷ ps) =
+    (if is_claim p then claim_holds g t p ∷ [] else []) ++ (if goes g t p then claims (after g t p) t ps else [])
 
 -- each claim that a step reaches in any garbage-collected run is true
 abbrev pub AllClaimsHold : Flow → ℕ → Type 0

@@ -6,14 +6,16 @@ use Rattle.plc_lang.specs.Shape.{Shape, PrimitiveIn}
 use Rattle.plc_gc.specs.declared.slot.Slot.{Slot}
 use Rattle.plc_gc.specs.declared.slot.Slot.TheVariants.{Shared as in_shared, Local as in_local, Data as in_data}
 use Rattle.plc_gc.specs.declared.slot.Map.{Map}
-use Rattle.plc_gc.specs.declared.slot.Map.TheVariants.{Pointer as pointer_field, Number as data_field, Auxiliary as auxiliary_field, Retirement as retirement}
+use Rattle.plc_gc.specs.declared.slot.Map.TheVariants.{Pointer as pointer_field, Number as data_field}
+use Rattle.plc_gc.specs.declared.slot.Map.TheVariants.{Auxiliary as auxiliary_field, Retirement as retirement}
 use Rattle.plc_gc.specs.State.{GcState, Row, Locals, locals_of}
 use Rattle.plc_gc.specs.Ranges.{IsInRange}
 
 -- each row has so many fields, which are counted twice, and so many auxiliary fields
 abbrev pub RowsFit : ℕ → ℕ → List Row → Type 0
 RowsFit fields ghosts [] = Unit {0}
-RowsFit fields ghosts (r ∷ rs) = (length r.pointers ≡ fields) × (length r.values ≡ fields) × (length r.auxiliary ≡ ghosts) × RowsFit fields ghosts rs
+RowsFit fields ghosts (r ∷ rs) =
+    (length r.pointers ≡ fields) × (length r.values ≡ fields) × (length r.auxiliary ≡ ghosts) × RowsFit fields ghosts rs
 
 -- a row has an entry of this map
 abbrev pub EntryIn : Row → Map → Type 0
@@ -47,7 +49,12 @@ pub record Frame : Type 0 where
 -- that of thread t
 abbrev pub frame : GcState → ℕ → Frame
 frame g t = record {
-  shape = record { shared = length g.shared; pointers = length (locals_of g t).pointers; values = length (locals_of g t).values; fields = length g.fields };
+  shape = record {
+    shared = length g.shared;
+    pointers = length (locals_of g t).pointers;
+    values = length (locals_of g t).values;
+    fields = length g.fields;
+  };
   ghosts = g.ghosts;
 }
 

@@ -4,7 +4,8 @@ use Rattle.plc_lang.specs.declared.syntax.Field.{Field}
 use Rattle.plc_gc.specs.declared.slot.Slot.{Slot}
 use Rattle.plc_gc.specs.declared.slot.Slot.TheVariants.{Shared as in_shared, Local as in_local, Data as in_data}
 use Rattle.plc_gc.specs.declared.slot.Map.{Map}
-use Rattle.plc_gc.specs.State.{GcState, Locals, value, entry, count, put, update, made, with_locals, locals_or_none, fresh_state}
+use Rattle.plc_gc.specs.State.{GcState, Locals, value, entry, count, put, update, made, with_locals, locals_or_none}
+use Rattle.plc_gc.specs.State.{fresh_state}
 
 -- every map has at every node what it had, and there are as many nodes
 pub record SameNodes (g new : GcState) : Type 0 where

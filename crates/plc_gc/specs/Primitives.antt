@@ -1,4 +1,5 @@
--- The table of the primitives in the garbage-collected meaning, a function for each column: where it isn't blocked, and the state after it. No primitive is a race, and a refresh is the plain assignment.
+-- The table of the primitives in the garbage-collected meaning, a function for each column: where it isn't blocked, and
+-- the state after it. No primitive is a race, and a refresh is the plain assignment.
 use Rattle.std.specs.Prelude.{ℕ, suc, Bool, true, false, not, ◌==◌}
 use Rattle.plc_lang.specs.declared.syntax.Var.{Var}
 use Rattle.plc_lang.specs.declared.syntax.Arg.{Arg}
@@ -6,11 +7,15 @@ use Rattle.plc_lang.specs.declared.syntax.Arg.TheVariants as args
 use Rattle.plc_lang.specs.declared.syntax.GhostVal.{GhostVal}
 use Rattle.plc_lang.specs.declared.syntax.GhostVal.TheVariants as ghosts
 use Rattle.plc_lang.specs.declared.syntax.Primitive.{Primitive}
-use Rattle.plc_lang.specs.declared.syntax.Primitive.TheVariants.{Null, Copy, New, Load, Store, StoreNull, DataSet, DataLoad, DataStore, Eq, Ne, IsNull, NotNull, DataTest, Refresh, RefreshLoad, RefreshStore, Call, Done, Active, Ghost}
+use Rattle.plc_lang.specs.declared.syntax.Primitive.TheVariants.{Null, Copy, New, Load, Store, StoreNull, DataSet}
+use Rattle.plc_lang.specs.declared.syntax.Primitive.TheVariants.{DataLoad, DataStore, Eq, Ne, IsNull, NotNull, DataTest}
+use Rattle.plc_lang.specs.declared.syntax.Primitive.TheVariants.{Refresh, RefreshLoad, RefreshStore, Call, Done, Active}
+use Rattle.plc_lang.specs.declared.syntax.Primitive.TheVariants.{Ghost}
 use Rattle.plc_base.specs.Functions.{is_retire}
 use Rattle.plc_lang.specs.Comparison.{compares}
 use Rattle.plc_gc.specs.declared.slot.Slot.TheVariants.{Local as in_local, Data as in_data}
-use Rattle.plc_gc.specs.declared.slot.Map.TheVariants.{Pointer as pointer_field, Number as data_field, Auxiliary as auxiliary_field, Retirement as retirement}
+use Rattle.plc_gc.specs.declared.slot.Map.TheVariants.{Pointer as pointer_field, Number as data_field}
+use Rattle.plc_gc.specs.declared.slot.Map.TheVariants.{Auxiliary as auxiliary_field, Retirement as retirement}
 use Rattle.plc_gc.specs.State.{GcState, value, entry, count, put, update, made, slot, number_of}
 
 -- the node that the variable of thread t holds

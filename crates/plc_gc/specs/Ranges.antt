@@ -1,4 +1,5 @@
--- What every state of a garbage-collected run has: pointers lead to nodes that were made, and enumerated auxiliary fields have values of their own.
+-- What every state of a garbage-collected run has: pointers lead to nodes that were made, and enumerated auxiliary
+-- fields have values of their own.
 use Rattle.std.specs.Prelude.{◌≡◌, ℕ, ◌<◌, ◌≤◌, true, List, length, slice_get, Some}
 use Rattle.plc_lang.specs.declared.syntax.Primitive.{Primitive}
 use Rattle.plc_lang.specs.declared.syntax.Ghost.{Ghost as AuxiliaryField}
@@ -8,12 +9,14 @@ use Rattle.plc_flow.specs.declared.flow.Flow.{Flow}
 use Rattle.plc_flow.specs.declared.flow.Move.{Move}
 use Rattle.plc_gc.specs.declared.slot.Slot.TheVariants.{Shared as in_shared, Local as in_local}
 use Rattle.plc_gc.specs.declared.slot.Map.{Map}
-use Rattle.plc_gc.specs.declared.slot.Map.TheVariants.{Pointer as pointer_field, Number as data_field, Auxiliary as auxiliary_field, Retirement as retirement}
+use Rattle.plc_gc.specs.declared.slot.Map.TheVariants.{Pointer as pointer_field, Number as data_field}
+use Rattle.plc_gc.specs.declared.slot.Map.TheVariants.{Auxiliary as auxiliary_field, Retirement as retirement}
 use Rattle.plc_gc.specs.State.{GcState, value, entry, count}
 use Rattle.plc_gc.specs.Primitives.{goes, after}
 use Rattle.plc_gc.specs.Run.{GcConfiguration, GcRun, Moves, first_configuration}
 
--- null and each node to which a pointer leads are made; null's pointer fields are null and its data fields 0, and it isn't retired; retirement is 0 or 1
+-- null and each node to which a pointer leads are made; null's pointer fields are null and its data fields 0, and it
+-- isn't retired; retirement is 0 or 1
 pub record IsInRange (g : GcState) : Type 0 where
   pub null_made : 0 < count g
   pub shared : (i : ℕ) → value g (in_shared i) < count g
@@ -29,7 +32,8 @@ pub record IsInRange (g : GcState) : Type 0 where
 pub record RunsStayInRange (flow : Flow) (threads : ℕ) : Type 0 where
   pub begun : (c : GcConfiguration) → first_configuration flow threads ≡ Some c → IsInRange c.state
   pub by_primitive : (g : GcState) (t : ℕ) (k : Primitive) → goes g t k ≡ true → IsInRange g → IsInRange (after g t k)
-  pub by_move : (c d : GcConfiguration) (move : Move) → Moves flow threads c move d → IsInRange c.state → IsInRange d.state
+  pub by_move : (c d : GcConfiguration) (move : Move) → Moves flow threads c move d → IsInRange c.state
+      → IsInRange d.state
   pub run : (moves : List Move) (c : GcConfiguration) → GcRun flow threads moves c → IsInRange c.state
 
 -- an auxiliary field of the file that has values has one of them at every node
@@ -41,6 +45,8 @@ ValuesAreInRange file g =
 -- it holds where a run begins, and each primitive whose writes fit their fields and each move keeps it
 pub record RunsKeepValues (flow : Flow) (threads : ℕ) : Type 0 where
   pub begun : (c : GcConfiguration) → first_configuration flow threads ≡ Some c → ValuesAreInRange flow.file c.state
-  pub by_primitive : (g : GcState) (t : ℕ) (k : Primitive) → IsWellSorted flow.file k → ValuesAreInRange flow.file g → ValuesAreInRange flow.file (after g t k)
-  pub by_move : (c d : GcConfiguration) (move : Move) → Moves flow threads c move d → ValuesAreInRange flow.file c.state → ValuesAreInRange flow.file d.state
+  pub by_primitive : (g : GcState) (t : ℕ) (k : Primitive) → IsWellSorted flow.file k → ValuesAreInRange flow.file g
+      → ValuesAreInRange flow.file (after g t k)
+  pub by_move : (c d : GcConfiguration) (move : Move) → Moves flow threads c move d → ValuesAreInRange flow.file c.state
+      → ValuesAreInRange flow.file d.state
   pub run : (moves : List Move) (c : GcConfiguration) → GcRun flow threads moves c → ValuesAreInRange flow.file c.state

@@ -1,5 +1,7 @@
--- What a garbage-collected move leads to, as a function: the code answers by it, and a proof says that it is what `Moves` says.
-use Rattle.std.specs.Prelude.{ℕ, Bool, ◌==◌, ◌&&◌, nat_lt, if◌then◌else◌, List, length, get_or, slice_get, Option, Some, None, is_none}
+-- What a garbage-collected move leads to, as a function: the code answers by it, and a proof says that it is what
+-- `Moves` says.
+use Rattle.std.specs.Prelude.{ℕ, Bool, ◌==◌, ◌&&◌, nat_lt, if◌then◌else◌, List, length, get_or, slice_get, Option, Some}
+use Rattle.std.specs.Prelude.{None, is_none}
 use Rattle.plc_lang.specs.declared.syntax.Op.{Op}
 use Rattle.plc_lang.specs.Locals.{parameters_of}
 use Rattle.plc_flow.specs.declared.flow.Step.{Step}
@@ -22,12 +24,16 @@ start_op c t op args None g = None
 start_op c t op args (Some o) None = None
 start_op c t op args (Some o) (Some g) =
     if length args == parameters_of o
-    then Some (record { state = with_locals c.state t (Some (starting o args)); points = put_at None c.points t (Some (record { op = op; at = g.entry.0 })) })
+    then Some (record {
+      state = with_locals c.state t (Some (starting o args));
+      points = put_at None c.points t (Some (record { op = op; at = g.entry.0 }));
+    })
     else None
 
 -- a start
 abbrev pub start_from : Flow → GcConfiguration → ℕ → ℕ → List ℕ → Option GcConfiguration
-start_from flow c t op args = if is_idle c.points t then start_op c t op args (slice_get flow.file.ops op) (slice_get flow.gates op) else None
+start_from flow c t op args =
+    if is_idle c.points t then start_op c t op args (slice_get flow.file.ops op) (slice_get flow.gates op) else None
 
 abbrev pub ended_as : GcConfiguration → ℕ → Point → ℕ → Option GcState → Option GcConfiguration
 ended_as c t p to None = None
@@ -44,7 +50,9 @@ step_from flow c t nth (Some p) = take_step c t p (slice_get (steps_from flow p.
 
 abbrev pub return_to : GcConfiguration → ℕ → Point → Option Gate → Option GcConfiguration
 return_to c t p None = None
-return_to c t p (Some g) = if p.at == g.exit.0 then Some (record { state = with_locals c.state t None; points = put_at None c.points t None }) else None
+return_to c t p (Some g) =
+    if p.at == g.exit.0 then Some (record { state = with_locals c.state t None; points = put_at None c.points t None })
+    else None
 
 -- a return
 abbrev pub return_from : Flow → GcConfiguration → ℕ → Option Point → Option GcConfiguration

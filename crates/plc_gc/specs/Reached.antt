@@ -7,5 +7,6 @@ use Rattle.plc_gc.specs.Run.{execute}
 use Rattle.plc_gc.specs.Claims.{claim_holds, ClaimsHold, claims}
 
 pub record ClaimsAreReached : Type 0 where
-  pub at_prefix : (g new : GcState) (t : ℕ) (ps qs : List Primitive) (p : Primitive) → ClaimsHold g t (ps ++ p ∷ qs) → execute g t ps ≡ Some new → claim_holds new t p ≡ true
+  pub at_prefix : (g new : GcState) (t : ℕ) (ps qs : List Primitive) (p : Primitive) → ClaimsHold g t (ps ++ p ∷ qs)
+      → execute g t ps ≡ Some new → claim_holds new t p ≡ true
   pub told : (g : GcState) (t : ℕ) (ps : List Primitive) → ClaimsHold g t ps ↔ (list_any not (claims g t ps) ≡ false)

@@ -1,5 +1,6 @@
 -- Garbage-collected configurations, moves and runs.
-use Rattle.std.specs.Prelude.{◌≡◌, ℕ, ◌<◌, Bool, true, false, List, [], ◌∷◌, ◌++◌, length, get_or, slice_get, replicate, Option, Some, None}
+use Rattle.std.specs.Prelude.{◌≡◌, ℕ, ◌<◌, Bool, true, false, List, [], ◌∷◌, ◌++◌, length, get_or, slice_get, replicate}
+use Rattle.std.specs.Prelude.{Option, Some, None}
 use Rattle.plc_lang.specs.declared.syntax.Primitive.{Primitive}
 use Rattle.plc_lang.specs.declared.syntax.Op.{Op}
 use Rattle.plc_lang.specs.Locals.{parameters_of}
@@ -43,14 +44,19 @@ pub record MayTake (flow : Flow) (threads : ℕ) (c : GcConfiguration) (t nth : 
 abbrev pub Moves : Flow → ℕ → GcConfiguration → Move → GcConfiguration → Type 0
 Moves flow threads c (Start t op args) d =
     (operation : Op) × (gate : Gate) × (t < threads) × (point_of c t ≡ None)
-    × (slice_get flow.file.ops op.0 ≡ Some operation) × (slice_get flow.gates op.0 ≡ Some gate) × (length args ≡ parameters_of operation)
-    × (d ≡ record { state = with_locals c.state t (Some (starting operation args)); points = put_at None c.points t (Some (record { op = op.0; at = gate.entry.0 })) })
+    × (slice_get flow.file.ops op.0 ≡ Some operation) × (slice_get flow.gates op.0 ≡ Some gate)
+    × (length args ≡ parameters_of operation)
+    × (d ≡ record {
+      state = with_locals c.state t (Some (starting operation args));
+      points = put_at None c.points t (Some (record { op = op.0; at = gate.entry.0 }));
+    })
 Moves flow threads c (Take t nth addr) d =
     (p : Point) × (step : Step) × (g : GcState) × MayTake flow threads c t nth p step
     × (execute c.state t step.prims ≡ Some g)
     × (d ≡ record { state = g; points = put_at None c.points t (Some (record p { at = step.to.0 })) })
 Moves flow threads c (Return t) d =
-    (p : Point) × (gate : Gate) × (t < threads) × (point_of c t ≡ Some p) × (slice_get flow.gates p.op ≡ Some gate) × (p.at ≡ gate.exit.0)
+    (p : Point) × (gate : Gate) × (t < threads) × (point_of c t ≡ Some p) × (slice_get flow.gates p.op ≡ Some gate)
+    × (p.at ≡ gate.exit.0)
     × (d ≡ record { state = with_locals c.state t None; points = put_at None c.points t None })
 Moves flow threads c (Free a) d = d ≡ c
 
@@ -72,4 +78,5 @@ first_configuration flow threads = beginning threads (initialised flow threads)
 -- these moves lead from the beginning to a configuration
 pub data GcRun (flow : Flow) (threads : ℕ) : List Move → GcConfiguration → Type 0 where
   begin : {c : GcConfiguration} → first_configuration flow threads ≡ Some c → GcRun flow threads [] c
-  more : {moves : List Move} {c d : GcConfiguration} → GcRun flow threads moves c → (move : Move) → Moves flow threads c move d → GcRun flow threads (moves ++ move ∷ []) d
+  more : {moves : List Move} {c d : GcConfiguration} → GcRun flow threads moves c → (move : Move)
+      → Moves flow threads c move d → GcRun flow threads (moves ++ move ∷ []) d

@@ -20,13 +20,19 @@ MayMove flow threads c move = (d : GcConfiguration) × Moves flow threads c move
 pub record GcRunLaws (flow : Flow) (threads : ℕ) : Type 0 where
   pub begins : (c : GcConfiguration) → first_configuration flow threads ≡ Some c → GcRun flow threads [] c
   pub starts : (c : GcConfiguration) (t : ℕ) (op : OpId) (args : List ℕ) (operation : Op) (gate : Gate)
-      → t < threads → point_of c t ≡ None → slice_get flow.file.ops op.0 ≡ Some operation → slice_get flow.gates op.0 ≡ Some gate → length args ≡ parameters_of operation
+      → t < threads → point_of c t ≡ None → slice_get flow.file.ops op.0 ≡ Some operation
+      → slice_get flow.gates op.0 ≡ Some gate → length args ≡ parameters_of operation
       → MayMove flow threads c (Start t op args)
   pub steps : (c : GcConfiguration) (t nth : ℕ) (addr : Option ℕ) (p : Point) (step : Step) (g : GcState)
-      → MayTake flow threads c t nth p step → execute c.state t step.prims ≡ Some g → MayMove flow threads c (Take t nth addr)
-  pub any_address : (c d : GcConfiguration) (t nth : ℕ) (addr other : Option ℕ) → Moves flow threads c (Take t nth addr) d → Moves flow threads c (Take t nth other) d
+      → MayTake flow threads c t nth p step → execute c.state t step.prims ≡ Some g
+      → MayMove flow threads c (Take t nth addr)
+  pub any_address : (c d : GcConfiguration) (t nth : ℕ) (addr other : Option ℕ)
+      → Moves flow threads c (Take t nth addr) d → Moves flow threads c (Take t nth other) d
   pub returns : (c : GcConfiguration) (t : ℕ) (p : Point) (gate : Gate)
-      → t < threads → point_of c t ≡ Some p → slice_get flow.gates p.op ≡ Some gate → p.at ≡ gate.exit.0 → MayMove flow threads c (Return t)
+      → t < threads → point_of c t ≡ Some p → slice_get flow.gates p.op ≡ Some gate → p.at ≡ gate.exit.0
+      → MayMove flow threads c (Return t)
   pub frees : (c : GcConfiguration) (a : ℕ) → Moves flow threads c (Free a) c
-  pub one_end : (c d e : GcConfiguration) (move : Move) → Moves flow threads c move d → Moves flow threads c move e → d ≡ e
-  pub one_run : (moves : List Move) (c d : GcConfiguration) → GcRun flow threads moves c → GcRun flow threads moves d → c ≡ d
+  pub one_end : (c d e : GcConfiguration) (move : Move) → Moves flow threads c move d → Moves flow threads c move e
+      → d ≡ e
+  pub one_run : (moves : List Move) (c d : GcConfiguration) → GcRun flow threads moves c → GcRun flow threads moves d
+      → c ≡ d

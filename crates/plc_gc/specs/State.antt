@@ -1,5 +1,7 @@
--- A state of the garbage-collected meaning: nodes are numbered from 1 in order of allocation, and no node is taken back.
-use Rattle.std.specs.Prelude.{ℕ, Bool, false, ◌&&◌, nat_lt, if◌then◌else◌, ◌==◌, List, [], ◌∷◌, ◌++◌, length, get_or, slice_get, replicate, Option, Some, None}
+-- A state of the garbage-collected meaning: nodes are numbered from 1 in order of allocation, and no node is taken
+-- back.
+use Rattle.std.specs.Prelude.{ℕ, Bool, false, ◌&&◌, nat_lt, if◌then◌else◌, ◌==◌, List, [], ◌∷◌, ◌++◌, length, get_or}
+use Rattle.std.specs.Prelude.{slice_get, replicate, Option, Some, None}
 use Rattle.plc_base.specs.Tables.{put_at}
 use Rattle.plc_lang.specs.declared.syntax.Var.{Var}
 use Rattle.plc_lang.specs.declared.syntax.Var.TheVariants.{Shared, Local}
@@ -12,7 +14,8 @@ use Rattle.plc_lang.specs.Locals.{starting_pointers, starting_values}
 use Rattle.plc_gc.specs.declared.slot.Slot.{Slot}
 use Rattle.plc_gc.specs.declared.slot.Slot.TheVariants.{Shared as in_shared, Local as in_local, Data as in_data}
 use Rattle.plc_gc.specs.declared.slot.Map.{Map}
-use Rattle.plc_gc.specs.declared.slot.Map.TheVariants.{Pointer as pointer_field, Number as data_field, Auxiliary as auxiliary_field, Retirement as retirement}
+use Rattle.plc_gc.specs.declared.slot.Map.TheVariants.{Pointer as pointer_field, Number as data_field}
+use Rattle.plc_gc.specs.declared.slot.Map.TheVariants.{Auxiliary as auxiliary_field, Retirement as retirement}
 use Rattle.plc_flow.specs.declared.flow.Flow.{Flow}
 use Rattle.plc_flow.specs.declared.flow.Place.{Place}
 use Rattle.plc_flow.specs.declared.flow.Place.TheVariants as places
@@ -27,13 +30,15 @@ pub record Row : Type 0 where
   pub auxiliary : List ℕ
   pub retired : ℕ
 
--- the locals of a thread that is in an operation, with their declarations, since clauses count pointers and data together
+-- the locals of a thread that is in an operation, with their declarations, since clauses count pointers and data
+-- together
 pub record Locals : Type 0 where
   pub declared : List ALocal
   pub pointers : List ℕ
   pub values : List ℕ
 
--- rows has a row for each node, the row 0 for null; the fields as they are declared, and how many auxiliary fields there are
+-- the fields as they are declared, how many auxiliary fields there are, what shared pointers and threads hold,
+-- and a row for each node; the first row is that of null
 pub record GcState : Type 0 where
   pub fields : List Field
   pub ghosts : ℕ
@@ -49,7 +54,8 @@ no_row = record { pointers = []; values = []; auxiliary = []; retired = 0 }
 
 -- a node that was just allocated, and null
 abbrev pub fresh_row : ℕ → ℕ → Row
-fresh_row fields ghosts = record { pointers = replicate fields 0; values = replicate fields 0; auxiliary = replicate ghosts 0; retired = 0 }
+fresh_row fields ghosts =
+    record { pointers = replicate fields 0; values = replicate fields 0; auxiliary = replicate ghosts 0; retired = 0 }
 
 -- what a map has at a row
 abbrev pub row_entry : Row → Map → ℕ
@@ -109,7 +115,8 @@ count g = length g.rows
 unfoldable pub put : GcState → Slot → ℕ → GcState
 unfolding locals_of with_locals
 put g (in_shared i) n = record g { shared = put_at 0 g.shared i n }
-put g (in_local t v) n = with_locals g t (Some (record (locals_of g t) { pointers = put_at 0 (locals_of g t).pointers v n }))
+put g (in_local t v) n =
+    with_locals g t (Some (record (locals_of g t) { pointers = put_at 0 (locals_of g t).pointers v n }))
 put g (in_data t x) n = with_locals g t (Some (record (locals_of g t) { values = put_at 0 (locals_of g t).values x n }))
 
 -- the state with a map changed at a node
@@ -136,7 +143,14 @@ number_of g t (DataLocal x) = value g (in_data t x)
 
 -- null alone, shared pointers null, every thread idle
 abbrev pub fresh_state : List Field → ℕ → ℕ → ℕ → GcState
-fresh_state fields ghosts shared threads = record { fields = fields; ghosts = ghosts; shared = replicate shared 0; locals = replicate threads None; rows = fresh_row (length fields) ghosts ∷ [] }
+fresh_state fields ghosts shared threads =
+    record {
+      fields = fields;
+      ghosts = ghosts;
+      shared = replicate shared 0;
+      locals = replicate threads None;
+      rows = fresh_row (length fields) ghosts ∷ [];
+    }
 
 -- the state of a flow before its `init`
 abbrev pub first_state : Flow → ℕ → GcState
@@ -158,7 +172,8 @@ abbrev pub is_pointer_field : Option Field → Bool
 is_pointer_field None = false
 is_pointer_field (Some f) = f.pointer
 
--- a pointer place that there is: a shared pointer, a pointer local of a busy thread, a pointer field of a node that was made; a cell is named by its node
+-- a pointer place that there is: a shared pointer, a pointer local of a busy thread, a pointer field of a node that was
+-- made; a cell is named by its node
 unfoldable pub has_place : GcState → Place → Bool
 unfolding locals_of
 has_place g (places.Shared i) = nat_lt i (length g.shared)

@@ -1,4 +1,5 @@
--- What every configuration of a garbage-collected run of a flow has: each busy thread holds the locals of its operation.
+-- What every configuration of a garbage-collected run of a flow has: each busy thread holds the locals of its
+-- operation.
 use Rattle.std.specs.Prelude.{◌≡◌, ℕ, ◌+◌, length, get_or, slice_get, Option, Some, None}
 use Rattle.plc_lang.specs.declared.syntax.Op.{Op}
 use Rattle.plc_lang.specs.Locals.{pointers_of, parameters_of, other_data_of}

@@ -1,6 +1,7 @@
 // The locals of a thread that is in an operation. Clauses count pointer and data locals together, so the
 // declarations stand beside the values.
-ghost use Rattle.std.specs.Prelude.{◌≡◌, ℕ, ◌<◌, get_or, slice_get, set, replicate, length, nat_lt, if◌then◌else◌, IfOk, Some, None};
+ghost use Rattle.std.specs.Prelude.{◌≡◌, ℕ, ◌<◌, get_or, slice_get, set, replicate, length, nat_lt, if◌then◌else◌};
+ghost use Rattle.std.specs.Prelude.{IfOk, Some, None};
 ghost use Rattle.std.specs.Option.{option_copied};
 ghost use Rattle.plc_base.specs.Tables.{put_at};
 ghost use Rattle.plc_gc.specs.State.{GcState, Locals, locals_of, locals_or_none, no_locals, starting};

@@ -4,7 +4,8 @@ ghost use Rattle.std.specs.Prelude.{◌≡◌, ℕ, ◌+◌, ◌<◌, ◌^◌, i
 ghost use Rattle.plc_base.specs.Functions.{is_retire};
 ghost use Rattle.plc_lang.specs.Shape.{VarIn, ArgIn};
 ghost use Rattle.plc_gc.specs.State.{number_of, count, made, put, update, slot};
-ghost use Rattle.plc_gc.specs.Primitives.{node_at, field_at, some_node, ghost_number, goes, goes_call, after, after_call};
+ghost use Rattle.plc_gc.specs.Primitives.{node_at, field_at, some_node, ghost_number, goes, goes_call, after};
+ghost use Rattle.plc_gc.specs.Primitives.{after_call};
 ghost use Rattle.plc_gc.specs.Claims.{claim_holds};
 ghost use Rattle.plc_gc.specs.Ranges.{IsInRange};
 ghost use Rattle.plc_gc.specs.Fit.{MapIn, IsHeld, frame, FrameHas};

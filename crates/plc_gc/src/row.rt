@@ -23,7 +23,12 @@ impl Model for Row {
 
     ghost Value = { Row };
 
-    ghost view = { λ r. record { pointers = r.pointers.items; values = r.values.items; auxiliary = r.auxiliary.items; retired = r.retired } };
+    ghost view = { λ r. record {
+      pointers = r.pointers.items;
+      values = r.values.items;
+      auxiliary = r.auxiliary.items;
+      retired = r.retired;
+    } };
 }
 
 // The number at a place of a table, 0 past its end.

@@ -1,7 +1,9 @@
 // The values of a garbage-collected state. A node's number is the place of its row, and no row is taken
 // back, so that a look-up is an index. What it is seen as is the state of the definitions; reads are total.
-ghost use Rattle.std.specs.Prelude.{◌≡◌, ℕ, ◌<◌, nat_lt, if◌then◌else◌, get_or, slice_get, length, IfOk, OnOk, OnErr, Some, None};
-ghost use Rattle.plc_gc.specs.State.{GcState, first_state, with_locals, value, entry, count, put, update, made, is_retired, is_made, is_pointer_field, node_of};
+ghost use Rattle.std.specs.Prelude.{◌≡◌, ℕ, ◌<◌, nat_lt, if◌then◌else◌, get_or, slice_get, length, IfOk, OnOk, OnErr};
+ghost use Rattle.std.specs.Prelude.{Some, None};
+ghost use Rattle.plc_gc.specs.State.{GcState, first_state, with_locals, value, entry, count, put, update, made};
+ghost use Rattle.plc_gc.specs.State.{is_retired, is_made, is_pointer_field, node_of};
 ghost use Rattle.plc_gc.specs.Clauses.{local_value, field_map};
 ghost use Rattle.plc_gc.specs.Fit.{SlotIn, MapIn};
 
@@ -14,7 +16,7 @@ use plc_lang::Field;
 use std::alloc::Global;
 use std::marker::Model;
 
-// What shared pointers and locals hold, and what is known of each node; the row 0 is that of null.
+// What shared pointers and locals hold, and what is known of each node; the first row is that of null.
 #[derive(Drop)]
 pub struct State {
     alloc: Global,
@@ -32,7 +34,13 @@ impl Model for State {
 
     ghost Value = { GcState };
 
-    ghost view = { λ s. record { fields = s.fields.items; ghosts = s.ghosts; shared = s.shared.items; locals = s.locals.items; rows = s.rows.items } };
+    ghost view = { λ s. record {
+      fields = s.fields.items;
+      ghosts = s.ghosts;
+      shared = s.shared.items;
+      locals = s.locals.items;
+      rows = s.rows.items;
+    } };
 
     ghost invariant = { λ s. RowsFit (length s.fields.items) s.ghosts s.rows.items };
 }
