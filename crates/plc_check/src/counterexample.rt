@@ -5,12 +5,12 @@ ghost use Rattle.plc_setting.specs.Fit.{Fits};
 ghost use Rattle.plc_oblig.specs.Obligations.{obligations};
 ghost use Rattle.plc_check.specs.Counterexamples.{IsCounterexampleAt, IsFirstCounterexample};
 
-use crate::tree::tree_at;
+use crate::tree::solve_at;
 use plc_base::NoMemory;
 use plc_flow::Flow;
 use plc_ground::{GroundModel, GroundSet};
 use plc_logic::Outline;
-use plc_oblig::{Obligation, Walk, still};
+use plc_oblig::{Grounding, Obligation, Walk, still};
 use std::alloc::Global;
 
 /// An obligation that isn't kept, with its ground set and a model of it.
@@ -24,6 +24,7 @@ pub(crate) struct Counterexample {
 // What breaks one obligation, if it isn't kept. Of a still one no set is made.
 fn counterexample_at(
     alloc: Global,
+    memory: &mut Grounding,
     flow: &Flow,
     outline: &Outline,
     obligation: Obligation,
@@ -35,7 +36,7 @@ fn counterexample_at(
     if still(flow, outline, &obligation) {
         return Ok(None);
     }
-    let found = tree_at(alloc, flow, outline, obligation)?;
+    let found = solve_at(alloc, memory, flow, outline, obligation)?;
     match found {
         Ok(_) => Ok(None),
         Err(found) => Ok(Some(found)),
@@ -52,8 +53,9 @@ pub(crate) fn first_counterexample(
     ensures { IfOk result (IsFirstCounterexample flow.now outline.now) }
 {
     let mut walk = Walk::new(alloc, flow, outline)?;
+    let mut memory = Grounding::new(alloc);
     while let Some(obligation) = walk.next() {
-        if let Some(found) = counterexample_at(alloc, flow, outline, obligation)? {
+        if let Some(found) = counterexample_at(alloc, &mut memory, flow, outline, obligation)? {
             return Ok(Some(found));
         }
     }

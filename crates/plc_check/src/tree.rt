@@ -1,6 +1,8 @@
-// Trees that close the ground sets of obligations, as the solver finds them.
-ghost use Rattle.std.specs.Prelude.{IfOk};
+// Trees that close the ground sets of obligations: the direct one where the obligation is still, else as the solver
+// finds it. The sets are made one after another over the same memory.
+ghost use Rattle.std.specs.Prelude.{IfOk, Contains};
 ghost use Rattle.plc_setting.specs.Fit.{Fits};
+ghost use Rattle.plc_oblig.specs.Obligations.{obligations};
 ghost use Rattle.plc_check.specs.Counterexamples.{IsTreeAt, AreTreesOrBroken};
 
 use crate::counterexample::Counterexample;
@@ -8,13 +10,14 @@ use plc_base::{Items, NoMemory};
 use plc_flow::Flow;
 use plc_ground::Tree;
 use plc_logic::Outline;
-use plc_oblig::{Obligation, Walk, ground};
+use plc_oblig::{Grounding, Obligation, Walk, direct};
 use plc_solve::{Answer, refute};
 use std::alloc::Global;
 
-/// A tree that closes the ground set of an obligation, or what breaks the obligation.
-pub(crate) fn tree_at(
+/// A tree that closes the ground set of an obligation, or what breaks the obligation, as the solver answers.
+pub(crate) fn solve_at(
     alloc: Global,
+    memory: &mut Grounding,
     flow: &Flow,
     outline: &Outline,
     obligation: Obligation,
@@ -22,15 +25,36 @@ pub(crate) fn tree_at(
     requires { Fits flow.now outline.now }
     ensures { IfOk result (IsTreeAt flow.now outline.now obligation) }
 {
-    let set = ground(alloc, flow, outline, &obligation)?;
+    let set = memory.ground(alloc, flow, outline, &obligation)?;
     match refute(alloc, &set) {
-        Ok(Answer::Closed(tree)) => Ok(Ok(tree)),
+        Ok(Answer::Closed(tree)) => {
+            memory.reuse(set);
+            Ok(Ok(tree))
+        }
         Ok(Answer::Open(model)) => Ok(Err(Counterexample {
             obligation,
             set,
             model,
         })),
         Err(NoMemory) => Err(NoMemory),
+    }
+}
+
+// The same; of a still obligation the solver isn't asked.
+fn tree_at(
+    alloc: Global,
+    memory: &mut Grounding,
+    flow: &Flow,
+    outline: &Outline,
+    obligation: Obligation,
+) -> Result<Result<Tree, Counterexample>, NoMemory>
+    requires fits { Fits flow.now outline.now }
+    requires there { Contains (obligations flow.now outline.now) obligation }
+    ensures { IfOk result (IsTreeAt flow.now outline.now obligation) }
+{
+    match direct(alloc, flow, outline, &obligation)? {
+        Some(tree) => Ok(Ok(tree)),
+        None => solve_at(alloc, memory, flow, outline, obligation),
     }
 }
 
@@ -45,8 +69,9 @@ pub(crate) fn trees_of(
 {
     let mut trees = Items::new(alloc);
     let mut walk = Walk::new(alloc, flow, outline)?;
+    let mut memory = Grounding::new(alloc);
     while let Some(obligation) = walk.next() {
-        match tree_at(alloc, flow, outline, obligation)? {
+        match tree_at(alloc, &mut memory, flow, outline, obligation)? {
             Ok(tree) => trees.push(tree)?,
             Err(found) => return Ok(Err(found)),
         }

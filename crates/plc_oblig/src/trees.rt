@@ -1,5 +1,6 @@
 // The tree of an obligation, where it is still.
-ghost use Rattle.std.specs.Prelude.{◌≡◌, true, [], ◌∷◌, is_some, IfOk, IfSome, Contains};
+ghost use Rattle.std.specs.Prelude.{◌≡◌, true, [], ◌∷◌, is_some, OnOk, IfOk, IfSome, Contains};
+ghost use Rattle.plc_ground.specs.Fit.{IsWellFormed};
 ghost use Rattle.plc_ground.specs.Trees.{Closes, SplitsOnce};
 ghost use Rattle.plc_setting.specs.Fit.{Fits};
 ghost use Rattle.plc_oblig.specs.GroundSets.{ground_set};
@@ -29,6 +30,7 @@ fn tree_of_still(
     requires there { Contains (obligations flow.now outline.now) o.now }
     requires still { is_still flow.now outline.now o.now ≡ true }
     ensures shape { IfOk result (λ tree. IsDirect flow.now outline.now o.now tree.nodes) }
+    ensures well { OnOk result (IsWellFormed (ground_set flow.now outline.now o.now)) }
     ensures closes { IfOk result (λ tree. Closes (ground_set flow.now outline.now o.now) tree.nodes) }
     ensures once { IfOk result (λ tree. SplitsOnce (ground_set flow.now outline.now o.now) ([] ∷ []) tree.nodes) }
 {
@@ -46,7 +48,7 @@ fn tree_of_still(
 /// The tree of an obligation of the file, exactly where the obligation is still. It closes the ground set of
 /// the obligation, and no branch of it splits one clause twice: it splits on all clauses of the negated
 /// conclusion, in order, and then on the instance of a premise at the names of the conclusion, with one leaf
-/// for each literal. It fails only where memory runs out, which 2^32 terms or clauses count as.
+/// for each literal. The ground set keeps the rules of ground sets. It fails only where memory runs out, which 2^32 terms or clauses count as.
 pub fn direct(
     alloc: Global,
     flow: &Flow,
@@ -57,6 +59,8 @@ pub fn direct(
     requires there { Contains (obligations flow.now outline.now) o.now }
     ensures still { IfOk result (λ tree. is_some tree ≡ is_still flow.now outline.now o.now) }
     ensures shape { IfOk result (λ tree. IfSome tree (λ t. IsDirect flow.now outline.now o.now t.nodes)) }
+    ensures well { IfOk result (λ tree.
+        IfSome tree (λ _. IsWellFormed (ground_set flow.now outline.now o.now))) }
     ensures closes { IfOk result (λ tree.
         IfSome tree (λ t. Closes (ground_set flow.now outline.now o.now) t.nodes)) }
     ensures once { IfOk result (λ tree.

@@ -1,4 +1,5 @@
 use Rattle.std.proofs.Common.{[], ◌∷◌, subst, sym, ap, ◌∙◌}
+use Rattle.plc_ground.specs.Fit.{IsWellFormed}
 use Rattle.plc_ground.specs.Trees.{Closes, SplitsOnce}
 use Rattle.plc_setting.specs.Setting.{setting_of}
 use Rattle.plc_items.specs.Execution.{start, after_all}
@@ -39,6 +40,9 @@ returns-clause-shape c =
       premise = subst (IsPremise flow outline o) (sym same) found.1.1;
       whole = c.in_ok-tree-in-Some.ensures ∙ ap (λ g. direct_nodes g place) c.in_ok-set.ensures.set;
     }
+
+pub returns-clause-well : goal.returns-clause-well
+returns-clause-well c = subst IsWellFormed c.in_ok-set.ensures.set c.in_ok-set.ensures.well
 
 pub returns-clause-closes : goal.returns-clause-closes
 returns-clause-closes c =
