@@ -4,8 +4,11 @@ use Rattle.plc_check.proofs.Readable.{nodes_fit}
 use Rattle.plc_check.proofs.tree.tree_at.Goals as goal
 
 pub returns-in-Some : goal.returns-in-Some
-returns-in-Some c = record {
-  closes = ?a;
-  once = ?b;
-  fits = nodes_fit (ground_set c.args.flow.now c.args.outline.now c.args.obligation) ?w ([] ∷ []) c.in-Some.tree.nodes ?a2;
-}
+returns-in-Some c =
+    let set = ground_set c.args.flow.now c.args.outline.now c.args.obligation in
+    let closes = rw c.in-Some.is at c.in_ok-tree.ensures.closes in
+    record {
+      closes = closes;
+      once = rw c.in-Some.is at c.in_ok-tree.ensures.once;
+      fits = nodes_fit set (rw c.in-Some.is at c.in_ok-tree.ensures.well) ([] ∷ []) c.in-Some.tree.nodes closes;
+    }
