@@ -2,7 +2,7 @@
 -- is due to the contents, or a content is too long.
 use Rattle.std.proofs.Common.{◌≡◌, ◌≤◌, ◌<◌, inl, inr, ◌⊎◌, ℕ, List, [], ◌∷◌, length, Option, Some, None, refl, sym}
 use Rattle.std.proofs.Common.{ap, ◌∙◌, subst, arith}
-use Rattle.std.specs.Prelude.{All, Contains, IfSome, IsSome, IsSomeAnd, slice_get}
+use Rattle.std.specs.Prelude.{◌≢◌, All, Contains, IfSome, IsSome, IsSomeAnd, slice_get}
 use Rattle.std.proofs.lemmas.List.Elements.{All-contains}
 use Rattle.plc_base.specs.Limits.{largest_file, largest_schedule, largest_certificate}
 use Rattle.plc_outside.specs.FixedBytes as fixed
@@ -15,7 +15,7 @@ use Rattle.plc_texts.specs.Refusals.{read_too_long}
 use Rattle.plc_cli.specs.Answer.{IsReplayOf, IsDueFor, IsWritten, Outcome}
 use Rattle.plc_cli.specs.Certificates.{IsCertificateOf, IsVerificationOf}
 use Rattle.plc_cli.specs.Completeness.{files_of, AreTold, AreShort, NoneRose, IsAnswerOf, IsAnswered, IsToldTooLong}
-use Rattle.plc_cli.specs.Completeness.{HasRoom, Completeness, HonestlyOnlyTooLong}
+use Rattle.plc_cli.specs.Completeness.{HasRoom, Completeness, HonestRunsAreAnswered}
 use Rattle.plc_cli.specs.Files.{IsAnswerTo, IsPrintOf}
 use Rattle.plc_cli.specs.Reads.{IsUnread, IsDueForFile, IsDueForPair}
 use Rattle.plc_cli.specs.Requests.{Request, Check, Certify, Print, Verify, Replay, Sample}
@@ -174,19 +174,23 @@ module _ (reclaimers : List Meanings) (request : Option Request) (old new : Know
         (All-contains (λ (f : List ℕ × ℕ). IfSome (old.content f.0) (λ bytes. length bytes ≤ f.1)) (files_of request)
         long.0 short long.1)
 
-    whole_answered : AreShort request old → result ≡ w.status → Due →
+    whole_answer : result ≡ w.status → IsAnswerOf reclaimers request old w.status w.text →
         IsAnswered reclaimers request old sink sink_now result
-    whole_answered short is (inl long) = absurd (none_long short long)
-    whole_answered short is (inr answer) = record {
+    whole_answer is answer = record {
       text = w.text;
-      due = subst (λ (s : ℕ). IsAnswerOf reclaimers request old s w.text) (sym is) answer.0;
+      due = subst (λ (s : ℕ). IsAnswerOf reclaimers request old s w.text) (sym is) answer;
       written = w.ends.whole is;
     }
+
+    short_answered : AreShort request old → result ≡ w.status → Due →
+        IsAnswered reclaimers request old sink sink_now result
+    short_answered short is (inl long) = absurd (none_long short long)
+    short_answered short is (inr answer) = whole_answer is answer.0
 
     answered : AreShort request old → (Rose sink.faults sink_now.faults → ⊥) →
         (result ≡ w.status) ⊎ ((result ≡ unwritten) ⊎ (result ≡ no_memory)) →
         IsAnswered reclaimers request old sink sink_now result ⊎ (result ≡ no_memory)
-    answered short held (inl is) = inl (whole_answered short is due)
+    answered short held (inl is) = inl (short_answered short is due)
     answered short held (inr (inl is)) = absurd (held (w.ends.failed is).rose)
     answered short held (inr (inr is)) = inr is
 
@@ -212,6 +216,15 @@ module _ (reclaimers : List Meanings) (request : Option Request) (old new : Know
     too_long room (inl is) (inr (inr other)) = absurd (omega (arith, is, other))
     too_long room (inr is) only = absurd (omega (arith, (w.ends.failed is).room, fits room due))
 
+    answered_with_room : HasRoom reclaimers request old sink → result ≢ unread → result ≢ no_memory → Due →
+        (result ≡ w.status) ⊎ ((result ≡ unwritten) ⊎ (result ≡ no_memory)) →
+        IsAnswered reclaimers request old sink sink_now result
+    answered_with_room room not_four not_six (inl long) (inl is) = absurd (not_four (is ∙ long.2.status_is))
+    answered_with_room room not_four not_six (inr answer) (inl is) = whole_answer is answer.0
+    answered_with_room room not_four not_six known (inr (inl is)) =
+        absurd (omega (arith, (w.ends.failed is).room, fits room known))
+    answered_with_room room not_four not_six known (inr (inr is)) = absurd (not_six is)
+
   neither : result ≡ no_memory → (result ≡ unread) ⊎ (result ≡ unwritten) → ⊥
   neither six (inl is) = omega (arith, six, is)
   neither six (inr is) = omega (arith, six, is)
@@ -220,15 +233,22 @@ module _ (reclaimers : List Meanings) (request : Option Request) (old new : Know
       Completeness reclaimers request old new sink sink_now result
   completeness_of (inl none) = record {
     answered = λ told kept short held. inr none.0;
-    only_too_long = λ told kept room is. absurd (neither none.0 is);
+    with_room = λ told kept room. record {
+      only_too_long = λ is. absurd (neither none.0 is);
+      answered = λ not_four not_six. absurd (not_six none.0);
+    };
   }
   completeness_of (inr w) = record {
     answered = λ told kept short held. answered w told kept short held w.ends.only;
-    only_too_long = λ told kept room is. too_long w told kept room is w.ends.only;
+    with_room = λ told kept room. record {
+      only_too_long = λ is. too_long w told kept room is w.ends.only;
+      answered = λ not_four not_six.
+          answered_with_room w told kept room not_four not_six (due w told kept) w.ends.only;
+    };
   }
 
 -- ---- files that never fail, and a sink with room
 
-pub honestly : HonestlyOnlyTooLong
-honestly reclaimers request old new sink sink_now result complete room is =
-    complete.only_too_long (λ k d low. refl) (λ k d low. refl) room is
+pub honestly : HonestRunsAreAnswered
+honestly reclaimers request old new sink sink_now result complete room =
+    complete.with_room (λ k d low. refl) (λ k d low. refl) room

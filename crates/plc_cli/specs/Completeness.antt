@@ -1,5 +1,5 @@
 -- Completeness: where the outside has no fault, the answer is due to the contents of the files alone.
-use Rattle.std.specs.Prelude.{◌≡◌, ◌⊎◌, ◌<◌, ◌≤◌, ℕ, List, [], ◌∷◌, length, slice_get, All, Contains}
+use Rattle.std.specs.Prelude.{◌≡◌, ◌≢◌, ◌⊎◌, ◌<◌, ◌≤◌, ℕ, List, [], ◌∷◌, length, slice_get, All, Contains}
 use Rattle.std.specs.Prelude.{Option, None, Some, IsSome, IfSome, IsSomeAnd}
 use Rattle.plc_base.specs.Limits.{largest_file, largest_schedule, largest_certificate}
 use Rattle.plc_outside.specs.FixedBytes as fixed
@@ -82,6 +82,13 @@ pub record HasRoom (reclaimers : List Meanings) (request : Option Request) (file
   pub long : length read_too_long ≤ sink.room
   pub due : (status : ℕ) (text : List ℕ) → IsAnswerOf reclaimers request files status text → length text ≤ sink.room
 
+-- The status with such a room: 4 and 5 come only as `read too long`, and with each status but 4 and 6 what is due to
+-- the contents is answered.
+pub record EndsWithRoom (reclaimers : List Meanings) (request : Option Request) (files : KnownFiles)
+    (sink sink_now : KnownSink) (result : ℕ) : Type 0 where
+  pub only_too_long : (result ≡ unread) ⊎ (result ≡ unwritten) → IsToldTooLong request files sink sink_now result
+  pub answered : result ≢ unread → result ≢ no_memory → IsAnswered reclaimers request files sink sink_now result
+
 -- Both for words of any form, where the contents are told and no count of the files among them rises.
 pub record Completeness (reclaimers : List Meanings) (request : Option Request) (old new : KnownFiles)
     (sink sink_now : KnownSink) (result : ℕ) : Type 0 where
@@ -91,16 +98,16 @@ pub record Completeness (reclaimers : List Meanings) (request : Option Request) 
       → (Rose sink.faults sink_now.faults → ⊥)
       → IsAnswered reclaimers request old sink sink_now result ⊎ (result ≡ no_memory)
   -- where the sink has room, 4 and 5 come only as `read too long`
-  pub only_too_long : AreTold request old → NoneRose request old new → HasRoom reclaimers request old sink
-      → (result ≡ unread) ⊎ (result ≡ unwritten) → IsToldTooLong request old sink sink_now result
+  pub with_room : AreTold request old → NoneRose request old new → HasRoom reclaimers request old sink
+      → EndsWithRoom reclaimers request old sink sink_now result
 
--- Over `HonestFiles` and a `FixedSink` with room, the statuses 4 and 5 come only as `read too long`.
-abbrev pub HonestlyOnlyTooLong : Type 0
-HonestlyOnlyTooLong =
+-- Over `HonestFiles` and a `FixedSink` with room, the statuses 4 and 5 come only as `read too long`, and with each
+-- other status but 6 what is due to the contents is answered.
+abbrev pub HonestRunsAreAnswered : Type 0
+HonestRunsAreAnswered =
     (reclaimers : List Meanings) (request : Option Request) (old new : honest.HonestlyStored)
     (sink sink_now : fixed.FixedBytes) (result : ℕ)
     → Completeness reclaimers request (honest.known_of old) (honest.known_of new)
     (fixed.known_of sink) (fixed.known_of sink_now) result
     → HasRoom reclaimers request (honest.known_of old) (fixed.known_of sink)
-    → (result ≡ unread) ⊎ (result ≡ unwritten)
-    → IsToldTooLong request (honest.known_of old) (fixed.known_of sink) (fixed.known_of sink_now) result
+    → EndsWithRoom reclaimers request (honest.known_of old) (fixed.known_of sink) (fixed.known_of sink_now) result

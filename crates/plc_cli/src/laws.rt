@@ -1,9 +1,9 @@
 // What the clauses of `run` come to over files and sinks that are told: laws, whose bodies are empty.
-ghost use Rattle.plc_cli.specs.Completeness.{HonestlyOnlyTooLong};
+ghost use Rattle.plc_cli.specs.Completeness.{HonestRunsAreAnswered};
 
 /// Over `HonestFiles` and a `FixedSink` with room for whatever may be due, the statuses 4 and 5 come only
-/// as `read too long`, and only where a file is. The premise is the clause `completeness` of `run`, at
-/// what is known of these two.
+/// as `read too long`, and only where a file is; with each other status but 6 what is due to the contents
+/// is answered. The premise is the clause `completeness` of `run`, at what is known of these two.
 pub fn honest_runs_are_answered()
-    ensures { HonestlyOnlyTooLong }
+    ensures { HonestRunsAreAnswered }
 {}

@@ -39,9 +39,9 @@
 //!
 //! The clause `completeness` says when nothing but the files decides. Where their contents are told, no count of
 //! them and not the sink's rises, the sink's isn't at its last value, and no content is too long, the status and the
-//! text are those due to the contents, or memory ran out. Where the sink also has room for whatever may be due, the
-//! statuses 4 and 5 come only as `read too long`; so it is over `HonestFiles` and a `FixedSink` with room
-//! (`honest_runs_are_answered`).
+//! text are those due to the contents, or memory ran out. Where no count of the files rises and the sink has room for
+//! whatever may be due, the statuses 4 and 5 come only as `read too long`; so it is over `HonestFiles` and a
+//! `FixedSink` with room (`honest_runs_are_answered`).
 #![tactic(auto)]
 
 mod answer;
