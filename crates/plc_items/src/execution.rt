@@ -6,7 +6,8 @@ ghost use Rattle.plc_ground.specs.declared.terms.Symbol.TheVariants as symbols;
 ghost use Rattle.plc_setting.specs.declared.acts.Act.TheVariants.{Fetch, Update};
 ghost use Rattle.plc_symbolic.specs.Same.{same_symbol, same_map};
 ghost use Rattle.plc_symbolic.specs.Numbering.{written, written_all};
-ghost use Rattle.plc_items.specs.Execution.{start, current, version, held, assigned, after, after_all, not_null, update_at, if_checked, test_lit, act_clauses, executed_clauses};
+ghost use Rattle.plc_items.specs.Execution.{start, current, version, held, assigned, after, after_all, not_null};
+ghost use Rattle.plc_items.specs.Execution.{update_at, if_checked, test_lit, act_clauses, executed_clauses};
 
 use plc_base::{FieldId, Items, NoMemory};
 use plc_ground::{Map, Symbol};

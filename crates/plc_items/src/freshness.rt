@@ -6,7 +6,8 @@ ghost use Rattle.plc_lang.specs.Numbering.{values_in};
 ghost use Rattle.plc_symbolic.specs.declared.symbolic.SymbolicTerm.TheVariants.{Constant};
 ghost use Rattle.plc_symbolic.specs.Numbering.{written, written_all};
 ghost use Rattle.plc_symbolic.specs.Terms.{null};
-ghost use Rattle.plc_items.specs.Items.{is_other, default_is, field_default, field_defaults_from, ghost_default, ghost_defaults_from, no_field_leads, unretired, freshness};
+ghost use Rattle.plc_items.specs.Items.{is_other, default_is, field_default, field_defaults_from, ghost_default};
+ghost use Rattle.plc_items.specs.Items.{ghost_defaults_from, no_field_leads, unretired, freshness};
 
 use plc_base::{FieldId, NoMemory};
 use plc_ground::{Map, Symbol};

@@ -14,7 +14,10 @@ use Rattle.plc_lang.specs.declared.syntax.Rel.TheVariants as rels
 use Rattle.plc_lang.specs.declared.syntax.Var.{Var}
 use Rattle.plc_lang.specs.declared.syntax.Var.TheVariants as vars
 use Rattle.plc_lang.specs.declared.syntax.Primitive.{Primitive}
-use Rattle.plc_lang.specs.declared.syntax.Primitive.TheVariants.{Null, Copy, New, Load, Store, StoreNull, DataSet, DataLoad, DataStore, Eq, Ne, IsNull, NotNull, DataTest, Refresh, RefreshLoad, RefreshStore, Call, Done, Active, Ghost}
+use Rattle.plc_lang.specs.declared.syntax.Primitive.TheVariants.{Null, Copy, New, Load, Store, StoreNull, DataSet}
+use Rattle.plc_lang.specs.declared.syntax.Primitive.TheVariants.{DataLoad, DataStore, Eq, Ne, IsNull, NotNull, DataTest}
+use Rattle.plc_lang.specs.declared.syntax.Primitive.TheVariants.{Refresh, RefreshLoad, RefreshStore, Call, Done, Active}
+use Rattle.plc_lang.specs.declared.syntax.Primitive.TheVariants.{Ghost}
 use Rattle.plc_lang.specs.Numbering.{value_number}
 use Rattle.plc_ground.specs.declared.terms.Symbol.{Symbol}
 use Rattle.plc_ground.specs.declared.terms.Symbol.TheVariants as symbols

@@ -5,7 +5,8 @@ ghost use Rattle.plc_ground.specs.declared.terms.Map.TheVariants as maps;
 ghost use Rattle.plc_lang.specs.Fit.{FileFits};
 ghost use Rattle.plc_lang.specs.WellSorted.{WriteIsWellSorted, IsWellSorted, AreWellSorted};
 ghost use Rattle.plc_setting.specs.declared.acts.Act.TheVariants.{Assign, Fetch, Update, Test};
-ghost use Rattle.plc_setting.specs.Acts.{symbol_at, pointer_symbol, number_symbol, ghost_symbol, data_test, call_act, act_of, acts_of};
+ghost use Rattle.plc_setting.specs.Acts.{symbol_at, pointer_symbol, number_symbol, ghost_symbol, data_test, call_act};
+ghost use Rattle.plc_setting.specs.Acts.{act_of, acts_of};
 
 use crate::setting::Variables;
 use plc_base::{FieldId, Items, NoMemory};

@@ -1,7 +1,8 @@
 // The numbers of a file, ascending and each once: 0, those of its primitives, those of its outline.
 ghost use Rattle.std.specs.Prelude.{◌≡◌, flat_map, OnOk, IfOk};
 ghost use Rattle.std.specs.Option.{option_to_list};
-ghost use Rattle.plc_setting.specs.Setting.{num_numbers, prim_numbers, term_numbers, literal_numbers, clause_numbers, step_numbers, item_numbers, with_numbers, numbers_of};
+ghost use Rattle.plc_setting.specs.Setting.{num_numbers, prim_numbers, term_numbers, literal_numbers, clause_numbers};
+ghost use Rattle.plc_setting.specs.Setting.{step_numbers, item_numbers, with_numbers, numbers_of};
 
 use plc_base::{Items, NoMemory};
 use plc_flow::{Flow, Step};

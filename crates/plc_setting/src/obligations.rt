@@ -13,8 +13,8 @@ pub enum Obligation {
         op: OpId,
         clause: u16,
     },
-    /// The step leads to its clause: one of the invariants, or, counted behind them, one of the clauses
-    /// of the step's last point.
+    /// The step leads to its clause: one of the invariants, whose numbers come first, or one of the clauses of the
+    /// step's last point, whose numbers go on from there.
     Own {
         step: StepId,
         clause: u16,

@@ -1,11 +1,14 @@
 // The parts of an obligation: which primitives are executed, whose locals they name, at which points the
-// threads stand before, and the clause that is to hold behind.
+// threads stand before, and the clause that is to hold after.
 ghost use Rattle.std.specs.Prelude.{◌≡◌, ◌++◌, take, slice_get, option_copied};
 ghost use Rattle.plc_lang.specs.Locals.{locals_of};
 ghost use Rattle.plc_flow.specs.declared.flow.Flow.{Flow as AFlow};
 ghost use Rattle.plc_logic.specs.declared.clause.Outline.{Outline as AnOutline};
 ghost use Rattle.plc_setting.specs.Fit.{Fits};
-ghost use Rattle.plc_setting.specs.Parts.{prims_of, executed, locals_of_step, acting_locals, has_point, point_locals, owner_locals, has_owner, first_point, acting_point, owner_point, invariants_before, clauses_of, acting_premises, owner_premises, entry_clauses, clauses_behind, conclusion, claim_made};
+ghost use Rattle.plc_setting.specs.Parts.{prims_of, executed, locals_of_step, acting_locals, has_point, point_locals};
+ghost use Rattle.plc_setting.specs.Parts.{owner_locals, has_owner, first_point, acting_point, owner_point};
+ghost use Rattle.plc_setting.specs.Parts.{invariants_before, clauses_of, acting_premises, owner_premises};
+ghost use Rattle.plc_setting.specs.Parts.{entry_clauses, clauses_behind, conclusion, claim_made};
 
 use crate::obligations::Obligation;
 use crate::points::clause_at;
@@ -190,7 +193,7 @@ fn last_clause<'a>(
     }
 }
 
-// An invariant, or, counted behind them, a clause of the step's last point.
+// An invariant, or, where the number is past theirs, a clause of the step's last point.
 fn own_clause<'a>(
     flow: &Flow,
     outline: &'a Outline,
@@ -208,7 +211,7 @@ fn own_clause<'a>(
     last_clause(flow, outline, step_at(flow, step), clause - invariants)
 }
 
-/// The clause that is to hold behind, if it isn't a claim.
+/// The clause that is to hold after, if it isn't a claim.
 pub fn conclusion<'a>(flow: &Flow, outline: &'a Outline, o: &Obligation) -> Option<&'a Clause>
     requires { Fits flow.now outline.now }
     ensures { option_copied result ≡ conclusion flow.now outline.now o.now }

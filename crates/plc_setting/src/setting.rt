@@ -7,7 +7,8 @@ ghost use Rattle.plc_lang.specs.Allocation.{is_new};
 ghost use Rattle.plc_lang.specs.Numbering.{places_from};
 ghost use Rattle.plc_flow.specs.WellFormed.{most_step_primitives};
 ghost use Rattle.plc_setting.specs.Fit.{Fits};
-ghost use Rattle.plc_setting.specs.Setting.{local_symbol, is_kind, variables_of, pointer_fields_from, bound_of, pointer_variables, pointer_loads_from, setting_of};
+ghost use Rattle.plc_setting.specs.Setting.{local_symbol, is_kind, variables_of, pointer_fields_from, bound_of};
+ghost use Rattle.plc_setting.specs.Setting.{pointer_variables, pointer_loads_from, setting_of};
 
 use crate::acts::{Act, acts_of};
 use crate::nodes::{node_constants, nodes_of, plain_constants};
@@ -118,13 +119,15 @@ fn pointer_fields(alloc: Global, fields: &[Field]) -> Result<Items<FieldId>, NoM
     Ok(ids)
 }
 
-fn has_new(prims: &[Prim]) -> bool
+/// Whether a node is made.
+pub fn has_new(prims: &[Prim]) -> bool
     ensures { result ≡ list_any is_new prims.now }
 {
     prims.iter().any(|p| is_new(p))
 }
 
-fn bound_of(clause: Option<&Clause>) -> u16
+/// How many names the conclusion has, if it is a clause.
+pub fn bound_of(clause: Option<&Clause>) -> u16
     ensures { result ≡ bound_of (option_copied clause.entry) }
 {
     match clause {

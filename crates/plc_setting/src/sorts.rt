@@ -5,7 +5,8 @@ ghost use Rattle.plc_base.specs.declared.limits.What1.TheVariants as limits;
 ghost use Rattle.plc_lang.specs.Fit.{FileFits};
 ghost use Rattle.plc_lang.specs.Numbering.{value_at};
 ghost use Rattle.plc_logic.specs.Fit.{pointer_sort, ghost_sort};
-ghost use Rattle.plc_setting.specs.Sorts.{field_sort, auxiliary_sort, local_sort, value_sort, loads_of, load_sort, map_sort, symbol_sort, sort_of};
+ghost use Rattle.plc_setting.specs.Sorts.{field_sort, auxiliary_sort, local_sort, value_sort, loads_of, load_sort};
+ghost use Rattle.plc_setting.specs.Sorts.{map_sort, symbol_sort, sort_of};
 
 use crate::acts::Act;
 use crate::obligations::Obligation;
