@@ -1,11 +1,9 @@
 // How many clauses the ground set of an obligation has, item by item: a limit is asked of every obligation, and
 // no set is made for it.
-ghost use Rattle.std.specs.Prelude.{◌≡◌, ◌≤◌, ◌+◌, ◌*◌, cond, List, length, count_by, sum_by, option_copied, All};
-ghost use Rattle.std.specs.List.{list_any};
+ghost use Rattle.std.specs.Prelude.{◌≡◌, ◌≤◌, ◌+◌, ◌*◌, cond, List, length, count_by, sum_by, All};
 ghost use Rattle.plc_base.specs.Limits.{most, most_bound};
 ghost use Rattle.plc_base.specs.declared.limits.What1.TheVariants as limits;
 ghost use Rattle.plc_lang.specs.Locals.{is_pointer, is_other_data};
-ghost use Rattle.plc_lang.specs.Allocation.{is_new};
 ghost use Rattle.plc_lang.specs.Fit.{FileFits};
 ghost use Rattle.plc_flow.specs.WellFormed.{most_step_primitives};
 ghost use Rattle.plc_setting.specs.Fit.{Fits};
@@ -23,11 +21,11 @@ ghost use Rattle.plc_oblig.specs.Size.{most_of_primitive, most_instances};
 
 use plc_base::PointId;
 use plc_flow::Flow;
-use plc_lang::{Arg, Field, File, Ghost, Local, Prim, Rel, is_new};
+use plc_lang::{Arg, Field, File, Ghost, Local, Prim, Rel};
 use plc_logic::{Clause, Outline};
 use plc_setting::{
-    Obligation, acting_locals, acting_point, claim_made, conclusion, executed, invariants_before,
-    owner_locals, owner_point, stands_at,
+    Obligation, acting_locals, acting_point, bound_of, claim_made, conclusion, executed, has_new,
+    invariants_before, owner_locals, owner_point, stands_at,
 };
 
 /// How many there are of what a set rests on.
@@ -83,21 +81,6 @@ fn count_pointer_loads(prims: &[Prim]) -> u64
         }
     }
     total
-}
-
-fn has_new(prims: &[Prim]) -> bool
-    ensures { result ≡ list_any is_new prims.now }
-{
-    prims.iter().any(|p| is_new(p))
-}
-
-fn bound_of(clause: Option<&Clause>) -> u64
-    ensures { result ≡ bound_of (option_copied clause.entry) }
-{
-    match clause {
-        None => 0,
-        Some(clause) => clause.bound.len() as u64,
-    }
 }
 
 // How many clauses a primitive gives, where there are so many nodes.
@@ -179,7 +162,7 @@ fn count_bound(flow: &Flow, outline: &Outline, o: &Obligation) -> u64
     ensures count { result ≡ bound_of (conclusion flow.now outline.now o.now) }
     ensures few { result ≤ most_bound }
 {
-    bound_of(conclusion(flow, outline, o))
+    bound_of(conclusion(flow, outline, o)) as u64
 }
 
 fn sizes_of(flow: &Flow, outline: &Outline, o: &Obligation) -> Sizes
