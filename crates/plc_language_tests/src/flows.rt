@@ -111,90 +111,6 @@ const FLOWS: &str = "# n := new;
 0 0 2 8 [Call { func: FuncId(1), arg: None }]
 0 2 3 8 [Done { func: FuncId(1) }]
 0 3 1 6 []
-# if (Top == n) { }
-5 points gate 0 1 0 5
-0 0 2 8 [Eq { p: Shared(0), q: Local(0) }]
-0 0 3 8 [Ne { p: Shared(0), q: Local(0) }]
-0 2 4 8 []
-0 3 4 8 []
-0 4 1 6 []
-# if (Top != n) { }
-5 points gate 0 1 0 5
-0 0 2 8 [Ne { p: Shared(0), q: Local(0) }]
-0 0 3 8 [Eq { p: Shared(0), q: Local(0) }]
-0 2 4 8 []
-0 3 4 8 []
-0 4 1 6 []
-# if (Top == null) { }
-5 points gate 0 1 0 5
-0 0 2 8 [IsNull { p: Shared(0) }]
-0 0 3 8 [NotNull { p: Shared(0) }]
-0 2 4 8 []
-0 3 4 8 []
-0 4 1 6 []
-# if (Top != null) { }
-5 points gate 0 1 0 5
-0 0 2 8 [NotNull { p: Shared(0) }]
-0 0 3 8 [IsNull { p: Shared(0) }]
-0 2 4 8 []
-0 3 4 8 []
-0 4 1 6 []
-# if (x == v) { }
-5 points gate 0 1 0 5
-0 0 2 8 [DataTest { rel: Eq, x: 2, e: Local(0) }]
-0 0 3 8 [DataTest { rel: Ne, x: 2, e: Local(0) }]
-0 2 4 8 []
-0 3 4 8 []
-0 4 1 6 []
-# if (x != v) { }
-5 points gate 0 1 0 5
-0 0 2 8 [DataTest { rel: Ne, x: 2, e: Local(0) }]
-0 0 3 8 [DataTest { rel: Eq, x: 2, e: Local(0) }]
-0 2 4 8 []
-0 3 4 8 []
-0 4 1 6 []
-# if (x < 3) { }
-5 points gate 0 1 0 5
-0 0 2 8 [DataTest { rel: Lt, x: 2, e: Lit(3) }]
-0 0 3 8 [DataTest { rel: Ge, x: 2, e: Lit(3) }]
-0 2 4 8 []
-0 3 4 8 []
-0 4 1 6 []
-# if (x >= 3) { }
-5 points gate 0 1 0 5
-0 0 2 8 [DataTest { rel: Ge, x: 2, e: Lit(3) }]
-0 0 3 8 [DataTest { rel: Lt, x: 2, e: Lit(3) }]
-0 2 4 8 []
-0 3 4 8 []
-0 4 1 6 []
-# if (n ?= Top) { }
-5 points gate 0 1 0 5
-0 0 2 8 [Refresh { p: 0, q: Shared(0) }]
-0 0 3 8 []
-0 2 4 8 []
-0 3 4 8 []
-0 4 1 6 []
-# if (m ?= Top.next) { }
-5 points gate 0 1 0 5
-0 0 2 8 [RefreshLoad { p: 1, q: Shared(0), f: FieldId(0) }]
-0 0 3 8 []
-0 2 4 8 []
-0 3 4 8 []
-0 4 1 6 []
-# if (cas(Top, null, null)) { }
-5 points gate 0 1 0 5
-0 0 2 8 [IsNull { p: Shared(0) }, Null { p: Shared(0) }]
-0 0 3 8 [NotNull { p: Shared(0) }]
-0 2 4 8 []
-0 3 4 8 []
-0 4 1 6 []
-# if (cas(active Top, n, m)) { }
-5 points gate 0 1 0 5
-0 0 2 8 [Active { p: Shared(0) }, Eq { p: Shared(0), q: Local(0) }, Copy { p: Shared(0), q: Local(1) }]
-0 0 3 8 [Active { p: Shared(0) }, Ne { p: Shared(0), q: Local(0) }]
-0 2 4 8 []
-0 3 4 8 []
-0 4 1 6 []
 # if (Top == null) {| label a;| n := new;| } else {| skip;| label b; }
 7 points gate 0 1 0 7 label 2 label 5
 0 0 2 8 [IsNull { p: Shared(0) }]
@@ -245,6 +161,49 @@ fn flows_are_those_of_the_table(rt: HostRuntime) -> Result<(), AllocError> {
                 "{statement}"
             );
         }
+    }
+    Ok(())
+}
+
+// Conditions, with the primitives of the step where each holds, and of the step where it doesn't.
+const CONDITIONS: &str = "\
+Top == n => Eq { p: Shared(0), q: Local(0) } => Ne { p: Shared(0), q: Local(0) }
+Top != n => Ne { p: Shared(0), q: Local(0) } => Eq { p: Shared(0), q: Local(0) }
+Top == null => IsNull { p: Shared(0) } => NotNull { p: Shared(0) }
+Top != null => NotNull { p: Shared(0) } => IsNull { p: Shared(0) }
+x == v => DataTest { rel: Eq, x: 2, e: Local(0) } => DataTest { rel: Ne, x: 2, e: Local(0) }
+x != v => DataTest { rel: Ne, x: 2, e: Local(0) } => DataTest { rel: Eq, x: 2, e: Local(0) }
+x < 3 => DataTest { rel: Lt, x: 2, e: Lit(3) } => DataTest { rel: Ge, x: 2, e: Lit(3) }
+x >= 3 => DataTest { rel: Ge, x: 2, e: Lit(3) } => DataTest { rel: Lt, x: 2, e: Lit(3) }
+n ?= Top => Refresh { p: 0, q: Shared(0) } => 
+m ?= Top.next => RefreshLoad { p: 1, q: Shared(0), f: FieldId(0) } => 
+cas(Top, null, null) => IsNull { p: Shared(0) }, Null { p: Shared(0) } => NotNull { p: Shared(0) }
+cas(active Top, n, m) => Active { p: Shared(0) }, Eq { p: Shared(0), q: Local(0) }, Copy { p: Shared(0), q: Local(1) } => Active { p: Shared(0) }, Ne { p: Shared(0), q: Local(0) }
+";
+
+// The flow of a test without statements.
+fn branches(alloc: Global, holds: &str, fails: &str) -> Result<String, AllocError> {
+    format!(in alloc;
+        "5 points gate 0 1 0 5\n0 0 2 8 [{holds}]\n0 0 3 8 [{fails}]\n0 2 4 8 []\n0 3 4 8 []\n0 4 1 6 []\n"
+    )
+}
+
+// The flow of a row's condition where it isn't the row's.
+fn wrong_condition(alloc: Global, row: &str) -> Result<String, AllocError> {
+    let (condition, prims) = row.split_once(" => ").unwrap_or((row, ""));
+    let (holds, fails) = prims.split_once(" => ").unwrap_or((prims, ""));
+    let statement = format!(in alloc; "if ({condition}) {{ }}")?;
+    let have = statement_flow(alloc, statement.as_str())?;
+    if have.as_str() == branches(alloc, holds, fails)?.as_str() {
+        return Ok(String::new(alloc));
+    }
+    Ok(have)
+}
+
+#[test]
+fn conditions_branch(rt: HostRuntime) -> Result<(), AllocError> {
+    for row in CONDITIONS.lines() {
+        assert_eq!(rt; wrong_condition(rt.alloc(), row)?.as_str(), "", "{row}");
     }
     Ok(())
 }

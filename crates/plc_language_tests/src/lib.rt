@@ -7,7 +7,7 @@ mod files;
 #[cfg(test)]
 mod flows;
 #[cfg(test)]
-mod limits;
+mod forms;
 #[cfg(test)]
 mod names;
 #[cfg(test)]

@@ -129,20 +129,3 @@ pub(crate) fn repeated(
     text.push_str(after)?;
     Ok(text)
 }
-
-// So many declarations, whose names end in their numbers, between two texts.
-pub(crate) fn numbered(
-    alloc: Global,
-    count: u32,
-    before: &str,
-    left: &str,
-    right: &str,
-    after: &str,
-) -> Result<String, AllocError> {
-    let mut text = String::from_str(alloc, before)?;
-    for i in 0..count {
-        text.push_str(format!(in alloc; "{left}{i}{right}")?.as_str())?;
-    }
-    text.push_str(after)?;
-    Ok(text)
-}

@@ -3,13 +3,15 @@
 // many clauses as there may be.
 ghost use Rattle.plc_setting.specs.Fit.{Fits};
 
-use crate::files::{DEEP, hazards};
-use plc_base::{Items, LARGEST_FILE};
+use crate::deep::DEEP;
+use crate::loading::loaded;
+use plc_base::{Items, LARGEST_FILE, NoMemory};
 use plc_check::load;
 use plc_flow::Flow;
 use plc_ground::{GroundSet, Lit};
 use plc_logic::Outline;
 use plc_oblig::{Obligation, clauses, ground, nth};
+use plc_stacks::HAZARDS;
 use std::alloc::{AllocError, Global};
 
 // Sums over sets, and the most clauses that one has.
@@ -111,30 +113,20 @@ fn sum_of(
     Ok(sum)
 }
 
-fn answer(alloc: Global, file: &str, from: u64, most: u64) -> Result<String, AllocError> {
-    if file.len() > LARGEST_FILE {
-        return Err(AllocError);
-    }
-    let Ok(judged) = load(alloc, file.as_bytes()) else {
-        return Err(AllocError);
-    };
+fn answer(alloc: Global, file: &str, from: u64, most: u64) -> Result<String, NoMemory> {
+    let judged = loaded(alloc, file)?;
     let sum = sum_of(alloc, &judged.flow, &judged.unit_outline, from, most)?;
-    format!(in alloc;
+    Ok(format!(in alloc;
         "{} sets, {} terms, {} clauses, {} literals, at most {} clauses",
         sum.sets, sum.terms, sum.clauses, sum.literals, sum.most_clauses
-    )
+    )?)
 }
 
 // How many clauses are counted for the obligation with a number.
-fn counted(alloc: Global, file: &str, i: u64) -> Result<u64, AllocError> {
-    if file.len() > LARGEST_FILE {
-        return Err(AllocError);
-    }
-    let Ok(judged) = load(alloc, file.as_bytes()) else {
-        return Err(AllocError);
-    };
+fn counted(alloc: Global, file: &str, i: u64) -> Result<u64, NoMemory> {
+    let judged = loaded(alloc, file)?;
     match nth(&judged.flow, &judged.unit_outline, i) {
-        None => Err(AllocError),
+        None => Err(NoMemory),
         Some(o) => Ok(clauses(&judged.flow, &judged.unit_outline, &o)),
     }
 }
@@ -151,10 +143,10 @@ fn refusal(alloc: Global, file: &str) -> Result<String, AllocError> {
 }
 
 #[test]
-fn sets_are_as_large_as_the_format_says(rt: HostRuntime) -> Result<(), AllocError> {
+fn sets_are_as_large_as_the_format_says(rt: HostRuntime) -> Result<(), NoMemory> {
     let alloc = rt.alloc();
     assert_eq!(rt;
-        answer(alloc, hazards(alloc)?.as_str(), 0, 10000)?.as_str(),
+        answer(alloc, HAZARDS.concat(alloc)?.as_str(), 0, 10000)?.as_str(),
         "2845 sets, 95254 terms, 213959 clauses, 1039687 literals, at most 114 clauses"
     );
     assert_eq!(rt;

@@ -1,31 +1,17 @@
 // A stack whose nodes are protected by hazard pointers, with its outline: what each move comes to, which node each
 // place holds, which claims a step reaches, and which clauses are true.
-ghost use Rattle.std.specs.Prelude.{◌≡◌, IfOk};
 ghost use Rattle.plc_flow.specs.WellFormed.{FlowFits};
 ghost use Rattle.plc_flow.specs.WellSorted.{FlowIsWellSorted};
 ghost use Rattle.plc_gc.specs.Position.{IsOfRun};
 
-use crate::files::hazards;
-use plc_base::{FieldId, Items, LARGEST_FILE, NoMemory, OpId};
-use plc_check::{Judged, load};
+use crate::loading::loaded;
+use plc_base::{FieldId, Items, NoMemory, OpId};
+use plc_check::Judged;
 use plc_flow::{Flow, Move, Place, StartFault};
 use plc_gc::{GcConfig, holds};
 use plc_logic::{Clause, Item};
+use plc_stacks::HAZARDS;
 use std::alloc::{AllocError, Global};
-
-// A file with its flow and its outline.
-pub(crate) fn loaded(alloc: Global, text: &str) -> Result<Judged, NoMemory>
-    ensures fits { IfOk result (λ judged. FlowFits judged.flow) }
-    ensures sorted { IfOk result (λ judged. FlowIsWellSorted judged.flow) }
-{
-    if text.len() > LARGEST_FILE {
-        return Err(NoMemory);
-    }
-    match load(alloc, text.as_bytes()) {
-        Ok(judged) => Ok(judged),
-        Err(_) => Err(NoMemory),
-    }
-}
 
 // The number of a word, 0 where it is none.
 fn number(word: Option<&str>) -> u32 {
@@ -76,6 +62,10 @@ pub(crate) fn move_of(alloc: Global, line: &str) -> Result<Move, AllocError> {
     Ok(Move::Free { a: t })
 }
 
+const NEXT: FieldId = FieldId(0);
+
+const VAL: FieldId = FieldId(1);
+
 // Places by short names: the shared pointer, two locals of two threads, and the fields of null and two nodes.
 const PLACES: [(&str, Place); 9] = [
     ("Top", Place::Shared(0)),
@@ -83,34 +73,10 @@ const PLACES: [(&str, Place); 9] = [
     ("t", Place::Local { t: 0, v: 1 }),
     ("t'", Place::Local { t: 1, v: 0 }),
     ("s'", Place::Local { t: 1, v: 1 }),
-    (
-        "0.next",
-        Place::Cell {
-            a: 0,
-            f: FieldId(0),
-        },
-    ),
-    (
-        "1.next",
-        Place::Cell {
-            a: 1,
-            f: FieldId(0),
-        },
-    ),
-    (
-        "1.val",
-        Place::Cell {
-            a: 1,
-            f: FieldId(1),
-        },
-    ),
-    (
-        "2.next",
-        Place::Cell {
-            a: 2,
-            f: FieldId(0),
-        },
-    ),
+    ("0.next", Place::Cell { a: 0, f: NEXT }),
+    ("1.next", Place::Cell { a: 1, f: NEXT }),
+    ("1.val", Place::Cell { a: 1, f: VAL }),
+    ("2.next", Place::Cell { a: 2, f: NEXT }),
 ];
 
 // Each place that is there with its node.
@@ -343,7 +309,7 @@ invariants 0 1 2 => yyyyy
 
 #[test]
 fn runs_of_a_stack(rt: HostRuntime) -> Result<(), NoMemory> {
-    let text = ran(rt.alloc(), hazards(rt.alloc())?.as_str(), RUN)?;
+    let text = ran(rt.alloc(), HAZARDS.concat(rt.alloc())?.as_str(), RUN)?;
     assert_eq!(rt; text.as_str(), RUN);
     Ok(())
 }

@@ -5,7 +5,8 @@ ghost use Rattle.plc_flow.specs.WellSorted.{FlowIsWellSorted};
 ghost use Rattle.plc_gc.specs.Position.{IsOfRun};
 ghost use Rattle.plc_run.specs.Position.{IsOfRun as IsOfMemoryRun};
 
-use crate::collected::{loaded, move_of};
+use crate::collected::move_of;
+use crate::loading::loaded;
 use plc_base::NoMemory;
 use plc_check::Judged;
 use plc_flow::Place;

@@ -3,12 +3,13 @@
 // point and its clause, `c0.1` that of a step and its primitive.
 ghost use Rattle.plc_setting.specs.Fit.{Fits};
 
-use crate::files::{DEEP, epochs, hazards};
-use plc_base::LARGEST_FILE;
-use plc_check::load;
+use crate::deep::DEEP;
+use crate::loading::loaded;
+use plc_base::NoMemory;
 use plc_flow::Flow;
 use plc_logic::Outline;
 use plc_oblig::{Obligation, count, nth};
+use plc_stacks::{EPOCHS, HAZARDS};
 use std::alloc::{AllocError, Global};
 
 fn obligation_text(alloc: Global, o: Obligation) -> Result<String, AllocError> {
@@ -69,28 +70,23 @@ fn text_of(
 }
 
 // How many obligations a file has, and those with these numbers.
-fn answer(alloc: Global, file: &str, numbers: &[u64]) -> Result<String, AllocError> {
-    if file.len() > LARGEST_FILE {
-        return Err(AllocError);
-    }
-    let Ok(judged) = load(alloc, file.as_bytes()) else {
-        return Err(AllocError);
-    };
-    text_of(alloc, &judged.flow, &judged.unit_outline, numbers)
+fn answer(alloc: Global, file: &str, numbers: &[u64]) -> Result<String, NoMemory> {
+    let judged = loaded(alloc, file)?;
+    Ok(text_of(alloc, &judged.flow, &judged.unit_outline, numbers)?)
 }
 
 #[test]
-fn obligations_are_those_of_the_lists(rt: HostRuntime) -> Result<(), AllocError> {
+fn obligations_are_those_of_the_lists(rt: HostRuntime) -> Result<(), NoMemory> {
     let alloc = rt.alloc();
     let of_hazards: [u64; 19] = [
         0, 5, 6, 9, 13, 14, 17, 60, 120, 200, 267, 300, 777, 1500, 2222, 2840, 2841, 2844, 2845,
     ];
     assert_eq!(rt;
-        answer(alloc, hazards(alloc)?.as_str(), &of_hazards)?.as_str(),
+        answer(alloc, HAZARDS.concat(alloc)?.as_str(), &of_hazards)?.as_str(),
         "2845: s0 e0.0 e0.1 o0.0 o0.4 o0.5 o1.0 o6.3 o15.1 o27.3 i0.0.0 i0.12.0 i7.26.0 i18.23.0 i29.19.0 i38.36.0 c23.1 c31.0 none"
     );
     assert_eq!(rt;
-        answer(alloc, epochs(alloc)?.as_str(), &[0, 2559])?.as_str(),
+        answer(alloc, EPOCHS.concat(alloc)?.as_str(), &[0, 2559])?.as_str(),
         "2559: s0 none"
     );
     let deep: [u64; 16] = [

@@ -82,6 +82,10 @@ fn event_text(alloc: Global, event: &Event) -> Result<String, AllocError> {
     }
 }
 
+const NEXT: FieldId = FieldId(0);
+
+const VAL: FieldId = FieldId(1);
+
 // Places by short names: shared pointers, locals of two threads, and fields of two nodes.
 const PLACES: [(&str, Place); 9] = [
     ("Top", Place::Shared(0)),
@@ -89,27 +93,9 @@ const PLACES: [(&str, Place); 9] = [
     ("p", Place::Local { t: 0, v: 0 }),
     ("q", Place::Local { t: 0, v: 1 }),
     ("r", Place::Local { t: 1, v: 0 }),
-    (
-        "1.next",
-        Place::Cell {
-            a: 1,
-            f: FieldId(0),
-        },
-    ),
-    (
-        "1.val",
-        Place::Cell {
-            a: 1,
-            f: FieldId(1),
-        },
-    ),
-    (
-        "2.next",
-        Place::Cell {
-            a: 2,
-            f: FieldId(0),
-        },
-    ),
+    ("1.next", Place::Cell { a: 1, f: NEXT }),
+    ("1.val", Place::Cell { a: 1, f: VAL }),
+    ("2.next", Place::Cell { a: 2, f: NEXT }),
     ("s", Place::Local { t: 2, v: 0 }),
 ];
 

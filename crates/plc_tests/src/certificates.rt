@@ -1,6 +1,7 @@
 // Certificates: what `certify` writes is verified, and a certificate that is changed in one place has the answer
 // that is due. A certificate is any valid one, so each change puts whole parts in the place of its own.
-use crate::program::{answered, put, section, words_of};
+use crate::files::{put, text_of};
+use crate::program::{answered, words_of};
 use plc_cli::MemFiles;
 use std::alloc::{AllocError, Global};
 
@@ -21,20 +22,22 @@ fn answer(alloc: Global, words: &str, file: &str, certificate: &str) -> Result<S
 }
 
 // The certificate of a file, and no text where it has none.
-fn certificate_of(alloc: Global, file: &str) -> Result<String, AllocError> {
-    let text = answer(alloc, "certify file", file, "")?;
+fn certificate_of(alloc: Global, name: &str) -> Result<String, AllocError> {
+    let file = text_of(alloc, name)?;
+    let text = answer(alloc, "certify file", file.as_str(), "")?;
     String::from_str(alloc, text.as_str().strip_prefix("0\n").unwrap_or(""))
 }
 
 // What is answered to a certificate for a file.
-fn verified(alloc: Global, file: &str, certificate: &str) -> Result<String, AllocError> {
-    answer(alloc, "verify file certificate", file, certificate)
+fn verified(alloc: Global, name: &str, certificate: &str) -> Result<String, AllocError> {
+    let file = text_of(alloc, name)?;
+    answer(alloc, "verify file certificate", file.as_str(), certificate)
 }
 
 // What is answered to the certificate of a file for that file.
 fn verified_own(alloc: Global, name: &str) -> Result<String, AllocError> {
-    let certificate = certificate_of(alloc, section(name))?;
-    verified(alloc, section(name), certificate.as_str())
+    let certificate = certificate_of(alloc, name)?;
+    verified(alloc, name, certificate.as_str())
 }
 
 #[test]
@@ -84,7 +87,7 @@ const WRITTEN: [(&str, &str, &str); 5] = [
 fn certificates_from_elsewhere_are_judged(rt: HostRuntime) -> Result<(), AllocError> {
     for (name, certificate, want) in WRITTEN {
         assert_eq!(rt;
-            verified(rt.alloc(), section(name), certificate)?.as_str(),
+            verified(rt.alloc(), name, certificate)?.as_str(),
             want,
             "{name}"
         );
@@ -92,23 +95,22 @@ fn certificates_from_elsewhere_are_judged(rt: HostRuntime) -> Result<(), AllocEr
     Ok(())
 }
 
-// How a certificate is changed.
-#[derive(Clone, Copy)]
-enum Change {
-    // The first place where one text stands has another one.
-    Text(&'static str, &'static str),
-    // A point that is neither the first nor the last has another environment, which is written without the
-    // brackets at its two ends.
-    Env(usize, &'static str),
-}
-
-// What stands between two environments of operations with pointer locals, with the brackets on either side.
-const BETWEEN: &str = "]]]],[[";
+// Changes of a certificate of `hazards`: the first place where one text stands has another one; then the answer.
+const TEXT_CHANGES: &str = r#"{"env": => "env": => 2 refused certificate json
+"version" => "versions" => 2 refused certificate field root
+"version":1 => "version":true => 2 refused certificate field version
+"version":1 => "version":2 => 2 refused certificate version 2
+{"env":[ => {"env":[[], => 2 refused certificate field env
+"trees":[ => "trees":[[[2,0,0]], => 2 refused certificate field trees
+{"env":[ => {"env":[[[],[]], => 1 invalid envs 38 37
+"trees":[ => "trees":[[], => 1 invalid trees 2846 2845
+"trees":[[ => "trees":[[[0,4294967295], => 1 invalid tree 0 node 0
+"#;
 
 fn with_text(
     alloc: Global,
     certificate: &str,
-    found: &'static str,
+    found: &str,
     text: &str,
 ) -> Result<String, AllocError> {
     match certificate.split_once(found) {
@@ -116,6 +118,61 @@ fn with_text(
         None => Ok(String::new(alloc)),
     }
 }
+
+// What is answered to a certificate of `hazards`, its status before the rest.
+fn verified_line(alloc: Global, certificate: &str) -> Result<String, AllocError> {
+    let answer = verified(alloc, "hazards", certificate)?;
+    let (status, line) = answer.as_str().split_once("\n").unwrap_or(("", ""));
+    format!(in alloc; "{status} {line}")
+}
+
+// The answer to a certificate that is changed by a row, where it isn't the row's.
+fn wrong_text(alloc: Global, certificate: &str, row: &str) -> Result<String, AllocError> {
+    let (found, rest) = row.split_once(" => ").unwrap_or((row, ""));
+    let (text, want) = rest.split_once(" => ").unwrap_or((rest, ""));
+    let changed = with_text(alloc, certificate, found, text)?;
+    let have = verified_line(alloc, changed.as_str())?;
+    if have.as_str().strip_suffix("\n") == Some(want) {
+        Ok(String::new(alloc))
+    } else {
+        Ok(have)
+    }
+}
+
+#[test]
+fn a_certificate_with_another_text_has_its_answer(rt: HostRuntime) -> Result<(), AllocError> {
+    let certificate = certificate_of(rt.alloc(), "hazards")?;
+    for row in TEXT_CHANGES.lines() {
+        let wrong = wrong_text(rt.alloc(), certificate.as_str(), row)?;
+        assert_eq!(rt; wrong.as_str(), "", "{row}");
+    }
+    Ok(())
+}
+
+// A point of `hazards` that is neither the first nor the last, its environment without the brackets at its two ends,
+// and the answer. The points 25 and 26 stand before and after the load of `t.next`, the only step between them, which
+// is step 24; the entry of `pop` is point 13. An environment with all locations and no guarantee holds wherever a step
+// leads.
+const ENV_CHANGES: [(usize, &str, &str); 6] = [
+    // a local too few, a set that isn't within the other, an active pointer that may be retired
+    (5, "0],[[0,[0", "1 invalid env 5\n"),
+    (5, "0],[[0,[3]],[0,[0", "1 invalid env 5\n"),
+    (5, "0,3],[[3,[3]],[0,[0", "1 invalid env 5\n"),
+    (13, "0,1,2,3,4,5],[[7,[]],[7,[", "1 invalid entry pop W\n"),
+    (
+        25,
+        "0,1,2,3,4,5,6],[[0,[0,1,2,3,4,5,6]],[0,[0,1,2,3,4,5,6",
+        "1 invalid type step 24 prim 0\n",
+    ),
+    (
+        26,
+        "0,1,2,3,4,5,6],[[0,[0,1,2,3,4,5,6]],[0,[0,2,3,5",
+        "1 invalid flow step 24 s\n",
+    ),
+];
+
+// What stands between two environments of operations with pointer locals, with the brackets on either side.
+const BETWEEN: &str = "]]]],[[";
 
 fn with_env(
     alloc: Global,
@@ -133,87 +190,23 @@ fn with_env(
     Ok(out)
 }
 
-fn changed(alloc: Global, certificate: &str, change: Change) -> Result<String, AllocError> {
-    match change {
-        Change::Text(found, text) => with_text(alloc, certificate, found, text),
-        Change::Env(point, env) => with_env(alloc, certificate, point, env),
-    }
-}
-
-fn verified_changed(
+fn verified_env(
     alloc: Global,
-    file: &str,
     certificate: &str,
-    change: Change,
+    point: usize,
+    env: &str,
 ) -> Result<String, AllocError> {
-    let certificate = changed(alloc, certificate, change)?;
-    verified(alloc, file, certificate.as_str())
+    let changed = with_env(alloc, certificate, point, env)?;
+    verified_line(alloc, changed.as_str())
 }
-
-// Changes of a certificate of `hazards`, each with its answer. The points 25 and 26 stand before and after the
-// load of `t.next`, the only step between them, which is step 24; the entry of `pop` is point 13. An environment
-// with all locations and no guarantee holds wherever a step leads.
-const CHANGES: [(Change, &str); 15] = [
-    (
-        Change::Text("{\"env\":", "\"env\":"),
-        "2\nrefused certificate json\n",
-    ),
-    (
-        Change::Text("\"version\"", "\"versions\""),
-        "2\nrefused certificate field root\n",
-    ),
-    (
-        Change::Text("\"version\":1", "\"version\":true"),
-        "2\nrefused certificate field version\n",
-    ),
-    (
-        Change::Text("\"version\":1", "\"version\":2"),
-        "2\nrefused certificate version 2\n",
-    ),
-    (
-        Change::Text("{\"env\":[", "{\"env\":[[],"),
-        "2\nrefused certificate field env\n",
-    ),
-    (
-        Change::Text("\"trees\":[", "\"trees\":[[[2,0,0]],"),
-        "2\nrefused certificate field trees\n",
-    ),
-    (
-        Change::Text("{\"env\":[", "{\"env\":[[[],[]],"),
-        "1\ninvalid envs 38 37\n",
-    ),
-    // a local too few, a set that isn't within the other, an active pointer that may be retired
-    (Change::Env(5, "0],[[0,[0"), "1\ninvalid env 5\n"),
-    (Change::Env(5, "0],[[0,[3]],[0,[0"), "1\ninvalid env 5\n"),
-    (Change::Env(5, "0,3],[[3,[3]],[0,[0"), "1\ninvalid env 5\n"),
-    (
-        Change::Env(13, "0,1,2,3,4,5],[[7,[]],[7,["),
-        "1\ninvalid entry pop W\n",
-    ),
-    (
-        Change::Env(25, "0,1,2,3,4,5,6],[[0,[0,1,2,3,4,5,6]],[0,[0,1,2,3,4,5,6"),
-        "1\ninvalid type step 24 prim 0\n",
-    ),
-    (
-        Change::Env(26, "0,1,2,3,4,5,6],[[0,[0,1,2,3,4,5,6]],[0,[0,2,3,5"),
-        "1\ninvalid flow step 24 s\n",
-    ),
-    (
-        Change::Text("\"trees\":[", "\"trees\":[[],"),
-        "1\ninvalid trees 2846 2845\n",
-    ),
-    (
-        Change::Text("\"trees\":[[", "\"trees\":[[[0,4294967295],"),
-        "1\ninvalid tree 0 node 0\n",
-    ),
-];
 
 #[test]
-fn a_changed_certificate_has_its_answer(rt: HostRuntime) -> Result<(), AllocError> {
-    let file = section("hazards");
-    let certificate = certificate_of(rt.alloc(), file)?;
-    for (change, want) in CHANGES {
-        let have = verified_changed(rt.alloc(), file, certificate.as_str(), change)?;
+fn a_certificate_with_another_environment_has_its_answer(
+    rt: HostRuntime,
+) -> Result<(), AllocError> {
+    let certificate = certificate_of(rt.alloc(), "hazards")?;
+    for (point, env, want) in ENV_CHANGES {
+        let have = verified_env(rt.alloc(), certificate.as_str(), point, env)?;
         assert_eq!(rt; have.as_str(), want);
     }
     Ok(())
@@ -235,16 +228,15 @@ fn with_leaf(alloc: Global, certificate: &str) -> Result<(String, String), Alloc
 
 #[test]
 fn leaves_and_certificates_of_others_are_told(rt: HostRuntime) -> Result<(), AllocError> {
-    let file = section("hazards");
-    let certificate = certificate_of(rt.alloc(), file)?;
+    let certificate = certificate_of(rt.alloc(), "hazards")?;
     let (changed, want) = with_leaf(rt.alloc(), certificate.as_str())?;
     assert_eq!(rt;
-        verified(rt.alloc(), file, changed.as_str())?.as_str(),
+        verified(rt.alloc(), "hazards", changed.as_str())?.as_str(),
         want.as_str()
     );
-    let other = certificate_of(rt.alloc(), section("epochs-held"))?;
+    let other = certificate_of(rt.alloc(), "epochs-held")?;
     assert_eq!(rt;
-        verified(rt.alloc(), file, other.as_str())?.as_str(),
+        verified(rt.alloc(), "hazards", other.as_str())?.as_str(),
         "1\ninvalid envs 35 37\n"
     );
     Ok(())

@@ -2,8 +2,9 @@
 // the status is 5 and a part of the answer was written. Files that never fail and an output with a fixed room
 // answer so too.
 use crate::certificates::PUBLISHED;
-use crate::program::{Entries, put, put_schedules, put_sections, words_of};
-use crate::rows::{CHECKED, FILES, REPLAYED};
+use crate::files::{Entries, FILES, SCHEDULES, put, put_pieces, put_sections, put_stacks};
+use crate::program::words_of;
+use crate::rows::{CHECKED, REPLAYED};
 use plc_base::NoMemory;
 use plc_cli::{FailSink, Files, MemFiles, Sink, run_with_own};
 use plc_outside::{FixedSink, HonestFiles};
@@ -49,7 +50,8 @@ fn due(alloc: Global, answer: &str, taken: usize) -> Result<String, AllocError> 
 fn entries(alloc: Global) -> Result<Entries, AllocError> {
     let mut files = Vec::new(alloc);
     put_sections(alloc, &mut files, FILES)?;
-    put_schedules(alloc, &mut files)?;
+    put_stacks(alloc, &mut files)?;
+    put_pieces(alloc, &mut files, &SCHEDULES)?;
     let bytes = Vec::from_slice(alloc, PUBLISHED.as_bytes())?;
     put(alloc, &mut files, "certificate", bytes)?;
     Ok(files)

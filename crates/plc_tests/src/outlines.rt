@@ -1,11 +1,11 @@
 // Outlines that don't hold: the first line of the answer, and that the classes which it prints are a model of the
 // ground set of the obligation that it tells. Which model is printed is left open, so no row has it. Beside them a
-// sample that is larger than any file here.
+// few samples that are larger than any file here.
 ghost use Rattle.std.specs.Prelude.{IfOk};
 ghost use Rattle.plc_check.specs.Fit.{JudgedFits};
 
-use crate::program::{answered, changed, section, words_of};
-use crate::rows::CHANGED;
+use crate::files::{CHANGED, changed};
+use crate::program::{answered, head, words_of};
 use plc_base::{Items, LARGEST_FILE, NoMemory};
 use plc_check::{Judged, load};
 use plc_cli::MemFiles;
@@ -96,7 +96,7 @@ fn answer_to(alloc: Global, text: &str) -> Result<String, AllocError> {
 fn first_line(alloc: Global, name: &str) -> Result<String, NoMemory> {
     for (changed_name, base, changes) in &CHANGED {
         if *changed_name == name {
-            let text = changed(alloc, section(*base), *changes)?;
+            let text = changed(alloc, *base, *changes)?;
             return first_line_of(alloc, text.as_str());
         }
     }
@@ -131,13 +131,12 @@ fn what_is_printed_is_a_model(rt: HostRuntime) -> Result<(), NoMemory> {
 }
 
 // The status and the first line of what is answered to words without files.
-fn head(alloc: Global, words: &str) -> Result<String, AllocError> {
-    let mut files = MemFiles::new(alloc, Vec::new(alloc), Vec::new(alloc));
-    let words = words_of(alloc, words)?;
-    let text = answered(alloc, &mut files, &words)?;
-    let (status, rest) = text.as_str().split_once("\n").unwrap_or(("", ""));
-    let (line, _) = rest.split_once("\n").unwrap_or(("", ""));
-    format!(in alloc; "{status} {line}")
+fn sampled(alloc: Global, words: &str) -> Result<String, AllocError> {
+    head(
+        alloc,
+        &mut MemFiles::new(alloc, Vec::new(alloc), Vec::new(alloc)),
+        words,
+    )
 }
 
 #[test]
@@ -148,8 +147,12 @@ fn samples_have_their_verdicts(rt: HostRuntime) -> Result<(), AllocError> {
             "sample 4 0",
             "0 sample 4 0 points 148 steps 156 obligations 42253 safe",
         ),
+        (
+            "sample 8 0",
+            "0 sample 8 0 points 296 steps 312 obligations 166869 safe",
+        ),
     ] {
-        assert_eq!(rt; head(rt.alloc(), words)?.as_str(), want);
+        assert_eq!(rt; sampled(rt.alloc(), words)?.as_str(), want);
     }
     Ok(())
 }

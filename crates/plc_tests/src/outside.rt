@@ -7,6 +7,16 @@ use std::alloc::{AllocError, Global};
 use std::io::Write;
 use std::{env, fs, io, process};
 
+// Bytes as a text; where they are all `x`, as their count.
+fn bytes_text(alloc: Global, bytes: &[u8]) -> Result<String, AllocError> {
+    if bytes.iter().any(|byte| *byte != b'x') || bytes.is_empty() {
+        let text = str::from_utf8(bytes).unwrap_or("?");
+        return format!(in alloc; "'{text}' ");
+    }
+    let count = bytes.len();
+    format!(in alloc; "{count} times x ")
+}
+
 // A read's answer, through the bound alone.
 fn read_text<F: Files>(
     alloc: Global,
@@ -15,10 +25,7 @@ fn read_text<F: Files>(
     max: usize,
 ) -> Result<String, AllocError> {
     match files.read(name, max) {
-        Ok(bytes) => {
-            let text = str::from_utf8(&bytes).unwrap_or("?");
-            format!(in alloc; "'{text}' ")
-        }
+        Ok(bytes) => bytes_text(alloc, &bytes),
         Err(fault) => format!(in alloc; "{fault} "),
     }
 }
@@ -117,30 +124,14 @@ fn faults_print_their_cause(rt: HostRuntime) -> Result<(), AllocError> {
     Ok(())
 }
 
-// What the system's file is read as: its count of bytes, which are all `x`, or a fault.
-fn system_text<F: Files>(
-    alloc: Global,
-    files: &mut F,
-    name: &str,
-    max: usize,
-) -> Result<String, AllocError> {
-    match files.read(name, max) {
-        Ok(bytes) => {
-            let count = bytes.len();
-            let others = bytes.iter().any(|byte| *byte != b'x');
-            format!(in alloc; "{count} {others} ")
-        }
-        Err(fault) => format!(in alloc; "{fault} "),
-    }
-}
-
+// What the system's file is read as, of which all bytes are `x`, and what other names are.
 fn systems_text<F: Files>(alloc: Global, files: &mut F, name: &str) -> Result<String, AllocError> {
     let mut text = String::new(alloc);
     for max in [5000, usize::MAX, 4999, 0] {
-        text.push_str(system_text(alloc, files, name, max)?.as_str())?;
+        text.push_str(read_text(alloc, files, name, max)?.as_str())?;
     }
     for other in ["", "/"] {
-        text.push_str(system_text(alloc, files, other, 9)?.as_str())?;
+        text.push_str(read_text(alloc, files, other, 9)?.as_str())?;
     }
     Ok(text)
 }
@@ -172,7 +163,7 @@ fn files_of_the_system(rt: HostRuntime) -> io::Result<()> {
     fs::remove_file(&rt, name.as_str())?;
     assert_eq!(rt;
         answers.as_str(),
-        "5000 false 5000 false too long too long failed failed "
+        "5000 times x 5000 times x too long too long failed failed "
     );
     assert_eq!(rt;
         real_text(&rt, name.as_str())?.as_str(),

@@ -1,178 +1,18 @@
 // Whole answers of `run` over files in memory. That there is memory for an answer, and which bytes an
-// output is handed, is what no contract can say. `rows.rt` has the files, and the rows of answers.
-use crate::rows::{
-    CERTIFIED, CHANGED, CHECKED, FILES, OUTLINED, PRINTED, REPLAYED, REUSE, SCHEDULES, UNLISTED,
+// output is handed, is what no contract can say. `files.rt` has the files, and `rows.rt` the rows of answers.
+use crate::files::{
+    Entries, FILES, OUTLINED, SCHEDULES, STACKS, put, put_changed, put_made, put_pieces,
+    put_sections, put_stacks, text_of,
 };
+use crate::rows::{CERTIFIED, CHECKED, PRINTED, REPLAYED, UNLISTED};
 use plc_cli::{ByList, Epoch, FailSink, Files, Hazard, Leak, MemFiles, Reclaimer, VecSink, run};
 use std::alloc::{AllocError, Global};
-
-// As many lines `tick` as a schedule may not have, after its first line.
-fn ticks(alloc: Global) -> Result<Vec<u8>, AllocError> {
-    let mut text = String::from_str(alloc, "threads 1\n")?;
-    for _ in 0..100_000 {
-        text.push_str("tick\n")?;
-    }
-    Ok(text.into_bytes())
-}
-
-// A node is put, taken and freed again and again, each time at the same address: nearly as many lines as a
-// schedule may have, so that a free which costs the length of the history would not end in time.
-fn reuses(alloc: Global) -> Result<Vec<u8>, AllocError> {
-    let mut text = String::from_str(alloc, "threads 1\n")?;
-    for _ in 0..7_692 {
-        text.push_str(REUSE)?;
-    }
-    Ok(text.into_bytes())
-}
-
-// Sixteen operations of so many statements each, and what stands after them.
-fn points(alloc: Global, statements: u32, after: &str) -> Result<Vec<u8>, AllocError> {
-    let mut text = String::from_str(alloc, "struct N { }")?;
-    for op in 0..16 {
-        text.push_str(format!(in alloc; " op f{op}() {{")?.as_str())?;
-        for _ in 0..statements {
-            text.push_str(" skip;")?;
-        }
-        text.push_str(" }")?;
-    }
-    text.push_str(after)?;
-    Ok(text.into_bytes())
-}
-
-// A file that ends within a block, on its first line.
-const OPEN: &str = "struct N { } op f ( ) { ptr n ; atomic { n := new ;";
-
-pub(crate) type Entries = Vec<(String, Vec<u8>)>;
-
-pub(crate) fn put(
-    alloc: Global,
-    files: &mut Entries,
-    name: &str,
-    bytes: Vec<u8>,
-) -> Result<(), AllocError> {
-    files.push((String::from_str(alloc, name)?, bytes))?;
-    Ok(())
-}
-
-pub(crate) fn put_sections(
-    alloc: Global,
-    files: &mut Entries,
-    text: &str,
-) -> Result<(), AllocError> {
-    for section in text.split("# ") {
-        if let Some((name, lines)) = section.split_once("\n") {
-            put(
-                alloc,
-                files,
-                name,
-                Vec::from_slice(alloc, lines.as_bytes())?,
-            )?;
-        }
-    }
-    Ok(())
-}
-
-pub(crate) fn put_schedules(alloc: Global, files: &mut Entries) -> Result<(), AllocError> {
-    for (name, pieces) in &SCHEDULES {
-        let mut text = String::new(alloc);
-        for piece in *pieces {
-            text.push_str(*piece)?;
-        }
-        put(alloc, files, *name, text.into_bytes())?;
-    }
-    Ok(())
-}
-
-// The bytes of a file that no section has.
-fn made_bytes(alloc: Global, name: &str) -> Result<Vec<u8>, AllocError> {
-    match name {
-        "most" => vec![in alloc; b' '; 1_048_576],
-        "long" => vec![in alloc; b' '; 1_048_577],
-        "longest" => vec![in alloc; b' '; 4_194_305],
-        "ticks" => ticks(alloc),
-        "reuses" => reuses(alloc),
-        "points" => points(alloc, 254, ""),
-        "points-outlined" => points(alloc, 254, " outline { }"),
-        "points-over" => points(alloc, 255, " outline { }"),
-        "many-obligations" => points(alloc, 254, " outline { over f0: me == me; }"),
-        "open-atomic" => Vec::from_slice(alloc, OPEN.as_bytes()),
-        "outlined" => Vec::from_slice(alloc, OUTLINED.as_bytes()),
-        _ => Ok(vec![in alloc; 200u8]?),
-    }
-}
-
-const MADE: [&str; 12] = [
-    "most",
-    "long",
-    "longest",
-    "ticks",
-    "reuses",
-    "points",
-    "points-outlined",
-    "points-over",
-    "many-obligations",
-    "open-atomic",
-    "outlined",
-    "byte",
-];
-
-fn put_made(alloc: Global, files: &mut Entries) -> Result<(), AllocError> {
-    for name in MADE {
-        put(alloc, files, name, made_bytes(alloc, name)?)?;
-    }
-    Ok(())
-}
-
-// The text of a file that a section has.
-pub(crate) fn section(name: &str) -> &'static str {
-    for section in FILES.split("# ") {
-        if let Some((head, lines)) = section.split_once("\n") {
-            if head == name {
-                return lines;
-            }
-        }
-    }
-    ""
-}
-
-// What stands in the place of a line, if something else does.
-fn change_at(changes: &'static [(usize, &'static str)], number: usize) -> Option<&'static str> {
-    for (at, text) in changes {
-        if *at == number {
-            return Some(*text);
-        }
-    }
-    None
-}
-
-// A text with some of its lines put otherwise.
-pub(crate) fn changed(
-    alloc: Global,
-    text: &str,
-    changes: &'static [(usize, &'static str)],
-) -> Result<String, AllocError> {
-    let mut out = String::new(alloc);
-    for (i, line) in text.split_inclusive("\n").enumerate() {
-        match change_at(changes, i.wrapping_add(1)) {
-            Some(other) => out.push_str(other)?,
-            None => out.push_str(line)?,
-        }
-    }
-    Ok(out)
-}
-
-fn put_changed(alloc: Global, files: &mut Entries) -> Result<(), AllocError> {
-    for (name, base, changes) in &CHANGED {
-        let text = changed(alloc, section(*base), *changes)?;
-        put(alloc, files, *name, text.into_bytes())?;
-    }
-    Ok(())
-}
 
 fn entries(alloc: Global) -> Result<Entries, AllocError> {
     let mut files = Vec::new(alloc);
     put_sections(alloc, &mut files, FILES)?;
-    put_schedules(alloc, &mut files)?;
+    put_stacks(alloc, &mut files)?;
+    put_pieces(alloc, &mut files, &SCHEDULES)?;
     put_made(alloc, &mut files)?;
     put_changed(alloc, &mut files)?;
     Ok(files)
@@ -227,6 +67,19 @@ pub(crate) fn answered<F: Files>(
     let mut reclaimers = Vec::new(alloc);
     push_reclaimers(alloc, &mut reclaimers)?;
     answered_under(alloc, files, words, reclaimers)
+}
+
+// The status and the first line of what is answered.
+pub(crate) fn head<F: Files>(
+    alloc: Global,
+    files: &mut F,
+    words: &str,
+) -> Result<String, AllocError> {
+    let words = words_of(alloc, words)?;
+    let text = answered(alloc, files, &words)?;
+    let (status, rest) = text.as_str().split_once("\n").unwrap_or(("", ""));
+    let (line, _) = rest.split_once("\n").unwrap_or(("", ""));
+    format!(in alloc; "{status} {line}")
 }
 
 fn answer<F: Files>(alloc: Global, files: &mut F, words: &str) -> Result<String, AllocError> {
@@ -329,19 +182,24 @@ fn printed(alloc: Global, text: &str) -> Result<String, AllocError> {
     answered(alloc, &mut files, &words)
 }
 
+// A text's name where it is printed otherwise from what is printed of it.
+fn misprint(alloc: Global, name: &'static str, file: &str) -> Result<&'static str, AllocError> {
+    let once = printed(alloc, file)?;
+    match once.as_str().strip_prefix("0\n") {
+        Some(text) if printed(alloc, text)?.as_str() != once.as_str() => Ok(name),
+        _ => Ok(""),
+    }
+}
+
 #[test]
 fn a_print_is_printed_the_same(rt: HostRuntime) -> Result<(), AllocError> {
     for section in FILES.split("# ") {
-        if let Some((name, file)) = section.split_once("\n") {
-            let once = printed(rt.alloc(), file)?;
-            if let Some(text) = once.as_str().strip_prefix("0\n") {
-                assert_eq!(rt;
-                    printed(rt.alloc(), text)?.as_str(),
-                    once.as_str(),
-                    "{name}"
-                );
-            }
-        }
+        let (name, file) = section.split_once("\n").unwrap_or(("", ""));
+        assert_eq!(rt; misprint(rt.alloc(), name, file)?, "");
+    }
+    for name in STACKS {
+        let file = text_of(rt.alloc(), name)?;
+        assert_eq!(rt; misprint(rt.alloc(), name, file.as_str())?, "");
     }
     Ok(())
 }

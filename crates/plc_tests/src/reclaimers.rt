@@ -1,11 +1,12 @@
 // Replays under each reclaimer of the program, and under two of one name. What a reclaimer picks is pinned
 // by its row; these are whole answers of replays, of which no contract says that there is memory for them.
-ghost use Rattle.std.specs.Prelude.{[], None, codes};
+ghost use Rattle.std.specs.Prelude.{codes};
 
-use crate::program::{answered, answered_under, put_sections, words_of, wrong_rows};
+use crate::files::{Entries, PUT, PUT_AND_TAKE, TAKE, put, put_pieces, put_sections};
+use crate::program::{answered, answered_under, words_of, wrong_rows};
 use plc_auto::Event;
 use plc_base::NoMemory;
-use plc_cli::{ByList, MemFiles, Reclaimer};
+use plc_cli::{ByList, Leak, MemFiles, Reclaimer};
 use plc_reclaim::Scheme;
 use std::alloc::{AllocError, Global};
 
@@ -32,70 +33,33 @@ struct Node { ptr next; }
 shared Top;
 op put() { ptr n; n := new; Top := n; }
 op take() { ptr t; t := Top; Top := null; retire(t); }
-# held
-threads 2
-start 1 put
-step 1 0 1
-step 1 0
-step 1 0
-return 1
-start 0 hold
-step 0 0
-step 0 0
-step 0 0
-start 1 take
-step 1 0
-step 1 0
-step 1 0
-tick
-step 0 0
-tick
-# pending
-threads 2
-start 1 put
-step 1 0 1
-step 1 0
-step 1 0
-return 1
-start 0 hold
-step 0 0
-step 0 0
-start 1 take
-step 1 0
-step 1 0
-step 1 0
-tick
-# inside
-threads 2
-start 1 put
-step 1 0 1
-step 1 0
-step 1 0
-return 1
-start 0 stay
-step 0 0
-step 0 0
-start 1 take
-step 1 0
-step 1 0
-step 1 0
-tick
-step 0 0
-tick
-# alone
-threads 1
-start 0 put
-step 0 0 1
-step 0 0
-step 0 0
-return 0
-start 0 take
-step 0 0
-step 0 0
-step 0 0
-tick
-tick
 ";
+
+const SCHEDULES: [(&str, &[&str]); 4] = [
+    (
+        "held",
+        &[
+            PUT,
+            "start 0 hold\nstep 0 0\nstep 0 0\nstep 0 0\n",
+            TAKE,
+            "step 0 0\ntick\n",
+        ],
+    ),
+    (
+        "pending",
+        &[PUT, "start 0 hold\nstep 0 0\nstep 0 0\n", TAKE],
+    ),
+    (
+        "inside",
+        &[
+            PUT,
+            "start 0 stay\nstep 0 0\nstep 0 0\n",
+            TAKE,
+            "step 0 0\ntick\n",
+        ],
+    ),
+    ("alone", &["threads 1\n", PUT_AND_TAKE, "tick\ntick\n"]),
+];
 
 // What is protected or in use waits for its thread, under the reclaimer that serves the file's scheme; one
 // that serves another scheme picks as `list` does, and so does each where the file has none.
@@ -121,10 +85,15 @@ end lines 12 events 2 freed 1
 end lines 12 events 2 freed 1
 ";
 
-fn some_files(alloc: Global) -> Result<MemFiles, AllocError> {
+fn entries(alloc: Global) -> Result<Entries, AllocError> {
     let mut files = Vec::new(alloc);
     put_sections(alloc, &mut files, FILES)?;
-    Ok(MemFiles::new(alloc, files, Vec::new(alloc)))
+    put_pieces(alloc, &mut files, &SCHEDULES)?;
+    Ok(files)
+}
+
+fn some_files(alloc: Global) -> Result<MemFiles, AllocError> {
+    Ok(MemFiles::new(alloc, entries(alloc)?, Vec::new(alloc)))
 }
 
 fn wrong_answers(alloc: Global) -> Result<String, AllocError> {
@@ -220,10 +189,13 @@ fn drawn_answer(
     last: u32,
     seed: u32,
 ) -> Result<String, AllocError> {
-    let mut files = Vec::new(alloc);
-    put_sections(alloc, &mut files, FILES)?;
-    let schedule = drawn_schedule(alloc, op, last, seed)?;
-    files.push((String::from_str(alloc, "drawn")?, schedule))?;
+    let mut files = entries(alloc)?;
+    put(
+        alloc,
+        &mut files,
+        "drawn",
+        drawn_schedule(alloc, op, last, seed)?,
+    )?;
     let mut files = MemFiles::new(alloc, files, Vec::new(alloc));
     let words = words_of(alloc, words)?;
     answered(alloc, &mut files, &words)
@@ -265,19 +237,16 @@ fn a_drawn_schedule_ends_in_no_forbidden_free(rt: HostRuntime) -> Result<(), All
     Ok(())
 }
 
-// Frees nothing, under the name of another.
+// Frees nothing, as `leak` does, under the name of another.
 #[derive(Drop)]
-struct Namesake;
+struct Namesake {
+    leak: Leak,
+}
 
 impl Reclaimer for Namesake {
-    ghost held = { λ _. [] };
+    ghost held = { λ b. ⟦<Leak as Reclaimer>⟧.held b.leak };
 
-    ghost meanings = { λ _. record {
-      begun = λ _. [];
-      after = λ _ _. [];
-      picked = λ held. held;
-      pick_of = λ _. None;
-    } };
+    ghost meanings = { λ b. ⟦<Leak as Reclaimer>⟧.meanings b.leak };
 
     ghost named = { λ _. codes "list" };
 
@@ -285,23 +254,24 @@ impl Reclaimer for Namesake {
         "list"
     }
 
-    fn begin(&mut self, _schemes: &[Scheme]) -> Result<(), NoMemory> {
-        Ok(())
+    fn begin(&mut self, schemes: &[Scheme]) -> Result<(), NoMemory> {
+        self.leak.begin(schemes)
     }
 
-    fn event(&mut self, _e: Event) -> Result<(), NoMemory> {
-        Ok(())
+    fn event(&mut self, e: Event) -> Result<(), NoMemory> {
+        self.leak.event(e)
     }
 
     fn pick(&mut self) -> Option<u32> {
-        None
+        self.leak.pick()
     }
 }
 
 type Reclaimers = Vec<Box<dyn Reclaimer>>;
 
 fn push_namesake(alloc: Global, reclaimers: &mut Reclaimers) -> Result<(), AllocError> {
-    reclaimers.push(Box::new(alloc, Namesake)?)?;
+    let leak = Leak::new(alloc);
+    reclaimers.push(Box::new(alloc, Namesake { leak })?)?;
     Ok(())
 }
 

@@ -20,30 +20,33 @@ fn typed(g: Guar, digits: &str) -> PtrType {
     }
 }
 
+// The sets of guarantees by their names. A name that another one begins with stands after it.
+fn guarantees() -> [(&'static str, Guar); 4] {
+    [
+        ("ALS", Guar::active_local_safe()),
+        ("AS", Guar::active_safe()),
+        ("S", Guar::safe_only()),
+        ("-", Guar::nothing()),
+    ]
+}
+
 // The type that a text writes.
 fn type_of(text: &str) -> PtrType {
-    if let Some(digits) = text.strip_prefix("ALS") {
-        return typed(Guar::active_local_safe(), digits);
+    for (name, g) in guarantees() {
+        if let Some(digits) = text.strip_prefix(name) {
+            return typed(g, digits);
+        }
     }
-    if let Some(digits) = text.strip_prefix("AS") {
-        return typed(Guar::active_safe(), digits);
-    }
-    match text.strip_prefix("S") {
-        Some(digits) => typed(Guar::safe_only(), digits),
-        None => typed(Guar::nothing(), text),
-    }
+    typed(Guar::nothing(), text)
 }
 
 fn guarantee_text(g: &Guar) -> &'static str {
-    if g.is_local() {
-        "ALS"
-    } else if g.is_active() {
-        "AS"
-    } else if g.is_safe() {
-        "S"
-    } else {
-        "-"
+    for (name, other) in guarantees() {
+        if other == *g {
+            return name;
+        }
     }
+    "?"
 }
 
 fn push_type(text: &mut String, of: &PtrType) -> Result<(), AllocError> {

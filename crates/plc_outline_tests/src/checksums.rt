@@ -1,0 +1,58 @@
+// Obligations by their numbers, with the checksums of their ground sets, which an independent reading of the format
+// computed.
+
+// Of the stack with hazard pointers.
+pub(crate) const OF_HAZARDS: [(u64, u32); 13] = [
+    (6, 0x02be_20ff),
+    (9, 0xb3fc_e87d),
+    (14, 0x7bec_4624),
+    (17, 0x9bb1_f6ee),
+    (60, 0x24f5_9697),
+    (120, 0x4f21_baad),
+    (200, 0x2d37_15f0),
+    (267, 0x5c00_dc9d),
+    (300, 0x5c00_dc9d),
+    (777, 0x41c7_d821),
+    (1500, 0x9833_5bcd),
+    (2222, 0x9833_5bcd),
+    (2844, 0x805f_49e6),
+];
+
+// Of the file with every form.
+pub(crate) const OF_DEEP: [(u64, u32); 35] = [
+    (1, 0xb390_8d91),
+    (2, 0x8b92_79d1),
+    (3, 0x3857_3a91),
+    (4, 0x982e_7dc5),
+    (8, 0x15e5_3516),
+    (17, 0x5cdf_b2d4),
+    (26, 0x0ca9_2a6c),
+    (35, 0xe947_7a26),
+    (44, 0xbf14_1963),
+    (53, 0xcb61_a41d),
+    (62, 0xe151_28b4),
+    (71, 0x489b_d19e),
+    (80, 0x6647_0b9c),
+    (89, 0xbf14_1963),
+    (98, 0xbb23_c910),
+    (115, 0xf25d_f25b),
+    (144, 0xdab3_626f),
+    (173, 0xc126_3cfd),
+    (202, 0x2d9a_60bd),
+    (231, 0x34f6_e71a),
+    (260, 0x37ce_5351),
+    (289, 0x73ce_a600),
+    (318, 0x37ce_5351),
+    (347, 0x7d17_5bba),
+    (376, 0xd87c_cc7e),
+    (405, 0x72d8_5bf7),
+    (434, 0xe1aa_4f00),
+    (463, 0xae3a_13ee),
+    (492, 0x7d17_5bba),
+    (521, 0xb5b0_8551),
+    (550, 0x9c3f_d854),
+    (579, 0x42db_7274),
+    (674, 0xfd8d_5af7),
+    (675, 0xb9bf_75ae),
+    (676, 0xb9bf_75ae),
+];

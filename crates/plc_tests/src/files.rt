@@ -1,0 +1,494 @@
+// Files and schedules. A file is a section of a text: its name stands after `#`, its lines are the file. A schedule is a
+// name and the pieces of its text. Some files differ from others in a few lines, and some are made.
+use plc_stacks::{EPOCHS, HAZARDS};
+use std::alloc::{AllocError, Global};
+
+// `dead` and `endless`: no step leads to the statements after a `return`, or after a loop without a
+// `break`; they are typed all the same. `rounds`: what is read of `T` comes to `c` in the third turn.
+// `stack`: nodes are put, taken, and looked at through a hazard pointer or without one.
+pub(crate) const FILES: &str = "# publish
+struct Node { ptr next; data val; }
+shared Top;
+op f(v) { ptr n; n := new; n.val := v; Top := n; }
+# lost
+struct Node { ptr next; data val; }
+shared Top;
+op f() {
+ptr n; ptr m;
+n := new;
+m := n;
+Top := n;
+m.val := 1;
+}
+# least
+struct N { }
+# empty
+# stray
+struct N { } $
+# brace
+struct N { } }
+# unknown
+struct N { } op f() { ptr n; n := m; }
+# loop
+struct N { } op f() { loop { skip; } }
+# claim
+struct N { } op f() { ptr n; active n; }
+# outline
+struct N { } outline { }
+# unknown-claim
+struct N { } op f() { ptr n; active m; }
+# unknown-outline
+struct N { } outline { inv m == null; }
+# open-outline
+struct N { } outline {
+# dead
+struct N { ptr f; }
+shared T;
+op g() { ptr a; ptr b; return; a := T; b := a.f; }
+# endless
+struct N { ptr f; }
+shared T;
+op g() { ptr a; ptr b; loop { skip; } a := T; b := a.f; }
+# rounds
+struct N { ptr f; }
+shared T;
+op g() { ptr a; ptr b; ptr c; ptr d; loop { d := c.f; c := b; b := a; a := T; } }
+# labelled
+struct N { ptr f; }
+shared T;
+op g() { ptr a; ptr b; ptr c; loop { label l; c := b; b := a; a := T; } }
+# protected
+struct Node { ptr next; }
+shared Top;
+call protect(ptr);
+use hazard(protect);
+op f() { ptr n; n := new; protect(n); label a; }
+# two-words
+struct N{ptr f;}
+# unknown-local
+struct N { } op f ( ) { ptr n ; m := n ; }
+# pointless
+struct N { } call a ( ) ; use hazard ( a ) ;
+# watched-retire
+struct N { } use hazard ( retire ) ;
+# twice-watched
+struct N { } call a ( ptr ) ; use hazard ( a ) ; use hazard ( a ) ;
+# number
+4294967296
+# name
+a123456789b123456789c123456789d123456789e123456789f123456789g1234
+# sorts
+struct N { ptr f; data d; } op g() { ptr p; p := p.d; }
+# calls
+struct N { } op f() {
+retire(null); }
+# twice-declared
+struct N { ptr N; }
+# compared
+struct N { ptr f; } shared T;
+op g() { ptr p; p := T; assume p == T; }
+# epochs
+struct N { ptr f; }
+shared T;
+call enter();
+call leave();
+use epoch(enter, leave);
+op g() { ptr t; ptr s; enter(); t := T; s := t.f; leave(); }
+# taken
+struct Node { ptr next; }
+shared Top;
+call protect(ptr);
+use hazard(protect);
+op put() { ptr n; n := new; Top := n; }
+op take() { ptr t; t := Top; Top := null; retire(t); }
+# once
+struct Node { ptr next; }
+op once() { ptr t; t := new; retire(t); }
+# twice
+struct Node { ptr next; }
+op twice() { ptr t; t := new; retire(t); retire(t); }
+# blocked
+struct N { ptr f; } shared T; init { T.f := null; }
+# stack
+struct Node { ptr next; }
+shared Top;
+call protect(ptr);
+use hazard(protect);
+op put() { ptr n; n := new; Top := n; }
+op take() { ptr t; t := Top; Top := null; retire(t); }
+op look() { ptr t; ptr s; t := Top; protect(t); t ?= Top; s := t.next; }
+op peek() { ptr t; ptr s; t := Top; s := t.next; }
+";
+
+// Stacks with their outlines, whose nodes hazard pointers or epochs protect.
+pub(crate) const STACKS: [&str; 2] = ["hazards", "epochs-held"];
+
+// Files that differ from another in some lines, each by its number and with what stands in its place.
+pub(crate) const CHANGED: [(&str, &str, &[(usize, &str)]); 7] = [
+    ("unclaimed", "hazards", &[(27, "atomic { t ?= Top; }\n")]),
+    (
+        "retired-again",
+        "hazards",
+        &[(34, "retire(active t);\nretire(t);\n")],
+    ),
+    (
+        "claimed-late",
+        "hazards",
+        &[
+            (
+                34,
+                "retire(active t) during h;\nlabel g;\nretire(active t);\n",
+            ),
+            (54, "at f, g, h: t.st == cut;\n"),
+            (55, "at f, g, h: t.owner == me;\n"),
+        ],
+    ),
+    (
+        "left-early",
+        "epochs-held",
+        &[(27, "leave();\ns := t.next;\n")],
+    ),
+    (
+        "unchecked",
+        "hazards",
+        &[(23, "atomic { t := Top; active t; }\n"), (27, "")],
+    ),
+    ("weaker", "hazards", &[(46, "")]),
+    ("interfered", "hazards", &[(49, "")]),
+];
+
+// The file of the stack with an outline, in the spelling that is printed.
+pub(crate) const OUTLINED: &str = "\
+struct Node {
+ptr next ;
+data val ;
+}
+shared Top ;
+call protect ( ptr ) ;
+use hazard ( protect ) ;
+ghost st {
+made , linked , cut }
+;
+ghost owner thread ;
+op push ( v ) {
+ptr n ;
+ptr t ;
+atomic {
+n := new ;
+ghost n . owner := me ;
+}
+n . val := v ;
+loop {
+t := Top ;
+n . next := t ;
+choose {
+atomic {
+n . next ?= Top ;
+ghost n . st := linked ;
+ghost n . owner := none ;
+Top := n ;
+n := null ;
+}
+return ;
+}
+or {
+}
+}
+}
+op pop ( ) {
+ptr t ;
+ptr s ;
+loop {
+t := Top ;
+if ( t == null ) {
+return ;
+}
+protect ( t ) ;
+choose {
+atomic {
+t ?= Top ;
+active t ;
+}
+s := t . next ;
+label d ;
+choose {
+label e ;
+atomic {
+active Top ;
+assume Top == t ;
+ghost t . st := cut ;
+ghost t . owner := me ;
+Top := s ;
+}
+label f ;
+retire ( active t ) ;
+return ;
+}
+or {
+atomic {
+active Top ;
+assume Top != t ;
+}
+}
+}
+or {
+}
+}
+}
+outline {
+inv Top == null or Top . st == linked ;
+inv all x : x . st != linked or not retired ( x ) ;
+inv all x , y : x . st != linked or x . next != y or y . st == linked ;
+inv all x : Top == null or x . st != linked or x . next != Top ;
+inv all x , y : x . st != linked or y . st != linked or x . next == null or x . next != y . next or x == y ;
+over push : n == null or n . st == made ;
+over push : n == null or n . owner == me ;
+over push : n == null or not retired ( n ) ;
+over pop : t == null or t . st != made ;
+at d , e : t != null ;
+at d , e : t . next == s ;
+at f : t . st == cut ;
+at f : t . owner == me ;
+at f : not retired ( t ) ;
+}
+";
+
+// What schedules share: thread 1 puts a node, takes it, whereupon the reclaimer is asked, and ends that
+// operation to put a node at the same address.
+pub(crate) const PUT: &str = "threads 2
+start 1 put
+step 1 0 1
+step 1 0
+step 1 0
+return 1
+";
+
+pub(crate) const TAKE: &str = "start 1 take
+step 1 0
+step 1 0
+step 1 0
+tick
+";
+
+const PUT_AGAIN: &str = "step 1 0
+step 1 0
+return 1
+start 1 put
+step 1 0 1
+step 1 0
+";
+
+// One thread puts a node and takes it.
+pub(crate) const PUT_AND_TAKE: &str = "start 0 put
+step 0 0 1
+step 0 0
+step 0 0
+return 0
+start 0 take
+step 0 0
+step 0 0
+step 0 0
+";
+
+// The rest of that operation, after which the reclaimer is asked: with what stands before it thirteen lines, of which
+// three are events.
+const FREED: &str = "step 0 0
+step 0 0
+return 0
+tick
+";
+
+// `reused`: the node is freed and its address is allocated again between the read of `Top` and the look
+// after it; `stale`: the same without a hazard pointer; `kept`: the reclaimer is asked while a hazard
+// pointer keeps the node.
+pub(crate) const SCHEDULES: [(&str, &[&str]); 9] = [
+    (
+        "reused",
+        &[
+            PUT,
+            "start 0 look\nstep 0 0\n",
+            TAKE,
+            PUT_AGAIN,
+            "step 0 0\nstep 0 0\nstep 0 0\nstep 0 0\n",
+        ],
+    ),
+    (
+        "stale",
+        &[
+            PUT,
+            "start 0 peek\nstep 0 0\n",
+            TAKE,
+            PUT_AGAIN,
+            "step 0 0\n",
+        ],
+    ),
+    (
+        "kept",
+        &[PUT, "start 0 look\nstep 0 0\nstep 0 0\nstep 0 0\n", TAKE],
+    ),
+    (
+        "double",
+        &["threads 1\nstart 0 twice\nstep 0 0 5\nstep 0 0\nstep 0 0\nstep 0 0\n"],
+    ),
+    (
+        "freed",
+        &["threads 1\nstart 0 twice\nstep 0 0 5\nstep 0 0\ntick\nstep 0 0\nstep 0 0\n"],
+    ),
+    (
+        "addressless",
+        &["threads 1\nstart 0 twice\nstep 0 0\nstep 0 0\nstep 0 0\nstep 0 0\n"],
+    ),
+    ("no-threads", &["threads 0\n"]),
+    ("one", &["threads 1\n"]),
+    ("no-operation", &["threads 1\nstart 0 loop\n"]),
+];
+
+// A node is put, taken and freed again and again, each time at the same address: nearly as many lines as a
+// schedule may have, so that a free which costs the length of the history would not end in time.
+fn reuses(alloc: Global) -> Result<Vec<u8>, AllocError> {
+    let mut text = String::from_str(alloc, "threads 1\n")?;
+    for _ in 0..7_692 {
+        text.push_str(PUT_AND_TAKE)?;
+        text.push_str(FREED)?;
+    }
+    Ok(text.into_bytes())
+}
+
+// A file that ends within a block, on its first line.
+const OPEN: &str = "struct N { } op f ( ) { ptr n ; atomic { n := new ;";
+
+pub(crate) type Entries = Vec<(String, Vec<u8>)>;
+
+pub(crate) fn put(
+    alloc: Global,
+    files: &mut Entries,
+    name: &str,
+    bytes: Vec<u8>,
+) -> Result<(), AllocError> {
+    files.push((String::from_str(alloc, name)?, bytes))?;
+    Ok(())
+}
+
+pub(crate) fn put_sections(
+    alloc: Global,
+    files: &mut Entries,
+    text: &str,
+) -> Result<(), AllocError> {
+    for section in text.split("# ") {
+        if let Some((name, lines)) = section.split_once("\n") {
+            put(
+                alloc,
+                files,
+                name,
+                Vec::from_slice(alloc, lines.as_bytes())?,
+            )?;
+        }
+    }
+    Ok(())
+}
+
+// A list of texts, each by its name and its pieces.
+pub(crate) type Pieces = &'static [(&'static str, &'static [&'static str])];
+
+pub(crate) fn put_pieces(
+    alloc: Global,
+    files: &mut Entries,
+    list: Pieces,
+) -> Result<(), AllocError> {
+    for (name, pieces) in list {
+        put(alloc, files, *name, pieces.concat(alloc)?.into_bytes())?;
+    }
+    Ok(())
+}
+
+// The bytes of a file that no section has.
+fn made_bytes(alloc: Global, name: &str) -> Result<Vec<u8>, AllocError> {
+    match name {
+        "reuses" => reuses(alloc),
+        "open-atomic" => Vec::from_slice(alloc, OPEN.as_bytes()),
+        "outlined" => Vec::from_slice(alloc, OUTLINED.as_bytes()),
+        _ => Ok(vec![in alloc; 200u8]?),
+    }
+}
+
+const MADE: [&str; 4] = ["reuses", "open-atomic", "outlined", "byte"];
+
+pub(crate) fn put_made(alloc: Global, files: &mut Entries) -> Result<(), AllocError> {
+    for name in MADE {
+        put(alloc, files, name, made_bytes(alloc, name)?)?;
+    }
+    Ok(())
+}
+
+// The stacks by their names: `hazards` and `epochs-held`.
+pub(crate) fn put_stacks(alloc: Global, files: &mut Entries) -> Result<(), AllocError> {
+    for name in STACKS {
+        put(alloc, files, name, text_of(alloc, name)?.into_bytes())?;
+    }
+    Ok(())
+}
+
+// The text of a file that a section has.
+fn section(name: &str) -> &'static str {
+    for section in FILES.split("# ") {
+        if let Some((head, lines)) = section.split_once("\n") {
+            if head == name {
+                return lines;
+            }
+        }
+    }
+    ""
+}
+
+// The text of a stack, or of a file that a section has.
+pub(crate) fn text_of(alloc: Global, name: &str) -> Result<String, AllocError> {
+    match name {
+        "hazards" => HAZARDS.concat(alloc),
+        "epochs-held" => EPOCHS.concat(alloc),
+        _ => String::from_str(alloc, section(name)),
+    }
+}
+
+// What stands in the place of a line, if something else does.
+fn change_at(changes: &'static [(usize, &'static str)], number: usize) -> Option<&'static str> {
+    for (at, text) in changes {
+        if *at == number {
+            return Some(*text);
+        }
+    }
+    None
+}
+
+// A text with some of its lines put otherwise.
+fn with_lines(
+    alloc: Global,
+    text: &str,
+    changes: &'static [(usize, &'static str)],
+) -> Result<String, AllocError> {
+    let mut out = String::new(alloc);
+    for (i, line) in text.split_inclusive("\n").enumerate() {
+        match change_at(changes, i.wrapping_add(1)) {
+            Some(other) => out.push_str(other)?,
+            None => out.push_str(line)?,
+        }
+    }
+    Ok(out)
+}
+
+// A file with some of its lines put otherwise.
+pub(crate) fn changed(
+    alloc: Global,
+    base: &str,
+    changes: &'static [(usize, &'static str)],
+) -> Result<String, AllocError> {
+    let text = text_of(alloc, base)?;
+    with_lines(alloc, text.as_str(), changes)
+}
+
+pub(crate) fn put_changed(alloc: Global, files: &mut Entries) -> Result<(), AllocError> {
+    for (name, base, changes) in &CHANGED {
+        let text = changed(alloc, *base, *changes)?;
+        put(alloc, files, *name, text.into_bytes())?;
+    }
+    Ok(())
+}

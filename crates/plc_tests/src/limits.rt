@@ -1,0 +1,293 @@
+// The limits: what has as many parts as there may be is judged, and what has one more is refused with that count,
+// by each command that reads it. The texts are made here, part by part.
+use crate::files::put;
+use crate::program::head;
+use plc_cli::MemFiles;
+use std::alloc::{AllocError, Global};
+
+// The words of commands over the file `made`; how many parts that has, what stands before them, a part, in which `$`
+// is its number, and what stands after them; then the status and the first line of each answer to so many parts, and
+// of each answer to one more.
+const PARTS: &str = "\
+# check made|64|struct |N| { }
+|0 safe points 0 steps 0 locations 2 obligations 0|2 refused name at 7
+# check made|8|struct N { |ptr a$; |}
+|0 safe points 0 steps 0 locations 2 obligations 0|2 refused limit fields 9
+# check made|16|struct N { } |shared a$; |
+|0 safe points 0 steps 0 locations 2 obligations 0|2 refused limit shared 17
+# check made|16|struct N { } |call a$(); |
+|0 safe points 0 steps 0 locations 2 obligations 0|2 refused limit calls 17
+# check made|4|struct N { } |ghost a$ thread; |
+|0 safe points 0 steps 0 locations 2 obligations 0|2 refused limit ghosts 5
+# check made|15|struct N { } ghost g { v|, a$| };
+|0 safe points 0 steps 0 locations 2 obligations 0|2 refused limit values 17
+# check made|32|struct N { } |op a$() { } |
+|0 safe points 64 steps 32 locations 2 obligations 0|2 refused limit ops 33
+# check made|32|struct N { } op f() { |data a$; |}
+|0 safe points 2 steps 1 locations 2 obligations 0|2 refused limit locals 33
+# check made|31|struct N { } op f(v|, a$|) { }
+|0 safe points 2 steps 1 locations 2 obligations 0|2 refused limit locals 33
+# check made|31|struct N { } op f(v) { |ptr a$; |}
+|0 safe points 2 steps 1 locations 2 obligations 0|2 refused limit locals 33
+# check made|256|struct N { } op f() { |label a$; |}
+|0 at a0 W {u r}|2 refused limit labels 257
+# check made|255|struct N { } call e(); op f() { e() during l; |label a$; |}
+|0 at l W {u r}|2 refused limit labels 257
+# check made|64|struct N { } op f() { data x; atomic { |x := $; skip; |} }
+|0 safe points 3 steps 2 locations 2 obligations 0|2 refused limit prims 65
+# check made|64|struct N { data d; } shared T; init { |T.d := $; |}
+|0 safe points 0 steps 0 locations 2 obligations 0|2 refused limit prims 65
+# check made|1|struct N { } op f() { ptr n; atomic { |n := new; |} }
+|0 safe points 3 steps 2 locations 2 obligations 0|2 refused limit news 2
+# check made|1|struct N { } shared T; init { |T := new; |}
+|0 safe points 0 steps 0 locations 2 obligations 0|2 refused limit news 2
+# check made|64|struct N { } op f() { |loop { |
+} } } } } } } } } } } } } } } } } } } } } } } } } } } } } } } }
+} } } } } } } } } } } } } } } } } } } } } } } } } } } } } } } } }
+|0 safe points 130 steps 129 locations 2 obligations 0|2 refused limit nesting 65
+# check made|64|struct N { } outline { |inv null == null; |}
+|0 safe points 0 steps 0 locations 2 obligations 64|2 refused limit invariants 65
+# check made|256|struct N { } op f() { label c; } outline { inv null == null; |at c: null == null; |}
+|0 at c W {u r}|2 refused limit items 257
+# check made|256|struct N { } op f() { } outline { inv null == null; |over f: null == null; |}
+|0 safe points 2 steps 1 locations 2 obligations 514|2 refused limit items 257
+# check made|15|struct N { } outline { inv 7 == 7| or 7 == 7|; }
+|0 safe points 0 steps 0 locations 2 obligations 1|2 refused limit literals 17
+# check made|1|struct N { } outline { inv all x|, x$|: x == x; }
+|0 safe points 0 steps 0 locations 2 obligations 1|2 refused syntax token 11 line 1
+";
+
+// The points of all operations together, and the lines of a schedule, its first one included.
+const POINTS_AND_LINES: &str = "\
+# check made|4089|struct N { } op a() { } op b() { skip; } op f() { |skip; |}
+|0 safe points 4096 steps 4093 locations 2 obligations 0|2 refused limit points 4097
+# check made|4089|struct N { } op a() { } op b() { skip; } op f() { |skip; |} outline { }
+|0 safe points 4096 steps 4093 locations 2 obligations 0|2 refused limit points 4097
+# replay plain made leak|99999|threads 1
+|tick
+||0 end lines 100000 events 0 freed 0|2 refused limit lines 100001
+";
+
+// The clauses of one ground set: 251 nodes in the place of each name of the premises make 63001, 2510 and 22
+// clauses, to which the denied conclusion adds 3.
+const CLAUSES: &str = "\
+# check made|22|struct N { ptr a; ptr b; ptr c; ptr d; ptr e; ptr f; ptr g; ptr h; }
+shared S0; shared S1; shared S2; shared S3; shared S4; shared S5; shared S6; shared S7;
+shared S8; shared S9; shared S10; shared S11; shared S12; shared S13; shared S14; shared S15;
+op go() { ptr p0; ptr p1; ptr p2; ptr p3; ptr p4; ptr p5; ptr p6; ptr p7; ptr p8; }
+outline { depth 1; inv all x, y: x == y;
+inv all x: x == null; inv all x: x == null; inv all x: x == null; inv all x: x == null; inv all x: x == null;
+inv all x: x == null; inv all x: x == null; inv all x: x == null; inv all x: x == null; inv all x: x == null;
+|inv S0 == null; |}
+|0 safe points 2 steps 1 locations 2 obligations 66|2 refused limit clauses 65537
+# check made, print made, certify made, verify made plain, replay made plain leak|3|
+struct N { ptr a; ptr b; ptr c; ptr d; ptr e; ptr f; ptr g; ptr h; }
+shared A; shared B; shared C; shared D; shared E; shared F; shared G; shared H;
+shared I; shared J; shared K; shared L; shared M; shared O; shared P; shared Q;
+op r() { skip; } outline { depth 1; |inv all x, y: x == y; |}
+|2 refused limit clauses 65537
+";
+
+// With s steps in `f` a clause over it comes to s * s + s obligations, an invariant to s + 1, and a claim to one. Each
+// command refuses what has too many.
+const OBLIGATIONS: &str = "\
+# check made|998|struct N { } op f() { ptr p; |skip; |} outline { over f: p == null; }
+|0 safe points 1000 steps 999 locations 2 obligations 999000|2 refused limit obligations 1000001
+# print made, certify made, verify made plain, replay made plain leak|999|struct N { } op f() { ptr p; |skip; |}
+outline { over f: p == null; }|2 refused limit obligations 1000001
+";
+
+// As many obligations as there may be, and one claim more.
+const MOST_OBLIGATIONS: &str = "\
+# check made|997|struct N { } op f() { ptr p; skip; |skip; |} outline { inv null != null; over f: p == null; }
+|1 unproved start clause 0
+# check made|997|struct N { } op f() { ptr p; active p; |skip; |} outline { inv null != null; over f: p == null; }
+|2 refused limit obligations 1000001
+";
+
+// Commands over a file of so many blanks, with the answer to each.
+const SIZES: [(&str, usize, &str); 6] = [
+    ("check made", 1_048_576, "2 refused syntax token 0 line 1"),
+    (
+        "check made, print made, certify made, verify made absent, replay made absent leak",
+        1_048_577,
+        "4 read too long",
+    ),
+    (
+        "replay plain made leak",
+        4_194_304,
+        "2 refused schedule line 1",
+    ),
+    ("replay plain made leak", 4_194_305, "4 read too long"),
+    (
+        "verify plain made",
+        16_777_216,
+        "2 refused certificate json",
+    ),
+    ("verify plain made", 16_777_217, "4 read too long"),
+];
+
+// The greatest number that may stand in a schedule or in words, and the next one.
+const NUMBERS: [(&str, &str, &str); 7] = [
+    (
+        "replay plain made leak",
+        "threads 64\n",
+        "0 end lines 1 events 0 freed 0",
+    ),
+    (
+        "replay plain made leak",
+        "threads 65\n",
+        "2 refused schedule line 1",
+    ),
+    (
+        "replay plain made leak",
+        "threads 1\nstart 0 f\nstep 0 0 4096\n",
+        "0 end lines 3 events 0 freed 0",
+    ),
+    (
+        "replay plain made leak",
+        "threads 1\nstart 0 f\nstep 0 0 4097\n",
+        "2 refused schedule line 3",
+    ),
+    ("sample 16 717", "", "2 refused syntax token 4996 line 717"),
+    ("sample 16 718", "", "3 words refused"),
+    ("sample 17 0", "", "3 words refused"),
+];
+
+const PLAIN: &str = "struct N { } op f() { ptr p; p := new; }";
+
+// The status and the first line of what is answered to words over `made` and a plain file.
+fn answer(alloc: Global, words: &str, made: &[u8]) -> Result<String, AllocError> {
+    let mut files = Vec::new(alloc);
+    for (name, bytes) in [("plain", PLAIN.as_bytes()), ("made", made)] {
+        put(alloc, &mut files, name, Vec::from_slice(alloc, bytes)?)?;
+    }
+    head(
+        alloc,
+        &mut MemFiles::new(alloc, files, Vec::new(alloc)),
+        words,
+    )
+}
+
+// The answers to commands that aren't as is wanted.
+fn wrong_answers(
+    alloc: Global,
+    commands: &str,
+    made: &[u8],
+    want: &str,
+) -> Result<String, AllocError> {
+    let mut wrong = String::new(alloc);
+    for words in commands.split(", ") {
+        let have = answer(alloc, words, made)?;
+        if have.as_str() != want {
+            wrong.push_str(format!(in alloc; "{words}: {have}, not {want}\n")?.as_str())?;
+        }
+    }
+    Ok(wrong)
+}
+
+// So many parts between two texts.
+fn parts(
+    alloc: Global,
+    count: u32,
+    before: &str,
+    part: &str,
+    after: &str,
+) -> Result<String, AllocError> {
+    let mut text = String::from_str(alloc, before)?;
+    for i in 0..count {
+        match part.split_once("$") {
+            Some((left, right)) => {
+                text.push_str(format!(in alloc; "{left}{i}{right}")?.as_str())?;
+            }
+            None => text.push_str(part)?,
+        }
+    }
+    text.push_str(after)?;
+    Ok(text)
+}
+
+// The answers of a row that aren't as is wanted.
+fn wrong_in_row(alloc: Global, row: &str) -> Result<String, AllocError> {
+    let mut fields = row.split("|");
+    let commands = fields.next().unwrap_or("");
+    let mut count = fields.next().unwrap_or("").parse::<u32>().unwrap_or(0);
+    let before = fields.next().unwrap_or("");
+    let part = fields.next().unwrap_or("");
+    let after = fields.next().unwrap_or("");
+    let mut wrong = String::new(alloc);
+    for want in fields {
+        let made = parts(alloc, count, before, part, after)?;
+        let others = wrong_answers(alloc, commands, made.as_bytes(), want.trim_end())?;
+        wrong.push_str(others.as_str())?;
+        count = count.wrapping_add(1);
+    }
+    Ok(wrong)
+}
+
+fn wrong_in_rows(alloc: Global, rows: &str) -> Result<String, AllocError> {
+    let mut wrong = String::new(alloc);
+    for row in rows.split("# ") {
+        wrong.push_str(wrong_in_row(alloc, row)?.as_str())?;
+    }
+    Ok(wrong)
+}
+
+#[test]
+fn parts_have_limits(rt: HostRuntime) -> Result<(), AllocError> {
+    for rows in [PARTS, CLAUSES] {
+        assert_eq!(rt; wrong_in_rows(rt.alloc(), rows)?.as_str(), "");
+    }
+    Ok(())
+}
+
+#[test]
+fn points_and_lines_have_limits(rt: HostRuntime) -> Result<(), AllocError> {
+    assert_eq!(rt; wrong_in_rows(rt.alloc(), POINTS_AND_LINES)?.as_str(), "");
+    Ok(())
+}
+
+#[test]
+fn obligations_have_a_limit(rt: HostRuntime) -> Result<(), AllocError> {
+    assert_eq!(rt; wrong_in_rows(rt.alloc(), OBLIGATIONS)?.as_str(), "");
+    Ok(())
+}
+
+#[test]
+fn a_million_obligations_are_judged(rt: HostRuntime) -> Result<(), AllocError> {
+    assert_eq!(rt; wrong_in_rows(rt.alloc(), MOST_OBLIGATIONS)?.as_str(), "");
+    Ok(())
+}
+
+// The wrong answers to commands over so many blanks.
+fn wrong_of_blanks(
+    alloc: Global,
+    commands: &str,
+    count: usize,
+    want: &str,
+) -> Result<String, AllocError> {
+    let made = vec![in alloc; b' '; count]?;
+    wrong_answers(alloc, commands, &made, want)
+}
+
+#[test]
+fn files_have_sizes(rt: HostRuntime) -> Result<(), AllocError> {
+    for (commands, count, want) in SIZES {
+        assert_eq!(rt;
+            wrong_of_blanks(rt.alloc(), commands, count, want)?.as_str(),
+            ""
+        );
+    }
+    Ok(())
+}
+
+#[test]
+fn numbers_have_limits(rt: HostRuntime) -> Result<(), AllocError> {
+    for (words, made, want) in NUMBERS {
+        assert_eq!(rt;
+            wrong_answers(rt.alloc(), words, made.as_bytes(), want)?.as_str(),
+            ""
+        );
+    }
+    Ok(())
+}
