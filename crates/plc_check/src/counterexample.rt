@@ -5,7 +5,7 @@ ghost use Rattle.plc_setting.specs.Fit.{Fits};
 ghost use Rattle.plc_oblig.specs.Obligations.{obligations};
 ghost use Rattle.plc_check.specs.Counterexamples.{IsCounterexampleAt, IsFirstCounterexample};
 
-use crate::tree::tree_at;
+use crate::tree::solve_at;
 use plc_base::NoMemory;
 use plc_flow::Flow;
 use plc_ground::{GroundModel, GroundSet};
@@ -35,7 +35,7 @@ fn counterexample_at(
     if still(flow, outline, &obligation) {
         return Ok(None);
     }
-    let found = tree_at(alloc, flow, outline, obligation)?;
+    let found = solve_at(alloc, flow, outline, obligation)?;
     match found {
         Ok(_) => Ok(None),
         Err(found) => Ok(Some(found)),

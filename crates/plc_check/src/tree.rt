@@ -1,6 +1,8 @@
-// Trees that close the ground sets of obligations, as the solver finds them.
-ghost use Rattle.std.specs.Prelude.{IfOk};
+// Trees that close the ground sets of obligations: the direct one where the obligation is still, else as the solver
+// finds it.
+ghost use Rattle.std.specs.Prelude.{IfOk, Contains};
 ghost use Rattle.plc_setting.specs.Fit.{Fits};
+ghost use Rattle.plc_oblig.specs.Obligations.{obligations};
 ghost use Rattle.plc_check.specs.Counterexamples.{IsTreeAt, AreTreesOrBroken};
 
 use crate::counterexample::Counterexample;
@@ -8,12 +10,12 @@ use plc_base::{Items, NoMemory};
 use plc_flow::Flow;
 use plc_ground::Tree;
 use plc_logic::Outline;
-use plc_oblig::{Obligation, Walk, ground};
+use plc_oblig::{Obligation, Walk, direct, ground};
 use plc_solve::{Answer, refute};
 use std::alloc::Global;
 
-/// A tree that closes the ground set of an obligation, or what breaks the obligation.
-pub(crate) fn tree_at(
+/// A tree that closes the ground set of an obligation, or what breaks the obligation, as the solver answers.
+pub(crate) fn solve_at(
     alloc: Global,
     flow: &Flow,
     outline: &Outline,
@@ -31,6 +33,23 @@ pub(crate) fn tree_at(
             model,
         })),
         Err(NoMemory) => Err(NoMemory),
+    }
+}
+
+// The same; of a still obligation the solver isn't asked.
+fn tree_at(
+    alloc: Global,
+    flow: &Flow,
+    outline: &Outline,
+    obligation: Obligation,
+) -> Result<Result<Tree, Counterexample>, NoMemory>
+    requires fits { Fits flow.now outline.now }
+    requires there { Contains (obligations flow.now outline.now) obligation }
+    ensures { IfOk result (IsTreeAt flow.now outline.now obligation) }
+{
+    match direct(alloc, flow, outline, &obligation)? {
+        Some(tree) => Ok(Ok(tree)),
+        None => solve_at(alloc, flow, outline, obligation),
     }
 }
 

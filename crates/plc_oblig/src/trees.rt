@@ -1,5 +1,6 @@
 // The tree of an obligation, where it is still.
 ghost use Rattle.std.specs.Prelude.{◌≡◌, true, [], ◌∷◌, is_some, IfOk, IfSome, Contains};
+ghost use Rattle.plc_ground.specs.Fit.{IsWellFormed};
 ghost use Rattle.plc_ground.specs.Trees.{Closes, SplitsOnce};
 ghost use Rattle.plc_setting.specs.Fit.{Fits};
 ghost use Rattle.plc_oblig.specs.GroundSets.{ground_set};
@@ -30,6 +31,7 @@ fn tree_of_still(
     ensures shape { IfOk result (λ tree. IsDirect (ground_set flow.now outline.now o.now) tree.nodes) }
     ensures closes { IfOk result (λ tree. Closes (ground_set flow.now outline.now o.now) tree.nodes) }
     ensures once { IfOk result (λ tree. SplitsOnce (ground_set flow.now outline.now o.now) ([] ∷ []) tree.nodes) }
+    ensures well { IfOk result (λ _. IsWellFormed (ground_set flow.now outline.now o.now)) }
 {
     let set = ground(alloc, flow, outline, o)?;
     match find_refuted(&set) {
@@ -60,6 +62,7 @@ pub fn direct(
         IfSome tree (λ t. Closes (ground_set flow.now outline.now o.now) t.nodes)) }
     ensures once { IfOk result (λ tree.
         IfSome tree (λ t. SplitsOnce (ground_set flow.now outline.now o.now) ([] ∷ []) t.nodes)) }
+    ensures well { IfOk result (λ tree. IfSome tree (λ _. IsWellFormed (ground_set flow.now outline.now o.now))) }
 {
     if !still(flow, outline, o) {
         return Ok(None);

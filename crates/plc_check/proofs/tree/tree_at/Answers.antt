@@ -1,17 +1,19 @@
-use Rattle.std.proofs.Common.{[], ◌∷◌, subst}
-use Rattle.plc_ground.specs.declared.terms.GroundSet.{GroundSet}
+use Rattle.std.proofs.Common.{Option, [], ◌∷◌, subst}
+use Rattle.std.specs.Prelude.{IfSome}
+use Rattle.plc_ground.specs.declared.terms.Tree.{Tree}
+use Rattle.plc_ground.specs.Fit.{IsWellFormed}
 use Rattle.plc_ground.specs.Trees.{Closes, SplitsOnce}
-use Rattle.plc_solve.specs.Answers.{CarriesTree}
+use Rattle.plc_oblig.specs.GroundSets.{ground_set}
 use Rattle.plc_check.proofs.Readable.{nodes_fit}
 use Rattle.plc_check.proofs.tree.tree_at.Goals as goal
 
-pub returns-in-Ok-Closed : goal.returns-in-Ok-Closed
-returns-in-Ok-Closed c =
-    let set = c.in_ok-set.set in
-    let nodes = c.in-Ok-Closed.tree.nodes in
-    let carried = subst (CarriesTree set) c.in-Ok-Closed.field-0-is c.in-Ok-Closed.ensures.closed in
+pub returns-in-Some : goal.returns-in-Some
+returns-in-Some c =
+    let set = ground_set c.args.flow.now c.args.outline.now c.args.obligation in
+    let closes = subst (λ (o : Option Tree). IfSome o (λ t. Closes set t.nodes)) c.in-Some.is c.in_ok-tree.ensures.closes in
     record {
-      closes = subst (λ (s : GroundSet). Closes s nodes) c.in_ok-set.ensures.set carried.0;
-      once = subst (λ (s : GroundSet). SplitsOnce s ([] ∷ []) nodes) c.in_ok-set.ensures.set carried.1;
-      fits = nodes_fit set c.in_ok-set.ensures.well ([] ∷ []) nodes carried.0;
+      closes = closes;
+      once = subst (λ (o : Option Tree). IfSome o (λ t. SplitsOnce set ([] ∷ []) t.nodes)) c.in-Some.is c.in_ok-tree.ensures.once;
+      fits = nodes_fit set (subst (λ (o : Option Tree). IfSome o (λ _. IsWellFormed set)) c.in-Some.is c.in_ok-tree.ensures.well)
+          ([] ∷ []) c.in-Some.tree.nodes closes;
     }

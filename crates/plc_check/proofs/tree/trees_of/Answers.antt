@@ -1,7 +1,10 @@
 use Rattle.std.proofs.Common.{sym, subst}
+use Rattle.plc_oblig.specs.Obligations.{obligations}
+use Rattle.plc_oblig.specs.Outlines.{IsKept}
 use Rattle.plc_check.specs.Counterexamples.{IsTreeAt}
 use Rattle.plc_check.proofs.Matching.{TreesSoFar, one_more, kept_so_far}
 use Rattle.plc_check.proofs.Opening.{least_broken}
+use Rattle.plc_check.proofs.SoFar.{is_listed}
 use Rattle.plc_check.proofs.tree.trees_of.Goals as goal
 
 pub loop-obligation-preserved : goal.loop-obligation-preserved
@@ -17,3 +20,9 @@ returns-in-Err c =
     least_broken c.args.flow.now c.args.outline.now c.loop-obligation.walk c.next.new.self c.in-Some.obligation c.in-Err.found
     (kept_so_far c.args.flow.now c.args.outline.now c.loop-obligation.walk c.loop-obligation.trees c.loop-obligation.invariant)
     c.in-Some.ensures broken
+
+pub tree_at-requires-clause-there : goal.tree_at-requires-clause-there
+tree_at-requires-clause-there c =
+    is_listed (IsKept c.args.flow.now c.args.outline.now) (obligations c.args.flow.now c.args.outline.now)
+    c.loop-obligation.walk c.next.new.self c.in-Some.obligation
+    (kept_so_far c.args.flow.now c.args.outline.now c.loop-obligation.walk c.loop-obligation.trees c.loop-obligation.invariant) c.in-Some.ensures

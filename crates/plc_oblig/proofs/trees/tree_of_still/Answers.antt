@@ -1,4 +1,5 @@
 use Rattle.std.proofs.Common.{[], ◌∷◌, subst, sym}
+use Rattle.plc_ground.specs.Fit.{IsWellFormed}
 use Rattle.plc_ground.specs.Trees.{Closes, SplitsOnce}
 use Rattle.plc_oblig.specs.Direct.{IsRefuted}
 use Rattle.plc_oblig.proofs.Opposites.{still_is_refuted}
@@ -21,3 +22,6 @@ returns-clause-once c =
     let set = c.in_ok-set.set in
     subst (λ s. SplitsOnce s ([] ∷ []) c.in_ok-tree-in-Some.tree.nodes) c.in_ok-set.ensures.set
     (subst (SplitsOnce set ([] ∷ [])) (sym c.in_ok-tree-in-Some.ensures) (splits_once set c.in-Some.c c.in-Some.ensures.some))
+
+pub returns-clause-well : goal.returns-clause-well
+returns-clause-well c = subst IsWellFormed c.in_ok-set.ensures.set c.in_ok-set.ensures.well
