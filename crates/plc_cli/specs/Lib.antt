@@ -3,6 +3,7 @@ pub mod Answer
 pub mod Certificates
 pub mod Files
 pub mod Headline
+pub mod Laws
 pub mod Program
 pub mod Reads
 pub mod Refusals

@@ -27,6 +27,7 @@
 //!
 //! A 0 of `verify` says the same: a certificate that is valid for a file shows that its flow has a typing and that
 //! its outline holds (`plc_verify`), whoever wrote it. What it says rests on neither the inference nor the solver.
+//! What `certify` writes with 0 is such a certificate: `verify` answers 0 to it (`certified_files_verify`).
 //!
 //! # What `replay` rules out
 //!
@@ -39,6 +40,7 @@
 mod answer;
 mod certifying;
 mod checking;
+mod laws;
 mod own;
 mod printing;
 mod program;
@@ -49,6 +51,7 @@ mod status;
 mod verifying;
 mod words;
 
+pub use laws::certified_files_verify;
 pub use own::run_with_own;
 pub use plc_outside::{
     FailSink, FileFault, Files, FixedSink, HonestFiles, MemFiles, OutSink, RealFiles, Sink,
