@@ -1,12 +1,11 @@
 -- What `certify` writes is read again, as a certificate that is valid for the one unit that the bytes spell, and so
 -- `verify` can answer nothing else.
-use Rattle.std.proofs.Common.{◌≡◌, ◌++◌, ℕ, List, length, Ok, Err, Result, inl, inr, sym, ap, ◌∙◌, subst, codes}
+use Rattle.std.proofs.Common.{◌≡◌, ℕ, List, length, Ok, Err, inl, inr, sym, ap, ◌∙◌, subst}
 use Rattle.plc_oblig.specs.Obligations.{obligations}
 use Rattle.plc_parse.specs.declared.unit.Unit.{Unit as FileUnit}
 use Rattle.plc_cert.specs.declared.cert.Cert.{Cert}
-use Rattle.plc_cert.specs.declared.cert.CertFault.{CertFault}
+use Rattle.plc_cert.specs.Fits.{stored}
 use Rattle.plc_cert.specs.Shape.{reading}
-use Rattle.plc_cert.specs.Written.{text as written_text}
 use Rattle.plc_verify.specs.Validity.{IsValid}
 use Rattle.plc_check.specs.declared.judged.Judged.{Judged}
 use Rattle.plc_check.specs.declared.certified.Certified.{Certified}
@@ -17,7 +16,7 @@ use Rattle.plc_check.specs.Certified.{IsCertified}
 use Rattle.plc_check.proofs.Readable.{read_and_valid}
 use Rattle.plc_check.proofs.Unique.{one_file}
 use Rattle.plc_texts.specs.Certificates.{verified_text}
-use Rattle.plc_cli.specs.Certificates.{IsCertifiedAs, IsCertificateOf, IsCertificateJudged, IsCertificateAnswered, IsVerificationOf}
+use Rattle.plc_cli.specs.Certificates.{IsCertificateOf, IsCertificateJudged, IsCertificateAnswered, IsVerificationOf}
 use Rattle.plc_cli.specs.Certificates.{certified_status, certified_text}
 use Rattle.plc_cli.specs.Laws.{CertifiedFilesVerify}
 use Rattle.plc_cli.specs.Statuses.{holds}
@@ -37,7 +36,7 @@ module _ (j : Judged) (bytes : List ℕ) where
   shown : (c : Certified) → IsCertified j c → holds ≡ certified_status c → bytes ≡ certified_text j c → AreValid j bytes
   shown (Yes cert) right status text =
       let law = read_and_valid j cert right in
-      record { cert = _; read = ap reading text ∙ law.0; valid = law.1 }
+      record { cert = stored cert; read = ap reading text ∙ law.0; valid = law.1 }
   shown (No (Safe typing count)) right status text = absurd right
   shown (No (Untyped step prim fault)) right status text = absurd cc
   shown (No (Unproved o set model)) right status text = absurd cc
