@@ -14,6 +14,7 @@ abbrev pub NodeFits : Node → Type 0
 NodeFits (Split c) = c < 2 ^ 32
 NodeFits (Leaf a b) = (a < 2 ^ 32) × (b < 2 ^ 32)
 
+-- each node of a tree
 abbrev pub TreeFits : Tree → Type 0
 TreeFits t = AllByRecursion NodeFits t.nodes
 
@@ -21,6 +22,7 @@ TreeFits t = AllByRecursion NodeFits t.nodes
 abbrev pub PointerFits : PtrType → Type 0
 PointerFits t = (is_guarantee_set t.g ≡ true) × (t.m < 256)
 
+-- W and each type of a local
 abbrev pub EnvFits : Env → Type 0
 EnvFits e = (e.w < 256) × AllByRecursion PointerFits e.locals
 

@@ -1,5 +1,6 @@
 -- Which certificate a JSON value is, part by part, and which refusal comes first.
-use Rattle.std.specs.Prelude.{◌≡◌, ◌≢◌, ℕ, ◌+◌, ◌^◌, ◌==◌, List, [], ◌∷◌, if◌then◌else◌, nat_lt, nat_le, Option, Some, None, option_map, option_and_then, Result, Ok, Err, codes, ◌&&◌, bytes_eq}
+use Rattle.std.specs.Prelude.{◌≡◌, ◌≢◌, ℕ, ◌+◌, ◌^◌, ◌==◌, List, [], ◌∷◌, if◌then◌else◌, nat_lt, nat_le, codes, ◌&&◌, bytes_eq}
+use Rattle.std.specs.Prelude.{Option, Some, None, option_map, option_and_then, Result, Ok, Err}
 use Rattle.std.specs.Str.{is_utf8}
 use Rattle.serde_json.specs.Data.{Data, Items, no_items, item, Members, no_members, member}
 use Rattle.serde_json.specs.Find.{as_number, as_array, as_object, as_u64}
@@ -61,6 +62,7 @@ node_from (item k (item a no_items)) = split_of k a
 node_from (item k (item a (item b no_items))) = leaf_of k a b
 node_from (item k (item a (item b (item e ds)))) = None
 
+-- an array that is a node
 abbrev pub node_of : Data → Option Node
 node_of d = option_and_then node_from (as_array d)
 
@@ -82,6 +84,7 @@ locations_from least (item d ds) =
 abbrev pub mask_of : Data → Option ℕ
 mask_of d = option_and_then (locations_from 0) (as_array d)
 
+-- the set of a number that is one of the four
 abbrev pub guarantee_from : ℕ → Option Guar
 guarantee_from n = if is_guarantee_set (numbered n) then Some (numbered n) else None
 
@@ -89,6 +92,7 @@ guarantee_from n = if is_guarantee_set (numbered n) then Some (numbered n) else 
 abbrev pub guarantee_of : Data → Option Guar
 guarantee_of d = option_and_then guarantee_from (whole_of d)
 
+-- two items are a pair
 abbrev pub pair_from : Items → Option (Data × Data)
 pair_from no_items = None
 pair_from (item x no_items) = None
@@ -137,9 +141,11 @@ root_from (member k e (member l t (member m v no_members))) =
     then Some (e, t, v) else None
 root_from (member k e (member l t (member m v (member n x ms)))) = None
 
+-- an object with just these members
 abbrev pub root_of : Data → Option (Data × Data × Data)
 root_of d = option_and_then root_from (as_object d)
 
+-- what comes of the members, where the value has them
 abbrev pub with_root : Option (Data × Data × Data) → Result Cert CertFault
 with_root None = Err (fault.Shape field.Root)
 with_root (Some r) = with_version (whole_of r.2) (with_lists (list_of env_of r.0) (list_of tree_of r.1))
@@ -148,6 +154,7 @@ with_root (Some r) = with_version (whole_of r.2) (with_lists (list_of env_of r.0
 abbrev pub certificate_of : Data → Result Cert CertFault
 certificate_of d = with_root (root_of d)
 
+-- what comes of a value, where the bytes are one
 abbrev pub with_json : Option Data → Result Cert CertFault
 with_json None = Err fault.NotJson
 with_json (Some d) = certificate_of d

@@ -10,9 +10,11 @@ use Rattle.plc_ground.specs.declared.terms.Node.TheVariants.{Split, Leaf}
 use Rattle.plc_ground.specs.declared.terms.Tree.{Tree}
 use Rattle.plc_cert.specs.declared.cert.Cert.{Cert}
 
+-- a number without a fraction
 abbrev pub whole : ℕ → Data
 whole n = number (unsigned n)
 
+-- the items of an array, in the order of a list
 abbrev pub items : {A : Type 0} → (A → Data) → List A → Items
 items f [] = no_items
 items f (x ∷ xs) = item (f x) (items f xs)
@@ -34,6 +36,7 @@ tree t = list node t.nodes
 abbrev pub members : ℕ → List ℕ
 members m = filter (has m) numbers
 
+-- a set is the array of its members
 abbrev pub mask : ℕ → Data
 mask m = list whole (members m)
 

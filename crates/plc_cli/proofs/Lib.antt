@@ -1,3 +1,4 @@
+pub mod Accepted
 pub mod Answering
 pub mod Completing
 pub mod Judging

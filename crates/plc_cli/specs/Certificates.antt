@@ -20,6 +20,7 @@ use Rattle.plc_cli.specs.Verdicts.{verdict_status, verdict_text}
 
 -- ---- a certificate that is written
 
+-- a certificate holds, and a verdict that isn't safe fails
 abbrev pub certified_status : Certified → ℕ
 certified_status (Yes cert) = holds
 certified_status (No verdict) = verdict_status verdict

@@ -51,6 +51,7 @@ IsAnswerTo bytes status text = IsAnsweredFile (λ u. IsJudgedAs (judged_of u)) b
 abbrev pub unit_of : Judged → FileUnit
 unit_of j = record { file = j.flow.file; observer = j.observer; outline = j.unit_outline }
 
+-- the canonical text of the unit
 pub record IsPrintedAs (unit : FileUnit) (status : ℕ) (text : List ℕ) : Type 0 where
   pub status_is : status ≡ holds
   pub text_is : text ≡ canonical_text unit

@@ -4,6 +4,7 @@ pub mod Certificates
 pub mod Completeness
 pub mod Files
 pub mod Headline
+pub mod Laws
 pub mod Program
 pub mod Reads
 pub mod Refusals

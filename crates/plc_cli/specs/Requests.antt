@@ -1,7 +1,9 @@
 -- What words ask for: they are compared whole, and there are no options.
-use Rattle.std.specs.Prelude.{ℕ, ◌+◌, ◌*◌, ◌-◌, zero, suc, Bool, true, false, if◌then◌else◌, List, [], ◌∷◌, Option, Some, None, option_map, option_and_then, codes, decimal}
+use Rattle.std.specs.Prelude.{ℕ, ◌+◌, ◌-◌, zero, suc, Bool, true, false, if◌then◌else◌, List, [], ◌∷◌, codes, decimal}
+use Rattle.std.specs.Prelude.{Option, Some, None, option_map, option_and_then}
 use Rattle.std.specs.Str.{bytes_eq}
 use Rattle.plc_reclaim.specs.Lookup.{first_named}
+use Rattle.plc_sample.specs.Numbers.{most_copies, sample_lines}
 
 -- a command with its files; a replay also with the number of its reclaimer among those that are there; a sample has its
 -- numbers alone
@@ -40,10 +42,11 @@ number_among least (suc count) word =
 unfoldable pub number_in : ℕ → ℕ → List ℕ → Option ℕ
 number_in least most word = number_among least (most - least + 1) word
 
--- `sample K N`: K is from 1 to 16, and N from 0 to the number of the sample's lines, 44 K + 13
+-- `sample K N`: K is the number of copies, and N one of the sample's lines, or 0
 abbrev pub sample_of : List ℕ → List ℕ → Option Request
 sample_of copies line =
-    option_and_then (λ k. option_map (λ n. Sample k n) (number_in 0 (44 * k + 13) line)) (number_in 1 16 copies)
+    option_and_then
+    (λ k. option_map (λ n. Sample k n) (number_in 0 (sample_lines k) line)) (number_in 1 most_copies copies)
 
 -- `verify FILE CERTIFICATE` and `sample K N`
 abbrev pub request_of_three : List ℕ → List ℕ → List ℕ → Option Request

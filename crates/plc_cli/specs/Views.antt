@@ -1,6 +1,7 @@
 -- What the program's requests and the contents that it read stand for.
-use Rattle.std.specs.Prelude.{ℕ, ◌<◌, ◌≤◌, ◌+◌, ◌*◌, List, [], ◌∷◌}
+use Rattle.std.specs.Prelude.{ℕ, ◌<◌, ◌≤◌, List, [], ◌∷◌}
 use Rattle.plc_outside.specs.Known.{KnownFiles}
+use Rattle.plc_sample.specs.Numbers.{most_copies, sample_lines}
 use Rattle.plc_cli.specs.declared.words.Request.{Request as Asked}
 use Rattle.plc_cli.specs.declared.words.Request.TheVariants as asked
 use Rattle.plc_cli.specs.declared.reading.Content.{Content}
@@ -26,7 +27,7 @@ IsInRange count (asked.Certify file) = Unit {0}
 IsInRange count (asked.Print file) = Unit {0}
 IsInRange count (asked.Verify file certificate) = Unit {0}
 IsInRange count (asked.Replay file schedule reclaimer) = reclaimer < count
-IsInRange count (asked.Sample copies line) = ((1 ≤ copies) × (copies ≤ 16)) × (line ≤ 44 * copies + 13)
+IsInRange count (asked.Sample copies line) = ((1 ≤ copies) × (copies ≤ most_copies)) × (line ≤ sample_lines copies)
 
 -- a read of a file of at most so many bytes gave these
 pub record IsFound (old new : KnownFiles) (name : List ℕ) (most : ℕ) (bytes : List ℕ) : Type 0 where

@@ -2,7 +2,7 @@
 ghost use Rattle.std.specs.Prelude.{◌≡◌, ◌≤◌, ◌++◌, IfOk, length, codes};
 ghost use Rattle.plc_base.specs.Limits.{largest_file};
 ghost use Rattle.plc_cert.specs.Written.{text as written_text};
-ghost use Rattle.plc_check.specs.Fit.{JudgedFits};
+ghost use Rattle.plc_setting.specs.Fit.{Fits};
 ghost use Rattle.plc_cli.specs.Certificates.{IsCertificateOf, IsCertifiedAs, certified_status, certified_text};
 ghost use Rattle.plc_cli.specs.Reads.{FilesAreKept, IsDueForFile};
 
@@ -49,7 +49,7 @@ fn told_certified(
 
 // The answer to a file that was loaded.
 fn certify_judged(alloc: Global, judged: &Judged) -> Result<Answer, AllocError>
-    requires { JudgedFits judged.now }
+    requires { Fits judged.now.flow judged.now.unit_outline }
     ensures { IfOk result (λ answer. IsCertifiedAs judged.now answer.status answer.text.items) }
 {
     match certify(alloc, judged) {

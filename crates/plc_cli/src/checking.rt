@@ -1,7 +1,7 @@
 // The verdict on a file.
 ghost use Rattle.std.specs.Prelude.{◌≡◌, ◌≤◌, IfOk, length};
 ghost use Rattle.plc_base.specs.Limits.{largest_file};
-ghost use Rattle.plc_check.specs.Fit.{JudgedFits};
+ghost use Rattle.plc_setting.specs.Fit.{Fits};
 ghost use Rattle.plc_cli.specs.Files.{IsAnswerTo, IsJudgedAs};
 ghost use Rattle.plc_cli.specs.Reads.{FilesAreKept, IsDueForFile};
 ghost use Rattle.plc_cli.specs.Verdicts.{verdict_status, verdict_text};
@@ -67,7 +67,7 @@ pub(crate) fn told(alloc: Global, judged: &Judged, verdict: &Verdict) -> Result<
 
 // The answer to a file that was loaded.
 fn judge(alloc: Global, judged: &Judged) -> Result<Answer, AllocError>
-    requires { JudgedFits judged.now }
+    requires { Fits judged.now.flow judged.now.unit_outline }
     ensures { IfOk result (λ answer. IsJudgedAs judged.now answer.status answer.text.items) }
 {
     match check(alloc, judged) {

@@ -27,6 +27,7 @@
 //!
 //! A 0 of `verify` says the same: a certificate that is valid for a file shows that its flow has a typing and that
 //! its outline holds (`plc_verify`), whoever wrote it. What it says rests on neither the inference nor the solver.
+//! What `certify` writes with 0 is such a certificate: `verify` answers 0 to it (`certified_files_verify`).
 //!
 //! # What `replay` rules out
 //!
@@ -58,7 +59,7 @@ mod status;
 mod verifying;
 mod words;
 
-pub use laws::honest_runs_are_answered;
+pub use laws::{certified_files_verify, honest_runs_are_answered};
 pub use own::run_with_own;
 pub use plc_outside::{
     FailSink, FileFault, Files, FixedSink, HonestFiles, MemFiles, OutSink, RealFiles, Sink,

@@ -1,7 +1,8 @@
 // The verdict on a sample: its text is made, and then judged as that of a file is.
-ghost use Rattle.std.specs.Prelude.{◌≡◌, ◌≤◌, ◌+◌, ◌*◌, IfOk, length};
+ghost use Rattle.std.specs.Prelude.{◌≡◌, ◌≤◌, IfOk, length};
 ghost use Rattle.plc_base.specs.Limits.{largest_file};
-ghost use Rattle.plc_check.specs.Fit.{JudgedFits};
+ghost use Rattle.plc_setting.specs.Fit.{Fits};
+ghost use Rattle.plc_sample.specs.Numbers.{most_copies, sample_lines};
 ghost use Rattle.plc_sample.specs.Sample.{sample_text};
 ghost use Rattle.plc_cli.specs.Samples.{IsSampleAnswer, IsSampledAs, IsSampledFile, sampled_text};
 ghost use Rattle.plc_cli.specs.Verdicts.{verdict_status};
@@ -51,7 +52,7 @@ fn told_sample(
 
 // The answer to a sample that was loaded.
 fn judge_loaded(alloc: Global, copies: u8, line: u16, judged: &Judged) -> Result<Answer, AllocError>
-    requires { JudgedFits judged.now }
+    requires { Fits judged.now.flow judged.now.unit_outline }
     ensures { IfOk result (λ answer. IsSampledAs copies line judged.now answer.status answer.text.items) }
 {
     match check(alloc, judged) {
@@ -74,8 +75,8 @@ fn judge_bytes(alloc: Global, copies: u8, line: u16, bytes: &[u8]) -> Result<Ans
 
 /// The answer to `sample K N`: `copies` is K, and `line` is N.
 pub(crate) fn judge_sample(alloc: Global, copies: u8, line: u16) -> Result<Answer, AllocError>
-    requires copies { (1 ≤ copies) × (copies ≤ 16) }
-    requires line { line ≤ 44 * copies + 13 }
+    requires copies { (1 ≤ copies) × (copies ≤ most_copies) }
+    requires line { line ≤ sample_lines copies }
     ensures { IfOk result (λ answer. IsSampleAnswer copies line answer.status answer.text.items) }
 {
     match text(alloc, copies, line) {

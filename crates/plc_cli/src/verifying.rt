@@ -1,7 +1,7 @@
 // Whether a certificate is valid for a file. No verdict is made: neither the inference nor the solver is called.
 ghost use Rattle.std.specs.Prelude.{◌≡◌, ◌≤◌, IfOk, length};
 ghost use Rattle.plc_base.specs.Limits.{largest_file, largest_certificate};
-ghost use Rattle.plc_check.specs.Fit.{JudgedFits};
+ghost use Rattle.plc_setting.specs.Fit.{Fits};
 ghost use Rattle.plc_cli.specs.Certificates.{IsVerificationOf, IsCertificateAnswered, IsCertificateJudged};
 ghost use Rattle.plc_cli.specs.Reads.{FilesAreKept, IsDueForPair};
 
@@ -18,7 +18,7 @@ use std::alloc::{AllocError, Global};
 
 // The answer to a certificate that was read.
 fn judge_certificate(alloc: Global, judged: &Judged, cert: &Cert) -> Result<Answer, AllocError>
-    requires { JudgedFits judged.now }
+    requires { Fits judged.now.flow judged.now.unit_outline }
     ensures { IfOk result (λ answer.
         IsCertificateJudged judged.now cert.now answer.status answer.text.items) }
 {
@@ -44,7 +44,7 @@ fn judge_certificate(alloc: Global, judged: &Judged, cert: &Cert) -> Result<Answ
 
 // The answer to the bytes of a certificate.
 fn answer_certificate(alloc: Global, judged: &Judged, bytes: &[u8]) -> Result<Answer, AllocError>
-    requires { JudgedFits judged.now }
+    requires { Fits judged.now.flow judged.now.unit_outline }
     ensures { IfOk result (λ answer.
         IsCertificateAnswered judged.now bytes.now answer.status answer.text.items) }
 {

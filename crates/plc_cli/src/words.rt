@@ -1,10 +1,12 @@
 // The words after the program's name, compared whole and by hand: there are no options.
 ghost use Rattle.std.specs.Prelude.{◌≡◌, ◌≤◌, ℕ, IfSome, length, map, string_bytes};
 ghost use Rattle.std.specs.Option.{option_map};
-ghost use Rattle.plc_cli.specs.Requests.{request_of, request_of_two, request_of_three, request_of_four, sample_of, number_in};
+ghost use Rattle.plc_cli.specs.Requests.{request_of, request_of_two, request_of_three, request_of_four};
+ghost use Rattle.plc_cli.specs.Requests.{sample_of, number_in};
 ghost use Rattle.plc_cli.specs.Views.{request_view, IsInRange};
 
 use plc_reclaim::{Reclaimer, find_named};
+use plc_sample::{MOST_COPIES, lines_of};
 use plc_sched::number_of;
 
 /// What words ask for.
@@ -67,8 +69,8 @@ fn sample_of<'a>(copies: &str, line: &str) -> Option<Request<'a>>
     ensures asks { option_map request_view result ≡ sample_of copies.now line.now }
     ensures in_range { (count : ℕ) → IfSome result (IsInRange count) }
 {
-    let copies = number_in(copies, 1, 16)?;
-    let line = number_in(line, 0, 44 * copies + 13)?;
+    let copies = number_in(copies, 1, MOST_COPIES)?;
+    let line = number_in(line, 0, lines_of(copies))?;
     Some(Request::Sample {
         copies: copies as u8,
         line: line as u16,

@@ -2,7 +2,7 @@
 // ground set of the obligation that it tells. Which model is printed is left open, so no row has it. Beside them a
 // few samples that are larger than any file here.
 ghost use Rattle.std.specs.Prelude.{IfOk};
-ghost use Rattle.plc_check.specs.Fit.{JudgedFits};
+ghost use Rattle.plc_setting.specs.Fit.{Fits};
 
 use crate::files::{CHANGED, changed};
 use crate::program::{answered, head, words_of};
@@ -15,7 +15,7 @@ use plc_texts::unproved;
 use std::alloc::{AllocError, Global};
 
 fn loaded(alloc: Global, text: &str) -> Result<Judged, NoMemory>
-    ensures { IfOk result JudgedFits }
+    ensures { IfOk result (λ judged. Fits judged.flow judged.unit_outline) }
 {
     if text.len() > LARGEST_FILE {
         return Err(NoMemory);
@@ -59,7 +59,7 @@ fn is_model_of(
     o: &Obligation,
     model: &GroundModel,
 ) -> Result<bool, NoMemory>
-    requires { JudgedFits judged.now }
+    requires { Fits judged.now.flow judged.now.unit_outline }
 {
     let set = ground(alloc, &judged.flow, &judged.unit_outline, o)?;
     Ok(is_model(&set, model))
@@ -67,7 +67,7 @@ fn is_model_of(
 
 // Whether the answer's classes are a model of the set of the obligation that its first line tells.
 fn has_model(alloc: Global, judged: &Judged, answer: &str) -> Result<bool, NoMemory>
-    requires { JudgedFits judged.now }
+    requires { Fits judged.now.flow judged.now.unit_outline }
 {
     let model = classes(alloc, answer)?;
     for i in 0..count(&judged.flow, &judged.unit_outline) {
