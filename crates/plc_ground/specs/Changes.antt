@@ -35,6 +35,11 @@ abbrev pub AgreeAt : List GroundTerm → List ℕ → ℕ → List ℕ → Type 
 AgreeAt terms class x list = (k n : ℕ) → k < length list → n < length list → HasArgumentIn terms class x (slice_index list k)
     → HasArgumentIn terms class x (slice_index list n) → slice_index class (slice_index list k) ≡ slice_index class (slice_index list n)
 
+-- at most one place of the list has a term of class x
+abbrev pub IsAloneIn : List ℕ → ℕ → List ℕ → Type 0
+IsAloneIn class x list = (k n : ℕ) → k < length list → n < length list → slice_index class (slice_index list k) ≡ x
+    → slice_index class (slice_index list n) ≡ x → k ≡ n
+
 -- two applications clash only where the class of their arguments is one of these
 abbrev pub ClashOnlyIn : List GroundTerm → List ℕ → List ℕ → Type 0
 ClashOnlyIn terms class joined = (i j : ℕ) (k : IsClash terms class i j) → Contains joined (slice_index class k.first)

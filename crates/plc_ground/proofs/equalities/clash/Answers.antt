@@ -12,7 +12,7 @@ clash_in-requires-clause-list c =
     let at : c.as_slice.result.now ≡ get_or c.args.table.now.lists c.loop-list.list-index c.list-item.result =
     c.as_slice.ensures ∙ c.list-item.is ∙ ap (λ (ls : List (List ℕ)). get_or ls c.loop-list.list-index c.list-item.result) c.as_slice-list-items.ensures in
     subst (λ (xs : List ℕ). IsOfOneMap c.args.set.now.terms xs) (sym at)
-    (All-get_or (IsOfOneMap c.args.set.now.terms) c.args.table.now.lists c.loop-list.list-index c.list-item.result (let e = ap length c.as_slice-list-items.ensures in omega arith) c.requires.table.each)
+    (All-get_or (IsOfOneMap c.args.set.now.terms) c.args.table.now.lists c.loop-list.list-index c.list-item.result (let e = ap length c.as_slice-list-items.ensures in omega arith) c.requires.table.lists.each)
 
 pub loop-list-preserved : goal.loop-list-preserved
 loop-list-preserved c =
@@ -25,5 +25,5 @@ loop-list-preserved c =
 
 pub returns-clause-none : goal.returns-clause-none
 returns-clause-none c =
-    none_from_lists c.args.set.now.terms c.args.class.now c.args.table.now.lists c.args.x c.requires.table
+    none_from_lists c.args.set.now.terms c.args.class.now c.args.table.now.lists c.args.x c.requires.table.lists
     (λ g gl. c.loop-list.invariant g (let e = ap length c.as_slice-list-items.ensures in omega arith))
