@@ -16,7 +16,7 @@ use Rattle.plc_ground.specs.Model.{equation, IsCongruent}
 use Rattle.plc_ground.specs.Equality.{back}
 use Rattle.plc_ground.specs.Fit.{ArgumentsInRange, NoTermTwice}
 use Rattle.plc_ground.specs.Classes.{Joins, IsMerged, IsClosure, IsClash, IsCoarser, AreLists, AreArguments, IsOfOneMap, AreApplications, IsApplication}
-use Rattle.plc_ground.specs.Changes.{undone, Extends, HasArgumentIn, AgreeAt, IsAloneIn, ClashOnlyIn, IsJoined, Settles, to_settle}
+use Rattle.plc_ground.specs.Changes.{undone, Extends, HasArgumentIn, AgreeAt, IsAloneIn, IsClearOf, ClashOnlyIn, IsJoined, Settles, to_settle}
 use Rattle.plc_ground.proofs.Joining.{sum-set_less, new_class, merged_joined, clash_same, closure_extended}
 use Rattle.plc_ground.proofs.Listing.{one_application}
 
@@ -214,7 +214,7 @@ alone_at class list x k before after i j il jl ei ej = at i il ei ∙ sym (at j 
 
 -- where something is applied to one term of a class alone nothing clashes there
 pub none_where_alone : (terms : List GroundTerm) (class list : List ℕ) (x : ℕ) → NoTermTwice terms → AreArguments terms list → IsAloneIn class x list →
-    (i j : ℕ) (k : IsClash terms class i j) → slice_index class k.first ≢ x
+    IsClearOf terms class x
 none_where_alone terms class list x distinct arguments alone i j k at =
     let p = arguments.whole k.map k.version k.first i k.first_is in
     let q = arguments.whole k.map k.version k.second j k.second_is in
@@ -323,6 +323,49 @@ settles_dropped terms old new x some newest none left c t js = (
   },
   let count = ap length js in let shorter = length-take-le (length old.joined - 1) old.joined (omega arith) in omega (arith, ap sum c, count, shorter, some),
 )
+
+-- the same where a call between changed nothing
+pub settles_done : (terms : List GroundTerm) (old now new : Equalities) (x : ℕ) → 0 < length old.joined → slice_index old.joined (length old.joined - 1) ≡ x → now ≡ old →
+    IsClearOf terms old.class x → ClashOnlyIn terms old.class old.joined →
+    new.class ≡ now.class → new.trail ≡ now.trail → new.joined ≡ take (length now.joined - 1) now.joined → Settles terms old new × (to_settle new < to_settle old)
+settles_done terms old now new x some newest same none left c t js =
+    settles_dropped terms old new x some newest none left (c ∙ ap (λ (e : Equalities). e.class) same) (t ∙ ap (λ (e : Equalities). e.trail) same)
+    (js ∙ ap (λ (e : Equalities). take (length e.joined - 1) e.joined) same)
+
+-- the first lists were searched, and what clashed in them was joined
+pub record Sweeps (terms : List GroundTerm) (lists : List (List ℕ)) (x n : ℕ) (old new : Equalities) (found : Bool) : Type 0 where
+  pub settles : Settles terms old new
+  pub no_more : to_settle new ≤ to_settle old
+  pub some : found ≡ true → to_settle new < to_settle old
+  pub none : found ≡ false → (new ≡ old) × ((g : ℕ) → g < n → AgreeAt terms old.class x (slice_index_or lists g []))
+
+pub sweeps_first : (terms : List GroundTerm) (lists : List (List ℕ)) (x : ℕ) (e : Equalities) → ClashOnlyIn terms e.class e.joined → Sweeps terms lists x 0 e e false
+sweeps_first terms lists x e left = record {
+  settles = settles_first terms e left;
+  no_more = omega arith;
+  some = λ f. absurd (let t : false ≡ true = f in cc);
+  none = λ _. (refl, λ g lt. absurd (omega arith));
+}
+
+module _ (terms : List GroundTerm) (lists : List (List ℕ)) (x n : ℕ) (old now new : Equalities) (found : Bool) (s : Sweeps terms lists x n old now found) where
+  pub sweeps_joined : Settles terms now new → to_settle new < to_settle now → Sweeps terms lists x (n + 1) old new true
+  sweeps_joined settles less = record {
+    settles = settles_more terms old now new s.settles settles;
+    no_more = omega (arith, less, s.no_more);
+    some = λ _. omega (arith, less, s.no_more);
+    none = λ f. absurd (let t : true ≡ false = f in cc);
+  }
+
+  pub sweeps_agreed : new ≡ now → AgreeAt terms now.class x (slice_index_or lists n []) → Sweeps terms lists x (n + 1) old new found
+  sweeps_agreed same agree = subst (λ (e : Equalities). Sweeps terms lists x (n + 1) old e found) (sym same) (record {
+    settles = s.settles;
+    no_more = s.no_more;
+    some = s.some;
+    none = λ f.
+        let h = s.none f in
+        let here = subst (λ (e : Equalities). AgreeAt terms e.class x (slice_index_or lists n [])) (h.0) agree in
+        (h.0, below_more (λ g. AgreeAt terms old.class x (slice_index_or lists g [])) n (h.1) here);
+  })
 
 -- the closure with one more equation
 pub closure_put : (terms : List GroundTerm) (branch : List Lit) (old new : List ℕ) (x y : ℕ) → IsClosure terms branch old → IsMerged terms (branch ++ equation x y ∷ []) new → length new ≡ length old →

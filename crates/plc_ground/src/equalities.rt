@@ -8,10 +8,10 @@
 // Classes that are joined are the only ones in which applications can clash, so these alone are
 // searched. Union by size and a forest of reasons win little on sets of a hundred terms, and each
 // would have to be kept true by proof.
-ghost use Rattle.std.specs.Prelude.{◌≡◌, ◌≢◌, ◌+◌, ◌-◌, ◌<◌, ◌≤◌, ◌==◌, ℕ, length, slice_index, slice_get, slice_set, Some, IfSome, IfNone, List, sum, ◌^◌, All, IfOk, OnOk, take, drop, ◌∷◌, ◌++◌, [], Contains, true, false, IsTrue};
+ghost use Rattle.std.specs.Prelude.{◌≡◌, ◌≢◌, ◌+◌, ◌-◌, ◌<◌, ◌≤◌, ◌==◌, ℕ, length, slice_index, slice_get, slice_set, Some, IfSome, IfNone, List, sum, ◌^◌, All, IfOk, OnOk, take, drop, ◌∷◌, ◌++◌, [], Contains, Ok, true, false, IsTrue};
 ghost use Rattle.plc_ground.specs.Fit.{IsWellFormed, IsInRange};
 ghost use Rattle.plc_ground.specs.Classes.{Joins, IsMerged, IsClosure, IsClash, IsCoarser, IsTable, IsOfOneMap};
-ghost use Rattle.plc_ground.specs.Changes.{Extends, undone, ClashOnlyIn, HasArgumentIn, AgreeAt, IsAloneIn, IsJoined, Settles, to_settle};
+ghost use Rattle.plc_ground.specs.Changes.{Extends, undone, ClashOnlyIn, HasArgumentIn, AgreeAt, IsAloneIn, IsClearOf, IsJoined, Settles, to_settle};
 ghost use Rattle.plc_ground.specs.Model.{IsCongruent};
 ghost use Rattle.plc_ground.specs.declared.terms.Lit.{Lit};
 
@@ -132,8 +132,7 @@ fn is_clear(set: &GroundSet, table: &Applications, class: &[u32], x: u32) -> boo
     requires well { IsWellFormed set.now }
     requires one_each { length class.now ≡ length set.now.terms }
     requires table { IsTable set.now.terms table.now }
-    ensures { IsTrue result → (i j : ℕ) (k : IsClash set.now.terms class.now i j)
-        → slice_index class.now k.first ≢ x }
+    ensures { IsTrue result → IsClearOf set.now.terms class.now x }
 {
     let _set = set;
     is_alone_in(class, table.arguments.as_slice(), x)
@@ -236,25 +235,51 @@ fn clash_in(set: &GroundSet, class: &[u32], list: &[u32], x: u32) -> Option<(usi
     Some((j, i))
 }
 
-/// Two applications that clash, whose arguments have this class.
-fn clash(set: &GroundSet, table: &Applications, class: &[u32], x: u32) -> Option<(usize, usize)>
+/// Joins two applications of one list that clash, whose arguments have class `x`. False where none do.
+fn join_in(
+    set: &GroundSet,
+    list: &[u32],
+    equal: &mut Equalities,
+    x: u32,
+) -> Result<bool, AllocError>
     requires well { IsWellFormed set.now }
-    requires one_each { length class.now ≡ length set.now.terms }
-    requires table { IsTable set.now.terms table.now }
-    ensures some { IfSome result (λ p. IsClash set.now.terms class.now p.0 p.1) }
-    ensures range { IfSome result (λ p. (p.0 < length set.now.terms) × (p.1 < length set.now.terms)) }
-    ensures none { IfNone result ((i j : ℕ) (k : IsClash set.now.terms class.now i j)
-        → slice_index class.now k.first ≢ x) }
+    requires one_each { length equal.old.class ≡ length set.now.terms }
+    requires list { IsOfOneMap set.now.terms list.now }
+    requires left { ClashOnlyIn set.now.terms equal.old.class equal.old.joined }
+    ensures settles { OnOk result (Settles set.now.terms equal.old equal.new) }
+    ensures some { result ≡ Ok true → to_settle equal.new < to_settle equal.old }
+    ensures none { result ≡ Ok false → (equal.new ≡ equal.old) × AgreeAt set.now.terms equal.old.class x list.now }
 {
-    if is_clear(set, table, class, x) {
-        return None;
-    }
+    let Some((i, j)) = clash_in(set, equal.class.as_slice(), list, x) else {
+        return Ok(false);
+    };
+    join(equal, i, j)?;
+    Ok(true)
+}
+
+/// Joins applications that clash, whose arguments have class `x`: two of each list where two do.
+/// False where none do.
+fn sweep(
+    set: &GroundSet,
+    table: &Applications,
+    equal: &mut Equalities,
+    x: u32,
+) -> Result<bool, AllocError>
+    requires well { IsWellFormed set.now }
+    requires one_each { length equal.old.class ≡ length set.now.terms }
+    requires table { IsTable set.now.terms table.now }
+    requires left { ClashOnlyIn set.now.terms equal.old.class equal.old.joined }
+    ensures settles { OnOk result (Settles set.now.terms equal.old equal.new) }
+    ensures some { result ≡ Ok true → to_settle equal.new < to_settle equal.old }
+    ensures none { result ≡ Ok false → (equal.new ≡ equal.old) × IsClearOf set.now.terms equal.old.class x }
+{
+    let mut found = false;
     for list in table.lists.as_slice() {
-        if let Some(found) = clash_in(set, class, list.as_slice(), x) {
-            return Some(found);
+        if join_in(set, list.as_slice(), equal, x)? {
+            found = true;
         }
     }
-    None
+    Ok(found)
 }
 
 /// The newest of the classes that aren't searched yet.
@@ -270,7 +295,28 @@ fn newest_joined(equal: &Equalities) -> Option<u32>
     Some(joined[joined.len() - 1])
 }
 
-/// Joins two applications that clash in a class, or is done with that class.
+/// Whether applications whose arguments have class `x` clashed; two of each list that did are joined.
+fn clashed(
+    set: &GroundSet,
+    table: &Applications,
+    equal: &mut Equalities,
+    x: u32,
+) -> Result<bool, AllocError>
+    requires well { IsWellFormed set.now }
+    requires one_each { length equal.old.class ≡ length set.now.terms }
+    requires table { IsTable set.now.terms table.now }
+    requires left { ClashOnlyIn set.now.terms equal.old.class equal.old.joined }
+    ensures settles { OnOk result (Settles set.now.terms equal.old equal.new) }
+    ensures some { result ≡ Ok true → to_settle equal.new < to_settle equal.old }
+    ensures none { result ≡ Ok false → (equal.new ≡ equal.old) × IsClearOf set.now.terms equal.old.class x }
+{
+    if is_clear(set, table, equal.class.as_slice(), x) {
+        return Ok(false);
+    }
+    sweep(set, table, equal, x)
+}
+
+/// Joins what clashes in a class, or is done with that class.
 fn settle_in(
     set: &GroundSet,
     table: &Applications,
@@ -286,13 +332,11 @@ fn settle_in(
     ensures settles { OnOk result (Settles set.now.terms equal.old equal.new) }
     ensures smaller { OnOk result (to_settle equal.new < to_settle equal.old) }
 {
-    match clash(set, table, equal.class.as_slice(), x) {
-        Some((i, j)) => join(equal, i, j),
-        None => {
-            equal.joined.truncate(equal.joined.len() - 1);
-            Ok(())
-        }
+    if clashed(set, table, equal, x)? {
+        return Ok(());
     }
+    equal.joined.truncate(equal.joined.len() - 1);
+    Ok(())
 }
 
 /// Joins what clashes, until nothing does.
