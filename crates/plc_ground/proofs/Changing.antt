@@ -1,7 +1,8 @@
 -- A table of equalities that is extended and taken back.
-use Rattle.std.proofs.Common.{◌≡◌, ◌≢◌, ◌<◌, ◌≤◌, ◌+◌, ◌-◌, ◌==◌, ℕ, suc, Bool, true, false, List, [], ◌∷◌, ◌++◌, length, take, drop, set, get_or, sum, Some, ◌⊎◌, inl, inr, refl, sym, ◌∙◌, ap, subst, arith, append_assoc, below_more, drop-cons, Result, Ok, Err, if◌then◌else◌}
-use Rattle.std.specs.Prelude.{OnOk, Contains, slice_get, slice_index, slice_index_or}
+use Rattle.std.proofs.Common.{◌≡◌, ◌≢◌, ◌<◌, ◌≤◌, ◌+◌, ◌-◌, ◌==◌, ℕ, suc, Bool, true, false, List, [], ◌∷◌, ◌++◌, length, take, drop, set, get_or, sum, Option, Some, None, ◌⊎◌, inl, inr, refl, sym, ◌∙◌, ap, subst, arith, append_assoc, below_more, drop-cons, Result, Ok, Err, if◌then◌else◌}
+use Rattle.std.specs.Prelude.{OnOk, IfNone, is_some, Contains, slice_get, slice_index, slice_index_or}
 use Rattle.std.proofs.lemmas.Grind.{common_steps}
+use Rattle.std.proofs.lemmas.Bool.{cases_order}
 use Rattle.std.proofs.lemmas.Option.{slice_get_within}
 use Rattle.std.proofs.lemmas.List.{length-set, length-append, length-take-le, take-take, get_or-set_same, get_or-set_other, get_or-take, get_or_default, take_all, take-append-le, take-append-drop, drop_all, drop-append-le, append-nil, set_past}
 use Rattle.std.proofs.lemmas.List.Elements.{Contains-push, Contains-append_left}
@@ -13,9 +14,9 @@ use Rattle.plc_ground.specs.declared.equalities.Change.{Change}
 use Rattle.plc_ground.specs.declared.equalities.Equalities.{Equalities}
 use Rattle.plc_ground.specs.Model.{equation, IsCongruent}
 use Rattle.plc_ground.specs.Equality.{back}
-use Rattle.plc_ground.specs.Fit.{ArgumentsInRange}
-use Rattle.plc_ground.specs.Classes.{Joins, IsMerged, IsClosure, IsClash, IsCoarser, IsTable, IsOfOneMap, AreApplications, IsApplication}
-use Rattle.plc_ground.specs.Changes.{undone, Extends, HasArgumentIn, AgreeAt, ClashOnlyIn, IsJoined, Settles, to_settle}
+use Rattle.plc_ground.specs.Fit.{ArgumentsInRange, NoTermTwice}
+use Rattle.plc_ground.specs.Classes.{Joins, IsMerged, IsClosure, IsClash, IsCoarser, AreLists, AreArguments, IsOfOneMap, AreApplications, IsApplication}
+use Rattle.plc_ground.specs.Changes.{undone, Extends, HasArgumentIn, AgreeAt, IsAloneIn, IsClearOf, ClashOnlyIn, IsJoined, Settles, to_settle}
 use Rattle.plc_ground.proofs.Joining.{sum-set_less, new_class, merged_joined, clash_same, closure_extended}
 use Rattle.plc_ground.proofs.Listing.{one_application}
 
@@ -198,8 +199,35 @@ clash_at terms class list x k n (m, v, apps) kl nl hk hn ne =
     let q = argument_of terms class list m v x n apps nl hn in
     record { map = m; version = v; first = p.0; second = q.0; first_is = p.1; second_is = q.1; arguments = p.2 ∙ sym q.2; differ = ne }
 
+-- what holds where there is none
+pub none_of : {A : Type 0} {P : Type 0} (o : Option A) → is_some o ≡ false → IfNone o P → P
+none_of None none p = p
+none_of (Some a) none p = absurd (let f : true ≡ false = none in cc)
+
+-- the one place of a list with a term of the class
+pub alone_at : (class list : List ℕ) (x k : ℕ) → ((n : ℕ) → n < k → 0 ≤ n → slice_index class (slice_index list n) ≢ x) →
+    ((n : ℕ) → n < length list → k + 1 ≤ n → slice_index class (slice_index list n) ≢ x) → IsAloneIn class x list
+alone_at class list x k before after i j il jl ei ej = at i il ei ∙ sym (at j jl ej)
+  where
+    at : (n : ℕ) → n < length list → slice_index class (slice_index list n) ≡ x → n ≡ k
+    at n nl e = elim (cases_order n k) [ inl same ↦ same | inr (inl lt) ↦ absurd (before n lt (omega arith) e) | inr (inr gt) ↦ absurd (after n nl (omega (arith, gt)) e) ]
+
+-- where something is applied to one term of a class alone nothing clashes there
+pub none_where_alone : (terms : List GroundTerm) (class list : List ℕ) (x : ℕ) → NoTermTwice terms → AreArguments terms list → IsAloneIn class x list →
+    IsClearOf terms class x
+none_where_alone terms class list x distinct arguments alone i j k at =
+    let p = arguments.whole k.map k.version k.first i k.first_is in
+    let q = arguments.whole k.map k.version k.second j k.second_is in
+    let p_is : slice_index list (p.0) ≡ k.first = get_or_default list (p.0) 0 k.first (p.1) ∙ p.2 in
+    let q_is : slice_index list (q.0) ≡ k.second = get_or_default list (q.0) 0 k.second (q.1) ∙ q.2 in
+    let one : p.0 ≡ q.0 =
+    alone (p.0) (q.0) (p.1) (q.1) (ap (slice_index class) p_is ∙ at) (ap (slice_index class) q_is ∙ sym k.arguments ∙ at) in
+    let same : k.first ≡ k.second = sym p_is ∙ ap (slice_index list) one ∙ q_is in
+    let first_is = subst (λ a. slice_get terms i ≡ Some (App k.map k.version a)) same k.first_is in
+    k.differ (ap (slice_index class) (distinct (App k.map k.version k.second) i j first_is k.second_is))
+
 -- lists in which nothing clashes at a class leave no clash there
-pub none_from_lists : (terms : List GroundTerm) (class : List ℕ) (lists : List (List ℕ)) (x : ℕ) → IsTable terms lists →
+pub none_from_lists : (terms : List GroundTerm) (class : List ℕ) (lists : List (List ℕ)) (x : ℕ) → AreLists terms lists →
     ((g : ℕ) → g < length lists → AgreeAt terms class x (slice_index_or lists g [])) → (i j : ℕ) (k : IsClash terms class i j) → slice_index class k.first ≢ x
 none_from_lists terms class lists x table h i j k at =
     let listed = table.whole k.map k.version i (k.first, k.first_is) in
@@ -295,6 +323,49 @@ settles_dropped terms old new x some newest none left c t js = (
   },
   let count = ap length js in let shorter = length-take-le (length old.joined - 1) old.joined (omega arith) in omega (arith, ap sum c, count, shorter, some),
 )
+
+-- the same where a call between changed nothing
+pub settles_done : (terms : List GroundTerm) (old now new : Equalities) (x : ℕ) → 0 < length old.joined → slice_index old.joined (length old.joined - 1) ≡ x → now ≡ old →
+    IsClearOf terms old.class x → ClashOnlyIn terms old.class old.joined →
+    new.class ≡ now.class → new.trail ≡ now.trail → new.joined ≡ take (length now.joined - 1) now.joined → Settles terms old new × (to_settle new < to_settle old)
+settles_done terms old now new x some newest same none left c t js =
+    settles_dropped terms old new x some newest none left (c ∙ ap (λ (e : Equalities). e.class) same) (t ∙ ap (λ (e : Equalities). e.trail) same)
+    (js ∙ ap (λ (e : Equalities). take (length e.joined - 1) e.joined) same)
+
+-- the first lists were searched, and what clashed in them was joined
+pub record Sweeps (terms : List GroundTerm) (lists : List (List ℕ)) (x n : ℕ) (old new : Equalities) (found : Bool) : Type 0 where
+  pub settles : Settles terms old new
+  pub no_more : to_settle new ≤ to_settle old
+  pub some : found ≡ true → to_settle new < to_settle old
+  pub none : found ≡ false → (new ≡ old) × ((g : ℕ) → g < n → AgreeAt terms old.class x (slice_index_or lists g []))
+
+pub sweeps_first : (terms : List GroundTerm) (lists : List (List ℕ)) (x : ℕ) (e : Equalities) → ClashOnlyIn terms e.class e.joined → Sweeps terms lists x 0 e e false
+sweeps_first terms lists x e left = record {
+  settles = settles_first terms e left;
+  no_more = omega arith;
+  some = λ f. absurd (let t : false ≡ true = f in cc);
+  none = λ _. (refl, λ g lt. absurd (omega arith));
+}
+
+module _ (terms : List GroundTerm) (lists : List (List ℕ)) (x n : ℕ) (old now new : Equalities) (found : Bool) (s : Sweeps terms lists x n old now found) where
+  pub sweeps_joined : Settles terms now new → to_settle new < to_settle now → Sweeps terms lists x (n + 1) old new true
+  sweeps_joined settles less = record {
+    settles = settles_more terms old now new s.settles settles;
+    no_more = omega (arith, less, s.no_more);
+    some = λ _. omega (arith, less, s.no_more);
+    none = λ f. absurd (let t : true ≡ false = f in cc);
+  }
+
+  pub sweeps_agreed : new ≡ now → AgreeAt terms now.class x (slice_index_or lists n []) → Sweeps terms lists x (n + 1) old new found
+  sweeps_agreed same agree = subst (λ (e : Equalities). Sweeps terms lists x (n + 1) old e found) (sym same) (record {
+    settles = s.settles;
+    no_more = s.no_more;
+    some = s.some;
+    none = λ f.
+        let h = s.none f in
+        let here = subst (λ (e : Equalities). AgreeAt terms e.class x (slice_index_or lists n [])) (h.0) agree in
+        (h.0, below_more (λ g. AgreeAt terms old.class x (slice_index_or lists g [])) n (h.1) here);
+  })
 
 -- the closure with one more equation
 pub closure_put : (terms : List GroundTerm) (branch : List Lit) (old new : List ℕ) (x y : ℕ) → IsClosure terms branch old → IsMerged terms (branch ++ equation x y ∷ []) new → length new ≡ length old →

@@ -1,5 +1,5 @@
 -- One table of equalities that is extended and taken back: what its trail says, and where clashes are left.
-use Rattle.std.specs.Prelude.{◌≡◌, ◌<◌, ◌≤◌, ◌+◌, ℕ, length, sum, List, [], ◌∷◌, ◌++◌, slice_set, slice_get, slice_index, Some, Contains}
+use Rattle.std.specs.Prelude.{◌≡◌, ◌≢◌, ◌<◌, ◌≤◌, ◌+◌, ℕ, length, sum, List, [], ◌∷◌, ◌++◌, slice_set, slice_get, slice_index, Some, Contains}
 use Rattle.plc_ground.specs.declared.terms.Map.{Map}
 use Rattle.plc_ground.specs.declared.terms.GroundTerm.{GroundTerm}
 use Rattle.plc_ground.specs.declared.terms.GroundTerm.TheVariants.{App}
@@ -28,12 +28,23 @@ pub record IsBack (old new : Equalities) : Type 0 where
 
 -- the argument of this application has class x
 abbrev pub HasArgumentIn : List GroundTerm → List ℕ → ℕ → ℕ → Type 0
-HasArgumentIn terms class x i = (m : Map) × (v : ℕ) × (a : ℕ) × (slice_get terms i ≡ Some (App m v a)) × (slice_index class a ≡ x)
+HasArgumentIn terms class x i = (m : Map) × (v : ℕ) × (a : ℕ) × (slice_get terms i ≡ Some (App m v a))
+    × (slice_index class a ≡ x)
 
 -- the applications of the list whose arguments have class x share a class
 abbrev pub AgreeAt : List GroundTerm → List ℕ → ℕ → List ℕ → Type 0
-AgreeAt terms class x list = (k n : ℕ) → k < length list → n < length list → HasArgumentIn terms class x (slice_index list k)
-    → HasArgumentIn terms class x (slice_index list n) → slice_index class (slice_index list k) ≡ slice_index class (slice_index list n)
+AgreeAt terms class x list = (k n : ℕ) → k < length list → n < length list
+    → HasArgumentIn terms class x (slice_index list k) → HasArgumentIn terms class x (slice_index list n)
+    → slice_index class (slice_index list k) ≡ slice_index class (slice_index list n)
+
+-- at most one place of the list has a term of class x
+abbrev pub IsAloneIn : List ℕ → ℕ → List ℕ → Type 0
+IsAloneIn class x list = (k n : ℕ) → k < length list → n < length list → slice_index class (slice_index list k) ≡ x
+    → slice_index class (slice_index list n) ≡ x → k ≡ n
+
+-- no two applications clash whose arguments have class x
+abbrev pub IsClearOf : List GroundTerm → List ℕ → ℕ → Type 0
+IsClearOf terms class x = (i j : ℕ) (k : IsClash terms class i j) → slice_index class k.first ≢ x
 
 -- two applications clash only where the class of their arguments is one of these
 abbrev pub ClashOnlyIn : List GroundTerm → List ℕ → List ℕ → Type 0

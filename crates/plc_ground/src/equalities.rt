@@ -8,10 +8,10 @@
 // Classes that are joined are the only ones in which applications can clash, so these alone are
 // searched. Union by size and a forest of reasons win little on sets of a hundred terms, and each
 // would have to be kept true by proof.
-ghost use Rattle.std.specs.Prelude.{◌≡◌, ◌≢◌, ◌+◌, ◌-◌, ◌<◌, ◌≤◌, ◌==◌, ℕ, length, slice_index, slice_get, slice_set, Some, IfSome, IfNone, List, sum, ◌^◌, All, IfOk, OnOk, take, drop, ◌∷◌, ◌++◌, [], Contains, true, false, IsTrue};
+ghost use Rattle.std.specs.Prelude.{◌≡◌, ◌≢◌, ◌+◌, ◌-◌, ◌<◌, ◌≤◌, ◌==◌, ℕ, length, slice_index, slice_get, slice_set, Some, IfSome, IfNone, List, sum, ◌^◌, All, IfOk, OnOk, take, drop, ◌∷◌, ◌++◌, [], Contains, Ok, true, false, IsTrue};
 ghost use Rattle.plc_ground.specs.Fit.{IsWellFormed, IsInRange};
 ghost use Rattle.plc_ground.specs.Classes.{Joins, IsMerged, IsClosure, IsClash, IsCoarser, IsTable, IsOfOneMap};
-ghost use Rattle.plc_ground.specs.Changes.{Extends, undone, ClashOnlyIn, HasArgumentIn, AgreeAt, IsJoined, Settles, to_settle};
+ghost use Rattle.plc_ground.specs.Changes.{Extends, undone, ClashOnlyIn, HasArgumentIn, AgreeAt, IsAloneIn, IsClearOf, IsJoined, Settles, to_settle};
 ghost use Rattle.plc_ground.specs.Model.{IsCongruent};
 ghost use Rattle.plc_ground.specs.declared.terms.Lit.{Lit};
 
@@ -53,27 +53,8 @@ fn shift(equal: &mut Equalities, k: usize, low: u32) -> Result<(), AllocError>
     Ok(())
 }
 
-/// Puts the terms of class `high` into class `low`.
-fn merge(equal: &mut Equalities, low: u32, high: u32) -> Result<(), AllocError>
-    requires few { length equal.old.class < 2 ^ 32 }
-    requires lower { low < high }
-    ensures joins { OnOk result (Joins equal.old.class equal.new.class low high) }
-    ensures one_each { OnOk result (length equal.new.class ≡ length equal.old.class) }
-    ensures less { OnOk result ((k : ℕ) → k < length equal.old.class → slice_index equal.old.class k ≡ high
-        → sum equal.new.class < sum equal.old.class) }
-    ensures extends { OnOk result (Extends equal.old equal.new) }
-    ensures joined { OnOk result (equal.new.joined ≡ equal.old.joined) }
-{
-    for k in 0..equal.class.len() {
-        if equal.class.as_slice()[k] == high {
-            shift(equal, k, low)?;
-        }
-    }
-    Ok(())
-}
-
 /// Puts the terms of class `high` into class `low`, in which clashes are to be looked for.
-fn merge_into(equal: &mut Equalities, low: u32, high: u32) -> Result<(), AllocError>
+fn merge(equal: &mut Equalities, low: u32, high: u32) -> Result<(), AllocError>
     requires few { length equal.old.class < 2 ^ 32 }
     requires lower { low < high }
     ensures joins { OnOk result (Joins equal.old.class equal.new.class low high) }
@@ -83,7 +64,11 @@ fn merge_into(equal: &mut Equalities, low: u32, high: u32) -> Result<(), AllocEr
     ensures extends { OnOk result (Extends equal.old equal.new) }
     ensures joined { OnOk result (equal.new.joined ≡ equal.old.joined ++ low ∷ []) }
 {
-    merge(equal, low, high)?;
+    for k in 0..equal.class.len() {
+        if equal.class.as_slice()[k] == high {
+            shift(equal, k, low)?;
+        }
+    }
     equal.joined.push(low)?;
     Ok(())
 }
@@ -99,9 +84,58 @@ fn join(equal: &mut Equalities, x: usize, y: usize) -> Result<(), AllocError>
     let a = equal.class.as_slice()[x];
     let b = equal.class.as_slice()[y];
     if a < b {
-        return merge_into(equal, a, b);
+        return merge(equal, a, b);
     }
-    merge_into(equal, b, a)
+    merge(equal, b, a)
+}
+
+/// Whether the term at a place of a list has this class.
+fn is_at(class: &[u32], list: &[u32], k: usize, x: u32) -> bool
+    requires each { All (λ a. a < length class.now) list.now }
+    requires place { k < length list.now }
+    ensures yes { IsTrue result → slice_index class.now (slice_index list.now k) ≡ x }
+    ensures no { slice_index class.now (slice_index list.now k) ≡ x → IsTrue result }
+{
+    class[list[k] as usize] == x
+}
+
+/// The first place from `start` on of a term of this class.
+fn place_from(class: &[u32], list: &[u32], x: u32, start: usize) -> Option<usize>
+    requires { All (λ a. a < length class.now) list.now }
+    ensures some { IfSome result (λ k. k < length list.now) }
+    ensures first { IfSome result (λ k. (n : ℕ) → n < k → start ≤ n
+        → slice_index class.now (slice_index list.now n) ≢ x) }
+    ensures none { IfNone result ((n : ℕ) → n < length list.now → start ≤ n
+        → slice_index class.now (slice_index list.now n) ≢ x) }
+{
+    for k in start..list.len() {
+        if is_at(class, list, k, x) {
+            return Some(k);
+        }
+    }
+    None
+}
+
+/// Whether at most one of these terms is in a class.
+fn is_alone_in(class: &[u32], list: &[u32], x: u32) -> bool
+    requires { All (λ a. a < length class.now) list.now }
+    ensures { IsTrue result → IsAloneIn class.now x list.now }
+{
+    let Some(k) = place_from(class, list, x, 0) else {
+        return true;
+    };
+    place_from(class, list, x, k + 1).is_none()
+}
+
+/// Whether something is applied to at most one term of a class, so that nothing clashes there.
+fn is_clear(set: &GroundSet, table: &Applications, class: &[u32], x: u32) -> bool
+    requires well { IsWellFormed set.now }
+    requires one_each { length class.now ≡ length set.now.terms }
+    requires table { IsTable set.now.terms table.now }
+    ensures { IsTrue result → IsClearOf set.now.terms class.now x }
+{
+    let _set = set;
+    is_alone_in(class, table.arguments.as_slice(), x)
 }
 
 /// Whether the argument of an application has this class.
@@ -201,22 +235,51 @@ fn clash_in(set: &GroundSet, class: &[u32], list: &[u32], x: u32) -> Option<(usi
     Some((j, i))
 }
 
-/// Two applications that clash, whose arguments have this class.
-fn clash(set: &GroundSet, table: &Applications, class: &[u32], x: u32) -> Option<(usize, usize)>
+/// Joins two applications of one list that clash, whose arguments have class `x`. False where none do.
+fn join_in(
+    set: &GroundSet,
+    list: &[u32],
+    equal: &mut Equalities,
+    x: u32,
+) -> Result<bool, AllocError>
     requires well { IsWellFormed set.now }
-    requires one_each { length class.now ≡ length set.now.terms }
-    requires table { IsTable set.now.terms table.now.lists }
-    ensures some { IfSome result (λ p. IsClash set.now.terms class.now p.0 p.1) }
-    ensures range { IfSome result (λ p. (p.0 < length set.now.terms) × (p.1 < length set.now.terms)) }
-    ensures none { IfNone result ((i j : ℕ) (k : IsClash set.now.terms class.now i j)
-        → slice_index class.now k.first ≢ x) }
+    requires one_each { length equal.old.class ≡ length set.now.terms }
+    requires list { IsOfOneMap set.now.terms list.now }
+    requires left { ClashOnlyIn set.now.terms equal.old.class equal.old.joined }
+    ensures settles { OnOk result (Settles set.now.terms equal.old equal.new) }
+    ensures some { result ≡ Ok true → to_settle equal.new < to_settle equal.old }
+    ensures none { result ≡ Ok false → (equal.new ≡ equal.old) × AgreeAt set.now.terms equal.old.class x list.now }
 {
+    let Some((i, j)) = clash_in(set, equal.class.as_slice(), list, x) else {
+        return Ok(false);
+    };
+    join(equal, i, j)?;
+    Ok(true)
+}
+
+/// Joins applications that clash, whose arguments have class `x`: two of each list where two do.
+/// False where none do.
+fn sweep(
+    set: &GroundSet,
+    table: &Applications,
+    equal: &mut Equalities,
+    x: u32,
+) -> Result<bool, AllocError>
+    requires well { IsWellFormed set.now }
+    requires one_each { length equal.old.class ≡ length set.now.terms }
+    requires table { IsTable set.now.terms table.now }
+    requires left { ClashOnlyIn set.now.terms equal.old.class equal.old.joined }
+    ensures settles { OnOk result (Settles set.now.terms equal.old equal.new) }
+    ensures some { result ≡ Ok true → to_settle equal.new < to_settle equal.old }
+    ensures none { result ≡ Ok false → (equal.new ≡ equal.old) × IsClearOf set.now.terms equal.old.class x }
+{
+    let mut found = false;
     for list in table.lists.as_slice() {
-        if let Some(found) = clash_in(set, class, list.as_slice(), x) {
-            return Some(found);
+        if join_in(set, list.as_slice(), equal, x)? {
+            found = true;
         }
     }
-    None
+    Ok(found)
 }
 
 /// The newest of the classes that aren't searched yet.
@@ -232,7 +295,28 @@ fn newest_joined(equal: &Equalities) -> Option<u32>
     Some(joined[joined.len() - 1])
 }
 
-/// Joins two applications that clash in a class, or is done with that class.
+/// Whether applications whose arguments have class `x` clashed; two of each list that did are joined.
+fn clashed(
+    set: &GroundSet,
+    table: &Applications,
+    equal: &mut Equalities,
+    x: u32,
+) -> Result<bool, AllocError>
+    requires well { IsWellFormed set.now }
+    requires one_each { length equal.old.class ≡ length set.now.terms }
+    requires table { IsTable set.now.terms table.now }
+    requires left { ClashOnlyIn set.now.terms equal.old.class equal.old.joined }
+    ensures settles { OnOk result (Settles set.now.terms equal.old equal.new) }
+    ensures some { result ≡ Ok true → to_settle equal.new < to_settle equal.old }
+    ensures none { result ≡ Ok false → (equal.new ≡ equal.old) × IsClearOf set.now.terms equal.old.class x }
+{
+    if is_clear(set, table, equal.class.as_slice(), x) {
+        return Ok(false);
+    }
+    sweep(set, table, equal, x)
+}
+
+/// Joins what clashes in a class, or is done with that class.
 fn settle_in(
     set: &GroundSet,
     table: &Applications,
@@ -241,27 +325,25 @@ fn settle_in(
 ) -> Result<(), AllocError>
     requires well { IsWellFormed set.now }
     requires one_each { length equal.old.class ≡ length set.now.terms }
-    requires table { IsTable set.now.terms table.now.lists }
+    requires table { IsTable set.now.terms table.now }
     requires some { 0 < length equal.old.joined }
     requires newest { slice_index equal.old.joined (length equal.old.joined - 1) ≡ x }
     requires left { ClashOnlyIn set.now.terms equal.old.class equal.old.joined }
     ensures settles { OnOk result (Settles set.now.terms equal.old equal.new) }
     ensures smaller { OnOk result (to_settle equal.new < to_settle equal.old) }
 {
-    match clash(set, table, equal.class.as_slice(), x) {
-        Some((i, j)) => join(equal, i, j),
-        None => {
-            equal.joined.truncate(equal.joined.len() - 1);
-            Ok(())
-        }
+    if clashed(set, table, equal, x)? {
+        return Ok(());
     }
+    equal.joined.truncate(equal.joined.len() - 1);
+    Ok(())
 }
 
 /// Joins what clashes, until nothing does.
 fn settle(set: &GroundSet, table: &Applications, equal: &mut Equalities) -> Result<(), AllocError>
     requires well { IsWellFormed set.now }
     requires one_each { length equal.old.class ≡ length set.now.terms }
-    requires table { IsTable set.now.terms table.now.lists }
+    requires table { IsTable set.now.terms table.now }
     requires left { ClashOnlyIn set.now.terms equal.old.class equal.old.joined }
     ensures settles { OnOk result (Settles set.now.terms equal.old equal.new) }
     ensures settled { OnOk result (IsCongruent set.now.terms (slice_index equal.new.class)) }
@@ -283,7 +365,7 @@ pub fn put(
     requires well { IsWellFormed set.now }
     requires one_each { length equal.old.class ≡ length set.now.terms }
     requires congruent { IsCongruent set.now.terms (slice_index equal.old.class) }
-    requires table { IsTable set.now.terms table.now.lists }
+    requires table { IsTable set.now.terms table.now }
     requires range { IsInRange set.now.terms l }
     ensures closure { OnOk result ((branch : List Lit) → IsClosure set.now.terms branch equal.old.class
         → IsClosure set.now.terms (branch ++ l ∷ []) equal.new.class) }

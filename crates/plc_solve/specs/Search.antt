@@ -29,7 +29,7 @@ pub record AreConstants (s : GroundSet) (list : List ℕ) : Type 0 where
 
 -- what a survey has of the set
 pub record IsSurvey (s : GroundSet) (v : Survey) : Type 0 where
-  pub table : IsTable s.terms v.table.lists
+  pub table : IsTable s.terms v.table
   pub constants : AreConstants s v.constants.items
   pub units : All (IsInRange s.terms) v.units.items
 
@@ -82,14 +82,16 @@ pub record IsNextChild (s : GroundSet) (f : Frame) (child : Frame) : Type 0 wher
 abbrev pub Enters : GroundSet → List Lit → List ℕ → Step → Type 0
 Enters s branch class (Open model) = IsModel s model.items
 Enters s branch class Closed = ⊥
-Enters s branch class (Deeper child) = IsSound s child × (child.branch.items ≡ branch) × (child.class.items ≡ class) × (child.next ≡ 0) × (child.nodes.items ≡ [])
+Enters s branch class (Deeper child) = IsSound s child × (child.branch.items ≡ branch)
+    × (child.class.items ≡ class) × (child.next ≡ 0) × (child.nodes.items ≡ [])
 Enters s branch class Complete = ⊥
 
 -- two terms of one class that must differ, or the longer branch with its classes
 abbrev pub Descends : GroundSet → List Lit → List ℕ → Lit → Descent → Type 0
 Descends s branch class l (Conflict a b) = IsRight s (branch ++ l ∷ []) (Leaf a b)
 Descends s branch class l (Place longer finer) =
-    IsPlace s longer.items finer.items × (longer.items ≡ branch ++ l ∷ []) × (slice_index class l.left ≢ slice_index class l.right → sum finer.items < sum class)
+    IsPlace s longer.items finer.items × (longer.items ≡ branch ++ l ∷ [])
+    × (slice_index class l.left ≢ slice_index class l.right → sum finer.items < sum class)
 
 -- the frame after one more child, which a leaf closes
 pub record TakesLeaf (old new : Frame) (a b : ℕ) : Type 0 where
@@ -111,7 +113,8 @@ pub record TakesTree (old new : Frame) (tree : List Node) : Type 0 where
 abbrev pub StepGives : GroundSet → Frame → Frame → Step → Type 0
 StepGives s old new (Open class) = IsModel s class.items
 StepGives s old new Closed = IsSound s new × ((a : ℕ) × (b : ℕ) × TakesLeaf old new a b)
-StepGives s old new (Deeper child) = (new ≡ old) × IsSound s child × IsNextChild s old child × (child.next ≡ 0) × (child.nodes.items ≡ []) × (sum child.class.items < sum old.class.items)
+StepGives s old new (Deeper child) = (new ≡ old) × IsSound s child × IsNextChild s old child
+    × (child.next ≡ 0) × (child.nodes.items ≡ []) × (sum child.class.items < sum old.class.items)
 StepGives s old new Complete = (new ≡ old) × (old.next ≡ length (literals s old.clause))
 
 -- the clauses of these splits

@@ -1,15 +1,21 @@
 // Which clause is split next: a false one, and of these one with the fewest open literals. Under the
 // closure of the branch a false clause has no true literal; its inequations are contradicted, since
-// their sides share a class, and so is an equation whose classes hold two constants that differ, or
-// that an inequation keeps apart which stands alone in a clause. The other equations are what the
-// branch leaves open. A clause with none closes the branch at once, so it is taken without a look at
-// the clauses after it; one with a single one is used at once: the choice is the propagation.
+// their sides share a class, and so is an equation whose classes are named by two constants that
+// differ, or that an inequation keeps apart which stands alone in a clause. The other equations are
+// what the branch leaves open. A clause with none closes the branch at once, so it is taken without a
+// look at the clauses after it; one with a single one is used before all with more: the choice is
+// the propagation.
+//
+// A class is named by its least term. Values stand before all that may be equal to them, and so name
+// their classes. A number may stand after a local; then the split finds the contradiction a step
+// later, which costs less than a look for constants at every equation.
 //
 // Most clauses stay true from one choice to the next by the same literal, so for each clause the
 // literal that was last seen true is tried first.
 ghost use Rattle.std.specs.Prelude.{◌≡◌, ◌<◌, ◌⊎◌, ℕ, IsTrue, IfSome, IfNone, Some, All};
 ghost use Rattle.std.specs.Prelude.{Any, false, length, slice_index};
 ghost use Rattle.plc_ground.specs.Fit.{IsWellFormed, IsInRange};
+ghost use Rattle.plc_ground.specs.Classes.{IsNoLater};
 ghost use Rattle.plc_ground.specs.Model.{HoldsIn, FailsIn, literals};
 ghost use Rattle.plc_solve.specs.Search.{IsSurvey, IsFalse, AreFalse, AreInside};
 ghost use Rattle.plc_ground.specs.declared.terms.Lit.{Lit};
@@ -67,34 +73,6 @@ struct Choice {
     open: usize,
 }
 
-/// A constant that differs from others, in a class.
-fn constant_in(constants: &[u32], class: &[u32], a: u32) -> Option<usize>
-    requires { All (λ i. i < length class.now) constants.now }
-    ensures { IfSome result (λ i. i < length class.now) }
-{
-    for k in 0..constants.len() {
-        if class[constants[k] as usize] == a {
-            return Some(constants[k] as usize);
-        }
-    }
-    None
-}
-
-/// Whether two classes hold constants that must differ.
-fn hold_constants(set: &GroundSet, constants: &[u32], class: &[u32], a: u32, b: u32) -> bool
-    requires well { IsWellFormed set.now }
-    requires one_each { length class.now ≡ length set.now.terms }
-    requires range { All (λ i. i < length set.now.terms) constants.now }
-{
-    match (
-        constant_in(constants, class, a),
-        constant_in(constants, class, b),
-    ) {
-        (Some(i), Some(j)) => must_differ(set, i, j),
-        _ => false,
-    }
-}
-
 /// Whether an inequation that stands alone keeps two classes apart.
 fn kept_apart(units: &[Lit], class: &[u32], a: u32, b: u32) -> bool
     requires { All (AreInside class.now) units.now }
@@ -109,24 +87,35 @@ fn kept_apart(units: &[Lit], class: &[u32], a: u32, b: u32) -> bool
     false
 }
 
+/// The class of a term.
+fn class_of(class: &[u32], i: u32) -> u32
+    requires { i < length class.now }
+    ensures { result ≡ slice_index class.now i }
+{
+    class[i as usize]
+}
+
 /// Whether a false literal is open: an equation that nothing contradicts.
 fn is_open(set: &GroundSet, survey: &Survey, class: &[u32], l: Lit) -> bool
     requires well { IsWellFormed set.now }
     requires one_each { length class.now ≡ length set.now.terms }
+    requires no_later { IsNoLater class.now }
     requires survey { IsSurvey set.now survey.now }
     requires range { IsInRange set.now.terms l }
 {
     if !l.equal {
         return false;
     }
-    let (a, b) = (class[l.left as usize], class[l.right as usize]);
-    !hold_constants(set, &survey.constants, class, a, b) && !kept_apart(&survey.units, class, a, b)
+    let a = class_of(class, l.left);
+    let b = class_of(class, l.right);
+    !must_differ(set, a as usize, b as usize) && !kept_apart(&survey.units, class, a, b)
 }
 
 /// How many literals of a false clause are open, counted up to `most`.
 fn open_count(set: &GroundSet, survey: &Survey, class: &[u32], c: usize, most: usize) -> usize
     requires well { IsWellFormed set.now }
     requires one_each { length class.now ≡ length set.now.terms }
+    requires no_later { IsNoLater class.now }
     requires survey { IsSurvey set.now survey.now }
     requires clause { c < length set.now.clauses }
 {
@@ -146,6 +135,7 @@ fn open_count(set: &GroundSet, survey: &Survey, class: &[u32], c: usize, most: u
 fn better(set: &GroundSet, survey: &Survey, class: &[u32], best: Option<Choice>, c: usize) -> Choice
     requires well { IsWellFormed set.now }
     requires one_each { length class.now ≡ length set.now.terms }
+    requires no_later { IsNoLater class.now }
     requires survey { IsSurvey set.now survey.now }
     requires clause { c < length set.now.clauses }
     ensures { (result.clause ≡ c) ⊎ (best ≡ Some result) }
@@ -166,6 +156,7 @@ fn better(set: &GroundSet, survey: &Survey, class: &[u32], best: Option<Choice>,
 fn choose(set: &GroundSet, survey: &Survey, class: &[u32], seen: &mut [usize]) -> Option<Choice>
     requires well { IsWellFormed set.now }
     requires one_each { length class.now ≡ length set.now.terms }
+    requires no_later { IsNoLater class.now }
     requires survey { IsSurvey set.now survey.now }
     requires seen { length seen.old ≡ length set.now.clauses }
     ensures some { IfSome result (λ b. (b.clause < length set.now.clauses) × IsFalse set.now class.now b.clause) }
@@ -194,6 +185,7 @@ pub(crate) fn pick(
 ) -> Option<usize>
     requires well { IsWellFormed set.now }
     requires one_each { length class.now ≡ length set.now.terms }
+    requires no_later { IsNoLater class.now }
     requires survey { IsSurvey set.now survey.now }
     requires seen { length seen.old ≡ length set.now.clauses }
     ensures some { IfSome result (λ c. (c < length set.now.clauses) × IsFalse set.now class.now c) }
