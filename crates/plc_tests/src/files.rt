@@ -1,5 +1,5 @@
-// Files and schedules. A file is a section of a text: its name stands after `#`, its lines are the file. A schedule is a
-// name and the pieces of its text. Some files differ from others in a few lines, and some are made.
+// Files and schedules. A file is a section of a text: its name stands after `#`, its lines are the file. A schedule is
+// a name and the pieces of its text. Some files differ from others in a few lines, and some are made.
 use plc_stacks::{EPOCHS, HAZARDS};
 use std::alloc::{AllocError, Global};
 
