@@ -9,11 +9,11 @@ ghost use Rattle.plc_scope.specs.Scope.{most_locals, if_new, with_last};
 ghost use Rattle.plc_outparse.specs.Answers.{HasRoomForBound};
 ghost use Rattle.plc_scope.specs.Limits.{stands_at};
 ghost use Rattle.plc_outparse.specs.Meaning.{counted, literal_step, bound_with, second_bound, bound_means};
-ghost use Rattle.plc_outparse.specs.Reading.{literals_in, all_literals_in, clause_in, clause_line_in};
+ghost use Rattle.plc_outparse.specs.Reading.{literals_in, all_literals_in, clause_line_in};
 ghost use Rattle.plc_outparse.specs.Sizes.{literal_size, bound_size};
 ghost use Rattle.plc_outparse.specs.Views.{literal_tree, quantified_tree, reach_of, read_with, kinds_left};
 
-use crate::form::{LiteralForm, Quantified};
+use crate::form::{LiteralForm, Parsed, Quantified};
 use crate::literal_form::{literal_at, or_literal_at, quantified_at};
 use crate::reach::{Reach, declared_kind};
 use crate::term::literal;
@@ -163,11 +163,7 @@ fn read_further_literals<'a>(
 
 // All literals of a clause.
 #[tactic(auto, unfolding(crate::specs::Reading::all_literals_in))]
-fn read_literals<'a>(
-    alloc: Global,
-    reach: &Reach,
-    start: Rest<'a>,
-) -> Result<(Items<Literal>, Rest<'a>), ParseFault>
+fn read_literals<'a>(alloc: Global, reach: &Reach, start: Rest<'a>) -> Parsed<'a, Items<Literal>>
     requires { length reach.now.locals.now ≤ most_locals }
     ensures read { Gives (λ r. read_with r.0 r.1) result
         (all_literals_in (reach_of reach.now) start.entry.at (kinds_left start.entry)) }
@@ -182,18 +178,18 @@ fn read_literals<'a>(
     Ok((literals, rest))
 }
 
-// A clause, in an operation with these locals or in an invariant.
-#[tactic(auto, unfolding(crate::specs::Reading::clause_in))]
-fn read_clause<'a>(
+/// A clause and its semicolon, in an operation with these locals or in an invariant.
+#[tactic(auto, unfolding(crate::specs::Reading::clause_in, crate::specs::Reading::clause_line_in))]
+pub fn read_clause_line<'a>(
     alloc: Global,
     scope: &Scope,
     locals: &[Local],
     in_operation: bool,
     start: Rest<'a>,
-) -> Result<(Clause, Rest<'a>), ParseFault>
+) -> Parsed<'a, Clause>
     requires { length locals.now ≤ most_locals }
     ensures read { Gives (λ r. read_with r.0 r.1) result
-        (clause_in scope.now locals.now in_operation start.entry.at (kinds_left start.entry)) }
+        (clause_line_in scope.now locals.now in_operation start.entry.at (kinds_left start.entry)) }
     ensures place { IfOk result (λ r. Within start.entry r.1) }
 {
     let Some((form, behind)) = quantified_at(start) else {
@@ -207,26 +203,8 @@ fn read_clause<'a>(
         bound: &bound,
     };
     let (literals, rest) = read_literals(alloc, &reach, behind)?;
-    Ok((Clause { bound, literals }, rest))
-}
-
-/// A clause and its semicolon, in an operation with these locals or in an invariant.
-#[tactic(auto, unfolding(crate::specs::Reading::clause_line_in))]
-pub fn read_clause_line<'a>(
-    alloc: Global,
-    scope: &Scope,
-    locals: &[Local],
-    in_operation: bool,
-    start: Rest<'a>,
-) -> Result<(Clause, Rest<'a>), ParseFault>
-    requires { length locals.now ≤ most_locals }
-    ensures read { Gives (λ r. read_with r.0 r.1) result
-        (clause_line_in scope.now locals.now in_operation start.entry.at (kinds_left start.entry)) }
-    ensures place { IfOk result (λ r. Within start.entry r.1) }
-{
-    let (clause, rest) = read_clause(alloc, scope, locals, in_operation, start)?;
     match semicolon_at(rest) {
-        Some(behind) => Ok((clause, behind)),
+        Some(end) => Ok((Clause { bound, literals }, end)),
         None => Err(ParseFault::Syntax { at: rest.at }),
     }
 }

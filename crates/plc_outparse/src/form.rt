@@ -1,6 +1,10 @@
 // The forms of an outline that readers answer, one type for each kind of tree. They borrow the bytes
 // of names from the tokens, so reading takes no memory.
-use plc_forms::Place;
+use plc_forms::{Place, Rest};
+use plc_scope::ParseFault;
+
+/// What is read at the front of tokens, and what is left after it; or the fault.
+pub type Parsed<'a, T> = Result<(T, Rest<'a>), ParseFault>;
 
 /// A side of an equation.
 #[derive(Clone, Copy)]

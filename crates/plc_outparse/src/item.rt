@@ -4,18 +4,18 @@ ghost use Rattle.std.specs.Prelude.{◌≡◌, ◌+◌, ◌<◌, ◌≤◌, IfOk
 ghost use Rattle.plc_base.specs.Limits.{most};
 ghost use Rattle.plc_base.specs.declared.limits.What1.TheVariants as limits;
 ghost use Rattle.plc_scope.specs.Answers.{Gives, Within};
-ghost use Rattle.plc_outparse.specs.Answers.{OpsFit};
+ghost use Rattle.plc_outparse.specs.Answers.{IsWithinLimits};
 ghost use Rattle.plc_outparse.specs.Reading.{invariant_in, over_in, at_in, item_in, items_in};
 ghost use Rattle.plc_outparse.specs.Sizes.{head_size};
 ghost use Rattle.plc_outparse.specs.Views.{head_tree, parts_at, parts_with, kinds_left};
 
 use crate::clause::read_clause_line;
+use crate::context::Context;
 use crate::form::Head;
 use crate::item_form::head_at;
 use crate::site::{few_locals_of, op_at, read_labels};
 use plc_base::{Items, OpId, What1};
 use plc_forms::Rest;
-use plc_lang::Op;
 use plc_logic::{Clause, Item, Site};
 use plc_scope::{ParseFault, Scope};
 use std::alloc::Global;
@@ -53,25 +53,25 @@ fn read_invariant<'a>(
 #[tactic(auto, unfolding(crate::specs::Reading::over_in))]
 fn read_over<'a>(
     alloc: Global,
-    scope: &Scope,
-    ops: &[Op],
+    context: &Context,
     parts: &mut Parts,
     at: u32,
     name: &[u8],
     start: Rest<'a>,
 ) -> Result<Rest<'a>, ParseFault>
-    requires ops { OpsFit ops.now }
+    requires limits { IsWithinLimits context.now }
     requires head { start.at ≡ at + 3 }
     ensures read { Gives (parts_with parts.new) result
-        (over_in scope.now ops.now (parts_at parts.old at) name.now (kinds_left start.entry)) }
+        (over_in context.now.scope.now context.now.ops.now (parts_at parts.old at) name.now
+        (kinds_left start.entry)) }
     ensures place { IfOk result (λ r. Within start.entry r) }
 {
     if parts.items.len() == What1::Items.most() as usize {
         return Err(ParseFault::past(What1::Items));
     }
-    let op = op_at(scope, ops, name, at + 1)?;
-    let locals = few_locals_of(ops, op as usize);
-    let (clause, rest) = read_clause_line(alloc, scope, locals, true, start)?;
+    let op = op_at(context, name, at + 1)?;
+    let locals = few_locals_of(context, op as usize);
+    let (clause, rest) = read_clause_line(alloc, context.scope, locals, true, start)?;
     let site = Site::Over(OpId(op));
     parts.items.push(Item { site, clause })?;
     Ok(rest)
@@ -81,27 +81,25 @@ fn read_over<'a>(
 #[tactic(auto, unfolding(crate::specs::Reading::at_in))]
 fn read_at<'a>(
     alloc: Global,
-    scope: &Scope,
-    ops: &[Op],
-    by_op: &[Items<u16>],
+    context: &Context,
     parts: &mut Parts,
     at: u32,
     name: &[u8],
     start: Rest<'a>,
 ) -> Result<Rest<'a>, ParseFault>
-    requires labels { length scope.now.labels ≤ most limits.Labels }
-    requires ops { OpsFit ops.now }
+    requires limits { IsWithinLimits context.now }
     requires head { start.at ≡ at + 2 }
     ensures read { Gives (parts_with parts.new) result
-        (at_in scope.now ops.now by_op.now (parts_at parts.old at) name.now (kinds_left start.entry)) }
+        (at_in context.now.scope.now context.now.ops.now context.now.by_op.now (parts_at parts.old at)
+        name.now (kinds_left start.entry)) }
     ensures place { IfOk result (λ r. Within start.entry r) }
 {
     if parts.items.len() == What1::Items.most() as usize {
         return Err(ParseFault::past(What1::Items));
     }
-    let (labels, op, rest) = read_labels(alloc, scope, by_op, at + 1, name, start)?;
-    let locals = few_locals_of(ops, op);
-    let (clause, rest) = read_clause_line(alloc, scope, locals, true, rest)?;
+    let (labels, op, rest) = read_labels(alloc, context, at + 1, name, start)?;
+    let locals = few_locals_of(context, op);
+    let (clause, rest) = read_clause_line(alloc, context.scope, locals, true, rest)?;
     let site = Site::At(labels);
     parts.items.push(Item { site, clause })?;
     Ok(rest)
@@ -111,41 +109,37 @@ fn read_at<'a>(
 #[tactic(auto, unfolding(crate::specs::Reading::item_in))]
 fn read_item<'a>(
     alloc: Global,
-    scope: &Scope,
-    ops: &[Op],
-    by_op: &[Items<u16>],
+    context: &Context,
     parts: &mut Parts,
     at: u32,
     head: Head,
     start: Rest<'a>,
 ) -> Result<Rest<'a>, ParseFault>
-    requires labels { length scope.now.labels ≤ most limits.Labels }
-    requires ops { OpsFit ops.now }
+    requires limits { IsWithinLimits context.now }
     requires head { start.at ≡ at + head_size (head_tree head) }
     ensures read { Gives (parts_with parts.new) result
-        (item_in scope.now ops.now by_op.now (parts_at parts.old at) (head_tree head.entry) (kinds_left start.entry)) }
+        (item_in context.now.scope.now context.now.ops.now context.now.by_op.now (parts_at parts.old at)
+        (head_tree head.entry) (kinds_left start.entry)) }
     ensures place { IfOk result (λ r. Within start.entry r) }
 {
     match head {
-        Head::Invariant => read_invariant(alloc, scope, parts, at, start),
-        Head::Over(name) => read_over(alloc, scope, ops, parts, at, name, start),
-        Head::At(name) => read_at(alloc, scope, ops, by_op, parts, at, name, start),
+        Head::Invariant => read_invariant(alloc, context.scope, parts, at, start),
+        Head::Over(name) => read_over(alloc, context, parts, at, name, start),
+        Head::At(name) => read_at(alloc, context, parts, at, name, start),
     }
 }
 
 /// The items while there is one, added to those before.
 pub fn read_items<'a>(
     alloc: Global,
-    scope: &Scope,
-    ops: &[Op],
-    by_op: &[Items<u16>],
+    context: &Context,
     parts: &mut Parts,
     start: Rest<'a>,
 ) -> Result<Rest<'a>, ParseFault>
-    requires labels { length scope.now.labels ≤ most limits.Labels }
-    requires ops { OpsFit ops.now }
+    requires limits { IsWithinLimits context.now }
     ensures read { Gives (parts_with parts.new) result
-        (items_in scope.now ops.now by_op.now (parts_at parts.old start.entry.at) (kinds_left start.entry)) }
+        (items_in context.now.scope.now context.now.ops.now context.now.by_op.now (parts_at parts.old start.entry.at)
+        (kinds_left start.entry)) }
     ensures place { IfOk result (λ r. Within start.entry r) }
 {
     let mut rest = start;
@@ -153,7 +147,7 @@ pub fn read_items<'a>(
         let Some((head, behind)) = head_at(rest) else {
             return Ok(rest);
         };
-        rest = read_item(alloc, scope, ops, by_op, parts, rest.at, head, behind)?;
+        rest = read_item(alloc, context, parts, rest.at, head, behind)?;
     }
     Err(ParseFault::Syntax { at: rest.at })
 }

@@ -4,6 +4,7 @@
 #![tactic(auto)]
 
 mod clause;
+mod context;
 mod form;
 mod item;
 mod item_form;
@@ -14,4 +15,5 @@ mod reach;
 mod site;
 mod term;
 
+pub use form::Parsed;
 pub use outline::{outlines_fit, read_outline};

@@ -3,7 +3,7 @@ ghost use Rattle.std.specs.Prelude.{◌+◌, ◌<◌, ◌≤◌, ◌^◌, IfOk, 
 ghost use Rattle.plc_base.specs.Limits.{most};
 ghost use Rattle.plc_base.specs.declared.limits.What1.TheVariants as limits;
 ghost use Rattle.plc_scope.specs.Answers.{Gives, Within};
-ghost use Rattle.plc_outparse.specs.Answers.{OpsFit};
+ghost use Rattle.plc_outparse.specs.Answers.{OpsFit, IsWithinLimits};
 ghost use Rattle.plc_outparse.specs.Fit.{OutlinesFit};
 ghost use Rattle.plc_outparse.specs.Meaning.{depth_means};
 ghost use Rattle.plc_outparse.specs.Outlines.{Means, IsPartFault};
@@ -12,6 +12,8 @@ ghost use Rattle.plc_outparse.specs.Sizes.{depth_size};
 ghost use Rattle.plc_forms.specs.Views.{Reads};
 ghost use Rattle.plc_outparse.specs.Views.{read_with, kinds_left};
 
+use crate::context::Context;
+use crate::form::Parsed;
 use crate::item::{Parts, read_items};
 use crate::item_form::{depth_at, outline_head_at};
 use plc_base::Items;
@@ -35,7 +37,7 @@ fn depth(at: u32, number: Option<u32>) -> Result<u8, ParseFault>
 }
 
 #[tactic(auto, unfolding(crate::specs::Reading::depth_in))]
-fn read_depth<'a>(start: Rest<'a>) -> Result<(u8, Rest<'a>), ParseFault>
+fn read_depth<'a>(start: Rest<'a>) -> Parsed<'a, u8>
     ensures read { Gives (λ r. read_with r.0 r.1) result (depth_in start.entry.at (kinds_left start.entry)) }
     ensures place { IfOk result (λ r. Within start.entry r.1) }
 {
@@ -47,17 +49,11 @@ fn read_depth<'a>(start: Rest<'a>) -> Result<(u8, Rest<'a>), ParseFault>
 
 // Depth and items, from behind the opening brace, and the closing one.
 #[tactic(auto, unfolding(crate::specs::Reading::parts_in))]
-fn read_parts<'a>(
-    alloc: Global,
-    scope: &Scope,
-    ops: &[Op],
-    by_op: &[Items<u16>],
-    start: Rest<'a>,
-) -> Result<(Outline, Rest<'a>), ParseFault>
-    requires labels { length scope.now.labels ≤ most limits.Labels }
-    requires ops { OpsFit ops.now }
+fn read_parts<'a>(alloc: Global, context: &Context, start: Rest<'a>) -> Parsed<'a, Outline>
+    requires limits { IsWithinLimits context.now }
     ensures read { Gives (λ r. read_with r.0 r.1) result
-        (parts_in scope.now ops.now by_op.now start.entry.at (kinds_left start.entry)) }
+        (parts_in context.now.scope.now context.now.ops.now context.now.by_op.now start.entry.at
+        (kinds_left start.entry)) }
     ensures place { IfOk result (λ r. Within start.entry r.1) }
 {
     let (depth, rest) = read_depth(start)?;
@@ -65,7 +61,7 @@ fn read_parts<'a>(
         invariants: Items::new(alloc),
         items: Items::new(alloc),
     };
-    let rest = read_items(alloc, scope, ops, by_op, &mut parts, rest)?;
+    let rest = read_items(alloc, context, &mut parts, rest)?;
     let Some(behind) = closing_at(rest) else {
         return Err(ParseFault::Syntax { at: rest.at });
     };
@@ -79,12 +75,7 @@ fn read_parts<'a>(
 
 // The outline at the front, once it is known that one stands there.
 #[tactic(auto, unfolding(crate::specs::Reading::outline_in))]
-fn outline_at<'a>(
-    alloc: Global,
-    scope: &Scope,
-    ops: &[Op],
-    start: Rest<'a>,
-) -> Result<(Outline, Rest<'a>), ParseFault>
+fn outline_at<'a>(alloc: Global, scope: &Scope, ops: &[Op], start: Rest<'a>) -> Parsed<'a, Outline>
     requires labels { length scope.now.labels ≤ most limits.Labels }
     requires ops { OpsFit ops.now }
     ensures read { Gives (λ r. read_with r.0 r.1) result
@@ -100,7 +91,12 @@ fn outline_at<'a>(
         return Err(ParseFault::Syntax { at: start.at });
     };
     let by_op = labels_by_op(alloc, ops)?;
-    read_parts(alloc, scope, ops, by_op.as_slice(), rest)
+    let context = Context {
+        scope,
+        ops,
+        by_op: by_op.as_slice(),
+    };
+    read_parts(alloc, &context, rest)
 }
 
 /// Reads the outline of a file with these names and operations, and what is behind its closing brace;
@@ -115,7 +111,7 @@ pub fn read_outline<'a>(
     scope: &Scope,
     ops: &[Op],
     start: Rest<'a>,
-) -> Result<(Outline, Rest<'a>), ParseFault>
+) -> Parsed<'a, Outline>
     requires labels { length scope.now.labels ≤ most limits.Labels }
     requires ops { OpsFit ops.now }
     ensures read { Gives (λ r. read_with r.0 r.1) result

@@ -6,12 +6,13 @@ ghost use Rattle.plc_base.specs.declared.limits.What1.TheVariants as limits;
 ghost use Rattle.plc_base.specs.Names.{place_of};
 ghost use Rattle.plc_scope.specs.Answers.{Gives, Within};
 ghost use Rattle.plc_scope.specs.Scope.{most_locals};
-ghost use Rattle.plc_outparse.specs.Answers.{OpsFit};
+ghost use Rattle.plc_outparse.specs.Answers.{IsWithinLimits};
 ghost use Rattle.plc_lang.specs.Locals.{locals_of};
 ghost use Rattle.plc_outparse.specs.Meaning.{op_named, op_at, label_named, label_at, label_step};
 ghost use Rattle.plc_outparse.specs.Reading.{labels_in, all_labels_in};
 ghost use Rattle.plc_outparse.specs.Views.{read_with, kinds_left};
 
+use crate::context::Context;
 use crate::item_form::colon_at;
 use crate::reach::known;
 use plc_base::Items;
@@ -45,24 +46,24 @@ fn op_named(scope: &Scope, ops: &[Op], name: &[u8]) -> Option<u16>
 
 /// The operation that a name at a place is; `Undeclared`, or `WrongSort` for another thing.
 #[tactic(auto, unfolding(crate::specs::Meaning::op_at))]
-pub fn op_at(scope: &Scope, ops: &[Op], name: &[u8], at: u32) -> Result<u16, ParseFault>
-    requires { length ops.now ≤ most limits.Ops }
-    ensures { Gives (λ op. op) result (op_at scope.now ops.now name.now at) }
+pub fn op_at(context: &Context, name: &[u8], at: u32) -> Result<u16, ParseFault>
+    requires { IsWithinLimits context.now }
+    ensures { Gives (λ op. op) result (op_at context.now.scope.now context.now.ops.now name.now at) }
 {
-    let _kind = known(scope, &[], name, at)?;
-    match op_named(scope, ops, name) {
+    let _kind = known(context.scope, &[], name, at)?;
+    match op_named(context.scope, context.ops, name) {
         Some(op) => Ok(op),
         None => Err(ParseFault::WrongSort { at }),
     }
 }
 
 /// The locals of an operation of a file, of which there are not too many.
-pub fn few_locals_of(ops: &[Op], op: usize) -> &[Local]
-    requires { OpsFit ops.now }
-    ensures locals { result.now ≡ locals_of ops.now op }
+pub fn few_locals_of<'a>(context: &Context<'a>, op: usize) -> &'a [Local]
+    requires { IsWithinLimits context.now }
+    ensures locals { result.now ≡ locals_of context.now.ops.now op }
     ensures few { length result.now ≤ most_locals }
 {
-    locals_of(ops, op)
+    locals_of(context.ops, op)
 }
 
 // The label with a name's number.
@@ -90,20 +91,15 @@ fn label_named(scope: &Scope, name: &[u8]) -> Option<u16>
 
 // The label that a name at a place is, and the operation in which it stands; with the same faults.
 #[tactic(auto, unfolding(crate::specs::Meaning::label_at))]
-fn label_at(
-    scope: &Scope,
-    by_op: &[Items<u16>],
-    name: &[u8],
-    at: u32,
-) -> Result<(u16, usize), ParseFault>
-    requires labels { length scope.now.labels ≤ most limits.Labels }
-    ensures { Gives (λ r. (r.0, r.1)) result (label_at scope.now by_op.now name.now at) }
+fn label_at(context: &Context, name: &[u8], at: u32) -> Result<(u16, usize), ParseFault>
+    requires limits { IsWithinLimits context.now }
+    ensures { Gives (λ r. (r.0, r.1)) result (label_at context.now.scope.now context.now.by_op.now name.now at) }
 {
-    let _kind = known(scope, &[], name, at)?;
-    let Some(label) = label_named(scope, name) else {
+    let _kind = known(context.scope, &[], name, at)?;
+    let Some(label) = label_named(context.scope, name) else {
         return Err(ParseFault::WrongSort { at });
     };
-    match op_of_label(by_op, label) {
+    match op_of_label(context.by_op, label) {
         Some(op) => Ok((label, op)),
         None => Err(ParseFault::WrongSort { at }),
     }
@@ -112,18 +108,18 @@ fn label_at(
 // A further label, whose comma stands at the place. `WrongSort` where it stands in another operation.
 #[tactic(auto, unfolding(crate::specs::Meaning::label_step))]
 fn add_label(
-    scope: &Scope,
-    by_op: &[Items<u16>],
+    context: &Context,
     op: usize,
     labels: &mut Items<u16>,
     at: u32,
     name: &[u8],
 ) -> Result<(), ParseFault>
-    requires labels { length scope.now.labels ≤ most limits.Labels }
+    requires limits { IsWithinLimits context.now }
     requires place { at + 2 < 2 ^ 32 }
-    ensures { Gives (λ _. (labels.new, at + 2)) result (label_step scope.now by_op.now op (labels.old, at) name.now) }
+    ensures { Gives (λ _. (labels.new, at + 2)) result
+        (label_step context.now.scope.now context.now.by_op.now op (labels.old, at) name.now) }
 {
-    let (label, found) = label_at(scope, by_op, name, at + 1)?;
+    let (label, found) = label_at(context, name, at + 1)?;
     if found != op {
         return Err(ParseFault::WrongSort { at: at + 1 });
     }
@@ -133,15 +129,15 @@ fn add_label(
 
 // The labels behind the first.
 fn read_further_labels<'a>(
-    scope: &Scope,
-    by_op: &[Items<u16>],
+    context: &Context,
     op: usize,
     labels: &mut Items<u16>,
     start: Rest<'a>,
 ) -> Result<Rest<'a>, ParseFault>
-    requires labels { length scope.now.labels ≤ most limits.Labels }
+    requires limits { IsWithinLimits context.now }
     ensures read { Gives (read_with labels.new) result
-        (labels_in scope.now by_op.now op (labels.old, start.entry.at) (kinds_left start.entry)) }
+        (labels_in context.now.scope.now context.now.by_op.now op (labels.old, start.entry.at)
+        (kinds_left start.entry)) }
     ensures place { IfOk result (λ r. Within start.entry r) }
 {
     let mut rest = start;
@@ -149,7 +145,7 @@ fn read_further_labels<'a>(
         let Some((name, behind)) = comma_name_at(rest) else {
             return Ok(rest);
         };
-        add_label(scope, by_op, op, labels, rest.at, name)?;
+        add_label(context, op, labels, rest.at, name)?;
         rest = behind;
     }
     Err(ParseFault::Syntax { at: rest.at })
@@ -160,22 +156,21 @@ fn read_further_labels<'a>(
 #[tactic(auto, unfolding(crate::specs::Reading::all_labels_in))]
 pub fn read_labels<'a>(
     alloc: Global,
-    scope: &Scope,
-    by_op: &[Items<u16>],
+    context: &Context,
     at: u32,
     name: &[u8],
     start: Rest<'a>,
 ) -> Result<(Items<u16>, usize, Rest<'a>), ParseFault>
-    requires labels { length scope.now.labels ≤ most limits.Labels }
+    requires limits { IsWithinLimits context.now }
     requires name { start.at ≡ at + 1 }
     ensures read { Gives (λ r. (((r.0, r.2.at), r.1), kinds_left r.2)) result
-        (all_labels_in scope.now by_op.now at name.now (kinds_left start.entry)) }
+        (all_labels_in context.now.scope.now context.now.by_op.now at name.now (kinds_left start.entry)) }
     ensures place { IfOk result (λ r. Within start.entry r.2) }
 {
-    let (first, op) = label_at(scope, by_op, name, at)?;
+    let (first, op) = label_at(context, name, at)?;
     let mut labels = Items::new(alloc);
     labels.push(first)?;
-    let rest = read_further_labels(scope, by_op, op, &mut labels, start)?;
+    let rest = read_further_labels(context, op, &mut labels, start)?;
     match colon_at(rest) {
         Some(behind) => Ok((labels, op, behind)),
         None => Err(ParseFault::Syntax { at: rest.at }),

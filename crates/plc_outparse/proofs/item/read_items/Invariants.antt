@@ -8,5 +8,5 @@ use Rattle.plc_outparse.proofs.item.read_items.Given as goal
 abbrev pub invariant-loop : goal.invariant-loop
 invariant-loop l = record {
   place : Within l.fn.start l.rest;
-  read : repeated_in place_of_parts item_head_of (item_in l.scope l.ops l.by_op) (length l.start.tokens.now - l.counter) (l.parts.invariants, l.parts.items, l.rest.at) (kinds l.rest.tokens.now) ≡ items_in l.fn.scope l.fn.ops l.fn.by_op (l.fn.parts.invariants, l.fn.parts.items, l.fn.start.at) (kinds l.fn.start.tokens.now);
+  read : repeated_in place_of_parts item_head_of (item_in l.context.scope.now l.context.ops.now l.context.by_op.now) (length l.start.tokens.now - l.counter) (l.parts.invariants, l.parts.items, l.rest.at) (kinds l.rest.tokens.now) ≡ items_in l.fn.context.scope.now l.fn.context.ops.now l.fn.context.by_op.now (l.fn.parts.invariants, l.fn.parts.items, l.fn.start.at) (kinds l.fn.start.tokens.now);
 }

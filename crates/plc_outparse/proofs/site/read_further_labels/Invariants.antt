@@ -9,5 +9,5 @@ use Rattle.plc_outparse.proofs.site.read_further_labels.Given as goal
 abbrev pub invariant-loop : goal.invariant-loop
 invariant-loop l = record {
   place : Within l.fn.start l.rest;
-  read : repeated_in place_of_list comma_name_of (judged (label_step l.scope l.by_op l.op)) (length l.start.tokens.now - l.counter) (l.labels, l.rest.at) (kinds l.rest.tokens.now) ≡ labels_in l.fn.scope l.fn.by_op l.fn.op (l.fn.labels, l.fn.start.at) (kinds l.fn.start.tokens.now);
+  read : repeated_in place_of_list comma_name_of (judged (label_step l.context.scope.now l.context.by_op.now l.op)) (length l.start.tokens.now - l.counter) (l.labels, l.rest.at) (kinds l.rest.tokens.now) ≡ labels_in l.fn.context.scope.now l.fn.context.by_op.now l.fn.op (l.fn.labels, l.fn.start.at) (kinds l.fn.start.tokens.now);
 }
