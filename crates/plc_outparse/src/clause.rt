@@ -17,14 +17,14 @@ use crate::form::{LiteralForm, Parsed, Quantified};
 use crate::literal_form::{literal_at, or_literal_at, quantified_at};
 use crate::reach::{Reach, declared_kind};
 use crate::term::literal;
-use plc_base::{Items, MOST_BOUND, Names, What1};
+use plc_base::{Items, MOST_BOUND, NameFault, Names, What1};
 use plc_forms::{Rest, semicolon_at};
 use plc_lang::Local;
 use plc_logic::{Clause, Literal};
 use plc_scope::{ParseFault, Scope};
 use std::alloc::Global;
 
-// A name that differs from all before. There is room for it, so once it is new only memory may run out.
+// A name that differs from all before.
 fn add_name(names: &mut Names, name: &[u8], at: u32) -> Result<(), ParseFault>
     requires { HasRoomForBound names.old 1 }
     ensures read { Gives (λ _. names.new) result
@@ -32,12 +32,11 @@ fn add_name(names: &mut Names, name: &[u8], at: u32) -> Result<(), ParseFault>
     ensures room { IfOk result (λ _. HasRoomForBound names.new 0) }
     ensures more { HasRoomForBound names.old 2 → IfOk result (λ _. HasRoomForBound names.new 1) }
 {
-    if names.find(name).is_some() {
-        return Err(ParseFault::Duplicate { at });
-    }
     match names.add(name) {
         Ok(_) => Ok(()),
-        Err(_) => Err(ParseFault::Memory),
+        Err(NameFault::Duplicate { .. }) => Err(ParseFault::Duplicate { at }),
+        Err(NameFault::Full { .. }) => unreachable!(),
+        Err(NameFault::Memory) => Err(ParseFault::Memory),
     }
 }
 
