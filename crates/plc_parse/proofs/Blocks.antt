@@ -75,7 +75,7 @@ initials_read s at is rest = forms_read initial_line_of (initial_means s) initia
 
 -- ---- statements
 
--- a block before those of a choice behind it, and the choice of them
+-- a block before those of a choice after it, and the choice of them
 abbrev with_block : Statements → (Blocks × Scope × ℕ) × List TokenKind → ReadTo (Blocks × Scope × ℕ)
 with_block x o = Ok ((And x o.0.0, o.0.1, o.0.2), o.1)
 

@@ -83,7 +83,7 @@ primitive_begins (ActivePrimitive n) rest = record { no_loop = refl; no_choose =
 primitive_begins (AssumePrimitive t) rest = record { no_loop = refl; no_choose = refl; no_if = refl; no_break = refl; no_return = refl; no_label = refl; no_atomic = refl; no_call = refl }
 primitive_begins SkipPrimitive rest = record { no_loop = refl; no_choose = refl; no_if = refl; no_break = refl; no_return = refl; no_label = refl; no_atomic = refl; no_call = refl }
 
--- ---- the parts of a file, each with those behind it
+-- ---- the parts of a file, each with those after it
 
 abbrev pub outline_end : Option OutlineTree → List TokenKind
 outline_end outlined = maybe_then outline_then outlined []
@@ -100,7 +100,7 @@ ghosts_end ghosts starts ops outlined = each_then ghost_then ghosts (starts_end 
 abbrev pub watched_end : Option WatchTree → List GhostTree → Option (List InitialTree) → List OpTree → Option OutlineTree → List TokenKind
 watched_end watched ghosts starts ops outlined = maybe_then watch_then watched (ghosts_end ghosts starts ops outlined)
 
--- a form that begins with none of the words of the parts behind it stands nowhere there
+-- a form that begins with none of the words of the parts after it stands nowhere there
 module _ {X : Type 0} (item : List TokenKind → Option X) (nothing : item [] ≡ None) (no_outline : (ts : List TokenKind) → item (Word Outline ∷ ts) ≡ None) where
   pub not_at_outline : (outlined : Option OutlineTree) → item (outline_end outlined) ≡ None
   not_at_outline None = nothing

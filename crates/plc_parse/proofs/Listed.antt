@@ -33,7 +33,7 @@ module _ {H X Y : Type 0} (head : List TokenKind → Option (H × List TokenKind
     (begins : (x : X) (rest : List TokenKind) → head (x_then x rest) ≡ Some (front x, behind_front x rest))
     (reads : (s : Scope) (n at : ℕ) (x : X) (rest : List TokenKind) → body s n at (front x) (behind_front x rest) ≡ (means s n at x >>= λ r. Ok (r, rest)))
     (is_limit : (s : Scope) (at : ℕ) (x : X) → IsFault (means s limit at x)) where
-  -- behind what was declared before
+  -- after what was declared before
   abbrev behind : List Y → List TokenKind → Result (List Y × Scope × ℕ) ParseFault → ReadTo (List Y × Scope × ℕ)
   behind ys rest r = r >>= λ others. Ok ((ys ++ others.0, others.1, others.2), rest)
 

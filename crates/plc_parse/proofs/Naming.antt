@@ -177,7 +177,7 @@ module _ (h : Shape) (s : Scope) (r : Reaches h s) where
 -- ---- primitives of one step
 
 module _ (h : Shape) where
-  -- and the place behind them
+  -- and the place after them
   abbrev FormsIn : List Primitive × ℕ → Type 0
   FormsIn b = PrimitivesIn h b.0
 
@@ -199,7 +199,7 @@ module _ (h : Shape) where
 
 -- ---- statements
 
--- what was read names what is there, and so does what is in reach behind it
+-- what was read names what is there, and so does what is in reach after it
 record StatementRead (h : Shape) {Y : Type 0} (P : Y → Type 0) (r : Y × Scope × ℕ) : Type 0 where
   is : P r.0
   reaches : Reaches h r.1
@@ -268,7 +268,7 @@ module _ (lines : List ℕ) (h : Shape) where
 
 -- ---- locals
 
--- this holds of all that names stand for, and the place behind it
+-- this holds of all that names stand for, and the place after it
 abbrev pub BoundBehind : (Binding → Type 0) → Scope × ℕ → Type 0
 BoundBehind P b = Bound P b.0
 
@@ -310,7 +310,7 @@ module _ (fields : ℕ) where
   shared_in s n at name r = one_name Free (HasShared fields) n limits.Shared s name (at + 1) _ _ _ tt (λ few.
       declared_reaches (outside (n + 1) fields) s name (at + 1) (Shared n) (omega arith) (reaches_more n fields (n + 1) fields s (omega arith) (omega arith) r))
 
--- behind the shared pointers the state stays
+-- after the shared pointers the state stays
 module _ (shared fields : ℕ) where
   abbrev h : Shape
   h = outside shared fields
@@ -359,7 +359,7 @@ module _ (shared fields : ℕ) where
 
 -- ---- the file
 
--- and the place behind it
+-- and the place after it
 abbrev Watches : Observer × ℕ → Type 0
 Watches o = is_well_formed o.0 ≡ true
 

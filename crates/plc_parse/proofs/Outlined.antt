@@ -1,4 +1,4 @@
--- An outline that was read fits the file that it was read with: what the names in reach behind the operations stand for is there in the file.
+-- An outline that was read fits the file that it was read with: what the names in reach after the operations stand for is there in the file.
 use Rattle.std.proofs.Common.{◌≡◌, ℕ, Option, Some, None, Result, Ok, Err, [], refl, arith}
 use Rattle.std.proofs.lemmas.List.Elements.{All-nil}
 use Rattle.plc_lang.specs.declared.syntax.File.{File}

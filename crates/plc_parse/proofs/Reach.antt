@@ -127,7 +127,7 @@ module _ (h : Shape) where
   outside_in LocalOnly is = tt
   outside_in b is = is
 
-  -- a local, or one behind it
+  -- a local, or one after it
   local_in : (p v others_p others_v others_d : ℕ) (ls : List Local) (i : ℕ) (same pointer param : Bool)
       → p + (cond pointer 1 0 + others_p) ≤ h.pointers → v + (cond param 1 0 + others_v + (cond (not pointer && not param) 1 0 + others_d)) ≤ h.values
       → ((q w : ℕ) → q + others_p ≤ h.pointers → w + (others_v + others_d) ≤ h.values → IfSome (role_inside q w ls i) (RoleIn h))

@@ -72,7 +72,7 @@ module _ (file : File) (kind : Primitive → Bool) where
     is : Maybe k
     one_new : (has_new && allocates k) ≡ false
 
-  -- those behind it
+  -- those after it
   pub record Step (has_new : Bool) (r : List Primitive × ℕ) : Type 0 where
     pub each : EachOf r.0
     pub one_new : count_by is_new r.0 + cond has_new 1 0 ≤ 1
@@ -102,7 +102,7 @@ module _ (file : File) (kind : Primitive → Bool) where
 
 -- ---- statements
 
--- what was read is well sorted, and what is in reach behind it is there
+-- what was read is well sorted, and what is in reach after it is there
 pub record StatementRead (file : File) {Y : Type 0} (P : Y → Type 0) (r : Y × Scope × ℕ) : Type 0 where
   pub is : P r.0
   pub there : AllThere (lists_of file) r.1
@@ -276,7 +276,7 @@ module _ (d : Lists) where
   abbrev pub OpSorted : Op → Type 0
   OpSorted o = (w : With d) → OpIsWellSorted w.0 o
 
-  -- behind these operations
+  -- after these operations
   pub record BehindOps (ops : List Op) (s : Scope) : Type 0 where
     pub there : AllThere d s
     pub locals : s.locals ≡ []
@@ -285,7 +285,7 @@ module _ (d : Lists) where
   abbrev pub OneOp : List Op → Op × Scope × ℕ → Type 0
   OneOp = OneOn OpSorted BehindOps
 
-  -- its statements in each file, and what is behind them
+  -- its statements in each file, and what is after them
   record Body (from : Scope) (r : Statements × Scope × ℕ) : Type 0 where
     sorted : (w : With d) → StatementsAreWellSorted w.0 false r.0
     there : AllThere d r.1
@@ -304,7 +304,7 @@ module _ (d : Lists) where
   no_locals : (t : Scope) → t.locals ≡ [] → Heads t t
   no_locals t e = record { all = rw e refl; others = rw e refl; data_alone = rw e refl; labels = refl }
 
-  -- the locals that were declared, and what names stand for behind them
+  -- the locals that were declared, and what names stand for after them
   record LocalsRead (from : Scope) (r : Scope × ℕ) : Type 0 where
     headed : HeadedBehind from r
     there : AllThere d r.0

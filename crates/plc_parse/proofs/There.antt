@@ -148,7 +148,7 @@ pub value_there : (s : Scope) (g k at : ℕ) (name : Text) → Has (ValueThere s
 value_there s g k at name = next (Named s (Value g k)) (ValueThere s g k) (declared s name at (Value g k)) _ (named s name at (Value g k)) (λ t f.
     unless (ValueThere s g k) (k == most limits.Values) _ _ (λ few. record { keeps = f.keeps; there = λ d h there less before. f.there d (h, there, less) before }))
 
--- the values behind the first k
+-- the values after the first k
 pub record ValuesThere (s : Scope) (g k : ℕ) (r : List ℕ × Scope × ℕ) : Type 0 where
   pub keeps : KeepsLists s r.1
   pub there : (d : Lists) (h : Ghost) → GhostThere d g h → k + length r.0 ≤ length h.values → AllThere d s → AllThere d r.1

@@ -1,4 +1,4 @@
--- How many statements stand behind and within one another: no more than there are tokens.
+-- How many statements stand after and within one another: no more than there are tokens.
 use Rattle.std.proofs.Common.{ℕ, ◌+◌, ◌<◌, ◌≤◌, Bool, true, false, List, [], ◌∷◌, length, Option, Some, None, arith}
 use Rattle.plc_lex.specs.declared.token.TokenKind.{TokenKind}
 use Rattle.plc_lex.specs.declared.token.TokenKind.TheVariants.{Word, Symbol}

@@ -32,7 +32,7 @@ use Rattle.plc_parse.proofs.Outlined.{outlined_fits}
 
 -- ---- the observer and `init`
 
--- an observer's functions are there; and the place behind it
+-- an observer's functions are there; and the place after it
 abbrev IsWatched : Lists → Observer → Type 0
 IsWatched d Plain = Unit {0}
 IsWatched d (Hazard f) = IsProtecting d f

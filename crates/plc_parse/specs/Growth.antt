@@ -5,6 +5,7 @@ use Rattle.plc_base.specs.Limits.{most}
 use Rattle.plc_forms.specs.declared.rest.Rest.{Rest}
 use Rattle.plc_scope.specs.declared.scope.Scope.{Scope}
 use Rattle.plc_scope.specs.Scope.{most_locals}
+use Rattle.plc_scope.specs.Answers.{GrowsBy, GrowsByLocals, Within}
 
 -- of so many tokens, this is left
 pub record IsLeftOf (total : ℕ) (rest : Rest) : Type 0 where
@@ -14,6 +15,26 @@ pub record IsLeftOf (total : ℕ) (rest : Rest) : Type 0 where
 pub record KeepsLists (old new : Scope) : Type 0 where
   pub locals : new.locals ≡ old.locals
   pub labels : new.labels ≡ old.labels
+
+-- at most so many names were declared, none of which is a local's or a label's
+pub record AddsNames (old new : Scope) (count : ℕ) : Type 0 where
+  pub names : GrowsBy old new count
+  pub lists : KeepsLists old new
+
+-- names were, and what is left ends where that before ended
+pub record AddsNamesWithin (old new : Scope) (count : ℕ) (before after : Rest) : Type 0 where
+  pub declares : AddsNames old new count
+  pub place : Within before after
+
+-- locals were declared, and no label
+pub record AddsLocals (old new : Scope) : Type 0 where
+  pub names : GrowsByLocals old new
+  pub labels : new.labels ≡ old.labels
+
+-- locals were, and what is left ends where that before ended
+pub record AddsLocalsWithin (old new : Scope) (before after : Rest) : Type 0 where
+  pub declares : AddsLocals old new
+  pub place : Within before after
 
 -- the names that an auxiliary field declares: its own, its values, and the one past their limit
 abbrev pub ghost_names : ℕ
@@ -40,11 +61,27 @@ pub record GrowsByLabels (old new : Scope) : Type 0 where
   pub names : length new.names.names + length old.labels ≤ length old.names.names + length new.labels
   pub limit : new.names.limit ≡ old.names.limit
 
+-- labels were, and what is left ends where that before ended
+pub record AddsLabelsWithin (old new : Scope) (before after : Rest) : Type 0 where
+  pub grows : GrowsByLabels old new
+  pub place : Within before after
+
+-- statements can be read: labels can be declared, and this is left of so many tokens
+pub record CanReadBlock (total : ℕ) (scope : Scope) (rest : Rest) : Type 0 where
+  pub room : CanLabel scope
+  pub place : IsLeftOf total rest
+
+-- statements were read: labels were declared, and this is left of so many tokens
+pub record ReadsBlock (total : ℕ) (old new : Scope) (rest : Rest) : Type 0 where
+  pub grows : GrowsByLabels old new
+  pub place : IsLeftOf total rest
+
 -- the names that an operation declares beside its labels: its own and its locals
 abbrev pub op_names : ℕ
 op_names = most_locals + 1
 
--- an operation can be read: there is room for its names, all labels and one past them, and locals of none before are in reach
+-- an operation can be read: there is room for its names, all labels and one past them, and locals of none before are
+-- in reach
 pub record CanOperate (scope : Scope) : Type 0 where
   pub locals : scope.locals ≡ []
   pub labels : length scope.labels ≤ most_labels

@@ -5,5 +5,6 @@ pub mod Fit
 -- words of private functions alone
 pub mod Reading
 pub mod Growth
+pub mod Views
 pub mod Turns
 pub mod Front

@@ -1,6 +1,8 @@
--- What the trees of a file mean. A tree stands at a place, the number of tokens before it; what it means comes with the place behind it.
+-- What the trees of a file mean. A tree stands at a place, the number of tokens before it; what it means comes with
+-- the place after it.
 -- Each name is looked up where it stands, from left to right, so the first fault is the one at the least token.
-use Rattle.std.specs.Prelude.{◌&&◌, ◌||◌, ◌+◌, ℕ, Bool, true, false, if◌then◌else◌, List, [], ◌∷◌, length, get_or, Option, Some, None, Result, Ok, Err}
+use Rattle.std.specs.Prelude.{◌&&◌, ◌||◌, ◌+◌, ℕ, Bool, true, false, if◌then◌else◌, List, [], ◌∷◌, length, get_or}
+use Rattle.std.specs.Prelude.{Option, Some, None, Result, Ok, Err}
 use Rattle.plc_base.specs.declared.limits.What1.TheVariants as limits
 use Rattle.plc_base.specs.Limits.{most}
 use Rattle.plc_lang.specs.declared.syntax.Primitive.{Primitive}
@@ -10,16 +12,26 @@ use Rattle.plc_lang.specs.declared.syntax.Op.{Op}
 use Rattle.plc_lang.specs.declared.syntax.Field.{Field}
 use Rattle.plc_lang.specs.declared.syntax.Func.{Func}
 use Rattle.plc_lang.specs.declared.syntax.Ghost.{Ghost}
-use Rattle.plc_lang.specs.Statements.{Statement, One, Atomic, Call, If, Choose, Loop, Break, Return, Skip, Label, Statements, Empty, Then, Blocks, NoBlock, And}
+use Rattle.plc_lang.specs.Statements.{Statement, One, Atomic, Call, If, Choose, Loop, Break, Return, Skip, Label}
+use Rattle.plc_lang.specs.Statements.{Statements, Empty, Then, Blocks, NoBlock, And}
 use Rattle.plc_auto.specs.declared.observer.Observer.{Observer}
 use Rattle.plc_auto.specs.declared.observer.Observer.TheVariants.{Plain, Hazard, Epoch}
-use Rattle.plc_syntax.specs.Trees.{Text, FieldTree, PointerField as PointerFieldTree, DataField as DataFieldTree, FunctionTree, Declares, WatchTree, UseHazard, UseEpoch, OneOf, OfThreads, GhostTree, Auxiliary as AuxiliaryTree, InitialTree, PrimitiveTree, StatementTree, PrimitiveStatement, AtomicStatement, CallStatement, IfStatement, ChooseStatement, LoopStatement, BreakStatement, ReturnStatement, LabelStatement, BlockTree, NoStatement, Then as ThenStatement, ElseTree, NoElse, ElseBlock, OrTree, NoOr, OrBlock, OpTree, Operates, OutlineTree, FileTree}
-use Rattle.plc_forms.specs.Sizes.{initial_size, primitive_size, condition_size, call_size, during_size, function_size, watch_size}
+use Rattle.plc_syntax.specs.Trees.{Text, FieldTree, PointerField as PointerFieldTree, DataField as DataFieldTree}
+use Rattle.plc_syntax.specs.Trees.{FunctionTree, Declares, WatchTree, UseHazard, UseEpoch, OneOf, OfThreads, GhostTree}
+use Rattle.plc_syntax.specs.Trees.{Auxiliary as AuxiliaryTree, InitialTree, PrimitiveTree, StatementTree}
+use Rattle.plc_syntax.specs.Trees.{PrimitiveStatement, AtomicStatement, CallStatement, IfStatement, ChooseStatement}
+use Rattle.plc_syntax.specs.Trees.{LoopStatement, BreakStatement, ReturnStatement, LabelStatement, BlockTree}
+use Rattle.plc_syntax.specs.Trees.{NoStatement, Then as ThenStatement, ElseTree, NoElse, ElseBlock, OrTree, NoOr}
+use Rattle.plc_syntax.specs.Trees.{OrBlock, OpTree, Operates, OutlineTree, FileTree}
+use Rattle.plc_forms.specs.Sizes.{initial_size, primitive_size, condition_size, call_size, during_size, function_size}
+use Rattle.plc_forms.specs.Sizes.{watch_size}
 use Rattle.plc_scope.specs.declared.fault.ParseFault.{ParseFault}
 use Rattle.plc_scope.specs.declared.fault.ParseFault.TheVariants as faults
 use Rattle.plc_scope.specs.declared.scope.Scope.{Scope}
-use Rattle.plc_scope.specs.declared.binding.Binding.TheVariants.{Taken, Shared, PointerField, DataField, Function, Auxiliary, Value}
-use Rattle.plc_scope.specs.Scope.{◌>>=◌, first_scope, declared, declared_label, declared_local, declared_parameter, without_locals, protecting_at, without_pointer_at}
+use Rattle.plc_scope.specs.declared.binding.Binding.TheVariants.{Taken, Shared, PointerField, DataField, Function}
+use Rattle.plc_scope.specs.declared.binding.Binding.TheVariants.{Auxiliary, Value}
+use Rattle.plc_scope.specs.Scope.{◌>>=◌, first_scope, declared, declared_label, declared_local, declared_parameter}
+use Rattle.plc_scope.specs.Scope.{without_locals, protecting_at, without_pointer_at}
 use Rattle.plc_scope.specs.Limits.{within_limit, stands_at}
 use Rattle.plc_scope.specs.Primitives.{primitive_means, initial_means, condition_means, call_means}
 use Rattle.plc_logic.specs.declared.clause.Outline.{Outline}
@@ -28,10 +40,13 @@ use Rattle.plc_parse.specs.declared.unit.Unit.{Unit as FileUnit}
 
 -- ---- atomic blocks and `init`
 
--- one primitive more, with the number of those before and whether one of them allocates: at most 64, and one `new`, whose place is the word
+-- one primitive more, with the number of those before and whether one of them allocates: at most 64, and one `new`,
+-- whose place is the word
 abbrev pub counted : ℕ → Bool → ℕ → Result (Option Primitive) ParseFault → Result (Option Primitive) ParseFault
 counted n has_new at (Ok None) = Ok None
-counted n has_new at (Ok (Some k)) = within_limit n limits.Prims (if has_new && is_new k then Err (faults.Limit limits.News (most limits.News + 1)) else Ok (Some k))
+counted n has_new at (Ok (Some k)) =
+    within_limit n limits.Prims
+    (if has_new && is_new k then Err (faults.Limit limits.News (most limits.News + 1)) else Ok (Some k))
 counted n has_new at (Err e) = if stands_at at e then Err e else within_limit n limits.Prims (Err e)
 
 -- how many primitives a form is
@@ -49,8 +64,9 @@ abbrev pub before : Option Primitive → List Primitive → List Primitive
 before None ks = ks
 before (Some k) ks = k ∷ ks
 
--- forms in order, each with its semicolon; and the place behind the last
-abbrev pub forms_mean : {X : Type 0} → (ℕ → X → Result (Option Primitive) ParseFault) → (X → ℕ) → ℕ → Bool → ℕ → List X → Result (List Primitive × ℕ) ParseFault
+-- forms in order, each with its semicolon; and the place after the last
+abbrev pub forms_mean : {X : Type 0} → (ℕ → X → Result (Option Primitive) ParseFault) → (X → ℕ) → ℕ → Bool → ℕ → List X
+    → Result (List Primitive × ℕ) ParseFault
 forms_mean means size n has_new at [] = Ok ([], at)
 forms_mean means size n has_new at (x ∷ xs) = do
   k ← counted n has_new at (means at x)
@@ -76,20 +92,20 @@ abbrev pub one_or_skip : Option Primitive → Statement
 one_or_skip None = Skip
 one_or_skip (Some k) = One k
 
--- a label behind the word before it has the number of those before
+-- a label after the word before it has the number of those before
 abbrev pub label_means : Scope → ℕ → Text → Result (ℕ × Scope) ParseFault
 label_means s at n = within_limit (length s.labels) limits.Labels (do
   t ← declared_label s n (at + 1)
   Ok (length s.labels, t))
 
--- the label of a call, behind "during"
+-- the label of a call, after "during"
 abbrev pub during_means : Scope → ℕ → Option Text → Result (Option ℕ × Scope) ParseFault
 during_means s at None = Ok (None, s)
 during_means s at (Some n) = do
   l ← label_means s at n
   Ok (Some l.0, l.1)
 
--- a statement within a loop or not, and blocks of statements; labels stay declared behind them
+-- a statement within a loop or not, and blocks of statements; labels stay declared after them
 abbrev mutual
   pub statement_means : List ℕ → Scope → Bool → ℕ → StatementTree → Result (Statement × Scope × ℕ) ParseFault
   statement_means lines s in_loop at (PrimitiveStatement p) = do
@@ -137,7 +153,7 @@ abbrev mutual
     x ← statements_mean lines s in_loop (at + 2) b
     Ok (x.0, x.1, x.2 + 1)
 
-  -- the blocks of a choice behind its second
+  -- the blocks of a choice after its second
   pub or_means : List ℕ → Scope → Bool → ℕ → OrTree → Result (Blocks × Scope × ℕ) ParseFault
   or_means lines s in_loop at NoOr = Ok (NoBlock, s, at)
   or_means lines s in_loop at (OrBlock b os) = do
@@ -166,15 +182,20 @@ shared_means s n at name = within_limit n limits.Shared (do
 abbrev pub function_means : Scope → ℕ → ℕ → FunctionTree → Result (Func × Scope × ℕ) ParseFault
 function_means s n at (Declares name takes_pointer) = within_limit n limits.Calls (do
   t ← declared s name (at + 1) (Function (record { 0 = n + 1 }) takes_pointer)
-  Ok (record { name = length s.names.names; pointer = takes_pointer }, t, at + function_size (Declares name takes_pointer)))
+  Ok (
+    record { name = length s.names.names; pointer = takes_pointer },
+    t,
+    at + function_size (Declares name takes_pointer),
+  ))
 
--- a value of auxiliary field g, with k before it; it is its name alone, so a name that is there is the fault before the limit
+-- a value of auxiliary field g, with k before it; it is its name alone, so a name that is there is the fault before
+-- the limit
 abbrev pub value_means : Scope → ℕ → ℕ → ℕ → Text → Result (ℕ × Scope) ParseFault
 value_means s g k at name = do
   t ← declared s name at (Value g k)
   within_limit k limits.Values (Ok (length s.names.names, t))
 
--- the values behind the first, each behind its comma; and the place behind the last
+-- the values after the first, each after its comma; and the place after the last
 abbrev pub values_mean : Scope → ℕ → ℕ → ℕ → List Text → Result (List ℕ × Scope × ℕ) ParseFault
 values_mean s g k at [] = Ok ([], s, at)
 values_mean s g k at (name ∷ names) = do
@@ -193,8 +214,9 @@ ghost_means s n at (AuxiliaryTree name (OneOf v vs)) = within_limit n limits.Gho
   others ← values_mean first.1 n 1 (at + 4) vs
   Ok (record { name = length s.names.names; values = first.0 ∷ others.0 }, others.1, others.2 + 2))
 
--- declarations of one kind in order, each with the number of those before; and the place behind the last
-abbrev pub listed : {X Y : Type 0} → (Scope → ℕ → ℕ → X → Result (Y × Scope × ℕ) ParseFault) → Scope → ℕ → ℕ → List X → Result (List Y × Scope × ℕ) ParseFault
+-- declarations of one kind in order, each with the number of those before; and the place after the last
+abbrev pub listed : {X Y : Type 0} → (Scope → ℕ → ℕ → X → Result (Y × Scope × ℕ) ParseFault) → Scope → ℕ → ℕ → List X
+    → Result (List Y × Scope × ℕ) ParseFault
 listed means s n at [] = Ok ([], s, at)
 listed means s n at (x ∷ xs) = do
   first ← means s n at x
@@ -221,14 +243,14 @@ init_means s at (Some is) = do
 
 -- ---- operations
 
--- the parameters behind the first, each behind its comma; and the place behind the last
+-- the parameters after the first, each after its comma; and the place after the last
 abbrev pub others_mean : Scope → ℕ → List Text → Result (Scope × ℕ) ParseFault
 others_mean s at [] = Ok (s, at)
 others_mean s at (name ∷ names) = do
   t ← declared_parameter s name (at + 1)
   others_mean t (at + 2) names
 
--- parameters, parted by commas: the place behind the last
+-- parameters, parted by commas: the place after the last
 abbrev pub parameters_mean : Scope → ℕ → List Text → Result (Scope × ℕ) ParseFault
 parameters_mean s at [] = Ok (s, at)
 parameters_mean s at (name ∷ names) = do
@@ -247,14 +269,18 @@ locals_mean s at (l ∷ ls) = do
   t ← local_means s at l
   locals_mean t (at + 3) ls
 
--- an operation: its name, its parameters behind "(", its locals behind ")" and "{", its statements, and "}"
+-- an operation: its name, its parameters after "(", its locals after ")" and "{", its statements, and "}"
 abbrev pub op_means : List ℕ → Scope → ℕ → ℕ → OpTree → Result (Op × Scope × ℕ) ParseFault
 op_means lines s n at (Operates name parameters locals body) = within_limit n limits.Ops (do
   t ← declared s name (at + 1) Taken
   p ← parameters_mean t (at + 3) parameters
   l ← locals_mean p.0 (p.1 + 2) locals
   b ← statements_mean lines l.0 false l.1 body
-  Ok (record { name = length s.names.names; locals = l.0.locals; body = b.0; line = line_at lines at }, without_locals b.1, b.2 + 1))
+  Ok (
+    record { name = length s.names.names; locals = l.0.locals; body = b.0; line = line_at lines at },
+    without_locals b.1,
+    b.2 + 1,
+  ))
 
 -- ---- the outline
 
@@ -262,7 +288,7 @@ op_means lines s n at (Operates name parameters locals body) = within_limit n li
 abbrev pub empty_outline : Outline
 empty_outline = record { depth = 0; invariants = []; items = [] }
 
--- the outline behind the operations, in the scope that they leave
+-- the outline after the operations, in the scope that they leave
 abbrev pub outlined_means : Scope → List Op → ℕ → Option OutlineTree → Result Outline ParseFault
 outlined_means s ops at None = Ok empty_outline
 outlined_means s ops at (Some t) = do
@@ -275,7 +301,8 @@ outlined_means s ops at (Some t) = do
 abbrev pub retire : Func
 retire = record { name = 0; pointer = true }
 
--- a file of its parts: `retire` stands before the functions that it declares, and the names and labels are those in reach at its end
+-- a file of its parts: `retire` stands before the functions that it declares, and the names and labels are those in
+-- reach at its end
 abbrev pub file_from : List Field → List ℕ → List Func → List Ghost → List Primitive → List Op → Scope → File
 file_from fields pointers functions ghosts starts ops end = record {
   names = end.names;
@@ -300,4 +327,8 @@ file_means lines f = do
   starts ← init_means ghosts.1 ghosts.2 f.starts
   ops ← listed (op_means lines) ghosts.1 0 starts.1 f.ops
   outline ← outlined_means ops.1 ops.0 ops.2 f.outlined
-  Ok (record { file = file_from fields.0 pointers.0 functions.0 ghosts.0 starts.0 ops.0 ops.1; observer = observer.0; outline = outline })
+  Ok (record {
+    file = file_from fields.0 pointers.0 functions.0 ghosts.0 starts.0 ops.0 ops.1;
+    observer = observer.0;
+    outline = outline;
+  })

@@ -1,6 +1,8 @@
--- A file's meaning, read off its tokens from left to right: what the program does, as a function on lists. Where a file's tokens could not go on as they do
--- the answer is a fault of syntax, which no contract rests on. The trees' meaning is what is read of their tokens (`proofs/Law.antt`).
-use Rattle.std.specs.Prelude.{◌≡◌, ◌+◌, ℕ, zero, suc, Bool, true, false, ◌||◌, Option, Some, None, Result, Ok, Err, List, [], ◌∷◌, ◌++◌, length}
+-- A file's meaning, read off its tokens from left to right: what the program does, as a function on lists. Where a
+-- file's tokens could not go on as they do the answer is a fault of syntax, which no contract rests on. The trees'
+-- meaning is what is read of their tokens (`proofs/Law.antt`).
+use Rattle.std.specs.Prelude.{◌≡◌, ◌+◌, ℕ, zero, suc, Bool, true, false, ◌||◌, Option, Some, None, Result, Ok, Err}
+use Rattle.std.specs.Prelude.{List, [], ◌∷◌, ◌++◌, length}
 use Rattle.plc_base.specs.declared.limits.What1.TheVariants as limits
 use Rattle.plc_base.specs.Limits.{most}
 use Rattle.plc_lex.specs.declared.token.TokenKind.{TokenKind}
@@ -10,7 +12,8 @@ use Rattle.plc_lang.specs.declared.syntax.Field.{Field}
 use Rattle.plc_lang.specs.declared.syntax.Func.{Func}
 use Rattle.plc_lang.specs.declared.syntax.Ghost.{Ghost}
 use Rattle.plc_lang.specs.declared.syntax.Op.{Op}
-use Rattle.plc_lang.specs.Statements.{Statement, Atomic, Call, If, Choose, Loop, Break, Return, Label, Statements, Empty, Then, Blocks, NoBlock, And}
+use Rattle.plc_lang.specs.Statements.{Statement, Atomic, Call, If, Choose, Loop, Break, Return, Label, Statements}
+use Rattle.plc_lang.specs.Statements.{Empty, Then, Blocks, NoBlock, And}
 use Rattle.plc_auto.specs.declared.observer.Observer.{Observer}
 use Rattle.plc_auto.specs.declared.observer.Observer.TheVariants.{Plain}
 use Rattle.plc_syntax.specs.Syntax.{kinds}
@@ -19,7 +22,10 @@ use Rattle.plc_forms.specs.Views.{Behind}
 use Rattle.plc_scope.specs.Answers.{Gives}
 use Rattle.plc_lex.specs.declared.token.Keyword.TheVariants as words
 use Rattle.plc_lex.specs.declared.token.Symbol.TheVariants as symbols
-use Rattle.plc_forms.specs.Forms.{word_symbol_of, struct_of, field_of, shared_of, function_of, watch_of, ghost_of, thread_of, first_value_of, values_end_of, init_of, initial_line_of, head_of, name_of, comma_name_of, opening_of, closing_of, semicolon_of, condition_of, label_of, call_of, during_of, primitive_line_of}
+use Rattle.plc_forms.specs.Forms.{word_symbol_of, struct_of, field_of, shared_of, function_of, watch_of, ghost_of}
+use Rattle.plc_forms.specs.Forms.{thread_of, first_value_of, values_end_of, init_of, initial_line_of, head_of, name_of}
+use Rattle.plc_forms.specs.Forms.{comma_name_of, opening_of, closing_of, semicolon_of, condition_of, label_of, call_of}
+use Rattle.plc_forms.specs.Forms.{during_of, primitive_line_of}
 use Rattle.plc_forms.specs.Sizes.{initial_size, primitive_size, condition_size, call_size, during_size}
 use Rattle.plc_scope.specs.declared.fault.ParseFault.{ParseFault}
 use Rattle.plc_scope.specs.declared.fault.ParseFault.TheVariants as faults
@@ -32,22 +38,27 @@ use Rattle.plc_logic.specs.declared.clause.Outline.{Outline}
 use Rattle.plc_outparse.specs.Reading.{outline_in}
 use Rattle.plc_parse.specs.declared.unit.Unit.{Unit as FileUnit}
 use Rattle.plc_scope.specs.Limits.{within_limit}
-use Rattle.plc_parse.specs.Meaning.{counted, allocates, before, line_at, one_or_skip, label_means, during_means, field_means, shared_means, function_means, value_means, watch_means, local_means, empty_outline, file_from}
+use Rattle.plc_parse.specs.Meaning.{counted, allocates, before, line_at, one_or_skip, label_means, during_means}
+use Rattle.plc_parse.specs.Meaning.{field_means, shared_means, function_means, value_means, watch_means, local_means}
+use Rattle.plc_parse.specs.Meaning.{empty_outline, file_from}
 
 -- ---- forms that follow one another
 
--- where a form stands it is judged, and what is behind it is read next
-abbrev pub go_on : {S X : Type 0} → (S → List TokenKind → ReadTo S) → (S → X → Result S ParseFault) → S → List TokenKind → Option (X × List TokenKind) → ReadTo S
+-- where a form stands it is judged, and what is after it is read next
+abbrev pub go_on : {S X : Type 0} → (S → List TokenKind → ReadTo S) → (S → X → Result S ParseFault) → S
+    → List TokenKind → Option (X × List TokenKind) → ReadTo S
 go_on next step s ts None = Ok (s, ts)
 go_on next step s ts (Some x) = step s x.0 >>= λ t. next t x.1
 
 -- at most so many forms
-abbrev pub each_within : {S X : Type 0} → (List TokenKind → Option (X × List TokenKind)) → (S → X → Result S ParseFault) → ℕ → S → List TokenKind → ReadTo S
+abbrev pub each_within : {S X : Type 0} → (List TokenKind → Option (X × List TokenKind))
+    → (S → X → Result S ParseFault) → ℕ → S → List TokenKind → ReadTo S
 each_within item step zero s ts = Ok (s, ts)
 each_within item step (suc n) s ts = go_on (λ t us. each_within item step n t us) step s ts (item ts)
 
--- each form in turn while there is one, over a state that goes on; then the tokens behind
-unfoldable pub each : {S X : Type 0} → (List TokenKind → Option (X × List TokenKind)) → (S → X → Result S ParseFault) → S → List TokenKind → ReadTo S
+-- each form in turn while there is one, over a state that goes on; then the tokens after
+unfoldable pub each : {S X : Type 0} → (List TokenKind → Option (X × List TokenKind)) → (S → X → Result S ParseFault)
+    → S → List TokenKind → ReadTo S
 each item step s ts = each_within item step (length ts) s ts
 
 -- what is read where a form stands, else something else
@@ -67,22 +78,29 @@ added ys read = do
   r ← read
   Ok (with_listed ys r.0, r.1)
 
--- where a declaration begins it is read, and then those behind it
-abbrev pub listed_from : {H Y : Type 0} → (Scope → ℕ → ℕ → H → List TokenKind → ReadTo (Y × Scope × ℕ)) → (List Y × Scope × ℕ → List TokenKind → ReadTo (List Y × Scope × ℕ)) → List Y × Scope × ℕ → List TokenKind → Option (H × List TokenKind) → ReadTo (List Y × Scope × ℕ)
+-- where a declaration begins it is read, and then those after it
+abbrev pub listed_from : {H Y : Type 0} → (Scope → ℕ → ℕ → H → List TokenKind → ReadTo (Y × Scope × ℕ))
+    → (List Y × Scope × ℕ → List TokenKind → ReadTo (List Y × Scope × ℕ)) → List Y × Scope × ℕ → List TokenKind
+    → Option (H × List TokenKind) → ReadTo (List Y × Scope × ℕ)
 listed_from body next s ts None = Ok (s, ts)
 listed_from body next s ts (Some h) = body s.1 (length s.0) s.2 h.0 h.1 >>= λ r. next (with_listed s.0 r.0) r.1
 
 -- at most so many declarations
-unfoldable pub listed_within : {H Y : Type 0} → (List TokenKind → Option (H × List TokenKind)) → (Scope → ℕ → ℕ → H → List TokenKind → ReadTo (Y × Scope × ℕ)) → ℕ → List Y × Scope × ℕ → List TokenKind → ReadTo (List Y × Scope × ℕ)
+unfoldable pub listed_within : {H Y : Type 0} → (List TokenKind → Option (H × List TokenKind))
+    → (Scope → ℕ → ℕ → H → List TokenKind → ReadTo (Y × Scope × ℕ)) → ℕ → List Y × Scope × ℕ → List TokenKind
+    → ReadTo (List Y × Scope × ℕ)
 listed_within head body zero s ts = Ok (s, ts)
 listed_within head body (suc n) s ts = listed_from body (λ t us. listed_within head body n t us) s ts (head ts)
 
 -- the declaration past the limit is a fault, so no further one is read
-abbrev pub listed_in : {H Y : Type 0} → (List TokenKind → Option (H × List TokenKind)) → (Scope → ℕ → ℕ → H → List TokenKind → ReadTo (Y × Scope × ℕ)) → ℕ → Scope → ℕ → List TokenKind → ReadTo (List Y × Scope × ℕ)
+abbrev pub listed_in : {H Y : Type 0} → (List TokenKind → Option (H × List TokenKind))
+    → (Scope → ℕ → ℕ → H → List TokenKind → ReadTo (Y × Scope × ℕ)) → ℕ → Scope → ℕ → List TokenKind
+    → ReadTo (List Y × Scope × ℕ)
 listed_in head body limit s at ts = listed_within head body (limit + 1) ([], s, at) ts
 
 -- a declaration that was read as a whole
-abbrev pub judged : {X A : Type 0} → (Scope → ℕ → ℕ → X → Result A ParseFault) → Scope → ℕ → ℕ → X → List TokenKind → ReadTo A
+abbrev pub judged : {X A : Type 0} → (Scope → ℕ → ℕ → X → Result A ParseFault) → Scope → ℕ → ℕ → X → List TokenKind
+    → ReadTo A
 judged means s n at x ts = do
   r ← means s n at x
   Ok (r, ts)
@@ -101,23 +119,23 @@ functions_in s at ts = listed_in function_of (judged function_means) (most limit
 
 -- ---- auxiliary fields
 
--- a further value is the token behind its comma
+-- a further value is the token after its comma
 abbrev pub value_step : ℕ → List ℕ × Scope × ℕ → Text → Result (List ℕ × Scope × ℕ) ParseFault
 value_step g s name = do
   v ← value_means s.1 g (length s.0) (s.2 + 1) name
   Ok (s.0 ++ v.0 ∷ [], v.1, s.2 + 2)
 
--- the values behind the first
+-- the values after the first
 abbrev pub values_in : ℕ → List ℕ × Scope × ℕ → List TokenKind → ReadTo (List ℕ × Scope × ℕ)
 values_in g s ts = each comma_name_of (value_step g) s ts
 
--- one that holds a thread, from behind its semicolon
+-- one that holds a thread, from after its semicolon
 unfoldable pub of_threads_in : Scope → ℕ → ℕ → Text → List TokenKind → ReadTo (Ghost × Scope × ℕ)
 of_threads_in s n at name ts = do
   t ← declared s name (at + 1) (Auxiliary n true)
   Ok ((record { name = length s.names.names; values = [] }, t, at + 4), ts)
 
--- all values, from behind the first one's name
+-- all values, from after the first one's name
 unfoldable pub all_values_in : ℕ → Scope → ℕ → Text → List TokenKind → ReadTo (List ℕ × Scope × ℕ)
 all_values_in g s at name ts = do
   first ← value_means s g 0 at name
@@ -125,14 +143,14 @@ all_values_in g s at name ts = do
   behind ← wanted_at others.0.2 (values_end_of others.1)
   Ok ((others.0.0, others.0.1, others.0.2 + 2), behind)
 
--- one of values, from behind the first one's name
+-- one of values, from after the first one's name
 unfoldable pub of_values_in : Scope → ℕ → ℕ → Text → Text → List TokenKind → ReadTo (Ghost × Scope × ℕ)
 of_values_in s n at name value ts = do
   t ← declared s name (at + 1) (Auxiliary n false)
   vs ← all_values_in n t (at + 3) value ts
   Ok ((record { name = length s.names.names; values = vs.0.0 }, vs.0.1, vs.0.2), vs.1)
 
--- an auxiliary field behind its name
+-- an auxiliary field after its name
 unfoldable pub ghost_in : Scope → ℕ → ℕ → Text → List TokenKind → ReadTo (Ghost × Scope × ℕ)
 ghost_in s n at name ts = within_limit n limits.Ghosts
     (where_read (thread_of ts) (λ us. of_threads_in s n at name us)
@@ -145,27 +163,31 @@ ghosts_in s at ts = listed_in ghost_of ghost_in (most limits.Ghosts) s at ts
 
 -- ---- primitives that follow one another; a state has those before, whether one of them allocates, and the place
 
--- what a form at a place means, behind those before
-abbrev pub with_form : List Primitive → Bool → ℕ → Result (Option Primitive) ParseFault → Result (List Primitive × Bool) ParseFault
+-- what a form at a place means, after those before
+abbrev pub with_form : List Primitive → Bool → ℕ → Result (Option Primitive) ParseFault
+    → Result (List Primitive × Bool) ParseFault
 with_form ks has_new at m = do
   k ← counted (length ks) has_new at m
   Ok (ks ++ before k [], has_new || allocates k)
 
--- a form is judged, and its semicolon is the token behind it
-abbrev pub form_step : {X : Type 0} → (ℕ → X → Result (Option Primitive) ParseFault) → (X → ℕ) → List Primitive × Bool × ℕ → X → Result (List Primitive × Bool × ℕ) ParseFault
+-- a form is judged, and its semicolon is the token after it
+abbrev pub form_step : {X : Type 0} → (ℕ → X → Result (Option Primitive) ParseFault) → (X → ℕ)
+    → List Primitive × Bool × ℕ → X → Result (List Primitive × Bool × ℕ) ParseFault
 form_step means size s x = do
   k ← counted (length s.0) s.1 s.2 (means s.2 x)
   Ok (s.0 ++ before k [], s.1 || allocates k, s.2 + size x + 1)
 
 -- forms and "}"
-abbrev pub forms_in : {X : Type 0} → (List TokenKind → Option (X × List TokenKind)) → (ℕ → X → Result (Option Primitive) ParseFault) → (X → ℕ) → ℕ → List TokenKind → ReadTo (List Primitive × ℕ)
+abbrev pub forms_in : {X : Type 0} → (List TokenKind → Option (X × List TokenKind))
+    → (ℕ → X → Result (Option Primitive) ParseFault) → (X → ℕ) → ℕ → List TokenKind → ReadTo (List Primitive × ℕ)
 forms_in item means size at ts = do
   b ← each item (form_step means size) ([], false, at) ts
   behind ← wanted_at b.0.2 (closing_of b.1)
   Ok ((b.0.0, b.0.2 + 1), behind)
 
--- a form at the front, what it means at its place, and what is behind it and its semicolon
-pub record FormRead {X : Type 0} (item : List TokenKind → Option (X × List TokenKind)) (means : ℕ → X → Result (Option Primitive) ParseFault) (size : X → ℕ)
+-- a form at the front, what it means at its place, and what is after it and its semicolon
+pub record FormRead {X : Type 0} (item : List TokenKind → Option (X × List TokenKind))
+    (means : ℕ → X → Result (Option Primitive) ParseFault) (size : X → ℕ)
     (from : Rest) (meaning : Result (Option Primitive) ParseFault) (behind : Rest) : Type 0 where
   pub tree : X
   pub reads : item (kinds from.tokens.now) ≡ Some (tree, kinds behind.tokens.now)
@@ -182,7 +204,7 @@ initials_in s at ts = forms_in initial_line_of (initial_means s) initial_size at
 
 -- ---- statements without blocks of statements
 
--- a statement at a place, from behind its first tokens
+-- a statement at a place, from after its first tokens
 abbrev pub StatementRead : Type 0
 StatementRead = ReadTo (Statement × Scope × ℕ)
 
@@ -191,19 +213,19 @@ abbrev pub break_in : Scope → Bool → ℕ → List TokenKind → StatementRea
 break_in s true at ts = Ok ((Break, s, at + 2), ts)
 break_in s false at ts = Err (faults.Undeclared at)
 
--- a label, from behind its semicolon
+-- a label, from after its semicolon
 abbrev pub label_in : Scope → ℕ → Text → List TokenKind → StatementRead
 label_in s at name ts = do
   l ← label_means s at name
   Ok ((Label l.0, l.1, at + 3), ts)
 
--- an atomic block, from behind its brace
+-- an atomic block, from after its brace
 abbrev pub atomic_in : Scope → ℕ → List TokenKind → StatementRead
 atomic_in s at ts = do
   b ← primitives_in s (at + 2) ts
   Ok ((Atomic b.0.0, s, b.0.1), b.1)
 
--- a call, from behind its parentheses
+-- a call, from after its parentheses
 unfoldable pub called_in : Scope → ℕ → Text → ArgumentTree → List TokenKind → StatementRead
 called_in s at f a ts = do
   c ← call_means s at f a
@@ -211,7 +233,7 @@ called_in s at f a ts = do
   behind ← wanted_at (at + call_size a + during_size (during_of ts).0) (semicolon_of (during_of ts).1)
   Ok ((Call c.0 c.1 c.2 l.0, l.1, at + call_size a + during_size (during_of ts).0 + 1), behind)
 
--- one primitive, from behind its semicolon
+-- one primitive, from after its semicolon
 abbrev pub primitive_in : Scope → ℕ → PrimitiveTree → List TokenKind → StatementRead
 primitive_in s at p ts = do
   k ← primitive_means s at p
@@ -239,7 +261,7 @@ flat_in s in_loop at ts =
 abbrev pub BlockReader : Type 0
 BlockReader = Scope → Bool → ℕ → List TokenKind → ReadTo (Statements × Scope × ℕ)
 
--- a loop, from behind its brace
+-- a loop, from after its brace
 unfoldable pub loop_in : BlockReader → Scope → ℕ → List TokenKind → StatementRead
 loop_in block s at ts = do
   b ← block s true at ts
@@ -247,16 +269,19 @@ loop_in block s at ts = do
 
 -- an absent `else` is an empty block
 unfoldable pub else_in : BlockReader → BlockReader
-else_in block s in_loop at ts = where_read (word_symbol_of words.Else symbols.OpenBrace ts) (λ us. block s in_loop (at + 2) us) (Ok ((Empty, s, at), ts))
+else_in block s in_loop at ts =
+    where_read (word_symbol_of words.Else symbols.OpenBrace ts) (λ us. block s in_loop (at + 2) us)
+    (Ok ((Empty, s, at), ts))
 
--- the two blocks of an `if`, from behind the first one's brace
-unfoldable pub branches_in : BlockReader → Scope → Bool → ℕ → List TokenKind → ReadTo ((Statements × Statements) × Scope × ℕ)
+-- the two blocks of an `if`, from after the first one's brace
+unfoldable pub branches_in : BlockReader → Scope → Bool → ℕ → List TokenKind
+    → ReadTo ((Statements × Statements) × Scope × ℕ)
 branches_in block s in_loop at ts = do
   b ← block s in_loop at ts
   e ← else_in block b.0.1 in_loop b.0.2 b.1
   Ok (((b.0.0, e.0.0), e.0.1, e.0.2), e.1)
 
--- an `if`, from behind its parenthesis
+-- an `if`, from after its parenthesis
 unfoldable pub if_in : BlockReader → Scope → Bool → ℕ → List TokenKind → StatementRead
 if_in block s in_loop at ts = do
   c ← wanted_at at (condition_of ts)
@@ -269,16 +294,18 @@ if_in block s in_loop at ts = do
 unfoldable pub ors_in : BlockReader → ℕ → Scope → Bool → ℕ → List TokenKind → ReadTo (Blocks × Scope × ℕ)
 ors_in block zero s in_loop at ts = Err (faults.Syntax at)
 ors_in block (suc n) s in_loop at ts = where_read (word_symbol_of words.Or symbols.OpenBrace ts)
-    (λ us. block s in_loop (at + 2) us >>= λ b. ors_in block n b.0.1 in_loop b.0.2 b.1 >>= λ o. Ok ((And b.0.0 o.0.0, o.0.1, o.0.2), o.1))
+    (λ us. block s in_loop (at + 2) us >>= λ b. ors_in block n b.0.1 in_loop b.0.2 b.1 >>= λ o.
+    Ok ((And b.0.0 o.0.0, o.0.1, o.0.2), o.1))
     (Ok ((NoBlock, s, at), ts))
 
--- the blocks of a choice, from behind the first one
-unfoldable pub blocks_in : BlockReader → ℕ → Statements → Scope → Bool → ℕ → List TokenKind → ReadTo (Blocks × Scope × ℕ)
+-- the blocks of a choice, from after the first one
+unfoldable pub blocks_in : BlockReader → ℕ → Statements → Scope → Bool → ℕ → List TokenKind
+    → ReadTo (Blocks × Scope × ℕ)
 blocks_in block n first s in_loop at ts = do
   o ← ors_in block n s in_loop at ts
   Ok ((And first o.0.0, o.0.1, o.0.2), o.1)
 
--- a choice, from behind its first brace
+-- a choice, from after its first brace
 unfoldable pub choose_in : BlockReader → ℕ → Scope → Bool → ℕ → List TokenKind → StatementRead
 choose_in block n s in_loop at ts = do
   b ← block s in_loop at ts
@@ -293,21 +320,22 @@ statement_in block n s in_loop at ts =
     (where_read (word_symbol_of words.If symbols.OpenParen ts) (λ us. if_in block s in_loop (at + 2) us)
     (flat_in s in_loop at ts)))
 
--- a statement and those behind it, up to "}"
+-- a statement and those after it, up to "}"
 abbrev pub statements_in : List ℕ → BlockReader → ℕ → BlockReader
 statements_in lines block n s in_loop at ts = do
   first ← statement_in block n s in_loop at ts
   others ← block first.0.1 in_loop first.0.2 first.1
   Ok ((Then (line_at lines at) first.0.0 others.0.0, others.0.1, others.0.2), others.1)
 
--- a block, from behind its brace; at most so many statements stand behind and within one another
+-- a block, from after its brace; at most so many statements stand after and within one another
 unfoldable pub block_in : List ℕ → ℕ → BlockReader
 block_in lines zero s in_loop at ts = Err (faults.Syntax at)
-block_in lines (suc n) s in_loop at ts = where_read (closing_of ts) (λ us. Ok ((Empty, s, at + 1), us)) (statements_in lines (λ t l p us. block_in lines n t l p us) n s in_loop at ts)
+block_in lines (suc n) s in_loop at ts = where_read (closing_of ts) (λ us. Ok ((Empty, s, at + 1), us))
+    (statements_in lines (λ t l p us. block_in lines n t l p us) n s in_loop at ts)
 
 -- ---- operations
 
--- a further parameter is the token behind its comma
+-- a further parameter is the token after its comma
 abbrev pub parameter_step : Scope × ℕ → Text → Result (Scope × ℕ) ParseFault
 parameter_step s name = do
   t ← declared_parameter s.0 name (s.1 + 1)
@@ -319,11 +347,11 @@ local_step s l = do
   t ← local_means s.0 s.1 l
   Ok (t, s.1 + 3)
 
--- the parameters behind the first
+-- the parameters after the first
 abbrev pub others_in : Scope × ℕ → List TokenKind → ReadTo (Scope × ℕ)
 others_in s ts = each comma_name_of parameter_step s ts
 
--- none, or the first and those behind it
+-- none, or the first and those after it
 abbrev pub parameters_from : Scope → ℕ → List TokenKind → Option (Text × List TokenKind) → ReadTo (Scope × ℕ)
 parameters_from s at ts None = Ok ((s, at), ts)
 parameters_from s at ts (Some first) = do
@@ -338,20 +366,27 @@ parameters_in s at ts = parameters_from s at ts (name_of ts)
 abbrev pub locals_in : Scope × ℕ → List TokenKind → ReadTo (Scope × ℕ)
 locals_in s ts = each field_of local_step s ts
 
--- parameters, and locals behind ")" and "{"
+-- parameters, and locals after ")" and "{"
 unfoldable pub all_locals_in : Scope → ℕ → List TokenKind → ReadTo (Scope × ℕ)
 all_locals_in s at ts = do
   p ← parameters_in s at ts
   behind ← wanted_at p.0.1 (opening_of p.1)
   locals_in (p.0.0, p.0.1 + 2) behind
 
--- an operation behind its name and "("; each statement takes a token
+-- an operation after its name and "("; each statement takes a token
 unfoldable pub op_in : List ℕ → Scope → ℕ → ℕ → Text → List TokenKind → ReadTo (Op × Scope × ℕ)
 op_in lines s n at name ts = within_limit n limits.Ops (do
   t ← declared s name (at + 1) Taken
   l ← all_locals_in t (at + 3) ts
   b ← block_in lines (length l.1) l.0.0 false l.0.1 l.1
-  Ok ((record { name = length s.names.names; locals = l.0.0.locals; body = b.0.0; line = line_at lines at }, without_locals b.0.1, b.0.2), b.1))
+  Ok (
+    (
+      record { name = length s.names.names; locals = l.0.0.locals; body = b.0.0; line = line_at lines at },
+      without_locals b.0.1,
+      b.0.2,
+    ),
+    b.1,
+  ))
 
 -- the operations
 abbrev pub ops_in : List ℕ → Scope → ℕ → List TokenKind → ReadTo (List Op × Scope × ℕ)
@@ -385,7 +420,7 @@ watch_in s at ts = where_read (watch_of ts)
 unfoldable pub init_in : Scope → ℕ → List TokenKind → ReadTo (List Primitive × ℕ)
 init_in s at ts = where_read (init_of ts) (λ us. initials_in s (at + 2) us) (Ok (([], at), ts))
 
--- nothing may be left behind the last part
+-- nothing may be left after the last part
 abbrev pub nothing_left : ℕ → List TokenKind → Result ℕ ParseFault
 nothing_left at [] = Ok at
 nothing_left at (t ∷ ts) = Err (faults.Syntax at)
@@ -410,7 +445,7 @@ front_in s at ts = do
   i ← init_in g.0.1 g.0.2 g.1
   Ok (((d.0.0, d.0.1, d.0.2, w.0.0, g.0.0, i.0.0), g.0.1, i.0.1), i.1)
 
--- the operations and the outline, with the scope behind them
+-- the operations and the outline, with the scope after them
 unfoldable pub body_in : List ℕ → Scope → ℕ → List TokenKind → Result (List Op × Outline × Scope) ParseFault
 body_in lines s at ts = do
   ops ← ops_in lines s at ts

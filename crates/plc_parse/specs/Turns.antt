@@ -9,7 +9,8 @@ use Rattle.plc_scope.specs.Answers.{FailsAs, GrowsBy, Within}
 use Rattle.plc_scope.specs.Read.{ReadTo}
 use Rattle.plc_parse.specs.Growth.{KeepsLists}
 
-module _ {H Y : Type 0} (head : List TokenKind → Option (H × List TokenKind)) (body : Scope → ℕ → ℕ → H → List TokenKind → ReadTo (Y × Scope × ℕ))
+module _ {H Y : Type 0} (head : List TokenKind → Option (H × List TokenKind))
+    (body : Scope → ℕ → ℕ → H → List TokenKind → ReadTo (Y × Scope × ℕ))
     (limit names : ℕ) (s : Scope) (n : ℕ) (from : Rest) where
   -- one begins, and was read
   pub record OneListed (y : Y) (behind : Rest) (t : Scope) : Type 0 where
@@ -27,7 +28,7 @@ module _ {H Y : Type 0} (head : List TokenKind → Option (H × List TokenKind))
     pub begins : head (kinds from.tokens.now) ≡ Some front
     pub fails : FailsAs e (body s n from.at front.0 front.1)
 
-  -- none begins, or one was read or is at fault; the scope behind it
+  -- none begins, or one was read or is at fault; the scope after it
   abbrev pub TurnRead : Result (Option (Y × Rest)) ParseFault → Scope → Type 0
   TurnRead (Ok None) t = (head (kinds from.tokens.now) ≡ None) × (t ≡ s)
   TurnRead (Ok (Some r)) t = OneListed r.0 r.1 t

@@ -38,7 +38,8 @@ IsUnitOf ts u = AreRead ts (Ok u)
 -- the fault that tokens are answered with; memory may run out anywhere
 pub data IsFaultOf (ts : List Token) (e : ParseFault) : Type 0 where
   no_file : (at : ℕ) → e ≡ faults.Syntax at → SyntaxFaultAt (kinds ts) at → IsFaultOf ts e
-  too_deep : (at : ℕ) → e ≡ faults.Limit limits.Nesting (most limits.Nesting + 1) → NestingFaultAt (kinds ts) at → IsFaultOf ts e
+  too_deep : (at : ℕ) → e ≡ faults.Limit limits.Nesting (most limits.Nesting + 1) → NestingFaultAt (kinds ts) at
+      → IsFaultOf ts e
   no_unit : AreRead ts (Err e) → IsFaultOf ts e
   no_memory : e ≡ faults.Memory → IsFaultOf ts e
 
@@ -46,7 +47,10 @@ pub data IsFaultOf (ts : List Token) (e : ParseFault) : Type 0 where
 abbrev pub UnitsAreUnique : Type 0
 UnitsAreUnique = (ts : List Token) (a b : Result FileUnit ParseFault) → Means ts a → Means ts b → a ≡ b
 
--- of syntax, nesting and meaning tokens have at most one fault, and no unit beside it: what they are due is a function of them, but for memory
+-- of syntax, nesting and meaning tokens have at most one fault, and no unit beside it: what they are due is a
+-- function of them, but for memory
 pub record FaultsAreOne : Type 0 where
-  pub one : (ts : List Token) (e f : ParseFault) → e ≢ faults.Memory → f ≢ faults.Memory → IsFaultOf ts e → IsFaultOf ts f → e ≡ f
-  pub no_unit : (ts : List Token) (e : ParseFault) (u : FileUnit) → e ≢ faults.Memory → IsFaultOf ts e → IsUnitOf ts u → ⊥
+  pub one : (ts : List Token) (e f : ParseFault) → e ≢ faults.Memory → f ≢ faults.Memory → IsFaultOf ts e
+      → IsFaultOf ts f → e ≡ f
+  pub no_unit : (ts : List Token) (e : ParseFault) (u : FileUnit) → e ≢ faults.Memory → IsFaultOf ts e → IsUnitOf ts u
+      → ⊥

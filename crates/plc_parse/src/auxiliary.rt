@@ -1,17 +1,19 @@
 // Auxiliary fields. One is a thread or one of its values, whose names are declared with it.
 ghost use Rattle.std.specs.Prelude.{◌≡◌, ◌+◌, ◌-◌, ◌*◌, ◌<◌, ◌≤◌, ◌^◌, IfOk, [], ◌∷◌, length};
 ghost use Rattle.plc_base.specs.Limits.{most};
-ghost use Rattle.plc_syntax.specs.Syntax.{kinds};
-ghost use Rattle.plc_scope.specs.Answers.{Gives, HasRoom, GrowsBy, Within};
-ghost use Rattle.plc_parse.specs.Growth.{KeepsLists, ghost_names};
+ghost use Rattle.plc_scope.specs.Answers.{Gives, HasRoom};
+ghost use Rattle.plc_parse.specs.Growth.{AddsNames, AddsNamesWithin, ghost_names};
 ghost use Rattle.plc_parse.specs.Meaning.{value_means};
 ghost use Rattle.plc_parse.specs.Reading.{values_in, of_threads_in, all_values_in, of_values_in, ghost_in, ghosts_in};
+ghost use Rattle.plc_outparse.specs.Views.{kinds_left};
+ghost use Rattle.plc_parse.specs.Views.{read_in};
 
 use crate::declaration::declare;
 use crate::lists::{Listed, read_listed};
 use plc_base::{Items, What1};
 use plc_forms::{Rest, comma_name_at, first_value_at, ghost_at, thread_at, values_end_at};
 use plc_lang::Ghost;
+use plc_outparse::Parsed;
 use plc_scope::{Binding, ParseFault, Scope};
 use std::alloc::Global;
 
@@ -28,8 +30,7 @@ fn declare_value(
     requires room { HasRoom scope.old 1 }
     ensures limit { IfOk result (λ _. count < most What1.Values) }
     ensures read { Gives (λ number. (number, scope.new)) result (value_means scope.old owner count at name.now) }
-    ensures names { IfOk result (λ _. GrowsBy scope.old scope.new 1) }
-    ensures lists { IfOk result (λ _. KeepsLists scope.old scope.new) }
+    ensures declares { IfOk result (λ _. AddsNames scope.old scope.new 1) }
 {
     let number = declare(scope, name, at, Binding::Value(owner as u16, count as u16))?;
     if count == What1::Values.most() as usize {
@@ -38,21 +39,19 @@ fn declare_value(
     Ok(number)
 }
 
-// The values from behind the first one, which has this number.
+// The values from after the first one, which has this number.
 fn read_values<'a>(
     alloc: Global,
     scope: &mut Scope,
     owner: usize,
     first: u16,
     start: Rest<'a>,
-) -> Result<(Items<u16>, Rest<'a>), ParseFault>
+) -> Parsed<'a, Items<u16>>
     requires owner { owner < most What1.Ghosts }
     requires room { HasRoom scope.old (most What1.Values) }
-    ensures read { Gives (λ r. ((r.0, scope.new, r.1.at), kinds r.1.tokens.now)) result
-        (values_in owner (first ∷ [], scope.old, start.entry.at) (kinds start.entry.tokens.now)) }
-    ensures names { IfOk result (λ _. GrowsBy scope.old scope.new (most What1.Values - 1)) }
-    ensures lists { IfOk result (λ _. KeepsLists scope.old scope.new) }
-    ensures place { IfOk result (λ r. Within start.entry r.1) }
+    ensures read { Gives (λ r. read_in r.0 scope.new r.1) result
+        (values_in owner (first ∷ [], scope.old, start.entry.at) (kinds_left start.entry)) }
+    ensures declares { IfOk result (λ r. AddsNamesWithin scope.old scope.new (most What1.Values - 1) start.entry r.1) }
 {
     let mut values = Items::new(alloc);
     values.push(first)?;
@@ -65,7 +64,7 @@ fn read_values<'a>(
     Ok((values, rest))
 }
 
-// All values, from behind the first one's name, which stands at a place.
+// All values, from after the first one's name, which stands at a place.
 #[tactic(auto, unfolding(crate::specs::Reading::all_values_in))]
 fn read_all_values<'a>(
     alloc: Global,
@@ -74,15 +73,13 @@ fn read_all_values<'a>(
     at: u32,
     name: &[u8],
     start: Rest<'a>,
-) -> Result<(Items<u16>, Rest<'a>), ParseFault>
+) -> Parsed<'a, Items<u16>>
     requires owner { owner < most What1.Ghosts }
     requires room { HasRoom scope.old (most What1.Values + 1) }
     requires name { start.at ≡ at + 1 }
-    ensures read { Gives (λ r. ((r.0, scope.new, r.1.at), kinds r.1.tokens.now)) result
-        (all_values_in owner scope.old at name.now (kinds start.entry.tokens.now)) }
-    ensures names { IfOk result (λ _. GrowsBy scope.old scope.new (most What1.Values)) }
-    ensures lists { IfOk result (λ _. KeepsLists scope.old scope.new) }
-    ensures place { IfOk result (λ r. Within start.entry r.1) }
+    ensures read { Gives (λ r. read_in r.0 scope.new r.1) result
+        (all_values_in owner scope.old at name.now (kinds_left start.entry)) }
+    ensures declares { IfOk result (λ r. AddsNamesWithin scope.old scope.new (most What1.Values) start.entry r.1) }
 {
     let first = declare_value(scope, owner, 0, at, name)?;
     let (values, rest) = read_values(alloc, scope, owner, first, start)?;
@@ -102,15 +99,13 @@ fn read_of_values<'a>(
     name: &[u8],
     value: &[u8],
     start: Rest<'a>,
-) -> Result<(Ghost, Rest<'a>), ParseFault>
+) -> Parsed<'a, Ghost>
     requires limit { count < most What1.Ghosts }
     requires room { HasRoom scope.old ghost_names }
     requires value { start.at ≡ at + 4 }
-    ensures read { Gives (λ r. ((r.0, scope.new, r.1.at), kinds r.1.tokens.now)) result
-        (of_values_in scope.old count at name.now value.now (kinds start.entry.tokens.now)) }
-    ensures names { IfOk result (λ _. GrowsBy scope.old scope.new (most What1.Values + 1)) }
-    ensures lists { IfOk result (λ _. KeepsLists scope.old scope.new) }
-    ensures place { IfOk result (λ r. Within start.entry r.1) }
+    ensures read { Gives (λ r. read_in r.0 scope.new r.1) result
+        (of_values_in scope.old count at name.now value.now (kinds_left start.entry)) }
+    ensures declares { IfOk result (λ r. AddsNamesWithin scope.old scope.new (most What1.Values + 1) start.entry r.1) }
 {
     let name = declare(scope, name, at + 1, Binding::Auxiliary(count as u16, false))?;
     let (values, rest) = read_all_values(alloc, scope, count, at + 3, value, start)?;
@@ -126,22 +121,20 @@ fn read_of_threads<'a>(
     at: u32,
     name: &[u8],
     start: Rest<'a>,
-) -> Result<(Ghost, Rest<'a>), ParseFault>
+) -> Parsed<'a, Ghost>
     requires limit { count < most What1.Ghosts }
     requires room { HasRoom scope.old 1 }
     requires kind { start.at ≡ at + 4 }
-    ensures read { Gives (λ r. ((r.0, scope.new, r.1.at), kinds r.1.tokens.now)) result
-        (of_threads_in scope.old count at name.now (kinds start.entry.tokens.now)) }
-    ensures names { IfOk result (λ _. GrowsBy scope.old scope.new 1) }
-    ensures lists { IfOk result (λ _. KeepsLists scope.old scope.new) }
-    ensures place { IfOk result (λ r. Within start.entry r.1) }
+    ensures read { Gives (λ r. read_in r.0 scope.new r.1) result
+        (of_threads_in scope.old count at name.now (kinds_left start.entry)) }
+    ensures declares { IfOk result (λ r. AddsNamesWithin scope.old scope.new 1 start.entry r.1) }
 {
     let name = declare(scope, name, at + 1, Binding::Auxiliary(count as u16, true))?;
     let values = Items::new(alloc);
     Ok((Ghost { name, values }, start))
 }
 
-// An auxiliary field at a place, from behind its name, with so many before it.
+// An auxiliary field at a place, from after its name, with so many before it.
 #[tactic(auto, unfolding(crate::specs::Reading::ghost_in))]
 fn read_ghost<'a>(
     alloc: Global,
@@ -150,16 +143,14 @@ fn read_ghost<'a>(
     at: u32,
     name: &[u8],
     start: Rest<'a>,
-) -> Result<(Ghost, Rest<'a>), ParseFault>
+) -> Parsed<'a, Ghost>
     requires limit { count ≤ most What1.Ghosts }
     requires room { HasRoom scope.old ghost_names }
     requires name { start.at ≡ at + 2 }
     ensures limit { IfOk result (λ _. count < most What1.Ghosts) }
-    ensures read { Gives (λ r. ((r.0, scope.new, r.1.at), kinds r.1.tokens.now)) result
-        (ghost_in scope.old count at name.now (kinds start.entry.tokens.now)) }
-    ensures names { IfOk result (λ _. GrowsBy scope.old scope.new (most What1.Values + 1)) }
-    ensures lists { IfOk result (λ _. KeepsLists scope.old scope.new) }
-    ensures place { IfOk result (λ r. Within start.entry r.1) }
+    ensures read { Gives (λ r. read_in r.0 scope.new r.1) result
+        (ghost_in scope.old count at name.now (kinds_left start.entry)) }
+    ensures declares { IfOk result (λ r. AddsNamesWithin scope.old scope.new (most What1.Values + 1) start.entry r.1) }
 {
     if count == What1::Ghosts.most() as usize {
         return Err(ParseFault::past(What1::Ghosts));
@@ -215,13 +206,12 @@ pub fn read_ghosts<'a>(
     alloc: Global,
     scope: &mut Scope,
     start: Rest<'a>,
-) -> Result<(Items<Ghost>, Rest<'a>), ParseFault>
+) -> Parsed<'a, Items<Ghost>>
     requires { HasRoom scope.old (ghost_names * (most What1.Ghosts + 1)) }
-    ensures read { Gives (λ r. ((r.0, scope.new, r.1.at), kinds r.1.tokens.now)) result
-        (ghosts_in scope.old start.entry.at (kinds start.entry.tokens.now)) }
-    ensures names { IfOk result (λ _. GrowsBy scope.old scope.new (ghost_names * most What1.Ghosts)) }
-    ensures lists { IfOk result (λ _. KeepsLists scope.old scope.new) }
-    ensures place { IfOk result (λ r. Within start.entry r.1) }
+    ensures read { Gives (λ r. read_in r.0 scope.new r.1) result
+        (ghosts_in scope.old start.entry.at (kinds_left start.entry)) }
+    ensures declares { IfOk result (λ r.
+        AddsNamesWithin scope.old scope.new (ghost_names * most What1.Ghosts) start.entry r.1) }
 {
     read_listed::<AuxiliaryFields>(alloc, scope, start)
 }

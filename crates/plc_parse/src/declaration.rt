@@ -5,12 +5,11 @@ ghost use Rattle.plc_base.specs.Limits.{most};
 ghost use Rattle.plc_base.specs.declared.limits.What1.TheVariants as limits;
 ghost use Rattle.plc_syntax.specs.Trees.{Text, FieldTree, FunctionTree};
 ghost use Rattle.plc_forms.specs.Forms.{field_of, shared_of, function_of};
-ghost use Rattle.plc_syntax.specs.Syntax.{kinds};
 ghost use Rattle.plc_forms.specs.Sizes.{function_size};
 ghost use Rattle.plc_forms.specs.Views.{field_tree, function_tree};
 ghost use Rattle.plc_scope.specs.Answers.{Gives, HasRoom, GrowsBy};
 ghost use Rattle.plc_scope.specs.Scope.{declared};
-ghost use Rattle.plc_parse.specs.Growth.{KeepsLists};
+ghost use Rattle.plc_parse.specs.Growth.{AddsNames, KeepsLists};
 ghost use Rattle.plc_parse.specs.Meaning.{field_means, shared_means, function_means};
 ghost use Rattle.plc_parse.specs.Reading.{judged};
 
@@ -46,8 +45,7 @@ fn declare_field(
     ensures limit { IfOk result (λ _. count < most What1.Fields) }
     ensures read { Gives (λ field. (field, scope.new, at + 3)) result
         (field_means scope.old count at (field_tree declaration.entry)) }
-    ensures names { IfOk result (λ _. GrowsBy scope.old scope.new 1) }
-    ensures lists { IfOk result (λ _. KeepsLists scope.old scope.new) }
+    ensures declares { IfOk result (λ _. AddsNames scope.old scope.new 1) }
 {
     if count == What1::Fields.most() as usize {
         return Err(ParseFault::past(What1::Fields));
@@ -108,8 +106,7 @@ fn declare_shared(scope: &mut Scope, count: usize, at: u32, name: &[u8]) -> Resu
     requires place { at + 3 < 2 ^ 32 }
     ensures limit { IfOk result (λ _. count < most What1.Shared) }
     ensures read { Gives (λ number. (number, scope.new, at + 3)) result (shared_means scope.old count at name.now) }
-    ensures names { IfOk result (λ _. GrowsBy scope.old scope.new 1) }
-    ensures lists { IfOk result (λ _. KeepsLists scope.old scope.new) }
+    ensures declares { IfOk result (λ _. AddsNames scope.old scope.new 1) }
 {
     if count == What1::Shared.most() as usize {
         return Err(ParseFault::past(What1::Shared));
@@ -160,8 +157,7 @@ fn declare_function(
     ensures limit { IfOk result (λ _. count < most What1.Calls) }
     ensures read { Gives (λ func. (func, scope.new, at + function_size (function_tree function.entry))) result
         (function_means scope.old count at (function_tree function.entry)) }
-    ensures names { IfOk result (λ _. GrowsBy scope.old scope.new 1) }
-    ensures lists { IfOk result (λ _. KeepsLists scope.old scope.new) }
+    ensures declares { IfOk result (λ _. AddsNames scope.old scope.new 1) }
 {
     if count == What1::Calls.most() as usize {
         return Err(ParseFault::past(What1::Calls));

@@ -5,7 +5,7 @@ ghost use Rattle.plc_parse.specs.Units.{lines_of};
 
 use plc_lex::Token;
 
-/// The line of the token at a place, or 0 behind the last token.
+/// The line of the token at a place, or 0 after the last token.
 pub fn line_at(tokens: &[Token], at: u32) -> u32
     ensures { result ≡ line_at (lines_of tokens.now) at }
 {

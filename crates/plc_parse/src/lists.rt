@@ -3,12 +3,15 @@
 // first token of the declaration past it.
 ghost use Rattle.std.specs.Prelude.{◌≡◌, ◌+◌, ◌*◌, IfOk};
 ghost use Rattle.plc_syntax.specs.Syntax.{kinds};
-ghost use Rattle.plc_scope.specs.Answers.{Gives, HasRoom, GrowsBy, Within};
-ghost use Rattle.plc_parse.specs.Growth.{KeepsLists};
+ghost use Rattle.plc_scope.specs.Answers.{Gives, HasRoom};
+ghost use Rattle.plc_parse.specs.Growth.{AddsNamesWithin};
 ghost use Rattle.plc_parse.specs.Reading.{listed_in};
+ghost use Rattle.plc_outparse.specs.Views.{kinds_left};
+ghost use Rattle.plc_parse.specs.Views.{read_in};
 
 use plc_base::Items;
 use plc_forms::Rest;
+use plc_outparse::Parsed;
 use plc_scope::{ParseFault, Scope};
 use std::alloc::Global;
 
@@ -34,7 +37,7 @@ pub trait Listed {
 
     ghost names: { ℕ };
 
-    /// The next declaration, with so many before it, and what is behind it; none where none begins.
+    /// The next declaration, with so many before it, and what is after it; none where none begins.
     fn next<'a>(
         alloc: Global,
         scope: &mut Scope,
@@ -51,13 +54,11 @@ pub fn read_listed<'a, L: Listed>(
     alloc: Global,
     scope: &mut Scope,
     start: Rest<'a>,
-) -> Result<(Items<L::Item>, Rest<'a>), ParseFault>
+) -> Parsed<'a, Items<L::Item>>
     requires { HasRoom scope.old (L.names * (L.limit + 1)) }
-    ensures read { Gives (λ r. ((r.0, scope.new, r.1.at), kinds r.1.tokens.now)) result
-        (listed_in L.head L.body L.limit scope.old start.entry.at (kinds start.entry.tokens.now)) }
-    ensures names { IfOk result (λ _. GrowsBy scope.old scope.new (L.names * L.limit)) }
-    ensures lists { IfOk result (λ _. KeepsLists scope.old scope.new) }
-    ensures place { IfOk result (λ r. Within start.entry r.1) }
+    ensures read { Gives (λ r. read_in r.0 scope.new r.1) result
+        (listed_in L.head L.body L.limit scope.old start.entry.at (kinds_left start.entry)) }
+    ensures declares { IfOk result (λ r. AddsNamesWithin scope.old scope.new (L.names * L.limit) start.entry r.1) }
 {
     let mut items = Items::new(alloc);
     let mut rest = start;

@@ -1,11 +1,12 @@
 // The parameters and locals of an operation. A parameter is its name alone; a local is a declaration.
 ghost use Rattle.std.specs.Prelude.{◌≡◌, ◌+◌, ◌<◌, ◌^◌, IfOk};
-ghost use Rattle.plc_syntax.specs.Syntax.{kinds};
 ghost use Rattle.plc_forms.specs.Views.{field_tree};
-ghost use Rattle.plc_scope.specs.Answers.{Gives, HasRoomForLocals, GrowsByLocals, Within};
+ghost use Rattle.plc_scope.specs.Answers.{Gives, HasRoomForLocals, GrowsByLocals};
 ghost use Rattle.plc_scope.specs.Scope.{declared_parameter, declared_local};
 ghost use Rattle.plc_parse.specs.Meaning.{local_means};
 ghost use Rattle.plc_parse.specs.Reading.{others_in, parameters_in, locals_in, all_locals_in};
+ghost use Rattle.plc_parse.specs.Growth.{AddsLocals, AddsLocalsWithin};
+ghost use Rattle.plc_outparse.specs.Views.{read_with, kinds_left};
 
 use plc_forms::{Declaration, Rest, comma_name_at, declaration_at, name_at, opening_at};
 use plc_scope::{ParseFault, Scope};
@@ -21,14 +22,12 @@ fn declare_parameter(scope: &mut Scope, name: &[u8], at: u32) -> Result<(), Pars
     scope.declare_parameter(name, at)
 }
 
-// The parameters behind the first.
+// The parameters after the first.
 fn read_others<'a>(scope: &mut Scope, start: Rest<'a>) -> Result<Rest<'a>, ParseFault>
     requires { HasRoomForLocals scope.old }
-    ensures read { Gives (λ r. ((scope.new, r.at), kinds r.tokens.now)) result
-        (others_in (scope.old, start.entry.at) (kinds start.entry.tokens.now)) }
-    ensures names { IfOk result (λ _. GrowsByLocals scope.old scope.new) }
-    ensures labels { IfOk result (λ _. scope.new.labels ≡ scope.old.labels) }
-    ensures place { IfOk result (λ r. Within start.entry r) }
+    ensures read { Gives (read_with scope.new) result
+        (others_in (scope.old, start.entry.at) (kinds_left start.entry)) }
+    ensures declares { IfOk result (λ r. AddsLocalsWithin scope.old scope.new start.entry r) }
 {
     let mut rest = start;
     while let Some((name, behind)) = comma_name_at(rest) {
@@ -40,11 +39,9 @@ fn read_others<'a>(scope: &mut Scope, start: Rest<'a>) -> Result<Rest<'a>, Parse
 
 fn read_parameters<'a>(scope: &mut Scope, start: Rest<'a>) -> Result<Rest<'a>, ParseFault>
     requires { HasRoomForLocals scope.old }
-    ensures read { Gives (λ r. ((scope.new, r.at), kinds r.tokens.now)) result
-        (parameters_in scope.old start.entry.at (kinds start.entry.tokens.now)) }
-    ensures names { IfOk result (λ _. GrowsByLocals scope.old scope.new) }
-    ensures labels { IfOk result (λ _. scope.new.labels ≡ scope.old.labels) }
-    ensures place { IfOk result (λ r. Within start.entry r) }
+    ensures read { Gives (read_with scope.new) result
+        (parameters_in scope.old start.entry.at (kinds_left start.entry)) }
+    ensures declares { IfOk result (λ r. AddsLocalsWithin scope.old scope.new start.entry r) }
 {
     match name_at(start) {
         None => Ok(start),
@@ -70,8 +67,7 @@ fn declare_local(scope: &mut Scope, at: u32, declaration: Declaration) -> Result
     requires room { HasRoomForLocals scope.old }
     requires place { at + 1 < 2 ^ 32 }
     ensures read { Gives (λ _. scope.new) result (local_means scope.old at (field_tree declaration.entry)) }
-    ensures names { IfOk result (λ _. GrowsByLocals scope.old scope.new) }
-    ensures labels { IfOk result (λ _. scope.new.labels ≡ scope.old.labels) }
+    ensures declares { IfOk result (λ _. AddsLocals scope.old scope.new) }
 {
     match declaration {
         Declaration::Pointer(name) => declare_name(scope, name, at + 1, true),
@@ -81,11 +77,9 @@ fn declare_local(scope: &mut Scope, at: u32, declaration: Declaration) -> Result
 
 fn read_locals<'a>(scope: &mut Scope, start: Rest<'a>) -> Result<Rest<'a>, ParseFault>
     requires { HasRoomForLocals scope.old }
-    ensures read { Gives (λ r. ((scope.new, r.at), kinds r.tokens.now)) result
-        (locals_in (scope.old, start.entry.at) (kinds start.entry.tokens.now)) }
-    ensures names { IfOk result (λ _. GrowsByLocals scope.old scope.new) }
-    ensures labels { IfOk result (λ _. scope.new.labels ≡ scope.old.labels) }
-    ensures place { IfOk result (λ r. Within start.entry r) }
+    ensures read { Gives (read_with scope.new) result
+        (locals_in (scope.old, start.entry.at) (kinds_left start.entry)) }
+    ensures declares { IfOk result (λ r. AddsLocalsWithin scope.old scope.new start.entry r) }
 {
     let mut rest = start;
     while let Some((declaration, behind)) = declaration_at(rest) {
@@ -95,15 +89,13 @@ fn read_locals<'a>(scope: &mut Scope, start: Rest<'a>) -> Result<Rest<'a>, Parse
     Ok(rest)
 }
 
-/// Declares the parameters of an operation, and its locals behind `)` and `{`.
+/// Declares the parameters of an operation, and its locals after `)` and `{`.
 #[tactic(auto, unfolding(crate::specs::Reading::all_locals_in))]
 pub fn read_all_locals<'a>(scope: &mut Scope, start: Rest<'a>) -> Result<Rest<'a>, ParseFault>
     requires { HasRoomForLocals scope.old }
-    ensures read { Gives (λ r. ((scope.new, r.at), kinds r.tokens.now)) result
-        (all_locals_in scope.old start.entry.at (kinds start.entry.tokens.now)) }
-    ensures names { IfOk result (λ _. GrowsByLocals scope.old scope.new) }
-    ensures labels { IfOk result (λ _. scope.new.labels ≡ scope.old.labels) }
-    ensures place { IfOk result (λ r. Within start.entry r) }
+    ensures read { Gives (read_with scope.new) result
+        (all_locals_in scope.old start.entry.at (kinds_left start.entry)) }
+    ensures declares { IfOk result (λ r. AddsLocalsWithin scope.old scope.new start.entry r) }
 {
     let rest = read_parameters(scope, start)?;
     match opening_at(rest) {

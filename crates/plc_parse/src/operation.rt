@@ -1,15 +1,16 @@
 // The operations: each is its name, its parameters, its locals and a block.
 ghost use Rattle.std.specs.Prelude.{◌≡◌, ◌+◌, ◌*◌, ◌<◌, ◌≤◌, [], length, IfOk};
 ghost use Rattle.plc_base.specs.Limits.{most};
-ghost use Rattle.plc_syntax.specs.Syntax.{kinds};
 ghost use Rattle.plc_scope.specs.Answers.{Gives, HasRoom};
 ghost use Rattle.plc_scope.specs.Scope.{most_locals};
 ghost use Rattle.plc_outparse.specs.Answers.{OpsFit};
 ghost use Rattle.plc_parse.specs.Growth.{IsLeftOf, CanOperate, GrowsByOps, op_names, most_labels};
 ghost use Rattle.plc_parse.specs.Reading.{added, op_in, ops_in};
 ghost use Rattle.plc_parse.specs.Units.{lines_of};
+ghost use Rattle.plc_outparse.specs.Views.{kinds_left};
+ghost use Rattle.plc_parse.specs.Views.{read_in};
 
-use crate::block::read_block;
+use crate::block::{Context, read_block};
 use crate::declaration::declare;
 use crate::lines::line_at;
 use crate::local::read_all_locals;
@@ -17,10 +18,11 @@ use plc_base::{Items, What1};
 use plc_forms::{Rest, head_at};
 use plc_lang::Op;
 use plc_lex::Token;
+use plc_outparse::Parsed;
 use plc_scope::{Binding, ParseFault, Scope};
 use std::alloc::Global;
 
-// An operation at a place, with so many before it, from behind its name and `(`.
+// An operation at a place, with so many before it, from after its name and `(`.
 #[tactic(auto, unfolding(crate::specs::Reading::op_in))]
 fn read_op<'a>(
     alloc: Global,
@@ -30,14 +32,14 @@ fn read_op<'a>(
     at: u32,
     name: &[u8],
     start: Rest<'a>,
-) -> Result<(Op, Rest<'a>), ParseFault>
+) -> Parsed<'a, Op>
     requires limit { count ≤ most What1.Ops }
     requires room { CanOperate scope.old }
     requires place { IsLeftOf (length tokens.now) start }
     requires head { start.at ≡ at + 3 }
     ensures limit { IfOk result (λ _. count < most What1.Ops) }
-    ensures read { Gives (λ r. ((r.0, scope.new, r.1.at), kinds r.1.tokens.now)) result
-        (op_in (lines_of tokens.now) scope.old count at name.now (kinds start.entry.tokens.now)) }
+    ensures read { Gives (λ r. read_in r.0 scope.new r.1) result
+        (op_in (lines_of tokens.now) scope.old count at name.now (kinds_left start.entry)) }
     ensures grows { IfOk result (λ _. GrowsByOps scope.old scope.new op_names) }
     ensures locals { IfOk result (λ r. length r.0.locals ≤ most_locals) }
     ensures place { IfOk result (λ r. IsLeftOf (length tokens.now) r.1) }
@@ -47,7 +49,13 @@ fn read_op<'a>(
     }
     let number = declare(scope, name, at + 1, Binding::Taken)?;
     let rest = read_all_locals(scope, start)?;
-    let (body, rest) = read_block(alloc, scope, tokens, rest.tokens.len(), false, rest)?;
+    let context = Context {
+        alloc,
+        tokens,
+        most: rest.tokens.len(),
+        in_loop: false,
+    };
+    let (body, rest) = read_block(context, scope, rest)?;
     let op = Op {
         name: number,
         locals: scope.take_locals(alloc),
@@ -57,7 +65,7 @@ fn read_op<'a>(
     Ok((op, rest))
 }
 
-// The operation at a place, from behind its name and `(`, added to those before.
+// The operation at a place, from after its name and `(`, added to those before.
 fn read_next<'a>(
     alloc: Global,
     scope: &mut Scope,
@@ -71,8 +79,8 @@ fn read_next<'a>(
     requires room { CanOperate scope.old }
     requires place { IsLeftOf (length tokens.now) start }
     requires head { start.at ≡ at + 3 }
-    ensures read { Gives (λ r. ((ops.new, scope.new, r.at), kinds r.tokens.now)) result (added ops.old
-        (op_in (lines_of tokens.now) scope.old (length ops.old) at name.now (kinds start.entry.tokens.now))) }
+    ensures read { Gives (read_in ops.new scope.new) result (added ops.old
+        (op_in (lines_of tokens.now) scope.old (length ops.old) at name.now (kinds_left start.entry))) }
     ensures fit { IfOk result (λ _. OpsFit ops.new) }
     ensures one { IfOk result (λ _. length ops.new ≡ length ops.old + 1) }
     ensures grows { IfOk result (λ _. GrowsByOps scope.old scope.new op_names) }
@@ -89,13 +97,13 @@ pub fn read_ops<'a>(
     scope: &mut Scope,
     tokens: &[Token],
     start: Rest<'a>,
-) -> Result<(Items<Op>, Rest<'a>), ParseFault>
+) -> Parsed<'a, Items<Op>>
     requires room { HasRoom scope.old (op_names * (most What1.Ops + 1) + most_labels + 1) }
     requires locals { scope.old.locals ≡ [] }
     requires labels { scope.old.labels ≡ [] }
     requires place { IsLeftOf (length tokens.now) start }
-    ensures read { Gives (λ r. ((r.0, scope.new, r.1.at), kinds r.1.tokens.now)) result
-        (ops_in (lines_of tokens.now) scope.old start.entry.at (kinds start.entry.tokens.now)) }
+    ensures read { Gives (λ r. read_in r.0 scope.new r.1) result
+        (ops_in (lines_of tokens.now) scope.old start.entry.at (kinds_left start.entry)) }
     ensures fit { IfOk result (λ r. OpsFit r.0) }
     ensures labels { IfOk result (λ _. length scope.new.labels ≤ most_labels) }
 {

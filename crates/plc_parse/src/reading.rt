@@ -1,6 +1,7 @@
 // The two passes. The first knows the grammar and no names; the second reads the forms again, where
 // they can stand in no other order, and looks each name up where it stands.
-ghost use Rattle.std.specs.Prelude.{◌≡◌, ◌≤◌, ◌<◌, ◌^◌, ◌+◌, ◌-◌, ◌*◌, ◌∷◌, Some, Ok, [], true, false, length, IfOk, IfErr};
+ghost use Rattle.std.specs.Prelude.{◌≡◌, ◌≤◌, ◌<◌, ◌^◌, ◌+◌, ◌-◌, ◌*◌, ◌∷◌, Some, Ok, [], true, false, length, IfOk};
+ghost use Rattle.std.specs.Prelude.{IfErr};
 ghost use Rattle.plc_base.specs.Limits.{most};
 ghost use Rattle.plc_lang.specs.Fit.{FileFits, NamesWhatIsThere};
 ghost use Rattle.plc_lang.specs.WellSorted.{FileIsWellSorted};
@@ -8,11 +9,11 @@ ghost use Rattle.plc_lex.specs.declared.token.Token.{Token};
 ghost use Rattle.plc_syntax.specs.Syntax.{kinds};
 ghost use Rattle.plc_forms.specs.Sizes.{watch_size};
 ghost use Rattle.plc_forms.specs.Views.{watch_tree};
-ghost use Rattle.plc_scope.specs.Answers.{Gives, HasRoom, GrowsBy, Within};
+ghost use Rattle.plc_scope.specs.Answers.{Gives, HasRoom, Within};
 ghost use Rattle.plc_scope.specs.Scope.{most_names, most_locals};
 ghost use Rattle.plc_parse.specs.declared.unit.Unit.{Unit as FileUnit};
 ghost use Rattle.plc_parse.specs.Fit.{ObserverFits, UnitsFit};
-ghost use Rattle.plc_parse.specs.Growth.{IsLeftOf, KeepsLists, most_labels, op_names, ghost_names, front_names};
+ghost use Rattle.plc_parse.specs.Growth.{AddsNamesWithin, IsLeftOf, op_names, most_labels, ghost_names, front_names};
 ghost use Rattle.plc_parse.specs.Meaning.{retire, watch_means};
 ghost use Rattle.plc_logic.specs.Fit.{OutlineFits};
 ghost use Rattle.plc_outparse.specs.Answers.{OpsFit};
@@ -20,6 +21,8 @@ ghost use Rattle.plc_parse.specs.Reading.{struct_in, declarations_in, watch_in, 
 ghost use Rattle.plc_parse.specs.Reading.{outlined_in, body_in, unit_from, file_in};
 ghost use Rattle.plc_parse.specs.Front.{front_of};
 ghost use Rattle.plc_parse.specs.Units.{lines_of, IsUnitOf, IsFaultOf, IsShallowFile, UnitsAreUnique, FaultsAreOne};
+ghost use Rattle.plc_outparse.specs.Views.{read_with, kinds_left};
+ghost use Rattle.plc_parse.specs.Views.{read_in};
 
 use crate::auxiliary::read_ghosts;
 use crate::declaration::{Fields, Functions, SharedPointers, declare};
@@ -33,7 +36,7 @@ use plc_forms::{Rest, Watch, closing_at, init_at, struct_at, watch_at};
 use plc_lang::{Field, File, Func, Ghost, Op, Prim};
 use plc_lex::Token;
 use plc_logic::Outline;
-use plc_outparse::read_outline;
+use plc_outparse::{Parsed, read_outline};
 use plc_scope::{Binding, ParseFault, Scope};
 use plc_syntax::{SyntaxFault, syntax};
 use std::alloc::Global;
@@ -44,11 +47,11 @@ const RETIRE: Func = Func {
     pointer: true,
 };
 
-// The struct's name, declared, and what is behind its opening brace.
+// The struct's name, declared, and what is after its opening brace.
 #[tactic(auto, unfolding(crate::specs::Reading::struct_in))]
 fn read_struct(alloc: Global, tokens: &[Token]) -> Result<(Scope, Rest), ParseFault>
     requires { length tokens.now < 2 ^ 32 }
-    ensures read { Gives (λ r. ((r.0, r.1.at), kinds r.1.tokens.now)) result (struct_in (kinds tokens.now)) }
+    ensures read { Gives (λ r. read_with r.0 r.1) result (struct_in (kinds tokens.now)) }
     ensures names { IfOk result (λ r. HasRoom r.0 (most_names - 2)) }
     ensures locals { IfOk result (λ r. r.0.locals ≡ []) }
     ensures labels { IfOk result (λ r. r.0.labels ≡ []) }
@@ -72,18 +75,13 @@ struct Declared {
 
 // The fields of the struct, the shared pointers and the functions.
 #[tactic(auto, unfolding(crate::specs::Reading::declarations_in))]
-fn read_declarations<'a>(
-    alloc: Global,
-    scope: &mut Scope,
-    start: Rest<'a>,
-) -> Result<(Declared, Rest<'a>), ParseFault>
+fn read_declarations<'a>(alloc: Global, scope: &mut Scope, start: Rest<'a>) -> Parsed<'a, Declared>
     requires { HasRoom scope.old (most What1.Fields + most What1.Shared + most What1.Calls + 1) }
-    ensures read { Gives (λ r. ((r.0.fields, r.0.shared, r.0.functions, scope.new, r.1.at), kinds r.1.tokens.now))
-        result (declarations_in scope.old start.entry.at (kinds start.entry.tokens.now)) }
-    ensures names { IfOk result (λ _.
-        GrowsBy scope.old scope.new (most What1.Fields + most What1.Shared + most What1.Calls)) }
-    ensures lists { IfOk result (λ _. KeepsLists scope.old scope.new) }
-    ensures place { IfOk result (λ r. Within start.entry r.1) }
+    ensures read { Gives (λ r.
+        ((r.0.fields, r.0.shared, r.0.functions, scope.new, r.1.at), kinds_left r.1)) result
+        (declarations_in scope.old start.entry.at (kinds_left start.entry)) }
+    ensures declares { IfOk result (λ r. AddsNamesWithin scope.old scope.new
+        (most What1.Fields + most What1.Shared + most What1.Calls) start.entry r.1) }
 {
     let (fields, rest) = read_listed::<Fields>(alloc, scope, start)?;
     let Some(rest) = closing_at(rest) else {
@@ -118,10 +116,10 @@ fn observer(scope: &Scope, at: u32, watch: Watch) -> Result<Observer, ParseFault
 
 // The observer, which is plain where the file names none.
 #[tactic(auto, unfolding(crate::specs::Reading::watch_in))]
-fn read_watch<'a>(scope: &Scope, start: Rest<'a>) -> Result<(Observer, Rest<'a>), ParseFault>
+fn read_watch<'a>(scope: &Scope, start: Rest<'a>) -> Parsed<'a, Observer>
     requires { length scope.now.locals ≤ most_locals }
-    ensures read { Gives (λ r. ((r.0, r.1.at), kinds r.1.tokens.now)) result
-        (watch_in scope.now start.entry.at (kinds start.entry.tokens.now)) }
+    ensures read { Gives (λ r. read_with r.0 r.1) result
+        (watch_in scope.now start.entry.at (kinds_left start.entry)) }
     ensures place { IfOk result (λ r. Within start.entry r.1) }
 {
     match watch_at(start) {
@@ -135,14 +133,10 @@ fn read_watch<'a>(scope: &Scope, start: Rest<'a>) -> Result<(Observer, Rest<'a>)
 
 // The primitives of `init`, which may be left out.
 #[tactic(auto, unfolding(crate::specs::Reading::init_in))]
-fn read_init<'a>(
-    alloc: Global,
-    scope: &Scope,
-    start: Rest<'a>,
-) -> Result<(Items<Prim>, Rest<'a>), ParseFault>
+fn read_init<'a>(alloc: Global, scope: &Scope, start: Rest<'a>) -> Parsed<'a, Items<Prim>>
     requires { length scope.now.locals ≤ most_locals }
-    ensures read { Gives (λ r. ((r.0, r.1.at), kinds r.1.tokens.now)) result
-        (init_in scope.now start.entry.at (kinds start.entry.tokens.now)) }
+    ensures read { Gives (λ r. read_with r.0 r.1) result
+        (init_in scope.now start.entry.at (kinds_left start.entry)) }
     ensures place { IfOk result (λ r. Within start.entry r.1) }
 {
     match init_at(start) {
@@ -160,7 +154,7 @@ fn with_retire(functions: Items<Func>) -> Result<Items<Func>, ParseFault>
     Ok(Items::from_vec(all))
 }
 
-// The outline, which may be left out; nothing may be left behind it.
+// The outline, which may be left out; nothing may be left after it.
 #[tactic(auto, unfolding(crate::specs::Reading::outlined_in))]
 fn read_outlined(
     alloc: Global,
@@ -171,7 +165,7 @@ fn read_outlined(
     requires labels { length scope.now.labels ≤ most_labels }
     requires ops { OpsFit ops.now }
     ensures { Gives (λ outline. outline) result
-        (outlined_in scope.now ops.now start.entry.at (kinds start.entry.tokens.now)) }
+        (outlined_in scope.now ops.now start.entry.at (kinds_left start.entry)) }
 {
     if start.tokens.is_empty() {
         return Ok(Outline {
@@ -199,18 +193,12 @@ struct Front {
 // What stands before the operations. Each part has a function of its own, so that few values live where
 // one may fail.
 #[tactic(auto, unfolding(crate::specs::Reading::front_in))]
-fn read_front<'a>(
-    alloc: Global,
-    scope: &mut Scope,
-    start: Rest<'a>,
-) -> Result<(Front, Rest<'a>), ParseFault>
+fn read_front<'a>(alloc: Global, scope: &mut Scope, start: Rest<'a>) -> Parsed<'a, Front>
     requires room { HasRoom scope.old (front_names + ghost_names) }
     requires locals { scope.old.locals ≡ [] }
-    ensures read { Gives (λ r. ((front_of r.0, scope.new, r.1.at), kinds r.1.tokens.now)) result
-        (front_in scope.old start.entry.at (kinds start.entry.tokens.now)) }
-    ensures names { IfOk result (λ _. GrowsBy scope.old scope.new front_names) }
-    ensures lists { IfOk result (λ _. KeepsLists scope.old scope.new) }
-    ensures place { IfOk result (λ r. Within start.entry r.1) }
+    ensures read { Gives (λ r. read_in (front_of r.0) scope.new r.1) result
+        (front_in scope.old start.entry.at (kinds_left start.entry)) }
+    ensures declares { IfOk result (λ r. AddsNamesWithin scope.old scope.new front_names start.entry r.1) }
 {
     let (declared, rest) = read_declarations(alloc, scope, start)?;
     let (observer, rest) = read_watch(scope, rest)?;
@@ -238,7 +226,7 @@ fn read_body(
     requires labels { scope.old.labels ≡ [] }
     requires place { IsLeftOf (length tokens.now) start }
     ensures { Gives (λ r. (r.0, r.1, scope.new)) result
-        (body_in (lines_of tokens.now) scope.old start.entry.at (kinds start.entry.tokens.now)) }
+        (body_in (lines_of tokens.now) scope.old start.entry.at (kinds_left start.entry)) }
 {
     let (ops, rest) = read_ops(alloc, scope, tokens, start)?;
     let outline = read_outlined(alloc, scope, ops.as_slice(), rest)?;

@@ -1,14 +1,15 @@
 // Statements without blocks of statements. Each is read by its first tokens, and judged at once.
 ghost use Rattle.std.specs.Prelude.{◌≡◌, ◌+◌, ◌<◌, ◌≤◌, ◌^◌, Option, IfOk, length};
 ghost use Rattle.plc_lang.specs.Views.{statement_of};
-ghost use Rattle.plc_syntax.specs.Syntax.{kinds};
 ghost use Rattle.plc_forms.specs.Sizes.{call_size, during_size, primitive_size};
 ghost use Rattle.plc_forms.specs.Views.{text_or_none, argument_tree, primitive_tree};
 ghost use Rattle.plc_scope.specs.Answers.{Gives, Within};
 ghost use Rattle.plc_scope.specs.Scope.{most_locals};
-ghost use Rattle.plc_parse.specs.Growth.{CanLabel, GrowsByLabels};
+ghost use Rattle.plc_parse.specs.Growth.{AddsLabelsWithin, CanLabel, GrowsByLabels};
 ghost use Rattle.plc_parse.specs.Meaning.{label_means, during_means};
 ghost use Rattle.plc_parse.specs.Reading.{break_in, label_in, atomic_in, called_in, primitive_in, step_in, flat_in};
+ghost use Rattle.plc_outparse.specs.Views.{kinds_left};
+ghost use Rattle.plc_parse.specs.Views.{read_in};
 
 use crate::step::read_primitives;
 use plc_base::What1;
@@ -18,10 +19,11 @@ use plc_forms::{
 };
 use plc_lang::Stmt;
 use plc_lex::{Keyword, Symbol};
+use plc_outparse::Parsed;
 use plc_scope::{ParseFault, Scope, call, primitive};
 use std::alloc::Global;
 
-// Declares a label behind the word at a place, and answers its number.
+// Declares a label after the word at a place, and answers its number.
 #[tactic(auto, using(crate::proofs::Growth::labelled))]
 fn declare_label(scope: &mut Scope, at: u32, name: &[u8]) -> Result<u16, ParseFault>
     requires room { CanLabel scope.old }
@@ -57,28 +59,22 @@ fn declare_during(
     }
 }
 
-// A label, from behind its semicolon.
-fn read_label<'a>(
-    scope: &mut Scope,
-    at: u32,
-    name: &[u8],
-    start: Rest<'a>,
-) -> Result<(Stmt, Rest<'a>), ParseFault>
+// A label, from after its semicolon.
+fn read_label<'a>(scope: &mut Scope, at: u32, name: &[u8], start: Rest<'a>) -> Parsed<'a, Stmt>
     requires room { CanLabel scope.old }
     requires word { start.at ≡ at + 3 }
-    ensures read { Gives (λ r. ((statement_of r.0, scope.new, r.1.at), kinds r.1.tokens.now)) result
-        (label_in scope.old at name.now (kinds start.entry.tokens.now)) }
-    ensures grows { IfOk result (λ _. GrowsByLabels scope.old scope.new) }
-    ensures place { IfOk result (λ r. Within start.entry r.1) }
+    ensures read { Gives (λ r. read_in (statement_of r.0) scope.new r.1) result
+        (label_in scope.old at name.now (kinds_left start.entry)) }
+    ensures labels { IfOk result (λ r. AddsLabelsWithin scope.old scope.new start.entry r.1) }
 {
     let number = declare_label(scope, at, name)?;
     Ok((Stmt::Label(number), start))
 }
 
-fn read_break<'a>(in_loop: bool, at: u32, start: Rest<'a>) -> Result<(Stmt, Rest<'a>), ParseFault>
+fn read_break<'a>(in_loop: bool, at: u32, start: Rest<'a>) -> Parsed<'a, Stmt>
     requires word { start.at ≡ at + 2 }
-    ensures read { (s : Scope) → Gives (λ r. ((statement_of r.0, s, r.1.at), kinds r.1.tokens.now)) result
-        (break_in s in_loop at (kinds start.entry.tokens.now)) }
+    ensures read { (s : Scope) → Gives (λ r. read_in (statement_of r.0) s r.1) result
+        (break_in s in_loop at (kinds_left start.entry)) }
     ensures place { IfOk result (λ r. Within start.entry r.1) }
 {
     if in_loop {
@@ -88,38 +84,27 @@ fn read_break<'a>(in_loop: bool, at: u32, start: Rest<'a>) -> Result<(Stmt, Rest
     }
 }
 
-// An atomic block, from behind its brace.
-fn read_atomic<'a>(
-    alloc: Global,
-    scope: &Scope,
-    at: u32,
-    start: Rest<'a>,
-) -> Result<(Stmt, Rest<'a>), ParseFault>
+// An atomic block, from after its brace.
+fn read_atomic<'a>(alloc: Global, scope: &Scope, at: u32, start: Rest<'a>) -> Parsed<'a, Stmt>
     requires locals { length scope.now.locals ≤ most_locals }
     requires word { start.at ≡ at + 2 }
-    ensures read { Gives (λ r. ((statement_of r.0, scope.now, r.1.at), kinds r.1.tokens.now)) result
-        (atomic_in scope.now at (kinds start.entry.tokens.now)) }
+    ensures read { Gives (λ r. read_in (statement_of r.0) scope.now r.1) result
+        (atomic_in scope.now at (kinds_left start.entry)) }
     ensures place { IfOk result (λ r. Within start.entry r.1) }
 {
     let (primitives, rest) = read_primitives(alloc, scope, start)?;
     Ok((Stmt::Atomic(primitives), rest))
 }
 
-// A call, from behind its closing parenthesis.
+// A call, from after its closing parenthesis.
 #[tactic(auto, unfolding(crate::specs::Reading::called_in))]
-fn read_call<'a>(
-    scope: &mut Scope,
-    at: u32,
-    form: Call,
-    start: Rest<'a>,
-) -> Result<(Stmt, Rest<'a>), ParseFault>
+fn read_call<'a>(scope: &mut Scope, at: u32, form: Call, start: Rest<'a>) -> Parsed<'a, Stmt>
     requires room { CanLabel scope.old }
     requires name { start.at ≡ at + call_size (argument_tree form.argument) }
-    ensures read { Gives (λ r. ((statement_of r.0, scope.new, r.1.at), kinds r.1.tokens.now)) result
+    ensures read { Gives (λ r. read_in (statement_of r.0) scope.new r.1) result
         (called_in scope.old at form.entry.name.now (argument_tree form.entry.argument)
-        (kinds start.entry.tokens.now)) }
-    ensures grows { IfOk result (λ _. GrowsByLabels scope.old scope.new) }
-    ensures place { IfOk result (λ r. Within start.entry r.1) }
+        (kinds_left start.entry)) }
+    ensures labels { IfOk result (λ r. AddsLabelsWithin scope.old scope.new start.entry r.1) }
 {
     let called = call(scope, at, form)?;
     let (name, rest) = during_at(start);
@@ -136,17 +121,12 @@ fn read_call<'a>(
     Ok((stmt, rest))
 }
 
-// One primitive, from behind its semicolon.
-fn read_primitive<'a>(
-    scope: &Scope,
-    at: u32,
-    form: Primitive,
-    start: Rest<'a>,
-) -> Result<(Stmt, Rest<'a>), ParseFault>
+// One primitive, from after its semicolon.
+fn read_primitive<'a>(scope: &Scope, at: u32, form: Primitive, start: Rest<'a>) -> Parsed<'a, Stmt>
     requires locals { length scope.now.locals ≤ most_locals }
     requires form { start.at ≡ at + primitive_size (primitive_tree form) + 1 }
-    ensures read { Gives (λ r. ((statement_of r.0, scope.now, r.1.at), kinds r.1.tokens.now)) result
-        (primitive_in scope.now at (primitive_tree form.entry) (kinds start.entry.tokens.now)) }
+    ensures read { Gives (λ r. read_in (statement_of r.0) scope.now r.1) result
+        (primitive_in scope.now at (primitive_tree form.entry) (kinds_left start.entry)) }
     ensures place { IfOk result (λ r. Within start.entry r.1) }
 {
     match primitive(scope, at, form)? {
@@ -157,16 +137,11 @@ fn read_primitive<'a>(
 
 // A step: an atomic block, a call, or one primitive.
 #[tactic(auto, unfolding(crate::specs::Reading::step_in))]
-fn read_step<'a>(
-    alloc: Global,
-    scope: &mut Scope,
-    start: Rest<'a>,
-) -> Result<(Stmt, Rest<'a>), ParseFault>
+fn read_step<'a>(alloc: Global, scope: &mut Scope, start: Rest<'a>) -> Parsed<'a, Stmt>
     requires room { CanLabel scope.old }
-    ensures read { Gives (λ r. ((statement_of r.0, scope.new, r.1.at), kinds r.1.tokens.now)) result
-        (step_in scope.old start.entry.at (kinds start.entry.tokens.now)) }
-    ensures grows { IfOk result (λ _. GrowsByLabels scope.old scope.new) }
-    ensures place { IfOk result (λ r. Within start.entry r.1) }
+    ensures read { Gives (λ r. read_in (statement_of r.0) scope.new r.1) result
+        (step_in scope.old start.entry.at (kinds_left start.entry)) }
+    ensures labels { IfOk result (λ r. AddsLabelsWithin scope.old scope.new start.entry r.1) }
 {
     if let Some(behind) = word_symbol_at(start, Keyword::Atomic, Symbol::OpenBrace) {
         return read_atomic(alloc, scope, start.at, behind);
@@ -187,12 +162,11 @@ pub fn read_flat<'a>(
     scope: &mut Scope,
     in_loop: bool,
     start: Rest<'a>,
-) -> Result<(Stmt, Rest<'a>), ParseFault>
+) -> Parsed<'a, Stmt>
     requires room { CanLabel scope.old }
-    ensures read { Gives (λ r. ((statement_of r.0, scope.new, r.1.at), kinds r.1.tokens.now)) result
-        (flat_in scope.old in_loop start.entry.at (kinds start.entry.tokens.now)) }
-    ensures grows { IfOk result (λ _. GrowsByLabels scope.old scope.new) }
-    ensures place { IfOk result (λ r. Within start.entry r.1) }
+    ensures read { Gives (λ r. read_in (statement_of r.0) scope.new r.1) result
+        (flat_in scope.old in_loop start.entry.at (kinds_left start.entry)) }
+    ensures labels { IfOk result (λ r. AddsLabelsWithin scope.old scope.new start.entry r.1) }
 {
     if let Some(behind) = word_symbol_at(start, Keyword::Break, Symbol::Semicolon) {
         return read_break(in_loop, start.at, behind);

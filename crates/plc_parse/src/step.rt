@@ -15,10 +15,12 @@ ghost use Rattle.plc_forms.specs.Sizes.{primitive_size, initial_size};
 ghost use Rattle.plc_forms.proofs.Shrinks.{primitive_line_shrinks, initial_line_shrinks};
 ghost use Rattle.plc_scope.specs.Primitives.{primitive_means, initial_means};
 ghost use Rattle.plc_parse.specs.Reading.{with_form, forms_in, primitives_in, initials_in};
+ghost use Rattle.plc_outparse.specs.Views.{read_with, kinds_left};
 
 use plc_base::{Items, What1};
 use plc_forms::{Rest, closing_at, initial_line_at, primitive_line_at};
 use plc_lang::{Prim, is_new};
+use plc_outparse::Parsed;
 use plc_scope::{ParseFault, Scope, initial, primitive};
 use std::alloc::Global;
 
@@ -110,7 +112,7 @@ trait StepForms {
 
     ghost size: { Tree → ℕ };
 
-    /// What the form at the front means, and what is behind it; none where no form stands there.
+    /// What the form at the front means, and what is after it; none where no form stands there.
     fn next<'a>(
         scope: &Scope,
         start: Rest<'a>,
@@ -174,10 +176,10 @@ fn read_forms<'a, F: StepForms>(
     alloc: Global,
     scope: &Scope,
     start: Rest<'a>,
-) -> Result<(Items<Prim>, Rest<'a>), ParseFault>
+) -> Parsed<'a, Items<Prim>>
     requires { length scope.now.locals ≤ most_locals }
-    ensures read { Gives (λ r. ((r.0, r.1.at), kinds r.1.tokens.now)) result
-        (forms_in F.item (F.means scope.now) F.size start.entry.at (kinds start.entry.tokens.now)) }
+    ensures read { Gives (λ r. read_with r.0 r.1) result
+        (forms_in F.item (F.means scope.now) F.size start.entry.at (kinds_left start.entry)) }
     ensures place { IfOk result (λ r. Within start.entry r.1) }
 {
     let mut step = Step::new(alloc);
@@ -192,31 +194,23 @@ fn read_forms<'a, F: StepForms>(
     }
 }
 
-/// The primitives of an atomic block, from behind its brace, and its closing brace.
+/// The primitives of an atomic block, from after its brace, and its closing brace.
 #[tactic(auto, unfolding(crate::specs::Reading::primitives_in))]
-pub fn read_primitives<'a>(
-    alloc: Global,
-    scope: &Scope,
-    start: Rest<'a>,
-) -> Result<(Items<Prim>, Rest<'a>), ParseFault>
+pub fn read_primitives<'a>(alloc: Global, scope: &Scope, start: Rest<'a>) -> Parsed<'a, Items<Prim>>
     requires { length scope.now.locals ≤ most_locals }
-    ensures read { Gives (λ r. ((r.0, r.1.at), kinds r.1.tokens.now)) result
-        (primitives_in scope.now start.entry.at (kinds start.entry.tokens.now)) }
+    ensures read { Gives (λ r. read_with r.0 r.1) result
+        (primitives_in scope.now start.entry.at (kinds_left start.entry)) }
     ensures place { IfOk result (λ r. Within start.entry r.1) }
 {
     read_forms::<AtomicForms>(alloc, scope, start)
 }
 
-/// The primitives of `init`, from behind its brace, and its closing brace.
+/// The primitives of `init`, from after its brace, and its closing brace.
 #[tactic(auto, unfolding(crate::specs::Reading::initials_in))]
-pub fn read_initials<'a>(
-    alloc: Global,
-    scope: &Scope,
-    start: Rest<'a>,
-) -> Result<(Items<Prim>, Rest<'a>), ParseFault>
+pub fn read_initials<'a>(alloc: Global, scope: &Scope, start: Rest<'a>) -> Parsed<'a, Items<Prim>>
     requires { length scope.now.locals ≤ most_locals }
-    ensures read { Gives (λ r. ((r.0, r.1.at), kinds r.1.tokens.now)) result
-        (initials_in scope.now start.entry.at (kinds start.entry.tokens.now)) }
+    ensures read { Gives (λ r. read_with r.0 r.1) result
+        (initials_in scope.now start.entry.at (kinds_left start.entry)) }
     ensures place { IfOk result (λ r. Within start.entry r.1) }
 {
     read_forms::<InitialForms>(alloc, scope, start)

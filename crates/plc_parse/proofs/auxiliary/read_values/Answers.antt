@@ -28,9 +28,9 @@ loop-name-preserved c =
     record {
       one = omega arith;
       count = omega arith;
-      names = omega (arith, c.loop-name.invariant.names, c.in_ok-number.ensures.names.names);
-      limit = c.in_ok-number.ensures.names.limit ∙ c.loop-name.invariant.limit;
-      lists = lists_then _ _ _ c.loop-name.invariant.lists c.in_ok-number.ensures.lists;
+      names = omega (arith, c.loop-name.invariant.names, c.in_ok-number.ensures.declares.names.names);
+      limit = c.in_ok-number.ensures.declares.names.limit ∙ c.loop-name.invariant.limit;
+      lists = lists_then _ _ _ c.loop-name.invariant.lists c.in_ok-number.ensures.declares.lists;
       place = within_then _ _ _ 2 c.loop-name.invariant.place c.in-Some.ensures.behind;
       read = rw (c.in-Some.ensures.behind.at, c.in_ok-push-2.ensures.ok)
           (sym (each_turns comma_name_of (value_step c.args.owner) comma_name_shrinks (c.loop-name.values, c.loop-name.scope, c.loop-name.rest.at) _ _ (c.in-Some.name.now, kinds c.in-Some.behind.tokens.now) c.in-Some.ensures.read

@@ -11,65 +11,65 @@ use Rattle.plc_parse.proofs.block.+block.Goals as goal
 
 pub read_block-returns-in-Some-clause-read : goal.read_block-returns-in-Some-clause-read
 read_block-returns-in-Some-clause-read t c =
-    let more : c.args.most - c.loop-i.i ≡ suc (c.args.most - 1 - c.loop-i.i) = omega (arith, c.loop-i-test.true) in
-    block_end (lines_of c.args.tokens.now) c.args.in_loop (c.args.most - c.loop-i.i) (c.args.most - 1 - c.loop-i.i) c.loop-i.lines.items c.loop-i.scope c.loop-i.rest.at _ (kinds c.in-Some.behind.tokens.now) _ more c.in-Some.ensures.read c.loop-i.invariant.read
+    let more : c.args.context.most - c.loop-i.i ≡ suc (c.args.context.most - 1 - c.loop-i.i) = omega (arith, c.loop-i-test.true) in
+    block_end (lines_of c.args.context.tokens.now) c.args.context.in_loop (c.args.context.most - c.loop-i.i) (c.args.context.most - 1 - c.loop-i.i) c.loop-i.lines.items c.loop-i.scope c.loop-i.rest.at _ (kinds c.in-Some.behind.tokens.now) _ more c.in-Some.ensures.read c.loop-i.invariant.read
     ∙ ap (λ (b : Statements). Ok ((b, c.loop-i.scope, c.loop-i.rest.at + 1), kinds c.in-Some.behind.tokens.now)) (sym c.new.ensures)
     ∙ ap (λ (p : ℕ). Ok ((c.new.result, c.loop-i.scope, p), kinds c.in-Some.behind.tokens.now)) (sym c.in-Some.ensures.behind.at)
 
 pub read_block-returns-in_err-stmt-clause-read : goal.read_block-returns-in_err-stmt-clause-read
 read_block-returns-in_err-stmt-clause-read t c =
     let p = err_from_is_err_and c.from_residual.result c.from_residual.ensures.1 in
-    let more : c.args.most - c.loop-i.i ≡ suc (c.args.most - 1 - c.loop-i.i) = omega (arith, c.loop-i-test.true) in
-    rw (p.1, p.2) (block_stop (lines_of c.args.tokens.now) c.args.in_loop _ (c.args.most - c.loop-i.i) (c.args.most - 1 - c.loop-i.i) c.loop-i.lines.items c.loop-i.scope c.loop-i.rest.at _ _ more c.in_default.ensures.read c.in_err-stmt.ensures.read c.loop-i.invariant.read)
+    let more : c.args.context.most - c.loop-i.i ≡ suc (c.args.context.most - 1 - c.loop-i.i) = omega (arith, c.loop-i-test.true) in
+    rw (p.1, p.2) (block_stop (lines_of c.args.context.tokens.now) c.args.context.in_loop _ (c.args.context.most - c.loop-i.i) (c.args.context.most - 1 - c.loop-i.i) c.loop-i.lines.items c.loop-i.scope c.loop-i.rest.at _ _ more c.in_default.ensures.read c.in_err-stmt.ensures.read c.loop-i.invariant.read)
 
 pub read_block-loop-i-preserved : goal.read_block-loop-i-preserved
 read_block-loop-i-preserved t c =
     let line : Line = record { line = c.line_at-line.result; stmt = c.in_ok-stmt.stmt } in
-    let more : c.args.most - c.loop-i.i ≡ suc (c.args.most - 1 - c.loop-i.i) = omega (arith, c.loop-i-test.true) in
-    let fuel : c.args.most - (c.loop-i.i + 1) ≡ c.args.most - 1 - c.loop-i.i = omega arith in
+    let more : c.args.context.most - c.loop-i.i ≡ suc (c.args.context.most - 1 - c.loop-i.i) = omega (arith, c.loop-i-test.true) in
+    let fuel : c.args.context.most - (c.loop-i.i + 1) ≡ c.args.context.most - 1 - c.loop-i.i = omega arith in
     record {
-      room = can_still_label _ _ c.loop-i.invariant.room c.in_ok-stmt.ensures.grows;
-      grows = labels_then _ _ _ c.loop-i.invariant.grows c.in_ok-stmt.ensures.grows;
-      place = c.in_ok-stmt.ensures.place;
-      read = ap (λ (ls : List Line). lines_before ls (block_in (lines_of c.args.tokens.now) (c.args.most - (c.loop-i.i + 1)) c.read_statement.new.scope c.args.in_loop c.in_ok-stmt.end.at (kinds c.in_ok-stmt.end.tokens.now))) c.in_ok-push.ensures.items
-          ∙ ap (λ (m : ℕ). lines_before (c.loop-i.lines.items ++ line ∷ []) (block_in (lines_of c.args.tokens.now) m c.read_statement.new.scope c.args.in_loop c.in_ok-stmt.end.at (kinds c.in_ok-stmt.end.tokens.now))) fuel
-          ∙ sym (block_turn (lines_of c.args.tokens.now) c.args.in_loop (c.args.most - c.loop-i.i) (c.args.most - 1 - c.loop-i.i) c.loop-i.lines.items line c.loop-i.scope c.read_statement.new.scope c.loop-i.rest.at c.in_ok-stmt.end.at _ (kinds c.in_ok-stmt.end.tokens.now)
+      room = can_still_label _ _ c.loop-i.invariant.room c.in_ok-stmt.ensures.labels.grows;
+      grows = labels_then _ _ _ c.loop-i.invariant.grows c.in_ok-stmt.ensures.labels.grows;
+      place = c.in_ok-stmt.ensures.labels.place;
+      read = ap (λ (ls : List Line). lines_before ls (block_in (lines_of c.args.context.tokens.now) (c.args.context.most - (c.loop-i.i + 1)) c.read_statement.new.scope c.args.context.in_loop c.in_ok-stmt.end.at (kinds c.in_ok-stmt.end.tokens.now))) c.in_ok-push.ensures.items
+          ∙ ap (λ (m : ℕ). lines_before (c.loop-i.lines.items ++ line ∷ []) (block_in (lines_of c.args.context.tokens.now) m c.read_statement.new.scope c.args.context.in_loop c.in_ok-stmt.end.at (kinds c.in_ok-stmt.end.tokens.now))) fuel
+          ∙ sym (block_turn (lines_of c.args.context.tokens.now) c.args.context.in_loop (c.args.context.most - c.loop-i.i) (c.args.context.most - 1 - c.loop-i.i) c.loop-i.lines.items line c.loop-i.scope c.read_statement.new.scope c.loop-i.rest.at c.in_ok-stmt.end.at _ (kinds c.in_ok-stmt.end.tokens.now)
           more c.in_default.ensures.read c.line_at-line.ensures c.in_ok-stmt.ensures.read)
           ∙ c.loop-i.invariant.read;
     }
 
 pub read_block-returns-clause-read : goal.read_block-returns-clause-read
 read_block-returns-clause-read t c =
-    let none : c.args.most - c.loop-i.i ≡ 0 = omega (arith, c.loop-i-test.false) in
-    block_out (lines_of c.args.tokens.now) c.args.in_loop (c.args.most - c.loop-i.i) c.loop-i.lines.items c.loop-i.scope c.loop-i.rest.at _ _ none c.loop-i.invariant.read
+    let none : c.args.context.most - c.loop-i.i ≡ 0 = omega (arith, c.loop-i-test.false) in
+    block_out (lines_of c.args.context.tokens.now) c.args.context.in_loop (c.args.context.most - c.loop-i.i) c.loop-i.lines.items c.loop-i.scope c.loop-i.rest.at _ _ none c.loop-i.invariant.read
 
 pub read_blocks-returns-in_default-clause-read : goal.read_blocks-returns-in_default-clause-read
 read_blocks-returns-in_default-clause-read t c =
-    let more : c.args.most - c.loop.counter ≡ suc (c.args.most - (c.loop.counter + 1)) = omega (arith, c.loop-test.true) in
-    ors_end (block_in (lines_of c.args.tokens.now) c.args.most) c.args.in_loop (c.args.most - c.loop.counter) (c.args.most - (c.loop.counter + 1)) c.loop.choices.items c.loop.scope c.loop.rest.at _ _ more c.in_default.ensures.read c.loop.invariant.read
+    let more : c.args.context.most - c.loop.counter ≡ suc (c.args.context.most - (c.loop.counter + 1)) = omega (arith, c.loop-test.true) in
+    ors_end (block_in (lines_of c.args.context.tokens.now) c.args.context.most) c.args.context.in_loop (c.args.context.most - c.loop.counter) (c.args.context.most - (c.loop.counter + 1)) c.loop.choices.items c.loop.scope c.loop.rest.at _ _ more c.in_default.ensures.read c.loop.invariant.read
 
 pub read_blocks-returns-in_err-block-clause-read :
     goal.read_blocks-returns-in_err-block-clause-read
 read_blocks-returns-in_err-block-clause-read t c =
     let p = err_from_is_err_and c.from_residual-in_err-block.result c.from_residual-in_err-block.ensures.1 in
-    let more : c.args.most - c.loop.counter ≡ suc (c.args.most - (c.loop.counter + 1)) = omega (arith, c.loop-test.true) in
-    rw (p.1, p.2) (ors_stop (block_in (lines_of c.args.tokens.now) c.args.most) c.args.in_loop _ (c.args.most - c.loop.counter) (c.args.most - (c.loop.counter + 1)) c.loop.choices.items c.loop.scope c.loop.rest.at _ (kinds c.in-Some.behind.tokens.now) _ more c.in-Some.ensures.read
+    let more : c.args.context.most - c.loop.counter ≡ suc (c.args.context.most - (c.loop.counter + 1)) = omega (arith, c.loop-test.true) in
+    rw (p.1, p.2) (ors_stop (block_in (lines_of c.args.context.tokens.now) c.args.context.most) c.args.context.in_loop _ (c.args.context.most - c.loop.counter) (c.args.context.most - (c.loop.counter + 1)) c.loop.choices.items c.loop.scope c.loop.rest.at _ (kinds c.in-Some.behind.tokens.now) _ more c.in-Some.ensures.read
     (rw c.in-Some.ensures.behind.at at c.in_err-block.ensures.read) c.loop.invariant.read)
 
 pub read_blocks-loop-preserved : goal.read_blocks-loop-preserved
 read_blocks-loop-preserved t c =
-    let more : c.args.most - c.loop.counter ≡ suc (c.args.most - (c.loop.counter + 1)) = omega (arith, c.loop-test.true) in
+    let more : c.args.context.most - c.loop.counter ≡ suc (c.args.context.most - (c.loop.counter + 1)) = omega (arith, c.loop-test.true) in
     record {
-      room = can_still_label _ _ c.loop.invariant.room c.in_ok-block.ensures.grows;
-      grows = labels_then _ _ _ c.loop.invariant.grows c.in_ok-block.ensures.grows;
-      place = c.in_ok-block.ensures.place;
-      read = ap (λ (bs : List Statements). blocks_before bs (ors_in (block_in (lines_of c.args.tokens.now) c.args.most) (c.args.most - (c.loop.counter + 1)) c.read_block.new.scope c.args.in_loop c.in_ok-block.end.at (kinds c.in_ok-block.end.tokens.now))) c.in_ok-push-2.ensures.items
-          ∙ sym (ors_turn (block_in (lines_of c.args.tokens.now) c.args.most) c.args.in_loop (c.args.most - c.loop.counter) (c.args.most - (c.loop.counter + 1)) c.loop.choices.items c.in_ok-block.block c.loop.scope c.read_block.new.scope c.loop.rest.at c.in_ok-block.end.at _ (kinds c.in-Some.behind.tokens.now) (kinds c.in_ok-block.end.tokens.now)
+      room = can_still_label _ _ c.loop.invariant.room c.in_ok-block.ensures.labels.grows;
+      grows = labels_then _ _ _ c.loop.invariant.grows c.in_ok-block.ensures.labels.grows;
+      place = c.in_ok-block.ensures.labels.place;
+      read = ap (λ (bs : List Statements). blocks_before bs (ors_in (block_in (lines_of c.args.context.tokens.now) c.args.context.most) (c.args.context.most - (c.loop.counter + 1)) c.read_block.new.scope c.args.context.in_loop c.in_ok-block.end.at (kinds c.in_ok-block.end.tokens.now))) c.in_ok-push-2.ensures.items
+          ∙ sym (ors_turn (block_in (lines_of c.args.context.tokens.now) c.args.context.most) c.args.context.in_loop (c.args.context.most - c.loop.counter) (c.args.context.most - (c.loop.counter + 1)) c.loop.choices.items c.in_ok-block.block c.loop.scope c.read_block.new.scope c.loop.rest.at c.in_ok-block.end.at _ (kinds c.in-Some.behind.tokens.now) (kinds c.in_ok-block.end.tokens.now)
           more c.in-Some.ensures.read (rw c.in-Some.ensures.behind.at at c.in_ok-block.ensures.read))
           ∙ c.loop.invariant.read;
     }
 
 pub read_blocks-returns-clause-read : goal.read_blocks-returns-clause-read
 read_blocks-returns-clause-read t c =
-    let none : c.args.most - c.loop.counter ≡ 0 = omega (arith, c.loop-test.false) in
-    ors_out (block_in (lines_of c.args.tokens.now) c.args.most) c.args.in_loop (c.args.most - c.loop.counter) c.loop.choices.items c.loop.scope c.loop.rest.at _ _ none c.loop.invariant.read
+    let none : c.args.context.most - c.loop.counter ≡ 0 = omega (arith, c.loop-test.false) in
+    ors_out (block_in (lines_of c.args.context.tokens.now) c.args.context.most) c.args.context.in_loop (c.args.context.most - c.loop.counter) c.loop.choices.items c.loop.scope c.loop.rest.at _ _ none c.loop.invariant.read

@@ -23,7 +23,7 @@ returns-in_err-declare_local-clause-read c =
 
 pub loop-declaration-preserved : goal.loop-declaration-preserved
 loop-declaration-preserved c = locals_turn field_of local_step field_shrinks _ _ _ _ _ _ (field_tree c.in-Some.declaration) 3 c.loop-declaration.invariant c.in-Some.ensures.read c.in-Some.ensures.behind
-    (ap (λ (r : Result Scope ParseFault). r >>= λ t. Ok (t, c.loop-declaration.rest.at + 3)) c.in_ok-declare_local.ensures.read) c.in_ok-declare_local.ensures.names c.in_ok-declare_local.ensures.labels
+    (ap (λ (r : Result Scope ParseFault). r >>= λ t. Ok (t, c.loop-declaration.rest.at + 3)) c.in_ok-declare_local.ensures.read) c.in_ok-declare_local.ensures.declares.names c.in_ok-declare_local.ensures.declares.labels
 
 pub returns-clause-read : goal.returns-clause-read
 returns-clause-read c = sym c.loop-declaration.invariant.read ∙ each_ends field_of local_step field_shrinks _ _ c.in_default.ensures.read

@@ -1,0 +1,17 @@
+-- How the program's answers are seen.
+use Rattle.std.specs.Prelude.{ℕ, List}
+use Rattle.plc_lex.specs.declared.token.TokenKind.{TokenKind}
+use Rattle.plc_forms.specs.declared.rest.Rest.{Rest}
+use Rattle.plc_scope.specs.declared.scope.Scope.{Scope}
+use Rattle.plc_outparse.specs.Views.{kinds_left}
+use Rattle.plc_parse.specs.declared.block.Context.{Context}
+use Rattle.plc_parse.specs.Reading.{BlockReader, block_in}
+use Rattle.plc_parse.specs.Units.{lines_of}
+
+-- what is read, with the scope and the place after it and what is left
+abbrev pub read_in : {A : Type 0} → A → Scope → Rest → (A × Scope × ℕ) × List TokenKind
+read_in a scope rest = ((a, scope, rest.at), kinds_left rest)
+
+-- how blocks are read in a context, whose own loop counts for nothing
+abbrev pub blocks_within : Context → BlockReader
+blocks_within context = block_in (lines_of context.tokens.now) context.most
