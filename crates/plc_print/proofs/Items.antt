@@ -15,12 +15,12 @@ one_item [] x some few e = absurd (omega arith)
 one_item (y ∷ []) x some few e = ap (λ z. z ∷ []) (sym e)
 one_item (y ∷ z ∷ xs) x some few e = absurd (omega arith)
 
--- the first item and those behind it
+-- the first item and those after it
 pub first_item : {A : Type 0} → (xs : List A) (d : A) → 1 ≤ length xs → xs ≡ get_or xs 0 d ∷ take (length xs - 1) (drop 1 xs)
 first_item [] d some = absurd (omega arith)
 first_item (y ∷ ys) d some = ap (λ zs. y ∷ zs) (sym (take_all (length (y ∷ ys) - 1) ys (omega arith)))
 
--- the first two items and those behind them
+-- the first two items and those after them
 pub two_items : {A : Type 0} → (xs : List A) (x y : A) → 2 ≤ length xs → x ≡ get_or xs 0 x → y ≡ get_or xs 1 y → xs ≡ x ∷ y ∷ take (length xs - 2) (drop 2 xs)
 two_items [] x y some e f = absurd (omega arith)
 two_items (a ∷ []) x y some e f = absurd (omega arith)

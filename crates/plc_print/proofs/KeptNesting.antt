@@ -106,7 +106,7 @@ shallow_fine o c a (Symbol OpenBrace ∷ ts) h = behind_token o c (suc o) c a (S
 shallow_fine o c a (Symbol CloseBrace ∷ ts) h = behind_token o c o (suc c) a (Symbol CloseBrace) ts (λ us. omega arith) (λ us. sym (one_close c us)) (λ e. absurd cc) (shallow_fine o (suc c) false ts h)
 shallow_fine o c a (Symbol s ∷ ts) h = behind_token o c o c a (Symbol s) ts (λ us. omega arith) (λ us. omega arith) (λ e. absurd cc) (shallow_fine o c false ts h)
 
--- a place behind another token
+-- a place after another token
 no_atomic : (o : Option TokenKind) → is_atomic_word o ≡ false → o ≢ Some (Word Atomic)
 no_atomic o e h = let same : is_atomic_word o ≡ true = ap is_atomic_word h in absurd cc
 

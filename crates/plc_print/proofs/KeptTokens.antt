@@ -9,7 +9,7 @@ use Rattle.plc_syntax.specs.Trees.{Text, each_then, maybe_then, comma_name_then,
 use Rattle.plc_print.specs.Outlines.{unless_empty}
 use Rattle.plc_print.proofs.NormalTrees.{stays, normal_statement, normal_block, normal_else, normal_or, normal_starts, normal_op, is_invariant, normal_items, normal_depth, normal_outline, normal_file}
 
--- the word behind which a brace begins no block
+-- the word after which a brace begins no block
 abbrev pub is_atomic : Keyword → Bool
 is_atomic Atomic = true
 is_atomic _ = false
@@ -48,7 +48,7 @@ module _ (K : TokenKind → Type 0) (D : ℕ → Type 0) where
   abbrev Kept : {X : Type 0} → (X → List TokenKind → List TokenKind) → X → X → Type 0
   Kept x_then x y = (o c : ℕ) (r s : List TokenKind) → (Fine o c false r → Fine o c false s) → Fine o c false (x_then x r) → Fine o c false (x_then y s)
 
-  -- in braces, of a block or behind `atomic`
+  -- in braces, of a block or after `atomic`
   in_braces : {X : Type 0} (x_then : X → List TokenKind → List TokenKind) (x y : X) → Kept x_then x y → (a : Bool) (o c : ℕ) (r s : List TokenKind) → (Fine o c false r → Fine o c false s)
       → Fine o c a (Symbol OpenBrace ∷ x_then x (Symbol CloseBrace ∷ r)) → Fine o c a (Symbol OpenBrace ∷ x_then y (Symbol CloseBrace ∷ s))
   in_braces x_then x y kept a o c r s k h = (h.0, kept (suc o) c (Symbol CloseBrace ∷ r) (Symbol CloseBrace ∷ s) (λ g. up o c false s (k (down o c false r g))) h.1)
@@ -253,7 +253,7 @@ module _ (K : TokenKind → Type 0) (D : ℕ → Type 0) where
   chosen_moved f [] o c r h = (λ p q s k. k, h)
   chosen_moved f (x ∷ xs) o c r h = let a = item_moved x o c _ h in let b = chosen_moved f xs o c r a.1 in (chosen (f x) x (filter f xs) a.0 b.0, b.1)
 
-  -- items behind items
+  -- items after items
   joined : (xs ys : List ItemTree) (s : List TokenKind) → each_then item_then xs (each_then item_then ys s) ≡ each_then item_then (xs ++ ys) s
   joined [] ys s = refl
   joined (x ∷ xs) ys s = ap (item_then x) (joined xs ys s)

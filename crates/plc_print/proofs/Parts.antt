@@ -1,4 +1,4 @@
--- Tokens behind a form are those of the form with nothing behind it, and then these; so is their text.
+-- Tokens after a form are those of the form with nothing after it, and then these; so is their text.
 use Rattle.std.proofs.Common.{◌≡◌, ◌+◌, ◌<◌, ◌++◌, ◌∷◌, [], List, length, drop, get_or, Option, Some, None, Bool, true, false, ℕ, refl, ap, sym, ◌∙◌, append_assoc}
 use Rattle.plc_lex.specs.declared.token.TokenKind.{TokenKind}
 use Rattle.plc_lex.specs.declared.token.TokenKind.TheVariants.{Word, Name, Symbol}
@@ -8,20 +8,20 @@ use Rattle.plc_syntax.specs.Trees.{each_then, maybe_then, word_if_then, comma_na
 use Rattle.plc_print.specs.Text.{token_text, behind, text_of}
 use Rattle.plc_print.proofs.Items.{copy_left, item_left}
 
--- what a form adds stands before what is behind it
+-- what a form adds stands before what is after it
 abbrev pub Leads : (List TokenKind → List TokenKind) → Type 0
 Leads form = (rest : List TokenKind) → form rest ≡ form [] ++ rest
 
--- the text of tokens one behind the other
+-- the text of tokens one after the other
 pub text_both : (xs ys : List TokenKind) → text_of (xs ++ ys) ≡ text_of xs ++ text_of ys
 text_both [] ys = refl
 text_both (x ∷ xs) ys = rw (text_both xs ys) (sym (append_assoc (token_text x) (behind x ∷ text_of xs) (text_of ys)))
 
--- the text of a form and of what is behind it
+-- the text of a form and of what is after it
 text_leads : (form : List TokenKind → List TokenKind) → Leads form → (rest : List TokenKind) → text_of (form rest) ≡ text_of (form []) ++ text_of rest
 text_leads form leads rest = ap text_of (leads rest) ∙ text_both (form []) rest
 
--- a form behind what was printed before, and then what is behind it
+-- a form after what was printed before, and then what is after it
 pub then_prints : (form : List TokenKind → List TokenKind) → Leads form → (rest : List TokenKind) → (old : List ℕ) → {mid new : List ℕ} → mid ≡ old ++ text_of (form []) → new ≡ mid ++ text_of rest → new ≡ old ++ text_of (form rest)
 then_prints form leads rest old e f = f ∙ ap (λ x. x ++ text_of rest) e ∙ append_assoc old (text_of (form [])) (text_of rest) ∙ ap (λ x. old ++ x) (sym (text_leads form leads rest))
 
@@ -89,7 +89,7 @@ primitive_leads (ActivePrimitive n) rest = refl
 primitive_leads (AssumePrimitive t) rest = rw (test_leads t rest) refl
 primitive_leads SkipPrimitive rest = refl
 
--- ---- forms one behind the other
+-- ---- forms one after the other
 
 leads_then : (first second : List TokenKind → List TokenKind) → Leads first → Leads second → Leads (λ rest. first (second rest))
 leads_then first second f s rest =
@@ -102,7 +102,7 @@ pub each_leads : {A : Type 0} → (x_then : A → List TokenKind → List TokenK
 each_leads x_then f [] rest = refl
 each_leads x_then f (x ∷ xs) rest = leads_then (x_then x) (each_then x_then xs) (f x) (each_leads x_then f xs) rest
 
--- items one behind the other
+-- items one after the other
 pub each_then_both : {A : Type 0} → (x_then : A → List TokenKind → List TokenKind) (xs ys : List A) (rest : List TokenKind) → each_then x_then (xs ++ ys) rest ≡ each_then x_then xs (each_then x_then ys rest)
 each_then_both x_then [] ys rest = refl
 each_then_both x_then (x ∷ xs) ys rest = ap (x_then x) (each_then_both x_then xs ys rest)

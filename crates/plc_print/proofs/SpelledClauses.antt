@@ -34,7 +34,7 @@ use Rattle.plc_print.proofs.SpelledNames.{IsBound, Bound, Ends, from_number, num
 -- ---- parts that are added one by one
 
 module _ {X Y : Type 0} (E : Type 0) (spell : Y → X) (step : List Y × ℕ → X → Result (List Y × ℕ) ParseFault) where
-  -- a step adds one part, spelled so, behind those before it, and adds it at every place
+  -- a step adds one part, spelled so, after those before it, and adds it at every place
   pub record OneMore (st : List Y × ℕ) (x : X) (t : List Y × ℕ) : Type 0 where
     pub added : Y
     pub is : t.0 ≡ st.0 ++ added ∷ []
@@ -265,7 +265,7 @@ module _ (file : File) (s : Scope) (bound : Bound file s) where
         record { named = ap (λ (t : NameList). bound_tree t.names) (f.named ∙ ap (λ (t : NameList). with_last t m) h); again = f.again })
         (moved (λ r. r ≡ with_last q m) (λ a. bound_with s ls q a m) (λ a. a + 3) at (with_found q m (at + 3))))
 
-    -- the clause is spelled by the tree, and is the same at each place, by which the place behind it goes
+    -- the clause is spelled by the tree, and is the same at each place, by which the place after it goes
     pub record ClauseRead (means : ℕ → Result (Clause × ℕ) ParseFault) (c : ClauseTree) (k : Clause × ℕ) : Type 0 where
       pub tree : Ends file s → clause_tree file ls k.0 ≡ c
       pub again : (at : ℕ) → (place : ℕ) × (means at ≡ Ok (k.0, place))

@@ -125,7 +125,7 @@ module _ (lines : List ℕ) (f : FileTree) (s : Scope) (fields : List Field × S
       by zero b e = let same : Function (record { 0 = 0 }) true ≡ b = cc in subst (λ c. IsBound file 0 c) same refl
       by (suc i) b e = absurd cc
 
-  -- the normal tree means the unit with the operations that are read behind its `init`
+  -- the normal tree means the unit with the operations that are read after its `init`
   unit_again : (ms : List ℕ) (place last : ℕ) (os : List Op) → init_means ghosts.1 ghosts.2 (normal_starts f.starts) ≡ Ok (starts.0, place) → listed (op_means ms) ghosts.1 0 place (map normal_op f.ops) ≡ Ok (os, ops.1, last)
       → map op_without_lines os ≡ map op_without_lines ops.0 → outlined_means ops.1 ops.0 last (normal_outline f.outlined) ≡ Ok outline → file_means ms (normal_file f) ≡ Ok (unit os)
   unfolding file_means

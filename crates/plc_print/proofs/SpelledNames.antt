@@ -69,7 +69,7 @@ module _ (file : File) where
     pub even : length s.bindings ≡ length s.names.names
     pub each : (i : ℕ) (b : Binding) → slice_get s.bindings i ≡ Some b → IsBound i b
 
-  -- the file has the names and labels of the scope, and perhaps more behind
+  -- the file has the names and labels of the scope, and perhaps more after
   pub record Ends (s : Scope) : Type 0 where
     pub names : Within s.names.names file.names.names
     pub labels : Within s.labels file.labels

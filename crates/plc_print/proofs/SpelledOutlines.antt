@@ -50,7 +50,7 @@ itself : {A : Type 0} (o : Option A) → IfSome o (λ x. o ≡ Some x)
 itself (Some x) = refl
 itself None = tt
 
--- two lists of parts, one behind the other
+-- two lists of parts, one after the other
 both_in_turn : {S X : Type 0} (step : S → X → Result S ParseFault) (xs ys : List X) (st t : S) (r : Result S ParseFault) → in_turn step st xs ≡ Ok t → in_turn step t ys ≡ r → in_turn step st (xs ++ ys) ≡ r
 both_in_turn step [] ys st t r e h = let same : st ≡ t = cc in ap (λ u. in_turn step u ys) same ∙ h
 both_in_turn {S} step (x ∷ xs) ys st t r e h = by (step st x) e (λ u k. both_in_turn step xs ys u t r k h)

@@ -187,7 +187,7 @@ module _ (file : File) (s : Scope) (bound : Bound file s) where
 
   -- ---- tests
 
-  -- the primitive is spelled by this test, as a condition and behind `assume`
+  -- the primitive is spelled by this test, as a condition and after `assume`
   record AsTest (t : TestTree) (k : Primitive) : Type 0 where
     tree : Ends file s → test_tree file s.locals k ≡ t
     stands : primitive_tree file s.locals k ≡ AssumePrimitive (test_tree file s.locals k)

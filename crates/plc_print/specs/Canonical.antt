@@ -1,9 +1,11 @@
 -- The tree of a unit's canonical text: each number is spelled by the name that it stands for, and optional parts that
 -- are empty are left out.
-use Rattle.std.specs.Prelude.{ℕ, Bool, true, false, not, Option, Some, None, List, [], ◌∷◌, map, filter, drop, option_map}
+use Rattle.std.specs.Prelude.{ℕ, Bool, true, false, not, Option, Some, None, List, [], ◌∷◌, map, filter, drop}
+use Rattle.std.specs.Prelude.{option_map}
 use Rattle.plc_base.specs.declared.ids.FieldId.{FieldId}
 use Rattle.plc_lang.specs.Locals.{is_parameter}
-use Rattle.plc_lang.specs.Names.{name_at, field_name, function_name, auxiliary_name, value_name, label_name, pointer_name, data_name, variable_name}
+use Rattle.plc_lang.specs.Names.{name_at, field_name, function_name, auxiliary_name, value_name, label_name}
+use Rattle.plc_lang.specs.Names.{pointer_name, data_name, variable_name}
 use Rattle.plc_lang.specs.declared.syntax.Var.{Var}
 use Rattle.plc_lang.specs.declared.syntax.Var.TheVariants as vars
 use Rattle.plc_lang.specs.declared.syntax.Num.{Num}
@@ -24,10 +26,23 @@ use Rattle.plc_lang.specs.declared.syntax.Func.{Func}
 use Rattle.plc_lang.specs.declared.syntax.Ghost.{Ghost}
 use Rattle.plc_lang.specs.declared.syntax.Op.{Op}
 use Rattle.plc_lang.specs.declared.syntax.File.{File}
-use Rattle.plc_lang.specs.Statements.{Statement, One, Atomic, Call, If, Choose, Loop, Break, Return, Skip, Label, Statements, Empty, Then, Blocks, NoBlock, And}
+use Rattle.plc_lang.specs.Statements.{Statement, One, Atomic, Call, If, Choose, Loop, Break, Return, Skip, Label}
+use Rattle.plc_lang.specs.Statements.{Statements, Empty, Then, Blocks, NoBlock, And}
 use Rattle.plc_auto.specs.declared.observer.Observer.{Observer}
 use Rattle.plc_auto.specs.declared.observer.Observer.TheVariants.{Plain, Hazard, Epoch}
-use Rattle.plc_syntax.specs.Trees.{Text, FieldTree, PointerField, DataField, Declares, WatchTree, UseHazard, UseEpoch, GhostKindTree, OneOf, OfThreads, Auxiliary, PlaceOf, AtomTree, NullAtom, NumberAtom, NameAtom, ValueTree, NullValue, NewValue, NumberValue, PlaceValue, SetTree, SetName, SetField, RefreshName, RefreshField, GhostValueTree, NameGhost, MeGhost, NoneGhost, GhostSetTree, SetGhost, InitialTree, InitialSet, InitialGhost, Comparison, SameAs, OtherThan, LessThan, NotLessThan, TestTree, Compares, ConditionTree, TestCondition, RefreshCondition, CasCondition, PrimitiveTree, SetPrimitive, RefreshPrimitive, GhostPrimitive, ActivePrimitive, AssumePrimitive, SkipPrimitive, ArgumentTree, NoArgument, NullArgument, NameArgument, ActiveArgument, StatementTree, PrimitiveStatement, AtomicStatement, CallStatement, IfStatement, ChooseStatement, LoopStatement, BreakStatement, ReturnStatement, LabelStatement, BlockTree, NoStatement, Then as ThenStatement, ElseTree, NoElse, ElseBlock, OrTree, NoOr, OrBlock, OpTree, Operates, FileTree}
+use Rattle.plc_syntax.specs.Trees.{Text, FieldTree, PointerField, DataField, Declares, WatchTree, UseHazard, UseEpoch}
+use Rattle.plc_syntax.specs.Trees.{GhostKindTree, OneOf, OfThreads, Auxiliary, PlaceOf, AtomTree, NullAtom, NumberAtom}
+use Rattle.plc_syntax.specs.Trees.{NameAtom, ValueTree, NullValue, NewValue, NumberValue, PlaceValue, SetTree, SetName}
+use Rattle.plc_syntax.specs.Trees.{SetField, RefreshName, RefreshField, GhostValueTree, NameGhost, MeGhost, NoneGhost}
+use Rattle.plc_syntax.specs.Trees.{GhostSetTree, SetGhost, InitialTree, InitialSet, InitialGhost, Comparison, SameAs}
+use Rattle.plc_syntax.specs.Trees.{OtherThan, LessThan, NotLessThan, TestTree, Compares, ConditionTree, TestCondition}
+use Rattle.plc_syntax.specs.Trees.{RefreshCondition, CasCondition, PrimitiveTree, SetPrimitive, RefreshPrimitive}
+use Rattle.plc_syntax.specs.Trees.{GhostPrimitive, ActivePrimitive, AssumePrimitive, SkipPrimitive, ArgumentTree}
+use Rattle.plc_syntax.specs.Trees.{NoArgument, NullArgument, NameArgument, ActiveArgument, StatementTree}
+use Rattle.plc_syntax.specs.Trees.{PrimitiveStatement, AtomicStatement, CallStatement, IfStatement, ChooseStatement}
+use Rattle.plc_syntax.specs.Trees.{LoopStatement, BreakStatement, ReturnStatement, LabelStatement, BlockTree}
+use Rattle.plc_syntax.specs.Trees.{NoStatement, Then as ThenStatement, ElseTree, NoElse, ElseBlock, OrTree, NoOr}
+use Rattle.plc_syntax.specs.Trees.{OrBlock, OpTree, Operates, FileTree}
 use Rattle.plc_parse.specs.declared.unit.Unit.{Unit as FileUnit}
 use Rattle.plc_print.specs.Outlines.{outline_tree}
 
@@ -45,7 +60,7 @@ abbrev pub else_block : Statements → BlockTree → ElseTree
 else_block Empty tree = NoElse
 else_block (Then l s b) tree = ElseBlock tree
 
--- two blocks and those behind them; fewer have no text, so that empty ones stand for them
+-- two blocks and those after them; fewer have no text, so that empty ones stand for them
 abbrev pub choice_tree : OrTree → StatementTree
 choice_tree NoOr = ChooseStatement NoStatement NoStatement NoOr
 choice_tree (OrBlock a NoOr) = ChooseStatement a NoStatement NoOr
@@ -218,7 +233,7 @@ watch_tree file Plain = None
 watch_tree file (Hazard f) = Some (UseHazard (function_name file f))
 watch_tree file (Epoch e l) = Some (UseEpoch (function_name file e) (function_name file l))
 
--- the whole file; its struct's name is the first that is declared, behind `retire`, which is declared from the start
+-- the whole file; its struct's name is the first that is declared, after `retire`, which is declared from the start
 abbrev pub canonical_tree : FileUnit → FileTree
 canonical_tree u = record {
   name = name_at u.file 1;

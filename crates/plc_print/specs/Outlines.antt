@@ -4,7 +4,8 @@ use Rattle.std.specs.Prelude.{ℕ, zero, suc, Bool, true, false, Option, Some, N
 use Rattle.plc_lang.specs.declared.syntax.Local.{Local}
 use Rattle.plc_lang.specs.declared.syntax.File.{File}
 use Rattle.plc_lang.specs.Locals.{locals_of}
-use Rattle.plc_lang.specs.Names.{field_name, operation_name, auxiliary_name, value_name, label_name, shared_name, local_name}
+use Rattle.plc_lang.specs.Names.{field_name, operation_name, auxiliary_name, value_name, label_name, shared_name}
+use Rattle.plc_lang.specs.Names.{local_name}
 use Rattle.plc_logic.specs.declared.clause.Base.{Base}
 use Rattle.plc_logic.specs.declared.clause.Base.TheVariants as bases
 use Rattle.plc_logic.specs.declared.clause.Term.{Term}
@@ -18,7 +19,10 @@ use Rattle.plc_logic.specs.declared.clause.Item.{Item}
 use Rattle.plc_logic.specs.declared.clause.Outline.{Outline}
 use Rattle.plc_lang.specs.Labels.{labels_by_op}
 use Rattle.plc_logic.specs.Sites.{op_of_site}
-use Rattle.plc_syntax.specs.Trees.{Text, PlaceOf, TermTree, PlaceTerm, NullTerm, NumberTerm, MeTerm, NoneTerm, FlagTree, RetiredFlag, LiteralTree, FlagLiteral, NotLiteral, EqualityLiteral, BoundTree, NoBound, AllOf, ClauseTree, Claims, ItemTree, InvariantItem, OverItem, AtItem, OutlineTree, Outlined}
+use Rattle.plc_syntax.specs.Trees.{Text, PlaceOf, TermTree, PlaceTerm, NullTerm, NumberTerm, MeTerm, NoneTerm, FlagTree}
+use Rattle.plc_syntax.specs.Trees.{RetiredFlag, LiteralTree, FlagLiteral, NotLiteral, EqualityLiteral, BoundTree}
+use Rattle.plc_syntax.specs.Trees.{NoBound, AllOf, ClauseTree, Claims, ItemTree, InvariantItem, OverItem, AtItem}
+use Rattle.plc_syntax.specs.Trees.{OutlineTree, Outlined}
 
 -- ---- literals; the names in reach are those of the file, of the operation's locals and of the clause
 

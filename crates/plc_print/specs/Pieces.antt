@@ -14,6 +14,6 @@ kind_of (pieces.Name name) = Name name.now
 kind_of (pieces.Number n) = Number n
 kind_of (pieces.Sign symbol) = Symbol symbol
 
--- the text of these tokens behind what was printed before
+-- the text of these tokens after what was printed before
 abbrev pub Prints : Printer → Printer → List TokenKind → Type 0
 Prints old new tokens = new.text.items ≡ old.text.items ++ text_of tokens

@@ -5,8 +5,10 @@ ghost use Rattle.std.specs.Prelude.{◌≡◌, ◌∷◌, [], OnOk, get_or, map}
 ghost use Rattle.plc_lex.specs.declared.token.TokenKind.TheVariants.{Symbol as SymbolToken};
 ghost use Rattle.plc_lex.specs.declared.token.Symbol.TheVariants as symbols;
 ghost use Rattle.plc_logic.specs.declared.clause.Literal.TheVariants as literals;
-ghost use Rattle.plc_syntax.specs.Trees.{NoBound, each_then, term_then, equality_symbol, literal_then, or_literal_then, bound_then, clause_then};
-ghost use Rattle.plc_print.specs.Outlines.{base_name, field_term, term_tree, literal_tree, bound_tree, claims_tree, clause_tree};
+ghost use Rattle.plc_syntax.specs.Trees.{NoBound, each_then, term_then, equality_symbol, literal_then, or_literal_then};
+ghost use Rattle.plc_syntax.specs.Trees.{bound_then, clause_then};
+ghost use Rattle.plc_print.specs.Outlines.{base_name, field_term, term_tree, literal_tree, bound_tree, claims_tree};
+ghost use Rattle.plc_print.specs.Outlines.{clause_tree};
 ghost use Rattle.plc_print.specs.Pieces.{Prints};
 
 use crate::names::Reach;
@@ -133,7 +135,7 @@ fn literal(out: &mut Printer, reach: InClause, literal: Literal) -> Result<(), A
     }
 }
 
-// A literal behind the first.
+// A literal after the first.
 fn or_literal(out: &mut Printer, reach: InClause, further: Literal) -> Result<(), AllocError>
     ensures { OnOk result
         (Prints out.old out.new (or_literal_then
@@ -143,7 +145,7 @@ fn or_literal(out: &mut Printer, reach: InClause, further: Literal) -> Result<()
     literal(out, reach, further)
 }
 
-// The literals behind the first.
+// The literals after the first.
 fn or_literals(out: &mut Printer, reach: InClause, literals: &[Literal]) -> Result<(), AllocError>
     ensures { OnOk result
         (Prints out.old out.new (each_then or_literal_then (map

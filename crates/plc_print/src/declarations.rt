@@ -1,8 +1,11 @@
 // The parts of a file, each with its optional parts left out where they are empty.
 ghost use Rattle.std.specs.Prelude.{◌≡◌, ◌∷◌, [], OnOk, IfOk, filter, map, drop};
 ghost use Rattle.plc_lang.specs.Locals.{is_parameter};
-ghost use Rattle.plc_syntax.specs.Trees.{Declares, Auxiliary, each_then, maybe_then, comma_name_then, field_then, struct_then, shared_then, function_then, watch_then, ghost_kind_then, ghost_then, initial_then, init_then, parameters_then, op_then};
-ghost use Rattle.plc_print.specs.Canonical.{declaration_tree, is_declared, op_tree, initial_tree, init_tree, ghost_kind, watch_tree};
+ghost use Rattle.plc_syntax.specs.Trees.{Declares, Auxiliary, each_then, maybe_then, comma_name_then, field_then};
+ghost use Rattle.plc_syntax.specs.Trees.{struct_then, shared_then, function_then, watch_then, ghost_kind_then};
+ghost use Rattle.plc_syntax.specs.Trees.{ghost_then, initial_then, init_then, parameters_then, op_then};
+ghost use Rattle.plc_print.specs.Canonical.{declaration_tree, is_declared, op_tree, initial_tree, init_tree};
+ghost use Rattle.plc_print.specs.Canonical.{ghost_kind, watch_tree};
 ghost use Rattle.plc_lang.specs.Names.{name_at};
 ghost use Rattle.plc_print.specs.Pieces.{Prints};
 
@@ -127,7 +130,7 @@ pub fn watch(out: &mut Printer, file: &File, observer: Observer) -> Result<(), A
     }
 }
 
-// Names behind the first, by their numbers.
+// Names after the first, by their numbers.
 fn comma_names(out: &mut Printer, file: &File, numbers: &[u16]) -> Result<(), AllocError>
     ensures { OnOk result (Prints out.old out.new (each_then comma_name_then (map (name_at file.now) numbers.now) [])) }
 {

@@ -1,4 +1,4 @@
-// The outline, which stands behind everything else: invariants go before the other items, and an
+// The outline, which stands after everything else: invariants go before the other items, and an
 // outline of depth 0 that says nothing is left out. An item at no label has no text, so that the empty
 // name stands for its label.
 ghost use Rattle.std.specs.Prelude.{◌≡◌, ◌∷◌, [], IfOk, OnOk, map};
@@ -6,9 +6,11 @@ ghost use Rattle.plc_logic.specs.declared.clause.Item.{Item as OutlineItem};
 ghost use Rattle.plc_logic.specs.declared.clause.Site.TheVariants as sites;
 ghost use Rattle.plc_lang.specs.Labels.{labels_by_op};
 ghost use Rattle.plc_logic.specs.Sites.{op_of_site};
-ghost use Rattle.plc_syntax.specs.Trees.{AtItem, Outlined, each_then, maybe_then, comma_name_then, item_then, depth_then, outline_then};
+ghost use Rattle.plc_syntax.specs.Trees.{AtItem, Outlined, each_then, maybe_then, comma_name_then, item_then};
+ghost use Rattle.plc_syntax.specs.Trees.{depth_then, outline_then};
 ghost use Rattle.plc_lang.specs.Names.{label_name};
-ghost use Rattle.plc_print.specs.Outlines.{clause_tree, invariant_tree, site_tree, locals_in_reach, depth_tree, item_trees, outline_tree};
+ghost use Rattle.plc_print.specs.Outlines.{clause_tree, invariant_tree, site_tree, locals_in_reach, depth_tree};
+ghost use Rattle.plc_print.specs.Outlines.{item_trees, outline_tree};
 ghost use Rattle.plc_print.specs.Pieces.{Prints};
 
 use crate::clauses::clause_line;
@@ -51,7 +53,7 @@ fn over(out: &mut Printer, reach: Reach, op: OpId, clause: &Clause) -> Result<()
     clause_line(out, reach, clause)
 }
 
-// Labels behind the first.
+// Labels after the first.
 fn comma_labels(out: &mut Printer, file: &File, labels: &[u16]) -> Result<(), AllocError>
     ensures { OnOk result
         (Prints out.old out.new (each_then comma_name_then (map (label_name file.now) labels.now) [])) }
@@ -62,7 +64,7 @@ fn comma_labels(out: &mut Printer, file: &File, labels: &[u16]) -> Result<(), Al
     Ok(())
 }
 
-// A clause at a label and those behind it.
+// A clause at a label and those after it.
 fn at_names(
     out: &mut Printer,
     reach: Reach,

@@ -1,12 +1,18 @@
 // The table of the primitives: each is a list of tokens. What no text can say, as a call within a step,
 // has an arbitrary text, so that a text can be given for every unit.
 ghost use Rattle.std.specs.Prelude.{◌≡◌, ◌∷◌, [], OnOk, None, Some, map};
-ghost use Rattle.plc_lex.specs.declared.token.TokenKind.TheVariants.{Symbol as SymbolToken, Name as NameToken, Word as WordToken};
+ghost use Rattle.plc_lex.specs.declared.token.TokenKind.TheVariants.{Symbol as SymbolToken, Name as NameToken};
+ghost use Rattle.plc_lex.specs.declared.token.TokenKind.TheVariants.{Word as WordToken};
 ghost use Rattle.plc_lang.specs.declared.syntax.Cond.TheVariants as conds;
 ghost use Rattle.plc_lex.specs.declared.token.Symbol.TheVariants as symbols;
 ghost use Rattle.plc_lex.specs.declared.token.Keyword.TheVariants as words;
-ghost use Rattle.plc_syntax.specs.Trees.{each_then, PlaceOf, RefreshName, RefreshField, SetField, SetName, PlaceValue, refresh_then, set_then, test_then, ghost_set_then, primitive_then, primitive_line_then, initial_then, condition_then, comparison_symbol, value_then, atom_then, name_or_null_then, ghost_value_then};
-ghost use Rattle.plc_print.specs.Canonical.{name_or_null, value_tree, number_tree, set_tree, ghost_value_tree, ghost_tree, comparison, test_tree, primitive_tree, refresh_condition, condition_tree, initial_tree};
+ghost use Rattle.plc_syntax.specs.Trees.{each_then, PlaceOf, RefreshName, RefreshField, SetField, SetName, PlaceValue};
+ghost use Rattle.plc_syntax.specs.Trees.{refresh_then, set_then, test_then, ghost_set_then, primitive_then};
+ghost use Rattle.plc_syntax.specs.Trees.{primitive_line_then, initial_then, condition_then, comparison_symbol};
+ghost use Rattle.plc_syntax.specs.Trees.{value_then, atom_then, name_or_null_then, ghost_value_then};
+ghost use Rattle.plc_print.specs.Canonical.{name_or_null, value_tree, number_tree, set_tree, ghost_value_tree};
+ghost use Rattle.plc_print.specs.Canonical.{ghost_tree, comparison, test_tree, primitive_tree, refresh_condition};
+ghost use Rattle.plc_print.specs.Canonical.{condition_tree, initial_tree};
 ghost use Rattle.plc_print.specs.Pieces.{Prints, kind_of};
 
 use crate::names::Reach;

@@ -6,8 +6,11 @@ ghost use Rattle.plc_lang.specs.Views.{statement_of, blocks_of};
 ghost use Rattle.plc_lex.specs.declared.token.TokenKind.TheVariants.{Symbol as SymbolToken, Word as WordToken};
 ghost use Rattle.plc_lex.specs.declared.token.Symbol.TheVariants as symbols;
 ghost use Rattle.plc_lex.specs.declared.token.Keyword.TheVariants as words;
-ghost use Rattle.plc_syntax.specs.Trees.{AtomicStatement, CallStatement, LabelStatement, LoopStatement, maybe_then, argument_then, during_then, statement_then, statements_then, else_then, or_then};
-ghost use Rattle.plc_print.specs.Canonical.{primitive_tree, condition_tree, argument_tree, else_block, choice_tree, statement_tree, block_tree, blocks_tree};
+ghost use Rattle.plc_syntax.specs.Trees.{AtomicStatement, CallStatement, LabelStatement, LoopStatement, maybe_then};
+ghost use Rattle.plc_syntax.specs.Trees.{argument_then, during_then, statement_then, statements_then, else_then};
+ghost use Rattle.plc_syntax.specs.Trees.{or_then};
+ghost use Rattle.plc_print.specs.Canonical.{primitive_tree, condition_tree, argument_tree, else_block, choice_tree};
+ghost use Rattle.plc_print.specs.Canonical.{statement_tree, block_tree, blocks_tree};
 ghost use Rattle.plc_lang.specs.Names.{function_name, label_name};
 ghost use Rattle.plc_print.specs.Pieces.{Prints};
 
@@ -194,7 +197,7 @@ fn or_block(out: &mut Printer, reach: Reach, block: &Block) -> Result<(), AllocE
     braced(out, reach, block)
 }
 
-// The blocks of a choice behind its second.
+// The blocks of a choice after its second.
 #[cycle(statement)]
 fn or_blocks(out: &mut Printer, reach: Reach, blocks: &[Block]) -> Result<(), AllocError>
     ensures { OnOk result

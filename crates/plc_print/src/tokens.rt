@@ -190,7 +190,7 @@ impl Printer {
         }
     }
 
-    /// Tokens one behind the other.
+    /// Tokens one after the other.
     pub fn tokens(&mut self, pieces: &[Piece]) -> Result<(), AllocError>
         ensures { OnOk result (Prints self.old self.new (map kind_of pieces.now)) }
     {
