@@ -12,7 +12,7 @@ use Rattle.plc_oblig.specs.Obligations.{obligations}
 use Rattle.plc_cert.specs.declared.cert.Cert.{Cert}
 use Rattle.plc_verify.specs.Environments.{with_shared, completed}
 use Rattle.plc_check.specs.declared.judged.Judged.{Judged}
-use Rattle.plc_check.specs.Certified.{IsCertificationOf}
+use Rattle.plc_check.specs.Certified.{ShowsSafe}
 use Rattle.plc_check.specs.Counterexamples.{AreTreesFor}
 use Rattle.plc_check.proofs.Matching.{one_each, tree_of, trees_fit}
 use Rattle.plc_check.proofs.Readable.{envs_fit}
@@ -30,7 +30,7 @@ complete o flow envs h =
 
 pub certificate : (j : Judged) (cert : Cert) → IsTyping j.observer (skeleton_of j.flow) cert.env
     → IsStrongest j.observer (skeleton_of j.flow) cert.env
-    → AreTreesFor j.flow j.unit_outline (obligations j.flow j.unit_outline) cert.trees → IsCertificationOf j cert
+    → AreTreesFor j.flow j.unit_outline (obligations j.flow j.unit_outline) cert.trees → ShowsSafe j cert
 certificate j cert typing strongest trees = record {
   valid = record {
     typing = subst (IsTyping j.observer (skeleton_of j.flow)) (sym (complete j.observer j.flow cert.env typing.pretyping)) typing;

@@ -27,7 +27,7 @@ SplitsOnceAt flow outline trees i =
     → SplitsOnce (ground_set flow outline o) ([] ∷ []) t.nodes
 
 -- a valid certificate with the strongest typing, no branch of whose trees splits one clause twice; its text can be read
-pub record IsCertificationOf (j : Judged) (cert : Cert) : Type 0 where
+pub record ShowsSafe (j : Judged) (cert : Cert) : Type 0 where
   pub valid : IsValid j.flow j.observer j.unit_outline cert
   pub strongest : IsStrongest j.observer (skeleton_of j.flow) cert.env
   pub once : (i : ℕ) → SplitsOnceAt j.flow j.unit_outline cert.trees i
@@ -35,7 +35,7 @@ pub record IsCertificationOf (j : Judged) (cert : Cert) : Type 0 where
 
 -- a certificate, or a verdict that isn't safe
 abbrev pub IsCertified : Judged → Certified → Type 0
-IsCertified j (Yes cert) = IsCertificationOf j cert
+IsCertified j (Yes cert) = ShowsSafe j cert
 IsCertified j (No (Safe typing count)) = ⊥
 IsCertified j (No (Untyped step prim fault)) = IsVerdictOn j (Untyped step prim fault)
 IsCertified j (No (Unproved obligation set model)) = IsVerdictOn j (Unproved obligation set model)
@@ -43,5 +43,5 @@ IsCertified j (No (Unproved obligation set model)) = IsVerdictOn j (Unproved obl
 -- the text of a certificate, with a line feed after it, is read, and what is read is valid
 abbrev pub CertificatesAreVerified : Type 0
 CertificatesAreVerified =
-    (j : Judged) (cert : Cert) → IsCertificationOf j cert
+    (j : Judged) (cert : Cert) → ShowsSafe j cert
     → (reading (text cert ++ 10 ∷ []) ≡ Ok (stored cert)) × IsValid j.flow j.observer j.unit_outline (stored cert)

@@ -27,7 +27,8 @@ abbrev pub IsFirstCounterexample : Flow → Outline → Option Counterexample �
 IsFirstCounterexample flow outline None = OutlineHolds flow outline
 IsFirstCounterexample flow outline (Some x) = IsLeastOpen flow outline x.obligation × IsCounterexample flow outline x
 
--- the tree closes the ground set of the obligation, no branch of it splits one clause twice, and its numbers have 32 bits
+-- the tree closes the ground set of the obligation, no branch of it splits one clause twice, and its numbers have 32
+-- bits
 pub record IsTreeOf (flow : Flow) (outline : Outline) (o : Obligation) (t : Tree) : Type 0 where
   pub closes : Closes (ground_set flow outline o) t.nodes
   pub once : SplitsOnce (ground_set flow outline o) ([] ∷ []) t.nodes

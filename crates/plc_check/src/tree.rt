@@ -10,7 +10,7 @@ use plc_base::{Items, NoMemory};
 use plc_flow::Flow;
 use plc_ground::Tree;
 use plc_logic::Outline;
-use plc_oblig::{Grounding, Obligation, Walk, direct};
+use plc_oblig::{Grounding, Obligation, Walk};
 use plc_solve::{Answer, refute};
 use std::alloc::Global;
 
@@ -25,7 +25,7 @@ pub(crate) fn solve_at(
     requires { Fits flow.now outline.now }
     ensures { IfOk result (IsTreeAt flow.now outline.now obligation) }
 {
-    let set = memory.ground(alloc, flow, outline, &obligation)?;
+    let set = memory.ground(flow, outline, &obligation)?;
     match refute(alloc, &set) {
         Ok(Answer::Closed(tree)) => {
             memory.reuse(set);
@@ -52,7 +52,7 @@ fn tree_at(
     requires there { Contains (obligations flow.now outline.now) obligation }
     ensures { IfOk result (IsTreeAt flow.now outline.now obligation) }
 {
-    match direct(alloc, flow, outline, &obligation)? {
+    match memory.direct(flow, outline, &obligation)? {
         Some(tree) => Ok(Ok(tree)),
         None => solve_at(alloc, memory, flow, outline, obligation),
     }

@@ -1,6 +1,6 @@
 -- What `certify` writes is read again, as a certificate that is valid for the one unit that the bytes spell, and so
 -- `verify` can answer nothing else.
-use Rattle.std.proofs.Common.{◌≡◌, ℕ, List, length, Ok, Err, inl, inr, sym, ap, ◌∙◌, subst}
+use Rattle.std.proofs.Common.{◌≡◌, ℕ, List, length, Ok, Err, inl, inr, refl, sym, ap, ◌∙◌, subst}
 use Rattle.plc_oblig.specs.Obligations.{obligations}
 use Rattle.plc_parse.specs.declared.unit.Unit.{Unit as FileUnit}
 use Rattle.plc_cert.specs.declared.cert.Cert.{Cert}
@@ -18,7 +18,7 @@ use Rattle.plc_check.proofs.Unique.{one_file}
 use Rattle.plc_texts.specs.Certificates.{verified_text}
 use Rattle.plc_cli.specs.Certificates.{IsCertificateOf, IsCertificateJudged, IsCertificateAnswered, IsVerificationOf}
 use Rattle.plc_cli.specs.Certificates.{certified_status, certified_text}
-use Rattle.plc_cli.specs.Laws.{CertifiedFilesVerify}
+use Rattle.plc_cli.specs.Laws.{verified_line, CertifiedFilesVerify}
 use Rattle.plc_cli.specs.Statuses.{holds}
 
 -- bytes that are read as a certificate that is valid
@@ -60,8 +60,30 @@ of_unit bytes certificate u spelled (inr file) =
     subst (λ (v : FileUnit). AreValid (judged_of v) certificate) (one_file bytes file.unit u file.spelled spelled)
     (shown (judged_of file.unit) certificate file.answer.certified file.answer.right file.answer.status_is file.answer.text_is)
 
+-- `verify` may answer so
+is_accepted : (bytes certificate : List ℕ) (u : FileUnit) → IsFileOf bytes u → AreValid (judged_of u) certificate
+    → IsVerificationOf bytes certificate holds (verified_line u)
+is_accepted bytes certificate u spelled are = inr (record {
+  unit = u;
+  spelled = spelled;
+  answer = inr (record {
+    cert = are.cert;
+    read = are.read;
+    answer = inl (record { valid = are.valid; status_is = refl; text_is = refl });
+  });
+})
+
+-- and can't answer otherwise
+is_only : (bytes certificate : List ℕ) (u : FileUnit) → IsFileOf bytes u → AreValid (judged_of u) certificate
+    → (status : ℕ) (text : List ℕ) → IsVerificationOf bytes certificate status text
+    → (status ≡ holds) × (text ≡ verified_line u)
+is_only bytes certificate u spelled are status text (inl refused) = absurd (refused.none u spelled)
+is_only bytes certificate u spelled are status text (inr file) =
+    accepted (judged_of u) certificate are status text
+    (subst (λ (v : FileUnit). IsCertificateAnswered (judged_of v) certificate status text)
+    (one_file bytes file.unit u file.spelled spelled) file.answer)
+
 pub certified_verify : CertifiedFilesVerify
-certified_verify bytes certificate u spelled certified status text (inl refused) = absurd (refused.none u spelled)
-certified_verify bytes certificate u spelled certified status text (inr file) =
-    accepted (judged_of u) certificate (of_unit bytes certificate u spelled certified) status text
-    (subst (λ (v : FileUnit). IsCertificateAnswered (judged_of v) certificate status text) (one_file bytes file.unit u file.spelled spelled) file.answer)
+certified_verify bytes certificate u spelled certified =
+    let are = of_unit bytes certificate u spelled certified in
+    (is_accepted bytes certificate u spelled are, is_only bytes certificate u spelled are)

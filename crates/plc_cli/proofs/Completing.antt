@@ -15,7 +15,7 @@ use Rattle.plc_texts.specs.Refusals.{read_too_long}
 use Rattle.plc_cli.specs.Answer.{IsReplayOf, IsDueFor, IsWritten, Outcome}
 use Rattle.plc_cli.specs.Certificates.{IsCertificateOf, IsVerificationOf}
 use Rattle.plc_cli.specs.Completeness.{files_of, AreTold, AreShort, NoneRose, IsAnswerOf, IsAnswered, IsToldTooLong}
-use Rattle.plc_cli.specs.Completeness.{HasRoom, Completeness, HonestRunsAreAnswered}
+use Rattle.plc_cli.specs.Completeness.{HasRoom, LacksRoom, Completeness, HonestRunsAreAnswered}
 use Rattle.plc_cli.specs.Files.{IsAnswerTo, IsPrintOf}
 use Rattle.plc_cli.specs.Reads.{IsUnread, IsDueForFile, IsDueForPair}
 use Rattle.plc_cli.specs.Requests.{Request, Check, Certify, Print, Verify, Replay, Sample}
@@ -198,6 +198,10 @@ module _ (reclaimers : List Meanings) (request : Option Request) (old new : Know
     fits room (inl long) = subst (λ (t : List ℕ). length t ≤ sink.room) (sym long.2.text_is) room.long
     fits room (inr answer) = room.due w.status w.text answer.0
 
+    lacks : result ≡ unwritten → Due → LacksRoom reclaimers request old sink
+    lacks is (inl long) = record { text = w.text; due = inr long.2.text_is; longer = (w.ends.failed is).room }
+    lacks is (inr answer) = record { text = w.text; due = inl (w.status, answer.0); longer = (w.ends.failed is).room }
+
     whole_long : result ≡ unread → result ≡ w.status → Due → IsToldTooLong request old sink sink_now result
     whole_long is same (inl long) = record {
       file = long.0;
@@ -233,6 +237,7 @@ module _ (reclaimers : List Meanings) (request : Option Request) (old new : Know
       Completeness reclaimers request old new sink sink_now result
   completeness_of (inl none) = record {
     answered = λ told kept short held. inr none.0;
+    no_room = λ told kept is. absurd (neither none.0 (inr is));
     with_room = λ told kept room. record {
       only_too_long = λ is. absurd (neither none.0 is);
       answered = λ not_four not_six. absurd (not_six none.0);
@@ -240,6 +245,7 @@ module _ (reclaimers : List Meanings) (request : Option Request) (old new : Know
   }
   completeness_of (inr w) = record {
     answered = λ told kept short held. answered w told kept short held w.ends.only;
+    no_room = λ told kept is. lacks w told kept is (due w told kept);
     with_room = λ told kept room. record {
       only_too_long = λ is. too_long w told kept room is w.ends.only;
       answered = λ not_four not_six.

@@ -82,6 +82,13 @@ pub record HasRoom (reclaimers : List Meanings) (request : Option Request) (file
   pub long : length read_too_long ≤ sink.room
   pub due : (status : ℕ) (text : List ℕ) → IsAnswerOf reclaimers request files status text → length text ≤ sink.room
 
+-- it lacks the room for a text that is to be written: one that is due to the contents, or `read too long`
+pub record LacksRoom (reclaimers : List Meanings) (request : Option Request) (files : KnownFiles) (sink : KnownSink)
+    : Type 0 where
+  pub text : List ℕ
+  pub due : ((status : ℕ) × IsAnswerOf reclaimers request files status text) ⊎ (text ≡ read_too_long)
+  pub longer : sink.room < length text
+
 -- The status with such a room: 4 and 5 come only as `read too long`, and with each status but 4 and 6 what is due to
 -- the contents is answered.
 pub record EndsWithRoom (reclaimers : List Meanings) (request : Option Request) (files : KnownFiles)
@@ -89,7 +96,7 @@ pub record EndsWithRoom (reclaimers : List Meanings) (request : Option Request) 
   pub only_too_long : (result ≡ unread) ⊎ (result ≡ unwritten) → IsToldTooLong request files sink sink_now result
   pub answered : result ≢ unread → result ≢ no_memory → IsAnswered reclaimers request files sink sink_now result
 
--- Both for words of any form, where the contents are told and no count of the files among them rises.
+-- All for words of any form, where the contents are told and no count of the files among them rises.
 pub record Completeness (reclaimers : List Meanings) (request : Option Request) (old new : KnownFiles)
     (sink sink_now : KnownSink) (result : ℕ) : Type 0 where
   -- where no content is too long, and the sink's count neither rises nor stands at its last value, the status and the
@@ -97,6 +104,9 @@ pub record Completeness (reclaimers : List Meanings) (request : Option Request) 
   pub answered : AreTold request old → NoneRose request old new → AreShort request old
       → (Rose sink.faults sink_now.faults → ⊥)
       → IsAnswered reclaimers request old sink sink_now result ⊎ (result ≡ no_memory)
+  -- 5 comes only where the sink lacks the room for what is written
+  pub no_room : AreTold request old → NoneRose request old new → result ≡ unwritten
+      → LacksRoom reclaimers request old sink
   -- where the sink has room, 4 and 5 come only as `read too long`
   pub with_room : AreTold request old → NoneRose request old new → HasRoom reclaimers request old sink
       → EndsWithRoom reclaimers request old sink sink_now result

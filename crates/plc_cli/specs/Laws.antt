@@ -8,10 +8,15 @@ use Rattle.plc_texts.specs.Certificates.{verified_text}
 use Rattle.plc_cli.specs.Certificates.{IsCertificateOf, IsVerificationOf}
 use Rattle.plc_cli.specs.Statuses.{holds}
 
--- to the bytes of a file and what `certify` answers to them with 0, whatever `verify` answers has the status 0, and its
--- text is that of a valid certificate
+-- the text that is answered to a valid certificate
+abbrev pub verified_line : FileUnit → List ℕ
+verified_line u = verified_text (flow_of u.file) (length (obligations (flow_of u.file) u.outline))
+
+-- to the bytes of a file and what `certify` answers to them with 0, `verify` answers with 0 and the text of a valid
+-- certificate, and nothing else
 abbrev pub CertifiedFilesVerify : Type 0
 CertifiedFilesVerify =
     (bytes certificate : List ℕ) (u : FileUnit) → IsFileOf bytes u → IsCertificateOf bytes holds certificate
-    → (status : ℕ) (text : List ℕ) → IsVerificationOf bytes certificate status text
-    → (status ≡ holds) × (text ≡ verified_text (flow_of u.file) (length (obligations (flow_of u.file) u.outline)))
+    → IsVerificationOf bytes certificate holds (verified_line u)
+    × ((status : ℕ) (text : List ℕ) → IsVerificationOf bytes certificate status text
+    → (status ≡ holds) × (text ≡ verified_line u))

@@ -38,11 +38,11 @@
 //!
 //! # Where the outside has no fault
 //!
-//! The clause `completeness` says when nothing but the files decides. Where their contents are told, no count of
-//! them and not the sink's rises, the sink's isn't at its last value, and no content is too long, the status and the
-//! text are those due to the contents, or memory ran out. Where no count of the files rises and the sink has room for
-//! whatever may be due, the statuses 4 and 5 come only as `read too long`; so it is over `HonestFiles` and a
-//! `FixedSink` with room (`honest_runs_are_answered`).
+//! The clause `completeness` says when nothing but the files decides. Where their contents are told and short enough,
+//! and neither a count of theirs nor the sink's rises or stands at its last value, the status and the text are those
+//! due to the contents, or memory ran out. Where no count of the files rises, 5 comes only where a text that may be due
+//! is longer than the sink's room; so where there is room for each, the statuses 4 and 5 come only as `read too long`.
+//! So it is over `HonestFiles` and a `FixedSink` with room (`honest_runs_are_answered`).
 #![tactic(auto)]
 
 mod answer;

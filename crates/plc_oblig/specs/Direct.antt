@@ -9,6 +9,8 @@ use Rattle.plc_ground.specs.declared.terms.Node.{Node}
 use Rattle.plc_ground.specs.declared.terms.Node.TheVariants.{Split, Leaf}
 use Rattle.plc_ground.specs.declared.terms.GroundSet.{GroundSet}
 use Rattle.plc_ground.specs.Model.{literals}
+use Rattle.plc_ground.specs.Fit.{IsWellFormed}
+use Rattle.plc_ground.specs.Trees.{Closes, SplitsOnce}
 use Rattle.plc_symbolic.specs.declared.symbolic.SymbolicLit.{SymbolicLit}
 use Rattle.plc_symbolic.specs.Numbering.{number_lit}
 use Rattle.plc_setting.specs.declared.obligations.Obligation.{Obligation}
@@ -84,3 +86,11 @@ pub record IsDirect (flow : Flow) (outline : Outline) (o : Obligation) (nodes : 
   pub refuted : IsRefutedByLast (ground_set flow outline o) (denied_count flow outline o) place
   pub premise : IsPremise flow outline o (literals (ground_set flow outline o) place)
   pub whole : nodes ≡ direct_nodes (ground_set flow outline o) place
+
+-- such nodes, which close the ground set of the obligation and split no clause twice on a branch; the set keeps the rules
+-- of ground sets
+pub record IsDirectTree (flow : Flow) (outline : Outline) (o : Obligation) (nodes : List Node) : Type 0 where
+  pub shape : IsDirect flow outline o nodes
+  pub well : IsWellFormed (ground_set flow outline o)
+  pub closes : Closes (ground_set flow outline o) nodes
+  pub once : SplitsOnce (ground_set flow outline o) ([] ∷ []) nodes

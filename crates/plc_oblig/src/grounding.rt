@@ -94,6 +94,7 @@ fn write_draft(
 /// Memory for ground sets that are made one after another.
 #[derive(Drop)]
 pub struct Grounding {
+    pub(crate) alloc: Global,
     draft: Draft,
 }
 
@@ -101,6 +102,7 @@ impl Grounding {
     /// It takes no memory yet.
     pub fn new(alloc: Global) -> Grounding {
         Grounding {
+            alloc,
             draft: Draft::new(alloc),
         }
     }
@@ -108,7 +110,6 @@ impl Grounding {
     /// The ground set of an obligation, as [`ground`] makes it.
     pub fn ground(
         &mut self,
-        alloc: Global,
         flow: &Flow,
         outline: &Outline,
         o: &Obligation,
@@ -117,10 +118,10 @@ impl Grounding {
         ensures set { IfOk result (λ set. set ≡ ground_set flow.now outline.now o.now) }
         ensures well { IfOk result (λ set. IsWellFormed set) }
     {
-        let s = setting_of(alloc, flow, outline, o)?;
+        let s = setting_of(self.alloc, flow, outline, o)?;
         self.draft.clear();
-        write_draft(alloc, flow, outline, o, &s, &mut self.draft)?;
-        let sorts = sorts_of(alloc, flow, o, s.acts.as_slice(), &self.draft)?;
+        write_draft(self.alloc, flow, outline, o, &s, &mut self.draft)?;
+        let sorts = sorts_of(self.alloc, flow, o, s.acts.as_slice(), &self.draft)?;
         let set = self.draft.finish(sorts)?;
         Ok(set)
     }
@@ -143,5 +144,5 @@ pub fn ground(
     ensures set { IfOk result (λ set. set ≡ ground_set flow.now outline.now o.now) }
     ensures well { IfOk result (λ set. IsWellFormed set) }
 {
-    Grounding::new(alloc).ground(alloc, flow, outline, o)
+    Grounding::new(alloc).ground(flow, outline, o)
 }

@@ -1,4 +1,5 @@
-// Ground sets of one obligation of each kind, and of one at depth 1, as an independent reading of the format gives them.
+// Ground sets of one obligation of each kind, and of one at depth 1, as an independent reading of the format gives
+// them.
 //
 // The first line has the terms. `s0` is a shared pointer, `a1` a local of the acting thread, `b1` one of the other
 // thread, `c0` a node of the conclusion, `l0` a load, `v0` a value, `n7` a number, `f0.1@3` version 1 of a field at

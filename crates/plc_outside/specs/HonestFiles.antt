@@ -22,7 +22,12 @@ no_faults name = 0
 
 -- what is known of them: all contents are told, and no count is ever above 0
 abbrev pub known_of : HonestlyStored → KnownFiles
-known_of s = record { content = λ name. Some (bytes_of s.files name); faults = no_faults; taken = s.taken; given = s.given }
+known_of s = record {
+  content = λ name. Some (bytes_of s.files name);
+  faults = no_faults;
+  taken = s.taken;
+  given = s.given;
+}
 
 -- The files after a read of a name.
 pub record IsAfterHonestRead {Z : Type 0} (old new : HonestlyStored) (name : List ℕ)

@@ -45,8 +45,8 @@ pub record PutHasCause {T : Type 0} (before now : ℕ) (result : Result T SinkFa
   pub later : before ≤ now
   pub failed : IsErrOf result sink.Failed → Rose before now
 
--- The room after a write of so many bytes: what is taken is taken from it, and no more; a write of some bytes fails only
--- where there is none, and a fault leaves it.
+-- The room after a write of so many bytes: what is taken is taken from it, and no more; a write of some bytes fails
+-- only where there is none, and a fault leaves it.
 pub record LeavesRoom (before now size : ℕ) (result : Result ℕ SinkFault) : Type 0 where
   pub failed : IsErrOf result sink.Failed → 0 < size → before ≡ 0
   pub taken : IfOk result (λ n. before ≤ now + n)

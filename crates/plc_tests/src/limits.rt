@@ -1,5 +1,6 @@
-// The limits: what has as many parts as there may be is judged, and what has one more is refused with that count,
-// by each command that reads it. The texts are made here, part by part.
+// The limits: what has as many parts as there may be is judged, and what has one more is refused with that count.
+// `check` is asked for all, each command that reads files for those that are tested after the parse. The texts are made
+// here, part by part.
 use crate::files::put;
 use crate::program::head;
 use plc_cli::MemFiles;

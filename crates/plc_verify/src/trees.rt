@@ -27,7 +27,7 @@ fn first_bad_node(
     requires { Fits flow.now outline.now }
     ensures { IfOk result (λ bad. IsVerdict (ground_set flow.now outline.now o.now) [] tree.now.nodes bad) }
 {
-    let set = memory.ground(alloc, flow, outline, o)?;
+    let set = memory.ground(flow, outline, o)?;
     let bad = closes(alloc, &set, tree)?;
     memory.reuse(set);
     Ok(bad)

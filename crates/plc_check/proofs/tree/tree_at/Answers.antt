@@ -6,9 +6,9 @@ use Rattle.plc_check.proofs.tree.tree_at.Goals as goal
 pub returns-in-Some : goal.returns-in-Some
 returns-in-Some c =
     let set = ground_set c.args.flow.now c.args.outline.now c.args.obligation in
-    let closes = rw c.in-Some.is at c.in_ok-tree.ensures.closes in
+    let tree = rw c.in-Some.is at c.in_ok-tree.ensures.tree in
     record {
-      closes = closes;
-      once = rw c.in-Some.is at c.in_ok-tree.ensures.once;
-      fits = nodes_fit set (rw c.in-Some.is at c.in_ok-tree.ensures.well) ([] ∷ []) c.in-Some.tree.nodes closes;
+      closes = tree.closes;
+      once = tree.once;
+      fits = nodes_fit set tree.well ([] ∷ []) c.in-Some.tree.nodes tree.closes;
     }

@@ -8,7 +8,7 @@ use Rattle.plc_oblig.specs.GroundSets.{ground_set}
 use Rattle.plc_oblig.proofs.Ending.{one_clause}
 use Rattle.plc_oblig.proofs.Opposites.{still_is_refuted}
 use Rattle.plc_oblig.proofs.UnitTrees.{closes, splits_once}
-use Rattle.plc_oblig.proofs.trees.tree_of_still.Goals as goal
+use Rattle.plc_oblig.proofs.grounding.Grounding.tree_of_still.Goals as goal
 
 pub unreachable-requires : goal.unreachable-requires
 unreachable-requires c =
@@ -22,36 +22,32 @@ unreachable-requires c =
     (subst (λ g. IsRefutedByLast g c.denied_size-count.result found.0) (sym c.in_ok-set.ensures.set)
     (subst (λ n. IsRefutedByLast (ground_set flow outline o) n found.0) (sym counted) found.1.0))
 
-pub returns-clause-shape : goal.returns-clause-shape
-returns-clause-shape c =
+pub returns : goal.returns
+returns c =
     let flow = c.args.flow.now in
     let outline = c.args.outline.now in
     let o = c.args.o.now in
     let s = setting_of flow outline o in
     let place = c.in-Some.c in
+    let set = c.in_ok-set.set in
+    let is = c.in_ok-set.ensures.set in
+    let well = c.in_ok-set.ensures.well in
+    let last = c.in-Some.ensures.some in
+    let nodes = c.in_ok-tree-in-Some.tree.nodes in
+    let written = sym c.in_ok-tree-in-Some.ensures in
     let counted = c.denied_size-count.ensures.size s (after_all start s.acts) in
     let found = still_is_refuted flow outline o c.requires.fits c.requires.there c.requires.still in
     let refuted = subst (λ n. IsRefutedByLast (ground_set flow outline o) n place) counted
-    (subst (λ g. IsRefutedByLast g c.denied_size-count.result place) c.in_ok-set.ensures.set c.in-Some.ensures.some) in
+    (subst (λ g. IsRefutedByLast g c.denied_size-count.result place) is last) in
     let same = one_clause (ground_set flow outline o) (denied_count flow outline o) place found.0 refuted found.1.0 in
     record {
-      place = place;
-      refuted = refuted;
-      premise = subst (IsPremise flow outline o) (sym same) found.1.1;
-      whole = c.in_ok-tree-in-Some.ensures ∙ ap (λ g. direct_nodes g place) c.in_ok-set.ensures.set;
+      shape = record {
+        place = place;
+        refuted = refuted;
+        premise = subst (IsPremise flow outline o) (sym same) found.1.1;
+        whole = c.in_ok-tree-in-Some.ensures ∙ ap (λ g. direct_nodes g place) is;
+      };
+      well = subst IsWellFormed is well;
+      closes = subst (λ g. Closes g nodes) is (subst (Closes set) written (closes set place well last.refuted));
+      once = subst (λ g. SplitsOnce g ([] ∷ []) nodes) is (subst (SplitsOnce set ([] ∷ [])) written (splits_once set place last.refuted));
     }
-
-pub returns-clause-well : goal.returns-clause-well
-returns-clause-well c = subst IsWellFormed c.in_ok-set.ensures.set c.in_ok-set.ensures.well
-
-pub returns-clause-closes : goal.returns-clause-closes
-returns-clause-closes c =
-    let set = c.in_ok-set.set in
-    subst (λ s. Closes s c.in_ok-tree-in-Some.tree.nodes) c.in_ok-set.ensures.set
-    (subst (Closes set) (sym c.in_ok-tree-in-Some.ensures) (closes set c.in-Some.c c.in_ok-set.ensures.well c.in-Some.ensures.some.refuted))
-
-pub returns-clause-once : goal.returns-clause-once
-returns-clause-once c =
-    let set = c.in_ok-set.set in
-    subst (λ s. SplitsOnce s ([] ∷ []) c.in_ok-tree-in-Some.tree.nodes) c.in_ok-set.ensures.set
-    (subst (SplitsOnce set ([] ∷ [])) (sym c.in_ok-tree-in-Some.ensures) (splits_once set c.in-Some.c c.in-Some.ensures.some.refuted))
