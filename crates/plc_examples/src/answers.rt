@@ -1,5 +1,6 @@
 // A command answered in memory: the files are real, the output is kept.
-use plc_cli::{RealFiles, VecSink, run_with_own};
+use plc_base::LARGEST_FILE;
+use plc_cli::{Files, MemFiles, RealFiles, VecSink, run_with_own};
 use std::alloc::{AllocError, Global};
 use std::io;
 
@@ -21,16 +22,47 @@ fn told(text: &str) -> &str {
     ""
 }
 
+// The status and what is written.
+fn answer<F: Files>(alloc: Global, line: &str, files: &mut F) -> Result<(u8, Vec<u8>), AllocError> {
+    let words = words_of(alloc, line)?;
+    let mut out = VecSink::new(alloc);
+    let status = run_with_own(alloc, &words, files, &mut out);
+    Ok((status, Vec::from_slice(alloc, out.written())?))
+}
+
+// A file and what `certify` writes of it, as `file` and `certificate`.
+fn certified(rt: &HostRuntime, name: &str) -> io::Result<MemFiles> {
+    let alloc = rt.alloc();
+    let mut files = RealFiles::new(alloc, rt.clone()?);
+    let command = format!(in alloc; "certify {name}")?;
+    let (_, certificate) = answer(alloc, command.as_str(), &mut files)?;
+    let mut both = Vec::new(alloc);
+    if let Ok(file) = files.read(name, LARGEST_FILE) {
+        both.push((String::from_str(alloc, "file")?, file))?;
+    }
+    both.push((String::from_str(alloc, "certificate")?, certificate))?;
+    Ok(MemFiles::new(alloc, both, Vec::new(alloc)))
+}
+
+// The answer to a command; to `certify FILE, verify` that of `verify` to what `certify` writes.
+fn kept_answer(rt: &HostRuntime, line: &str) -> io::Result<(u8, Vec<u8>)> {
+    let alloc = rt.alloc();
+    match line.strip_suffix(", verify") {
+        Some(certify) => {
+            let name = certify.strip_prefix("certify ").unwrap_or("");
+            let mut files = certified(rt, name)?;
+            Ok(answer(alloc, "verify file certificate", &mut files)?)
+        }
+        None => Ok(answer(alloc, line, &mut RealFiles::new(alloc, rt.clone()?))?),
+    }
+}
+
 /// The command with the line that tells its answer, and the status.
 pub(crate) fn answered(rt: &HostRuntime, line: &str) -> io::Result<String> {
-    let alloc = rt.alloc();
-    let words = words_of(alloc, line)?;
-    let mut files = RealFiles::new(alloc, rt.clone()?);
-    let mut out = VecSink::new(alloc);
-    let status = run_with_own(alloc, &words, &mut files, &mut out);
-    let text = match str::from_utf8(out.written()) {
+    let (status, written) = kept_answer(rt, line)?;
+    let text = match str::from_utf8(&written) {
         Ok(text) => told(text),
         Err(_) => "no text",
     };
-    Ok(format!(in alloc; "{line} => {text}, {status}")?)
+    Ok(format!(in rt.alloc(); "{line} => {text}, {status}")?)
 }
