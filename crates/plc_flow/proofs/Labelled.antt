@@ -39,7 +39,7 @@ mutual
       let second = side_made (false_side cond) (statements_made z) h (n + first.points) c in
       both_counted first.labels second.labels (block_labels y) (block_labels z) (statements_counted y h (n + 1) n) (statements_counted z h (n + first.points + 1) (n + first.points))
   statement_counted (Choose bs) h n c = blocks_counted bs h n c
-  statement_counted (Loop b) h n c = statements_counted b (record h { behind = point_of (n + 1) }) (n + 2) n
+  statement_counted (Loop b) h n c = statements_counted b (record h { after = point_of (n + 1) }) (n + 2) n
   statement_counted Break h n c = refl
   statement_counted Return h n c = refl
 
@@ -57,7 +57,7 @@ mutual
       both_counted first.labels (blocks_made bs h (n + first.points) c).labels (block_labels b) (blocks_labels bs) (statements_counted b h (n + 1) n) (blocks_counted bs h (n + first.points) c)
 
 op_counted : (id : ℕ) (o : Op) (n : ℕ) → length (op_made id o n).labels ≡ length (block_labels o.body)
-op_counted id o n = statements_counted o.body (record { op = record { 0 = id }; exit = point_of (n + 1); behind = point_of (n + 1); line = o.line }) (n + 2) n
+op_counted id o n = statements_counted o.body (record { op = record { 0 = id }; exit = point_of (n + 1); after = point_of (n + 1); line = o.line }) (n + 2) n
 
 ops_labels_counted : (id : ℕ) (os : List Op) (n : ℕ) → length (ops_made id os n).labels ≡ length (concat (labels_by_op os))
 ops_labels_counted id [] n = refl

@@ -66,7 +66,7 @@ module _ (P : List Primitive → Type 0) (none : P []) where
 
   loop_has : (block : Lowered) → Make block → Make (loop_made block)
   loop_has block b h n c =
-      let g : Here = record h { behind = record { 0 = n + 1 } } in
+      let g : Here = record h { after = record { 0 = n + 1 } } in
       ((refl, none), each_both (Has P h.op) (block g (n + 2) n).steps _ (b g (n + 2) n) ((refl, none), tt))
 
   mutual
@@ -98,7 +98,7 @@ module _ (P : List Primitive → Type 0) (none : P []) where
 
 op_has : (P : List Primitive → Type 0) → P [] → (id : ℕ) (o : Op) (n : ℕ) → StatementsHave P o.body → Each (Has P (record { 0 = id })) (op_made id o n).steps
 op_has P none id o n i =
-    let h : Here = record { op = record { 0 = id }; exit = record { 0 = n + 1 }; behind = record { 0 = n + 1 }; line = o.line } in
+    let h : Here = record { op = record { 0 = id }; exit = record { 0 = n + 1 }; after = record { 0 = n + 1 }; line = o.line } in
     each_both (Has P h.op) (statements_made o.body h (n + 2) n).steps _ (statements_have P none o.body i h (n + 2) n) ((refl, none), tt)
 
 -- ---- the operations of a file

@@ -1,4 +1,4 @@
--- Each step of a lowered file is between points of its own operation, each label is a point of it, the gates stand one behind the other, and there are at most twice as many steps as points.
+-- Each step of a lowered file is between points of its own operation, each label is a point of it, the gates stand one after another, and there are at most twice as many steps as points.
 use Rattle.std.proofs.Common.{◌≡◌, ℕ, suc, ◌+◌, ◌*◌, ◌<◌, ◌≤◌, Some, List, [], ◌∷◌, ◌++◌, Option, None, length, slice_get, refl, ap, subst, arith, length-append}
 use Rattle.plc_base.specs.declared.ids.FuncId.{FuncId}
 use Rattle.plc_base.specs.declared.ids.PointId.{PointId}
@@ -46,10 +46,10 @@ points_both first a b all m n xs ys p q = each_both (InRange first all) xs ys (p
 -- the points to which a statement may lead besides its own
 pub record Around (h : Here) (first n : ℕ) : Type 0 where
   pub exit : InRange first n h.exit
-  pub behind : InRange first n h.behind
+  pub after : InRange first n h.after
 
 around_more : (h : Here) (first n m : ℕ) → n ≤ m → Around h first n → Around h first m
-around_more h first n m more a = record { exit = range_more first n m more h.exit a.exit; behind = range_more first n m more h.behind a.behind }
+around_more h first n m more a = record { exit = range_more first n m more h.exit a.exit; after = range_more first n m more h.after a.after }
 
 -- what is made stays in the range that begins at `first`
 pub record Stays (op first n : ℕ) (m : Made) : Type 0 where
@@ -178,11 +178,11 @@ choose_stays branches b h first n c a r =
 
 loop_stays : (block : Lowered) → StaysIn block → StaysIn (loop_made block)
 loop_stays block b h first n c a r =
-    let g : Here = record h { behind = point_of (n + 1) } in
+    let g : Here = record h { after = point_of (n + 1) } in
     let head = made_here first n c (n + 2) (omega arith) r in
-    let behind : InRange first (n + 2) (point_of (n + 1)) = record { low = omega (arith, head.low); high = omega arith } in
+    let after : InRange first (n + 2) (point_of (n + 1)) = record { low = omega (arith, head.low); high = omega arith } in
     let inner = block g (n + 2) n in
-    let i = b g first (n + 2) n (record { exit = range_more first n (n + 2) (omega arith) h.exit a.exit; behind = behind }) head in
+    let i = b g first (n + 2) n (record { exit = range_more first n (n + 2) (omega arith) h.exit a.exit; after = after }) head in
     let all = n + (2 + inner.points) in
     let back = from_to h inner.last n [] ∷ [] in
     record {
@@ -192,7 +192,7 @@ loop_stays block b h first n c a r =
             (between h first all inner.last n [] (range_more first (n + 2 + inner.points) all (omega arith) (point_of inner.last) i.last) (range_more first (n + 2) all (omega arith) (point_of n) head), tt),
       );
       labels = points_more first (n + 2 + inner.points) all (omega arith) inner.labels i.labels;
-      last = range_more first (n + 2) all (omega arith) (point_of (n + 1)) behind;
+      last = range_more first (n + 2) all (omega arith) (point_of (n + 1)) after;
       few = omega (arith, length-append inner.steps back, i.few);
     }
 
@@ -207,7 +207,7 @@ mutual
   statement_stays (If cond y n) = if_stays (side_made (true_side cond) (statements_made y)) (side_made (false_side cond) (statements_made n)) (side_stays (true_side cond) (statements_made y) (statements_stay y)) (side_stays (false_side cond) (statements_made n) (statements_stay n))
   statement_stays (Choose bs) = choose_stays (blocks_made bs) (blocks_stay bs)
   statement_stays (Loop b) = loop_stays (statements_made b) (statements_stay b)
-  statement_stays Break = leave_stays (λ h. h.behind) (λ h first n a. a.behind)
+  statement_stays Break = leave_stays (λ h. h.after) (λ h first n a. a.after)
   statement_stays Return = leave_stays (λ h. h.exit) (λ h first n a. a.exit)
 
   statements_stay : (b : Statements) → StaysIn (statements_made b)
@@ -215,7 +215,7 @@ mutual
   statements_stay (Then line s b) h first n c a r =
       let g : Here = record h { line = line } in
       let one = statement_made s g n c in
-      let p = statement_stays s g first n c (record { exit = a.exit; behind = a.behind }) r in
+      let p = statement_stays s g first n c (record { exit = a.exit; after = a.after }) r in
       let k = n + one.points in
       let others = statements_made b h k one.last in
       let q = statements_stay b h first k one.last (around_more h first n k (omega arith) a) p.last in
@@ -246,10 +246,10 @@ mutual
 
 pub op_stays : (id : ℕ) (o : Op) (n : ℕ) → Stays id n n (op_made id o n)
 op_stays id o n =
-    let h : Here = record { op = record { 0 = id }; exit = point_of (n + 1); behind = point_of (n + 1); line = o.line } in
+    let h : Here = record { op = record { 0 = id }; exit = point_of (n + 1); after = point_of (n + 1); line = o.line } in
     let exit : InRange n (n + 2) (point_of (n + 1)) = record { low = omega arith; high = omega arith } in
     let inner = statements_made o.body h (n + 2) n in
-    let i = statements_stay o.body h n (n + 2) n (record { exit = exit; behind = exit }) (record { low = omega arith; high = omega arith }) in
+    let i = statements_stay o.body h n (n + 2) n (record { exit = exit; after = exit }) (record { low = omega arith; high = omega arith }) in
     let all = n + (2 + inner.points) in
     let closing = from_to h inner.last (n + 1) [] ∷ [] in
     record {

@@ -25,7 +25,7 @@ a_during during m = record { points = 0; steps = []; labels = during_made during
 abbrev pub a_join : Here → List PointId → ℕ → Made
 a_join h ends j = record { points = 0; steps = joins h ends j; labels = []; last = j }
 
--- what was made before, and this behind it
+-- what was made before, and this after it
 pub record Grown (old new : Builder) (m : Made) : Type 0 where
   pub points : new.points ≡ old.points + m.points
   pub few : new.points ≤ most_points

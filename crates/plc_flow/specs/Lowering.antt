@@ -43,11 +43,11 @@ point_of a = record { 0 = a }
 abbrev pub from_to : Here → ℕ → ℕ → List Primitive → Step
 from_to h a b prims = record { op = h.op; from = point_of a; to = point_of b; prims = prims; line = h.line }
 
--- nothing, behind this point
+-- nothing, after this point
 abbrev pub nothing_made : ℕ → Made
 nothing_made c = record { points = 0; steps = []; labels = []; last = c }
 
--- one behind the other
+-- one after another
 abbrev pub joined : Made → Made → Made
 joined a b =
     record { points = a.points + b.points; steps = a.steps ++ b.steps; labels = a.labels ++ b.labels; last = b.last }
@@ -100,7 +100,7 @@ if_made yes_side no_side h n c =
 abbrev pub joins : Here → List PointId → ℕ → List Step
 joins h ends j = map (λ d. from_to h d.0 j []) ends
 
--- `choose`: each block behind a step without primitives; point j; a step from the end of each to j
+-- `choose`: each block after a step without primitives; point j; a step from the end of each to j
 abbrev pub choose_made : (Here → ℕ → ℕ → Branches) → Lowered
 choose_made branches h n c =
     let all = branches h n c in
@@ -115,7 +115,7 @@ choose_made branches h n c =
 -- `loop`: points n and n + 1; step c to n; the block from n; a step from its end to n; a `break` in it leads to n + 1
 abbrev pub loop_made : Lowered → Lowered
 loop_made block h n c =
-    let inner = block (record h { behind = point_of (n + 1) }) (n + 2) n in
+    let inner = block (record h { after = point_of (n + 1) }) (n + 2) n in
     record {
       points = 2 + inner.points;
       steps = from_to h c n [] ∷ inner.steps ++ from_to h inner.last n [] ∷ [];
@@ -139,7 +139,7 @@ abbrev mutual
       if_made (side_made (true_side cond) (statements_made y)) (side_made (false_side cond) (statements_made n))
   statement_made (Choose bs) = choose_made (blocks_made bs)
   statement_made (Loop b) = loop_made (statements_made b)
-  statement_made Break = leave_made (λ h. h.behind)
+  statement_made Break = leave_made (λ h. h.after)
   statement_made Return = leave_made (λ h. h.exit)
 
   -- statements in order, each from where the one before goes on; a step's line is that of its statement
@@ -166,7 +166,7 @@ abbrev mutual
 -- to the exit; no `break` stands outside of loops
 abbrev pub op_made : ℕ → Op → ℕ → Made
 op_made id o n =
-    let h : Here = record { op = record { 0 = id }; exit = point_of (n + 1); behind = point_of (n + 1); line = o.line } in
+    let h : Here = record { op = record { 0 = id }; exit = point_of (n + 1); after = point_of (n + 1); line = o.line } in
     let inner = statements_made o.body h (n + 2) n in
     record {
       points = 2 + inner.points;

@@ -54,7 +54,7 @@ false_side (conds.Test k) = opposite k ∷ []
 false_side (conds.Refresh k) = []
 false_side (conds.Cas active p old new) = claim active p ++ differs p old ∷ []
 
--- a call behind the claim on its argument
+-- a call after the claim on its argument
 abbrev pub call_side : Bool → FuncId → Arg → List Primitive
 call_side active func (args.Var p) = claim active p ++ prims.Call func (args.Var p) ∷ []
 call_side active func args.Null = prims.Call func args.Null ∷ []

@@ -17,7 +17,7 @@ IsPointOf g p = (g.first ≤ p) × (p < g.after)
 abbrev pub StepWithin : Flow → Step → Type 0
 StepWithin flow s = (g : Gate) × (slice_get flow.gates s.op.0 ≡ Some g) × IsPointOf g s.from.0 × IsPointOf g s.to.0
 
--- one gate behind the other, from a point on
+-- one gate after the other, from a point on
 abbrev pub GatesFrom : ℕ → List Gate → ℕ → Type 0
 GatesFrom n [] end = n ≡ end
 GatesFrom n (g ∷ gs) end = (g.first ≡ n) × (g.entry.0 ≡ n) × (g.exit.0 ≡ n + 1) × (n + 2 ≤ g.after)

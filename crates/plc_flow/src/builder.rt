@@ -1,6 +1,6 @@
 // What the lowering has made so far. It only grows: points are counted, steps and labels are pushed,
 // so that what a statement makes is said by its own points, steps and labels, and one statement
-// behind another by `+` and `++`.
+// after another by `+` and `++`.
 ghost use Rattle.std.specs.Prelude.{◌≡◌, ◌≤◌, ◌+◌, ◌∷◌, []};
 ghost use Rattle.plc_flow.specs.Lowering.{most_points, label_made};
 ghost use Rattle.plc_flow.specs.Builder.{Makes, a_point, a_step, a_during, a_join};
@@ -23,8 +23,8 @@ pub(crate) struct Here {
     pub op: OpId,
     /// The exit of the operation, to which a `return` leads.
     pub exit: PointId,
-    /// The point behind the innermost loop, to which a `break` leads.
-    pub behind: PointId,
+    /// The point after the innermost loop, to which a `break` leads.
+    pub after: PointId,
     /// The line of the statement's first token.
     pub line: u32,
 }

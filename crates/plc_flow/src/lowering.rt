@@ -1,4 +1,4 @@
-// The operations of a file one behind the other, each with a run of points of its own, which begins
+// The operations of a file one after another, each with a run of points of its own, which begins
 // with its entry and its exit.
 ghost use Rattle.std.specs.Prelude.{◌≡◌, ◌≤◌, ◌+◌, IfOk};
 ghost use Rattle.plc_lang.specs.Fit.{FileFits, NamesWhatIsThere};
@@ -26,7 +26,7 @@ fn lower_op(alloc: Global, id: OpId, op: &Op, out: &mut Builder) -> Result<Point
     let here = Here {
         op: id,
         exit,
-        behind: exit,
+        after: exit,
         line: op.line,
     };
     let last = lower_block(alloc, here, entry, &op.body, out)?;

@@ -117,7 +117,7 @@ pub(crate) fn false_prims(alloc: Global, cond: Cond) -> Result<Items<Prim>, Allo
     }
 }
 
-/// A call behind the claim on its argument.
+/// A call after the claim on its argument.
 pub(crate) fn call_prims(
     alloc: Global,
     active: bool,

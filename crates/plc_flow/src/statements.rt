@@ -49,7 +49,7 @@ fn lower_call(
     step(here, called, done, one(alloc, Prim::Done { func })?, out)
 }
 
-/// A step to the exit, or out of a loop. What stands behind it goes on from a point of its own.
+/// A step to the exit, or out of a loop. What stands after it goes on from a point of its own.
 fn lower_leave(
     alloc: Global,
     here: Here,
@@ -90,7 +90,7 @@ fn lower_stmt(
         Stmt::If { cond, yes, no } => lower_if(alloc, here, from, *cond, yes, no, out),
         Stmt::Choose(blocks) => lower_choose(alloc, here, from, blocks, out),
         Stmt::Loop(block) => lower_loop(alloc, here, from, block, out),
-        Stmt::Break => lower_leave(alloc, here, from, here.behind, out),
+        Stmt::Break => lower_leave(alloc, here, from, here.after, out),
         Stmt::Return => lower_leave(alloc, here, from, here.exit, out),
         Stmt::Skip => lower_one(here, from, Items::new(alloc), out),
         Stmt::Label(_) => label(from, out),
@@ -131,11 +131,11 @@ fn lower_choose(
     ensures { Makes out.old out.new result (statement_made (Choose (blocks_of blocks.now)) here out.old.points from.0) }
 {
     let ends = lower_branches(alloc, here, from, blocks, out)?;
-    let behind = point(out)?;
-    join_all(alloc, here, ends.as_slice(), behind, out)
+    let after = point(out)?;
+    join_all(alloc, here, ends.as_slice(), after, out)
 }
 
-/// A point to which the block's end leads back, and one behind the loop, which a `break` leads to.
+/// A point to which the block's end leads back, and one after the loop, which a `break` leads to.
 #[cycle(lower)]
 fn lower_loop(
     alloc: Global,
@@ -148,11 +148,11 @@ fn lower_loop(
     ensures { Makes out.old out.new result (statement_made (Loop block.now) here out.old.points from.0) }
 {
     let head = point(out)?;
-    let behind = point(out)?;
+    let after = point(out)?;
     step(here, from, head, Items::new(alloc), out)?;
-    let end = lower_block(alloc, Here { behind, ..here }, head, block, out)?;
+    let end = lower_block(alloc, Here { after, ..here }, head, block, out)?;
     step(here, end, head, Items::new(alloc), out)?;
-    Ok(behind)
+    Ok(after)
 }
 
 /// A step with these primitives to a new point, and the block from there.

@@ -1,4 +1,4 @@
--- What is read of a tree's tokens is the tree, and the tokens behind it are left.
+-- What is read of a tree's tokens is the tree, and the tokens after it are left.
 use Rattle.std.proofs.Common.{◌≡◌, List, ◌∷◌, Option, Some, None, true, false, refl}
 use Rattle.plc_lex.specs.declared.token.TokenKind.{TokenKind}
 use Rattle.plc_lex.specs.declared.token.TokenKind.TheVariants.{Name, Symbol}

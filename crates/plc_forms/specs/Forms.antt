@@ -1,4 +1,4 @@
--- The forms at the front of tokens, each with the tokens behind it. A form is read from left to right: where a token doesn't fit, nothing is read.
+-- The forms at the front of tokens, each with the tokens after it. A form is read from left to right: where a token doesn't fit, nothing is read.
 use Rattle.std.specs.Prelude.{Bool, true, false, if◌then◌else◌, Option, Some, None, List, ◌∷◌}
 use denote.Enum.Bare.{sameb}
 use Rattle.plc_lex.specs.contracts.token.Keyword as keyword
@@ -12,7 +12,7 @@ use Rattle.plc_syntax.specs.Table.{same_symbol}
 use Rattle.plc_syntax.specs.Trees.{Text, FieldTree, PointerField, DataField, PlaceTree, PlaceOf, AtomTree, NullAtom, NumberAtom, NameAtom, ValueTree, NullValue, NewValue, NumberValue, PlaceValue, SetTree, SetName, SetField, RefreshTree, RefreshName, RefreshField, GhostValueTree, NameGhost, MeGhost, NoneGhost, GhostSetTree, SetGhost, InitialTree, InitialSet, InitialGhost, Comparison, SameAs, OtherThan, LessThan, NotLessThan, TestTree, Compares, ConditionTree, TestCondition, RefreshCondition, CasCondition, PrimitiveTree, SetPrimitive, RefreshPrimitive, GhostPrimitive, ActivePrimitive, AssumePrimitive, SkipPrimitive, ArgumentTree, NoArgument, NullArgument, NameArgument, ActiveArgument, FunctionTree, Declares, WatchTree, UseHazard, UseEpoch}
 
 infixl 10 ◌>>=◌
--- what is read behind what was read, if anything was
+-- what is read after what was read, if anything was
 abbrev pub ◌>>=◌ : {A B : Type 0} → Option A → (A → Option B) → Option B
 None >>= next = None
 (Some x) >>= next = next x
@@ -132,7 +132,7 @@ function_of ts = do
   rest ← end_of (pointer_word_of n.1).1
   Some (Declares n.0 (pointer_word_of n.1).0, rest)
 
--- the use of a hazard pointer, from behind "use"
+-- the use of a hazard pointer, from after "use"
 abbrev pub hazard_of : List TokenKind → Option (WatchTree × List TokenKind)
 hazard_of ts = do
   us ← word_symbol_of Hazard OpenParen ts
@@ -140,7 +140,7 @@ hazard_of ts = do
   rest ← end_of f.1
   Some (UseHazard f.0, rest)
 
--- the use of an epoch, from behind "use"
+-- the use of an epoch, from after "use"
 abbrev pub epoch_of : List TokenKind → Option (WatchTree × List TokenKind)
 epoch_of ts = do
   us ← word_symbol_of Epoch OpenParen ts
@@ -177,16 +177,16 @@ init_of ts = word_symbol_of Init OpenBrace ts
 
 -- ---- assignments and refreshes
 
--- a field behind its dot
+-- a field after its dot
 abbrev pub dot_name_of : List TokenKind → Option (Text × List TokenKind)
 dot_name_of ts = symbol_name_of Dot ts
 
--- a name, and the field behind it if a dot follows
+-- a name, and the field after it if a dot follows
 abbrev pub place_with : Text → Option (Text × List TokenKind) → List TokenKind → PlaceTree × List TokenKind
 place_with n None ts = (PlaceOf n None, ts)
 place_with n (Some f) ts = (PlaceOf n (Some f.0), f.1)
 
--- a place, from behind its name
+-- a place, from after its name
 abbrev pub place_of_name : Text → List TokenKind → PlaceTree × List TokenKind
 place_of_name n ts = place_with n (dot_name_of ts) ts
 
@@ -296,7 +296,7 @@ abbrev pub active_word_of : List TokenKind → Bool × List TokenKind
 active_word_of (Word Active ∷ rest) = (true, rest)
 active_word_of ts = (false, ts)
 
--- the three pointers of a cas and the parenthesis behind them, where it is known whether the first is claimed to be active
+-- the three pointers of a cas and the parenthesis after them, where it is known whether the first is claimed to be active
 abbrev pub cas_of : Bool → List TokenKind → Option (ConditionTree × List TokenKind)
 cas_of is_active ts = do
   n ← name_of ts
@@ -309,7 +309,7 @@ cas_of is_active ts = do
 abbrev pub named_condition_of : List TokenKind → Option (ConditionTree × List TokenKind)
 named_condition_of ts = read_or (read_as (λ r. RefreshCondition r.0 r.1) (refresh_name_of ts)) (read_as TestCondition (test_of ts))
 
--- a cas, from behind its first word
+-- a cas, from after its first word
 abbrev pub cas_condition_of : List TokenKind → Option (ConditionTree × List TokenKind)
 cas_condition_of ts = do
   us ← symbol_of OpenParen ts

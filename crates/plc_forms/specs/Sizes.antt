@@ -1,4 +1,4 @@
--- How many tokens the forms have, so that a place behind a form is the place before it and its size.
+-- How many tokens the forms have, so that a place after a form is the place before it and its size.
 use Rattle.std.specs.Prelude.{ℕ, ◌+◌, Bool, true, false, Option, Some, None}
 use Rattle.plc_syntax.specs.Trees.{Text, PlaceTree, PlaceOf, ValueTree, NullValue, NewValue, NumberValue, PlaceValue, SetTree, SetName, SetField, RefreshTree, RefreshName, RefreshField, InitialTree, InitialSet, InitialGhost, ConditionTree, TestCondition, RefreshCondition, CasCondition, PrimitiveTree, SetPrimitive, RefreshPrimitive, GhostPrimitive, ActivePrimitive, AssumePrimitive, SkipPrimitive, ArgumentTree, NoArgument, NullArgument, NameArgument, ActiveArgument, FunctionTree, Declares, WatchTree, UseHazard, UseEpoch}
 

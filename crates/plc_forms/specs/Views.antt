@@ -1,4 +1,4 @@
--- The trees of the program's forms, and what is left behind a form. Names are those of the tokens, so a form stands for the tree with their bytes.
+-- The trees of the program's forms, and what is left after a form. Names are those of the tokens, so a form stands for the tree with their bytes.
 use Rattle.std.specs.Prelude.{◌≡◌, ◌+◌, ℕ, List, length, Option, Some, None, MatchOption}
 use Rattle.std.specs.Borrow.{Bor}
 use Rattle.plc_lex.specs.declared.token.TokenKind.{TokenKind}
@@ -40,25 +40,25 @@ use Rattle.plc_forms.specs.declared.form.Call.{Call}
 abbrev pub text_of : Bor Text → Text
 text_of name = name.now
 
--- what is left behind so many tokens
-pub record Behind (rest : Rest) (count : ℕ) (behind : Rest) : Type 0 where
-  pub at : behind.at ≡ rest.at + count
-  pub tokens : length behind.tokens.now + count ≡ length rest.tokens.now
+-- what is left after so many tokens
+pub record After (rest : Rest) (count : ℕ) (after : Rest) : Type 0 where
+  pub at : after.at ≡ rest.at + count
+  pub tokens : length after.tokens.now + count ≡ length rest.tokens.now
 
 -- nothing is read there
 pub record ReadNone {B : Type 0} (wanted : Option B) : Type 0 where
   pub read : wanted ≡ None
 
--- this is read there, and what is left stands behind so many tokens
+-- this is read there, and what is left stands after so many tokens
 pub record ReadSome {B : Type 0} (wanted : Option B) (form : B) (count : ℕ) (rest later : Rest) : Type 0 where
   pub read : wanted ≡ Some form
-  pub behind : Behind rest count later
+  pub after : After rest count later
 
--- an answer is what stands behind a form of so many tokens, by the form's definition on the tokens' kinds, and none where that has none
+-- an answer is what stands after a form of so many tokens, by the form's definition on the tokens' kinds, and none where that has none
 abbrev pub Passes : (List TokenKind → Option (List TokenKind)) → ℕ → Rest → Option Rest → Type 0
 Passes form count rest answer = MatchOption answer (ReadNone (form (kinds rest.tokens.now))) (λ r. ReadSome (form (kinds rest.tokens.now)) (kinds r.tokens.now) count rest r)
 
--- an answer is the form that is read, seen as a tree, and what stands behind the tree's tokens
+-- an answer is the form that is read, seen as a tree, and what stands after the tree's tokens
 abbrev pub Reads : {A B : Type 0} → (List TokenKind → Option (B × List TokenKind)) → (A → B) → (B → ℕ) → Rest → Option (A × Rest) → Type 0
 Reads form tree size rest answer = MatchOption answer (ReadNone (form (kinds rest.tokens.now))) (λ r. ReadSome (form (kinds rest.tokens.now)) (tree r.0, kinds r.1.tokens.now) (size (tree r.0)) rest r.1)
 

@@ -5,7 +5,7 @@ ghost use Rattle.plc_forms.specs.Forms.{dot_name_of, place_of_name, place_of, va
 ghost use Rattle.plc_forms.specs.Forms.{set_name_of, set_field_of, set_of, refresh_name_of};
 ghost use Rattle.plc_forms.specs.Forms.{refresh_field_of, refresh_of, ghost_value_of, ghost_set_of};
 ghost use Rattle.plc_forms.specs.Sizes.{place_size, value_size, set_size, refresh_size, ghost_set_size};
-ghost use Rattle.plc_forms.specs.Views.{Behind, place_tree, value_tree, atom_tree, set_tree, refresh_tree};
+ghost use Rattle.plc_forms.specs.Views.{After, place_tree, value_tree, atom_tree, set_tree, refresh_tree};
 ghost use Rattle.plc_forms.specs.Views.{ghost_value_tree, ghost_set_tree, Reads, text_of};
 
 use crate::form::{Atom, GhostSet, GhostValue, Place, Refresh, Set, Value};
@@ -13,23 +13,23 @@ use crate::front::{first, name_at, name_symbol_at, symbol_name_at, word_name_at}
 use crate::rest::Rest;
 use plc_lex::{Keyword, Symbol, TokenKind};
 
-// A field, behind its dot.
+// A field, after its dot.
 fn dot_name_at<'a>(rest: Rest<'a>) -> Option<(&'a [u8], Rest<'a>)>
     ensures { Reads dot_name_of text_of (λ _. 2) rest.entry result }
 {
     symbol_name_at(rest, Symbol::Dot)
 }
 
-// A place, from behind its name.
+// A place, from after its name.
 fn place_of_name_at<'a>(name: &'a [u8], rest: Rest<'a>) -> (Place<'a>, Rest<'a>)
     ensures read { place_of_name name.now (kinds rest.entry.tokens.now)
         ≡ (place_tree result.0, kinds result.1.tokens.now) }
-    ensures behind { Behind rest.entry (place_size (place_tree result.0) - 1) result.1 }
+    ensures after { After rest.entry (place_size (place_tree result.0) - 1) result.1 }
 {
     match dot_name_at(rest) {
-        Some((field, behind)) => {
+        Some((field, after)) => {
             let field = Some(field);
-            (Place { name, field }, behind)
+            (Place { name, field }, after)
         }
         None => (Place { name, field: None }, rest),
     }
@@ -39,8 +39,8 @@ fn place_of_name_at<'a>(name: &'a [u8], rest: Rest<'a>) -> (Place<'a>, Rest<'a>)
 pub fn place_at<'a>(rest: Rest<'a>) -> Option<(Place<'a>, Rest<'a>)>
     ensures { Reads place_of place_tree place_size rest.entry result }
 {
-    let (name, behind) = name_at(rest)?;
-    Some(place_of_name_at(name, behind))
+    let (name, after) = name_at(rest)?;
+    Some(place_of_name_at(name, after))
 }
 
 // What is put into a name.
@@ -48,12 +48,12 @@ fn value_at<'a>(rest: Rest<'a>) -> Option<(Value<'a>, Rest<'a>)>
     ensures { Reads value_of value_tree value_size rest.entry result }
 {
     match first(rest)? {
-        (TokenKind::Word(Keyword::Null), behind) => Some((Value::Null, behind)),
-        (TokenKind::Word(Keyword::New), behind) => Some((Value::New, behind)),
-        (TokenKind::Number(n), behind) => Some((Value::Number(*n), behind)),
+        (TokenKind::Word(Keyword::Null), after) => Some((Value::Null, after)),
+        (TokenKind::Word(Keyword::New), after) => Some((Value::New, after)),
+        (TokenKind::Number(n), after) => Some((Value::Number(*n), after)),
         _ => {
-            let (place, behind) = place_at(rest)?;
-            Some((Value::Place(place), behind))
+            let (place, after) = place_at(rest)?;
+            Some((Value::Place(place), after))
         }
     }
 }
@@ -63,9 +63,9 @@ pub fn atom_at<'a>(rest: Rest<'a>) -> Option<(Atom<'a>, Rest<'a>)>
     ensures { Reads atom_of atom_tree (λ _. 1) rest.entry result }
 {
     match first(rest)? {
-        (TokenKind::Word(Keyword::Null), behind) => Some((Atom::Null, behind)),
-        (TokenKind::Number(n), behind) => Some((Atom::Number(*n), behind)),
-        (TokenKind::Name(name), behind) => Some((Atom::Name(name.as_slice()), behind)),
+        (TokenKind::Word(Keyword::Null), after) => Some((Atom::Null, after)),
+        (TokenKind::Number(n), after) => Some((Atom::Number(*n), after)),
+        (TokenKind::Name(name), after) => Some((Atom::Name(name.as_slice()), after)),
         _ => None,
     }
 }
@@ -74,19 +74,19 @@ pub fn atom_at<'a>(rest: Rest<'a>) -> Option<(Atom<'a>, Rest<'a>)>
 fn set_name_at<'a>(rest: Rest<'a>) -> Option<(Set<'a>, Rest<'a>)>
     ensures { Reads set_name_of set_tree set_size rest.entry result }
 {
-    let (name, behind) = name_symbol_at(rest, Symbol::Assign)?;
-    let (value, behind) = value_at(behind)?;
-    Some((Set::Name(name, value), behind))
+    let (name, after) = name_symbol_at(rest, Symbol::Assign)?;
+    let (value, after) = value_at(after)?;
+    Some((Set::Name(name, value), after))
 }
 
 // An assignment to a field.
 fn set_field_at<'a>(rest: Rest<'a>) -> Option<(Set<'a>, Rest<'a>)>
     ensures { Reads set_field_of set_tree set_size rest.entry result }
 {
-    let (name, behind) = name_symbol_at(rest, Symbol::Dot)?;
-    let (field, behind) = name_symbol_at(behind, Symbol::Assign)?;
-    let (atom, behind) = atom_at(behind)?;
-    Some((Set::Field(name, field, atom), behind))
+    let (name, after) = name_symbol_at(rest, Symbol::Dot)?;
+    let (field, after) = name_symbol_at(after, Symbol::Assign)?;
+    let (atom, after) = atom_at(after)?;
+    Some((Set::Field(name, field, atom), after))
 }
 
 /// An assignment, without its semicolon.
@@ -100,19 +100,19 @@ pub fn set_at<'a>(rest: Rest<'a>) -> Option<(Set<'a>, Rest<'a>)>
 pub fn refresh_name_at<'a>(rest: Rest<'a>) -> Option<((&'a [u8], Place<'a>), Rest<'a>)>
     ensures { Reads refresh_name_of (λ x. (x.0.now, place_tree x.1)) (λ t. 2 + place_size t.1) rest.entry result }
 {
-    let (name, behind) = name_symbol_at(rest, Symbol::Refresh)?;
-    let (place, behind) = place_at(behind)?;
-    Some(((name, place), behind))
+    let (name, after) = name_symbol_at(rest, Symbol::Refresh)?;
+    let (place, after) = place_at(after)?;
+    Some(((name, place), after))
 }
 
 // A refresh into a field.
 fn refresh_field_at<'a>(rest: Rest<'a>) -> Option<(Refresh<'a>, Rest<'a>)>
     ensures { Reads refresh_field_of refresh_tree refresh_size rest.entry result }
 {
-    let (name, behind) = name_symbol_at(rest, Symbol::Dot)?;
-    let (field, behind) = name_symbol_at(behind, Symbol::Refresh)?;
-    let (from, behind) = name_at(behind)?;
-    Some((Refresh::Field(name, field, from), behind))
+    let (name, after) = name_symbol_at(rest, Symbol::Dot)?;
+    let (field, after) = name_symbol_at(after, Symbol::Refresh)?;
+    let (from, after) = name_at(after)?;
+    Some((Refresh::Field(name, field, from), after))
 }
 
 /// A refresh, without its semicolon.
@@ -120,7 +120,7 @@ pub fn refresh_at<'a>(rest: Rest<'a>) -> Option<(Refresh<'a>, Rest<'a>)>
     ensures { Reads refresh_of refresh_tree refresh_size rest.entry result }
 {
     match refresh_name_at(rest) {
-        Some(((name, place), behind)) => Some((Refresh::Name(name, place), behind)),
+        Some(((name, place), after)) => Some((Refresh::Name(name, place), after)),
         None => refresh_field_at(rest),
     }
 }
@@ -130,9 +130,9 @@ fn ghost_value_at<'a>(rest: Rest<'a>) -> Option<(GhostValue<'a>, Rest<'a>)>
     ensures { Reads ghost_value_of ghost_value_tree (λ _. 1) rest.entry result }
 {
     match first(rest)? {
-        (TokenKind::Name(name), behind) => Some((GhostValue::Name(name.as_slice()), behind)),
-        (TokenKind::Word(Keyword::Me), behind) => Some((GhostValue::Me, behind)),
-        (TokenKind::Word(Keyword::None), behind) => Some((GhostValue::None, behind)),
+        (TokenKind::Name(name), after) => Some((GhostValue::Name(name.as_slice()), after)),
+        (TokenKind::Word(Keyword::Me), after) => Some((GhostValue::Me, after)),
+        (TokenKind::Word(Keyword::None), after) => Some((GhostValue::None, after)),
         _ => None,
     }
 }
@@ -141,8 +141,8 @@ fn ghost_value_at<'a>(rest: Rest<'a>) -> Option<(GhostValue<'a>, Rest<'a>)>
 pub fn ghost_set_at<'a>(rest: Rest<'a>) -> Option<(GhostSet<'a>, Rest<'a>)>
     ensures { Reads ghost_set_of ghost_set_tree (λ _. ghost_set_size) rest.entry result }
 {
-    let (name, behind) = word_name_at(rest, Keyword::Ghost, Symbol::Dot)?;
-    let (field, behind) = name_symbol_at(behind, Symbol::Assign)?;
-    let (value, behind) = ghost_value_at(behind)?;
-    Some((GhostSet { name, field, value }, behind))
+    let (name, after) = word_name_at(rest, Keyword::Ghost, Symbol::Dot)?;
+    let (field, after) = name_symbol_at(after, Symbol::Assign)?;
+    let (value, after) = ghost_value_at(after)?;
+    Some((GhostSet { name, field, value }, after))
 }

@@ -4,7 +4,7 @@ ghost use Rattle.plc_syntax.specs.Syntax.{kinds};
 ghost use Rattle.plc_forms.specs.Forms.{comparison_of, test_of, name_or_null_of, comma_name_or_null_of, active_word_of};
 ghost use Rattle.plc_forms.specs.Forms.{cas_of, cas_condition_of, named_condition_of, condition_of};
 ghost use Rattle.plc_forms.specs.Sizes.{word_size, test_size, condition_size};
-ghost use Rattle.plc_forms.specs.Views.{Behind, text_or_none, relation_tree, test_tree};
+ghost use Rattle.plc_forms.specs.Views.{After, text_or_none, relation_tree, test_tree};
 ghost use Rattle.plc_forms.specs.Views.{cas_tree, condition_tree, Reads};
 
 use crate::assignment::{atom_at, refresh_name_at};
@@ -18,10 +18,10 @@ fn relation_at<'a>(rest: Rest<'a>) -> Option<(Relation, Rest<'a>)>
     ensures { Reads comparison_of relation_tree (λ _. 1) rest.entry result }
 {
     match first(rest)? {
-        (TokenKind::Symbol(Symbol::Equal), behind) => Some((Relation::Same, behind)),
-        (TokenKind::Symbol(Symbol::Unequal), behind) => Some((Relation::Other, behind)),
-        (TokenKind::Symbol(Symbol::Less), behind) => Some((Relation::Less, behind)),
-        (TokenKind::Symbol(Symbol::AtLeast), behind) => Some((Relation::NotLess, behind)),
+        (TokenKind::Symbol(Symbol::Equal), after) => Some((Relation::Same, after)),
+        (TokenKind::Symbol(Symbol::Unequal), after) => Some((Relation::Other, after)),
+        (TokenKind::Symbol(Symbol::Less), after) => Some((Relation::Less, after)),
+        (TokenKind::Symbol(Symbol::AtLeast), after) => Some((Relation::NotLess, after)),
         _ => None,
     }
 }
@@ -30,15 +30,15 @@ fn relation_at<'a>(rest: Rest<'a>) -> Option<(Relation, Rest<'a>)>
 pub fn test_at<'a>(rest: Rest<'a>) -> Option<(Test<'a>, Rest<'a>)>
     ensures { Reads test_of test_tree (λ _. test_size) rest.entry result }
 {
-    let (name, behind) = name_at(rest)?;
-    let (relation, behind) = relation_at(behind)?;
-    let (atom, behind) = atom_at(behind)?;
+    let (name, after) = name_at(rest)?;
+    let (relation, after) = relation_at(after)?;
+    let (atom, after) = atom_at(after)?;
     let test = Test {
         name,
         relation,
         atom,
     };
-    Some((test, behind))
+    Some((test, after))
 }
 
 // A name, or `null`.
@@ -46,8 +46,8 @@ fn name_or_null_at<'a>(rest: Rest<'a>) -> Option<(Option<&'a [u8]>, Rest<'a>)>
     ensures { Reads name_or_null_of text_or_none (λ _. 1) rest.entry result }
 {
     match first(rest)? {
-        (TokenKind::Name(name), behind) => Some((Some(name.as_slice()), behind)),
-        (TokenKind::Word(Keyword::Null), behind) => Some((None, behind)),
+        (TokenKind::Name(name), after) => Some((Some(name.as_slice()), after)),
+        (TokenKind::Word(Keyword::Null), after) => Some((None, after)),
         _ => None,
     }
 }
@@ -62,51 +62,51 @@ fn comma_name_or_null_at<'a>(rest: Rest<'a>) -> Option<(Option<&'a [u8]>, Rest<'
 // "active", which may be left out.
 fn active_word_at<'a>(rest: Rest<'a>) -> (bool, Rest<'a>)
     ensures read { active_word_of (kinds rest.entry.tokens.now) ≡ (result.0, kinds result.1.tokens.now) }
-    ensures behind { Behind rest.entry (word_size result.0) result.1 }
+    ensures after { After rest.entry (word_size result.0) result.1 }
 {
     match word_at(rest, Keyword::Active) {
-        Some(behind) => (true, behind),
+        Some(after) => (true, after),
         None => (false, rest),
     }
 }
 
-// The three pointers of a cas and the parenthesis behind them.
+// The three pointers of a cas and the parenthesis after them.
 fn cas_at<'a>(is_active: bool, rest: Rest<'a>) -> Option<(Cas<'a>, Rest<'a>)>
     ensures form { Reads (cas_of is_active) cas_tree (λ _. 6) rest.entry result }
     ensures claim { IfSome result (λ r. r.0.is_active ≡ is_active) }
 {
-    let (name, behind) = name_at(rest)?;
-    let (old, behind) = comma_name_or_null_at(behind)?;
-    let (new, behind) = comma_name_or_null_at(behind)?;
-    let behind = symbol_at(behind, Symbol::CloseParen)?;
+    let (name, after) = name_at(rest)?;
+    let (old, after) = comma_name_or_null_at(after)?;
+    let (new, after) = comma_name_or_null_at(after)?;
+    let after = symbol_at(after, Symbol::CloseParen)?;
     let cas = Cas {
         is_active,
         name,
         old,
         new,
     };
-    Some((cas, behind))
+    Some((cas, after))
 }
 
-// A cas, from behind its first word.
+// A cas, from after its first word.
 fn cas_condition_at<'a>(rest: Rest<'a>) -> Option<(Condition<'a>, Rest<'a>)>
     ensures { Reads cas_condition_of condition_tree (λ t. condition_size t - 1) rest.entry result }
 {
-    let behind = symbol_at(rest, Symbol::OpenParen)?;
-    let (is_active, behind) = active_word_at(behind);
-    let (cas, behind) = cas_at(is_active, behind)?;
-    Some((Condition::Cas(cas), behind))
+    let after = symbol_at(rest, Symbol::OpenParen)?;
+    let (is_active, after) = active_word_at(after);
+    let (cas, after) = cas_at(is_active, after)?;
+    Some((Condition::Cas(cas), after))
 }
 
 // A condition that begins with a name.
 fn named_condition_at<'a>(rest: Rest<'a>) -> Option<(Condition<'a>, Rest<'a>)>
     ensures { Reads named_condition_of condition_tree condition_size rest.entry result }
 {
-    if let Some(((name, place), behind)) = refresh_name_at(rest) {
-        return Some((Condition::Refresh(name, place), behind));
+    if let Some(((name, place), after)) = refresh_name_at(rest) {
+        return Some((Condition::Refresh(name, place), after));
     }
-    let (test, behind) = test_at(rest)?;
-    Some((Condition::Test(test), behind))
+    let (test, after) = test_at(rest)?;
+    Some((Condition::Test(test), after))
 }
 
 /// The condition of an `if`.
@@ -114,7 +114,7 @@ pub fn condition_at<'a>(rest: Rest<'a>) -> Option<(Condition<'a>, Rest<'a>)>
     ensures { Reads condition_of condition_tree condition_size rest.entry result }
 {
     match first(rest)? {
-        (TokenKind::Word(Keyword::Cas), behind) => cas_condition_at(behind),
+        (TokenKind::Word(Keyword::Cas), after) => cas_condition_at(after),
         _ => named_condition_at(rest),
     }
 }

@@ -6,7 +6,7 @@ ghost use Rattle.plc_forms.specs.Forms.{closing_of, semicolon_of, parenthesis_of
 ghost use Rattle.plc_forms.specs.Forms.{function_of, hazard_of, epoch_of, watch_of, ghost_of, thread_of};
 ghost use Rattle.plc_forms.specs.Forms.{first_value_of, values_end_of, init_of};
 ghost use Rattle.plc_forms.specs.Sizes.{word_size, function_size, watch_size};
-ghost use Rattle.plc_forms.specs.Views.{Behind, field_tree, function_tree, watch_tree, Passes, Reads, text_of};
+ghost use Rattle.plc_forms.specs.Views.{After, field_tree, function_tree, watch_tree, Passes, Reads, text_of};
 
 use crate::form::{Declaration, Function, Watch};
 use crate::front::{
@@ -28,13 +28,13 @@ pub fn declaration_at<'a>(rest: Rest<'a>) -> Option<(Declaration<'a>, Rest<'a>)>
     ensures { Reads field_of field_tree (λ _. 3) rest.entry result }
 {
     match first(rest)? {
-        (TokenKind::Word(Keyword::Ptr), behind) => {
-            let (name, behind) = name_symbol_at(behind, Symbol::Semicolon)?;
-            Some((Declaration::Pointer(name), behind))
+        (TokenKind::Word(Keyword::Ptr), after) => {
+            let (name, after) = name_symbol_at(after, Symbol::Semicolon)?;
+            Some((Declaration::Pointer(name), after))
         }
-        (TokenKind::Word(Keyword::Data), behind) => {
-            let (name, behind) = name_symbol_at(behind, Symbol::Semicolon)?;
-            Some((Declaration::Data(name), behind))
+        (TokenKind::Word(Keyword::Data), after) => {
+            let (name, after) = name_symbol_at(after, Symbol::Semicolon)?;
+            Some((Declaration::Data(name), after))
         }
         _ => None,
     }
@@ -54,7 +54,7 @@ pub fn head_at<'a>(rest: Rest<'a>) -> Option<(&'a [u8], Rest<'a>)>
     word_name_at(rest, Keyword::Op, Symbol::OpenParen)
 }
 
-/// A further parameter's or value's name, behind its comma.
+/// A further parameter's or value's name, after its comma.
 pub fn comma_name_at<'a>(rest: Rest<'a>) -> Option<(&'a [u8], Rest<'a>)>
     ensures { Reads comma_name_of text_of (λ _. 2) rest.entry result }
 {
@@ -68,7 +68,7 @@ pub fn opening_at<'a>(rest: Rest<'a>) -> Option<Rest<'a>>
     symbol_at(symbol_at(rest, Symbol::CloseParen)?, Symbol::OpenBrace)
 }
 
-/// The brace behind fields or statements.
+/// The brace after fields or statements.
 pub fn closing_at<'a>(rest: Rest<'a>) -> Option<Rest<'a>>
     ensures { Passes closing_of 1 rest.entry result }
 {
@@ -99,10 +99,10 @@ fn end_at<'a>(rest: Rest<'a>) -> Option<Rest<'a>>
 // "ptr", which may be left out.
 fn pointer_word_at<'a>(rest: Rest<'a>) -> (bool, Rest<'a>)
     ensures read { pointer_word_of (kinds rest.entry.tokens.now) ≡ (result.0, kinds result.1.tokens.now) }
-    ensures behind { Behind rest.entry (word_size result.0) result.1 }
+    ensures after { After rest.entry (word_size result.0) result.1 }
 {
     match word_at(rest, Keyword::Ptr) {
-        Some(behind) => (true, behind),
+        Some(after) => (true, after),
         None => (false, rest),
     }
 }
@@ -111,43 +111,43 @@ fn pointer_word_at<'a>(rest: Rest<'a>) -> (bool, Rest<'a>)
 pub fn function_at<'a>(rest: Rest<'a>) -> Option<(Function<'a>, Rest<'a>)>
     ensures { Reads function_of function_tree function_size rest.entry result }
 {
-    let (name, behind) = word_name_at(rest, Keyword::Call, Symbol::OpenParen)?;
-    let (takes_pointer, behind) = pointer_word_at(behind);
-    let behind = end_at(behind)?;
+    let (name, after) = word_name_at(rest, Keyword::Call, Symbol::OpenParen)?;
+    let (takes_pointer, after) = pointer_word_at(after);
+    let after = end_at(after)?;
     Some((
         Function {
             name,
             takes_pointer,
         },
-        behind,
+        after,
     ))
 }
 
-// The use of hazard pointers, behind its first word.
+// The use of hazard pointers, after its first word.
 fn hazard_at<'a>(rest: Rest<'a>) -> Option<(Watch<'a>, Rest<'a>)>
     ensures { Reads hazard_of watch_tree (λ _. 5) rest.entry result }
 {
-    let behind = word_symbol_at(rest, Keyword::Hazard, Symbol::OpenParen)?;
-    let (function, behind) = name_at(behind)?;
-    Some((Watch::Hazard(function), end_at(behind)?))
+    let after = word_symbol_at(rest, Keyword::Hazard, Symbol::OpenParen)?;
+    let (function, after) = name_at(after)?;
+    Some((Watch::Hazard(function), end_at(after)?))
 }
 
-// The use of epochs, behind its first word.
+// The use of epochs, after its first word.
 fn epoch_at<'a>(rest: Rest<'a>) -> Option<(Watch<'a>, Rest<'a>)>
     ensures { Reads epoch_of watch_tree (λ _. 7) rest.entry result }
 {
-    let behind = word_symbol_at(rest, Keyword::Epoch, Symbol::OpenParen)?;
-    let (enter, behind) = name_at(behind)?;
-    let (leave, behind) = comma_name_at(behind)?;
-    Some((Watch::Epoch(enter, leave), end_at(behind)?))
+    let after = word_symbol_at(rest, Keyword::Epoch, Symbol::OpenParen)?;
+    let (enter, after) = name_at(after)?;
+    let (leave, after) = comma_name_at(after)?;
+    Some((Watch::Epoch(enter, leave), end_at(after)?))
 }
 
 /// The use of hazard pointers or of epochs.
 pub fn watch_at<'a>(rest: Rest<'a>) -> Option<(Watch<'a>, Rest<'a>)>
     ensures { Reads watch_of watch_tree watch_size rest.entry result }
 {
-    let behind = word_at(rest, Keyword::Use)?;
-    hazard_at(behind).or(epoch_at(behind))
+    let after = word_at(rest, Keyword::Use)?;
+    hazard_at(after).or(epoch_at(after))
 }
 
 /// An auxiliary field, by its name.
@@ -164,7 +164,7 @@ pub fn thread_at<'a>(rest: Rest<'a>) -> Option<Rest<'a>>
     word_symbol_at(rest, Keyword::Thread, Symbol::Semicolon)
 }
 
-/// The first value of an auxiliary field, behind its brace.
+/// The first value of an auxiliary field, after its brace.
 pub fn first_value_at<'a>(rest: Rest<'a>) -> Option<(&'a [u8], Rest<'a>)>
     ensures { Reads first_value_of text_of (λ _. 2) rest.entry result }
 {

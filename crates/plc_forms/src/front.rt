@@ -4,7 +4,7 @@ ghost use Rattle.std.specs.Prelude.{◌≡◌, ◌+◌, IfSome, MatchOption, Som
 ghost use Rattle.plc_syntax.specs.Syntax.{kinds};
 ghost use Rattle.plc_forms.specs.Forms.{is_word, word_of, symbol_of, name_of, word_symbol_of};
 ghost use Rattle.plc_forms.specs.Forms.{symbol_name_of, name_symbol_of, word_name_of};
-ghost use Rattle.plc_forms.specs.Views.{Behind, Passes, Reads, text_of};
+ghost use Rattle.plc_forms.specs.Views.{After, Passes, Reads, text_of};
 
 use crate::rest::Rest;
 use plc_lex::{Keyword, Symbol, Token, TokenKind};
@@ -13,7 +13,7 @@ use plc_lex::{Keyword, Symbol, Token, TokenKind};
 pub fn first<'a>(rest: Rest<'a>) -> Option<(&'a TokenKind, Rest<'a>)>
     ensures read { MatchOption result (kinds rest.entry.tokens.now ≡ [])
         (λ r. kinds rest.entry.tokens.now ≡ r.0.now ∷ kinds r.1.tokens.now) }
-    ensures behind { IfSome result (λ r. Behind rest.entry 1 r.1) }
+    ensures after { IfSome result (λ r. After rest.entry 1 r.1) }
 {
     match rest.tokens {
         [token, tokens @ ..] => {
@@ -29,7 +29,7 @@ pub fn word_at<'a>(rest: Rest<'a>, word: Keyword) -> Option<Rest<'a>>
     ensures { Passes (word_of word) 1 rest.entry result }
 {
     match first(rest) {
-        Some((TokenKind::Word(found), behind)) => (*found == word).then_some(behind),
+        Some((TokenKind::Word(found), after)) => (*found == word).then_some(after),
         _ => None,
     }
 }
@@ -39,7 +39,7 @@ pub fn symbol_at<'a>(rest: Rest<'a>, symbol: Symbol) -> Option<Rest<'a>>
     ensures { Passes (symbol_of symbol) 1 rest.entry result }
 {
     match first(rest) {
-        Some((TokenKind::Symbol(found), behind)) => (*found == symbol).then_some(behind),
+        Some((TokenKind::Symbol(found), after)) => (*found == symbol).then_some(after),
         _ => None,
     }
 }
@@ -49,7 +49,7 @@ pub fn name_at<'a>(rest: Rest<'a>) -> Option<(&'a [u8], Rest<'a>)>
     ensures { Reads name_of text_of (λ _. 1) rest.entry result }
 {
     match first(rest) {
-        Some((TokenKind::Name(name), behind)) => Some((name.as_slice(), behind)),
+        Some((TokenKind::Name(name), after)) => Some((name.as_slice(), after)),
         _ => None,
     }
 }
@@ -72,8 +72,8 @@ pub fn symbol_name_at<'a>(rest: Rest<'a>, symbol: Symbol) -> Option<(&'a [u8], R
 pub fn name_symbol_at<'a>(rest: Rest<'a>, symbol: Symbol) -> Option<(&'a [u8], Rest<'a>)>
     ensures { Reads (name_symbol_of symbol) text_of (λ _. 2) rest.entry result }
 {
-    let (name, behind) = name_at(rest)?;
-    Some((name, symbol_at(behind, symbol)?))
+    let (name, after) = name_at(rest)?;
+    Some((name, symbol_at(after, symbol)?))
 }
 
 /// A keyword, a name and a symbol.

@@ -1,5 +1,5 @@
 //! The forms at the front of tokens, over `plc_syntax`'s trees; the layer above uses that each reader
-//! answers the form whose tree is read there by the definitions, and what is left behind as many tokens
+//! answers the form whose tree is read there by the definitions, and what is left after as many tokens
 //! as the tree has.
 #![tactic(auto)]
 

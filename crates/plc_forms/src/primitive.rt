@@ -16,11 +16,11 @@ use plc_lex::{Keyword, TokenKind};
 fn named_at<'a>(rest: Rest<'a>) -> Option<(Primitive<'a>, Rest<'a>)>
     ensures { Reads named_of primitive_tree primitive_size rest.entry result }
 {
-    if let Some((set, behind)) = set_at(rest) {
-        return Some((Primitive::Set(set), behind));
+    if let Some((set, after)) = set_at(rest) {
+        return Some((Primitive::Set(set), after));
     }
-    let (refresh, behind) = refresh_at(rest)?;
-    Some((Primitive::Refresh(refresh), behind))
+    let (refresh, after) = refresh_at(rest)?;
+    Some((Primitive::Refresh(refresh), after))
 }
 
 // A primitive, without its semicolon.
@@ -28,18 +28,18 @@ fn primitive_at<'a>(rest: Rest<'a>) -> Option<(Primitive<'a>, Rest<'a>)>
     ensures { Reads primitive_of primitive_tree primitive_size rest.entry result }
 {
     match first(rest)? {
-        (TokenKind::Word(Keyword::Skip), behind) => Some((Primitive::Skip, behind)),
-        (TokenKind::Word(Keyword::Active), behind) => {
-            let (name, behind) = name_at(behind)?;
-            Some((Primitive::Active(name), behind))
+        (TokenKind::Word(Keyword::Skip), after) => Some((Primitive::Skip, after)),
+        (TokenKind::Word(Keyword::Active), after) => {
+            let (name, after) = name_at(after)?;
+            Some((Primitive::Active(name), after))
         }
-        (TokenKind::Word(Keyword::Assume), behind) => {
-            let (test, behind) = test_at(behind)?;
-            Some((Primitive::Assume(test), behind))
+        (TokenKind::Word(Keyword::Assume), after) => {
+            let (test, after) = test_at(after)?;
+            Some((Primitive::Assume(test), after))
         }
         (TokenKind::Word(Keyword::Ghost), _) => {
-            let (set, behind) = ghost_set_at(rest)?;
-            Some((Primitive::Ghost(set), behind))
+            let (set, after) = ghost_set_at(rest)?;
+            Some((Primitive::Ghost(set), after))
         }
         _ => named_at(rest),
     }
@@ -49,25 +49,25 @@ fn primitive_at<'a>(rest: Rest<'a>) -> Option<(Primitive<'a>, Rest<'a>)>
 pub fn primitive_line_at<'a>(rest: Rest<'a>) -> Option<(Primitive<'a>, Rest<'a>)>
     ensures { Reads primitive_line_of primitive_tree (λ t. primitive_size t + 1) rest.entry result }
 {
-    let (primitive, behind) = primitive_at(rest)?;
-    Some((primitive, semicolon_at(behind)?))
+    let (primitive, after) = primitive_at(rest)?;
+    Some((primitive, semicolon_at(after)?))
 }
 
 // An assignment of `init`, without its semicolon.
 fn initial_at<'a>(rest: Rest<'a>) -> Option<(Initial<'a>, Rest<'a>)>
     ensures { Reads initial_of initial_tree initial_size rest.entry result }
 {
-    if let Some((set, behind)) = set_at(rest) {
-        return Some((Initial::Set(set), behind));
+    if let Some((set, after)) = set_at(rest) {
+        return Some((Initial::Set(set), after));
     }
-    let (set, behind) = ghost_set_at(rest)?;
-    Some((Initial::Ghost(set), behind))
+    let (set, after) = ghost_set_at(rest)?;
+    Some((Initial::Ghost(set), after))
 }
 
 /// An assignment of `init` and its semicolon.
 pub fn initial_line_at<'a>(rest: Rest<'a>) -> Option<(Initial<'a>, Rest<'a>)>
     ensures { Reads initial_line_of initial_tree (λ t. initial_size t + 1) rest.entry result }
 {
-    let (initial, behind) = initial_at(rest)?;
-    Some((initial, semicolon_at(behind)?))
+    let (initial, after) = initial_at(rest)?;
+    Some((initial, semicolon_at(after)?))
 }

@@ -6,7 +6,7 @@ use Rattle.plc_ground.specs.declared.terms.Symbol.{Symbol}
 use Rattle.plc_ground.specs.declared.terms.Map.{Map}
 use Rattle.plc_ground.specs.declared.terms.Map.TheVariants as maps
 use Rattle.plc_symbolic.specs.declared.symbolic.NodeTerm.{NodeTerm}
-use Rattle.plc_symbolic.specs.declared.symbolic.NodeTerm.TheVariants.{At, Behind}
+use Rattle.plc_symbolic.specs.declared.symbolic.NodeTerm.TheVariants.{At, Target}
 use Rattle.plc_symbolic.specs.declared.symbolic.SymbolicTerm.{SymbolicTerm}
 use Rattle.plc_symbolic.specs.declared.symbolic.SymbolicTerm.TheVariants.{Constant, Application}
 use Rattle.plc_symbolic.specs.declared.symbolic.SymbolicLit.{SymbolicLit}
@@ -22,7 +22,7 @@ pub record Meaning : Type 0 where
 
 abbrev pub node_in : Meaning → NodeTerm → ℕ
 node_in e (At s) = e.symbol s
-node_in e (Behind f s) = e.version (maps.Field f) 0 (e.symbol s)
+node_in e (Target f s) = e.version (maps.Field f) 0 (e.symbol s)
 
 abbrev pub value_in : Meaning → SymbolicTerm → ℕ
 value_in e (Constant s) = e.symbol s
@@ -38,7 +38,7 @@ IsTrueIn e c = SomeIsTrue (sort_in e) (value_in e) c
 
 pub node_value : (e : Meaning) (n : NodeTerm) → value_in e (term_of n) ≡ node_in e n
 node_value e (At s) = refl
-node_value e (Behind f s) = refl
+node_value e (Target f s) = refl
 
 -- the sort of a node
 abbrev pub node_sort : Meaning → NodeTerm → Sort

@@ -16,12 +16,12 @@ use Rattle.plc_ground.specs.declared.terms.Symbol.TheVariants as symbols
 use Rattle.plc_ground.specs.declared.terms.Map.TheVariants as maps
 use Rattle.plc_setting.specs.declared.acts.Act.{Act}
 use Rattle.plc_setting.specs.declared.acts.Act.TheVariants.{Assign, Make, Fetch, Update, Test, Skip}
-use Rattle.plc_setting.specs.Setting.{below, local_symbol, variables_of, pointer_variables, pointer_loads_from, if_made, node_constants, plain_constants, pointer_fields_from, fields_behind, if_deep, nodes_of}
+use Rattle.plc_setting.specs.Setting.{below, local_symbol, variables_of, pointer_variables, pointer_loads_from, if_made, node_constants, plain_constants, pointer_fields_from, targets_of, if_deep, nodes_of}
 use Rattle.plc_setting.specs.Sorts.{field_sort, local_sort, loads_of, load_sort}
 use Rattle.plc_items.specs.declared.execution.Execution.{Execution}
 use Rattle.plc_items.specs.Execution.{start, after}
 use Rattle.plc_symbolic.specs.declared.symbolic.NodeTerm.{NodeTerm}
-use Rattle.plc_symbolic.specs.declared.symbolic.NodeTerm.TheVariants.{At, Behind}
+use Rattle.plc_symbolic.specs.declared.symbolic.NodeTerm.TheVariants.{At, Target}
 use Rattle.plc_gc.specs.declared.slot.Slot.TheVariants.{Local as in_local, Data as in_data}
 use Rattle.plc_gc.specs.declared.slot.Map.TheVariants.{Pointer as pointer_field, Number as data_field}
 use Rattle.plc_gc.specs.State.{GcState, value, entry, count}
@@ -186,9 +186,9 @@ module _ (e : Meaning) (file : File) (w : Scene) (g : GcState) (limit : ℕ) (be
         (let same = before.means.entries (maps.Field f) n ∙ ap (λ m. entry g m n) there in let small = before.ranges.fields f.0 n in omega arith),
       )
 
-  behind_below : (fs : List FieldId) (ss : List Symbol) → Each (FieldIs file true) fs → Each (IsTermBelow e limit) (fields_behind fs ss)
-  behind_below fs ss h = each_flat (IsTermBelow e limit) (λ s. map (λ f. Behind f s) fs) ss (each_all (λ s. Each (IsTermBelow e limit) (map (λ f. Behind f s) fs))
-      (λ s. each_map (IsTermBelow e limit) (λ f. Behind f s) fs (each_so (FieldIs file true) (λ f. IsTermBelow e limit (Behind f s)) (λ f is. record {
+  after_below : (fs : List FieldId) (ss : List Symbol) → Each (FieldIs file true) fs → Each (IsTermBelow e limit) (targets_of fs ss)
+  after_below fs ss h = each_flat (IsTermBelow e limit) (λ s. map (λ f. Target f s) fs) ss (each_all (λ s. Each (IsTermBelow e limit) (map (λ f. Target f s) fs))
+      (λ s. each_map (IsTermBelow e limit) (λ f. Target f s) fs (each_so (FieldIs file true) (λ f. IsTermBelow e limit (Target f s)) (λ f is. record {
         sort = (field_below f is (e.symbol s)).0;
         below = (let a = (field_below f is (e.symbol s)).1 in let b = before.few in omega arith);
       }) fs h)) ss)
@@ -198,6 +198,6 @@ module _ (e : Meaning) (file : File) (w : Scene) (g : GcState) (limit : ℕ) (be
   deep_below false ns h = tt
 
   pub nodes_below : (ss : List Symbol) (deep : Bool) (constants : List Symbol) (fs : List FieldId) → Each (FieldIs file true) fs → Each (IsBelow e limit) ss → Each (IsTermBelow e limit) (nodes_of ss deep constants fs)
-  nodes_below ss deep constants fs fields h = each_both (IsTermBelow e limit) (map At ss) (if_deep deep (fields_behind fs constants))
+  nodes_below ss deep constants fs fields h = each_both (IsTermBelow e limit) (map At ss) (if_deep deep (targets_of fs constants))
       (each_map (IsTermBelow e limit) At ss (each_so (IsBelow e limit) (λ s. IsTermBelow e limit (At s)) (λ s b. record { sort = b.sort; below = b.below }) ss h))
-      (deep_below deep (fields_behind fs constants) (behind_below fs constants fields))
+      (deep_below deep (targets_of fs constants) (after_below fs constants fields))

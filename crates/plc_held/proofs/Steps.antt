@@ -24,7 +24,7 @@ use Rattle.plc_logic.specs.Fit.{ClauseFits, InvariantFits}
 use Rattle.plc_setting.specs.declared.obligations.Obligation.{Obligation}
 use Rattle.plc_setting.specs.declared.obligations.Obligation.TheVariants.{Own, Other, Claim}
 use Rattle.plc_setting.specs.Fit.{Fits}
-use Rattle.plc_setting.specs.Parts.{prims_of, locals_of_step, clauses_before, clauses_behind, executed, acting_locals, owner_locals, acting_premises, owner_premises, conclusion}
+use Rattle.plc_setting.specs.Parts.{prims_of, locals_of_step, clauses_before, clauses_after, executed, acting_locals, owner_locals, acting_premises, owner_premises, conclusion}
 use Rattle.plc_setting.specs.Points.{count_at, stands_at, clauses_at}
 use Rattle.plc_oblig.specs.Obligations.{step_id, point_id}
 use Rattle.plc_gc.specs.State.{GcState, count, locals_of as locals_held}
@@ -206,7 +206,7 @@ module _ (flow : Flow) (outline : Outline) (fits : Fits flow outline) (met : Are
   own_ready c h e = ready (Own (step_id of_flow.place) c) step.prims (suc t) h other_thread prims its_locals its_premises (λ b. tt) (λ b. tt) names sorted_all one e
 
   own_conclusion : (c : ℕ) → conclusion flow outline (Own (step_id of_flow.place) c) ≡ slice_get (outline.invariants ++ clauses_at flow outline step.to.0) c
-  own_conclusion c = ap (λ s. slice_get (outline.invariants ++ clauses_behind flow outline s) c) of_flow.there
+  own_conclusion c = ap (λ s. slice_get (outline.invariants ++ clauses_after flow outline s) c) of_flow.there
 
   pub invariants_after : (h : GcState) → execute g t step.prims ≡ Some h → Each (Holds h None) outline.invariants
   invariants_after h e = each_place (Holds h None) outline.invariants (λ i c at.

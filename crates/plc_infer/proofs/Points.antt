@@ -17,9 +17,9 @@ nth_pointers [] k = 0
 nth_pointers (o ∷ os) zero = pointers_of o
 nth_pointers (o ∷ os) (suc k) = nth_pointers os k
 
-pub ends_behind : (n : ℕ) (gs : List Gate) (end : ℕ) → GatesFrom n gs end → n ≤ end
-ends_behind n [] end h = omega arith
-ends_behind n (g ∷ gs) end (first, entry_is, exit_is, wide, rest) = let r = ends_behind g.after gs end rest in omega arith
+pub ends_after : (n : ℕ) (gs : List Gate) (end : ℕ) → GatesFrom n gs end → n ≤ end
+ends_after n [] end h = omega arith
+ends_after n (g ∷ gs) end (first, entry_is, exit_is, wide, rest) = let r = ends_after g.after gs end rest in omega arith
 
 pub locals_length : (n : ℕ) (os : List Op) (gs : List Gate) (end : ℕ) → length os ≡ length gs → GatesFrom n gs end → n + length (pointers_by_point os gs) ≡ end
 locals_length n [] [] end same h = omega arith
@@ -39,7 +39,7 @@ locals_there n (o ∷ os) (x ∷ gs) end zero p g same (first, entry_is, exit_is
     let is : x ≡ g = cc in
     let low : x.first ≤ p = subst (λ (y : Gate). y.first ≤ p) (sym is) at.0 in
     let high : p < x.after = subst (λ (y : Gate). p < y.after) (sym is) at.1 in
-    let r = ends_behind x.after gs end rest in
+    let r = ends_after x.after gs end rest in
     let long = length_of (x.after - x.first) (pointers_of o) in (
       omega arith,
       omega arith,
@@ -61,7 +61,7 @@ pub entries_within : (n : ℕ) (gs : List Gate) (end i p : ℕ) → GatesFrom n 
 entries_within n [] end i p h e = absurd cc
 entries_within n (g ∷ gs) end zero p (first, entry_is, exit_is, wide, rest) e =
     let is : g.entry.0 ≡ p = cc in
-    let r = ends_behind g.after gs end rest in
+    let r = ends_after g.after gs end rest in
     (omega arith, omega arith)
 entries_within n (g ∷ gs) end (suc i) p (first, entry_is, exit_is, wide, rest) e = let r = entries_within g.after gs end i p rest e in (let l = r.0 in omega arith, r.1)
 

@@ -29,7 +29,7 @@ use Rattle.plc_setting.specs.declared.obligations.Obligation.TheVariants.{Start,
 use Rattle.plc_setting.specs.declared.setting.Setting.{Setting}
 use Rattle.plc_setting.specs.Fit.{Fits}
 use Rattle.plc_setting.specs.Setting.{setting_of}
-use Rattle.plc_setting.specs.Parts.{acting_locals, conclusion, entry_clauses, clauses_behind, invariants_before, executed}
+use Rattle.plc_setting.specs.Parts.{acting_locals, conclusion, entry_clauses, clauses_after, invariants_before, executed}
 use Rattle.plc_setting.specs.Points.{clauses_at, stands_at}
 use Rattle.plc_setting.proofs.Fitting.{values_few, number_within, acting_few, acts_short}
 use Rattle.plc_items.specs.Bounds.{ValueIn, ValuesIn, ClauseIn, ItemIn, ConclusionIn}
@@ -104,7 +104,7 @@ of_entry : (flow : Flow) (outline : Outline) (g : Option Gate) → Fits flow out
 of_entry flow outline None h = All-nil (ClauseIn flow.file.ghosts)
 of_entry flow outline (Some g) h = at_point flow outline g.entry.0 h
 
-of_last : (flow : Flow) (outline : Outline) (s : Option Step) → Fits flow outline → All (ClauseIn flow.file.ghosts) (clauses_behind flow outline s)
+of_last : (flow : Flow) (outline : Outline) (s : Option Step) → Fits flow outline → All (ClauseIn flow.file.ghosts) (clauses_after flow outline s)
 of_last flow outline None h = All-nil (ClauseIn flow.file.ghosts)
 of_last flow outline (Some s) h = at_point flow outline s.to.0 h
 
@@ -114,8 +114,8 @@ conclusion_in flow outline (Enter o c) h =
     found flow.file.ghosts (entry_clauses flow outline (slice_get flow.gates o.0)) c (of_entry flow outline (slice_get flow.gates o.0) h)
 conclusion_in flow outline (Own k c) h =
     let s : Option Step = slice_get flow.steps k.0 in
-    found flow.file.ghosts (outline.invariants ++ clauses_behind flow outline s) c
-    (All-append (ClauseIn flow.file.ghosts) outline.invariants (clauses_behind flow outline s)
+    found flow.file.ghosts (outline.invariants ++ clauses_after flow outline s) c
+    (All-append (ClauseIn flow.file.ghosts) outline.invariants (clauses_after flow outline s)
     (invariants_in flow outline h) (of_last flow outline s h))
 conclusion_in flow outline (Other k p c) h = found flow.file.ghosts (clauses_at flow outline p.0) c (at_point flow outline p.0 h)
 conclusion_in flow outline (Claim k j) h = tt

@@ -112,7 +112,7 @@ value_found b (x ∷ gs) (suc k) v g e h n same =
     let next : b + 1 + k ≡ b + suc k = omega arith in
     rw large (value_found (b + 1) gs k v g e h (n - values_in x) (omega (arith, same, sum)) ∙ ap (λ i. Some (i, v)) next)
 
--- a value that is found stands behind the values of the fields before
+-- a value that is found stands after the values of the fields before
 value_back : (b : ℕ) (gs : List Ghost) (n p v : ℕ) → value_from b gs n ≡ Some (p, v) → (k : ℕ) × (p ≡ b + k) × (sum_by values_in (take k gs) + v ≡ n)
 value_back b [] n p v e = absurd cc
 value_back b (x ∷ gs) n p v e = go (λ m f. value_back (b + 1) gs m p v f) (nat_lt n (values_in x)) refl e

@@ -19,7 +19,7 @@ mutual
     Skip : Statement
     Label : ℕ → Statement
 
-  -- statements in order, each behind the line of its first token
+  -- statements in order, each after the line of its first token
   pub data Statements : Type 0 where
     Empty : Statements
     Then : ℕ → Statement → Statements → Statements

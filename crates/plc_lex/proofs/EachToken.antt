@@ -4,7 +4,7 @@ use Rattle.std.proofs.lemmas.List.Sums.{prefix_len-le-length}
 use Rattle.std.proofs.lemmas.List.Elements.{All-cons}
 use Rattle.plc_lex.specs.declared.token.Token.{Token}
 use Rattle.plc_lex.specs.Characters.{in_comment}
-use Rattle.plc_lex.specs.Spelling.{comment_length, next_line, IsToken, Spells, at_end, behind_space, behind_comment, token}
+use Rattle.plc_lex.specs.Spelling.{comment_length, next_line, IsToken, Spells, at_end, after_space, after_comment, token}
 use Rattle.plc_lex.proofs.Pieces.{piece_is}
 
 next_line_within : (line b : ℕ) → next_line line b ≤ line + 1
@@ -15,8 +15,8 @@ comment_within bytes = prefix_len-le-length in_comment bytes
 
 pub each_token : (size at line : ℕ) (bytes : List ℕ) (ts : List Token) → Spells at line bytes ts → at + length bytes ≤ size → line ≤ at + 1 → All (IsToken size) ts
 each_token size _ _ _ _ (at_end at line) room lines = λ k d below. absurd (omega arith)
-each_token size _ _ _ _ (behind_space at line b bs ts e s) room lines = each_token size _ _ _ _ s (omega arith) (omega (arith, next_line_within line b))
-each_token size _ _ _ _ (behind_comment at line bs ts e s) room lines =
+each_token size _ _ _ _ (after_space at line b bs ts e s) room lines = each_token size _ _ _ _ s (omega arith) (omega (arith, next_line_within line b))
+each_token size _ _ _ _ (after_comment at line bs ts e s) room lines =
     each_token size _ _ _ _ s (omega (arith, comment_within bs, length-drop (comment_length bs) bs)) (omega arith)
 each_token size _ _ _ _ (token at line n bs kind ts space comment e s) room lines =
     let piece = piece_is bs kind n e in
@@ -26,7 +26,7 @@ each_token size _ _ _ _ (token at line n bs kind ts space comment e s) room line
 
 pub token_count : (at line : ℕ) (bytes : List ℕ) (ts : List Token) → Spells at line bytes ts → length ts ≤ length bytes
 token_count _ _ _ _ (at_end at line) = omega arith
-token_count _ _ _ _ (behind_space at line b bs ts e s) = omega (arith, token_count _ _ _ _ s)
-token_count _ _ _ _ (behind_comment at line bs ts e s) = omega (arith, token_count _ _ _ _ s, length-drop (comment_length bs) bs)
+token_count _ _ _ _ (after_space at line b bs ts e s) = omega (arith, token_count _ _ _ _ s)
+token_count _ _ _ _ (after_comment at line bs ts e s) = omega (arith, token_count _ _ _ _ s, length-drop (comment_length bs) bs)
 token_count _ _ _ _ (token at line n bs kind ts space comment e s) =
     let piece = piece_is bs kind n e in omega (arith, token_count _ _ _ _ s, length-drop n bs, piece.not_empty, piece.within)

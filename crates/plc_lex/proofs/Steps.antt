@@ -1,4 +1,4 @@
--- One step of a reader, and steps behind one another.
+-- One step of a reader, and steps after one another.
 use Rattle.std.proofs.Common.{◌≡◌, ℕ, ◌+◌, ◌<◌, true, List, [], ◌∷◌, ◌++◌, length, drop, get_or, Ok, sym, subst, append_assoc, append-nil, arith}
 use Rattle.plc_lex.specs.declared.token.Token.{Token}
 use Rattle.plc_lex.specs.declared.token.TokenKind.{TokenKind}
@@ -6,20 +6,20 @@ use Rattle.plc_lex.specs.declared.fault.LexFault.{LexFault}
 use Rattle.plc_lex.specs.declared.fault.LexFault.TheVariants.{BadByte, LongName, BadNumber, Memory}
 use Rattle.plc_lex.specs.declared.rest.Rest.{Rest}
 use Rattle.plc_lex.specs.Characters.{is_space}
-use Rattle.plc_lex.specs.Spelling.{token_at, is_comment, comment_length, next_line, Spells, at_end, behind_space, behind_comment, token, Stops, here, past_space, past_comment, past_token}
+use Rattle.plc_lex.specs.Spelling.{token_at, is_comment, comment_length, next_line, Spells, at_end, after_space, after_comment, token, Stops, here, past_space, past_comment, past_token}
 use Rattle.plc_lex.specs.Refused.{IsFaultAt, StopsWith}
 use Rattle.plc_lex.specs.Reading.{IsAtToken, Reads}
 
 pub reads_space : (at line : ℕ) (bytes : List ℕ) (rest : Rest) → 0 < length bytes → is_space (get_or bytes 0 0) ≡ true → rest.bytes.now ≡ drop 1 bytes → rest.at ≡ at + 1 → rest.line ≡ next_line line (get_or bytes 0 0) → Reads at line bytes [] rest
 reads_space at line [] rest some space bytes_is at_is line_is = absurd (omega arith)
 reads_space at line (b ∷ bs) rest some space bytes_is at_is line_is = record {
-  spells = λ ts s. behind_space at line b bs ts space (rw (bytes_is, at_is, line_is) at s);
+  spells = λ ts s. after_space at line b bs ts space (rw (bytes_is, at_is, line_is) at s);
   stops = λ why place s. past_space at b place bs why space (rw (bytes_is, at_is) at s);
 }
 
 pub reads_comment : (at line : ℕ) (bytes : List ℕ) (rest : Rest) → is_comment bytes ≡ true → rest.bytes.now ≡ drop (comment_length bytes) bytes → rest.at ≡ at + comment_length bytes → rest.line ≡ line → Reads at line bytes [] rest
 reads_comment at line bytes rest comment bytes_is at_is line_is = record {
-  spells = λ ts s. behind_comment at line bytes ts comment (rw (bytes_is, at_is, line_is) at s);
+  spells = λ ts s. after_comment at line bytes ts comment (rw (bytes_is, at_is, line_is) at s);
   stops = λ why place s. past_comment at place bytes why comment (rw (bytes_is, at_is) at s);
 }
 

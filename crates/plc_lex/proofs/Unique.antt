@@ -7,7 +7,7 @@ use Rattle.plc_lex.specs.Characters.{is_space}
 use Rattle.plc_lex.specs.declared.fault.LexFault.{LexFault}
 use Rattle.plc_lex.specs.declared.fault.LexFault.TheVariants.{BadByte, LongName, BadNumber, Memory}
 use Rattle.plc_lex.specs.Refused.{StopsWith}
-use Rattle.plc_lex.specs.Spelling.{Refusal, bad_byte, long_name, bad_number, token_at, is_blank, is_comment, comment_length, next_line, token_from, Spells, at_end, behind_space, behind_comment, token, Stops, here, past_space, past_comment, past_token}
+use Rattle.plc_lex.specs.Spelling.{Refusal, bad_byte, long_name, bad_number, token_at, is_blank, is_comment, comment_length, next_line, token_from, Spells, at_end, after_space, after_comment, token, Stops, here, past_space, past_comment, past_token}
 
 -- what stands at the front: the end, so many bytes up to a line, or a token or its refusal on a line
 data Next : Type 0 where
@@ -65,8 +65,8 @@ Stopped at bs why place (piece line (Err w)) = (w ≡ why) × (at ≡ place)
 
 spelled : (at line : ℕ) (bs : List ℕ) (ts : List Token) → Spells at line bs ts → Spelled at bs ts (next line bs)
 spelled _ _ _ _ (at_end at line) = subst (Spelled at [] []) (sym (next_end line)) refl
-spelled _ _ _ _ (behind_space at line b bs ts e s) = subst (Spelled at (b ∷ bs) ts) (sym (next_space line b bs e)) s
-spelled _ _ _ _ (behind_comment at line bs ts e s) = subst (Spelled at bs ts) (sym (next_comment line bs e)) s
+spelled _ _ _ _ (after_space at line b bs ts e s) = subst (Spelled at (b ∷ bs) ts) (sym (next_space line b bs e)) s
+spelled _ _ _ _ (after_comment at line bs ts e s) = subst (Spelled at bs ts) (sym (next_comment line bs e)) s
 spelled _ _ _ _ (token at line n bs kind ts space comment e s) = subst (Spelled at bs (token_from at line kind n ∷ ts)) (sym (next_token line bs kind n space comment e)) (ts, refl, s)
 
 stopped : (at line : ℕ) (bs : List ℕ) (why : Refusal) (place : ℕ) → Stops at bs why place → Stopped at bs why place (next line bs)
@@ -77,8 +77,8 @@ stopped _ line _ _ _ (past_token at n place bs kind why space comment e s) = sub
 
 pub same_tokens : (at line : ℕ) (bs : List ℕ) (ts us : List Token) → Spells at line bs ts → Spells at line bs us → ts ≡ us
 same_tokens _ _ _ _ us (at_end at line) t = sym (subst (Spelled at [] us) (next_end line) (spelled at line [] us t))
-same_tokens _ _ _ _ us (behind_space at line b bs ts e s) t = same_tokens _ _ _ _ us s (subst (Spelled at (b ∷ bs) us) (next_space line b bs e) (spelled at line (b ∷ bs) us t))
-same_tokens _ _ _ _ us (behind_comment at line bs ts e s) t = same_tokens _ _ _ _ us s (subst (Spelled at bs us) (next_comment line bs e) (spelled at line bs us t))
+same_tokens _ _ _ _ us (after_space at line b bs ts e s) t = same_tokens _ _ _ _ us s (subst (Spelled at (b ∷ bs) us) (next_space line b bs e) (spelled at line (b ∷ bs) us t))
+same_tokens _ _ _ _ us (after_comment at line bs ts e s) t = same_tokens _ _ _ _ us s (subst (Spelled at bs us) (next_comment line bs e) (spelled at line bs us t))
 same_tokens _ _ _ _ us (token at line n bs kind ts space comment e s) t =
     let more = subst (Spelled at bs us) (next_token line bs kind n space comment e) (spelled at line bs us t) in
     ap (λ vs. token_from at line kind n ∷ vs) (same_tokens _ _ _ _ more.0 s more.2) ∙ sym more.1
@@ -91,8 +91,8 @@ same_place _ _ _ other _ q (past_token at n place bs kind why space comment e s)
 
 pub not_both : (at line : ℕ) (bs : List ℕ) (ts : List Token) (why : Refusal) (p : ℕ) → Spells at line bs ts → Stops at bs why p → ⊥
 not_both _ _ _ _ why p (at_end at line) t = subst (Stopped at [] why p) (next_end line) (stopped at line [] why p t)
-not_both _ _ _ _ why p (behind_space at line b bs ts e s) t = not_both _ _ _ _ why p s (subst (Stopped at (b ∷ bs) why p) (next_space line b bs e) (stopped at line (b ∷ bs) why p t))
-not_both _ _ _ _ why p (behind_comment at line bs ts e s) t = not_both _ _ _ _ why p s (subst (Stopped at bs why p) (next_comment line bs e) (stopped at line bs why p t))
+not_both _ _ _ _ why p (after_space at line b bs ts e s) t = not_both _ _ _ _ why p s (subst (Stopped at (b ∷ bs) why p) (next_space line b bs e) (stopped at line (b ∷ bs) why p t))
+not_both _ _ _ _ why p (after_comment at line bs ts e s) t = not_both _ _ _ _ why p s (subst (Stopped at bs why p) (next_comment line bs e) (stopped at line bs why p t))
 not_both _ _ _ _ why p (token at line n bs kind ts space comment e s) t = not_both _ _ _ _ why p s (subst (Stopped at bs why p) (next_token line bs kind n space comment e) (stopped at line bs why p t))
 
 -- a text that spells tokens is refused for running out of memory alone

@@ -9,7 +9,7 @@ pub record IsAtToken (bytes : List ℕ) : Type 0 where
   pub no_space : is_blank bytes ≡ false
   pub no_comment : is_comment bytes ≡ false
 
--- what is spelled from here on is spelled, behind the tokens between, from an earlier place, and a text that stops
+-- what is spelled from here on is spelled, after the tokens between, from an earlier place, and a text that stops
 -- from here on stops from there
 pub record Reads (at line : ℕ) (bytes : List ℕ) (between : List Token) (here : Rest) : Type 0 where
   pub spells : (ts : List Token) → Spells here.at here.line here.bytes.now ts → Spells at line bytes (between ++ ts)

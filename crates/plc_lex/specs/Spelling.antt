@@ -70,7 +70,7 @@ is_comment bs = starts_with nat_eq bs comment_opening
 abbrev pub comment_length : List ℕ → ℕ
 comment_length bs = prefix_len in_comment bs
 
--- the line behind a byte
+-- the line after a byte
 abbrev pub next_line : ℕ → ℕ → ℕ
 next_line line b = if b == 10 then line + 1 else line
 
@@ -86,9 +86,9 @@ token_from at line kind n = record { kind = kind; span = record { start = at; en
 -- bytes that begin at a place, on a line, spell tokens
 pub data Spells : ℕ → ℕ → List ℕ → List Token → Type 0 where
   at_end : (at line : ℕ) → Spells at line [] []
-  behind_space : (at line b : ℕ) (bs : List ℕ) (ts : List Token) → is_space b ≡ true
+  after_space : (at line b : ℕ) (bs : List ℕ) (ts : List Token) → is_space b ≡ true
       → Spells (at + 1) (next_line line b) bs ts → Spells at line (b ∷ bs) ts
-  behind_comment : (at line : ℕ) (bs : List ℕ) (ts : List Token) → is_comment bs ≡ true
+  after_comment : (at line : ℕ) (bs : List ℕ) (ts : List Token) → is_comment bs ≡ true
       → Spells (at + comment_length bs) line (drop (comment_length bs) bs) ts → Spells at line bs ts
   token : (at line n : ℕ) (bs : List ℕ) (kind : TokenKind) (ts : List Token) → is_blank bs ≡ false
       → is_comment bs ≡ false → token_at bs ≡ Ok (kind, n)

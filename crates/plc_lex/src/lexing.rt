@@ -1,4 +1,4 @@
-// A text is read from left to right. Behind each token all spaces and comments are passed at once,
+// A text is read from left to right. After each token all spaces and comments are passed at once,
 // so the loop over tokens meets a token, a fault or the end.
 ghost use Rattle.std.specs.Prelude.{◌≡◌, ◌<◌, ◌≤◌, ◌∷◌, [], ℕ, List, length, vec_len, All, IfOk, IfErr, IfSome, IfNone, OnOk, MatchResult};
 ghost use Rattle.plc_base.specs.Limits.{largest_file};
@@ -11,7 +11,7 @@ ghost use Rattle.plc_lex.specs.Reading.{IsAtToken, Reads};
 use crate::characters::{is_space, line_length, opens_comment};
 use crate::fault::LexFault;
 use crate::reading::token_at;
-use crate::rest::{Rest, behind};
+use crate::rest::{Rest, rest_after};
 use crate::token::Token;
 use plc_base::Span;
 use std::alloc::Global;
@@ -23,40 +23,40 @@ fn next_line(line: u32, b: u8) -> u32
     if b == b'\n' { line + 1 } else { line }
 }
 
-// What is left behind the space or the comment at the front.
-fn behind_blank<'a>(rest: Rest<'a>) -> Option<Rest<'a>>
+// What is left after the space or the comment at the front.
+fn skip_one_blank<'a>(rest: Rest<'a>) -> Option<Rest<'a>>
     ensures none { IfNone result (IsAtToken rest.entry.bytes.now) }
     ensures reads { IfSome result (Reads rest.entry.at rest.entry.line rest.entry.bytes.now []) }
     ensures smaller { IfSome result (λ after. length after.bytes.now < length rest.entry.bytes.now) }
 {
     match rest.bytes {
         [first, ..] if is_space(*first) => {
-            let after = behind(rest, 1);
+            let after = rest_after(rest, 1);
             Some(Rest {
                 bytes: after.bytes,
                 at: after.at,
                 line: next_line(rest.line, *first),
             })
         }
-        bytes if opens_comment(bytes) => Some(behind(rest, line_length(bytes))),
+        bytes if opens_comment(bytes) => Some(rest_after(rest, line_length(bytes))),
         _ => None,
     }
 }
 
-// What is left behind all spaces and comments at the front.
+// What is left after all spaces and comments at the front.
 fn skip_blank<'a>(rest: Rest<'a>) -> Rest<'a>
     ensures at_token { IsAtToken result.bytes.now }
     ensures reads { Reads rest.entry.at rest.entry.line rest.entry.bytes.now [] result }
     ensures within { length result.bytes.now ≤ length rest.entry.bytes.now }
 {
     let mut left = rest;
-    while let Some(after) = behind_blank(left) {
+    while let Some(after) = skip_one_blank(left) {
         left = after;
     }
     left
 }
 
-// The token at the front, and what is left behind it.
+// The token at the front, and what is left after it.
 fn first_token<'a>(alloc: Global, rest: Rest<'a>) -> Result<(Token, Rest<'a>), LexFault>
     requires at_token { IsAtToken rest.bytes.now }
     requires some { 0 < length rest.bytes.now }
@@ -66,7 +66,7 @@ fn first_token<'a>(alloc: Global, rest: Rest<'a>) -> Result<(Token, Rest<'a>), L
     ensures err { IfErr result (StopsWith rest.entry.at rest.entry.bytes.now) }
 {
     let (kind, count) = token_at(alloc, rest.bytes, rest.at)?;
-    let after = behind(rest, count);
+    let after = rest_after(rest, count);
     let span = Span {
         start: rest.at,
         end: after.at,

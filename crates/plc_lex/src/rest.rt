@@ -13,8 +13,8 @@ pub struct Rest<'a> {
     ghost line_bound: { line ≤ at + 1 },
 }
 
-/// What is left behind some bytes of the same line.
-pub fn behind<'a>(rest: Rest<'a>, count: usize) -> Rest<'a>
+/// What is left after some bytes of the same line.
+pub fn rest_after<'a>(rest: Rest<'a>, count: usize) -> Rest<'a>
     requires { count ≤ length rest.bytes.now }
     ensures bytes { result.bytes.now ≡ drop count rest.entry.bytes.now }
     ensures at { result.at ≡ rest.entry.at + count }

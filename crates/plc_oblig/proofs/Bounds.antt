@@ -22,7 +22,7 @@ use Rattle.plc_logic.specs.Fit.{OutlineFits, ItemFits, SiteFits, InvariantFits}
 use Rattle.plc_setting.specs.declared.obligations.Obligation.{Obligation}
 use Rattle.plc_setting.specs.declared.obligations.Obligation.TheVariants.{Start, Enter, Own, Other, Claim}
 use Rattle.plc_setting.specs.Fit.{Fits}
-use Rattle.plc_setting.specs.Parts.{acting_locals, owner_locals, locals_of_step, has_point, executed, prims_of, conclusion, entry_clauses, clauses_behind, invariants_before}
+use Rattle.plc_setting.specs.Parts.{acting_locals, owner_locals, locals_of_step, has_point, executed, prims_of, conclusion, entry_clauses, clauses_after, invariants_before}
 use Rattle.plc_setting.specs.Parts.{locals_or_none as locals_at}
 use Rattle.plc_setting.specs.Setting.{bound_of}
 use Rattle.plc_setting.specs.Points.{clauses_at, stands_at}
@@ -50,9 +50,9 @@ pub small_at_point : (flow : Flow) (outline : Outline) (p : ℕ) → OutlineFits
 small_at_point flow outline p f = All-map Small (λ (i : Item). i.clause) (filter (stands_at flow p) outline.items)
     (All-filter (stands_at flow p) (λ (i : Item). Small i.clause) outline.items (small_items flow.file outline f))
 
-small_behind : (flow : Flow) (outline : Outline) (s : Option Step) → OutlineFits flow.file outline → All Small (clauses_behind flow outline s)
-small_behind flow outline None f = All-nil Small
-small_behind flow outline (Some s) f = small_at_point flow outline s.to.0 f
+small_after : (flow : Flow) (outline : Outline) (s : Option Step) → OutlineFits flow.file outline → All Small (clauses_after flow outline s)
+small_after flow outline None f = All-nil Small
+small_after flow outline (Some s) f = small_at_point flow outline s.to.0 f
 
 small_entry : (flow : Flow) (outline : Outline) (g : Option Gate) → OutlineFits flow.file outline → All Small (entry_clauses flow outline g)
 small_entry flow outline None f = All-nil Small
@@ -62,7 +62,7 @@ pub small_conclusion : (flow : Flow) (outline : Outline) (o : Obligation) (c : C
 small_conclusion flow outline (Start i) c f is = found_in Small outline.invariants i c is (small_invariants flow.file outline f)
 small_conclusion flow outline (Enter o k) c f is = found_in Small _ k c is (small_entry flow outline (slice_get flow.gates o.0) f)
 small_conclusion flow outline (Own s k) c f is = found_in Small _ k c is
-    (All-append Small outline.invariants (clauses_behind flow outline (slice_get flow.steps s.0)) (small_invariants flow.file outline f) (small_behind flow outline (slice_get flow.steps s.0) f))
+    (All-append Small outline.invariants (clauses_after flow outline (slice_get flow.steps s.0)) (small_invariants flow.file outline f) (small_after flow outline (slice_get flow.steps s.0) f))
 small_conclusion flow outline (Other s p k) c f is = found_in Small (clauses_at flow outline p.0) k c is (small_at_point flow outline p.0 f)
 small_conclusion flow outline (Claim s j) c f is = absurd (none-some c is)
 

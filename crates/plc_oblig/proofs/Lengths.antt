@@ -19,7 +19,7 @@ use Rattle.plc_setting.specs.declared.setting.Setting.{Setting}
 use Rattle.plc_setting.specs.declared.obligations.Obligation.{Obligation}
 use Rattle.plc_setting.specs.declared.obligations.Obligation.TheVariants.{Start, Enter}
 use Rattle.plc_setting.specs.Parts.{acting_locals}
-use Rattle.plc_setting.specs.Setting.{variables_of, fields_behind, pointer_fields_from}
+use Rattle.plc_setting.specs.Setting.{variables_of, targets_of, pointer_fields_from}
 use Rattle.plc_symbolic.specs.Terms.{Clauses, null}
 use Rattle.plc_items.specs.Items.{values_from, field_values, one_of_values, start_clauses, enter_clauses, freshness, field_defaults_from, ghost_defaults_from, no_field_leads, if_fresh, is_other, beginning}
 use Rattle.plc_oblig.specs.Size.{is_pointer_field, has_values}
@@ -78,8 +78,8 @@ fields_tally k (f ∷ fs) = length_if f.pointer (record { 0 = k }) (pointer_fiel
 pub fields_length : (fs : List Field) → length (pointer_fields_from 0 fs) ≡ count_by is_pointer_field fs
 fields_length fs = fields_tally 0 fs ∙ tallied is_pointer_field fs
 
-pub behind_length : (fs : List FieldId) (ss : List Symbol) → length (fields_behind fs ss) ≡ length ss * length fs
-behind_length fs ss = each_length _ (length fs) (λ s. length-map fs _) ss
+pub after_length : (fs : List FieldId) (ss : List Symbol) → length (targets_of fs ss) ≡ length ss * length fs
+after_length fs ss = each_length _ (length fs) (λ s. length-map fs _) ss
 
 -- ---- items
 

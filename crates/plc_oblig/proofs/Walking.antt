@@ -1,4 +1,4 @@
--- Going over parts that stand one behind the other: how long they are, and the item with a number.
+-- Going over parts that stand one after another: how long they are, and the item with a number.
 use Rattle.std.proofs.Common.{◌≡◌, ℕ, zero, suc, ◌+◌, ◌*◌, ◌<◌, ◌≤◌, List, [], ◌∷◌, ◌++◌, map, length, get_or, drop, refl, sym, ap, ◌∙◌, subst, arith, slice_get, Some, None, Result, Ok, Err, length-append, drop-cons}
 use Rattle.std.proofs.lemmas.List.FromFn.{length-range_with_len, length-map-range_with_len, get_or-range_with_len}
 use Rattle.std.proofs.lemmas.Option.{slice_get-map, slice_get-get_or, slice_get_past}
@@ -13,7 +13,7 @@ use Rattle.plc_setting.specs.Setting.{below}
 use Rattle.plc_oblig.specs.Obligations.{parts_from, others_at, others_of, starts, enters, owns, others, claims, obligations}
 use Rattle.plc_setting.specs.Points.{count_at}
 
--- ---- the rest of a list behind i items
+-- ---- the rest of a list after i items
 
 drop_more : {A : Type 0} (i : ℕ) (xs : List A) (a : A) → i < length xs → a ≡ get_or xs i a → drop i xs ≡ a ∷ drop (i + 1) xs
 drop_more i xs a lt is = let e : suc i ≡ i + 1 = omega arith in
@@ -63,7 +63,7 @@ below_lt n i lt = subst (λ m. i < m) (sym (length-range_with_len 0 n)) lt
 pub numbered_length : {X : Type 0} (f : ℕ → X) (n m : ℕ) → m ≡ n → m ≡ length (map f (below n))
 numbered_length f n m e = e ∙ sym (length-map-range_with_len f 0 n)
 
--- nothing is left behind all items
+-- nothing is left after all items
 pub none_left : {A X : Type 0} (part : ℕ → A → List X) (k i : ℕ) (xs : List A) → length xs ≤ i → length (parts_from part k (drop i xs)) ≡ 0
 none_left part k zero [] h = refl
 none_left part k (suc i) [] h = refl
@@ -93,7 +93,7 @@ slice_starts f n m i e lt = slice_below f n i (subst (λ k. i < k) e lt)
 -- the rest of a walk: number i of the whole is number `left` of the rest
 pub record Walk {X : Type 0} (whole rest : List X) (i left : ℕ) : Type 0 where
   pub at : slice_get rest left ≡ slice_get whole i
-  pub behind : i + length rest ≡ length whole + left
+  pub total : i + length rest ≡ length whole + left
 
 pub walk_found : {A X : Type 0} (part : ℕ → A → List X) (k n : ℕ) (whole : List X) (xs items : List A) (a : A) (i left : ℕ) (x : X) →
     Walk whole (parts_from part k (drop n xs)) i left → items ≡ xs → n < length items → a ≡ get_or items n a → slice_get (part k a) left ≡ Some x → slice_get whole i ≡ Some x
@@ -106,7 +106,7 @@ pub walk_step : {A X : Type 0} (part : ℕ → A → List X) (k n : ℕ) (whole 
 walk_step part k n whole xs items a i left after w same lt is e =
     let r = rest_is part k n xs items a same lt is in record {
       at = sym (slice_right (part k a) (parts_from part (k + 1) (drop (n + 1) xs)) after left e) ∙ ap (λ ys. slice_get ys left) (sym r) ∙ w.at;
-      behind = let l = ap length r ∙ length-append (part k a) (parts_from part (k + 1) (drop (n + 1) xs)) in let b = w.behind in omega arith;
+      total = let l = ap length r ∙ length-append (part k a) (parts_from part (k + 1) (drop (n + 1) xs)) in let b = w.total in omega arith;
     }
 
 -- what is found in a part is found in the whole, where the part has so many items
@@ -117,9 +117,9 @@ walk_within part k n whole xs items a i left (Err e) w same lt is few h = absurd
 
 pub walk_end : {A X : Type 0} (part : ℕ → A → List X) (k n : ℕ) (whole : List X) (xs : List A) (i left : ℕ) →
     Walk whole (parts_from part k (drop n xs)) i left → length xs ≤ n → i ≡ length whole + left
-walk_end part k n whole xs i left w h = let b = w.behind in let e = none_left part k n xs h in omega arith
+walk_end part k n whole xs i left w h = let b = w.total in let e = none_left part k n xs h in omega arith
 
--- one list behind the other
+-- one list after the other
 pub found_left : {X : Type 0} (xs ys : List X) (i : ℕ) (x : X) → slice_get xs i ≡ Some x → slice_get (xs ++ ys) i ≡ Some x
 found_left xs ys i x h = slice_left xs ys i x h
 
@@ -155,7 +155,7 @@ all_others_length flow outline n w en ew =
     ap (λ m. m * w) en ∙ ap (λ m. length flow.steps * m) ew
     ∙ sym (one_length (others_of flow outline) (length (parts_from (others_at flow outline 0) 0 (below flow.points))) (others_length flow outline) 0 flow.steps)
 
--- the kinds one behind the other
+-- the kinds one after another
 pub all_length : (flow : Flow) (outline : Outline) (s e w o c : ℕ) → s ≡ length outline.invariants → e ≡ length (enters flow outline) → w ≡ length (owns flow outline) →
     o ≡ length (others flow outline) → c ≡ length (claims flow) → s + e + w + o + c ≡ length (obligations flow outline)
 unfolding obligations

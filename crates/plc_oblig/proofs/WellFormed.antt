@@ -23,7 +23,7 @@ use Rattle.plc_setting.specs.declared.obligations.Obligation.{Obligation}
 use Rattle.plc_setting.specs.declared.obligations.Obligation.TheVariants.{Start, Enter, Own, Other, Claim}
 use Rattle.plc_setting.specs.declared.setting.Setting.{Setting}
 use Rattle.plc_setting.specs.Fit.{Fits}
-use Rattle.plc_setting.specs.Parts.{locals_of_step, point_locals, clauses_before, clauses_behind, entry_clauses, acting_locals, has_owner, owner_locals, acting_premises, owner_premises, conclusion, claim_made}
+use Rattle.plc_setting.specs.Parts.{locals_of_step, point_locals, clauses_before, clauses_after, entry_clauses, acting_locals, has_owner, owner_locals, acting_premises, owner_premises, conclusion, claim_made}
 use Rattle.plc_setting.specs.Points.{clauses_at}
 use Rattle.plc_setting.specs.Setting.{local_symbol, setting_of}
 use Rattle.plc_setting.specs.Sorts.{local_sort, symbol_sort, sort_of}
@@ -75,9 +75,9 @@ module _ (flow : Flow) (outline : Outline) (fits : Fits flow outline) (o : Oblig
       let w = fits.flow_fits.well.steps k t is in
       acting_readable t.op.0 w.0 t.from.0 w.1 w.2 same
 
-  behind_readable : (k : ℕ) (r : Option Step) → slice_get flow.steps k ≡ r → acting_locals flow o ≡ locals_of_step flow r → Each (Readable false) (clauses_behind flow outline r)
-  behind_readable k None is same = tt
-  behind_readable k (Some t) is same =
+  after_readable : (k : ℕ) (r : Option Step) → slice_get flow.steps k ≡ r → acting_locals flow o ≡ locals_of_step flow r → Each (Readable false) (clauses_after flow outline r)
+  after_readable k None is same = tt
+  after_readable k (Some t) is same =
       let w = fits.flow_fits.well.steps k t is in
       acting_readable t.op.0 w.0 t.to.0 w.1 w.3 same
 
@@ -116,8 +116,8 @@ module _ (flow : Flow) (outline : Outline) (fits : Fits flow outline) (o : Oblig
   conclusion_readable : (q : Obligation) → acting_locals flow o ≡ acting_locals flow q → owner_locals flow o ≡ owner_locals flow q → MayBeReadable (has_owner q) (conclusion flow outline q)
   conclusion_readable (Start i) same owned = found false outline.invariants i (invariants_readable false)
   conclusion_readable (Enter op c) same owned = found false (entry_clauses flow outline (slice_get flow.gates op.0)) c (entry_readable op.0 (slice_get flow.gates op.0) refl same)
-  conclusion_readable (Own k c) same owned = found false (outline.invariants ++ clauses_behind flow outline (slice_get flow.steps k.0)) c
-      (each_both (Readable false) outline.invariants (clauses_behind flow outline (slice_get flow.steps k.0)) (invariants_readable false) (behind_readable k.0 (slice_get flow.steps k.0) refl same))
+  conclusion_readable (Own k c) same owned = found false (outline.invariants ++ clauses_after flow outline (slice_get flow.steps k.0)) c
+      (each_both (Readable false) outline.invariants (clauses_after flow outline (slice_get flow.steps k.0)) (invariants_readable false) (after_readable k.0 (slice_get flow.steps k.0) refl same))
   conclusion_readable (Other k p c) same owned = found true (clauses_at flow outline p.0) c (point_readable true p.0 (theirs_known (point_locals flow p.0) owned))
   conclusion_readable (Claim k j) same owned = tt
 

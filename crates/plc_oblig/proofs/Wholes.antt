@@ -22,7 +22,7 @@ use Rattle.plc_setting.specs.declared.setting.Setting.{Setting}
 use Rattle.plc_setting.specs.Parts.{conclusion, claim_made, acting_locals, owner_locals, executed, acting_premises, owner_premises, invariants_before}
 use Rattle.plc_setting.specs.Parts.{clauses_of as point_clauses}
 use Rattle.plc_base.specs.declared.ids.PointId.{PointId}
-use Rattle.plc_setting.specs.Setting.{nodes_of, fields_behind, if_deep, if_made, node_constants, plain_constants, pointer_loads_from, setting_of, bound_of, below}
+use Rattle.plc_setting.specs.Setting.{nodes_of, targets_of, if_deep, if_made, node_constants, plain_constants, pointer_loads_from, setting_of, bound_of, below}
 use Rattle.plc_items.specs.declared.execution.Execution.{Execution}
 use Rattle.plc_items.specs.Execution.{start, after_all, executed_clauses}
 use Rattle.plc_items.specs.Items.{tuples, instances, denied, denied_clause, denied_claim, values_from, beginning, freshness, premises, clauses_of}
@@ -33,7 +33,7 @@ use Rattle.plc_oblig.specs.GroundSets.{ground_set, listed_first}
 use Rattle.plc_oblig.specs.declared.size.Sizes.{Sizes}
 use Rattle.plc_oblig.specs.Size.{clause_size, is_pointer_field, is_pointer_load, AreSizesOf}
 use Rattle.plc_oblig.proofs.Executed.{loads_length}
-use Rattle.plc_oblig.proofs.Lengths.{each_length, both, one_more, behind_length, locals_length, fields_length}
+use Rattle.plc_oblig.proofs.Lengths.{each_length, both, one_more, after_length, locals_length, fields_length}
 
 -- ---- premises
 
@@ -92,7 +92,7 @@ constants_length ps made bound ls = one_more symbols.Null _ _ (both ps _ (length
 
 nodes_length : (ss : List Symbol) (deep : Bool) (cs : List Symbol) (fs : List FieldId) → length (nodes_of ss deep cs fs) ≡ length ss + cond deep (length cs * length fs) 0
 nodes_length ss deep cs fs = both _ _ (length ss) _ (length-map ss _)
-    (deep_length deep (fields_behind fs cs) ∙ ap (λ n. cond deep n 0) (behind_length fs cs))
+    (deep_length deep (targets_of fs cs) ∙ ap (λ n. cond deep n 0) (after_length fs cs))
 
 -- the sizes of what a set rests on, where the lists have these lengths
 pub setting_sizes : (flow : Flow) (outline : Outline) (o : Obligation) (z : Sizes) (theirs loads plain constants : ℕ)

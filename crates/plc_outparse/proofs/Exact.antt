@@ -34,19 +34,19 @@ module _ (s : Scope) (ops : List Op) (at : ℕ) (ts : List TokenKind) where
   stands_there stands = outline_is_right ts None (sym stands)
 
   -- and this is what its tree means
-  judged : (tree : OutlineTree) (behind : List TokenKind) → ts ≡ outline_then tree behind → outline_in s ops at ts ≡ followed_by behind (outline_means s ops at tree)
-  judged tree behind e = ap (outline_in s ops at) e ∙ outline_read s ops at tree behind
+  judged : (tree : OutlineTree) (after : List TokenKind) → ts ≡ outline_then tree after → outline_in s ops at ts ≡ followed_by after (outline_means s ops at tree)
+  judged tree after e = ap (outline_in s ops at) e ∙ outline_read s ops at tree after
 
-  means : (r : Outline × ℕ) (behind : List TokenKind) → outline_in s ops at ts ≡ Ok (r, behind) → Means s ops at ts (Ok r) behind
-  means r behind ok = known (outline_stuck_at ts) refl
+  means : (r : Outline × ℕ) (after : List TokenKind) → outline_in s ops at ts ≡ Ok (r, after) → Means s ops at ts (Ok r) after
+  means r after ok = known (outline_stuck_at ts) refl
     where
-      meant : (tree : OutlineTree) (rest : List TokenKind) (m : Result (Outline × ℕ) ParseFault) → ts ≡ outline_then tree rest → outline_means s ops at tree ≡ m → followed_by rest m ≡ Ok (r, behind) → Means s ops at ts (Ok r) behind
+      meant : (tree : OutlineTree) (rest : List TokenKind) (m : Result (Outline × ℕ) ParseFault) → ts ≡ outline_then tree rest → outline_means s ops at tree ≡ m → followed_by rest m ≡ Ok (r, after) → Means s ops at ts (Ok r) after
       meant tree rest (Ok x) e is all =
-          let same = one_reading (x, rest) (r, behind) (Ok (x, rest)) refl all in
+          let same = one_reading (x, rest) (r, after) (Ok (x, rest)) refl all in
           record { tree = tree; is_outline = record { tokens = e ∙ ap (λ p. outline_then tree p.1) same }; is = is ∙ ap (λ p. Ok p.0) same }
       meant tree rest (Err e) spelled is all = absurd cc
 
-      known : (o : Option ℕ) → outline_stuck_at ts ≡ o → Means s ops at ts (Ok r) behind
+      known : (o : Option ℕ) → outline_stuck_at ts ≡ o → Means s ops at ts (Ok r) after
       known (Some place) stuck = let refused_here = refused place stuck in absurd cc
       known None stands = let t = stands_there stands in let rest = t.1 in meant t.0 rest (outline_means s ops at t.0) t.2 refl (sym (judged t.0 rest t.2) ∙ ok)
 

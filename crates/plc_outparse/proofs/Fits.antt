@@ -53,7 +53,7 @@ fitting : {A : Type 0} (P : A → Type 0) (at : ℕ) (o : Option A) → HasSome 
 fitting P at (Some x) h = h
 fitting P at None h = tt
 
--- a list behind no other
+-- a list after no other
 pub at_start : {A : Type 0} (xs : List A) (k : ℕ) (x : A) → slice_get xs k ≡ Some x → slice_get xs (0 + k) ≡ Some x
 at_start xs k x e = let same : 0 + k ≡ k = omega arith in ap (slice_get xs) same ∙ e
 
@@ -476,4 +476,4 @@ module _ (file : File) (s : Scope) (names : NamesOf s file) where
       record { depth = small; invariants = h.invariants; each_invariant = h.each_invariant; items = h.items; each_item = h.each_item }))
 
 pub outline_fits : OutlinesFit
-outline_fits s file at behind tree outline names e = has_along (λ (x : Outline × ℕ). OutlineFits file x.0) (outline_means s file.ops at tree) (outline, behind) e (outline_keeps file s names at tree)
+outline_fits s file at after tree outline names e = has_along (λ (x : Outline × ℕ). OutlineFits file x.0) (outline_means s file.ops at tree) (outline, after) e (outline_keeps file s names at tree)

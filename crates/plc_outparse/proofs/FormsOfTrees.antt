@@ -1,4 +1,4 @@
--- What is read of a tree's tokens is the tree, and the tokens behind it are left.
+-- What is read of a tree's tokens is the tree, and the tokens after it are left.
 use Rattle.std.proofs.Common.{◌≡◌, ℕ, List, [], ◌∷◌, Bool, true, false, Option, Some, None, refl, ap, ◌∙◌}
 use Rattle.plc_lex.specs.declared.token.TokenKind.{TokenKind}
 use Rattle.plc_lex.specs.declared.token.TokenKind.TheVariants.{Symbol}
@@ -42,9 +42,9 @@ pub or_literal_reads : (l : LiteralTree) (rest : List TokenKind) → NoDot rest 
 or_literal_reads l rest h = literal_reads l rest h
 
 -- further literals or the semicolon follow a literal
-pub no_dot_behind : (ls : List LiteralTree) (rest : List TokenKind) → NoDot (each_then or_literal_then ls (Symbol Semicolon ∷ rest))
-no_dot_behind [] rest = refl
-no_dot_behind (l ∷ ls) rest = refl
+pub no_dot_after : (ls : List LiteralTree) (rest : List TokenKind) → NoDot (each_then or_literal_then ls (Symbol Semicolon ∷ rest))
+no_dot_after [] rest = refl
+no_dot_after (l ∷ ls) rest = refl
 
 -- ---- quantified names
 
@@ -65,18 +65,18 @@ bound_reads (AllOf n (Some m)) l rest = refl
 
 -- ---- items
 
--- how an item begins, and its tokens behind that
+-- how an item begins, and its tokens after that
 abbrev pub item_front : ItemTree → HeadTree
 item_front (InvariantItem c) = InvariantHead
 item_front (OverItem n c) = OverHead n
 item_front (AtItem n ns c) = AtHead n
 
-abbrev pub item_behind : ItemTree → List TokenKind → List TokenKind
-item_behind (InvariantItem c) rest = clause_then c (Symbol Semicolon ∷ rest)
-item_behind (OverItem n c) rest = clause_then c (Symbol Semicolon ∷ rest)
-item_behind (AtItem n ns c) rest = each_then comma_name_then ns (Symbol Colon ∷ clause_then c (Symbol Semicolon ∷ rest))
+abbrev pub item_after : ItemTree → List TokenKind → List TokenKind
+item_after (InvariantItem c) rest = clause_then c (Symbol Semicolon ∷ rest)
+item_after (OverItem n c) rest = clause_then c (Symbol Semicolon ∷ rest)
+item_after (AtItem n ns c) rest = each_then comma_name_then ns (Symbol Colon ∷ clause_then c (Symbol Semicolon ∷ rest))
 
-pub item_begins : (x : ItemTree) (rest : List TokenKind) → item_head_of (item_then x rest) ≡ Some (item_front x, item_behind x rest)
+pub item_begins : (x : ItemTree) (rest : List TokenKind) → item_head_of (item_then x rest) ≡ Some (item_front x, item_after x rest)
 item_begins (InvariantItem c) rest = refl
 item_begins (OverItem n c) rest = refl
 item_begins (AtItem n ns c) rest = refl

@@ -21,7 +21,7 @@ use Rattle.plc_scope.specs.Read.{wanted_at}
 use Rattle.plc_outparse.specs.Reading.{judged, place_of_list, literals_in, all_literals_in, clause_in, clause_line_in, labels_in, all_labels_in, invariant_in, over_in, at_in, item_in, place_of_parts, items_in, depth_in, parts_in, stands_at, outline_in}
 use Rattle.plc_syntax.proofs.Front.{outline_stands}
 use Rattle.plc_scope.proofs.Sequence.{bind_joins, bind_within, read_within, limit_within}
-use Rattle.plc_outparse.proofs.FormsOfTrees.{NoDot, literal_reads, or_literal_reads, no_dot_behind, bound_reads, item_front, item_behind, item_begins, depth_reads}
+use Rattle.plc_outparse.proofs.FormsOfTrees.{NoDot, literal_reads, or_literal_reads, no_dot_after, bound_reads, item_front, item_after, item_begins, depth_reads}
 use Rattle.plc_outparse.proofs.Lengths.{literals_long, names_long, items_long}
 use Rattle.plc_outparse.proofs.Repeated.{repeated_read}
 
@@ -40,7 +40,7 @@ all_literals_read : (r : Reach) (at : ℕ) (l : LiteralTree) (ls : List LiteralT
 unfolding all_literals_in
 all_literals_read r at l ls rest =
     let us = each_then or_literal_then ls (Symbol Semicolon ∷ rest) in
-    ap (λ o. wanted_at at o >>= λ x. literal_means r at x.0 >>= λ first. literals_in r (first ∷ [], at + literal_size x.0) x.1) (literal_reads l us (no_dot_behind ls rest))
+    ap (λ o. wanted_at at o >>= λ x. literal_means r at x.0 >>= λ first. literals_in r (first ∷ [], at + literal_size x.0) x.1) (literal_reads l us (no_dot_after ls rest))
     ∙ bind_same_literals (literal_means r at l) r (at + literal_size l) ls rest
   where
     bind_same_literals : (m : Result Literal ParseFault) (r : Reach) (p : ℕ) (ls : List LiteralTree) (rest : List TokenKind)
@@ -81,7 +81,7 @@ labels_read s by_op at name names rest =
     (length us) (l.0 ∷ [], at + 1) fewer) (λ t. refl))
 
 module _ (s : Scope) (ops : List Op) (by_op : List (List ℕ)) where
-  item_read : (st : Parts) (x : ItemTree) (rest : List TokenKind) → item_in s ops by_op st (item_front x) (item_behind x rest) ≡ (item_step s ops by_op st x >>= λ t. Ok (t, rest))
+  item_read : (st : Parts) (x : ItemTree) (rest : List TokenKind) → item_in s ops by_op st (item_front x) (item_after x rest) ≡ (item_step s ops by_op st x >>= λ t. Ok (t, rest))
   unfolding item_in item_step invariant_in over_in at_in
   item_read st (InvariantItem c) rest = limit_within (length st.0 == 64) _ _ _ _
       (read_within (clause_line_in s [] false (st.2 + 1) (clause_then c (Symbol Semicolon ∷ rest))) (clause_line_means s [] false (st.2 + 1) c) (λ r. Ok (r, rest)) _ _ _ (clause_line_read s [] false (st.2 + 1) c rest) (λ k. refl))
@@ -90,7 +90,7 @@ module _ (s : Scope) (ops : List Op) (by_op : List (List ℕ)) where
       read_within (clause_line_in s (locals_of ops o) true (st.2 + 3) (clause_then c (Symbol Semicolon ∷ rest))) (clause_line_means s (locals_of ops o) true (st.2 + 3) c) (λ r. Ok (r, rest)) _ _ _
       (clause_line_read s (locals_of ops o) true (st.2 + 3) c rest) (λ k. refl)))
   item_read st (AtItem name names c) rest = limit_within (length st.1 == 256) _ _ _ _
-      (read_within (all_labels_in s by_op (st.2 + 1) name (item_behind (AtItem name names c) rest)) (labels_mean s by_op (st.2 + 1) name names) (λ r. Ok (r, clause_then c (Symbol Semicolon ∷ rest))) _ _ _
+      (read_within (all_labels_in s by_op (st.2 + 1) name (item_after (AtItem name names c) rest)) (labels_mean s by_op (st.2 + 1) name names) (λ r. Ok (r, clause_then c (Symbol Semicolon ∷ rest))) _ _ _
       (labels_read s by_op (st.2 + 1) name names (clause_then c (Symbol Semicolon ∷ rest))) (λ ls.
       read_within (clause_line_in s (locals_of ops ls.1) true ls.0.1 (clause_then c (Symbol Semicolon ∷ rest))) (clause_line_means s (locals_of ops ls.1) true ls.0.1 c) (λ r. Ok (r, rest)) _ _ _
       (clause_line_read s (locals_of ops ls.1) true ls.0.1 c rest) (λ k. refl)))
@@ -100,7 +100,7 @@ module _ (s : Scope) (ops : List Op) (by_op : List (List ℕ)) where
   items_read st xs rest =
       let us = each_then item_then xs (Symbol CloseBrace ∷ rest) in
       let fewer : length xs < length us = omega (arith, items_long xs (Symbol CloseBrace ∷ rest)) in
-      repeated_read place_of_parts item_head_of (item_in s ops by_op) (item_step s ops by_op) item_then (λ ts. Unit {0}) item_front item_behind (λ x ts. tt) (λ x ts h. item_begins x ts) item_read xs (Symbol CloseBrace ∷ rest) tt refl
+      repeated_read place_of_parts item_head_of (item_in s ops by_op) (item_step s ops by_op) item_then (λ ts. Unit {0}) item_front item_after (λ x ts. tt) (λ x ts h. item_begins x ts) item_read xs (Symbol CloseBrace ∷ rest) tt refl
       (length us) st fewer
 
 -- ---- the outline

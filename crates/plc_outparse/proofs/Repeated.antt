@@ -43,10 +43,10 @@ module _ {S H : Type 0} (place : S → ℕ) (head : List TokenKind → Option (H
 
   -- the tokens of trees are read into what the steps make of the trees
   module _ {X : Type 0} (step : S → X → Result S ParseFault) (x_then : X → List TokenKind → List TokenKind) (Fits : List TokenKind → Type 0)
-      (front : X → H) (behind_front : X → List TokenKind → List TokenKind)
+      (front : X → H) (after_front : X → List TokenKind → List TokenKind)
       (fits : (x : X) (rest : List TokenKind) → Fits (x_then x rest))
-      (begins : (x : X) (rest : List TokenKind) → Fits rest → head (x_then x rest) ≡ Some (front x, behind_front x rest))
-      (reads : (s : S) (x : X) (rest : List TokenKind) → body s (front x) (behind_front x rest) ≡ (step s x >>= λ t. Ok (t, rest))) where
+      (begins : (x : X) (rest : List TokenKind) → Fits rest → head (x_then x rest) ≡ Some (front x, after_front x rest))
+      (reads : (s : S) (x : X) (rest : List TokenKind) → body s (front x) (after_front x rest) ≡ (step s x >>= λ t. Ok (t, rest))) where
     each_fits : (xs : List X) (rest : List TokenKind) → Fits rest → Fits (each_then x_then xs rest)
     each_fits [] rest f = f
     each_fits (x ∷ xs) rest f = fits x (each_then x_then xs rest)
@@ -57,7 +57,7 @@ module _ {S H : Type 0} (place : S → ℕ) (head : List TokenKind → Option (H
     repeated_read (x ∷ xs) rest f e k s less =
         let us = each_then x_then xs rest in
         let fuel : k ≡ suc (k - 1) = omega arith in
-        goes k (k - 1) s (x_then x us) (front x, behind_front x us) fuel (begins x us (each_fits xs rest f))
+        goes k (k - 1) s (x_then x us) (front x, after_front x us) fuel (begins x us (each_fits xs rest f))
         ∙ ap (λ r. r >>= λ o. repeated_in place head body (k - 1) o.0 o.1) (reads s x us)
         ∙ bind_joins (step s x) _ _
         ∙ bind_within (step s x) _ _ _ (λ t. repeated_read xs rest f e (k - 1) t (omega arith))

@@ -30,7 +30,7 @@ pub record NamesOf (s : Scope) (file : File) : Type 0 where
   pub value : (i g v : ℕ) → slice_get s.bindings i ≡ Some (Value g v)
       → (h : Ghost) × (slice_get file.ghosts g ≡ Some h) × (v < length h.values)
 
--- an outline that has a meaning behind the operations of a file fits the file
+-- an outline that has a meaning after the operations of a file fits the file
 abbrev pub OutlinesFit : Type 0
-OutlinesFit = (s : Scope) (file : File) (at behind : ℕ) (tree : OutlineTree) (outline : Outline) → NamesOf s file
-    → outline_means s file.ops at tree ≡ Ok (outline, behind) → OutlineFits file outline
+OutlinesFit = (s : Scope) (file : File) (at after : ℕ) (tree : OutlineTree) (outline : Outline) → NamesOf s file
+    → outline_means s file.ops at tree ≡ Ok (outline, after) → OutlineFits file outline

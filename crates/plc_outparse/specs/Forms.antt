@@ -1,4 +1,4 @@
--- The forms of an outline at the front of tokens, each with the tokens behind it. A form is read from left to right:
+-- The forms of an outline at the front of tokens, each with the tokens after it. A form is read from left to right:
 -- where a token doesn't fit, nothing is read.
 use Rattle.std.specs.Prelude.{ℕ, Bool, true, false, Option, Some, None, List, ◌∷◌}
 use Rattle.plc_lex.specs.declared.token.TokenKind.{TokenKind}
@@ -78,7 +78,7 @@ item_head_of (Word Over ∷ rest) = read_as OverHead (name_symbol_of Colon rest)
 item_head_of (Word At ∷ rest) = read_as AtHead (name_of rest)
 item_head_of ts = None
 
--- what stands behind labels
+-- what stands after labels
 abbrev pub colon_of : List TokenKind → Option (List TokenKind)
 colon_of ts = symbol_of Colon ts
 

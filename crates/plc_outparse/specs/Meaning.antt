@@ -62,7 +62,7 @@ term_means r at (NumberTerm n) = Ok (terms.Number n, sorts.Number)
 term_means r at MeTerm = me_means r.in_operation at
 term_means r at NoneTerm = Ok (terms.Nobody, sorts.Thread)
 
--- the token by which a term has its sort: the name behind the dot, else the first
+-- the token by which a term has its sort: the name after the dot, else the first
 abbrev pub sort_place : ℕ → TermTree → ℕ
 sort_place at (PlaceTerm (PlaceOf n None)) = at
 sort_place at (PlaceTerm (PlaceOf n (Some f))) = at + 2
@@ -116,7 +116,7 @@ counted n at (Err e) = if stands_at at e then Err e else within_limit n limits.L
 abbrev pub Literals : Type 0
 Literals = List Literal × ℕ
 
--- a further literal, behind its "or"
+-- a further literal, after its "or"
 unfoldable pub literal_step : Reach → Literals → LiteralTree → Result Literals ParseFault
 literal_step r s l = do
   x ← counted (length s.0) (s.1 + 1) (literal_means r (s.1 + 1) l)
@@ -207,7 +207,7 @@ if_same_op o at l = if l.1 == o then Ok l.0 else Err (faults.WrongSort at)
 abbrev pub Labels : Type 0
 Labels = List ℕ × ℕ
 
--- a further label, behind its comma, stands in the operation of the first
+-- a further label, after its comma, stands in the operation of the first
 unfoldable pub label_step : Scope → List (List ℕ) → ℕ → Labels → Text → Result Labels ParseFault
 label_step s by_op o st name = do
   l ← label_at s by_op name (st.1 + 1)
@@ -227,11 +227,11 @@ labels_mean s by_op at name names = do
 abbrev pub Parts : Type 0
 Parts = List Clause × List Item × ℕ
 
--- one more invariant, and the place behind it
+-- one more invariant, and the place after it
 abbrev pub with_invariant : Parts → Clause × ℕ → Parts
 with_invariant st c = (st.0 ++ c.0 ∷ [], st.1, c.1)
 
--- one more item, and the place behind it
+-- one more item, and the place after it
 abbrev pub with_item : Parts → Site → Clause × ℕ → Parts
 with_item st site c = (st.0, st.1 ++ record { site = site; clause = c.0 } ∷ [], c.1)
 
@@ -256,7 +256,7 @@ abbrev pub depth_means : ℕ → Option ℕ → Result ℕ ParseFault
 depth_means at None = Ok 0
 depth_means at (Some n) = if n == 0 || n == 1 then Ok n else Err (faults.WrongSort (at + 1))
 
--- the parts of an outline in order, behind "outline" and an opening brace; and the place behind the closing one
+-- the parts of an outline in order, after "outline" and an opening brace; and the place after the closing one
 unfoldable pub outline_means : Scope → List Op → ℕ → OutlineTree → Result (Outline × ℕ) ParseFault
 outline_means s ops at (Outlined d items) = do
   depth ← depth_means (at + 2) d

@@ -10,20 +10,20 @@ use Rattle.plc_scope.specs.declared.scope.Scope.{Scope}
 use Rattle.plc_logic.specs.declared.clause.Outline.{Outline}
 use Rattle.plc_outparse.specs.Meaning.{outline_means}
 
--- the tokens begin with those of an outline's tree, behind which these stand
-pub record IsOutline (ts : List TokenKind) (tree : OutlineTree) (behind : List TokenKind) : Type 0 where
-  pub tokens : ts ≡ outline_then tree behind
+-- the tokens begin with those of an outline's tree, after which these stand
+pub record IsOutline (ts : List TokenKind) (tree : OutlineTree) (after : List TokenKind) : Type 0 where
+  pub tokens : ts ≡ outline_then tree after
 
 -- they do, and from a place on the tree has this meaning
 pub record Means (s : Scope) (ops : List Op) (at : ℕ) (ts : List TokenKind)
-    (meaning : Result (Outline × ℕ) ParseFault) (behind : List TokenKind) : Type 0 where
+    (meaning : Result (Outline × ℕ) ParseFault) (after : List TokenKind) : Type 0 where
   pub tree : OutlineTree
-  pub is_outline : IsOutline ts tree behind
+  pub is_outline : IsOutline ts tree after
   pub is : outline_means s ops at tree ≡ meaning
 
 -- the fault that they are answered with: of syntax at the place where none can stand there any more, else that of
 -- the meaning; memory may run out anywhere
 pub data IsPartFault (s : Scope) (ops : List Op) (at : ℕ) (ts : List TokenKind) (e : ParseFault) : Type 0 where
   no_outline : (place : ℕ) → OutlineFaultAt ts place → e ≡ faults.Syntax (at + place) → IsPartFault s ops at ts e
-  no_meaning : (behind : List TokenKind) → Means s ops at ts (Err e) behind → IsPartFault s ops at ts e
+  no_meaning : (after : List TokenKind) → Means s ops at ts (Err e) after → IsPartFault s ops at ts e
   no_memory : e ≡ faults.Memory → IsPartFault s ops at ts e

@@ -112,7 +112,7 @@ as_term (kinds.Auxiliary g s) = None
 as_term (kinds.Value g v) = Some (terms.Value g v, sorts.Value g)
 as_term kinds.NoValue = None
 
--- the term that a name is behind a base and a dot, with its sort
+-- the term that a name is after a base and a dot, with its sort
 abbrev pub as_field : Base → Kind → Option (Term × Sort)
 as_field b (kinds.Node c) = None
 as_field b (kinds.Data i) = None

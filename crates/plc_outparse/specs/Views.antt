@@ -52,7 +52,7 @@ kinds_left rest = kinds rest.tokens.now
 abbrev pub read_with : {A : Type 0} → A → Rest → (A × ℕ) × List TokenKind
 read_with a rest = ((a, rest.at), kinds_left rest)
 
--- the parts so far, and the place behind them
+-- the parts so far, and the place after them
 abbrev pub parts_at : PartsSoFar → ℕ → Parts
 parts_at parts at = (parts.invariants, parts.items, at)
 

@@ -139,7 +139,7 @@ fn add_literal(
     Ok(())
 }
 
-// The literals behind the first.
+// The literals after the first.
 fn read_further_literals<'a>(
     reach: &Reach,
     literals: &mut Items<Literal>,
@@ -152,11 +152,11 @@ fn read_further_literals<'a>(
 {
     let mut rest = start;
     for _ in 0..start.tokens.len() {
-        let Some((form, behind)) = or_literal_at(rest) else {
+        let Some((form, after)) = or_literal_at(rest) else {
             return Ok(rest);
         };
         add_literal(reach, literals, rest.at, form)?;
-        rest = behind;
+        rest = after;
     }
     Err(ParseFault::Syntax { at: rest.at })
 }
@@ -169,12 +169,12 @@ fn read_literals<'a>(alloc: Global, reach: &Reach, start: Rest<'a>) -> Parsed<'a
         (all_literals_in (reach_of reach.now) start.entry.at (kinds_left start.entry)) }
     ensures place { IfOk result (λ r. Within start.entry r.1) }
 {
-    let Some((form, behind)) = literal_at(start) else {
+    let Some((form, after)) = literal_at(start) else {
         return Err(ParseFault::Syntax { at: start.at });
     };
     let mut literals = Items::new(alloc);
     literals.push(literal(reach, start.at, form)?)?;
-    let rest = read_further_literals(reach, &mut literals, behind)?;
+    let rest = read_further_literals(reach, &mut literals, after)?;
     Ok((literals, rest))
 }
 
@@ -192,7 +192,7 @@ pub fn read_clause_line<'a>(
         (clause_line_in scope.now locals.now in_operation start.entry.at (kinds_left start.entry)) }
     ensures place { IfOk result (λ r. Within start.entry r.1) }
 {
-    let Some((form, behind)) = quantified_at(start) else {
+    let Some((form, after)) = quantified_at(start) else {
         return Err(ParseFault::Syntax { at: start.at });
     };
     let bound = quantified(alloc, scope, locals, start.at, form)?;
@@ -202,7 +202,7 @@ pub fn read_clause_line<'a>(
         in_operation,
         bound: &bound,
     };
-    let (literals, rest) = read_literals(alloc, &reach, behind)?;
+    let (literals, rest) = read_literals(alloc, &reach, after)?;
     match semicolon_at(rest) {
         Some(end) => Ok((Clause { bound, literals }, end)),
         None => Err(ParseFault::Syntax { at: rest.at }),

@@ -27,7 +27,7 @@ pub struct Parts {
     pub items: Items<Item>,
 }
 
-// An invariant, whose word stands at the place, from behind it.
+// An invariant, whose word stands at the place, from after it.
 #[tactic(auto, unfolding(crate::specs::Reading::invariant_in))]
 fn read_invariant<'a>(
     alloc: Global,
@@ -49,7 +49,7 @@ fn read_invariant<'a>(
     Ok(rest)
 }
 
-// An item over an operation, whose word stands at the place, from behind its colon.
+// An item over an operation, whose word stands at the place, from after its colon.
 #[tactic(auto, unfolding(crate::specs::Reading::over_in))]
 fn read_over<'a>(
     alloc: Global,
@@ -77,7 +77,7 @@ fn read_over<'a>(
     Ok(rest)
 }
 
-// An item at labels, whose word stands at the place, from behind the name of the first label.
+// An item at labels, whose word stands at the place, from after the name of the first label.
 #[tactic(auto, unfolding(crate::specs::Reading::at_in))]
 fn read_at<'a>(
     alloc: Global,
@@ -105,7 +105,7 @@ fn read_at<'a>(
     Ok(rest)
 }
 
-// An item, from behind how it begins, which stands at the place.
+// An item, from after how it begins, which stands at the place.
 #[tactic(auto, unfolding(crate::specs::Reading::item_in))]
 fn read_item<'a>(
     alloc: Global,
@@ -144,10 +144,10 @@ pub fn read_items<'a>(
 {
     let mut rest = start;
     for _ in 0..start.tokens.len() {
-        let Some((head, behind)) = head_at(rest) else {
+        let Some((head, after)) = head_at(rest) else {
             return Ok(rest);
         };
-        rest = read_item(alloc, context, parts, rest.at, head, behind)?;
+        rest = read_item(alloc, context, parts, rest.at, head, after)?;
     }
     Err(ParseFault::Syntax { at: rest.at })
 }

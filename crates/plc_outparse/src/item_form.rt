@@ -14,20 +14,20 @@ pub fn head_at<'a>(rest: Rest<'a>) -> Option<(Head<'a>, Rest<'a>)>
     ensures { Reads item_head_of head_tree head_size rest.entry result }
 {
     match first(rest)? {
-        (TokenKind::Word(Keyword::Inv), behind) => Some((Head::Invariant, behind)),
-        (TokenKind::Word(Keyword::Over), behind) => {
-            let (name, behind) = name_symbol_at(behind, Symbol::Colon)?;
-            Some((Head::Over(name), behind))
+        (TokenKind::Word(Keyword::Inv), after) => Some((Head::Invariant, after)),
+        (TokenKind::Word(Keyword::Over), after) => {
+            let (name, after) = name_symbol_at(after, Symbol::Colon)?;
+            Some((Head::Over(name), after))
         }
-        (TokenKind::Word(Keyword::At), behind) => {
-            let (name, behind) = name_at(behind)?;
-            Some((Head::At(name), behind))
+        (TokenKind::Word(Keyword::At), after) => {
+            let (name, after) = name_at(after)?;
+            Some((Head::At(name), after))
         }
         _ => None,
     }
 }
 
-/// What stands behind labels.
+/// What stands after labels.
 pub fn colon_at<'a>(rest: Rest<'a>) -> Option<Rest<'a>>
     ensures { Passes colon_of 1 rest.entry result }
 {
@@ -46,9 +46,9 @@ fn number_line_at<'a>(rest: Rest<'a>) -> Option<(Option<u32>, Rest<'a>)>
     ensures { Reads number_line_of (λ x. x) (λ t. depth_size t - 1) rest.entry result }
 {
     match first(rest)? {
-        (TokenKind::Number(n), behind) => {
-            let behind = symbol_at(behind, Symbol::Semicolon)?;
-            Some((Some(*n), behind))
+        (TokenKind::Number(n), after) => {
+            let after = symbol_at(after, Symbol::Semicolon)?;
+            Some((Some(*n), after))
         }
         _ => None,
     }
@@ -59,7 +59,7 @@ pub fn depth_at<'a>(rest: Rest<'a>) -> Option<(Option<u32>, Rest<'a>)>
     ensures { Reads depth_of (λ x. x) depth_size rest.entry result }
 {
     match first(rest) {
-        Some((TokenKind::Word(Keyword::Depth), behind)) => number_line_at(behind),
+        Some((TokenKind::Word(Keyword::Depth), after)) => number_line_at(after),
         _ => Some((None, rest)),
     }
 }

@@ -1,4 +1,4 @@
-// The outline of a file, which stands behind all operations.
+// The outline of a file, which stands after all operations.
 ghost use Rattle.std.specs.Prelude.{◌+◌, ◌<◌, ◌≤◌, ◌^◌, IfOk, IfErr, Ok, length};
 ghost use Rattle.plc_base.specs.Limits.{most};
 ghost use Rattle.plc_base.specs.declared.limits.What1.TheVariants as limits;
@@ -42,12 +42,12 @@ fn read_depth<'a>(start: Rest<'a>) -> Parsed<'a, u8>
     ensures place { IfOk result (λ r. Within start.entry r.1) }
 {
     match depth_at(start) {
-        Some((number, behind)) => Ok((depth(start.at, number)?, behind)),
+        Some((number, after)) => Ok((depth(start.at, number)?, after)),
         None => Err(ParseFault::Syntax { at: start.at }),
     }
 }
 
-// Depth and items, from behind the opening brace, and the closing one.
+// Depth and items, from after the opening brace, and the closing one.
 #[tactic(auto, unfolding(crate::specs::Reading::parts_in))]
 fn read_parts<'a>(alloc: Global, context: &Context, start: Rest<'a>) -> Parsed<'a, Outline>
     requires limits { IsWithinLimits context.now }
@@ -62,7 +62,7 @@ fn read_parts<'a>(alloc: Global, context: &Context, start: Rest<'a>) -> Parsed<'
         items: Items::new(alloc),
     };
     let rest = read_items(alloc, context, &mut parts, rest)?;
-    let Some(behind) = closing_at(rest) else {
+    let Some(after) = closing_at(rest) else {
         return Err(ParseFault::Syntax { at: rest.at });
     };
     let outline = Outline {
@@ -70,7 +70,7 @@ fn read_parts<'a>(alloc: Global, context: &Context, start: Rest<'a>) -> Parsed<'
         invariants: parts.invariants,
         items: parts.items,
     };
-    Ok((outline, behind))
+    Ok((outline, after))
 }
 
 // The outline at the front, once it is known that one stands there.
@@ -99,12 +99,12 @@ fn outline_at<'a>(alloc: Global, scope: &Scope, ops: &[Op], start: Rest<'a>) -> 
     read_parts(alloc, &context, rest)
 }
 
-/// Reads the outline of a file with these names and operations, and what is behind its closing brace;
+/// Reads the outline of a file with these names and operations, and what is after its closing brace;
 /// or the fault. Where no outline stands at the front it is `Syntax`, at the least token with which
-/// none begins any more, or behind the last one where the tokens begin an outline. Else it is the one at
+/// none begins any more, or after the last one where the tokens begin an outline. Else it is the one at
 /// the least token: `Undeclared` for a name without a declaration in reach, `Duplicate` for a quantified name that
 /// is there, `WrongSort` where a name, a term, a label of a second operation or the depth can't stand,
-/// and `Limit` at the first token past one. The scope is the one behind all operations, with at most 256
+/// and `Limit` at the first token past one. The scope is the one after all operations, with at most 256
 /// labels; of the operations there are at most 32, each with at most 32 locals.
 pub fn read_outline<'a>(
     alloc: Global,

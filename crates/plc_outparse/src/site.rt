@@ -127,7 +127,7 @@ fn add_label(
     Ok(())
 }
 
-// The labels behind the first.
+// The labels after the first.
 fn read_further_labels<'a>(
     context: &Context,
     op: usize,
@@ -142,16 +142,16 @@ fn read_further_labels<'a>(
 {
     let mut rest = start;
     for _ in 0..start.tokens.len() {
-        let Some((name, behind)) = comma_name_at(rest) else {
+        let Some((name, after)) = comma_name_at(rest) else {
             return Ok(rest);
         };
         add_label(context, op, labels, rest.at, name)?;
-        rest = behind;
+        rest = after;
     }
     Err(ParseFault::Syntax { at: rest.at })
 }
 
-/// Labels and their colon, from behind the name of the first one, which stands at the place; and the
+/// Labels and their colon, from after the name of the first one, which stands at the place; and the
 /// operation in which they stand.
 #[tactic(auto, unfolding(crate::specs::Reading::all_labels_in))]
 pub fn read_labels<'a>(
@@ -172,7 +172,7 @@ pub fn read_labels<'a>(
     labels.push(first)?;
     let rest = read_further_labels(context, op, &mut labels, start)?;
     match colon_at(rest) {
-        Some(behind) => Ok((labels, op, behind)),
+        Some(after) => Ok((labels, op, after)),
         None => Err(ParseFault::Syntax { at: rest.at }),
     }
 }

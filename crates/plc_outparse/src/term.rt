@@ -40,7 +40,7 @@ fn as_term(kind: Kind) -> Option<(Term, Sort)>
     }
 }
 
-// The term that a name is behind a base and a dot.
+// The term that a name is after a base and a dot.
 fn as_field(base: Base, kind: Kind) -> Option<(Term, Sort)>
     ensures { result ≡ as_field base kind }
 {
@@ -83,7 +83,7 @@ fn place(reach: &Reach, at: u32, place: Place) -> Result<(Term, Sort), ParseFaul
 {
     match place.field {
         None => name(reach, at, place.name),
-        Some(behind) => field(reach, at, place.name, behind),
+        Some(after) => field(reach, at, place.name, after),
     }
 }
 

@@ -57,14 +57,14 @@ module _ (lines : List ℕ) (in_loop : Bool) where
       → lines_before ls (block_in lines k s in_loop at ts) ≡ total → total ≡ Ok ((block_of ls, s, at + 1), us)
   block_end k n ls s at ts us total l e so_far = sym so_far ∙ ap (lines_before ls) (block_ends k n s at ts us l e) ∙ ap (λ b. Ok ((b, s, at + 1), us)) (ahead_all ls)
 
-  pub block_turn : (k n : ℕ) (ls : List Line) (x : Line) (s t : Scope) (at behind : ℕ) (ts us : List TokenKind) → k ≡ suc n → closing_of ts ≡ None → x.line ≡ line_at lines at
-      → statement_in (block_in lines n) n s in_loop at ts ≡ Ok ((statement_of x.stmt, t, behind), us)
-      → lines_before ls (block_in lines k s in_loop at ts) ≡ lines_before (ls ++ x ∷ []) (block_in lines n t in_loop behind us)
-  block_turn k n ls x s t at behind ts us l e line h =
+  pub block_turn : (k n : ℕ) (ls : List Line) (x : Line) (s t : Scope) (at after : ℕ) (ts us : List TokenKind) → k ≡ suc n → closing_of ts ≡ None → x.line ≡ line_at lines at
+      → statement_in (block_in lines n) n s in_loop at ts ≡ Ok ((statement_of x.stmt, t, after), us)
+      → lines_before ls (block_in lines k s in_loop at ts) ≡ lines_before (ls ++ x ∷ []) (block_in lines n t in_loop after us)
+  block_turn k n ls x s t at after ts us l e line h =
       ap (lines_before ls) (block_goes k n s at ts l e
       ∙ ap (λ r. r >>= λ first. block_in lines n first.0.1 in_loop first.0.2 first.1 >>= λ others. Ok ((Then (line_at lines at) first.0.0 others.0.0, others.0.1, others.0.2), others.1)) h)
-      ∙ bind_joins (block_in lines n t in_loop behind us) _ _
-      ∙ bind_same (block_in lines n t in_loop behind us) _ _ (λ b. ap (λ c. Ok ((c, b.0.1, b.0.2), b.1)) (ap (λ (n : ℕ). ahead ls (Then n (statement_of x.stmt) b.0.0)) (sym line) ∙ sym (ahead_more ls x b.0.0)))
+      ∙ bind_joins (block_in lines n t in_loop after us) _ _
+      ∙ bind_same (block_in lines n t in_loop after us) _ _ (λ b. ap (λ c. Ok ((c, b.0.1, b.0.2), b.1)) (ap (λ (n : ℕ). ahead ls (Then n (statement_of x.stmt) b.0.0)) (sym line) ∙ sym (ahead_more ls x b.0.0)))
 
   pub block_stop : (f : ParseFault) (k n : ℕ) (ls : List Line) (s : Scope) (at : ℕ) (ts : List TokenKind) (total : ReadTo (Statements × Scope × ℕ)) → k ≡ suc n → closing_of ts ≡ None
       → FailsAs f (statement_in (block_in lines n) n s in_loop at ts) → lines_before ls (block_in lines k s in_loop at ts) ≡ total → FailsAs f total
@@ -110,15 +110,15 @@ module _ (block : BlockReader) (in_loop : Bool) where
       → blocks_before bs (ors_in block k s in_loop at ts) ≡ total → total ≡ Ok ((blocks_of bs, s, at), ts)
   ors_end k n bs s at ts total l e so_far = sym so_far ∙ ap (blocks_before bs) (ors_ends k n s at ts l e) ∙ ap (λ o. Ok ((o, s, at), ts)) (blocks_all bs)
 
-  pub ors_turn : (k n : ℕ) (bs : List Statements) (b : Statements) (s t : Scope) (at behind : ℕ) (ts us vs : List TokenKind) → k ≡ suc n → word_symbol_of words.Or symbols.OpenBrace ts ≡ Some us
-      → block s in_loop (at + 2) us ≡ Ok ((b, t, behind), vs)
-      → blocks_before bs (ors_in block k s in_loop at ts) ≡ blocks_before (bs ++ b ∷ []) (ors_in block n t in_loop behind vs)
+  pub ors_turn : (k n : ℕ) (bs : List Statements) (b : Statements) (s t : Scope) (at after : ℕ) (ts us vs : List TokenKind) → k ≡ suc n → word_symbol_of words.Or symbols.OpenBrace ts ≡ Some us
+      → block s in_loop (at + 2) us ≡ Ok ((b, t, after), vs)
+      → blocks_before bs (ors_in block k s in_loop at ts) ≡ blocks_before (bs ++ b ∷ []) (ors_in block n t in_loop after vs)
   unfolding ors_next
-  ors_turn k n bs b s t at behind ts us vs l e h =
+  ors_turn k n bs b s t at after ts us vs l e h =
       ap (blocks_before bs) (ors_goes k n s at ts us l e
       ∙ ap (λ r. r >>= λ b. ors_in block n b.0.1 in_loop b.0.2 b.1 >>= λ o. Ok ((And b.0.0 o.0.0, o.0.1, o.0.2), o.1)) h)
-      ∙ bind_joins (ors_in block n t in_loop behind vs) _ _
-      ∙ bind_same (ors_in block n t in_loop behind vs) _ _ (λ o. ap (λ c. Ok ((c, o.0.1, o.0.2), o.1)) (sym (blocks_more bs b o.0.0)))
+      ∙ bind_joins (ors_in block n t in_loop after vs) _ _
+      ∙ bind_same (ors_in block n t in_loop after vs) _ _ (λ o. ap (λ c. Ok ((c, o.0.1, o.0.2), o.1)) (sym (blocks_more bs b o.0.0)))
 
   pub ors_stop : (f : ParseFault) (k n : ℕ) (bs : List Statements) (s : Scope) (at : ℕ) (ts us : List TokenKind) (total : ReadTo (Blocks × Scope × ℕ)) → k ≡ suc n → word_symbol_of words.Or symbols.OpenBrace ts ≡ Some us
       → FailsAs f (block s in_loop (at + 2) us) → blocks_before bs (ors_in block k s in_loop at ts) ≡ total → FailsAs f total

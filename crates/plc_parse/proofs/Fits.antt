@@ -224,27 +224,27 @@ parameter_few s name at h =
     next (Kept s) (Few s) (local_number (place_of name s.names.names) s name at) _ (number_keeps (place_of name s.names.names) s name at) (λ x k.
     below (Few s) (length s.locals) most_locals _ _ h (λ less. one_more s x false true k less))
 
-abbrev FewBehind : Scope → Scope × ℕ → Type 0
-FewBehind s r = Few s r.0
+abbrev FewAfter : Scope → Scope × ℕ → Type 0
+FewAfter s r = Few s r.0
 
 few_then : (s t u : Scope) → Few s t → Few t u → Few s u
 few_then s t u f g = record { locals = g.locals; labels = g.labels ∙ f.labels }
 
-others_few : (s t : Scope) (at : ℕ) (names : List Text) → Few s t → Has (FewBehind s) (others_mean t at names)
+others_few : (s t : Scope) (at : ℕ) (names : List Text) → Few s t → Has (FewAfter s) (others_mean t at names)
 others_few s t at [] h = h
-others_few s t at (n ∷ ns) h = next (Few t) (FewBehind s) (declared_parameter t n (at + 1)) _ (parameter_few t n (at + 1) h.locals) (λ u few. others_few s u (at + 2) ns (few_then s t u h few))
+others_few s t at (n ∷ ns) h = next (Few t) (FewAfter s) (declared_parameter t n (at + 1)) _ (parameter_few t n (at + 1) h.locals) (λ u few. others_few s u (at + 2) ns (few_then s t u h few))
 
-parameters_few : (s t : Scope) (at : ℕ) (names : List Text) → Few s t → Has (FewBehind s) (parameters_mean t at names)
+parameters_few : (s t : Scope) (at : ℕ) (names : List Text) → Few s t → Has (FewAfter s) (parameters_mean t at names)
 parameters_few s t at [] h = h
-parameters_few s t at (n ∷ ns) h = next (Few t) (FewBehind s) (declared_parameter t n at) _ (parameter_few t n at h.locals) (λ u few. others_few s u (at + 1) ns (few_then s t u h few))
+parameters_few s t at (n ∷ ns) h = next (Few t) (FewAfter s) (declared_parameter t n at) _ (parameter_few t n at h.locals) (λ u few. others_few s u (at + 1) ns (few_then s t u h few))
 
 pub one_local_few : (s : Scope) (at : ℕ) (l : FieldTree) → length s.locals ≤ most_locals → Has (Few s) (local_means s at l)
 one_local_few s at (PointerField name) h = local_few s name (at + 1) true h
 one_local_few s at (DataField name) h = local_few s name (at + 1) false h
 
-locals_few : (s t : Scope) (at : ℕ) (ls : List FieldTree) → Few s t → Has (FewBehind s) (locals_mean t at ls)
+locals_few : (s t : Scope) (at : ℕ) (ls : List FieldTree) → Few s t → Has (FewAfter s) (locals_mean t at ls)
 locals_few s t at [] h = h
-locals_few s t at (l ∷ ls) h = next (Few t) (FewBehind s) (local_means t at l) _ (one_local_few t at l h.locals) (λ u few. locals_few s u (at + 3) ls (few_then s t u h few))
+locals_few s t at (l ∷ ls) h = next (Few t) (FewAfter s) (local_means t at l) _ (one_local_few t at l h.locals) (λ u few. locals_few s u (at + 3) ls (few_then s t u h few))
 
 -- ---- operations
 
@@ -253,8 +253,8 @@ op_fits lines s n at (Operates name ps ls b) h =
     unless (OneHas OpFits (Room limits.Ops) n) (n == most limits.Ops) _ _ (λ few.
     next (Room limits.Ops (n + 1)) (OneHas OpFits (Room limits.Ops) n) (declared s name (at + 1) Taken) _ (room_for limits.Ops n s name (at + 1) Taken h few) (λ t k.
     let count : length t.locals ≡ 0 = ap length k.between.locals in
-    next (FewBehind t) (OneHas OpFits (Room limits.Ops) n) (parameters_mean t (at + 3) ps) _ (parameters_few t t (at + 3) ps (record { locals = omega arith; labels = refl })) (λ p kept.
-    next (FewBehind t) (OneHas OpFits (Room limits.Ops) n) (locals_mean p.0 (p.1 + 2) ls) _ (locals_few t p.0 (p.1 + 2) ls kept) (λ l fewer.
+    next (FewAfter t) (OneHas OpFits (Room limits.Ops) n) (parameters_mean t (at + 3) ps) _ (parameters_few t t (at + 3) ps (record { locals = omega arith; labels = refl })) (λ p kept.
+    next (FewAfter t) (OneHas OpFits (Room limits.Ops) n) (locals_mean p.0 (p.1 + 2) ls) _ (locals_few t p.0 (p.1 + 2) ls kept) (λ l fewer.
     let same : length l.0.labels ≡ length t.labels = ap length fewer.labels in
     next (StatementRead FewLabels StatementsFit) (OneHas OpFits (Room limits.Ops) n) (statements_mean lines l.0 false l.1 b) _ (statements_fit FewLabels label_fits lines l.0 false l.1 b (omega (arith, k.between.labels))) (λ body f.
     record { is = record { locals = fewer.locals; body = f.fits }; state = record { count = k.count; between = record { locals = refl; labels = f.state } } })))))

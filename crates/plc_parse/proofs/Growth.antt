@@ -6,7 +6,7 @@ use Rattle.plc_base.specs.declared.limits.What1.TheVariants as limits
 use Rattle.plc_base.specs.Names.{place_of}
 use Rattle.plc_lang.specs.declared.syntax.Op.{Op}
 use Rattle.plc_forms.specs.declared.rest.Rest.{Rest}
-use Rattle.plc_forms.specs.Views.{Behind}
+use Rattle.plc_forms.specs.Views.{After}
 use Rattle.plc_syntax.specs.Trees.{Text}
 use Rattle.plc_scope.specs.declared.scope.Scope.{Scope}
 use Rattle.plc_scope.specs.declared.binding.Binding.{Binding}
@@ -68,10 +68,10 @@ lists_then a b c g h = record { locals = h.locals ∙ g.locals; labels = h.label
 pub locals_then : (a b c : Scope) → GrowsByLocals a b → GrowsByLocals b c → GrowsByLocals a c
 locals_then a b c g h = record { locals = h.locals; names = omega (arith, g.names, h.names); limit = h.limit ∙ g.limit }
 
-pub within_then : (a b c : Rest) (n : ℕ) → Within a b → Behind b n c → Within a c
+pub within_then : (a b c : Rest) (n : ℕ) → Within a b → After b n c → Within a c
 within_then a b c n w h = record { end = omega (arith, w.end, h.at, h.tokens) }
 
-pub left_then : (total : ℕ) (b c : Rest) (n : ℕ) → IsLeftOf total b → Behind b n c → IsLeftOf total c
+pub left_then : (total : ℕ) (b c : Rest) (n : ℕ) → IsLeftOf total b → After b n c → IsLeftOf total c
 left_then total b c n w h = record { end = omega (arith, w.end, h.at, h.tokens) }
 
 -- what is in a list with one more is in the list, or is the one more

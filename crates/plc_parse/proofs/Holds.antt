@@ -22,9 +22,9 @@ pub record EachHas {Y : Type 0} (P : Y → Type 0) (State : ℕ → Scope → Ty
   pub state : State (n + length r.0) r.1
 
 -- a declaration that is one name
-pub one_name : {Y : Type 0} (P : Y → Type 0) (State : ℕ → Scope → Type 0) (n : ℕ) (what : What1) (s : Scope) (name : Text) (at : ℕ) (b : Binding) (y : Y) (behind : ℕ)
-    → P y → ((n == most what) ≡ false → Has (State (n + 1)) (declared s name at b)) → Has (OneHas P State n) (within_limit n what (declared s name at b >>= λ t. Ok (y, t, behind)))
-one_name P State n what s name at b y behind is h = unless (OneHas P State n) (n == most what) _ _ (λ few. next (State (n + 1)) (OneHas P State n) (declared s name at b) _ (h few) (λ t k. record { is = is; state = k }))
+pub one_name : {Y : Type 0} (P : Y → Type 0) (State : ℕ → Scope → Type 0) (n : ℕ) (what : What1) (s : Scope) (name : Text) (at : ℕ) (b : Binding) (y : Y) (after : ℕ)
+    → P y → ((n == most what) ≡ false → Has (State (n + 1)) (declared s name at b)) → Has (OneHas P State n) (within_limit n what (declared s name at b >>= λ t. Ok (y, t, after)))
+one_name P State n what s name at b y after is h = unless (OneHas P State n) (n == most what) _ _ (λ few. next (State (n + 1)) (OneHas P State n) (declared s name at b) _ (h few) (λ t k. record { is = is; state = k }))
 
 each_of : {Y : Type 0} (P : Y → Type 0) (y : Y) (ys : List Y) → P y → ((k : ℕ) (z : Y) → slice_get ys k ≡ Some z → P z) → (k : ℕ) (z : Y) → slice_get (y ∷ ys) k ≡ Some z → P z
 each_of P y ys h others zero z e = let same : y ≡ z = cc in subst P same h

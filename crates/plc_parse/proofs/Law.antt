@@ -51,24 +51,24 @@ functions_read s at fs rest e = listed_read function_of (judged function_means) 
 -- ---- auxiliary fields
 
 module _ (g : ℕ) (rest : List TokenKind) where
-  abbrev values_behind : List ℕ → Result (List ℕ × Scope × ℕ) ParseFault → ReadTo (List ℕ × Scope × ℕ)
-  values_behind ys r = r >>= λ others. Ok ((ys ++ others.0, others.1, others.2), Symbol CloseBrace ∷ rest)
+  abbrev values_after : List ℕ → Result (List ℕ × Scope × ℕ) ParseFault → ReadTo (List ℕ × Scope × ℕ)
+  values_after ys r = r >>= λ others. Ok ((ys ++ others.0, others.1, others.2), Symbol CloseBrace ∷ rest)
 
-  regroup_values : (ys : List ℕ) (y : ℕ) (r : Result (List ℕ × Scope × ℕ) ParseFault) → values_behind (ys ++ y ∷ []) r ≡ values_behind ys (r >>= λ others. Ok (y ∷ others.0, others.1, others.2))
+  regroup_values : (ys : List ℕ) (y : ℕ) (r : Result (List ℕ × Scope × ℕ) ParseFault) → values_after (ys ++ y ∷ []) r ≡ values_after ys (r >>= λ others. Ok (y ∷ others.0, others.1, others.2))
   regroup_values ys y (Ok r) = ap (λ (zs : List ℕ). Ok ((zs, r.1, r.2), Symbol CloseBrace ∷ rest)) (append_assoc ys (y ∷ []) r.0)
   regroup_values ys y (Err e) = refl
 
   next_value : (ys : List ℕ) (at : ℕ) (names : List Text) (m : Result (ℕ × Scope) ParseFault)
-      → ((zs : List ℕ) (s : Scope) (p : ℕ) → values_in g (zs, s, p) (each_then comma_name_then names (Symbol CloseBrace ∷ rest)) ≡ values_behind zs (values_mean s g (length zs) p names))
+      → ((zs : List ℕ) (s : Scope) (p : ℕ) → values_in g (zs, s, p) (each_then comma_name_then names (Symbol CloseBrace ∷ rest)) ≡ values_after zs (values_mean s g (length zs) p names))
       → ((m >>= λ v. Ok (ys ++ v.0 ∷ [], v.1, at)) >>= λ t. values_in g t (each_then comma_name_then names (Symbol CloseBrace ∷ rest)))
-      ≡ values_behind ys (m >>= λ first. values_mean first.1 g (length ys + 1) at names >>= λ others. Ok (first.0 ∷ others.0, others.1, others.2))
+      ≡ values_after ys (m >>= λ first. values_mean first.1 g (length ys + 1) at names >>= λ others. Ok (first.0 ∷ others.0, others.1, others.2))
   next_value ys at names (Err e) again = refl
   next_value ys at names (Ok v) again =
       again (ys ++ v.0 ∷ []) v.1 at
-      ∙ ap (λ (n : ℕ). values_behind (ys ++ v.0 ∷ []) (values_mean v.1 g n at names)) (length-append ys (v.0 ∷ []))
+      ∙ ap (λ (n : ℕ). values_after (ys ++ v.0 ∷ []) (values_mean v.1 g n at names)) (length-append ys (v.0 ∷ []))
       ∙ regroup_values ys v.0 (values_mean v.1 g (length ys + 1) at names)
 
-  values_read : (ys : List ℕ) (s : Scope) (at : ℕ) (names : List Text) → values_in g (ys, s, at) (each_then comma_name_then names (Symbol CloseBrace ∷ rest)) ≡ values_behind ys (values_mean s g (length ys) at names)
+  values_read : (ys : List ℕ) (s : Scope) (at : ℕ) (names : List Text) → values_in g (ys, s, at) (each_then comma_name_then names (Symbol CloseBrace ∷ rest)) ≡ values_after ys (values_mean s g (length ys) at names)
   values_read ys s at [] = each_ends comma_name_of (value_step g) comma_name_shrinks (ys, s, at) (Symbol CloseBrace ∷ rest) refl ∙ ap (λ (zs : List ℕ). Ok ((zs, s, at), Symbol CloseBrace ∷ rest)) (sym (append-nil ys))
   values_read ys s at (name ∷ names) =
       each_goes comma_name_of (value_step g) comma_name_shrinks (ys, s, at) _ (name, each_then comma_name_then names (Symbol CloseBrace ∷ rest)) (comma_name_reads name (each_then comma_name_then names (Symbol CloseBrace ∷ rest)))
@@ -77,17 +77,17 @@ module _ (g : ℕ) (rest : List TokenKind) where
 abbrev ghost_front : GhostTree → Text
 ghost_front (Auxiliary n k) = n
 
-abbrev behind_ghost : GhostTree → List TokenKind → List TokenKind
-behind_ghost (Auxiliary n k) rest = ghost_kind_then k (Symbol Semicolon ∷ rest)
+abbrev after_ghost : GhostTree → List TokenKind → List TokenKind
+after_ghost (Auxiliary n k) rest = ghost_kind_then k (Symbol Semicolon ∷ rest)
 
-ghost_begins : (g : GhostTree) (rest : List TokenKind) → ghost_of (ghost_then g rest) ≡ Some (ghost_front g, behind_ghost g rest)
+ghost_begins : (g : GhostTree) (rest : List TokenKind) → ghost_of (ghost_then g rest) ≡ Some (ghost_front g, after_ghost g rest)
 ghost_begins (Auxiliary n k) rest = refl
 
 ghost_limit : (s : Scope) (at : ℕ) (g : GhostTree) → IsFault (ghost_means s 4 at g)
 ghost_limit s at (Auxiliary n OfThreads) = tt
 ghost_limit s at (Auxiliary n (OneOf v vs)) = tt
 
-ghost_read : (s : Scope) (n at : ℕ) (g : GhostTree) (rest : List TokenKind) → ghost_in s n at (ghost_front g) (behind_ghost g rest) ≡ (ghost_means s n at g >>= λ r. Ok (r, rest))
+ghost_read : (s : Scope) (n at : ℕ) (g : GhostTree) (rest : List TokenKind) → ghost_in s n at (ghost_front g) (after_ghost g rest) ≡ (ghost_means s n at g >>= λ r. Ok (r, rest))
 unfolding ghost_in of_threads_in of_values_in all_values_in
 ghost_read s n at (Auxiliary name OfThreads) rest = limit_within (n == most limits.Ghosts) _ _ _ _ (bind_within (declared s name (at + 1) (AuxiliaryBinding n true)) _ _ _ (λ t. refl))
 ghost_read s n at (Auxiliary name (OneOf v vs)) rest =
@@ -102,7 +102,7 @@ ghost_read s n at (Auxiliary name (OneOf v vs)) rest =
     us = each_then comma_name_then vs (Symbol CloseBrace ∷ Symbol Semicolon ∷ rest)
 
 ghosts_read : (s : Scope) (at : ℕ) (gs : List GhostTree) (rest : List TokenKind) → ghost_of rest ≡ None → ghosts_in s at (each_then ghost_then gs rest) ≡ (listed ghost_means s 0 at gs >>= λ r. Ok (r, rest))
-ghosts_read s at gs rest e = listed_read ghost_of ghost_in 4 ghost_means ghost_then ghost_front behind_ghost ghost_begins ghost_read ghost_limit s at gs rest e
+ghosts_read s at gs rest e = listed_read ghost_of ghost_in 4 ghost_means ghost_then ghost_front after_ghost ghost_begins ghost_read ghost_limit s at gs rest e
 
 -- ---- the locals of an operation
 
@@ -138,17 +138,17 @@ all_locals_read s at ps ls rest e =
 abbrev op_front : OpTree → Text
 op_front (Operates n ps ls b) = n
 
-abbrev behind_op : OpTree → List TokenKind → List TokenKind
-behind_op (Operates n ps ls b) rest = parameters_then ps (Symbol CloseParen ∷ Symbol OpenBrace ∷ each_then field_then ls (statements_then b (Symbol CloseBrace ∷ rest)))
+abbrev after_op : OpTree → List TokenKind → List TokenKind
+after_op (Operates n ps ls b) rest = parameters_then ps (Symbol CloseParen ∷ Symbol OpenBrace ∷ each_then field_then ls (statements_then b (Symbol CloseBrace ∷ rest)))
 
-op_begins : (o : OpTree) (rest : List TokenKind) → head_of (op_then o rest) ≡ Some (op_front o, behind_op o rest)
+op_begins : (o : OpTree) (rest : List TokenKind) → head_of (op_then o rest) ≡ Some (op_front o, after_op o rest)
 op_begins (Operates n ps ls b) rest = refl
 
 module _ (lines : List ℕ) where
   op_limit : (s : Scope) (at : ℕ) (o : OpTree) → IsFault (op_means lines s 32 at o)
   op_limit s at (Operates n ps ls b) = tt
 
-  op_read : (s : Scope) (n at : ℕ) (o : OpTree) (rest : List TokenKind) → op_in lines s n at (op_front o) (behind_op o rest) ≡ (op_means lines s n at o >>= λ r. Ok (r, rest))
+  op_read : (s : Scope) (n at : ℕ) (o : OpTree) (rest : List TokenKind) → op_in lines s n at (op_front o) (after_op o rest) ≡ (op_means lines s n at o >>= λ r. Ok (r, rest))
   unfolding op_in
   op_read s n at (Operates name ps ls b) rest =
       limit_within (n == most limits.Ops) _ _ _ _ (bind_within (declared s name (at + 1) Taken) _ _ _ (λ t.
@@ -166,7 +166,7 @@ module _ (lines : List ℕ) where
       op_of t body = record { name = length s.names.names; locals = t.locals; body = body; line = line_at lines at }
 
   ops_read : (s : Scope) (at : ℕ) (os : List OpTree) (rest : List TokenKind) → head_of rest ≡ None → ops_in lines s at (each_then op_then os rest) ≡ (listed (op_means lines) s 0 at os >>= λ r. Ok (r, rest))
-  ops_read s at os rest e = listed_read head_of (op_in lines) 32 (op_means lines) op_then op_front behind_op op_begins op_read op_limit s at os rest e
+  ops_read s at os rest e = listed_read head_of (op_in lines) 32 (op_means lines) op_then op_front after_op op_begins op_read op_limit s at os rest e
 
 -- ---- the file
 
@@ -221,57 +221,57 @@ file_read lines f =
     parts_in_order lines (file_tokens f)
     ∙ bind_joins (declared first_scope f.name 1 Taken) _ _
     ∙ bind_same (declared first_scope f.name 1 Taken) _ _ (λ s.
-    bind_joins (fields_in s 3 (each_then field_then f.fields (Symbol CloseBrace ∷ behind_fields))) _ _
-    ∙ read_same (fields_in s 3 (each_then field_then f.fields (Symbol CloseBrace ∷ behind_fields))) (listed field_means s 0 3 f.fields) (λ r. Ok (r, Symbol CloseBrace ∷ behind_fields)) _ _ (fields_read s 3 f.fields behind_fields) (λ fields.
-    bind_joins (shared_in fields.1 (fields.2 + 1) behind_fields) _ _
-    ∙ read_same (shared_in fields.1 (fields.2 + 1) behind_fields) (listed shared_means fields.1 0 (fields.2 + 1) f.pointers) (λ r. Ok (r, behind_shared)) _ _ (shared_read fields.1 (fields.2 + 1) f.pointers behind_shared no_shared) (λ pointers.
-    bind_joins (functions_in pointers.1 pointers.2 behind_shared) _ _
-    ∙ read_same (functions_in pointers.1 pointers.2 behind_shared) (listed function_means pointers.1 0 pointers.2 f.functions) (λ r. Ok (r, behind_functions)) _ _ (functions_read pointers.1 pointers.2 f.functions behind_functions no_function) (λ functions.
-    read_same (watch_in functions.1 functions.2 behind_functions) (watch_means functions.1 functions.2 f.watched) (λ r. Ok (r, behind_watched)) _ _ (watch_read functions.1 functions.2 f.watched behind_watched no_watch) (λ observer.
-    read_same (ghosts_in functions.1 observer.1 behind_watched) (listed ghost_means functions.1 0 observer.1 f.ghosts) (λ r. Ok (r, behind_ghosts)) _ _ (ghosts_read functions.1 observer.1 f.ghosts behind_ghosts no_ghost) (λ ghosts.
-    read_same (init_in ghosts.1 ghosts.2 behind_ghosts) (init_means ghosts.1 ghosts.2 f.starts) (λ r. Ok (r, behind_starts)) _ _ (init_read ghosts.1 ghosts.2 f.starts behind_starts no_init) (λ starts.
-    read_same (ops_in lines ghosts.1 starts.1 behind_starts) (listed (op_means lines) ghosts.1 0 starts.1 f.ops) (λ r. Ok (r, behind_ops)) _ _ (ops_read lines ghosts.1 starts.1 f.ops behind_ops no_op) (λ ops.
+    bind_joins (fields_in s 3 (each_then field_then f.fields (Symbol CloseBrace ∷ after_fields))) _ _
+    ∙ read_same (fields_in s 3 (each_then field_then f.fields (Symbol CloseBrace ∷ after_fields))) (listed field_means s 0 3 f.fields) (λ r. Ok (r, Symbol CloseBrace ∷ after_fields)) _ _ (fields_read s 3 f.fields after_fields) (λ fields.
+    bind_joins (shared_in fields.1 (fields.2 + 1) after_fields) _ _
+    ∙ read_same (shared_in fields.1 (fields.2 + 1) after_fields) (listed shared_means fields.1 0 (fields.2 + 1) f.pointers) (λ r. Ok (r, after_shared)) _ _ (shared_read fields.1 (fields.2 + 1) f.pointers after_shared no_shared) (λ pointers.
+    bind_joins (functions_in pointers.1 pointers.2 after_shared) _ _
+    ∙ read_same (functions_in pointers.1 pointers.2 after_shared) (listed function_means pointers.1 0 pointers.2 f.functions) (λ r. Ok (r, after_functions)) _ _ (functions_read pointers.1 pointers.2 f.functions after_functions no_function) (λ functions.
+    read_same (watch_in functions.1 functions.2 after_functions) (watch_means functions.1 functions.2 f.watched) (λ r. Ok (r, after_watched)) _ _ (watch_read functions.1 functions.2 f.watched after_watched no_watch) (λ observer.
+    read_same (ghosts_in functions.1 observer.1 after_watched) (listed ghost_means functions.1 0 observer.1 f.ghosts) (λ r. Ok (r, after_ghosts)) _ _ (ghosts_read functions.1 observer.1 f.ghosts after_ghosts no_ghost) (λ ghosts.
+    read_same (init_in ghosts.1 ghosts.2 after_ghosts) (init_means ghosts.1 ghosts.2 f.starts) (λ r. Ok (r, after_starts)) _ _ (init_read ghosts.1 ghosts.2 f.starts after_starts no_init) (λ starts.
+    read_same (ops_in lines ghosts.1 starts.1 after_starts) (listed (op_means lines) ghosts.1 0 starts.1 f.ops) (λ r. Ok (r, after_ops)) _ _ (ops_read lines ghosts.1 starts.1 f.ops after_ops no_op) (λ ops.
     ap (λ r. r >>= λ outline. Ok (record { file = file_from fields.0 pointers.0 functions.0 ghosts.0 starts.0 ops.0 ops.1; observer = observer.0; outline = outline })) (outlined_read ops.1 ops.0 ops.2 f.outlined)))))))))
   where
-    behind_ops : List TokenKind
-    behind_ops = outline_end f.outlined
+    after_ops : List TokenKind
+    after_ops = outline_end f.outlined
 
-    behind_starts : List TokenKind
-    behind_starts = ops_end f.ops f.outlined
+    after_starts : List TokenKind
+    after_starts = ops_end f.ops f.outlined
 
-    behind_ghosts : List TokenKind
-    behind_ghosts = starts_end f.starts f.ops f.outlined
+    after_ghosts : List TokenKind
+    after_ghosts = starts_end f.starts f.ops f.outlined
 
-    behind_watched : List TokenKind
-    behind_watched = ghosts_end f.ghosts f.starts f.ops f.outlined
+    after_watched : List TokenKind
+    after_watched = ghosts_end f.ghosts f.starts f.ops f.outlined
 
-    behind_functions : List TokenKind
-    behind_functions = watched_end f.watched f.ghosts f.starts f.ops f.outlined
+    after_functions : List TokenKind
+    after_functions = watched_end f.watched f.ghosts f.starts f.ops f.outlined
 
-    behind_shared : List TokenKind
-    behind_shared = each_then function_then f.functions behind_functions
+    after_shared : List TokenKind
+    after_shared = each_then function_then f.functions after_functions
 
-    behind_fields : List TokenKind
-    behind_fields = each_then shared_then f.pointers behind_shared
+    after_fields : List TokenKind
+    after_fields = each_then shared_then f.pointers after_shared
 
-    no_op : head_of behind_ops ≡ None
+    no_op : head_of after_ops ≡ None
     no_op = not_at_outline head_of refl (λ ts. refl) f.outlined
 
-    no_init : init_of behind_starts ≡ None
+    no_init : init_of after_starts ≡ None
     no_init = not_at_ops init_of refl (λ ts. refl) (λ ts. refl) f.ops f.outlined
 
-    no_ghost : ghost_of behind_ghosts ≡ None
+    no_ghost : ghost_of after_ghosts ≡ None
     no_ghost = not_at_starts ghost_of refl (λ ts. refl) (λ ts. refl) (λ ts. refl) f.starts f.ops f.outlined
 
-    no_watch : watch_of behind_watched ≡ None
+    no_watch : watch_of after_watched ≡ None
     no_watch = not_at_ghosts watch_of refl (λ ts. refl) (λ ts. refl) (λ ts. refl) (λ ts. refl) f.ghosts f.starts f.ops f.outlined
 
-    no_function : function_of behind_functions ≡ None
+    no_function : function_of after_functions ≡ None
     no_function = not_at_watched function_of refl (λ ts. refl) (λ ts. refl) (λ ts. refl) (λ ts. refl) (λ ts. refl) f.watched f.ghosts f.starts f.ops f.outlined
 
-    shared_list : (fs : List FunctionTree) → shared_of (each_then function_then fs behind_functions) ≡ None
+    shared_list : (fs : List FunctionTree) → shared_of (each_then function_then fs after_functions) ≡ None
     shared_list [] = not_at_watched shared_of refl (λ ts. refl) (λ ts. refl) (λ ts. refl) (λ ts. refl) (λ ts. refl) f.watched f.ghosts f.starts f.ops f.outlined
     shared_list (Declares n p ∷ fs) = refl
 
-    no_shared : shared_of behind_shared ≡ None
+    no_shared : shared_of after_shared ≡ None
     no_shared = shared_list f.functions

@@ -3,7 +3,7 @@ use Rattle.std.proofs.Common.{◌≡◌, ◌+◌, ℕ, ◌<◌, List, length, Op
 use Rattle.plc_lex.specs.declared.token.TokenKind.{TokenKind}
 use Rattle.plc_syntax.specs.Syntax.{kinds}
 use Rattle.plc_forms.specs.declared.rest.Rest.{Rest}
-use Rattle.plc_forms.specs.Views.{Behind}
+use Rattle.plc_forms.specs.Views.{After}
 use Rattle.plc_scope.specs.declared.fault.ParseFault.{ParseFault}
 use Rattle.plc_scope.specs.declared.scope.Scope.{Scope}
 use Rattle.plc_scope.specs.Answers.{GrowsByLocals, Within}
@@ -22,12 +22,12 @@ pub record LocalsRead (reads : Scope × ℕ → List TokenKind → ReadTo (Scope
 module _ {X : Type 0} (item : List TokenKind → Option (X × List TokenKind)) (step : Scope × ℕ → X → Result (Scope × ℕ) ParseFault)
     (shrinks : (ts : List TokenKind) (x : X × List TokenKind) → item ts ≡ Some x → length x.1 < length ts) where
   -- one form more, which takes so many tokens
-  pub locals_turn : (old now later : Scope) (start rest behind : Rest) (form : X) (size : ℕ) → LocalsRead (each item step) old start now rest
-      → item (kinds rest.tokens.now) ≡ Some (form, kinds behind.tokens.now) → Behind rest size behind → step (now, rest.at) form ≡ Ok (later, rest.at + size)
-      → GrowsByLocals now later → later.labels ≡ now.labels → LocalsRead (each item step) old start later behind
-  locals_turn old now later start rest behind form size h is b turns names labels = record {
+  pub locals_turn : (old now later : Scope) (start rest after : Rest) (form : X) (size : ℕ) → LocalsRead (each item step) old start now rest
+      → item (kinds rest.tokens.now) ≡ Some (form, kinds after.tokens.now) → After rest size after → step (now, rest.at) form ≡ Ok (later, rest.at + size)
+      → GrowsByLocals now later → later.labels ≡ now.labels → LocalsRead (each item step) old start later after
+  locals_turn old now later start rest after form size h is b turns names labels = record {
     names = locals_then _ _ _ h.names names;
     labels = labels ∙ h.labels;
     place = within_then _ _ _ size h.place b;
-    read = rw b.at (sym (each_turns item step shrinks (now, rest.at) (later, rest.at + size) (kinds rest.tokens.now) (form, kinds behind.tokens.now) is turns) ∙ h.read);
+    read = rw b.at (sym (each_turns item step shrinks (now, rest.at) (later, rest.at + size) (kinds rest.tokens.now) (form, kinds after.tokens.now) is turns) ∙ h.read);
   }

@@ -269,25 +269,25 @@ module _ (lines : List ℕ) (h : Shape) where
 -- ---- locals
 
 -- this holds of all that names stand for, and the place after it
-abbrev pub BoundBehind : (Binding → Type 0) → Scope × ℕ → Type 0
-BoundBehind P b = Bound P b.0
+abbrev pub BoundAfter : (Binding → Type 0) → Scope × ℕ → Type 0
+BoundAfter P b = Bound P b.0
 
 module _ (P : Binding → Type 0) (of_local : P LocalOnly) where
-  others_bound : (s : Scope) (at : ℕ) (names : List Text) → Bound P s → Has (BoundBehind P) (others_mean s at names)
+  others_bound : (s : Scope) (at : ℕ) (names : List Text) → Bound P s → Has (BoundAfter P) (others_mean s at names)
   others_bound s at [] b = b
-  others_bound s at (n ∷ ns) b = next (Bound P) (BoundBehind P) (declared_parameter s n (at + 1)) _ (parameter_bound P of_local s n (at + 1) b) (λ t c. others_bound t (at + 2) ns c)
+  others_bound s at (n ∷ ns) b = next (Bound P) (BoundAfter P) (declared_parameter s n (at + 1)) _ (parameter_bound P of_local s n (at + 1) b) (λ t c. others_bound t (at + 2) ns c)
 
-  pub parameters_bound : (s : Scope) (at : ℕ) (names : List Text) → Bound P s → Has (BoundBehind P) (parameters_mean s at names)
+  pub parameters_bound : (s : Scope) (at : ℕ) (names : List Text) → Bound P s → Has (BoundAfter P) (parameters_mean s at names)
   parameters_bound s at [] b = b
-  parameters_bound s at (n ∷ ns) b = next (Bound P) (BoundBehind P) (declared_parameter s n at) _ (parameter_bound P of_local s n at b) (λ t c. others_bound t (at + 1) ns c)
+  parameters_bound s at (n ∷ ns) b = next (Bound P) (BoundAfter P) (declared_parameter s n at) _ (parameter_bound P of_local s n at b) (λ t c. others_bound t (at + 1) ns c)
 
   one_local_bound : (s : Scope) (at : ℕ) (l : FieldTree) → Bound P s → Has (Bound P) (local_means s at l)
   one_local_bound s at (PointerFieldTree name) b = local_bound P of_local s name (at + 1) true b
   one_local_bound s at (DataFieldTree name) b = local_bound P of_local s name (at + 1) false b
 
-  pub locals_bound : (s : Scope) (at : ℕ) (ls : List FieldTree) → Bound P s → Has (BoundBehind P) (locals_mean s at ls)
+  pub locals_bound : (s : Scope) (at : ℕ) (ls : List FieldTree) → Bound P s → Has (BoundAfter P) (locals_mean s at ls)
   locals_bound s at [] b = b
-  locals_bound s at (l ∷ ls) b = next (Bound P) (BoundBehind P) (local_means s at l) _ (one_local_bound s at l b) (λ t c. locals_bound t (at + 3) ls c)
+  locals_bound s at (l ∷ ls) b = next (Bound P) (BoundAfter P) (local_means s at l) _ (one_local_bound s at l b) (λ t c. locals_bound t (at + 3) ls c)
 
 -- ---- declarations
 
@@ -351,8 +351,8 @@ module _ (shared fields : ℕ) where
   op_in : (lines : List ℕ) (s : Scope) (n at : ℕ) (o : OpTree) → Reaches h s → Has (OneHas OpIn Stays n) (op_means lines s n at o)
   op_in lines s n at (Operates name ps ls b) r = unless (OneHas OpIn Stays n) (n == most limits.Ops) _ _ (λ few.
       next (Reaches h) (OneHas OpIn Stays n) (declared s name (at + 1) Taken) _ (declared_reaches h s name (at + 1) Taken tt r) (λ t k.
-      next (BoundBehind (BindingIn shared fields)) (OneHas OpIn Stays n) (parameters_mean t (at + 3) ps) _ (parameters_bound (BindingIn shared fields) tt t (at + 3) ps k.bound) (λ p c.
-      next (BoundBehind (BindingIn shared fields)) (OneHas OpIn Stays n) (locals_mean p.0 (p.1 + 2) ls) _ (locals_bound (BindingIn shared fields) tt p.0 (p.1 + 2) ls c) (λ l d.
+      next (BoundAfter (BindingIn shared fields)) (OneHas OpIn Stays n) (parameters_mean t (at + 3) ps) _ (parameters_bound (BindingIn shared fields) tt t (at + 3) ps k.bound) (λ p c.
+      next (BoundAfter (BindingIn shared fields)) (OneHas OpIn Stays n) (locals_mean p.0 (p.1 + 2) ls) _ (locals_bound (BindingIn shared fields) tt p.0 (p.1 + 2) ls c) (λ l d.
       let here : Shape = inside shared fields l.0.locals in
       next (ManyRead lines here) (OneHas OpIn Stays n) (statements_mean lines l.0 false l.1 b) _ (statements_in lines here l.0 false l.1 b (record { bound = d; pointers = omega arith; values = omega arith })) (λ body f.
       record { is = f.is; state = record { bound = f.reaches.bound; pointers = omega arith; values = omega arith } })))))

@@ -32,7 +32,7 @@ use Rattle.plc_parse.specs.Growth.{KeepsLists}
 use Rattle.plc_parse.specs.Meaning.{counted, before, allocates, count_of, forms_mean, atomic_means, one_or_skip, label_means, during_means, statement_means, statements_mean, else_means, or_means, others_mean, parameters_mean, local_means, locals_mean, op_means, line_at}
 use Rattle.plc_parse.proofs.Fits.{LabelRead, StatementRead as Fitting, statements_fit, Kept, number_keeps}
 use Rattle.plc_parse.proofs.Holds.{OneOn}
-use Rattle.plc_parse.proofs.Naming.{BoundBehind, parameters_bound, locals_bound}
+use Rattle.plc_parse.proofs.Naming.{BoundAfter, parameters_bound, locals_bound}
 use Rattle.plc_parse.proofs.There.{Lists, IsThere, AllThere, lists_of, Named, named}
 use Rattle.plc_parse.proofs.Numbering.{Numbered, nothing, joined, LabelsRead, many_numbered, labels_push}
 use Rattle.plc_parse.proofs.Sorted.{IsOf, every_kind, MaybePlain, primitive_sorted, condition_sorted, MaybeInitial, initial_sorted, IsCall, call_sorted}
@@ -236,27 +236,27 @@ headed s t h = record {
   labels = h.labels;
 }
 
-abbrev HeadsBehind : Scope → Scope × ℕ → Type 0
-HeadsBehind s r = Heads s r.0
+abbrev HeadsAfter : Scope → Scope × ℕ → Type 0
+HeadsAfter s r = Heads s r.0
 
-abbrev pub HeadedBehind : Scope → Scope × ℕ → Type 0
-HeadedBehind s r = Headed s r.0
+abbrev pub HeadedAfter : Scope → Scope × ℕ → Type 0
+HeadedAfter s r = Headed s r.0
 
-others_head : (s t : Scope) (at : ℕ) (names : List Text) → Heads s t → Has (HeadsBehind s) (others_mean t at names)
+others_head : (s t : Scope) (at : ℕ) (names : List Text) → Heads s t → Has (HeadsAfter s) (others_mean t at names)
 others_head s t at [] h = h
-others_head s t at (n ∷ ns) h = next (AddsLocal t false true) (HeadsBehind s) (declared_parameter t n (at + 1)) _ (parameter_adds t n (at + 1)) (λ u a. others_head s u (at + 2) ns (heads_on s t u h a))
+others_head s t at (n ∷ ns) h = next (AddsLocal t false true) (HeadsAfter s) (declared_parameter t n (at + 1)) _ (parameter_adds t n (at + 1)) (λ u a. others_head s u (at + 2) ns (heads_on s t u h a))
 
-parameters_head : (s t : Scope) (at : ℕ) (names : List Text) → Heads s t → Has (HeadsBehind s) (parameters_mean t at names)
+parameters_head : (s t : Scope) (at : ℕ) (names : List Text) → Heads s t → Has (HeadsAfter s) (parameters_mean t at names)
 parameters_head s t at [] h = h
-parameters_head s t at (n ∷ ns) h = next (AddsLocal t false true) (HeadsBehind s) (declared_parameter t n at) _ (parameter_adds t n at) (λ u a. others_head s u (at + 1) ns (heads_on s t u h a))
+parameters_head s t at (n ∷ ns) h = next (AddsLocal t false true) (HeadsAfter s) (declared_parameter t n at) _ (parameter_adds t n at) (λ u a. others_head s u (at + 1) ns (heads_on s t u h a))
 
 local_headed : (s t : Scope) (at : ℕ) (l : FieldTree) → Headed s t → Has (Headed s) (local_means t at l)
 local_headed s t at (PointerFieldTree name) h = weaker (AddsLocal t true false) (Headed s) (declared_local t name (at + 1) true) (λ u a. headed_on s t u true h a) (local_adds t name (at + 1) true)
 local_headed s t at (DataFieldTree name) h = weaker (AddsLocal t false false) (Headed s) (declared_local t name (at + 1) false) (λ u a. headed_on s t u false h a) (local_adds t name (at + 1) false)
 
-locals_headed : (s t : Scope) (at : ℕ) (ls : List FieldTree) → Headed s t → Has (HeadedBehind s) (locals_mean t at ls)
+locals_headed : (s t : Scope) (at : ℕ) (ls : List FieldTree) → Headed s t → Has (HeadedAfter s) (locals_mean t at ls)
 locals_headed s t at [] h = h
-locals_headed s t at (l ∷ ls) h = next (Headed s) (HeadedBehind s) (local_means t at l) _ (local_headed s t at l h) (λ u k. locals_headed s u (at + 3) ls k)
+locals_headed s t at (l ∷ ls) h = next (Headed s) (HeadedAfter s) (local_means t at l) _ (local_headed s t at l h) (λ u k. locals_headed s u (at + 3) ls k)
 
 -- ---- operations, whatever else the file has
 
@@ -277,13 +277,13 @@ module _ (d : Lists) where
   OpSorted o = (w : With d) → OpIsWellSorted w.0 o
 
   -- after these operations
-  pub record BehindOps (ops : List Op) (s : Scope) : Type 0 where
+  pub record AfterOps (ops : List Op) (s : Scope) : Type 0 where
     pub there : AllThere d s
     pub locals : s.locals ≡ []
     pub numbered : Numbered 0 (length s.labels) (concat (labels_by_op ops))
 
   abbrev pub OneOp : List Op → Op × Scope × ℕ → Type 0
-  OneOp = OneOn OpSorted BehindOps
+  OneOp = OneOn OpSorted AfterOps
 
   -- its statements in each file, and what is after them
   record Body (from : Scope) (r : Statements × Scope × ℕ) : Type 0 where
@@ -306,17 +306,17 @@ module _ (d : Lists) where
 
   -- the locals that were declared, and what names stand for after them
   record LocalsRead (from : Scope) (r : Scope × ℕ) : Type 0 where
-    headed : HeadedBehind from r
+    headed : HeadedAfter from r
     there : AllThere d r.0
 
   locals_read : (s : Scope) (at : ℕ) (ps : List Text) (ls : List FieldTree) → AllThere d s → s.locals ≡ []
       → Has (LocalsRead s) (parameters_mean s at ps >>= λ p. locals_mean p.0 (p.1 + 2) ls)
   locals_read s at ps ls h none =
-      next (λ p. HeadsBehind s p × BoundBehind (IsThere d) p) (LocalsRead s) (parameters_mean s at ps) _
-      (both (HeadsBehind s) (BoundBehind (IsThere d)) (parameters_mean s at ps) (parameters_head s s at ps (no_locals s none)) (parameters_bound (IsThere d) tt s at ps h)) (λ p k.
+      next (λ p. HeadsAfter s p × BoundAfter (IsThere d) p) (LocalsRead s) (parameters_mean s at ps) _
+      (both (HeadsAfter s) (BoundAfter (IsThere d)) (parameters_mean s at ps) (parameters_head s s at ps (no_locals s none)) (parameters_bound (IsThere d) tt s at ps h)) (λ p k.
       at_once (locals_mean p.0 (p.1 + 2) ls) (locals_headed s p.0 (p.1 + 2) ls (headed s p.0 k.0)) (locals_bound (IsThere d) tt p.0 (p.1 + 2) ls k.1))
     where
-      at_once : (r : Result (Scope × ℕ) ParseFault) → Has (HeadedBehind s) r → Has (BoundBehind (IsThere d)) r → Has (LocalsRead s) r
+      at_once : (r : Result (Scope × ℕ) ParseFault) → Has (HeadedAfter s) r → Has (BoundAfter (IsThere d)) r → Has (LocalsRead s) r
       at_once (Ok x) a b = record { headed = a; there = b }
       at_once (Err e) a b = tt
 
@@ -324,7 +324,7 @@ module _ (d : Lists) where
   joins P (Ok x) f g h = h
   joins P (Err e) f g h = tt
 
-  pub op_sorted : (lines : List ℕ) (ops : List Op) (s : Scope) (n at : ℕ) (o : OpTree) → BehindOps ops s → Has (OneOp ops) (op_means lines s n at o)
+  pub op_sorted : (lines : List ℕ) (ops : List Op) (s : Scope) (n at : ℕ) (o : OpTree) → AfterOps ops s → Has (OneOp ops) (op_means lines s n at o)
   op_sorted lines ops s n at (Operates name ps ls b) h = unless (OneOp ops) (n == most limits.Ops) _ _ (λ few.
       next (Named s Taken) (OneOp ops) (declared s name (at + 1) Taken) _ (named s name (at + 1) Taken) (λ t k.
       joins (OneOp ops) (parameters_mean t (at + 3) ps) _ _ (

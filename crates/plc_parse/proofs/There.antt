@@ -90,7 +90,7 @@ module _ {X Y : Type 0} (means : Scope → ℕ → ℕ → X → Result (Y × Sc
       record {
         keeps = kept_then f.keeps g.keeps;
         there = λ d there h.
-            g.there d (λ k y e. let behind : n + suc k ≡ n + 1 + k = omega arith in subst (λ m. There d m y) behind (there (suc k) y e))
+            g.there d (λ k y e. let after : n + suc k ≡ n + 1 + k = omega arith in subst (λ m. There d m y) after (there (suc k) y e))
             (f.there d (subst (λ m. There d m first.0) here (there 0 first.0 refl)) h);
       }))
 
@@ -106,9 +106,9 @@ named s name at b = new (place_of name s.names.names)
     new None = record { keeps = record { locals = refl; labels = refl }; there = λ d is h. All-push (IsThere d) s.bindings b h is }
     new (Some i) = tt
 
-pub one_there : {Y : Type 0} (There : Lists → ℕ → Y → Type 0) (n : ℕ) (what : What1) (s : Scope) (name : Text) (at : ℕ) (b : Binding) (y : Y) (behind : ℕ)
-    → ((d : Lists) → There d n y → IsThere d b) → Has (OneThere There s n) (within_limit n what (declared s name at b >>= λ t. Ok (y, t, behind)))
-one_there There n what s name at b y behind is = unless (OneThere There s n) (n == most what) _ _ (λ few.
+pub one_there : {Y : Type 0} (There : Lists → ℕ → Y → Type 0) (n : ℕ) (what : What1) (s : Scope) (name : Text) (at : ℕ) (b : Binding) (y : Y) (after : ℕ)
+    → ((d : Lists) → There d n y → IsThere d b) → Has (OneThere There s n) (within_limit n what (declared s name at b >>= λ t. Ok (y, t, after)))
+one_there There n what s name at b y after is = unless (OneThere There s n) (n == most what) _ _ (λ few.
     next (Named s b) (OneThere There s n) (declared s name at b) _ (named s name at b) (λ t f. record { keeps = f.keeps; there = λ d there h. f.there d (is d there) h }))
 
 abbrev pub FieldThere : Lists → ℕ → Field → Type 0
@@ -131,8 +131,8 @@ FunctionThere d n x = slice_get d.funcs (n + 1) ≡ Some x
 pub function_there : (s : Scope) (n at : ℕ) (f : FunctionTree) → Has (OneThere FunctionThere s n) (function_means s n at f)
 function_there s n at (Declares name p) = one_there FunctionThere n limits.Calls s name (at + 1) _ _ _ (λ d there. (_, there, refl))
 
-pub behind_retire : (fs : List Func) (k : ℕ) (f : Func) → slice_get fs k ≡ Some f → slice_get (retire ∷ fs) (0 + k + 1) ≡ Some f
-behind_retire fs k f e = let same : 0 + k + 1 ≡ suc k = omega arith in ap (slice_get (retire ∷ fs)) same ∙ e
+pub after_retire : (fs : List Func) (k : ℕ) (f : Func) → slice_get fs k ≡ Some f → slice_get (retire ∷ fs) (0 + k + 1) ≡ Some f
+after_retire fs k f e = let same : 0 + k + 1 ≡ suc k = omega arith in ap (slice_get (retire ∷ fs)) same ∙ e
 
 -- ---- auxiliary fields
 

@@ -31,10 +31,10 @@ module _ {H Y : Type 0} (head : List TokenKind → Option (H × List TokenKind))
     pub place : Within start rest
     pub read : listed_within head body (limit + 1 - length ys) (ys, s, rest.at) (kinds rest.tokens.now) ≡ listed_in head body limit first start.at (kinds start.tokens.now)
 
-  pub goes_on : (first : Scope) (start : Rest) (ys zs : List Y) (s t : Scope) (rest : Rest) (n : ℕ) (o : Option (Y × Rest)) (y : Y) (behind : Rest)
-      → n ≡ length ys → zs ≡ ys ++ y ∷ [] → o ≡ Some (y, behind) → TurnRead head body limit names s n rest (Ok o) t → Goes first start ys s rest → Goes first start zs t behind
-  goes_on first start ys zs s t rest n o y behind same pushed is turn so_far =
-      let one : OneListed head body limit names s (length ys) rest y behind t = subst (λ (k : ℕ). OneListed head body limit names s k rest y behind t) same (one_of s n rest o (y, behind) t is turn) in
+  pub goes_on : (first : Scope) (start : Rest) (ys zs : List Y) (s t : Scope) (rest : Rest) (n : ℕ) (o : Option (Y × Rest)) (y : Y) (after : Rest)
+      → n ≡ length ys → zs ≡ ys ++ y ∷ [] → o ≡ Some (y, after) → TurnRead head body limit names s n rest (Ok o) t → Goes first start ys s rest → Goes first start zs t after
+  goes_on first start ys zs s t rest n o y after same pushed is turn so_far =
+      let one : OneListed head body limit names s (length ys) rest y after t = subst (λ (k : ℕ). OneListed head body limit names s k rest y after t) same (one_of s n rest o (y, after) t is turn) in
       let count : length zs ≡ length ys + 1 = ap length pushed ∙ length-append ys (y ∷ []) in
       let few : length ys < limit = one.few in
       let more : limit + 1 - length ys ≡ suc (limit + 1 - length zs) = omega arith in
@@ -45,8 +45,8 @@ module _ {H Y : Type 0} (head : List TokenKind → Option (H × List TokenKind))
         grown = grows_then _ _ _ (names * length ys) names _ enough so_far.grown one.grows;
         lists = lists_then _ _ _ so_far.lists one.lists;
         place = record { end = omega (arith, one.place.end, so_far.place.end) };
-        read = ap (λ (ws : List Y). listed_within head body (limit + 1 - length zs) (ws, t, behind.at) (kinds behind.tokens.now)) pushed
-            ∙ sym (listed_turns head body (limit + 1 - length ys) (limit + 1 - length zs) (ys, s, rest.at) _ one.front ((y, t, behind.at), kinds behind.tokens.now) more one.begins one.read)
+        read = ap (λ (ws : List Y). listed_within head body (limit + 1 - length zs) (ws, t, after.at) (kinds after.tokens.now)) pushed
+            ∙ sym (listed_turns head body (limit + 1 - length ys) (limit + 1 - length zs) (ys, s, rest.at) _ one.front ((y, t, after.at), kinds after.tokens.now) more one.begins one.read)
             ∙ so_far.read;
       }
 

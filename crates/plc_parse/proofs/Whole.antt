@@ -24,10 +24,10 @@ use Rattle.plc_parse.specs.Growth.{KeepsLists}
 use Rattle.plc_parse.specs.Fit.{WatchesDeclared}
 use Rattle.plc_parse.specs.Meaning.{field_means, shared_means, function_means, ghost_means, listed, initials_mean, watch_means, init_means, op_means, outlined_means, file_means, file_from, retire}
 use Rattle.plc_parse.proofs.Holds.{EachOn, each_on}
-use Rattle.plc_parse.proofs.There.{Lists, AllThere, EachThere, each_there, kept_then, Named, named, FieldThere, field_there, SharedThere, shared_there, FunctionThere, function_there, behind_retire, GhostThere, ghost_there, first_there}
+use Rattle.plc_parse.proofs.There.{Lists, AllThere, EachThere, each_there, kept_then, Named, named, FieldThere, field_there, SharedThere, shared_there, FunctionThere, function_there, after_retire, GhostThere, ghost_there, first_there}
 use Rattle.plc_parse.proofs.Numbering.{Numbered, nothing, numbered_range}
 use Rattle.plc_parse.proofs.Sorted.{IsProtecting, IsWithoutPointer, protecting_there, without_pointer_there, initial_sorted}
-use Rattle.plc_parse.proofs.SortedBlocks.{Step, forms_sorted, each_sorted, none_other, With, there_with, OpSorted, BehindOps, op_sorted}
+use Rattle.plc_parse.proofs.SortedBlocks.{Step, forms_sorted, each_sorted, none_other, With, there_with, OpSorted, AfterOps, op_sorted}
 use Rattle.plc_parse.proofs.Outlined.{outlined_fits}
 
 -- ---- the observer and `init`
@@ -81,7 +81,7 @@ unit_whole lines f =
     next (EachThere FunctionThere pointers.1 0) IsWhole (listed function_means pointers.1 0 pointers.2 f.functions) _ (each_there function_means FunctionThere function_there pointers.1 0 pointers.2 f.functions) (λ functions c.
     let lists : List Ghost → Lists = λ gs. record { fields = fields.0; shared = pointers.0; funcs = retire ∷ functions.0; ghosts = gs } in
     let there : (gs : List Ghost) → AllThere (lists gs) functions.1 = λ gs.
-    c.there (lists gs) (behind_retire functions.0) (b.there (lists gs) (at_start pointers.0) (a.there (lists gs) (at_start fields.0) (first.there (lists gs) tt (first_there (lists gs) refl)))) in
+    c.there (lists gs) (after_retire functions.0) (b.there (lists gs) (at_start pointers.0) (a.there (lists gs) (at_start fields.0) (first.there (lists gs) tt (first_there (lists gs) refl)))) in
     next (Watched (lists [])) IsWhole (watch_means functions.1 functions.2 f.watched) _ (watch_there (lists []) functions.1 functions.2 f.watched (there [])) (λ observer watched.
     next (EachThere GhostThere functions.1 0) IsWhole (listed ghost_means functions.1 0 observer.1 f.ghosts) _ (each_there ghost_means GhostThere ghost_there functions.1 0 observer.1 f.ghosts) (λ ghosts g.
     let d : Lists = lists ghosts.0 in
@@ -89,8 +89,8 @@ unit_whole lines f =
     let kept : KeepsLists first_scope ghosts.1 = kept_then first.keeps (kept_then a.keeps (kept_then b.keeps (kept_then c.keeps g.keeps))) in
     let none : Numbered 0 (length ghosts.1.labels) [] = rw kept.labels nothing in
     next (Starts d) IsWhole (init_means ghosts.1 ghosts.2 f.starts) _ (starts_sorted d ghosts.1 ghosts.2 f.starts all) (λ starts i.
-    next (EachOn (OpSorted d) (BehindOps d) []) IsWhole (listed (op_means lines) ghosts.1 0 starts.1 f.ops) _
-    (each_on (op_means lines) (OpSorted d) (BehindOps d) (op_sorted d lines) [] ghosts.1 0 starts.1 f.ops (record { there = all; locals = kept.locals; numbered = none })) (λ ops o.
+    next (EachOn (OpSorted d) (AfterOps d) []) IsWhole (listed (op_means lines) ghosts.1 0 starts.1 f.ops) _
+    (each_on (op_means lines) (OpSorted d) (AfterOps d) (op_sorted d lines) [] ghosts.1 0 starts.1 f.ops (record { there = all; locals = kept.locals; numbered = none })) (λ ops o.
     let file : File = file_from fields.0 pointers.0 functions.0 ghosts.0 starts.0 ops.0 ops.1 in
     let w : With d = (file, refl) in
     next (OutlineFits file) IsWhole (outlined_means ops.1 ops.0 ops.2 f.outlined) _ (outlined_fits ops.1 file refl o.state.there ops.2 f.outlined) (λ outline fits.

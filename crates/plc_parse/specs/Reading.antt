@@ -18,7 +18,7 @@ use Rattle.plc_auto.specs.declared.observer.Observer.{Observer}
 use Rattle.plc_auto.specs.declared.observer.Observer.TheVariants.{Plain}
 use Rattle.plc_syntax.specs.Syntax.{kinds}
 use Rattle.plc_forms.specs.declared.rest.Rest.{Rest}
-use Rattle.plc_forms.specs.Views.{Behind}
+use Rattle.plc_forms.specs.Views.{After}
 use Rattle.plc_scope.specs.Answers.{Gives}
 use Rattle.plc_lex.specs.declared.token.Keyword.TheVariants as words
 use Rattle.plc_lex.specs.declared.token.Symbol.TheVariants as symbols
@@ -140,8 +140,8 @@ unfoldable pub all_values_in : ℕ → Scope → ℕ → Text → List TokenKind
 all_values_in g s at name ts = do
   first ← value_means s g 0 at name
   others ← values_in g (first.0 ∷ [], first.1, at + 1) ts
-  behind ← wanted_at others.0.2 (values_end_of others.1)
-  Ok ((others.0.0, others.0.1, others.0.2 + 2), behind)
+  after ← wanted_at others.0.2 (values_end_of others.1)
+  Ok ((others.0.0, others.0.1, others.0.2 + 2), after)
 
 -- one of values, from after the first one's name
 unfoldable pub of_values_in : Scope → ℕ → ℕ → Text → Text → List TokenKind → ReadTo (Ghost × Scope × ℕ)
@@ -182,17 +182,17 @@ abbrev pub forms_in : {X : Type 0} → (List TokenKind → Option (X × List Tok
     → (ℕ → X → Result (Option Primitive) ParseFault) → (X → ℕ) → ℕ → List TokenKind → ReadTo (List Primitive × ℕ)
 forms_in item means size at ts = do
   b ← each item (form_step means size) ([], false, at) ts
-  behind ← wanted_at b.0.2 (closing_of b.1)
-  Ok ((b.0.0, b.0.2 + 1), behind)
+  after ← wanted_at b.0.2 (closing_of b.1)
+  Ok ((b.0.0, b.0.2 + 1), after)
 
 -- a form at the front, what it means at its place, and what is after it and its semicolon
 pub record FormRead {X : Type 0} (item : List TokenKind → Option (X × List TokenKind))
     (means : ℕ → X → Result (Option Primitive) ParseFault) (size : X → ℕ)
-    (from : Rest) (meaning : Result (Option Primitive) ParseFault) (behind : Rest) : Type 0 where
+    (from : Rest) (meaning : Result (Option Primitive) ParseFault) (after : Rest) : Type 0 where
   pub tree : X
-  pub reads : item (kinds from.tokens.now) ≡ Some (tree, kinds behind.tokens.now)
+  pub reads : item (kinds from.tokens.now) ≡ Some (tree, kinds after.tokens.now)
   pub is : Gives (λ k. k) meaning (means from.at tree)
-  pub place : Behind from (size tree + 1) behind
+  pub place : After from (size tree + 1) after
 
 -- the primitives of an atomic block and "}"
 unfoldable pub primitives_in : Scope → ℕ → List TokenKind → ReadTo (List Primitive × ℕ)
@@ -230,8 +230,8 @@ unfoldable pub called_in : Scope → ℕ → Text → ArgumentTree → List Toke
 called_in s at f a ts = do
   c ← call_means s at f a
   l ← during_means s (at + call_size a) (during_of ts).0
-  behind ← wanted_at (at + call_size a + during_size (during_of ts).0) (semicolon_of (during_of ts).1)
-  Ok ((Call c.0 c.1 c.2 l.0, l.1, at + call_size a + during_size (during_of ts).0 + 1), behind)
+  after ← wanted_at (at + call_size a + during_size (during_of ts).0) (semicolon_of (during_of ts).1)
+  Ok ((Call c.0 c.1 c.2 l.0, l.1, at + call_size a + during_size (during_of ts).0 + 1), after)
 
 -- one primitive, from after its semicolon
 abbrev pub primitive_in : Scope → ℕ → PrimitiveTree → List TokenKind → StatementRead
@@ -286,8 +286,8 @@ unfoldable pub if_in : BlockReader → Scope → Bool → ℕ → List TokenKind
 if_in block s in_loop at ts = do
   c ← wanted_at at (condition_of ts)
   k ← condition_means s at c.0
-  behind ← wanted_at (at + condition_size c.0) (opening_of c.1)
-  b ← branches_in block s in_loop (at + condition_size c.0 + 2) behind
+  after ← wanted_at (at + condition_size c.0) (opening_of c.1)
+  b ← branches_in block s in_loop (at + condition_size c.0 + 2) after
   Ok ((If k b.0.0.0 b.0.0.1, b.0.1, b.0.2), b.1)
 
 -- at most so many further blocks of a choice
@@ -370,8 +370,8 @@ locals_in s ts = each field_of local_step s ts
 unfoldable pub all_locals_in : Scope → ℕ → List TokenKind → ReadTo (Scope × ℕ)
 all_locals_in s at ts = do
   p ← parameters_in s at ts
-  behind ← wanted_at p.0.1 (opening_of p.1)
-  locals_in (p.0.0, p.0.1 + 2) behind
+  after ← wanted_at p.0.1 (opening_of p.1)
+  locals_in (p.0.0, p.0.1 + 2) after
 
 -- an operation after its name and "("; each statement takes a token
 unfoldable pub op_in : List ℕ → Scope → ℕ → ℕ → Text → List TokenKind → ReadTo (Op × Scope × ℕ)
@@ -405,8 +405,8 @@ struct_in ts = do
 unfoldable pub declarations_in : Scope → ℕ → List TokenKind → ReadTo (List Field × List ℕ × List Func × Scope × ℕ)
 declarations_in s at ts = do
   fields ← fields_in s at ts
-  behind ← wanted_at fields.0.2 (closing_of fields.1)
-  pointers ← shared_in fields.0.1 (fields.0.2 + 1) behind
+  after ← wanted_at fields.0.2 (closing_of fields.1)
+  pointers ← shared_in fields.0.1 (fields.0.2 + 1) after
   functions ← functions_in pointers.0.1 pointers.0.2 pointers.1
   Ok ((fields.0.0, pointers.0.0, functions.0.0, functions.0.1, functions.0.2), functions.1)
 

@@ -13,14 +13,14 @@ module _ {H Y : Type 0} (head : List TokenKind → Option (H × List TokenKind))
     (body : Scope → ℕ → ℕ → H → List TokenKind → ReadTo (Y × Scope × ℕ))
     (limit names : ℕ) (s : Scope) (n : ℕ) (from : Rest) where
   -- one begins, and was read
-  pub record OneListed (y : Y) (behind : Rest) (t : Scope) : Type 0 where
+  pub record OneListed (y : Y) (after : Rest) (t : Scope) : Type 0 where
     pub front : H × List TokenKind
     pub begins : head (kinds from.tokens.now) ≡ Some front
-    pub read : body s n from.at front.0 front.1 ≡ Ok ((y, t, behind.at), kinds behind.tokens.now)
+    pub read : body s n from.at front.0 front.1 ≡ Ok ((y, t, after.at), kinds after.tokens.now)
     pub few : n < limit
     pub grows : GrowsBy s t names
     pub lists : KeepsLists s t
-    pub place : Within from behind
+    pub place : Within from after
 
   -- one begins, and is at fault
   pub record OneRefused (e : ParseFault) : Type 0 where

@@ -56,10 +56,10 @@ fn read_values<'a>(
     let mut values = Items::new(alloc);
     values.push(first)?;
     let mut rest = start;
-    while let Some((name, behind)) = comma_name_at(rest) {
+    while let Some((name, after)) = comma_name_at(rest) {
         let number = declare_value(scope, owner, values.len(), rest.at + 1, name)?;
         values.push(number)?;
-        rest = behind;
+        rest = after;
     }
     Ok((values, rest))
 }
@@ -84,7 +84,7 @@ fn read_all_values<'a>(
     let first = declare_value(scope, owner, 0, at, name)?;
     let (values, rest) = read_values(alloc, scope, owner, first, start)?;
     match values_end_at(rest) {
-        Some(behind) => Ok((values, behind)),
+        Some(after) => Ok((values, after)),
         None => Err(ParseFault::Syntax { at: rest.at }),
     }
 }
@@ -155,11 +155,11 @@ fn read_ghost<'a>(
     if count == What1::Ghosts.most() as usize {
         return Err(ParseFault::past(What1::Ghosts));
     }
-    if let Some(behind) = thread_at(start) {
-        return read_of_threads(alloc, scope, count, at, name, behind);
+    if let Some(after) = thread_at(start) {
+        return read_of_threads(alloc, scope, count, at, name, after);
     }
     match first_value_at(start) {
-        Some((value, behind)) => read_of_values(alloc, scope, count, at, name, value, behind),
+        Some((value, after)) => read_of_values(alloc, scope, count, at, name, value, after),
         None => Err(ParseFault::Syntax { at }),
     }
 }
@@ -193,10 +193,10 @@ impl Listed for AuxiliaryFields {
         count: usize,
         start: Rest<'a>,
     ) -> Result<Option<(Ghost, Rest<'a>)>, ParseFault> {
-        let Some((name, behind)) = ghost_at(start) else {
+        let Some((name, after)) = ghost_at(start) else {
             return Ok(None);
         };
-        let (item, end) = read_ghost(alloc, scope, count, start.at, name, behind)?;
+        let (item, end) = read_ghost(alloc, scope, count, start.at, name, after)?;
         Ok(Some((item, end)))
     }
 }

@@ -59,7 +59,7 @@ fn read_else<'a>(context: Context, scope: &mut Scope, start: Rest<'a>) -> Parsed
     ensures labels { IfOk result (λ r. ReadsBlock (length context.entry.tokens.now) scope.old scope.new r.1) }
 {
     match word_symbol_at(start, Keyword::Else, Symbol::OpenBrace) {
-        Some(behind) => read_block(context, scope, behind),
+        Some(after) => read_block(context, scope, after),
         None => Ok((Block::new(Vec::new(context.alloc)), start)),
     }
 }
@@ -122,10 +122,10 @@ fn read_blocks<'a>(
     choices.push(first)?;
     let mut rest = start;
     for _ in 0..context.most {
-        let Some(behind) = word_symbol_at(rest, Keyword::Or, Symbol::OpenBrace) else {
+        let Some(after) = word_symbol_at(rest, Keyword::Or, Symbol::OpenBrace) else {
             return Ok((choices, rest));
         };
-        let (block, end) = read_block(context, scope, behind)?;
+        let (block, end) = read_block(context, scope, after)?;
         choices.push(block)?;
         rest = end;
     }
@@ -157,14 +157,14 @@ fn read_statement<'a>(context: Context, scope: &mut Scope, start: Rest<'a>) -> P
         (kinds_left start.entry)) }
     ensures labels { IfOk result (λ r. ReadsBlock (length context.entry.tokens.now) scope.old scope.new r.1) }
 {
-    if let Some(behind) = word_symbol_at(start, Keyword::Loop, Symbol::OpenBrace) {
-        return read_loop(context, scope, behind);
+    if let Some(after) = word_symbol_at(start, Keyword::Loop, Symbol::OpenBrace) {
+        return read_loop(context, scope, after);
     }
-    if let Some(behind) = word_symbol_at(start, Keyword::Choose, Symbol::OpenBrace) {
-        return read_choose(context, scope, behind);
+    if let Some(after) = word_symbol_at(start, Keyword::Choose, Symbol::OpenBrace) {
+        return read_choose(context, scope, after);
     }
     match word_symbol_at(start, Keyword::If, Symbol::OpenParen) {
-        Some(behind) => read_if(context, scope, behind),
+        Some(after) => read_if(context, scope, after),
         None => read_flat(context.alloc, scope, context.in_loop, start),
     }
 }
@@ -181,8 +181,8 @@ pub fn read_block<'a>(context: Context, scope: &mut Scope, start: Rest<'a>) -> P
     let mut lines = Vec::new(context.alloc);
     let mut rest = start;
     for i in 0..context.most {
-        if let Some(behind) = closing_at(rest) {
-            return Ok((Block::new(lines), behind));
+        if let Some(after) = closing_at(rest) {
+            return Ok((Block::new(lines), after));
         }
         let line = line_at(context.tokens, rest.at);
         let inner = Context {

@@ -91,11 +91,11 @@ impl Listed for Fields {
         count: usize,
         start: Rest<'a>,
     ) -> Result<Option<(Field, Rest<'a>)>, ParseFault> {
-        let Some((declaration, behind)) = declaration_at(start) else {
+        let Some((declaration, after)) = declaration_at(start) else {
             return Ok(None);
         };
         let item = declare_field(scope, count, start.at, declaration)?;
-        Ok(Some((item, behind)))
+        Ok(Some((item, after)))
     }
 }
 
@@ -136,11 +136,11 @@ impl Listed for SharedPointers {
         count: usize,
         start: Rest<'a>,
     ) -> Result<Option<(u16, Rest<'a>)>, ParseFault> {
-        let Some((name, behind)) = shared_at(start) else {
+        let Some((name, after)) = shared_at(start) else {
             return Ok(None);
         };
         let item = declare_shared(scope, count, start.at, name)?;
-        Ok(Some((item, behind)))
+        Ok(Some((item, after)))
     }
 }
 
@@ -190,10 +190,10 @@ impl Listed for Functions {
         count: usize,
         start: Rest<'a>,
     ) -> Result<Option<(Func, Rest<'a>)>, ParseFault> {
-        let Some((function, behind)) = function_at(start) else {
+        let Some((function, after)) = function_at(start) else {
             return Ok(None);
         };
         let item = declare_function(scope, count, start.at, function)?;
-        Ok(Some((item, behind)))
+        Ok(Some((item, after)))
     }
 }

@@ -62,9 +62,9 @@ pub fn read_listed<'a, L: Listed>(
 {
     let mut items = Items::new(alloc);
     let mut rest = start;
-    while let Some((item, behind)) = L::next(alloc, scope, items.len(), rest)? {
+    while let Some((item, after)) = L::next(alloc, scope, items.len(), rest)? {
         items.push(item)?;
-        rest = behind;
+        rest = after;
     }
     Ok((items, rest))
 }

@@ -30,9 +30,9 @@ fn read_others<'a>(scope: &mut Scope, start: Rest<'a>) -> Result<Rest<'a>, Parse
     ensures declares { IfOk result (λ r. AddsLocalsWithin scope.old scope.new start.entry r) }
 {
     let mut rest = start;
-    while let Some((name, behind)) = comma_name_at(rest) {
+    while let Some((name, after)) = comma_name_at(rest) {
         declare_parameter(scope, name, rest.at + 1)?;
-        rest = behind;
+        rest = after;
     }
     Ok(rest)
 }
@@ -45,9 +45,9 @@ fn read_parameters<'a>(scope: &mut Scope, start: Rest<'a>) -> Result<Rest<'a>, P
 {
     match name_at(start) {
         None => Ok(start),
-        Some((name, behind)) => {
+        Some((name, after)) => {
             declare_parameter(scope, name, start.at)?;
-            read_others(scope, behind)
+            read_others(scope, after)
         }
     }
 }
@@ -82,9 +82,9 @@ fn read_locals<'a>(scope: &mut Scope, start: Rest<'a>) -> Result<Rest<'a>, Parse
     ensures declares { IfOk result (λ r. AddsLocalsWithin scope.old scope.new start.entry r) }
 {
     let mut rest = start;
-    while let Some((declaration, behind)) = declaration_at(rest) {
+    while let Some((declaration, after)) = declaration_at(rest) {
         declare_local(scope, rest.at, declaration)?;
-        rest = behind;
+        rest = after;
     }
     Ok(rest)
 }
@@ -99,7 +99,7 @@ pub fn read_all_locals<'a>(scope: &mut Scope, start: Rest<'a>) -> Result<Rest<'a
 {
     let rest = read_parameters(scope, start)?;
     match opening_at(rest) {
-        Some(behind) => read_locals(scope, behind),
+        Some(after) => read_locals(scope, after),
         None => Err(ParseFault::Syntax { at: rest.at }),
     }
 }

@@ -109,8 +109,8 @@ pub fn read_ops<'a>(
 {
     let mut ops = Items::new(alloc);
     let mut rest = start;
-    while let Some((name, behind)) = head_at(rest) {
-        rest = read_next(alloc, scope, tokens, &mut ops, rest.at, name, behind)?;
+    while let Some((name, after)) = head_at(rest) {
+        rest = read_next(alloc, scope, tokens, &mut ops, rest.at, name, after)?;
     }
     Ok((ops, rest))
 }

@@ -123,9 +123,9 @@ fn read_watch<'a>(scope: &Scope, start: Rest<'a>) -> Parsed<'a, Observer>
     ensures place { IfOk result (λ r. Within start.entry r.1) }
 {
     match watch_at(start) {
-        Some((watch, behind)) => {
+        Some((watch, after)) => {
             let observer = observer(scope, start.at, watch)?;
-            Ok((observer, behind))
+            Ok((observer, after))
         }
         None => Ok((Observer::Plain, start)),
     }
@@ -140,7 +140,7 @@ fn read_init<'a>(alloc: Global, scope: &Scope, start: Rest<'a>) -> Parsed<'a, It
     ensures place { IfOk result (λ r. Within start.entry r.1) }
 {
     match init_at(start) {
-        Some(behind) => read_initials(alloc, scope, behind),
+        Some(after) => read_initials(alloc, scope, after),
         None => Ok((Items::new(alloc), start)),
     }
 }

@@ -143,14 +143,14 @@ fn read_step<'a>(alloc: Global, scope: &mut Scope, start: Rest<'a>) -> Parsed<'a
         (step_in scope.old start.entry.at (kinds_left start.entry)) }
     ensures labels { IfOk result (λ r. AddsLabelsWithin scope.old scope.new start.entry r.1) }
 {
-    if let Some(behind) = word_symbol_at(start, Keyword::Atomic, Symbol::OpenBrace) {
-        return read_atomic(alloc, scope, start.at, behind);
+    if let Some(after) = word_symbol_at(start, Keyword::Atomic, Symbol::OpenBrace) {
+        return read_atomic(alloc, scope, start.at, after);
     }
-    if let Some((form, behind)) = call_at(start) {
-        return read_call(scope, start.at, form, behind);
+    if let Some((form, after)) = call_at(start) {
+        return read_call(scope, start.at, form, after);
     }
     match primitive_line_at(start) {
-        Some((form, behind)) => read_primitive(scope, start.at, form, behind),
+        Some((form, after)) => read_primitive(scope, start.at, form, after),
         None => Err(ParseFault::Syntax { at: start.at }),
     }
 }
@@ -168,14 +168,14 @@ pub fn read_flat<'a>(
         (flat_in scope.old in_loop start.entry.at (kinds_left start.entry)) }
     ensures labels { IfOk result (λ r. AddsLabelsWithin scope.old scope.new start.entry r.1) }
 {
-    if let Some(behind) = word_symbol_at(start, Keyword::Break, Symbol::Semicolon) {
-        return read_break(in_loop, start.at, behind);
+    if let Some(after) = word_symbol_at(start, Keyword::Break, Symbol::Semicolon) {
+        return read_break(in_loop, start.at, after);
     }
-    if let Some(behind) = word_symbol_at(start, Keyword::Return, Symbol::Semicolon) {
-        return Ok((Stmt::Return, behind));
+    if let Some(after) = word_symbol_at(start, Keyword::Return, Symbol::Semicolon) {
+        return Ok((Stmt::Return, after));
     }
     match label_at(start) {
-        Some((name, behind)) => read_label(scope, start.at, name, behind),
+        Some((name, after)) => read_label(scope, start.at, name, after),
         None => read_step(alloc, scope, start),
     }
 }

@@ -141,8 +141,8 @@ impl StepForms for AtomicForms {
         scope: &Scope,
         start: Rest<'a>,
     ) -> Option<(Result<Option<Prim>, ParseFault>, Rest<'a>)> {
-        let (form, behind) = primitive_line_at(start)?;
-        Some((primitive(scope, start.at, form), behind))
+        let (form, after) = primitive_line_at(start)?;
+        Some((primitive(scope, start.at, form), after))
     }
 
     ghost shrinks = { primitive_line_shrinks };
@@ -164,8 +164,8 @@ impl StepForms for InitialForms {
         scope: &Scope,
         start: Rest<'a>,
     ) -> Option<(Result<Option<Prim>, ParseFault>, Rest<'a>)> {
-        let (form, behind) = initial_line_at(start)?;
-        Some((initial(scope, start.at, form), behind))
+        let (form, after) = initial_line_at(start)?;
+        Some((initial(scope, start.at, form), after))
     }
 
     ghost shrinks = { initial_line_shrinks };
@@ -184,12 +184,12 @@ fn read_forms<'a, F: StepForms>(
 {
     let mut step = Step::new(alloc);
     let mut rest = start;
-    while let Some((meaning, behind)) = F::next(scope, rest) {
+    while let Some((meaning, after)) = F::next(scope, rest) {
         step.add(rest.at, meaning)?;
-        rest = behind;
+        rest = after;
     }
     match closing_at(rest) {
-        Some(behind) => Ok((step.primitives, behind)),
+        Some(after) => Ok((step.primitives, after)),
         None => Err(ParseFault::Syntax { at: rest.at }),
     }
 }

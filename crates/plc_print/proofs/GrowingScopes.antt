@@ -13,7 +13,7 @@ use Rattle.plc_parse.specs.Meaning.{label_means, during_means}
 use Rattle.plc_scope.proofs.Holds.{Has, next, unless}
 use Rattle.plc_lang.specs.Names.{name_at, label_name}
 use Rattle.plc_parse.proofs.Growth.{from_last}
-use Rattle.plc_print.proofs.Steps.{within, behind, Found, Within}
+use Rattle.plc_print.proofs.Steps.{within, after, Found, Within}
 use Rattle.plc_print.proofs.SpelledNames.{IsBound, Bound, Ends, from_number, number_named}
 
 pub within_append : {A : Type 0} (xs ys : List A) → Within xs (xs ++ ys)
@@ -118,4 +118,4 @@ module _ (file : File) where
   pub during_found : (s : Scope) (at : ℕ) (d : Option Text) → Has (Found (DuringRead s d) (λ a. during_means s a d)) (during_means s at d)
   during_found s at None = record { named = record { goes = goes_nowhere s; locals = refl; name = λ e. refl }; again = λ a. refl }
   during_found s at (Some n) = next (Found (LabelRead s n) (λ a. label_means s a n)) _ (label_means s at n) _ (label_found s at n) (λ l f.
-      record { named = record { goes = f.named.goes; locals = f.named.locals; name = λ e. ap Some (f.named.name e) }; again = λ a. behind _ _ _ _ (f.again a) refl })
+      record { named = record { goes = f.named.goes; locals = f.named.locals; name = λ e. ap Some (f.named.name e) }; again = λ a. after _ _ _ _ (f.again a) refl })

@@ -57,13 +57,13 @@ is_atomic_word (Some (Number n)) = false
 is_atomic_word (Some (Symbol s)) = false
 
 -- whether `atomic` stands before a place
-abbrev behind_atomic : Bool → List TokenKind → ℕ → Bool
-behind_atomic a ts zero = a
-behind_atomic a ts (suc p) = is_atomic_word (slice_get ts p)
+abbrev after_atomic : Bool → List TokenKind → ℕ → Bool
+after_atomic a ts zero = a
+after_atomic a ts (suc p) = is_atomic_word (slice_get ts p)
 
 -- each block of these tokens has at most so many open braces before it, with those of the tokens before
 abbrev BlocksShallow : ℕ → ℕ → Bool → List TokenKind → Type 0
-BlocksShallow o c a ts = (p : ℕ) → slice_get ts p ≡ Some (Symbol OpenBrace) → behind_atomic a ts p ≡ false → Shallow ((o + count_by is_open_brace (take p ts)) - (c + count_by is_close_brace (take p ts)))
+BlocksShallow o c a ts = (p : ℕ) → slice_get ts p ≡ Some (Symbol OpenBrace) → after_atomic a ts p ≡ false → Shallow ((o + count_by is_open_brace (take p ts)) - (c + count_by is_close_brace (take p ts)))
 
 -- one token on
 on_token : (o c m n : ℕ) (a : Bool) (t : TokenKind) (ts : List TokenKind) → ((us : List TokenKind) → o + count_by is_open_brace (t ∷ us) ≡ m + count_by is_open_brace us)
@@ -89,22 +89,22 @@ fine_shallow o c a (Symbol CloseBrace ∷ ts) h = fine_shallow o (suc c) false t
 fine_shallow o c a (Symbol s ∷ ts) h = fine_shallow o c false ts (on_token o c o c a (Symbol s) ts (λ us. omega arith) (λ us. omega arith) h)
 
 -- one token back
-behind_token : (o c m n : ℕ) (a : Bool) (t : TokenKind) (ts : List TokenKind) → ((us : List TokenKind) → m + count_by is_open_brace us ≡ o + count_by is_open_brace (t ∷ us))
+after_token : (o c m n : ℕ) (a : Bool) (t : TokenKind) (ts : List TokenKind) → ((us : List TokenKind) → m + count_by is_open_brace us ≡ o + count_by is_open_brace (t ∷ us))
     → ((us : List TokenKind) → n + count_by is_close_brace us ≡ c + count_by is_close_brace (t ∷ us)) → (t ≡ Symbol OpenBrace → a ≡ false → Shallow (o - c)) → BlocksShallow m n (is_atomic_word (Some t)) ts → BlocksShallow o c a (t ∷ ts)
-behind_token o c m n a t ts e f here h zero brace free = let same : o - c ≡ (o + 0) - (c + 0) = omega arith in subst Shallow same (here (cc) free)
-behind_token o c m n a t ts e f here h (suc zero) brace free =
+after_token o c m n a t ts e f here h zero brace free = let same : o - c ≡ (o + 0) - (c + 0) = omega arith in subst Shallow same (here (cc) free)
+after_token o c m n a t ts e f here h (suc zero) brace free =
     subst (λ d. Shallow (d - (c + count_by is_close_brace (t ∷ [])))) (e []) (subst (λ d. Shallow (m + count_by is_open_brace [] - d)) (f []) (h 0 brace free))
-behind_token o c m n a t ts e f here h (suc (suc p)) brace free =
+after_token o c m n a t ts e f here h (suc (suc p)) brace free =
     subst (λ d. Shallow (d - (c + count_by is_close_brace (t ∷ take (suc p) ts)))) (e (take (suc p) ts)) (subst (λ d. Shallow (m + count_by is_open_brace (take (suc p) ts) - d)) (f (take (suc p) ts)) (h (suc p) brace free))
 
 shallow_fine : (o c : ℕ) (a : Bool) (ts : List TokenKind) → Fine AnyToken Shallow o c a ts → BlocksShallow o c a ts
 shallow_fine o c a [] h = λ p brace free. absurd cc
-shallow_fine o c a (Name n ∷ ts) h = behind_token o c o c a (Name n) ts (λ us. omega arith) (λ us. omega arith) (λ e. absurd cc) (shallow_fine o c false ts h.1)
-shallow_fine o c a (Number n ∷ ts) h = behind_token o c o c a (Number n) ts (λ us. omega arith) (λ us. omega arith) (λ e. absurd cc) (shallow_fine o c false ts h.1)
-shallow_fine o c a (Word w ∷ ts) h = behind_token o c o c a (Word w) ts (λ us. omega arith) (λ us. omega arith) (λ e. absurd cc) (shallow_fine o c (is_atomic w) ts h)
-shallow_fine o c a (Symbol OpenBrace ∷ ts) h = behind_token o c (suc o) c a (Symbol OpenBrace) ts (λ us. sym (one_open o us)) (λ us. omega arith) (λ e. h.0) (shallow_fine (suc o) c false ts h.1)
-shallow_fine o c a (Symbol CloseBrace ∷ ts) h = behind_token o c o (suc c) a (Symbol CloseBrace) ts (λ us. omega arith) (λ us. sym (one_close c us)) (λ e. absurd cc) (shallow_fine o (suc c) false ts h)
-shallow_fine o c a (Symbol s ∷ ts) h = behind_token o c o c a (Symbol s) ts (λ us. omega arith) (λ us. omega arith) (λ e. absurd cc) (shallow_fine o c false ts h)
+shallow_fine o c a (Name n ∷ ts) h = after_token o c o c a (Name n) ts (λ us. omega arith) (λ us. omega arith) (λ e. absurd cc) (shallow_fine o c false ts h.1)
+shallow_fine o c a (Number n ∷ ts) h = after_token o c o c a (Number n) ts (λ us. omega arith) (λ us. omega arith) (λ e. absurd cc) (shallow_fine o c false ts h.1)
+shallow_fine o c a (Word w ∷ ts) h = after_token o c o c a (Word w) ts (λ us. omega arith) (λ us. omega arith) (λ e. absurd cc) (shallow_fine o c (is_atomic w) ts h)
+shallow_fine o c a (Symbol OpenBrace ∷ ts) h = after_token o c (suc o) c a (Symbol OpenBrace) ts (λ us. sym (one_open o us)) (λ us. omega arith) (λ e. h.0) (shallow_fine (suc o) c false ts h.1)
+shallow_fine o c a (Symbol CloseBrace ∷ ts) h = after_token o c o (suc c) a (Symbol CloseBrace) ts (λ us. omega arith) (λ us. sym (one_close c us)) (λ e. absurd cc) (shallow_fine o (suc c) false ts h)
+shallow_fine o c a (Symbol s ∷ ts) h = after_token o c o c a (Symbol s) ts (λ us. omega arith) (λ us. omega arith) (λ e. absurd cc) (shallow_fine o c false ts h)
 
 -- a place after another token
 no_atomic : (o : Option TokenKind) → is_atomic_word o ≡ false → o ≢ Some (Word Atomic)
@@ -118,11 +118,11 @@ other_word (Some (Name n)) h = refl
 other_word (Some (Number n)) h = refl
 other_word (Some (Symbol s)) h = refl
 
-opens_block : (ts : List TokenKind) (p : ℕ) → slice_get ts p ≡ Some (Symbol OpenBrace) → behind_atomic false ts p ≡ false → OpensBlockAt ts p
+opens_block : (ts : List TokenKind) (p : ℕ) → slice_get ts p ≡ Some (Symbol OpenBrace) → after_atomic false ts p ≡ false → OpensBlockAt ts p
 opens_block ts zero brace free = record { brace = brace; of_block = λ e. absurd cc }
 opens_block ts (suc p) brace free = let same : suc p - 1 ≡ p = omega arith in record { brace = brace; of_block = rw same (no_atomic (slice_get ts p) free) }
 
-block_free : (ts : List TokenKind) (p : ℕ) → OpensBlockAt ts p → behind_atomic false ts p ≡ false
+block_free : (ts : List TokenKind) (p : ℕ) → OpensBlockAt ts p → after_atomic false ts p ≡ false
 block_free ts zero h = refl
 block_free ts (suc p) h = let same : suc p - 1 ≡ p = omega arith in other_word (slice_get ts p) (subst (λ k. slice_get ts k ≢ Some (Word Atomic)) same h.of_block)
 

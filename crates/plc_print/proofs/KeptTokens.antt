@@ -282,8 +282,8 @@ module _ (K : TokenKind → Type 0) (D : ℕ → Type 0) where
   outline_kept (Some (Outlined d xs)) o c r s k h =
       let a = depth_moved d (suc o) c _ h.1 in
       let b = items_moved xs (suc o) c (Symbol CloseBrace ∷ r) a.1 in
-      let behind : Fine o c false s = k (down o c false r b.1) in
-      unless_empty_fine (normal_depth d) (normal_items xs) o c s behind (h.0, a.0 (suc o) c _ (b.0 (suc o) c (Symbol CloseBrace ∷ s) (up o c false s behind)))
+      let after : Fine o c false s = k (down o c false r b.1) in
+      unless_empty_fine (normal_depth d) (normal_items xs) o c s after (h.0, a.0 (suc o) c _ (b.0 (suc o) c (Symbol CloseBrace ∷ s) (up o c false s after)))
 
   -- ---- the file
 

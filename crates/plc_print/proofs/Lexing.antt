@@ -14,18 +14,18 @@ use Rattle.plc_lex.specs.declared.token.Keyword.TheVariants as words
 use Rattle.plc_lex.specs.declared.token.Symbol.{Symbol as Punctuation}
 use Rattle.plc_lex.specs.declared.token.Symbol.TheVariants as symbols
 use Rattle.plc_lex.specs.Characters.{is_space, is_letter, is_digit, in_name, keywords, keyword_of, symbols_longest_first, symbol_of}
-use Rattle.plc_lex.specs.Spelling.{Refusal, long_name, bad_number, word_of, name_or_word, value, is_plain, name_at, number_at, symbol_at, token_at, is_comment, is_blank, next_line, token_from, Spells, at_end, behind_space, token, IsName, IsKind}
+use Rattle.plc_lex.specs.Spelling.{Refusal, long_name, bad_number, word_of, name_or_word, value, is_plain, name_at, number_at, symbol_at, token_at, is_comment, is_blank, next_line, token_from, Spells, at_end, after_space, token, IsName, IsKind}
 use Rattle.plc_syntax.specs.Syntax.{kinds}
-use Rattle.plc_print.specs.Text.{token_text, behind, text_of}
+use Rattle.plc_print.specs.Text.{token_text, after, text_of}
 use Rattle.plc_print.specs.Laws.{TextIsReadBack}
 
 -- these bytes begin with a token's text and with nothing else, and white space follows a token
 abbrev IsRead : TokenKind → List ℕ → Type 0
-IsRead t bytes = (is_blank bytes ≡ false) × (is_comment bytes ≡ false) × (token_at bytes ≡ Ok (t, length (token_text t))) × (is_space (behind t) ≡ true)
+IsRead t bytes = (is_blank bytes ≡ false) × (is_comment bytes ≡ false) × (token_at bytes ≡ Ok (t, length (token_text t))) × (is_space (after t) ≡ true)
 
 -- a token with what follows it, before other bytes
 abbrev before_bytes : TokenKind → List ℕ → List ℕ
-before_bytes t rest = token_text t ++ behind t ∷ rest
+before_bytes t rest = token_text t ++ after t ∷ rest
 
 -- ---- keywords and symbols
 
@@ -233,10 +233,10 @@ spells at line [] all = ([], at_end at line, refl)
 spells at line (t ∷ ts) all =
     let n = length (token_text t) in
     let r = is_read t (text_of ts) all.0 in
-    let others = spells (at + n + 1) (next_line line (behind t)) ts all.1 in (
+    let others = spells (at + n + 1) (next_line line (after t)) ts all.1 in (
       token_from at line t n ∷ others.0,
       token at line n (before_bytes t (text_of ts)) t others.0 r.0 r.1 r.2
-          (subst (λ (bs : List ℕ). Spells (at + n) line bs others.0) (sym (drop-append_seam (token_text t) (behind t ∷ text_of ts))) (behind_space (at + n) line (behind t) (text_of ts) others.0 r.3 others.1)),
+          (subst (λ (bs : List ℕ). Spells (at + n) line bs others.0) (sym (drop-append_seam (token_text t) (after t ∷ text_of ts))) (after_space (at + n) line (after t) (text_of ts) others.0 r.3 others.1)),
       ap (λ (us : List TokenKind). t ∷ us) others.2,
     )
 

@@ -28,7 +28,7 @@ use Rattle.plc_outparse.specs.Sizes.{term_size, literal_size, bound_size}
 use Rattle.plc_outparse.specs.Reach.{Reach, kind_outside, kind_of_local, kind_inside, kind_or, declared_at, declared_kind, kind_or_bound, kind_of, known, as_base, base_at, as_term, as_field}
 use Rattle.plc_outparse.specs.Meaning.{in_turn, me_means, term_means, same_sort, sort_place, if_same_sort, second_means, flag_means, literal_means, counted, literal_step, none_bound, if_free, bound_with, bound_means, reach, clause_means, clause_line_means}
 use Rattle.plc_print.specs.Outlines.{base_name, term_tree, flag_literal, literal_tree, bound_tree, claims_tree, clause_tree}
-use Rattle.plc_print.proofs.Steps.{within, behind, Found, then_found, moved, if_found}
+use Rattle.plc_print.proofs.Steps.{within, after, Found, then_found, moved, if_found}
 use Rattle.plc_print.proofs.SpelledNames.{IsBound, Bound, Ends, from_number, number_named, place_found, fits_found}
 
 -- ---- parts that are added one by one
@@ -55,7 +55,7 @@ module _ {X Y : Type 0} (E : Type 0) (spell : Y → X) (step : List Y × ℕ →
         added = f.added ∷ g.added;
         is = g.is ∙ ap (λ (ys : List Y). ys ++ g.added) f.is ∙ append_assoc st.0 (f.added ∷ []) g.added;
         tree = λ e. ap₂ (λ (y : X) (ys : List X). y ∷ ys) (f.tree e) (g.tree e);
-        again = λ at. let first = f.again at in let rest = g.again first.0 in (rest.0, behind _ _ _ _ first.1 rest.1);
+        again = λ at. let first = f.again at in let rest = g.again first.0 in (rest.0, after _ _ _ _ first.1 rest.1);
       }) (more_found one t xs))
 
 -- ---- names
@@ -230,7 +230,7 @@ module _ (file : File) (s : Scope) (bound : Bound file s) where
     step_found st l =
         next (Found (IsLiteral l) (λ a. counted (length st.0) a (literal_means here a l))) (OneMore (Ends file s) (literal_tree file ls quantified.names) (literal_step here) st l) (counted (length st.0) (st.1 + 1) (literal_means here (st.1 + 1) l)) _
         (counted_found (length st.0) (st.1 + 1) l (literal_means here (st.1 + 1) l) (literal_found (st.1 + 1) l)) (λ x h.
-        record { added = x; is = refl; tree = h.named; again = λ a. (a + 1 + literal_size l, behind _ _ _ _ (h.again (a + 1)) refl) })
+        record { added = x; is = refl; tree = h.named; again = λ a. (a + 1 + literal_size l, after _ _ _ _ (h.again (a + 1)) refl) })
 
     literals_found : (st : List Literal × ℕ) (others : List LiteralTree) → Has (ManyMore (Ends file s) (literal_tree file ls quantified.names) (literal_step here) st others) (in_turn (literal_step here) st others)
     literals_found st others = more_found (Ends file s) (literal_tree file ls quantified.names) (literal_step here) step_found st others
@@ -280,10 +280,10 @@ module _ (file : File) (s : Scope) (bound : Bound file s) where
           (in_turn (literal_step (reach s ls in_operation q)) (x ∷ [], at + bound_size b + literal_size l) others) _ (literals_found ls in_operation q (x ∷ [], at + bound_size b + literal_size l) others) (λ all h.
           record {
             tree = λ e. ap (λ (xs : List Literal). claims_tree (bound_tree q.names) (map (literal_tree file ls q.names) xs)) h.is ∙ rw (f.named, g.named e, h.tree e) refl;
-            again = λ a. let rest = h.again (a + bound_size b + literal_size l) in (rest.0, behind _ _ _ _ (f.again a) (behind _ _ _ _ (g.again (a + bound_size b)) (behind _ _ _ _ rest.1 refl)));
+            again = λ a. let rest = h.again (a + bound_size b + literal_size l) in (rest.0, after _ _ _ _ (f.again a) (after _ _ _ _ (g.again (a + bound_size b)) (after _ _ _ _ rest.1 refl)));
           })))
 
       pub line_found : (at : ℕ) (c : ClauseTree) → Has (ClauseRead (λ a. clause_line_means s ls in_operation a c) c) (clause_line_means s ls in_operation at c)
       unfolding clause_line_means
       line_found at c = next (ClauseRead (λ a. clause_means s ls in_operation a c) c) _ (clause_means s ls in_operation at c) _ (clause_found at c) (λ k h.
-          record { tree = h.tree; again = λ a. let one = h.again a in (one.0 + 1, behind _ _ _ _ one.1 refl) })
+          record { tree = h.tree; again = λ a. let one = h.again a in (one.0 + 1, after _ _ _ _ one.1 refl) })

@@ -23,7 +23,7 @@ use Rattle.plc_print.specs.Canonical.{watch_tree, initial_tree, init_tree, canon
 use Rattle.plc_lang.specs.Names.{name_at}
 use Rattle.plc_print.specs.Laws.{op_without_lines, SameUpToLines}
 use Rattle.plc_print.proofs.NormalTrees.{normal_starts, normal_op, normal_outline, normal_file}
-use Rattle.plc_print.proofs.Steps.{behind}
+use Rattle.plc_print.proofs.Steps.{after}
 use Rattle.plc_print.proofs.SpelledNames.{Bound, IsBound, Ends, number_named, protecting_found, without_pointer_found}
 use Rattle.plc_print.proofs.SpelledPrimitives.{IsInitial, initial_found}
 use Rattle.plc_print.proofs.GrowingScopes.{ends_before, declared_found}
@@ -53,11 +53,11 @@ module _ (file : File) (s : Scope) (bound : Bound file s) where
   watch_found at None = record { tree = λ e. refl; again = λ a. (a, refl) }
   watch_found at (Some (UseHazard f)) =
       next _ (WatchRead (Some (UseHazard f))) (protecting_at s f (at + 3)) _ (protecting_found file s f (at + 3) bound) (λ g h.
-      record { tree = λ e. ap (λ n. Some (UseHazard n)) (h.named e); again = λ a. (a + watch_size (UseHazard f), behind _ _ _ _ (h.again (a + 3)) refl) })
+      record { tree = λ e. ap (λ n. Some (UseHazard n)) (h.named e); again = λ a. (a + watch_size (UseHazard f), after _ _ _ _ (h.again (a + 3)) refl) })
   watch_found at (Some (UseEpoch n m)) =
       next _ (WatchRead (Some (UseEpoch n m))) (without_pointer_at s n (at + 3)) _ (without_pointer_found file s n (at + 3) bound) (λ f h.
       next _ (WatchRead (Some (UseEpoch n m))) (without_pointer_at s m (at + 5)) _ (without_pointer_found file s m (at + 5) bound) (λ g k.
-      record { tree = λ e. rw (h.named e, k.named e) refl; again = λ a. (a + watch_size (UseEpoch n m), behind _ _ _ _ (h.again (a + 3)) (behind _ _ _ _ (k.again (a + 5)) refl)) }))
+      record { tree = λ e. rw (h.named e, k.named e) refl; again = λ a. (a + watch_size (UseEpoch n m), after _ _ _ _ (h.again (a + 3)) (after _ _ _ _ (k.again (a + 5)) refl)) }))
 
   -- ---- `init`
 
@@ -80,7 +80,7 @@ module _ (file : File) (s : Scope) (bound : Bound file s) where
         next (Initials (i ∷ is)) (InitRead (Some (i ∷ is))) (initials_mean s (at + 2) (i ∷ is)) _
         (forms_found (initial_means s) initial_size (λ i. true) (IsInitial file s bound) (Ends file s) (initial_tree file) (λ i h. absurd h) (λ i k h. (refl, h)) (initial_found file s bound none) 0 false (at + 2) (i ∷ is)) (λ b f. record {
           tree = λ e. with_primitives b.0 i is (f.tree e ∙ all_stay (i ∷ is));
-          again = λ a. let rest = f.again (a + 2) in (rest.0 + 1, behind _ _ _ _ (ap (initials_mean s (a + 2)) (sym (all_stay (i ∷ is))) ∙ rest.1) refl);
+          again = λ a. let rest = f.again (a + 2) in (rest.0 + 1, after _ _ _ _ (ap (initials_mean s (a + 2)) (sym (all_stay (i ∷ is))) ∙ rest.1) refl);
         })
 
 -- ---- the whole file
@@ -93,8 +93,8 @@ pub record FileRead (f : FileTree) (u : FileUnit) : Type 0 where
 at_start : {Y : Type 0} (ys : List Y) (k : ℕ) (y : Y) → slice_get ys k ≡ Some y → slice_get ys (0 + k) ≡ Some y
 at_start ys k y e = let same : 0 + k ≡ k = omega arith in ap (slice_get ys) same ∙ e
 
-behind_retire : (ys : List Func) (k : ℕ) (y : Func) → slice_get ys k ≡ Some y → slice_get (retire ∷ ys) (0 + k + 1) ≡ Some y
-behind_retire ys k y e = let same : 0 + k + 1 ≡ suc k = omega arith in ap (slice_get (retire ∷ ys)) same ∙ e
+after_retire : (ys : List Func) (k : ℕ) (y : Func) → slice_get ys k ≡ Some y → slice_get (retire ∷ ys) (0 + k + 1) ≡ Some y
+after_retire ys k y e = let same : 0 + k + 1 ≡ suc k = omega arith in ap (slice_get (retire ∷ ys)) same ∙ e
 
 same_tree : (n n' : Text) (a a' : List FieldTree) (b b' : List Text) (c c' : List FunctionTree) (d d' : Option WatchTree) (g g' : List GhostTree) (i i' : Option (List InitialTree)) (o o' : List OpTree) (l l' : Option OutlineTree)
     → n ≡ n' → a ≡ a' → b ≡ b' → c ≡ c' → d ≡ d' → g ≡ g' → i ≡ i' → o ≡ o' → l ≡ l'
@@ -130,8 +130,8 @@ module _ (lines : List ℕ) (f : FileTree) (s : Scope) (fields : List Field × S
       → map op_without_lines os ≡ map op_without_lines ops.0 → outlined_means ops.1 ops.0 last (normal_outline f.outlined) ≡ Ok outline → file_means ms (normal_file f) ≡ Ok (unit os)
   unfolding file_means
   unit_again ms place last os begun done same said =
-      behind _ _ _ _ to_s (behind _ _ _ _ to_fields (behind _ _ _ _ to_pointers (behind _ _ _ _ to_functions (behind _ _ _ _ to_observer (behind _ _ _ _ to_ghosts (behind _ _ _ _ begun (behind _ _ _ _ done
-      (behind _ _ _ _ (same_outline ops.1 os ops.0 same last (normal_outline f.outlined) ∙ said) refl))))))))
+      after _ _ _ _ to_s (after _ _ _ _ to_fields (after _ _ _ _ to_pointers (after _ _ _ _ to_functions (after _ _ _ _ to_observer (after _ _ _ _ to_ghosts (after _ _ _ _ begun (after _ _ _ _ done
+      (after _ _ _ _ (same_outline ops.1 os ops.0 same last (normal_outline f.outlined) ∙ said) refl))))))))
 
   same_unit : (os : List Op) → map op_without_lines os ≡ map op_without_lines ops.0 → SameUpToLines (unit ops.0) (unit os)
   same_unit os e = ap unit (sym e)
@@ -144,7 +144,7 @@ module _ (lines : List ℕ) (f : FileTree) (s : Scope) (fields : List Field × S
       let d = has_along _ _ s to_s (declared_found file first_scope f.name 1 Taken) in
       let a = (has_along _ _ fields to_fields (listed_found file FieldTree Field field_means (field_spelled file) (FieldThere file) (field_found file) s 0 3 f.fields)) (at_start fields.0) in
       let b = (has_along _ _ pointers to_pointers (listed_found file Text ℕ shared_means (name_at file) (SharedThere file) (shared_found file) fields.1 0 (fields.2 + 1) f.pointers)) (at_start pointers.0) in
-      let c = (has_along _ _ functions to_functions (listed_found file FunctionTree Func function_means (function_spelled file) (FunctionThere file) (function_declared file) pointers.1 0 pointers.2 f.functions)) (behind_retire functions.0) in
+      let c = (has_along _ _ functions to_functions (listed_found file FunctionTree Func function_means (function_spelled file) (FunctionThere file) (function_declared file) pointers.1 0 pointers.2 f.functions)) (after_retire functions.0) in
       let g = (has_along _ _ ghosts to_ghosts (listed_found file GhostTree Ghost ghost_means (ghost_spelled file) (GhostThere file) (ghost_declared file) functions.1 0 observer.1 f.ghosts)) (at_start ghosts.0) in
       let first : Bound file s = d.named.bound first_bound tt in
       let watching : Bound file functions.1 = c.goes.bound (b.goes.bound (a.goes.bound first)) in

@@ -8,7 +8,7 @@ use Rattle.plc_lang.specs.Allocation.{is_new}
 use Rattle.plc_scope.specs.Limits.{stands_at}
 use Rattle.plc_parse.specs.Meaning.{counted, count_of, allocates, before, forms_mean}
 use Rattle.plc_scope.proofs.Holds.{Has, next, unless}
-use Rattle.plc_print.proofs.Steps.{within, behind, Found}
+use Rattle.plc_print.proofs.Steps.{within, after, Found}
 
 refused : {A : Type 0} (P : A → Type 0) (first past : Bool) (a b c : ParseFault) → Has P (if first then Err a else (if past then Err b else Err c))
 refused P true past a b c = tt
@@ -54,7 +54,7 @@ module _ {X : Type 0} (means : ℕ → X → Result (Option Primitive) ParseFaul
         tree = λ e. ap₂ (λ (y : X) (ys : List X). y ∷ ys) (is.1 e) (g.tree e) ∙ sym (kept x xs true is.0);
         again = λ a.
             let rest = g.again (a + size x + 1) in
-            (rest.0, ap (λ (ys : List X). forms_mean means size n has_new a ys) (kept x xs true is.0) ∙ behind _ _ _ _ (f.again a) (behind _ _ _ _ rest.1 refl));
+            (rest.0, ap (λ (ys : List X). forms_mean means size n has_new a ys) (kept x xs true is.0) ∙ after _ _ _ _ (f.again a) (after _ _ _ _ rest.1 refl));
       }
 
   pub forms_found : (n : ℕ) (has_new : Bool) (at : ℕ) (xs : List X) → Has (FormsRead n has_new xs) (forms_mean means size n has_new at xs)

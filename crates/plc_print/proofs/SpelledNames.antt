@@ -96,13 +96,13 @@ module _ (file : File) where
     of_pointers : (k j : ℕ) → k ≡ pointers + j → option_map (λ (l : Local). l.name) (slice_get (filter is_pointer locals) j) ≡ Some number → Inside pointers values locals number (pointer_variable (LocalVar k))
     of_data : (k j : ℕ) → k ≡ values + j → option_map (λ (l : Local). l.name) (slice_get (filter is_data locals) j) ≡ Some number → Inside pointers values locals number (data_local k)
 
-  behind_pointer : (p v n : ℕ) (q : Bool) (ls : List Local) (number : ℕ) (r : Role) → Inside (p + 1) v ls number r → Inside p v (record { name = n; pointer = true; param = q } ∷ ls) number r
-  behind_pointer p v n q ls number _ (of_pointers k j e f) = of_pointers k (suc j) (omega arith) f
-  behind_pointer p v n q ls number _ (of_data k j e f) = of_data k j e f
+  after_pointer : (p v n : ℕ) (q : Bool) (ls : List Local) (number : ℕ) (r : Role) → Inside (p + 1) v ls number r → Inside p v (record { name = n; pointer = true; param = q } ∷ ls) number r
+  after_pointer p v n q ls number _ (of_pointers k j e f) = of_pointers k (suc j) (omega arith) f
+  after_pointer p v n q ls number _ (of_data k j e f) = of_data k j e f
 
-  behind_data : (p v n : ℕ) (q : Bool) (ls : List Local) (number : ℕ) (r : Role) → Inside p (v + 1) ls number r → Inside p v (record { name = n; pointer = false; param = q } ∷ ls) number r
-  behind_data p v n q ls number _ (of_pointers k j e f) = of_pointers k j e f
-  behind_data p v n q ls number _ (of_data k j e f) = of_data k (suc j) (omega arith) f
+  after_data : (p v n : ℕ) (q : Bool) (ls : List Local) (number : ℕ) (r : Role) → Inside p (v + 1) ls number r → Inside p v (record { name = n; pointer = false; param = q } ∷ ls) number r
+  after_data p v n q ls number _ (of_pointers k j e f) = of_pointers k j e f
+  after_data p v n q ls number _ (of_data k j e f) = of_data k (suc j) (omega arith) f
 
   inside : (p v : ℕ) (ls : List Local) (number : ℕ) → IfSome (role_inside p v ls number) (Inside p v ls number)
   inside p v [] number = tt
@@ -112,8 +112,8 @@ module _ (file : File) where
           → IfSome (if same then Some (if b then pointer_variable (LocalVar p) else data_local v) else (if b then role_inside (p + 1) v ls number else role_inside p (v + 1) ls number)) (Inside p v (record { name = n; pointer = b; param = q } ∷ ls) number)
       by n true q true e h k = of_pointers p 0 (omega arith) (ap Some (eqb-true n number e))
       by n false q true e h k = of_data v 0 (omega arith) (ap Some (eqb-true n number e))
-      by n true q false e h k = IfSome_then (role_inside (p + 1) v ls number) h (behind_pointer p v n q ls number)
-      by n false q false e h k = IfSome_then (role_inside p (v + 1) ls number) k (behind_data p v n q ls number)
+      by n true q false e h k = IfSome_then (role_inside (p + 1) v ls number) h (after_pointer p v n q ls number)
+      by n false q false e h k = IfSome_then (role_inside p (v + 1) ls number) k (after_data p v n q ls number)
 
   named_inside : (locals : List Local) (i : ℕ) (n : Text) → name_at file i ≡ n → (r : Role) → Inside 0 0 locals i r → RoleIs locals n r
   named_inside locals i n e _ (of_pointers k j same f) =

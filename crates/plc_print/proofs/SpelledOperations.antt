@@ -20,7 +20,7 @@ use Rattle.plc_print.specs.Canonical.{declaration_tree, is_declared, op_tree}
 use Rattle.plc_lang.specs.Names.{name_at}
 use Rattle.plc_print.specs.Laws.{op_without_lines}
 use Rattle.plc_print.proofs.NormalTrees.{normal_op}
-use Rattle.plc_print.proofs.Steps.{within, behind, Found}
+use Rattle.plc_print.proofs.Steps.{within, after, Found}
 use Rattle.plc_print.proofs.SpelledNames.{Bound, Ends, place_found, number_named}
 use Rattle.plc_print.proofs.GrowingScopes.{Goes, goes_nowhere, goes_on, ends_before, within_append, last_there, more_bound, Declares, declared_found, goes_by, declared_name}
 use Rattle.plc_print.proofs.SpelledStatements.{Read, BlockRead, block_found}
@@ -71,14 +71,14 @@ module _ (file : File) where
   unfolding declared_local
   local_found s name at p = unless (Found (Adds s name p false) (λ a. declared_local s name a p)) (length s.locals == 32) _ _ (λ less.
       next (Found (NumberRead s name) (λ a. local_number (place_of name s.names.names) s name a)) _ (local_number (place_of name s.names.names) s name at) _ (number_found s name at) (λ x f.
-      record { named = one_more s name p false x f.named; again = λ a. within (length s.locals == 32) _ _ _ less (behind _ _ _ _ (f.again a) refl) }))
+      record { named = one_more s name p false x f.named; again = λ a. within (length s.locals == 32) _ _ _ less (after _ _ _ _ (f.again a) refl) }))
 
   parameter_found : (s : Scope) (name : Text) (at : ℕ) → Has (Found (Adds s name false true) (λ a. declared_parameter s name a)) (declared_parameter s name at)
   unfolding declared_parameter
   parameter_found s name at =
       next (Found (NumberRead s name) (λ a. local_number (place_of name s.names.names) s name a)) (Found (Adds s name false true) (λ a. declared_parameter s name a)) (local_number (place_of name s.names.names) s name at) _ (number_found s name at) (λ x f.
       unless (Found (Adds s name false true) (λ a. declared_parameter s name a)) (length s.locals == 32) _ _ (λ less.
-      record { named = one_more s name false true x f.named; again = λ a. behind _ _ _ _ (f.again a) (within (length s.locals == 32) _ _ _ less refl) }))
+      record { named = one_more s name false true x f.named; again = λ a. after _ _ _ _ (f.again a) (within (length s.locals == 32) _ _ _ less refl) }))
 
   -- ---- parameters and other locals in order
 
@@ -119,7 +119,7 @@ module _ (file : File) where
             ∙ ap (λ (ns : List Text). parameters_of s.locals ++ (ns ++ names)) there;
         declarations_are = λ e.
             g.declarations_are e ∙ ap (λ (ls : List Local). declarations_of ls ++ []) f.named.locals ∙ ap (λ (ds : List FieldTree). ds ++ []) (declarations_join s.locals one_local ∙ append-nil (declarations_of s.locals));
-        again = λ a. let rest = g.again (step a) in (rest.0, behind _ _ _ _ (f.again (here a)) rest.1);
+        again = λ a. let rest = g.again (step a) in (rest.0, after _ _ _ _ (f.again (here a)) rest.1);
       }
 
   -- one more local that is no parameter
@@ -136,7 +136,7 @@ module _ (file : File) where
             let there : declarations_of one_local ≡ declaration_tree name p ∷ [] = ap (λ (n : Text). declaration_tree n p ∷ []) (f.named.tree (ends_before file t r.0 g.goes e)) in
             g.declarations_are e ∙ ap (λ (ls : List Local). declarations_of ls ++ ds) f.named.locals ∙ ap (λ (ns : List FieldTree). ns ++ ds) (declarations_join s.locals one_local) ∙ append_assoc (declarations_of s.locals) (declarations_of one_local) ds
             ∙ ap (λ (ns : List FieldTree). declarations_of s.locals ++ (ns ++ ds)) there;
-        again = λ a. let rest = g.again (a + 3) in (rest.0, behind _ _ _ _ (f.again (a + 1)) rest.1);
+        again = λ a. let rest = g.again (a + 3) in (rest.0, after _ _ _ _ (f.again (a + 1)) rest.1);
       }
 
   others_found : (s : Scope) (at : ℕ) (names : List Text) → Has (LocalsRead s names [] (λ a. others_mean s a names)) (others_mean s at names)
@@ -202,7 +202,7 @@ module _ (file : File) where
               record {
                 value = record { name = length s.names.names; locals = l.0.locals; body = w.value; line = line_at ms a };
                 place = w.place + 1;
-                means = within (n == 32) _ _ _ less (behind _ _ _ _ (d.again (a + 1)) (behind _ _ _ _ q.1 (behind _ _ _ _ r.1 (behind _ _ _ _ w.means refl))));
+                means = within (n == 32) _ _ _ less (after _ _ _ _ (d.again (a + 1)) (after _ _ _ _ q.1 (after _ _ _ _ r.1 (after _ _ _ _ w.means refl))));
                 as_before = ap (λ (y : Statements). record { name = length s.names.names; locals = l.0.locals; body = y; line = 0 }) w.as_before;
               };
         };
@@ -233,7 +233,7 @@ module _ (file : File) where
           again = λ ms a.
               let p = one.again ms a in
               let q = many.again ms p.place in
-              record { value = p.value ∷ q.value; place = q.place; means = behind _ _ _ _ p.means (behind _ _ _ _ q.means refl); as_before = ap₂ (λ (v : Op) (vs : List Op). v ∷ vs) p.as_before q.as_before };
+              record { value = p.value ∷ q.value; place = q.place; means = after _ _ _ _ p.means (after _ _ _ _ q.means refl); as_before = ap₂ (λ (v : Op) (vs : List Op). v ∷ vs) p.as_before q.as_before };
         };
       }
 

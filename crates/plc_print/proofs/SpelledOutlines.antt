@@ -27,7 +27,7 @@ use Rattle.plc_outparse.specs.Meaning.{in_turn, clause_line_means, op_named, op_
 use Rattle.plc_parse.specs.Meaning.{empty_outline, outlined_means}
 use Rattle.plc_print.specs.Outlines.{clause_tree, invariant_tree, at_tree, locals_in_reach, site_locals, item_tree, depth_tree, unless_empty, outline_tree}
 use Rattle.plc_print.proofs.NormalTrees.{is_invariant, normal_items, normal_depth, normal_outline}
-use Rattle.plc_print.proofs.Steps.{within, behind, Found, then_found, if_found}
+use Rattle.plc_print.proofs.Steps.{within, after, Found, then_found, if_found}
 use Rattle.plc_print.proofs.SpelledNames.{Bound, Ends, from_number, number_named, place_found, fits_found}
 use Rattle.plc_print.proofs.SpelledClauses.{if_some, OneMore, ManyMore, more_found, ClauseRead, line_found}
 
@@ -106,7 +106,7 @@ module _ (file : File) (s : Scope) (bound : Bound file s) where
   label_more o st n =
       next (Found (IsLabel n) (label_at s by_op n)) _ (label_at s by_op n (st.1 + 1)) _ (label_found n (st.1 + 1)) (λ l f.
       next (Found (λ k. Ends file s → label_name file k ≡ n) (λ a. if_same_op o a l)) _ (if_same_op o (st.1 + 1) l) _ (if_found (λ k. Ends file s → label_name file k ≡ n) (l.1 == o) l.0 (λ a. a) (st.1 + 1) f.named.named) (λ k g.
-      record { added = k; is = refl; tree = g.named; again = λ a. (a + 2, behind _ _ _ _ (f.again (a + 1)) (behind _ _ _ _ (g.again (a + 1)) refl)) }))
+      record { added = k; is = refl; tree = g.named; again = λ a. (a + 2, after _ _ _ _ (f.again (a + 1)) (after _ _ _ _ (g.again (a + 1)) refl)) }))
 
   -- labels are spelled so, and stand in the operation
   record LabelsRead (n : Text) (names : List Text) (r : Labels × ℕ) : Type 0 where
@@ -122,7 +122,7 @@ module _ (file : File) (s : Scope) (bound : Bound file s) where
       (more_found (Ends file s) (label_name file) (label_step s by_op l.1) (label_more l.1) (l.0 ∷ [], at + 1) names) (λ ls g. record {
         tree = λ e c. ap (λ (xs : List ℕ). at_tree (map (label_name file) xs) c) g.is ∙ ap₂ (λ (m : Text) (ms : List Text). AtItem m ms c) (f.named.named e) (g.tree e);
         stands = ap (λ (xs : List ℕ). op_of_site by_op (At xs)) g.is ∙ f.named.stands;
-        again = λ a. let rest = g.again (a + 1) in (rest.0 + 1, behind _ _ _ _ (f.again a) (behind _ _ _ _ rest.1 refl));
+        again = λ a. let rest = g.again (a + 1) in (rest.0 + 1, after _ _ _ _ (f.again a) (after _ _ _ _ rest.1 refl));
       }))
 
   -- ---- items
@@ -159,7 +159,7 @@ module _ (file : File) (s : Scope) (bound : Bound file s) where
         is = refl;
         others = refl;
         tree = λ e. ap InvariantItem (f.tree e);
-        again = λ items at. let one = f.again (at + 1) in (one.0, within (length st.0 == 64) (faults.Limit limits.Invariants 65) _ _ below (behind _ _ _ _ one.1 refl));
+        again = λ items at. let one = f.again (at + 1) in (one.0, within (length st.0 == 64) (faults.Limit limits.Invariants 65) _ _ below (after _ _ _ _ one.1 refl));
       }))
   part_found st (OverItem n c) = unless (ItemRead st (OverItem n c)) (length st.1 == 256) _ _ (λ below.
       next (Found (IsOp n) (op_at s file.ops n)) _ (op_at s file.ops n (st.2 + 1)) _ (op_found n (st.2 + 1)) (λ o f.
@@ -169,7 +169,7 @@ module _ (file : File) (s : Scope) (bound : Bound file s) where
         is = refl;
         others = refl;
         tree = λ e. ap₂ OverItem (f.named e) (g.tree e);
-        again = λ invariants at. let one = g.again (at + 3) in (one.0, within (length st.1 == 256) (faults.Limit limits.Items 257) _ _ below (behind _ _ _ _ (f.again (at + 1)) (behind _ _ _ _ one.1 refl)));
+        again = λ invariants at. let one = g.again (at + 3) in (one.0, within (length st.1 == 256) (faults.Limit limits.Items 257) _ _ below (after _ _ _ _ (f.again (at + 1)) (after _ _ _ _ one.1 refl)));
       })))
   part_found st (AtItem n names c) = unless (ItemRead st (AtItem n names c)) (length st.1 == 256) _ _ (λ below.
       next (LabelsRead n names) _ (labels_mean s by_op (st.2 + 1) n names) _ (labels_found (st.2 + 1) n names) (λ ls f.
@@ -182,7 +182,7 @@ module _ (file : File) (s : Scope) (bound : Bound file s) where
         again = λ invariants at.
             let labels = f.again (at + 1) in
             let one = g.again labels.0 in
-            (one.0, within (length st.1 == 256) (faults.Limit limits.Items 257) _ _ below (behind _ _ _ _ labels.1 (behind _ _ _ _ one.1 refl)));
+            (one.0, within (length st.1 == 256) (faults.Limit limits.Items 257) _ _ below (after _ _ _ _ labels.1 (after _ _ _ _ one.1 refl)));
       })))
 
   abbrev is_other : ItemTree → Bool
@@ -207,7 +207,7 @@ module _ (file : File) (s : Scope) (bound : Bound file s) where
     are_items = g.are_items ∙ ap (λ (ys : List Item). ys ++ g.items) f.others;
     invariant_trees = λ e. ap₂ (λ (y : ItemTree) (ys : List ItemTree). y ∷ ys) (f.tree e) (g.invariant_trees e);
     item_trees = g.item_trees;
-    invariants_again = λ others at. let first = f.again others at in let rest = g.invariants_again others first.0 in (rest.0, behind _ _ _ _ first.1 rest.1);
+    invariants_again = λ others at. let first = f.again others at in let rest = g.invariants_again others first.0 in (rest.0, after _ _ _ _ first.1 rest.1);
     items_again = λ others at. let rest = g.items_again others at in (rest.0, ap (λ (ys : List Item). in_turn step (others, ys, at) (filter is_other xs)) (sym f.others) ∙ rest.1);
   }
 
@@ -228,7 +228,7 @@ module _ (file : File) (s : Scope) (bound : Bound file s) where
         items_again = λ others at.
             let first = f.again others at in
             let rest = g.items_again others first.0 in
-            (rest.0, ap (in_turn step (others, st.1, at)) kept ∙ behind _ _ _ _ first.1 rest.1);
+            (rest.0, ap (in_turn step (others, st.1, at)) kept ∙ after _ _ _ _ first.1 rest.1);
       }
 
   parts_found : (st : Parts) (xs : List ItemTree) → Has (PartsRead st xs) (in_turn step st xs)
@@ -264,7 +264,7 @@ module _ (file : File) (s : Scope) (bound : Bound file s) where
 
     there_again : (xs : List ItemTree) → ComeAgain xs → (a : ℕ) → (place : ℕ) × (outline_means s file.ops a (Outlined d xs) ≡ Ok (record { depth = n; invariants = invariants; items = items }, place))
     unfolding outline_means
-    there_again xs parts a = let all = parts (a + 2 + depth_size d) in (all.0 + 1, behind _ _ _ _ (depth (a + 2)) (behind _ _ _ _ all.1 refl))
+    there_again xs parts a = let all = parts (a + 2 + depth_size d) in (all.0 + 1, after _ _ _ _ (depth (a + 2)) (after _ _ _ _ all.1 refl))
 
     some_again : (xs : List ItemTree) → ComeAgain xs → (a : ℕ) → outlined_means s file.ops a (Some (Outlined d xs)) ≡ Ok (record { depth = n; invariants = invariants; items = items })
     some_again xs parts a = ap (λ (r : Result (Outline × ℕ) ParseFault). r >>= λ o. Ok o.0) (there_again xs parts a).1

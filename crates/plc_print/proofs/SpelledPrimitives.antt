@@ -23,7 +23,7 @@ use Rattle.plc_scope.specs.Primitives.{pointer_value, data_value, value_into, po
 use Rattle.plc_scope.proofs.Holds.{Has, next, weaker, unless}
 use Rattle.plc_print.specs.Canonical.{set_tree, number_tree, ghost_value_tree, test_tree, primitive_tree, name_or_null, refresh_condition, condition_tree, argument_tree, initial_tree}
 use Rattle.plc_lang.specs.Names.{field_name, function_name, auxiliary_name, value_name, pointer_name, data_name, variable_name}
-use Rattle.plc_print.proofs.Steps.{within, behind, Found}
+use Rattle.plc_print.proofs.Steps.{within, after, Found}
 use Rattle.plc_print.proofs.NormalTrees.{stays}
 use Rattle.plc_print.proofs.SpelledNames.{Bound, Ends, RoleIs, any_found, pointer_found, pointer_local_found, data_found, pointer_field_found, data_field_found, function_found, auxiliary_found, value_found}
 
@@ -64,18 +64,18 @@ module _ (file : File) (s : Scope) (bound : Bound file s) where
   pointer_value_found p n at NewValue h = record { named = record { tree = λ e. rw (h e) refl; stands = refl; begins = refl }; again = λ a. refl }
   pointer_value_found p n at (NumberValue m) h = tt
   pointer_value_found p n at (PlaceValue (PlaceOf m None)) h = by_pointer m at _ _ (λ q f.
-      record { named = record { tree = λ e. rw (h e, f.named e) refl; stands = refl; begins = refl }; again = λ a. behind _ _ _ _ (f.again a) refl })
+      record { named = record { tree = λ e. rw (h e, f.named e) refl; stands = refl; begins = refl }; again = λ a. after _ _ _ _ (f.again a) refl })
   pointer_value_found p n at (PlaceValue (PlaceOf m (Some g))) h = by_pointer m at _ _ (λ q f. by_pointer_field g (at + 2) _ _ (λ x k.
-      record { named = record { tree = λ e. rw (h e, f.named e, k.named e) refl; stands = refl; begins = refl }; again = λ a. behind _ _ _ _ (f.again a) (behind _ _ _ _ (k.again (a + 2)) refl) }))
+      record { named = record { tree = λ e. rw (h e, f.named e, k.named e) refl; stands = refl; begins = refl }; again = λ a. after _ _ _ _ (f.again a) (after _ _ _ _ (k.again (a + 2)) refl) }))
 
   data_value_found : (x : ℕ) (n : Text) (at : ℕ) (v : ValueTree) → IsData n x → Has (Found (AsSet (SetName n v)) (λ a. data_value s x a v)) (data_value s x at v)
   data_value_found x n at NullValue h = tt
   data_value_found x n at NewValue h = tt
   data_value_found x n at (NumberValue m) h = record { named = record { tree = λ e. rw (h e) refl; stands = refl; begins = refl }; again = λ a. refl }
   data_value_found x n at (PlaceValue (PlaceOf m None)) h = by_data m at _ _ (λ y f.
-      record { named = record { tree = λ e. rw (h e, f.named e) refl; stands = refl; begins = refl }; again = λ a. behind _ _ _ _ (f.again a) refl })
+      record { named = record { tree = λ e. rw (h e, f.named e) refl; stands = refl; begins = refl }; again = λ a. after _ _ _ _ (f.again a) refl })
   data_value_found x n at (PlaceValue (PlaceOf m (Some g))) h = by_pointer m at _ _ (λ q f. by_data_field g (at + 2) _ _ (λ y k.
-      record { named = record { tree = λ e. rw (h e, f.named e, k.named e) refl; stands = refl; begins = refl }; again = λ a. behind _ _ _ _ (f.again a) (behind _ _ _ _ (k.again (a + 2)) refl) }))
+      record { named = record { tree = λ e. rw (h e, f.named e, k.named e) refl; stands = refl; begins = refl }; again = λ a. after _ _ _ _ (f.again a) (after _ _ _ _ (k.again (a + 2)) refl) }))
 
   value_into_found : (n : Text) (at left : ℕ) (v : ValueTree) (r : Role) → (Ends file s → RoleIs file s.locals n r) → Has (Found (AsSet (SetName n v)) (λ a. value_into s (a + 2) v r a)) (value_into s at v r left)
   value_into_found n at left v (pointer_variable p) h =
@@ -88,13 +88,13 @@ module _ (file : File) (s : Scope) (bound : Bound file s) where
   pointer_atom_found p n m x at NullAtom h k = record { named = record { tree = λ e. rw (h e, k e) refl; stands = refl; begins = refl }; again = λ a. refl }
   pointer_atom_found p n m x at (NumberAtom i) h k = tt
   pointer_atom_found p n m x at (NameAtom q) h k = by_pointer q at _ _ (λ v f.
-      record { named = record { tree = λ e. rw (h e, k e, f.named e) refl; stands = refl; begins = refl }; again = λ a. behind _ _ _ _ (f.again a) refl })
+      record { named = record { tree = λ e. rw (h e, k e, f.named e) refl; stands = refl; begins = refl }; again = λ a. after _ _ _ _ (f.again a) refl })
 
   data_atom_found : (p : Var) (n m : Text) (x : FieldId) (at : ℕ) (a : AtomTree) → IsVariable n p → IsField m x → Has (Found (AsSet (SetField n m a)) (λ b. data_atom s p x b a)) (data_atom s p x at a)
   data_atom_found p n m x at NullAtom h k = tt
   data_atom_found p n m x at (NumberAtom i) h k = record { named = record { tree = λ e. rw (h e, k e) refl; stands = refl; begins = refl }; again = λ a. refl }
   data_atom_found p n m x at (NameAtom q) h k = by_data q at _ _ (λ v f.
-      record { named = record { tree = λ e. rw (h e, k e, f.named e) refl; stands = refl; begins = refl }; again = λ a. behind _ _ _ _ (f.again a) refl })
+      record { named = record { tree = λ e. rw (h e, k e, f.named e) refl; stands = refl; begins = refl }; again = λ a. after _ _ _ _ (f.again a) refl })
 
   atom_into_found : (p : Var) (n m : Text) (at place : ℕ) (a : AtomTree) (r : Role) → IsVariable n p → (Ends file s → RoleIs file s.locals m r) → Has (Found (AsSet (SetField n m a)) (λ b. atom_into s p (b + 4) a r (b + 2))) (atom_into s p at a r place)
   atom_into_found p n m at place a (pointer_field x) h k =
@@ -107,11 +107,11 @@ module _ (file : File) (s : Scope) (bound : Bound file s) where
   unfolding set_means
   set_found at (SetName n v) =
       next (Found (λ r. Ends file s → RoleIs file s.locals n r) (λ p. needed any_role p (role_of s n))) _ (needed any_role at (role_of s n)) _ (any_found file s n at bound) (λ r f.
-      weaker (Found (AsSet (SetName n v)) (λ a. value_into s (a + 2) v r a)) _ (value_into s (at + 2) v r at) (λ k g. record { named = g.named; again = λ a. behind _ _ _ _ (f.again a) (g.again a) }) (value_into_found n (at + 2) at v r f.named))
+      weaker (Found (AsSet (SetName n v)) (λ a. value_into s (a + 2) v r a)) _ (value_into s (at + 2) v r at) (λ k g. record { named = g.named; again = λ a. after _ _ _ _ (f.again a) (g.again a) }) (value_into_found n (at + 2) at v r f.named))
   set_found at (SetField n m a) =
       by_pointer n at _ _ (λ p h.
       next (Found (λ r. Ends file s → RoleIs file s.locals m r) (λ p. needed any_role p (role_of s m))) _ (needed any_role (at + 2) (role_of s m)) _ (any_found file s m (at + 2) bound) (λ r f.
-      weaker (Found (AsSet (SetField n m a)) (λ b. atom_into s p (b + 4) a r (b + 2))) _ (atom_into s p (at + 4) a r (at + 2)) (λ k g. record { named = g.named; again = λ b. behind _ _ _ _ (h.again b) (behind _ _ _ _ (f.again (b + 2)) (g.again b)) })
+      weaker (Found (AsSet (SetField n m a)) (λ b. atom_into s p (b + 4) a r (b + 2))) _ (atom_into s p (at + 4) a r (at + 2)) (λ k g. record { named = g.named; again = λ b. after _ _ _ _ (h.again b) (after _ _ _ _ (f.again (b + 2)) (g.again b)) })
       (atom_into_found p n m (at + 4) (at + 2) a r h.named f.named)))
 
   -- ---- refreshes
@@ -126,15 +126,15 @@ module _ (file : File) (s : Scope) (bound : Bound file s) where
 
   refresh_from_found : (p : ℕ) (n : Text) (at : ℕ) (place : PlaceTree) → IsPointerLocal n p → Has (Found (AsRefresh n place) (λ a. refresh_from s p a place)) (refresh_from s p at place)
   refresh_from_found p n at (PlaceOf m None) h = by_pointer m at _ _ (λ q f.
-      record { named = record { stands = λ e. rw (h e, f.named e) refl; tests = λ e. rw (h e, f.named e) refl }; again = λ a. behind _ _ _ _ (f.again a) refl })
+      record { named = record { stands = λ e. rw (h e, f.named e) refl; tests = λ e. rw (h e, f.named e) refl }; again = λ a. after _ _ _ _ (f.again a) refl })
   refresh_from_found p n at (PlaceOf m (Some g)) h = by_pointer m at _ _ (λ q f. by_pointer_field g (at + 2) _ _ (λ x k.
-      record { named = record { stands = λ e. rw (h e, f.named e, k.named e) refl; tests = λ e. rw (h e, f.named e, k.named e) refl }; again = λ a. behind _ _ _ _ (f.again a) (behind _ _ _ _ (k.again (a + 2)) refl) }))
+      record { named = record { stands = λ e. rw (h e, f.named e, k.named e) refl; tests = λ e. rw (h e, f.named e, k.named e) refl }; again = λ a. after _ _ _ _ (f.again a) (after _ _ _ _ (k.again (a + 2)) refl) }))
 
   refresh_name_found : (at : ℕ) (n : Text) (place : PlaceTree) → Has (Found (AsRefresh n place) (λ a. refresh_name_means s a n place)) (refresh_name_means s at n place)
   unfolding refresh_name_means
   refresh_name_found at n place =
       next (Found (IsPointerLocal n) (pointer_local_at s n)) _ (pointer_local_at s n at) _ (pointer_local_found file s n at bound) (λ p h.
-      weaker (Found (AsRefresh n place) (λ a. refresh_from s p a place)) _ (refresh_from s p (at + 2) place) (λ k g. record { named = g.named; again = λ a. behind _ _ _ _ (h.again a) (g.again (a + 2)) }) (refresh_from_found p n (at + 2) place h.named))
+      weaker (Found (AsRefresh n place) (λ a. refresh_from s p a place)) _ (refresh_from s p (at + 2) place) (λ k g. record { named = g.named; again = λ a. after _ _ _ _ (h.again a) (g.again (a + 2)) }) (refresh_from_found p n (at + 2) place h.named))
 
   -- the primitive is spelled by this tree
   abbrev pub IsSpelled : PrimitiveTree → Primitive → Type 0
@@ -145,7 +145,7 @@ module _ (file : File) (s : Scope) (bound : Bound file s) where
   refresh_found at (RefreshName n place) =
       weaker (Found (AsRefresh n place) (λ a. refresh_name_means s a n place)) _ (refresh_name_means s at n place) (λ k g. record { named = g.named.stands; again = g.again }) (refresh_name_found at n place)
   refresh_found at (RefreshField n g m) = by_pointer n at _ _ (λ p h. by_pointer_field g (at + 2) _ _ (λ x k. by_pointer m (at + 4) _ _ (λ q f.
-      record { named = λ e. rw (h.named e, k.named e, f.named e) refl; again = λ a. behind _ _ _ _ (h.again a) (behind _ _ _ _ (k.again (a + 2)) (behind _ _ _ _ (f.again (a + 4)) refl)) })))
+      record { named = λ e. rw (h.named e, k.named e, f.named e) refl; again = λ a. after _ _ _ _ (h.again a) (after _ _ _ _ (k.again (a + 2)) (after _ _ _ _ (f.again (a + 4)) refl)) })))
 
   -- ---- auxiliary fields
 
@@ -159,7 +159,7 @@ module _ (file : File) (s : Scope) (bound : Bound file s) where
   ghost_value_found : (in_init : Bool) (g : ℕ) (thread : Bool) (at : ℕ) (v : GhostValueTree) → Has (Found (IsGhostValue g v) (λ a. ghost_value_means s in_init g thread a v)) (ghost_value_means s in_init g thread at v)
   unfolding thread_at
   ghost_value_found in_init g false at (NameGhost n) =
-      next (Found (λ v. Ends file s → value_name file g v ≡ n) (value_at s g n)) _ (value_at s g n at) _ (value_found file s n at bound g) (λ v f. record { named = λ e. ap NameGhost (f.named e); again = λ a. behind _ _ _ _ (f.again a) refl })
+      next (Found (λ v. Ends file s → value_name file g v ≡ n) (value_at s g n)) _ (value_at s g n at) _ (value_found file s n at bound g) (λ v f. record { named = λ e. ap NameGhost (f.named e); again = λ a. after _ _ _ _ (f.again a) refl })
   ghost_value_found in_init g true at (NameGhost n) = no_thread (role_of s n) at _ _
   ghost_value_found in_init g false at MeGhost = tt
   ghost_value_found false g true at MeGhost = record { named = λ e. refl; again = λ a. refl }
@@ -182,7 +182,7 @@ module _ (file : File) (s : Scope) (bound : Bound file s) where
           stands = λ e. rw (h.named e, k.named e, m.named e) refl;
           begins = λ none e. ap (λ (ls : List Local). InitialGhost (SetGhost (variable_name file ls p) (auxiliary_name file g.0) (ghost_value_tree file ls g.0 w))) (sym none) ∙ rw (h.named e, k.named e, m.named e) refl;
         };
-        again = λ a. behind _ _ _ _ (h.again (a + 1)) (behind _ _ _ _ (k.again (a + 3)) (behind _ _ _ _ (m.again (a + 5)) refl));
+        again = λ a. after _ _ _ _ (h.again (a + 1)) (after _ _ _ _ (k.again (a + 3)) (after _ _ _ _ (m.again (a + 5)) refl));
       })))
 
   -- ---- tests
@@ -196,11 +196,11 @@ module _ (file : File) (s : Scope) (bound : Bound file s) where
   pointer_test_found p n at SameAs NullAtom h = record { named = record { tree = λ e. rw (h e) refl; stands = refl }; again = λ b. refl }
   pointer_test_found p n at SameAs (NumberAtom i) h = tt
   pointer_test_found p n at SameAs (NameAtom m) h = by_pointer m (at + 1) _ _ (λ q f.
-      record { named = record { tree = λ e. rw (h e, f.named e) refl; stands = refl }; again = λ b. behind _ _ _ _ (f.again (b + 1)) refl })
+      record { named = record { tree = λ e. rw (h e, f.named e) refl; stands = refl }; again = λ b. after _ _ _ _ (f.again (b + 1)) refl })
   pointer_test_found p n at OtherThan NullAtom h = record { named = record { tree = λ e. rw (h e) refl; stands = refl }; again = λ b. refl }
   pointer_test_found p n at OtherThan (NumberAtom i) h = tt
   pointer_test_found p n at OtherThan (NameAtom m) h = by_pointer m (at + 1) _ _ (λ q f.
-      record { named = record { tree = λ e. rw (h e, f.named e) refl; stands = refl }; again = λ b. behind _ _ _ _ (f.again (b + 1)) refl })
+      record { named = record { tree = λ e. rw (h e, f.named e) refl; stands = refl }; again = λ b. after _ _ _ _ (f.again (b + 1)) refl })
   pointer_test_found p n at LessThan a h = tt
   pointer_test_found p n at NotLessThan a h = tt
 
@@ -214,7 +214,7 @@ module _ (file : File) (s : Scope) (bound : Bound file s) where
   data_test_found x n at c NullAtom h = tt
   data_test_found x n at c (NumberAtom i) h = record { named = record { tree = λ e. data_test_tree x c (nums.Lit i) ∙ rw (h e) refl; stands = refl }; again = λ b. refl }
   data_test_found x n at c (NameAtom m) h = by_data m at _ _ (λ y f.
-      record { named = record { tree = λ e. data_test_tree x c (nums.Local y) ∙ rw (h e, f.named e) refl; stands = refl }; again = λ b. behind _ _ _ _ (f.again b) refl })
+      record { named = record { tree = λ e. data_test_tree x c (nums.Local y) ∙ rw (h e, f.named e) refl; stands = refl }; again = λ b. after _ _ _ _ (f.again b) refl })
 
   test_of_found : (n : Text) (at : ℕ) (c : Comparison) (a : AtomTree) (r : Role) → (Ends file s → RoleIs file s.locals n r) → Has (Found (AsTest (Compares n c a)) (λ b. test_of s b c a r)) (test_of s at c a r)
   test_of_found n at c a (pointer_variable p) h =
@@ -227,7 +227,7 @@ module _ (file : File) (s : Scope) (bound : Bound file s) where
   unfolding test_means
   test_found at (Compares n c a) =
       next (Found (λ r. Ends file s → RoleIs file s.locals n r) (λ p. needed any_role p (role_of s n))) _ (needed any_role at (role_of s n)) _ (any_found file s n at bound) (λ r f.
-      weaker (Found (AsTest (Compares n c a)) (λ b. test_of s b c a r)) _ (test_of s at c a r) (λ k g. record { named = g.named; again = λ b. behind _ _ _ _ (f.again b) (g.again b) }) (test_of_found n at c a r f.named))
+      weaker (Found (AsTest (Compares n c a)) (λ b. test_of s b c a r)) _ (test_of s at c a r) (λ k g. record { named = g.named; again = λ b. after _ _ _ _ (f.again b) (g.again b) }) (test_of_found n at c a r f.named))
 
   -- ---- conditions
 
@@ -239,20 +239,20 @@ module _ (file : File) (s : Scope) (bound : Bound file s) where
 
   name_or_null_found : (at : ℕ) (n : Option Text) → Has (Found (IsNameOrNull n) (λ a. pointer_or_null s a n)) (pointer_or_null s at n)
   name_or_null_found at None = record { named = λ e. refl; again = λ a. refl }
-  name_or_null_found at (Some n) = by_pointer n at _ _ (λ q f. record { named = λ e. ap Some (f.named e); again = λ a. behind _ _ _ _ (f.again a) refl })
+  name_or_null_found at (Some n) = by_pointer n at _ _ (λ q f. record { named = λ e. ap Some (f.named e); again = λ a. after _ _ _ _ (f.again a) refl })
 
   pub condition_found : (at : ℕ) (c : ConditionTree) → Has (Found (IsCondition c) (λ a. condition_means s a c)) (condition_means s at c)
   unfolding condition_means
   condition_found at (TestCondition t) =
-      next (Found (AsTest t) (λ a. test_means s a t)) _ (test_means s at t) _ (test_found at t) (λ k f. record { named = λ e. ap TestCondition (f.named.tree e); again = λ a. behind _ _ _ _ (f.again a) refl })
+      next (Found (AsTest t) (λ a. test_means s a t)) _ (test_means s at t) _ (test_found at t) (λ k f. record { named = λ e. ap TestCondition (f.named.tree e); again = λ a. after _ _ _ _ (f.again a) refl })
   condition_found at (RefreshCondition n place) =
-      next (Found (AsRefresh n place) (λ a. refresh_name_means s a n place)) _ (refresh_name_means s at n place) _ (refresh_name_found at n place) (λ k f. record { named = f.named.tests; again = λ a. behind _ _ _ _ (f.again a) refl })
+      next (Found (AsRefresh n place) (λ a. refresh_name_means s a n place)) _ (refresh_name_means s at n place) _ (refresh_name_found at n place) (λ k f. record { named = f.named.tests; again = λ a. after _ _ _ _ (f.again a) refl })
   condition_found at (CasCondition active n old new) = by_pointer n (at + 2 + word_size active) _ _ (λ p f.
       next (Found (IsNameOrNull old) (λ a. pointer_or_null s a old)) _ (pointer_or_null s (at + 2 + word_size active + 2) old) _ (name_or_null_found (at + 2 + word_size active + 2) old) (λ q g.
       next (Found (IsNameOrNull new) (λ a. pointer_or_null s a new)) _ (pointer_or_null s (at + 2 + word_size active + 4) new) _ (name_or_null_found (at + 2 + word_size active + 4) new) (λ r h.
       record {
         named = λ e. rw (f.named e, g.named e, h.named e) refl;
-        again = λ a. behind _ _ _ _ (f.again (a + 2 + word_size active)) (behind _ _ _ _ (g.again (a + 2 + word_size active + 2)) (behind _ _ _ _ (h.again (a + 2 + word_size active + 4)) refl));
+        again = λ a. after _ _ _ _ (f.again (a + 2 + word_size active)) (after _ _ _ _ (g.again (a + 2 + word_size active + 2)) (after _ _ _ _ (h.again (a + 2 + word_size active + 4)) refl));
       })))
 
   -- ---- primitives
@@ -265,14 +265,14 @@ module _ (file : File) (s : Scope) (bound : Bound file s) where
   pub primitive_found : (at : ℕ) (p : PrimitiveTree) → Has (Found (IsPrimitive p) (λ a. primitive_means s a p)) (primitive_means s at p)
   unfolding primitive_means
   primitive_found at (SetPrimitive set) =
-      next (Found (AsSet set) (λ a. set_means s a set)) _ (set_means s at set) _ (set_found at set) (λ k f. record { named = (refl, λ e. f.named.stands ∙ ap SetPrimitive (f.named.tree e)); again = λ a. behind _ _ _ _ (f.again a) refl })
+      next (Found (AsSet set) (λ a. set_means s a set)) _ (set_means s at set) _ (set_found at set) (λ k f. record { named = (refl, λ e. f.named.stands ∙ ap SetPrimitive (f.named.tree e)); again = λ a. after _ _ _ _ (f.again a) refl })
   primitive_found at (RefreshPrimitive r) =
-      next (Found (IsSpelled (RefreshPrimitive r)) (λ a. refresh_means s a r)) _ (refresh_means s at r) _ (refresh_found at r) (λ k f. record { named = (refl, f.named); again = λ a. behind _ _ _ _ (f.again a) refl })
+      next (Found (IsSpelled (RefreshPrimitive r)) (λ a. refresh_means s a r)) _ (refresh_means s at r) _ (refresh_found at r) (λ k f. record { named = (refl, f.named); again = λ a. after _ _ _ _ (f.again a) refl })
   primitive_found at (GhostPrimitive set) =
-      next (Found (AsGhost set) (λ a. ghost_set_means s false a set)) _ (ghost_set_means s false at set) _ (ghost_set_found false at set) (λ k f. record { named = (refl, f.named.stands); again = λ a. behind _ _ _ _ (f.again a) refl })
-  primitive_found at (ActivePrimitive n) = by_pointer n (at + 1) _ _ (λ p f. record { named = (refl, λ e. ap ActivePrimitive (f.named e)); again = λ a. behind _ _ _ _ (f.again (a + 1)) refl })
+      next (Found (AsGhost set) (λ a. ghost_set_means s false a set)) _ (ghost_set_means s false at set) _ (ghost_set_found false at set) (λ k f. record { named = (refl, f.named.stands); again = λ a. after _ _ _ _ (f.again a) refl })
+  primitive_found at (ActivePrimitive n) = by_pointer n (at + 1) _ _ (λ p f. record { named = (refl, λ e. ap ActivePrimitive (f.named e)); again = λ a. after _ _ _ _ (f.again (a + 1)) refl })
   primitive_found at (AssumePrimitive t) =
-      next (Found (AsTest t) (λ a. test_means s a t)) _ (test_means s (at + 1) t) _ (test_found (at + 1) t) (λ k f. record { named = (refl, λ e. f.named.stands ∙ ap AssumePrimitive (f.named.tree e)); again = λ a. behind _ _ _ _ (f.again (a + 1)) refl })
+      next (Found (AsTest t) (λ a. test_means s a t)) _ (test_means s (at + 1) t) _ (test_found (at + 1) t) (λ k f. record { named = (refl, λ e. f.named.stands ∙ ap AssumePrimitive (f.named.tree e)); again = λ a. after _ _ _ _ (f.again (a + 1)) refl })
   primitive_found at SkipPrimitive = record { named = refl; again = λ a. refl }
 
   -- each form of `init` is a primitive
@@ -285,10 +285,10 @@ module _ (file : File) (s : Scope) (bound : Bound file s) where
   initial_found none at (InitialSet set) =
       next (Found (AsSet set) (λ a. set_means s a set)) _ (set_means s at set) _ (set_found at set) (λ k f. record {
         named = λ e. f.named.begins ∙ ap (λ (ls : List Local). InitialSet (set_tree file ls k)) (sym none) ∙ ap InitialSet (f.named.tree e);
-        again = λ a. behind _ _ _ _ (f.again a) refl;
+        again = λ a. after _ _ _ _ (f.again a) refl;
       })
   initial_found none at (InitialGhost set) =
-      next (Found (AsGhost set) (λ a. ghost_set_means s true a set)) _ (ghost_set_means s true at set) _ (ghost_set_found true at set) (λ k f. record { named = f.named.begins none; again = λ a. behind _ _ _ _ (f.again a) refl })
+      next (Found (AsGhost set) (λ a. ghost_set_means s true a set)) _ (ghost_set_means s true at set) _ (ghost_set_found true at set) (λ k f. record { named = f.named.begins none; again = λ a. after _ _ _ _ (f.again a) refl })
 
   -- ---- calls
 
@@ -306,11 +306,11 @@ module _ (file : File) (s : Scope) (bound : Bound file s) where
   argument_found f n true at NullArgument h =
       unless (Found (IsCall n NullArgument) (λ b. argument_means s f true b NullArgument)) (f.0 == 0) (faults.NoSuchCall at) _ (λ not_first.
       record { named = record { function = h; argument = λ e. refl }; again = λ b. within (f.0 == 0) (faults.NoSuchCall b) _ _ not_first refl })
-  argument_found f n true at (NameArgument m) h = by_pointer m (at + 2) _ _ (λ p g. record { named = record { function = h; argument = λ e. ap NameArgument (g.named e) }; again = λ b. behind _ _ _ _ (g.again (b + 2)) refl })
-  argument_found f n true at (ActiveArgument m) h = by_pointer m (at + 3) _ _ (λ p g. record { named = record { function = h; argument = λ e. ap ActiveArgument (g.named e) }; again = λ b. behind _ _ _ _ (g.again (b + 3)) refl })
+  argument_found f n true at (NameArgument m) h = by_pointer m (at + 2) _ _ (λ p g. record { named = record { function = h; argument = λ e. ap NameArgument (g.named e) }; again = λ b. after _ _ _ _ (g.again (b + 2)) refl })
+  argument_found f n true at (ActiveArgument m) h = by_pointer m (at + 3) _ _ (λ p g. record { named = record { function = h; argument = λ e. ap ActiveArgument (g.named e) }; again = λ b. after _ _ _ _ (g.again (b + 3)) refl })
 
   pub call_found : (at : ℕ) (n : Text) (a : ArgumentTree) → Has (Found (IsCall n a) (λ b. call_means s b n a)) (call_means s at n a)
   unfolding call_means
   call_found at n a =
       next (Found (λ f. Ends file s → function_name file f.0 ≡ n) (function_at s n)) _ (function_at s n at) _ (function_found file s n at bound) (λ f g.
-      weaker (Found (IsCall n a) (λ b. argument_means s f.0 f.1 b a)) _ (argument_means s f.0 f.1 at a) (λ c h. record { named = h.named; again = λ b. behind _ _ _ _ (g.again b) (h.again b) }) (argument_found f.0 n f.1 at a g.named))
+      weaker (Found (IsCall n a) (λ b. argument_means s f.0 f.1 b a)) _ (argument_means s f.0 f.1 at a) (λ c h. record { named = h.named; again = λ b. after _ _ _ _ (g.again b) (h.again b) }) (argument_found f.0 n f.1 at a g.named))

@@ -15,7 +15,7 @@ use Rattle.plc_scope.proofs.Holds.{Has, next}
 use Rattle.plc_print.specs.Canonical.{primitive_tree, condition_tree, statement_tree, block_tree, blocks_tree}
 use Rattle.plc_print.specs.Laws.{statement_without_lines, without_lines, blocks_without_lines}
 use Rattle.plc_print.proofs.NormalTrees.{stays, normal_statement, normal_block, normal_else, normal_or}
-use Rattle.plc_print.proofs.Steps.{behind, Found}
+use Rattle.plc_print.proofs.Steps.{after, Found}
 use Rattle.plc_print.proofs.SpelledNames.{Bound, Ends}
 use Rattle.plc_print.proofs.SpelledPrimitives.{IsPrimitive, primitive_found, IsCondition, condition_found, IsCall, call_found}
 use Rattle.plc_print.proofs.GrowingScopes.{Goes, goes_nowhere, goes_on, ends_before, LabelRead, label_found, DuringRead, during_found}
@@ -79,14 +79,14 @@ module _ (file : File) where
             goes = goes_nowhere file s;
             locals = refl;
             tree = one_tree s bound k p f.named;
-            again = λ ms a. record { value = one_or_skip k; place = a + primitive_size p + 1; means = behind _ _ _ _ (f.again a) refl; as_before = refl };
+            again = λ ms a. record { value = one_or_skip k; place = a + primitive_size p + 1; means = after _ _ _ _ (f.again a) refl; as_before = refl };
           })
       statement_found s in_loop at (AtomicStatement ps) bound =
           next (FormsRead (primitive_means s) primitive_size stays (IsPrimitive file s bound) (Ends file s) (primitive_tree file s.locals) (λ p h. ap stays h) (λ p k h. h) (primitive_found file s bound) 0 false ps) _ (atomic_means s (at + 2) ps) _ (primitives_found s bound (at + 2) ps) (λ b f. record {
             goes = goes_nowhere file s;
             locals = refl;
             tree = λ e. ap AtomicStatement (f.tree e);
-            again = λ ms a. let rest = f.again (a + 2) in record { value = Atomic b.0; place = rest.0 + 1; means = behind _ _ _ _ rest.1 refl; as_before = refl };
+            again = λ ms a. let rest = f.again (a + 2) in record { value = Atomic b.0; place = rest.0 + 1; means = after _ _ _ _ rest.1 refl; as_before = refl };
           })
       statement_found s in_loop at (CallStatement n a d) bound =
           next (Found (IsCall file s bound n a) (λ b. call_means s b n a)) _ (call_means s at n a) _ (call_found file s bound at n a) (λ c f.
@@ -94,7 +94,7 @@ module _ (file : File) where
             goes = g.named.goes;
             locals = g.named.locals;
             tree = λ e. let here = ends_before file s l.1 g.named.goes e in rw (f.named.function here, f.named.argument here, g.named.name e) refl;
-            again = λ ms b. record { value = Call c.0 c.1 c.2 l.0; place = b + call_size a + during_size d + 1; means = behind _ _ _ _ (f.again b) (behind _ _ _ _ (g.again (b + call_size a)) refl); as_before = refl };
+            again = λ ms b. record { value = Call c.0 c.1 c.2 l.0; place = b + call_size a + during_size d + 1; means = after _ _ _ _ (f.again b) (after _ _ _ _ (g.again (b + call_size a)) refl); as_before = refl };
           }))
       statement_found s in_loop at (IfStatement c b o) bound =
           next (Found (IsCondition file s bound c) (λ a. condition_means s a c)) _ (condition_means s (at + 2) c) _ (condition_found file s bound (at + 2) c) (λ k f.
@@ -104,12 +104,12 @@ module _ (file : File) where
             locals = h.locals ∙ g.locals;
             tree = λ e.
                 let middle = ends_before file x.1 y.1 h.goes e in
-                let behind_block : else_tree s.locals y.0 ≡ normal_else o = subst (λ ls. else_tree ls y.0 ≡ normal_else o) g.locals (h.tree e) in
-                if_tree s.locals k x.0 y.0 ∙ rw (f.named (ends_before file s x.1 g.goes middle), g.tree middle, behind_block) refl;
+                let after_block : else_tree s.locals y.0 ≡ normal_else o = subst (λ ls. else_tree ls y.0 ≡ normal_else o) g.locals (h.tree e) in
+                if_tree s.locals k x.0 y.0 ∙ rw (f.named (ends_before file s x.1 g.goes middle), g.tree middle, after_block) refl;
             again = λ ms a.
                 let p = g.again ms (a + 2 + condition_size c + 2) in
                 let q = h.again ms (p.place + 1) in
-                record { value = If k p.value q.value; place = q.place; means = behind _ _ _ _ (f.again (a + 2)) (behind _ _ _ _ p.means (behind _ _ _ _ q.means refl)); as_before = ap₂ (λ (u v : Statements). If k u v) p.as_before q.as_before };
+                record { value = If k p.value q.value; place = q.place; means = after _ _ _ _ (f.again (a + 2)) (after _ _ _ _ p.means (after _ _ _ _ q.means refl)); as_before = ap₂ (λ (u v : Statements). If k u v) p.as_before q.as_before };
           })))
       statement_found s in_loop at (ChooseStatement a b os) bound =
           next (BlockRead s in_loop a) _ (statements_mean lines s in_loop (at + 2) a) _ (block_found s in_loop (at + 2) a bound) (λ x f.
@@ -129,7 +129,7 @@ module _ (file : File) where
                 record {
                   value = Choose (And p.value (And q.value r.value));
                   place = r.place;
-                  means = behind _ _ _ _ p.means (behind _ _ _ _ q.means (behind _ _ _ _ r.means refl));
+                  means = after _ _ _ _ p.means (after _ _ _ _ q.means (after _ _ _ _ r.means refl));
                   as_before = ap Choose (ap₂ (λ (u : Statements) (v : Blocks). And u v) p.as_before (ap₂ (λ (u : Statements) (v : Blocks). And u v) q.as_before r.as_before));
                 };
           })))
@@ -138,7 +138,7 @@ module _ (file : File) where
             goes = f.goes;
             locals = f.locals;
             tree = λ e. ap LoopStatement (f.tree e);
-            again = λ ms a. let p = f.again ms (a + 2) in record { value = Loop p.value; place = p.place + 1; means = behind _ _ _ _ p.means refl; as_before = ap Loop p.as_before };
+            again = λ ms a. let p = f.again ms (a + 2) in record { value = Loop p.value; place = p.place + 1; means = after _ _ _ _ p.means refl; as_before = ap Loop p.as_before };
           })
       statement_found s true at BreakStatement bound = record { goes = goes_nowhere file s; locals = refl; tree = λ e. refl; again = λ ms a. record { value = Break; place = a + 2; means = refl; as_before = refl } }
       statement_found s false at BreakStatement bound = tt
@@ -148,7 +148,7 @@ module _ (file : File) where
             goes = f.named.goes;
             locals = f.named.locals;
             tree = λ e. ap LabelStatement (f.named.name e);
-            again = λ ms a. record { value = Label l.0; place = a + 3; means = behind _ _ _ _ (f.again a) refl; as_before = refl };
+            again = λ ms a. record { value = Label l.0; place = a + 3; means = after _ _ _ _ (f.again a) refl; as_before = refl };
           })
 
       pub block_found : (s : Scope) (in_loop : Bool) (at : ℕ) (b : BlockTree) → Bound file s → Has (BlockRead s in_loop b) (statements_mean lines s in_loop at b)
@@ -164,7 +164,7 @@ module _ (file : File) where
             again = λ ms a.
                 let p = f.again ms a in
                 let q = g.again ms p.place in
-                record { value = Then (line_at ms a) p.value q.value; place = q.place; means = behind _ _ _ _ p.means (behind _ _ _ _ q.means refl); as_before = ap₂ (λ (u : Statement) (v : Statements). Then 0 u v) p.as_before q.as_before };
+                record { value = Then (line_at ms a) p.value q.value; place = q.place; means = after _ _ _ _ p.means (after _ _ _ _ q.means refl); as_before = ap₂ (λ (u : Statement) (v : Statements). Then 0 u v) p.as_before q.as_before };
           }))
 
       else_found : (s : Scope) (in_loop : Bool) (at : ℕ) (o : ElseTree) → Bound file s → Has (ElseRead s in_loop o) (else_means lines s in_loop at o)
@@ -175,7 +175,7 @@ module _ (file : File) where
             goes = f.goes;
             locals = f.locals;
             tree = λ e. with_statements s.locals x.0 (normal_statement st) (normal_block b) (f.tree e);
-            again = λ ms a. let p = f.again ms (a + 2) in record { value = p.value; place = p.place + 1; means = behind _ _ _ _ p.means refl; as_before = p.as_before };
+            again = λ ms a. let p = f.again ms (a + 2) in record { value = p.value; place = p.place + 1; means = after _ _ _ _ p.means refl; as_before = p.as_before };
           })
 
       or_found : (s : Scope) (in_loop : Bool) (at : ℕ) (os : OrTree) → Bound file s → Has (OrRead s in_loop os) (or_means lines s in_loop at os)
@@ -191,5 +191,5 @@ module _ (file : File) where
             again = λ ms a.
                 let p = f.again ms (a + 2) in
                 let q = g.again ms (p.place + 1) in
-                record { value = And p.value q.value; place = q.place; means = behind _ _ _ _ p.means (behind _ _ _ _ q.means refl); as_before = ap₂ (λ (u : Statements) (v : Blocks). And u v) p.as_before q.as_before };
+                record { value = And p.value q.value; place = q.place; means = after _ _ _ _ p.means (after _ _ _ _ q.means refl); as_before = ap₂ (λ (u : Statements) (v : Blocks). And u v) p.as_before q.as_before };
           }))

@@ -10,8 +10,8 @@ within true e r s h k = absurd cc
 within false e r s h k = k
 
 -- after an answer
-pub behind : {A B : Type 0} (r : Result A ParseFault) (f : A → Result B ParseFault) (x : A) (y : Result B ParseFault) → r ≡ Ok x → f x ≡ y → (r >>= f) ≡ y
-behind r f x y e k = ap (λ z. z >>= f) e ∙ k
+pub after : {A B : Type 0} (r : Result A ParseFault) (f : A → Result B ParseFault) (x : A) (y : Result B ParseFault) → r ≡ Ok x → f x ≡ y → (r >>= f) ≡ y
+after r f x y e k = ap (λ z. z >>= f) e ∙ k
 
 -- what is found is so named, and is found again at every place
 pub record Found {A : Type 0} (Q : A → Type 0) (means : ℕ → Result A ParseFault) (x : A) : Type 0 where
@@ -22,7 +22,7 @@ pub record Found {A : Type 0} (Q : A → Type 0) (means : ℕ → Result A Parse
 pub then_found : {A B : Type 0} (P : A → Type 0) (Q : B → Type 0) (first : ℕ → Result A ParseFault) (second : A → ℕ → Result B ParseFault) (at : ℕ) → Has (Found P first) (first at) → ((x : A) → P x → Has (Found Q (second x)) (second x at))
     → Has (Found Q (λ a. first a >>= λ x. second x a)) (first at >>= λ x. second x at)
 then_found P Q first second at h k = next (Found P first) (Found Q (λ a. first a >>= λ x. second x a)) (first at) (λ x. second x at) h (λ x f.
-    weaker (Found Q (second x)) (Found Q (λ a. first a >>= λ y. second y a)) (second x at) (λ y g. record { named = g.named; again = λ a. behind (first a) (λ z. second z a) x (Ok y) (f.again a) (g.again a) }) (k x f.named))
+    weaker (Found Q (second x)) (Found Q (λ a. first a >>= λ y. second y a)) (second x at) (λ y g. record { named = g.named; again = λ a. after (first a) (λ z. second z a) x (Ok y) (f.again a) (g.again a) }) (k x f.named))
 
 -- a form that stands somewhere after the place
 pub moved : {A : Type 0} (Q : A → Type 0) (means : ℕ → Result A ParseFault) (place : ℕ → ℕ) (at : ℕ) → Has (Found Q means) (means (place at)) → Has (Found Q (λ a. means (place a))) (means (place at))

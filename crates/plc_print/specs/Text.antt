@@ -81,23 +81,23 @@ token_text (Number n) = decimal n
 token_text (Symbol s) = symbol_text s
 
 -- what follows a symbol
-abbrev pub behind_symbol : Punctuation → ℕ
-behind_symbol symbols.OpenBrace = 10
-behind_symbol symbols.CloseBrace = 10
-behind_symbol symbols.Semicolon = 10
-behind_symbol s = 32
+abbrev pub after_symbol : Punctuation → ℕ
+after_symbol symbols.OpenBrace = 10
+after_symbol symbols.CloseBrace = 10
+after_symbol symbols.Semicolon = 10
+after_symbol s = 32
 
 -- what follows a token
-abbrev pub behind : TokenKind → ℕ
-behind (Word w) = 32
-behind (Name n) = 32
-behind (Number n) = 32
-behind (Symbol s) = behind_symbol s
+abbrev pub after : TokenKind → ℕ
+after (Word w) = 32
+after (Name n) = 32
+after (Number n) = 32
+after (Symbol s) = after_symbol s
 
 -- the text of tokens
 abbrev pub text_of : List TokenKind → List ℕ
 text_of [] = []
-text_of (t ∷ ts) = token_text t ++ behind t ∷ text_of ts
+text_of (t ∷ ts) = token_text t ++ after t ∷ text_of ts
 
 -- the one canonical text of a unit
 abbrev pub canonical_text : FileUnit → List ℕ

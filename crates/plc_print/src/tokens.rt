@@ -2,7 +2,7 @@
 // table of such lists, and what a form prints is seen at once.
 ghost use Rattle.std.specs.Prelude.{◌≡◌, ◌++◌, ◌∷◌, [], OnOk, decimal, map};
 ghost use Rattle.plc_print.specs.Pieces.{Prints, kind_of};
-ghost use Rattle.plc_print.specs.Text.{behind_symbol, outline_word, symbol_text, word_text};
+ghost use Rattle.plc_print.specs.Text.{after_symbol, outline_word, symbol_text, word_text};
 
 use plc_lex::{Keyword, Symbol};
 use std::alloc::{AllocError, Global};
@@ -135,8 +135,8 @@ fn symbol_text(symbol: Symbol) -> &'static [u8]
 }
 
 // What follows a symbol.
-fn behind_symbol(symbol: Symbol) -> u8
-    ensures { result ≡ behind_symbol symbol }
+fn after_symbol(symbol: Symbol) -> u8
+    ensures { result ≡ after_symbol symbol }
 {
     match symbol {
         Symbol::OpenBrace | Symbol::CloseBrace | Symbol::Semicolon => b'\n',
@@ -163,11 +163,11 @@ impl Printer {
     }
 
     // A token's text and what follows it.
-    fn put(&mut self, text: &[u8], behind: u8) -> Result<(), AllocError>
-        ensures { OnOk result (self.new.text.items ≡ self.old.text.items ++ text.now ++ behind ∷ []) }
+    fn put(&mut self, text: &[u8], after: u8) -> Result<(), AllocError>
+        ensures { OnOk result (self.new.text.items ≡ self.old.text.items ++ text.now ++ after ∷ []) }
     {
         self.text.extend_from_slice(text)?;
-        self.text.push(behind)?;
+        self.text.push(after)?;
         Ok(())
     }
 
@@ -186,7 +186,7 @@ impl Printer {
             Piece::Word(word) => self.put(word_text(word), b' '),
             Piece::Name(name) => self.put(name, b' '),
             Piece::Number(number) => self.number(number),
-            Piece::Sign(symbol) => self.put(symbol_text(symbol), behind_symbol(symbol)),
+            Piece::Sign(symbol) => self.put(symbol_text(symbol), after_symbol(symbol)),
         }
     }
 

@@ -39,23 +39,23 @@ use Rattle.plc_run.proofs.Judged.{run_allowed}
 -- ---- events that are gathered beside the history
 
 -- the same end with a history before its own
-abbrev pub behind : List Event → Ending → Ending
-behind h (Fine s g) = Fine s (h ++ g)
-behind h Stuck = Stuck
-behind h (Raced kind k) = Raced kind k
+abbrev pub with_history : List Event → Ending → Ending
+with_history h (Fine s g) = Fine s (h ++ g)
+with_history h Stuck = Stuck
+with_history h (Raced kind k) = Raced kind k
 
-recorded_behind : (h g : List Event) (e : Option Event) → recorded (h ++ g) e ≡ h ++ recorded g e
-recorded_behind h g None = refl
-recorded_behind h g (Some e) = append_assoc h g (e ∷ [])
+recorded_with_history : (h g : List Event) (e : Option Event) → recorded (h ++ g) e ≡ h ++ recorded g e
+recorded_with_history h g None = refl
+recorded_with_history h g (Some e) = append_assoc h g (e ∷ [])
 
-execute_behind : (s : State) (h g : List Event) (t a k : ℕ) (ps : List Primitive) → execute s (h ++ g) t a k ps ≡ behind h (execute s g t a k ps)
-execute_behind s h g t a k [] = refl
-execute_behind s h g t a k (p ∷ ps) =
-    ap (λ x. turn (race_of s t p) (goes s t a p) k (execute (after s t a p) x t a (k + 1) ps)) (recorded_behind h g (event_of s t p))
-    ∙ ap (turn (race_of s t p) (goes s t a p) k) (execute_behind (after s t a p) h (recorded g (event_of s t p)) t a (k + 1) ps)
+execute_with_history : (s : State) (h g : List Event) (t a k : ℕ) (ps : List Primitive) → execute s (h ++ g) t a k ps ≡ with_history h (execute s g t a k ps)
+execute_with_history s h g t a k [] = refl
+execute_with_history s h g t a k (p ∷ ps) =
+    ap (λ x. turn (race_of s t p) (goes s t a p) k (execute (after s t a p) x t a (k + 1) ps)) (recorded_with_history h g (event_of s t p))
+    ∙ ap (turn (race_of s t p) (goes s t a p) k) (execute_with_history (after s t a p) h (recorded g (event_of s t p)) t a (k + 1) ps)
     ∙ go (race_of s t p) (goes s t a p) (execute (after s t a p) (recorded g (event_of s t p)) t a (k + 1) ps)
   where
-    go : (r : Option RaceKind) (b : Bool) (next : Ending) → turn r b k (behind h next) ≡ behind h (turn r b k next)
+    go : (r : Option RaceKind) (b : Bool) (next : Ending) → turn r b k (with_history h next) ≡ with_history h (turn r b k next)
     go (Some kind) b next = refl
     go None true next = refl
     go None false next = refl
@@ -71,9 +71,9 @@ stepped flow c t nth addr p step busy at shaped =
     ap (step_from flow c t nth addr) busy ∙ ap (take_step c t addr p) at ∙ ap (λ b. cond b (ended_as c t p step.to.0 (taken c t addr step)) Blocks) shaped
 
 -- what it comes to, where its events were gathered beside the history
-pub taken_so : (c : Configuration) (t : ℕ) (addr : Option ℕ) (step : Step) (end : Ending) → end ≡ execute c.state [] t (address_or_null addr) 0 step.prims → behind c.history end ≡ taken c t addr step
+pub taken_so : (c : Configuration) (t : ℕ) (addr : Option ℕ) (step : Step) (end : Ending) → end ≡ execute c.state [] t (address_or_null addr) 0 step.prims → with_history c.history end ≡ taken c t addr step
 taken_so c t addr step end ran =
-    ap (behind c.history) ran ∙ sym (execute_behind c.state c.history [] t (address_or_null addr) 0 step.prims)
+    ap (with_history c.history) ran ∙ sym (execute_with_history c.state c.history [] t (address_or_null addr) 0 step.prims)
     ∙ ap (λ h. execute c.state h t (address_or_null addr) 0 step.prims) (append_none c.history)
 
 -- all its primitives succeeded

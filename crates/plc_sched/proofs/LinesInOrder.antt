@@ -1,4 +1,4 @@
--- The first line of a text, and what stands behind it.
+-- The first line of a text, and what stands after it.
 use Rattle.std.proofs.Common.{◌≡◌, ℕ, ◌<◌, ◌==◌, Bool, true, false, cond, List, [], ◌∷◌, length, refl, sym, ap, ◌∙◌, arith, eqb-true}
 use Rattle.std.specs.List.{slice_split, join_with_byte}
 use Rattle.std.proofs.lemmas.List.Splits.{length-slice_split, join_with_byte-slice_split}
@@ -14,9 +14,9 @@ not_last piece [] some = absurd (omega arith)
 not_last piece (next ∷ more) some = refl
 
 -- a line that a line feed ends
-pub line_ended : (bytes line behind : List ℕ) → slice_split (λ b. b == 10) bytes ≡ line ∷ slice_split (λ b. b == 10) behind → lines_of bytes ≡ line ∷ lines_of behind
+pub line_ended : (bytes line after : List ℕ) → slice_split (λ b. b == 10) bytes ≡ line ∷ slice_split (λ b. b == 10) after → lines_of bytes ≡ line ∷ lines_of after
 unfolding lines_of
-line_ended bytes line behind e = rw e (not_last line (slice_split (λ b. b == 10) behind) (omega (arith, length-slice_split (λ b. b == 10) behind)))
+line_ended bytes line after e = rw e (not_last line (slice_split (λ b. b == 10) after) (omega (arith, length-slice_split (λ b. b == 10) after)))
 
 kept : (piece : List ℕ) (empty : Bool) → (length piece == 0) ≡ empty → 0 < length piece → cond empty [] (piece ∷ []) ≡ piece ∷ []
 kept piece true e some = absurd (omega (arith, eqb-true (length piece) 0 e))

@@ -11,7 +11,7 @@ use Rattle.plc_sched.specs.declared.fault.SchedFault.{SchedFault}
 use Rattle.plc_sched.specs.declared.fault.SchedFault.TheVariants.{Line, Limit, Memory}
 use Rattle.plc_sched.specs.Entries.{address_words, entry_words, entry_text, head_words, head_text, AddressFits, EntryFits, ThreadsFit}
 use Rattle.plc_sched.specs.Lines.{lines_of}
-use Rattle.plc_sched.specs.Schedules.{line_limit, IsNoEntry, StopsAt, IsFirstBad, at_head, behind_head, IsScheduleOf, IsScheduleFault}
+use Rattle.plc_sched.specs.Schedules.{line_limit, IsNoEntry, StopsAt, IsFirstBad, at_head, after_head, IsScheduleOf, IsScheduleFault}
 use Rattle.plc_sched.specs.Reading.{StopsAfter}
 use Rattle.plc_sched.proofs.WordsOfEntries.{split_entry, split_head, two_kinds}
 
@@ -79,26 +79,26 @@ same_entries threads (n ∷ ns) (o ∷ os) few f g e =
     cc
 
 -- lines of entries don't stop
-never_stops : (threads : ℕ) (entries before : List Entry) (line : List ℕ) (behind : List (List ℕ)) → All (EntryFits threads) entries → IsNoEntry threads line → map entry_text entries ≡ map entry_text before ++ line ∷ behind → ⊥
-never_stops threads [] [] line behind f none e = absurd cc
-never_stops threads [] (b ∷ bs) line behind f none e = absurd cc
-never_stops threads (n ∷ ns) [] line behind f none e = none n (All-head (EntryFits threads) n ns f) cc
-never_stops threads (n ∷ ns) (b ∷ bs) line behind f none e = never_stops threads ns bs line behind (All-tail (EntryFits threads) n ns f) none cc
+never_stops : (threads : ℕ) (entries before : List Entry) (line : List ℕ) (after : List (List ℕ)) → All (EntryFits threads) entries → IsNoEntry threads line → map entry_text entries ≡ map entry_text before ++ line ∷ after → ⊥
+never_stops threads [] [] line after f none e = absurd cc
+never_stops threads [] (b ∷ bs) line after f none e = absurd cc
+never_stops threads (n ∷ ns) [] line after f none e = none n (All-head (EntryFits threads) n ns f) cc
+never_stops threads (n ∷ ns) (b ∷ bs) line after f none e = never_stops threads ns bs line after (All-tail (EntryFits threads) n ns f) none cc
 
--- lines stop behind one number of entries
-one_stop : (threads : ℕ) (before before' : List Entry) (line line' : List ℕ) (behind behind' : List (List ℕ)) → All (EntryFits threads) before → All (EntryFits threads) before' → IsNoEntry threads line → IsNoEntry threads line'
-    → map entry_text before ++ line ∷ behind ≡ map entry_text before' ++ line' ∷ behind' → length before ≡ length before'
-one_stop threads [] [] line line' behind behind' f g none none' e = refl
-one_stop threads [] (n ∷ ns) line line' behind behind' f g none none' e = absurd (none n (All-head (EntryFits threads) n ns g) cc)
-one_stop threads (n ∷ ns) [] line line' behind behind' f g none none' e = absurd (none' n (All-head (EntryFits threads) n ns f) cc)
-one_stop threads (m ∷ ms) (n ∷ ns) line line' behind behind' f g none none' e =
-    let rest : length ms ≡ length ns = one_stop threads ms ns line line' behind behind' (All-tail (EntryFits threads) m ms f) (All-tail (EntryFits threads) n ns g) none none' cc in
+-- lines stop after one number of entries
+one_stop : (threads : ℕ) (before before' : List Entry) (line line' : List ℕ) (after after' : List (List ℕ)) → All (EntryFits threads) before → All (EntryFits threads) before' → IsNoEntry threads line → IsNoEntry threads line'
+    → map entry_text before ++ line ∷ after ≡ map entry_text before' ++ line' ∷ after' → length before ≡ length before'
+one_stop threads [] [] line line' after after' f g none none' e = refl
+one_stop threads [] (n ∷ ns) line line' after after' f g none none' e = absurd (none n (All-head (EntryFits threads) n ns g) cc)
+one_stop threads (n ∷ ns) [] line line' after after' f g none none' e = absurd (none' n (All-head (EntryFits threads) n ns f) cc)
+one_stop threads (m ∷ ms) (n ∷ ns) line line' after after' f g none none' e =
+    let rest : length ms ≡ length ns = one_stop threads ms ns line line' after after' (All-tail (EntryFits threads) m ms f) (All-tail (EntryFits threads) n ns g) none none' cc in
     omega arith
 
 -- a stop at one line of a file is the stop at every line that is told of it
 one_number : (threads : ℕ) (lines : List (List ℕ)) (m n : ℕ) → StopsAt threads lines m → StopsAt threads lines n → m ≡ n
 one_number threads lines m n s t =
-    let same : length s.before ≡ length t.before = one_stop threads s.before t.before s.line t.line s.behind t.behind s.fit t.fit s.none t.none (sym s.lines_are ∙ t.lines_are) in
+    let same : length s.before ≡ length t.before = one_stop threads s.before t.before s.line t.line s.after t.after s.fit t.fit s.none t.none (sym s.lines_are ∙ t.lines_are) in
     omega (arith, s.number, t.number)
 
 -- two heads of the same lines
@@ -110,17 +110,17 @@ one_head lines more more' threads other f g e h =
 
 one_bad : (lines : List (List ℕ)) (m n : ℕ) → IsFirstBad lines m → IsFirstBad lines n → m ≡ n
 one_bad _ _ n (at_head lines m e none) (at_head _ _ e' none') = omega arith
-one_bad _ _ n (at_head lines m e none) (behind_head _ _ threads more fit is stop) = absurd (none threads more fit is)
-one_bad _ _ n (behind_head lines m threads more fit is stop) (at_head _ _ e none) = absurd (none threads more fit is)
-one_bad _ _ n (behind_head lines m threads more fit is stop) (behind_head _ _ other more' fit' is' stop') =
+one_bad _ _ n (at_head lines m e none) (after_head _ _ threads more fit is stop) = absurd (none threads more fit is)
+one_bad _ _ n (after_head lines m threads more fit is stop) (at_head _ _ e none) = absurd (none threads more fit is)
+one_bad _ _ n (after_head lines m threads more fit is stop) (after_head _ _ other more' fit' is' stop') =
     let same = one_head lines more more' threads other fit fit' is is' in
     one_number other more' m n (subst (λ ls. StopsAt other ls m) same.1 (subst (λ k. StopsAt k more m) same.0 stop)) stop'
 
 good_or_bad : (lines : List (List ℕ)) (threads : ℕ) (entries : List Entry) (n : ℕ) → lines ≡ head_text threads ∷ map entry_text entries → ThreadsFit threads → All (EntryFits threads) entries → IsFirstBad lines n → ⊥
 good_or_bad _ threads entries _ is fit each (at_head lines n e none) = none threads (map entry_text entries) fit is
-good_or_bad _ threads entries _ is fit each (behind_head lines n other more fit' is' stop) =
+good_or_bad _ threads entries _ is fit each (after_head lines n other more fit' is' stop) =
     let same = one_head lines (map entry_text entries) more threads other fit fit' is is' in
-    never_stops threads entries stop.before stop.line stop.behind each (subst (λ k. IsNoEntry k stop.line) (sym same.0) stop.none) (same.1 ∙ stop.lines_are)
+    never_stops threads entries stop.before stop.line stop.after each (subst (λ k. IsNoEntry k stop.line) (sym same.0) stop.none) (same.1 ∙ stop.lines_are)
 
 -- a schedule from its parts
 abbrev pub schedule_of : ℕ → List Entry → Schedule
@@ -150,8 +150,8 @@ memory_alone bytes s (Line n) a b = absurd (good_or_bad (lines_of bytes) s.threa
 memory_alone bytes s (Limit count) a b = absurd (omega (arith, a.count, b.1))
 memory_alone bytes s Memory a b = refl
 
--- why the lines behind the head stop is why the file is refused
-pub fault_behind : (bytes behind : List ℕ) (threads : ℕ) (fault : SchedFault) → length (lines_of bytes) ≤ line_limit → ThreadsFit threads → lines_of bytes ≡ head_text threads ∷ lines_of behind → StopsAfter threads (lines_of behind) fault → IsScheduleFault bytes fault
-fault_behind bytes behind threads (Line n) count fit is stop = (count, behind_head (lines_of bytes) n threads (lines_of behind) fit is stop)
-fault_behind bytes behind threads (Limit count') count fit is stop = absurd stop
-fault_behind bytes behind threads Memory count fit is stop = tt
+-- why the lines after the head stop is why the file is refused
+pub fault_after : (bytes after : List ℕ) (threads : ℕ) (fault : SchedFault) → length (lines_of bytes) ≤ line_limit → ThreadsFit threads → lines_of bytes ≡ head_text threads ∷ lines_of after → StopsAfter threads (lines_of after) fault → IsScheduleFault bytes fault
+fault_after bytes after threads (Line n) count fit is stop = (count, after_head (lines_of bytes) n threads (lines_of after) fit is stop)
+fault_after bytes after threads (Limit count') count fit is stop = absurd stop
+fault_after bytes after threads Memory count fit is stop = tt

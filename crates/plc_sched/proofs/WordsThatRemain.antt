@@ -32,7 +32,7 @@ pub no_address : (words : List (List ℕ)) → 0 < length words → IsLastNumber
 no_address words some none None fit e = omega (arith, ap length e)
 no_address words some none (Some address) fit e = none address fit.0 fit.1 e
 
--- numbers that were read, with words behind them, are no fewer numbers
+-- numbers that were read, with words after them, are no fewer numbers
 pub too_many : (numbers others : List ℕ) (rest words : List (List ℕ)) → length numbers ≡ most_arguments → length others ≤ most_arguments → 0 < length rest → map decimal numbers ++ rest ≡ words → map decimal others ≡ words → ⊥
 too_many numbers others rest words full few some read e =
     omega (arith, ap length (e ∙ sym read), length-append (map decimal numbers) rest, length-map numbers decimal, length-map others decimal)
@@ -47,7 +47,7 @@ no_next (m ∷ ms) (n ∷ ns) rest some none each e = no_next ms ns rest some no
 pub not_numbers : (numbers others : List ℕ) (rest words : List (List ℕ)) → 0 < length rest → IsNextNumber rest 0 4294967295 None → All (λ n. n < 2 ^ 32) others → map decimal numbers ++ rest ≡ words → map decimal others ≡ words → ⊥
 not_numbers numbers others rest words some none each read e = no_next numbers others rest some none each (read ∙ sym e)
 
--- what is read of the words behind `threads` is read of the first line
+-- what is read of the words after `threads` is read of the first line
 pub head_is : (line kind : List ℕ) (left : List (List ℕ)) (read : Option ℕ) → slice_split (λ b. b == 32) line ≡ kind ∷ left → kind ≡ codes "threads" → IsLastNumber left 1 most_threads read → IsHead line read
 head_is line kind left (Some n) split is h = let last = h.2 in ((h.0, h.1), line_from_words (head_words n) line cc)
 head_is line kind left None split is h = λ n fit same.

@@ -32,8 +32,8 @@ IsNoEntry threads line = (entry : Entry) → EntryFits threads entry → entry_t
 pub record StopsAt (threads : ℕ) (lines : List (List ℕ)) (n : ℕ) : Type 0 where
   pub before : List Entry
   pub line : List ℕ
-  pub behind : List (List ℕ)
-  pub lines_are : lines ≡ map entry_text before ++ line ∷ behind
+  pub after : List (List ℕ)
+  pub lines_are : lines ≡ map entry_text before ++ line ∷ after
   pub fit : All (EntryFits threads) before
   pub none : IsNoEntry threads line
   pub number : n ≡ length before + 2
@@ -41,7 +41,7 @@ pub record StopsAt (threads : ℕ) (lines : List (List ℕ)) (n : ℕ) : Type 0 
 -- line n is the first that isn't one of a schedule
 pub data IsFirstBad : List (List ℕ) → ℕ → Type 0 where
   at_head : (lines : List (List ℕ)) (n : ℕ) → n ≡ 1 → HasNoHead lines → IsFirstBad lines n
-  behind_head : (lines : List (List ℕ)) (n threads : ℕ) (more : List (List ℕ)) → ThreadsFit threads → lines ≡ head_text threads ∷ more → StopsAt threads more n → IsFirstBad lines n
+  after_head : (lines : List (List ℕ)) (n threads : ℕ) (more : List (List ℕ)) → ThreadsFit threads → lines ≡ head_text threads ∷ more → StopsAt threads more n → IsFirstBad lines n
 
 -- why a file spells no schedule; running out of memory says nothing
 abbrev pub IsScheduleFault : List ℕ → SchedFault → Type 0

@@ -23,7 +23,7 @@ pub read_within : {A B C D : Type 0} (r : Result A ParseFault) (m : Result D Par
     → r ≡ (m >>= k) → ((x : D) → (k x >>= F) ≡ (G x >>= f)) → (r >>= F) ≡ ((m >>= G) >>= f)
 read_within r m k F G f e h = ap (λ s. s >>= F) e ∙ bind_joins m k F ∙ bind_within m (λ x. k x >>= F) G f h
 
--- the same where nothing is behind
+-- the same where nothing is after
 pub read_same : {A C D : Type 0} (r : Result A ParseFault) (m : Result D ParseFault) (k : D → Result A ParseFault) (F : A → Result C ParseFault) (G : D → Result C ParseFault)
     → r ≡ (m >>= k) → ((x : D) → (k x >>= F) ≡ G x) → (r >>= F) ≡ (m >>= G)
 read_same r m k F G e h = ap (λ s. s >>= F) e ∙ bind_joins m k F ∙ bind_same m (λ x. k x >>= F) G h

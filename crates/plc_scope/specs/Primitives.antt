@@ -134,7 +134,7 @@ ghost_value_means s true g true at MeGhost = Err (faults.WrongSort at)
 ghost_value_means s in_init g false at NoneGhost = Err (faults.WrongSort at)
 ghost_value_means s in_init g true at NoneGhost = Ok ghosts.None
 
--- behind "ghost" the pointer, the field behind its dot, the value behind `:=`
+-- after "ghost" the pointer, the field after its dot, the value after `:=`
 unfoldable pub ghost_set_means : Scope → Bool → ℕ → GhostSetTree → Result Primitive ParseFault
 ghost_set_means s in_init at (SetGhost n f v) = do
   p ← pointer_at s n (at + 1)
@@ -203,7 +203,7 @@ cas_means s is_active at n old new = do
   r ← pointer_or_null s (at + 4) new
   Ok (conditions.Cas is_active p q r)
 
--- a test, a refresh into a variable, or a cas behind "cas", "(" and perhaps "active"
+-- a test, a refresh into a variable, or a cas after "cas", "(" and perhaps "active"
 unfoldable pub condition_means : Scope → ℕ → ConditionTree → Result Cond ParseFault
 condition_means s at (TestCondition t) = do
   k ← test_means s at t
@@ -249,7 +249,7 @@ initial_means s at (InitialGhost set) = do
 abbrev pub CallMeaning : Type 0
 CallMeaning = FuncId × Arg × Bool
 
--- an argument too many or too few, or `retire` of null: the function's name is the place, and the parenthesis behind it stands before the argument
+-- an argument too many or too few, or `retire` of null: the function's name is the place, and the parenthesis after it stands before the argument
 abbrev pub argument_means : Scope → FuncId → Bool → ℕ → ArgumentTree → Result CallMeaning ParseFault
 argument_means s f false at NoArgument = Ok (f, args.None, false)
 argument_means s f false at NullArgument = Err (faults.NoSuchCall at)

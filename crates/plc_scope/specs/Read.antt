@@ -1,10 +1,10 @@
--- What is read off tokens from left to right, with the tokens behind it.
+-- What is read off tokens from left to right, with the tokens after it.
 use Rattle.std.specs.Prelude.{ℕ, List, Option, Some, None, Result, Ok, Err}
 use Rattle.plc_lex.specs.declared.token.TokenKind.{TokenKind}
 use Rattle.plc_scope.specs.declared.fault.ParseFault.{ParseFault}
 use Rattle.plc_scope.specs.declared.fault.ParseFault.TheVariants as faults
 
--- what was read, and the tokens behind
+-- what was read, and the tokens after
 abbrev pub ReadTo : Type 0 → Type 0
 ReadTo A = Result (A × List TokenKind) ParseFault
 

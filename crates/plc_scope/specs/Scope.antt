@@ -92,7 +92,7 @@ declared_label s name at = do
   t ← declared s name at Taken
   Ok (with_label t (length s.names.names))
 
--- behind an operation
+-- after an operation
 abbrev pub without_locals : Scope → Scope
 without_locals s = record s { locals = [] }
 

@@ -16,13 +16,13 @@ use Rattle.plc_ground.specs.declared.terms.Symbol.{Symbol}
 use Rattle.plc_ground.specs.declared.terms.Symbol.TheVariants as symbols
 use Rattle.plc_ground.specs.declared.terms.Map.TheVariants as maps
 use Rattle.plc_symbolic.specs.declared.symbolic.NodeTerm.{NodeTerm}
-use Rattle.plc_symbolic.specs.declared.symbolic.NodeTerm.TheVariants.{At, Behind}
+use Rattle.plc_symbolic.specs.declared.symbolic.NodeTerm.TheVariants.{At, Target}
 use Rattle.plc_symbolic.specs.Terms.{term_of}
 use Rattle.plc_setting.specs.declared.acts.Act.{Act}
 use Rattle.plc_setting.specs.declared.acts.Act.TheVariants.{Assign, Make, Fetch, Update, Test, Skip}
 use Rattle.plc_setting.specs.declared.obligations.Obligation.{Obligation}
 use Rattle.plc_setting.specs.Parts.{acting_locals, owner_locals}
-use Rattle.plc_setting.specs.Setting.{below, local_symbol, variables_of, pointer_loads_from, if_made, node_constants, plain_constants, pointer_fields_from, fields_of, fields_behind, if_deep, nodes_of, setting_of}
+use Rattle.plc_setting.specs.Setting.{below, local_symbol, variables_of, pointer_loads_from, if_made, node_constants, plain_constants, pointer_fields_from, fields_of, targets_of, if_deep, nodes_of, setting_of}
 use Rattle.plc_setting.specs.Sorts.{field_sort, local_sort, load_sort, loads_of, map_sort, symbol_sort, sort_of}
 use Rattle.plc_setting.specs.WellSorted.{VariablesFit, NodesFit}
 use Rattle.plc_setting.proofs.ActSorts.{kind_at_place}
@@ -103,10 +103,10 @@ module _ (flow : Flow) (o : Obligation) (acts : List Act) where
       All-cons IsNode symbols.Null (pointers ++ (if_made makes ++ rest)) refl (All-append IsNode pointers (if_made makes ++ rest) p made)
 
   -- pointer fields
-  behind_fit : (fs : List FieldId) (cs : List Symbol) → All HoldsNodes fs → All IsTerm (fields_behind fs cs)
-  behind_fit fs [] h = All-nil IsTerm
-  behind_fit fs (s ∷ cs) h =
-      All-append IsTerm (fields_of fs s) (fields_behind fs cs) (All-map IsTerm (λ f. Behind f s) fs h) (behind_fit fs cs h)
+  targets_fit : (fs : List FieldId) (cs : List Symbol) → All HoldsNodes fs → All IsTerm (targets_of fs cs)
+  targets_fit fs [] h = All-nil IsTerm
+  targets_fit fs (s ∷ cs) h =
+      All-append IsTerm (fields_of fs s) (targets_of fs cs) (All-map IsTerm (λ f. Target f s) fs h) (targets_fit fs cs h)
 
   deep_fit : (deep : Bool) (ns : List NodeTerm) → All IsTerm ns → All IsTerm (if_deep deep ns)
   deep_fit true ns h = h
@@ -114,7 +114,7 @@ module _ (flow : Flow) (o : Obligation) (acts : List Act) where
 
   terms_fit : (ss : List Symbol) (deep : Bool) (cs : List Symbol) (fs : List FieldId) → All IsNode ss → All HoldsNodes fs → All IsTerm (nodes_of ss deep cs fs)
   terms_fit ss deep cs fs s h =
-      All-append IsTerm (map At ss) (if_deep deep (fields_behind fs cs)) (All-map IsTerm At ss s) (deep_fit deep (fields_behind fs cs) (behind_fit fs cs h))
+      All-append IsTerm (map At ss) (if_deep deep (targets_of fs cs)) (All-map IsTerm At ss s) (deep_fit deep (targets_of fs cs) (targets_fit fs cs h))
 
   field_nodes : (k : ℕ) (fs : List Field) → ((j : ℕ) → slice_get flow.file.fields (k + j) ≡ slice_get fs j) → All HoldsNodes (pointer_fields_from k fs)
   field_nodes k [] e = All-nil HoldsNodes

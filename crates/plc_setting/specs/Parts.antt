@@ -50,9 +50,9 @@ abbrev pub clauses_before : Flow → Outline → Option Step → List Clause
 clauses_before flow outline None = []
 clauses_before flow outline (Some s) = clauses_at flow outline s.from.0
 
-abbrev pub clauses_behind : Flow → Outline → Option Step → List Clause
-clauses_behind flow outline None = []
-clauses_behind flow outline (Some s) = clauses_at flow outline s.to.0
+abbrev pub clauses_after : Flow → Outline → Option Step → List Clause
+clauses_after flow outline None = []
+clauses_after flow outline (Some s) = clauses_at flow outline s.to.0
 
 abbrev pub entry_clauses : Flow → Outline → Option Gate → List Clause
 entry_clauses flow outline None = []
@@ -115,7 +115,7 @@ abbrev pub conclusion : Flow → Outline → Obligation → Option Clause
 conclusion flow outline (Start i) = slice_get outline.invariants i
 conclusion flow outline (Enter o c) = slice_get (entry_clauses flow outline (slice_get flow.gates o.0)) c
 conclusion flow outline (Own k c) =
-    slice_get (outline.invariants ++ clauses_behind flow outline (slice_get flow.steps k.0)) c
+    slice_get (outline.invariants ++ clauses_after flow outline (slice_get flow.steps k.0)) c
 conclusion flow outline (Other k p c) = slice_get (clauses_at flow outline p.0) c
 conclusion flow outline (Claim k j) = None
 

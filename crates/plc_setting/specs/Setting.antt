@@ -31,7 +31,7 @@ use Rattle.plc_setting.specs.declared.obligations.Obligation.{Obligation}
 use Rattle.plc_setting.specs.declared.setting.Setting.{Setting}
 use Rattle.plc_setting.specs.declared.setting.Variables.{Variables}
 use Rattle.plc_symbolic.specs.declared.symbolic.NodeTerm.{NodeTerm}
-use Rattle.plc_symbolic.specs.declared.symbolic.NodeTerm.TheVariants.{At, Behind}
+use Rattle.plc_symbolic.specs.declared.symbolic.NodeTerm.TheVariants.{At, Target}
 use Rattle.plc_setting.specs.Acts.{acts_of}
 use Rattle.plc_setting.specs.Parts.{executed, acting_locals, owner_locals, has_owner, conclusion}
 
@@ -114,10 +114,10 @@ pointer_fields_from k (f ∷ fs) =
 
 -- the pointer fields of a node, and of nodes, node by node
 abbrev pub fields_of : List FieldId → Symbol → List NodeTerm
-fields_of fs s = map (λ f. Behind f s) fs
+fields_of fs s = map (λ f. Target f s) fs
 
-abbrev pub fields_behind : List FieldId → List Symbol → List NodeTerm
-fields_behind fs ss = flat_map (fields_of fs) ss
+abbrev pub targets_of : List FieldId → List Symbol → List NodeTerm
+targets_of fs ss = flat_map (fields_of fs) ss
 
 abbrev pub if_deep : Bool → List NodeTerm → List NodeTerm
 if_deep true ns = ns
@@ -125,7 +125,7 @@ if_deep false ns = []
 
 -- these constants and, at depth 1, the pointer fields of all node constants
 abbrev pub nodes_of : List Symbol → Bool → List Symbol → List FieldId → List NodeTerm
-nodes_of ss deep constants fs = map At ss ++ if_deep deep (fields_behind fs constants)
+nodes_of ss deep constants fs = map At ss ++ if_deep deep (targets_of fs constants)
 
 -- ---- the setting
 

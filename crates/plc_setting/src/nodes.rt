@@ -1,7 +1,7 @@
 // The nodes of a ground set: constants and, at depth 1, their pointer fields in the state before.
 ghost use Rattle.std.specs.Prelude.{◌≡◌, ◌≤◌, ◌++◌, map, flat_map, OnOk, IfOk};
 ghost use Rattle.plc_symbolic.specs.declared.symbolic.NodeTerm.TheVariants as nodes;
-ghost use Rattle.plc_setting.specs.Setting.{node_constants, plain_constants, fields_of, fields_behind, nodes_of};
+ghost use Rattle.plc_setting.specs.Setting.{node_constants, plain_constants, fields_of, targets_of, nodes_of};
 
 use crate::symbols::{push_all, push_bound, push_made};
 use plc_base::{FieldId, Items, NoMemory};
@@ -63,7 +63,7 @@ fn push_fields_of(
     ensures { OnOk result (list.new ≡ list.old ++ fields_of fields.now of) }
 {
     for f in fields {
-        list.push(NodeTerm::Behind { f: *f, of })?;
+        list.push(NodeTerm::Target { f: *f, of })?;
     }
     Ok(())
 }
@@ -74,7 +74,7 @@ fn push_fields(
     symbols: &[Symbol],
     fields: &[FieldId],
 ) -> Result<(), NoMemory>
-    ensures { OnOk result (list.new ≡ list.old ++ fields_behind fields.now symbols.now) }
+    ensures { OnOk result (list.new ≡ list.old ++ targets_of fields.now symbols.now) }
 {
     for of in symbols {
         push_fields_of(list, *of, fields)?;

@@ -8,7 +8,7 @@ ghost use Rattle.plc_setting.specs.Fit.{Fits};
 ghost use Rattle.plc_setting.specs.Parts.{prims_of, executed, locals_of_step, acting_locals, has_point, point_locals};
 ghost use Rattle.plc_setting.specs.Parts.{owner_locals, has_owner, first_point, acting_point, owner_point};
 ghost use Rattle.plc_setting.specs.Parts.{invariants_before, clauses_of, acting_premises, owner_premises};
-ghost use Rattle.plc_setting.specs.Parts.{entry_clauses, clauses_behind, conclusion, claim_made};
+ghost use Rattle.plc_setting.specs.Parts.{entry_clauses, clauses_after, conclusion, claim_made};
 
 use crate::obligations::Obligation;
 use crate::points::clause_at;
@@ -185,7 +185,7 @@ fn last_clause<'a>(
     step: Option<&Step>,
     clause: u16,
 ) -> Option<&'a Clause>
-    ensures { option_copied result ≡ slice_get (clauses_behind flow.now outline.now (option_copied step.entry)) clause }
+    ensures { option_copied result ≡ slice_get (clauses_after flow.now outline.now (option_copied step.entry)) clause }
 {
     match step {
         None => None,
@@ -202,7 +202,7 @@ fn own_clause<'a>(
 ) -> Option<&'a Clause>
     requires { Fits flow.now outline.now }
     ensures { option_copied result ≡ slice_get (outline.now.invariants
-        ++ clauses_behind flow.now outline.now (slice_get flow.now.steps step.0)) clause }
+        ++ clauses_after flow.now outline.now (slice_get flow.now.steps step.0)) clause }
 {
     let invariants = outline.invariants.len() as u16;
     if clause < invariants {

@@ -1,4 +1,4 @@
-// Runs of constants, each put behind those that are there. The lists of a setting and the constants of a
+// Runs of constants, each put after those that are there. The lists of a setting and the constants of a
 // ground set are made of these runs.
 ghost use Rattle.std.specs.Prelude.{◌≡◌, ◌≤◌, ◌<◌, ◌++◌, length, map, OnOk};
 ghost use Rattle.plc_base.specs.Limits.{most};

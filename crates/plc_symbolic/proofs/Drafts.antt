@@ -14,7 +14,7 @@ use Rattle.plc_ground.specs.declared.terms.GroundSet.{GroundSet}
 use Rattle.plc_ground.specs.Model.{literals}
 use Rattle.plc_ground.specs.Fit.{IsInRange, NoTermTwice}
 use Rattle.plc_symbolic.specs.declared.symbolic.NodeTerm.{NodeTerm}
-use Rattle.plc_symbolic.specs.declared.symbolic.NodeTerm.TheVariants.{At, Behind}
+use Rattle.plc_symbolic.specs.declared.symbolic.NodeTerm.TheVariants.{At, Target}
 use Rattle.plc_symbolic.specs.declared.symbolic.SymbolicTerm.{SymbolicTerm}
 use Rattle.plc_symbolic.specs.declared.symbolic.SymbolicTerm.TheVariants.{Constant, Application}
 use Rattle.plc_symbolic.specs.declared.symbolic.SymbolicLit.{SymbolicLit}
@@ -88,9 +88,9 @@ grows_written_all (c ∷ cs) d =
 -- ---- numbered terms
 
 -- the term of which a numbered one is made
-behind : (ts : List SymbolicTerm) (i : ℕ) (g : GroundTerm) → slice_get (map (number ts) ts) i ≡ Some g
+after : (ts : List SymbolicTerm) (i : ℕ) (g : GroundTerm) → slice_get (map (number ts) ts) i ≡ Some g
     → (t : SymbolicTerm) × (slice_get ts i ≡ Some t) × (number ts t ≡ g)
-behind ts i g h = go (slice_get ts i) refl (sym (slice_get-map (number ts) ts i) ∙ h)
+after ts i g h = go (slice_get ts i) refl (sym (slice_get-map (number ts) ts i) ∙ h)
   where
     go : (o : Option SymbolicTerm) → slice_get ts i ≡ o → option_map (number ts) o ≡ Some g
         → (t : SymbolicTerm) × (slice_get ts i ≡ Some t) × (number ts t ≡ g)
@@ -99,7 +99,7 @@ behind ts i g h = go (slice_get ts i) refl (sym (slice_get-map (number ts) ts i)
 
 term_of_same : (n k : NodeTerm) → term_of n ≡ term_of k → n ≡ k
 term_of_same (At s) (At t) h = cc
-term_of_same (Behind f s) (Behind g t) h = cc
+term_of_same (Target f s) (Target g t) h = cc
 term_of_same _ _ h = cc
 
 place_same : (ts : List SymbolicTerm) (t u : SymbolicTerm) → IsListed ts t → IsListed ts u → place ts t ≡ place ts u → t ≡ u
@@ -117,17 +117,17 @@ number_same ts _ _ h k e = cc
 
 distinct : (ts : List SymbolicTerm) → IsTidy ts → NoTermTwice (map (number ts) ts)
 distinct ts tidy g i j h k =
-    let a = behind ts i g h in
-    let b = behind ts j g k in
+    let a = after ts i g h in
+    let b = after ts j g k in
     let has = λ (n : ℕ) (t : SymbolicTerm) (e : slice_get ts n ≡ Some t). argument_listed ts t tidy (listed_at ts n t e) in
     let same = number_same ts a.0 b.0 (has i a.0 a.1) (has j b.0 b.1) (a.2 ∙ sym b.2) in
     sym (tidy.distinct i a.0 a.1) ∙ ap (place ts) same ∙ tidy.distinct j b.0 b.1
 
 -- an application is that of a term before it
-application_behind : (ts : List SymbolicTerm) (t : SymbolicTerm) (m : Map) (v a : ℕ) → number ts t ≡ App m v a
+application_after : (ts : List SymbolicTerm) (t : SymbolicTerm) (m : Map) (v a : ℕ) → number ts t ≡ App m v a
     → (n : NodeTerm) × (t ≡ Application m v n) × (place ts (term_of n) ≡ a)
-application_behind ts (Constant s) m v a e = cc
-application_behind ts (Application l w n) m v a e =
+application_after ts (Constant s) m v a e = cc
+application_after ts (Application l w n) m v a e =
     let ms : l ≡ m = cc in
     let vs : w ≡ v = cc in
     (n, (λ i. Application (ms i) (vs i) n), cc)
@@ -136,8 +136,8 @@ module _ (ts : List SymbolicTerm) (m : Map) (v a i : ℕ) (h : slice_get (map (n
   -- the application that stands there
   pub stands : (n : NodeTerm) × (slice_get ts i ≡ Some (Application m v n)) × (place ts (term_of n) ≡ a)
   stands =
-      let b = behind ts i (App m v a) h in
-      let p = application_behind ts b.0 m v a b.2 in
+      let b = after ts i (App m v a) h in
+      let p = application_after ts b.0 m v a b.2 in
       (p.0, b.1 ∙ ap Some p.1, p.2)
 
   earlier : IsTidy ts → a < i

@@ -9,7 +9,7 @@ use Rattle.plc_ground.specs.declared.terms.Map.{Map}
 use Rattle.plc_ground.specs.declared.terms.Map.TheVariants as maps
 use Rattle.plc_ground.specs.declared.terms.Lit.{Lit}
 use Rattle.plc_symbolic.specs.declared.symbolic.NodeTerm.{NodeTerm}
-use Rattle.plc_symbolic.specs.declared.symbolic.NodeTerm.TheVariants.{At, Behind}
+use Rattle.plc_symbolic.specs.declared.symbolic.NodeTerm.TheVariants.{At, Target}
 use Rattle.plc_symbolic.specs.declared.symbolic.SymbolicTerm.{SymbolicTerm}
 use Rattle.plc_symbolic.specs.declared.symbolic.SymbolicTerm.TheVariants.{Constant, Application}
 use Rattle.plc_symbolic.specs.declared.symbolic.SymbolicLit.{SymbolicLit}
@@ -23,7 +23,7 @@ use Rattle.plc_symbolic.proofs.Places.{put_listed, put_lists, grows_not, grows_t
 -- an application goes after its argument
 pub application_noted : (ts : List SymbolicTerm) (m : Map) (v : ℕ) (n : NodeTerm) → note ts (Application m v n) ≡ put (note ts (term_of n)) (Application m v n)
 application_noted ts m v (At s) = refl
-application_noted ts m v (Behind f s) = refl
+application_noted ts m v (Target f s) = refl
 
 pub note_lists : (ts : List SymbolicTerm) (t : SymbolicTerm) → IsListed (note ts t) t
 note_lists ts (Constant s) = put_lists ts (Constant s)
@@ -31,7 +31,7 @@ note_lists ts (Application m v n) = subst (λ us. IsListed us (Application m v n
 
 pub grows_node : (ts : List SymbolicTerm) (n : NodeTerm) → Grows ts (note ts (term_of n))
 grows_node ts (At s) = grows_put ts (Constant s)
-grows_node ts (Behind f s) = grows_twice ts (put ts (Constant s)) _ (grows_put ts (Constant s)) (grows_put (put ts (Constant s)) (Application (maps.Field f) 0 (At s)))
+grows_node ts (Target f s) = grows_twice ts (put ts (Constant s)) _ (grows_put ts (Constant s)) (grows_put (put ts (Constant s)) (Application (maps.Field f) 0 (At s)))
 
 pub grows_note : (ts : List SymbolicTerm) (t : SymbolicTerm) → Grows ts (note ts t)
 grows_note ts (Constant s) = grows_put ts (Constant s)
@@ -40,7 +40,7 @@ grows_note ts (Application m v n) = subst (Grows ts) (sym (application_noted ts 
 
 tidy_node : (ts : List SymbolicTerm) (n : NodeTerm) → IsTidy ts → IsTidy (note ts (term_of n))
 tidy_node ts (At s) tidy = tidy_put ts (Constant s) tidy tt
-tidy_node ts (Behind f s) tidy = tidy_put (put ts (Constant s)) (Application (maps.Field f) 0 (At s)) (tidy_put ts (Constant s) tidy tt) (put_lists ts (Constant s))
+tidy_node ts (Target f s) tidy = tidy_put (put ts (Constant s)) (Application (maps.Field f) 0 (At s)) (tidy_put ts (Constant s) tidy tt) (put_lists ts (Constant s))
 
 pub tidy_note : (ts : List SymbolicTerm) (t : SymbolicTerm) → IsTidy ts → IsTidy (note ts t)
 tidy_note ts (Constant s) tidy = tidy_put ts (Constant s) tidy tt
@@ -50,7 +50,7 @@ tidy_note ts (Application m v n) tidy = subst IsTidy (sym (application_noted ts 
 -- a term that is listed changes nothing
 node_listed : (ts : List SymbolicTerm) (n : NodeTerm) → IsTidy ts → IsListed ts (term_of n) → note ts (term_of n) ≡ ts
 node_listed ts (At s) tidy h = put_listed ts (Constant s) h
-node_listed ts (Behind f s) tidy h =
+node_listed ts (Target f s) tidy h =
     let t = Application (maps.Field f) 0 (At s) in
     ap (λ us. put us t) (put_listed ts (Constant s) (argument_listed ts t tidy h)) ∙ put_listed ts t h
 
@@ -108,9 +108,9 @@ clause_stays ts us c g h = map_agree (number_lit us) (number_lit ts) (HasSides t
 
 -- ---- arguments
 
-pub behind_argument : (ts us : List SymbolicTerm) (n : NodeTerm) (f : FieldId) (s : Symbol) (t : SymbolicTerm) → n ≡ Behind f s → t ≡ term_of n
+pub target_argument : (ts us : List SymbolicTerm) (n : NodeTerm) (f : FieldId) (s : Symbol) (t : SymbolicTerm) → n ≡ Target f s → t ≡ term_of n
     → us ≡ put ts (Constant s) → HasArgument us t
-behind_argument ts us n f s t is e grown =
+target_argument ts us n f s t is e grown =
     subst (HasArgument us) (sym (e ∙ ap term_of is)) (subst (λ vs. IsListed vs (Constant s)) (sym grown) (put_lists ts (Constant s)))
 
 pub at_argument : (us : List SymbolicTerm) (n : NodeTerm) (s : Symbol) (t : SymbolicTerm) → n ≡ At s → t ≡ term_of n → HasArgument us t

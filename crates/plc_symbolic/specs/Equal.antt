@@ -10,7 +10,7 @@ use Rattle.plc_ground.specs.contracts.terms.SymbolPartialEq.TheImpl as symbol
 use Rattle.plc_ground.specs.contracts.terms.MapPartialEq.TheImpl as map
 use Rattle.plc_symbolic.specs.contracts.symbolic.NodeTermPartialEq.TheImpl as node
 use Rattle.plc_symbolic.specs.declared.symbolic.NodeTerm.{NodeTerm}
-use Rattle.plc_symbolic.specs.declared.symbolic.NodeTerm.TheVariants.{At, Behind}
+use Rattle.plc_symbolic.specs.declared.symbolic.NodeTerm.TheVariants.{At, Target}
 use Rattle.plc_symbolic.specs.declared.symbolic.SymbolicTerm.{SymbolicTerm}
 use Rattle.plc_symbolic.specs.declared.symbolic.SymbolicTerm.TheVariants.{Constant, Application}
 use Rattle.plc_symbolic.specs.Same.{same_term}
@@ -42,9 +42,9 @@ map_is _ _ h = cc
 
 node_is : (a b : NodeTerm) → node.eq-value.it a b ≡ true → a ≡ b
 node_is (At s) (At t) h = ap At (symbol_is s t h)
-node_is (Behind f s) (Behind g t) h =
+node_is (Target f s) (Target g t) h =
     let p = and_parts (map.eq-value.it (Field f) (Field g)) (symbol.eq-value.it s t) h in
-    ap (λ x. Behind x s) (field_is f g p.0) ∙ ap (Behind g) (symbol_is s t p.1)
+    ap (λ x. Target x s) (field_is f g p.0) ∙ ap (Target g) (symbol_is s t p.1)
 node_is _ _ h = cc
 
 pub term_is : (a b : SymbolicTerm) → same_term a b ≡ true → a ≡ b
@@ -77,7 +77,7 @@ map_itself Retired = refl
 
 node_itself : (a : NodeTerm) → node.eq-value.it a a ≡ true
 node_itself (At s) = symbol_itself s
-node_itself (Behind f s) = and_from _ _ (eq-eqb f.0 f.0 refl) (symbol_itself s)
+node_itself (Target f s) = and_from _ _ (eq-eqb f.0 f.0 refl) (symbol_itself s)
 
 pub term_itself : (a : SymbolicTerm) → same_term a a ≡ true
 term_itself (Constant s) = symbol_itself s

@@ -6,7 +6,7 @@ use Rattle.plc_ground.specs.declared.terms.Symbol.TheVariants.{Null, Shared, Min
 use Rattle.plc_ground.specs.declared.terms.Map.{Map}
 use Rattle.plc_ground.specs.declared.terms.Map.TheVariants.{Field, Ghost, Retired}
 use Rattle.plc_symbolic.specs.declared.symbolic.NodeTerm.{NodeTerm}
-use Rattle.plc_symbolic.specs.declared.symbolic.NodeTerm.TheVariants.{At, Behind}
+use Rattle.plc_symbolic.specs.declared.symbolic.NodeTerm.TheVariants.{At, Target}
 use Rattle.plc_symbolic.specs.declared.symbolic.SymbolicTerm.{SymbolicTerm}
 use Rattle.plc_symbolic.specs.declared.symbolic.SymbolicTerm.TheVariants.{Constant, Application}
 
@@ -27,7 +27,7 @@ symbol_key (Number i) = 14 + 16 * i
 
 abbrev pub node_key : NodeTerm → ℕ
 node_key (At s) = symbol_key s
-node_key (Behind f s) = symbol_key s + 2 ^ 20 * (1 + f.0)
+node_key (Target f s) = symbol_key s + 2 ^ 20 * (1 + f.0)
 
 abbrev pub map_key : Map → ℕ
 map_key (Field f) = 1 + 4 * f.0

@@ -9,7 +9,7 @@ use Rattle.plc_ground.specs.declared.terms.GroundTerm.{GroundTerm}
 use Rattle.plc_ground.specs.declared.terms.GroundTerm.TheVariants.{Const, App}
 use Rattle.plc_ground.specs.declared.terms.Lit.{Lit}
 use Rattle.plc_ground.specs.declared.terms.GroundSet.{GroundSet}
-use Rattle.plc_symbolic.specs.declared.symbolic.NodeTerm.TheVariants.{At, Behind}
+use Rattle.plc_symbolic.specs.declared.symbolic.NodeTerm.TheVariants.{At, Target}
 use Rattle.plc_symbolic.specs.declared.symbolic.SymbolicTerm.{SymbolicTerm}
 use Rattle.plc_symbolic.specs.declared.symbolic.SymbolicTerm.TheVariants.{Constant, Application}
 use Rattle.plc_symbolic.specs.declared.symbolic.SymbolicLit.{SymbolicLit}
@@ -20,8 +20,8 @@ use Rattle.plc_symbolic.specs.Terms.{Clauses, term_of}
 abbrev pub with_arguments : SymbolicTerm → List SymbolicTerm
 with_arguments (Constant s) = Constant s ∷ []
 with_arguments (Application m v (At s)) = Constant s ∷ Application m v (At s) ∷ []
-with_arguments (Application m v (Behind f s)) =
-    Constant s ∷ Application (maps.Field f) 0 (At s) ∷ Application m v (Behind f s) ∷ []
+with_arguments (Application m v (Target f s)) =
+    Constant s ∷ Application (maps.Field f) 0 (At s) ∷ Application m v (Target f s) ∷ []
 
 -- one more term, at the end where it is new
 unfoldable pub put : List SymbolicTerm → SymbolicTerm → List SymbolicTerm

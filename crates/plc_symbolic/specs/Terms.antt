@@ -3,7 +3,7 @@ use Rattle.std.specs.Prelude.{true, false, List}
 use Rattle.plc_ground.specs.declared.terms.Symbol.TheVariants as symbols
 use Rattle.plc_ground.specs.declared.terms.Map.TheVariants as maps
 use Rattle.plc_symbolic.specs.declared.symbolic.NodeTerm.{NodeTerm}
-use Rattle.plc_symbolic.specs.declared.symbolic.NodeTerm.TheVariants.{At, Behind}
+use Rattle.plc_symbolic.specs.declared.symbolic.NodeTerm.TheVariants.{At, Target}
 use Rattle.plc_symbolic.specs.declared.symbolic.SymbolicTerm.{SymbolicTerm}
 use Rattle.plc_symbolic.specs.declared.symbolic.SymbolicTerm.TheVariants.{Constant, Application}
 use Rattle.plc_symbolic.specs.declared.symbolic.SymbolicLit.{SymbolicLit}
@@ -15,7 +15,7 @@ Clauses = List (List SymbolicLit)
 -- a node as a term: a pointer field of a node is that field in version 0
 abbrev pub term_of : NodeTerm → SymbolicTerm
 term_of (At s) = Constant s
-term_of (Behind f s) = Application (maps.Field f) 0 (At s)
+term_of (Target f s) = Application (maps.Field f) 0 (At s)
 
 -- the literals `a == b` and `a != b`
 abbrev pub is : SymbolicTerm → SymbolicTerm → SymbolicLit

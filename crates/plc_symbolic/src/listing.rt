@@ -89,7 +89,7 @@ impl Listing {
         ensures grows { Grows self.old self.new }
         ensures listed { OnOk result (self.new ≡ note self.old (term_of node)) }
     {
-        if let NodeTerm::Behind { of, .. } = node {
+        if let NodeTerm::Target { of, .. } = node {
             self.put(SymbolicTerm::Constant(of))?;
         }
         self.put(term_of(node))?;

@@ -14,7 +14,7 @@ use std::hash::{Hash, Hasher};
 pub enum NodeTerm {
     At(Symbol),
     /// A pointer field of a node, in the state before.
-    Behind { f: FieldId, of: Symbol },
+    Target { f: FieldId, of: Symbol },
 }
 
 /// A term of a ground set.
@@ -64,7 +64,7 @@ fn node_key(node: NodeTerm) -> u64
 {
     match node {
         NodeTerm::At(symbol) => symbol_key(symbol),
-        NodeTerm::Behind { f, of } => symbol_key(of) + 0x10_0000 * (1 + f.0 as u64),
+        NodeTerm::Target { f, of } => symbol_key(of) + 0x10_0000 * (1 + f.0 as u64),
     }
 }
 

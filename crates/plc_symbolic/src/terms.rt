@@ -12,7 +12,7 @@ pub fn term_of(node: NodeTerm) -> SymbolicTerm
 {
     match node {
         NodeTerm::At(symbol) => SymbolicTerm::Constant(symbol),
-        NodeTerm::Behind { f, of } => SymbolicTerm::Application {
+        NodeTerm::Target { f, of } => SymbolicTerm::Application {
             map: Map::Field(f),
             version: 0,
             node: NodeTerm::At(of),

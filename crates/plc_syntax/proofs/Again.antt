@@ -95,7 +95,7 @@ again_cond (RefreshCondition n p) s rest = again_place p (expected.Symbol CloseP
 again_cond (CasCondition a n old new) s rest =
     again_cas a n _ _ ∙ again_cell old _ _ ∙ again_cell new _ _
 
--- behind a primitive comes a semicolon, in either place_then
+-- after a primitive comes a semicolon, in either place_then
 again_prims : (ps : List PrimitiveTree) (s : List Expected) (rest : List TokenKind) → Skips parts.Primitives rest → go (expected.Part parts.Primitives ∷ s) (each_then primitive_line_then ps rest) ≡ go s rest
 again_prims [] s rest h = h s
 again_prims (SetPrimitive (SetName n v) ∷ ps) s rest h = again_value v _ _ (λ s. refl) ∙ again_prims ps s rest h
@@ -117,11 +117,11 @@ again_prim (ActivePrimitive n) s rest = refl
 again_prim (AssumePrimitive t) s rest = again_test t _ _
 again_prim SkipPrimitive s rest = refl
 
--- what may stand behind a statement
-abbrev Behind : List TokenKind → Type 0
-Behind ts = Skips parts.Else ts × Skips parts.FurtherBlocks ts
+-- what may stand after a statement
+abbrev After : List TokenKind → Type 0
+After ts = Skips parts.Else ts × Skips parts.FurtherBlocks ts
 
-stmt_first : (st : StatementTree) (rest : List TokenKind) → Behind (statement_then st rest)
+stmt_first : (st : StatementTree) (rest : List TokenKind) → After (statement_then st rest)
 stmt_first (PrimitiveStatement (SetPrimitive (SetName n v))) rest = (λ s. refl, λ s. refl)
 stmt_first (PrimitiveStatement (SetPrimitive (SetField n f a))) rest = (λ s. refl, λ s. refl)
 stmt_first (PrimitiveStatement (RefreshPrimitive (RefreshName n p))) rest = (λ s. refl, λ s. refl)
@@ -139,12 +139,12 @@ stmt_first BreakStatement rest = (λ s. refl, λ s. refl)
 stmt_first ReturnStatement rest = (λ s. refl, λ s. refl)
 stmt_first (LabelStatement n) rest = (λ s. refl, λ s. refl)
 
-stmts_first : (b : BlockTree) (rest : List TokenKind) → Behind rest → Behind (statements_then b rest)
+stmts_first : (b : BlockTree) (rest : List TokenKind) → After rest → After (statements_then b rest)
 stmts_first NoStatement rest h = h
 stmts_first (Then st b) rest h = stmt_first st (statements_then b rest)
 
 mutual
-  again_stmt : (st : StatementTree) (s : List Expected) (rest : List TokenKind) → Behind rest → go (expected.Part parts.Statements ∷ s) (statement_then st rest) ≡ go (expected.Part parts.Statements ∷ s) rest
+  again_stmt : (st : StatementTree) (s : List Expected) (rest : List TokenKind) → After rest → go (expected.Part parts.Statements ∷ s) (statement_then st rest) ≡ go (expected.Part parts.Statements ∷ s) rest
   again_stmt (PrimitiveStatement p) s rest h = again_prim p s rest
   again_stmt (AtomicStatement ps) s rest h = again_prims ps _ _ (λ s. refl)
   again_stmt (CallStatement f a d) s rest h = again_arg a _ _ (λ s. refl) ∙ again_during d _ _ (λ s. refl)
@@ -155,16 +155,16 @@ mutual
   again_stmt ReturnStatement s rest h = refl
   again_stmt (LabelStatement n) s rest h = refl
 
-  -- a block_then from behind its opening brace
+  -- a block_then from after its opening brace
   again_block : (b : BlockTree) (s : List Expected) (rest : List TokenKind) → go (expected.Part parts.Statements ∷ expected.Symbol CloseBrace ∷ s) (statements_then b (Symbol CloseBrace ∷ rest)) ≡ go s rest
   again_block NoStatement s rest = refl
   again_block (Then st b) s rest = again_stmt st (expected.Symbol CloseBrace ∷ s) _ (stmts_first b (Symbol CloseBrace ∷ rest) (λ s. refl, λ s. refl)) ∙ again_block b s rest
 
-  again_otherwise : (e : ElseTree) (s : List Expected) (rest : List TokenKind) → Behind rest → go (expected.Part parts.Else ∷ expected.Part parts.Statements ∷ s) (else_then e rest) ≡ go (expected.Part parts.Statements ∷ s) rest
+  again_otherwise : (e : ElseTree) (s : List Expected) (rest : List TokenKind) → After rest → go (expected.Part parts.Else ∷ expected.Part parts.Statements ∷ s) (else_then e rest) ≡ go (expected.Part parts.Statements ∷ s) rest
   again_otherwise NoElse s rest h = h.0 (expected.Part parts.Statements ∷ s)
   again_otherwise (ElseBlock b) s rest h = again_block b _ _
 
-  again_others : (os : OrTree) (s : List Expected) (rest : List TokenKind) → Behind rest → go (expected.Part parts.FurtherBlocks ∷ expected.Part parts.Statements ∷ s) (or_then os rest) ≡ go (expected.Part parts.Statements ∷ s) rest
+  again_others : (os : OrTree) (s : List Expected) (rest : List TokenKind) → After rest → go (expected.Part parts.FurtherBlocks ∷ expected.Part parts.Statements ∷ s) (or_then os rest) ≡ go (expected.Part parts.Statements ∷ s) rest
   again_others NoOr s rest h = h.1 (expected.Part parts.Statements ∷ s)
   again_others (OrBlock b os) s rest h = again_block b _ _ ∙ again_others os s rest h
 

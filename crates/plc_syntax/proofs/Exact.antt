@@ -103,7 +103,7 @@ module _ (p : PartName) where
       let r = from_left ts s e d.0 in
       (r.0, λ rest. r.1 rest ∙ ap (λ q. ts ++ q) (d.1 rest))
 
-  -- tokens behind which nothing more has to come are a tree's
+  -- tokens after which nothing more has to come are a tree's
   pub is_whole : (ts : List TokenKind) (s : List Expected) → left_of p ts ≡ Some s → list_all may_be_empty s ≡ true → AreWhole (part_then p) ts
   is_whole ts s e h = let r = ends_part ts s e h in (r.0, r.1 [] ∙ append-nil ts)
 
@@ -116,7 +116,7 @@ module _ (p : PartName) where
         let reads : go (start p) (ts ++ q) ≡ true = ap (go (start p)) (sym b.3) ∙ is_read b.0 in
         let c : false ≡ true = sym stops ∙ reads in cc
 
-    -- tokens behind which more has to come are no tree's
+    -- tokens after which more has to come are no tree's
     pub is_no_whole : (ts : List TokenKind) (s : List Expected) → left_of p ts ≡ Some s → list_all may_be_empty s ≡ false → AreWhole (part_then p) ts → ⊥
     is_no_whole ts s e h f =
         let more : go (start p) ts ≡ false = reads_run Expected TokenKind after_expected may_be_empty ts (start p) ∙ ap (λ o. goes_well o (list_all may_be_empty)) e ∙ h in

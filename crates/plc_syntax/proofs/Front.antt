@@ -23,9 +23,9 @@ use Rattle.plc_syntax.proofs.Again.{go, outline_read}
 use Rattle.plc_syntax.proofs.Steps.{kind_at, kinds_length, all_reversed}
 use Rattle.plc_syntax.proofs.Appends.{outline_appends}
 
--- ---- an outline's tokens are read whatever stands behind them: the last symbol that is expected is never left out
+-- ---- an outline's tokens are read whatever stands after them: the last symbol that is expected is never left out
 
--- a symbol that has to come, and behind whose token such a one is the last
+-- a symbol that has to come, and after whose token such a one is the last
 abbrev is_solid : Expected → Bool
 is_solid (expected.Symbol k) = true
 is_solid (expected.Part parts.WholeOutline) = true
@@ -80,18 +80,18 @@ closed_comes : (x : Expected) (s : List Expected) → is_closed (x ∷ s) ≡ tr
 closed_comes x [] h e = solid_comes x h e
 closed_comes x (y ∷ s) h e = closed_comes y s h (both (may_be_empty x) (list_all may_be_empty (y ∷ s)) e)
 
--- behind a token that fits
-read_behind : (p rest : List TokenKind) (place : ℕ) (o : Option (List Expected)) → ((next : List Expected) → is_closed next ≡ true → go next p ≡ true → stuck_at (p ++ rest) next (place + 1) ≡ None)
+-- after a token that fits
+read_after : (p rest : List TokenKind) (place : ℕ) (o : Option (List Expected)) → ((next : List Expected) → is_closed next ≡ true → go next p ≡ true → stuck_at (p ++ rest) next (place + 1) ≡ None)
     → IsClosed o → goes_well o (λ next. go next p) ≡ true → or_here place o (λ next. stuck_at (p ++ rest) next (place + 1)) ≡ None
-read_behind p rest place None more h e = absurd (false≢true e)
-read_behind p rest place (Some next) more h e = more next h e
+read_after p rest place None more h e = absurd (false≢true e)
+read_after p rest place (Some next) more h e = more next h e
 
 read_at_front : (p rest : List TokenKind) (s : List Expected) (place : ℕ) → is_closed s ≡ true → go s p ≡ true → stuck_at (p ++ rest) s place ≡ None
 read_at_front [] [] [] place h e = refl
 read_at_front [] (t ∷ rest) [] place h e = refl
 read_at_front [] rest (x ∷ s) place h e = absurd (closed_comes x s h e)
 read_at_front (t ∷ p) rest [] place h e = refl
-read_at_front (t ∷ p) rest (x ∷ s) place h e = read_behind p rest place (after_token (x ∷ s) t) (λ next c r. read_at_front p rest next (place + 1) c r) (closed_after (x ∷ s) t h) e
+read_at_front (t ∷ p) rest (x ∷ s) place h e = read_after p rest place (after_token (x ∷ s) t) (λ next c r. read_at_front p rest next (place + 1) c r) (closed_after (x ∷ s) t h) e
 
 -- the machine isn't stuck at an outline
 pub outline_stands : (t : OutlineTree) (rest : List TokenKind) → outline_stuck_at (outline_then t rest) ≡ None
@@ -129,10 +129,10 @@ stuck_right before t ts s e h =
       unfinished = λ same. absurd (omega arith);
     }
 
-walk_behind : (t : TokenKind) (ts before : List TokenKind) (s : List Expected) → left_of parts.WholeOutline before ≡ Some s → (o : Option (List Expected)) → after_token s t ≡ o
+walk_after : (t : TokenKind) (ts before : List TokenKind) (s : List Expected) → left_of parts.WholeOutline before ≡ Some s → (o : Option (List Expected)) → after_token s t ≡ o
     → ((next : List Expected) → after_token s t ≡ Some next → Right (before ++ t ∷ [] ++ ts) (stuck_at ts next (length (before ++ t ∷ [])))) → Right (before ++ t ∷ ts) (or_here (length before) o (λ next. stuck_at ts next (length before + 1)))
-walk_behind t ts before s e None h more = stuck_right before t ts s e h
-walk_behind t ts before s e (Some next) h more =
+walk_after t ts before s e None h more = stuck_right before t ts s e h
+walk_after t ts before s e (Some next) h more =
     subst (λ n. Right (before ++ t ∷ ts) (stuck_at ts next n)) (length-append before (t ∷ []))
     (subst (λ us. Right us (stuck_at ts next (length (before ++ t ∷ [])))) (append_assoc before (t ∷ []) ts) (more next h))
 
@@ -140,7 +140,7 @@ walk_right : (ts before : List TokenKind) (s : List Expected) → left_of parts.
 walk_right ts before [] e = let r = from_left parts.WholeOutline before [] e tt in (r.0, ts, sym (r.1 ts))
 walk_right [] before (x ∷ s) e =
     subst (λ us. Right us (cond (list_all may_be_empty (x ∷ s)) None (Some (length before)))) (sym (append-nil before)) (ended_right before (x ∷ s) (list_all may_be_empty (x ∷ s)) e refl)
-walk_right (t ∷ ts) before (x ∷ s) e = walk_behind t ts before (x ∷ s) e (after_token (x ∷ s) t) refl (λ next h. walk_right ts (before ++ t ∷ []) next (left_one before t (x ∷ s) e ∙ h))
+walk_right (t ∷ ts) before (x ∷ s) e = walk_after t ts before (x ∷ s) e (after_token (x ∷ s) t) refl (λ next h. walk_right ts (before ++ t ∷ []) next (left_one before t (x ∷ s) e ∙ h))
 
 pub outline_is_right : (ts : List TokenKind) (fault : Option ℕ) → fault ≡ outline_stuck_at ts → MatchOption fault (HasOutline ts) (OutlineFaultAt ts)
 outline_is_right ts None e = subst (Right ts) (sym e) (walk_right ts [] (expected.Part parts.WholeOutline ∷ []) refl)

@@ -79,7 +79,7 @@ module _ (S T : Type 0) (row : S → T → Option (List S)) (may_skip : S → Bo
     spell_all [] trees rest = rest
     spell_all (x ∷ s) trees rest = spell x trees.0 (spell_all s trees.1 rest)
 
-    -- trees of a row, behind its token, are a tree of the symbol
+    -- trees of a row, after its token, are a tree of the symbol
     abbrev pub RowIs : S → T → Option (List S) → Type 0
     RowIs x t None = Unit {0}
     RowIs x t (Some r) = (trees : Trees r) → (tree : Tree x) × ((rest : List T) → spell x tree rest ≡ t ∷ spell_all r trees rest)
@@ -89,7 +89,7 @@ module _ (S T : Type 0) (row : S → T → Option (List S)) (may_skip : S → Bo
     EmptyIs x false = Unit {0}
     EmptyIs x true = (tree : Tree x) × ((rest : List T) → spell x tree rest ≡ rest)
 
-    -- trees of the stack behind a token are, behind that token, trees of the stack before it
+    -- trees of the stack after a token are, after that token, trees of the stack before it
     abbrev pub Begins : List S → T → Option (List S) → Type 0
     Begins s t None = Unit {0}
     Begins s t (Some next) = (later : Trees next) → (trees : Trees s) × ((rest : List T) → spell_all s trees rest ≡ t ∷ spell_all next later rest)

@@ -1,4 +1,4 @@
--- Each row of the table, as trees: what is still to come behind the token, once it is read, is the tree of the part.
+-- Each row of the table, as trees: what is still to come after the token, once it is read, is the tree of the part.
 use Rattle.std.proofs.Common.{true, false, Some, None, ◌∷◌, refl}
 use Rattle.plc_lex.specs.declared.token.TokenKind.{TokenKind}
 use Rattle.plc_lex.specs.declared.token.TokenKind.TheVariants.{Word, Name, Number, Symbol}

@@ -1,4 +1,4 @@
--- A step of the pass: what is left, what is counted and what is shallow behind one token more, and where the pass ends.
+-- A step of the pass: what is left, what is counted and what is shallow after one token more, and where the pass ends.
 use Rattle.std.proofs.Common.{◌≡◌, ℕ, ◌+◌, ◌<◌, ◌≤◌, false, true, Bool, cond, inl, inr, Some, None, List, [], ◌∷◌, ◌++◌, ◌&&◌, length, take, get_or, reverse, refl, sym, ◌∙◌, ap, subst, arith}
 use Rattle.std.specs.List.{count_by, list_all}
 use Rattle.std.proofs.Math.Bool.{and_comm}

@@ -1,4 +1,4 @@
--- What stands behind a name that several forms begin with, as trees: the table has one row for the name, and its rest is one of these.
+-- What stands after a name that several forms begin with, as trees: the table has one row for the name, and its rest is one of these.
 use Rattle.std.proofs.Common.{◌≡◌, Bool, Option, List, ◌∷◌, refl}
 use Rattle.plc_lex.specs.declared.token.TokenKind.{TokenKind}
 use Rattle.plc_lex.specs.declared.token.TokenKind.TheVariants.{Word, Name, Symbol}
@@ -67,7 +67,7 @@ block_then b rest = Symbol OpenBrace ∷ statements_then b (Symbol CloseBrace �
 abbrev pub second_block_then : BlockTree → List TokenKind → List TokenKind
 second_block_then b rest = Word words.Or ∷ block_then b rest
 
--- a name and what stands behind it, joined
+-- a name and what stands after it, joined
 abbrev pub join_set : Text → SetTail → SetTree
 join_set n (SetTailValue v) = SetName n v
 join_set n (SetTailField f a) = SetField n f a

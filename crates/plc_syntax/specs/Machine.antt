@@ -1,5 +1,5 @@
 -- A machine that reads tokens from the left and keeps a stack of what is still to come. The row of x for t is what is still to come of x
--- behind its first token t, and none where x doesn't begin with t; what may be empty is then left out. The machine never chooses, so that
+-- after its first token t, and none where x doesn't begin with t; what may be empty is then left out. The machine never chooses, so that
 -- neither following tokens nor an order of the rows enters what is said of it. It is stated for any table, since its laws rest on none.
 use Rattle.std.specs.Prelude.{ℕ, ◌+◌, Bool, true, false, cond, Option, Some, None, List, [], ◌∷◌, ◌++◌}
 use Rattle.std.specs.List.{list_all}
@@ -32,15 +32,15 @@ module _ (S T : Type 0) (row : S → T → Option (List S)) (may_skip : S → Bo
   after_all s [] = Some s
   after_all s (t ∷ ts) = and_then (after s t) (λ next. after_all next ts)
 
--- what is still to come behind one token
+-- what is still to come after one token
 abbrev pub after_token : List Expected → TokenKind → Option (List Expected)
 after_token s t = after Expected TokenKind after_expected may_be_empty s t
 
--- what is still to come behind tokens with which a part begins
+-- what is still to come after tokens with which a part begins
 abbrev pub left_of : PartName → List TokenKind → Option (List Expected)
 left_of part ts = after_all Expected TokenKind after_expected may_be_empty (Part part ∷ []) ts
 
--- a token doesn't fit at the place, or what is found behind it
+-- a token doesn't fit at the place, or what is found after it
 abbrev pub or_here : ℕ → Option (List Expected) → (List Expected → Option ℕ) → Option ℕ
 or_here place None f = Some place
 or_here place (Some s) f = f s

@@ -19,9 +19,9 @@ AreWhole {X} x_then ts = (x : X) × (x_then x [] ≡ ts)
 abbrev pub Begin : {X : Type 0} → (X → List TokenKind → List TokenKind) → List TokenKind → Type 0
 Begin {X} x_then ts = (x : X) × (rest : List TokenKind) × AllByRecursion IsKind rest × (x_then x [] ≡ ts ++ rest)
 
--- a tree's tokens stand at the front of these, whatever stands behind them
+-- a tree's tokens stand at the front of these, whatever stands after them
 abbrev pub HaveAtFront : {X : Type 0} → (X → List TokenKind → List TokenKind) → List TokenKind → Type 0
-HaveAtFront {X} x_then ts = (x : X) × (behind : List TokenKind) × (ts ≡ x_then x behind)
+HaveAtFront {X} x_then ts = (x : X) × (after : List TokenKind) × (ts ≡ x_then x after)
 
 -- the least place with whose token no tree's tokens begin any more, or the end where the tokens begin a tree's and are none's
 pub record StopAt {X : Type 0} (x_then : X → List TokenKind → List TokenKind) (ts : List TokenKind) (place : ℕ) : Type 0 where

@@ -1,4 +1,4 @@
--- The table of the machine. For each part of the grammar and each token that it may begin with: what is still to come of the part behind
+-- The table of the machine. For each part of the grammar and each token that it may begin with: what is still to come of the part after
 -- that token; none where the part doesn't begin with the token. A part that may be empty is left out where the next token doesn't fit it.
 -- Where two forms begin alike, their common beginning is one row and what follows it is a part of its own.
 use Rattle.std.specs.Prelude.{◌≡◌, cond, Bool, true, false, Option, Some, None, MatchOption, List, [], ◌∷◌}
@@ -50,7 +50,7 @@ abbrev pub after_use : TokenKind → Option (List Expected)
 after_use (kinds.Word words.Use) = Some (Part Scheme ∷ [])
 after_use _ = None
 
--- a reclamation scheme, from behind `use`
+-- a reclamation scheme, from after `use`
 abbrev pub after_scheme : TokenKind → Option (List Expected)
 after_scheme (kinds.Word words.Hazard) = Some (Symbol OpenParen ∷ Name ∷ Symbol CloseParen ∷ Symbol Semicolon ∷ [])
 after_scheme (kinds.Word words.Epoch) = Some (Symbol OpenParen ∷ Name ∷ Symbol Comma ∷ Name ∷ Symbol CloseParen ∷ Symbol Semicolon ∷ [])
@@ -67,7 +67,7 @@ after_ghost_kind (kinds.Symbol OpenBrace) = Some (Name ∷ Part MoreNames ∷ Sy
 after_ghost_kind (kinds.Word words.Thread) = Some []
 after_ghost_kind _ = None
 
--- further names, each behind a comma
+-- further names, each after a comma
 abbrev pub after_more_names : TokenKind → Option (List Expected)
 after_more_names (kinds.Symbol Comma) = Some (Name ∷ Part MoreNames ∷ [])
 after_more_names _ = None
@@ -216,7 +216,7 @@ abbrev pub after_place : TokenKind → Option (List Expected)
 after_place (kinds.Name n) = Some (Part DotName ∷ [])
 after_place _ = None
 
--- a field behind a dot, or nothing
+-- a field after a dot, or nothing
 abbrev pub after_dot_name : TokenKind → Option (List Expected)
 after_dot_name (kinds.Symbol Dot) = Some (Name ∷ [])
 after_dot_name _ = None
@@ -395,7 +395,7 @@ may_be_empty _ = false
 abbrev pub same_symbol : Punctuation → Punctuation → Bool
 same_symbol a b = sameb punctuation.the_type a b
 
--- what is still to come behind a token
+-- what is still to come after a token
 abbrev pub after_expected : Expected → TokenKind → Option (List Expected)
 after_expected Name (kinds.Name n) = Some []
 after_expected Number (kinds.Number n) = Some []

@@ -267,7 +267,7 @@ mutual
     NoElse : ElseTree
     ElseBlock : BlockTree → ElseTree
 
-  -- { "or" block }*, the blocks of a choice behind its second
+  -- { "or" block }*, the blocks of a choice after its second
   pub data OrTree : Type 0 where
     NoOr : OrTree
     OrBlock : BlockTree → OrTree → OrTree

@@ -18,13 +18,13 @@ pub enum Part {
     PointerWord,
     /// The use of a reclamation scheme, or nothing.
     Use,
-    /// A reclamation scheme, from behind `use`.
+    /// A reclamation scheme, from after `use`.
     Scheme,
     /// The auxiliary fields.
     Ghosts,
     /// The values of an auxiliary field.
     GhostKind,
-    /// Further names, each behind a comma.
+    /// Further names, each after a comma.
     MoreNames,
     /// The init block, or nothing.
     Init,
@@ -70,7 +70,7 @@ pub enum Part {
     Value,
     /// A name, or a field of what it points to.
     Place,
-    /// A field behind a dot, or nothing.
+    /// A field after a dot, or nothing.
     DotName,
     /// `null`, a number or a name.
     Atom,

@@ -1,7 +1,7 @@
 // The test of the syntax: one pass, token by token, and the first token that doesn't fit or that
 // begins a block too deep ends it. A token that doesn't fit is no brace of a block, so at one token
 // the syntax goes before the nesting. The same machine tests an outline that has to stand at the
-// front of tokens, which holds no blocks; it stops behind the closing brace.
+// front of tokens, which holds no blocks; it stops after the closing brace.
 ghost use Rattle.std.specs.Prelude.{◌≡◌, ◌<◌, ◌^◌, ℕ, IfOk, MatchOption, length};
 ghost use Rattle.plc_syntax.specs.Answer.{IsExactly};
 ghost use Rattle.plc_syntax.specs.Faults.{SyntaxFaultsAreOne};
@@ -67,7 +67,7 @@ fn outline_stuck_at(alloc: Global, tokens: &[Token]) -> Result<Option<u32>, Allo
 }
 
 /// The place of the fault of syntax where no outline stands at the front of tokens, whatever stands
-/// behind one: the least token with which no outline begins any more, or their number where they begin
+/// after one: the least token with which no outline begins any more, or their number where they begin
 /// one.
 pub fn outline_fault(alloc: Global, tokens: &[Token]) -> Result<Option<u32>, AllocError>
     requires { length tokens.now < 2 ^ 32 }

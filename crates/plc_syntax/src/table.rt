@@ -1,5 +1,5 @@
 // The table: for each part and each token that it may begin with, what is still to come of the part
-// behind that token. No part has two rows for one token, so the machine never has to choose, and no
+// after that token. No part has two rows for one token, so the machine never has to choose, and no
 // set of tokens that may follow a part enters the proofs.
 ghost use Rattle.std.specs.Prelude.{◌≡◌, MatchOption, Some, None, [], true, false};
 ghost use Rattle.plc_syntax.specs.Table.{IsRow, after_part, after_expected, may_be_empty};

@@ -1,5 +1,5 @@
 // Files and sinks: that each call which takes memory succeeds where there is enough of it, what a fault
-// prints, and what the system does behind its handle.
+// prints, and what the system does after its handle.
 use plc_outside::{
     FailSink, FileFault, Files, MemFiles, OutSink, RealFiles, Sink, SinkFault, VecSink, write_text,
 };

@@ -9,5 +9,5 @@ returns-in_err-kind-clause-err c =
 
 pub returns-clause-reads : goal.returns-clause-reads
 returns-clause-reads c =
-    let seen = c.behind-after.ensures in
-    reads_token c.args.rest.at c.args.rest.line c.in_ok-kind.count c.args.rest.bytes.now c.in_ok-kind.kind c.behind-after.result c.requires.at_token c.in_ok-kind.ensures.ok seen.bytes seen.at seen.line
+    let seen = c.rest_after-after.ensures in
+    reads_token c.args.rest.at c.args.rest.line c.in_ok-kind.count c.args.rest.bytes.now c.in_ok-kind.kind c.rest_after-after.result c.requires.at_token c.in_ok-kind.ensures.ok seen.bytes seen.at seen.line

@@ -17,7 +17,7 @@ use Rattle.plc_parse.proofs.auxiliary.read_values.Goals as goal
 pub returns-in_err-number-clause-read : goal.returns-in_err-number-clause-read
 returns-in_err-number-clause-read c =
     let p = err_from_is_err_and c.from_residual-in_err-number.result c.from_residual-in_err-number.ensures.1 in
-    rw (p.1, p.2) (each_fails comma_name_of (value_step c.args.owner) comma_name_shrinks _ (c.loop-name.values, c.loop-name.scope, c.loop-name.rest.at) _ (c.in-Some.name.now, kinds c.in-Some.behind.tokens.now) _
+    rw (p.1, p.2) (each_fails comma_name_of (value_step c.args.owner) comma_name_shrinks _ (c.loop-name.values, c.loop-name.scope, c.loop-name.rest.at) _ (c.in-Some.name.now, kinds c.in-Some.after.tokens.now) _
     (value_means c.loop-name.scope c.args.owner (length c.loop-name.values) (c.loop-name.rest.at + 1) c.in-Some.name.now) (λ v. Ok (c.loop-name.values ++ v.0 ∷ [], v.1, c.loop-name.rest.at + 2))
     c.in-Some.ensures.read refl (rw c.len.ensures at c.in_err-number.ensures.read) c.loop-name.invariant.read)
 
@@ -31,9 +31,9 @@ loop-name-preserved c =
       names = omega (arith, c.loop-name.invariant.names, c.in_ok-number.ensures.declares.names.names);
       limit = c.in_ok-number.ensures.declares.names.limit ∙ c.loop-name.invariant.limit;
       lists = lists_then _ _ _ c.loop-name.invariant.lists c.in_ok-number.ensures.declares.lists;
-      place = within_then _ _ _ 2 c.loop-name.invariant.place c.in-Some.ensures.behind;
-      read = rw (c.in-Some.ensures.behind.at, c.in_ok-push-2.ensures.ok)
-          (sym (each_turns comma_name_of (value_step c.args.owner) comma_name_shrinks (c.loop-name.values, c.loop-name.scope, c.loop-name.rest.at) _ _ (c.in-Some.name.now, kinds c.in-Some.behind.tokens.now) c.in-Some.ensures.read
+      place = within_then _ _ _ 2 c.loop-name.invariant.place c.in-Some.ensures.after;
+      read = rw (c.in-Some.ensures.after.at, c.in_ok-push-2.ensures.ok)
+          (sym (each_turns comma_name_of (value_step c.args.owner) comma_name_shrinks (c.loop-name.values, c.loop-name.scope, c.loop-name.rest.at) _ _ (c.in-Some.name.now, kinds c.in-Some.after.tokens.now) c.in-Some.ensures.read
           (ap (λ (r : Result (ℕ × Scope) ParseFault). r >>= λ v. Ok (c.loop-name.values ++ v.0 ∷ [], v.1, c.loop-name.rest.at + 2)) (rw c.len.ensures at c.in_ok-number.ensures.read))) ∙ c.loop-name.invariant.read);
     }
 

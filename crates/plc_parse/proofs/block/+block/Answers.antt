@@ -12,9 +12,9 @@ use Rattle.plc_parse.proofs.block.+block.Goals as goal
 pub read_block-returns-in-Some-clause-read : goal.read_block-returns-in-Some-clause-read
 read_block-returns-in-Some-clause-read t c =
     let more : c.args.context.most - c.loop-i.i ≡ suc (c.args.context.most - 1 - c.loop-i.i) = omega (arith, c.loop-i-test.true) in
-    block_end (lines_of c.args.context.tokens.now) c.args.context.in_loop (c.args.context.most - c.loop-i.i) (c.args.context.most - 1 - c.loop-i.i) c.loop-i.lines.items c.loop-i.scope c.loop-i.rest.at _ (kinds c.in-Some.behind.tokens.now) _ more c.in-Some.ensures.read c.loop-i.invariant.read
-    ∙ ap (λ (b : Statements). Ok ((b, c.loop-i.scope, c.loop-i.rest.at + 1), kinds c.in-Some.behind.tokens.now)) (sym c.new.ensures)
-    ∙ ap (λ (p : ℕ). Ok ((c.new.result, c.loop-i.scope, p), kinds c.in-Some.behind.tokens.now)) (sym c.in-Some.ensures.behind.at)
+    block_end (lines_of c.args.context.tokens.now) c.args.context.in_loop (c.args.context.most - c.loop-i.i) (c.args.context.most - 1 - c.loop-i.i) c.loop-i.lines.items c.loop-i.scope c.loop-i.rest.at _ (kinds c.in-Some.after.tokens.now) _ more c.in-Some.ensures.read c.loop-i.invariant.read
+    ∙ ap (λ (b : Statements). Ok ((b, c.loop-i.scope, c.loop-i.rest.at + 1), kinds c.in-Some.after.tokens.now)) (sym c.new.ensures)
+    ∙ ap (λ (p : ℕ). Ok ((c.new.result, c.loop-i.scope, p), kinds c.in-Some.after.tokens.now)) (sym c.in-Some.ensures.after.at)
 
 pub read_block-returns-in_err-stmt-clause-read : goal.read_block-returns-in_err-stmt-clause-read
 read_block-returns-in_err-stmt-clause-read t c =
@@ -53,8 +53,8 @@ pub read_blocks-returns-in_err-block-clause-read :
 read_blocks-returns-in_err-block-clause-read t c =
     let p = err_from_is_err_and c.from_residual-in_err-block.result c.from_residual-in_err-block.ensures.1 in
     let more : c.args.context.most - c.loop.counter ≡ suc (c.args.context.most - (c.loop.counter + 1)) = omega (arith, c.loop-test.true) in
-    rw (p.1, p.2) (ors_stop (block_in (lines_of c.args.context.tokens.now) c.args.context.most) c.args.context.in_loop _ (c.args.context.most - c.loop.counter) (c.args.context.most - (c.loop.counter + 1)) c.loop.choices.items c.loop.scope c.loop.rest.at _ (kinds c.in-Some.behind.tokens.now) _ more c.in-Some.ensures.read
-    (rw c.in-Some.ensures.behind.at at c.in_err-block.ensures.read) c.loop.invariant.read)
+    rw (p.1, p.2) (ors_stop (block_in (lines_of c.args.context.tokens.now) c.args.context.most) c.args.context.in_loop _ (c.args.context.most - c.loop.counter) (c.args.context.most - (c.loop.counter + 1)) c.loop.choices.items c.loop.scope c.loop.rest.at _ (kinds c.in-Some.after.tokens.now) _ more c.in-Some.ensures.read
+    (rw c.in-Some.ensures.after.at at c.in_err-block.ensures.read) c.loop.invariant.read)
 
 pub read_blocks-loop-preserved : goal.read_blocks-loop-preserved
 read_blocks-loop-preserved t c =
@@ -64,8 +64,8 @@ read_blocks-loop-preserved t c =
       grows = labels_then _ _ _ c.loop.invariant.grows c.in_ok-block.ensures.labels.grows;
       place = c.in_ok-block.ensures.labels.place;
       read = ap (λ (bs : List Statements). blocks_before bs (ors_in (block_in (lines_of c.args.context.tokens.now) c.args.context.most) (c.args.context.most - (c.loop.counter + 1)) c.read_block.new.scope c.args.context.in_loop c.in_ok-block.end.at (kinds c.in_ok-block.end.tokens.now))) c.in_ok-push-2.ensures.items
-          ∙ sym (ors_turn (block_in (lines_of c.args.context.tokens.now) c.args.context.most) c.args.context.in_loop (c.args.context.most - c.loop.counter) (c.args.context.most - (c.loop.counter + 1)) c.loop.choices.items c.in_ok-block.block c.loop.scope c.read_block.new.scope c.loop.rest.at c.in_ok-block.end.at _ (kinds c.in-Some.behind.tokens.now) (kinds c.in_ok-block.end.tokens.now)
-          more c.in-Some.ensures.read (rw c.in-Some.ensures.behind.at at c.in_ok-block.ensures.read))
+          ∙ sym (ors_turn (block_in (lines_of c.args.context.tokens.now) c.args.context.most) c.args.context.in_loop (c.args.context.most - c.loop.counter) (c.args.context.most - (c.loop.counter + 1)) c.loop.choices.items c.in_ok-block.block c.loop.scope c.read_block.new.scope c.loop.rest.at c.in_ok-block.end.at _ (kinds c.in-Some.after.tokens.now) (kinds c.in_ok-block.end.tokens.now)
+          more c.in-Some.ensures.read (rw c.in-Some.ensures.after.at at c.in_ok-block.ensures.read))
           ∙ c.loop.invariant.read;
     }
 

@@ -14,7 +14,7 @@ returns-in_err-item-clause-read g c =
 
 pub loop-items-preserved : goal.loop-items-preserved
 loop-items-preserved g c =
-    goes_on g.L.Listed.head g.L.Listed.body g.L.Listed.limit g.L.Listed.names c.args.scope.now c.args.start c.loop-items.items c.push.new.self c.loop-items.scope c.next.new.scope c.loop-items.rest c.len.result c.in_ok-item.field-0 c.in-Some.item c.in-Some.behind
+    goes_on g.L.Listed.head g.L.Listed.body g.L.Listed.limit g.L.Listed.names c.args.scope.now c.args.start c.loop-items.items c.push.new.self c.loop-items.scope c.next.new.scope c.loop-items.rest c.len.result c.in_ok-item.field-0 c.in-Some.item c.in-Some.after
     c.len.ensures c.in_ok-push.ensures.ok (search rules) c.in_ok-item.ensures c.loop-items.invariant
 
 pub returns-clause-read : goal.returns-clause-read

@@ -18,11 +18,11 @@ pub returns-in_err-declare_local-clause-read :
     goal.returns-in_err-declare_local-clause-read
 returns-in_err-declare_local-clause-read c =
     let p = err_from_is_err_and c.from_residual.result c.from_residual.ensures.1 in
-    rw (p.1, p.2) (each_fails field_of local_step field_shrinks _ _ _ (field_tree c.in-Some.declaration, kinds c.in-Some.behind.tokens.now) _ (local_means c.loop-declaration.scope c.loop-declaration.rest.at (field_tree c.in-Some.declaration)) (λ t. Ok (t, c.loop-declaration.rest.at + 3))
+    rw (p.1, p.2) (each_fails field_of local_step field_shrinks _ _ _ (field_tree c.in-Some.declaration, kinds c.in-Some.after.tokens.now) _ (local_means c.loop-declaration.scope c.loop-declaration.rest.at (field_tree c.in-Some.declaration)) (λ t. Ok (t, c.loop-declaration.rest.at + 3))
     c.in-Some.ensures.read refl c.in_err-declare_local.ensures.read c.loop-declaration.invariant.read)
 
 pub loop-declaration-preserved : goal.loop-declaration-preserved
-loop-declaration-preserved c = locals_turn field_of local_step field_shrinks _ _ _ _ _ _ (field_tree c.in-Some.declaration) 3 c.loop-declaration.invariant c.in-Some.ensures.read c.in-Some.ensures.behind
+loop-declaration-preserved c = locals_turn field_of local_step field_shrinks _ _ _ _ _ _ (field_tree c.in-Some.declaration) 3 c.loop-declaration.invariant c.in-Some.ensures.read c.in-Some.ensures.after
     (ap (λ (r : Result Scope ParseFault). r >>= λ t. Ok (t, c.loop-declaration.rest.at + 3)) c.in_ok-declare_local.ensures.read) c.in_ok-declare_local.ensures.declares.names c.in_ok-declare_local.ensures.declares.labels
 
 pub returns-clause-read : goal.returns-clause-read

@@ -13,7 +13,7 @@ pub returns-in_err-rest-clause-read : goal.returns-in_err-rest-clause-read
 returns-in_err-rest-clause-read c =
     let p = err_from_is_err_and c.from_residual.result c.from_residual.ensures.1 in
     let more : 33 - length c.loop-name.ops ≡ suc (32 - length c.loop-name.ops) = omega (arith, c.loop-name.invariant.fit.count) in
-    rw (p.1, p.2) (added_stops head_of (op_in (lines_of c.args.tokens.now)) _ (33 - length c.loop-name.ops) (32 - length c.loop-name.ops) (c.loop-name.ops, c.loop-name.scope, c.loop-name.rest.at) _ (c.in-Some.name.now, kinds c.in-Some.behind.tokens.now) _ more
+    rw (p.1, p.2) (added_stops head_of (op_in (lines_of c.args.tokens.now)) _ (33 - length c.loop-name.ops) (32 - length c.loop-name.ops) (c.loop-name.ops, c.loop-name.scope, c.loop-name.rest.at) _ (c.in-Some.name.now, kinds c.in-Some.after.tokens.now) _ more
     c.in-Some.ensures.read c.in_err-rest.ensures.read c.loop-name.invariant.read)
 
 pub loop-name-preserved : goal.loop-name-preserved
@@ -24,7 +24,7 @@ loop-name-preserved c =
       fit = c.in_ok-rest.ensures.fit;
       grows = ops_then _ _ _ (33 * length c.loop-name.ops) _ (omega arith) c.loop-name.invariant.grows c.in_ok-rest.ensures.grows;
       place = c.in_ok-rest.ensures.place;
-      read = sym (added_turns head_of (op_in (lines_of c.args.tokens.now)) (33 - length c.loop-name.ops) (33 - length c.read_next.new.ops) (c.loop-name.ops, c.loop-name.scope, c.loop-name.rest.at) _ (c.in-Some.name.now, kinds c.in-Some.behind.tokens.now) _ more
+      read = sym (added_turns head_of (op_in (lines_of c.args.tokens.now)) (33 - length c.loop-name.ops) (33 - length c.read_next.new.ops) (c.loop-name.ops, c.loop-name.scope, c.loop-name.rest.at) _ (c.in-Some.name.now, kinds c.in-Some.after.tokens.now) _ more
           c.in-Some.ensures.read c.in_ok-rest.ensures.read)
           ∙ c.loop-name.invariant.read;
     }

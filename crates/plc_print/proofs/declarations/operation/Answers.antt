@@ -23,10 +23,10 @@ returns c =
     let parameters = subst (λ (x : List Local). c.parameters.new.out.text.items ≡ c.tokens.new.self.text.items ++ text_of (parameters_then (names x) [])) c.as_slice.ensures c.in_ok-parameters.ensures in
     let locals = subst (λ (x : List Local). c.locals.new.out.text.items ≡ c.tokens-2.new.self.text.items ++ text_of (each_then field_then (trees x) [])) c.as_slice.ensures c.in_ok-locals.ensures in
     let body = subst (λ (x : List Local). c.statements.new.out.text.items ≡ c.locals.new.out.text.items ++ text_of (statements_then (block x) [])) c.as_slice.ensures c.in_ok-statements.ensures in
-    let behind_locals = statements_then (block ls) (Symbol CloseBrace ∷ []) in
-    let behind_names = each_then field_then (trees ls) behind_locals in
-    on_ok_weaker c.token.result (λ e. then_prints (λ ts. Word Op ∷ Name name ∷ Symbol OpenParen ∷ ts) (λ ts. refl) (parameters_then (names ls) (Symbol CloseParen ∷ Symbol OpenBrace ∷ behind_names)) c.args.out.now.text.items head
-    (then_prints (parameters_then (names ls)) (parameters_leads (names ls)) (Symbol CloseParen ∷ Symbol OpenBrace ∷ behind_names) c.tokens.new.self.text.items parameters
-    (then_prints (λ ts. Symbol CloseParen ∷ Symbol OpenBrace ∷ ts) (λ ts. refl) behind_names c.parameters.new.out.text.items c.in_ok-tokens-2.ensures
-    (then_prints (each_then field_then (trees ls)) (fields_leads (trees ls)) behind_locals c.tokens-2.new.self.text.items locals
+    let after_locals = statements_then (block ls) (Symbol CloseBrace ∷ []) in
+    let after_names = each_then field_then (trees ls) after_locals in
+    on_ok_weaker c.token.result (λ e. then_prints (λ ts. Word Op ∷ Name name ∷ Symbol OpenParen ∷ ts) (λ ts. refl) (parameters_then (names ls) (Symbol CloseParen ∷ Symbol OpenBrace ∷ after_names)) c.args.out.now.text.items head
+    (then_prints (parameters_then (names ls)) (parameters_leads (names ls)) (Symbol CloseParen ∷ Symbol OpenBrace ∷ after_names) c.tokens.new.self.text.items parameters
+    (then_prints (λ ts. Symbol CloseParen ∷ Symbol OpenBrace ∷ ts) (λ ts. refl) after_names c.parameters.new.out.text.items c.in_ok-tokens-2.ensures
+    (then_prints (each_then field_then (trees ls)) (fields_leads (trees ls)) after_locals c.tokens-2.new.self.text.items locals
     (then_prints (statements_then (block ls)) (statements_leads (block ls)) (Symbol CloseBrace ∷ []) c.locals.new.out.text.items body e))))) c.token.ensures

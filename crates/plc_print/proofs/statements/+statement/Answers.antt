@@ -33,11 +33,11 @@ branch-returns t c =
 pub choose-returns-in_ok-braced-in-len1 : goal.choose-returns-in_ok-braced-in-len1
 choose-returns-in_ok-braced-in-len1 t c =
     let tree = block_tree c.args.reach.file.now c.args.reach.locals.now c.block-item.result in
-    let behind = Word Or ∷ Symbol OpenBrace ∷ Symbol CloseBrace ∷ [] in
+    let after = Word Or ∷ Symbol OpenBrace ∷ Symbol CloseBrace ∷ [] in
     let blocks = one_item c.args.blocks.now c.block-item.result c.in-len1.len_at_least c.in-len1.len_below c.block-item.is in
     subst (λ (bs : List Statements). OnOk c.tokens-in-len1.result (c.tokens-in-len1.new.self.text.items ≡ c.args.out.now.text.items ++ text_of (statement_then (choice_tree (blocks_tree c.args.reach.file.now c.args.reach.locals.now (blocks_of bs))) []))) (sym blocks)
-    (on_ok_weaker c.tokens-in-len1.result (λ e. then_prints (λ ts. Word Choose ∷ ts) (λ ts. refl) (braces_then tree behind) c.args.out.now.text.items c.in_ok-token-in-len1.ensures
-    (then_prints (braces_then tree) (braces_leads tree) behind c.token.new.self.text.items c.in_ok-braced-in-len1.ensures e)) c.tokens-in-len1.ensures)
+    (on_ok_weaker c.tokens-in-len1.result (λ e. then_prints (λ ts. Word Choose ∷ ts) (λ ts. refl) (braces_then tree after) c.args.out.now.text.items c.in_ok-token-in-len1.ensures
+    (then_prints (braces_then tree) (braces_leads tree) after c.token.new.self.text.items c.in_ok-braced-in-len1.ensures e)) c.tokens-in-len1.ensures)
 
 pub choose-returns-in_ok-or_block-in-len2-up : goal.choose-returns-in_ok-or_block-in-len2-up
 choose-returns-in_ok-or_block-in-len2-up t c =

@@ -14,9 +14,9 @@ returns c =
     let name = function_name c.args.reach.file.now c.args.func in
     let tree = argument_tree c.args.reach.file.now c.args.reach.locals.now c.args.arg c.args.active in
     let during = option_map (label_name c.args.reach.file.now) c.args.label in
-    let behind = maybe_then during_then during (Symbol Semicolon ∷ []) in
+    let after = maybe_then during_then during (Symbol Semicolon ∷ []) in
     let head = subst (λ (n : Text). c.tokens.new.self.text.items ≡ c.args.out.now.text.items ++ text_of (Name n ∷ Symbol OpenParen ∷ [])) c.function_name.ensures c.in_ok-tokens.ensures in
-    on_ok_weaker c.token-2.result (λ e. then_prints (λ ts. Name name ∷ Symbol OpenParen ∷ ts) (λ ts. refl) (argument_then tree (Symbol CloseParen ∷ behind)) c.args.out.now.text.items head
-    (then_prints (argument_then tree) (argument_leads tree) (Symbol CloseParen ∷ behind) c.tokens.new.self.text.items c.in_ok-argument.ensures
-    (then_prints (λ ts. Symbol CloseParen ∷ ts) (λ ts. refl) behind c.argument.new.out.text.items c.in_ok-token.ensures
+    on_ok_weaker c.token-2.result (λ e. then_prints (λ ts. Name name ∷ Symbol OpenParen ∷ ts) (λ ts. refl) (argument_then tree (Symbol CloseParen ∷ after)) c.args.out.now.text.items head
+    (then_prints (argument_then tree) (argument_leads tree) (Symbol CloseParen ∷ after) c.tokens.new.self.text.items c.in_ok-argument.ensures
+    (then_prints (λ ts. Symbol CloseParen ∷ ts) (λ ts. refl) after c.argument.new.out.text.items c.in_ok-token.ensures
     (then_prints (maybe_then during_then during) (during_leads during) (Symbol Semicolon ∷ []) c.token.new.self.text.items c.in_ok-during.ensures e)))) c.token-2.ensures

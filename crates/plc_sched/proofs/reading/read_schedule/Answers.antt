@@ -3,7 +3,7 @@ use Rattle.std.proofs.lemmas.Result.{err_from_is_err_and}
 use Rattle.plc_sched.specs.Entries.{head_text}
 use Rattle.plc_sched.specs.Lines.{lines_of}
 use Rattle.plc_sched.specs.Schedules.{IsScheduleOf, at_head}
-use Rattle.plc_sched.proofs.Unique.{schedule_of, fault_behind, schedules_are_one, memory_alone}
+use Rattle.plc_sched.proofs.Unique.{schedule_of, fault_after, schedules_are_one, memory_alone}
 use Rattle.plc_sched.proofs.reading.read_schedule.Goals as goal
 
 pub returns-in_default-clause-fault : goal.returns-in_default-clause-fault
@@ -12,12 +12,12 @@ returns-in_default-clause-fault c = (rw c.if-has_too_many_lines.false at c.has_t
 pub returns-in_err-entries-clause-fault : goal.returns-in_err-entries-clause-fault
 returns-in_err-entries-clause-fault c =
     let p = err_from_is_err_and c.from_residual.result c.from_residual.ensures.1 in
-    rw (p.1, p.2) (fault_behind c.args.bytes.now c.in-Some.after.now c.in-Some.threads _ (rw c.if-has_too_many_lines.false at c.has_too_many_lines.ensures) c.in-Some.ensures.fits c.in-Some.ensures.some c.in_err-entries.ensures.err)
+    rw (p.1, p.2) (fault_after c.args.bytes.now c.in-Some.after.now c.in-Some.threads _ (rw c.if-has_too_many_lines.false at c.has_too_many_lines.ensures) c.in-Some.ensures.fits c.in-Some.ensures.some c.in_err-entries.ensures.err)
 
 pub returns-in_err-entries-clause-spelled : goal.returns-in_err-entries-clause-spelled
 returns-in_err-entries-clause-spelled c = λ s spelled.
     let p = err_from_is_err_and c.from_residual.result c.from_residual.ensures.1 in
-    rw (p.1, p.2) (memory_alone c.args.bytes.now s _ spelled (fault_behind c.args.bytes.now c.in-Some.after.now c.in-Some.threads _ (rw c.if-has_too_many_lines.false at c.has_too_many_lines.ensures) c.in-Some.ensures.fits c.in-Some.ensures.some c.in_err-entries.ensures.err))
+    rw (p.1, p.2) (memory_alone c.args.bytes.now s _ spelled (fault_after c.args.bytes.now c.in-Some.after.now c.in-Some.threads _ (rw c.if-has_too_many_lines.false at c.has_too_many_lines.ensures) c.in-Some.ensures.fits c.in-Some.ensures.some c.in_err-entries.ensures.err))
 
 read : (c : goal.In_ok-entries) → IsScheduleOf c.args.bytes.now (schedule_of c.in-Some.threads c.in_ok-entries.entries)
 read c = record {

@@ -1,6 +1,6 @@
 use Rattle.std.proofs.Common.{◌≡◌, ◌++◌, take}
-use Rattle.plc_setting.specs.Setting.{fields_behind}
+use Rattle.plc_setting.specs.Setting.{targets_of}
 use Rattle.plc_setting.proofs.nodes.push_fields.Given as goal
 
 abbrev pub invariant-loop-of : goal.invariant-loop-of
-invariant-loop-of l = l.list ≡ l.initial.list ++ fields_behind l.fields (take l.of-index l.symbols)
+invariant-loop-of l = l.list ≡ l.initial.list ++ targets_of l.fields (take l.of-index l.symbols)
