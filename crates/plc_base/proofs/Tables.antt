@@ -1,5 +1,5 @@
 -- Lists as tables with a default past their end.
-use Rattle.std.proofs.Common.{◌≡◌, ℕ, zero, suc, Bool, true, false, not, ◌&&◌, ◌||◌, ◌==◌, cond, List, [], ◌∷◌, get_or, map, replicate, filter, refl, sym, ap, ◌∙◌}
+use Rattle.std.proofs.Common.{◌≡◌, ℕ, zero, suc, Bool, true, false, not, ◌&&◌, ◌||◌, ◌==◌, ◌<◌, cond, List, [], ◌∷◌, length, set, get_or, map, replicate, filter, refl, sym, ap, ◌∙◌, arith, length-set}
 use Rattle.std.specs.List.{list_any}
 use Rattle.std.proofs.lemmas.Bool.{eq-eqb, eqb-true}
 use Rattle.plc_base.specs.Tables.{put_at}
@@ -19,6 +19,21 @@ get-put_other d (x ∷ xs) zero v zero ne = absurd (ne refl)
 get-put_other d (x ∷ xs) zero v (suc j) ne = refl
 get-put_other d (x ∷ xs) (suc i) v zero ne = refl
 get-put_other d (x ∷ xs) (suc i) v (suc j) ne = get-put_other d xs i v j (λ e. ne (ap suc e))
+
+-- a table with a value put in range
+pub put_is_set : {A : Type 0} (d : A) (xs : List A) (i : ℕ) (v : A) → i < length xs → put_at d xs i v ≡ set xs i v
+put_is_set d [] i v h = absurd (omega arith)
+put_is_set d (x ∷ xs) zero v h = refl
+put_is_set d (x ∷ xs) (suc i) v h = ap (λ ys. x ∷ ys) (put_is_set d xs i v (omega arith))
+
+pub length_put : {A : Type 0} (d : A) (xs : List A) (i : ℕ) (v : A) → i < length xs → length (put_at d xs i v) ≡ length xs
+length_put d xs i v h = ap length (put_is_set d xs i v h) ∙ length-set xs i v
+
+pub put_put : {A : Type 0} (d : A) (xs : List A) (i : ℕ) (v w : A) → put_at d (put_at d xs i v) i w ≡ put_at d xs i w
+put_put d [] zero v w = refl
+put_put d [] (suc i) v w = ap (λ ys. d ∷ ys) (put_put d [] i v w)
+put_put d (x ∷ xs) zero v w = refl
+put_put d (x ∷ xs) (suc i) v w = ap (λ ys. x ∷ ys) (put_put d xs i v w)
 
 pub get-map : {A B : Type 0} (f : A → B) (xs : List A) (i : ℕ) (d : A) → get_or (map f xs) i (f d) ≡ f (get_or xs i d)
 get-map f [] i d = refl
