@@ -1,5 +1,6 @@
 -- The locals of operations, and their kinds.
-use Rattle.std.specs.Prelude.{ℕ, Bool, not, ◌&&◌, ◌++◌, List, [], Option, Some, None, slice_get, count_by, replicate}
+use Rattle.std.specs.Prelude.{ℕ, Bool, not, ◌&&◌, ◌++◌, List, []}
+use Rattle.std.specs.Prelude.{Option, Some, None, slice_get, count_by, replicate}
 use Rattle.plc_lang.specs.declared.syntax.Local.{Local}
 use Rattle.plc_lang.specs.declared.syntax.Op.{Op}
 

@@ -1,6 +1,7 @@
 -- Numbers of one thing: a local's among those of its kind and among all locals of its operation; a value's in its
 -- auxiliary field and over the file.
-use Rattle.std.specs.Prelude.{◌≡◌, ◌<◌, ℕ, ◌+◌, ◌-◌, nat_lt, Bool, true, List, [], ◌∷◌, if◌then◌else◌, length, take, slice_get, count_by, Option, Some, None}
+use Rattle.std.specs.Prelude.{◌≡◌, ◌<◌, ℕ, ◌+◌, ◌-◌, nat_lt, Bool, true, if◌then◌else◌}
+use Rattle.std.specs.Prelude.{List, [], ◌∷◌, length, take, slice_get, count_by, Option, Some, None}
 use Rattle.std.specs.List.{sum_by}
 use Rattle.plc_lang.specs.declared.syntax.Local.{Local}
 use Rattle.plc_lang.specs.declared.syntax.Ghost.{Ghost}
@@ -65,5 +66,6 @@ pub record NumbersAreOne (locals : List Local) : Type 0 where
       → pointer_place locals (pointer_number locals place) ≡ Some place
   pub to_data : (place : ℕ) (l : Local) → slice_get locals place ≡ Some l → is_data l ≡ true
       → data_place locals (data_number locals place) ≡ Some place
-  pub pointer_there : (v : ℕ) → v < count_by is_pointer locals → (place : ℕ) × (pointer_place locals v ≡ Some place)
+  pub pointer_there : (v : ℕ) → v < count_by is_pointer locals
+      → (place : ℕ) × (pointer_place locals v ≡ Some place)
   pub data_there : (x : ℕ) → x < count_by is_data locals → (place : ℕ) × (data_place locals x ≡ Some place)

@@ -5,7 +5,8 @@ use Rattle.plc_base.specs.declared.ids.FuncId.{FuncId}
 use Rattle.plc_lang.specs.declared.syntax.Primitive.{Primitive}
 use Rattle.plc_lang.specs.declared.syntax.Arg.{Arg}
 use Rattle.plc_lang.specs.declared.syntax.Cond.{Cond}
-use Rattle.plc_lang.specs.Statements.{Statement, One, Atomic, Call, If, Choose, Loop, Break, Return, Skip, Label, Statements, Empty, Then, Blocks, NoBlock, And}
+use Rattle.plc_lang.specs.Statements.{Statement, One, Atomic, Call, If, Choose, Loop, Break, Return, Skip, Label}
+use Rattle.plc_lang.specs.Statements.{Statements, Empty, Then, Blocks, NoBlock, And}
 
 -- the head of a tree: its constructor, without the trees that it takes: those were read before
 pub data Head : Type 0 where

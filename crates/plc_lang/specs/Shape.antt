@@ -9,10 +9,16 @@ use Rattle.plc_lang.specs.declared.syntax.Arg.TheVariants as args
 use Rattle.plc_lang.specs.declared.syntax.Cond.{Cond}
 use Rattle.plc_lang.specs.declared.syntax.Cond.TheVariants as conditions
 use Rattle.plc_lang.specs.declared.syntax.Primitive.{Primitive}
-use Rattle.plc_lang.specs.declared.syntax.Primitive.TheVariants.{Null, Copy, New, Load, Store, StoreNull, DataSet, DataLoad, DataStore, Eq, Ne, IsNull, NotNull, DataTest, Refresh, RefreshLoad, RefreshStore, Call, Done, Active, Ghost}
+use Rattle.plc_lang.specs.declared.syntax.Primitive.TheVariants.{Null, Copy, New, Load, Store, StoreNull}
+use Rattle.plc_lang.specs.declared.syntax.Primitive.TheVariants.{DataSet, DataLoad, DataStore}
+use Rattle.plc_lang.specs.declared.syntax.Primitive.TheVariants.{Eq, Ne, IsNull, NotNull, DataTest}
+use Rattle.plc_lang.specs.declared.syntax.Primitive.TheVariants.{Refresh, RefreshLoad, RefreshStore, Call}
+use Rattle.plc_lang.specs.declared.syntax.Primitive.TheVariants.{Done, Active, Ghost}
 use Rattle.plc_lang.specs.declared.syntax.Op.{Op}
 use Rattle.plc_lang.specs.declared.syntax.File.{File}
-use Rattle.plc_lang.specs.Statements.{Statement, One, Atomic, Call as CallStatement, If, Choose, Loop, Break, Return, Skip, Label, Statements, Empty, Then, Blocks, NoBlock, And}
+use Rattle.plc_lang.specs.Statements.{Statement, One, Atomic, Call as CallStatement}
+use Rattle.plc_lang.specs.Statements.{If, Choose, Loop, Break, Return, Skip, Label}
+use Rattle.plc_lang.specs.Statements.{Statements, Empty, Then, Blocks, NoBlock, And}
 use Rattle.plc_lang.specs.Locals.{is_pointer, is_parameter, is_other_data}
 
 -- how many shared pointers, pointer locals, data locals and fields there are

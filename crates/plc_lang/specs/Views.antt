@@ -3,7 +3,8 @@ use Rattle.std.specs.Prelude.{List, [], ◌∷◌}
 use Rattle.plc_lang.specs.declared.syntax.Stmt.{Stmt}
 use Rattle.plc_lang.specs.declared.syntax.Stmt.TheVariants as stmts
 use Rattle.plc_lang.specs.declared.syntax.Line.{Line}
-use Rattle.plc_lang.specs.Statements.{Statement, One, Atomic, Call, If, Choose, Loop, Break, Return, Skip, Label, Statements, Empty, Then, Blocks, NoBlock, And}
+use Rattle.plc_lang.specs.Statements.{Statement, One, Atomic, Call, If, Choose, Loop, Break, Return, Skip, Label}
+use Rattle.plc_lang.specs.Statements.{Statements, Empty, Then, Blocks, NoBlock, And}
 
 -- blocks side by side
 abbrev pub blocks_of : List Statements → Blocks

@@ -3,7 +3,8 @@
 ghost use Rattle.std.specs.Prelude.{◌≡◌, ◌++◌, IfOk, OnOk};
 ghost use Rattle.std.specs.List.{position_from};
 ghost use Rattle.plc_lang.specs.Views.{statement_of, blocks_of};
-ghost use Rattle.plc_lang.specs.Labels.{label_or_none, statement_labels, block_labels, blocks_labels, labels_by_op, has_label, op_of_label};
+ghost use Rattle.plc_lang.specs.Labels.{label_or_none, statement_labels, block_labels, blocks_labels};
+ghost use Rattle.plc_lang.specs.Labels.{labels_by_op, has_label, op_of_label};
 
 use crate::block::Block;
 use crate::syntax::{Op, Stmt};

@@ -2,7 +2,9 @@
 // empty name, so that whoever writes a text of a file asks nothing of it.
 ghost use Rattle.std.specs.Prelude.{◌≡◌, option_map};
 ghost use Rattle.plc_lang.specs.Numbering.{local_at};
-ghost use Rattle.plc_lang.specs.Names.{name_at, name_of, values_of, field_name, function_name, operation_name, auxiliary_name, value_name, label_name, shared_name, pointer_name, data_name, local_name, variable_name};
+ghost use Rattle.plc_lang.specs.Names.{name_at, name_of, values_of, field_name, function_name, operation_name};
+ghost use Rattle.plc_lang.specs.Names.{auxiliary_name, value_name, label_name, shared_name};
+ghost use Rattle.plc_lang.specs.Names.{pointer_name, data_name, local_name, variable_name};
 
 use crate::numbering::{data_place, pointer_place};
 use crate::syntax::{File, Local, Var};
@@ -33,40 +35,28 @@ fn name_of(file: &File, number: Option<u16>) -> &[u8]
 pub fn field_name(file: &File, field: FieldId) -> &[u8]
     ensures { result.now ≡ field_name file.now field }
 {
-    match file.fields.get(field.0 as usize) {
-        None => &[],
-        Some(field) => name_at(file, field.name),
-    }
+    name_of(file, file.fields.get(field.0 as usize).map(|f| f.name))
 }
 
 /// The name of a reclaimer function.
 pub fn function_name(file: &File, func: FuncId) -> &[u8]
     ensures { result.now ≡ function_name file.now func }
 {
-    match file.funcs.get(func.0 as usize) {
-        None => &[],
-        Some(func) => name_at(file, func.name),
-    }
+    name_of(file, file.funcs.get(func.0 as usize).map(|f| f.name))
 }
 
 /// The name of an operation.
 pub fn operation_name(file: &File, op: OpId) -> &[u8]
     ensures { result.now ≡ operation_name file.now op }
 {
-    match file.ops.get(op.0 as usize) {
-        None => &[],
-        Some(op) => name_at(file, op.name),
-    }
+    name_of(file, file.ops.get(op.0 as usize).map(|o| o.name))
 }
 
 /// The name of an auxiliary field.
 pub fn auxiliary_name(file: &File, g: u16) -> &[u8]
     ensures { result.now ≡ auxiliary_name file.now g }
 {
-    match file.ghosts.get(g as usize) {
-        None => &[],
-        Some(auxiliary) => name_at(file, auxiliary.name),
-    }
+    name_of(file, file.ghosts.get(g as usize).map(|a| a.name))
 }
 
 /// The name of a value of an auxiliary field.
@@ -121,10 +111,7 @@ pub fn data_name<'a>(file: &'a File, locals: &[Local], x: u16) -> &'a [u8]
 pub fn local_name<'a>(file: &'a File, locals: &[Local], v: u16) -> &'a [u8]
     ensures { result.now ≡ local_name file.now locals.now v }
 {
-    match locals.get(v as usize) {
-        None => &[],
-        Some(local) => name_at(file, local.name),
-    }
+    name_of(file, locals.get(v as usize).map(|l| l.name))
 }
 
 /// The name of a pointer variable in an operation with these locals.

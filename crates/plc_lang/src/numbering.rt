@@ -5,7 +5,8 @@ ghost use Rattle.std.specs.Prelude.{◌≡◌, ◌+◌, ◌≤◌, ◌<◌, ◌^
 ghost use Rattle.std.specs.List.{sum_by};
 ghost use Rattle.plc_lang.specs.declared.syntax.Local.{Local as ALocal};
 ghost use Rattle.plc_lang.specs.declared.syntax.Ghost.{Ghost as AField};
-ghost use Rattle.plc_lang.specs.Numbering.{pointer_place, data_place, pointer_number, data_number, value_number, value_at, values_in, NumbersAreOne, ValuesAreNumbered};
+ghost use Rattle.plc_lang.specs.Numbering.{pointer_place, data_place, pointer_number, data_number};
+ghost use Rattle.plc_lang.specs.Numbering.{value_number, value_at, values_in, NumbersAreOne, ValuesAreNumbered};
 
 use crate::syntax::{Ghost, Local};
 
