@@ -1,7 +1,29 @@
--- The points of different operations are different.
-use Rattle.std.proofs.Common.{◌≡◌, ℕ, zero, suc, ◌<◌, ◌≤◌, List, [], ◌∷◌, slice_get, Some, refl, sym, ap, subst, arith}
+-- The points of different operations are different, and all of them are counted.
+use Rattle.std.proofs.Common.{◌≡◌, ℕ, zero, suc, ◌+◌, ◌-◌, ◌<◌, ◌≤◌, List, [], ◌∷◌, length, replicate, slice_get, Some, refl, sym, ap, subst, arith, length-append}
+use Rattle.std.proofs.lemmas.List.{length-replicate}
+use Rattle.plc_lang.specs.declared.syntax.Op.{Op}
+use Rattle.plc_lang.specs.Locals.{pointers_of}
+use Rattle.plc_flow.specs.declared.flow.Flow.{Flow}
 use Rattle.plc_flow.specs.declared.flow.Gate.{Gate}
-use Rattle.plc_flow.specs.WellFormed.{IsPointOf, GatesFrom}
+use Rattle.plc_flow.specs.Skeleton.{pointers_by_point, skeleton_of}
+use Rattle.plc_flow.specs.WellFormed.{IsPointOf, IsWellFormed, GatesFrom}
+
+-- gates end no earlier than they begin
+pub gates_rise : (n end : ℕ) (gs : List Gate) → GatesFrom n gs end → n ≤ end
+gates_rise n end [] all = omega arith
+gates_rise n end (g ∷ gs) all = let later = gates_rise g.after end gs all.4 in let wide = all.3 in omega arith
+
+-- each point of the operations has its locals
+pub points_counted : (n end : ℕ) (os : List Op) (gs : List Gate) → length os ≡ length gs → GatesFrom n gs end → n + length (pointers_by_point os gs) ≡ end
+points_counted n end [] [] same all = omega arith
+points_counted n end (o ∷ os) [] same all = absurd (omega arith)
+points_counted n end [] (g ∷ gs) same all = absurd (omega arith)
+points_counted n end (o ∷ os) (g ∷ gs) same (first, entry_is, exit_is, wide, rest) =
+    let later = points_counted g.after end os gs (omega arith) rest in
+    omega (arith, later, length-append (replicate (g.after - g.first) (pointers_of o)) (pointers_by_point os gs), length-replicate (g.after - g.first) (pointers_of o))
+
+pub point_count : (flow : Flow) → IsWellFormed flow → length (skeleton_of flow).locals ≡ flow.points
+point_count flow well = let e = points_counted 0 flow.points flow.file.ops flow.gates (sym well.gates) well.ranges in omega (arith, e)
 
 -- a gate among them begins where they begin or later, and its entry and exit are its own
 pub record IsGate (n : ℕ) (g : Gate) : Type 0 where

@@ -13,19 +13,19 @@ use Rattle.plc_flow.specs.Sides.{true_side, false_side, call_side}
 use Rattle.plc_flow.specs.Lowering.{Branches, Lowered, joins, side_made, if_made, choose_made, loop_made, statement_made, statements_made, blocks_made, op_made, ops_made, made_of, flow_of}
 use Rattle.plc_flow.proofs.Each.{Each, each_get, each_both, each_so}
 
--- the lists of primitives that a statement puts into steps have P
+-- the lists of primitives that a statement puts into steps have P; the first four put none there
 abbrev mutual
   pub StatementHas : (List Primitive → Type 0) → Statement → Type 0
+  StatementHas P Break = Unit {0}
+  StatementHas P Return = Unit {0}
+  StatementHas P Skip = Unit {0}
+  StatementHas P (Label l) = Unit {0}
   StatementHas P (One k) = P (k ∷ [])
   StatementHas P (Atomic ks) = P ks
   StatementHas P (Call f a b d) = P (call_side b f a) × P (prims.Done f ∷ [])
   StatementHas P (If c y n) = P (true_side c) × P (false_side c) × StatementsHave P y × StatementsHave P n
   StatementHas P (Choose bs) = BlocksHave P bs
   StatementHas P (Loop b) = StatementsHave P b
-  StatementHas P Break = Unit {0}
-  StatementHas P Return = Unit {0}
-  StatementHas P Skip = Unit {0}
-  StatementHas P (Label l) = Unit {0}
 
   pub StatementsHave : (List Primitive → Type 0) → Statements → Type 0
   StatementsHave P Empty = Unit {0}

@@ -1,5 +1,6 @@
 -- What a call of the lowering adds to what was made before it.
-use Rattle.std.specs.Prelude.{◌≡◌, ℕ, ◌+◌, ◌<◌, ◌≤◌, List, [], ◌∷◌, ◌++◌, Option, Result, Ok, Err}
+use Rattle.std.specs.Prelude.{◌≡◌, ℕ, ◌+◌, ◌<◌, ◌≤◌, List}
+use Rattle.std.specs.Prelude.{[], ◌∷◌, ◌++◌, Option, Result, Ok, Err}
 use Rattle.plc_base.specs.declared.ids.PointId.{PointId}
 use Rattle.plc_lang.specs.declared.syntax.Primitive.{Primitive}
 use Rattle.plc_flow.specs.declared.flow.Gate.{Gate}
@@ -42,16 +43,22 @@ Makes old new (Ok last) m = Grown old new m × (last.0 ≡ m.last)
 Makes old new (Err (faults.TooManyPoints count)) m = Passes old m.points count
 Makes old new (Err faults.Memory) m = Unit {0}
 
+-- the points, steps and labels of blocks side by side, which go on from no one point
+abbrev pub without_ends : Branches → Made
+without_ends m = record { points = m.points; steps = m.steps; labels = m.labels; last = 0 }
+
+-- the points, steps and labels of all operations
+abbrev pub without_gates : MadeOps → Made
+without_gates m = record { points = m.points; steps = m.steps; labels = m.labels; last = 0 }
+
 -- the same of blocks side by side, with their ends as the answer
 abbrev pub MakesBranches : Builder → Builder → Result (List PointId) FlowFault → Branches → Type 0
-MakesBranches old new (Ok ends) m =
-    Grown old new (record { points = m.points; steps = m.steps; labels = m.labels; last = 0 }) × (ends ≡ m.ends)
+MakesBranches old new (Ok ends) m = Grown old new (without_ends m) × (ends ≡ m.ends)
 MakesBranches old new (Err (faults.TooManyPoints count)) m = Passes old m.points count
 MakesBranches old new (Err faults.Memory) m = Unit {0}
 
 -- the same of all operations, with the gates as the answer
 abbrev pub MakesGates : Builder → Builder → Result (List Gate) FlowFault → MadeOps → Type 0
-MakesGates old new (Ok gates) m =
-    Grown old new (record { points = m.points; steps = m.steps; labels = m.labels; last = 0 }) × (gates ≡ m.gates)
+MakesGates old new (Ok gates) m = Grown old new (without_gates m) × (gates ≡ m.gates)
 MakesGates old new (Err (faults.TooManyPoints count)) m = Passes old m.points count
 MakesGates old new (Err faults.Memory) m = Unit {0}

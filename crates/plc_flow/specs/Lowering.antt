@@ -1,5 +1,6 @@
 -- What each statement makes: points, steps and labels in order, and the point that it goes on from.
-use Rattle.std.specs.Prelude.{◌≡◌, ℕ, ◌+◌, ◌<◌, ◌≤◌, List, [], ◌∷◌, ◌++◌, map, Option, Some, None, Result, Ok, Err}
+use Rattle.std.specs.Prelude.{◌≡◌, ℕ, ◌+◌, ◌<◌, ◌≤◌, List, []}
+use Rattle.std.specs.Prelude.{◌∷◌, ◌++◌, map, Option, Some, None, Result, Ok, Err}
 use Rattle.plc_base.specs.Limits.{most}
 use Rattle.plc_base.specs.declared.ids.FuncId.{FuncId}
 use Rattle.plc_base.specs.declared.ids.PointId.{PointId}
@@ -8,7 +9,8 @@ use Rattle.plc_lang.specs.declared.syntax.Primitive.{Primitive}
 use Rattle.plc_lang.specs.declared.syntax.Primitive.TheVariants as prims
 use Rattle.plc_lang.specs.declared.syntax.Op.{Op}
 use Rattle.plc_lang.specs.declared.syntax.File.{File}
-use Rattle.plc_lang.specs.Statements.{Statement, One, Atomic, Call, If, Choose, Loop, Break, Return, Skip, Label, Statements, Empty, Then, Blocks, NoBlock, And}
+use Rattle.plc_lang.specs.Statements.{Statement, One, Atomic, Call, If, Choose, Loop, Break, Return, Skip, Label}
+use Rattle.plc_lang.specs.Statements.{Statements, Empty, Then, Blocks, NoBlock, And}
 use Rattle.plc_flow.specs.declared.flow.Step.{Step}
 use Rattle.plc_flow.specs.declared.flow.Gate.{Gate}
 use Rattle.plc_flow.specs.declared.flow.Flow.{Flow}
@@ -166,7 +168,8 @@ abbrev mutual
 -- to the exit; no `break` stands outside of loops
 abbrev pub op_made : ℕ → Op → ℕ → Made
 op_made id o n =
-    let h : Here = record { op = record { 0 = id }; exit = point_of (n + 1); after = point_of (n + 1); line = o.line } in
+    let exit = point_of (n + 1) in
+    let h : Here = record { op = record { 0 = id }; exit = exit; after = exit; line = o.line } in
     let inner = statements_made o.body h (n + 2) n in
     record {
       points = 2 + inner.points;

@@ -1,5 +1,6 @@
 -- Where a thread may stand, and the steps that leave a point.
-use Rattle.std.specs.Prelude.{◌≡◌, ℕ, Bool, true, false, ◌==◌, List, filter, slice_get, Option, Some, is_some}
+use Rattle.std.specs.Prelude.{◌≡◌, ℕ, Bool, true, false, ◌==◌}
+use Rattle.std.specs.Prelude.{List, filter, slice_get, Option, Some, is_some}
 use Rattle.std.specs.List.{list_any}
 use Rattle.plc_lang.specs.Allocation.{is_new}
 use Rattle.plc_flow.specs.declared.flow.Step.{Step}

@@ -46,5 +46,6 @@ pub record FlowFits (flow : Flow) : Type 0 where
   pub well : IsWellFormed flow
   pub init : PrimitivesIn (init_shape flow.file) flow.file.init
   pub short_init : length flow.file.init ≤ most limits.Prims
-  pub steps : (k : ℕ) (s : Step) (o : Op) → slice_get flow.steps k ≡ Some s → slice_get flow.file.ops s.op.0 ≡ Some o
+  pub steps : (k : ℕ) (s : Step) (o : Op) → slice_get flow.steps k ≡ Some s
+      → slice_get flow.file.ops s.op.0 ≡ Some o
       → PrimitivesIn (shape_of flow.file o) s.prims

@@ -29,8 +29,11 @@ pub(crate) struct Here {
     pub line: u32,
 }
 
+/// The point that the next step goes on from.
+pub(crate) type Next = Result<PointId, FlowFault>;
+
 /// One more point.
-pub(crate) fn point(out: &mut Builder) -> Result<PointId, FlowFault>
+pub(crate) fn point(out: &mut Builder) -> Next
     requires { out.old.points ≤ most_points }
     ensures { Makes out.old out.new result (a_point out.old.points) }
 {
@@ -51,7 +54,7 @@ pub(crate) fn step(
     to: PointId,
     prims: Items<Prim>,
     out: &mut Builder,
-) -> Result<PointId, FlowFault>
+) -> Next
     requires { out.old.points ≤ most_points }
     ensures { Makes out.old out.new result (a_step here from.0 to.0 prims) }
 {
@@ -66,7 +69,7 @@ pub(crate) fn step(
 }
 
 /// One more label, which names the point that it goes on from.
-pub(crate) fn label(at: PointId, out: &mut Builder) -> Result<PointId, FlowFault>
+pub(crate) fn label(at: PointId, out: &mut Builder) -> Next
     requires { out.old.points ≤ most_points }
     ensures { Makes out.old out.new result (label_made at.0) }
 {
@@ -75,11 +78,7 @@ pub(crate) fn label(at: PointId, out: &mut Builder) -> Result<PointId, FlowFault
 }
 
 /// The label that a call may have between its steps.
-pub(crate) fn label_during(
-    during: Option<u16>,
-    called: PointId,
-    out: &mut Builder,
-) -> Result<PointId, FlowFault>
+pub(crate) fn label_during(during: Option<u16>, called: PointId, out: &mut Builder) -> Next
     requires { out.old.points ≤ most_points }
     ensures { Makes out.old out.new result (a_during during called.0) }
 {
@@ -96,7 +95,7 @@ pub(crate) fn join_all(
     ends: &[PointId],
     join: PointId,
     out: &mut Builder,
-) -> Result<PointId, FlowFault>
+) -> Next
     requires { out.old.points ≤ most_points }
     ensures { Makes out.old out.new result (a_join here ends.now join.0) }
 {

@@ -1,6 +1,9 @@
 // Points are the places between steps; a step is a list of primitives that is taken whole. Points
 // and steps are counted over the file in order of creation, and each operation has its own run of
 // points, which begins with its entry and its exit.
+ghost use Rattle.std.specs.Prelude.{◌≡◌};
+ghost use Rattle.plc_flow.specs.declared.flow.FlowFault.TheVariants.{Memory};
+
 use plc_base::{FieldId, Items, OpId, PointId};
 use plc_lang::{File, Prim};
 use std::alloc::AllocError;
@@ -46,13 +49,10 @@ pub enum FlowFault {
 }
 
 impl From<AllocError> for FlowFault {
-    ghost use Rattle.std.specs.Prelude.{◌≡◌};
-    ghost use Rattle.plc_flow.specs.declared.flow.FlowFault.{FlowFault};
+    ghost from_gives = { λ _ e. e ≡ Memory };
 
-    ghost from_gives = { λ _ e. e ≡ FlowFault.Memory };
-
-    fn from(_error: AllocError) -> FlowFault {
-        FlowFault::Memory
+    fn from(_error: AllocError) -> Self {
+        Self::Memory
     }
 }
 

@@ -8,7 +8,7 @@ ghost use Rattle.plc_flow.specs.Builder.{Makes, MakesGates};
 ghost use Rattle.plc_flow.specs.WellFormed.{IsWellFormed, FlowFits};
 ghost use Rattle.plc_flow.specs.WellSorted.{FlowIsWellSorted};
 
-use crate::builder::{Builder, Here, point, step};
+use crate::builder::{Builder, Here, Next, point, step};
 use crate::flow::{Flow, FlowFault, Gate};
 use crate::statements::lower_block;
 use plc_base::{Items, OpId, PointId};
@@ -17,7 +17,7 @@ use std::alloc::Global;
 
 /// An operation: its entry, its exit, its body, and a closing step without primitives. The answer
 /// is its exit.
-fn lower_op(alloc: Global, id: OpId, op: &Op, out: &mut Builder) -> Result<PointId, FlowFault>
+fn lower_op(alloc: Global, id: OpId, op: &Op, out: &mut Builder) -> Next
     requires { out.old.points ≤ most_points }
     ensures { Makes out.old out.new result (op_made id.0 op.now out.old.points) }
 {

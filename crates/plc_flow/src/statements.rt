@@ -4,11 +4,12 @@
 ghost use Rattle.std.specs.Prelude.{◌≡◌, ◌≤◌, ◌+◌, ◌∷◌, []};
 ghost use Rattle.plc_lang.specs.Statements.{Call, If, Choose, Loop};
 ghost use Rattle.plc_lang.specs.Views.{statement_of, blocks_of};
-ghost use Rattle.plc_flow.specs.Lowering.{most_points, one_made, call_made, side_made, leave_made, statement_made, statements_made, blocks_made};
+ghost use Rattle.plc_flow.specs.Lowering.{most_points, one_made, call_made, side_made, leave_made};
+ghost use Rattle.plc_flow.specs.Lowering.{statement_made, statements_made, blocks_made};
 ghost use Rattle.plc_flow.specs.Sides.{call_side};
 ghost use Rattle.plc_flow.specs.Builder.{Makes, MakesBranches};
 
-use crate::builder::{Builder, Here, join_all, label, label_during, point, step};
+use crate::builder::{Builder, Here, Next, join_all, label, label_during, point, step};
 use crate::flow::FlowFault;
 use crate::sides::{call_prims, copied, false_prims, one, true_prims};
 use plc_base::{FuncId, Items, PointId};
@@ -16,12 +17,7 @@ use plc_lang::{Arg, Block, Cond, Line, Prim, Stmt};
 use std::alloc::Global;
 
 /// Primitives that are one step.
-fn lower_one(
-    here: Here,
-    from: PointId,
-    prims: Items<Prim>,
-    out: &mut Builder,
-) -> Result<PointId, FlowFault>
+fn lower_one(here: Here, from: PointId, prims: Items<Prim>, out: &mut Builder) -> Next
     requires { out.old.points ≤ most_points }
     ensures { Makes out.old out.new result (one_made prims here out.old.points from.0) }
 {
@@ -38,7 +34,7 @@ fn lower_call(
     prims: Items<Prim>,
     during: Option<u16>,
     out: &mut Builder,
-) -> Result<PointId, FlowFault>
+) -> Next
     requires { out.old.points ≤ most_points }
     ensures { Makes out.old out.new result (call_made func prims during here out.old.points from.0) }
 {
@@ -50,13 +46,7 @@ fn lower_call(
 }
 
 /// A step to the exit, or out of a loop. What stands after it goes on from a point of its own.
-fn lower_leave(
-    alloc: Global,
-    here: Here,
-    from: PointId,
-    to: PointId,
-    out: &mut Builder,
-) -> Result<PointId, FlowFault>
+fn lower_leave(alloc: Global, here: Here, from: PointId, to: PointId, out: &mut Builder) -> Next
     requires { out.old.points ≤ most_points }
     ensures { Makes out.old out.new result (leave_made (λ h. to) here out.old.points from.0) }
 {
@@ -65,13 +55,7 @@ fn lower_leave(
 }
 
 #[cycle(lower)]
-fn lower_stmt(
-    alloc: Global,
-    here: Here,
-    from: PointId,
-    stmt: &Stmt,
-    out: &mut Builder,
-) -> Result<PointId, FlowFault>
+fn lower_stmt(alloc: Global, here: Here, from: PointId, stmt: &Stmt, out: &mut Builder) -> Next
     requires { out.old.points ≤ most_points }
     ensures { Makes out.old out.new result (statement_made (statement_of stmt.now) here out.old.points from.0) }
 {
@@ -107,7 +91,7 @@ fn lower_if(
     yes: &Block,
     no: &Block,
     out: &mut Builder,
-) -> Result<PointId, FlowFault>
+) -> Next
     requires { out.old.points ≤ most_points }
     ensures { Makes out.old out.new result (statement_made (If cond yes.now no.now) here out.old.points from.0) }
 {
@@ -126,7 +110,7 @@ fn lower_choose(
     from: PointId,
     blocks: &[Block],
     out: &mut Builder,
-) -> Result<PointId, FlowFault>
+) -> Next
     requires { out.old.points ≤ most_points }
     ensures { Makes out.old out.new result (statement_made (Choose (blocks_of blocks.now)) here out.old.points from.0) }
 {
@@ -137,13 +121,7 @@ fn lower_choose(
 
 /// A point to which the block's end leads back, and one after the loop, which a `break` leads to.
 #[cycle(lower)]
-fn lower_loop(
-    alloc: Global,
-    here: Here,
-    from: PointId,
-    block: &Block,
-    out: &mut Builder,
-) -> Result<PointId, FlowFault>
+fn lower_loop(alloc: Global, here: Here, from: PointId, block: &Block, out: &mut Builder) -> Next
     requires { out.old.points ≤ most_points }
     ensures { Makes out.old out.new result (statement_made (Loop block.now) here out.old.points from.0) }
 {
@@ -164,7 +142,7 @@ fn lower_side(
     prims: Items<Prim>,
     block: &Block,
     out: &mut Builder,
-) -> Result<PointId, FlowFault>
+) -> Next
     requires { out.old.points ≤ most_points }
     ensures { Makes out.old out.new result (side_made prims (statements_made block.now) here out.old.points from.0) }
 {
@@ -201,7 +179,7 @@ pub(crate) fn lower_block(
     from: PointId,
     block: &Block,
     out: &mut Builder,
-) -> Result<PointId, FlowFault>
+) -> Next
     requires { out.old.points ≤ most_points }
     ensures { Makes out.old out.new result (statements_made block.now here out.old.points from.0) }
 {
