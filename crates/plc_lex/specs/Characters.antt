@@ -1,5 +1,6 @@
 -- Bytes, and the words and symbols that they spell.
-use Rattle.std.specs.Prelude.{◌==◌, ◌&&◌, ◌||◌, ℕ, Bool, not, List, [], ◌∷◌, length, codes, nat_le, nat_eq, Option, option_map, find}
+use Rattle.std.specs.Prelude.{◌==◌, ◌&&◌, ◌||◌, ℕ, Bool, not, List, [], ◌∷◌}
+use Rattle.std.specs.Prelude.{length, codes, nat_le, nat_eq, Option, option_map, find}
 use Rattle.std.specs.List.{starts_with}
 use Rattle.std.specs.Str.{bytes_eq}
 use Rattle.plc_lex.specs.declared.token.Keyword.{Keyword}
@@ -60,11 +61,12 @@ keyword_of run = keyword_in keywords run
 -- the symbols, the longest first
 unfoldable pub symbols_longest_first : List (List ℕ × Symbol)
 symbols_longest_first =
-    (codes ":=", symbols.Assign) ∷ (codes "?=", symbols.Refresh) ∷ (codes "==", symbols.Equal)
-    ∷ (codes "!=", symbols.Unequal) ∷ (codes ">=", symbols.AtLeast) ∷ (codes "{", symbols.OpenBrace)
-    ∷ (codes "}", symbols.CloseBrace) ∷ (codes "(", symbols.OpenParen) ∷ (codes ")", symbols.CloseParen)
-    ∷ (codes ";", symbols.Semicolon) ∷ (codes ",", symbols.Comma) ∷ (codes ".", symbols.Dot)
-    ∷ (codes ":", symbols.Colon) ∷ (codes "<", symbols.Less) ∷ []
+    (codes ":=", symbols.Assign) ∷ (codes "?=", symbols.Refresh)
+    ∷ (codes "==", symbols.Equal) ∷ (codes "!=", symbols.Unequal) ∷ (codes ">=", symbols.AtLeast)
+    ∷ (codes "{", symbols.OpenBrace) ∷ (codes "}", symbols.CloseBrace)
+    ∷ (codes "(", symbols.OpenParen) ∷ (codes ")", symbols.CloseParen)
+    ∷ (codes ";", symbols.Semicolon) ∷ (codes ",", symbols.Comma)
+    ∷ (codes ".", symbols.Dot) ∷ (codes ":", symbols.Colon) ∷ (codes "<", symbols.Less) ∷ []
 
 -- the first symbol of a table with which bytes begin, and its length
 abbrev pub symbol_in : List (List ℕ × Symbol) → List ℕ → Option (Symbol × ℕ)

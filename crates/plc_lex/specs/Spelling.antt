@@ -1,5 +1,7 @@
 -- Which tokens bytes spell, and where bytes spell none.
-use Rattle.std.specs.Prelude.{◌≡◌, ◌==◌, ◌<◌, ◌≤◌, ◌&&◌, ◌+◌, ◌*◌, ◌-◌, ◌^◌, ℕ, Bool, true, false, not, if◌then◌else◌, List, [], ◌∷◌, length, take, drop, fold, Option, Some, None, Result, Ok, Err, nat_lt, nat_eq, count_by, All}
+use Rattle.std.specs.Prelude.{◌≡◌, ◌==◌, ◌<◌, ◌≤◌, ◌&&◌, ◌+◌, ◌*◌, ◌-◌, ◌^◌}
+use Rattle.std.specs.Prelude.{ℕ, Bool, true, false, not, if◌then◌else◌, List, [], ◌∷◌, length, take}
+use Rattle.std.specs.Prelude.{drop, fold, Option, Some, None, Result, Ok, Err, nat_lt, nat_eq, count_by, All}
 use Rattle.std.specs.List.{prefix_len, starts_with}
 use Rattle.plc_base.specs.Limits.{most_name_bytes}
 use Rattle.plc_lex.specs.declared.token.Token.{Token}
@@ -7,7 +9,8 @@ use Rattle.plc_lex.specs.declared.token.TokenKind.{TokenKind}
 use Rattle.plc_lex.specs.declared.token.TokenKind.TheVariants.{Word, Name, Number, Symbol}
 use Rattle.plc_lex.specs.declared.token.Keyword.{Keyword}
 use Rattle.plc_lex.specs.declared.token.Symbol.{Symbol as SymbolName}
-use Rattle.plc_lex.specs.Characters.{is_space, is_letter, is_digit, in_name, in_comment, comment_opening, keyword_of, symbol_of}
+use Rattle.plc_lex.specs.Characters.{is_space, is_letter, is_digit, in_name, in_comment}
+use Rattle.plc_lex.specs.Characters.{comment_opening, keyword_of, symbol_of}
 
 -- why no token stands at a place
 pub data Refusal : Type 0 where
@@ -96,10 +99,11 @@ pub data Spells : ℕ → ℕ → List ℕ → List Token → Type 0 where
 
 -- bytes that begin at a place spell tokens up to a place where none stands
 pub data Stops : ℕ → List ℕ → Refusal → ℕ → Type 0 where
-  here : (at : ℕ) (b : ℕ) (bs : List ℕ) (why : Refusal) → is_space b ≡ false → is_comment (b ∷ bs) ≡ false
-      → token_at (b ∷ bs) ≡ Err why → Stops at (b ∷ bs) why at
-  past_space : (at b place : ℕ) (bs : List ℕ) (why : Refusal) → is_space b ≡ true → Stops (at + 1) bs why place
-      → Stops at (b ∷ bs) why place
+  here : (at : ℕ) (b : ℕ) (bs : List ℕ) (why : Refusal)
+      → is_space b ≡ false → is_comment (b ∷ bs) ≡ false → token_at (b ∷ bs) ≡ Err why
+      → Stops at (b ∷ bs) why at
+  past_space : (at b place : ℕ) (bs : List ℕ) (why : Refusal)
+      → is_space b ≡ true → Stops (at + 1) bs why place → Stops at (b ∷ bs) why place
   past_comment : (at place : ℕ) (bs : List ℕ) (why : Refusal) → is_comment bs ≡ true
       → Stops (at + comment_length bs) (drop (comment_length bs) bs) why place → Stops at bs why place
   past_token : (at n place : ℕ) (bs : List ℕ) (kind : TokenKind) (why : Refusal) → is_blank bs ≡ false

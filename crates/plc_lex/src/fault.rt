@@ -1,7 +1,4 @@
 // Why bytes spell no tokens. Of several reasons the one at the least place is told.
-ghost use Rattle.std.specs.Prelude.{◌≡◌};
-ghost use Rattle.plc_lex.specs.declared.fault.LexFault.TheVariants.{Memory};
-
 use std::alloc::{AllocError, AllocFailed};
 
 /// Why bytes spell no tokens, with the place of the byte at which no token stands.
@@ -18,17 +15,23 @@ pub enum LexFault {
 }
 
 impl From<AllocError> for LexFault {
-    ghost from_gives = { λ _ e. e ≡ Memory };
+    ghost use Rattle.std.specs.Prelude.{◌≡◌};
+    ghost use Rattle.plc_lex.specs.declared.fault.LexFault.{LexFault};
 
-    fn from(_e: AllocError) -> LexFault {
-        LexFault::Memory
+    ghost from_gives = { λ _ fault. fault ≡ LexFault.Memory };
+
+    fn from(_error: AllocError) -> Self {
+        Self::Memory
     }
 }
 
 impl<T: Drop> From<AllocFailed<T>> for LexFault {
-    ghost from_gives = { λ _ e. e ≡ Memory };
+    ghost use Rattle.std.specs.Prelude.{◌≡◌};
+    ghost use Rattle.plc_lex.specs.declared.fault.LexFault.{LexFault};
 
-    fn from(_e: AllocFailed<T>) -> LexFault {
-        LexFault::Memory
+    ghost from_gives = { λ _ fault. fault ≡ LexFault.Memory };
+
+    fn from(_error: AllocFailed<T>) -> Self {
+        Self::Memory
     }
 }
