@@ -1,6 +1,7 @@
 -- What every outline keeps that was read: the limits, that what its clauses name is there, and that the two sides of
 -- an equation have one sort.
-use Rattle.std.specs.Prelude.{◌≡◌, ◌<◌, ◌≤◌, ℕ, Bool, true, false, List, [], ◌∷◌, length, slice_get, Some, All}
+use Rattle.std.specs.Prelude.{◌≡◌, ◌<◌, ◌≤◌, ℕ, Bool, true, false}
+use Rattle.std.specs.Prelude.{List, [], ◌∷◌, length, slice_get, Some, All}
 use Rattle.plc_base.specs.Limits.{most, most_bound}
 use Rattle.plc_base.specs.declared.limits.What1.TheVariants as limits
 use Rattle.plc_lang.specs.declared.syntax.Local.{Local}

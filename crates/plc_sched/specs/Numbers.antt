@@ -1,5 +1,6 @@
 -- What a reader of numbers answers: the number that was spelled, or that no number in its range was.
-use Rattle.std.specs.Prelude.{◌≡◌, ◌==◌, ◌<◌, ◌≤◌, ◌&&◌, ◌^◌, ℕ, Bool, true, not, List, [], ◌∷◌, length, map, Option, Some, None, All}
+use Rattle.std.specs.Prelude.{◌≡◌, ◌==◌, ◌<◌, ◌≤◌, ◌&&◌, ◌^◌, ℕ, Bool}
+use Rattle.std.specs.Prelude.{true, not, List, [], ◌∷◌, length, map, Option, Some, None, All}
 use Rattle.std.specs.Fmt.{decimal}
 use Rattle.plc_base.specs.declared.limits.What1.TheVariants.{Locals}
 use Rattle.plc_base.specs.Limits.{most}
@@ -19,8 +20,10 @@ IsNumberOf word least most None = (n : ℕ) → least ≤ n → n ≤ most → d
 
 -- the number in a range that the first word spells, and the words after it
 abbrev pub IsNextNumber : List (List ℕ) → ℕ → ℕ → Option (ℕ × Words) → Type 0
-IsNextNumber words least most (Some read) = (least ≤ read.0) × (read.0 ≤ most) × (decimal read.0 ∷ words_left read.1 ≡ words)
-IsNextNumber words least most None = (n : ℕ) (more : List (List ℕ)) → least ≤ n → n ≤ most → decimal n ∷ more ≡ words → ⊥
+IsNextNumber words least most (Some read) =
+    (least ≤ read.0) × (read.0 ≤ most) × (decimal read.0 ∷ words_left read.1 ≡ words)
+IsNextNumber words least most None =
+    (n : ℕ) (more : List (List ℕ)) → least ≤ n → n ≤ most → decimal n ∷ more ≡ words → ⊥
 
 -- the number in a range that the one word spells
 abbrev pub IsLastNumber : List (List ℕ) → ℕ → ℕ → Option ℕ → Type 0
@@ -33,5 +36,7 @@ most_arguments = most Locals
 
 -- the numbers that the words spell, as many as arguments may be
 abbrev pub AreNumbers : List (List ℕ) → Option (List ℕ) → Type 0
-AreNumbers words (Some numbers) = (length numbers ≤ most_arguments) × All (λ n. n < 2 ^ 32) numbers × (map decimal numbers ≡ words)
-AreNumbers words None = (numbers : List ℕ) → length numbers ≤ most_arguments → All (λ n. n < 2 ^ 32) numbers → map decimal numbers ≡ words → ⊥
+AreNumbers words (Some numbers) =
+    (length numbers ≤ most_arguments) × All (λ n. n < 2 ^ 32) numbers × (map decimal numbers ≡ words)
+AreNumbers words None = (numbers : List ℕ) → length numbers ≤ most_arguments → All (λ n. n < 2 ^ 32) numbers
+    → map decimal numbers ≡ words → ⊥

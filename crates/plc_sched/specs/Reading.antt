@@ -3,7 +3,8 @@ use Rattle.std.specs.Prelude.{◌≡◌, ℕ, List, map, Option, Some, None, All
 use Rattle.plc_sched.specs.declared.schedule.Entry.{Entry}
 use Rattle.plc_sched.specs.declared.fault.SchedFault.{SchedFault}
 use Rattle.plc_sched.specs.declared.fault.SchedFault.TheVariants.{Line, Limit, Memory}
-use Rattle.plc_sched.specs.Entries.{AddressFits, EntryFits, ThreadsFit, address_words, entry_words, entry_text, head_text}
+use Rattle.plc_sched.specs.Entries.{AddressFits, EntryFits, ThreadsFit, address_words}
+use Rattle.plc_sched.specs.Entries.{entry_words, entry_text, head_text}
 use Rattle.plc_sched.specs.Schedules.{IsNoEntry, StopsAt}
 
 -- the address that the words spell

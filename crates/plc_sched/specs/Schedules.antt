@@ -1,5 +1,6 @@
 -- Which schedule a file spells, and why one spells none.
-use Rattle.std.specs.Prelude.{◌≡◌, ◌≢◌, ◌<◌, ◌≤◌, ◌+◌, ℕ, List, ◌∷◌, ◌++◌, length, map, All}
+use Rattle.std.specs.Prelude.{◌≡◌, ◌≢◌, ◌<◌, ◌≤◌, ◌+◌}
+use Rattle.std.specs.Prelude.{ℕ, List, ◌∷◌, ◌++◌, length, map, All}
 use Rattle.plc_base.specs.declared.limits.What1.TheVariants.{Lines}
 use Rattle.plc_base.specs.Limits.{most}
 use Rattle.plc_sched.specs.declared.schedule.Entry.{Entry}
@@ -22,7 +23,8 @@ pub record IsScheduleOf (bytes : List ℕ) (s : Schedule) : Type 0 where
 
 -- no number of threads begins these lines
 abbrev pub HasNoHead : List (List ℕ) → Type 0
-HasNoHead lines = (threads : ℕ) (more : List (List ℕ)) → ThreadsFit threads → lines ≡ head_text threads ∷ more → ⊥
+HasNoHead lines =
+    (threads : ℕ) (more : List (List ℕ)) → ThreadsFit threads → lines ≡ head_text threads ∷ more → ⊥
 
 -- no entry among so many threads has this line
 abbrev pub IsNoEntry : ℕ → List ℕ → Type 0
@@ -41,7 +43,8 @@ pub record StopsAt (threads : ℕ) (lines : List (List ℕ)) (n : ℕ) : Type 0 
 -- line n is the first that isn't one of a schedule
 pub data IsFirstBad : List (List ℕ) → ℕ → Type 0 where
   at_head : (lines : List (List ℕ)) (n : ℕ) → n ≡ 1 → HasNoHead lines → IsFirstBad lines n
-  after_head : (lines : List (List ℕ)) (n threads : ℕ) (more : List (List ℕ)) → ThreadsFit threads → lines ≡ head_text threads ∷ more → StopsAt threads more n → IsFirstBad lines n
+  after_head : (lines : List (List ℕ)) (n threads : ℕ) (more : List (List ℕ)) → ThreadsFit threads
+      → lines ≡ head_text threads ∷ more → StopsAt threads more n → IsFirstBad lines n
 
 -- why a file spells no schedule; running out of memory says nothing
 abbrev pub IsScheduleFault : List ℕ → SchedFault → Type 0
@@ -52,8 +55,10 @@ IsScheduleFault bytes Memory = Unit {0}
 -- a file spells one schedule, or has one fault beside running out of memory, and not both
 pub record SchedulesAreUnique : Type 0 where
   pub schedules : (bytes : List ℕ) (s t : Schedule) → IsScheduleOf bytes s → IsScheduleOf bytes t → s ≡ t
-  pub faults : (bytes : List ℕ) (f g : SchedFault) → IsScheduleFault bytes f → IsScheduleFault bytes g → f ≢ Memory → g ≢ Memory → f ≡ g
-  pub apart : (bytes : List ℕ) (s : Schedule) (f : SchedFault) → IsScheduleOf bytes s → IsScheduleFault bytes f → f ≡ Memory
+  pub faults : (bytes : List ℕ) (f g : SchedFault) → IsScheduleFault bytes f → IsScheduleFault bytes g
+      → f ≢ Memory → g ≢ Memory → f ≡ g
+  pub apart : (bytes : List ℕ) (s : Schedule) (f : SchedFault) → IsScheduleOf bytes s → IsScheduleFault bytes f
+      → f ≡ Memory
 
 -- the limits of schedules
 pub record IsWithinLimits (s : Schedule) : Type 0 where

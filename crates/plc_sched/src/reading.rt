@@ -1,6 +1,7 @@
 // Lines are counted first, no further than their limit, and then read one by one, so that the number of
 // a bad line is known from the entries before it.
-ghost use Rattle.std.specs.Prelude.{◌≡◌, ◌≢◌, ◌<◌, ◌≤◌, ◌∷◌, length, IfOk, IfErr, IfSome, IfNone, OnOk, MatchResult};
+ghost use Rattle.std.specs.Prelude.{◌≡◌, ◌≢◌, ◌<◌, ◌≤◌, ◌∷◌};
+ghost use Rattle.std.specs.Prelude.{length, IfOk, IfErr, IfSome, IfNone, OnOk, MatchResult};
 ghost use Rattle.plc_sched.specs.declared.schedule.Schedule.{Schedule};
 ghost use Rattle.plc_sched.specs.declared.fault.SchedFault.{SchedFault};
 ghost use Rattle.plc_sched.specs.declared.fault.SchedFault.TheVariants.{Memory};
@@ -74,7 +75,8 @@ pub fn read_schedule(alloc: Global, bytes: &[u8]) -> Result<Schedule, SchedFault
     // Running out of memory aside, what is spelled is answered, and what has a fault is refused.
     ensures spelled { (s : Schedule) → IsScheduleOf bytes.now s →
         MatchResult result (λ read. read ≡ s) (λ e. e ≡ Memory) }
-    ensures refuses { (fault : SchedFault) → IsScheduleFault bytes.now fault → fault ≢ Memory → OnOk result ⊥ }
+    ensures refuses { (fault : SchedFault) → IsScheduleFault bytes.now fault → fault ≢ Memory
+        → OnOk result ⊥ }
 {
     if has_too_many_lines(bytes) {
         return Err(SchedFault::Limit {

@@ -1,6 +1,7 @@
 // A line is read word by word, and a file line by line, each as the piece up to the next mark. What is
 // after the mark stays a slice of the file, so that nothing is copied, however long a piece is.
-ghost use Rattle.std.specs.Prelude.{◌≡◌, ◌==◌, ◌<◌, ◌≤◌, [], ◌∷◌, length, not, IfSome, IfNone};
+ghost use Rattle.std.specs.Prelude.{◌≡◌, ◌==◌, ◌<◌, ◌≤◌};
+ghost use Rattle.std.specs.Prelude.{[], ◌∷◌, length, not, IfSome, IfNone};
 ghost use Rattle.std.specs.List.{prefix_len, slice_split};
 ghost use Rattle.plc_sched.specs.Words.{pieces_after, words_left};
 
