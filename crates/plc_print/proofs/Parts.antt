@@ -1,5 +1,5 @@
 -- Tokens after a form are those of the form with nothing after it, and then these; so is their text.
-use Rattle.std.proofs.Common.{◌≡◌, ◌+◌, ◌<◌, ◌++◌, ◌∷◌, [], List, length, drop, get_or, Option, Some, None, Bool, true, false, ℕ, refl, ap, sym, ◌∙◌, append_assoc}
+use Rattle.std.proofs.Common.{◌≡◌, ◌+◌, ◌<◌, ◌++◌, ◌∷◌, [], List, length, map, drop, get_or, Option, Some, None, Bool, true, false, ℕ, refl, ap, sym, ◌∙◌, append_assoc}
 use Rattle.plc_lex.specs.declared.token.TokenKind.{TokenKind}
 use Rattle.plc_lex.specs.declared.token.TokenKind.TheVariants.{Word, Name, Symbol}
 use Rattle.plc_lex.specs.declared.token.Keyword.TheVariants.{Struct, Ghost, Init, Op, Atomic, If, Else, Loop, Choose, Or, Active, Cas, Inv, Over, At, Not}
@@ -40,6 +40,13 @@ pub item_printed : {A : Type 0} → (form : A → List TokenKind → List TokenK
     → (xs : List A) (i : ℕ) (x : A) → i < length xs → x ≡ get_or xs i x
     → (mid : List ℕ) → {new whole : List ℕ} → mid ++ text_of (tokens (drop i xs)) ≡ whole → new ≡ mid ++ text_of (form x []) → new ++ text_of (tokens (drop (i + 1) xs)) ≡ whole
 item_printed form leads tokens first xs i x within is = item_first form leads tokens first (drop i xs) (drop (i + 1) xs) x (item_left xs i x within is)
+
+-- in a loop over items that have trees
+pub each_printed : {A B : Type 0} → (form : B → List TokenKind → List TokenKind) → ((b : B) → Leads (form b)) → (tree : A → B)
+    → (xs : List A) (i : ℕ) (x : A) → i < length xs → x ≡ get_or xs i x
+    → (mid : List ℕ) → {new whole : List ℕ} → mid ++ text_of (each_then form (map tree (drop i xs)) []) ≡ whole → new ≡ mid ++ text_of (form (tree x) []) → new ++ text_of (each_then form (map tree (drop (i + 1) xs)) []) ≡ whole
+each_printed {A = A} form leads tree =
+    item_printed (λ (x : A). form (tree x)) (λ x. leads (tree x)) (λ (xs : List A). each_then form (map tree xs) []) (λ x others. refl)
 
 -- in a loop over items that are copied
 pub copy_printed : {A : Type 0} → (form : A → List TokenKind → List TokenKind) → ((x : A) → Leads (form x)) → (tokens : List A → List TokenKind) → ((x : A) (others : List A) → tokens (x ∷ others) ≡ form x (tokens others))

@@ -183,8 +183,8 @@ module _ (file : File) where
       or_found s in_loop at (OrBlock b os) bound =
           next (BlockRead s in_loop b) _ (statements_mean lines s in_loop (at + 2) b) _ (block_found s in_loop (at + 2) b bound) (λ x f.
           next (OrRead x.1 in_loop os) _ (or_means lines x.1 in_loop (x.2 + 1) os) _ (or_found x.1 in_loop (x.2 + 1) os (f.goes.bound bound)) (λ y g. record {
-            goes = goes_on file s x.1 y.1 f.goes g.goes;
             locals = g.locals ∙ f.locals;
+            goes = goes_on file s x.1 y.1 f.goes g.goes;
             tree = λ e.
                 let others : blocks_tree file s.locals y.0 ≡ normal_or os = subst (λ ls. blocks_tree file ls y.0 ≡ normal_or os) f.locals (g.tree e) in
                 ap₂ (λ (u : BlockTree) (v : OrTree). OrBlock u v) (f.tree (ends_before file x.1 y.1 g.goes e)) others;

@@ -1,7 +1,7 @@
 -- The tree of an outline's canonical text: invariants before the other items, and nothing at all for an outline of
 -- depth 0 that says nothing.
-use Rattle.std.specs.Prelude.{ℕ, zero, suc, Bool, true, false, Option, Some}
-use Rattle.std.specs.Prelude.{None, List, [], ◌∷◌, ◌++◌, map, get_or}
+use Rattle.std.specs.Prelude.{ℕ, zero, suc, Bool, true, false, Option, Some, None}
+use Rattle.std.specs.Prelude.{List, [], ◌∷◌, ◌++◌, map, get_or}
 use Rattle.plc_lang.specs.declared.syntax.Local.{Local}
 use Rattle.plc_lang.specs.declared.syntax.File.{File}
 use Rattle.plc_lang.specs.Locals.{locals_of}

@@ -12,12 +12,11 @@ ghost use Rattle.plc_print.specs.Outlines.{clause_tree};
 ghost use Rattle.plc_print.specs.Pieces.{Prints};
 
 use crate::names::Reach;
-use crate::tokens::{CLOSE, COLON, COMMA, DOT, NULL, OPEN, Piece, Printer, SEMICOLON};
+use crate::tokens::{CLOSE, COLON, COMMA, DOT, NULL, OPEN, Piece, Printed, Printer, SEMICOLON};
 use plc_base::Names;
 use plc_lang::{File, Local, auxiliary_name, field_name, local_name, shared_name, value_name};
 use plc_lex::{Keyword, Symbol};
 use plc_logic::{Base, Clause, Literal, Term};
-use std::alloc::AllocError;
 
 const ALL: Piece<'static> = Piece::Word(Keyword::All);
 
@@ -50,12 +49,7 @@ impl<'a> InClause<'a> {
 }
 
 // A field of a node.
-fn field_of<'x>(
-    out: &mut Printer,
-    reach: InClause<'x>,
-    base: Base,
-    field: &'x [u8],
-) -> Result<(), AllocError>
+fn field_of<'x>(out: &mut Printer, reach: InClause<'x>, base: Base, field: &'x [u8]) -> Printed
     ensures { OnOk result
         (Prints out.old out.new (term_then
         (field_term reach.entry.file.now reach.entry.locals.now reach.entry.bound.now.names base field.now) [])) }
@@ -65,7 +59,7 @@ fn field_of<'x>(
 }
 
 // One side of an equation.
-fn term(out: &mut Printer, reach: InClause, term: Term) -> Result<(), AllocError>
+fn term(out: &mut Printer, reach: InClause, term: Term) -> Printed
     ensures { OnOk result
         (Prints out.old out.new (term_then
         (term_tree reach.entry.file.now reach.entry.locals.now reach.entry.bound.now.names term) [])) }
@@ -96,7 +90,7 @@ fn equality(equal: bool) -> Symbol
 }
 
 // Two terms that are equal, or are not.
-fn same(out: &mut Printer, reach: InClause, a: Term, b: Term, equal: bool) -> Result<(), AllocError>
+fn same(out: &mut Printer, reach: InClause, a: Term, b: Term, equal: bool) -> Printed
     ensures { OnOk result
         (Prints out.old out.new (literal_then
         (literal_tree reach.entry.file.now reach.entry.locals.now reach.entry.bound.now.names
@@ -108,7 +102,7 @@ fn same(out: &mut Printer, reach: InClause, a: Term, b: Term, equal: bool) -> Re
 }
 
 // A node that is retired, or is not.
-fn retired(out: &mut Printer, reach: InClause, x: Base, yes: bool) -> Result<(), AllocError>
+fn retired(out: &mut Printer, reach: InClause, x: Base, yes: bool) -> Printed
     ensures { OnOk result
         (Prints out.old out.new (literal_then
         (literal_tree reach.entry.file.now reach.entry.locals.now reach.entry.bound.now.names
@@ -124,7 +118,7 @@ fn retired(out: &mut Printer, reach: InClause, x: Base, yes: bool) -> Result<(),
 }
 
 // A literal.
-fn literal(out: &mut Printer, reach: InClause, literal: Literal) -> Result<(), AllocError>
+fn literal(out: &mut Printer, reach: InClause, literal: Literal) -> Printed
     ensures { OnOk result
         (Prints out.old out.new (literal_then
         (literal_tree reach.entry.file.now reach.entry.locals.now reach.entry.bound.now.names literal) [])) }
@@ -136,7 +130,7 @@ fn literal(out: &mut Printer, reach: InClause, literal: Literal) -> Result<(), A
 }
 
 // A literal after the first.
-fn or_literal(out: &mut Printer, reach: InClause, further: Literal) -> Result<(), AllocError>
+fn or_literal(out: &mut Printer, reach: InClause, further: Literal) -> Printed
     ensures { OnOk result
         (Prints out.old out.new (or_literal_then
         (literal_tree reach.entry.file.now reach.entry.locals.now reach.entry.bound.now.names further) [])) }
@@ -146,7 +140,7 @@ fn or_literal(out: &mut Printer, reach: InClause, further: Literal) -> Result<()
 }
 
 // The literals after the first.
-fn or_literals(out: &mut Printer, reach: InClause, literals: &[Literal]) -> Result<(), AllocError>
+fn or_literals(out: &mut Printer, reach: InClause, literals: &[Literal]) -> Printed
     ensures { OnOk result
         (Prints out.old out.new (each_then or_literal_then (map
         (literal_tree reach.entry.file.now reach.entry.locals.now reach.entry.bound.now.names) literals.now) [])) }
@@ -158,7 +152,7 @@ fn or_literals(out: &mut Printer, reach: InClause, literals: &[Literal]) -> Resu
 }
 
 // The literals of a clause.
-fn claims(out: &mut Printer, reach: InClause, literals: &[Literal]) -> Result<(), AllocError>
+fn claims(out: &mut Printer, reach: InClause, literals: &[Literal]) -> Printed
     ensures { OnOk result
         (Prints out.old out.new (clause_then (claims_tree NoBound (map
         (literal_tree reach.entry.file.now reach.entry.locals.now reach.entry.bound.now.names) literals.now)) [])) }
@@ -173,7 +167,7 @@ fn claims(out: &mut Printer, reach: InClause, literals: &[Literal]) -> Result<()
 }
 
 // The quantified names of a clause, of which there are at most two.
-fn quantified(out: &mut Printer, bound: &Names) -> Result<(), AllocError>
+fn quantified(out: &mut Printer, bound: &Names) -> Printed
     ensures { OnOk result (Prints out.old out.new (bound_then (bound_tree bound.now.names) [])) }
 {
     let first = Piece::Name(bound_name(bound, 0));
@@ -186,7 +180,7 @@ fn quantified(out: &mut Printer, bound: &Names) -> Result<(), AllocError>
 }
 
 // A clause, without its semicolon.
-fn clause(out: &mut Printer, reach: Reach, clause: &Clause) -> Result<(), AllocError>
+fn clause(out: &mut Printer, reach: Reach, clause: &Clause) -> Printed
     ensures { OnOk result
         (Prints out.old out.new (clause_then (clause_tree reach.entry.file.now reach.entry.locals.now clause.now) [])) }
 {
@@ -200,7 +194,7 @@ fn clause(out: &mut Printer, reach: Reach, clause: &Clause) -> Result<(), AllocE
 }
 
 /// A clause with its semicolon.
-pub fn clause_line(out: &mut Printer, reach: Reach, claim: &Clause) -> Result<(), AllocError>
+pub fn clause_line(out: &mut Printer, reach: Reach, claim: &Clause) -> Printed
     ensures { OnOk result
         (Prints out.old out.new (clause_then (clause_tree reach.entry.file.now reach.entry.locals.now claim.now)
         (SymbolToken symbols.Semicolon ∷ []))) }

@@ -12,14 +12,14 @@ ghost use Rattle.plc_print.specs.Pieces.{Prints};
 use crate::names::Reach;
 use crate::primitives::initial_line;
 use crate::statements::statements;
-use crate::tokens::{BEGIN, CLOSE, COMMA, END, OPEN, Piece, Printer, SEMICOLON};
+use crate::tokens::{BEGIN, CLOSE, COMMA, END, OPEN, Piece, Printed, Printer, SEMICOLON};
 use plc_auto::Observer;
 use plc_lang::{Field, File, Func, Ghost, Local, Op, Prim, function_name, name_at};
 use plc_lex::{Keyword, Symbol};
 use std::alloc::{AllocError, Global};
 
 // A pointer or data.
-fn declaration(out: &mut Printer, name: &[u8], pointer: bool) -> Result<(), AllocError>
+fn declaration(out: &mut Printer, name: &[u8], pointer: bool) -> Printed
     ensures { OnOk result (Prints out.old out.new (field_then (declaration_tree name.now pointer) [])) }
 {
     let word = if pointer { Keyword::Ptr } else { Keyword::Data };
@@ -27,7 +27,7 @@ fn declaration(out: &mut Printer, name: &[u8], pointer: bool) -> Result<(), Allo
 }
 
 // The fields of the struct.
-fn fields(out: &mut Printer, file: &File, fields: &[Field]) -> Result<(), AllocError>
+fn fields(out: &mut Printer, file: &File, fields: &[Field]) -> Printed
     ensures { OnOk result
         (Prints out.old out.new (each_then field_then (map (λ f. declaration_tree
         (name_at file.now f.name) f.pointer) fields.now) [])) }
@@ -39,7 +39,7 @@ fn fields(out: &mut Printer, file: &File, fields: &[Field]) -> Result<(), AllocE
 }
 
 /// The struct.
-pub fn structure(out: &mut Printer, file: &File) -> Result<(), AllocError>
+pub fn structure(out: &mut Printer, file: &File) -> Printed
     ensures { OnOk result
         (Prints out.old out.new (struct_then (name_at file.now 1) (map (λ f. declaration_tree
         (name_at file.now f.name) f.pointer) file.now.fields) [])) }
@@ -54,7 +54,7 @@ pub fn structure(out: &mut Printer, file: &File) -> Result<(), AllocError>
 }
 
 /// The shared pointers, by the numbers of their names.
-pub fn shared_pointers(out: &mut Printer, file: &File, numbers: &[u16]) -> Result<(), AllocError>
+pub fn shared_pointers(out: &mut Printer, file: &File, numbers: &[u16]) -> Printed
     ensures { OnOk result (Prints out.old out.new (each_then shared_then (map (name_at file.now) numbers.now) [])) }
 {
     for number in numbers {
@@ -65,7 +65,7 @@ pub fn shared_pointers(out: &mut Printer, file: &File, numbers: &[u16]) -> Resul
 }
 
 // A reclaimer function.
-fn function(out: &mut Printer, name: &[u8], pointer: bool) -> Result<(), AllocError>
+fn function(out: &mut Printer, name: &[u8], pointer: bool) -> Printed
     ensures { OnOk result (Prints out.old out.new (function_then (Declares name.now pointer) [])) }
 {
     let (word, name) = (Piece::Word(Keyword::Call), Piece::Name(name));
@@ -84,7 +84,7 @@ fn function(out: &mut Printer, name: &[u8], pointer: bool) -> Result<(), AllocEr
 }
 
 // Reclaimer functions.
-fn functions(out: &mut Printer, file: &File, funcs: &[Func]) -> Result<(), AllocError>
+fn functions(out: &mut Printer, file: &File, funcs: &[Func]) -> Printed
     ensures { OnOk result
         (Prints out.old out.new (each_then function_then (map (λ f. Declares
         (name_at file.now f.name) f.pointer) funcs.now) [])) }
@@ -96,7 +96,7 @@ fn functions(out: &mut Printer, file: &File, funcs: &[Func]) -> Result<(), Alloc
 }
 
 /// The reclaimer functions but `retire`, which is declared from the start.
-pub fn declared_functions(out: &mut Printer, file: &File) -> Result<(), AllocError>
+pub fn declared_functions(out: &mut Printer, file: &File) -> Printed
     ensures { OnOk result
         (Prints out.old out.new (each_then function_then (map (λ f. Declares (name_at file.now f.name) f.pointer)
         (drop 1 file.now.funcs)) [])) }
@@ -108,7 +108,7 @@ pub fn declared_functions(out: &mut Printer, file: &File) -> Result<(), AllocErr
 }
 
 /// What is observed.
-pub fn watch(out: &mut Printer, file: &File, observer: Observer) -> Result<(), AllocError>
+pub fn watch(out: &mut Printer, file: &File, observer: Observer) -> Printed
     ensures { OnOk result (Prints out.old out.new (maybe_then watch_then (watch_tree file.now observer) [])) }
 {
     let word = Piece::Word(Keyword::Use);
@@ -131,7 +131,7 @@ pub fn watch(out: &mut Printer, file: &File, observer: Observer) -> Result<(), A
 }
 
 // Names after the first, by their numbers.
-fn comma_names(out: &mut Printer, file: &File, numbers: &[u16]) -> Result<(), AllocError>
+fn comma_names(out: &mut Printer, file: &File, numbers: &[u16]) -> Printed
     ensures { OnOk result (Prints out.old out.new (each_then comma_name_then (map (name_at file.now) numbers.now) [])) }
 {
     for number in numbers {
@@ -141,7 +141,7 @@ fn comma_names(out: &mut Printer, file: &File, numbers: &[u16]) -> Result<(), Al
 }
 
 // What an auxiliary field holds, by the numbers of its values' names.
-fn kind(out: &mut Printer, file: &File, values: &[u16]) -> Result<(), AllocError>
+fn kind(out: &mut Printer, file: &File, values: &[u16]) -> Printed
     ensures { OnOk result (Prints out.old out.new (ghost_kind_then (ghost_kind file.now values.now) [])) }
 {
     match values {
@@ -155,7 +155,7 @@ fn kind(out: &mut Printer, file: &File, values: &[u16]) -> Result<(), AllocError
 }
 
 // An auxiliary field.
-fn auxiliary(out: &mut Printer, file: &File, field: &Ghost) -> Result<(), AllocError>
+fn auxiliary(out: &mut Printer, file: &File, field: &Ghost) -> Printed
     ensures { OnOk result
         (Prints out.old out.new (ghost_then (Auxiliary (name_at file.now field.now.name)
         (ghost_kind file.now field.now.values)) [])) }
@@ -169,7 +169,7 @@ fn auxiliary(out: &mut Printer, file: &File, field: &Ghost) -> Result<(), AllocE
 }
 
 /// The auxiliary fields.
-pub fn auxiliaries(out: &mut Printer, file: &File, fields: &[Ghost]) -> Result<(), AllocError>
+pub fn auxiliaries(out: &mut Printer, file: &File, fields: &[Ghost]) -> Printed
     ensures { OnOk result
         (Prints out.old out.new (each_then ghost_then (map (λ g. Auxiliary (name_at file.now g.name)
         (ghost_kind file.now g.values)) fields.now) [])) }
@@ -181,7 +181,7 @@ pub fn auxiliaries(out: &mut Printer, file: &File, fields: &[Ghost]) -> Result<(
 }
 
 // The primitives of `init`.
-fn initials(out: &mut Printer, file: &File, prims: &[Prim]) -> Result<(), AllocError>
+fn initials(out: &mut Printer, file: &File, prims: &[Prim]) -> Printed
     ensures { OnOk result (Prints out.old out.new (each_then initial_then (map (initial_tree file.now) prims.now) [])) }
 {
     for prim in prims {
@@ -191,7 +191,7 @@ fn initials(out: &mut Printer, file: &File, prims: &[Prim]) -> Result<(), AllocE
 }
 
 /// `init`, which is left out where it is empty.
-pub fn start(out: &mut Printer, file: &File) -> Result<(), AllocError>
+pub fn start(out: &mut Printer, file: &File) -> Printed
     ensures { OnOk result (Prints out.old out.new (maybe_then init_then (init_tree file.now file.now.init) [])) }
 {
     match file.init.as_slice() {
@@ -218,7 +218,7 @@ fn parameter_numbers(alloc: Global, locals: &[Local]) -> Result<Vec<u16>, AllocE
 }
 
 // Names with a comma before each but the first, by their numbers.
-fn parted_names(out: &mut Printer, file: &File, numbers: &[u16]) -> Result<(), AllocError>
+fn parted_names(out: &mut Printer, file: &File, numbers: &[u16]) -> Printed
     ensures { OnOk result (Prints out.old out.new (parameters_then (map (name_at file.now) numbers.now) [])) }
 {
     match numbers {
@@ -231,12 +231,7 @@ fn parted_names(out: &mut Printer, file: &File, numbers: &[u16]) -> Result<(), A
 }
 
 // The parameters of an operation.
-fn parameters(
-    alloc: Global,
-    out: &mut Printer,
-    file: &File,
-    locals: &[Local],
-) -> Result<(), AllocError>
+fn parameters(alloc: Global, out: &mut Printer, file: &File, locals: &[Local]) -> Printed
     ensures { OnOk result
         (Prints out.old out.new (parameters_then (map (λ l. name_at file.now l.name)
         (filter is_parameter locals.now)) [])) }
@@ -246,7 +241,7 @@ fn parameters(
 }
 
 // The locals of an operation that are no parameters.
-fn locals(out: &mut Printer, file: &File, locals: &[Local]) -> Result<(), AllocError>
+fn locals(out: &mut Printer, file: &File, locals: &[Local]) -> Printed
     ensures { OnOk result
         (Prints out.old out.new (each_then field_then (map (λ l. declaration_tree
         (name_at file.now l.name) l.pointer) (filter is_declared locals.now)) [])) }
@@ -260,7 +255,7 @@ fn locals(out: &mut Printer, file: &File, locals: &[Local]) -> Result<(), AllocE
 }
 
 // An operation.
-fn operation(alloc: Global, out: &mut Printer, file: &File, op: &Op) -> Result<(), AllocError>
+fn operation(alloc: Global, out: &mut Printer, file: &File, op: &Op) -> Printed
     ensures { OnOk result (Prints out.old out.new (op_then (op_tree file.now op.now) [])) }
 {
     let reach = Reach {
@@ -280,12 +275,7 @@ fn operation(alloc: Global, out: &mut Printer, file: &File, op: &Op) -> Result<(
 }
 
 /// The operations.
-pub fn operations(
-    alloc: Global,
-    out: &mut Printer,
-    file: &File,
-    ops: &[Op],
-) -> Result<(), AllocError>
+pub fn operations(alloc: Global, out: &mut Printer, file: &File, ops: &[Op]) -> Printed
     ensures { OnOk result (Prints out.old out.new (each_then op_then (map (op_tree file.now) ops.now) [])) }
 {
     for op in ops {

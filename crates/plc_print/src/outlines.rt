@@ -15,7 +15,7 @@ ghost use Rattle.plc_print.specs.Pieces.{Prints};
 
 use crate::clauses::clause_line;
 use crate::names::Reach;
-use crate::tokens::{BEGIN, COLON, COMMA, END, Piece, Printer, SEMICOLON};
+use crate::tokens::{BEGIN, COLON, COMMA, END, Piece, Printed, Printer, SEMICOLON};
 use plc_base::{Items, NoMemory, OpId};
 use plc_lang::{File, Local, label_name, labels_by_op, locals_of, operation_name};
 use plc_lex::Keyword;
@@ -23,7 +23,7 @@ use plc_logic::{Clause, Item, Outline, Site, op_of_site};
 use std::alloc::{AllocError, Global};
 
 // An invariant.
-fn invariant(out: &mut Printer, file: &File, clause: &Clause) -> Result<(), AllocError>
+fn invariant(out: &mut Printer, file: &File, clause: &Clause) -> Printed
     ensures { OnOk result (Prints out.old out.new (item_then (invariant_tree file.now clause.now) [])) }
 {
     let reach = Reach { file, locals: &[] };
@@ -32,7 +32,7 @@ fn invariant(out: &mut Printer, file: &File, clause: &Clause) -> Result<(), Allo
 }
 
 // The invariants.
-fn invariants(out: &mut Printer, file: &File, clauses: &[Clause]) -> Result<(), AllocError>
+fn invariants(out: &mut Printer, file: &File, clauses: &[Clause]) -> Printed
     ensures { OnOk result
         (Prints out.old out.new (each_then item_then (map (invariant_tree file.now) clauses.now) [])) }
 {
@@ -43,7 +43,7 @@ fn invariants(out: &mut Printer, file: &File, clauses: &[Clause]) -> Result<(), 
 }
 
 // A clause over an operation.
-fn over(out: &mut Printer, reach: Reach, op: OpId, clause: &Clause) -> Result<(), AllocError>
+fn over(out: &mut Printer, reach: Reach, op: OpId, clause: &Clause) -> Printed
     ensures { OnOk result
         (Prints out.old out.new (item_then (site_tree reach.entry.file.now (sites.Over op)
         (clause_tree reach.entry.file.now reach.entry.locals.now clause.now)) [])) }
@@ -54,7 +54,7 @@ fn over(out: &mut Printer, reach: Reach, op: OpId, clause: &Clause) -> Result<()
 }
 
 // Labels after the first.
-fn comma_labels(out: &mut Printer, file: &File, labels: &[u16]) -> Result<(), AllocError>
+fn comma_labels(out: &mut Printer, file: &File, labels: &[u16]) -> Printed
     ensures { OnOk result
         (Prints out.old out.new (each_then comma_name_then (map (label_name file.now) labels.now) [])) }
 {
@@ -71,7 +71,7 @@ fn at_names(
     first: &[u8],
     others: &[u16],
     clause: &Clause,
-) -> Result<(), AllocError>
+) -> Printed
     ensures { OnOk result
         (Prints out.old out.new (item_then (AtItem first.now (map (label_name reach.entry.file.now) others.now)
         (clause_tree reach.entry.file.now reach.entry.locals.now clause.now)) [])) }
@@ -83,7 +83,7 @@ fn at_names(
 }
 
 // A clause at labels.
-fn at(out: &mut Printer, reach: Reach, labels: &[u16], clause: &Clause) -> Result<(), AllocError>
+fn at(out: &mut Printer, reach: Reach, labels: &[u16], clause: &Clause) -> Printed
     ensures { OnOk result
         (Prints out.old out.new (item_then (site_tree reach.entry.file.now (sites.At labels.now)
         (clause_tree reach.entry.file.now reach.entry.locals.now clause.now)) [])) }
@@ -108,7 +108,7 @@ fn locals_in_reach<'a>(file: &'a File, by_op: &[Items<u16>], site: &Site) -> &'a
 }
 
 // A clause at points.
-fn item(out: &mut Printer, file: &File, by_op: &[Items<u16>], item: &Item) -> Result<(), AllocError>
+fn item(out: &mut Printer, file: &File, by_op: &[Items<u16>], item: &Item) -> Printed
     ensures { OnOk result
         (Prints out.old out.new (item_then (site_tree file.now item.now.site (clause_tree file.now
         (locals_in_reach file.now (op_of_site by_op.now item.now.site)) item.now.clause)) [])) }
@@ -122,12 +122,7 @@ fn item(out: &mut Printer, file: &File, by_op: &[Items<u16>], item: &Item) -> Re
 }
 
 // The items but the invariants.
-fn items(
-    out: &mut Printer,
-    file: &File,
-    by_op: &[Items<u16>],
-    items: &[Item],
-) -> Result<(), AllocError>
+fn items(out: &mut Printer, file: &File, by_op: &[Items<u16>], items: &[Item]) -> Printed
     ensures { OnOk result
         (Prints out.old out.new (each_then item_then (map (λ (i : OutlineItem). site_tree file.now i.site
         (clause_tree file.now (locals_in_reach file.now (op_of_site by_op.now i.site)) i.clause)) items.now) [])) }
@@ -139,7 +134,7 @@ fn items(
 }
 
 // The depth, which is left out where it is 0.
-fn depth(out: &mut Printer, depth: u8) -> Result<(), AllocError>
+fn depth(out: &mut Printer, depth: u8) -> Printed
     ensures { OnOk result (Prints out.old out.new (maybe_then depth_then (depth_tree depth) [])) }
 {
     if depth == 0 {
@@ -160,12 +155,7 @@ fn labels(alloc: Global, file: &File) -> Result<Items<Items<u16>>, AllocError>
 }
 
 // An outline, even where it says nothing.
-fn outlined(
-    alloc: Global,
-    out: &mut Printer,
-    file: &File,
-    outline: &Outline,
-) -> Result<(), AllocError>
+fn outlined(alloc: Global, out: &mut Printer, file: &File, outline: &Outline) -> Printed
     ensures { OnOk result
         (Prints out.old out.new (outline_then (Outlined (depth_tree outline.now.depth)
         (item_trees file.now outline.now)) [])) }
@@ -181,12 +171,7 @@ fn outlined(
 }
 
 /// The outline, which is left out where it is of depth 0 and says nothing.
-pub fn outline(
-    alloc: Global,
-    out: &mut Printer,
-    file: &File,
-    outline: &Outline,
-) -> Result<(), AllocError>
+pub fn outline(alloc: Global, out: &mut Printer, file: &File, outline: &Outline) -> Printed
     ensures { OnOk result (Prints out.old out.new (maybe_then outline_then (outline_tree file.now outline.now) [])) }
 {
     if outline.depth == 0 && outline.invariants.is_empty() && outline.items.is_empty() {

@@ -16,10 +16,11 @@ ghost use Rattle.plc_print.specs.Canonical.{condition_tree, initial_tree};
 ghost use Rattle.plc_print.specs.Pieces.{Prints, kind_of};
 
 use crate::names::Reach;
-use crate::tokens::{ASSIGN, CLOSE, COMMA, DOT, NULL, OPEN, Piece, Printer, REFRESH, SEMICOLON};
+use crate::tokens::{
+    ASSIGN, CLOSE, COMMA, DOT, NULL, OPEN, Piece, Printed, Printer, REFRESH, SEMICOLON,
+};
 use plc_lang::{Cond, File, GhostVal, Num, Prim, Rel, Var, auxiliary_name, value_name};
 use plc_lex::{Keyword, Symbol};
-use std::alloc::AllocError;
 
 // A number or a data local.
 fn number<'a>(reach: Reach<'a>, e: Num) -> Piece<'a>
@@ -33,7 +34,7 @@ fn number<'a>(reach: Reach<'a>, e: Num) -> Piece<'a>
 }
 
 // A token that is put into a name.
-fn set_name<'x>(out: &mut Printer, name: &'x [u8], value: Piece<'x>) -> Result<(), AllocError>
+fn set_name<'x>(out: &mut Printer, name: &'x [u8], value: Piece<'x>) -> Printed
     ensures { OnOk result
         (Prints out.old out.new (NameToken name.now ∷ SymbolToken symbols.Assign ∷ kind_of value.entry ∷ [])) }
 {
@@ -41,12 +42,7 @@ fn set_name<'x>(out: &mut Printer, name: &'x [u8], value: Piece<'x>) -> Result<(
 }
 
 // A field that is put into a name.
-fn load<'x>(
-    out: &mut Printer,
-    name: &'x [u8],
-    from: &'x [u8],
-    field: &'x [u8],
-) -> Result<(), AllocError>
+fn load<'x>(out: &mut Printer, name: &'x [u8], from: &'x [u8], field: &'x [u8]) -> Printed
     ensures { OnOk result
         (Prints out.old out.new (set_then (SetName name.now (PlaceValue (PlaceOf from.now (Some field.now)))) [])) }
 {
@@ -55,12 +51,7 @@ fn load<'x>(
 }
 
 // A token that is put into a field.
-fn store<'x>(
-    out: &mut Printer,
-    name: &'x [u8],
-    field: &'x [u8],
-    atom: Piece<'x>,
-) -> Result<(), AllocError>
+fn store<'x>(out: &mut Printer, name: &'x [u8], field: &'x [u8], atom: Piece<'x>) -> Printed
     ensures { OnOk result
         (Prints out.old out.new
         (NameToken name.now ∷ SymbolToken symbols.Dot ∷ NameToken field.now ∷ SymbolToken symbols.Assign ∷
@@ -70,7 +61,7 @@ fn store<'x>(
 }
 
 // An assignment.
-fn set(out: &mut Printer, reach: Reach, prim: Prim) -> Result<(), AllocError>
+fn set(out: &mut Printer, reach: Reach, prim: Prim) -> Printed
     ensures { OnOk result
         (Prints out.old out.new (set_then (set_tree reach.entry.file.now reach.entry.locals.now prim) [])) }
 {
@@ -106,7 +97,7 @@ fn ghost_value<'a>(reach: Reach<'a>, g: u16, v: GhostVal) -> Piece<'a>
 }
 
 // An assignment to an auxiliary field.
-fn ghost_set(out: &mut Printer, reach: Reach, p: Var, g: u16, v: GhostVal) -> Result<(), AllocError>
+fn ghost_set(out: &mut Printer, reach: Reach, p: Var, g: u16, v: GhostVal) -> Printed
     ensures { OnOk result
         (Prints out.old out.new (ghost_set_then (ghost_tree reach.entry.file.now reach.entry.locals.now p g v) [])) }
 {
@@ -117,19 +108,14 @@ fn ghost_set(out: &mut Printer, reach: Reach, p: Var, g: u16, v: GhostVal) -> Re
 }
 
 // A refresh into a pointer local.
-fn refresh_name<'x>(out: &mut Printer, name: &'x [u8], from: &'x [u8]) -> Result<(), AllocError>
+fn refresh_name<'x>(out: &mut Printer, name: &'x [u8], from: &'x [u8]) -> Printed
     ensures { OnOk result (Prints out.old out.new (refresh_then (RefreshName name.now (PlaceOf from.now None)) [])) }
 {
     out.tokens(&[Piece::Name(name), REFRESH, Piece::Name(from)])
 }
 
 // A refresh of a field into a pointer local.
-fn refresh_load<'x>(
-    out: &mut Printer,
-    name: &'x [u8],
-    from: &'x [u8],
-    field: &'x [u8],
-) -> Result<(), AllocError>
+fn refresh_load<'x>(out: &mut Printer, name: &'x [u8], from: &'x [u8], field: &'x [u8]) -> Printed
     ensures { OnOk result
         (Prints out.old out.new (refresh_then (RefreshName name.now (PlaceOf from.now (Some field.now))) [])) }
 {
@@ -138,12 +124,7 @@ fn refresh_load<'x>(
 }
 
 // A refresh into a field.
-fn refresh_store<'x>(
-    out: &mut Printer,
-    name: &'x [u8],
-    field: &'x [u8],
-    from: &'x [u8],
-) -> Result<(), AllocError>
+fn refresh_store<'x>(out: &mut Printer, name: &'x [u8], field: &'x [u8], from: &'x [u8]) -> Printed
     ensures { OnOk result (Prints out.old out.new (refresh_then (RefreshField name.now field.now from.now) [])) }
 {
     let (name, field, from) = (Piece::Name(name), Piece::Name(field), Piece::Name(from));
@@ -162,19 +143,15 @@ fn relation(rel: Rel) -> Symbol
 }
 
 // A comparison of a name with a token.
-fn compare<'x>(
-    out: &mut Printer,
-    name: &'x [u8],
-    symbol: Symbol,
-    atom: Piece<'x>,
-) -> Result<(), AllocError>
-    ensures { OnOk result (Prints out.old out.new (NameToken name.now ∷ SymbolToken symbol ∷ kind_of atom.entry ∷ [])) }
+fn compare<'x>(out: &mut Printer, name: &'x [u8], symbol: Symbol, atom: Piece<'x>) -> Printed
+    ensures { OnOk result
+        (Prints out.old out.new (NameToken name.now ∷ SymbolToken symbol ∷ kind_of atom.entry ∷ [])) }
 {
     out.tokens(&[Piece::Name(name), Piece::Sign(symbol), atom])
 }
 
 // A test.
-fn test(out: &mut Printer, reach: Reach, prim: Prim) -> Result<(), AllocError>
+fn test(out: &mut Printer, reach: Reach, prim: Prim) -> Printed
     ensures { OnOk result
         (Prints out.old out.new (test_then (test_tree reach.entry.file.now reach.entry.locals.now prim) [])) }
 {
@@ -197,7 +174,7 @@ fn test(out: &mut Printer, reach: Reach, prim: Prim) -> Result<(), AllocError>
 }
 
 // An assumption.
-fn assume(out: &mut Printer, reach: Reach, prim: Prim) -> Result<(), AllocError>
+fn assume(out: &mut Printer, reach: Reach, prim: Prim) -> Printed
     ensures { OnOk result
         (Prints out.old out.new (WordToken words.Assume ∷ test_then
         (test_tree reach.entry.file.now reach.entry.locals.now prim) [])) }
@@ -207,7 +184,7 @@ fn assume(out: &mut Printer, reach: Reach, prim: Prim) -> Result<(), AllocError>
 }
 
 // A primitive, without its semicolon.
-fn primitive(out: &mut Printer, reach: Reach, prim: Prim) -> Result<(), AllocError>
+fn primitive(out: &mut Printer, reach: Reach, prim: Prim) -> Printed
     ensures { OnOk result
         (Prints out.old out.new (primitive_then (primitive_tree reach.entry.file.now reach.entry.locals.now prim) [])) }
 {
@@ -234,7 +211,7 @@ fn primitive(out: &mut Printer, reach: Reach, prim: Prim) -> Result<(), AllocErr
 }
 
 /// The primitives of an atomic block, each with its semicolon.
-pub fn primitive_lines(out: &mut Printer, reach: Reach, prims: &[Prim]) -> Result<(), AllocError>
+pub fn primitive_lines(out: &mut Printer, reach: Reach, prims: &[Prim]) -> Printed
     ensures { OnOk result
         (Prints out.old out.new (each_then primitive_line_then (map
         (primitive_tree reach.entry.file.now reach.entry.locals.now) prims.now) [])) }
@@ -246,7 +223,7 @@ pub fn primitive_lines(out: &mut Printer, reach: Reach, prims: &[Prim]) -> Resul
 }
 
 /// A primitive with its semicolon.
-pub fn primitive_line(out: &mut Printer, reach: Reach, prim: Prim) -> Result<(), AllocError>
+pub fn primitive_line(out: &mut Printer, reach: Reach, prim: Prim) -> Printed
     ensures { OnOk result
         (Prints out.old out.new (primitive_line_then
         (primitive_tree reach.entry.file.now reach.entry.locals.now prim) [])) }
@@ -256,7 +233,7 @@ pub fn primitive_line(out: &mut Printer, reach: Reach, prim: Prim) -> Result<(),
 }
 
 /// A primitive of `init`, with its semicolon.
-pub fn initial_line(out: &mut Printer, file: &File, prim: Prim) -> Result<(), AllocError>
+pub fn initial_line(out: &mut Printer, file: &File, prim: Prim) -> Printed
     ensures { OnOk result (Prints out.old out.new (initial_then (initial_tree file.now prim) [])) }
 {
     let reach = Reach { file, locals: &[] };
@@ -269,7 +246,8 @@ pub fn initial_line(out: &mut Printer, file: &File, prim: Prim) -> Result<(), Al
 
 // A pointer variable, or null.
 fn name_or_null<'a>(reach: Reach<'a>, q: Option<Var>) -> Piece<'a>
-    ensures { name_or_null_then (name_or_null reach.entry.file.now reach.entry.locals.now q) [] ≡ kind_of result ∷ [] }
+    ensures { name_or_null_then (name_or_null reach.entry.file.now reach.entry.locals.now q) []
+        ≡ kind_of result ∷ [] }
 {
     match q {
         None => NULL,
@@ -285,7 +263,7 @@ fn cas(
     p: Var,
     old: Option<Var>,
     new: Option<Var>,
-) -> Result<(), AllocError>
+) -> Printed
     ensures { OnOk result
         (Prints out.old out.new (condition_then (condition_tree reach.entry.file.now reach.entry.locals.now
         (conds.Cas active p old new)) [])) }
@@ -301,7 +279,7 @@ fn cas(
 }
 
 // A refresh, as a condition.
-fn refresh(out: &mut Printer, reach: Reach, prim: Prim) -> Result<(), AllocError>
+fn refresh(out: &mut Printer, reach: Reach, prim: Prim) -> Printed
     ensures { OnOk result
         (Prints out.old out.new (condition_then
         (refresh_condition reach.entry.file.now reach.entry.locals.now prim) [])) }
@@ -316,7 +294,7 @@ fn refresh(out: &mut Printer, reach: Reach, prim: Prim) -> Result<(), AllocError
 }
 
 /// The condition of an `if`.
-pub fn condition(out: &mut Printer, reach: Reach, cond: Cond) -> Result<(), AllocError>
+pub fn condition(out: &mut Printer, reach: Reach, cond: Cond) -> Printed
     ensures { OnOk result
         (Prints out.old out.new (condition_then (condition_tree reach.entry.file.now reach.entry.locals.now cond) [])) }
 {

@@ -9,13 +9,13 @@ use crate::declarations::{
     auxiliaries, declared_functions, operations, shared_pointers, start, structure, watch,
 };
 use crate::outlines::outline;
-use crate::tokens::Printer;
+use crate::tokens::{Printed, Printer};
 use plc_base::NoMemory;
 use plc_parse::Unit;
-use std::alloc::{AllocError, Global};
+use std::alloc::Global;
 
 // All parts of a unit.
-fn parts(alloc: Global, out: &mut Printer, unit: &Unit) -> Result<(), AllocError>
+fn parts(alloc: Global, out: &mut Printer, unit: &Unit) -> Printed
     ensures { OnOk result (Prints out.old out.new (file_tokens (canonical_tree unit.now))) }
 {
     let file = &unit.file;

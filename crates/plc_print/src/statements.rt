@@ -16,18 +16,17 @@ ghost use Rattle.plc_print.specs.Pieces.{Prints};
 
 use crate::names::Reach;
 use crate::primitives::{condition, primitive_line, primitive_lines};
-use crate::tokens::{BEGIN, CLOSE, END, OPEN, Piece, Printer, SEMICOLON};
+use crate::tokens::{BEGIN, CLOSE, END, OPEN, Piece, Printed, Printer, SEMICOLON};
 use plc_base::FuncId;
 use plc_lang::{Arg, Block, Cond, Prim, Stmt, function_name, label_name};
 use plc_lex::{Keyword, Symbol};
-use std::alloc::AllocError;
 
 const OR: Piece<'static> = Piece::Word(Keyword::Or);
 
 const CHOOSE: Piece<'static> = Piece::Word(Keyword::Choose);
 
 // What a function is called with.
-fn argument(out: &mut Printer, reach: Reach, arg: Arg, active: bool) -> Result<(), AllocError>
+fn argument(out: &mut Printer, reach: Reach, arg: Arg, active: bool) -> Printed
     ensures { OnOk result
         (Prints out.old out.new (argument_then
         (argument_tree reach.entry.file.now reach.entry.locals.now arg active) [])) }
@@ -43,7 +42,7 @@ fn argument(out: &mut Printer, reach: Reach, arg: Arg, active: bool) -> Result<(
 }
 
 // The label between a call and its return.
-fn during(out: &mut Printer, reach: Reach, label: Option<u16>) -> Result<(), AllocError>
+fn during(out: &mut Printer, reach: Reach, label: Option<u16>) -> Printed
     ensures { OnOk result
         (Prints out.old out.new (maybe_then during_then (option_map (label_name reach.entry.file.now) label) [])) }
 {
@@ -64,7 +63,7 @@ fn call(
     arg: Arg,
     active: bool,
     label: Option<u16>,
-) -> Result<(), AllocError>
+) -> Printed
     ensures { OnOk result
         (Prints out.old out.new (statement_then (CallStatement (function_name reach.entry.file.now func)
         (argument_tree reach.entry.file.now reach.entry.locals.now arg active) (option_map
@@ -78,7 +77,7 @@ fn call(
 }
 
 // Primitives that are one step.
-fn atomic(out: &mut Printer, reach: Reach, prims: &[Prim]) -> Result<(), AllocError>
+fn atomic(out: &mut Printer, reach: Reach, prims: &[Prim]) -> Printed
     ensures { OnOk result
         (Prints out.old out.new (statement_then (AtomicStatement (map
         (primitive_tree reach.entry.file.now reach.entry.locals.now) prims.now)) [])) }
@@ -89,21 +88,21 @@ fn atomic(out: &mut Printer, reach: Reach, prims: &[Prim]) -> Result<(), AllocEr
 }
 
 // A statement that is a word and its semicolon.
-fn word(out: &mut Printer, word: Keyword) -> Result<(), AllocError>
+fn word(out: &mut Printer, word: Keyword) -> Printed
     ensures { OnOk result (Prints out.old out.new (WordToken word ∷ SymbolToken symbols.Semicolon ∷ [])) }
 {
     out.tokens(&[Piece::Word(word), SEMICOLON])
 }
 
 // A label.
-fn label(out: &mut Printer, name: &[u8]) -> Result<(), AllocError>
+fn label(out: &mut Printer, name: &[u8]) -> Printed
     ensures { OnOk result (Prints out.old out.new (statement_then (LabelStatement name.now) [])) }
 {
     out.tokens(&[Piece::Word(Keyword::Label), Piece::Name(name), SEMICOLON])
 }
 
 #[cycle(statement)]
-fn statement(out: &mut Printer, reach: Reach, stmt: &Stmt) -> Result<(), AllocError>
+fn statement(out: &mut Printer, reach: Reach, stmt: &Stmt) -> Printed
     ensures { OnOk result
         (Prints out.old out.new (statement_then (statement_tree reach.entry.file.now reach.entry.locals.now
         (statement_of stmt.now)) [])) }
@@ -129,13 +128,7 @@ fn statement(out: &mut Printer, reach: Reach, stmt: &Stmt) -> Result<(), AllocEr
 
 // An `if`.
 #[cycle(statement)]
-fn branch(
-    out: &mut Printer,
-    reach: Reach,
-    cond: Cond,
-    yes: &Block,
-    no: &Block,
-) -> Result<(), AllocError>
+fn branch(out: &mut Printer, reach: Reach, cond: Cond, yes: &Block, no: &Block) -> Printed
     ensures { OnOk result
         (Prints out.old out.new (statement_then (statement_tree reach.entry.file.now reach.entry.locals.now
         (If cond yes.now no.now)) [])) }
@@ -149,7 +142,7 @@ fn branch(
 
 // The second block of an `if`, which is left out where it is empty.
 #[cycle(statement)]
-fn otherwise(out: &mut Printer, reach: Reach, block: &Block) -> Result<(), AllocError>
+fn otherwise(out: &mut Printer, reach: Reach, block: &Block) -> Printed
     ensures { OnOk result
         (Prints out.old out.new (else_then (else_block block.now
         (block_tree reach.entry.file.now reach.entry.locals.now block.now)) [])) }
@@ -165,7 +158,7 @@ fn otherwise(out: &mut Printer, reach: Reach, block: &Block) -> Result<(), Alloc
 
 // A choice. One of fewer than two blocks has no text, so that empty blocks stand for them.
 #[cycle(statement)]
-fn choose(out: &mut Printer, reach: Reach, blocks: &[Block]) -> Result<(), AllocError>
+fn choose(out: &mut Printer, reach: Reach, blocks: &[Block]) -> Printed
     ensures { OnOk result
         (Prints out.old out.new (statement_then (choice_tree
         (blocks_tree reach.entry.file.now reach.entry.locals.now (blocks_of blocks.now))) [])) }
@@ -188,7 +181,7 @@ fn choose(out: &mut Printer, reach: Reach, blocks: &[Block]) -> Result<(), Alloc
 
 // A further block of a choice.
 #[cycle(statement)]
-fn or_block(out: &mut Printer, reach: Reach, block: &Block) -> Result<(), AllocError>
+fn or_block(out: &mut Printer, reach: Reach, block: &Block) -> Printed
     ensures { OnOk result
         (Prints out.old out.new (WordToken words.Or ∷ SymbolToken symbols.OpenBrace ∷ statements_then
         (block_tree reach.entry.file.now reach.entry.locals.now block.now) (SymbolToken symbols.CloseBrace ∷ []))) }
@@ -199,7 +192,7 @@ fn or_block(out: &mut Printer, reach: Reach, block: &Block) -> Result<(), AllocE
 
 // The blocks of a choice after its second.
 #[cycle(statement)]
-fn or_blocks(out: &mut Printer, reach: Reach, blocks: &[Block]) -> Result<(), AllocError>
+fn or_blocks(out: &mut Printer, reach: Reach, blocks: &[Block]) -> Printed
     ensures { OnOk result
         (Prints out.old out.new (or_then (blocks_tree reach.entry.file.now reach.entry.locals.now
         (blocks_of blocks.now)) [])) }
@@ -212,7 +205,7 @@ fn or_blocks(out: &mut Printer, reach: Reach, blocks: &[Block]) -> Result<(), Al
 
 // A loop.
 #[cycle(statement)]
-fn repeat(out: &mut Printer, reach: Reach, block: &Block) -> Result<(), AllocError>
+fn repeat(out: &mut Printer, reach: Reach, block: &Block) -> Printed
     ensures { OnOk result
         (Prints out.old out.new (statement_then (LoopStatement
         (block_tree reach.entry.file.now reach.entry.locals.now block.now)) [])) }
@@ -223,7 +216,7 @@ fn repeat(out: &mut Printer, reach: Reach, block: &Block) -> Result<(), AllocErr
 
 // A block in its braces.
 #[cycle(statement)]
-fn braced(out: &mut Printer, reach: Reach, block: &Block) -> Result<(), AllocError>
+fn braced(out: &mut Printer, reach: Reach, block: &Block) -> Printed
     ensures { OnOk result
         (Prints out.old out.new (SymbolToken symbols.OpenBrace ∷ statements_then
         (block_tree reach.entry.file.now reach.entry.locals.now block.now) (SymbolToken symbols.CloseBrace ∷ []))) }
@@ -235,7 +228,7 @@ fn braced(out: &mut Printer, reach: Reach, block: &Block) -> Result<(), AllocErr
 
 /// The statements of a block, without its braces.
 #[cycle(statement)]
-pub fn statements(out: &mut Printer, reach: Reach, block: &Block) -> Result<(), AllocError>
+pub fn statements(out: &mut Printer, reach: Reach, block: &Block) -> Printed
     ensures { OnOk result
         (Prints out.old out.new (statements_then
         (block_tree reach.entry.file.now reach.entry.locals.now block.now) [])) }

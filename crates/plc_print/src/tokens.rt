@@ -5,7 +5,7 @@ ghost use Rattle.plc_print.specs.Pieces.{Prints, kind_of};
 ghost use Rattle.plc_print.specs.Text.{after_symbol, outline_word, symbol_text, word_text};
 
 use plc_lex::{Keyword, Symbol};
-use std::alloc::{AllocError, Global};
+use std::alloc::Global;
 
 /// A token to print.
 #[derive(Clone, Copy)]
@@ -48,6 +48,9 @@ pub const BEGIN: Piece<'static> = Piece::Sign(Symbol::OpenBrace);
 
 /// `}`
 pub const END: Piece<'static> = Piece::Sign(Symbol::CloseBrace);
+
+/// What printing answers: nothing, or that memory ran out.
+pub type Printed = Result<(), AllocError>;
 
 /// What was printed so far.
 #[derive(Drop)]
@@ -163,7 +166,7 @@ impl Printer {
     }
 
     // A token's text and what follows it.
-    fn put(&mut self, text: &[u8], after: u8) -> Result<(), AllocError>
+    fn put(&mut self, text: &[u8], after: u8) -> Printed
         ensures { OnOk result (self.new.text.items ≡ self.old.text.items ++ text.now ++ after ∷ []) }
     {
         self.text.extend_from_slice(text)?;
@@ -171,7 +174,7 @@ impl Printer {
         Ok(())
     }
 
-    fn number(&mut self, number: u32) -> Result<(), AllocError>
+    fn number(&mut self, number: u32) -> Printed
         ensures { OnOk result (self.new.text.items ≡ self.old.text.items ++ decimal number ++ 32 ∷ []) }
     {
         let digits = number.to_string(self.alloc)?;
@@ -179,7 +182,7 @@ impl Printer {
     }
 
     /// One token.
-    pub fn token(&mut self, piece: Piece) -> Result<(), AllocError>
+    pub fn token(&mut self, piece: Piece) -> Printed
         ensures { OnOk result (Prints self.old self.new (kind_of piece.entry ∷ [])) }
     {
         match piece {
@@ -191,7 +194,7 @@ impl Printer {
     }
 
     /// Tokens one after the other.
-    pub fn tokens(&mut self, pieces: &[Piece]) -> Result<(), AllocError>
+    pub fn tokens(&mut self, pieces: &[Piece]) -> Printed
         ensures { OnOk result (Prints self.old self.new (map kind_of pieces.now)) }
     {
         for piece in pieces {
