@@ -8,7 +8,7 @@ use Rattle.plc_lex.specs.declared.token.Symbol.{Symbol as Punctuation}
 use Rattle.plc_lex.specs.declared.token.Symbol.TheVariants.{Assign, Refresh, Equal, Unequal, AtLeast, Less, OpenParen, CloseParen, Semicolon, Comma, Dot}
 use Rattle.plc_syntax.specs.Table.{same_symbol}
 use Rattle.plc_syntax.specs.Trees.{Text, FieldTree, PointerField, DataField, PlaceTree, PlaceValue, SetName, SetField, RefreshName, RefreshField, SetGhost, InitialTree, InitialSet, InitialGhost, Compares, PrimitiveTree, SetPrimitive, RefreshPrimitive, GhostPrimitive, ActivePrimitive, AssumePrimitive, FunctionTree, Declares}
-use Rattle.plc_forms.specs.Forms.{◌>>=◌, read_or, read_as, same_word, word_of, symbol_of, name_of, semicolon_of, name_symbol_of, symbol_name_of, word_name_of, field_of, shared_of, comma_name_of, pointer_word_of, end_of, function_of, dot_name_of, place_with, place_of, value_of, atom_of, set_name_of, set_field_of, set_of, refresh_name_of, refresh_field_of, refresh_of, ghost_value_of, ghost_set_of, comparison_of, test_of, named_of, primitive_of, line_of, primitive_line_of, initial_of, initial_line_of}
+use Rattle.plc_forms.specs.Forms.{◌>>=◌, read_or, read_as, same_word, word_of, symbol_of, name_of, semicolon_of, name_symbol_of, symbol_name_of, word_name_of, field_of, shared_of, comma_name_of, pointer_word_of, end_of, function_of, dot_name_of, place_with, place_of, value_of, atom_of, set_name_of, field_symbol_of, set_field_of, set_of, refresh_name_of, refresh_field_of, refresh_of, ghost_value_of, ghost_set_of, comparison_of, test_of, named_of, primitive_of, line_of, primitive_line_of, initial_of, initial_line_of}
 
 -- at least so many of n tokens are taken; what is left is seen in the answer
 abbrev Takes : {A : Type 0} → (A → List TokenKind) → ℕ → ℕ → Option A → Type 0
@@ -121,18 +121,23 @@ atom (Number n ∷ rest) = omega arith
 atom (Name n ∷ rest) = omega arith
 atom ts = tt
 
+-- a last form, made into something else
+then_read : {X Y : Type 0} (f : X → Y) (n : ℕ) (o : Option (X × List TokenKind)) → Takes after 1 n o → Takes after 0 n (read_as f o)
+then_read f n o h = lax after n (read_as f o) (made f n o h)
+
+field_symbol : (s : Punctuation) (ts : List TokenKind) → Takes after 1 (length ts) (field_symbol_of s ts)
+field_symbol s ts = next after after 1 (length ts) (name_symbol_of Dot ts) _ (name_symbol Dot ts) (λ n. then_form (λ (f : Text). (n.0, f)) (length n.1) (name_symbol_of s n.1) (name_symbol s n.1))
+
 set : (ts : List TokenKind) → Takes after 1 (length ts) (set_of ts)
 set ts = either after (length ts) (set_name_of ts) (set_field_of ts)
     (next after after 1 (length ts) (name_symbol_of Assign ts) _ (name_symbol Assign ts) (λ n. then_form (SetName n.0) (length n.1) (value_of n.1) (value n.1)))
-    (next after after 1 (length ts) (name_symbol_of Dot ts) _ (name_symbol Dot ts) (λ n.
-    next after after 0 (length n.1) (name_symbol_of Assign n.1) _ (lax after (length n.1) (name_symbol_of Assign n.1) (name_symbol Assign n.1)) (λ f. then_form (SetField n.0 f.0) (length f.1) (atom_of f.1) (atom f.1))))
+    (next after after 1 (length ts) (field_symbol_of Assign ts) _ (field_symbol Assign ts) (λ f. then_read (SetField f.0.0 f.0.1) (length f.1) (atom_of f.1) (atom f.1)))
 
 refresh : (ts : List TokenKind) → Takes after 1 (length ts) (refresh_of ts)
 refresh ts = either after (length ts) (read_as (λ (r : Text × PlaceTree). RefreshName r.0 r.1) (refresh_name_of ts)) (refresh_field_of ts)
     (made (λ (r : Text × PlaceTree). RefreshName r.0 r.1) (length ts) (refresh_name_of ts)
     (next after after 1 (length ts) (name_symbol_of Refresh ts) _ (name_symbol Refresh ts) (λ n. then_form (λ (p : PlaceTree). (n.0, p)) (length n.1) (place_of n.1) (place n.1))))
-    (next after after 1 (length ts) (name_symbol_of Dot ts) _ (name_symbol Dot ts) (λ n.
-    next after after 0 (length n.1) (name_symbol_of Refresh n.1) _ (lax after (length n.1) (name_symbol_of Refresh n.1) (name_symbol Refresh n.1)) (λ f. then_form (RefreshField n.0 f.0) (length f.1) (name_of f.1) (name f.1))))
+    (next after after 1 (length ts) (field_symbol_of Refresh ts) _ (field_symbol Refresh ts) (λ f. then_read (RefreshField f.0.0 f.0.1) (length f.1) (name_of f.1) (name f.1)))
 
 ghost_value : (ts : List TokenKind) → Takes after 1 (length ts) (ghost_value_of ts)
 ghost_value (Name n ∷ rest) = omega arith

@@ -1,15 +1,27 @@
--- The forms at the front of tokens, each with the tokens after it. A form is read from left to right: where a token doesn't fit, nothing is read.
+-- The forms at the front of tokens, each with the tokens after it. A form is read from left to right: where a
+-- token doesn't fit, nothing is read.
 use Rattle.std.specs.Prelude.{Bool, true, false, if◌then◌else◌, Option, Some, None, List, ◌∷◌}
 use denote.Enum.Bare.{sameb}
 use Rattle.plc_lex.specs.contracts.token.Keyword as keyword
 use Rattle.plc_lex.specs.declared.token.TokenKind.{TokenKind}
 use Rattle.plc_lex.specs.declared.token.TokenKind.TheVariants.{Word, Name, Number, Symbol}
 use Rattle.plc_lex.specs.declared.token.Keyword.{Keyword}
-use Rattle.plc_lex.specs.declared.token.Keyword.TheVariants.{Struct, Ptr, Data, Shared, Call, Use, Hazard, Epoch, Ghost, Thread, Init, Op, Skip, Label, During, Active, Assume, New, Null, Cas, Me, None as NoneWord}
+use Rattle.plc_lex.specs.declared.token.Keyword.TheVariants.{Struct, Ptr, Data, Shared, Call, Use, Hazard, Epoch, Ghost}
+use Rattle.plc_lex.specs.declared.token.Keyword.TheVariants.{Thread, Init, Op, Skip, Label, During, Active, Assume, New}
+use Rattle.plc_lex.specs.declared.token.Keyword.TheVariants.{Null, Cas, Me, None as NoneWord}
 use Rattle.plc_lex.specs.declared.token.Symbol.{Symbol as Punctuation}
-use Rattle.plc_lex.specs.declared.token.Symbol.TheVariants.{Assign, Refresh, Equal, Unequal, AtLeast, Less, OpenBrace, CloseBrace, OpenParen, CloseParen, Semicolon, Comma, Dot}
+use Rattle.plc_lex.specs.declared.token.Symbol.TheVariants.{Assign, Refresh, Equal, Unequal, AtLeast, Less, OpenBrace}
+use Rattle.plc_lex.specs.declared.token.Symbol.TheVariants.{CloseBrace, OpenParen, CloseParen, Semicolon, Comma, Dot}
 use Rattle.plc_syntax.specs.Table.{same_symbol}
-use Rattle.plc_syntax.specs.Trees.{Text, FieldTree, PointerField, DataField, PlaceTree, PlaceOf, AtomTree, NullAtom, NumberAtom, NameAtom, ValueTree, NullValue, NewValue, NumberValue, PlaceValue, SetTree, SetName, SetField, RefreshTree, RefreshName, RefreshField, GhostValueTree, NameGhost, MeGhost, NoneGhost, GhostSetTree, SetGhost, InitialTree, InitialSet, InitialGhost, Comparison, SameAs, OtherThan, LessThan, NotLessThan, TestTree, Compares, ConditionTree, TestCondition, RefreshCondition, CasCondition, PrimitiveTree, SetPrimitive, RefreshPrimitive, GhostPrimitive, ActivePrimitive, AssumePrimitive, SkipPrimitive, ArgumentTree, NoArgument, NullArgument, NameArgument, ActiveArgument, FunctionTree, Declares, WatchTree, UseHazard, UseEpoch}
+use Rattle.plc_syntax.specs.Trees.{Text, FieldTree, PointerField, DataField, PlaceTree, PlaceOf, AtomTree, NullAtom}
+use Rattle.plc_syntax.specs.Trees.{NumberAtom, NameAtom, ValueTree, NullValue, NewValue, NumberValue, PlaceValue}
+use Rattle.plc_syntax.specs.Trees.{SetTree, SetName, SetField, RefreshTree, RefreshName, RefreshField, GhostValueTree}
+use Rattle.plc_syntax.specs.Trees.{NameGhost, MeGhost, NoneGhost, GhostSetTree, SetGhost, InitialTree, InitialSet}
+use Rattle.plc_syntax.specs.Trees.{InitialGhost, Comparison, SameAs, OtherThan, LessThan, NotLessThan, TestTree}
+use Rattle.plc_syntax.specs.Trees.{Compares, ConditionTree, TestCondition, RefreshCondition, CasCondition}
+use Rattle.plc_syntax.specs.Trees.{PrimitiveTree, SetPrimitive, RefreshPrimitive, GhostPrimitive, ActivePrimitive}
+use Rattle.plc_syntax.specs.Trees.{AssumePrimitive, SkipPrimitive, ArgumentTree, NoArgument, NullArgument, NameArgument}
+use Rattle.plc_syntax.specs.Trees.{ActiveArgument, FunctionTree, Declares, WatchTree, UseHazard, UseEpoch}
 
 infixl 10 ◌>>=◌
 -- what is read after what was read, if anything was
@@ -217,13 +229,16 @@ set_name_of ts = do
   v ← value_of n.1
   Some (SetName n.0 v.0, v.1)
 
+-- a field of what a name points to, and a symbol
+abbrev pub field_symbol_of : Punctuation → List TokenKind → Option ((Text × Text) × List TokenKind)
+field_symbol_of symbol ts = do
+  n ← name_symbol_of Dot ts
+  f ← name_symbol_of symbol n.1
+  Some ((n.0, f.0), f.1)
+
 -- an assignment to a field
 abbrev pub set_field_of : List TokenKind → Option (SetTree × List TokenKind)
-set_field_of ts = do
-  n ← name_symbol_of Dot ts
-  f ← name_symbol_of Assign n.1
-  a ← atom_of f.1
-  Some (SetField n.0 f.0 a.0, a.1)
+set_field_of ts = field_symbol_of Assign ts >>= λ f. read_as (SetField f.0.0 f.0.1) (atom_of f.1)
 
 -- an assignment without its semicolon
 abbrev pub set_of : List TokenKind → Option (SetTree × List TokenKind)
@@ -238,11 +253,7 @@ refresh_name_of ts = do
 
 -- a refresh into a field
 abbrev pub refresh_field_of : List TokenKind → Option (RefreshTree × List TokenKind)
-refresh_field_of ts = do
-  n ← name_symbol_of Dot ts
-  f ← name_symbol_of Refresh n.1
-  q ← name_of f.1
-  Some (RefreshField n.0 f.0 q.0, q.1)
+refresh_field_of ts = field_symbol_of Refresh ts >>= λ f. read_as (RefreshField f.0.0 f.0.1) (name_of f.1)
 
 -- a refresh without its semicolon
 abbrev pub refresh_of : List TokenKind → Option (RefreshTree × List TokenKind)
@@ -296,7 +307,8 @@ abbrev pub active_word_of : List TokenKind → Bool × List TokenKind
 active_word_of (Word Active ∷ rest) = (true, rest)
 active_word_of ts = (false, ts)
 
--- the three pointers of a cas and the parenthesis after them, where it is known whether the first is claimed to be active
+-- the three pointers of a cas and the parenthesis after them, where it is known whether the first is claimed to
+-- be active
 abbrev pub cas_of : Bool → List TokenKind → Option (ConditionTree × List TokenKind)
 cas_of is_active ts = do
   n ← name_of ts
@@ -307,7 +319,8 @@ cas_of is_active ts = do
 
 -- a condition that begins with a name: a refresh, else a test
 abbrev pub named_condition_of : List TokenKind → Option (ConditionTree × List TokenKind)
-named_condition_of ts = read_or (read_as (λ r. RefreshCondition r.0 r.1) (refresh_name_of ts)) (read_as TestCondition (test_of ts))
+named_condition_of ts =
+    read_or (read_as (λ r. RefreshCondition r.0 r.1) (refresh_name_of ts)) (read_as TestCondition (test_of ts))
 
 -- a cas, from after its first word
 abbrev pub cas_condition_of : List TokenKind → Option (ConditionTree × List TokenKind)

@@ -1,6 +1,12 @@
 -- How many tokens the forms have, so that a place after a form is the place before it and its size.
 use Rattle.std.specs.Prelude.{ℕ, ◌+◌, Bool, true, false, Option, Some, None}
-use Rattle.plc_syntax.specs.Trees.{Text, PlaceTree, PlaceOf, ValueTree, NullValue, NewValue, NumberValue, PlaceValue, SetTree, SetName, SetField, RefreshTree, RefreshName, RefreshField, InitialTree, InitialSet, InitialGhost, ConditionTree, TestCondition, RefreshCondition, CasCondition, PrimitiveTree, SetPrimitive, RefreshPrimitive, GhostPrimitive, ActivePrimitive, AssumePrimitive, SkipPrimitive, ArgumentTree, NoArgument, NullArgument, NameArgument, ActiveArgument, FunctionTree, Declares, WatchTree, UseHazard, UseEpoch}
+use Rattle.plc_syntax.specs.Trees.{Text, PlaceTree, PlaceOf, ValueTree, NullValue, NewValue, NumberValue, PlaceValue}
+use Rattle.plc_syntax.specs.Trees.{SetTree, SetName, SetField, RefreshTree, RefreshName, RefreshField, InitialTree}
+use Rattle.plc_syntax.specs.Trees.{InitialSet, InitialGhost, ConditionTree, TestCondition, RefreshCondition}
+use Rattle.plc_syntax.specs.Trees.{CasCondition, PrimitiveTree, SetPrimitive, RefreshPrimitive, GhostPrimitive}
+use Rattle.plc_syntax.specs.Trees.{ActivePrimitive, AssumePrimitive, SkipPrimitive, ArgumentTree, NoArgument}
+use Rattle.plc_syntax.specs.Trees.{NullArgument, NameArgument, ActiveArgument, FunctionTree, Declares, WatchTree}
+use Rattle.plc_syntax.specs.Trees.{UseHazard, UseEpoch}
 
 -- a place with a field has a dot and a name more
 abbrev pub place_size : PlaceTree → ℕ

@@ -1,9 +1,18 @@
--- The trees of the program's forms, and what is left after a form. Names are those of the tokens, so a form stands for the tree with their bytes.
+-- The trees of the program's forms, and what is left after a form. Names are those of the tokens, so a form
+-- stands for the tree with their bytes.
 use Rattle.std.specs.Prelude.{◌≡◌, ◌+◌, ℕ, List, length, Option, Some, None, MatchOption}
 use Rattle.std.specs.Borrow.{Bor}
 use Rattle.plc_lex.specs.declared.token.TokenKind.{TokenKind}
 use Rattle.plc_syntax.specs.Syntax.{kinds}
-use Rattle.plc_syntax.specs.Trees.{Text, FieldTree, PointerField, DataField, PlaceTree, PlaceOf, AtomTree, NullAtom, NumberAtom, NameAtom, ValueTree, NullValue, NewValue, NumberValue, PlaceValue, SetTree, SetName, SetField, RefreshTree, RefreshName, RefreshField, GhostValueTree, NameGhost, MeGhost, NoneGhost, GhostSetTree, SetGhost, InitialTree, InitialSet, InitialGhost, Comparison, SameAs, OtherThan, LessThan, NotLessThan, TestTree, Compares, ConditionTree, TestCondition, RefreshCondition, CasCondition, PrimitiveTree, SetPrimitive, RefreshPrimitive, GhostPrimitive, ActivePrimitive, AssumePrimitive, SkipPrimitive, ArgumentTree, NoArgument, NullArgument, NameArgument, ActiveArgument, FunctionTree, Declares, WatchTree, UseHazard, UseEpoch}
+use Rattle.plc_syntax.specs.Trees.{Text, FieldTree, PointerField, DataField, PlaceTree, PlaceOf, AtomTree, NullAtom}
+use Rattle.plc_syntax.specs.Trees.{NumberAtom, NameAtom, ValueTree, NullValue, NewValue, NumberValue, PlaceValue}
+use Rattle.plc_syntax.specs.Trees.{SetTree, SetName, SetField, RefreshTree, RefreshName, RefreshField, GhostValueTree}
+use Rattle.plc_syntax.specs.Trees.{NameGhost, MeGhost, NoneGhost, GhostSetTree, SetGhost, InitialTree, InitialSet}
+use Rattle.plc_syntax.specs.Trees.{InitialGhost, Comparison, SameAs, OtherThan, LessThan, NotLessThan, TestTree}
+use Rattle.plc_syntax.specs.Trees.{Compares, ConditionTree, TestCondition, RefreshCondition, CasCondition}
+use Rattle.plc_syntax.specs.Trees.{PrimitiveTree, SetPrimitive, RefreshPrimitive, GhostPrimitive, ActivePrimitive}
+use Rattle.plc_syntax.specs.Trees.{AssumePrimitive, SkipPrimitive, ArgumentTree, NoArgument, NullArgument, NameArgument}
+use Rattle.plc_syntax.specs.Trees.{ActiveArgument, FunctionTree, Declares, WatchTree, UseHazard, UseEpoch}
 use Rattle.plc_forms.specs.declared.rest.Rest.{Rest}
 use Rattle.plc_forms.specs.declared.form.Declaration.{Declaration}
 use Rattle.plc_forms.specs.declared.form.Declaration.TheVariants as declarations
@@ -54,13 +63,19 @@ pub record ReadSome {B : Type 0} (wanted : Option B) (form : B) (count : ℕ) (r
   pub read : wanted ≡ Some form
   pub after : After rest count later
 
--- an answer is what stands after a form of so many tokens, by the form's definition on the tokens' kinds, and none where that has none
+-- an answer is what stands after a form of so many tokens, by the form's definition on the tokens' kinds, and
+-- none where that has none
 abbrev pub Passes : (List TokenKind → Option (List TokenKind)) → ℕ → Rest → Option Rest → Type 0
-Passes form count rest answer = MatchOption answer (ReadNone (form (kinds rest.tokens.now))) (λ r. ReadSome (form (kinds rest.tokens.now)) (kinds r.tokens.now) count rest r)
+Passes form count rest answer =
+    MatchOption answer (ReadNone (form (kinds rest.tokens.now)))
+    (λ r. ReadSome (form (kinds rest.tokens.now)) (kinds r.tokens.now) count rest r)
 
 -- an answer is the form that is read, seen as a tree, and what stands after the tree's tokens
-abbrev pub Reads : {A B : Type 0} → (List TokenKind → Option (B × List TokenKind)) → (A → B) → (B → ℕ) → Rest → Option (A × Rest) → Type 0
-Reads form tree size rest answer = MatchOption answer (ReadNone (form (kinds rest.tokens.now))) (λ r. ReadSome (form (kinds rest.tokens.now)) (tree r.0, kinds r.1.tokens.now) (size (tree r.0)) rest r.1)
+abbrev pub Reads : {A B : Type 0} → (List TokenKind → Option (B × List TokenKind)) → (A → B) → (B → ℕ)
+    → Rest → Option (A × Rest) → Type 0
+Reads form tree size rest answer =
+    MatchOption answer (ReadNone (form (kinds rest.tokens.now)))
+    (λ r. ReadSome (form (kinds rest.tokens.now)) (tree r.0, kinds r.1.tokens.now) (size (tree r.0)) rest r.1)
 
 -- the bytes of a name that may be left out
 abbrev pub text_or_none : Option (Bor (List ℕ)) → Option Text

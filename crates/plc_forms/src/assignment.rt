@@ -2,7 +2,7 @@
 ghost use Rattle.std.specs.Prelude.{◌≡◌, ◌+◌, ◌-◌, Some, None};
 ghost use Rattle.plc_syntax.specs.Syntax.{kinds};
 ghost use Rattle.plc_forms.specs.Forms.{dot_name_of, place_of_name, place_of, value_of, atom_of};
-ghost use Rattle.plc_forms.specs.Forms.{set_name_of, set_field_of, set_of, refresh_name_of};
+ghost use Rattle.plc_forms.specs.Forms.{set_name_of, field_symbol_of, set_field_of, set_of, refresh_name_of};
 ghost use Rattle.plc_forms.specs.Forms.{refresh_field_of, refresh_of, ghost_value_of, ghost_set_of};
 ghost use Rattle.plc_forms.specs.Sizes.{place_size, value_size, set_size, refresh_size, ghost_set_size};
 ghost use Rattle.plc_forms.specs.Views.{After, place_tree, value_tree, atom_tree, set_tree, refresh_tree};
@@ -79,12 +79,20 @@ fn set_name_at<'a>(rest: Rest<'a>) -> Option<(Set<'a>, Rest<'a>)>
     Some((Set::Name(name, value), after))
 }
 
+// A field of what a name points to, and a symbol.
+fn field_symbol_at<'a>(rest: Rest<'a>, symbol: Symbol) -> Option<((&'a [u8], &'a [u8]), Rest<'a>)>
+    ensures { Reads (field_symbol_of symbol) (λ x. (x.0.now, x.1.now)) (λ _. 4) rest.entry result }
+{
+    let (name, after) = name_symbol_at(rest, Symbol::Dot)?;
+    let (field, after) = name_symbol_at(after, symbol)?;
+    Some(((name, field), after))
+}
+
 // An assignment to a field.
 fn set_field_at<'a>(rest: Rest<'a>) -> Option<(Set<'a>, Rest<'a>)>
     ensures { Reads set_field_of set_tree set_size rest.entry result }
 {
-    let (name, after) = name_symbol_at(rest, Symbol::Dot)?;
-    let (field, after) = name_symbol_at(after, Symbol::Assign)?;
+    let ((name, field), after) = field_symbol_at(rest, Symbol::Assign)?;
     let (atom, after) = atom_at(after)?;
     Some((Set::Field(name, field, atom), after))
 }
@@ -109,8 +117,7 @@ pub fn refresh_name_at<'a>(rest: Rest<'a>) -> Option<((&'a [u8], Place<'a>), Res
 fn refresh_field_at<'a>(rest: Rest<'a>) -> Option<(Refresh<'a>, Rest<'a>)>
     ensures { Reads refresh_field_of refresh_tree refresh_size rest.entry result }
 {
-    let (name, after) = name_symbol_at(rest, Symbol::Dot)?;
-    let (field, after) = name_symbol_at(after, Symbol::Refresh)?;
+    let ((name, field), after) = field_symbol_at(rest, Symbol::Refresh)?;
     let (from, after) = name_at(after)?;
     Some((Refresh::Field(name, field, from), after))
 }

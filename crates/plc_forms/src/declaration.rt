@@ -157,18 +157,18 @@ pub fn ghost_at<'a>(rest: Rest<'a>) -> Option<(&'a [u8], Rest<'a>)>
     name_at(word_at(rest, Keyword::Ghost)?)
 }
 
-/// What makes an auxiliary field one of threads.
-pub fn thread_at<'a>(rest: Rest<'a>) -> Option<Rest<'a>>
-    ensures { Passes thread_of 2 rest.entry result }
-{
-    word_symbol_at(rest, Keyword::Thread, Symbol::Semicolon)
-}
-
 /// The first value of an auxiliary field, after its brace.
 pub fn first_value_at<'a>(rest: Rest<'a>) -> Option<(&'a [u8], Rest<'a>)>
     ensures { Reads first_value_of text_of (λ _. 2) rest.entry result }
 {
     symbol_name_at(rest, Symbol::OpenBrace)
+}
+
+/// What makes an auxiliary field one of threads.
+pub fn thread_at<'a>(rest: Rest<'a>) -> Option<Rest<'a>>
+    ensures { Passes thread_of 2 rest.entry result }
+{
+    word_symbol_at(rest, Keyword::Thread, Symbol::Semicolon)
 }
 
 /// What ends the values of an auxiliary field.

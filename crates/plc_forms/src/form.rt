@@ -8,13 +8,6 @@ pub enum Declaration<'a> {
     Data(&'a [u8]),
 }
 
-/// A reclaimer function: its name, and whether it takes a pointer.
-#[derive(Clone, Copy)]
-pub struct Function<'a> {
-    pub name: &'a [u8],
-    pub takes_pointer: bool,
-}
-
 /// What the reclaimer watches.
 #[derive(Clone, Copy)]
 pub enum Watch<'a> {
@@ -22,6 +15,13 @@ pub enum Watch<'a> {
     Hazard(&'a [u8]),
     /// The functions that enter and leave an epoch.
     Epoch(&'a [u8], &'a [u8]),
+}
+
+/// A reclaimer function: its name, and whether it takes a pointer.
+#[derive(Clone, Copy)]
+pub struct Function<'a> {
+    pub name: &'a [u8],
+    pub takes_pointer: bool,
 }
 
 /// A name, or a field of what it points to.

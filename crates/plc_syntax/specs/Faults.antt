@@ -4,8 +4,8 @@ use Rattle.plc_lex.specs.declared.token.TokenKind.{TokenKind}
 use Rattle.plc_syntax.specs.Nesting.{NoneTooDeep, SyntaxFaultAt, NestingFaultAt}
 use Rattle.plc_syntax.specs.Syntax.{IsFile, OutlineFaultAt}
 
--- a fault of syntax or of nesting is at one place, tokens don't have both, and with either they are no file without blocks too deep;
--- an outline that has to stand at the front is missing at one place
+-- a fault of syntax or of nesting is at one place, tokens don't have both, and with either they are no file without
+-- blocks too deep; an outline that has to stand at the front is missing at one place
 pub record SyntaxFaultsAreOne : Type 0 where
   pub syntax_place : (ts : List TokenKind) (a b : ℕ) → SyntaxFaultAt ts a → SyntaxFaultAt ts b → a ≡ b
   pub nesting_place : (ts : List TokenKind) (a b : ℕ) → NestingFaultAt ts a → NestingFaultAt ts b → a ≡ b

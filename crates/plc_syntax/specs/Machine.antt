@@ -1,6 +1,7 @@
--- A machine that reads tokens from the left and keeps a stack of what is still to come. The row of x for t is what is still to come of x
--- after its first token t, and none where x doesn't begin with t; what may be empty is then left out. The machine never chooses, so that
--- neither following tokens nor an order of the rows enters what is said of it. It is stated for any table, since its laws rest on none.
+-- A machine that reads tokens from the left and keeps a stack of what is still to come. The row of x for t is what is
+-- still to come of x after its first token t, and none where x doesn't begin with t; what may be empty is then left
+-- out. The machine never chooses, so that neither following tokens nor an order of the rows enters what is said of it.
+-- It is stated for any table, since its laws rest on none.
 use Rattle.std.specs.Prelude.{ℕ, ◌+◌, Bool, true, false, cond, Option, Some, None, List, [], ◌∷◌, ◌++◌}
 use Rattle.std.specs.List.{list_all}
 use Rattle.plc_lex.specs.declared.token.TokenKind.{TokenKind}
@@ -10,7 +11,8 @@ use Rattle.plc_syntax.specs.declared.expected.Part.{Part as PartName}
 use Rattle.plc_syntax.specs.declared.expected.Part.TheVariants.{WholeOutline}
 use Rattle.plc_syntax.specs.Table.{after_expected, may_be_empty}
 
--- the stack after one token, from the row of its top, whether the top may be left out, and what the stack below it would become
+-- the stack after one token, from the row of its top, whether the top may be left out, and what the stack below it
+-- would become
 abbrev pub chosen : {S : Type 0} → Option (List S) → Bool → List S → Option (List S) → Option (List S)
 chosen (Some row) may_skip below below_after = Some (row ++ below)
 chosen None true below below_after = below_after
@@ -45,8 +47,8 @@ abbrev pub or_here : ℕ → Option (List Expected) → (List Expected → Optio
 or_here place None f = Some place
 or_here place (Some s) f = f s
 
--- the place of the first token that doesn't fit before all of the stack is read, the end where more has to come, and none where it is read;
--- the first token stands at the place
+-- the place of the first token that doesn't fit before all of the stack is read, the end where more has to come, and
+-- none where it is read; the first token stands at the place
 abbrev pub stuck_at : List TokenKind → List Expected → ℕ → Option ℕ
 stuck_at ts [] place = None
 stuck_at [] (x ∷ s) place = cond (list_all may_be_empty (x ∷ s)) None (Some place)

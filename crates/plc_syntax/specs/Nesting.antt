@@ -1,5 +1,6 @@
--- How deep blocks stand within one another, on tokens alone: the braces that are open before the brace of a block are those of the operation
--- and of the blocks around it, since neither the struct nor `init`, an outline or an `atomic` block holds blocks.
+-- How deep blocks stand within one another, on tokens alone: the braces that are open before the brace of a block are
+-- those of the operation and of the blocks around it, since neither the struct nor `init`, an outline or an `atomic`
+-- block holds blocks.
 use Rattle.std.specs.Prelude.{◌≡◌, ◌≢◌, ◌+◌, ◌-◌, ◌<◌, ℕ, Bool, true, false, Some, List, take, slice_get}
 use Rattle.std.specs.List.{count_by}
 use Rattle.plc_base.specs.Limits.{most}

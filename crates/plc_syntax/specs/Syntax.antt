@@ -1,5 +1,5 @@
--- Which tokens are a file's or begin with an outline's, and where others stop being so. Both are said of the trees of any form: `x_then tree rest`
--- are the tokens of a tree followed by the rest.
+-- Which tokens are a file's or begin with an outline's, and where others stop being so. Both are said of the trees of
+-- any form: `x_then tree rest` are the tokens of a tree followed by the rest.
 use Rattle.std.specs.Prelude.{◌≡◌, ℕ, ◌+◌, ◌<◌, ◌≤◌, List, [], ◌++◌, length, take, map}
 use Rattle.std.specs.List.{AllByRecursion}
 use Rattle.plc_lex.specs.declared.token.Token.{Token}
@@ -23,15 +23,18 @@ Begin {X} x_then ts = (x : X) × (rest : List TokenKind) × AllByRecursion IsKin
 abbrev pub HaveAtFront : {X : Type 0} → (X → List TokenKind → List TokenKind) → List TokenKind → Type 0
 HaveAtFront {X} x_then ts = (x : X) × (after : List TokenKind) × (ts ≡ x_then x after)
 
--- the least place with whose token no tree's tokens begin any more, or the end where the tokens begin a tree's and are none's
-pub record StopAt {X : Type 0} (x_then : X → List TokenKind → List TokenKind) (ts : List TokenKind) (place : ℕ) : Type 0 where
+-- the least place with whose token no tree's tokens begin any more, or the end where the tokens begin a tree's and are
+-- none's
+pub record StopAt {X : Type 0} (x_then : X → List TokenKind → List TokenKind) (ts : List TokenKind)
+    (place : ℕ) : Type 0 where
   pub within : place ≤ length ts
   pub goes_on : Begin x_then (take place ts)
   pub stops : place < length ts → Begin x_then (take (place + 1) ts) → ⊥
   pub unfinished : place ≡ length ts → AreWhole x_then ts → ⊥
 
 -- no tree's tokens stand at the front, and this is the place with which that is known
-pub record StopAtFront {X : Type 0} (x_then : X → List TokenKind → List TokenKind) (ts : List TokenKind) (place : ℕ) : Type 0 where
+pub record StopAtFront {X : Type 0} (x_then : X → List TokenKind → List TokenKind) (ts : List TokenKind)
+    (place : ℕ) : Type 0 where
   pub fault : StopAt x_then ts place
   pub none : HaveAtFront x_then ts → ⊥
 

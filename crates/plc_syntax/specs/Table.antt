@@ -1,6 +1,7 @@
--- The table of the machine. For each part of the grammar and each token that it may begin with: what is still to come of the part after
--- that token; none where the part doesn't begin with the token. A part that may be empty is left out where the next token doesn't fit it.
--- Where two forms begin alike, their common beginning is one row and what follows it is a part of its own.
+-- The table of the machine. For each part of the grammar and each token that it may begin with: what is still to come
+-- of the part after that token; none where the part doesn't begin with the token. A part that may be empty is left out
+-- where the next token doesn't fit it. Where two forms begin alike, their common beginning is one row and what follows
+-- it is a part of its own.
 use Rattle.std.specs.Prelude.{◌≡◌, cond, Bool, true, false, Option, Some, None, MatchOption, List, [], ◌∷◌}
 use Rattle.std.specs.Borrow.{Bor}
 use denote.Enum.Bare.{sameb}
@@ -9,11 +10,21 @@ use Rattle.plc_lex.specs.declared.token.TokenKind.{TokenKind}
 use Rattle.plc_lex.specs.declared.token.TokenKind.TheVariants as kinds
 use Rattle.plc_lex.specs.declared.token.Keyword.TheVariants as words
 use Rattle.plc_lex.specs.declared.token.Symbol.{Symbol as Punctuation}
-use Rattle.plc_lex.specs.declared.token.Symbol.TheVariants.{Assign, Refresh, Equal, Unequal, AtLeast, OpenBrace, CloseBrace, OpenParen, CloseParen, Semicolon, Comma, Dot, Colon, Less}
+use Rattle.plc_lex.specs.declared.token.Symbol.TheVariants.{Assign, Refresh, Equal, Unequal, AtLeast, OpenBrace}
+use Rattle.plc_lex.specs.declared.token.Symbol.TheVariants.{CloseBrace, OpenParen, CloseParen, Semicolon, Comma, Dot}
+use Rattle.plc_lex.specs.declared.token.Symbol.TheVariants.{Colon, Less}
 use Rattle.plc_syntax.specs.declared.expected.Expected.{Expected}
 use Rattle.plc_syntax.specs.declared.expected.Expected.TheVariants.{Name, Number, Symbol, Part}
 use Rattle.plc_syntax.specs.declared.expected.Part.{Part as PartName}
-use Rattle.plc_syntax.specs.declared.expected.Part.TheVariants.{File, Fields, Pointers, Functions, PointerWord, Use, Scheme, Ghosts, GhostKind, MoreNames, Init, InitialSets, Ops, Parameters, Statements, Block, Else, SecondBlock, FurtherBlocks, NamedTail, Argument, During, Condition, ConditionTail, ActiveWord, NameOrNull, Primitives, AssignmentTail, SetTail, FieldTail, Value, Place, DotName, Atom, GhostValue, Test, Comparison, Outline, WholeOutline, Depth, Items, Bound, SecondName, OrLiterals, Literal, Flag, Equality, Term}
+use Rattle.plc_syntax.specs.declared.expected.Part.TheVariants.{File, Fields, Pointers, Functions, PointerWord, Use}
+use Rattle.plc_syntax.specs.declared.expected.Part.TheVariants.{Scheme, Ghosts, GhostKind, MoreNames, Init, InitialSets}
+use Rattle.plc_syntax.specs.declared.expected.Part.TheVariants.{Ops, Parameters, Statements, Block, Else, SecondBlock}
+use Rattle.plc_syntax.specs.declared.expected.Part.TheVariants.{FurtherBlocks, NamedTail, Argument, During, Condition}
+use Rattle.plc_syntax.specs.declared.expected.Part.TheVariants.{ConditionTail, ActiveWord, NameOrNull, Primitives}
+use Rattle.plc_syntax.specs.declared.expected.Part.TheVariants.{AssignmentTail, SetTail, FieldTail, Value, Place}
+use Rattle.plc_syntax.specs.declared.expected.Part.TheVariants.{DotName, Atom, GhostValue, Test, Comparison, Outline}
+use Rattle.plc_syntax.specs.declared.expected.Part.TheVariants.{WholeOutline, Depth, Items, Bound, SecondName}
+use Rattle.plc_syntax.specs.declared.expected.Part.TheVariants.{OrLiterals, Literal, Flag, Equality, Term}
 
 -- an answer is this row, or none where there is none
 abbrev pub IsRow : Option (Bor (List Expected)) → Option (List Expected) → Type 0
@@ -21,7 +32,8 @@ IsRow answer row = MatchOption answer (row ≡ None) (λ found. row ≡ Some fou
 
 -- a whole file
 abbrev pub after_file : TokenKind → Option (List Expected)
-after_file (kinds.Word words.Struct) = Some (Name ∷ Symbol OpenBrace ∷ Part Fields ∷ Symbol CloseBrace ∷ Part Pointers ∷ Part Functions ∷ Part Use ∷ Part Ghosts ∷ Part Init ∷ Part Ops ∷ Part Outline ∷ [])
+after_file (kinds.Word words.Struct) = Some (Name ∷ Symbol OpenBrace ∷ Part Fields ∷ Symbol CloseBrace ∷ Part Pointers ∷
+    Part Functions ∷ Part Use ∷ Part Ghosts ∷ Part Init ∷ Part Ops ∷ Part Outline ∷ [])
 after_file _ = None
 
 -- the fields of the struct, or the locals of an operation
@@ -37,7 +49,8 @@ after_pointers _ = None
 
 -- the reclaimer's functions
 abbrev pub after_functions : TokenKind → Option (List Expected)
-after_functions (kinds.Word words.Call) = Some (Name ∷ Symbol OpenParen ∷ Part PointerWord ∷ Symbol CloseParen ∷ Symbol Semicolon ∷ Part Functions ∷ [])
+after_functions (kinds.Word words.Call) =
+    Some (Name ∷ Symbol OpenParen ∷ Part PointerWord ∷ Symbol CloseParen ∷ Symbol Semicolon ∷ Part Functions ∷ [])
 after_functions _ = None
 
 -- the word `ptr`, or nothing
@@ -53,7 +66,8 @@ after_use _ = None
 -- a reclamation scheme, from after `use`
 abbrev pub after_scheme : TokenKind → Option (List Expected)
 after_scheme (kinds.Word words.Hazard) = Some (Symbol OpenParen ∷ Name ∷ Symbol CloseParen ∷ Symbol Semicolon ∷ [])
-after_scheme (kinds.Word words.Epoch) = Some (Symbol OpenParen ∷ Name ∷ Symbol Comma ∷ Name ∷ Symbol CloseParen ∷ Symbol Semicolon ∷ [])
+after_scheme (kinds.Word words.Epoch) =
+    Some (Symbol OpenParen ∷ Name ∷ Symbol Comma ∷ Name ∷ Symbol CloseParen ∷ Symbol Semicolon ∷ [])
 after_scheme _ = None
 
 -- the auxiliary fields
@@ -80,12 +94,14 @@ after_init _ = None
 -- the assignments of the init block
 abbrev pub after_initial_sets : TokenKind → Option (List Expected)
 after_initial_sets (kinds.Name n) = Some (Part SetTail ∷ Symbol Semicolon ∷ Part InitialSets ∷ [])
-after_initial_sets (kinds.Word words.Ghost) = Some (Name ∷ Symbol Dot ∷ Name ∷ Symbol Assign ∷ Part GhostValue ∷ Symbol Semicolon ∷ Part InitialSets ∷ [])
+after_initial_sets (kinds.Word words.Ghost) =
+    Some (Name ∷ Symbol Dot ∷ Name ∷ Symbol Assign ∷ Part GhostValue ∷ Symbol Semicolon ∷ Part InitialSets ∷ [])
 after_initial_sets _ = None
 
 -- the operations
 abbrev pub after_ops : TokenKind → Option (List Expected)
-after_ops (kinds.Word words.Op) = Some (Name ∷ Symbol OpenParen ∷ Part Parameters ∷ Symbol CloseParen ∷ Symbol OpenBrace ∷ Part Fields ∷ Part Statements ∷ Symbol CloseBrace ∷ Part Ops ∷ [])
+after_ops (kinds.Word words.Op) = Some (Name ∷ Symbol OpenParen ∷ Part Parameters ∷ Symbol CloseParen ∷
+    Symbol OpenBrace ∷ Part Fields ∷ Part Statements ∷ Symbol CloseBrace ∷ Part Ops ∷ [])
 after_ops _ = None
 
 -- the parameters of an operation
@@ -93,92 +109,11 @@ abbrev pub after_parameters : TokenKind → Option (List Expected)
 after_parameters (kinds.Name n) = Some (Part MoreNames ∷ [])
 after_parameters _ = None
 
--- the statements of a block
-abbrev pub after_statements : TokenKind → Option (List Expected)
-after_statements (kinds.Name n) = Some (Part NamedTail ∷ Symbol Semicolon ∷ Part Statements ∷ [])
-after_statements (kinds.Word words.Ghost) = Some (Name ∷ Symbol Dot ∷ Name ∷ Symbol Assign ∷ Part GhostValue ∷ Symbol Semicolon ∷ Part Statements ∷ [])
-after_statements (kinds.Word words.Active) = Some (Name ∷ Symbol Semicolon ∷ Part Statements ∷ [])
-after_statements (kinds.Word words.Assume) = Some (Part Test ∷ Symbol Semicolon ∷ Part Statements ∷ [])
-after_statements (kinds.Word words.Skip) = Some (Symbol Semicolon ∷ Part Statements ∷ [])
-after_statements (kinds.Word words.Atomic) = Some (Symbol OpenBrace ∷ Part Primitives ∷ Symbol CloseBrace ∷ Part Statements ∷ [])
-after_statements (kinds.Word words.If) = Some (Symbol OpenParen ∷ Part Condition ∷ Symbol CloseParen ∷ Part Block ∷ Part Else ∷ Part Statements ∷ [])
-after_statements (kinds.Word words.Choose) = Some (Part Block ∷ Part SecondBlock ∷ Part FurtherBlocks ∷ Part Statements ∷ [])
-after_statements (kinds.Word words.Loop) = Some (Part Block ∷ Part Statements ∷ [])
-after_statements (kinds.Word words.Break) = Some (Symbol Semicolon ∷ Part Statements ∷ [])
-after_statements (kinds.Word words.Return) = Some (Symbol Semicolon ∷ Part Statements ∷ [])
-after_statements (kinds.Word words.Label) = Some (Name ∷ Symbol Semicolon ∷ Part Statements ∷ [])
-after_statements _ = None
-
--- a block in braces
-abbrev pub after_block : TokenKind → Option (List Expected)
-after_block (kinds.Symbol OpenBrace) = Some (Part Statements ∷ Symbol CloseBrace ∷ [])
-after_block _ = None
-
--- the block of an `else`, or nothing
-abbrev pub after_else : TokenKind → Option (List Expected)
-after_else (kinds.Word words.Else) = Some (Part Block ∷ [])
-after_else _ = None
-
--- the second block of a choice
-abbrev pub after_second_block : TokenKind → Option (List Expected)
-after_second_block (kinds.Word words.Or) = Some (Part Block ∷ [])
-after_second_block _ = None
-
--- further blocks of a choice
-abbrev pub after_further_blocks : TokenKind → Option (List Expected)
-after_further_blocks (kinds.Word words.Or) = Some (Part Block ∷ Part FurtherBlocks ∷ [])
-after_further_blocks _ = None
-
--- what follows the name that begins a statement
-abbrev pub after_named_tail : TokenKind → Option (List Expected)
-after_named_tail (kinds.Symbol Assign) = Some (Part Value ∷ [])
-after_named_tail (kinds.Symbol Refresh) = Some (Part Place ∷ [])
-after_named_tail (kinds.Symbol Dot) = Some (Name ∷ Part FieldTail ∷ [])
-after_named_tail (kinds.Symbol OpenParen) = Some (Part Argument ∷ Symbol CloseParen ∷ Part During ∷ [])
-after_named_tail _ = None
-
--- the argument of a call, or nothing
-abbrev pub after_argument : TokenKind → Option (List Expected)
-after_argument (kinds.Word words.Null) = Some []
-after_argument (kinds.Word words.Active) = Some (Name ∷ [])
-after_argument (kinds.Name n) = Some []
-after_argument _ = None
-
--- the label of a call, or nothing
-abbrev pub after_during : TokenKind → Option (List Expected)
-after_during (kinds.Word words.During) = Some (Name ∷ [])
-after_during _ = None
-
--- the condition of an `if`
-abbrev pub after_condition : TokenKind → Option (List Expected)
-after_condition (kinds.Name n) = Some (Part ConditionTail ∷ [])
-after_condition (kinds.Word words.Cas) = Some (Symbol OpenParen ∷ Part ActiveWord ∷ Name ∷ Symbol Comma ∷ Part NameOrNull ∷ Symbol Comma ∷ Part NameOrNull ∷ Symbol CloseParen ∷ [])
-after_condition _ = None
-
--- what follows the name that begins a condition
-abbrev pub after_condition_tail : TokenKind → Option (List Expected)
-after_condition_tail (kinds.Symbol Equal) = Some (Part Atom ∷ [])
-after_condition_tail (kinds.Symbol Unequal) = Some (Part Atom ∷ [])
-after_condition_tail (kinds.Symbol Less) = Some (Part Atom ∷ [])
-after_condition_tail (kinds.Symbol AtLeast) = Some (Part Atom ∷ [])
-after_condition_tail (kinds.Symbol Refresh) = Some (Part Place ∷ [])
-after_condition_tail _ = None
-
--- the word `active`, or nothing
-abbrev pub after_active_word : TokenKind → Option (List Expected)
-after_active_word (kinds.Word words.Active) = Some []
-after_active_word _ = None
-
--- a name or `null`
-abbrev pub after_name_or_null : TokenKind → Option (List Expected)
-after_name_or_null (kinds.Name n) = Some []
-after_name_or_null (kinds.Word words.Null) = Some []
-after_name_or_null _ = None
-
 -- the primitives of an atomic block
 abbrev pub after_primitives : TokenKind → Option (List Expected)
 after_primitives (kinds.Name n) = Some (Part AssignmentTail ∷ Symbol Semicolon ∷ Part Primitives ∷ [])
-after_primitives (kinds.Word words.Ghost) = Some (Name ∷ Symbol Dot ∷ Name ∷ Symbol Assign ∷ Part GhostValue ∷ Symbol Semicolon ∷ Part Primitives ∷ [])
+after_primitives (kinds.Word words.Ghost) =
+    Some (Name ∷ Symbol Dot ∷ Name ∷ Symbol Assign ∷ Part GhostValue ∷ Symbol Semicolon ∷ Part Primitives ∷ [])
 after_primitives (kinds.Word words.Active) = Some (Name ∷ Symbol Semicolon ∷ Part Primitives ∷ [])
 after_primitives (kinds.Word words.Assume) = Some (Part Test ∷ Symbol Semicolon ∷ Part Primitives ∷ [])
 after_primitives (kinds.Word words.Skip) = Some (Symbol Semicolon ∷ Part Primitives ∷ [])
@@ -248,6 +183,86 @@ after_comparison (kinds.Symbol Less) = Some (Part Atom ∷ [])
 after_comparison (kinds.Symbol AtLeast) = Some (Part Atom ∷ [])
 after_comparison _ = None
 
+-- the statements of a block
+abbrev pub after_statements : TokenKind → Option (List Expected)
+after_statements (kinds.Name n) = Some (Part NamedTail ∷ Symbol Semicolon ∷ Part Statements ∷ [])
+after_statements (kinds.Word words.Ghost) =
+    Some (Name ∷ Symbol Dot ∷ Name ∷ Symbol Assign ∷ Part GhostValue ∷ Symbol Semicolon ∷ Part Statements ∷ [])
+after_statements (kinds.Word words.Active) = Some (Name ∷ Symbol Semicolon ∷ Part Statements ∷ [])
+after_statements (kinds.Word words.Assume) = Some (Part Test ∷ Symbol Semicolon ∷ Part Statements ∷ [])
+after_statements (kinds.Word words.Skip) = Some (Symbol Semicolon ∷ Part Statements ∷ [])
+after_statements (kinds.Word words.Atomic) =
+    Some (Symbol OpenBrace ∷ Part Primitives ∷ Symbol CloseBrace ∷ Part Statements ∷ [])
+after_statements (kinds.Word words.If) =
+    Some (Symbol OpenParen ∷ Part Condition ∷ Symbol CloseParen ∷ Part Block ∷ Part Else ∷ Part Statements ∷ [])
+after_statements (kinds.Word words.Choose) =
+    Some (Part Block ∷ Part SecondBlock ∷ Part FurtherBlocks ∷ Part Statements ∷ [])
+after_statements (kinds.Word words.Loop) = Some (Part Block ∷ Part Statements ∷ [])
+after_statements (kinds.Word words.Break) = Some (Symbol Semicolon ∷ Part Statements ∷ [])
+after_statements (kinds.Word words.Return) = Some (Symbol Semicolon ∷ Part Statements ∷ [])
+after_statements (kinds.Word words.Label) = Some (Name ∷ Symbol Semicolon ∷ Part Statements ∷ [])
+after_statements _ = None
+
+-- a block in braces
+abbrev pub after_block : TokenKind → Option (List Expected)
+after_block (kinds.Symbol OpenBrace) = Some (Part Statements ∷ Symbol CloseBrace ∷ [])
+after_block _ = None
+
+-- the block of an `else`, or nothing
+abbrev pub after_else : TokenKind → Option (List Expected)
+after_else (kinds.Word words.Else) = Some (Part Block ∷ [])
+after_else _ = None
+
+-- the second block of a choice
+abbrev pub after_second_block : TokenKind → Option (List Expected)
+after_second_block (kinds.Word words.Or) = Some (Part Block ∷ [])
+after_second_block _ = None
+
+-- further blocks of a choice
+abbrev pub after_further_blocks : TokenKind → Option (List Expected)
+after_further_blocks (kinds.Word words.Or) = Some (Part Block ∷ Part FurtherBlocks ∷ [])
+after_further_blocks _ = None
+
+-- what follows the name that begins a statement: a call's parenthesis, or what follows the name of a primitive
+abbrev pub after_named_tail : TokenKind → Option (List Expected)
+after_named_tail (kinds.Symbol OpenParen) = Some (Part Argument ∷ Symbol CloseParen ∷ Part During ∷ [])
+after_named_tail t = after_assignment_tail t
+
+-- the argument of a call, or nothing
+abbrev pub after_argument : TokenKind → Option (List Expected)
+after_argument (kinds.Word words.Null) = Some []
+after_argument (kinds.Word words.Active) = Some (Name ∷ [])
+after_argument (kinds.Name n) = Some []
+after_argument _ = None
+
+-- the label of a call, or nothing
+abbrev pub after_during : TokenKind → Option (List Expected)
+after_during (kinds.Word words.During) = Some (Name ∷ [])
+after_during _ = None
+
+-- the condition of an `if`
+abbrev pub after_condition : TokenKind → Option (List Expected)
+after_condition (kinds.Name n) = Some (Part ConditionTail ∷ [])
+after_condition (kinds.Word words.Cas) = Some (Symbol OpenParen ∷ Part ActiveWord ∷ Name ∷ Symbol Comma ∷
+    Part NameOrNull ∷ Symbol Comma ∷ Part NameOrNull ∷ Symbol CloseParen ∷ [])
+after_condition _ = None
+
+-- what follows the name that begins a condition: a refresh, or what follows the name of a comparison
+abbrev pub after_condition_tail : TokenKind → Option (List Expected)
+after_condition_tail (kinds.Symbol Refresh) = Some (Part Place ∷ [])
+after_condition_tail t = after_comparison t
+
+-- the word `active`, or nothing
+abbrev pub after_active_word : TokenKind → Option (List Expected)
+after_active_word (kinds.Word words.Active) = Some []
+after_active_word _ = None
+
+-- a name or `null`
+abbrev pub after_name_or_null : TokenKind → Option (List Expected)
+after_name_or_null (kinds.Name n) = Some []
+after_name_or_null (kinds.Word words.Null) = Some []
+after_name_or_null _ = None
+
 -- the proof outline, whether it may be left out or not
 abbrev pub after_outline : TokenKind → Option (List Expected)
 after_outline (kinds.Word words.Outline) = Some (Symbol OpenBrace ∷ Part Depth ∷ Part Items ∷ Symbol CloseBrace ∷ [])
@@ -260,9 +275,12 @@ after_depth _ = None
 
 -- the items of the outline
 abbrev pub after_items : TokenKind → Option (List Expected)
-after_items (kinds.Word words.Inv) = Some (Part Bound ∷ Part Literal ∷ Part OrLiterals ∷ Symbol Semicolon ∷ Part Items ∷ [])
-after_items (kinds.Word words.Over) = Some (Name ∷ Symbol Colon ∷ Part Bound ∷ Part Literal ∷ Part OrLiterals ∷ Symbol Semicolon ∷ Part Items ∷ [])
-after_items (kinds.Word words.At) = Some (Name ∷ Part MoreNames ∷ Symbol Colon ∷ Part Bound ∷ Part Literal ∷ Part OrLiterals ∷ Symbol Semicolon ∷ Part Items ∷ [])
+after_items (kinds.Word words.Inv) =
+    Some (Part Bound ∷ Part Literal ∷ Part OrLiterals ∷ Symbol Semicolon ∷ Part Items ∷ [])
+after_items (kinds.Word words.Over) =
+    Some (Name ∷ Symbol Colon ∷ Part Bound ∷ Part Literal ∷ Part OrLiterals ∷ Symbol Semicolon ∷ Part Items ∷ [])
+after_items (kinds.Word words.At) = Some (Name ∷ Part MoreNames ∷ Symbol Colon ∷ Part Bound ∷ Part Literal ∷
+    Part OrLiterals ∷ Symbol Semicolon ∷ Part Items ∷ [])
 after_items _ = None
 
 -- the quantified names of a clause, or nothing

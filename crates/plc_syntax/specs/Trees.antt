@@ -1,13 +1,20 @@
--- The grammar of a file: a tree for each form, and the tokens that spell it. `x_then tree rest` is the tokens of the tree followed by the rest,
--- so that no tokens are ever joined by `++`. The forms stand in the grammar's order, but each above those that are made of it. Above each form
--- is its production: quoted words are tokens, `[ ]` is optional, `{ }*` repeats.
+-- The grammar of a file: a tree for each form, and the tokens that spell it. `x_then tree rest` is the tokens of the
+-- tree followed by the rest, so that no tokens are ever joined by `++`. The forms stand in the grammar's order, but
+-- each above those that are made of it. Above each form is its production: quoted words are tokens, `[ ]` is optional,
+-- `{ }*` repeats.
 use Rattle.std.specs.Prelude.{ℕ, Bool, true, false, Option, Some, None, List, [], ◌∷◌}
 use Rattle.plc_lex.specs.declared.token.TokenKind.{TokenKind}
 use Rattle.plc_lex.specs.declared.token.TokenKind.TheVariants.{Word, Name, Number, Symbol}
 use Rattle.plc_lex.specs.declared.token.Keyword.{Keyword}
-use Rattle.plc_lex.specs.declared.token.Keyword.TheVariants.{Struct, Ptr, Data, Shared, Call, Use, Hazard, Epoch, Ghost, Thread, Init, Op, Atomic, If, Else, Loop, Break, Return, Skip, Choose, Or, Label, During, Active, Assume, New, Null, Cas, Outline, Depth, Inv, Over, At, All, Not, Retired, Me, None as NoneWord}
+use Rattle.plc_lex.specs.declared.token.Keyword.TheVariants.{Struct, Ptr, Data, Shared, Call, Use, Hazard, Epoch, Ghost}
+use Rattle.plc_lex.specs.declared.token.Keyword.TheVariants.{Thread, Init, Op, Atomic, If, Else, Loop, Break, Return}
+use Rattle.plc_lex.specs.declared.token.Keyword.TheVariants.{Skip, Choose, Or, Label, During, Active, Assume, New, Null}
+use Rattle.plc_lex.specs.declared.token.Keyword.TheVariants.{Cas, Outline, Depth, Inv, Over, At, All, Not, Retired, Me}
+use Rattle.plc_lex.specs.declared.token.Keyword.TheVariants.{None as NoneWord}
 use Rattle.plc_lex.specs.declared.token.Symbol.{Symbol as Punctuation}
-use Rattle.plc_lex.specs.declared.token.Symbol.TheVariants.{Assign, Refresh, Equal, Unequal, AtLeast, OpenBrace, CloseBrace, OpenParen, CloseParen, Semicolon, Comma, Dot, Colon, Less}
+use Rattle.plc_lex.specs.declared.token.Symbol.TheVariants.{Assign, Refresh, Equal, Unequal, AtLeast, OpenBrace}
+use Rattle.plc_lex.specs.declared.token.Symbol.TheVariants.{CloseBrace, OpenParen, CloseParen, Semicolon, Comma, Dot}
+use Rattle.plc_lex.specs.declared.token.Symbol.TheVariants.{Colon, Less}
 
 -- the bytes of a name
 abbrev pub Text : Type 0
@@ -19,7 +26,8 @@ each_then x_then [] rest = rest
 each_then x_then (x ∷ xs) rest = x_then x (each_then x_then xs rest)
 
 -- [ x ]
-abbrev pub maybe_then : {A : Type 0} → (A → List TokenKind → List TokenKind) → Option A → List TokenKind → List TokenKind
+abbrev pub maybe_then : {A : Type 0} → (A → List TokenKind → List TokenKind) → Option A → List TokenKind
+    → List TokenKind
 maybe_then x_then None rest = rest
 maybe_then x_then (Some x) rest = x_then x rest
 
@@ -58,7 +66,8 @@ pub data FunctionTree : Type 0 where
   Declares : Text → Bool → FunctionTree
 
 abbrev pub function_then : FunctionTree → List TokenKind → List TokenKind
-function_then (Declares n takes_pointer) rest = Word Call ∷ Name n ∷ Symbol OpenParen ∷ word_if_then Ptr takes_pointer (Symbol CloseParen ∷ Symbol Semicolon ∷ rest)
+function_then (Declares n takes_pointer) rest =
+    Word Call ∷ Name n ∷ Symbol OpenParen ∷ word_if_then Ptr takes_pointer (Symbol CloseParen ∷ Symbol Semicolon ∷ rest)
 
 -- watch := "use" "hazard" "(" NAME ")" ";" | "use" "epoch" "(" NAME "," NAME ")" ";"
 pub data WatchTree : Type 0 where
@@ -67,7 +76,8 @@ pub data WatchTree : Type 0 where
 
 abbrev pub scheme_then : WatchTree → List TokenKind → List TokenKind
 scheme_then (UseHazard f) rest = Word Hazard ∷ Symbol OpenParen ∷ Name f ∷ Symbol CloseParen ∷ Symbol Semicolon ∷ rest
-scheme_then (UseEpoch e l) rest = Word Epoch ∷ Symbol OpenParen ∷ Name e ∷ Symbol Comma ∷ Name l ∷ Symbol CloseParen ∷ Symbol Semicolon ∷ rest
+scheme_then (UseEpoch e l) rest =
+    Word Epoch ∷ Symbol OpenParen ∷ Name e ∷ Symbol Comma ∷ Name l ∷ Symbol CloseParen ∷ Symbol Semicolon ∷ rest
 
 abbrev pub watch_then : WatchTree → List TokenKind → List TokenKind
 watch_then w rest = Word Use ∷ scheme_then w rest
@@ -154,7 +164,8 @@ pub data GhostSetTree : Type 0 where
   SetGhost : Text → Text → GhostValueTree → GhostSetTree
 
 abbrev pub ghost_set_then : GhostSetTree → List TokenKind → List TokenKind
-ghost_set_then (SetGhost n g v) rest = Word Ghost ∷ Name n ∷ Symbol Dot ∷ Name g ∷ Symbol Assign ∷ ghost_value_then v rest
+ghost_set_then (SetGhost n g v) rest =
+    Word Ghost ∷ Name n ∷ Symbol Dot ∷ Name g ∷ Symbol Assign ∷ ghost_value_then v rest
 
 -- init := "init" "{" { ( set | gset ) ";" }* "}"
 pub data InitialTree : Type 0 where
@@ -187,7 +198,8 @@ pub data TestTree : Type 0 where
 abbrev pub test_then : TestTree → List TokenKind → List TokenKind
 test_then (Compares n c a) rest = Name n ∷ Symbol (comparison_symbol c) ∷ atom_then a rest
 
--- cond := test | NAME "?=" NAME [ "." NAME ] | "cas" "(" [ "active" ] NAME "," ( NAME | "null" ) "," ( NAME | "null" ) ")"
+-- cond := test | NAME "?=" NAME [ "." NAME ] | "cas" "(" [ "active" ] NAME "," ( NAME | "null" ) "," ( NAME
+--    | "null" ) ")"
 abbrev pub name_or_null_then : Option Text → List TokenKind → List TokenKind
 name_or_null_then (Some n) rest = Name n ∷ rest
 name_or_null_then None rest = Word Null ∷ rest
@@ -201,7 +213,8 @@ abbrev pub condition_then : ConditionTree → List TokenKind → List TokenKind
 condition_then (TestCondition t) rest = test_then t rest
 condition_then (RefreshCondition n p) rest = Name n ∷ Symbol Refresh ∷ place_then p rest
 condition_then (CasCondition is_active n old new) rest =
-    Word Cas ∷ Symbol OpenParen ∷ word_if_then Active is_active (Name n ∷ Symbol Comma ∷ name_or_null_then old (Symbol Comma ∷ name_or_null_then new (Symbol CloseParen ∷ rest)))
+    Word Cas ∷ Symbol OpenParen ∷ word_if_then Active is_active (Name n ∷ Symbol Comma ∷ name_or_null_then old
+    (Symbol Comma ∷ name_or_null_then new (Symbol CloseParen ∷ rest)))
 
 -- prim := set | refresh | gset | "active" NAME | "assume" test | "skip"
 pub data PrimitiveTree : Type 0 where
@@ -276,11 +289,15 @@ mutual
 abbrev mutual
   pub statement_then : StatementTree → List TokenKind → List TokenKind
   statement_then (PrimitiveStatement p) rest = primitive_then p (Symbol Semicolon ∷ rest)
-  statement_then (AtomicStatement ps) rest = Word Atomic ∷ Symbol OpenBrace ∷ each_then primitive_line_then ps (Symbol CloseBrace ∷ rest)
-  statement_then (CallStatement f a d) rest = Name f ∷ Symbol OpenParen ∷ argument_then a (Symbol CloseParen ∷ maybe_then during_then d (Symbol Semicolon ∷ rest))
-  statement_then (IfStatement c b e) rest = Word If ∷ Symbol OpenParen ∷ condition_then c (Symbol CloseParen ∷ Symbol OpenBrace ∷ statements_then b (Symbol CloseBrace ∷ else_then e rest))
+  statement_then (AtomicStatement ps) rest =
+      Word Atomic ∷ Symbol OpenBrace ∷ each_then primitive_line_then ps (Symbol CloseBrace ∷ rest)
+  statement_then (CallStatement f a d) rest = Name f ∷ Symbol OpenParen ∷ argument_then a
+      (Symbol CloseParen ∷ maybe_then during_then d (Symbol Semicolon ∷ rest))
+  statement_then (IfStatement c b e) rest = Word If ∷ Symbol OpenParen ∷ condition_then c
+      (Symbol CloseParen ∷ Symbol OpenBrace ∷ statements_then b (Symbol CloseBrace ∷ else_then e rest))
   statement_then (ChooseStatement a b os) rest =
-      Word Choose ∷ Symbol OpenBrace ∷ statements_then a (Symbol CloseBrace ∷ Word Or ∷ Symbol OpenBrace ∷ statements_then b (Symbol CloseBrace ∷ or_then os rest))
+      Word Choose ∷ Symbol OpenBrace ∷ statements_then a (Symbol CloseBrace ∷ Word Or ∷ Symbol OpenBrace ∷
+      statements_then b (Symbol CloseBrace ∷ or_then os rest))
   statement_then (LoopStatement b) rest = Word Loop ∷ Symbol OpenBrace ∷ statements_then b (Symbol CloseBrace ∷ rest)
   statement_then BreakStatement rest = Word Break ∷ Symbol Semicolon ∷ rest
   statement_then ReturnStatement rest = Word Return ∷ Symbol Semicolon ∷ rest
@@ -309,7 +326,8 @@ pub data OpTree : Type 0 where
 
 abbrev pub op_then : OpTree → List TokenKind → List TokenKind
 op_then (Operates n ps locals b) rest =
-    Word Op ∷ Name n ∷ Symbol OpenParen ∷ parameters_then ps (Symbol CloseParen ∷ Symbol OpenBrace ∷ each_then field_then locals (statements_then b (Symbol CloseBrace ∷ rest)))
+    Word Op ∷ Name n ∷ Symbol OpenParen ∷ parameters_then ps (Symbol CloseParen ∷ Symbol OpenBrace ∷
+    each_then field_then locals (statements_then b (Symbol CloseBrace ∷ rest)))
 
 -- term := NAME [ "." NAME ] | "null" | NUMBER | "me" | "none"
 pub data TermTree : Type 0 where
@@ -384,7 +402,8 @@ pub data OutlineTree : Type 0 where
   Outlined : Option ℕ → List ItemTree → OutlineTree
 
 abbrev pub outline_then : OutlineTree → List TokenKind → List TokenKind
-outline_then (Outlined d items) rest = Word Outline ∷ Symbol OpenBrace ∷ maybe_then depth_then d (each_then item_then items (Symbol CloseBrace ∷ rest))
+outline_then (Outlined d items) rest =
+    Word Outline ∷ Symbol OpenBrace ∷ maybe_then depth_then d (each_then item_then items (Symbol CloseBrace ∷ rest))
 
 -- file := struct { shared }* { call }* [ watch ] { ghost }* [ init ] { op }* [ outline ]
 pub record FileTree : Type 0 where
@@ -400,8 +419,10 @@ pub record FileTree : Type 0 where
 
 abbrev pub file_then : FileTree → List TokenKind → List TokenKind
 file_then f rest =
-    struct_then f.name f.fields (each_then shared_then f.pointers (each_then function_then f.functions (maybe_then watch_then f.watched
-    (each_then ghost_then f.ghosts (maybe_then init_then f.starts (each_then op_then f.ops (maybe_then outline_then f.outlined rest)))))))
+    struct_then f.name f.fields (each_then shared_then f.pointers (each_then function_then f.functions
+    (maybe_then watch_then f.watched
+    (each_then ghost_then f.ghosts (maybe_then init_then f.starts (each_then op_then f.ops
+    (maybe_then outline_then f.outlined rest)))))))
 
 -- the tokens that spell a file
 abbrev pub file_tokens : FileTree → List TokenKind

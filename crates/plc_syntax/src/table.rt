@@ -4,9 +4,11 @@
 ghost use Rattle.std.specs.Prelude.{◌≡◌, MatchOption, Some, None, [], true, false};
 ghost use Rattle.plc_syntax.specs.Table.{IsRow, after_part, after_expected, may_be_empty};
 
-// A row, as in the definition.
-macro_rules! row {
-    ($($expected:expr),*) => { Some(&[$($expected),*]) };
+// The rows of one part, as in the definition.
+macro_rules! rows {
+    ($kind:expr; $($tokens:pat => [$($expected:expr),*]),*) => {
+        match $kind { $($tokens => Some(&[$($expected),*]),)* _ => None }
+    };
 }
 
 // The rows of each part.

@@ -16,139 +16,113 @@ use plc_lex::{Keyword, TokenKind};
 pub fn after_file(kind: &TokenKind) -> Option<&'static [Expected]>
     ensures { IsRow result (after_file kind.now) }
 {
-    match kind {
+    rows! { kind;
         TokenKind::Word(Keyword::Struct) =>
-            row! { Name, Symbol(OpenBrace), Part(Fields), Symbol(CloseBrace), Part(Pointers), Part(Functions),
-                Part(Use), Part(Ghosts), Part(Init), Part(Ops), Part(Outline) },
-        _ => None,
+            [Name, Symbol(OpenBrace), Part(Fields), Symbol(CloseBrace), Part(Pointers), Part(Functions),
+                Part(Use), Part(Ghosts), Part(Init), Part(Ops), Part(Outline)]
     }
 }
 
 pub fn after_fields(kind: &TokenKind) -> Option<&'static [Expected]>
     ensures { IsRow result (after_fields kind.now) }
 {
-    match kind {
-        TokenKind::Word(Keyword::Ptr | Keyword::Data) =>
-            row! { Name, Symbol(Semicolon), Part(Fields) },
-        _ => None,
+    rows! { kind;
+        TokenKind::Word(Keyword::Ptr | Keyword::Data) => [Name, Symbol(Semicolon), Part(Fields)]
     }
 }
 
 pub fn after_pointers(kind: &TokenKind) -> Option<&'static [Expected]>
     ensures { IsRow result (after_pointers kind.now) }
 {
-    match kind {
-        TokenKind::Word(Keyword::Shared) => row! { Name, Symbol(Semicolon), Part(Pointers) },
-        _ => None,
-    }
+    rows! { kind; TokenKind::Word(Keyword::Shared) => [Name, Symbol(Semicolon), Part(Pointers)] }
 }
 
 pub fn after_functions(kind: &TokenKind) -> Option<&'static [Expected]>
     ensures { IsRow result (after_functions kind.now) }
 {
-    match kind {
+    rows! { kind;
         TokenKind::Word(Keyword::Call) =>
-            row! { Name, Symbol(OpenParen), Part(PointerWord), Symbol(CloseParen), Symbol(Semicolon), Part(Functions) },
-        _ => None,
+            [Name, Symbol(OpenParen), Part(PointerWord), Symbol(CloseParen), Symbol(Semicolon), Part(Functions)]
     }
 }
 
 pub fn after_pointer_word(kind: &TokenKind) -> Option<&'static [Expected]>
     ensures { IsRow result (after_pointer_word kind.now) }
 {
-    match kind {
-        TokenKind::Word(Keyword::Ptr) => row! {},
-        _ => None,
-    }
+    rows! { kind; TokenKind::Word(Keyword::Ptr) => [] }
 }
 
 pub fn after_use(kind: &TokenKind) -> Option<&'static [Expected]>
     ensures { IsRow result (after_use kind.now) }
 {
-    match kind {
-        TokenKind::Word(Keyword::Use) => row! { Part(Scheme) },
-        _ => None,
-    }
+    rows! { kind; TokenKind::Word(Keyword::Use) => [Part(Scheme)] }
 }
 
 pub fn after_scheme(kind: &TokenKind) -> Option<&'static [Expected]>
     ensures { IsRow result (after_scheme kind.now) }
 {
-    match kind {
+    rows! { kind;
         TokenKind::Word(Keyword::Hazard) =>
-            row! { Symbol(OpenParen), Name, Symbol(CloseParen), Symbol(Semicolon) },
+            [Symbol(OpenParen), Name, Symbol(CloseParen), Symbol(Semicolon)],
         TokenKind::Word(Keyword::Epoch) =>
-            row! { Symbol(OpenParen), Name, Symbol(Comma), Name, Symbol(CloseParen), Symbol(Semicolon) },
-        _ => None,
+            [Symbol(OpenParen), Name, Symbol(Comma), Name, Symbol(CloseParen), Symbol(Semicolon)]
     }
 }
 
 pub fn after_ghosts(kind: &TokenKind) -> Option<&'static [Expected]>
     ensures { IsRow result (after_ghosts kind.now) }
 {
-    match kind {
-        TokenKind::Word(Keyword::Ghost) =>
-            row! { Name, Part(GhostKind), Symbol(Semicolon), Part(Ghosts) },
-        _ => None,
+    rows! { kind;
+        TokenKind::Word(Keyword::Ghost) => [Name, Part(GhostKind), Symbol(Semicolon), Part(Ghosts)]
     }
 }
 
 pub fn after_ghost_kind(kind: &TokenKind) -> Option<&'static [Expected]>
     ensures { IsRow result (after_ghost_kind kind.now) }
 {
-    match kind {
-        TokenKind::Symbol(OpenBrace) => row! { Name, Part(MoreNames), Symbol(CloseBrace) },
-        TokenKind::Word(Keyword::Thread) => row! {},
-        _ => None,
+    rows! { kind;
+        TokenKind::Symbol(OpenBrace) => [Name, Part(MoreNames), Symbol(CloseBrace)],
+        TokenKind::Word(Keyword::Thread) => []
     }
 }
 
 pub fn after_more_names(kind: &TokenKind) -> Option<&'static [Expected]>
     ensures { IsRow result (after_more_names kind.now) }
 {
-    match kind {
-        TokenKind::Symbol(Comma) => row! { Name, Part(MoreNames) },
-        _ => None,
-    }
+    rows! { kind; TokenKind::Symbol(Comma) => [Name, Part(MoreNames)] }
 }
 
 pub fn after_init(kind: &TokenKind) -> Option<&'static [Expected]>
     ensures { IsRow result (after_init kind.now) }
 {
-    match kind {
+    rows! { kind;
         TokenKind::Word(Keyword::Init) =>
-            row! { Symbol(OpenBrace), Part(InitialSets), Symbol(CloseBrace) },
-        _ => None,
+            [Symbol(OpenBrace), Part(InitialSets), Symbol(CloseBrace)]
     }
 }
 
 pub fn after_initial_sets(kind: &TokenKind) -> Option<&'static [Expected]>
     ensures { IsRow result (after_initial_sets kind.now) }
 {
-    match kind {
-        TokenKind::Name(_) => row! { Part(SetTail), Symbol(Semicolon), Part(InitialSets) },
+    rows! { kind;
+        TokenKind::Name(_) => [Part(SetTail), Symbol(Semicolon), Part(InitialSets)],
         TokenKind::Word(Keyword::Ghost) =>
-            row! { Name, Symbol(Dot), Name, Symbol(Assign), Part(GhostValue), Symbol(Semicolon), Part(InitialSets) },
-        _ => None,
+            [Name, Symbol(Dot), Name, Symbol(Assign), Part(GhostValue), Symbol(Semicolon), Part(InitialSets)]
     }
 }
 
 pub fn after_ops(kind: &TokenKind) -> Option<&'static [Expected]>
     ensures { IsRow result (after_ops kind.now) }
 {
-    match kind {
+    rows! { kind;
         TokenKind::Word(Keyword::Op) =>
-            row! { Name, Symbol(OpenParen), Part(Parameters), Symbol(CloseParen), Symbol(OpenBrace),
-                Part(Fields), Part(Statements), Symbol(CloseBrace), Part(Ops) },
-        _ => None,
+            [Name, Symbol(OpenParen), Part(Parameters), Symbol(CloseParen), Symbol(OpenBrace), Part(Fields),
+                Part(Statements), Symbol(CloseBrace), Part(Ops)]
     }
 }
 
 pub fn after_parameters(kind: &TokenKind) -> Option<&'static [Expected]>
     ensures { IsRow result (after_parameters kind.now) }
 {
-    match kind {
-        TokenKind::Name(_) => row! { Part(MoreNames) },
-        _ => None,
-    }
+    rows! { kind; TokenKind::Name(_) => [Part(MoreNames)] }
 }

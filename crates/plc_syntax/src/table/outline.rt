@@ -15,102 +15,81 @@ use plc_lex::{Keyword, TokenKind};
 pub fn after_outline(kind: &TokenKind) -> Option<&'static [Expected]>
     ensures { IsRow result (after_outline kind.now) }
 {
-    match kind {
+    rows! { kind;
         TokenKind::Word(Keyword::Outline) =>
-            row! { Symbol(OpenBrace), Part(Depth), Part(Items), Symbol(CloseBrace) },
-        _ => None,
+            [Symbol(OpenBrace), Part(Depth), Part(Items), Symbol(CloseBrace)]
     }
 }
 
 pub fn after_depth(kind: &TokenKind) -> Option<&'static [Expected]>
     ensures { IsRow result (after_depth kind.now) }
 {
-    match kind {
-        TokenKind::Word(Keyword::Depth) => row! { Number, Symbol(Semicolon) },
-        _ => None,
-    }
+    rows! { kind; TokenKind::Word(Keyword::Depth) => [Number, Symbol(Semicolon)] }
 }
 
 pub fn after_items(kind: &TokenKind) -> Option<&'static [Expected]>
     ensures { IsRow result (after_items kind.now) }
 {
-    match kind {
+    rows! { kind;
         TokenKind::Word(Keyword::Inv) =>
-            row! { Part(Bound), Part(Literal), Part(OrLiterals), Symbol(Semicolon), Part(Items) },
+            [Part(Bound), Part(Literal), Part(OrLiterals), Symbol(Semicolon), Part(Items)],
         TokenKind::Word(Keyword::Over) =>
-            row! { Name, Symbol(Colon), Part(Bound), Part(Literal), Part(OrLiterals), Symbol(Semicolon), Part(Items) },
+            [Name, Symbol(Colon), Part(Bound), Part(Literal), Part(OrLiterals), Symbol(Semicolon), Part(Items)],
         TokenKind::Word(Keyword::At) =>
-            row! { Name, Part(MoreNames), Symbol(Colon), Part(Bound), Part(Literal), Part(OrLiterals),
-                Symbol(Semicolon), Part(Items) },
-        _ => None,
+            [Name, Part(MoreNames), Symbol(Colon), Part(Bound), Part(Literal), Part(OrLiterals),
+                Symbol(Semicolon), Part(Items)]
     }
 }
 
 pub fn after_bound(kind: &TokenKind) -> Option<&'static [Expected]>
     ensures { IsRow result (after_bound kind.now) }
 {
-    match kind {
-        TokenKind::Word(Keyword::All) => row! { Name, Part(SecondName), Symbol(Colon) },
-        _ => None,
-    }
+    rows! { kind; TokenKind::Word(Keyword::All) => [Name, Part(SecondName), Symbol(Colon)] }
 }
 
 pub fn after_second_name(kind: &TokenKind) -> Option<&'static [Expected]>
     ensures { IsRow result (after_second_name kind.now) }
 {
-    match kind {
-        TokenKind::Symbol(Comma) => row! { Name },
-        _ => None,
-    }
+    rows! { kind; TokenKind::Symbol(Comma) => [Name] }
 }
 
 pub fn after_or_literals(kind: &TokenKind) -> Option<&'static [Expected]>
     ensures { IsRow result (after_or_literals kind.now) }
 {
-    match kind {
-        TokenKind::Word(Keyword::Or) => row! { Part(Literal), Part(OrLiterals) },
-        _ => None,
-    }
+    rows! { kind; TokenKind::Word(Keyword::Or) => [Part(Literal), Part(OrLiterals)] }
 }
 
 pub fn after_literal(kind: &TokenKind) -> Option<&'static [Expected]>
     ensures { IsRow result (after_literal kind.now) }
 {
-    match kind {
-        TokenKind::Word(Keyword::Not) => row! { Part(Flag) },
-        TokenKind::Word(Keyword::Retired) => row! { Symbol(OpenParen), Name, Symbol(CloseParen) },
-        TokenKind::Name(_) => row! { Part(DotName), Part(Equality) },
+    rows! { kind;
+        TokenKind::Word(Keyword::Not) => [Part(Flag)],
+        TokenKind::Word(Keyword::Retired) => [Symbol(OpenParen), Name, Symbol(CloseParen)],
+        TokenKind::Name(_) => [Part(DotName), Part(Equality)],
         TokenKind::Word(Keyword::Null | Keyword::Me | Keyword::None) | TokenKind::Number(_) =>
-            row! { Part(Equality) },
-        _ => None,
+            [Part(Equality)]
     }
 }
 
 pub fn after_flag(kind: &TokenKind) -> Option<&'static [Expected]>
     ensures { IsRow result (after_flag kind.now) }
 {
-    match kind {
-        TokenKind::Word(Keyword::Retired) => row! { Symbol(OpenParen), Name, Symbol(CloseParen) },
-        _ => None,
+    rows! { kind;
+        TokenKind::Word(Keyword::Retired) => [Symbol(OpenParen), Name, Symbol(CloseParen)]
     }
 }
 
 pub fn after_equality(kind: &TokenKind) -> Option<&'static [Expected]>
     ensures { IsRow result (after_equality kind.now) }
 {
-    match kind {
-        TokenKind::Symbol(Equal | Unequal) => row! { Part(Term) },
-        _ => None,
-    }
+    rows! { kind; TokenKind::Symbol(Equal | Unequal) => [Part(Term)] }
 }
 
 pub fn after_term(kind: &TokenKind) -> Option<&'static [Expected]>
     ensures { IsRow result (after_term kind.now) }
 {
-    match kind {
-        TokenKind::Name(_) => row! { Part(DotName) },
-        TokenKind::Word(Keyword::Null | Keyword::Me | Keyword::None) | TokenKind::Number(_) =>
-            row! {},
-        _ => None,
+    rows! { kind;
+        TokenKind::Name(_) => [Part(DotName)],
+        TokenKind::Word(Keyword::Null | Keyword::Me | Keyword::None) | TokenKind::Number(_) => []
     }
 }

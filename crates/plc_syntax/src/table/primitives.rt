@@ -14,109 +14,85 @@ use plc_lex::{Keyword, TokenKind};
 pub fn after_primitives(kind: &TokenKind) -> Option<&'static [Expected]>
     ensures { IsRow result (after_primitives kind.now) }
 {
-    match kind {
-        TokenKind::Name(_) => row! { Part(AssignmentTail), Symbol(Semicolon), Part(Primitives) },
+    rows! { kind;
+        TokenKind::Name(_) => [Part(AssignmentTail), Symbol(Semicolon), Part(Primitives)],
         TokenKind::Word(Keyword::Ghost) =>
-            row! { Name, Symbol(Dot), Name, Symbol(Assign), Part(GhostValue), Symbol(Semicolon), Part(Primitives) },
-        TokenKind::Word(Keyword::Active) => row! { Name, Symbol(Semicolon), Part(Primitives) },
-        TokenKind::Word(Keyword::Assume) =>
-            row! { Part(Test), Symbol(Semicolon), Part(Primitives) },
-        TokenKind::Word(Keyword::Skip) => row! { Symbol(Semicolon), Part(Primitives) },
-        _ => None,
+            [Name, Symbol(Dot), Name, Symbol(Assign), Part(GhostValue), Symbol(Semicolon), Part(Primitives)],
+        TokenKind::Word(Keyword::Active) => [Name, Symbol(Semicolon), Part(Primitives)],
+        TokenKind::Word(Keyword::Assume) => [Part(Test), Symbol(Semicolon), Part(Primitives)],
+        TokenKind::Word(Keyword::Skip) => [Symbol(Semicolon), Part(Primitives)]
     }
 }
 
 pub fn after_assignment_tail(kind: &TokenKind) -> Option<&'static [Expected]>
     ensures { IsRow result (after_assignment_tail kind.now) }
 {
-    match kind {
-        TokenKind::Symbol(Assign) => row! { Part(Value) },
-        TokenKind::Symbol(Refresh) => row! { Part(Place) },
-        TokenKind::Symbol(Dot) => row! { Name, Part(FieldTail) },
-        _ => None,
+    rows! { kind;
+        TokenKind::Symbol(Assign) => [Part(Value)],
+        TokenKind::Symbol(Refresh) => [Part(Place)],
+        TokenKind::Symbol(Dot) => [Name, Part(FieldTail)]
     }
 }
 
 pub fn after_set_tail(kind: &TokenKind) -> Option<&'static [Expected]>
     ensures { IsRow result (after_set_tail kind.now) }
 {
-    match kind {
-        TokenKind::Symbol(Assign) => row! { Part(Value) },
-        TokenKind::Symbol(Dot) => row! { Name, Symbol(Assign), Part(Atom) },
-        _ => None,
+    rows! { kind;
+        TokenKind::Symbol(Assign) => [Part(Value)],
+        TokenKind::Symbol(Dot) => [Name, Symbol(Assign), Part(Atom)]
     }
 }
 
 pub fn after_field_tail(kind: &TokenKind) -> Option<&'static [Expected]>
     ensures { IsRow result (after_field_tail kind.now) }
 {
-    match kind {
-        TokenKind::Symbol(Assign) => row! { Part(Atom) },
-        TokenKind::Symbol(Refresh) => row! { Name },
-        _ => None,
+    rows! { kind;
+        TokenKind::Symbol(Assign) => [Part(Atom)],
+        TokenKind::Symbol(Refresh) => [Name]
     }
 }
 
 pub fn after_value(kind: &TokenKind) -> Option<&'static [Expected]>
     ensures { IsRow result (after_value kind.now) }
 {
-    match kind {
-        TokenKind::Word(Keyword::Null | Keyword::New) | TokenKind::Number(_) => row! {},
-        TokenKind::Name(_) => row! { Part(DotName) },
-        _ => None,
+    rows! { kind;
+        TokenKind::Word(Keyword::Null | Keyword::New) | TokenKind::Number(_) => [],
+        TokenKind::Name(_) => [Part(DotName)]
     }
 }
 
 pub fn after_place(kind: &TokenKind) -> Option<&'static [Expected]>
     ensures { IsRow result (after_place kind.now) }
 {
-    match kind {
-        TokenKind::Name(_) => row! { Part(DotName) },
-        _ => None,
-    }
+    rows! { kind; TokenKind::Name(_) => [Part(DotName)] }
 }
 
 pub fn after_dot_name(kind: &TokenKind) -> Option<&'static [Expected]>
     ensures { IsRow result (after_dot_name kind.now) }
 {
-    match kind {
-        TokenKind::Symbol(Dot) => row! { Name },
-        _ => None,
-    }
+    rows! { kind; TokenKind::Symbol(Dot) => [Name] }
 }
 
 pub fn after_atom(kind: &TokenKind) -> Option<&'static [Expected]>
     ensures { IsRow result (after_atom kind.now) }
 {
-    match kind {
-        TokenKind::Word(Keyword::Null) | TokenKind::Number(_) | TokenKind::Name(_) => row! {},
-        _ => None,
-    }
+    rows! { kind; TokenKind::Word(Keyword::Null) | TokenKind::Number(_) | TokenKind::Name(_) => [] }
 }
 
 pub fn after_ghost_value(kind: &TokenKind) -> Option<&'static [Expected]>
     ensures { IsRow result (after_ghost_value kind.now) }
 {
-    match kind {
-        TokenKind::Name(_) | TokenKind::Word(Keyword::Me | Keyword::None) => row! {},
-        _ => None,
-    }
+    rows! { kind; TokenKind::Name(_) | TokenKind::Word(Keyword::Me | Keyword::None) => [] }
 }
 
 pub fn after_test(kind: &TokenKind) -> Option<&'static [Expected]>
     ensures { IsRow result (after_test kind.now) }
 {
-    match kind {
-        TokenKind::Name(_) => row! { Part(Comparison) },
-        _ => None,
-    }
+    rows! { kind; TokenKind::Name(_) => [Part(Comparison)] }
 }
 
 pub fn after_comparison(kind: &TokenKind) -> Option<&'static [Expected]>
     ensures { IsRow result (after_comparison kind.now) }
 {
-    match kind {
-        TokenKind::Symbol(Equal | Unequal | Less | AtLeast) => row! { Part(Atom) },
-        _ => None,
-    }
+    rows! { kind; TokenKind::Symbol(Equal | Unequal | Less | AtLeast) => [Part(Atom)] }
 }
