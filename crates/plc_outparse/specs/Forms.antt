@@ -3,10 +3,15 @@
 use Rattle.std.specs.Prelude.{ℕ, Bool, true, false, Option, Some, None, List, ◌∷◌}
 use Rattle.plc_lex.specs.declared.token.TokenKind.{TokenKind}
 use Rattle.plc_lex.specs.declared.token.TokenKind.TheVariants.{Word, Number, Symbol}
-use Rattle.plc_lex.specs.declared.token.Keyword.TheVariants.{Or, Null, Outline, Depth, Inv, Over, At, All, Not, Retired, Me, None as NoneWord}
-use Rattle.plc_lex.specs.declared.token.Symbol.TheVariants.{Equal, Unequal, OpenBrace, OpenParen, CloseParen, Semicolon, Colon}
-use Rattle.plc_syntax.specs.Trees.{Text, TermTree, PlaceTerm, NullTerm, NumberTerm, MeTerm, NoneTerm, FlagTree, RetiredFlag, LiteralTree, FlagLiteral, NotLiteral, EqualityLiteral, BoundTree, NoBound, AllOf}
-use Rattle.plc_forms.specs.Forms.{◌>>=◌, read_as, word_of, symbol_of, name_of, word_symbol_of, name_symbol_of, comma_name_of, name_or_none, place_of}
+use Rattle.plc_lex.specs.declared.token.Keyword.TheVariants.{Or, Null, Outline, Depth, Inv, Over, At, All, Not, Retired}
+use Rattle.plc_lex.specs.declared.token.Keyword.TheVariants.{Me, None as NoneWord}
+use Rattle.plc_lex.specs.declared.token.Symbol.TheVariants.{Equal, Unequal, OpenBrace, OpenParen, CloseParen, Semicolon}
+use Rattle.plc_lex.specs.declared.token.Symbol.TheVariants.{Colon}
+use Rattle.plc_syntax.specs.Trees.{Text, TermTree, PlaceTerm, NullTerm, NumberTerm, MeTerm, NoneTerm, FlagTree}
+use Rattle.plc_syntax.specs.Trees.{RetiredFlag, LiteralTree, FlagLiteral, NotLiteral, EqualityLiteral, BoundTree}
+use Rattle.plc_syntax.specs.Trees.{NoBound, AllOf}
+use Rattle.plc_forms.specs.Forms.{◌>>=◌, read_as, word_of, symbol_of, name_of, word_symbol_of, name_symbol_of}
+use Rattle.plc_forms.specs.Forms.{comma_name_of, name_or_none, place_of}
 
 -- ---- literals
 

@@ -1,14 +1,18 @@
 -- What the trees of an outline mean. A tree stands at a place, the number of tokens before it, and parts that
 -- follow one another hand the place on. Each name is looked up where it stands, from left to right, so the first
 -- fault is the one at the least token.
-use Rattle.std.specs.Prelude.{◌==◌, ◌||◌, ◌+◌, ℕ, Bool, true, false, if◌then◌else◌, List, [], ◌∷◌, ◌++◌, length, Option, Some, None, Result, Ok, Err}
+use Rattle.std.specs.Prelude.{◌==◌, ◌||◌, ◌+◌, ℕ, Bool, true, false, if◌then◌else◌, List, [], ◌∷◌, ◌++◌, length, Option}
+use Rattle.std.specs.Prelude.{Some, None, Result, Ok, Err}
 use Rattle.std.specs.List.{position_from}
 use Rattle.plc_base.specs.Names.{NameList, place_of}
 use Rattle.plc_base.specs.declared.limits.What1.TheVariants as limits
 use Rattle.plc_lang.specs.declared.syntax.Local.{Local}
 use Rattle.plc_lang.specs.declared.syntax.Op.{Op}
 use Rattle.plc_lang.specs.Locals.{locals_of}
-use Rattle.plc_syntax.specs.Trees.{Text, PlaceTree, PlaceOf, TermTree, PlaceTerm, NullTerm, NumberTerm, MeTerm, NoneTerm, FlagTree, RetiredFlag, LiteralTree, FlagLiteral, NotLiteral, EqualityLiteral, BoundTree, NoBound, AllOf, ClauseTree, Claims, ItemTree, InvariantItem, OverItem, AtItem, OutlineTree, Outlined}
+use Rattle.plc_syntax.specs.Trees.{Text, PlaceTree, PlaceOf, TermTree, PlaceTerm, NullTerm, NumberTerm, MeTerm}
+use Rattle.plc_syntax.specs.Trees.{NoneTerm, FlagTree, RetiredFlag, LiteralTree, FlagLiteral, NotLiteral}
+use Rattle.plc_syntax.specs.Trees.{EqualityLiteral, BoundTree, NoBound, AllOf, ClauseTree, Claims, ItemTree}
+use Rattle.plc_syntax.specs.Trees.{InvariantItem, OverItem, AtItem, OutlineTree, Outlined}
 use Rattle.plc_scope.specs.declared.fault.ParseFault.{ParseFault}
 use Rattle.plc_scope.specs.declared.fault.ParseFault.TheVariants as faults
 use Rattle.plc_scope.specs.declared.scope.Scope.{Scope}

@@ -2,7 +2,8 @@
 -- Whether they are an outline's is known before that, so after it each form stands where it is wanted, and the
 -- faults of syntax there are never the answer. The trees' meaning is what is read of their tokens
 -- (`proofs/Law.antt`).
-use Rattle.std.specs.Prelude.{◌+◌, ℕ, zero, suc, Bool, true, false, Option, Some, None, Result, Ok, Err, List, [], ◌∷◌, length}
+use Rattle.std.specs.Prelude.{◌+◌, ℕ, zero, suc, Bool, true, false, Option, Some, None, Result, Ok, Err, List, [], ◌∷◌}
+use Rattle.std.specs.Prelude.{length}
 use Rattle.plc_base.specs.declared.limits.What1.TheVariants as limits
 use Rattle.plc_lex.specs.declared.token.TokenKind.{TokenKind}
 use Rattle.plc_lang.specs.declared.syntax.Local.{Local}
@@ -18,13 +19,15 @@ use Rattle.plc_scope.specs.Scope.{◌>>=◌}
 use Rattle.plc_logic.specs.declared.clause.Clause.{Clause}
 use Rattle.plc_logic.specs.declared.clause.Site.TheVariants.{Over, At}
 use Rattle.plc_logic.specs.declared.clause.Outline.{Outline}
-use Rattle.plc_outparse.specs.Forms.{literal_of, or_literal_of, bound_of, HeadTree, InvariantHead, OverHead, AtHead, item_head_of, colon_of, outline_head_of, depth_of}
+use Rattle.plc_outparse.specs.Forms.{literal_of, or_literal_of, bound_of, HeadTree, InvariantHead, OverHead, AtHead}
+use Rattle.plc_outparse.specs.Forms.{item_head_of, colon_of, outline_head_of, depth_of}
 use Rattle.plc_outparse.specs.Sizes.{literal_size, bound_size, depth_size}
 use Rattle.plc_outparse.specs.Reach.{Reach}
 use Rattle.plc_lang.specs.Labels.{labels_by_op}
 use Rattle.plc_scope.specs.Limits.{within_limit}
 use Rattle.plc_lang.specs.Locals.{locals_of}
-use Rattle.plc_outparse.specs.Meaning.{literal_means, Literals, literal_step, bound_means, reach, op_at, label_at, Labels, label_step, Parts, with_invariant, with_item, depth_means}
+use Rattle.plc_outparse.specs.Meaning.{literal_means, Literals, literal_step, bound_means, reach, op_at, label_at}
+use Rattle.plc_outparse.specs.Meaning.{Labels, label_step, Parts, with_invariant, with_item, depth_means}
 
 -- what is meant, and the tokens after
 abbrev pub followed_by : {A : Type 0} → List TokenKind → Result A ParseFault → ReadTo A

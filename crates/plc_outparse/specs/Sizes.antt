@@ -1,6 +1,7 @@
 -- How many tokens the forms of an outline have, so that a place after a form is the place before it and its size.
 use Rattle.std.specs.Prelude.{ℕ, ◌+◌, Option, Some, None}
-use Rattle.plc_syntax.specs.Trees.{TermTree, PlaceTerm, NullTerm, NumberTerm, MeTerm, NoneTerm, LiteralTree, FlagLiteral, NotLiteral, EqualityLiteral, BoundTree, NoBound, AllOf}
+use Rattle.plc_syntax.specs.Trees.{TermTree, PlaceTerm, NullTerm, NumberTerm, MeTerm, NoneTerm, LiteralTree}
+use Rattle.plc_syntax.specs.Trees.{FlagLiteral, NotLiteral, EqualityLiteral, BoundTree, NoBound, AllOf}
 use Rattle.plc_forms.specs.Sizes.{place_size}
 use Rattle.plc_outparse.specs.Forms.{HeadTree, InvariantHead, OverHead, AtHead}
 

@@ -17,27 +17,23 @@ use crate::form::{LiteralForm, Parsed, Quantified};
 use crate::literal_form::{literal_at, or_literal_at, quantified_at};
 use crate::reach::{Reach, declared_kind};
 use crate::term::literal;
-use plc_base::{Items, MOST_BOUND, NameFault, Names, What1};
+use plc_base::{Items, MOST_BOUND, Names, What1};
 use plc_forms::{Rest, semicolon_at};
 use plc_lang::Local;
 use plc_logic::{Clause, Literal};
-use plc_scope::{ParseFault, Scope};
+use plc_scope::{ParseFault, Scope, add_name};
 use std::alloc::Global;
 
-// A name that differs from all before.
-fn add_name(names: &mut Names, name: &[u8], at: u32) -> Result<(), ParseFault>
+// A quantified name that differs from those before.
+fn add_bound(names: &mut Names, name: &[u8], at: u32) -> Result<(), ParseFault>
     requires { HasRoomForBound names.old 1 }
     ensures read { Gives (λ _. names.new) result
         (if_new (place_of name.now names.old.names) at (with_last names.old name.now)) }
     ensures room { IfOk result (λ _. HasRoomForBound names.new 0) }
     ensures more { HasRoomForBound names.old 2 → IfOk result (λ _. HasRoomForBound names.new 1) }
 {
-    match names.add(name) {
-        Ok(_) => Ok(()),
-        Err(NameFault::Duplicate { .. }) => Err(ParseFault::Duplicate { at }),
-        Err(NameFault::Full { .. }) => unreachable!(),
-        Err(NameFault::Memory) => Err(ParseFault::Memory),
-    }
+    add_name(names, name, at)?;
+    Ok(())
 }
 
 // A quantified name, which no name in reach has.
@@ -56,7 +52,7 @@ fn bind(
 {
     match declared_kind(scope, locals, name) {
         Some(_) => Err(ParseFault::Duplicate { at }),
-        None => add_name(bound, name, at),
+        None => add_bound(bound, name, at),
     }
 }
 

@@ -3,7 +3,8 @@ ghost use Rattle.std.specs.Prelude.{◌≡◌, ◌+◌, ◌-◌, MatchOption, So
 ghost use Rattle.plc_syntax.specs.Syntax.{kinds};
 ghost use Rattle.plc_syntax.specs.Trees.{RetiredFlag};
 ghost use Rattle.plc_forms.specs.Views.{After, text_or_none, Reads};
-ghost use Rattle.plc_outparse.specs.Forms.{term_of, equality_of, flag_of, equation_of, literal_of, or_literal_of, further_name_of, all_names_of, bound_of};
+ghost use Rattle.plc_outparse.specs.Forms.{term_of, equality_of, flag_of, equation_of, literal_of, or_literal_of};
+ghost use Rattle.plc_outparse.specs.Forms.{further_name_of, all_names_of, bound_of};
 ghost use Rattle.plc_outparse.specs.Sizes.{term_size, literal_size, bound_size};
 ghost use Rattle.plc_outparse.specs.Views.{side_tree, literal_tree, quantified_tree};
 

@@ -3,7 +3,8 @@
 ghost use Rattle.std.specs.Prelude.{◌≡◌, ◌≤◌, ◌<◌, length};
 ghost use Rattle.plc_scope.specs.Answers.{Gives};
 ghost use Rattle.plc_scope.specs.Scope.{most_locals};
-ghost use Rattle.plc_outparse.specs.Reach.{auxiliary_sort, kind_outside, kind_of_local, kind_inside, declared_at, declared_kind, kind_of, known, base_at};
+ghost use Rattle.plc_outparse.specs.Reach.{auxiliary_sort, kind_outside, kind_of_local, kind_inside, declared_at};
+ghost use Rattle.plc_outparse.specs.Reach.{declared_kind, kind_of, known, base_at};
 ghost use Rattle.plc_outparse.specs.Views.{reach_of};
 
 use crate::kind::Kind;

@@ -6,5 +6,6 @@ pub mod Fit
 pub mod Reading
 pub mod Growth
 pub mod Views
+pub mod Kinds
 pub mod Turns
 pub mod Front

@@ -9,7 +9,7 @@ ghost use Rattle.plc_outparse.specs.Views.{kinds_left};
 ghost use Rattle.plc_parse.specs.Views.{read_in};
 
 use crate::declaration::declare;
-use crate::lists::{Listed, read_listed};
+use crate::lists::{Listed, Turn, read_listed};
 use plc_base::{Items, What1};
 use plc_forms::{Rest, comma_name_at, first_value_at, ghost_at, thread_at, values_end_at};
 use plc_lang::Ghost;
@@ -168,31 +168,18 @@ fn read_ghost<'a>(
 struct AuxiliaryFields;
 
 impl Listed for AuxiliaryFields {
-    ghost use Rattle.plc_base.specs.declared.limits.What1.TheVariants.{Ghosts};
-    ghost use Rattle.plc_base.specs.Limits.{most};
-    ghost use Rattle.plc_syntax.specs.Trees.{Text};
-    ghost use Rattle.plc_forms.specs.Forms.{ghost_of};
-    ghost use Rattle.plc_parse.specs.Growth.{ghost_names};
-    ghost use Rattle.plc_parse.specs.Reading.{ghost_in};
+    ghost use Rattle.plc_parse.specs.Kinds.{auxiliary_fields};
 
     type Item = Ghost;
 
-    ghost Head = { Text };
-
-    ghost head = { ghost_of };
-
-    ghost body = { ghost_in };
-
-    ghost limit = { most Ghosts };
-
-    ghost names = { ghost_names };
+    ghost kind = { auxiliary_fields };
 
     fn next<'a>(
         alloc: Global,
         scope: &mut Scope,
         count: usize,
         start: Rest<'a>,
-    ) -> Result<Option<(Ghost, Rest<'a>)>, ParseFault> {
+    ) -> Turn<'a, Ghost> {
         let Some((name, after)) = ghost_at(start) else {
             return Ok(None);
         };

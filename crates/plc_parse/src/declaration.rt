@@ -2,18 +2,15 @@
 // is read.
 ghost use Rattle.std.specs.Prelude.{◌≡◌, ◌+◌, ◌<◌, ◌≤◌, ◌^◌, IfOk, length};
 ghost use Rattle.plc_base.specs.Limits.{most};
-ghost use Rattle.plc_base.specs.declared.limits.What1.TheVariants as limits;
-ghost use Rattle.plc_syntax.specs.Trees.{Text, FieldTree, FunctionTree};
-ghost use Rattle.plc_forms.specs.Forms.{field_of, shared_of, function_of};
 ghost use Rattle.plc_forms.specs.Sizes.{function_size};
 ghost use Rattle.plc_forms.specs.Views.{field_tree, function_tree};
 ghost use Rattle.plc_scope.specs.Answers.{Gives, HasRoom, GrowsBy};
 ghost use Rattle.plc_scope.specs.Scope.{declared};
 ghost use Rattle.plc_parse.specs.Growth.{AddsNames, KeepsLists};
+ghost use Rattle.plc_parse.specs.Kinds.{fields, shared_pointers, functions};
 ghost use Rattle.plc_parse.specs.Meaning.{field_means, shared_means, function_means};
-ghost use Rattle.plc_parse.specs.Reading.{judged};
 
-use crate::lists::Listed;
+use crate::lists::{Listed, Turn};
 use plc_base::{FieldId, FuncId, What1};
 use plc_forms::{Declaration, Function, Rest, declaration_at, function_at, shared_at};
 use plc_lang::{Field, Func};
@@ -75,22 +72,14 @@ pub struct Fields;
 impl Listed for Fields {
     type Item = Field;
 
-    ghost Head = { FieldTree };
-
-    ghost head = { field_of };
-
-    ghost body = { judged field_means };
-
-    ghost limit = { most limits.Fields };
-
-    ghost names = { 1 };
+    ghost kind = { fields };
 
     fn next<'a>(
         _alloc: Global,
         scope: &mut Scope,
         count: usize,
         start: Rest<'a>,
-    ) -> Result<Option<(Field, Rest<'a>)>, ParseFault> {
+    ) -> Turn<'a, Field> {
         let Some((declaration, after)) = declaration_at(start) else {
             return Ok(None);
         };
@@ -120,22 +109,9 @@ pub struct SharedPointers;
 impl Listed for SharedPointers {
     type Item = u16;
 
-    ghost Head = { Text };
+    ghost kind = { shared_pointers };
 
-    ghost head = { shared_of };
-
-    ghost body = { judged shared_means };
-
-    ghost limit = { most limits.Shared };
-
-    ghost names = { 1 };
-
-    fn next<'a>(
-        _alloc: Global,
-        scope: &mut Scope,
-        count: usize,
-        start: Rest<'a>,
-    ) -> Result<Option<(u16, Rest<'a>)>, ParseFault> {
+    fn next<'a>(_alloc: Global, scope: &mut Scope, count: usize, start: Rest<'a>) -> Turn<'a, u16> {
         let Some((name, after)) = shared_at(start) else {
             return Ok(None);
         };
@@ -174,22 +150,14 @@ pub struct Functions;
 impl Listed for Functions {
     type Item = Func;
 
-    ghost Head = { FunctionTree };
-
-    ghost head = { function_of };
-
-    ghost body = { judged function_means };
-
-    ghost limit = { most limits.Calls };
-
-    ghost names = { 1 };
+    ghost kind = { functions };
 
     fn next<'a>(
         _alloc: Global,
         scope: &mut Scope,
         count: usize,
         start: Rest<'a>,
-    ) -> Result<Option<(Func, Rest<'a>)>, ParseFault> {
+    ) -> Turn<'a, Func> {
         let Some((function, after)) = function_at(start) else {
             return Ok(None);
         };

@@ -15,27 +15,19 @@ use plc_outparse::Parsed;
 use plc_scope::{ParseFault, Scope};
 use std::alloc::Global;
 
-/// A kind of declarations that are listed: how one begins, what it is read as, how many there may be,
-/// and how many names each may declare.
+/// What one turn reads: a declaration and what is after it, or none.
+pub type Turn<'a, T> = Result<Option<(T, Rest<'a>)>, ParseFault>;
+
+/// A kind of declarations that are listed.
 pub trait Listed {
-    ghost use Rattle.std.specs.Prelude.{◌≤◌, ◌≡◌, ℕ, List, Option, Some};
-    ghost use Rattle.plc_lex.specs.declared.token.TokenKind.{TokenKind};
+    ghost use Rattle.std.specs.Prelude.{◌≤◌};
     ghost use Rattle.plc_scope.specs.Answers.{HasRoom};
-    ghost use Rattle.plc_scope.specs.Read.{ReadTo};
-    ghost use Rattle.plc_scope.specs.declared.scope.Scope.{Scope};
+    ghost use Rattle.plc_parse.specs.Kinds.{Kind};
     ghost use Rattle.plc_parse.specs.Turns.{TurnRead};
 
     type Item: Drop;
 
-    ghost Head: { Type 0 };
-
-    ghost head: { List TokenKind → Option (Head × List TokenKind) };
-
-    ghost body: { Scope → ℕ → ℕ → Head → List TokenKind → ReadTo (Self.Item × Scope × ℕ) };
-
-    ghost limit: { ℕ };
-
-    ghost names: { ℕ };
+    ghost kind: { Kind Self.Item };
 
     /// The next declaration, with so many before it, and what is after it; none where none begins.
     fn next<'a>(
@@ -43,10 +35,10 @@ pub trait Listed {
         scope: &mut Scope,
         count: usize,
         start: Rest<'a>,
-    ) -> Result<Option<(Self::Item, Rest<'a>)>, ParseFault>
-        requires few { count ≤ limit }
-        requires room { HasRoom scope.old names }
-        ensures { TurnRead head body limit names scope.old count start.entry result scope.new };
+    ) -> Turn<'a, Self::Item>
+        requires few { count ≤ kind.limit }
+        requires room { HasRoom scope.old kind.names }
+        ensures { TurnRead kind.head kind.body kind.limit kind.names scope.old count start.entry result scope.new };
 }
 
 /// Declarations while one begins.
@@ -55,10 +47,11 @@ pub fn read_listed<'a, L: Listed>(
     scope: &mut Scope,
     start: Rest<'a>,
 ) -> Parsed<'a, Items<L::Item>>
-    requires { HasRoom scope.old (L.names * (L.limit + 1)) }
+    requires { HasRoom scope.old (L.kind.names * (L.kind.limit + 1)) }
     ensures read { Gives (λ r. read_in r.0 scope.new r.1) result
-        (listed_in L.head L.body L.limit scope.old start.entry.at (kinds_left start.entry)) }
-    ensures declares { IfOk result (λ r. AddsNamesWithin scope.old scope.new (L.names * L.limit) start.entry r.1) }
+        (listed_in L.kind.head L.kind.body L.kind.limit scope.old start.entry.at (kinds_left start.entry)) }
+    ensures declares { IfOk result (λ r.
+        AddsNamesWithin scope.old scope.new (L.kind.names * L.kind.limit) start.entry r.1) }
 {
     let mut items = Items::new(alloc);
     let mut rest = start;

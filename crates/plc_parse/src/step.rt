@@ -93,6 +93,9 @@ impl Step {
     }
 }
 
+/// What a form means, and what is after it; none where no form stands.
+type FormAt<'a> = Option<(Result<Option<Prim>, ParseFault>, Rest<'a>)>;
+
 /// The forms that a step is made of, each with its semicolon.
 trait StepForms {
     ghost use Rattle.std.specs.Prelude.{◌≡◌, ◌<◌, ◌≤◌, ℕ, List, Option, Some, None, Result, MatchOption, length};
@@ -112,11 +115,8 @@ trait StepForms {
 
     ghost size: { Tree → ℕ };
 
-    /// What the form at the front means, and what is after it; none where no form stands there.
-    fn next<'a>(
-        scope: &Scope,
-        start: Rest<'a>,
-    ) -> Option<(Result<Option<Prim>, ParseFault>, Rest<'a>)>
+    /// The form at the front.
+    fn next<'a>(scope: &Scope, start: Rest<'a>) -> FormAt<'a>
         requires { length scope.now.locals ≤ most_locals }
         ensures { MatchOption result (item (kinds start.entry.tokens.now) ≡ None)
             (λ r. FormRead item (means scope.now) size start.entry r.0 r.1) };
@@ -137,10 +137,7 @@ impl StepForms for AtomicForms {
 
     ghost size = { primitive_size };
 
-    fn next<'a>(
-        scope: &Scope,
-        start: Rest<'a>,
-    ) -> Option<(Result<Option<Prim>, ParseFault>, Rest<'a>)> {
+    fn next<'a>(scope: &Scope, start: Rest<'a>) -> FormAt<'a> {
         let (form, after) = primitive_line_at(start)?;
         Some((primitive(scope, start.at, form), after))
     }
@@ -160,10 +157,7 @@ impl StepForms for InitialForms {
 
     ghost size = { initial_size };
 
-    fn next<'a>(
-        scope: &Scope,
-        start: Rest<'a>,
-    ) -> Option<(Result<Option<Prim>, ParseFault>, Rest<'a>)> {
+    fn next<'a>(scope: &Scope, start: Rest<'a>) -> FormAt<'a> {
         let (form, after) = initial_line_at(start)?;
         Some((initial(scope, start.at, form), after))
     }

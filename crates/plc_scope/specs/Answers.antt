@@ -1,4 +1,5 @@
--- How the program's answers speak of what the specification says, what is left of the tokens, and how the list of names grows.
+-- How the program's answers speak of what the specification says, what is left of the tokens, and how the list of names
+-- grows.
 use Rattle.std.specs.Prelude.{◌≡◌, ◌+◌, ◌≤◌, ◌<◌, ℕ, length, Result, Ok, Err}
 use Rattle.plc_forms.specs.declared.rest.Rest.{Rest}
 use Rattle.plc_scope.specs.declared.fault.ParseFault.{ParseFault}

@@ -9,7 +9,8 @@ use Rattle.plc_scope.specs.declared.fault.ParseFault.TheVariants as faults
 abbrev pub within_limit : {A : Type 0} → ℕ → What1 → Result A ParseFault → Result A ParseFault
 within_limit n what next = if n == most what then Err (faults.Limit what (most what + 1)) else next
 
--- whether a fault is at a token: where the first token of a form past the limit is at fault itself, that goes before the limit
+-- whether a fault is at a token: where the first token of a form past the limit is at fault itself, that goes before
+-- the limit
 abbrev pub stands_at : ℕ → ParseFault → Bool
 stands_at at (faults.Undeclared k) = k == at
 stands_at at (faults.Duplicate k) = k == at

@@ -1,10 +1,12 @@
--- What primitives, conditions and calls mean. A form stands at a place, the number of tokens before it. Each name is looked up where it stands, from left to
--- right, so the first fault is the one at the least token; `null`, `new`, numbers and relations are judged by the left side and are themselves the place.
+-- What primitives, conditions and calls mean. A form stands at a place, the number of tokens before it. Each name is
+-- looked up where it stands, from left to right, so the first fault is the one at the least token; `null`, `new`,
+-- numbers and relations are judged by the left side and are themselves the place.
 use Rattle.std.specs.Prelude.{◌+◌, ℕ, Bool, true, false, if◌then◌else◌, Option, Some, None, Result, Ok, Err}
 use Rattle.plc_base.specs.Functions.{is_retire}
 use Rattle.plc_base.specs.declared.ids.FieldId.{FieldId}
 use Rattle.plc_base.specs.declared.ids.FuncId.{FuncId}
 use Rattle.plc_lang.specs.declared.syntax.Var.{Var}
+use Rattle.plc_lang.specs.declared.syntax.Num.{Num}
 use Rattle.plc_lang.specs.declared.syntax.Num.TheVariants.{Lit, Local as DataLocal}
 use Rattle.plc_lang.specs.declared.syntax.Arg.{Arg}
 use Rattle.plc_lang.specs.declared.syntax.Arg.TheVariants as args
@@ -13,17 +15,39 @@ use Rattle.plc_lang.specs.declared.syntax.Rel.TheVariants as relations
 use Rattle.plc_lang.specs.declared.syntax.GhostVal.{GhostVal}
 use Rattle.plc_lang.specs.declared.syntax.GhostVal.TheVariants as ghosts
 use Rattle.plc_lang.specs.declared.syntax.Primitive.{Primitive}
-use Rattle.plc_lang.specs.declared.syntax.Primitive.TheVariants.{Null, Copy, New, Load, Store, StoreNull, DataSet, DataLoad, DataStore, Eq, Ne, IsNull, NotNull, DataTest, Refresh, RefreshLoad, RefreshStore, Active, Ghost}
+use Rattle.plc_lang.specs.declared.syntax.Primitive.TheVariants.{Null, Copy, New, Load, Store, StoreNull, DataSet}
+use Rattle.plc_lang.specs.declared.syntax.Primitive.TheVariants.{DataLoad, DataStore, Eq, Ne, IsNull, NotNull, DataTest}
+use Rattle.plc_lang.specs.declared.syntax.Primitive.TheVariants.{Refresh, RefreshLoad, RefreshStore, Active, Ghost}
 use Rattle.plc_lang.specs.declared.syntax.Cond.{Cond}
 use Rattle.plc_lang.specs.declared.syntax.Cond.TheVariants as conditions
-use Rattle.plc_syntax.specs.Trees.{Text, PlaceTree, PlaceOf, AtomTree, NullAtom, NumberAtom, NameAtom, ValueTree, NullValue, NewValue, NumberValue, PlaceValue, SetTree, SetName, SetField, RefreshTree, RefreshName, RefreshField, GhostValueTree, NameGhost, MeGhost, NoneGhost, GhostSetTree, SetGhost, InitialTree, InitialSet, InitialGhost, Comparison, SameAs, OtherThan, LessThan, NotLessThan, TestTree, Compares, ConditionTree, TestCondition, RefreshCondition, CasCondition, PrimitiveTree, SetPrimitive, RefreshPrimitive, GhostPrimitive, ActivePrimitive, AssumePrimitive, SkipPrimitive, ArgumentTree, NoArgument, NullArgument, NameArgument, ActiveArgument}
+use Rattle.plc_syntax.specs.Trees.{Text, PlaceTree, PlaceOf, AtomTree, NullAtom, NumberAtom, NameAtom, ValueTree}
+use Rattle.plc_syntax.specs.Trees.{NullValue, NewValue, NumberValue, PlaceValue, SetTree, SetName, SetField}
+use Rattle.plc_syntax.specs.Trees.{RefreshTree, RefreshName, RefreshField, GhostValueTree, NameGhost, MeGhost}
+use Rattle.plc_syntax.specs.Trees.{NoneGhost, GhostSetTree, SetGhost, InitialTree, InitialSet, InitialGhost, Comparison}
+use Rattle.plc_syntax.specs.Trees.{SameAs, OtherThan, LessThan, NotLessThan, TestTree, Compares, ConditionTree}
+use Rattle.plc_syntax.specs.Trees.{TestCondition, RefreshCondition, CasCondition, PrimitiveTree, SetPrimitive}
+use Rattle.plc_syntax.specs.Trees.{RefreshPrimitive, GhostPrimitive, ActivePrimitive, AssumePrimitive, SkipPrimitive}
+use Rattle.plc_syntax.specs.Trees.{ArgumentTree, NoArgument, NullArgument, NameArgument, ActiveArgument}
 use Rattle.plc_forms.specs.Sizes.{word_size}
 use Rattle.plc_scope.specs.declared.fault.ParseFault.{ParseFault}
 use Rattle.plc_scope.specs.declared.fault.ParseFault.TheVariants as faults
 use Rattle.plc_scope.specs.declared.scope.Scope.{Scope}
 use Rattle.plc_scope.specs.declared.binding.Role.{Role}
-use Rattle.plc_scope.specs.declared.binding.Role.TheVariants.{PointerVariable as pointer_variable, DataLocal as data_local, PointerField as pointer_field, DataField as data_field}
-use Rattle.plc_scope.specs.Scope.{◌>>=◌, needed, any_role, role_of, pointer_at, pointer_local_at, data_at, pointer_field_at, data_field_at, function_at, auxiliary_at, value_at, thread_at}
+use Rattle.plc_scope.specs.declared.binding.Role.TheVariants.{PointerVariable as pointer_variable}
+use Rattle.plc_scope.specs.declared.binding.Role.TheVariants.{DataLocal as data_local, PointerField as pointer_field}
+use Rattle.plc_scope.specs.declared.binding.Role.TheVariants.{DataField as data_field}
+use Rattle.plc_scope.specs.Scope.{◌>>=◌, needed, any_role, role_of, pointer_at, pointer_local_at, data_at}
+use Rattle.plc_scope.specs.Scope.{pointer_field_at, data_field_at, function_at, auxiliary_at, value_at, thread_at}
+
+-- ---- numbers
+
+-- what is made of a number, or of the data local of a name; `null` is no number
+abbrev pub with_number : {A : Type 0} → Scope → ℕ → AtomTree → (Num → A) → Result A ParseFault
+with_number s at NullAtom make = Err (faults.WrongSort at)
+with_number s at (NumberAtom n) make = Ok (make (Lit n))
+with_number s at (NameAtom n) make = do
+  y ← data_at s n at
+  Ok (make (DataLocal y))
 
 -- ---- assignments
 
@@ -69,11 +93,7 @@ pointer_atom s p f at (NameAtom n) = do
 
 -- what is put into a data field
 abbrev pub data_atom : Scope → Var → FieldId → ℕ → AtomTree → Result Primitive ParseFault
-data_atom s p f at NullAtom = Err (faults.WrongSort at)
-data_atom s p f at (NumberAtom n) = Ok (DataStore p f (Lit n))
-data_atom s p f at (NameAtom n) = do
-  y ← data_at s n at
-  Ok (DataStore p f (DataLocal y))
+data_atom s p f at a = with_number s at a (DataStore p f)
 
 -- the field, which stands at the second place, is a field
 abbrev pub atom_into : Scope → Var → ℕ → AtomTree → Role → ℕ → Result Primitive ParseFault
@@ -120,7 +140,8 @@ refresh_means s at (RefreshField n f m) = do
 
 -- ---- auxiliary fields
 
--- what is put into an auxiliary field: a value of an enumerated one; the acting thread, which `init` lacks, or none into one that holds a thread
+-- what is put into an auxiliary field: a value of an enumerated one; the acting thread, which `init` lacks, or none
+-- into one that holds a thread
 abbrev pub ghost_value_means : Scope → Bool → ℕ → Bool → ℕ → GhostValueTree → Result GhostVal ParseFault
 ghost_value_means s in_init g false at (NameGhost n) = do
   v ← value_at s g n at
@@ -168,11 +189,7 @@ relation NotLessThan = relations.Ge
 
 -- what a data local is compared with
 abbrev pub data_test : Scope → ℕ → Rel → ℕ → AtomTree → Result Primitive ParseFault
-data_test s x r at NullAtom = Err (faults.WrongSort at)
-data_test s x r at (NumberAtom n) = Ok (DataTest r x (Lit n))
-data_test s x r at (NameAtom n) = do
-  y ← data_at s n at
-  Ok (DataTest r x (DataLocal y))
+data_test s x r at a = with_number s at a (DataTest r x)
 
 -- the left side is any variable
 abbrev pub test_of : Scope → ℕ → Comparison → AtomTree → Role → Result Primitive ParseFault
@@ -249,7 +266,8 @@ initial_means s at (InitialGhost set) = do
 abbrev pub CallMeaning : Type 0
 CallMeaning = FuncId × Arg × Bool
 
--- an argument too many or too few, or `retire` of null: the function's name is the place, and the parenthesis after it stands before the argument
+-- an argument too many or too few, or `retire` of null: the function's name is the place, and the parenthesis after it
+-- stands before the argument
 abbrev pub argument_means : Scope → FuncId → Bool → ℕ → ArgumentTree → Result CallMeaning ParseFault
 argument_means s f false at NoArgument = Ok (f, args.None, false)
 argument_means s f false at NullArgument = Err (faults.NoSuchCall at)

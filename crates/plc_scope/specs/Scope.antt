@@ -1,5 +1,6 @@
 -- Which names are in reach, and what they stand for.
-use Rattle.std.specs.Prelude.{◌==◌, ◌&&◌, not, ◌+◌, ℕ, Bool, true, false, if◌then◌else◌, List, [], ◌∷◌, ◌++◌, length, slice_get, codes, Option, Some, None, Result, Ok, Err}
+use Rattle.std.specs.Prelude.{◌==◌, ◌&&◌, not, ◌+◌, ℕ, Bool, true, false, if◌then◌else◌, List, [], ◌∷◌, ◌++◌, length}
+use Rattle.std.specs.Prelude.{slice_get, codes, Option, Some, None, Result, Ok, Err}
 use Rattle.std.specs.List.{list_any}
 use Rattle.plc_base.specs.Functions.{is_retire}
 use Rattle.plc_base.specs.Limits.{most}
@@ -14,9 +15,14 @@ use Rattle.plc_scope.specs.declared.fault.ParseFault.{ParseFault}
 use Rattle.plc_scope.specs.declared.fault.ParseFault.TheVariants as faults
 use Rattle.plc_scope.specs.declared.scope.Scope.{Scope}
 use Rattle.plc_scope.specs.declared.binding.Binding.{Binding}
-use Rattle.plc_scope.specs.declared.binding.Binding.TheVariants.{Taken, Shared, PointerField, DataField, Function, Auxiliary, Value, LocalOnly}
+use Rattle.plc_scope.specs.declared.binding.Binding.TheVariants.{Taken, Shared, PointerField, DataField, Function}
+use Rattle.plc_scope.specs.declared.binding.Binding.TheVariants.{Auxiliary, Value, LocalOnly}
 use Rattle.plc_scope.specs.declared.binding.Role.{Role}
-use Rattle.plc_scope.specs.declared.binding.Role.TheVariants.{PointerVariable as pointer_variable, DataLocal as data_local, PointerField as pointer_field, DataField as data_field, Function as function, Auxiliary as auxiliary, Value as value, NoValue as no_value}
+use Rattle.plc_scope.specs.declared.binding.Role.TheVariants.{PointerVariable as pointer_variable}
+use Rattle.plc_scope.specs.declared.binding.Role.TheVariants.{DataLocal as data_local, PointerField as pointer_field}
+use Rattle.plc_scope.specs.declared.binding.Role.TheVariants.{DataField as data_field, Function as function}
+use Rattle.plc_scope.specs.declared.binding.Role.TheVariants.{Auxiliary as auxiliary, Value as value}
+use Rattle.plc_scope.specs.declared.binding.Role.TheVariants.{NoValue as no_value}
 
 infixl 10 ◌>>=◌
 -- the first fault from the left is the answer
@@ -30,7 +36,12 @@ most_names = 65535
 
 -- `retire` is declared from the start
 abbrev pub first_scope : Scope
-first_scope = record { names = record { names = codes "retire" ∷ []; limit = most_names }; bindings = Function (record { 0 = 0 }) true ∷ []; locals = []; labels = [] }
+first_scope = record {
+  names = record { names = codes "retire" ∷ []; limit = most_names };
+  bindings = Function (record { 0 = 0 }) true ∷ [];
+  locals = [];
+  labels = [];
+}
 
 -- ---- declarations
 
@@ -71,16 +82,19 @@ may_name_local None b = false
 -- the number of a local's name, and the names with it
 abbrev pub local_number : Option ℕ → Scope → List ℕ → ℕ → Result (ℕ × Scope) ParseFault
 local_number None s name at = Ok (length s.names.names, with_name s name LocalOnly)
-local_number (Some i) s name at = if may_name_local (slice_get s.bindings i) (has_local s.locals i) then Ok (i, s) else Err (faults.Duplicate at)
+local_number (Some i) s name at =
+    if may_name_local (slice_get s.bindings i) (has_local s.locals i) then Ok (i, s) else Err (faults.Duplicate at)
 
 -- the number of a name that may name a local, or none where the name is new
 abbrev pub reused : Option ℕ → Scope → ℕ → Result (Option ℕ) ParseFault
 reused None s at = Ok None
-reused (Some i) s at = if may_name_local (slice_get s.bindings i) (has_local s.locals i) then Ok (Some i) else Err (faults.Duplicate at)
+reused (Some i) s at =
+    if may_name_local (slice_get s.bindings i) (has_local s.locals i) then Ok (Some i) else Err (faults.Duplicate at)
 
 -- one more local
 abbrev pub with_local : Scope → ℕ → Bool → Bool → Scope
-with_local s number is_pointer is_parameter = record s { locals = s.locals ++ record { name = number; pointer = is_pointer; param = is_parameter } ∷ [] }
+with_local s number is_pointer is_parameter =
+    record s { locals = s.locals ++ record { name = number; pointer = is_pointer; param = is_parameter } ∷ [] }
 
 -- one more label, by the number of its name
 abbrev pub with_label : Scope → ℕ → Scope
@@ -104,13 +118,16 @@ most_locals = most limits.Locals
 abbrev pub local_limit : {A : Type 0} → Scope → Result A ParseFault → Result A ParseFault
 local_limit s next = if length s.locals == most_locals then Err (faults.Limit limits.Locals (most_locals + 1)) else next
 
--- a local at its name; the limit's place is the first token of its declaration, so a parameter is first asked whether it is new
+-- a local at its name; the limit's place is the first token of its declaration, so a parameter is first asked whether
+-- it is new
 unfoldable pub declared_local : Scope → List ℕ → ℕ → Bool → Result Scope ParseFault
-declared_local s name at is_pointer = local_limit s (local_number (place_of name s.names.names) s name at >>= λ x. Ok (with_local x.1 x.0 is_pointer false))
+declared_local s name at is_pointer = local_limit s
+    (local_number (place_of name s.names.names) s name at >>= λ x. Ok (with_local x.1 x.0 is_pointer false))
 
 -- a parameter is its name alone, so a name that is there is the fault before the limit
 unfoldable pub declared_parameter : Scope → List ℕ → ℕ → Result Scope ParseFault
-declared_parameter s name at = local_number (place_of name s.names.names) s name at >>= λ x. local_limit s (Ok (with_local x.1 x.0 false true))
+declared_parameter s name at =
+    local_number (place_of name s.names.names) s name at >>= λ x. local_limit s (Ok (with_local x.1 x.0 false true))
 
 -- ---- uses
 
@@ -130,7 +147,8 @@ abbrev pub role_inside : ℕ → ℕ → List Local → ℕ → Option Role
 role_inside pointers values [] number = None
 role_inside pointers values (l ∷ ls) number =
     if l.name == number then Some (if l.pointer then pointer_variable (LocalVar pointers) else data_local values)
-    else (if l.pointer then role_inside (pointers + 1) values ls number else role_inside pointers (values + 1) ls number)
+    else (if l.pointer then role_inside (pointers + 1) values ls number
+    else role_inside pointers (values + 1) ls number)
 
 -- a local goes before what its name is outside, which is nothing
 abbrev pub role_or : Option Role → Option Binding → Option Role

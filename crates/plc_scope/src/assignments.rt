@@ -11,6 +11,7 @@ ghost use Rattle.plc_scope.specs.Scope.{most_locals};
 
 use crate::binding::Role;
 use crate::fault::ParseFault;
+use crate::numbers::number;
 use crate::scope::Scope;
 use plc_base::FieldId;
 use plc_forms::{Atom, Place, Set, Value};
@@ -105,11 +106,7 @@ fn data_atom(scope: &Scope, p: Var, f: FieldId, at: u32, atom: Atom) -> Result<P
     requires { length scope.now.locals ≤ most_locals }
     ensures { Gives (λ k. k) result (data_atom scope.now p f at (atom_tree atom.entry)) }
 {
-    let e = match atom {
-        Atom::Null => return Err(ParseFault::WrongSort { at }),
-        Atom::Number(n) => Num::Lit(n),
-        Atom::Name(name) => Num::Local(scope.data_at(name, at)?),
-    };
+    let e = number(scope, at, atom)?;
     Ok(Prim::DataStore { p, f, e })
 }
 

@@ -10,10 +10,11 @@ ghost use Rattle.plc_scope.specs.Scope.{most_locals};
 
 use crate::binding::Role;
 use crate::fault::ParseFault;
+use crate::numbers::number;
 use crate::refreshes::refresh_into;
 use crate::scope::Scope;
 use plc_forms::{Atom, Cas, Condition, Relation, Test};
-use plc_lang::{Cond, Num, Prim, Rel, Var};
+use plc_lang::{Cond, Prim, Rel, Var};
 
 // A test of equality of pointers, or its opposite.
 fn pointer_equality(
@@ -76,11 +77,7 @@ fn data_test(scope: &Scope, x: u16, rel: Rel, at: u32, atom: Atom) -> Result<Pri
     requires { length scope.now.locals ≤ most_locals }
     ensures { Gives (λ k. k) result (data_test scope.now x rel at (atom_tree atom.entry)) }
 {
-    let e = match atom {
-        Atom::Null => return Err(ParseFault::WrongSort { at }),
-        Atom::Number(n) => Num::Lit(n),
-        Atom::Name(name) => Num::Local(scope.data_at(name, at)?),
-    };
+    let e = number(scope, at, atom)?;
     Ok(Prim::DataTest { rel, x, e })
 }
 

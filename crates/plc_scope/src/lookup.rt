@@ -58,6 +58,16 @@ fn local_role(local: Local, pointers: u16, values: u16) -> Role
     }
 }
 
+// What a name at a place is, where only one kind of role can stand.
+macro_rules! wanted {
+    ($scope:expr, $name:expr, $at:expr; $role:pat $(if $holds:expr)? => $found:expr) => {
+        match $scope.role($name, $at)? {
+            $role $(if $holds)? => Ok($found),
+            _ => Err(ParseFault::WrongSort { at: $at }),
+        }
+    };
+}
+
 impl Scope {
     fn role_at(&self, number: u16) -> Option<Role>
         requires { length self.now.locals ≤ most_locals }
@@ -101,58 +111,7 @@ impl Scope {
         requires { length self.now.locals ≤ most_locals }
         ensures { Gives (λ variable. variable) result (pointer_at self.now name.now at) }
     {
-        match self.role(name, at)? {
-            Role::PointerVariable(variable) => Ok(variable),
-            _ => Err(ParseFault::WrongSort { at }),
-        }
-    }
-
-    /// The data local that a name at a place is, with the same faults.
-    #[tactic(auto, unfolding(crate::specs::Scope::data_at))]
-    pub fn data_at(&self, name: &[u8], at: u32) -> Result<u16, ParseFault>
-        requires { length self.now.locals ≤ most_locals }
-        ensures { Gives (λ local. local) result (data_at self.now name.now at) }
-    {
-        match self.role(name, at)? {
-            Role::DataLocal(local) => Ok(local),
-            _ => Err(ParseFault::WrongSort { at }),
-        }
-    }
-
-    /// The pointer field that a name at a place is, with the same faults.
-    #[tactic(auto, unfolding(crate::specs::Scope::pointer_field_at))]
-    pub fn pointer_field_at(&self, name: &[u8], at: u32) -> Result<FieldId, ParseFault>
-        requires { length self.now.locals ≤ most_locals }
-        ensures { Gives (λ field. field) result (pointer_field_at self.now name.now at) }
-    {
-        match self.role(name, at)? {
-            Role::PointerField(field) => Ok(field),
-            _ => Err(ParseFault::WrongSort { at }),
-        }
-    }
-
-    /// The data field that a name at a place is, with the same faults.
-    #[tactic(auto, unfolding(crate::specs::Scope::data_field_at))]
-    pub fn data_field_at(&self, name: &[u8], at: u32) -> Result<FieldId, ParseFault>
-        requires { length self.now.locals ≤ most_locals }
-        ensures { Gives (λ field. field) result (data_field_at self.now name.now at) }
-    {
-        match self.role(name, at)? {
-            Role::DataField(field) => Ok(field),
-            _ => Err(ParseFault::WrongSort { at }),
-        }
-    }
-
-    /// The pointer local, with the same faults.
-    #[tactic(auto, unfolding(crate::specs::Scope::pointer_local_at))]
-    pub fn pointer_local_at(&self, name: &[u8], at: u32) -> Result<u16, ParseFault>
-        requires { length self.now.locals ≤ most_locals }
-        ensures { Gives (λ found. found) result (pointer_local_at self.now name.now at) }
-    {
-        match self.role(name, at)? {
-            Role::PointerVariable(Var::Local(local)) => Ok(local),
-            _ => Err(ParseFault::WrongSort { at }),
-        }
+        wanted! { self, name, at; Role::PointerVariable(variable) => variable }
     }
 
     /// The reclaimer function, and whether it takes a pointer, with the same faults.
@@ -161,34 +120,7 @@ impl Scope {
         requires { length self.now.locals ≤ most_locals }
         ensures { Gives (λ found. (found.0, found.1)) result (function_at self.now name.now at) }
     {
-        match self.role(name, at)? {
-            Role::Function(function, takes_pointer) => Ok((function, takes_pointer)),
-            _ => Err(ParseFault::WrongSort { at }),
-        }
-    }
-
-    /// The function that sets a hazard pointer: it takes a pointer and isn't `retire`; with the same faults.
-    #[tactic(auto, unfolding(crate::specs::Scope::protecting_at))]
-    pub fn protecting_at(&self, name: &[u8], at: u32) -> Result<FuncId, ParseFault>
-        requires { length self.now.locals ≤ most_locals }
-        ensures { Gives (λ found. found) result (protecting_at self.now name.now at) }
-    {
-        match self.role(name, at)? {
-            Role::Function(function, true) if !function.is_retire() => Ok(function),
-            _ => Err(ParseFault::WrongSort { at }),
-        }
-    }
-
-    /// The function that takes no pointer, such as those of an epoch; with the same faults.
-    #[tactic(auto, unfolding(crate::specs::Scope::without_pointer_at))]
-    pub fn without_pointer_at(&self, name: &[u8], at: u32) -> Result<FuncId, ParseFault>
-        requires { length self.now.locals ≤ most_locals }
-        ensures { Gives (λ found. found) result (without_pointer_at self.now name.now at) }
-    {
-        match self.role(name, at)? {
-            Role::Function(function, false) => Ok(function),
-            _ => Err(ParseFault::WrongSort { at }),
-        }
+        wanted! { self, name, at; Role::Function(function, takes_pointer) => (function, takes_pointer) }
     }
 
     /// The auxiliary field, and whether it holds a thread, with the same faults.
@@ -197,10 +129,61 @@ impl Scope {
         requires { length self.now.locals ≤ most_locals }
         ensures { Gives (λ found. (found.0, found.1)) result (auxiliary_at self.now name.now at) }
     {
-        match self.role(name, at)? {
-            Role::Auxiliary(field, of_threads) => Ok((field, of_threads)),
-            _ => Err(ParseFault::WrongSort { at }),
-        }
+        wanted! { self, name, at; Role::Auxiliary(field, of_threads) => (field, of_threads) }
+    }
+
+    /// The data local that a name at a place is, with the same faults.
+    #[tactic(auto, unfolding(crate::specs::Scope::data_at))]
+    pub fn data_at(&self, name: &[u8], at: u32) -> Result<u16, ParseFault>
+        requires { length self.now.locals ≤ most_locals }
+        ensures { Gives (λ local. local) result (data_at self.now name.now at) }
+    {
+        wanted! { self, name, at; Role::DataLocal(local) => local }
+    }
+
+    /// The function that sets a hazard pointer: it takes a pointer and isn't `retire`; with the same faults.
+    #[tactic(auto, unfolding(crate::specs::Scope::protecting_at))]
+    pub fn protecting_at(&self, name: &[u8], at: u32) -> Result<FuncId, ParseFault>
+        requires { length self.now.locals ≤ most_locals }
+        ensures { Gives (λ found. found) result (protecting_at self.now name.now at) }
+    {
+        wanted! { self, name, at; Role::Function(function, true) if !function.is_retire() => function }
+    }
+
+    /// The pointer field that a name at a place is, with the same faults.
+    #[tactic(auto, unfolding(crate::specs::Scope::pointer_field_at))]
+    pub fn pointer_field_at(&self, name: &[u8], at: u32) -> Result<FieldId, ParseFault>
+        requires { length self.now.locals ≤ most_locals }
+        ensures { Gives (λ field. field) result (pointer_field_at self.now name.now at) }
+    {
+        wanted! { self, name, at; Role::PointerField(field) => field }
+    }
+
+    /// The function that takes no pointer, such as those of an epoch; with the same faults.
+    #[tactic(auto, unfolding(crate::specs::Scope::without_pointer_at))]
+    pub fn without_pointer_at(&self, name: &[u8], at: u32) -> Result<FuncId, ParseFault>
+        requires { length self.now.locals ≤ most_locals }
+        ensures { Gives (λ found. found) result (without_pointer_at self.now name.now at) }
+    {
+        wanted! { self, name, at; Role::Function(function, false) => function }
+    }
+
+    /// The data field that a name at a place is, with the same faults.
+    #[tactic(auto, unfolding(crate::specs::Scope::data_field_at))]
+    pub fn data_field_at(&self, name: &[u8], at: u32) -> Result<FieldId, ParseFault>
+        requires { length self.now.locals ≤ most_locals }
+        ensures { Gives (λ field. field) result (data_field_at self.now name.now at) }
+    {
+        wanted! { self, name, at; Role::DataField(field) => field }
+    }
+
+    /// The pointer local, with the same faults.
+    #[tactic(auto, unfolding(crate::specs::Scope::pointer_local_at))]
+    pub fn pointer_local_at(&self, name: &[u8], at: u32) -> Result<u16, ParseFault>
+        requires { length self.now.locals ≤ most_locals }
+        ensures { Gives (λ found. found) result (pointer_local_at self.now name.now at) }
+    {
+        wanted! { self, name, at; Role::PointerVariable(Var::Local(local)) => local }
     }
 
     /// The value of an auxiliary field, by its number, with the same faults.
@@ -209,10 +192,7 @@ impl Scope {
         requires { length self.now.locals ≤ most_locals }
         ensures { Gives (λ found. found) result (value_at self.now field name.now at) }
     {
-        match self.role(name, at)? {
-            Role::Value(of, value) if of == field => Ok(value),
-            _ => Err(ParseFault::WrongSort { at }),
-        }
+        wanted! { self, name, at; Role::Value(of, value) if of == field => value }
     }
 
     /// Where a thread is wanted no name can stand: `Undeclared`, or else `WrongSort`.

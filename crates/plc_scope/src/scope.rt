@@ -33,10 +33,11 @@ pub struct Scope {
     pub labels: Items<u16>,
 }
 
-// A name that differs from all before.
-fn add_name(names: &mut Names, name: &[u8], at: u32) -> Result<u16, ParseFault>
+/// Adds a name that differs from all before, and answers its number. `Duplicate` where it doesn't.
+pub fn add_name(names: &mut Names, name: &[u8], at: u32) -> Result<u16, ParseFault>
     requires { length names.old.names < names.old.limit }
     ensures number { IfOk result (λ number. number ≡ length names.old.names) }
+    ensures added { IfOk result (λ _. names.new ≡ with_last names.old name.now) }
     ensures read { Gives (λ _. names.new) result
         (if_new (place_of name.now names.old.names) at (with_last names.old name.now)) }
     ensures err { OnErr result (names.new ≡ names.old) }

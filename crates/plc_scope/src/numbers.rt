@@ -1,0 +1,26 @@
+// What stands where a number is wanted: a number itself, or the name of a data local.
+ghost use Rattle.std.specs.Prelude.{◌≤◌, length};
+ghost use Rattle.plc_lang.specs.declared.syntax.Num.{Num};
+ghost use Rattle.plc_lang.specs.declared.syntax.Primitive.{Primitive};
+ghost use Rattle.plc_forms.specs.Views.{atom_tree};
+ghost use Rattle.plc_scope.specs.Answers.{Gives};
+ghost use Rattle.plc_scope.specs.Primitives.{with_number};
+ghost use Rattle.plc_scope.specs.Scope.{most_locals};
+
+use crate::fault::ParseFault;
+use crate::scope::Scope;
+use plc_forms::Atom;
+use plc_lang::Num;
+
+/// The number that is put into a data field or compared with a data local.
+pub fn number(scope: &Scope, at: u32, atom: Atom) -> Result<Num, ParseFault>
+    requires { length scope.now.locals ≤ most_locals }
+    ensures { (make : Num → Primitive) → Gives make result
+        (with_number scope.now at (atom_tree atom.entry) make) }
+{
+    match atom {
+        Atom::Null => Err(ParseFault::WrongSort { at }),
+        Atom::Number(n) => Ok(Num::Lit(n)),
+        Atom::Name(name) => Ok(Num::Local(scope.data_at(name, at)?)),
+    }
+}
