@@ -129,16 +129,10 @@ module _ (old new : List ℕ) (low high : ℕ) (joins : Joins old new low high) 
         | inr p ↦ elim (new_class old new low high joins k.second bl) [
           | inl q ↦ subst (Contains (joined ++ low ∷ [])) (sym (k.arguments ∙ q.1)) (Contains-push joined low)
           | inr q ↦
-              let was : IsClash terms old i j = record {
-                map = k.map;
-                version = k.version;
-                first = k.first;
-                second = k.second;
-                first_is = k.first_is;
-                second_is = k.second_is;
-                arguments = sym p.1 ∙ k.arguments ∙ q.1;
-                differ = λ e. k.differ (coarser_joined i j il jl e);
-              } in
+              let arguments = sym p.1 ∙ k.arguments ∙ q.1 in
+              let differ : slice_index old i ≢ slice_index old j = λ e. k.differ (coarser_joined i j il jl e) in
+              let was : IsClash terms old i j =
+              record { map = k.map; version = k.version; first = k.first; second = k.second; first_is = k.first_is; second_is = k.second_is; arguments = arguments; differ = differ } in
               subst (Contains (joined ++ low ∷ [])) (sym p.1) (Contains-append_left joined (low ∷ []) _ (before i j was))
         ]
       ]

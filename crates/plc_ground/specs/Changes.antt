@@ -1,5 +1,6 @@
 -- One table of equalities that is extended and taken back: what its trail says, and where clashes are left.
-use Rattle.std.specs.Prelude.{◌≡◌, ◌≢◌, ◌<◌, ◌≤◌, ◌+◌, ℕ, length, sum, List, [], ◌∷◌, ◌++◌, slice_set, slice_get, slice_index, Some, Contains}
+use Rattle.std.specs.Prelude.{◌≡◌, ◌≢◌, ◌<◌, ◌≤◌, ◌+◌, ℕ, length, sum, List, [], ◌∷◌}
+use Rattle.std.specs.Prelude.{◌++◌, slice_set, slice_get, slice_index, Some, Contains}
 use Rattle.plc_ground.specs.declared.terms.Map.{Map}
 use Rattle.plc_ground.specs.declared.terms.GroundTerm.{GroundTerm}
 use Rattle.plc_ground.specs.declared.terms.GroundTerm.TheVariants.{App}
@@ -39,8 +40,8 @@ AgreeAt terms class x list = (k n : ℕ) → k < length list → n < length list
 
 -- at most one place of the list has a term of class x
 abbrev pub IsAloneIn : List ℕ → ℕ → List ℕ → Type 0
-IsAloneIn class x list = (k n : ℕ) → k < length list → n < length list → slice_index class (slice_index list k) ≡ x
-    → slice_index class (slice_index list n) ≡ x → k ≡ n
+IsAloneIn class x list = (k n : ℕ) → k < length list → n < length list
+    → slice_index class (slice_index list k) ≡ x → slice_index class (slice_index list n) ≡ x → k ≡ n
 
 -- no two applications clash whose arguments have class x
 abbrev pub IsClearOf : List GroundTerm → List ℕ → ℕ → Type 0
@@ -48,7 +49,8 @@ IsClearOf terms class x = (i j : ℕ) (k : IsClash terms class i j) → slice_in
 
 -- two applications clash only where the class of their arguments is one of these
 abbrev pub ClashOnlyIn : List GroundTerm → List ℕ → List ℕ → Type 0
-ClashOnlyIn terms class joined = (i j : ℕ) (k : IsClash terms class i j) → Contains joined (slice_index class k.first)
+ClashOnlyIn terms class joined = (i j : ℕ) (k : IsClash terms class i j)
+    → Contains joined (slice_index class k.first)
 
 -- two terms and their classes came together
 pub record IsJoined (old new : Equalities) (x y : ℕ) : Type 0 where

@@ -8,10 +8,13 @@
 // Classes that are joined are the only ones in which applications can clash, so these alone are
 // searched. Union by size and a forest of reasons win little on sets of a hundred terms, and each
 // would have to be kept true by proof.
-ghost use Rattle.std.specs.Prelude.{◌≡◌, ◌≢◌, ◌+◌, ◌-◌, ◌<◌, ◌≤◌, ◌==◌, ℕ, length, slice_index, slice_get, slice_set, Some, IfSome, IfNone, List, sum, ◌^◌, All, IfOk, OnOk, take, drop, ◌∷◌, ◌++◌, [], Contains, Ok, true, false, IsTrue};
+ghost use Rattle.std.specs.Prelude.{◌≡◌, ◌≢◌, ◌+◌, ◌-◌, ◌<◌, ◌≤◌, ◌==◌, ℕ, length};
+ghost use Rattle.std.specs.Prelude.{slice_index, slice_get, slice_set, Some, IfSome, IfNone, List, sum, ◌^◌, All};
+ghost use Rattle.std.specs.Prelude.{IfOk, OnOk, take, drop, ◌∷◌, ◌++◌, [], Contains, Ok, true, false, IsTrue};
 ghost use Rattle.plc_ground.specs.Fit.{IsWellFormed, IsInRange};
 ghost use Rattle.plc_ground.specs.Classes.{Joins, IsMerged, IsClosure, IsClash, IsCoarser, IsTable, IsOfOneMap};
-ghost use Rattle.plc_ground.specs.Changes.{Extends, undone, ClashOnlyIn, HasArgumentIn, AgreeAt, IsAloneIn, IsClearOf, IsJoined, Settles, to_settle};
+ghost use Rattle.plc_ground.specs.Changes.{Extends, undone, ClashOnlyIn, HasArgumentIn, AgreeAt, IsAloneIn, IsClearOf};
+ghost use Rattle.plc_ground.specs.Changes.{IsJoined, Settles, to_settle};
 ghost use Rattle.plc_ground.specs.Model.{IsCongruent};
 ghost use Rattle.plc_ground.specs.declared.terms.Lit.{Lit};
 
@@ -127,17 +130,6 @@ fn is_alone_in(class: &[u32], list: &[u32], x: u32) -> bool
     place_from(class, list, x, k + 1).is_none()
 }
 
-/// Whether something is applied to at most one term of a class, so that nothing clashes there.
-fn is_clear(set: &GroundSet, table: &Applications, class: &[u32], x: u32) -> bool
-    requires well { IsWellFormed set.now }
-    requires one_each { length class.now ≡ length set.now.terms }
-    requires table { IsTable set.now.terms table.now }
-    ensures { IsTrue result → IsClearOf set.now.terms class.now x }
-{
-    let _set = set;
-    is_alone_in(class, table.arguments.as_slice(), x)
-}
-
 /// Whether the argument of an application has this class.
 fn has_argument_in(set: &GroundSet, class: &[u32], i: usize, x: u32) -> bool
     requires well { IsWellFormed set.now }
@@ -159,7 +151,7 @@ fn application_at(set: &GroundSet, list: &[u32], k: usize) -> usize
     ensures which { result ≡ slice_index list.now k }
     ensures range { result < length set.now.terms }
 {
-    let _set = set;
+    let _set = set; // of which the contract alone speaks
     list[k] as usize
 }
 
@@ -248,7 +240,8 @@ fn join_in(
     requires left { ClashOnlyIn set.now.terms equal.old.class equal.old.joined }
     ensures settles { OnOk result (Settles set.now.terms equal.old equal.new) }
     ensures some { result ≡ Ok true → to_settle equal.new < to_settle equal.old }
-    ensures none { result ≡ Ok false → (equal.new ≡ equal.old) × AgreeAt set.now.terms equal.old.class x list.now }
+    ensures none { result ≡ Ok false → (equal.new ≡ equal.old)
+        × AgreeAt set.now.terms equal.old.class x list.now }
 {
     let Some((i, j)) = clash_in(set, equal.class.as_slice(), list, x) else {
         return Ok(false);
@@ -258,7 +251,8 @@ fn join_in(
 }
 
 /// Joins applications that clash, whose arguments have class `x`: two of each list where two do.
-/// False where none do.
+/// False where none do. Where something is applied to one term of the class alone nothing clashes,
+/// and no list is looked at.
 fn sweep(
     set: &GroundSet,
     table: &Applications,
@@ -273,6 +267,9 @@ fn sweep(
     ensures some { result ≡ Ok true → to_settle equal.new < to_settle equal.old }
     ensures none { result ≡ Ok false → (equal.new ≡ equal.old) × IsClearOf set.now.terms equal.old.class x }
 {
+    if is_alone_in(equal.class.as_slice(), table.arguments.as_slice(), x) {
+        return Ok(false);
+    }
     let mut found = false;
     for list in table.lists.as_slice() {
         if join_in(set, list.as_slice(), equal, x)? {
@@ -295,27 +292,6 @@ fn newest_joined(equal: &Equalities) -> Option<u32>
     Some(joined[joined.len() - 1])
 }
 
-/// Whether applications whose arguments have class `x` clashed; two of each list that did are joined.
-fn clashed(
-    set: &GroundSet,
-    table: &Applications,
-    equal: &mut Equalities,
-    x: u32,
-) -> Result<bool, AllocError>
-    requires well { IsWellFormed set.now }
-    requires one_each { length equal.old.class ≡ length set.now.terms }
-    requires table { IsTable set.now.terms table.now }
-    requires left { ClashOnlyIn set.now.terms equal.old.class equal.old.joined }
-    ensures settles { OnOk result (Settles set.now.terms equal.old equal.new) }
-    ensures some { result ≡ Ok true → to_settle equal.new < to_settle equal.old }
-    ensures none { result ≡ Ok false → (equal.new ≡ equal.old) × IsClearOf set.now.terms equal.old.class x }
-{
-    if is_clear(set, table, equal.class.as_slice(), x) {
-        return Ok(false);
-    }
-    sweep(set, table, equal, x)
-}
-
 /// Joins what clashes in a class, or is done with that class.
 fn settle_in(
     set: &GroundSet,
@@ -332,7 +308,7 @@ fn settle_in(
     ensures settles { OnOk result (Settles set.now.terms equal.old equal.new) }
     ensures smaller { OnOk result (to_settle equal.new < to_settle equal.old) }
 {
-    if clashed(set, table, equal, x)? {
+    if sweep(set, table, equal, x)? {
         return Ok(());
     }
     equal.joined.truncate(equal.joined.len() - 1);
@@ -452,6 +428,13 @@ pub fn all_apart(alloc: Global, set: &GroundSet) -> Result<Equalities, AllocErro
         trail: Items::new(alloc),
         joined: Items::new(alloc),
     })
+}
+
+/// The class of each term: the least term that is equal to it.
+pub fn classes(equal: &Equalities) -> &[u32]
+    ensures { result.now ≡ equal.now.class }
+{
+    equal.class.as_slice()
 }
 
 /// The table with these classes, and without a trail.

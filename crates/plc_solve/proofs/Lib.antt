@@ -1,3 +1,4 @@
 pub mod Searching
 pub mod Stacking
+pub mod Places
 pub mod Answering

@@ -1,5 +1,5 @@
 -- A search for a tree that closes a set.
-use Rattle.std.proofs.Common.{◌≡◌, ◌≢◌, ◌<◌, ◌≤◌, ◌+◌, ℕ, zero, suc, true, false, List, [], ◌∷◌, ◌++◌, length, map, take, get_or, Option, Some, None, below_more, sum, append_assoc, inl, inr, ◌⊎◌, refl, sym, ◌∙◌, ap, subst, arith}
+use Rattle.std.proofs.Common.{◌≡◌, ◌≢◌, ◌<◌, ◌≤◌, ◌+◌, ℕ, zero, suc, true, false, List, [], ◌∷◌, ◌++◌, length, map, take, get_or, Option, Some, None, below_more, append_assoc, inl, inr, ◌⊎◌, refl, sym, ◌∙◌, ap, subst, arith}
 use Rattle.std.specs.Prelude.{All, Any, Contains, slice_get, slice_index, slice_index_or, IfSome, IfNone}
 use Rattle.std.proofs.lemmas.List.{take_more, get_or_default}
 use Rattle.std.proofs.lemmas.List.Elements.{Contains-append_right, All-append}
@@ -10,6 +10,8 @@ use Rattle.plc_ground.specs.declared.terms.GroundSet.{GroundSet}
 use Rattle.plc_ground.specs.declared.terms.Node.{Node}
 use Rattle.plc_ground.specs.declared.terms.Node.TheVariants.{Leaf}
 use Rattle.plc_solve.specs.declared.frame.Frame.{Frame}
+use Rattle.plc_solve.specs.declared.place.Place.{Place}
+use Rattle.plc_solve.specs.declared.split.Descent.TheVariants.{Longer}
 use Rattle.plc_solve.specs.declared.frame.Step.{Step}
 use Rattle.plc_solve.specs.declared.frame.Step.TheVariants.{Open, Closed, Deeper, Complete}
 use Rattle.plc_ground.specs.Model.{equation, inequation, HoldsIn, FailsIn, IsModel, literals, MustDiffer}
@@ -19,7 +21,7 @@ use Rattle.plc_ground.specs.Equality.{Same, given, itself, back, along, applied}
 use Rattle.plc_ground.specs.Trees.{IsRight, Close, below}
 use Rattle.plc_ground.proofs.Joining.{Same-longer}
 use Rattle.plc_solve.specs.declared.choice.Choice.{Choice}
-use Rattle.plc_solve.specs.Search.{AreConstants, AreInside, IsPlace, IsSound, TakesLeaf, Enters, StepGives}
+use Rattle.plc_solve.specs.Search.{AreConstants, AreInside, IsPlace, IsSound, Descends, Enters, StepGives, split_on}
 
 -- what a branch makes equal is of one sort
 same_sort : (s : GroundSet) → IsWellFormed s → (branch : List Lit) → All (LitFits s) branch → (i j : ℕ) → Same s.terms branch i j →
@@ -88,17 +90,6 @@ one_more_child s branch ls next l ns ms at h k =
     subst (λ (t : List (List Lit)). Close s t (ns ++ ms)) (sym (ap (map (λ m. branch ++ m ∷ [])) e ∙ map-snoc (λ m. branch ++ m ∷ []) (take next ls) l))
     (Close-append s (map (λ m. branch ++ m ∷ []) (take next ls)) ((branch ++ l ∷ []) ∷ []) ns ms h k)
 
--- a leaf closes the next child
-pub sound_with_leaf : (s : GroundSet) (f g : Frame) (l : Lit) (a b : ℕ) → IsSound s f → slice_get (literals s f.clause) f.next ≡ Some l →
-    IsRight s (f.branch.items ++ l ∷ []) (Leaf a b) → TakesLeaf f g a b → IsSound s g
-sound_with_leaf s f g l a b h at right t = record {
-  place = rw (t.branch, t.class) h.place;
-  clause = rw t.clause h.clause;
-  wrong = rw (t.class, t.clause) h.wrong;
-  within = rw (t.next, t.clause) (omega (arith, slice_get_within (literals s f.clause) f.next l at));
-  closed = rw (t.branch, t.clause, t.next, t.nodes) (one_more_child s f.branch.items (literals s f.clause) f.next l f.nodes.items (Leaf a b ∷ []) at h.closed (right, tt));
-}
-
 -- a false inequation closes its child at once
 pub unequal_is_right : (s : GroundSet) → IsWellFormed s → (branch : List Lit) (class : List ℕ) → IsPlace s branch class → (l : Lit) → LitFits s l → l.equal ≡ false →
     FailsIn (slice_index class) l → IsRight s (branch ++ l ∷ []) (Leaf l.left l.right)
@@ -144,20 +135,13 @@ fit_of_literal s w c k l at =
     }
 
 -- the child on the longer branch, as a step of the split above
-pub step_deeper : (s : GroundSet) (f : Frame) (l : Lit) (branch : List Lit) (class : List ℕ) → slice_get (literals s f.clause) f.next ≡ Some l → l.equal ≡ true → IsSound s f →
-    branch ≡ f.branch.items ++ l ∷ [] → (slice_index f.class.items l.left ≢ slice_index f.class.items l.right → sum class < sum f.class.items) →
-    (r : Step) → Enters s branch class r → StepGives s f f r
-step_deeper s f l branch class at eq h e less (Open m) r = r
-step_deeper s f l branch class at eq h e less Closed r = absurd r
-step_deeper s f l branch class at eq h e less Complete r = absurd r
-step_deeper s f l branch class at eq h e less (Deeper child) r = (
-  refl,
-  r.0,
-  record { literal = l; is = at; equal = eq; longer = r.1 ∙ e },
-  r.3,
-  r.4,
-  subst (λ (c : List ℕ). sum c < sum f.class.items) (sym r.2) (less (rw eq at (h.wrong f.next l at))),
-)
+pub step_deeper : (s : GroundSet) (old new : Place) (f : Frame) (l : Lit) → slice_get (literals s f.clause) f.next ≡ Some l → l.equal ≡ true → IsSound s (split_on old.branch.items old.equal.class f) →
+    Descends s old l new Longer → (r : Step) → Enters s new r → StepGives s old f f new r
+step_deeper s old new f l at eq h d Open r = r
+step_deeper s old new f l at eq h d Closed r = absurd r
+step_deeper s old new f l at eq h d Complete r = absurd r
+step_deeper s old new f l at eq h d (Deeper child) r =
+    (refl, r, record { literal = l; is = at; equal = eq; longer = d.1 }, d.2 (rw eq at (h.wrong f.next l at)))
 
 -- the first place, with nothing on the branch
 pub place_alone : (s : GroundSet) → (class : List ℕ) → IsClosure s.terms [] class → ((i : ℕ) → i < length s.terms → slice_index class i ≡ i) → IsPlace s [] class

@@ -8,6 +8,7 @@ use Rattle.std.proofs.lemmas.List.Sums.{get_or-le-sum_by}
 use Rattle.std.proofs.Math.Nat.{mul-le-mul, mul-le-mul_left, mul-le-mul_right}
 use Rattle.plc_solve.specs.declared.frame.Step.TheVariants.{Closed, Deeper}
 use Rattle.plc_solve.specs.declared.frame.Frame.{Frame}
+use Rattle.plc_solve.specs.declared.place.Place.{Place}
 use Rattle.plc_ground.specs.declared.terms.Lit.{Lit}
 use Rattle.plc_ground.specs.declared.terms.Node.{Node}
 use Rattle.plc_ground.specs.declared.terms.Node.TheVariants.{Split, Leaf}
@@ -16,7 +17,7 @@ use Rattle.plc_ground.specs.Model.{equation, literals}
 use Rattle.plc_ground.specs.Fit.{IsInRange}
 use Rattle.plc_ground.specs.Trees.{Close, SplitsOnce, IsVerdict}
 use Rattle.plc_ground.proofs.Joining.{literal_is}
-use Rattle.plc_solve.specs.Search.{IsSound, IsOnce, IsNextChild, IsChildOf, IsStack, clauses_of, ClosesTop, TakesTree, StepGives}
+use Rattle.plc_solve.specs.Search.{OpenSplit, split_on, IsSound, IsOnce, IsNextChild, IsChildOf, IsStack, clauses_of, ClosesTop, TakesTree, StepGives}
 use Rattle.plc_solve.specs.Measure.{power, weight, left, left_below, base_of}
 use Rattle.plc_solve.proofs.Searching.{one_more_child}
 
@@ -67,28 +68,28 @@ once_more_child s d ls next l ns ms at h k =
     (SplitsOnce-append s (map (λ m. d) (take next ls)) (d ∷ []) ns ms h k)
 
 -- a split with one more child closed
-module _ (s : GroundSet) (f g : Frame) (l : Lit) (ms : List Node) (at : slice_get (literals s f.clause) f.next ≡ Some l) (clause : g.clause ≡ f.clause) (branch : g.branch ≡ f.branch)
-    (class : g.class ≡ f.class) (next : g.next ≡ f.next + 1) (nodes : g.nodes.items ≡ f.nodes.items ++ ms) where
-  pub sound_more : IsSound s f → Close s ((f.branch.items ++ l ∷ []) ∷ []) ms → IsSound s g
+module _ (s : GroundSet) (f g : OpenSplit) (l : Lit) (ms : List Node) (at : slice_get (literals s f.clause) f.next ≡ Some l) (clause : g.clause ≡ f.clause) (branch : g.branch ≡ f.branch)
+    (class : g.class ≡ f.class) (next : g.next ≡ f.next + 1) (nodes : g.nodes ≡ f.nodes ++ ms) where
+  pub sound_more : IsSound s f → Close s ((f.branch ++ l ∷ []) ∷ []) ms → IsSound s g
   sound_more h k = record {
     place = rw (branch, class) h.place;
     clause = rw clause h.clause;
     wrong = rw (class, clause) h.wrong;
     within = rw (next, clause) (omega (arith, slice_get_within (literals s f.clause) f.next l at));
-    closed = rw (branch, clause, next, nodes) (one_more_child s f.branch.items (literals s f.clause) f.next l f.nodes.items ms at h.closed k);
+    closed = rw (branch, clause, next, nodes) (one_more_child s f.branch (literals s f.clause) f.next l f.nodes ms at h.closed k);
   }
 
   pub once_more : (above : List ℕ) → IsOnce s above f → SplitsOnce s ((f.clause ∷ above) ∷ []) ms → IsOnce s above g
   once_more above h k = record {
     fresh = rw clause h.fresh;
-    below = rw (clause, next, nodes) (once_more_child s (f.clause ∷ above) (literals s f.clause) f.next l f.nodes.items ms at h.below k);
+    below = rw (clause, next, nodes) (once_more_child s (f.clause ∷ above) (literals s f.clause) f.next l f.nodes ms at h.below k);
   }
 
-  pub child_more : (fs : List Frame) → IsChildOf s f fs → IsChildOf s g fs
+  pub child_more : (fs : List OpenSplit) → IsChildOf s f fs → IsChildOf s g fs
   child_more [] h = rw branch h
   child_more (p ∷ fs) h = record { literal = h.literal; is = h.is; equal = h.equal; longer = rw branch h.longer }
 
-  pub left_more : (base : ℕ) (fs : List Frame) → left s base (g ∷ fs) ≡ left_below s base (f ∷ fs)
+  pub left_more : (base : ℕ) (fs : List OpenSplit) → left s base (g ∷ fs) ≡ left_below s base (f ∷ fs)
   left_more base fs = rw (clause, next, class) refl
 
 append-nil : {A : Type 0} (b : List A) → b ++ [] ≡ b
@@ -96,42 +97,44 @@ append-nil [] = refl
 append-nil (x ∷ b) = ap (λ t. x ∷ t) (append-nil b)
 
 -- a split whose children are all closed is a tree for its branch
-pub whole_closes : (s : GroundSet) (f : Frame) → IsSound s f → f.next ≡ length (literals s f.clause) → Close s (f.branch.items ∷ []) (Split f.clause ∷ f.nodes.items)
+pub whole_closes : (s : GroundSet) (f : OpenSplit) → IsSound s f → f.next ≡ length (literals s f.clause) → Close s (f.branch ∷ []) (Split f.clause ∷ f.nodes)
 whole_closes s f h e =
-    (h.clause, subst (λ (t : List (List Lit)). Close s t f.nodes.items) (ap (map (λ l. f.branch.items ++ l ∷ [])) (take_all f.next (literals s f.clause) (omega (arith, e))) ∙ sym (append-nil (map (λ l. f.branch.items ++ l ∷ []) (literals s f.clause)))) h.closed)
+    (h.clause, subst (λ (t : List (List Lit)). Close s t f.nodes) (ap (map (λ l. f.branch ++ l ∷ [])) (take_all f.next (literals s f.clause) (omega (arith, e))) ∙ sym (append-nil (map (λ l. f.branch ++ l ∷ []) (literals s f.clause)))) h.closed)
 
-pub whole_once : (s : GroundSet) (above : List ℕ) (f : Frame) → IsOnce s above f → f.next ≡ length (literals s f.clause) → SplitsOnce s (above ∷ []) (Split f.clause ∷ f.nodes.items)
+pub whole_once : (s : GroundSet) (above : List ℕ) (f : OpenSplit) → IsOnce s above f → f.next ≡ length (literals s f.clause) → SplitsOnce s (above ∷ []) (Split f.clause ∷ f.nodes)
 whole_once s above f h e =
-    (h.fresh, subst (λ (t : List (List ℕ)). SplitsOnce s t f.nodes.items) (ap (map (λ l. f.clause ∷ above)) (take_all f.next (literals s f.clause) (omega (arith, e))) ∙ sym (append-nil (map (λ l. f.clause ∷ above) (literals s f.clause)))) h.below)
+    (h.fresh, subst (λ (t : List (List ℕ)). SplitsOnce s t f.nodes) (ap (map (λ l. f.clause ∷ above)) (take_all f.next (literals s f.clause) (omega (arith, e))) ∙ sym (append-nil (map (λ l. f.clause ∷ above) (literals s f.clause)))) h.below)
 
 -- what closes a frame's branch closes the next child of the split above
-pub closes_above : (s : GroundSet) (f : Frame) (fs : List Frame) (tree : List Node) → IsChildOf s f fs → Close s (f.branch.items ∷ []) tree → SplitsOnce s (clauses_of fs ∷ []) tree → ClosesTop s fs tree
+pub closes_above : (s : GroundSet) (f : OpenSplit) (fs : List OpenSplit) (tree : List Node) → IsChildOf s f fs → Close s (f.branch ∷ []) tree → SplitsOnce s (clauses_of fs ∷ []) tree → ClosesTop s fs tree
 closes_above s f [] tree h k o = (subst (λ (b : List Lit). Close s (b ∷ []) tree) h k, o)
 closes_above s f (p ∷ fs) tree h k o = record { literal = h.literal; is = h.is; close = subst (λ (b : List Lit). Close s (b ∷ []) tree) h.longer k; once = o }
 
 -- a complete split hands on its tree
-pub complete_closes : (s : GroundSet) (f : Frame) (fs : List Frame) → IsStack s (f ∷ fs) → f.next ≡ length (literals s f.clause) → ClosesTop s fs (Split f.clause ∷ f.nodes.items)
-complete_closes s f fs h e = closes_above s f fs (Split f.clause ∷ f.nodes.items) (h.2) (whole_closes s f (h.0) e) (whole_once s (clauses_of fs) f (h.1) e)
+pub complete_closes : (s : GroundSet) (f : OpenSplit) (fs : List OpenSplit) → IsStack s (f ∷ fs) → f.next ≡ length (literals s f.clause) → ClosesTop s fs (Split f.clause ∷ f.nodes)
+complete_closes s f fs h e = closes_above s f fs (Split f.clause ∷ f.nodes) (h.2) (whole_closes s f (h.0) e) (whole_once s (clauses_of fs) f (h.1) e)
 
 Contains-later : (x : ℕ) (d : List ℕ) (c : ℕ) → Contains d c → Contains (x ∷ d) c
 Contains-later x d c (k, lt, e) = (suc k, omega arith, e)
 
 -- a tree that needs no literal of the split stands in its place
-pub needless_goes : (s : GroundSet) (p : Frame) (fs : List Frame) (tree : List Node) → IsStack s (p ∷ fs) → ClosesTop s (p ∷ fs) tree → Close s (p.branch.items ∷ []) tree → ClosesTop s fs tree
+pub needless_goes : (s : GroundSet) (p : OpenSplit) (fs : List OpenSplit) (tree : List Node) → IsStack s (p ∷ fs) → ClosesTop s (p ∷ fs) tree → Close s (p.branch ∷ []) tree → ClosesTop s fs tree
 needless_goes s p fs tree h k close =
     closes_above s p fs tree (h.2) close (SplitsOnce-fewer s (clauses_of fs ∷ []) ((p.clause ∷ clauses_of fs) ∷ []) tree (Contains-later p.clause (clauses_of fs), tt) k.once)
 
 -- the split takes the tree
-pub tree_taken : (s : GroundSet) (p g : Frame) (fs : List Frame) (tree : List Node) → IsStack s (p ∷ fs) → ClosesTop s (p ∷ fs) tree → TakesTree p g tree → IsStack s (g ∷ fs)
-tree_taken s p g fs tree h k t = (
-  sound_more s p g k.literal tree k.is t.clause t.branch t.class t.next t.nodes (h.0) k.close,
-  once_more s p g k.literal tree k.is t.clause t.branch t.class t.next t.nodes (clauses_of fs) (h.1) k.once,
-  child_more s p g k.literal tree k.is t.clause t.branch t.class t.next t.nodes fs (h.2),
+pub tree_taken : (s : GroundSet) (b : List Lit) (c : List ℕ) (p g : Frame) (fs : List OpenSplit) (tree : List Node) → IsStack s (split_on b c p ∷ fs) → ClosesTop s (split_on b c p ∷ fs) tree →
+    TakesTree p g tree → IsStack s (split_on b c g ∷ fs)
+tree_taken s b c p g fs tree h k t = (
+  sound_more s (split_on b c p) (split_on b c g) k.literal tree k.is t.clause refl refl t.next t.nodes (h.0) k.close,
+  once_more s (split_on b c p) (split_on b c g) k.literal tree k.is t.clause refl refl t.next t.nodes (clauses_of fs) (h.1) k.once,
+  child_more s (split_on b c p) (split_on b c g) k.literal tree k.is t.clause refl refl t.next t.nodes fs (h.2),
   h.3,
 )
 
-pub tree_left : (s : GroundSet) (p g : Frame) (fs : List Frame) (tree : List Node) → ClosesTop s (p ∷ fs) tree → TakesTree p g tree → (base : ℕ) → left s base (g ∷ fs) ≡ left_below s base (p ∷ fs)
-tree_left s p g fs tree k t base = left_more s p g k.literal tree k.is t.clause t.branch t.class t.next t.nodes base fs
+pub tree_left : (s : GroundSet) (b : List Lit) (c : List ℕ) (p g : Frame) (fs : List OpenSplit) (tree : List Node) → ClosesTop s (split_on b c p ∷ fs) tree → TakesTree p g tree →
+    (base : ℕ) → left s base (split_on b c g ∷ fs) ≡ left_below s base (split_on b c p ∷ fs)
+tree_left s b c p g fs tree k t base = left_more s (split_on b c p) (split_on b c g) k.literal tree k.is t.clause refl refl t.next t.nodes base fs
 
 -- the newest of a list that grows at its end
 pub reverse_pushed : {A : Type 0} (xs ys : List A) (x : A) → ys ≡ xs ++ x ∷ [] → reverse ys ≡ x ∷ reverse xs
@@ -164,18 +167,18 @@ fits_above : (m v b w : ℕ) → 0 < v → m + 2 ≤ b → b * v ≤ w → m * v
 fits_above m v b w vp mb bw = let p : (m + 2) * v ≤ b * v = mul-le-mul_right v mb in omega arith
 
 -- one child less is left
-pub left_falls : (s : GroundSet) (base : ℕ) (f : Frame) (fs : List Frame) → 0 < base → f.next < length (literals s f.clause) → left_below s base (f ∷ fs) < left s base (f ∷ fs)
+pub left_falls : (s : GroundSet) (base : ℕ) (f : OpenSplit) (fs : List OpenSplit) → 0 < base → f.next < length (literals s f.clause) → left_below s base (f ∷ fs) < left s base (f ∷ fs)
 left_falls s base f fs h lt =
     let e : length (literals s f.clause) - f.next ≡ (length (literals s f.clause) - (f.next + 1)) + 1 = omega arith in
-    rw e (one_less (length (literals s f.clause) - (f.next + 1)) (weight base f) (left_below s base fs) (power_pos base (sum f.class.items) h))
+    rw e (one_less (length (literals s f.clause) - (f.next + 1)) (weight base f) (left_below s base fs) (power_pos base (sum f.class) h))
 
-pub left_falls_deeper : (s : GroundSet) (base : ℕ) (f child : Frame) (fs : List Frame) → length (literals s child.clause) + 2 ≤ base → f.next < length (literals s f.clause) → child.next ≡ 0 →
-    sum child.class.items < sum f.class.items → left s base (child ∷ f ∷ fs) < left s base (f ∷ fs)
+pub left_falls_deeper : (s : GroundSet) (base : ℕ) (f child : OpenSplit) (fs : List OpenSplit) → length (literals s child.clause) + 2 ≤ base → f.next < length (literals s f.clause) → child.next ≡ 0 →
+    sum child.class < sum f.class → left s base (child ∷ f ∷ fs) < left s base (f ∷ fs)
 left_falls_deeper s base f child fs big lt zero' less =
     let e : length (literals s f.clause) - f.next ≡ (length (literals s f.clause) - (f.next + 1)) + 1 = omega arith in
     let e' : length (literals s child.clause) - child.next ≡ length (literals s child.clause) = omega arith in
     rw (e, e') (split_less (length (literals s f.clause) - (f.next + 1)) (weight base f) (length (literals s child.clause)) (weight base child) (left_below s base fs)
-    (fits_above (length (literals s child.clause)) (weight base child) base (weight base f) (power_pos base (sum child.class.items) (omega arith)) big (power_step base (sum child.class.items) (sum f.class.items) (omega arith) less)))
+    (fits_above (length (literals s child.clause)) (weight base child) base (weight base f) (power_pos base (sum child.class) (omega arith)) big (power_step base (sum child.class) (sum f.class) (omega arith) less)))
 
 -- each clause fits below the base
 pub base_fits : (s : GroundSet) (c : ℕ) → c < length s.clauses → length (literals s c) + 2 ≤ base_of s
@@ -184,57 +187,64 @@ base_fits s c lt =
     omega (arith, b)
 
 -- a leaf closes the next child
-pub leaf_taken : (s : GroundSet) (f g : Frame) (fs : List Frame) → IsStack s (f ∷ fs) → StepGives s f g Closed → IsStack s (g ∷ fs) × (left s (base_of s) (g ∷ fs) < left s (base_of s) (f ∷ fs))
-leaf_taken s f g fs h st =
+pub leaf_taken : (s : GroundSet) (old new : Place) (f g : Frame) (fs : List OpenSplit) → IsStack s (split_on old.branch.items old.equal.class f ∷ fs) → StepGives s old f g new Closed →
+    IsStack s (split_on old.branch.items old.equal.class g ∷ fs)
+    × (left s (base_of s) (split_on old.branch.items old.equal.class g ∷ fs) < left s (base_of s) (split_on old.branch.items old.equal.class f ∷ fs))
+leaf_taken s old new f g fs h st =
     let t = st.1.2 in
+    let was = split_on old.branch.items old.equal.class f in
+    let now = split_on old.branch.items old.equal.class g in
     let within : f.next < length (literals s f.clause) = omega (arith, st.0.within, t.next, ap (λ c. length (literals s c)) t.clause) in
     let at : slice_get (literals s f.clause) f.next ≡ Some (get_or (literals s f.clause) f.next (equation 0 0)) = slice_get-get_or (literals s f.clause) f.next (equation 0 0) within in (
       (
         st.0,
-        once_more s f g _ (Leaf st.1.0 st.1.1 ∷ []) at t.clause t.branch t.class t.next t.nodes (clauses_of fs) (h.1) tt,
-        child_more s f g _ (Leaf st.1.0 st.1.1 ∷ []) at t.clause t.branch t.class t.next t.nodes fs (h.2),
+        once_more s was now _ (Leaf st.1.0 st.1.1 ∷ []) at t.clause refl refl t.next t.nodes (clauses_of fs) (h.1) tt,
+        child_more s was now _ (Leaf st.1.0 st.1.1 ∷ []) at t.clause refl refl t.next t.nodes fs (h.2),
         h.3,
       ),
-      subst (λ n. n < left s (base_of s) (f ∷ fs)) (sym (left_more s f g _ (Leaf st.1.0 st.1.1 ∷ []) at t.clause t.branch t.class t.next t.nodes (base_of s) fs)) (left_falls s (base_of s) f fs (omega arith) within),
+      subst (λ n. n < left s (base_of s) (was ∷ fs)) (sym (left_more s was now _ (Leaf st.1.0 st.1.1 ∷ []) at t.clause refl refl t.next t.nodes (base_of s) fs)) (left_falls s (base_of s) was fs (omega arith) within),
     )
 
 -- a split above has an equation on the branch that makes its clause true
-has_equation : (s : GroundSet) (fs : List Frame) (f g : Frame) → IsStack s (f ∷ fs) → IsNextChild s f g → (c : ℕ) → Contains (clauses_of (f ∷ fs)) c →
-    (k : ℕ) × (l : Lit) × (slice_get (literals s c) k ≡ Some l) × (l.equal ≡ true) × Contains g.branch.items l
+has_equation : (s : GroundSet) (fs : List OpenSplit) (f g : OpenSplit) → IsStack s (f ∷ fs) → IsNextChild s f g → (c : ℕ) → Contains (clauses_of (f ∷ fs)) c →
+    (k : ℕ) × (l : Lit) × (slice_get (literals s c) k ≡ Some l) × (l.equal ≡ true) × Contains g.branch l
 has_equation s fs f g h n c (zero, lt, e) = (
   f.next,
   n.literal,
   subst (λ d. slice_get (literals s d) f.next ≡ Some n.literal) e n.is,
   n.equal,
-  subst (λ (b : List Lit). Contains b n.literal) (sym n.longer) (Contains-append_right f.branch.items (n.literal ∷ []) n.literal (zero, omega arith, refl)),
+  subst (λ (b : List Lit). Contains b n.literal) (sym n.longer) (Contains-append_right f.branch (n.literal ∷ []) n.literal (zero, omega arith, refl)),
 )
 has_equation s [] f g h n c (suc k, lt, e) = absurd (omega arith)
 has_equation s (p ∷ ps) f g h n c (suc k, lt, e) =
     let r = has_equation s ps p f (h.3) (h.2) c (k, omega arith, e) in
-    (r.0, r.1, r.2, r.3, subst (λ (b : List Lit). Contains b r.1) (sym n.longer) (Contains-append_left f.branch.items (n.literal ∷ []) r.1 (r.4)))
+    (r.0, r.1, r.2, r.3, subst (λ (b : List Lit). Contains b r.1) (sym n.longer) (Contains-append_left f.branch (n.literal ∷ []) r.1 (r.4)))
 
 -- so a clause that is false is none of those
-is_fresh : (s : GroundSet) (fs : List Frame) (f g : Frame) → IsStack s (f ∷ fs) → IsNextChild s f g → IsSound s g → Contains (clauses_of (f ∷ fs)) g.clause → ⊥
+is_fresh : (s : GroundSet) (fs : List OpenSplit) (f g : OpenSplit) → IsStack s (f ∷ fs) → IsNextChild s f g → IsSound s g → Contains (clauses_of (f ∷ fs)) g.clause → ⊥
 is_fresh s fs f g h n sound m =
     let r = has_equation s fs f g h n g.clause m in
     let fails = rw (r.3) at (sound.wrong (r.0) (r.1) (r.2)) in
-    let on : Contains g.branch.items (equation r.1.left r.1.right) = subst (λ (l : Lit). Contains g.branch.items l) (sym (literal_is (r.1) (r.3))) (r.4) in
+    let on : Contains g.branch (equation r.1.left r.1.right) = subst (λ (l : Lit). Contains g.branch l) (sym (literal_is (r.1) (r.3))) (r.4) in
     let fit = sound.place.fit (on.0) (equation r.1.left r.1.right) (on.1) in
     let range = subst (λ (l : Lit). IsInRange s.terms l) (on.2) fit.range in
     let len = sound.place.closure.merged.one_each in
     fails (sound.place.closure.given r.1.left r.1.right (omega (arith, range.0, len)) (omega (arith, range.1, len)) on)
 
 -- a child is split in turn
-pub deeper_stacked : (s : GroundSet) (f g child : Frame) (fs : List Frame) → IsStack s (f ∷ fs) → StepGives s f g (Deeper child) →
-    IsStack s (child ∷ g ∷ fs) × (left s (base_of s) (child ∷ g ∷ fs) < left s (base_of s) (f ∷ fs))
-deeper_stacked s f g child fs h (same, sound, n, first, none, less) =
-    let once : IsOnce s (clauses_of (f ∷ fs)) child = record { fresh = is_fresh s fs f child h n sound; below = rw (first, none) tt } in
-    subst (λ (x : Frame). IsStack s (child ∷ x ∷ fs) × (left s (base_of s) (child ∷ x ∷ fs) < left s (base_of s) (f ∷ fs))) (sym same)
-    ((sound, once, n, h), left_falls_deeper s (base_of s) f child fs (base_fits s child.clause sound.clause) (slice_get_within (literals s f.clause) f.next n.literal n.is) first less)
+pub deeper_stacked : (s : GroundSet) (old new : Place) (f g child : Frame) (fs : List OpenSplit) → IsStack s (split_on old.branch.items old.equal.class f ∷ fs) → StepGives s old f g new (Deeper child) →
+    IsStack s (split_on new.branch.items new.equal.class child ∷ split_on old.branch.items old.equal.class g ∷ fs)
+    × (left s (base_of s) (split_on new.branch.items new.equal.class child ∷ split_on old.branch.items old.equal.class g ∷ fs) < left s (base_of s) (split_on old.branch.items old.equal.class f ∷ fs))
+deeper_stacked s old new f g child fs h (same, fresh, n, less) =
+    let was = split_on old.branch.items old.equal.class f in
+    let next = split_on new.branch.items new.equal.class child in
+    let once : IsOnce s (clauses_of (was ∷ fs)) next = record { fresh = is_fresh s fs was next h n fresh.sound; below = rw (fresh.first, fresh.none) tt } in
+    subst (λ (x : Frame). IsStack s (next ∷ split_on old.branch.items old.equal.class x ∷ fs) × (left s (base_of s) (next ∷ split_on old.branch.items old.equal.class x ∷ fs) < left s (base_of s) (was ∷ fs))) (sym same)
+    ((fresh.sound, once, n, h), left_falls_deeper s (base_of s) was next fs (base_fits s child.clause fresh.sound.clause) (slice_get_within (literals s f.clause) f.next n.literal n.is) fresh.first less)
 
 -- the first split of all
-pub first_stacked : (s : GroundSet) (f : Frame) → IsSound s f → f.branch.items ≡ [] → f.next ≡ 0 → f.nodes.items ≡ [] → IsStack s (f ∷ [])
+pub first_stacked : (s : GroundSet) (f : OpenSplit) → IsSound s f → f.branch ≡ [] → f.next ≡ 0 → f.nodes ≡ [] → IsStack s (f ∷ [])
 first_stacked s f h b n e = (h, record { fresh = λ (k, lt, is). absurd (omega arith); below = rw (n, e) tt }, b, tt)
 
-pub left_falls_complete : (s : GroundSet) (base : ℕ) (f : Frame) (fs : List Frame) → left_below s base fs < left s base (f ∷ fs)
+pub left_falls_complete : (s : GroundSet) (base : ℕ) (f : OpenSplit) (fs : List OpenSplit) → left_below s base fs < left s base (f ∷ fs)
 left_falls_complete s base f fs = omega arith

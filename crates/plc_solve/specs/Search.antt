@@ -1,5 +1,6 @@
 -- The state of a search for a tree that closes a set.
-use Rattle.std.specs.Prelude.{◌≡◌, ◌≢◌, ◌≤◌, ◌<◌, ◌+◌, ℕ, true, List, [], ◌∷◌, ◌++◌, length, map, take, All, Contains, slice_get, slice_index, sum, Some}
+use Rattle.std.specs.Prelude.{◌≡◌, ◌≢◌, ◌≤◌, ◌<◌, ◌+◌, ℕ, true, List, [], ◌∷◌}
+use Rattle.std.specs.Prelude.{◌++◌, length, map, take, drop, All, Contains, slice_get, slice_index, sum, Some}
 use Rattle.plc_ground.specs.declared.terms.Lit.{Lit}
 use Rattle.plc_ground.specs.declared.terms.Symbol.{Symbol}
 use Rattle.plc_ground.specs.declared.terms.Node.{Node}
@@ -8,14 +9,16 @@ use Rattle.plc_ground.specs.declared.terms.GroundTerm.TheVariants.{Const}
 use Rattle.plc_ground.specs.declared.terms.GroundSet.{GroundSet}
 use Rattle.plc_ground.specs.declared.apart.Family.TheVariants.{Free}
 use Rattle.plc_solve.specs.declared.survey.Survey.{Survey}
+use Rattle.plc_solve.specs.declared.place.Place.{Place}
 use Rattle.plc_solve.specs.declared.frame.Frame.{Frame}
-use Rattle.plc_solve.specs.declared.frame.Descent.{Descent}
-use Rattle.plc_solve.specs.declared.frame.Descent.TheVariants.{Conflict, Place}
+use Rattle.plc_solve.specs.declared.split.Descent.{Descent}
+use Rattle.plc_solve.specs.declared.split.Descent.TheVariants.{Conflict, Longer}
 use Rattle.plc_solve.specs.declared.frame.Step.{Step}
 use Rattle.plc_solve.specs.declared.frame.Step.TheVariants.{Open, Closed, Deeper, Complete}
 use Rattle.plc_ground.specs.Model.{symbol_family, FailsIn, MustDiffer, IsModel, literals}
 use Rattle.plc_ground.specs.Fit.{IsInRange, LitFits}
 use Rattle.plc_ground.specs.Classes.{IsClosure, IsTable, AreApart}
+use Rattle.plc_ground.specs.Changes.{Extends, undone}
 use Rattle.plc_ground.specs.Trees.{IsRight, Close, SplitsOnce}
 
 -- the term is a constant that differs from others by the rule alone
@@ -58,88 +61,137 @@ pub record IsPlace (s : GroundSet) (branch : List Lit) (class : List ℕ) : Type
   pub fit : All (LitFits s) branch
   pub apart : (i j : ℕ) → AreApart s class i j
 
+-- a split of the present branch: the branch above it and its classes are told, where the search keeps two lengths
+pub record OpenSplit : Type 0 where
+  pub clause : ℕ
+  pub next : ℕ
+  pub nodes : List Node
+  pub branch : List Lit
+  pub class : List ℕ
+
+-- the split on this branch, which has these classes
+abbrev pub split_on : List Lit → List ℕ → Frame → OpenSplit
+split_on branch class f =
+    record { clause = f.clause; next = f.next; nodes = f.nodes.items; branch = branch; class = class }
+
+-- the splits of a place, the newest first: each on the branch and the classes that were there before what came later
+abbrev pub splits : Place → List Frame → List OpenSplit
+splits p [] = []
+splits p (f ∷ fs) =
+    split_on (take f.depth p.branch.items) (undone (drop f.mark p.equal.trail) p.equal.class) f ∷ splits p fs
+
+-- each of these splits, the newest first, stands at the place above it or before
+abbrev pub AreNested : ℕ → ℕ → List Frame → Type 0
+AreNested depth mark [] = Unit {0}
+AreNested depth mark (f ∷ fs) = (f.depth ≤ depth) × (f.mark ≤ mark) × AreNested f.depth f.mark fs
+
+-- the place is cut back to a split
+pub record IsCutTo (f : Frame) (old new : Place) : Type 0 where
+  pub branch : new.branch.items ≡ take f.depth old.branch.items
+  pub class : new.equal.class ≡ undone (drop f.mark old.equal.trail) old.equal.class
+  pub trail : new.equal.trail ≡ take f.mark old.equal.trail
+
+-- the place is what it was
+pub record IsSame (old new : Place) : Type 0 where
+  pub branch : new.branch.items ≡ old.branch.items
+  pub class : new.equal.class ≡ old.equal.class
+  pub trail : new.equal.trail ≡ old.equal.trail
+
+-- the place is the old one or lies deeper
+pub record GoesOn (old new : Place) : Type 0 where
+  pub more : List Lit
+  pub branch : new.branch.items ≡ old.branch.items ++ more
+  pub equal : Extends old.equal new.equal
+
 -- a split on a false clause, whose first children are closed
-pub record IsSound (s : GroundSet) (f : Frame) : Type 0 where
-  pub place : IsPlace s f.branch.items f.class.items
+pub record IsSound (s : GroundSet) (f : OpenSplit) : Type 0 where
+  pub place : IsPlace s f.branch f.class
   pub clause : f.clause < length s.clauses
-  pub wrong : IsFalse s f.class.items f.clause
+  pub wrong : IsFalse s f.class f.clause
   pub within : f.next ≤ length (literals s f.clause)
-  pub closed : Close s (map (λ l. f.branch.items ++ l ∷ []) (take f.next (literals s f.clause))) f.nodes.items
+  pub closed : Close s (map (λ l. f.branch ++ l ∷ []) (take f.next (literals s f.clause))) f.nodes
 
 -- the split and the trees below it split no clause twice, nor one of those above
-pub record IsOnce (s : GroundSet) (above : List ℕ) (f : Frame) : Type 0 where
+pub record IsOnce (s : GroundSet) (above : List ℕ) (f : OpenSplit) : Type 0 where
   pub fresh : Contains above f.clause → ⊥
-  pub below : SplitsOnce s (map (λ l. f.clause ∷ above) (take f.next (literals s f.clause))) f.nodes.items
+  pub below : SplitsOnce s (map (λ l. f.clause ∷ above) (take f.next (literals s f.clause))) f.nodes
 
 -- the child is the split's next child, on an equation
-pub record IsNextChild (s : GroundSet) (f : Frame) (child : Frame) : Type 0 where
+pub record IsNextChild (s : GroundSet) (f : OpenSplit) (child : OpenSplit) : Type 0 where
   pub literal : Lit
   pub is : slice_get (literals s f.clause) f.next ≡ Some literal
   pub equal : literal.equal ≡ true
-  pub longer : child.branch.items ≡ f.branch.items ++ literal ∷ []
+  pub longer : child.branch ≡ f.branch ++ literal ∷ []
+
+-- a split at this place, of which no child is closed yet
+pub record IsNew (s : GroundSet) (p : Place) (child : Frame) : Type 0 where
+  pub sound : IsSound s (split_on p.branch.items p.equal.class child)
+  pub first : child.next ≡ 0
+  pub none : child.nodes.items ≡ []
+  pub depth : child.depth ≡ length p.branch.items
+  pub mark : child.mark ≡ length p.equal.trail
 
 -- what comes of a branch on which nothing is split yet
-abbrev pub Enters : GroundSet → List Lit → List ℕ → Step → Type 0
-Enters s branch class (Open model) = IsModel s model.items
-Enters s branch class Closed = ⊥
-Enters s branch class (Deeper child) = IsSound s child × (child.branch.items ≡ branch)
-    × (child.class.items ≡ class) × (child.next ≡ 0) × (child.nodes.items ≡ [])
-Enters s branch class Complete = ⊥
+abbrev pub Enters : GroundSet → Place → Step → Type 0
+Enters s p Open = IsModel s p.equal.class
+Enters s p Closed = ⊥
+Enters s p (Deeper child) = IsNew s p child
+Enters s p Complete = ⊥
 
 -- two terms of one class that must differ, or the longer branch with its classes
-abbrev pub Descends : GroundSet → List Lit → List ℕ → Lit → Descent → Type 0
-Descends s branch class l (Conflict a b) = IsRight s (branch ++ l ∷ []) (Leaf a b)
-Descends s branch class l (Place longer finer) =
-    IsPlace s longer.items finer.items × (longer.items ≡ branch ++ l ∷ [])
-    × (slice_index class l.left ≢ slice_index class l.right → sum finer.items < sum class)
-
--- the frame after one more child, which a leaf closes
-pub record TakesLeaf (old new : Frame) (a b : ℕ) : Type 0 where
-  pub clause : new.clause ≡ old.clause
-  pub branch : new.branch ≡ old.branch
-  pub class : new.class ≡ old.class
-  pub next : new.next ≡ old.next + 1
-  pub nodes : new.nodes.items ≡ old.nodes.items ++ Leaf a b ∷ []
+abbrev pub Descends : GroundSet → Place → Lit → Place → Descent → Type 0
+Descends s old l new (Conflict a b) = IsRight s (old.branch.items ++ l ∷ []) (Leaf a b)
+Descends s old l new Longer =
+    IsPlace s new.branch.items new.equal.class × (new.branch.items ≡ old.branch.items ++ l ∷ [])
+    × (slice_index old.equal.class l.left ≢ slice_index old.equal.class l.right
+    → sum new.equal.class < sum old.equal.class)
 
 -- the frame after one more child, which a tree closes
 pub record TakesTree (old new : Frame) (tree : List Node) : Type 0 where
   pub clause : new.clause ≡ old.clause
-  pub branch : new.branch ≡ old.branch
-  pub class : new.class ≡ old.class
+  pub depth : new.depth ≡ old.depth
+  pub mark : new.mark ≡ old.mark
   pub next : new.next ≡ old.next + 1
   pub nodes : new.nodes.items ≡ old.nodes.items ++ tree
 
--- what one step of the search gives
-abbrev pub StepGives : GroundSet → Frame → Frame → Step → Type 0
-StepGives s old new (Open class) = IsModel s class.items
-StepGives s old new Closed = IsSound s new × ((a : ℕ) × (b : ℕ) × TakesLeaf old new a b)
-StepGives s old new (Deeper child) = (new ≡ old) × IsSound s child × IsNextChild s old child
-    × (child.next ≡ 0) × (child.nodes.items ≡ []) × (sum child.class.items < sum old.class.items)
-StepGives s old new Complete = (new ≡ old) × (old.next ≡ length (literals s old.clause))
+-- one step at a split that stands at the old place
+abbrev pub StepGives : GroundSet → Place → Frame → Frame → Place → Step → Type 0
+StepGives s old f g new Open = IsModel s new.equal.class
+StepGives s old f g new Closed = IsSound s (split_on old.branch.items old.equal.class g)
+    × ((a : ℕ) × (b : ℕ) × TakesTree f g (Leaf a b ∷ []))
+StepGives s old f g new (Deeper child) = (g ≡ f) × IsNew s new child
+    × IsNextChild s (split_on old.branch.items old.equal.class f) (split_on new.branch.items new.equal.class child)
+    × (sum new.equal.class < sum old.equal.class)
+StepGives s old f g new Complete = (g ≡ f) × (f.next ≡ length (literals s f.clause))
 
 -- the clauses of these splits
-abbrev pub clauses_of : List Frame → List ℕ
+abbrev pub clauses_of : List OpenSplit → List ℕ
 clauses_of [] = []
 clauses_of (f ∷ fs) = f.clause ∷ clauses_of fs
 
--- the frame is the next child of the split above, or the first of all
-abbrev pub IsChildOf : GroundSet → Frame → List Frame → Type 0
-IsChildOf s f [] = f.branch.items ≡ []
+-- the split is the next child of the split above, or the first of all
+abbrev pub IsChildOf : GroundSet → OpenSplit → List OpenSplit → Type 0
+IsChildOf s f [] = f.branch ≡ []
 IsChildOf s f (p ∷ fs) = IsNextChild s p f
 
 -- the splits of one branch, the newest first
-abbrev pub IsStack : GroundSet → List Frame → Type 0
+abbrev pub IsStack : GroundSet → List OpenSplit → Type 0
 IsStack s [] = Unit {0}
 IsStack s (f ∷ fs) = IsSound s f × IsOnce s (clauses_of fs) f × IsChildOf s f fs × IsStack s fs
 
+-- the splits of a place, the newest first, are those of one branch
+pub record Stands (s : GroundSet) (p : Place) (fs : List Frame) : Type 0 where
+  pub nested : AreNested (length p.branch.items) (length p.equal.trail) fs
+  pub stack : IsStack s (splits p fs)
+
 -- the nodes close the next child of a split, and split no clause twice
-pub record ClosesChild (s : GroundSet) (p : Frame) (above : List ℕ) (tree : List Node) : Type 0 where
+pub record ClosesChild (s : GroundSet) (p : OpenSplit) (above : List ℕ) (tree : List Node) : Type 0 where
   pub literal : Lit
   pub is : slice_get (literals s p.clause) p.next ≡ Some literal
-  pub close : Close s ((p.branch.items ++ literal ∷ []) ∷ []) tree
+  pub close : Close s ((p.branch ++ literal ∷ []) ∷ []) tree
   pub once : SplitsOnce s ((p.clause ∷ above) ∷ []) tree
 
 -- the nodes close the branch that these splits lead to, and split no clause twice
-abbrev pub ClosesTop : GroundSet → List Frame → List Node → Type 0
+abbrev pub ClosesTop : GroundSet → List OpenSplit → List Node → Type 0
 ClosesTop s [] tree = Close s ([] ∷ []) tree × SplitsOnce s ([] ∷ []) tree
 ClosesTop s (p ∷ fs) tree = ClosesChild s p (clauses_of fs) tree

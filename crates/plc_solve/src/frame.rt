@@ -1,13 +1,13 @@
-// A split on the present branch. Its classes are the closure of the branch above it, so nothing has
-// to be undone: going back up is taking the frame below. The nodes of the children that are closed
-// stay with the frame until all are, so that a tree can be left out where it stands in place of its
-// split.
-ghost use Rattle.std.specs.Prelude.{◌≡◌, ◌<◌, ◌+◌, ◌∷◌, IfOk, OnOk, length};
+// A split on the present branch. It knows how long the branch above it is, and the mark of the table of
+// equalities there, so that going back up is cutting both back. The nodes of the children that are
+// closed stay with the frame until all are, so that a tree can be left out where it stands in place of
+// its split.
+ghost use Rattle.std.specs.Prelude.{◌≡◌, ◌<◌, ◌+◌, ◌∷◌, [], IfOk, OnOk, length};
 ghost use Rattle.plc_ground.specs.Model.{literals};
 ghost use Rattle.plc_ground.specs.declared.terms.Node.{Node};
-ghost use Rattle.plc_solve.specs.Search.{TakesLeaf, TakesTree};
+ghost use Rattle.plc_solve.specs.Search.{TakesTree};
 
-use plc_ground::{GroundSet, Lit, Node, clause};
+use plc_ground::{GroundSet, Node, clause};
 use std::alloc::{AllocError, Global};
 
 /// A split whose children before `next` are closed by `nodes`.
@@ -16,30 +16,23 @@ pub(crate) struct Frame {
     pub clause: u32,
     pub next: usize,
     pub nodes: Vec<Node>,
-    pub branch: Vec<Lit>,
-    pub class: Vec<u32>,
+    /// How long the branch above is.
+    pub depth: usize,
+    /// The mark of the table above.
+    pub mark: usize,
 }
 
 /// What became of the next child of a split.
 #[derive(Drop)]
 pub(crate) enum Step {
-    /// The classes are a model.
-    Open(Vec<u32>),
+    /// The classes of the branch are a model.
+    Open,
     /// A leaf closes the child.
     Closed,
     /// The child is split in turn.
     Deeper(Frame),
     /// There is no further child.
     Complete,
-}
-
-/// What an equation more makes of a branch.
-#[derive(Drop)]
-pub(crate) enum Descent {
-    /// Two terms come into one class that must not.
-    Conflict(u32, u32),
-    /// The longer branch, and its classes.
-    Place(Vec<Lit>, Vec<u32>),
 }
 
 /// Goes on to the child after the next.
@@ -57,7 +50,7 @@ fn next_child(set: &GroundSet, top: &mut Frame)
 pub(crate) fn take_leaf(set: &GroundSet, top: &mut Frame, a: u32, b: u32) -> Result<(), AllocError>
     requires known { top.old.clause < length set.now.clauses }
     requires child { top.old.next < length (literals set.now top.old.clause) }
-    ensures { OnOk result (TakesLeaf top.old top.new a b) }
+    ensures { OnOk result (TakesTree top.old top.new (Node.Leaf a b ∷ [])) }
 {
     top.nodes.push(Node::Leaf(a, b))?;
     next_child(set, top);

@@ -9,6 +9,7 @@ mod apart;
 mod choice;
 mod frame;
 mod needless;
+mod place;
 mod search;
 mod split;
 mod survey;

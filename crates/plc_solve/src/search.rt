@@ -2,14 +2,15 @@
 // false under it and no two constants come together that must differ, it is a model. Else a false
 // clause is split. The stack of splits is a list, so no depth is too great. A split above the
 // present branch has a true equation on it, so a clause that is false wasn't split: none is twice.
-ghost use Rattle.std.specs.Prelude.{◌≡◌, ◌↔◌, ◌<◌, ◌∷◌, ℕ, List, [], IfOk, length, reverse, vec_len};
+ghost use Rattle.std.specs.Prelude.{◌≡◌, ◌↔◌, ◌<◌, ◌∷◌, [], IfOk, length, reverse, vec_len};
 ghost use Rattle.plc_ground.specs.Fit.{IsWellFormed};
 ghost use Rattle.plc_ground.specs.Trees.{HasModel};
-ghost use Rattle.plc_solve.specs.Search.{IsSurvey, Enters, ClosesTop, IsStack};
+ghost use Rattle.plc_solve.specs.Search.{IsSurvey, Stands};
 ghost use Rattle.plc_solve.specs.Answers.{IsOpen, CarriesModel, CarriesTree};
 
 use crate::frame::{Frame, Step, whole};
 use crate::needless::hand_up;
+use crate::place::{Place, go_up};
 use crate::split::{enter, take_child};
 use crate::survey::{Survey, take_survey};
 use plc_base::{Items, NoMemory};
@@ -25,42 +26,28 @@ pub enum Answer {
     Open(GroundModel),
 }
 
-/// The first split, or a model where no clause is false.
-fn begin(
-    alloc: Global,
-    set: &GroundSet,
-    survey: &Survey,
-    seen: &mut [usize],
-) -> Result<Step, AllocError>
-    requires well { IsWellFormed set.now }
-    requires survey { IsSurvey set.now survey.now }
-    requires seen { length seen.old ≡ length set.now.clauses }
-    ensures { IfOk result (λ r. (class : List ℕ) × Enters set.now [] class r) }
-{
-    let class = into_classes(all_apart(alloc, set)?);
-    Ok(enter(alloc, set, survey, seen, Vec::new(alloc), class))
-}
-
 /// The answer that comes of the first split.
 fn find(
     alloc: Global,
     set: &GroundSet,
     survey: &Survey,
     seen: &mut [usize],
+    mut place: Place,
     first: Frame,
 ) -> Result<Answer, AllocError>
     requires well { IsWellFormed set.now }
     requires survey { IsSurvey set.now survey.now }
     requires seen { length seen.old ≡ length set.now.clauses }
-    requires stack { IsStack set.now (first ∷ []) }
+    requires stands { Stands set.now place (first ∷ []) }
     ensures open { IfOk result (CarriesModel set.now) }
     ensures closed { IfOk result (CarriesTree set.now) }
 {
     let mut frames = Vec::new(alloc);
     frames.push(first)?;
     'search: while let Some(mut top) = frames.pop() {
-        match take_child(alloc, set, survey, seen, &mut top)? {
-            Step::Open(class) => return Ok(open(class)),
+        go_up(&mut place, &top);
+        match take_child(alloc, set, survey, seen, &mut top, &mut place)? {
+            Step::Open => return Ok(open(place)),
             Step::Closed => frames.push(top)?,
             Step::Deeper(child) => {
                 frames.push(top)?;
@@ -68,7 +55,7 @@ fn find(
             }
             Step::Complete => {
                 let tree = whole(alloc, top.clause, &top.nodes)?;
-                if let Some(nodes) = hand_up(alloc, set, survey, &mut frames, tree)? {
+                if let Some(nodes) = hand_up(alloc, set, survey, &mut frames, &mut place, tree)? {
                     return Ok(Answer::Closed(Tree {
                         nodes: Items::from_vec(nodes),
                     }));
@@ -79,11 +66,11 @@ fn find(
     unreachable!()
 }
 
-fn open(class: Vec<u32>) -> Answer
-    ensures { result ≡ Answer.Open (record { class = class.items }) }
+fn open(place: Place) -> Answer
+    ensures { result ≡ Answer.Open (record { class = place.equal.class }) }
 {
     Answer::Open(GroundModel {
-        class: Items::from_vec(class),
+        class: Items::from_vec(into_classes(place.equal)),
     })
 }
 
@@ -94,9 +81,13 @@ fn solve(alloc: Global, set: &GroundSet) -> Result<Answer, AllocError>
 {
     let survey = take_survey(alloc, set)?;
     let mut seen = vec![in alloc; 0usize; set.clauses.len()]?;
-    match begin(alloc, set, &survey, &mut seen)? {
-        Step::Open(class) => Ok(open(class)),
-        Step::Deeper(first) => Ok(find(alloc, set, &survey, &mut seen, first)?),
+    let place = Place {
+        branch: Vec::new(alloc),
+        equal: all_apart(alloc, set)?,
+    };
+    match enter(alloc, set, &survey, &mut seen, &place) {
+        Step::Open => Ok(open(place)),
+        Step::Deeper(first) => Ok(find(alloc, set, &survey, &mut seen, place, first)?),
         _ => unreachable!(),
     }
 }

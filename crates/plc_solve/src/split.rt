@@ -3,17 +3,26 @@
 // closed where two constants come together that must differ, else it is a longer branch. An
 // inequation is never needed below its own leaf, since a clause that it made true has it among its
 // literals and isn't split.
-ghost use Rattle.std.specs.Prelude.{◌≡◌, ◌≢◌, ◌<◌, ◌++◌, ◌∷◌, [], IfOk, OnOk, length, slice_index, sum, true};
+ghost use Rattle.std.specs.Prelude.{◌≡◌, IfOk, OnOk, length, true};
 ghost use Rattle.plc_ground.specs.Fit.{IsWellFormed, LitFits};
-ghost use Rattle.plc_ground.specs.Classes.{IsClosure};
-ghost use Rattle.plc_solve.specs.Search.{IsSurvey, IsPlace, IsSound, Enters, Descends, StepGives};
+ghost use Rattle.plc_solve.specs.Search.{IsSurvey, IsPlace, IsSound, Enters, Descends, GoesOn, StepGives, split_on};
 
 use crate::apart::conflict;
 use crate::choice::pick;
-use crate::frame::{Descent, Frame, Step, take_leaf};
+use crate::frame::{Frame, Step, take_leaf};
+use crate::place::Place;
 use crate::survey::Survey;
-use plc_ground::{GroundSet, Lit, clause, into_classes, of_classes, put};
+use plc_ground::{GroundSet, Lit, classes, clause, mark, put};
 use std::alloc::{AllocError, Global};
+
+/// What an equation more makes of a branch.
+#[derive(Clone, Copy, Debug)]
+pub(crate) enum Descent {
+    /// Two terms come into one class that must not.
+    Conflict(u32, u32),
+    /// The branch is longer.
+    Longer,
+}
 
 /// A branch on which nothing is split yet: its classes are a model, or a false clause is to be split.
 pub(crate) fn enter(
@@ -21,86 +30,64 @@ pub(crate) fn enter(
     set: &GroundSet,
     survey: &Survey,
     seen: &mut [usize],
-    branch: Vec<Lit>,
-    class: Vec<u32>,
+    place: &Place,
 ) -> Step
     requires well { IsWellFormed set.now }
     requires survey { IsSurvey set.now survey.now }
     requires seen { length seen.old ≡ length set.now.clauses }
-    requires place { IsPlace set.now branch.items class.items }
-    ensures { Enters set.now branch.items class.items result }
+    requires place { IsPlace set.now place.now.branch.items place.now.equal.class }
+    ensures { Enters set.now place.now result }
 {
-    match pick(set, survey, &class, seen) {
-        None => Step::Open(class),
+    match pick(set, survey, classes(&place.equal), seen) {
+        None => Step::Open,
         Some(clause) => Step::Deeper(Frame {
             clause: clause as u32,
             next: 0,
             nodes: Vec::new(alloc),
-            branch,
-            class,
+            depth: place.branch.len(),
+            mark: mark(&place.equal),
         }),
     }
 }
 
-/// The classes with one more literal on the branch.
-fn refined(
-    alloc: Global,
-    set: &GroundSet,
-    survey: &Survey,
-    top: &Frame,
-    l: Lit,
-) -> Result<Vec<u32>, AllocError>
-    requires well { IsWellFormed set.now }
-    requires survey { IsSurvey set.now survey.now }
-    requires place { IsPlace set.now top.now.branch.items top.now.class.items }
-    requires fit { LitFits set.now l }
-    ensures closure { IfOk result (λ new. IsClosure set.now.terms (top.now.branch.items ++ l ∷ []) new.items) }
-    ensures less { IfOk result (λ new. l.equal ≡ true
-        → slice_index top.now.class.items l.left ≢ slice_index top.now.class.items l.right
-        → sum new.items < sum top.now.class.items) }
-{
-    let mut equal = of_classes(alloc, &top.class)?;
-    put(set, &survey.table, &mut equal, l)?;
-    Ok(into_classes(equal))
-}
-
-/// Puts one more equation on a branch.
+/// Puts one more equation on the branch.
 fn descend(
-    alloc: Global,
     set: &GroundSet,
     survey: &Survey,
-    top: &Frame,
+    place: &mut Place,
     l: Lit,
 ) -> Result<Descent, AllocError>
     requires well { IsWellFormed set.now }
     requires survey { IsSurvey set.now survey.now }
-    requires place { IsPlace set.now top.now.branch.items top.now.class.items }
+    requires place { IsPlace set.now place.old.branch.items place.old.equal.class }
     requires fit { LitFits set.now l }
     requires equal { l.equal ≡ true }
-    ensures { IfOk result (Descends set.now top.now.branch.items top.now.class.items l) }
+    ensures descends { IfOk result (Descends set.now place.old l place.new) }
+    ensures goes_on { OnOk result (GoesOn place.old place.new) }
 {
-    let class = refined(alloc, set, survey, top, l)?;
-    if let Some((a, b)) = conflict(set, &survey.constants, &class) {
+    put(set, &survey.table, &mut place.equal, l)?;
+    if let Some((a, b)) = conflict(set, &survey.constants, classes(&place.equal)) {
         return Ok(Descent::Conflict(a as u32, b as u32));
     }
-    let mut branch = Vec::from_slice(alloc, &top.branch)?;
-    branch.push(l)?;
-    Ok(Descent::Place(branch, class))
+    place.branch.push(l)?;
+    Ok(Descent::Longer)
 }
 
-/// Takes the next child of a split.
+/// Takes the next child of a split. The place is that of the split, and then that of the child.
 pub(crate) fn take_child(
     alloc: Global,
     set: &GroundSet,
     survey: &Survey,
     seen: &mut [usize],
     top: &mut Frame,
+    place: &mut Place,
 ) -> Result<Step, AllocError>
     requires well { IsWellFormed set.now }
     requires survey { IsSurvey set.now survey.now }
     requires seen { length seen.old ≡ length set.now.clauses }
-    requires sound { IsSound set.now top.old }
-    ensures { IfOk result (StepGives set.now top.old top.new) }
+    requires sound { IsSound set.now (split_on place.old.branch.items place.old.equal.class top.old) }
+    ensures gives { IfOk result (StepGives set.now place.old top.old top.new place.new) }
+    ensures goes_on { OnOk result (GoesOn place.old place.new) }
 {
     let literals = clause(set, top.clause as usize);
     if top.next == literals.len() {
@@ -111,11 +98,11 @@ pub(crate) fn take_child(
         take_leaf(set, top, l.left, l.right)?;
         return Ok(Step::Closed);
     }
-    match descend(alloc, set, survey, top, l)? {
+    match descend(set, survey, place, l)? {
         Descent::Conflict(a, b) => {
             take_leaf(set, top, a, b)?;
             Ok(Step::Closed)
         }
-        Descent::Place(branch, class) => Ok(enter(alloc, set, survey, seen, branch, class)),
+        Descent::Longer => Ok(enter(alloc, set, survey, seen, place)),
     }
 }

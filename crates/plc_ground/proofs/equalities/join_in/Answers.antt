@@ -1,6 +1,6 @@
-use Rattle.std.proofs.Common.{◌≡◌, ◌<◌, List, ℕ, refl, subst}
+use Rattle.std.proofs.Common.{List, ℕ, refl, subst}
 use Rattle.plc_ground.specs.Classes.{IsClash}
-use Rattle.plc_ground.specs.Changes.{AgreeAt, Settles, to_settle}
+use Rattle.plc_ground.specs.Changes.{AgreeAt}
 use Rattle.plc_ground.proofs.Joining.{arguments_in_range}
 use Rattle.plc_ground.proofs.Changing.{settles_first, settles_joined}
 use Rattle.plc_ground.proofs.equalities.join_in.Goals as goal

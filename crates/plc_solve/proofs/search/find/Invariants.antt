@@ -1,14 +1,14 @@
 use Rattle.std.proofs.Common.{◌≡◌, ◌<◌, length, reverse, vec_len}
-use Rattle.plc_solve.specs.Search.{IsStack}
+use Rattle.plc_solve.specs.Search.{Stands, splits}
 use Rattle.plc_solve.specs.Measure.{left, base_of}
 use Rattle.plc_solve.proofs.search.find.Given as goal
 
 abbrev pub invariant-search : goal.invariant-search
 invariant-search l = record {
-  stack : IsStack l.set (reverse l.frames.items);
+  stands : Stands l.set l.place (reverse l.frames.items);
   nonempty : 0 < vec_len l.frames;
   seen : length l.seen ≡ length l.set.clauses;
 }
 
 abbrev pub decreases-search : goal.decreases-search
-decreases-search l = left l.set (base_of l.set) (reverse l.frames.items)
+decreases-search l = left l.set (base_of l.set) (splits l.place (reverse l.frames.items))

@@ -1,21 +1,31 @@
-use Rattle.std.proofs.Common.{◌≡◌, ◌∙◌, ◌++◌, ◌∷◌, [], List, subst, sym, ap}
+use Rattle.std.proofs.Common.{◌∙◌, ◌∷◌, [], List, length, ap, subst, sym}
+use Rattle.std.proofs.lemmas.List.{append-nil}
 use Rattle.plc_ground.specs.declared.terms.Lit.{Lit}
 use Rattle.plc_solve.specs.Search.{IsPlace, IsConflict}
 use Rattle.plc_solve.proofs.Searching.{conflict_is_right, place_longer}
 use Rattle.plc_solve.proofs.split.descend.Goals as goal
 
-pub returns-in-Some : goal.returns-in-Some
-returns-in-Some c =
-    let hit : IsConflict c.args.set.now c.in_ok-class.class.items c.in-Some.a c.in-Some.b = rw c.deref-2.ensures.value at c.in-Some.ensures.some in
-    conflict_is_right c.args.set.now _ c.in_ok-class.class.items c.in_ok-class.ensures.closure c.in-Some.a c.in-Some.b hit.first hit.second hit.differ hit.together
+pub conflict-requires-clause-one_each : goal.conflict-requires-clause-one_each
+conflict-requires-clause-one_each c =
+    ap length c.classes.ensures ∙ (c.in_ok-put.ensures.closure c.args.place.now.branch.items c.requires.place.closure).merged.one_each
 
-pub returns : goal.returns
-returns c =
-    let e : c.push.new.self.items ≡ c.args.top.now.branch.items ++ c.args.l ∷ [] =
-    c.in_ok-push.ensures.items ∙ ap (λ (xs : List Lit). xs ++ c.args.l ∷ []) (c.in_ok-branch.ensures.items ∙ c.deref-3.ensures.value) in (
-      subst (λ (xs : List Lit). IsPlace c.args.set.now xs c.in_ok-class.class.items) (sym e)
-          (place_longer c.args.set.now c.args.top.now.branch.items c.in_ok-class.class.items c.args.l c.requires.place.fit c.requires.fit c.in_ok-class.ensures.closure
-          (rw c.deref-2.ensures.value at c.in_default.ensures.none)),
-      e,
-      c.in_ok-class.ensures.less c.requires.equal,
-    )
+pub returns-in-Some-clause-descends : goal.returns-in-Some-clause-descends
+returns-in-Some-clause-descends c =
+    let hit : IsConflict c.args.set.now c.put.new.equal.class c.in-Some.a c.in-Some.b = rw c.classes.ensures at c.in-Some.ensures.some in
+    conflict_is_right c.args.set.now _ c.put.new.equal.class (c.in_ok-put.ensures.closure c.args.place.now.branch.items c.requires.place.closure)
+    c.in-Some.a c.in-Some.b hit.first hit.second hit.differ hit.together
+
+pub returns-clause-descends : goal.returns-clause-descends
+returns-clause-descends c = (
+  subst (λ (xs : List Lit). IsPlace c.args.set.now xs c.put.new.equal.class) (sym c.in_ok-push.ensures.items)
+      (place_longer c.args.set.now c.args.place.now.branch.items c.put.new.equal.class c.args.l c.requires.place.fit c.requires.fit
+      (c.in_ok-put.ensures.closure c.args.place.now.branch.items c.requires.place.closure) (rw c.classes.ensures at c.in_default.ensures.none)),
+  c.in_ok-push.ensures.items,
+  c.in_ok-put.ensures.less c.requires.equal,
+)
+
+pub returns-in-Some-clause-goes_on : goal.returns-in-Some-clause-goes_on
+returns-in-Some-clause-goes_on c = record { more = []; branch = sym (append-nil c.args.place.now.branch.items); equal = c.in_ok-put.ensures.extends }
+
+pub returns-clause-goes_on : goal.returns-clause-goes_on
+returns-clause-goes_on c = record { more = c.args.l ∷ []; branch = c.in_ok-push.ensures.items; equal = c.in_ok-put.ensures.extends }

@@ -4,7 +4,7 @@ use Rattle.plc_solve.proofs.Searching.{model_here}
 use Rattle.plc_solve.proofs.split.enter.Goals as goal
 
 pub pick-requires-clause-no_later : goal.pick-requires-clause-no_later
-pick-requires-clause-no_later c = subst IsNoLater (sym c.deref.ensures.value) c.requires.place.closure.merged.no_later
+pick-requires-clause-no_later c = subst IsNoLater (sym c.classes.ensures) c.requires.place.closure.merged.no_later
 
 pub returns-in-None : goal.returns-in-None
-returns-in-None c = model_here c.args.set.now c.requires.well c.args.branch.items c.args.class.items c.requires.place (rw c.deref.ensures.value at c.in-None.ensures.none)
+returns-in-None c = model_here c.args.set.now c.requires.well c.args.place.now.branch.items c.args.place.now.equal.class c.requires.place (rw c.classes.ensures at c.in-None.ensures.none)
