@@ -79,8 +79,8 @@ fn map_key(map: Map) -> u64
     }
 }
 
-// The same of a term.
-fn term_key(term: SymbolicTerm) -> u64
+/// A number of a term, for finding it alone: different terms may share it.
+pub fn term_key(term: SymbolicTerm) -> u64
     ensures { result ≡ term_key term }
 {
     match term {
