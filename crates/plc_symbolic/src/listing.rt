@@ -101,9 +101,9 @@ impl Listing {
     // The place of a term whose argument is listed, by its hash; it goes last where it is new.
     fn insert(&mut self, term: SymbolicTerm) -> Result<u32, NoMemory>
         requires { HasArgument self.old term }
-        ensures grows { Grows self.old self.new }
-        ensures listed { OnOk result (self.new ≡ put self.old term) }
         ensures place { IfOk result (λ n. n ≡ place self.new term) }
+        ensures listed { OnOk result (self.new ≡ put self.old term) }
+        ensures grows { Grows self.old self.new }
     {
         let (at, _) = self.terms.insert_full(term)?;
         short(at)

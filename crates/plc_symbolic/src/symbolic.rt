@@ -43,16 +43,16 @@ fn symbol_key(symbol: Symbol) -> u64
 {
     match symbol {
         Symbol::Null => 0,
+        Symbol::Shared(i) => 8 + 16 * i as u64,
+        Symbol::Mine(i) => 9 + 16 * i as u64,
+        Symbol::Theirs(i) => 10 + 16 * i as u64,
         Symbol::New => 1,
+        Symbol::Bound(i) => 11 + 16 * i as u64,
+        Symbol::Loaded(i) => 12 + 16 * i as u64,
         Symbol::Yes => 2,
         Symbol::Nobody => 3,
         Symbol::Me => 4,
         Symbol::You => 5,
-        Symbol::Shared(i) => 8 + 16 * i as u64,
-        Symbol::Mine(i) => 9 + 16 * i as u64,
-        Symbol::Theirs(i) => 10 + 16 * i as u64,
-        Symbol::Bound(i) => 11 + 16 * i as u64,
-        Symbol::Loaded(i) => 12 + 16 * i as u64,
         Symbol::Value(i) => 13 + 16 * i as u64,
         Symbol::Number(n) => 14 + 16 * n as u64,
     }
