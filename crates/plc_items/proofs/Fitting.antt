@@ -32,7 +32,9 @@ use Rattle.plc_setting.specs.Setting.{setting_of}
 use Rattle.plc_setting.specs.Parts.{acting_locals, conclusion, entry_clauses, clauses_after, invariants_before, executed}
 use Rattle.plc_setting.specs.Points.{clauses_at, stands_at}
 use Rattle.plc_setting.proofs.Fitting.{values_few, number_within, acting_few, acts_short}
-use Rattle.plc_items.specs.Bounds.{ValueIn, ValuesIn, ClauseIn, ItemIn, ConclusionIn}
+use Rattle.plc_items.specs.declared.execution.Execution.{Execution}
+use Rattle.plc_items.specs.Execution.{start}
+use Rattle.plc_items.specs.Bounds.{ReadsBefore, ValueIn, ValuesIn, ClauseIn, ItemIn, ConclusionIn}
 
 -- ---- values
 
@@ -88,6 +90,17 @@ before_in flow outline (Enter o c) h = invariants_in flow outline h
 before_in flow outline (Own k c) h = invariants_in flow outline h
 before_in flow outline (Other k p c) h = invariants_in flow outline h
 before_in flow outline (Claim k j) h = invariants_in flow outline h
+
+-- what premises are read with
+pub reads_before : (flow : Flow) (outline : Outline) (ghosts : List Ghost) (before : Execution) → Fits flow outline → ghosts ≡ flow.file.ghosts → before ≡ start
+    → ReadsBefore ghosts before
+reads_before flow outline ghosts before h e nothing = record {
+  nothing = nothing;
+  few = subst (λ gs. sum_by values_in gs < 65536) (sym e) (values_few flow.file h.file);
+}
+
+pub items_read : (flow : Flow) (outline : Outline) (ghosts : List Ghost) → Fits flow outline → ghosts ≡ flow.file.ghosts → All (ItemIn ghosts) outline.items
+items_read flow outline ghosts h e = subst (λ gs. All (ItemIn gs) outline.items) (sym e) (items_in flow outline h)
 
 at_point : (flow : Flow) (outline : Outline) (p : ℕ) → Fits flow outline → All (ClauseIn flow.file.ghosts) (clauses_at flow outline p)
 at_point flow outline p h =

@@ -1,7 +1,8 @@
 -- What private calls ask, so that numbers of 16 bits don't wrap.
-use Rattle.std.specs.Prelude.{◌<◌, ◌≤◌, ℕ, List, length, map, filter, All, Option, Some, None}
+use Rattle.std.specs.Prelude.{◌≡◌, ◌<◌, ◌≤◌, ℕ, List, length, map, filter, All, Option, Some, None}
+use Rattle.std.specs.List.{sum_by}
 use Rattle.plc_lang.specs.declared.syntax.Ghost.{Ghost}
-use Rattle.plc_lang.specs.Numbering.{value_number}
+use Rattle.plc_lang.specs.Numbering.{value_number, values_in}
 use Rattle.plc_flow.specs.declared.flow.Flow.{Flow}
 use Rattle.plc_logic.specs.declared.clause.Clause.{Clause}
 use Rattle.plc_logic.specs.declared.clause.Item.{Item}
@@ -10,6 +11,13 @@ use Rattle.plc_logic.specs.declared.clause.Literal.TheVariants as literals
 use Rattle.plc_logic.specs.declared.clause.Term.{Term}
 use Rattle.plc_logic.specs.declared.clause.Term.TheVariants as terms
 use Rattle.plc_setting.specs.Points.{stands_at}
+use Rattle.plc_items.specs.declared.execution.Execution.{Execution}
+use Rattle.plc_items.specs.Execution.{start}
+
+-- clauses are read before anything is executed
+pub record ReadsBefore (ghosts : List Ghost) (before : Execution) : Type 0 where
+  pub nothing : before ≡ start
+  pub few : sum_by values_in ghosts < 65536
 
 -- where the term is a value of an auxiliary field, its number over the file has 16 bits
 abbrev pub ValueIn : List Ghost → Term → Type 0

@@ -1,5 +1,5 @@
 // The negated conclusion: nodes that aren't null, for which each literal of the clause is false after the step.
-ghost use Rattle.std.specs.Prelude.{◌≡◌, ◌<◌, ◌≤◌, ◌∷◌, [], length, map, All, option_copied, OnOk, IfOk};
+ghost use Rattle.std.specs.Prelude.{◌≡◌, ◌<◌, ◌∷◌, [], length, map, All, option_copied, OnOk, IfOk};
 ghost use Rattle.std.specs.List.{sum_by};
 ghost use Rattle.plc_lang.specs.Numbering.{values_in};
 ghost use Rattle.plc_logic.specs.Negation.{negation};
@@ -17,12 +17,12 @@ ghost use Rattle.plc_items.specs.Items.{read_literal, bound_nodes, denied_clause
 
 use crate::execution::{Execution, current, push_not_null, version};
 use crate::reading::{Reading, read_literal};
+use crate::subject::Subject;
 use plc_base::{Items, NoMemory};
-use plc_flow::Flow;
 use plc_ground::{Map, Symbol};
 use plc_lang::{Ghost, Prim};
-use plc_logic::{Clause, Literal, Outline, negated};
-use plc_setting::{Obligation, Setting, claim_made, conclusion, pointer_symbol};
+use plc_logic::{Clause, Literal, negated};
+use plc_setting::{Setting, claim_made, conclusion, pointer_symbol};
 use plc_symbolic::{Draft, NodeTerm, SymbolicTerm, applied, is, is_not};
 use std::alloc::Global;
 
@@ -126,21 +126,14 @@ fn push_denied_claim(
 }
 
 /// The conclusion is false.
-pub fn push_conclusion(
-    alloc: Global,
-    flow: &Flow,
-    outline: &Outline,
-    s: &Setting,
-    x: &Execution,
-    o: &Obligation,
-    out: &mut Draft,
-) -> Result<(), NoMemory>
-    requires fits { Fits flow.now outline.now }
+pub fn push_conclusion(w: &Subject, x: &Execution, out: &mut Draft) -> Result<(), NoMemory>
+    requires fits { Fits w.now.flow.now w.now.outline.now }
     requires versions { length x.now.written < 65536 }
-    ensures { OnOk result (out.new
-        ≡ written_all out.old (denied flow.now outline.now s.now x.now o.now)) }
+    ensures { OnOk result (out.new ≡ written_all out.old
+        (denied w.now.flow.now w.now.outline.now w.now.setting.now x.now w.now.obligation.now)) }
 {
-    let clause = conclusion(flow, outline, o);
-    push_denied_clause(alloc, flow.file.ghosts.as_slice(), s, x, clause, out)?;
-    push_denied_claim(s, x, claim_made(flow, o), out)
+    let clause = conclusion(w.flow, w.outline, w.obligation);
+    let ghosts = w.flow.file.ghosts.as_slice();
+    push_denied_clause(w.alloc, ghosts, w.setting, x, clause, out)?;
+    push_denied_claim(w.setting, x, claim_made(w.flow, w.obligation), out)
 }

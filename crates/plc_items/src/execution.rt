@@ -1,6 +1,7 @@
 // The executed part. Each variable has a current constant and each map a current version. What was assigned and
 // what was written is kept as it came, so the current ones are read off the past.
-ghost use Rattle.std.specs.Prelude.{◌≡◌, ◌+◌, ◌<◌, ◌≤◌, ◌++◌, ◌∷◌, [], length, true, IfOk, OnOk, flat_map};
+ghost use Rattle.std.specs.Prelude.{◌≡◌, ◌+◌, ◌<◌, ◌≤◌, true, IfOk, OnOk};
+ghost use Rattle.std.specs.Prelude.{◌++◌, ◌∷◌, [], length, flat_map};
 ghost use Rattle.plc_ground.specs.declared.terms.Map.TheVariants as maps;
 ghost use Rattle.plc_ground.specs.declared.terms.Symbol.TheVariants as symbols;
 ghost use Rattle.plc_setting.specs.declared.acts.Act.TheVariants.{Fetch, Update};

@@ -1,12 +1,11 @@
 // Premises: the invariants and the clauses of the points at which the threads stand before, each at all nodes
 // that its names may stand for.
-ghost use Rattle.std.specs.Prelude.{◌≡◌, ◌<◌, ◌≤◌, ◌++◌, ◌∷◌, [], length, map, flat_map, filter, false, All, OnOk};
+ghost use Rattle.std.specs.Prelude.{◌≡◌, ◌<◌, ◌++◌, ◌∷◌, [], length, map, flat_map, All, OnOk};
 ghost use Rattle.std.specs.List.{sum_by};
 ghost use Rattle.plc_lang.specs.Numbering.{values_in};
 ghost use Rattle.plc_symbolic.specs.Numbering.{written, written_all};
 ghost use Rattle.plc_setting.specs.Parts.{clauses_of};
-ghost use Rattle.plc_items.specs.Bounds.{ValuesIn, ClauseIn, ItemIn, clauses_in};
-ghost use Rattle.plc_items.specs.Execution.{start};
+ghost use Rattle.plc_items.specs.Bounds.{ValuesIn, ClauseIn, ItemIn, ReadsBefore, clauses_in};
 ghost use Rattle.plc_items.specs.Items.{read_literal, escapes, instance_at, instances};
 
 use crate::execution::Execution;
@@ -62,35 +61,35 @@ fn push_read(
     Ok(())
 }
 
-/// What premises are read with: the fields, nothing executed, and the setting.
+/// What premises are read with: the fields, nothing executed, the setting, and for whom.
 #[derive(Clone, Copy)]
 pub struct Premises<'a> {
     pub alloc: Global,
     pub ghosts: &'a [Ghost],
     pub before: &'a Execution,
     pub setting: &'a Setting,
+    /// For the owner of the clauses, and not for the acting thread.
+    pub owner: bool,
 }
 
 // The clause at a node for each of its names.
 fn push_instance(
     w: &Premises,
-    owner: bool,
     literals: &[Literal],
     names: &[NodeTerm],
     out: &mut Draft,
 ) -> Result<(), NoMemory>
-    requires before { w.now.before.now ≡ start }
-    requires few { sum_by values_in w.now.ghosts.now < 65536 }
+    requires reads { ReadsBefore w.now.ghosts.now w.now.before.now }
     requires values { All (ValuesIn w.now.ghosts.now) literals.now }
     ensures { OnOk result (out.new ≡ written out.old
-        (instance_at w.now.ghosts.now w.now.setting.now.makes owner literals.now names.now)) }
+        (instance_at w.now.ghosts.now w.now.setting.now.makes w.now.owner literals.now names.now)) }
 {
     let mut lits = Items::new(w.alloc);
     push_escapes(w.setting.makes, names, &mut lits)?;
     let r = Reading {
         ghosts: w.ghosts,
         execution: w.before,
-        owner,
+        owner: w.owner,
         names,
     };
     push_read(&r, literals, &mut lits)?;
@@ -98,21 +97,15 @@ fn push_instance(
 }
 
 // Under one name: at each node.
-fn push_singles(
-    w: &Premises,
-    owner: bool,
-    literals: &[Literal],
-    out: &mut Draft,
-) -> Result<(), NoMemory>
-    requires before { w.now.before.now ≡ start }
-    requires few { sum_by values_in w.now.ghosts.now < 65536 }
+fn push_singles(w: &Premises, literals: &[Literal], out: &mut Draft) -> Result<(), NoMemory>
+    requires reads { ReadsBefore w.now.ghosts.now w.now.before.now }
     requires values { All (ValuesIn w.now.ghosts.now) literals.now }
     ensures { OnOk result (out.new ≡ written_all out.old
-        (map (λ a. instance_at w.now.ghosts.now w.now.setting.now.makes owner literals.now (a ∷ []))
+        (map (λ a. instance_at w.now.ghosts.now w.now.setting.now.makes w.now.owner literals.now (a ∷ []))
         w.now.setting.now.instances)) }
 {
     for node in w.setting.instances.as_slice() {
-        push_instance(w, owner, literals, &[*node], out)?;
+        push_instance(w, literals, &[*node], out)?;
     }
     Ok(())
 }
@@ -120,75 +113,60 @@ fn push_singles(
 // Under two names, with this node for the first: at each node for the second.
 fn push_pairs_of(
     w: &Premises,
-    owner: bool,
     literals: &[Literal],
     first: NodeTerm,
     out: &mut Draft,
 ) -> Result<(), NoMemory>
-    requires before { w.now.before.now ≡ start }
-    requires few { sum_by values_in w.now.ghosts.now < 65536 }
+    requires reads { ReadsBefore w.now.ghosts.now w.now.before.now }
     requires values { All (ValuesIn w.now.ghosts.now) literals.now }
     ensures { OnOk result (out.new ≡ written_all out.old
-        (map (λ b. instance_at w.now.ghosts.now w.now.setting.now.makes owner literals.now (first ∷ b ∷ []))
+        (map (λ b. instance_at w.now.ghosts.now w.now.setting.now.makes w.now.owner literals.now (first ∷ b ∷ []))
         w.now.setting.now.instances)) }
 {
     for second in w.setting.instances.as_slice() {
-        push_instance(w, owner, literals, &[first, *second], out)?;
+        push_instance(w, literals, &[first, *second], out)?;
     }
     Ok(())
 }
 
-fn push_pairs(
-    w: &Premises,
-    owner: bool,
-    literals: &[Literal],
-    out: &mut Draft,
-) -> Result<(), NoMemory>
-    requires before { w.now.before.now ≡ start }
-    requires few { sum_by values_in w.now.ghosts.now < 65536 }
+fn push_pairs(w: &Premises, literals: &[Literal], out: &mut Draft) -> Result<(), NoMemory>
+    requires reads { ReadsBefore w.now.ghosts.now w.now.before.now }
     requires values { All (ValuesIn w.now.ghosts.now) literals.now }
     ensures { OnOk result (out.new ≡ written_all out.old
         (flat_map
-        (λ a. map (λ b. instance_at w.now.ghosts.now w.now.setting.now.makes owner literals.now (a ∷ b ∷ []))
+        (λ a. map (λ b. instance_at w.now.ghosts.now w.now.setting.now.makes w.now.owner literals.now (a ∷ b ∷ []))
         w.now.setting.now.instances)
         w.now.setting.now.instances)) }
 {
     for first in w.setting.instances.as_slice() {
-        push_pairs_of(w, owner, literals, *first, out)?;
+        push_pairs_of(w, literals, *first, out)?;
     }
     Ok(())
 }
 
-fn push_instances(
-    w: &Premises,
-    owner: bool,
-    clause: &Clause,
-    out: &mut Draft,
-) -> Result<(), NoMemory>
-    requires before { w.now.before.now ≡ start }
-    requires few { sum_by values_in w.now.ghosts.now < 65536 }
+fn push_instances(w: &Premises, clause: &Clause, out: &mut Draft) -> Result<(), NoMemory>
+    requires reads { ReadsBefore w.now.ghosts.now w.now.before.now }
     requires clause { ClauseIn w.now.ghosts.now clause.now }
     ensures { OnOk result (out.new
-        ≡ written_all out.old (instances w.now.ghosts.now w.now.setting.now owner clause.now)) }
+        ≡ written_all out.old (instances w.now.ghosts.now w.now.setting.now w.now.owner clause.now)) }
 {
     let literals = clause.literals.as_slice();
     match clause.bound.len() {
-        0 => push_instance(w, owner, literals, &[], out),
-        1 => push_singles(w, owner, literals, out),
-        _ => push_pairs(w, owner, literals, out),
+        0 => push_instance(w, literals, &[], out),
+        1 => push_singles(w, literals, out),
+        _ => push_pairs(w, literals, out),
     }
 }
 
-/// The instances of these clauses, read for the acting thread.
+/// The instances of these clauses.
 pub fn push_invariants(w: &Premises, clauses: &[Clause], out: &mut Draft) -> Result<(), NoMemory>
-    requires before { w.now.before.now ≡ start }
-    requires few { sum_by values_in w.now.ghosts.now < 65536 }
+    requires reads { ReadsBefore w.now.ghosts.now w.now.before.now }
     requires clauses { All (ClauseIn w.now.ghosts.now) clauses.now }
     ensures { OnOk result (out.new
-        ≡ written_all out.old (flat_map (instances w.now.ghosts.now w.now.setting.now false) clauses.now)) }
+        ≡ written_all out.old (flat_map (instances w.now.ghosts.now w.now.setting.now w.now.owner) clauses.now)) }
 {
     for clause in clauses {
-        push_instances(w, false, clause, out)?;
+        push_instances(w, clause, out)?;
     }
     Ok(())
 }
@@ -196,40 +174,37 @@ pub fn push_invariants(w: &Premises, clauses: &[Clause], out: &mut Draft) -> Res
 // The instances of an item's clause, if it stands at the point.
 fn push_item(
     w: &Premises,
-    owner: bool,
     flow: &Flow,
     point: u16,
     item: &Item,
     out: &mut Draft,
 ) -> Result<(), NoMemory>
-    requires before { w.now.before.now ≡ start }
-    requires few { sum_by values_in w.now.ghosts.now < 65536 }
+    requires reads { ReadsBefore w.now.ghosts.now w.now.before.now }
     requires clause { ClauseIn w.now.ghosts.now item.now.clause }
     ensures { OnOk result (out.new ≡ written_all out.old
-        (flat_map (instances w.now.ghosts.now w.now.setting.now owner) (clauses_in flow.now point (item.now ∷ [])))) }
+        (flat_map (instances w.now.ghosts.now w.now.setting.now w.now.owner)
+        (clauses_in flow.now point (item.now ∷ [])))) }
 {
     if stands_at(flow, point, item) {
-        return push_instances(w, owner, &item.clause, out);
+        return push_instances(w, &item.clause, out);
     }
     Ok(())
 }
 
 fn push_items_at(
     w: &Premises,
-    owner: bool,
     flow: &Flow,
     point: u16,
     items: &[Item],
     out: &mut Draft,
 ) -> Result<(), NoMemory>
-    requires before { w.now.before.now ≡ start }
-    requires few { sum_by values_in w.now.ghosts.now < 65536 }
+    requires reads { ReadsBefore w.now.ghosts.now w.now.before.now }
     requires clauses { All (ItemIn w.now.ghosts.now) items.now }
     ensures { OnOk result (out.new ≡ written_all out.old
-        (flat_map (instances w.now.ghosts.now w.now.setting.now owner) (clauses_in flow.now point items.now))) }
+        (flat_map (instances w.now.ghosts.now w.now.setting.now w.now.owner) (clauses_in flow.now point items.now))) }
 {
     for item in items {
-        push_item(w, owner, flow, point, item, out)?;
+        push_item(w, flow, point, item, out)?;
     }
     Ok(())
 }
@@ -237,20 +212,18 @@ fn push_items_at(
 /// The instances of the clauses at a point, if there is one.
 pub fn push_point(
     w: &Premises,
-    owner: bool,
     flow: &Flow,
     outline: &Outline,
     point: Option<PointId>,
     out: &mut Draft,
 ) -> Result<(), NoMemory>
-    requires before { w.now.before.now ≡ start }
-    requires few { sum_by values_in w.now.ghosts.now < 65536 }
+    requires reads { ReadsBefore w.now.ghosts.now w.now.before.now }
     requires clauses { All (ItemIn w.now.ghosts.now) outline.now.items }
     ensures { OnOk result (out.new ≡ written_all out.old
-        (flat_map (instances w.now.ghosts.now w.now.setting.now owner) (clauses_of flow.now outline.now point))) }
+        (flat_map (instances w.now.ghosts.now w.now.setting.now w.now.owner) (clauses_of flow.now outline.now point))) }
 {
     match point {
         None => Ok(()),
-        Some(point) => push_items_at(w, owner, flow, point.0, outline.items.as_slice(), out),
+        Some(point) => push_items_at(w, flow, point.0, outline.items.as_slice(), out),
     }
 }

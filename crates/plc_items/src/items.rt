@@ -11,6 +11,7 @@ use crate::conclusion::push_conclusion;
 use crate::execution::{Execution, push_executed};
 use crate::freshness::push_freshness;
 use crate::instances::{Premises, push_invariants, push_point};
+use crate::subject::Subject;
 use crate::values::push_values;
 use plc_base::NoMemory;
 use plc_flow::Flow;
@@ -19,68 +20,57 @@ use plc_setting::{Obligation, Setting, acting_point, invariants_before, owner_po
 use plc_symbolic::Draft;
 use std::alloc::Global;
 
-fn push_premises(
-    alloc: Global,
-    flow: &Flow,
-    outline: &Outline,
-    s: &Setting,
-    o: &Obligation,
-    out: &mut Draft,
-) -> Result<(), NoMemory>
-    requires { Fits flow.now outline.now }
-    ensures { OnOk result (out.new ≡ written_all out.old (premises flow.now outline.now s.now o.now)) }
+fn push_premises(w: &Subject, out: &mut Draft) -> Result<(), NoMemory>
+    requires { Fits w.now.flow.now w.now.outline.now }
+    ensures { OnOk result (out.new ≡ written_all out.old
+        (premises w.now.flow.now w.now.outline.now w.now.setting.now w.now.obligation.now)) }
 {
-    let before = Execution::new(alloc);
-    let w = Premises {
-        alloc,
-        ghosts: flow.file.ghosts.as_slice(),
+    let before = Execution::new(w.alloc);
+    let acting = Premises {
+        alloc: w.alloc,
+        ghosts: w.flow.file.ghosts.as_slice(),
         before: &before,
-        setting: s,
+        setting: w.setting,
+        owner: false,
     };
-    push_invariants(&w, invariants_before(outline, o), out)?;
-    push_point(&w, false, flow, outline, acting_point(flow, o), out)?;
-    push_point(&w, true, flow, outline, owner_point(o), out)
+    let owner = Premises {
+        owner: true,
+        ..acting
+    };
+    push_invariants(&acting, invariants_before(w.outline, w.obligation), out)?;
+    let point = acting_point(w.flow, w.obligation);
+    push_point(&acting, w.flow, w.outline, point, out)?;
+    push_point(&owner, w.flow, w.outline, owner_point(w.obligation), out)
 }
 
 // What is known before the step.
-fn push_known(
-    alloc: Global,
-    flow: &Flow,
-    outline: &Outline,
-    s: &Setting,
-    o: &Obligation,
-    out: &mut Draft,
-) -> Result<(), NoMemory>
-    requires { Fits flow.now outline.now }
+fn push_known(w: &Subject, out: &mut Draft) -> Result<(), NoMemory>
+    requires { Fits w.now.flow.now w.now.outline.now }
     ensures { OnOk result (out.new ≡ written_all out.old
-        (values_from 0 0 flow.now.file.ghosts s.now.nodes
-        ++ (beginning flow.now s.now o.now
-        ++ (freshness flow.now.file s.now
-        ++ premises flow.now outline.now s.now o.now)))) }
+        (values_from 0 0 w.now.flow.now.file.ghosts w.now.setting.now.nodes
+        ++ (beginning w.now.flow.now w.now.setting.now w.now.obligation.now
+        ++ (freshness w.now.flow.now.file w.now.setting.now
+        ++ premises w.now.flow.now w.now.outline.now w.now.setting.now w.now.obligation.now)))) }
 {
-    push_values(alloc, flow.file.ghosts.as_slice(), s.nodes.as_slice(), out)?;
-    push_beginning(flow, s, o, out)?;
-    push_freshness(&flow.file, s, out)?;
-    push_premises(alloc, flow, outline, s, o, out)
+    let ghosts = w.flow.file.ghosts.as_slice();
+    push_values(w.alloc, ghosts, w.setting.nodes.as_slice(), out)?;
+    push_beginning(w.flow, w.setting, w.obligation, out)?;
+    push_freshness(&w.flow.file, w.setting, out)?;
+    push_premises(w, out)
 }
 
 // What the step does, and that the conclusion is false after it.
-fn push_step(
-    alloc: Global,
-    flow: &Flow,
-    outline: &Outline,
-    s: &Setting,
-    o: &Obligation,
-    out: &mut Draft,
-) -> Result<(), NoMemory>
-    requires fits { Fits flow.now outline.now }
-    requires setting { s.now ≡ setting_of flow.now outline.now o.now }
+fn push_step(w: &Subject, out: &mut Draft) -> Result<(), NoMemory>
+    requires fits { Fits w.now.flow.now w.now.outline.now }
+    requires setting { w.now.setting.now ≡ setting_of w.now.flow.now w.now.outline.now w.now.obligation.now }
     ensures { OnOk result (out.new ≡ written_all out.old
-        (executed_clauses s.now.nodes start s.now.acts
-        ++ denied flow.now outline.now s.now (after_all start s.now.acts) o.now)) }
+        (executed_clauses w.now.setting.now.nodes start w.now.setting.now.acts
+        ++ denied w.now.flow.now w.now.outline.now w.now.setting.now
+        (after_all start w.now.setting.now.acts) w.now.obligation.now)) }
 {
-    let x = push_executed(alloc, s.acts.as_slice(), s.nodes.as_slice(), out)?;
-    push_conclusion(alloc, flow, outline, s, &x, o, out)
+    let acts = w.setting.acts.as_slice();
+    let x = push_executed(w.alloc, acts, w.setting.nodes.as_slice(), out)?;
+    push_conclusion(w, &x, out)
 }
 
 /// Writes the clauses of the obligation's ground set.
@@ -97,6 +87,13 @@ pub fn push_items(
     ensures { OnOk result (out.new
         ≡ written_all out.old (clauses_of flow.now outline.now s.now o.now)) }
 {
-    push_known(alloc, flow, outline, s, o, out)?;
-    push_step(alloc, flow, outline, s, o, out)
+    let w = Subject {
+        alloc,
+        flow,
+        outline,
+        setting: s,
+        obligation: o,
+    };
+    push_known(&w, out)?;
+    push_step(&w, out)
 }

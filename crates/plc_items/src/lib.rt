@@ -10,6 +10,7 @@ mod freshness;
 mod instances;
 mod items;
 mod reading;
+mod subject;
 mod values;
 
 pub use execution::Execution;

@@ -22,6 +22,7 @@ pub record HasFewParts (flow : Flow) (outline : Outline) : Type 0 where
   pub operations : length flow.gates ≤ most limits.Ops
   pub points : flow.points ≤ most limits.Points
   pub steps : length flow.steps < 65536
-  pub primitives : (k : ℕ) (s : Step) → slice_get flow.steps k ≡ Some s → length s.prims ≤ most_step_primitives
+  pub primitives : (k : ℕ) (s : Step) → slice_get flow.steps k ≡ Some s
+      → length s.prims ≤ most_step_primitives
   pub invariants : length outline.invariants ≤ most limits.Invariants
   pub items : length outline.items ≤ most limits.Items

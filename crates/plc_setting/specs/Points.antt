@@ -1,6 +1,6 @@
 -- Which clauses an outline puts at a point: those of the items that stand there, in their order.
-use Rattle.std.specs.Prelude.{ℕ, Bool, false, not, ◌&&◌, ◌==◌, nat_le, nat_lt, List, length, map, filter, Option, Some}
-use Rattle.std.specs.Prelude.{None, slice_get}
+use Rattle.std.specs.Prelude.{ℕ, Bool, false, not, ◌&&◌, ◌==◌, nat_le, nat_lt, List, length, map, filter}
+use Rattle.std.specs.Prelude.{Option, Some, None, slice_get}
 use Rattle.std.specs.List.{list_any}
 use Rattle.plc_base.specs.declared.ids.PointId.{PointId}
 use Rattle.plc_flow.specs.declared.flow.Gate.{Gate}

@@ -15,6 +15,7 @@ use Rattle.plc_setting.specs.declared.obligations.Obligation.{Obligation}
 use Rattle.plc_setting.specs.declared.setting.Setting.{Setting}
 use Rattle.plc_setting.specs.declared.setting.Variables.{Variables}
 use Rattle.plc_symbolic.specs.Terms.{term_of}
+use Rattle.plc_setting.specs.Fit.{Fits}
 use Rattle.plc_setting.specs.Setting.{setting_of}
 use Rattle.plc_setting.specs.Sorts.{map_sort, symbol_sort, sort_of}
 
@@ -48,3 +49,10 @@ pub record NodesFit (flow : Flow) (o : Obligation) (s : Setting) : Type 0 where
   pub nodes : All (λ n. sort_of flow o s.acts (term_of n) ≡ sorts.Node) s.nodes
   pub instances : All (λ n. sort_of flow o s.acts (term_of n) ≡ sorts.Node) s.instances
   pub fields : All (λ f. map_sort flow.file (maps.Field f) ≡ sorts.Node) s.fields
+
+-- the same of every flow, outline and obligation
+abbrev pub AllActsFit : Type 0
+AllActsFit = (flow : Flow) (outline : Outline) (o : Obligation) → Fits flow outline → ActsFit flow outline o
+
+abbrev pub AllNodesFit : Type 0
+AllNodesFit = (flow : Flow) (outline : Outline) (o : Obligation) → NodesFit flow o (setting_of flow outline o)

@@ -53,7 +53,8 @@ fn push_variables(list: &mut Items<Symbol>, s: &Setting) -> Result<(), NoMemory>
 
 // What `retired` is for a retired node, and the threads.
 fn push_threads(list: &mut Items<Symbol>, owned: bool) -> Result<(), NoMemory>
-    ensures { OnOk result (list.new ≡ list.old ++ (symbols.Yes ∷ symbols.Nobody ∷ symbols.Me ∷ if_owned owned)) }
+    ensures { OnOk result (list.new
+        ≡ list.old ++ (symbols.Yes ∷ symbols.Nobody ∷ symbols.Me ∷ if_owned owned)) }
 {
     list.push(Symbol::Yes)?;
     list.push(Symbol::Nobody)?;

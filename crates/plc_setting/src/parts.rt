@@ -170,7 +170,8 @@ fn entry_clause<'a>(
     gate: Option<&Gate>,
     clause: u16,
 ) -> Option<&'a Clause>
-    ensures { option_copied result ≡ slice_get (entry_clauses flow.now outline.now (option_copied gate.entry)) clause }
+    ensures { option_copied result
+        ≡ slice_get (entry_clauses flow.now outline.now (option_copied gate.entry)) clause }
 {
     match gate {
         None => None,
@@ -185,7 +186,8 @@ fn last_clause<'a>(
     step: Option<&Step>,
     clause: u16,
 ) -> Option<&'a Clause>
-    ensures { option_copied result ≡ slice_get (clauses_after flow.now outline.now (option_copied step.entry)) clause }
+    ensures { option_copied result
+        ≡ slice_get (clauses_after flow.now outline.now (option_copied step.entry)) clause }
 {
     match step {
         None => None,

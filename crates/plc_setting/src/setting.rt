@@ -186,20 +186,9 @@ pub fn setting_of(
     let constants = node_constants(alloc, pointers.as_slice(), makes, bound, loaded.as_slice())?;
     let plain = plain_constants(alloc, pointers.as_slice(), bound, loaded.as_slice())?;
     let deep = outline.depth == 1;
-    let nodes = nodes_of(
-        alloc,
-        constants.as_slice(),
-        deep,
-        constants.as_slice(),
-        fields.as_slice(),
-    )?;
-    let instances = nodes_of(
-        alloc,
-        plain.as_slice(),
-        deep,
-        constants.as_slice(),
-        fields.as_slice(),
-    )?;
+    let roots = constants.as_slice();
+    let nodes = nodes_of(alloc, roots, deep, roots, fields.as_slice())?;
+    let instances = nodes_of(alloc, plain.as_slice(), deep, roots, fields.as_slice())?;
     Ok(Setting {
         mine,
         theirs,

@@ -188,3 +188,10 @@ pub not_found : (old now : List SymbolicTerm) (t : SymbolicTerm) → old ≡ now
 unfolding place
 not_found old now t e h listed =
     none-some (place now t) (h ∙ ap (position (same_term t)) e ∙ cond-true (ltb (place now t) (length now)) (Some (place now t)) None (lt-ltb (place now t) (length now) listed))
+
+-- a listed term that is the same stands at its own place
+pub recalled : (keys now : List SymbolicTerm) (t found : SymbolicTerm) (k : ℕ) → keys ≡ now → IsTidy keys → Some found ≡ slice_get keys k → same_term found t ≡ true
+    → IsListed now t × (k ≡ place now t)
+recalled keys now t found k e tidy at same =
+    let here : slice_get now k ≡ Some t = subst (λ ts. slice_get ts k ≡ Some t) e (sym at ∙ ap Some (term_is found t same)) in
+    (listed_at now k t here, sym ((subst IsTidy e tidy).distinct k t here))

@@ -3,7 +3,8 @@ use Rattle.std.proofs.Common.{◌≡◌, true, refl, ap, ◌∙◌}
 use Rattle.std.proofs.lemmas.Bool.{eqb-true, eq-eqb, and_parts, and_from}
 use Rattle.plc_base.specs.declared.ids.FieldId.{FieldId}
 use Rattle.plc_ground.specs.declared.terms.Symbol.{Symbol}
-use Rattle.plc_ground.specs.declared.terms.Symbol.TheVariants.{Null, Shared, Mine, Theirs, New, Bound, Loaded, Yes, Nobody, Me, You, Value, Number}
+use Rattle.plc_ground.specs.declared.terms.Symbol.TheVariants.{Null, Shared, Mine, Theirs, New, Bound, Loaded}
+use Rattle.plc_ground.specs.declared.terms.Symbol.TheVariants.{Yes, Nobody, Me, You, Value, Number}
 use Rattle.plc_ground.specs.declared.terms.Map.{Map}
 use Rattle.plc_ground.specs.declared.terms.Map.TheVariants.{Field, Ghost, Retired}
 use Rattle.plc_ground.specs.contracts.terms.SymbolPartialEq.TheImpl as symbol
@@ -52,7 +53,8 @@ term_is (Constant s) (Constant t) h = ap Constant (symbol_is s t h)
 term_is (Application m v s) (Application l w t) h =
     let p = and_parts (map.eq-value.it m l) _ h in
     let q = and_parts _ (node.eq-value.it s t) p.1 in
-    ap (λ x. Application x v s) (map_is m l p.0) ∙ ap (λ x. Application l x s) (eqb-true v w q.0) ∙ ap (Application l w) (node_is s t q.1)
+    ap (λ x. Application x v s) (map_is m l p.0) ∙ ap (λ x. Application l x s) (eqb-true v w q.0)
+    ∙ ap (Application l w) (node_is s t q.1)
 term_is _ _ h = cc
 
 symbol_itself : (a : Symbol) → symbol.eq-value.it a a ≡ true

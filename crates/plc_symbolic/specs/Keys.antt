@@ -2,7 +2,8 @@
 use Rattle.std.specs.Prelude.{ℕ, ◌+◌, ◌*◌, ◌^◌, List}
 use Rattle.std.specs.Hash as fed
 use Rattle.plc_ground.specs.declared.terms.Symbol.{Symbol}
-use Rattle.plc_ground.specs.declared.terms.Symbol.TheVariants.{Null, Shared, Mine, Theirs, New, Bound, Loaded, Yes, Nobody, Me, You, Value, Number}
+use Rattle.plc_ground.specs.declared.terms.Symbol.TheVariants.{Null, Shared, Mine, Theirs, New, Bound, Loaded}
+use Rattle.plc_ground.specs.declared.terms.Symbol.TheVariants.{Yes, Nobody, Me, You, Value, Number}
 use Rattle.plc_ground.specs.declared.terms.Map.{Map}
 use Rattle.plc_ground.specs.declared.terms.Map.TheVariants.{Field, Ghost, Retired}
 use Rattle.plc_symbolic.specs.declared.symbolic.NodeTerm.{NodeTerm}
@@ -12,16 +13,16 @@ use Rattle.plc_symbolic.specs.declared.symbolic.SymbolicTerm.TheVariants.{Consta
 
 abbrev pub symbol_key : Symbol → ℕ
 symbol_key Null = 0
+symbol_key (Shared i) = 8 + 16 * i
+symbol_key (Mine i) = 9 + 16 * i
+symbol_key (Theirs i) = 10 + 16 * i
 symbol_key New = 1
+symbol_key (Bound i) = 11 + 16 * i
+symbol_key (Loaded i) = 12 + 16 * i
 symbol_key Yes = 2
 symbol_key Nobody = 3
 symbol_key Me = 4
 symbol_key You = 5
-symbol_key (Shared i) = 8 + 16 * i
-symbol_key (Mine i) = 9 + 16 * i
-symbol_key (Theirs i) = 10 + 16 * i
-symbol_key (Bound i) = 11 + 16 * i
-symbol_key (Loaded i) = 12 + 16 * i
 symbol_key (Value i) = 13 + 16 * i
 symbol_key (Number i) = 14 + 16 * i
 

@@ -1,7 +1,8 @@
 -- Tests of equality: of terms, as the program compares them, and of constants and maps.
 use Rattle.std.specs.Prelude.{Bool, true, false, ◌==◌}
 use Rattle.plc_ground.specs.declared.terms.Symbol.{Symbol}
-use Rattle.plc_ground.specs.declared.terms.Symbol.TheVariants.{Null, Shared, Mine, Theirs, New, Bound, Loaded, Yes, Nobody, Me, You, Value, Number}
+use Rattle.plc_ground.specs.declared.terms.Symbol.TheVariants.{Null, Shared, Mine, Theirs, New, Bound, Loaded}
+use Rattle.plc_ground.specs.declared.terms.Symbol.TheVariants.{Yes, Nobody, Me, You, Value, Number}
 use Rattle.plc_ground.specs.declared.terms.Map.{Map}
 use Rattle.plc_ground.specs.declared.terms.Map.TheVariants.{Field, Ghost, Retired}
 use Rattle.plc_symbolic.specs.declared.symbolic.SymbolicTerm.{SymbolicTerm}

@@ -8,6 +8,7 @@
 mod draft;
 mod laws;
 mod listing;
+mod recent;
 mod symbolic;
 mod terms;
 

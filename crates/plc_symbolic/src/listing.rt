@@ -1,12 +1,16 @@
 // A list of terms while it grows. Each term stands once, its arguments before it, and a term is looked up by
 // its hash. The place of a term is settled when it is first noted.
-ghost use Rattle.std.specs.Prelude.{◌≡◌, ◌<◌, ◌^◌, [], length, slice_get, map, OnOk, IfOk};
+//
+// Clauses speak of few terms, again and again, so that most are found where they were found last, without a look
+// at the table of hashes.
+ghost use Rattle.std.specs.Prelude.{◌≡◌, ◌<◌, ◌^◌, [], length, slice_get, map, OnOk, IfOk, IfSome};
 ghost use Rattle.plc_symbolic.specs.Terms.{term_of};
 ghost use Rattle.plc_symbolic.specs.Numbering.{put, note, note_literal, note_clause};
 ghost use Rattle.plc_symbolic.specs.Numbering.{place, number, number_lit, IsListed};
 ghost use Rattle.plc_symbolic.specs.Tidy.{IsTidy, HasArgument, IsAppliedTo, Grows};
 
-use crate::symbolic::{NodeTerm, SymbolicLit, SymbolicTerm};
+use crate::recent::Recent;
+use crate::symbolic::{NodeTerm, SymbolicLit, SymbolicTerm, term_key};
 use crate::terms::term_of;
 use indexmap::IndexSet;
 use plc_base::{Items, NoMemory};
@@ -18,6 +22,7 @@ use std::marker::Model;
 #[derive(Drop)]
 pub struct Listing {
     terms: IndexSet<SymbolicTerm>,
+    recent: Recent,
 }
 
 impl Model for Listing {
@@ -49,6 +54,7 @@ impl Listing {
     {
         Listing {
             terms: IndexSet::new(alloc),
+            recent: Recent::new(alloc),
         }
     }
 
@@ -73,15 +79,50 @@ impl Listing {
         self.terms.get_index(k).copied()
     }
 
-    // The place of a term whose argument is listed; it goes last where it is new.
+    // The place of a term, if it stands where a term of its key was found last.
+    fn recall(&self, term: SymbolicTerm) -> Option<u32>
+        ensures place { IfSome result (λ n. IsListed self.now term × (n ≡ place self.now term)) }
+        ensures tidy { IsTidy self.now }
+    {
+        let at = self.recent.get(term_key(term))?;
+        let listed = self.terms.get_index(at as usize)?;
+        if *listed == term { Some(at) } else { None }
+    }
+
+    // Keeps where a term was found.
+    fn keep(&mut self, term: SymbolicTerm, at: u32) -> Result<u32, NoMemory>
+        ensures kept { self.new ≡ self.old }
+        ensures place { IfOk result (λ n. n ≡ at) }
+    {
+        self.recent.keep(term_key(term), at)?;
+        Ok(at)
+    }
+
+    // The place of a term whose argument is listed, by its hash; it goes last where it is new.
+    fn insert(&mut self, term: SymbolicTerm) -> Result<u32, NoMemory>
+        requires { HasArgument self.old term }
+        ensures place { IfOk result (λ n. n ≡ place self.new term) }
+        ensures listed { OnOk result (self.new ≡ put self.old term) }
+        ensures grows { Grows self.old self.new }
+    {
+        let (at, _) = self.terms.insert_full(term)?;
+        short(at)
+    }
+
+    // The same of a term that may have been found lately.
     fn put(&mut self, term: SymbolicTerm) -> Result<u32, NoMemory>
         requires { HasArgument self.old term }
         ensures grows { Grows self.old self.new }
         ensures listed { OnOk result (self.new ≡ put self.old term) }
         ensures place { IfOk result (λ n. n ≡ place self.new term) }
     {
-        let (at, _) = self.terms.insert_full(term)?;
-        short(at)
+        match self.recall(term) {
+            Some(at) => Ok(at),
+            None => {
+                let at = self.insert(term)?;
+                self.keep(term, at)
+            }
+        }
     }
 
     // Lists a node and its argument.
@@ -96,7 +137,7 @@ impl Listing {
         Ok(())
     }
 
-    // Lists an application that is new, its arguments before it. The answer is its place.
+    // Lists an application, its arguments before it. The answer is its place.
     fn put_application(&mut self, node: NodeTerm, term: SymbolicTerm) -> Result<u32, NoMemory>
         requires { IsAppliedTo node term }
         ensures grows { Grows self.old self.new }
@@ -107,18 +148,27 @@ impl Listing {
         self.put(term)
     }
 
-    /// Lists a term, its arguments before it, where they are new. The answer is its place.
-    pub fn note(&mut self, term: SymbolicTerm) -> Result<u32, NoMemory>
+    // Lists a term, its arguments before it, where they are new. The answer is its place.
+    fn put_with_arguments(&mut self, term: SymbolicTerm) -> Result<u32, NoMemory>
         ensures grows { Grows self.old self.new }
         ensures listed { OnOk result (self.new ≡ note self.old term) }
         ensures place { IfOk result (λ n. n ≡ place self.new term) }
     {
         match term {
             SymbolicTerm::Constant(_) => self.put(term),
-            SymbolicTerm::Application { node, .. } => match self.terms.get_index_of(&term) {
-                Some(at) => short(at),
-                None => self.put_application(node, term),
-            },
+            SymbolicTerm::Application { node, .. } => self.put_application(node, term),
+        }
+    }
+
+    /// Lists a term, its arguments before it, where they are new. The answer is its place.
+    pub fn note(&mut self, term: SymbolicTerm) -> Result<u32, NoMemory>
+        ensures grows { Grows self.old self.new }
+        ensures listed { OnOk result (self.new ≡ note self.old term) }
+        ensures place { IfOk result (λ n. n ≡ place self.new term) }
+    {
+        match self.recall(term) {
+            Some(at) => Ok(at),
+            None => self.put_with_arguments(term),
         }
     }
 
@@ -156,8 +206,8 @@ impl Listing {
         Ok(())
     }
 
-    // The place of a term that is listed.
-    fn place(&self, term: SymbolicTerm) -> u32
+    // The place of a term that is listed, by its hash.
+    fn looked_up(&self, term: SymbolicTerm) -> u32
         requires listed { IsListed self.now term }
         requires few { length self.now < 2 ^ 32 }
         ensures { result ≡ place self.now term }
@@ -165,6 +215,18 @@ impl Listing {
         match self.terms.get_index_of(&term) {
             None => unreachable!(),
             Some(at) => at as u32,
+        }
+    }
+
+    // The same of a term that may have been found lately.
+    fn place(&self, term: SymbolicTerm) -> u32
+        requires listed { IsListed self.now term }
+        requires few { length self.now < 2 ^ 32 }
+        ensures { result ≡ place self.now term }
+    {
+        match self.recall(term) {
+            Some(at) => at,
+            None => self.looked_up(term),
         }
     }
 

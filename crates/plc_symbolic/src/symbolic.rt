@@ -43,16 +43,16 @@ fn symbol_key(symbol: Symbol) -> u64
 {
     match symbol {
         Symbol::Null => 0,
+        Symbol::Shared(i) => 8 + 16 * i as u64,
+        Symbol::Mine(i) => 9 + 16 * i as u64,
+        Symbol::Theirs(i) => 10 + 16 * i as u64,
         Symbol::New => 1,
+        Symbol::Bound(i) => 11 + 16 * i as u64,
+        Symbol::Loaded(i) => 12 + 16 * i as u64,
         Symbol::Yes => 2,
         Symbol::Nobody => 3,
         Symbol::Me => 4,
         Symbol::You => 5,
-        Symbol::Shared(i) => 8 + 16 * i as u64,
-        Symbol::Mine(i) => 9 + 16 * i as u64,
-        Symbol::Theirs(i) => 10 + 16 * i as u64,
-        Symbol::Bound(i) => 11 + 16 * i as u64,
-        Symbol::Loaded(i) => 12 + 16 * i as u64,
         Symbol::Value(i) => 13 + 16 * i as u64,
         Symbol::Number(n) => 14 + 16 * n as u64,
     }
@@ -79,8 +79,8 @@ fn map_key(map: Map) -> u64
     }
 }
 
-// The same of a term.
-fn term_key(term: SymbolicTerm) -> u64
+/// A number of a term, for finding it alone: different terms may share it.
+pub fn term_key(term: SymbolicTerm) -> u64
     ensures { result ≡ term_key term }
 {
     match term {

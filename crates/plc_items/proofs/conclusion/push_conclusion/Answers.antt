@@ -11,13 +11,14 @@ use Rattle.plc_items.proofs.conclusion.push_conclusion.Goals as goal
 
 pub push_denied_clause-requires : goal.push_denied_clause-requires
 push_denied_clause-requires c =
-    let flow = c.args.flow.now in
+    let w = c.args.w.now in
+    let flow = w.flow.now in
     let P : List Ghost → Type 0 = λ gs. sum_by values_in gs < 65536 in
     let Q : List Ghost → Type 0 = λ gs. ConclusionIn gs (option_copied c.conclusion-clause.result) in
     let R : Option Clause → Type 0 = λ o. ConclusionIn flow.file.ghosts o in
     record {
       versions = c.requires.versions;
-      few = subst P (sym c.as_slice.ensures) (values_few flow.file c.requires.fits.file);
-      clause = subst Q (sym c.as_slice.ensures)
-          (subst R (sym c.conclusion-clause.ensures) (conclusion_in flow c.args.outline.now c.args.o.now c.requires.fits));
+      few = subst P (sym c.as_slice-ghosts.ensures) (values_few flow.file c.requires.fits.file);
+      clause = subst Q (sym c.as_slice-ghosts.ensures)
+          (subst R (sym c.conclusion-clause.ensures) (conclusion_in flow w.outline.now w.obligation.now c.requires.fits));
     }

@@ -12,7 +12,7 @@ pub returns-in-1 : goal.returns-in-1
 returns-in-1 c =
     let w = c.args.w.now in
     let ts : List NodeTerm = w.setting.now.instances in
-    let f : List Literal → List NodeTerm → List SymbolicLit = instance_at w.ghosts.now w.setting.now.makes c.args.owner in
+    let f : List Literal → List NodeTerm → List SymbolicLit = instance_at w.ghosts.now w.setting.now.makes w.owner in
     let ls : List Literal = c.args.clause.now.literals in
     let n : 1 ≡ length c.args.clause.now.bound.names = sym c.in-1.is ∙ c.len.ensures.count in
     let P : Clauses → Type 0 = λ cs. OnOk c.push_singles.result (c.push_singles.new.out ≡ written_all c.args.out.now cs) in
@@ -25,7 +25,7 @@ pub returns-in_default : goal.returns-in_default
 returns-in_default c =
     let w = c.args.w.now in
     let ts : List NodeTerm = w.setting.now.instances in
-    let f : List Literal → List NodeTerm → List SymbolicLit = instance_at w.ghosts.now w.setting.now.makes c.args.owner in
+    let f : List Literal → List NodeTerm → List SymbolicLit = instance_at w.ghosts.now w.setting.now.makes w.owner in
     let ls : List Literal = c.args.clause.now.literals in
     let n : 2 ≡ length c.args.clause.now.bound.names = omega arith in
     let P : Clauses → Type 0 = λ cs. OnOk c.push_pairs.result (c.push_pairs.new.out ≡ written_all c.args.out.now cs) in

@@ -6,5 +6,5 @@ use Rattle.plc_items.proofs.instances.push_items_at.Given as goal
 
 abbrev pub invariant-loop-item : goal.invariant-loop-item
 invariant-loop-item l =
-    written_all l.initial.out (flat_map (instances l.w.ghosts.now l.w.setting.now l.owner) (clauses_in l.flow l.point l.items))
-    ≡ written_all l.out (flat_map (instances l.w.ghosts.now l.w.setting.now l.owner) (clauses_in l.flow l.point (drop l.item-index l.items)))
+    written_all l.initial.out (flat_map (instances l.w.ghosts.now l.w.setting.now l.w.owner) (clauses_in l.flow l.point l.items))
+    ≡ written_all l.out (flat_map (instances l.w.ghosts.now l.w.setting.now l.w.owner) (clauses_in l.flow l.point (drop l.item-index l.items)))

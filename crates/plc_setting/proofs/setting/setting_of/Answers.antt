@@ -32,6 +32,7 @@ returns-clause-setting c =
     let loads = c.in_ok-loaded.ensures ∙ ap (pointer_loads_from 0) (c.as_slice.ensures ∙ acts) in
     let plain = c.in_ok-plain.ensures ∙ all_three plain_constants (c.as_slice-5.ensures ∙ pointers) bound (c.as_slice-6.ensures ∙ loads) in
     let constants = c.in_ok-constants.ensures ∙ all_four node_constants (c.as_slice-3.ensures ∙ pointers) makes bound (c.as_slice-4.ensures ∙ loads) in
+    let roots = c.as_slice-roots.ensures ∙ constants in
     let fields = c.in_ok-fields.ensures ∙ ap (pointer_fields_from 0) c.as_slice-2.ensures in
     one_setting _ _ (record {
       mine = mine;
@@ -42,8 +43,8 @@ returns-clause-setting c =
       bound = bound;
       pointers = pointers;
       constants = constants;
-      nodes = c.in_ok-nodes.ensures ∙ all_four nodes_of (c.as_slice-7.ensures ∙ constants) refl (c.as_slice-8.ensures ∙ constants) (c.as_slice-9.ensures ∙ fields);
-      instances = c.in_ok-instances.ensures ∙ all_four nodes_of (c.as_slice-10.ensures ∙ plain) refl (c.as_slice-11.ensures ∙ constants) (c.as_slice-12.ensures ∙ fields);
+      nodes = c.in_ok-nodes.ensures ∙ all_four nodes_of roots refl roots (c.as_slice-7.ensures ∙ fields);
+      instances = c.in_ok-instances.ensures ∙ all_four nodes_of (c.as_slice-8.ensures ∙ plain) refl roots (c.as_slice-9.ensures ∙ fields);
       fields = fields;
     })
 
