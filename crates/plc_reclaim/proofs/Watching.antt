@@ -14,11 +14,10 @@ use Rattle.plc_auto.specs.Location.{is_this, advance, location_from, location}
 use Rattle.plc_auto.proofs.Histories.{is_own}
 use Rattle.plc_reclaim.specs.declared.scheme.Scheme.{Scheme}
 use Rattle.plc_reclaim.specs.Waiting.{waiting_after}
-use Rattle.plc_reclaim.specs.Meanings.{Meanings}
 use Rattle.plc_reclaim.specs.Rows.{ActsAs, first_waiting, threads_in, is_kept_at, is_kept_by, is_kept_by_none}
 use Rattle.plc_auto.specs.Events.{kind_of, thread_of, address_of}
 use Rattle.plc_reclaim.specs.Tables.{moved, same_location, Cell, Column, location_in, cell_after, cells_after, put_cell, with_cell, column_after, Heard, Table, column_of, fresh_table, is_thread, others_after, own_after, table_after, keeps}
-use Rattle.plc_reclaim.specs.Watch.{Watch, fresh_watch, watch_after, is_kept, first_free, numbers_of, begun_with, held_after, free_of}
+use Rattle.plc_reclaim.specs.Watch.{Watch, fresh_watch, watch_after, is_kept, first_free, numbers_of, held_after, free_of, by_tables}
 use Rattle.plc_reclaim.proofs.Picks.{may_be_picked}
 use Rattle.plc_reclaim.proofs.Numbers.{begun_with_is, held_after_is, free_of_is}
 
@@ -386,10 +385,7 @@ held_at_end : (w : Watch) (events : List Event) → fold held_after (numbers_of 
 held_at_end w [] = refl
 held_at_end w (e ∷ events) = ap (λ held. fold held_after held events) (held_after_is w e) ∙ held_at_end (watch_after w e) events
 
--- a reclaimer that serves the observers that it reads from the schemes
-abbrev pub by_tables : (List Scheme → List Observer) → Meanings
-by_tables observers = record { begun = λ schemes. begun_with (observers schemes); after = held_after; picked = λ held. held; pick_of = free_of }
-
+-- a reclaimer that serves the observers that it reads from the schemes acts as their row
 pub acts_by_tables : (observers : List Scheme → List Observer) → ActsAs (λ schemes events. first_waiting (is_kept_by_none (observers schemes) events) events) (by_tables observers)
 acts_by_tables observers = record {
   keeps = λ held. refl;

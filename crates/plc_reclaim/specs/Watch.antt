@@ -5,6 +5,8 @@ use Rattle.std.specs.List.{list_any}
 use Rattle.plc_auto.specs.declared.event.Event.{Event}
 use Rattle.plc_auto.specs.declared.observer.Observer.{Observer}
 use Rattle.plc_auto.specs.declared.observer.Observer.TheVariants.{Plain, Hazard, Epoch}
+use Rattle.plc_reclaim.specs.declared.scheme.Scheme.{Scheme}
+use Rattle.plc_reclaim.specs.Meanings.{Meanings}
 use Rattle.plc_reclaim.specs.Waiting.{waiting_after}
 use Rattle.plc_reclaim.specs.Tables.{Cell, Column, Heard, Table, fresh_table, table_after, keeps}
 
@@ -145,3 +147,12 @@ held_after held e = numbers_of (watch_after (watch_of held) e)
 -- what is picked
 unfoldable pub free_of : List ℕ → Option ℕ
 free_of held = first_free (watch_of held)
+
+-- those of a reclaimer that serves the observers that it reads from the schemes; a pick takes nothing out
+abbrev pub by_tables : (List Scheme → List Observer) → Meanings
+by_tables observers = record {
+  begun = λ schemes. begun_with (observers schemes);
+  after = held_after;
+  picked = λ held. held;
+  pick_of = free_of;
+}
