@@ -1,5 +1,6 @@
--- What the reclaimers keep that watch threads: the addresses that wait, and a table for each scheme. As a list of numbers this
--- is a list of rows, each with its numbers raised by one and a 0 after them; a table is again such a list.
+-- What the reclaimers keep that watch threads: the addresses that wait, and a table for each scheme. As a list
+-- of numbers this is a list of rows, each with its numbers raised by one and a 0 after them; a table is again
+-- such a list.
 use Rattle.std.specs.Prelude.{ℕ, ◌+◌, zero, suc, Bool, not, List, [], ◌∷◌, map, find, Option, Some, None}
 use Rattle.std.specs.List.{list_any}
 use Rattle.plc_auto.specs.declared.event.Event.{Event}
@@ -86,7 +87,7 @@ abbrev pub column_at : List ℕ → Column
 column_at [] = record { others = None; cells = [] }
 column_at (n ∷ ns) = record { others = location_at n; cells = cells_of ns }
 
--- ---- the numbers of a table: the functions of its observer, the column of the threads unheard, then each thread with its column
+-- ---- the numbers of a table: its observer's functions, the column of those unheard, then each thread with its own
 
 -- the functions of an observer, of which each kind has another number
 abbrev pub observer_numbers : Observer → List ℕ
