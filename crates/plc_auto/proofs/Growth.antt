@@ -5,28 +5,20 @@ use Rattle.plc_base.specs.Mask.{has, single, within}
 use Rattle.plc_base.proofs.MaskLemmas.{has-empty, has-union, has-within, within-has, within_antisym}
 use Rattle.plc_auto.specs.declared.event.EvKind.{EvKind}
 use Rattle.plc_auto.specs.declared.observer.Observer.{Observer}
-use Rattle.plc_auto.specs.Sets.{all_locations, unretired, safe, step_set, reach, closure}
+use Rattle.plc_auto.specs.Sets.{all_locations, step_set, reach, closure}
 use Rattle.plc_auto.specs.Laws.{SetsOfLocations, SetsGrow, ClosuresAreLeast}
 use Rattle.plc_auto.proofs.SetLemmas.{has-unretired, has-safe, has-all, in_all, all_has, step_set_live, step_set_grows}
 use Rattle.plc_auto.proofs.Closures.{in_closure, closure_has, closure_live, closure_holds, closure_closed, closure_least, closure_is}
 use Rattle.plc_auto.proofs.Letters.{unretired_is_kept}
 
-unretired_in_all : (o : Observer) → within (unretired o) (all_locations o) ≡ true
-unretired_in_all o = has-within _ _ (λ l h. has-all o l ∙ (and_parts _ _ (sym (has-unretired o l) ∙ h)).0)
-
-safe_in_all : (o : Observer) → within (safe o) (all_locations o) ≡ true
-safe_in_all o = has-within _ _ (λ l h. has-all o l ∙ (and_parts _ _ (sym (has-safe o l) ∙ h)).0)
-
-unretired_in_safe : (o : Observer) → within (unretired o) (safe o) ≡ true
-unretired_in_safe o = has-within _ _ (λ l h. has-safe o l ∙ and_from _ _ (and_parts _ _ (sym (has-unretired o l) ∙ h)).0 (ap is_none (unretired_is_kept o l h)))
-
 pub sets_of : (o : Observer) → SetsOfLocations o
 sets_of o = record {
   all_are = all_has o;
   all_below = in_all o;
-  unretired_within = unretired_in_all o;
-  unretired_safe = unretired_in_safe o;
-  safe_within = safe_in_all o;
+  unretired_within = has-within _ _ (λ l h. has-all o l ∙ (and_parts _ _ (sym (has-unretired o l) ∙ h)).0);
+  unretired_safe = has-within _ _ (λ l h. has-safe o l
+      ∙ and_from _ _ (and_parts _ _ (sym (has-unretired o l) ∙ h)).0 (ap is_none (unretired_is_kept o l h)));
+  safe_within = has-within _ _ (λ l h. has-all o l ∙ (and_parts _ _ (sym (has-safe o l) ∙ h)).0);
 }
 
 -- ---- steps and closures grow

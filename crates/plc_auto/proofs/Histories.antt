@@ -6,8 +6,6 @@ use Rattle.std.proofs.Math.Seq.{take-length}
 use Rattle.std.proofs.lemmas.Bool.{and_parts, eqb-true}
 use Rattle.plc_auto.specs.declared.event.Event.{Event}
 use Rattle.plc_auto.specs.declared.event.Event.TheVariants.{Call as Called, Done as Returned, Free as Freed}
-use Rattle.plc_auto.specs.declared.event.EvKind.{EvKind}
-use Rattle.plc_auto.specs.declared.event.EvKind.TheVariants.{Call, Done, Free}
 use Rattle.plc_auto.specs.declared.observer.Observer.{Observer}
 use Rattle.plc_auto.specs.declared.observer.Observer.TheVariants.{Plain, Hazard, Epoch}
 use Rattle.plc_auto.specs.Table.{count_of, step}

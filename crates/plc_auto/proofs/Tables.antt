@@ -104,6 +104,13 @@ each_at o p e l kind by_own on_this h =
     let at_this = bools_all (λ on_this. p l (heard_by o kind) by_own on_this (along (heard_by o kind) by_own on_this l (edges_of o))) at_own on_this in
     subst (λ k. p l (heard_by o kind) by_own on_this k ≡ true) (sym (step_heard o l kind by_own on_this)) at_this
 
+-- what holds of each of the three tables holds of the table of each observer
+by_tables : (P : Observer → Type 0) → P Plain → ((f : FuncId) → P (Hazard f)) → ((e m : FuncId) → P (Epoch e m))
+    → (o : Observer) → P o
+by_tables P plain hazard epoch Plain = plain
+by_tables P plain hazard epoch (Hazard f) = hazard f
+by_tables P plain hazard epoch (Epoch e m) = epoch e m
+
 -- ---- each edge leads to a live location or to `bad`
 
 abbrev pub is_live : Observer → Option ℕ → Bool
@@ -111,9 +118,7 @@ is_live o None = true
 is_live o (Some k) = nat_lt k (count_of o)
 
 live_table : (o : Observer) → each o (λ l x by_own on_this k. is_live o k) ≡ true
-live_table Plain = refl
-live_table (Hazard f) = refl
-live_table (Epoch e m) = refl
+live_table = by_tables (λ o. each o (λ l x by_own on_this k. is_live o k) ≡ true) refl (λ f. refl) (λ e m. refl)
 
 pub step_live : (o : Observer) (l k : ℕ) (kind : EvKind) (by_own on_this : Bool) → l < count_of o → step o l kind by_own on_this ≡ Some k → k < count_of o
 step_live o l k kind by_own on_this h e =
@@ -122,9 +127,8 @@ step_live o l k kind by_own on_this h e =
 -- ---- only a free of the address leads to `bad`
 
 bad_table : (o : Observer) → each o (λ l x by_own on_this k. implies (is_none k) (x frees && on_this)) ≡ true
-bad_table Plain = refl
-bad_table (Hazard f) = refl
-bad_table (Epoch e m) = refl
+bad_table = by_tables (λ o. each o (λ l x by_own on_this k. implies (is_none k) (x frees && on_this)) ≡ true)
+    refl (λ f. refl) (λ e m. refl)
 
 pub heard_frees : (o : Observer) (kind : EvKind) → heard_by o kind frees ≡ is_free kind
 heard_frees o (Call f) = refl
@@ -144,21 +148,18 @@ has_letter o false (Some k) = not (is_retired_location o k)
 
 -- from an unretired location what isn't a retirement of the address leads to an unretired one, a free of the address to `bad`
 unretired_table : (o : Observer) → each o (λ l x by_own on_this k. implies (not (is_retired_location o l) && not (x retires && on_this)) (has_letter o false k && implies (x frees && on_this) (is_none k))) ≡ true
-unretired_table Plain = refl
-unretired_table (Hazard f) = refl
-unretired_table (Epoch e m) = refl
+unretired_table = by_tables (λ o. each o (λ l x by_own on_this k. implies (not (is_retired_location o l) && not (x retires && on_this)) (has_letter o false k && implies (x frees && on_this) (is_none k))) ≡ true)
+    refl (λ f. refl) (λ e m. refl)
 
 -- from a retired location a free of the address leads to an unretired one, everything else to a retired one
 retired_table : (o : Observer) → each o (λ l x by_own on_this k. implies (is_retired_location o l) (has_letter o (not (x frees && on_this)) k)) ≡ true
-retired_table Plain = refl
-retired_table (Hazard f) = refl
-retired_table (Epoch e m) = refl
+retired_table = by_tables (λ o. each o (λ l x by_own on_this k. implies (is_retired_location o l) (has_letter o (not (x frees && on_this)) k)) ≡ true)
+    refl (λ f. refl) (λ e m. refl)
 
 -- a retirement that is nothing else leads from an unretired location to a retired one
 retirement_table : (o : Observer) → each o (λ l x by_own on_this k. implies (not (is_retired_location o l) && ((x retires && on_this) && not (x asks || x gives_up))) (has_letter o true k && not (is_none k))) ≡ true
-retirement_table Plain = refl
-retirement_table (Hazard f) = refl
-retirement_table (Epoch e m) = refl
+retirement_table = by_tables (λ o. each o (λ l x by_own on_this k. implies (not (is_retired_location o l) && ((x retires && on_this) && not (x asks || x gives_up))) (has_letter o true k && not (is_none k))) ≡ true)
+    refl (λ f. refl) (λ e m. refl)
 
 pub heard_retires : (o : Observer) (kind : EvKind) → heard_by o kind retires ≡ is_retirement kind
 heard_retires o (Call f) = refl

@@ -1,5 +1,6 @@
 -- Laws of the observers, on which the layers above stand.
-use Rattle.std.specs.Prelude.{◌≡◌, ◌<◌, ◌&&◌, ℕ, Bool, true, false, not, if◌then◌else◌, List, [], ◌∷◌, ◌++◌, take, Some, None}
+use Rattle.std.specs.Prelude.{◌≡◌, ◌<◌, ◌&&◌, ℕ, Bool, true, false, not}
+use Rattle.std.specs.Prelude.{if◌then◌else◌, List, [], ◌∷◌, ◌++◌, take, Some, None}
 use Rattle.std.specs.List.{list_any}
 use Rattle.plc_base.specs.Mask.{has, within}
 use Rattle.plc_auto.specs.declared.event.Event.{Event}
@@ -29,7 +30,8 @@ is_retirement Free = false
 -- a history longer by one event; histories that aren't allowed stay so, and each location is live
 pub record LocationsFollowHistories (o : Observer) : Type 0 where
   pub empty : (t a : ℕ) → location o [] t a ≡ Some 0
-  pub longer : (h : List Event) (e : Event) (t a : ℕ) → location o (h ++ e ∷ []) t a ≡ advance o t a e (location o h t a)
+  pub longer : (h : List Event) (e : Event) (t a : ℕ)
+      → location o (h ++ e ∷ []) t a ≡ advance o t a e (location o h t a)
   pub live : (h : List Event) (t a l : ℕ) → location o h t a ≡ Some l → l < count_of o
   pub bad_stays : (h more : List Event) (t a : ℕ) → location o h t a ≡ None → location o (h ++ more) t a ≡ None
 
@@ -39,23 +41,35 @@ frees_one (Called t f b) = false
 frees_one (Returned t f) = false
 frees_one (Freed b) = true
 
--- prefixes of an allowed history are allowed; where no thread and address stands in `bad` at the end none did before; and only a free can lead there, for its own address
+-- prefixes of an allowed history are allowed; where no thread and address stands in `bad` at the end none did
+-- before; and only a free can lead there, for its own address
 pub record AllowedByTheLast (o : Observer) (threads : ℕ) : Type 0 where
   pub empty : Allowed o threads []
   pub prefix : (h : List Event) (n : ℕ) → Allowed o threads h → Allowed o threads (take n h)
   pub shorter : (h more : List Event) → Allowed o threads (h ++ more) → Allowed o threads h
-  pub by_last : (h : List Event) → ((t a : ℕ) → t < threads → 0 < a → location o h t a ≡ None → ⊥) → Allowed o threads h
-  pub last : (h : List Event) (t a : ℕ) → Allowed o threads h → t < threads → 0 < a → location o h t a ≡ None → ⊥
-  pub call_or_return : (h : List Event) (e : Event) → frees_one e ≡ false → Allowed o threads h → Allowed o threads (h ++ e ∷ [])
-  pub free : (h : List Event) (a : ℕ) → Allowed o threads h → ((t : ℕ) → t < threads → location o (h ++ Freed a ∷ []) t a ≡ None → ⊥) → Allowed o threads (h ++ Freed a ∷ [])
+  pub by_last : (h : List Event)
+      → ((t a : ℕ) → t < threads → 0 < a → location o h t a ≡ None → ⊥) → Allowed o threads h
+  pub last : (h : List Event) (t a : ℕ) → Allowed o threads h
+      → t < threads → 0 < a → location o h t a ≡ None → ⊥
+  pub call_or_return : (h : List Event) (e : Event) → frees_one e ≡ false
+      → Allowed o threads h → Allowed o threads (h ++ e ∷ [])
+  pub free : (h : List Event) (a : ℕ) → Allowed o threads h
+      → ((t : ℕ) → t < threads → location o (h ++ Freed a ∷ []) t a ≡ None → ⊥)
+      → Allowed o threads (h ++ Freed a ∷ [])
 
 -- ---- the first letter of a location's name
 
--- a retirement of the address leads from `u` to `r`, a free of it from `r` to `u` or to `bad`, and nothing else changes the letter
+-- a retirement of the address leads from `u` to `r`, a free of it from `r` to `u` or to `bad`, and nothing else
+-- changes the letter
 pub record LettersTurn (o : Observer) : Type 0 where
-  pub from_unretired : (l k : ℕ) (kind : EvKind) (by_own on_this : Bool) → l < count_of o → is_retired_location o l ≡ false → step o l kind by_own on_this ≡ Some k → is_retired_location o k ≡ (is_retirement kind && on_this)
-  pub from_retired : (l k : ℕ) (kind : EvKind) (by_own on_this : Bool) → l < count_of o → is_retired_location o l ≡ true → step o l kind by_own on_this ≡ Some k → is_retired_location o k ≡ not (is_free kind && on_this)
-  pub bad_by_free : (l : ℕ) (kind : EvKind) (by_own on_this : Bool) → l < count_of o → step o l kind by_own on_this ≡ None → (is_free kind ≡ true) × (on_this ≡ true)
+  pub from_unretired : (l k : ℕ) (kind : EvKind) (by_own on_this : Bool) → l < count_of o
+      → is_retired_location o l ≡ false → step o l kind by_own on_this ≡ Some k
+      → is_retired_location o k ≡ (is_retirement kind && on_this)
+  pub from_retired : (l k : ℕ) (kind : EvKind) (by_own on_this : Bool) → l < count_of o
+      → is_retired_location o l ≡ true → step o l kind by_own on_this ≡ Some k
+      → is_retired_location o k ≡ not (is_free kind && on_this)
+  pub bad_by_free : (l : ℕ) (kind : EvKind) (by_own on_this : Bool) → l < count_of o
+      → step o l kind by_own on_this ≡ None → (is_free kind ≡ true) × (on_this ≡ true)
 
 -- whether an address is retired after an event, where it was or wasn't before
 abbrev pub retired_by : Event → ℕ → Bool → Bool
@@ -65,8 +79,10 @@ retired_by (Freed b) a before = if is_this (Some b) a then false else before
 
 -- so it makes no difference which thread is asked
 pub record RetiredForAllThreads (o : Observer) : Type 0 where
-  pub longer : (h : List Event) (e : Event) (t a : ℕ) → (location o (h ++ e ∷ []) t a ≡ None → ⊥) → is_retired_after o (h ++ e ∷ []) t a ≡ retired_by e a (is_retired_after o h t a)
-  pub same : (threads : ℕ) (h : List Event) (t u a : ℕ) → Allowed o threads h → t < threads → u < threads → 0 < a → is_retired_after o h t a ≡ is_retired_after o h u a
+  pub longer : (h : List Event) (e : Event) (t a : ℕ) → (location o (h ++ e ∷ []) t a ≡ None → ⊥)
+      → is_retired_after o (h ++ e ∷ []) t a ≡ retired_by e a (is_retired_after o h t a)
+  pub same : (threads : ℕ) (h : List Event) (t u a : ℕ) → Allowed o threads h
+      → t < threads → u < threads → 0 < a → is_retired_after o h t a ≡ is_retired_after o h u a
 
 -- ---- frees
 
@@ -79,7 +95,8 @@ is_retire_call (Freed b) = false
 -- no address is freed that was never retired
 pub record FreesFollowRetirements (o : Observer) : Type 0 where
   pub initial : (by_own : Bool) → step o 0 Free by_own true ≡ None
-  pub none_retired : (threads : ℕ) (h : List Event) (a : ℕ) → 0 < threads → 0 < a → list_any is_retire_call h ≡ false → Allowed o threads (h ++ Freed a ∷ []) → ⊥
+  pub none_retired : (threads : ℕ) (h : List Event) (a : ℕ) → 0 < threads → 0 < a
+      → list_any is_retire_call h ≡ false → Allowed o threads (h ++ Freed a ∷ []) → ⊥
   pub unretired_kept : (l : ℕ) → has (unretired o) l ≡ true → step o l Free false true ≡ None
   pub safe_kept : (l : ℕ) → has (safe o) l ≡ true → step o l Free false true ≡ None
 
@@ -95,10 +112,14 @@ pub record SetsOfLocations (o : Observer) : Type 0 where
 
 -- a step and a closure of locations are locations, and both grow with the set
 pub record SetsGrow (o : Observer) : Type 0 where
-  pub step_within : (m : ℕ) (kind : EvKind) (by_own on_this : Bool) → within m (all_locations o) ≡ true → within (step_set o m kind by_own on_this) (all_locations o) ≡ true
-  pub step_grows : (m n : ℕ) (kind : EvKind) (by_own on_this : Bool) → within m n ≡ true → within (step_set o m kind by_own on_this) (step_set o n kind by_own on_this) ≡ true
-  pub closure_within : (with_free : Bool) (m : ℕ) → within m (all_locations o) ≡ true → within (closure o with_free m) (all_locations o) ≡ true
-  pub closure_grows : (with_free : Bool) (m n : ℕ) → within m n ≡ true → within (closure o with_free m) (closure o with_free n) ≡ true
+  pub step_within : (m : ℕ) (kind : EvKind) (by_own on_this : Bool) → within m (all_locations o) ≡ true
+      → within (step_set o m kind by_own on_this) (all_locations o) ≡ true
+  pub step_grows : (m n : ℕ) (kind : EvKind) (by_own on_this : Bool) → within m n ≡ true
+      → within (step_set o m kind by_own on_this) (step_set o n kind by_own on_this) ≡ true
+  pub closure_within : (with_free : Bool) (m : ℕ) → within m (all_locations o) ≡ true
+      → within (closure o with_free m) (all_locations o) ≡ true
+  pub closure_grows : (with_free : Bool) (m n : ℕ) → within m n ≡ true
+      → within (closure o with_free m) (closure o with_free n) ≡ true
   pub closure_with_frees : (m : ℕ) → within (closure o false m) (closure o true m) ≡ true
 
 -- a closure is the least closed set above a set of locations, so that closing twice is closing once

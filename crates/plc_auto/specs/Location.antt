@@ -1,5 +1,6 @@
 -- Where a thread and an address stand after a history, which histories are allowed, and which addresses are retired.
-use Rattle.std.specs.Prelude.{◌≡◌, ◌==◌, ◌&&◌, ◌<◌, ℕ, Bool, false, not, List, [], ◌∷◌, take, get_or, Option, Some, None}
+use Rattle.std.specs.Prelude.{◌≡◌, ◌==◌, ◌&&◌, ◌<◌, ℕ, Bool, false, not, List}
+use Rattle.std.specs.Prelude.{[], ◌∷◌, take, get_or, Option, Some, None}
 use Rattle.plc_auto.specs.declared.event.Event.{Event}
 use Rattle.plc_auto.specs.declared.event.Event.TheVariants.{Call as Called, Done as Returned, Free as Freed}
 use Rattle.plc_auto.specs.declared.event.EvKind.TheVariants.{Call, Done, Free}

@@ -1,5 +1,6 @@
 -- Sets of live locations.
-use Rattle.std.specs.Prelude.{◌≡◌, ◌==◌, ◌&&◌, ◌||◌, ℕ, Bool, true, false, not, if◌then◌else◌, Option, Some, None, nat_lt, is_none}
+use Rattle.std.specs.Prelude.{◌≡◌, ◌==◌, ◌&&◌, ◌||◌, ℕ, Bool, true, false, not}
+use Rattle.std.specs.Prelude.{if◌then◌else◌, Option, Some, None, nat_lt, is_none}
 use Rattle.plc_base.specs.declared.ids.FuncId.{FuncId}
 use Rattle.plc_base.specs.Mask.{has, no_members, single, union, mask_of}
 use Rattle.plc_auto.specs.declared.event.EvKind.{EvKind}
@@ -35,9 +36,11 @@ safe o = mask_of (λ l. is_location o l && is_none (step o l Free false true))
 
 -- the live locations to which an event leads from those of a set
 unfoldable pub step_set : Observer → ℕ → EvKind → Bool → Bool → ℕ
-step_set o m kind by_own on_this = mask_of (λ k. any_below_8 (λ l. has m l && leads_to (step o l kind by_own on_this) k))
+step_set o m kind by_own on_this =
+    mask_of (λ k. any_below_8 (λ l. has m l && leads_to (step o l kind by_own on_this) k))
 
--- what may happen meanwhile: calls and returns of other threads on this address and on others, frees of other addresses; with_free: a free of this one too
+-- what may happen meanwhile: calls and returns of other threads on this address and on others, frees of other
+-- addresses; with_free: a free of this one too
 abbrev pub happens : Bool → EvKind → Bool → Bool
 happens with_free (Call f) on_this = true
 happens with_free (Done f) on_this = true
@@ -45,7 +48,9 @@ happens with_free Free on_this = with_free || not on_this
 
 -- a set that is closed under what may happen
 abbrev pub IsClosed : Observer → Bool → ℕ → Type 0
-IsClosed o with_free m = (l k : ℕ) (kind : EvKind) (on_this : Bool) → has m l ≡ true → happens with_free kind on_this ≡ true → step o l kind false on_this ≡ Some k → has m k ≡ true
+IsClosed o with_free m =
+    (l k : ℕ) (kind : EvKind) (on_this : Bool) → has m l ≡ true → happens with_free kind on_this ≡ true
+    → step o l kind false on_this ≡ Some k → has m k ≡ true
 
 -- each member of a is one of b
 abbrev pub Within : ℕ → ℕ → Type 0
@@ -66,9 +71,12 @@ abbrev pub arrivals : Option ℕ → ℕ
 arrivals None = no_members
 arrivals (Some k) = single k
 
--- where an address may come meanwhile from one location: only a retirement and a free move it, and from there it moves no further
+-- where an address may come meanwhile from one location: only a retirement and a free move it, and from there
+-- it moves no further
 unfoldable pub reach : Observer → Bool → ℕ → ℕ
-reach o with_free l = union (single l) (union (arrivals (step o l (Call retire) false true)) (if with_free then arrivals (step o l Free false true) else no_members))
+reach o with_free l =
+    union (single l) (union (arrivals (step o l (Call retire) false true))
+    (if with_free then arrivals (step o l Free false true) else no_members))
 
 -- the closure, a row for each location; `IsClosureOf` says what it is
 unfoldable pub closure : Observer → Bool → ℕ → ℕ

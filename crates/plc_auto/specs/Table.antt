@@ -1,5 +1,6 @@
 -- The tables of the three observers: live locations, and labelled edges of which the first that fits is taken.
-use Rattle.std.specs.Prelude.{◌==◌, ◌&&◌, ℕ, Bool, true, false, not, if◌then◌else◌, List, [], ◌∷◌, length, codes, Option, Some, None}
+use Rattle.std.specs.Prelude.{◌==◌, ◌&&◌, ℕ, Bool, true, false, not, if◌then◌else◌, List}
+use Rattle.std.specs.Prelude.{[], ◌∷◌, length, codes, Option, Some, None}
 use Rattle.plc_base.specs.declared.ids.FuncId.{FuncId}
 use Rattle.plc_base.specs.Functions.{is_retire}
 use Rattle.plc_base.specs.declared.ids.LocId.{LocId}
@@ -8,7 +9,8 @@ use Rattle.plc_auto.specs.declared.event.EvKind.TheVariants.{Call, Done, Free}
 use Rattle.plc_auto.specs.declared.observer.Observer.{Observer}
 use Rattle.plc_auto.specs.declared.observer.Observer.TheVariants.{Plain, Hazard, Epoch}
 
--- what an edge waits for: a call of `retire`, the call that asks for protection, its return, the call that gives it up, a free
+-- what an edge waits for: a call of `retire`, the call that asks for protection, its return, the call that
+-- gives it up, a free
 pub data Label : Type 0 where
   retires : Label
   asks : Label
@@ -42,7 +44,8 @@ pub record Edge : Type 0 where
 
 -- an edge, in the order in which the tables have it
 abbrev pub edge : ℕ → Label → ThreadGuard → AddressGuard → Target → Edge
-edge from label thread address target = record { from = from; label = label; thread = thread; address = address; target = target }
+edge from label thread address target =
+    record { from = from; label = label; thread = thread; address = address; target = target }
 
 -- ---- plain
 abbrev pub plain_names : List (List ℕ)
@@ -56,7 +59,9 @@ plain_edges =
 
 -- ---- hazard(f): `asks` is a call of f, `granted` its return
 abbrev pub hazard_names : List (List ℕ)
-hazard_names = codes "u.idle" ∷ codes "u.pend" ∷ codes "u.held" ∷ codes "r.idle" ∷ codes "r.pend" ∷ codes "r.held" ∷ codes "r.kept" ∷ []
+hazard_names =
+    codes "u.idle" ∷ codes "u.pend" ∷ codes "u.held"
+    ∷ codes "r.idle" ∷ codes "r.pend" ∷ codes "r.held" ∷ codes "r.kept" ∷ []
 
 -- not retired, and not asked for by this thread
 abbrev pub u_idle : ℕ
@@ -90,16 +95,21 @@ r_kept = 6
 abbrev pub hazard_edges : List Edge
 hazard_edges =
     edge u_idle asks own this (to u_pend) ∷ edge u_idle retires any this (to r_idle) ∷ edge u_idle frees any this bad
-    ∷ edge u_pend asks own other (to u_idle) ∷ edge u_pend granted own every (to u_held) ∷ edge u_pend retires any this (to r_pend) ∷ edge u_pend frees any this bad
+    ∷ edge u_pend asks own other (to u_idle) ∷ edge u_pend granted own every (to u_held)
+    ∷ edge u_pend retires any this (to r_pend) ∷ edge u_pend frees any this bad
     ∷ edge u_held asks own other (to u_idle) ∷ edge u_held retires any this (to r_kept) ∷ edge u_held frees any this bad
     ∷ edge r_idle asks own this (to r_pend) ∷ edge r_idle frees any this (to u_idle)
-    ∷ edge r_pend asks own other (to r_idle) ∷ edge r_pend granted own every (to r_held) ∷ edge r_pend frees any this (to u_pend)
-    ∷ edge r_held asks own other (to r_idle) ∷ edge r_held retires any this (to r_kept) ∷ edge r_held frees any this (to u_held)
+    ∷ edge r_pend asks own other (to r_idle) ∷ edge r_pend granted own every (to r_held)
+    ∷ edge r_pend frees any this (to u_pend)
+    ∷ edge r_held asks own other (to r_idle) ∷ edge r_held retires any this (to r_kept)
+    ∷ edge r_held frees any this (to u_held)
     ∷ edge r_kept asks own other (to r_idle) ∷ edge r_kept frees any this bad ∷ []
 
 -- ---- epoch(e, l): `asks` is a call of e, `granted` its return, `gives_up` a call of l
 abbrev pub epoch_names : List (List ℕ)
-epoch_names = codes "u.out" ∷ codes "u.coming" ∷ codes "u.in" ∷ codes "r.out" ∷ codes "r.coming" ∷ codes "r.in" ∷ codes "r.kept" ∷ []
+epoch_names =
+    codes "u.out" ∷ codes "u.coming" ∷ codes "u.in"
+    ∷ codes "r.out" ∷ codes "r.coming" ∷ codes "r.in" ∷ codes "r.kept" ∷ []
 
 -- not retired, and this thread is outside
 abbrev pub u_out : ℕ
@@ -129,11 +139,14 @@ r_in = 5
 abbrev pub epoch_edges : List Edge
 epoch_edges =
     edge u_out asks own every (to u_coming) ∷ edge u_out retires any this (to r_out) ∷ edge u_out frees any this bad
-    ∷ edge u_coming granted own every (to u_in) ∷ edge u_coming gives_up own every (to u_out) ∷ edge u_coming retires any this (to r_coming) ∷ edge u_coming frees any this bad
+    ∷ edge u_coming granted own every (to u_in) ∷ edge u_coming gives_up own every (to u_out)
+    ∷ edge u_coming retires any this (to r_coming) ∷ edge u_coming frees any this bad
     ∷ edge u_in gives_up own every (to u_out) ∷ edge u_in retires any this (to r_kept) ∷ edge u_in frees any this bad
     ∷ edge r_out asks own every (to r_coming) ∷ edge r_out frees any this (to u_out)
-    ∷ edge r_coming granted own every (to r_in) ∷ edge r_coming gives_up own every (to r_out) ∷ edge r_coming frees any this (to u_coming)
-    ∷ edge r_in gives_up own every (to r_out) ∷ edge r_in retires any this (to r_kept) ∷ edge r_in frees any this (to u_in)
+    ∷ edge r_coming granted own every (to r_in) ∷ edge r_coming gives_up own every (to r_out)
+    ∷ edge r_coming frees any this (to u_coming)
+    ∷ edge r_in gives_up own every (to r_out) ∷ edge r_in retires any this (to r_kept)
+    ∷ edge r_in frees any this (to u_in)
     ∷ edge r_kept gives_up own every (to r_out) ∷ edge r_kept frees any this bad ∷ []
 
 -- the live locations in order
@@ -205,7 +218,8 @@ address_fits every on_this = true
 
 -- an edge fits where its location, its label and both guards do
 abbrev pub edge_fits : (Label → Bool) → Bool → Bool → ℕ → Edge → Bool
-edge_fits borne by_own on_this l e = (e.from == l) && borne e.label && thread_fits e.thread by_own && address_fits e.address on_this
+edge_fits borne by_own on_this l e =
+    (e.from == l) && borne e.label && thread_fits e.thread by_own && address_fits e.address on_this
 
 -- a location, or None for `bad`
 abbrev pub reached : Target → Option ℕ
@@ -215,7 +229,8 @@ reached bad = None
 -- where the first edge that fits leads, None for `bad`; where none fits the location stays
 abbrev pub along : (Label → Bool) → Bool → Bool → ℕ → List Edge → Option ℕ
 along borne by_own on_this l [] = Some l
-along borne by_own on_this l (e ∷ es) = if edge_fits borne by_own on_this l e then reached e.target else along borne by_own on_this l es
+along borne by_own on_this l (e ∷ es) =
+    if edge_fits borne by_own on_this l e then reached e.target else along borne by_own on_this l es
 
 -- where an event leads from a live location: by the thread itself or another, on the address itself or another
 unfoldable pub step : Observer → ℕ → EvKind → Bool → Bool → Option ℕ

@@ -1,5 +1,8 @@
 // What an observer hears: calls and returns of reclaimer functions, and frees. A history is a list
 // of events in the order in which they happened.
+ghost use Rattle.std.specs.Prelude.{◌≡◌};
+ghost use Rattle.plc_auto.specs.Events.{kind_of, thread_of, address_of};
+
 use plc_base::FuncId;
 
 /// One thing that an observer hears.
@@ -19,4 +22,42 @@ pub enum EvKind {
     Call(FuncId),
     Done(FuncId),
     Free,
+}
+
+impl Event {
+    /// The event without its thread and address.
+    pub fn kind(&self) -> EvKind
+        ensures { result ≡ kind_of self.now }
+    {
+        match *self {
+            Event::Call { t: _, f, a: _ } => EvKind::Call(f),
+            Event::Done { t: _, f } => EvKind::Done(f),
+            Event::Free { a: _ } => EvKind::Free,
+        }
+    }
+
+    /// The thread of a call or a return.
+    pub fn thread(&self) -> Option<u32>
+        ensures { result ≡ thread_of self.now }
+    {
+        match *self {
+            Event::Call { t, f: _, a: _ } => Some(t),
+            Event::Done { t, f: _ } => Some(t),
+            Event::Free { a: _ } => None,
+        }
+    }
+
+    /// The address that the event names; null where it names none.
+    pub fn address(&self) -> u32
+        ensures { result ≡ address_of self.now }
+    {
+        match *self {
+            Event::Call { t: _, f: _, a } => match a {
+                None => 0,
+                Some(a) => a,
+            },
+            Event::Done { t: _, f: _ } => 0,
+            Event::Free { a } => a,
+        }
+    }
 }

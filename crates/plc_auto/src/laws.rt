@@ -1,11 +1,10 @@
-// What the layers above use of observers, each a law on the definitions alone. A function without a
-// body carries it in its contract, so that it is proved where the observers are.
-ghost use Rattle.std.specs.Prelude.{◌≡◌, ℕ, Bool, true, false, Some};
-ghost use Rattle.plc_base.specs.Mask.{within};
+// What the layers above use of observers and the histories that they read, each a law on the definitions
+// alone. A function without a body carries it in its contract, so that it is proved where the observers are.
+ghost use Rattle.std.specs.Prelude.{◌≡◌, ℕ, true, false, Some};
 ghost use Rattle.plc_auto.specs.Table.{is_well_formed};
 ghost use Rattle.plc_auto.specs.Location.{is_this};
-ghost use Rattle.plc_auto.specs.Sets.{all_locations};
-ghost use Rattle.plc_auto.specs.Laws.{LocationsFollowHistories, AllowedByTheLast, LettersTurn, RetiredForAllThreads, FreesFollowRetirements, SetsOfLocations, SetsGrow, ClosuresAreLeast};
+ghost use Rattle.plc_auto.specs.Laws.{LocationsFollowHistories, AllowedByTheLast, LettersTurn};
+ghost use Rattle.plc_auto.specs.Laws.{RetiredForAllThreads, FreesFollowRetirements};
 ghost use Rattle.plc_auto.specs.declared.observer.Observer.{Observer};
 
 /// The location after one event more, that it is live, and that `bad` is never left.
@@ -37,20 +36,4 @@ pub fn frees_follow_retirements()
 /// Null is never the address that is watched.
 pub fn null_is_other()
     ensures { (a : ℕ) → is_this (Some 0) a ≡ false }
-{}
-
-/// Which of the sets of locations lie within which.
-pub fn sets_of_locations()
-    ensures { (o : Observer) → SetsOfLocations o }
-{}
-
-/// Steps and closures of sets stay within the locations, and grow with the set.
-pub fn sets_grow()
-    ensures { (o : Observer) → SetsGrow o }
-{}
-
-/// The closure of a set of locations is the least closed set that holds it, and so its own closure.
-pub fn closures_are_least()
-    ensures { (o : Observer) (with_free : Bool) (m : ℕ) → within m (all_locations o) ≡ true
-        → ClosuresAreLeast o with_free m }
 {}

@@ -6,13 +6,14 @@
 mod event;
 mod laws;
 mod observer;
+mod set_laws;
 mod sets;
 mod table;
 
 pub use event::{EvKind, Event};
 pub use laws::{
-    closures_are_least, frees_follow_retirements, histories_are_judged_by_the_last, letters_turn,
-    locations_follow_histories, null_is_other, retired_for_all_threads, sets_grow,
-    sets_of_locations,
+    frees_follow_retirements, histories_are_judged_by_the_last, letters_turn,
+    locations_follow_histories, null_is_other, retired_for_all_threads,
 };
 pub use observer::Observer;
+pub use set_laws::{closures_are_least, sets_grow, sets_of_locations};

@@ -3,7 +3,7 @@
 use Rattle.std.proofs.Common.{◌≡◌, ℕ, ◌<◌, Bool, true, false, not, cond, ◌&&◌, ◌||◌, ◌==◌, if◌then◌else◌, List, [], ◌∷◌, ◌++◌, Option, Some, None, is_none, refl, sym, ap, ◌∙◌, subst, arith, inl, inr, suc, zero}
 use Rattle.std.specs.Prelude.{◌↔◌, fold, filter, find, Contains}
 use Rattle.std.specs.List.{list_any}
-use Rattle.std.proofs.lemmas.Bool.{and_from, cases_Bool, eqb-true, eq-eqb, not-true, both_ways}
+use Rattle.std.proofs.lemmas.Bool.{and_from, cases_Bool, eqb-true, eq-eqb, not-true, both_ways, or_parts}
 use Rattle.std.proofs.lemmas.List.Folds.{list_any-append, list_any_at}
 use Rattle.std.proofs.lemmas.List.Sums.{fold-append}
 use Rattle.std.proofs.lemmas.Map.Views.{any-filter_same}
@@ -25,6 +25,7 @@ use Rattle.plc_reclaim.specs.Waiting.{waiting_after}
 use Rattle.plc_reclaim.specs.Rows.{ActsAs, first_waiting, threads_in, is_kept_at, is_kept_by, is_kept_by_none, hazards, epochs, hazard_row, epoch_row}
 use Rattle.plc_reclaim.specs.Meanings.{Meanings}
 use Rattle.plc_reclaim.specs.Histories.{Happens, begins, hears, asks, frees, MakesAllowed}
+use Rattle.plc_reclaim.proofs.Either.{or_false, or_true}
 use Rattle.plc_reclaim.proofs.Picks.{may_be_picked}
 
 -- ---- the tables
@@ -68,19 +69,14 @@ freed_fine o h t a retired free bad = go (location o h t a) refl retired free (s
 abbrev is_in : List ℕ → ℕ → Bool
 is_in xs a = list_any (λ b. b == a) xs
 
-or_false : (x y : Bool) → (x || y) ≡ false → (x ≡ false) × (y ≡ false)
-or_false false false e = (refl, refl)
-or_false true y e = cc
-or_false false true e = cc
-
 quiet_step : (o : Observer) (t a l : ℕ) (e : Event) → l < count_of o → is_own t e ≡ false → is_quiet o (Some l) ≡ true → is_quiet o (advance o t a e (Some l)) ≡ true
 quiet_step o t a l e live other quiet =
     let row = each_at o (λ l x by_own on_this k. implies (not by_own && is_quiet o (Some l)) (is_quiet o k)) (quiet_table o) l (kind_of e) (is_own t e) (is_on a e) live in
     ap (is_quiet o) (step_by_is o t a e l) ∙ implied _ _ row (and_from _ _ (ap not other) quiet)
 
 unheard : (t : ℕ) (e : Event) (h : List Event) → is_in (threads_in (e ∷ h)) t ≡ false → (is_own t e ≡ false) × (is_in (threads_in h) t ≡ false)
-unheard t (Called u f b) h n = or_false _ _ n
-unheard t (Returned u f) h n = or_false _ _ n
+unheard t (Called u f b) h n = or_parts _ _ n
+unheard t (Returned u f) h n = or_parts _ _ n
 unheard t (Freed b) h n = (refl, n)
 
 from_quiet : (o : Observer) (t a l : ℕ) (h : List Event) → l < count_of o → is_in (threads_in h) t ≡ false → is_quiet o (Some l) ≡ true → is_quiet o (location_from o t a (Some l) h) ≡ true
@@ -113,10 +109,10 @@ unheard_is_free o h t a n = quiet_is_free o (location_from o t a (Some 0) h) (fr
 
 none_at : (p : ℕ → Bool) (xs : List ℕ) (t : ℕ) → is_in xs t ≡ true → list_any p xs ≡ false → p t ≡ false
 none_at p [] t e n = cc
-none_at p (x ∷ xs) t e n = go (x == t) refl e (λ later. none_at p xs t later (or_false _ _ n).1)
+none_at p (x ∷ xs) t e n = go (x == t) refl e (λ later. none_at p xs t later (or_parts _ _ n).1)
   where
     go : (b : Bool) → (x == t) ≡ b → (b || is_in xs t) ≡ true → (is_in xs t ≡ true → p t ≡ false) → p t ≡ false
-    go true is later rest = ap p (sym (eqb-true x t is)) ∙ (or_false _ _ n).0
+    go true is later rest = ap p (sym (eqb-true x t is)) ∙ (or_parts _ _ n).0
     go false is later rest = rest later
 
 none_of : (os : List Observer) (o : Observer) → Contains os o → (p : Observer → Bool) → list_any p os ≡ false → p o ≡ false
@@ -160,22 +156,14 @@ waits_turn held (Called t f (Some b)) a one = go (is_retire f) (b == a) (b == 0)
     added : (s : Bool) → (b == a) ≡ s → is_in (held ++ b ∷ []) a ≡ (is_in held a || (s || false))
     added s is = list_any-append (λ c. c == a) held (b ∷ []) ∙ ap (λ s. is_in held a || (s || false)) is
 
-    or_no : (x : Bool) → (x || false) ≡ x
-    or_no true = refl
-    or_no false = refl
-
-    or_yes : (x : Bool) → (x || true) ≡ true
-    or_yes true = refl
-    or_yes false = refl
-
     go : (r s z i : Bool) → (b == a) ≡ s → (b == 0) ≡ z → is_in held b ≡ i → is_in (if r && not z && not i then held ++ b ∷ [] else held) a ≡ (if r && (s && not z) then true else is_in held a)
     go false s z i is_a is_0 is_held = refl
     go true true true i is_a is_0 is_held = absurd (let same : b ≡ a = eqb-true b a is_a in let null : b ≡ 0 = eqb-true b 0 is_0 in omega arith)
     go true false true i is_a is_0 is_held = refl
     go true true false true is_a is_0 is_held = ap (is_in held) (sym (eqb-true b a is_a)) ∙ is_held
     go true false false true is_a is_0 is_held = refl
-    go true true false false is_a is_0 is_held = added true is_a ∙ or_yes (is_in held a)
-    go true false false false is_a is_0 is_held = added false is_a ∙ or_no (is_in held a)
+    go true true false false is_a is_0 is_held = added true is_a ∙ or_true (is_in held a)
+    go true false false false is_a is_0 is_held = added false is_a ∙ or_false (is_in held a)
 waits_turn held (Returned t f) a one = refl
 waits_turn held (Freed b) a one = go (b == a) (b == 0) refl refl
   where
@@ -193,10 +181,10 @@ waits_turn held (Freed b) a one = go (b == a) (b == 0) refl refl
 -- null never waits
 fewer : (p : ℕ → Bool) (held : List ℕ) (a : ℕ) → is_in held a ≡ false → is_in (filter p held) a ≡ false
 fewer p [] a n = refl
-fewer p (b ∷ held) a n = go (p b) (fewer p held a (or_false _ _ n).1)
+fewer p (b ∷ held) a n = go (p b) (fewer p held a (or_parts _ _ n).1)
   where
     go : (v : Bool) → is_in (filter p held) a ≡ false → is_in (cond v (b ∷ filter p held) (filter p held)) a ≡ false
-    go true m = ap (λ x. x || is_in (filter p held) a) (or_false _ _ n).0 ∙ m
+    go true m = ap (λ x. x || is_in (filter p held) a) (or_parts _ _ n).0 ∙ m
     go false m = m
 
 null_step : (held : List ℕ) (e : Event) → is_in held 0 ≡ false → is_in (waiting_after held e) 0 ≡ false
@@ -225,13 +213,9 @@ found : (p : ℕ → Bool) (xs : List ℕ) (a : ℕ) → find p xs ≡ Some a �
 found p [] a e = cc
 found p (x ∷ xs) a e = go (p x) refl e (λ later. found p xs a later)
   where
-    or_yes : (x : Bool) → (x || true) ≡ true
-    or_yes true = refl
-    or_yes false = refl
-
     go : (b : Bool) → p x ≡ b → cond b (Some x) (find p xs) ≡ Some a → (find p xs ≡ Some a → (p a ≡ true) × (is_in xs a ≡ true)) → (p a ≡ true) × (is_in (x ∷ xs) a ≡ true)
     go true is here later = let same : x ≡ a = cc in (ap p (sym same) ∙ is, ap (λ s. s || is_in xs a) (eq-eqb x a same))
-    go false is there later = ((later there).0, ap (λ r. (x == a) || r) (later there).1 ∙ or_yes (x == a))
+    go false is there later = ((later there).0, ap (λ r. (x == a) || r) (later there).1 ∙ or_true (x == a))
 
 -- ---- histories
 

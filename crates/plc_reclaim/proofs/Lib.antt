@@ -1,4 +1,5 @@
 pub mod Allowing
+mod Either
 mod Numbers
 mod Past
 mod Picks

@@ -14,11 +14,11 @@ use Rattle.plc_auto.specs.Location.{is_this, advance, location_from, location}
 use Rattle.plc_auto.proofs.Histories.{is_own}
 use Rattle.plc_reclaim.specs.declared.scheme.Scheme.{Scheme}
 use Rattle.plc_reclaim.specs.Waiting.{waiting_after}
-use Rattle.plc_reclaim.specs.Meanings.{Meanings}
 use Rattle.plc_reclaim.specs.Rows.{ActsAs, first_waiting, threads_in, is_kept_at, is_kept_by, is_kept_by_none}
 use Rattle.plc_auto.specs.Events.{kind_of, thread_of, address_of}
 use Rattle.plc_reclaim.specs.Tables.{moved, same_location, Cell, Column, location_in, cell_after, cells_after, put_cell, with_cell, column_after, Heard, Table, column_of, fresh_table, is_thread, others_after, own_after, table_after, keeps}
-use Rattle.plc_reclaim.specs.Watch.{Watch, fresh_watch, watch_after, is_kept, first_free, numbers_of, begun_with, held_after, free_of}
+use Rattle.plc_reclaim.specs.Watch.{Watch, fresh_watch, watch_after, is_kept, first_free, numbers_of, held_after, free_of, by_tables}
+use Rattle.plc_reclaim.proofs.Either.{or_false, or_true}
 use Rattle.plc_reclaim.proofs.Picks.{may_be_picked}
 use Rattle.plc_reclaim.proofs.Numbers.{begun_with_is, held_after_is, free_of_is}
 
@@ -187,14 +187,6 @@ others_heard f by u tail apart (h ∷ heard) = go (is_thread by h) (h.thread == 
     go false true is_by is_u later = ap (λ r. r || is_heard (map (moved_heard f) (but by heard) ++ tail) u) is_u
     go false false is_by is_u later = ap (λ r. r || is_heard (map (moved_heard f) (but by heard) ++ tail) u) is_u ∙ later
 
-or_no : (x : Bool) → (x || false) ≡ x
-or_no true = refl
-or_no false = refl
-
-or_yes : (x : Bool) → (x || true) ≡ true
-or_yes true = refl
-or_yes false = refl
-
 by_heard : (f : Column → Column) (c : Column) (v u : ℕ) (heard : List Heard) → is_heard (map (moved_heard f) (but (Some v) heard) ++ record { thread = v; column = c } ∷ []) u ≡ (is_heard heard u || (v == u))
 by_heard f c v u heard = go (v == u) refl
   where
@@ -202,7 +194,7 @@ by_heard f c v u heard = go (v == u) refl
     go true e =
         list_any-append (λ h. h.thread == u) (map (moved_heard f) (but (Some v) heard)) (record { thread = v; column = c } ∷ [])
         ∙ ap (λ s. is_heard (map (moved_heard f) (but (Some v) heard)) u || (s || false)) e
-        ∙ or_yes (is_heard (map (moved_heard f) (but (Some v) heard)) u) ∙ sym (or_yes (is_heard heard u))
+        ∙ or_true (is_heard (map (moved_heard f) (but (Some v) heard)) u) ∙ sym (or_true (is_heard heard u))
     go false e =
         others_heard f (Some v) u (record { thread = v; column = c } ∷ []) (other_number v u e) heard
         ∙ ap (λ s. is_heard heard u || (s || false)) e
@@ -237,7 +229,7 @@ abbrev is_in : List ℕ → ℕ → Bool
 is_in xs a = list_any (λ b. b == a) xs
 
 end_heard : (t : Table) (events : List Event) (u : ℕ) → is_heard (table_at_end t events).heard u ≡ (is_heard t.heard u || is_in (threads_in events) u)
-end_heard t [] u = sym (or_no (is_heard t.heard u))
+end_heard t [] u = sym (or_false (is_heard t.heard u))
 end_heard t (e ∷ events) u = end_heard (table_after e t) events u ∙ ap (λ x. x || is_in (threads_in events) u) (heard_more e t u) ∙ regroup e
   where
     or_assoc : (x y z : Bool) → ((x || y) || z) ≡ (x || (y || z))
@@ -247,7 +239,7 @@ end_heard t (e ∷ events) u = end_heard (table_after e t) events u ∙ ap (λ x
     regroup : (e : Event) → ((is_heard t.heard u || is_own u e) || is_in (threads_in events) u) ≡ (is_heard t.heard u || is_in (threads_in (e ∷ events)) u)
     regroup (Called v f b) = or_assoc (is_heard t.heard u) (v == u) (is_in (threads_in events) u)
     regroup (Returned v f) = or_assoc (is_heard t.heard u) (v == u) (is_in (threads_in events) u)
-    regroup (Freed b) = ap (λ x. x || is_in (threads_in events) u) (or_no (is_heard t.heard u))
+    regroup (Freed b) = ap (λ x. x || is_in (threads_in events) u) (or_false (is_heard t.heard u))
 
 -- the column of each thread that was heard is its own
 abbrev EachOwn : (ℕ → Column) → List Heard → Type 0
@@ -304,7 +296,7 @@ some_heard column p (h ∷ heard) own e = go (p h.column) refl e (λ later. some
         (list_any (λ h. p h.column) heard ≡ true → (u : ℕ) × ((is_heard heard u ≡ true) × (p (column u) ≡ true))) →
         (u : ℕ) × ((is_heard (h ∷ heard) u ≡ true) × (p (column u) ≡ true))
     go true is here later = (h.thread, (ap (λ s. s || is_heard heard h.thread) (eq-eqb h.thread h.thread refl), ap p own.0 ∙ is))
-    go false is there later = let found = later there in (found.0, (ap (λ s. (h.thread == found.0) || s) found.1.0 ∙ or_yes (h.thread == found.0), found.1.1))
+    go false is there later = let found = later there in (found.0, (ap (λ s. (h.thread == found.0) || s) found.1.0 ∙ or_true (h.thread == found.0), found.1.1))
 
 this_heard : (p : Column → Bool) (heard : List Heard) (unheard : Column) (u : ℕ) → is_heard heard u ≡ true → p (column_of heard unheard u) ≡ true → list_any (λ h. p h.column) heard ≡ true
 this_heard p [] unheard u e is = cc
@@ -313,7 +305,7 @@ this_heard p (h ∷ heard) unheard u e is = go (h.thread == u) e is (λ e is. th
     go : (b : Bool) → (b || is_heard heard u) ≡ true → p (if b then h.column else column_of heard unheard u) ≡ true →
         (is_heard heard u ≡ true → p (column_of heard unheard u) ≡ true → list_any (λ h. p h.column) heard ≡ true) → (p h.column || list_any (λ h. p h.column) heard) ≡ true
     go true e is later = ap (λ s. s || list_any (λ h. p h.column) heard) is
-    go false e is later = ap (λ s. p h.column || s) (later e is) ∙ or_yes (p h.column)
+    go false e is later = ap (λ s. p h.column || s) (later e is) ∙ or_true (p h.column)
 
 some_in : (q : ℕ → Bool) (xs : List ℕ) → list_any q xs ≡ true → (u : ℕ) × ((is_in xs u ≡ true) × (q u ≡ true))
 some_in q [] e = cc
@@ -321,7 +313,7 @@ some_in q (x ∷ xs) e = go (q x) refl e (λ later. some_in q xs later)
   where
     go : (b : Bool) → q x ≡ b → (b || list_any q xs) ≡ true → (list_any q xs ≡ true → (u : ℕ) × ((is_in xs u ≡ true) × (q u ≡ true))) → (u : ℕ) × ((is_in (x ∷ xs) u ≡ true) × (q u ≡ true))
     go true is here later = (x, (ap (λ s. s || is_in xs x) (eq-eqb x x refl), is))
-    go false is there later = let found = later there in (found.0, (ap (λ s. (x == found.0) || s) found.1.0 ∙ or_yes (x == found.0), found.1.1))
+    go false is there later = let found = later there in (found.0, (ap (λ s. (x == found.0) || s) found.1.0 ∙ or_true (x == found.0), found.1.1))
 
 this_in : (q : ℕ → Bool) (xs : List ℕ) (u : ℕ) → is_in xs u ≡ true → q u ≡ true → list_any q xs ≡ true
 this_in q [] u e is = cc
@@ -329,7 +321,7 @@ this_in q (x ∷ xs) u e is = go (x == u) refl e (λ e. this_in q xs u e is)
   where
     go : (b : Bool) → (x == u) ≡ b → (b || is_in xs u) ≡ true → (is_in xs u ≡ true → list_any q xs ≡ true) → (q x || list_any q xs) ≡ true
     go true same e later = ap (λ s. s || list_any q xs) (ap q (eqb-true x u same) ∙ is)
-    go false same e later = ap (λ s. q x || s) (later e) ∙ or_yes (q x)
+    go false same e later = ap (λ s. q x || s) (later e) ∙ or_true (q x)
 
 same_tests : (x y : Bool) → (x ≡ true → y ≡ true) → (y ≡ true → x ≡ true) → x ≡ y
 same_tests true y f g = sym (f refl)
@@ -386,10 +378,7 @@ held_at_end : (w : Watch) (events : List Event) → fold held_after (numbers_of 
 held_at_end w [] = refl
 held_at_end w (e ∷ events) = ap (λ held. fold held_after held events) (held_after_is w e) ∙ held_at_end (watch_after w e) events
 
--- a reclaimer that serves the observers that it reads from the schemes
-abbrev pub by_tables : (List Scheme → List Observer) → Meanings
-by_tables observers = record { begun = λ schemes. begun_with (observers schemes); after = held_after; picked = λ held. held; pick_of = free_of }
-
+-- a reclaimer that serves the observers that it reads from the schemes acts as their row
 pub acts_by_tables : (observers : List Scheme → List Observer) → ActsAs (λ schemes events. first_waiting (is_kept_by_none (observers schemes) events) events) (by_tables observers)
 acts_by_tables observers = record {
   keeps = λ held. refl;

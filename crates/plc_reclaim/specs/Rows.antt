@@ -1,5 +1,6 @@
 -- What a reclaimer picks, by the schemes and all the events that it was handed: its row.
-use Rattle.std.specs.Prelude.{◌≡◌, ℕ, Bool, true, false, ◌==◌, ◌&&◌, not, if◌then◌else◌, List, [], ◌∷◌, fold, Option, Some, None}
+use Rattle.std.specs.Prelude.{◌≡◌, ℕ, Bool, true, false, ◌==◌, ◌&&◌, not}
+use Rattle.std.specs.Prelude.{if◌then◌else◌, List, [], ◌∷◌, fold, Option, Some, None}
 use Rattle.std.specs.List.{list_any, filter_map}
 use Rattle.plc_base.specs.Functions.{is_retire}
 use Rattle.plc_auto.specs.declared.event.Event.{Event}
@@ -102,4 +103,5 @@ epoch_row schemes events = first_waiting (is_kept_by_none (epochs schemes) event
 -- these meanings act as a row: a pick takes nothing out, and it is the row's address for all schemes and events
 pub record ActsAs (row : List Scheme → List Event → Option ℕ) (m : Meanings) : Type 0 where
   pub keeps : (held : List ℕ) → m.picked held ≡ held
-  pub picks : (schemes : List Scheme) (events : List Event) → m.pick_of (fold m.after (m.begun schemes) events) ≡ row schemes events
+  pub picks : (schemes : List Scheme) (events : List Event)
+      → m.pick_of (fold m.after (m.begun schemes) events) ≡ row schemes events

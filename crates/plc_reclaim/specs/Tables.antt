@@ -1,6 +1,8 @@
--- Where threads and addresses stand, event by event: a table for each scheme, in it a column for each thread that was heard,
--- and in a column a cell for each address that stands elsewhere than the others do, in the order of addresses.
-use Rattle.std.specs.Prelude.{ℕ, ◌<◌, ◌≤◌, length, slice_index_or, Bool, true, false, ◌==◌, nat_lt, not, if◌then◌else◌, List, [], ◌∷◌, ◌++◌, map, filter, Option, Some, None}
+-- Where threads and addresses stand, event by event: a table for each scheme, in it a column for each thread
+-- that was heard, and in a column a cell for each address that stands elsewhere than the others do, in the
+-- order of addresses.
+use Rattle.std.specs.Prelude.{ℕ, ◌<◌, ◌≤◌, length, slice_index_or, Bool, true, false, ◌==◌, nat_lt, not}
+use Rattle.std.specs.Prelude.{if◌then◌else◌, List, [], ◌∷◌, ◌++◌, map, filter, Option, Some, None}
 use Rattle.std.specs.List.{list_any}
 use Rattle.plc_auto.specs.declared.event.Event.{Event}
 use Rattle.plc_auto.specs.declared.event.EvKind.{EvKind}
@@ -59,7 +61,8 @@ put_cell (c ∷ cells) more = if nat_lt c.address more.address then c ∷ put_ce
 
 -- a cell more, unless the address stands where the others do
 abbrev pub with_cell : List Cell → Option ℕ → ℕ → Option ℕ → List Cell
-with_cell cells others a at = if same_location at others then cells else put_cell cells (record { address = a; at = at })
+with_cell cells others a at =
+    if same_location at others then cells else put_cell cells (record { address = a; at = at })
 
 -- no address is smaller
 abbrev pub AllFrom : ℕ → List Cell → Type 0
@@ -81,7 +84,8 @@ pub record IsPlaceFor (cells : List Cell) (a i : ℕ) : Type 0 where
 abbrev pub column_after : Observer → EvKind → Bool → ℕ → Column → Column
 column_after o kind by_own a c =
     let others = moved o kind by_own false c.others in
-    record { others = others; cells = with_cell (cells_after o kind by_own a c.cells) others a (moved o kind by_own (not (a == 0)) (location_in c.cells c.others a)) }
+    let here = moved o kind by_own (not (a == 0)) (location_in c.cells c.others a) in
+    record { others = others; cells = with_cell (cells_after o kind by_own a c.cells) others a here }
 
 -- ---- a table: a column for each thread
 
@@ -112,19 +116,23 @@ is_thread (Some t) h = h.thread == t
 
 -- the columns of the other threads after an event
 abbrev pub others_after : Observer → EvKind → Option ℕ → ℕ → List Heard → List Heard
-others_after o kind by a heard = map (λ h. record { thread = h.thread; column = column_after o kind false a h.column }) (filter (λ h. not (is_thread by h)) heard)
+others_after o kind by a heard =
+    map (λ h. record { thread = h.thread; column = column_after o kind false a h.column })
+    (filter (λ h. not (is_thread by h)) heard)
 
 -- the column of its thread, if it has one
 abbrev pub own_after : Observer → EvKind → Option ℕ → ℕ → Column → List Heard → List Heard
 own_after o kind None a unheard heard = []
-own_after o kind (Some t) a unheard heard = record { thread = t; column = column_after o kind true a (column_of heard unheard t) } ∷ []
+own_after o kind (Some t) a unheard heard =
+    record { thread = t; column = column_after o kind true a (column_of heard unheard t) } ∷ []
 
 -- the table after an event
 abbrev pub table_after : Event → Table → Table
 table_after e t = record {
   observer = t.observer;
   unheard = column_after t.observer (kind_of e) false (address_of e) t.unheard;
-  heard = others_after t.observer (kind_of e) (thread_of e) (address_of e) t.heard ++ own_after t.observer (kind_of e) (thread_of e) (address_of e) t.unheard t.heard;
+  heard = others_after t.observer (kind_of e) (thread_of e) (address_of e) t.heard
+      ++ own_after t.observer (kind_of e) (thread_of e) (address_of e) t.unheard t.heard;
 }
 
 -- some thread that was heard stands in `r.kept` for the address

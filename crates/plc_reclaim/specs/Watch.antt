@@ -1,10 +1,13 @@
--- What the reclaimers keep that watch threads: the addresses that wait, and a table for each scheme. As a list of numbers this
--- is a list of rows, each with its numbers raised by one and a 0 after them; a table is again such a list.
+-- What the reclaimers keep that watch threads: the addresses that wait, and a table for each scheme. As a list
+-- of numbers this is a list of rows, each with its numbers raised by one and a 0 after them; a table is again
+-- such a list.
 use Rattle.std.specs.Prelude.{ℕ, ◌+◌, zero, suc, Bool, not, List, [], ◌∷◌, map, find, Option, Some, None}
 use Rattle.std.specs.List.{list_any}
 use Rattle.plc_auto.specs.declared.event.Event.{Event}
 use Rattle.plc_auto.specs.declared.observer.Observer.{Observer}
 use Rattle.plc_auto.specs.declared.observer.Observer.TheVariants.{Plain, Hazard, Epoch}
+use Rattle.plc_reclaim.specs.declared.scheme.Scheme.{Scheme}
+use Rattle.plc_reclaim.specs.Meanings.{Meanings}
 use Rattle.plc_reclaim.specs.Waiting.{waiting_after}
 use Rattle.plc_reclaim.specs.Tables.{Cell, Column, Heard, Table, fresh_table, table_after, keeps}
 
@@ -84,7 +87,7 @@ abbrev pub column_at : List ℕ → Column
 column_at [] = record { others = None; cells = [] }
 column_at (n ∷ ns) = record { others = location_at n; cells = cells_of ns }
 
--- ---- the numbers of a table: the functions of its observer, the column of the threads unheard, then each thread with its column
+-- ---- the numbers of a table: its observer's functions, the column of those unheard, then each thread with its own
 
 -- the functions of an observer, of which each kind has another number
 abbrev pub observer_numbers : Observer → List ℕ
@@ -145,3 +148,12 @@ held_after held e = numbers_of (watch_after (watch_of held) e)
 -- what is picked
 unfoldable pub free_of : List ℕ → Option ℕ
 free_of held = first_free (watch_of held)
+
+-- those of a reclaimer that serves the observers that it reads from the schemes; a pick takes nothing out
+abbrev pub by_tables : (List Scheme → List Observer) → Meanings
+by_tables observers = record {
+  begun = λ schemes. begun_with (observers schemes);
+  after = held_after;
+  picked = λ held. held;
+  pick_of = free_of;
+}

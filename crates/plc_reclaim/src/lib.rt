@@ -6,6 +6,7 @@
 #![tactic(auto)]
 
 mod by_list;
+mod by_tables;
 mod column;
 mod epoch;
 mod hazard;

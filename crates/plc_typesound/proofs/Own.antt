@@ -1,7 +1,7 @@
 -- A primitive of the thread itself: what it leaves meets the effect of its row.
 use Rattle.std.proofs.Common.{◌≡◌, ℕ, ◌<◌, Bool, true, false, not, ◌&&◌, ◌==◌, List, [], ◌∷◌, ◌++◌, Option, Some, None, min, max, refl, sym, ap, ◌∙◌, subst, arith, inl, inr, ◌⊎◌}
 use Rattle.std.specs.Prelude.{if◌then◌else◌}
-use Rattle.std.proofs.lemmas.Bool.{eq-eqb, eqb-true, ne_eqb, cases_Bool, and_parts, and_from, not-true, not_from_false, both_ways, leb-true, leb-false}
+use Rattle.std.proofs.lemmas.Bool.{eq-eqb, eqb-true, ne_eqb, cases_Bool, and_parts, and_from, not-true, not_from_false, both_ways, leb-true, leb-false, le-leb}
 use Rattle.plc_base.specs.declared.ids.FuncId.{FuncId}
 use Rattle.plc_base.specs.declared.ids.FieldId.{FieldId}
 use Rattle.plc_lang.specs.declared.syntax.Var.{Var}
@@ -31,7 +31,6 @@ use Rattle.plc_type.specs.declared.env.PtrType.{PtrType}
 use Rattle.plc_type.specs.declared.env.Env.{Env}
 use Rattle.plc_type.specs.Guarantees.{is_safe, is_active, is_local, without_active as no_active, active_safe as active_guarantees, either}
 use Rattle.plc_type.specs.Types.{bare, null_type}
-use Rattle.plc_type.proofs.Ordered.{le-leb}
 use Rattle.plc_xfer.specs.Calls.{on_this, on_other, on_either, other_type, beside_retired}
 use Rattle.plc_xfer.specs.Rules.{type_of, is_variable, effect, shared_type, new_type, equal_type, refreshed_type, placed_type, active_type}
 use Rattle.plc_typesound.specs.Meaning.{stands, Fits, Meets, EnvMet}

@@ -1,7 +1,7 @@
 -- The facts on environments, which the rules and interference keep.
 use Rattle.std.proofs.Common.{◌≡◌, ℕ, zero, suc, ◌+◌, Bool, true, false, ◌&&◌, List, [], ◌∷◌, length, get_or, map, replicate, refl, sym, ap, ◌∙◌, subst, arith, inl, inr, ◌⊎◌, min, max}
 use Rattle.std.specs.Prelude.{if◌then◌else◌}
-use Rattle.std.proofs.lemmas.Bool.{and_parts, and_from, leb-true, leb-false, or_cases, cases_Bool, eqb-true}
+use Rattle.std.proofs.lemmas.Bool.{and_parts, and_from, leb-true, leb-false, or_cases, cases_Bool, eqb-true, le-leb}
 use Rattle.plc_base.specs.declared.ids.FuncId.{FuncId}
 use Rattle.plc_base.specs.Mask.{within, meet}
 use Rattle.plc_base.proofs.MaskLemmas.{within_self, within_trans, empty_within, meet_within_left, meet_within_right, within_union_left, union_least}
@@ -20,7 +20,6 @@ use Rattle.plc_type.specs.declared.env.PtrType.{PtrType}
 use Rattle.plc_type.specs.declared.env.Env.{Env}
 use Rattle.plc_type.specs.Guarantees.{numbered, nothing, safe_only, active_safe, active_local_safe, is_guarantee_set, is_safe, is_active, is_local, without_local, without_active, either}
 use Rattle.plc_type.specs.Types.{bare, null_type}
-use Rattle.plc_type.proofs.Ordered.{le-leb}
 use Rattle.plc_xfer.specs.Calls.{on_this, on_other, on_either, other_type, argument_type, beside_type}
 use Rattle.plc_xfer.specs.Rules.{type_of, table, remade, env_after, env_after_all, effect, effect_anywhere, shared_type, new_type, equal_type, refreshed_type, placed_type, active_type, interfered, interfered_local, all_within, FitsObserver}
 use Rattle.plc_xfer.specs.Typings.{is_type, all_types, IsWellFormed}

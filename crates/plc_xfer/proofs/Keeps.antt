@@ -1,7 +1,7 @@
 -- A smaller environment leads to a smaller one, and meets each condition that a larger one meets.
 use Rattle.std.proofs.Common.{◌≡◌, ℕ, zero, suc, ◌+◌, ◌≤◌, Bool, true, false, ◌&&◌, List, [], ◌∷◌, length, get_or, map, Some, None, refl, sym, ◌∙◌, subst, arith}
 use Rattle.std.specs.Prelude.{if◌then◌else◌}
-use Rattle.std.proofs.lemmas.Bool.{and_parts, and_from, leb-true, both_ways}
+use Rattle.std.proofs.lemmas.Bool.{and_parts, and_from, leb-true, both_ways, le-leb}
 use Rattle.plc_base.specs.declared.ids.FuncId.{FuncId}
 use Rattle.plc_base.specs.Mask.{within, meet}
 use Rattle.plc_base.proofs.MaskLemmas.{within_self, within_trans, meet_within_left, meet_monotone}
@@ -21,7 +21,7 @@ use Rattle.plc_type.specs.declared.env.Env.{Env}
 use Rattle.plc_type.specs.Guarantees.{nothing, safe_only, is_safe, is_active, is_local, without_active}
 use Rattle.plc_type.specs.Types.{bare, null_type, type_below}
 use Rattle.plc_type.specs.Environments.{types_below, env_below, SameShape}
-use Rattle.plc_type.proofs.Ordered.{le-leb, type_same, env_parts, env_from}
+use Rattle.plc_type.proofs.Ordered.{type_same, env_parts, env_from}
 use Rattle.plc_xfer.specs.declared.fault.TypeFault.{TypeFault}
 use Rattle.plc_xfer.specs.declared.fault.TypeFault.TheVariants.{DerefNotSafe, CompareNotSafe, RetireNotActive}
 use Rattle.plc_xfer.specs.Calls.{on_this, on_either, other_type, argument_type, beside_retired, beside_type}

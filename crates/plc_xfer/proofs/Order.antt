@@ -1,7 +1,7 @@
 -- The rules keep the order of environments and the facts on them.
-use Rattle.std.proofs.Common.{◌≡◌, ℕ, zero, suc, ◌<◌, true, List, [], ◌∷◌, None, length, replicate, refl, sym, ap, ◌∙◌, arith, min}
+use Rattle.std.proofs.Common.{◌≡◌, ℕ, zero, suc, ◌<◌, true, List, [], ◌∷◌, length, replicate, refl, sym, ap, ◌∙◌, arith, min}
 use Rattle.std.specs.Prelude.{nat_le}
-use Rattle.std.proofs.lemmas.Bool.{and_parts, and_from, leb-true, lt-ltb}
+use Rattle.std.proofs.lemmas.Bool.{and_parts, and_from, leb-true, lt-ltb, le-leb}
 use Rattle.std.proofs.lemmas.List.{length-replicate}
 use Rattle.plc_base.specs.Mask.{union, no_members}
 use Rattle.plc_base.proofs.MaskLemmas.{within_self, empty_within, union_least, union_monotone, within_small, mask_of_small}
@@ -15,9 +15,9 @@ use Rattle.plc_type.specs.Guarantees.{common, is_guarantee_set}
 use Rattle.plc_type.specs.Types.{bare, null_type, type_below, type_join}
 use Rattle.plc_type.specs.Environments.{types_below, types_join, env_below, env_join, SameShape, bottom, entry}
 use Rattle.plc_type.specs.Laws.{InRange, in_range, all_in_range}
-use Rattle.plc_type.proofs.Ordered.{le-leb, env_from, types_length}
+use Rattle.plc_type.proofs.Ordered.{by_parts, env_from, types_length}
 use Rattle.plc_xfer.specs.Rules.{env_after_all, interfered}
-use Rattle.plc_xfer.specs.Typings.{is_type, all_types, IsEnvironment, IsWellFormed, led, fault_at}
+use Rattle.plc_xfer.specs.Typings.{is_type, all_types, IsEnvironment, IsWellFormed, led}
 use Rattle.plc_xfer.specs.Laws.{RulesKeepOrder}
 use Rattle.plc_xfer.proofs.Locations.{closure_in}
 use Rattle.plc_xfer.proofs.Facts.{type_facts, type_from, guarantees_all, pairs_all, null_is_type, bare_is_type, replicate_types, map_same, after_all_well_formed, interfered_well_formed}
@@ -80,23 +80,11 @@ join_is_type o v w t u h k =
 join_types : (o : Observer) (v w : ℕ) (x y : List PtrType) → all_types o v x ≡ true → all_types o w y ≡ true → all_types o (union v w) (types_join x y) ≡ true
 join_types o v w [] y h k = refl
 join_types o v w (t ∷ x) [] h k = refl
-join_types o v w (t ∷ x) (u ∷ y) h k =
-    let p = and_parts _ _ h in
-    let q = and_parts _ _ k in
-    and_from _ _ (join_is_type o v w t u p.0 q.0) (join_types o v w x y p.1 q.1)
+join_types o v w (t ∷ x) (u ∷ y) h k = by_parts _ _ _ _ _ _ (join_is_type o v w t u) (join_types o v w x y) h k
 
 join_bare : (n v w : ℕ) → types_join (replicate n (bare v)) (replicate n (bare w)) ≡ replicate n (bare (union v w))
 join_bare zero v w = refl
 join_bare (suc n) v w = ap (λ (x : List PtrType). bare (union v w) ∷ x) (join_bare n v w)
-
-pub join_is : (o : Observer) (n m : ℕ) (a b : Env) → IsEnvironment o n m a → IsEnvironment o n m b → IsEnvironment o n m (env_join a b)
-unfolding env_join
-join_is o n m a b x y = record {
-  anywhere = union_least a.w b.w (all_locations o) x.anywhere y.anywhere;
-  shared_types = rw (x.shared_types, y.shared_types) (join_bare n a.w b.w);
-  count = types_length a.locals b.locals (x.count ∙ sym y.count) ∙ x.count;
-  types = join_types o a.w b.w a.locals b.locals x.types y.types;
-}
 
 -- ---- ranges
 
@@ -147,20 +135,21 @@ led_is o n m e prims x =
       types = (interfered_well_formed o after y).local_types;
     }
 
-pub led_keeps : (o : Observer) (n m : ℕ) (a b : Env) (prims : List Primitive) → IsEnvironment o n m a → IsEnvironment o n m b → env_below a b ≡ true → env_below (led o a prims) (led o b prims) ≡ true
-led_keeps o n m a b prims x y h = interfered_below o (env_after_all o a prims) (env_after_all o b prims) (after_all_below o a b prims (same_shape o n m a b x y) h)
-
-pub sooner : (o : Observer) (n m : ℕ) (a b : Env) (prims : List Primitive) (i : ℕ) → IsEnvironment o n m a → IsEnvironment o n m b → env_below a b ≡ true → fault_at o b prims i ≡ None → fault_at o a prims i ≡ None
-sooner o n m a b prims i x y h k = at_sooner o a b prims i (same_shape o n m a b x y) h k
-
 pub kept : RulesKeepOrder
+unfolding env_join
 kept = record {
   bottom_is = bottom_is;
   bottom_least = bottom_least;
   entry_is = entry_is;
-  join_is = join_is;
+  join_is = λ o n m a b x y. record {
+    anywhere = union_least a.w b.w (all_locations o) x.anywhere y.anywhere;
+    shared_types = rw (x.shared_types, y.shared_types) (join_bare n a.w b.w);
+    count = types_length a.locals b.locals (x.count ∙ sym y.count) ∙ x.count;
+    types = join_types o a.w b.w a.locals b.locals x.types y.types;
+  };
   range = range;
   led_is = led_is;
-  led_keeps = led_keeps;
-  sooner = sooner;
+  led_keeps = λ o n m a b prims x y h. interfered_below o (env_after_all o a prims) (env_after_all o b prims)
+      (after_all_below o a b prims (same_shape o n m a b x y) h);
+  sooner = λ o n m a b prims i x y h k. at_sooner o a b prims i (same_shape o n m a b x y) h k;
 }

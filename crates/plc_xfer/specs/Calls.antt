@@ -1,4 +1,5 @@
--- What a call or a return of the thread itself makes of where pointers stand. It is on this pointer's address or on another; null and no address are another.
+-- What a call or a return of the thread itself makes of where pointers stand. It is on this pointer's address
+-- or on another; null and no address are another.
 use Rattle.std.specs.Prelude.{ℕ, true, false, if◌then◌else◌}
 use Rattle.plc_base.specs.declared.ids.FuncId.{FuncId}
 use Rattle.plc_base.specs.Mask.{union, meet}
@@ -32,7 +33,8 @@ argument_type o f t =
     if is_retire f then record { g = without_active t.g; m = on_this o (Call f) t.m }
     else record { g = t.g; m = on_this o (Call f) t.m }
 
--- a pointer beside one that is retired: with L no other place holds its address, so that another is retired; without L it may be this one
+-- a pointer beside one that is retired: with L no other place holds its address, so that another is retired;
+-- without L it may be this one
 abbrev pub beside_retired : Observer → FuncId → PtrType → PtrType
 beside_retired o f t =
     if is_local t.g then record { g = t.g; m = meet (on_either o (Call f) t.m) (unretired o) }

@@ -1,4 +1,5 @@
--- The rules keep the order and the facts on environments, and a condition that holds in an environment holds in every one below it.
+-- The rules keep the order and the facts on environments, and a condition that holds in an environment holds in
+-- every one below it.
 use Rattle.std.specs.Prelude.{◌≡◌, ℕ, true, List, None}
 use Rattle.plc_lang.specs.declared.syntax.Primitive.{Primitive}
 use Rattle.plc_auto.specs.declared.observer.Observer.{Observer}
@@ -13,8 +14,14 @@ pub record RulesKeepOrder : Type 0 where
   pub bottom_is : (o : Observer) (n m : ℕ) → IsEnvironment o n m (bottom n m)
   pub bottom_least : (o : Observer) (n m : ℕ) (e : Env) → IsEnvironment o n m e → env_below (bottom n m) e ≡ true
   pub entry_is : (o : Observer) (n m : ℕ) → IsEnvironment o n m (entry n m (all_locations o))
-  pub join_is : (o : Observer) (n m : ℕ) (a b : Env) → IsEnvironment o n m a → IsEnvironment o n m b → IsEnvironment o n m (env_join a b)
+  pub join_is : (o : Observer) (n m : ℕ) (a b : Env) → IsEnvironment o n m a → IsEnvironment o n m b
+      → IsEnvironment o n m (env_join a b)
   pub range : (o : Observer) (n m : ℕ) (e : Env) → IsEnvironment o n m e → InRange e
-  pub led_is : (o : Observer) (n m : ℕ) (e : Env) (prims : List Primitive) → IsEnvironment o n m e → IsEnvironment o n m (led o e prims)
-  pub led_keeps : (o : Observer) (n m : ℕ) (a b : Env) (prims : List Primitive) → IsEnvironment o n m a → IsEnvironment o n m b → env_below a b ≡ true → env_below (led o a prims) (led o b prims) ≡ true
-  pub sooner : (o : Observer) (n m : ℕ) (a b : Env) (prims : List Primitive) (i : ℕ) → IsEnvironment o n m a → IsEnvironment o n m b → env_below a b ≡ true → fault_at o b prims i ≡ None → fault_at o a prims i ≡ None
+  pub led_is : (o : Observer) (n m : ℕ) (e : Env) (prims : List Primitive)
+      → IsEnvironment o n m e → IsEnvironment o n m (led o e prims)
+  pub led_keeps : (o : Observer) (n m : ℕ) (a b : Env) (prims : List Primitive)
+      → IsEnvironment o n m a → IsEnvironment o n m b → env_below a b ≡ true
+      → env_below (led o a prims) (led o b prims) ≡ true
+  pub sooner : (o : Observer) (n m : ℕ) (a b : Env) (prims : List Primitive) (i : ℕ)
+      → IsEnvironment o n m a → IsEnvironment o n m b → env_below a b ≡ true
+      → fault_at o b prims i ≡ None → fault_at o a prims i ≡ None

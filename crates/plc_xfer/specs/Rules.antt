@@ -1,5 +1,6 @@
 -- The typing rules. All parts of a row are read in the environment before the primitive.
-use Rattle.std.specs.Prelude.{◌≡◌, ◌==◌, ◌&&◌, ◌||◌, ◌+◌, ℕ, zero, suc, Bool, true, false, if◌then◌else◌, List, [], ◌∷◌, length, get_or, map, Option, Some, None}
+use Rattle.std.specs.Prelude.{◌≡◌, ◌==◌, ◌&&◌, ◌||◌, ◌+◌, ℕ, zero, suc, Bool, true, false}
+use Rattle.std.specs.Prelude.{if◌then◌else◌, List, [], ◌∷◌, length, get_or, map, Option, Some, None}
 use Rattle.plc_base.specs.declared.ids.FuncId.{FuncId}
 use Rattle.plc_base.specs.Mask.{meet, within}
 use Rattle.plc_lang.specs.declared.syntax.Var.{Var}
@@ -7,14 +8,18 @@ use Rattle.plc_lang.specs.declared.syntax.Var.TheVariants.{Shared, Local}
 use Rattle.plc_lang.specs.declared.syntax.Arg.{Arg}
 use Rattle.plc_lang.specs.declared.syntax.Arg.TheVariants as args
 use Rattle.plc_lang.specs.declared.syntax.Primitive.{Primitive}
-use Rattle.plc_lang.specs.declared.syntax.Primitive.TheVariants.{Null, Copy, New, Load, Store, StoreNull, DataSet, DataLoad, DataStore, Eq, Ne, IsNull, NotNull, DataTest, Refresh, RefreshLoad, RefreshStore, Call, Done, Active, Ghost}
+use Rattle.plc_lang.specs.declared.syntax.Primitive.TheVariants.{Null, Copy, New, Load, Store, StoreNull, DataSet}
+use Rattle.plc_lang.specs.declared.syntax.Primitive.TheVariants.{DataLoad, DataStore, Eq, Ne, IsNull, NotNull}
+use Rattle.plc_lang.specs.declared.syntax.Primitive.TheVariants.{DataTest, Refresh, RefreshLoad, RefreshStore}
+use Rattle.plc_lang.specs.declared.syntax.Primitive.TheVariants.{Call, Done, Active, Ghost}
 use Rattle.plc_auto.specs.declared.event.EvKind.TheVariants as events
 use Rattle.plc_auto.specs.declared.observer.Observer.{Observer}
 use Rattle.plc_base.specs.Functions.{is_retire}
 use Rattle.plc_auto.specs.Sets.{all_locations, unretired, safe, closure}
 use Rattle.plc_type.specs.declared.env.PtrType.{PtrType}
 use Rattle.plc_type.specs.declared.env.Env.{Env}
-use Rattle.plc_type.specs.Guarantees.{nothing, safe_only, active_safe, active_local_safe, is_safe, is_active, is_local, without_local, either}
+use Rattle.plc_type.specs.Guarantees.{nothing, safe_only, active_safe, active_local_safe, is_safe}
+use Rattle.plc_type.specs.Guarantees.{is_active, is_local, without_local, either}
 use Rattle.plc_type.specs.Types.{bare, null_type}
 use Rattle.plc_xfer.specs.declared.fault.TypeFault.{TypeFault}
 use Rattle.plc_xfer.specs.declared.fault.TypeFault.TheVariants.{DerefNotSafe, CompareNotSafe, RetireNotActive}
@@ -104,7 +109,8 @@ active_type o t = record { g = either t.g active_safe; m = meet t.m (unretired o
 abbrev pub call_effect : Observer → Env → FuncId → Arg → Var → PtrType
 call_effect o e f args.None v = other_type o (events.Call f) (type_of e v)
 call_effect o e f args.Null v = other_type o (events.Call f) (type_of e v)
-call_effect o e f (args.Var p) v = if is_variable v p then argument_type o f (type_of e p) else beside_type o f (type_of e v)
+call_effect o e f (args.Var p) v =
+    if is_variable v p then argument_type o f (type_of e p) else beside_type o f (type_of e v)
 
 -- the effect of a primitive on the variable v
 abbrev pub effect : Observer → Env → Primitive → Var → PtrType
@@ -117,12 +123,15 @@ effect o e (StoreNull p f) v = type_of e v
 effect o e (DataSet x n) v = type_of e v
 effect o e (DataLoad x q f) v = type_of e v
 effect o e (DataStore p f n) v = type_of e v
-effect o e (Eq p q) v = if is_variable v p || is_variable v q then equal_type (type_of e p) (type_of e q) else type_of e v
+effect o e (Eq p q) v =
+    if is_variable v p || is_variable v q then equal_type (type_of e p) (type_of e q) else type_of e v
 effect o e (Ne p q) v = type_of e v
 effect o e (IsNull p) v = if is_variable v p then null_type else type_of e v
 effect o e (NotNull p) v = type_of e v
 effect o e (DataTest r x n) v = type_of e v
-effect o e (Refresh p q) v = if is_variable v (Local p) || is_variable v q then refreshed_type (type_of e (Local p)) (type_of e q) else type_of e v
+effect o e (Refresh p q) v =
+    if is_variable v (Local p) || is_variable v q then refreshed_type (type_of e (Local p)) (type_of e q)
+    else type_of e v
 effect o e (RefreshLoad p q f) v = if is_variable v (Local p) then placed_type (type_of e (Local p)) else type_of e v
 effect o e (RefreshStore p f q) v = if is_variable v q then shared_type (type_of e q) else type_of e v
 effect o e (Call f a) v = call_effect o e f a v
@@ -167,7 +176,12 @@ table i (suc n) f = f i ∷ table (i + 1) n f
 
 -- an environment for the same pointers, by its types
 unfoldable pub remade : Env → (Var → PtrType) → ℕ → Env
-remade e f w = record { shared = table 0 (length e.shared) (λ i. f (Shared i)); locals = table 0 (length e.locals) (λ i. f (Local i)); w = w }
+remade e f w =
+    record {
+      shared = table 0 (length e.shared) (λ i. f (Shared i));
+      locals = table 0 (length e.locals) (λ i. f (Local i));
+      w = w;
+    }
 
 -- the environment after a primitive, and after primitives in order
 unfoldable pub env_after : Observer → Env → Primitive → Env

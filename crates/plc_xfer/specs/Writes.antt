@@ -5,7 +5,8 @@ use Rattle.plc_lang.specs.declared.syntax.Var.TheVariants.{Shared, Local}
 use Rattle.plc_type.specs.declared.env.PtrType.{PtrType}
 use Rattle.plc_type.specs.declared.env.Env.{Env}
 
--- another type for one variable, a shared pointer in one list, a local in the other; past the end of a list nothing is written
+-- another type for one variable, a shared pointer in one list, a local in the other; past the end of a list
+-- nothing is written
 unfoldable pub with_type : Env → Var → PtrType → Env
 with_type e (Shared i) t = record e { shared = slice_set e.shared i t }
 with_type e (Local i) t = record e { locals = slice_set e.locals i t }

@@ -1,0 +1,92 @@
+// The reclaimers that watch threads: each frees in the order of retirement what no thread keeps by the
+// tables of the observers that it serves. Which schemes have such an observer, and the name, is all in
+// which they differ.
+ghost use Rattle.std.specs.Prelude.{◌≡◌, ℕ, List, [], Option, IfOk};
+ghost use Rattle.std.specs.List.{filter_map};
+ghost use Rattle.plc_auto.specs.declared.observer.Observer.{Observer};
+ghost use Rattle.plc_reclaim.specs.declared.scheme.Scheme.{Scheme};
+ghost use Rattle.plc_reclaim.specs.Watch.{fresh_watch, numbers_of, by_tables};
+
+use crate::reclaimer::Reclaimer;
+use crate::scheme::Scheme;
+use crate::watch::Watch;
+use plc_auto::{Event, Observer};
+use plc_base::NoMemory;
+use std::alloc::Global;
+use std::marker::PhantomData;
+
+/// What a reclaimer serves that watches threads.
+pub trait Serves: Drop {
+    /// The observer of a scheme that is served.
+    ghost observer: { Scheme → Option Observer };
+
+    /// The reclaimer's name, in bytes.
+    ghost named: { List ℕ };
+
+    /// The observer of a scheme, or `None` where it isn't served.
+    fn observer(scheme: &Scheme) -> Option<Observer>
+        ensures { result ≡ observer scheme.now };
+
+    /// The name by which the reclaimer is asked for.
+    fn name() -> &'static str
+        ensures { result.now ≡ named };
+}
+
+/// A reclaimer that frees in the order of retirement what no thread keeps by the tables of these schemes.
+#[derive(Drop)]
+pub struct ByTables<S: Serves> {
+    watch: Watch,
+    serves: PhantomData<S>,
+}
+
+impl<S: Serves> ByTables<S> {
+    /// A reclaimer that was given no scheme and handed nothing yet. It takes no memory.
+    pub fn new_serving(alloc: Global) -> ByTables<S>
+        ensures { result.watch ≡ fresh_watch [] }
+    {
+        ByTables {
+            watch: Watch::new(alloc),
+            serves: PhantomData,
+        }
+    }
+}
+
+impl<S: Serves> Reclaimer for ByTables<S> {
+    ghost held = { λ r. numbers_of r.watch };
+
+    ghost meanings = { λ _. by_tables (filter_map S.observer) };
+
+    ghost named = { λ _. S.named };
+
+    fn name(&self) -> &str {
+        S::name()
+    }
+
+    #[tactic(auto, using(crate::proofs::Numbers::begun_with_is))]
+    fn begin(&mut self, schemes: &[Scheme]) -> Result<(), NoMemory> {
+        let observers = observers::<S>(self.watch.alloc(), schemes)?;
+        self.watch.begin(&observers)
+    }
+
+    #[tactic(auto, using(crate::proofs::Numbers::held_after_is))]
+    fn event(&mut self, e: Event) -> Result<(), NoMemory> {
+        self.watch.hear(&e)
+    }
+
+    #[tactic(auto, using(crate::proofs::Numbers::free_of_is))]
+    fn pick(&mut self) -> Option<u32> {
+        self.watch.first_free()
+    }
+}
+
+// The observers of the schemes that are served.
+fn observers<S: Serves>(alloc: Global, schemes: &[Scheme]) -> Result<Vec<Observer>, NoMemory>
+    ensures { IfOk result (λ observers. observers.items ≡ filter_map S.observer schemes.now) }
+{
+    Ok(
+        schemes
+            .iter()
+            .filter_map(|scheme| S::observer(scheme))
+            .collect(alloc)?,
+    )
+}
