@@ -1,6 +1,7 @@
 -- The text of a sample: a stack under hazard pointers, with as many copies of its operations as are asked for.
 use Rattle.std.specs.List.{count_by}
-use Rattle.std.specs.Prelude.{ℕ, suc, zero, ◌+◌, ◌==◌, if◌then◌else◌, List, [], ◌∷◌, ◌++◌, codes, decimal}
+use Rattle.std.specs.Prelude.{ℕ, suc, zero, ◌+◌, ◌==◌, if◌then◌else◌}
+use Rattle.std.specs.Prelude.{List, [], ◌∷◌, ◌++◌, codes, decimal}
 
 -- ---- its parts, in which `#` stands for the number of a copy
 
