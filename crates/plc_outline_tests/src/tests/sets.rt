@@ -3,14 +3,13 @@
 // among them.
 ghost use Rattle.plc_setting.specs.Fit.{Fits};
 
-use crate::checksums::{OF_DEEP, OF_HAZARDS};
-use crate::deep::DEEP;
-use crate::loading::loaded;
-use crate::whole_sets::{CLAIM, DEEP_START, ENTER, OTHER, OWN, START};
+use crate::tests::checksums::{OF_DEEP, OF_HAZARDS};
+use crate::tests::deep::DEEP;
+use crate::tests::loading::loaded;
+use crate::tests::whole_sets::{CLAIM, DEEP_START, ENTER, OTHER, OWN, START};
 use plc_base::NoMemory;
-use plc_flow::Flow;
+use plc_check::Judged;
 use plc_ground::{GroundSet, GroundTerm, Lit, Map, Sort, Symbol};
-use plc_logic::Outline;
 use plc_oblig::{Obligation, clauses, ground, nth};
 use plc_stacks::HAZARDS;
 use std::alloc::{AllocError, Global};
@@ -116,14 +115,11 @@ fn checksum(text: &str) -> u32 {
 }
 
 // The set of an obligation, if it has as many clauses as are counted.
-fn text_of(
-    alloc: Global,
-    flow: &Flow,
-    outline: &Outline,
-    o: &Obligation,
-) -> Result<String, AllocError>
-    requires { Fits flow.now outline.now }
+fn text_of(alloc: Global, judged: &Judged, o: &Obligation) -> Result<String, AllocError>
+    requires { Fits judged.now.flow judged.now.unit_outline }
 {
+    let flow = &judged.flow;
+    let outline = &judged.unit_outline;
     let count = clauses(flow, outline, o);
     if count > 65536 {
         return format!(in alloc; "too large");
@@ -142,7 +138,7 @@ fn answer(alloc: Global, file: &str, i: u64) -> Result<String, NoMemory> {
     let judged = loaded(alloc, file)?;
     match nth(&judged.flow, &judged.unit_outline, i) {
         None => Err(NoMemory),
-        Some(o) => Ok(text_of(alloc, &judged.flow, &judged.unit_outline, &o)?),
+        Some(o) => Ok(text_of(alloc, &judged, &o)?),
     }
 }
 

@@ -5,8 +5,8 @@ ghost use Rattle.plc_flow.specs.WellSorted.{FlowIsWellSorted};
 ghost use Rattle.plc_gc.specs.Position.{IsOfRun};
 ghost use Rattle.plc_run.specs.Position.{IsOfRun as IsOfMemoryRun};
 
-use crate::collected::move_of;
-use crate::loading::loaded;
+use crate::tests::collected::move_of;
+use crate::tests::loading::loaded;
 use plc_base::NoMemory;
 use plc_check::Judged;
 use plc_flow::Place;
@@ -70,10 +70,10 @@ fn answers(
     collected: &mut GcConfig,
     lines: &str,
 ) -> Result<String, NoMemory>
-    requires fits { FlowFits judged.now.flow }
-    requires sorted { FlowIsWellSorted judged.now.flow }
     requires of_run { IsOfMemoryRun judged.now.flow judged.now.observer config.old }
     requires of_collected_run { IsOfRun judged.now.flow collected.old }
+    requires fits { FlowFits judged.now.flow }
+    requires sorted { FlowIsWellSorted judged.now.flow }
 {
     let mut text = String::new(alloc);
     for line in lines.lines() {

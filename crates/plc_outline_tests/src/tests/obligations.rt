@@ -3,8 +3,8 @@
 // point and its clause, `c0.1` that of a step and its primitive.
 ghost use Rattle.plc_setting.specs.Fit.{Fits};
 
-use crate::deep::DEEP;
-use crate::loading::loaded;
+use crate::tests::deep::DEEP;
+use crate::tests::loading::loaded;
 use plc_base::NoMemory;
 use plc_flow::Flow;
 use plc_logic::Outline;
@@ -83,7 +83,8 @@ fn obligations_are_those_of_the_lists(rt: HostRuntime) -> Result<(), NoMemory> {
     ];
     assert_eq!(rt;
         answer(alloc, HAZARDS.concat(alloc)?.as_str(), &of_hazards)?.as_str(),
-        "2845: s0 e0.0 e0.1 o0.0 o0.4 o0.5 o1.0 o6.3 o15.1 o27.3 i0.0.0 i0.12.0 i7.26.0 i18.23.0 i29.19.0 i38.36.0 c23.1 c31.0 none"
+        "2845: s0 e0.0 e0.1 o0.0 o0.4 o0.5 o1.0 o6.3 o15.1 o27.3 i0.0.0 i0.12.0 i7.26.0 i18.23.0 i29.19.0 i38.36.0 \
+         c23.1 c31.0 none"
     );
     assert_eq!(rt;
         answer(alloc, EPOCHS.concat(alloc)?.as_str(), &[0, 2559])?.as_str(),

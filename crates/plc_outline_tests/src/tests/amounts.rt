@@ -3,13 +3,11 @@
 // many clauses as there may be.
 ghost use Rattle.plc_setting.specs.Fit.{Fits};
 
-use crate::deep::DEEP;
-use crate::loading::loaded;
+use crate::tests::deep::DEEP;
+use crate::tests::loading::loaded;
 use plc_base::{Items, LARGEST_FILE, NoMemory};
-use plc_check::load;
-use plc_flow::Flow;
+use plc_check::{Judged, load};
 use plc_ground::{GroundSet, Lit};
-use plc_logic::Outline;
 use plc_oblig::{Obligation, clauses, ground, nth};
 use plc_stacks::HAZARDS;
 use std::alloc::{AllocError, Global};
@@ -78,36 +76,24 @@ fn add(sum: Amounts, set: &GroundSet) -> Amounts {
     }
 }
 
-fn with(
-    alloc: Global,
-    sum: Amounts,
-    flow: &Flow,
-    outline: &Outline,
-    o: &Obligation,
-) -> Result<Amounts, AllocError>
-    requires { Fits flow.now outline.now }
+fn with(alloc: Global, sum: Amounts, judged: &Judged, o: &Obligation) -> Result<Amounts, AllocError>
+    requires { Fits judged.now.flow judged.now.unit_outline }
 {
-    match ground(alloc, flow, outline, o) {
+    match ground(alloc, &judged.flow, &judged.unit_outline, o) {
         Ok(set) => Ok(add(sum, &set)),
         Err(_) => Err(AllocError),
     }
 }
 
 // Over the obligations from one number on, at most so many.
-fn sum_of(
-    alloc: Global,
-    flow: &Flow,
-    outline: &Outline,
-    from: u64,
-    most: u64,
-) -> Result<Amounts, AllocError>
-    requires { Fits flow.now outline.now }
+fn sum_of(alloc: Global, judged: &Judged, from: u64, most: u64) -> Result<Amounts, AllocError>
+    requires { Fits judged.now.flow judged.now.unit_outline }
 {
     let mut sum = NOTHING;
     for i in 0..most {
-        match nth(flow, outline, from.wrapping_add(i)) {
+        match nth(&judged.flow, &judged.unit_outline, from.wrapping_add(i)) {
             None => return Ok(sum),
-            Some(o) => sum = with(alloc, sum, flow, outline, &o)?,
+            Some(o) => sum = with(alloc, sum, judged, &o)?,
         }
     }
     Ok(sum)
@@ -115,7 +101,7 @@ fn sum_of(
 
 fn answer(alloc: Global, file: &str, from: u64, most: u64) -> Result<String, NoMemory> {
     let judged = loaded(alloc, file)?;
-    let sum = sum_of(alloc, &judged.flow, &judged.unit_outline, from, most)?;
+    let sum = sum_of(alloc, &judged, from, most)?;
     Ok(format!(in alloc;
         "{} sets, {} terms, {} clauses, {} literals, at most {} clauses",
         sum.sets, sum.terms, sum.clauses, sum.literals, sum.most_clauses

@@ -12,7 +12,8 @@ op put(v) {
 ptr n; ptr t; data x;
 atomic { n := new; ghost n.owner := me; n.val := v; }
 label a;
-atomic { t := Top; active t; x := t.val; n.next ?= t; n.other := null; Top := n; ghost n.st := linked; ghost n.owner := none; }
+atomic { t := Top; active t; x := t.val; n.next ?= t; n.other := null; Top := n; ghost n.st := linked; \
+    ghost n.owner := none; }
 label b;
 if (x < 12) { x := 3; } else { x := v; }
 }

@@ -4,12 +4,12 @@ ghost use Rattle.plc_flow.specs.WellFormed.{FlowFits};
 ghost use Rattle.plc_flow.specs.WellSorted.{FlowIsWellSorted};
 ghost use Rattle.plc_gc.specs.Position.{IsOfRun};
 
-use crate::loading::loaded;
+use crate::tests::loading::loaded;
 use plc_base::{FieldId, Items, NoMemory, OpId};
 use plc_check::Judged;
 use plc_flow::{Flow, Move, Place, StartFault};
 use plc_gc::{GcConfig, holds};
-use plc_logic::{Clause, Item};
+use plc_logic::{Clause, Item, Outline};
 use plc_stacks::HAZARDS;
 use std::alloc::{AllocError, Global};
 
@@ -105,58 +105,42 @@ fn is_true(clause: &Clause, config: &GcConfig, line: &str) -> bool {
     holds(clause, config, Some(t), &[x, y])
 }
 
-// The same of items.
-fn items_text(
-    alloc: Global,
-    items: &[Item],
-    config: &GcConfig,
-    line: &str,
-) -> Result<String, AllocError> {
-    let mut text = String::new(alloc);
-    for item in items {
-        text.push_str(if is_true(&item.clause, config, line) {
-            "y"
-        } else {
-            "n"
-        })?;
+// The items of `push T` or `pop T`.
+fn items_of<'a>(items: &'a [Item], line: &str) -> &'a [Item] {
+    if line.starts_with("push") {
+        return items.get(..3).unwrap_or(&[]);
     }
-    Ok(text)
+    items.get(3..).unwrap_or(&[])
 }
 
-// The same of invariants.
-fn invariants_text(
+// The truths that `invariants T X Y`, `push T` or `pop T` asks for.
+fn outline_truths(
     alloc: Global,
-    invariants: &[Clause],
+    outline: &Outline,
     config: &GcConfig,
     line: &str,
-) -> Result<String, AllocError> {
-    let mut text = String::new(alloc);
-    for clause in invariants {
-        text.push_str(if is_true(clause, config, line) {
-            "y"
-        } else {
-            "n"
-        })?;
+) -> Result<Vec<bool>, AllocError> {
+    let mut truths = Vec::new(alloc);
+    if line.starts_with("invariants") {
+        for clause in outline.invariants.as_slice() {
+            truths.push(is_true(clause, config, line))?;
+        }
+        return Ok(truths);
     }
-    Ok(text)
+    for item in items_of(outline.items.as_slice(), line) {
+        truths.push(is_true(&item.clause, config, line))?;
+    }
+    Ok(truths)
 }
 
-// `invariants T X Y`, or the items of `push T` or `pop T`.
 fn outline_text(
     alloc: Global,
     judged: &Judged,
     config: &GcConfig,
     line: &str,
 ) -> Result<String, AllocError> {
-    let outline = &judged.unit_outline;
-    if line.starts_with("invariants") {
-        return invariants_text(alloc, outline.invariants.as_slice(), config, line);
-    }
-    let items = outline.items.as_slice();
-    if line.starts_with("push") {
-        return items_text(alloc, items.get(..3).unwrap_or(&[]), config, line);
-    }
-    items_text(alloc, items.get(3..).unwrap_or(&[]), config, line)
+    let truths = outline_truths(alloc, &judged.unit_outline, config, line)?;
+    truths_text(alloc, &truths)
 }
 
 // The truth of the claims of a step.
@@ -208,9 +192,9 @@ fn answers(
     config: &mut GcConfig,
     lines: &str,
 ) -> Result<String, NoMemory>
+    requires of_run { IsOfRun judged.now.flow config.old }
     requires fits { FlowFits judged.now.flow }
     requires sorted { FlowIsWellSorted judged.now.flow }
-    requires of_run { IsOfRun judged.now.flow config.old }
     ensures { IsOfRun judged.now.flow config.new }
 {
     let mut text = String::new(alloc);
@@ -321,7 +305,8 @@ fn runs_begin(rt: HostRuntime) -> Result<(), NoMemory> {
     let text = ran(rt.alloc(), file, "places")?;
     assert_eq!(rt; text.as_str(), "no start");
     let file =
-        "struct N { ptr f; } shared T; ghost g { a, b }; init { ghost T.g := b; } outline { inv T.g == b; inv T.g == a; }";
+        "struct N { ptr f; } shared T; ghost g { a, b }; init { ghost T.g := b; } outline { inv T.g == b; \
+         inv T.g == a; }";
     let text = ran(rt.alloc(), file, "places\ninvariants 0\n")?;
     assert_eq!(rt; text.as_str(), "places =>  Top=0\ninvariants 0 => yn\n");
     Ok(())
