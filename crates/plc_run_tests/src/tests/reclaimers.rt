@@ -2,7 +2,7 @@
 ghost use Rattle.std.specs.Prelude.{drop, slice_get, codes, OnOk};
 ghost use Rattle.plc_reclaim.specs.Rows.{ActsAs, list_row};
 
-use crate::moves::{number, numbers};
+use crate::tests::moves::{number, numbers};
 use plc_auto::Event;
 use plc_base::{FuncId, NoMemory};
 use plc_reclaim::{ByList, Leak, Reclaimer, Scheme};

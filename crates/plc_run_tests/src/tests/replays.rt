@@ -1,9 +1,9 @@
 // What schedules come to under reclaimers, each as the whole end of its replay.
 ghost use Rattle.plc_flow.specs.WellFormed.{FlowFits};
 
-use crate::moves::{loaded, numbers};
-use crate::reclaimers::Listed;
-use crate::schedules::read;
+use crate::tests::moves::{loaded, numbers};
+use crate::tests::reclaimers::Listed;
+use crate::tests::schedules::read;
 use plc_base::NoMemory;
 use plc_check::Judged;
 use plc_reclaim::{ByList, Leak, Reclaimer};

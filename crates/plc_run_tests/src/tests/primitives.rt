@@ -1,13 +1,15 @@
 // What each primitive comes to and what it leaves, by the written table, where the shared pointer is null, valid,
 // and invalid.
-use crate::moves::ran;
+use crate::tests::moves::ran;
 use plc_base::NoMemory;
 use std::alloc::Global;
 
 // A statement as the one step of operation 2, whose parameters are 3 and 5. A `new` of it takes the address 1.
 fn statement_text(alloc: Global, statement: &str, before: &str) -> Result<String, NoMemory> {
     let file = format!(in alloc;
-        "struct Node {{ ptr next; data val; }} shared Top; shared Other; call protect(ptr); call enter(); ghost stage {{ made, cut }}; ghost owner thread; op make() {{ Top := new; }} op drop() {{ retire(Top); }} op it(x, y) {{ ptr p; {statement} }}"
+        "struct Node {{ ptr next; data val; }} shared Top; shared Other; call protect(ptr); call enter(); \
+         ghost stage {{ made, cut }}; ghost owner thread; op make() {{ Top := new; }} op drop() {{ retire(Top); }} \
+         op it(x, y) {{ ptr p; {statement} }}"
     )?;
     let address = if statement.contains("new") { " 1" } else { "" };
     let before = format!(in alloc; "{before}start 0 2 3 5\n")?;
@@ -205,7 +207,8 @@ fn outcomes(alloc: Global, statement: &str) -> Result<String, NoMemory> {
 // The returns of a call, as the step after it, in the three states.
 fn returns(alloc: Global, statement: &str) -> Result<String, NoMemory> {
     let file = format!(in alloc;
-        "struct Node {{ ptr next; }} shared Top; call protect(ptr); call enter(); op make() {{ Top := new; }} op drop() {{ retire(Top); }} op it() {{ {statement} }}"
+        "struct Node {{ ptr next; }} shared Top; call protect(ptr); call enter(); op make() {{ Top := new; }} \
+         op drop() {{ retire(Top); }} op it() {{ {statement} }}"
     )?;
     let mut text = String::new(alloc);
     for before in ["", VALID, INVALID] {

@@ -162,8 +162,8 @@ fn take_moves(
     config: &mut Config,
     moves: &str,
 ) -> Result<String, NoMemory>
-    requires fits { FlowFits flow.now }
     requires of_run { IsOfRun flow.now observer.now config.old }
+    requires fits { FlowFits flow.now }
     ensures { IsOfRun flow.now observer.now config.new }
 {
     let mut text = String::new(alloc);
@@ -212,7 +212,9 @@ pub(crate) fn ran(
 
 // A stack whose readers protect their nodes by hazard pointers.
 const STACK: &str =
-    "struct Node { ptr next; } shared Top; call protect(ptr); use hazard(protect); op put(v) { ptr n; n := new; Top := n; } op take() { ptr t; t := Top; Top := null; retire(t); } op look() { ptr t; t := Top; protect(t); t ?= Top; }";
+    "struct Node { ptr next; } shared Top; call protect(ptr); use hazard(protect); op put(v) { ptr n; n := new; \
+     Top := n; } op take() { ptr t; t := Top; Top := null; retire(t); } op look() { ptr t; t := Top; protect(t); \
+     t ?= Top; }";
 
 // Moves with their answers, from the beginning.
 const MOVES: &str = "# start 0 0 7 => Done

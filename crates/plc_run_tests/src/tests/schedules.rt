@@ -69,9 +69,12 @@ fn counted(alloc: Global, first: &str, lines: u32) -> Result<String, AllocError>
 const WRITTEN: [&str; 5] = [
     "threads 1\n",
     "threads 64\nreturn 63\ntick\ntick\n",
-    "threads 2\nstart 1 put\nstep 1 0 1\nstep 1 0\nstep 1 0\nreturn 1\nstart 0 look\nstep 0 0\nstart 1 take\nstep 1 0\nstep 1 0\nstep 1 0\ntick\nstep 1 0\nstep 1 0\nreturn 1\nstart 1 put\nstep 1 0 1\nstep 1 0\nstep 0 0\nstep 0 0\nstep 0 0\nstep 0 0\n",
+    "threads 2\nstart 1 put\nstep 1 0 1\nstep 1 0\nstep 1 0\nreturn 1\nstart 0 look\nstep 0 0\nstart 1 take\n\
+     step 1 0\nstep 1 0\nstep 1 0\ntick\nstep 1 0\nstep 1 0\nreturn 1\nstart 1 put\nstep 1 0 1\nstep 1 0\nstep 0 0\n\
+     step 0 0\nstep 0 0\nstep 0 0\n",
     "threads 1\nstart 0 loop\nstart 0 _ 0 4294967295\nstart 0 X9_ 10\nstep 0 65535 4096\n",
-    "threads 1\nstart 0 a123456789b123456789c123456789d123456789e123456789f123456789g123 1 2 3 4 5 6 7 8 9 10 11 12 13 14 15 16 17 18 19 20 21 22 23 24 25 26 27 28 29 30 31 32\n",
+    "threads 1\nstart 0 a123456789b123456789c123456789d123456789e123456789f123456789g123 1 2 3 4 5 6 7 8 9 10 11 12 \
+     13 14 15 16 17 18 19 20 21 22 23 24 25 26 27 28 29 30 31 32\n",
 ];
 
 // Schedules with another answer.
@@ -119,7 +122,8 @@ const SCHEDULES: [(&str, &str); 40] = [
         "line 2",
     ),
     (
-        "threads 2\nstart 1 op 1 2 3 4 5 6 7 8 9 10 11 12 13 14 15 16 17 18 19 20 21 22 23 24 25 26 27 28 29 30 31 32 33\n",
+        "threads 2\nstart 1 op 1 2 3 4 5 6 7 8 9 10 11 12 13 14 15 16 17 18 19 20 21 22 23 24 25 26 27 28 29 30 31 32 \
+         33\n",
         "line 2",
     ),
 ];

@@ -1,7 +1,7 @@
 // Copies of memories and of locals are equal to what was copied, and go on apart from it.
 ghost use Rattle.plc_flow.specs.WellFormed.{FlowFits};
 
-use crate::moves::{config_of, loaded, places_text};
+use crate::tests::moves::{config_of, loaded, places_text};
 use plc_base::NoMemory;
 use plc_check::Judged;
 use plc_flow::Flow;
@@ -9,7 +9,8 @@ use plc_mem::{Locals, Memory};
 use std::alloc::Global;
 
 const LINKED: &str =
-    "struct Node { ptr next; data val; } shared Top; op put() { ptr n; ptr s; atomic { n := new; n.next := n; Top := n; } retire(n); } op look() { ptr t; t := Top; }";
+    "struct Node { ptr next; data val; } shared Top; op put() { ptr n; ptr s; atomic { n := new; n.next := n; \
+     Top := n; } retire(n); } op look() { ptr t; t := Top; }";
 
 // Thread 0 has put the node 1 and retired it, and thread 1 holds it.
 const SHARED: &str = "start 0 0\nstep 0 0 1\nstart 1 1\nstep 1 0\nstep 0 0\n";
