@@ -74,7 +74,8 @@ const SPELLINGS: [(&str, &str); 30] = [
     ),
     (
         "0 10;4294967295,.",
-        "0 0..1 line 1;10 2..4 line 1;Semicolon 4..5 line 1;4294967295 5..15 line 1;Comma 15..16 line 1;Dot 16..17 line 1;",
+        "0 0..1 line 1;10 2..4 line 1;Semicolon 4..5 line 1;4294967295 5..15 line 1;Comma 15..16 line 1;Dot 16..17 \
+         line 1;",
     ),
     ("7x", "7 0..1 line 1;'x' 1..2 line 1;"),
     (
@@ -99,12 +100,14 @@ const SPELLINGS: [(&str, &str); 30] = [
     ),
     (
         "or use call init loop skip over none",
-        "Or 0..2 line 1;Use 3..6 line 1;Call 7..11 line 1;Init 12..16 line 1;Loop 17..21 line 1;Skip 22..26 line 1;Over 27..31 line 1;None 32..36 line 1;",
+        "Or 0..2 line 1;Use 3..6 line 1;Call 7..11 line 1;Init 12..16 line 1;Loop 17..21 line 1;Skip 22..26 line 1;\
+         Over 27..31 line 1;None 32..36 line 1;",
     ),
 ];
 
 const KEYWORDS: &str =
-    "struct ptr data shared call use hazard epoch ghost thread init op atomic if else loop break return skip choose or label during active assume new null cas outline depth inv over at all not retired me none";
+    "struct ptr data shared call use hazard epoch ghost thread init op atomic if else loop break return skip choose \
+     or label during active assume new null cas outline depth inv over at all not retired me none";
 
 // The words of a text without what is no keyword.
 fn push_keywords(text: &mut String, tokens: &[Token], alloc: Global) -> Result<(), AllocError> {
@@ -132,7 +135,8 @@ fn keywords(alloc: Global, spelled: &str) -> Result<String, AllocError> {
 fn each_keyword_is_a_word(rt: HostRuntime) -> Result<(), AllocError> {
     assert_eq!(rt;
         keywords(rt.alloc(), KEYWORDS)?.as_str(),
-        "Struct Ptr Data Shared Call Use Hazard Epoch Ghost Thread Init Op Atomic If Else Loop Break Return Skip Choose Or Label During Active Assume New Null Cas Outline Depth Inv Over At All Not Retired Me None "
+        "Struct Ptr Data Shared Call Use Hazard Epoch Ghost Thread Init Op Atomic If Else Loop Break Return Skip \
+         Choose Or Label During Active Assume New Null Cas Outline Depth Inv Over At All Not Retired Me None "
     );
     Ok(())
 }

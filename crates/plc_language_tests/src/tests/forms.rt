@@ -1,6 +1,6 @@
 // Syntax alone: each form of the grammar, and how deep blocks may stand, beside what the parser says of it.
-use crate::spellings::MOST_BYTES;
-use crate::texts::{fate, repeated};
+use crate::tests::spellings::MOST_BYTES;
+use crate::tests::texts::{fate, repeated};
 use plc_lex::tokens;
 use plc_syntax::syntax;
 use std::alloc::{AllocError, Global};

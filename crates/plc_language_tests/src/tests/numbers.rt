@@ -1,6 +1,6 @@
 // A unit is its numbers: names in the order of their declaration, clauses by their literals, items by their places.
-use crate::outlines::STACK;
-use crate::texts::read;
+use crate::tests::outlines::STACK;
+use crate::tests::texts::read;
 use plc_base::NoMemory;
 use plc_lang::{labels_by_op, op_of_label};
 use plc_logic::{Clause, Item, Outline, Site, op_of_site};
@@ -91,9 +91,11 @@ over push: v == 7; }";
 // Names are numbered in the order of their declaration, locals over an operation, labels over the file.
 const NUMBERS: &str = "22 2 1 2 3 0 2 3 Plain
 depth 1
-inv [Same { a: FieldOf { base: Bound(0), f: FieldId(0) }, b: Bound(1), equal: false }, Retired { x: Bound(0), yes: false }, Same { a: Bound(1), b: Shared(0), equal: true }]
+inv [Same { a: FieldOf { base: Bound(0), f: FieldId(0) }, b: Bound(1), equal: false }, \
+    Retired { x: Bound(0), yes: false }, Same { a: Bound(1), b: Shared(0), equal: true }]
 over OpId(1) [Same { a: GhostOf { base: Local(1), g: 1 }, b: Me, equal: false }]
-at [1, 2] [Same { a: GhostOf { base: Bound(0), g: 0 }, b: Value { g: 0, v: 2 }, equal: true }, Same { a: Local(0), b: Null, equal: true }, Retired { x: Local(1), yes: true }]
+at [1, 2] [Same { a: GhostOf { base: Bound(0), g: 0 }, b: Value { g: 0, v: 2 }, equal: true }, \
+    Same { a: Local(0), b: Null, equal: true }, Retired { x: Local(1), yes: true }]
 over OpId(0) [Same { a: Local(0), b: Number(7), equal: true }]
 Some(0) Some(1) Some(1) None Some(1) Some(1) Some(0) ";
 

@@ -1,5 +1,5 @@
 // Whole files, each with its canonical text or its first fault.
-use crate::texts::answer;
+use crate::tests::texts::answer;
 use std::alloc::AllocError;
 
 const FILES: &str = "# struct N{ptr f;}
@@ -51,7 +51,9 @@ ptr f ;
 outline {
 inv null != null ;
 }
-# struct N{ptr f;data d;}shared A;ghost st{made,cut};ghost own thread;op o(v){ptr p;label a;label b;}op e(){ptr s;label c;}outline{depth 1;over o:p==null or p.d!=v or p.d==7;inv all x:not retired(x)or x.st==cut;at a,b:p.own==me or p.own!=none;inv all x,y:x.f!=y or retired(y)or y==A;at c:s.st!=made;}
+# struct N{ptr f;data d;}shared A;ghost st{made,cut};ghost own thread;op o(v){ptr p;label a;label b;}op e(){ptr s;\
+    label c;}outline{depth 1;over o:p==null or p.d!=v or p.d==7;inv all x:not retired(x)or x.st==cut;at a,b:p.own==me \
+    or p.own!=none;inv all x,y:x.f!=y or retired(y)or y==A;at c:s.st!=made;}
 struct N {
 ptr f ;
 data d ;

@@ -1,6 +1,6 @@
 // Outlines and their items over one file, each with its fate. Places count from the outline's or the item's first
 // token.
-use crate::texts::{count_tokens, fate, repeated};
+use crate::tests::texts::{count_tokens, fate, repeated};
 use std::alloc::{AllocError, Global};
 
 // A stack's declarations and operations, before its outline.

@@ -1,6 +1,6 @@
 // What a text comes to: its canonical text, or the first fault with its place, which counts from the first token
 // of the part that is the row.
-use crate::spellings::MOST_BYTES;
+use crate::tests::spellings::MOST_BYTES;
 use plc_base::NoMemory;
 use plc_lex::tokens;
 use plc_parse::{ParseFault, Unit, parse};

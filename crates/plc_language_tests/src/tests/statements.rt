@@ -1,6 +1,6 @@
 // Statements, each with its canonical text or its first fault, in a file that has names of each kind. Places
 // count from the statement's first token.
-use crate::texts::{BEFORE, answer, count_tokens, middle};
+use crate::tests::texts::{BEFORE, answer, count_tokens, middle};
 use std::alloc::{AllocError, Global};
 
 // The canonical text of statements, or their fault.

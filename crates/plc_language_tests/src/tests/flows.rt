@@ -1,5 +1,5 @@
 // The flows of statements, by the written table: a line for each step.
-use crate::texts::{BEFORE, read, repeated};
+use crate::tests::texts::{BEFORE, read, repeated};
 use plc_flow::{Flow, FlowFault, Step, lower};
 use std::alloc::{AllocError, Global};
 
@@ -81,11 +81,17 @@ const FLOWS: &str = "# n := new;
 0 2 1 6 []
 # atomic { n := null; Top := n; n := m.next; n.next := m; n.next := null; n.next ?= m; n ?= m; m ?= n.next; }
 3 points gate 0 1 0 3
-0 0 2 8 [Null { p: Local(0) }, Copy { p: Shared(0), q: Local(0) }, Load { p: Local(0), q: Local(1), f: FieldId(0) }, Store { p: Local(0), f: FieldId(0), q: Local(1) }, StoreNull { p: Local(0), f: FieldId(0) }, RefreshStore { p: Local(0), f: FieldId(0), q: Local(1) }, Refresh { p: 0, q: Local(1) }, RefreshLoad { p: 1, q: Local(0), f: FieldId(0) }]
+0 0 2 8 [Null { p: Local(0) }, Copy { p: Shared(0), q: Local(0) }, Load { p: Local(0), q: Local(1), f: FieldId(0) }, \
+    Store { p: Local(0), f: FieldId(0), q: Local(1) }, StoreNull { p: Local(0), f: FieldId(0) }, \
+    RefreshStore { p: Local(0), f: FieldId(0), q: Local(1) }, Refresh { p: 0, q: Local(1) }, \
+    RefreshLoad { p: 1, q: Local(0), f: FieldId(0) }]
 0 2 1 6 []
-# atomic { x := 7; x := w; v := n.val; n.val := x; active n; ghost n.owner := me; ghost n.st := cut; ghost m.owner := none; }
+# atomic { x := 7; x := w; v := n.val; n.val := x; active n; ghost n.owner := me; ghost n.st := cut; \
+    ghost m.owner := none; }
 3 points gate 0 1 0 3
-0 0 2 8 [DataSet { x: 2, e: Lit(7) }, DataSet { x: 2, e: Local(1) }, DataLoad { x: 0, q: Local(0), f: FieldId(1) }, DataStore { p: Local(0), f: FieldId(1), e: Local(2) }, Active { p: Local(0) }, Ghost { p: Local(0), g: 1, v: Me }, Ghost { p: Local(0), g: 0, v: Value(1) }, Ghost { p: Local(1), g: 1, v: None }]
+0 0 2 8 [DataSet { x: 2, e: Lit(7) }, DataSet { x: 2, e: Local(1) }, DataLoad { x: 0, q: Local(0), f: FieldId(1) }, \
+    DataStore { p: Local(0), f: FieldId(1), e: Local(2) }, Active { p: Local(0) }, \
+    Ghost { p: Local(0), g: 1, v: Me }, Ghost { p: Local(0), g: 0, v: Value(1) }, Ghost { p: Local(1), g: 1, v: None }]
 0 2 1 6 []
 # return;
 3 points gate 0 1 0 3
@@ -178,7 +184,8 @@ x >= 3 => DataTest { rel: Ge, x: 2, e: Lit(3) } => DataTest { rel: Lt, x: 2, e: 
 n ?= Top => Refresh { p: 0, q: Shared(0) } => 
 m ?= Top.next => RefreshLoad { p: 1, q: Shared(0), f: FieldId(0) } => 
 cas(Top, null, null) => IsNull { p: Shared(0) }, Null { p: Shared(0) } => NotNull { p: Shared(0) }
-cas(active Top, n, m) => Active { p: Shared(0) }, Eq { p: Shared(0), q: Local(0) }, Copy { p: Shared(0), q: Local(1) } => Active { p: Shared(0) }, Ne { p: Shared(0), q: Local(0) }
+cas(active Top, n, m) => Active { p: Shared(0) }, Eq { p: Shared(0), q: Local(0) }, \
+    Copy { p: Shared(0), q: Local(1) } => Active { p: Shared(0) }, Ne { p: Shared(0), q: Local(0) }
 ";
 
 // The flow of a test without statements.
