@@ -3,22 +3,4 @@
 #![tactic(auto)]
 
 #[cfg(test)]
-mod files;
-#[cfg(test)]
-mod flows;
-#[cfg(test)]
-mod forms;
-#[cfg(test)]
-mod names;
-#[cfg(test)]
-mod negation;
-#[cfg(test)]
-mod numbers;
-#[cfg(test)]
-mod outlines;
-#[cfg(test)]
-mod spellings;
-#[cfg(test)]
-mod statements;
-#[cfg(test)]
-mod texts;
+mod tests;

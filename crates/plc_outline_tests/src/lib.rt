@@ -4,20 +4,4 @@
 #![tactic(auto)]
 
 #[cfg(test)]
-mod amounts;
-#[cfg(test)]
-mod checksums;
-#[cfg(test)]
-mod collected;
-#[cfg(test)]
-mod deep;
-#[cfg(test)]
-mod erased;
-#[cfg(test)]
-mod loading;
-#[cfg(test)]
-mod obligations;
-#[cfg(test)]
-mod sets;
-#[cfg(test)]
-mod whole_sets;
+mod tests;

@@ -1,5 +1,6 @@
 -- What a read and a write may answer, and why.
-use Rattle.std.specs.Prelude.{◌≡◌, ℕ, ◌+◌, ◌<◌, ◌≤◌, ◌⊎◌, List, [], ◌∷◌, ◌++◌, length, take, Option, Some, Vec}
+use Rattle.std.specs.Prelude.{◌≡◌, ℕ, ◌+◌, ◌<◌, ◌≤◌, ◌⊎◌, List}
+use Rattle.std.specs.Prelude.{[], ◌∷◌, ◌++◌, length, take, Option, Some, Vec}
 use Rattle.std.specs.Prelude.{Result, MatchResult, IfOk, IfSome, OnErr, IsErrOf}
 use Rattle.plc_outside.specs.Counts.{last_count, one_more}
 use Rattle.plc_outside.specs.Known.{KnownSink}

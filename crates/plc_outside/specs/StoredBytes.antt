@@ -1,6 +1,7 @@
 -- What is known of a sink in memory that grows; and a sink in memory that takes a few bytes a call and fails at given
 -- calls, with what a write to it answers.
-use Rattle.std.specs.Prelude.{◌≡◌, ℕ, ◌==◌, ◌||◌, ◌&&◌, ◌↔◌, ◌++◌, not, Bool, IsTrue, List, min, take, Some}
+use Rattle.std.specs.Prelude.{◌≡◌, ℕ, ◌==◌, ◌||◌, ◌&&◌, ◌↔◌}
+use Rattle.std.specs.Prelude.{◌++◌, not, Bool, IsTrue, List, min, take, Some}
 use Rattle.std.specs.Prelude.{Result, IfOk, OnErr, IsErrOf}
 use Rattle.plc_outside.specs.Counts.{one_more, is_failing}
 use Rattle.plc_outside.specs.Known.{KnownSink}

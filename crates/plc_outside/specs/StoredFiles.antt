@@ -1,5 +1,6 @@
 -- Files that lie in memory, and what a read of them answers.
-use Rattle.std.specs.Prelude.{◌≡◌, ℕ, ◌<◌, ◌≤◌, ◌↔◌, if◌then◌else◌, List, [], length, find, map, String, string_bytes}
+use Rattle.std.specs.Prelude.{◌≡◌, ℕ, ◌<◌, ◌≤◌, ◌↔◌, if◌then◌else◌}
+use Rattle.std.specs.Prelude.{List, [], length, find, map, String, string_bytes}
 use Rattle.std.specs.Prelude.{Option, None, Some, IsSomeAnd, option_map, unwrap_or, Vec, Result, IfOk, IsErrOf}
 use Rattle.std.specs.Str.{bytes_eq}
 use Rattle.plc_outside.specs.Counts.{one_more, is_failing}

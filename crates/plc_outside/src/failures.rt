@@ -1,7 +1,8 @@
 // The names whose reads failed, one entry for each read that failed. The list is the count that the
 // trait `Files` speaks of: a read that fails adds its name, and where the list cannot grow the read
 // answers that memory ran out, since a count that does not rise would leave `Failed` without a cause.
-ghost use Rattle.std.specs.Prelude.{◌≡◌, ◌≢◌, ◌≤◌, ◌<◌, ◌++◌, ◌∷◌, [], ℕ, List, OnOk, OnErr};
+ghost use Rattle.std.specs.Prelude.{◌≡◌, ◌≢◌, ◌≤◌, ◌<◌, ◌++◌};
+ghost use Rattle.std.specs.Prelude.{◌∷◌, [], ℕ, List, OnOk, OnErr};
 ghost use Rattle.plc_outside.specs.Failures.{times};
 
 use crate::files::FileFault;

@@ -57,10 +57,9 @@ impl FixedSink {
 impl Sink for FixedSink {
     ghost known = { known_of };
 
+    // Beside what each sink promises, every answer and the sink after it.
     fn put(&mut self, piece: &[u8]) -> Result<usize, SinkFault>
         ensures puts { Puts (known_of self.old) (known_of self.new) piece.now result }
-
-        // Each answer, and the sink after it.
         ensures answer { AnswersFixedPut self.old (length piece.now) result }
         ensures after { IsAfterFixedPut self.old self.new piece.now result }
     {

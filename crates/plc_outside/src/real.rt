@@ -1,7 +1,8 @@
 // The edge to the system: its files, and any writer of std. What lies in a file, and what becomes
 // of the bytes that are written, no clause can say; what is proved is that each fault has a cause
 // and that no more is taken than was asked for. This module alone is trusted to do what it says.
-ghost use Rattle.std.specs.Prelude.{◌≡◌, ◌≢◌, ◌≤◌, ◌<◌, ◌+◌, ◌++◌, ℕ, Some, None, IfSome};
+ghost use Rattle.std.specs.Prelude.{◌≡◌, ◌≢◌, ◌≤◌, ◌<◌, ◌+◌};
+ghost use Rattle.std.specs.Prelude.{◌++◌, ℕ, Some, None, IfSome};
 ghost use Rattle.std.specs.Prelude.{List, [], IfOk, IfErr, OnOk, OnErr, IsErrOf, length, take, drop};
 ghost use Rattle.plc_outside.specs.Outside.{ReadHasCause, AgreesWith, NotesReading, Puts, CountsFault};
 ghost use Rattle.plc_outside.specs.Failures.{times, NotesFailure};

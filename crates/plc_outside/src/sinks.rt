@@ -21,14 +21,6 @@ pub enum SinkFault {
     Memory,
 }
 
-impl From<AllocError> for SinkFault {
-    ghost from_gives = { λ _ fault. fault ≡ Memory };
-
-    fn from(_e: AllocError) -> SinkFault {
-        SinkFault::Memory
-    }
-}
-
 /// A sink takes bytes, piece by piece.
 pub trait Sink {
     /// What is known of it: what was written, where it is told, how many writes failed, and how many more
@@ -44,4 +36,12 @@ pub trait Sink {
     /// sure; each byte that is taken takes one of that room at most.
     fn put(&mut self, piece: &[u8]) -> Result<usize, SinkFault>
         ensures { Puts (known self.old) (known self.new) piece.now result };
+}
+
+impl From<AllocError> for SinkFault {
+    ghost from_gives = { λ _ fault. fault ≡ Memory };
+
+    fn from(_e: AllocError) -> SinkFault {
+        SinkFault::Memory
+    }
 }

@@ -3,14 +3,4 @@
 #![tactic(auto)]
 
 #[cfg(test)]
-mod copying;
-#[cfg(test)]
-mod moves;
-#[cfg(test)]
-mod primitives;
-#[cfg(test)]
-mod reclaimers;
-#[cfg(test)]
-mod replays;
-#[cfg(test)]
-mod schedules;
+mod tests;

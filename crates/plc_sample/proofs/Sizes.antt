@@ -27,25 +27,10 @@ copies_short (suc k) part few short =
 
 -- ---- the parts
 
-declarations_short : length declarations ≤ 1000
-unfolding declarations
-declarations_short = omega arith
-
-operations_short : length operations ≤ 1000
-unfolding operations
-operations_short = omega arith
-
-invariants_short : length invariants ≤ 1000
-unfolding invariants
-invariants_short = omega arith
-
-clauses_short : length clauses ≤ 1000
-unfolding clauses
-clauses_short = omega arith
-
-ending_short : length ending ≤ 1000
-unfolding ending
-ending_short = omega arith
+parts_short : (length declarations ≤ 1000) × (length operations ≤ 1000) × (length invariants ≤ 1000)
+    × (length clauses ≤ 1000) × (length ending ≤ 1000)
+unfolding declarations operations invariants clauses ending
+parts_short = (omega arith, omega arith, omega arith, omega arith, omega arith)
 
 copies_bounded : (k : ℕ) (part : List ℕ) → k ≤ most_copies → length part ≤ 1000 → length (copies k part) ≤ 272000
 copies_bounded k part few short = omega (arith, copies_short k part few short, few)
@@ -57,7 +42,7 @@ together a b c d e la lb lc ld le =
 whole_short : (k : ℕ) → k ≤ most_copies → length (whole_text k) ≤ largest_file
 whole_short k few =
     together declarations (copies k operations) invariants (copies k clauses) ending
-    declarations_short (copies_bounded k operations few operations_short) invariants_short (copies_bounded k clauses few clauses_short) ending_short
+    parts_short.0 (copies_bounded k operations few parts_short.1) parts_short.2 (copies_bounded k clauses few parts_short.3) parts_short.4
 
 -- ---- a line left out
 

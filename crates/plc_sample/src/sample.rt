@@ -1,8 +1,9 @@
 // The whole text of a sample, and the same without one line.
-ghost use Rattle.std.specs.Prelude.{◌≡◌, ◌≤◌, ◌++◌, IfOk, OnOk, length};
+ghost use Rattle.std.specs.Prelude.{◌≡◌, ◌≤◌, ◌+◌, ◌++◌, IfOk, OnOk, length};
 ghost use Rattle.plc_base.specs.Limits.{largest_file};
 ghost use Rattle.plc_sample.specs.Numbers.{most_copies, sample_lines};
 ghost use Rattle.plc_sample.specs.Sample.{whole_text, line_after, kept_byte, without_from, sample_text};
+ghost use Rattle.plc_sample.specs.Sample.{line_feeds, lines_out};
 
 use crate::numbering::push_copies;
 use crate::parts::{clauses, declarations, ending, invariants, operations};
@@ -57,12 +58,13 @@ fn without_line(alloc: Global, text: &[u8], without: usize) -> Result<Vec<u8>, A
 }
 
 /// The sample with `k` copies of the operations, from 1 to [`MOST_COPIES`], without line `n`, which is one of its
-/// [`lines_of`] counted from 1, or whole where `n` is 0. It is short enough for a file. The one error is that
-/// memory runs out.
+/// [`lines_of`] counted from 1, or whole where `n` is 0. It has that many lines, or one fewer, each ended by a line
+/// feed, and is short enough for a file. The one error is that memory runs out.
 pub fn text(alloc: Global, k: u8, n: u16) -> Result<Vec<u8>, NoMemory>
     requires copies { (1 ≤ k) × (k ≤ most_copies) }
     requires line { n ≤ sample_lines k }
     ensures is { IfOk result (λ text. text.items ≡ sample_text k n) }
+    ensures lines { IfOk result (λ text. line_feeds text.items + lines_out n ≡ sample_lines k) }
     ensures short { IfOk result (λ text. length text.items ≤ largest_file) }
 {
     let whole = whole_text(alloc, k)?;

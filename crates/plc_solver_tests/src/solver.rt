@@ -383,23 +383,28 @@ fn first_word(text: &str) -> &str {
     }
 }
 
-#[test]
-fn sets_are_solved(rt: HostRuntime) -> Result<(), NoMemory> {
-    let alloc = rt.alloc();
-    for (rows, want) in SOLVED_NODES {
-        let answer = solved(alloc, &NODES, rows)?;
-        assert_eq!(rt; first_word(answer.as_str()), want, "{rows}");
+// The first set over these terms that is answered otherwise.
+fn other_answer(
+    alloc: Global,
+    terms: &[(GroundTerm, Sort)],
+    table: &[(&'static str, &'static str)],
+) -> Result<Option<&'static str>, NoMemory> {
+    for (rows, want) in table {
+        let answer = solved(alloc, terms, *rows)?;
+        if first_word(answer.as_str()) != *want {
+            return Ok(Some(*rows));
+        }
     }
-    Ok(())
+    Ok(None)
 }
 
 #[test]
-fn constants_differ(rt: HostRuntime) -> Result<(), NoMemory> {
-    let alloc = rt.alloc();
-    for (rows, want) in SOLVED_CONSTANTS {
-        let answer = solved(alloc, &CONSTANTS, rows)?;
-        assert_eq!(rt; first_word(answer.as_str()), want, "{rows}");
-    }
+fn sets_are_solved(rt: HostRuntime) -> Result<(), NoMemory> {
+    assert_eq!(rt; other_answer(rt.alloc(), &NODES, &SOLVED_NODES)?, None);
+    assert_eq!(rt;
+        other_answer(rt.alloc(), &CONSTANTS, &SOLVED_CONSTANTS)?,
+        None
+    );
     Ok(())
 }
 

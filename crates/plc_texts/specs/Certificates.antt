@@ -12,7 +12,8 @@ use Rattle.plc_cert.specs.declared.cert.CertFault.TheVariants as cert
 use Rattle.plc_verify.specs.declared.fault.Slot.{Slot}
 use Rattle.plc_verify.specs.declared.fault.Slot.TheVariants.{W, Local}
 use Rattle.plc_verify.specs.declared.fault.VerifyFault.{VerifyFault}
-use Rattle.plc_verify.specs.declared.fault.VerifyFault.TheVariants.{EnvCount, EnvAt, EntryAt, TypeAt, FlowAt, TreeCount, TreeAt, Memory}
+use Rattle.plc_verify.specs.declared.fault.VerifyFault.TheVariants.{EnvCount, EnvAt, EntryAt, TypeAt, FlowAt}
+use Rattle.plc_verify.specs.declared.fault.VerifyFault.TheVariants.{TreeCount, TreeAt, Memory}
 use Rattle.plc_texts.specs.Counts.{counts_text}
 use Rattle.plc_texts.specs.Names.{variable_in}
 use Rattle.plc_texts.specs.Untyped.{step_operation}

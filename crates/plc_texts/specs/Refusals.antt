@@ -5,7 +5,8 @@ use Rattle.plc_base.specs.Limits.{limit_name}
 use Rattle.plc_lex.specs.declared.fault.LexFault.{LexFault}
 use Rattle.plc_lex.specs.declared.fault.LexFault.TheVariants.{BadByte, LongName, BadNumber, Memory as LexMemory}
 use Rattle.plc_scope.specs.declared.fault.ParseFault.{ParseFault}
-use Rattle.plc_scope.specs.declared.fault.ParseFault.TheVariants.{Syntax, Undeclared, Duplicate, WrongSort, NoSuchCall, Limit, Memory}
+use Rattle.plc_scope.specs.declared.fault.ParseFault.TheVariants.{Syntax, Undeclared, Duplicate, WrongSort}
+use Rattle.plc_scope.specs.declared.fault.ParseFault.TheVariants.{NoSuchCall, Limit, Memory}
 
 -- the texts of words of no listed form, of a read that failed, and of a file that is too long
 abbrev pub words_refused : List ℕ

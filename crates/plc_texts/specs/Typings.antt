@@ -1,5 +1,6 @@
 -- The text of a safe file. Each line ends with a line feed.
-use Rattle.std.specs.Prelude.{◌+◌, ℕ, if◌then◌else◌, List, [], ◌∷◌, ◌++◌, length, filter, codes, decimal, nat_lt, Option, Some, None, slice_get}
+use Rattle.std.specs.Prelude.{◌+◌, ℕ, if◌then◌else◌, List, [], ◌∷◌, ◌++◌, length}
+use Rattle.std.specs.Prelude.{filter, codes, decimal, nat_lt, Option, Some, None, slice_get}
 use Rattle.plc_base.specs.Mask.{has}
 use Rattle.plc_base.specs.declared.ids.PointId.{PointId}
 use Rattle.plc_lang.specs.declared.syntax.Local.{Local}

@@ -1,13 +1,15 @@
 -- The text of a file whose outline doesn't hold: the obligation, then each term of its ground set with its class. Each
 -- line ends with a line feed.
-use Rattle.std.specs.Prelude.{ℕ, ◌+◌, List, [], ◌∷◌, ◌++◌, Option, Some, None, fold, get_or, slice_get, codes, decimal}
+use Rattle.std.specs.Prelude.{ℕ, ◌+◌, List, [], ◌∷◌, ◌++◌, Option}
+use Rattle.std.specs.Prelude.{Some, None, fold, get_or, slice_get, codes, decimal}
 use Rattle.plc_lang.specs.declared.syntax.Local.{Local}
 use Rattle.plc_lang.specs.declared.syntax.File.{File}
 use Rattle.plc_lang.specs.Names.{auxiliary_name, field_name, local_name, operation_name, shared_name, value_name}
 use Rattle.plc_lang.specs.Numbering.{value_at}
 use Rattle.plc_flow.specs.declared.flow.Flow.{Flow}
 use Rattle.plc_ground.specs.declared.terms.Symbol.{Symbol}
-use Rattle.plc_ground.specs.declared.terms.Symbol.TheVariants.{Null, Shared, Mine, Theirs, New, Bound, Loaded, Yes, Nobody, Me, You, Value, Number}
+use Rattle.plc_ground.specs.declared.terms.Symbol.TheVariants.{Null, Shared, Mine, Theirs, New, Bound, Loaded}
+use Rattle.plc_ground.specs.declared.terms.Symbol.TheVariants.{Yes, Nobody, Me, You, Value, Number}
 use Rattle.plc_ground.specs.declared.terms.Map.{Map}
 use Rattle.plc_ground.specs.declared.terms.Map.TheVariants.{Field, Ghost, Retired}
 use Rattle.plc_ground.specs.declared.terms.GroundTerm.{GroundTerm}

@@ -1,7 +1,8 @@
 // What is said of a certificate: why its bytes are none, that it is valid, or its first item that fails.
 ghost use Rattle.std.specs.Prelude.{◌≡◌, ◌++◌, IfOk, slice_get, codes, decimal};
 ghost use Rattle.plc_lang.specs.Names.{operation_name};
-ghost use Rattle.plc_texts.specs.Certificates.{field_word, certificate_text, verified_text, slot_name, pair_text, invalid_text};
+ghost use Rattle.plc_texts.specs.Certificates.{field_word, certificate_text, verified_text};
+ghost use Rattle.plc_texts.specs.Certificates.{slot_name, pair_text, invalid_text};
 ghost use Rattle.plc_texts.specs.Untyped.{step_operation};
 
 use crate::counts::push_counts;

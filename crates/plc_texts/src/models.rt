@@ -4,7 +4,8 @@
 ghost use Rattle.std.specs.Prelude.{◌≡◌, ◌++◌, OnOk, IfOk, codes, decimal, get_or, map, slice_get, []};
 ghost use Rattle.plc_lang.specs.Names.{value_name};
 ghost use Rattle.plc_lang.specs.Numbering.{value_at};
-ghost use Rattle.plc_texts.specs.Unproved.{step_text, claim_text, obligation_text, value_in, symbol_text, map_name, term_text, term_texts, term_line, term_lines, unproved_text};
+ghost use Rattle.plc_texts.specs.Unproved.{step_text, claim_text, obligation_text, value_in, symbol_text, map_name};
+ghost use Rattle.plc_texts.specs.Unproved.{term_text, term_texts, term_line, term_lines, unproved_text};
 ghost use Rattle.plc_texts.specs.Untyped.{step_line};
 
 use crate::push::{push, push_bytes, push_number, push_numbered};

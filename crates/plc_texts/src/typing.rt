@@ -2,7 +2,9 @@
 ghost use Rattle.std.specs.Prelude.{◌≡◌, ◌++◌, ◌<◌, OnOk, IfOk, Some, filter, slice_get, map};
 ghost use Rattle.plc_auto.specs.Table.{names_of};
 ghost use Rattle.plc_lang.specs.Locals.{is_pointer};
-ghost use Rattle.plc_texts.specs.Typings.{member_names, parted, others, set_text, guarantees_text, anywhere_line, local_line, local_lines, operation_from, env_lines, label_lines, safe_line, safe_text};
+ghost use Rattle.plc_texts.specs.Typings.{member_names, parted, others, set_text, guarantees_text};
+ghost use Rattle.plc_texts.specs.Typings.{anywhere_line, local_line, local_lines, operation_from};
+ghost use Rattle.plc_texts.specs.Typings.{env_lines, label_lines, safe_line, safe_text};
 ghost use Rattle.plc_lang.specs.Names.{name_at};
 
 use crate::push::{push, push_bytes, push_number};

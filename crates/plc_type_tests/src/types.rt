@@ -556,7 +556,8 @@ const TYPINGS: &str = "# struct N { } shared T;
 -01 / ALS0 ALS ALS / 01
 -01 / ALS0 ALS ALS / 01
 -01 / -01 ALS ALS / 01
-# struct N { ptr f; data d; } shared T; call p(ptr); use hazard(p); op g(v) { ptr n; ptr a; ptr b; n := new; n.d := v; T := n; }
+# struct N { ptr f; data d; } shared T; call p(ptr); use hazard(p); op g(v) { ptr n; ptr a; ptr b; n := new; \
+    n.d := v; T := n; }
 -0123456 / ALS ALS ALS / 0123456
 -0123456 / -012346 ALS ALS / 0123456
 -0123456 / ALS012 ALS ALS / 0123456

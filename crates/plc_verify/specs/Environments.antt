@@ -1,6 +1,7 @@
 -- The items of the environments in the order in which they are judged, and the first that fails. Each record says what
 -- holds of the items before, and then what fails.
-use Rattle.std.specs.Prelude.{◌≡◌, ◌≢◌, ◌<◌, ℕ, true, false, List, length, map, replicate, slice_get, Some, None}
+use Rattle.std.specs.Prelude.{◌≡◌, ◌≢◌, ◌<◌, ℕ, true, false, List}
+use Rattle.std.specs.Prelude.{length, map, replicate, slice_get, Some, None}
 use Rattle.plc_base.specs.Mask.{within}
 use Rattle.plc_lang.specs.declared.syntax.Var.TheVariants as vars
 use Rattle.plc_lang.specs.Skeleton.{Skeleton, Passage, locals_at}

@@ -1,5 +1,6 @@
 -- What private functions test and hand on.
-use Rattle.std.specs.Prelude.{◌≡◌, ◌&&◌, ◌==◌, ◌<◌, ◌≤◌, ℕ, Bool, true, false, List, length, None, Result, Ok, Err}
+use Rattle.std.specs.Prelude.{◌≡◌, ◌&&◌, ◌==◌, ◌<◌, ◌≤◌, ℕ}
+use Rattle.std.specs.Prelude.{Bool, true, false, List, length, None, Result, Ok, Err}
 use Rattle.plc_base.specs.Mask.{within}
 use Rattle.plc_lang.specs.declared.syntax.Primitive.{Primitive}
 use Rattle.plc_lang.specs.Skeleton.{Skeleton}

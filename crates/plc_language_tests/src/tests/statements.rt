@@ -1,0 +1,205 @@
+// Statements, each with its canonical text or its first fault, in a file that has names of each kind. Places
+// count from the statement's first token.
+use crate::tests::texts::{BEFORE, answer, count_tokens, middle};
+use std::alloc::{AllocError, Global};
+
+// The canonical text of statements, or their fault.
+fn statement_answer(alloc: Global, statement: &str) -> Result<String, AllocError> {
+    let text = format!(in alloc; "{BEFORE}{statement} }} op g() {{ }}")?;
+    let whole = answer(alloc, text.as_str(), count_tokens(alloc, BEFORE))?;
+    String::from_str(alloc, middle(whole.as_str()).trim_end())
+}
+
+const STATEMENTS: &str = "# n:=null;n:=m;Top:=n;n:=new;n:=m.next;n.next:=m;n.next:=null;
+n := null ;
+n := m ;
+Top := n ;
+n := new ;
+n := m . next ;
+n . next := m ;
+n . next := null ;
+# x:=7;x:=w;x:=n.val;n.val:=x;n.val:=4294967295;Top.val:=v;v:=x;
+x := 7 ;
+x := w ;
+x := n . val ;
+n . val := x ;
+n . val := 4294967295 ;
+Top . val := v ;
+v := x ;
+# assume n==m;assume n!=Top;assume n==null;assume n!=null;
+assume n == m ;
+assume n != Top ;
+assume n == null ;
+assume n != null ;
+# assume x==v;assume x!=0;assume x<w;assume x>=10;
+assume x == v ;
+assume x != 0 ;
+assume x < w ;
+assume x >= 10 ;
+# n?=Top;n?=m.next;n.next?=m;Top.next?=Top;active n;skip;
+n ?= Top ;
+n ?= m . next ;
+n . next ?= m ;
+Top . next ?= Top ;
+active n ;
+skip ;
+# ghost n.st:=cut;ghost n.owner:=me;ghost Top.owner:=none;
+ghost n . st := cut ;
+ghost n . owner := me ;
+ghost Top . owner := none ;
+# atomic{skip;n:=new;skip;}atomic{}n:=new;
+atomic {
+n := new ;
+}
+atomic {
+}
+n := new ;
+# 
+# enter();enter()during l;guard(null);guard(n);guard(active n)during h;retire(n);retire(active Top);return;
+enter ( ) ;
+enter ( ) during l ;
+guard ( null ) ;
+guard ( n ) ;
+guard ( active n ) during h ;
+retire ( n ) ;
+retire ( active Top ) ;
+return ;
+# label l;label m1;loop{break;}
+label l ;
+label m1 ;
+loop {
+break ;
+}
+# if(n==null){}else{}if(x<3){skip;}else{return;}
+if ( n == null ) {
+}
+if ( x < 3 ) {
+skip ;
+}
+else {
+return ;
+}
+# if(n?=Top){}if(n?=m.next){}if(cas(Top,null,n)){}if(cas(active Top,n,m)){}if(cas(n,null,null)){}
+if ( n ?= Top ) {
+}
+if ( n ?= m . next ) {
+}
+if ( cas ( Top , null , n ) ) {
+}
+if ( cas ( active Top , n , m ) ) {
+}
+if ( cas ( n , null , null ) ) {
+}
+# choose{}or{skip;}or{loop{}}loop{choose{break;}or{}or{break;}}
+choose {
+}
+or {
+skip ;
+}
+or {
+loop {
+}
+}
+loop {
+choose {
+break ;
+}
+or {
+}
+or {
+break ;
+}
+}
+# x := null;
+sort 2
+# n := 5;
+sort 2
+# x := n.next;
+sort 4
+# n.x := n;
+sort 2
+# next := n;
+sort 0
+# retire := null;
+sort 0
+# y := null;
+undeclared 0
+# n := g;
+undeclared 2
+# n := null; x := y; z := 1;
+undeclared 6
+# n := null
+syntax 3
+# y := ;
+syntax 2
+# retire(null);
+call 0
+# enter(n);
+call 0
+# guard();
+call 0
+# free();
+undeclared 0
+# n();
+sort 0
+# guard(x);
+sort 2
+# guard(active x);
+sort 3
+# guard(y);
+undeclared 2
+# ghost n.st := me;
+sort 5
+# ghost n.owner := made;
+sort 5
+# ghost n.owner := y;
+undeclared 5
+# ghost n.next := made;
+sort 3
+# ghost x.st := made;
+sort 1
+# if (n < Top) { }
+sort 3
+# if (cas(x, null, n)) { }
+sort 4
+# break;
+undeclared 0
+# choose { } or { break; }
+undeclared 5
+# loop { } break;
+undeclared 3
+# label d; label d;
+duplicate 4
+# label n;
+duplicate 1
+# guard(n) during d; label d;
+duplicate 8
+# loop { label d; } label d;
+duplicate 7
+# if (n == d) { } label d;
+undeclared 4
+# label d; n := d;
+sort 5
+# atomic { n := new; n := new; }
+limit News 2
+# if (n == null) { y := n; } else { }
+undeclared 7
+# if (n == null) { } else { y := n; }
+undeclared 10
+";
+
+#[test]
+fn statements_are_printed_or_refused(rt: HostRuntime) -> Result<(), AllocError> {
+    let alloc = rt.alloc();
+    for row in STATEMENTS.split("# ") {
+        if !row.is_empty() {
+            let (statement, want) = row.split_once("\n").unwrap_or((row, "?"));
+            assert_eq!(rt;
+                statement_answer(alloc, statement)?.as_str(),
+                want.trim_end(),
+                "{statement}"
+            );
+        }
+    }
+    Ok(())
+}

@@ -1,0 +1,175 @@
+// Ground sets of obligations as an independent reading of the format gives them: one of each kind and one at depth 1
+// whole (`whole_sets.rt` tells how a set is written), others by checksums, with loads, `retire` and premises at depth 1
+// among them.
+ghost use Rattle.plc_setting.specs.Fit.{Fits};
+
+use crate::tests::checksums::{OF_DEEP, OF_HAZARDS};
+use crate::tests::deep::DEEP;
+use crate::tests::loading::loaded;
+use crate::tests::whole_sets::{CLAIM, DEEP_START, ENTER, OTHER, OWN, START};
+use plc_base::NoMemory;
+use plc_check::Judged;
+use plc_ground::{GroundSet, GroundTerm, Lit, Map, Sort, Symbol};
+use plc_oblig::{Obligation, clauses, ground, nth};
+use plc_stacks::HAZARDS;
+use std::alloc::{AllocError, Global};
+
+fn symbol_text(alloc: Global, symbol: Symbol) -> Result<String, AllocError> {
+    match symbol {
+        Symbol::Null => format!(in alloc; "null"),
+        Symbol::Shared(i) => format!(in alloc; "s{i}"),
+        Symbol::Mine(k) => format!(in alloc; "a{k}"),
+        Symbol::Theirs(k) => format!(in alloc; "b{k}"),
+        Symbol::New => format!(in alloc; "new"),
+        Symbol::Bound(i) => format!(in alloc; "c{i}"),
+        Symbol::Loaded(k) => format!(in alloc; "l{k}"),
+        Symbol::Yes => format!(in alloc; "yes"),
+        Symbol::Nobody => format!(in alloc; "none"),
+        Symbol::Me => format!(in alloc; "me"),
+        Symbol::You => format!(in alloc; "you"),
+        Symbol::Value(v) => format!(in alloc; "v{v}"),
+        Symbol::Number(n) => format!(in alloc; "n{n}"),
+    }
+}
+
+fn term_text(alloc: Global, term: GroundTerm) -> Result<String, AllocError> {
+    match term {
+        GroundTerm::Const(symbol) => symbol_text(alloc, symbol),
+        GroundTerm::App { map, version, arg } => match map {
+            Map::Field(f) => format!(in alloc; "f{}.{version}@{arg}", f.0),
+            Map::Ghost(g) => format!(in alloc; "g{g}.{version}@{arg}"),
+            Map::Retired => format!(in alloc; "retired.{version}@{arg}"),
+        },
+    }
+}
+
+fn sort_text(alloc: Global, sort: Sort) -> Result<String, AllocError> {
+    match sort {
+        Sort::Node => format!(in alloc; "N"),
+        Sort::Number => format!(in alloc; "D"),
+        Sort::Value(g) => format!(in alloc; "V{g}"),
+        Sort::Thread => format!(in alloc; "P"),
+        Sort::Truth => format!(in alloc; "T"),
+    }
+}
+
+fn lit_text(alloc: Global, lit: Lit) -> Result<String, AllocError> {
+    let sign = if lit.equal { '=' } else { '!' };
+    format!(in alloc; "{}{sign}{}", lit.left, lit.right)
+}
+
+// A part of a line, after a blank where it isn't the first.
+fn push_part(line: &mut String, part: &str) -> Result<(), AllocError> {
+    if !line.is_empty() {
+        line.push(' ')?;
+    }
+    line.push_str(part)
+}
+
+fn push_line(text: &mut String, line: &str) -> Result<(), AllocError> {
+    text.push_str(line)?;
+    text.push('\n')
+}
+
+fn terms_line(alloc: Global, terms: &[GroundTerm]) -> Result<String, AllocError> {
+    let mut line = String::new(alloc);
+    for term in terms {
+        push_part(&mut line, term_text(alloc, *term)?.as_str())?;
+    }
+    Ok(line)
+}
+
+fn sorts_line(alloc: Global, sorts: &[Sort]) -> Result<String, AllocError> {
+    let mut line = String::new(alloc);
+    for sort in sorts {
+        push_part(&mut line, sort_text(alloc, *sort)?.as_str())?;
+    }
+    Ok(line)
+}
+
+fn clause_line(alloc: Global, clause: &[Lit]) -> Result<String, AllocError> {
+    let mut line = String::new(alloc);
+    for lit in clause {
+        push_part(&mut line, lit_text(alloc, *lit)?.as_str())?;
+    }
+    Ok(line)
+}
+
+fn set_text(alloc: Global, set: &GroundSet) -> Result<String, AllocError> {
+    let mut text = terms_line(alloc, set.terms.as_slice())?;
+    text.push('\n')?;
+    push_line(&mut text, sorts_line(alloc, set.sorts.as_slice())?.as_str())?;
+    for clause in set.clauses.as_slice() {
+        push_line(&mut text, clause_line(alloc, clause.as_slice())?.as_str())?;
+    }
+    Ok(text)
+}
+
+// That of FNV-1a.
+fn checksum(text: &str) -> u32 {
+    let mut sum: u32 = 0x811c_9dc5;
+    for byte in text.as_bytes() {
+        sum = (sum ^ *byte as u32).wrapping_mul(0x0100_0193);
+    }
+    sum
+}
+
+// The set of an obligation, if it has as many clauses as are counted.
+fn text_of(alloc: Global, judged: &Judged, o: &Obligation) -> Result<String, AllocError>
+    requires { Fits judged.now.flow judged.now.unit_outline }
+{
+    let flow = &judged.flow;
+    let outline = &judged.unit_outline;
+    let count = clauses(flow, outline, o);
+    if count > 65536 {
+        return format!(in alloc; "too large");
+    }
+    let Ok(set) = ground(alloc, flow, outline, o) else {
+        return Err(AllocError);
+    };
+    if set.clauses.len() as u64 != count {
+        return format!(in alloc; "{count} clauses were counted");
+    }
+    set_text(alloc, &set)
+}
+
+// The set of the obligation with a number.
+fn answer(alloc: Global, file: &str, i: u64) -> Result<String, NoMemory> {
+    let judged = loaded(alloc, file)?;
+    match nth(&judged.flow, &judged.unit_outline, i) {
+        None => Err(NoMemory),
+        Some(o) => Ok(text_of(alloc, &judged, &o)?),
+    }
+}
+
+// The same of the stack with hazard pointers.
+fn answer_of_hazards(alloc: Global, i: u64) -> Result<String, NoMemory> {
+    let file = HAZARDS.concat(alloc)?;
+    answer(alloc, file.as_str(), i)
+}
+
+#[test]
+fn sets_are_those_of_the_format(rt: HostRuntime) -> Result<(), NoMemory> {
+    for (i, text) in [
+        (0, START),
+        (5, ENTER),
+        (13, OWN),
+        (2840, OTHER),
+        (2841, CLAIM),
+    ] {
+        assert_eq!(rt; answer_of_hazards(rt.alloc(), i)?.as_str(), text);
+    }
+    assert_eq!(rt; answer(rt.alloc(), DEEP, 0)?.as_str(), DEEP_START);
+    Ok(())
+}
+
+#[test]
+fn other_sets_have_their_checksums(rt: HostRuntime) -> Result<(), NoMemory> {
+    for (i, sum) in OF_HAZARDS {
+        assert_eq!(rt; checksum(answer_of_hazards(rt.alloc(), i)?.as_str()), sum);
+    }
+    for (i, sum) in OF_DEEP {
+        assert_eq!(rt; checksum(answer(rt.alloc(), DEEP, i)?.as_str()), sum);
+    }
+    Ok(())
+}

@@ -1,0 +1,98 @@
+// Copies of memories and of locals are equal to what was copied, and go on apart from it.
+ghost use Rattle.plc_flow.specs.WellFormed.{FlowFits};
+
+use crate::tests::moves::{config_of, loaded, places_text};
+use plc_base::NoMemory;
+use plc_check::Judged;
+use plc_flow::Flow;
+use plc_mem::{Locals, Memory};
+use std::alloc::Global;
+
+const LINKED: &str =
+    "struct Node { ptr next; data val; } shared Top; op put() { ptr n; ptr s; atomic { n := new; n.next := n; \
+     Top := n; } retire(n); } op look() { ptr t; t := Top; }";
+
+// Thread 0 has put the node 1 and retired it, and thread 1 holds it.
+const SHARED: &str = "start 0 0\nstep 0 0 1\nstart 1 1\nstep 1 0\nstep 0 0\n";
+
+// A copy of a memory, the copy after its node is freed, and the memory.
+fn copies_text(alloc: Global, memory: &Memory) -> Result<String, NoMemory> {
+    let mut copy = memory.copy()?;
+    let mut text = places_text(alloc, &copy)?;
+    copy.free(1);
+    text.push('\n')?;
+    text.push_str(places_text(alloc, &copy)?.as_str())?;
+    text.push('\n')?;
+    text.push_str(places_text(alloc, memory)?.as_str())?;
+    Ok(text)
+}
+
+// Whether the locals of thread 1 are taken at first, again, and of a thread past the last; and what is left.
+fn takes_text(alloc: Global, memory: &Memory) -> Result<String, NoMemory> {
+    let mut copy = memory.copy()?;
+    let first = copy.take(1).is_some();
+    let again = copy.take(1).is_some();
+    let past = copy.take(2).is_some();
+    let places = places_text(alloc, &copy)?;
+    Ok(format!(in alloc; "{first} {again} {past} {places}")?)
+}
+
+// A fresh memory in which thread 1 holds the locals, before or after the node is freed.
+fn with_held(alloc: Global, flow: &Flow, locals: Locals, free: bool) -> Result<String, NoMemory> {
+    let mut memory = Memory::new(alloc, flow, 2)?;
+    memory.put(1, locals);
+    if free {
+        memory.free(1);
+    }
+    Ok(places_text(alloc, &memory)?)
+}
+
+// The locals of thread 1 where their node is freed, and a copy of them.
+fn locals_text(alloc: Global, flow: &Flow, locals: Locals) -> Result<String, NoMemory> {
+    let copy = locals.copy()?;
+    let mut text = with_held(alloc, flow, locals, true)?;
+    text.push('\n')?;
+    text.push_str(with_held(alloc, flow, copy, false)?.as_str())?;
+    Ok(text)
+}
+
+fn held_text(alloc: Global, flow: &Flow, memory: &Memory) -> Result<String, NoMemory> {
+    match memory.copy()?.take(1) {
+        Some(locals) => locals_text(alloc, flow, locals),
+        None => Err(NoMemory),
+    }
+}
+
+fn all_copies(alloc: Global, flow: &Flow, memory: &Memory) -> Result<String, NoMemory> {
+    let mut text = copies_text(alloc, memory)?;
+    text.push('\n')?;
+    text.push_str(takes_text(alloc, memory)?.as_str())?;
+    text.push('\n')?;
+    text.push_str(held_text(alloc, flow, memory)?.as_str())?;
+    Ok(text)
+}
+
+fn linked_copies(alloc: Global, judged: &Judged) -> Result<String, NoMemory>
+    requires { FlowFits judged.now.flow }
+{
+    let config = config_of(alloc, &judged.flow, &judged.observer, SHARED)?;
+    all_copies(alloc, &judged.flow, config.memory())
+}
+
+fn copies(alloc: Global) -> Result<String, NoMemory> {
+    let judged = loaded(alloc, LINKED)?;
+    linked_copies(alloc, &judged)
+}
+
+const COPIES: &str = "Top=1 p=1 q=0 r=1 1.next=1 used 1 retired 1 
+Top=1? p=1? q=0 r=1? 
+Top=1 p=1 q=0 r=1 1.next=1 used 1 retired 1 
+true false false Top=1 p=1 q=0 1.next=1 used 1 retired 1 
+Top=0 r=1? 
+Top=0 r=1 ";
+
+#[test]
+fn copies_are_equal_and_apart(rt: HostRuntime) -> Result<(), NoMemory> {
+    assert_eq!(rt; copies(rt.alloc())?.as_str(), COPIES);
+    Ok(())
+}

@@ -1,0 +1,310 @@
+// The moves of runs with their answers: a text has a move a line, and so has its transcript.
+ghost use Rattle.std.specs.Prelude.{IfOk};
+ghost use Rattle.plc_flow.specs.WellFormed.{FlowFits};
+ghost use Rattle.plc_run.specs.Position.{IsOfRun};
+
+use plc_auto::{Event, Observer};
+use plc_base::{FieldId, Items, NoMemory, OpId};
+use plc_check::{Judged, load};
+use plc_flow::{Flow, Move, Place};
+use plc_mem::Memory;
+use plc_run::{Config, Moved};
+use std::alloc::{AllocError, Global};
+
+// A file with its flow.
+pub(crate) fn loaded(alloc: Global, text: &str) -> Result<Judged, NoMemory>
+    ensures { IfOk result (λ judged. FlowFits judged.flow) }
+{
+    if text.len() > 1048576 {
+        return Err(NoMemory);
+    }
+    match load(alloc, text.as_bytes()) {
+        Ok(judged) => Ok(judged),
+        Err(_) => Err(NoMemory),
+    }
+}
+
+pub(crate) fn number(word: &str) -> u32 {
+    word.parse::<u32>().unwrap_or(9999)
+}
+
+pub(crate) fn numbers(alloc: Global, words: &str) -> Result<Vec<u32>, AllocError> {
+    let mut all = Vec::new(alloc);
+    for word in words.split_whitespace() {
+        all.push(number(word))?;
+    }
+    Ok(all)
+}
+
+// The number at a place, and 0 where there is none.
+fn at(numbers: &[u32], place: usize) -> u32 {
+    numbers.get(place).copied().unwrap_or(0)
+}
+
+// `start T OP ARG..`, `step T NTH ADDRESS`, `return T` and `free ADDRESS`; operations by their numbers.
+fn move_of(alloc: Global, line: &str) -> Result<Move, NoMemory> {
+    let (word, rest) = line.split_once(" ").unwrap_or((line, ""));
+    let all = numbers(alloc, rest)?;
+    let t = at(&all, 0);
+    let second = (at(&all, 1) % 65536) as u16;
+    match word {
+        "start" => Ok(Move::Start {
+            t,
+            op: OpId(second),
+            args: Items::from_vec(Vec::from_slice(alloc, all.get(2..).unwrap_or(&[]))?),
+        }),
+        "step" => Ok(Move::Step {
+            t,
+            nth: second,
+            addr: all.get(2).copied(),
+        }),
+        "return" => Ok(Move::Return { t }),
+        "free" => Ok(Move::Free { a: t }),
+        _ => Err(NoMemory),
+    }
+}
+
+fn event_text(alloc: Global, event: &Event) -> Result<String, AllocError> {
+    match event {
+        Event::Call { t, f, a: None } => {
+            let f = f.0;
+            format!(in alloc; ", {t} calls {f}")
+        }
+        Event::Call { t, f, a: Some(a) } => {
+            let f = f.0;
+            format!(in alloc; ", {t} calls {f} with {a}")
+        }
+        Event::Done { t, f } => {
+            let f = f.0;
+            format!(in alloc; ", {t} is back from {f}")
+        }
+        Event::Free { a } => format!(in alloc; ", {a} is freed"),
+    }
+}
+
+const NEXT: FieldId = FieldId(0);
+
+const VAL: FieldId = FieldId(1);
+
+// Places by short names: shared pointers, locals of two threads, and fields of two nodes.
+const PLACES: [(&str, Place); 9] = [
+    ("Top", Place::Shared(0)),
+    ("Other", Place::Shared(1)),
+    ("p", Place::Local { t: 0, v: 0 }),
+    ("q", Place::Local { t: 0, v: 1 }),
+    ("r", Place::Local { t: 1, v: 0 }),
+    ("1.next", Place::Cell { a: 1, f: NEXT }),
+    ("1.val", Place::Cell { a: 1, f: VAL }),
+    ("2.next", Place::Cell { a: 2, f: NEXT }),
+    ("s", Place::Local { t: 2, v: 0 }),
+];
+
+// Each place that is there with its number, after which `?` says that it is invalid; then the addresses that
+// are used, and those that are retired.
+pub(crate) fn places_text(alloc: Global, memory: &Memory) -> Result<String, AllocError> {
+    let mut text = String::new(alloc);
+    for (name, place) in PLACES {
+        if let Some(number) = memory.number(&place) {
+            let doubt = if memory.valid(&place) { "" } else { "?" };
+            text.push_str(format!(in alloc; "{name}={number}{doubt} ")?.as_str())?;
+        }
+    }
+    for address in [1, 2, 3] {
+        if memory.used(address) {
+            text.push_str(format!(in alloc; "used {address} ")?.as_str())?;
+        }
+        if memory.retired(address) {
+            text.push_str(format!(in alloc; "retired {address} ")?.as_str())?;
+        }
+    }
+    Ok(text)
+}
+
+// An answer, and the events by which the history grew.
+fn moved_text(alloc: Global, answer: &Moved, events: &[Event]) -> Result<String, AllocError> {
+    let mut text = match answer {
+        Moved::Race { kind, prim } => format!(in alloc; "{kind:?} {prim}")?,
+        other => format!(in alloc; "{other:?}")?,
+    };
+    for event in events {
+        text.push_str(event_text(alloc, event)?.as_str())?;
+    }
+    Ok(text)
+}
+
+// One move, with its answer; or the places, where `places` stands in its stead.
+fn take_move(
+    alloc: Global,
+    flow: &Flow,
+    observer: &Observer,
+    config: &mut Config,
+    line: &str,
+) -> Result<String, NoMemory>
+    requires fits { FlowFits flow.now }
+    requires of_run { IsOfRun flow.now observer.now config.old }
+    ensures { IsOfRun flow.now observer.now config.new }
+{
+    if line == "places" {
+        return Ok(places_text(alloc, config.memory())?);
+    }
+    let m = move_of(alloc, line)?;
+    let before = config.history().len();
+    let answer = config.step(flow, observer, &m)?;
+    let events = config.history().get(before..).unwrap_or(&[]);
+    Ok(moved_text(alloc, &answer, events)?)
+}
+
+// The moves of a text, a line for each; what stands after an arrow is not read, but written anew.
+fn take_moves(
+    alloc: Global,
+    flow: &Flow,
+    observer: &Observer,
+    config: &mut Config,
+    moves: &str,
+) -> Result<String, NoMemory>
+    requires of_run { IsOfRun flow.now observer.now config.old }
+    requires fits { FlowFits flow.now }
+    ensures { IsOfRun flow.now observer.now config.new }
+{
+    let mut text = String::new(alloc);
+    for line in moves.lines() {
+        let (line, _) = line.split_once(" => ").unwrap_or((line, ""));
+        let answer = take_move(alloc, flow, observer, config, line)?;
+        text.push_str(format!(in alloc; "{line} => {answer}\n")?.as_str())?;
+    }
+    Ok(text)
+}
+
+// The configuration that the moves lead to.
+pub(crate) fn config_of(
+    alloc: Global,
+    flow: &Flow,
+    observer: &Observer,
+    moves: &str,
+) -> Result<Config, NoMemory>
+    requires fits { FlowFits flow.now }
+    ensures { IfOk result (λ config. IsOfRun flow.now observer.now config) }
+{
+    let Ok(mut config) = Config::start(alloc, flow, observer, 2) else {
+        return Err(NoMemory);
+    };
+    let _answers = take_moves(alloc, flow, observer, &mut config, moves)?;
+    Ok(config)
+}
+
+// The answers of moves after other moves.
+fn run_text(alloc: Global, judged: &Judged, before: &str, moves: &str) -> Result<String, NoMemory>
+    requires { FlowFits judged.now.flow }
+{
+    let mut config = config_of(alloc, &judged.flow, &judged.observer, before)?;
+    take_moves(alloc, &judged.flow, &judged.observer, &mut config, moves)
+}
+
+pub(crate) fn ran(
+    alloc: Global,
+    file: &str,
+    before: &str,
+    moves: &str,
+) -> Result<String, NoMemory> {
+    let judged = loaded(alloc, file)?;
+    run_text(alloc, &judged, before, moves)
+}
+
+// A stack whose readers protect their nodes by hazard pointers.
+const STACK: &str =
+    "struct Node { ptr next; } shared Top; call protect(ptr); use hazard(protect); op put(v) { ptr n; n := new; \
+     Top := n; } op take() { ptr t; t := Top; Top := null; retire(t); } op look() { ptr t; t := Top; protect(t); \
+     t ?= Top; }";
+
+// Moves with their answers, from the beginning.
+const MOVES: &str = "# start 0 0 7 => Done
+start 0 0 7 => Blocked
+start 1 3 => Blocked
+start 1 0 => Blocked
+start 1 0 7 7 => Blocked
+start 2 0 7 => Blocked
+start 1 1 => Done
+places => Top=0 p=0 r=0 
+# step 0 0 => Blocked
+start 0 0 7 => Done
+step 0 0 => Blocked
+step 0 0 0 => Blocked
+step 0 1 2 => Blocked
+step 0 0 2 => Done
+step 0 0 3 => Blocked
+step 0 0 => Done
+return 0 => Blocked
+step 0 0 => Done
+return 0 => Done
+return 0 => Blocked
+places => Top=2 2.next=0 used 2 
+# free 0 => Blocked
+free 1 => Forbidden
+start 0 0 7 => Done
+step 0 0 1 => Done
+free 1 => Forbidden
+places => Top=0 p=1 1.next=0 used 1 
+# start 0 0 7 => Done
+step 0 0 1 => Done
+step 0 0 => Done
+step 0 0 => Done
+return 0 => Done
+start 1 2 => Done
+step 1 0 => Done
+step 1 0 => Done, 1 calls 1 with 1
+start 0 1 => Done
+step 0 0 => Done
+step 0 0 => Done
+step 0 0 => Done, 0 calls 0 with 1
+free 1 => Done, 1 is freed
+step 1 0 => Done, 1 is back from 1
+step 1 0 => Blocked
+start 0 2 => Blocked
+places => Top=0 p=1? r=1? 
+# start 0 0 7 => Done
+step 0 0 1 => Done
+step 0 0 => Done
+step 0 0 => Done
+return 0 => Done
+start 1 2 => Done
+step 1 0 => Done
+step 1 0 => Done, 1 calls 1 with 1
+step 1 0 => Done, 1 is back from 1
+step 1 0 => Done
+start 0 1 => Done
+step 0 0 => Done
+step 0 0 => Done
+step 0 0 => Done, 0 calls 0 with 1
+free 1 => Forbidden
+places => Top=0 p=1 r=1 1.next=0 used 1 retired 1 
+# start 0 0 7 => Done
+step 0 0 1 => Done
+step 0 0 => Done
+step 0 0 => Done
+return 0 => Done
+start 0 1 => Done
+start 1 1 => Done
+step 0 0 => Done
+step 1 0 => Done
+step 0 0 => Done
+step 1 0 => Done
+step 0 0 => Done, 0 calls 0 with 1
+free 1 => Done, 1 is freed
+step 1 0 => Pass 0
+step 0 0 => Blocked
+free 1 => Blocked
+places => Top=0 p=1? r=1? 
+";
+
+// The transcript of moves in the stack, from the beginning.
+fn transcript(alloc: Global, moves: &str) -> Result<String, NoMemory> {
+    ran(alloc, STACK, "", moves)
+}
+
+#[test]
+fn moves_have_their_answers(rt: HostRuntime) -> Result<(), NoMemory> {
+    for row in MOVES.split("# ") {
+        assert_eq!(rt; transcript(rt.alloc(), row)?.as_str(), row);
+    }
+    Ok(())
+}

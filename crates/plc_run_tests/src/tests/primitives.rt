@@ -1,0 +1,362 @@
+// What each primitive comes to and what it leaves, by the written table, where the shared pointer is null, valid,
+// and invalid.
+use crate::tests::moves::ran;
+use plc_base::NoMemory;
+use std::alloc::Global;
+
+// A statement as the one step of operation 2, whose parameters are 3 and 5. A `new` of it takes the address 1.
+fn statement_text(alloc: Global, statement: &str, before: &str) -> Result<String, NoMemory> {
+    let file = format!(in alloc;
+        "struct Node {{ ptr next; data val; }} shared Top; shared Other; call protect(ptr); call enter(); \
+         ghost stage {{ made, cut }}; ghost owner thread; op make() {{ Top := new; }} op drop() {{ retire(Top); }} \
+         op it(x, y) {{ ptr p; {statement} }}"
+    )?;
+    let address = if statement.contains("new") { " 1" } else { "" };
+    let before = format!(in alloc; "{before}start 0 2 3 5\n")?;
+    let step = format!(in alloc; "step 0 0{address}\nplaces\n")?;
+    let text = ran(alloc, file.as_str(), before.as_str(), step.as_str())?;
+    let (_, answer) = text.as_str().split_once(" => ").unwrap_or(("", "?"));
+    Ok(String::from_str(alloc, answer)?)
+}
+
+// The first line of what a statement comes to.
+fn outcome(alloc: Global, statement: &str, before: &str) -> Result<String, NoMemory> {
+    let text = statement_text(alloc, statement, before)?;
+    Ok(String::from_str(alloc, text.as_str().lines().next().unwrap_or(""))?)
+}
+
+// `Top` is null at first, valid after `VALID`, its node is retired after `RETIRED`, and it is invalid after
+// `INVALID`, since its node is freed.
+const VALID: &str = "start 0 0\nstep 0 0 1\nstep 0 0\nreturn 0\n";
+
+const RETIRED: &str =
+    "start 0 0\nstep 0 0 1\nstep 0 0\nreturn 0\nstart 0 1\nstep 0 0\nstep 0 0\nstep 0 0\nreturn 0\n";
+
+const INVALID: &str =
+    "start 0 0\nstep 0 0 1\nstep 0 0\nreturn 0\nstart 0 1\nstep 0 0\nfree 1\nstep 0 0\nstep 0 0\nreturn 0\n";
+
+// What each primitive comes to where `Top` is null, valid, and invalid.
+const OUTCOMES: &str = "# Top := null;
+Done
+Done
+Done
+# Other := Top;
+Done
+Done
+Done
+# Other := new;
+Done
+Blocked
+Done
+# Other := Top.next;
+Blocked
+Done
+Deref 0
+# Top.next := Other;
+Blocked
+Done
+Deref 0
+# Top.next := null;
+Blocked
+Done
+Deref 0
+# x := y;
+Done
+Done
+Done
+# x := 7;
+Done
+Done
+Done
+# x := Top.val;
+Blocked
+Done
+Deref 0
+# Top.val := x;
+Blocked
+Done
+Deref 0
+# Top.val := 7;
+Blocked
+Done
+Deref 0
+# assume Top == Other;
+Done
+Blocked
+Compare 0
+# assume Other == Top;
+Done
+Blocked
+Compare 0
+# assume Top == Top;
+Done
+Done
+Compare 0
+# assume Top != Other;
+Blocked
+Done
+Compare 0
+# assume Other != Top;
+Blocked
+Done
+Compare 0
+# assume Top == null;
+Done
+Blocked
+Blocked
+# assume Top != null;
+Blocked
+Done
+Done
+# assume x == 3;
+Done
+Done
+Done
+# assume x == y;
+Blocked
+Blocked
+Blocked
+# assume x != y;
+Done
+Done
+Done
+# assume x != 3;
+Blocked
+Blocked
+Blocked
+# assume x < y;
+Done
+Done
+Done
+# assume x < 3;
+Blocked
+Blocked
+Blocked
+# assume x >= 3;
+Done
+Done
+Done
+# assume x >= y;
+Blocked
+Blocked
+Blocked
+# p ?= Top;
+Done
+Blocked
+Blocked
+# atomic { p := Top; p ?= Top; }
+Done
+Done
+Done
+# p ?= Top.next;
+Blocked
+Done
+Deref 0
+# Top.next ?= Other;
+Blocked
+Done
+Deref 0
+# Top.next ?= Top;
+Blocked
+Blocked
+Deref 0
+# protect(Top);
+Done, 0 calls 1 with 0
+Done, 0 calls 1 with 1
+Done, 0 calls 1 with 1
+# protect(null);
+Done, 0 calls 1 with 0
+Done, 0 calls 1 with 0
+Done, 0 calls 1 with 0
+# enter();
+Done, 0 calls 2
+Done, 0 calls 2
+Done, 0 calls 2
+# retire(Top);
+Blocked
+Done, 0 calls 0 with 1
+Pass 0
+# active Top;
+Done
+Done
+Done
+# ghost Top.owner := me;
+Done
+Done
+Done
+# ghost Top.owner := none;
+Done
+Done
+Done
+# ghost Top.stage := cut;
+Done
+Done
+Done
+";
+
+// What a statement comes to in the three states, a line for each.
+fn outcomes(alloc: Global, statement: &str) -> Result<String, NoMemory> {
+    let mut text = String::new(alloc);
+    for before in ["", VALID, INVALID] {
+        text.push_str(outcome(alloc, statement, before)?.as_str())?;
+        text.push('\n')?;
+    }
+    Ok(text)
+}
+
+// The returns of a call, as the step after it, in the three states.
+fn returns(alloc: Global, statement: &str) -> Result<String, NoMemory> {
+    let file = format!(in alloc;
+        "struct Node {{ ptr next; }} shared Top; call protect(ptr); call enter(); op make() {{ Top := new; }} \
+         op drop() {{ retire(Top); }} op it() {{ {statement} }}"
+    )?;
+    let mut text = String::new(alloc);
+    for before in ["", VALID, INVALID] {
+        let before = format!(in alloc; "{before}start 0 2\nstep 0 0\n")?;
+        text.push_str(ran(alloc, file.as_str(), before.as_str(), "step 0 0")?.as_str())?;
+    }
+    Ok(text)
+}
+
+#[test]
+fn calls_return(rt: HostRuntime) -> Result<(), NoMemory> {
+    for (statement, want) in [
+        ("protect(Top);", "step 0 0 => Done, 0 is back from 1\n"),
+        ("protect(null);", "step 0 0 => Done, 0 is back from 1\n"),
+        ("enter();", "step 0 0 => Done, 0 is back from 2\n"),
+    ] {
+        let have = returns(rt.alloc(), statement)?;
+        assert_eq!(rt;
+            have.as_str(),
+            format!(in rt.alloc(); "{want}{want}{want}")?.as_str(),
+            "{statement}"
+        );
+    }
+    Ok(())
+}
+
+#[test]
+fn primitives_have_their_outcomes(rt: HostRuntime) -> Result<(), NoMemory> {
+    for row in OUTCOMES.split("# ") {
+        if !row.is_empty() {
+            let (statement, want) = row.split_once("\n").unwrap_or((row, "?"));
+            assert_eq!(rt;
+                outcomes(rt.alloc(), statement)?.as_str(),
+                want,
+                "{statement}"
+            );
+        }
+    }
+    Ok(())
+}
+
+// What is left after a statement where `Top` is valid, and what primitives see of those before them.
+const EFFECTS_VALID: &str = "# Top := null;
+Done
+places => Top=0 Other=0 p=0 1.next=0 used 1 
+# Other := Top;
+Done
+places => Top=1 Other=1 p=0 1.next=0 used 1 
+# Top.next := Top;
+Done
+places => Top=1 Other=0 p=0 1.next=1 used 1 
+# p := Top.next;
+Done
+places => Top=1 Other=0 p=0 1.next=0 used 1 
+# retire(Top);
+Done, 0 calls 0 with 1
+places => Top=1 Other=0 p=0 1.next=0 used 1 retired 1 
+# atomic { Top.val := y; x := Top.val; assume x == 5; }
+Done
+places => Top=1 Other=0 p=0 1.next=0 used 1 
+";
+
+// The same where the node of `Top` is retired.
+const EFFECTS_RETIRED: &str = "# retire(Top);
+Double 0
+places => Top=1 Other=0 p=0 1.next=0 used 1 retired 1 
+# x := Top.val;
+Done
+places => Top=1 Other=0 p=0 1.next=0 used 1 retired 1 
+";
+
+// The same where `Top` is invalid.
+const EFFECTS_INVALID: &str = "# Top := null;
+Done
+places => Top=0 Other=0 p=0 
+# Other := Top;
+Done
+places => Top=1? Other=1? p=0 
+# Other := new;
+Done
+places => Top=1? Other=1 p=0 1.next=0 used 1 
+# Top := new;
+Done
+places => Top=1 Other=0 p=0 1.next=0 used 1 
+# atomic { x := y; assume x == 5; assume y == 5; }
+Done
+places => Top=1? Other=0 p=0 
+# atomic { Top := null; assume Top == Other; }
+Done
+places => Top=0 Other=0 p=0 
+# atomic { Top := new; x := Top.val; assume x == 0; }
+Done
+places => Top=1 Other=0 p=0 1.next=0 used 1 
+# atomic { Top := new; Top.val := y; x := Top.val; assume x == 5; }
+Done
+places => Top=1 Other=0 p=0 1.next=0 used 1 
+# atomic { Other := Top; skip; p := Other; p := null; x := Other.val; }
+Deref 3
+places => Top=1? Other=0 p=0 
+# atomic { p := new; p.next := Top; p := p.next; x := p.val; }
+Deref 3
+places => Top=1? Other=0 p=0 
+# atomic { p := new; p.next := Top; p := p.next; }
+Done
+places => Top=1? Other=0 p=1? 1.next=1? used 1 
+# atomic { p := new; p.next := Top; p.next := null; p ?= Other; }
+Blocked
+places => Top=1? Other=0 p=0 
+# atomic { p := new; p.next := Top; p.next := null; Top := p.next; assume Top == Other; }
+Done
+places => Top=0 Other=0 p=1 1.next=0 used 1 
+# atomic { p := Top; Top := new; Other := p; x := p.val; }
+Deref 3
+places => Top=1? Other=0 p=0 
+# atomic { p := Top; Top := new; Other := p; }
+Done
+places => Top=1 Other=1? p=1? 1.next=0 used 1 
+# atomic { p := Top; Top := new; p ?= Top; x := p.val; }
+Done
+places => Top=1 Other=0 p=1 1.next=0 used 1 
+# atomic { p := Top; Top := new; Top.next := Top; p ?= Top.next; x := p.val; }
+Done
+places => Top=1 Other=0 p=1 1.next=1 used 1 
+# atomic { p := new; p.next := Top; p.next ?= p; p := p.next; x := p.val; }
+Done
+places => Top=1? Other=0 p=1 1.next=1 used 1 
+# atomic { x := Top.val; assume x == y; }
+Deref 0
+places => Top=1? Other=0 p=0 
+# atomic { assume x == y; x := Top.val; }
+Blocked
+places => Top=1? Other=0 p=0 
+";
+
+#[test]
+fn effects_are_seen(rt: HostRuntime) -> Result<(), NoMemory> {
+    for (before, rows) in [
+        (VALID, EFFECTS_VALID),
+        (RETIRED, EFFECTS_RETIRED),
+        (INVALID, EFFECTS_INVALID),
+    ] {
+        for row in rows.split("# ") {
+            if !row.is_empty() {
+                let (statement, want) = row.split_once("\n").unwrap_or((row, "?"));
+                let have = statement_text(rt.alloc(), statement, before)?;
+                assert_eq!(rt; have.as_str(), want, "{statement}");
+            }
+        }
+    }
+    Ok(())
+}
