@@ -17,7 +17,7 @@ use Rattle.plc_gc.specs.State.{GcState, Locals, locals_or_none, locals_of, with_
 use Rattle.plc_gc.specs.Primitives.{after_call, goes, after}
 use Rattle.plc_gc.specs.Run.{turn, execute}
 use Rattle.plc_gc.specs.Fit.{Frame, frame, FrameHasAll, SlotIn}
-use Rattle.plc_gc.proofs.Rows.{length_put, held_below}
+use Rattle.plc_threads.proofs.Places.{length_put, held_below}
 
 -- thread t held locals l before and holds m now; all else has its old frame
 pub record KeepsFrame (t : ℕ) (g : GcState) (l : Locals) (new : GcState) (m : Locals) : Type 0 where

@@ -5,7 +5,6 @@ pub mod Kept
 pub mod Moving
 pub mod Ranges
 pub mod Reaching
-pub mod Rows
 pub mod Stepping
 pub mod Threads
 pub mod Values

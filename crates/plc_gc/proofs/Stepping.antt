@@ -19,9 +19,10 @@ use Rattle.plc_gc.specs.State.{GcState, Locals, first_state, no_locals, with_loc
 use Rattle.plc_gc.specs.Run.{GcConfiguration, point_of, turn, Moves, GcRun, begin, more, beginning, initialised, first_configuration}
 use Rattle.plc_gc.specs.Fit.{IsReady}
 use Rattle.plc_gc.specs.Threads.{GcConfigurationFits}
-use Rattle.plc_gc.specs.Reach.{is_idle, start_from, step_from, return_from, reach}
+use Rattle.plc_gc.specs.Reach.{start_from, step_from, return_from, reach}
 use Rattle.plc_gc.specs.Position.{threads_of, IsOfRun, Answers, answer, reached}
-use Rattle.plc_gc.proofs.Rows.{length_put, held_below}
+use Rattle.plc_threads.proofs.Places.{length_put, held_below}
+use Rattle.plc_threads.proofs.Moves.{Takes}
 use Rattle.plc_gc.proofs.Ranges.{ranged_run, ranged_given, ranged_first}
 use Rattle.plc_gc.proofs.Threads.{ready, ready_held, init_names, run_fits, busy_at, step_fits}
 use Rattle.plc_gc.proofs.Frames.{execute_keeps}
@@ -33,20 +34,14 @@ pub own_fits : (flow : Flow) → FlowFits flow → FlowIsWellSorted flow → (c 
 own_fits flow fits sorted c some run = run_fits flow fits sorted (length c.points) some run.0 c run.1
 
 pub room : (flow : Flow) → FlowFits flow → FlowIsWellSorted flow → (c : GcConfiguration) (t : ℕ) → 0 < length c.points → IsOfRun flow c → t < length c.points → t < length c.state.locals
-room flow fits sorted c t some run small = let k = own_fits flow fits sorted c some run in omega (arith, small, k.locals)
+room flow fits sorted c t some run small = let k = own_fits flow fits sorted c some run in omega (arith, small, k.standing.locals)
 
-pub points_kept : (ps qs : List (Option Point)) (t : ℕ) (q : Option Point) → t < length ps → qs ≡ put_at None ps t q → (0 < length ps) × (length ps < 4294967296) → (0 < length qs) × (length qs < 4294967296)
-points_kept ps qs t q small e many = let same = ap length e ∙ length_put None ps t q small in (omega (arith, same, many.0), omega (arith, same, many.1))
-
-pub idle_below : (ps : List (Option Point)) (t : ℕ) → is_idle ps t ≡ true → t < length ps
-idle_below ps t idle = ltb-true t (length ps) (and_parts (nat_lt t (length ps)) (is_none (get_or ps t None)) idle).0
-
-pub is_ready : (flow : Flow) → FlowFits flow → FlowIsWellSorted flow → (c : GcConfiguration) (t nth : ℕ) (p : Point) (step : Step) → (0 < length c.points) × (length c.points < 4294967296) → IsOfRun flow c → point_of c t ≡ Some p → slice_get (steps_from flow p.at) nth ≡ Some step → IsReady c.state t step.prims
-is_ready flow fits sorted c t nth p step many run busy there =
+pub is_ready : (flow : Flow) → FlowFits flow → FlowIsWellSorted flow → (c : GcConfiguration) (t nth : ℕ) (p : Point) (step : Step) → (0 < length c.points) × (length c.points < 4294967296) → IsOfRun flow c → Takes flow c.points t nth p step → IsReady c.state t step.prims
+is_ready flow fits sorted c t nth p step many run takes =
     let k = own_fits flow fits sorted c many.0 run in
-    let b = busy_at flow (length c.points) c t p k busy in
-    let f = step_fits flow fits sorted (length c.points) c t p step nth k b there in
-    let small = held_below c.points t p busy in
+    let b = busy_at flow (length c.points) c t p k takes.busy in
+    let f = step_fits flow fits sorted (length c.points) c t p step nth k b takes.leaves_there in
+    let small = takes.known in
     record { small = omega (arith, small, many.1); held = (b.locals, b.held); there = f.names; ranges = ranged_run flow (length c.points) run.0 c run.1 }
 
 -- ---- where runs begin

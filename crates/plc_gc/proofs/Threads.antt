@@ -2,9 +2,8 @@
 use Rattle.std.proofs.Common.{◌≡◌, ℕ, ◌<◌, List, [], ◌∷◌, Option, Some, None, length, get_or, slice_get, replicate, refl, sym, ap, ◌∙◌, subst, arith, inl, inr, length-append}
 use Rattle.std.proofs.lemmas.List.{length-replicate}
 use Rattle.std.proofs.lemmas.Option.{slice_get_within}
-use Rattle.std.proofs.lemmas.Bool.{cases_eq}
 use Rattle.plc_base.specs.Tables.{put_at}
-use Rattle.plc_base.proofs.Tables.{get-put_same, get-put_other, get-replicate}
+use Rattle.plc_base.proofs.Tables.{get-put_same}
 use Rattle.plc_lang.specs.declared.syntax.Op.{Op}
 use Rattle.plc_lang.specs.declared.syntax.File.{File}
 use Rattle.plc_lang.specs.declared.syntax.Primitive.{Primitive}
@@ -26,8 +25,9 @@ use Rattle.plc_flow.proofs.Leaving.{stay_in_their_gate}
 use Rattle.plc_gc.specs.State.{GcState, Locals, with_locals, first_state, no_locals, starting}
 use Rattle.plc_gc.specs.Run.{GcConfiguration, point_of, Moves, GcRun, begin, more, beginning, initialised, first_configuration}
 use Rattle.plc_gc.specs.Fit.{Frame, frame, WriteIn, FrameHasAll}
-use Rattle.plc_gc.specs.Threads.{IsBusyAt, ThreadFits, GcConfigurationFits}
-use Rattle.plc_gc.proofs.Rows.{length_put}
+use Rattle.plc_threads.specs.Fit.{ThreadFits}
+use Rattle.plc_threads.proofs.Fit.{put_is_new, thread_came, all_idle, idle_again}
+use Rattle.plc_gc.specs.Threads.{LocalsFit, IsBusyAt, GcConfigurationFits}
 use Rattle.plc_gc.proofs.Frames.{Keeps, frame_held, execute_keeps}
 
 -- ---- the step that a busy thread takes
@@ -50,8 +50,8 @@ busy_frame flow threads c t p k b =
     let s = k.shared in
     let f = ap length k.fields in
     let g = k.ghosts in
-    let x = b.pointers in
-    let y = b.values in
+    let x = b.fits.pointers in
+    let y = b.fits.values in
     own ∙ cc
 
 -- what it leads to, and that its primitives name what is there
@@ -68,40 +68,17 @@ step_fits flow fits sorted threads c t p step nth k b at =
       names = subst (λ f. FrameHasAll f step.prims) (sym (busy_frame flow threads c t p k b)) (has_all flow.file (shape_of flow.file b.operation) step.prims names (sorted.steps m.place step m.there).each);
     }
 
--- ---- a thread whose locals and point stay
-
-thread_stays : (flow : Flow) (g new : GcState) (t : ℕ) (q : Option Point) → get_or new.locals t None ≡ get_or g.locals t None → ThreadFits flow g t q → ThreadFits flow new t q
-thread_stays flow g new t None e k = e ∙ k
-thread_stays flow g new t (Some p) e k = record {
-  operation = k.operation;
-  gate = k.gate;
-  locals = k.locals;
-  named = k.named;
-  opens = k.opens;
-  within = k.within;
-  held = e ∙ k.held;
-  declared = k.declared;
-  pointers = k.pointers;
-  values = k.values;
-}
-
 -- ---- moves
 
 -- thread t comes to a point, or becomes idle, with these locals
 came : (flow : Flow) (threads : ℕ) (c : GcConfiguration) (t : ℕ) (l : Option Locals) (q : Option Point) → t < threads → GcConfigurationFits flow threads c
-    → ThreadFits flow (with_locals c.state t l) t q → GcConfigurationFits flow threads (record { state = with_locals c.state t l; points = put_at None c.points t q })
+    → ThreadFits flow LocalsFit (put_at None c.state.locals t l) t q → GcConfigurationFits flow threads (record { state = with_locals c.state t l; points = put_at None c.points t q })
 unfolding with_locals
 came flow threads c t l q small k mine = record {
   shared = k.shared;
   fields = k.fields;
   ghosts = k.ghosts;
-  locals = length_put None c.state.locals t l (omega (arith, k.locals)) ∙ k.locals;
-  points = length_put None c.points t q (omega (arith, k.points)) ∙ k.points;
-  each = λ u. elim (cases_eq u t) [
-    | inl e ↦ subst (λ u. ThreadFits flow (with_locals c.state t l) u (get_or (put_at None c.points t q) u None)) (sym e) (subst (ThreadFits flow (with_locals c.state t l) t) (sym (get-put_same None c.points t q)) mine)
-    | inr ne ↦ subst (ThreadFits flow (with_locals c.state t l) u) (sym (get-put_other None c.points t q u ne))
-        (thread_stays flow c.state (with_locals c.state t l) u (point_of c u) (get-put_other None c.state.locals t l u ne) (k.each u))
-  ];
+  standing = thread_came flow LocalsFit LocalsFit threads c.state.locals _ c.points t q small (λ o l fits. fits) (put_is_new t c.state.locals l (omega (arith, small, k.standing.locals))) mine k.standing;
 }
 
 start_fits : (flow : Flow) → FlowFits flow → (threads : ℕ) (c : GcConfiguration) (t op : ℕ) (o : Op) (g : Gate) (args : List ℕ) → t < threads → slice_get flow.file.ops op ≡ Some o → slice_get flow.gates op ≡ Some g → length args ≡ parameters_of o → GcConfigurationFits flow threads c
@@ -116,9 +93,11 @@ start_fits flow fits threads c t op o g args small named opens counted k =
       opens = opens;
       within = (gate_from 0 flow.points flow.gates op g fits.well.ranges opens).entry;
       held = get-put_same None c.state.locals t (Some (starting o args));
-      declared = refl;
-      pointers = length-replicate {A = ℕ} (pointers_of o) 0;
-      values = omega (arith, length-append args (replicate (other_data_of o) 0), length-replicate {A = ℕ} (other_data_of o) 0, counted);
+      fits = record {
+        declared = refl;
+        pointers = length-replicate {A = ℕ} (pointers_of o) 0;
+        values = omega (arith, length-append args (replicate (other_data_of o) 0), length-replicate {A = ℕ} (other_data_of o) 0, counted);
+      };
     })
 
 return_fits : (flow : Flow) (threads : ℕ) (c : GcConfiguration) (t : ℕ) → t < threads → GcConfigurationFits flow threads c → GcConfigurationFits flow threads (record { state = with_locals c.state t None; points = put_at None c.points t None })
@@ -126,7 +105,7 @@ unfolding with_locals
 return_fits flow threads c t small k = came flow threads c t None None small k (get-put_same None c.state.locals t None)
 
 pub busy_at : (flow : Flow) (threads : ℕ) (c : GcConfiguration) (t : ℕ) (p : Point) → GcConfigurationFits flow threads c → point_of c t ≡ Some p → IsBusyAt flow c.state t p
-busy_at flow threads c t p k busy = subst (ThreadFits flow c.state t) busy (k.each t)
+busy_at flow threads c t p k busy = subst (ThreadFits flow LocalsFit c.state.locals t) busy (k.standing.each t)
 
 take_fits : (flow : Flow) (threads : ℕ) (c : GcConfiguration) (t : ℕ) (p : Point) (to : ℕ) (new : GcState) (b : IsBusyAt flow c.state t p) → t < threads → IsPointOf b.gate to → Keeps t c.state b.locals new → GcConfigurationFits flow threads c
     → GcConfigurationFits flow threads (record { state = new; points = put_at None c.points t (Some (record p { at = to })) })
@@ -134,17 +113,11 @@ take_fits flow threads c t p to new b small leads kept k = record {
   shared = kept.1.shared ∙ k.shared;
   fields = kept.1.fields ∙ k.fields;
   ghosts = kept.1.ghosts ∙ k.ghosts;
-  locals = kept.1.threads ∙ k.locals;
-  points = length_put None c.points t _ (omega (arith, k.points)) ∙ k.points;
-  each = λ u. elim (cases_eq u t) [
-    | inl e ↦ subst (λ u. ThreadFits flow new u (get_or (put_at None c.points t (Some (record p { at = to }))) u None)) (sym e) (subst (ThreadFits flow new t) (sym (get-put_same None c.points t (Some (record p { at = to })))) mine)
-    | inr ne ↦ subst (ThreadFits flow new u) (sym (get-put_other None c.points t (Some (record p { at = to })) u ne))
-        (thread_stays flow c.state new u (point_of c u) (kept.1.others u ne) (k.each u))
-  ];
+  standing = thread_came flow LocalsFit LocalsFit threads c.state.locals new.locals c.points t _ small (λ o l fits. fits) (record { many = kept.1.threads; others = kept.1.others }) mine k.standing;
 }
   where
-    mine : ThreadFits flow new t (Some (record p { at = to }))
-    mine = record { operation = b.operation; gate = b.gate; locals = kept.0; named = b.named; opens = b.opens; within = leads; held = kept.1.held; declared = kept.1.declared ∙ b.declared; pointers = kept.1.pointers ∙ b.pointers; values = kept.1.values ∙ b.values }
+    mine : IsBusyAt flow new t (record p { at = to })
+    mine = record { operation = b.operation; gate = b.gate; locals = kept.0; named = b.named; opens = b.opens; within = leads; held = kept.1.held; fits = record { declared = kept.1.declared ∙ b.fits.declared; pointers = kept.1.pointers ∙ b.fits.pointers; values = kept.1.values ∙ b.fits.values } }
 
 move_fits : (flow : Flow) → FlowFits flow → FlowIsWellSorted flow → (threads : ℕ) (c d : GcConfiguration) (move : Move) → Moves flow threads c move d → GcConfigurationFits flow threads c → GcConfigurationFits flow threads d
 move_fits flow fits sorted threads c d (Start t op args) m k = subst (GcConfigurationFits flow threads) (sym m.7) (start_fits flow fits threads c t op.0 m.0 m.1 args m.2 m.4 m.5 m.6 k)
@@ -176,17 +149,12 @@ init_names flow fits sorted threads =
 begun : (flow : Flow) (threads : ℕ) (g : GcState) → 0 < threads → Keeps 0 (ready flow threads) no_locals g → GcConfigurationFits flow threads (record { state = with_locals g 0 None; points = replicate threads None })
 unfolding with_locals ready
 begun flow threads g some kept =
-    let all : length (put_at None (replicate threads None) 0 (Some no_locals)) ≡ threads = length_put None (replicate threads None) 0 (Some no_locals) (omega (arith, length-replicate {A = Option Locals} threads None)) ∙ length-replicate threads None in
+    let idle = idle_again threads no_locals g.locals some (record { many = kept.1.threads; others = kept.1.others }) in
     record {
       shared = kept.1.shared ∙ length-replicate {A = ℕ} (length flow.file.shared) 0;
       fields = kept.1.fields;
       ghosts = kept.1.ghosts;
-      locals = length_put None g.locals 0 None (omega (arith, kept.1.threads, all)) ∙ kept.1.threads ∙ all;
-      points = length-replicate threads None;
-      each = λ t. subst (ThreadFits flow (with_locals g 0 None) t) (sym (get-replicate None threads t)) (elim (cases_eq t 0) [
-        | inl e ↦ subst (λ t. get_or (put_at None g.locals 0 None) t None ≡ None) (sym e) (get-put_same None g.locals 0 None)
-        | inr ne ↦ get-put_other None g.locals 0 None t ne ∙ kept.1.others t ne ∙ get-put_other None (replicate threads None) 0 (Some no_locals) t ne ∙ get-replicate None threads t
-      ]);
+      standing = all_idle flow LocalsFit threads _ idle.0 idle.1;
     }
 
 pub begun_fits : (flow : Flow) → FlowFits flow → FlowIsWellSorted flow → (threads : ℕ) → 0 < threads → (c : GcConfiguration) → first_configuration flow threads ≡ Some c → GcConfigurationFits flow threads c

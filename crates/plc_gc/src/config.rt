@@ -1,8 +1,7 @@
 // A garbage-collected configuration in code. What a move leads to is computed beside it: nothing of the
 // configuration is touched before the last call that may need memory, so that a move that is blocked, and
 // running out of memory, leave it as it was.
-ghost use Rattle.std.specs.Prelude.{◌≡◌, ℕ, ◌<◌, [], length, get_or, replicate, IfOk, OnOk, OnErr, Some, None};
-ghost use Rattle.plc_base.specs.Tables.{put_at};
+ghost use Rattle.std.specs.Prelude.{◌≡◌, ℕ, ◌<◌, [], IfOk, OnOk, OnErr, Some, None};
 ghost use Rattle.plc_flow.specs.declared.flow.Step.{Step as AStep};
 ghost use Rattle.plc_flow.specs.declared.points.Point.{Point as APoint};
 ghost use Rattle.plc_flow.specs.WellFormed.{FlowFits};
@@ -11,15 +10,15 @@ ghost use Rattle.plc_gc.specs.State.{node_of};
 ghost use Rattle.plc_gc.specs.Run.{MayTake, point_of, execute};
 ghost use Rattle.plc_gc.specs.Claims.{claims};
 ghost use Rattle.plc_gc.specs.Fit.{IsReady};
-ghost use Rattle.plc_gc.specs.Reach.{is_idle, start_from, step_from, ended_as, return_from, reach};
+ghost use Rattle.plc_gc.specs.Reach.{start_from, step_from, ended_as, return_from, reach};
 ghost use Rattle.plc_gc.specs.Position.{threads_of, IsOfRun, Begins, Starts, Answers, answer, reached};
 
 use crate::execute::{claims, execute};
 use crate::locals::Locals;
 use crate::state::State;
 use plc_base::{NoMemory, OpId};
-use plc_flow::{Flow, Move, Place, Point, StartFault, Step, nth_step};
-use plc_lang::count_parameters;
+use plc_flow::{Flow, Move, Place, Point, StartFault, Step};
+use plc_threads::{arrival, at_exit, begun, none_held, set_point, step_at};
 use std::alloc::Global;
 use std::marker::Model;
 
@@ -49,41 +48,6 @@ impl Model for GcConfig {
     ghost view = { λ c. record { state = c.state; points = c.points.items } };
 
     ghost invariant = { λ c. (0 < length c.points.items) × (length c.points.items < 2 ^ 32) };
-}
-
-// So many idle threads.
-fn idle_points(alloc: Global, threads: u32) -> Result<Vec<Option<Point>>, NoMemory>
-    ensures { IfOk result (λ points. points.items ≡ replicate threads None) }
-{
-    let mut points = Vec::new(alloc);
-    for _t in 0..threads {
-        points.push(None)?;
-    }
-    Ok(points)
-}
-
-// The point where a thread stands.
-fn point_at(points: &[Option<Point>], t: u32) -> Option<Point>
-    ensures { result ≡ get_or points.now t None }
-{
-    let t = t as usize;
-    if t < points.len() { points[t] } else { None }
-}
-
-// Whether there is such a thread, and it is idle.
-fn is_idle(points: &[Option<Point>], t: u32) -> bool
-    ensures { result ≡ is_idle points.now t }
-{
-    let t = t as usize;
-    t < points.len() && points[t].is_none()
-}
-
-// Puts a thread at a point.
-fn set_point(points: &mut Vec<Option<Point>>, t: u32, p: Option<Point>)
-    requires { t < length points.old.items }
-    ensures { points.new.items ≡ put_at None points.old.items t p }
-{
-    points[t as usize] = p;
 }
 
 impl GcConfig {
@@ -120,7 +84,7 @@ impl GcConfig {
         Ok(Some(GcConfig {
             alloc,
             state,
-            points: idle_points(alloc, threads)?,
+            points: none_held(alloc, threads as usize)?,
         }))
     }
 
@@ -185,25 +149,12 @@ impl GcConfig {
         ensures after { OnOk result (self.new ≡ reached (start_from flow.now self.old t op.0 args.now) self.old) }
         ensures err { OnErr result (self.new ≡ self.old) }
     {
-        if !is_idle(&self.points, t) {
-            return Ok(GcMoved::Blocked);
-        }
-        let Some(operation) = flow.file.ops.get(op.0 as usize) else {
+        let Some((operation, entry)) = begun(flow, &self.points, t, op, args) else {
             return Ok(GcMoved::Blocked);
         };
-        let Some(gate) = flow.gates.get(op.0 as usize) else {
-            return Ok(GcMoved::Blocked);
-        };
-        if args.len() != count_parameters(operation) {
-            return Ok(GcMoved::Blocked);
-        }
         let l = Locals::new(self.alloc, operation, args)?;
         self.state.give(t, Some(l));
-        let to = Point {
-            op: op.0,
-            at: gate.entry.0,
-        };
-        set_point(&mut self.points, t, Some(to));
+        set_point(&mut self.points, t, Some(entry));
         Ok(GcMoved::Done)
     }
 
@@ -217,10 +168,7 @@ impl GcConfig {
             (self.new ≡ reached (step_from flow.now self.old t nth (point_of self.old t)) self.old) }
         ensures err { OnErr result (self.new ≡ self.old) }
     {
-        let Some(point) = point_at(&self.points, t) else {
-            return Ok(GcMoved::Blocked);
-        };
-        let Some(step) = nth_step(flow, point.at, nth) else {
+        let Some((point, step)) = step_at(flow, &self.points, t, nth) else {
             return Ok(GcMoved::Blocked);
         };
         self.take(step, point, t)
@@ -241,11 +189,7 @@ impl GcConfig {
             return Ok(GcMoved::Blocked);
         }
         self.state = state;
-        let to = Point {
-            op: point.op,
-            at: step.to.0,
-        };
-        set_point(&mut self.points, t, Some(to));
+        set_point(&mut self.points, t, Some(arrival(point, step)));
         Ok(GcMoved::Done)
     }
 
@@ -257,13 +201,7 @@ impl GcConfig {
         ensures answer { result ≡ answer (return_from flow.now self.old t (point_of self.old t)) }
         ensures after { self.new ≡ reached (return_from flow.now self.old t (point_of self.old t)) self.old }
     {
-        let Some(point) = point_at(&self.points, t) else {
-            return GcMoved::Blocked;
-        };
-        let Some(gate) = flow.gates.get(point.op as usize) else {
-            return GcMoved::Blocked;
-        };
-        if point.at != gate.exit.0 {
+        if !at_exit(flow, &self.points, t) {
             return GcMoved::Blocked;
         }
         self.state.give(t, None);
@@ -284,13 +222,10 @@ impl GcConfig {
             → MayTake flow.now (threads_of self.now) self.now t nth p step → ⊥)
             → truths.items ≡ []) }
     {
-        let Some(point) = point_at(&self.points, t) else {
-            return Ok(Vec::new(self.alloc));
-        };
-        let Some(step) = nth_step(flow, point.at, nth) else {
-            return Ok(Vec::new(self.alloc));
-        };
-        self.claims_of(step, t)
+        match step_at(flow, &self.points, t, nth) {
+            Some((_point, step)) => self.claims_of(step, t),
+            None => Ok(Vec::new(self.alloc)),
+        }
     }
 
     // The truth of each claim that a step reaches, on a copy of the values.

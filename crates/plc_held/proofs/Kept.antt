@@ -32,7 +32,7 @@ use Rattle.plc_held.proofs.Runs.{IsKept, begun, anew_invariants, anew_points, st
 -- the locals that a busy thread declares are those of its operation
 declared_of : (flow : Flow) (g : GcState) (t : ℕ) (p : Point) (operation : Op) → IsBusyAt flow g t p → slice_get flow.file.ops p.op ≡ Some operation → (locals_of g t).declared ≡ operation.locals
 declared_of flow g t p operation b named =
-    ap (λ (l : Locals). l.declared) (held_is g t b.locals b.held) ∙ b.declared ∙ ap (λ (o : Op). o.locals) (same_Some b.operation operation (sym b.named ∙ named))
+    ap (λ (l : Locals). l.declared) (held_is g t b.locals b.held) ∙ b.fits.declared ∙ ap (λ (o : Op). o.locals) (same_Some b.operation operation (sym b.named ∙ named))
 
 module _ (flow : Flow) (outline : Outline) (threads : ℕ) (fits : Fits flow outline) (met : AreMet flow outline) where
   -- what every configuration of a run has

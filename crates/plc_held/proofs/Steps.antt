@@ -134,7 +134,7 @@ module _ (flow : Flow) (outline : Outline) (fits : Fits flow outline) (met : Are
   stands_to = record { gate = is.busy.gate; opens = is.busy.opens; within = of_flow.leads; named = is.busy.named }
 
   declared : (locals_held g t).declared ≡ is.busy.operation.locals
-  declared = ap (λ l. l.declared) (held_is g t is.busy.locals is.busy.held) ∙ is.busy.declared
+  declared = ap (λ l. l.declared) (held_is g t is.busy.locals is.busy.held) ∙ is.busy.fits.declared
 
   invariants_fit : Each (InvariantFits flow.file) outline.invariants
   invariants_fit = each_of_all (InvariantFits flow.file) outline.invariants fits.outline_fits.each_invariant
@@ -238,7 +238,7 @@ module _ (flow : Flow) (outline : Outline) (fits : Fits flow outline) (met : Are
     other_locals = locals_at flow outline fits q.op q.at other.operation stands_other
 
     other_declared : (locals_held g u).declared ≡ other.operation.locals
-    other_declared = ap (λ l. l.declared) (held_is g u other.locals other.held) ∙ other.declared
+    other_declared = ap (λ l. l.declared) (held_is g u other.locals other.held) ∙ other.fits.declared
 
     other_ready : (c : ℕ) (h : GcState) → execute g t step.prims ≡ Some h → IsReady flow outline (Other (step_id of_flow.place) (point_id q.at) c) t u g h
     other_ready c h e = ready (Other (step_id of_flow.place) (point_id q.at) c) step.prims u h ne prims its_locals its_premises (λ b. tt)
