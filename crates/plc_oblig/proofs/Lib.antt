@@ -18,3 +18,4 @@ mod Wholes
 mod Bounds
 mod Assembled
 mod WellFormed
+pub mod OneSet

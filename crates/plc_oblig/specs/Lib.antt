@@ -5,6 +5,7 @@ pub mod Outlines
 pub mod Walk
 pub mod Still
 pub mod Direct
+pub mod Alike
 -- words of private functions alone
 pub mod Finding
 pub mod Size

@@ -7,6 +7,7 @@
 //! no ground set.
 #![tactic(auto)]
 
+mod alike;
 mod claims;
 mod counting;
 mod finding;
@@ -17,6 +18,7 @@ mod stillness;
 mod trees;
 mod walk;
 
+pub use alike::{Noted, alike_obligations_have_one_set};
 pub use counting::count;
 pub use finding::nth;
 pub use grounding::{Grounding, ground};

@@ -19,8 +19,8 @@ pub use constants::constants_of;
 pub use laws::{acts_fit, nodes_fit, numbers_fit};
 pub use obligations::Obligation;
 pub use parts::{
-    acting_locals, acting_point, claim_made, conclusion, executed, has_owner, invariants_before,
-    owner_locals, owner_point,
+    acting_locals, acting_point, claim_made, conclusion, executed, has_owner, has_point,
+    invariants_before, owner_locals, owner_point,
 };
 pub use points::{clause_at, count_at, stands_at};
 pub use setting::{Setting, Variables, bound_of, has_new, local_symbol, setting_of};

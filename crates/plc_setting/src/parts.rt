@@ -82,7 +82,8 @@ pub fn acting_locals<'a>(flow: &'a Flow, o: &Obligation) -> &'a [Local]
     }
 }
 
-fn has_point(gate: &Gate, p: u16) -> bool
+/// Whether the point belongs to the operation.
+pub fn has_point(gate: &Gate, p: u16) -> bool
     ensures { result ≡ has_point p gate.now }
 {
     gate.first <= p && p < gate.after
