@@ -1,9 +1,6 @@
 -- What the code's parts of a move make together.
-use Rattle.std.proofs.Common.{Result, Ok, Err, IfOk, OnOk, OnErr, ◌≡◌, ℕ, ◌<◌, Bool, true, false, List, [], ◌++◌, ◌∷◌, Option, Some, None, length, get_or, slice_get, replicate, refl, sym, ap, ◌∙◌, subst, arith}
-use Rattle.std.specs.Prelude.{nat_lt, is_none}
-use Rattle.std.proofs.lemmas.Bool.{and_parts, ltb-true}
+use Rattle.std.proofs.Common.{Result, Ok, Err, IfOk, OnOk, OnErr, ◌≡◌, ℕ, ◌<◌, Bool, true, false, List, [], ◌++◌, ◌∷◌, Option, Some, None, length, replicate, refl, sym, ap, ◌∙◌, subst, arith}
 use Rattle.std.proofs.lemmas.List.{length-replicate}
-use Rattle.plc_base.specs.Tables.{put_at}
 use Rattle.plc_base.specs.declared.ids.OpId.{OpId}
 use Rattle.plc_base.specs.declared.memory.NoMemory.{NoMemory}
 use Rattle.plc_flow.specs.declared.flow.Step.{Step}
@@ -11,7 +8,6 @@ use Rattle.plc_flow.specs.declared.flow.Flow.{Flow}
 use Rattle.plc_flow.specs.declared.flow.Move.{Move}
 use Rattle.plc_flow.specs.declared.flow.Move.TheVariants.{Start, Step as Take, Return, Free}
 use Rattle.plc_flow.specs.declared.points.Point.{Point}
-use Rattle.plc_flow.specs.Points.{steps_from}
 use Rattle.plc_flow.specs.WellFormed.{FlowFits}
 use Rattle.plc_flow.specs.WellSorted.{FlowIsWellSorted}
 use Rattle.plc_gc.specs.declared.config.GcMoved.{GcMoved}
@@ -21,7 +17,7 @@ use Rattle.plc_gc.specs.Fit.{IsReady}
 use Rattle.plc_gc.specs.Threads.{GcConfigurationFits}
 use Rattle.plc_gc.specs.Reach.{start_from, step_from, return_from, reach}
 use Rattle.plc_gc.specs.Position.{threads_of, IsOfRun, Answers, answer, reached}
-use Rattle.plc_threads.proofs.Places.{length_put, held_below}
+use Rattle.plc_threads.proofs.Places.{length_put}
 use Rattle.plc_threads.proofs.Moves.{Takes}
 use Rattle.plc_gc.proofs.Ranges.{ranged_run, ranged_given, ranged_first}
 use Rattle.plc_gc.proofs.Threads.{ready, ready_held, init_names, run_fits, busy_at, step_fits}

@@ -1,6 +1,6 @@
 -- What a garbage-collected move leads to, as a function: the code answers by it, and a proof says that it is what
 -- `Moves` says.
-use Rattle.std.specs.Prelude.{ℕ, Bool, if◌then◌else◌, List, Option, Some, None}
+use Rattle.std.specs.Prelude.{ℕ, if◌then◌else◌, List, Option, Some, None}
 use Rattle.plc_base.specs.Tables.{put_at}
 use Rattle.plc_lang.specs.declared.syntax.Op.{Op}
 use Rattle.plc_flow.specs.declared.flow.Step.{Step}

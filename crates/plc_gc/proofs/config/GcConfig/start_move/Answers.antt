@@ -1,4 +1,4 @@
-use Rattle.std.proofs.Common.{Some, option_map, ap, ◌∙◌, sym}
+use Rattle.std.proofs.Common.{option_map, ap, ◌∙◌, sym}
 use Rattle.plc_threads.specs.Standing.{begun}
 use Rattle.plc_threads.proofs.Moves.{begun_so}
 use Rattle.plc_gc.specs.contracts.config.GcConfig.{the_view}
