@@ -1,5 +1,6 @@
 -- The tree of a still obligation: its set ends with the negated conclusion, by which an instance of a premise is false.
-use Rattle.std.specs.Prelude.{◌≡◌, ◌<◌, ◌-◌, ℕ, not, List, [], ◌∷◌, ◌++◌, length, map, Contains, Some}
+use Rattle.std.specs.Prelude.{◌≡◌, ◌<◌, ◌-◌, ℕ, not, Some}
+use Rattle.std.specs.Prelude.{List, [], ◌∷◌, ◌++◌, length, map, Contains}
 use Rattle.std.specs.List.{range_with_len}
 use Rattle.plc_flow.specs.declared.flow.Flow.{Flow}
 use Rattle.plc_logic.specs.declared.clause.Clause.{Clause}
@@ -87,8 +88,8 @@ pub record IsDirect (flow : Flow) (outline : Outline) (o : Obligation) (nodes : 
   pub premise : IsPremise flow outline o (literals (ground_set flow outline o) place)
   pub whole : nodes ≡ direct_nodes (ground_set flow outline o) place
 
--- such nodes, which close the ground set of the obligation and split no clause twice on a branch; the set keeps the rules
--- of ground sets
+-- such nodes, which close the ground set of the obligation and split no clause twice on a branch; the set keeps the
+-- rules of ground sets
 pub record IsDirectTree (flow : Flow) (outline : Outline) (o : Obligation) (nodes : List Node) : Type 0 where
   pub shape : IsDirect flow outline o nodes
   pub well : IsWellFormed (ground_set flow outline o)

@@ -1,5 +1,6 @@
 -- How many clauses each part of a ground set has.
-use Rattle.std.specs.Prelude.{◌≡◌, ◌≤◌, ◌==◌, ℕ, ◌+◌, ◌*◌, ◌^◌, Bool, true, false, not, length}
+use Rattle.std.specs.Prelude.{◌≡◌, ◌≤◌, ◌==◌, ℕ, ◌+◌, ◌*◌, ◌^◌}
+use Rattle.std.specs.Prelude.{Bool, true, false, not, length}
 use Rattle.plc_base.specs.Limits.{most, most_bound}
 use Rattle.plc_base.specs.declared.limits.What1.TheVariants as limits
 use Rattle.plc_base.specs.Functions.{is_retire}

@@ -3,6 +3,7 @@
 // over the same memory.
 ghost use Rattle.std.specs.Prelude.{◌≡◌, ◌<◌, ◌≤◌, map, length, slice_get, Some, OnOk, IfOk};
 ghost use Rattle.plc_lang.specs.Fit.{FileFits};
+ghost use Rattle.plc_flow.specs.WellFormed.{most_step_primitives};
 ghost use Rattle.plc_ground.specs.Fit.{IsWellFormed};
 ghost use Rattle.plc_symbolic.specs.declared.symbolic.SymbolicTerm.TheVariants.{Constant};
 ghost use Rattle.plc_symbolic.specs.Numbering.{blank, listed_all};
@@ -10,7 +11,6 @@ ghost use Rattle.plc_symbolic.specs.Terms.{term_of};
 ghost use Rattle.plc_setting.specs.Fit.{Fits};
 ghost use Rattle.plc_setting.specs.Sorts.{sort_of};
 ghost use Rattle.plc_setting.specs.Setting.{setting_of};
-ghost use Rattle.plc_flow.specs.WellFormed.{most_step_primitives};
 ghost use Rattle.plc_oblig.specs.GroundSets.{drafted, ground_set};
 
 use plc_base::{Items, NoMemory};
@@ -115,8 +115,8 @@ impl Grounding {
         o: &Obligation,
     ) -> Result<GroundSet, NoMemory>
         requires { Fits flow.now outline.now }
-        ensures set { IfOk result (λ set. set ≡ ground_set flow.now outline.now o.now) }
         ensures well { IfOk result (λ set. IsWellFormed set) }
+        ensures set { IfOk result (λ set. set ≡ ground_set flow.now outline.now o.now) }
     {
         let s = setting_of(self.alloc, flow, outline, o)?;
         self.draft.clear();

@@ -48,8 +48,8 @@ impl Grounding {
         outline: &Outline,
         o: &Obligation,
     ) -> Result<Option<Tree>, NoMemory>
-        requires fits { Fits flow.now outline.now }
         requires there { Contains (obligations flow.now outline.now) o.now }
+        requires fits { Fits flow.now outline.now }
         ensures still { IfOk result (λ tree. is_some tree ≡ is_still flow.now outline.now o.now) }
         ensures tree { IfOk result (λ tree. IfSome tree (λ t. IsDirectTree flow.now outline.now o.now t.nodes)) }
     {

@@ -10,11 +10,11 @@ use Rattle.plc_oblig.proofs.size.clauses.Goals as goal
 
 pub returns : goal.returns
 returns c =
+    let z = c.sizes_of-z.ensures.sizes in
     let flow = c.args.flow.now in
     let outline = c.args.outline.now in
     let o = c.args.o.now in
     let s = setting_of flow outline o in
-    let z = c.sizes_of-z.ensures.sizes in
     whole_length flow outline o s c.acting_point.result c.owner_point.result c.sizes_of-z.result.instances _ _ _ _ _ _ _ _
     z.instances (c.acting_point.ensures.premises outline) (c.owner_point.ensures.premises flow outline)
     (c.values_size.ensures.size s.nodes z.nodes ∙ ap (λ gs. length (values_from 0 0 gs s.nodes)) c.as_slice.ensures)
