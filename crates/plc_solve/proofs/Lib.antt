@@ -1,4 +1,5 @@
 pub mod Searching
 pub mod Stacking
+pub mod Grouping
 pub mod Places
 pub mod Answering

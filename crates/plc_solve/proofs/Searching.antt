@@ -1,7 +1,7 @@
 -- A search for a tree that closes a set.
 use Rattle.std.proofs.Common.{◌≡◌, ◌≢◌, ◌<◌, ◌≤◌, ◌+◌, ℕ, zero, suc, true, false, List, [], ◌∷◌, ◌++◌, length, map, take, get_or, Option, Some, None, below_more, append_assoc, inl, inr, ◌⊎◌, refl, sym, ◌∙◌, ap, subst, arith}
-use Rattle.std.specs.Prelude.{All, Any, Contains, slice_get, slice_index, slice_index_or, IfSome, IfNone}
-use Rattle.std.proofs.lemmas.List.{take_more, get_or_default}
+use Rattle.std.specs.Prelude.{All, Any, slice_get, slice_index, slice_index_or, IfSome, IfNone}
+use Rattle.std.proofs.lemmas.List.{take_more}
 use Rattle.std.proofs.lemmas.List.Elements.{Contains-append_right, All-append}
 use Rattle.std.proofs.lemmas.Option.{slice_get_within, get_or_from_slice_get, slice_get-get_or}
 use Rattle.plc_ground.specs.declared.terms.Lit.{Lit}
@@ -21,7 +21,7 @@ use Rattle.plc_ground.specs.Equality.{Same, given, itself, back, along, applied}
 use Rattle.plc_ground.specs.Trees.{IsRight, Close, below}
 use Rattle.plc_ground.proofs.Joining.{Same-longer}
 use Rattle.plc_solve.specs.declared.choice.Choice.{Choice}
-use Rattle.plc_solve.specs.Search.{AreConstants, AreInside, IsPlace, IsSound, Descends, Enters, StepGives, split_on}
+use Rattle.plc_solve.specs.Search.{AreInside, IsPlace, IsSound, Descends, Enters, StepGives, split_on}
 
 -- what a branch makes equal is of one sort
 same_sort : (s : GroundSet) → IsWellFormed s → (branch : List Lit) → All (LitFits s) branch → (i j : ℕ) → Same s.terms branch i j →
@@ -53,15 +53,6 @@ found_is P best n r h pn (inr e) = rw e at h
 pub none_more : {A : Type 0} (Q : ℕ → Type 0) (best : Option A) (n : ℕ) → IfNone best ((c : ℕ) → c < n → Q c) → Q n → IfNone best ((c : ℕ) → c < n + 1 → Q c)
 none_more Q None n h q = below_more Q n h q
 none_more Q (Some r) n h q = tt
-
--- constants that the list keeps apart are apart
-pub apart_from_constants : (s : GroundSet) (class constants : List ℕ) → AreConstants s constants →
-    ((n j : ℕ) → n < length constants → Contains constants j → AreApart s class (slice_index constants n) j) → (i j : ℕ) → AreApart s class i j
-apart_from_constants s class constants k h i j d =
-    let first = k.whole i (d.first, d.first_is, d.distinguished) in
-    let second = k.whole j (d.second, d.second_is, λ free. d.distinguished (d.one_family ∙ free)) in
-    let e : slice_index constants (first.0) ≡ i = get_or_default constants (first.0) 0 i (first.1) ∙ first.2 in
-    subst (λ x. AreApart s class x j) e (h (first.0) j (first.1) second) d
 
 -- the literals of a clause speak of terms that have a class
 pub literals_inside : (s : GroundSet) (class : List ℕ) (ls : List Lit) → length class ≡ length s.terms → All (IsInRange s.terms) ls → All (AreInside class) ls

@@ -1,6 +1,7 @@
 -- The state of a search for a tree that closes a set.
-use Rattle.std.specs.Prelude.{◌≡◌, ◌≢◌, ◌≤◌, ◌<◌, ◌+◌, ℕ, true, List, [], ◌∷◌}
-use Rattle.std.specs.Prelude.{◌++◌, length, map, take, drop, All, Contains, slice_get, slice_index, sum, Some}
+use Rattle.std.specs.Prelude.{◌≡◌, ◌≢◌, ◌≤◌, ◌<◌, ◌+◌, ◌⊎◌, ℕ, true, List, [], ◌∷◌}
+use Rattle.std.specs.Prelude.{◌++◌, length, map, take, drop, All, Any, Contains}
+use Rattle.std.specs.Prelude.{slice_get, slice_index, sum, Some}
 use Rattle.plc_ground.specs.declared.terms.Lit.{Lit}
 use Rattle.plc_ground.specs.declared.terms.Symbol.{Symbol}
 use Rattle.plc_ground.specs.declared.terms.Node.{Node}
@@ -25,15 +26,32 @@ use Rattle.plc_ground.specs.Trees.{IsRight, Close, SplitsOnce}
 abbrev pub IsDistinguishedAt : GroundSet → ℕ → Type 0
 IsDistinguishedAt s i = (v : Symbol) × (slice_get s.terms i ≡ Some (Const v)) × (symbol_family v ≢ Free)
 
--- the list has these constants, and only terms
-pub record AreConstants (s : GroundSet) (list : List ℕ) : Type 0 where
-  pub range : All (λ i. i < length s.terms) list
-  pub whole : (i : ℕ) → IsDistinguishedAt s i → Contains list i
+-- the term is this constant, or one that must differ from it
+abbrev pub IsOfGroup : GroundSet → ℕ → ℕ → Type 0
+IsOfGroup s first i = (first ≡ i) ⊎ MustDiffer s first i
+
+-- the list is the group of a constant
+pub record IsGroupOf (s : GroundSet) (first : ℕ) (list : List ℕ) : Type 0 where
+  pub each : All (IsOfGroup s first) list
+  pub whole : (i : ℕ) → IsOfGroup s first i → Contains list i
+
+-- the list is the group of some constant
+abbrev pub IsGroup : GroundSet → List ℕ → Type 0
+IsGroup s list = (first : ℕ) × (first < length s.terms) × IsGroupOf s first list
+
+-- a group has the term
+abbrev pub IsGrouped : List (List ℕ) → ℕ → Type 0
+IsGrouped groups i = Any (λ g. Contains g i) groups
+
+-- groups of constants, with each constant that differs from others
+pub record AreGroups (s : GroundSet) (groups : List (List ℕ)) : Type 0 where
+  pub each : All (IsGroup s) groups
+  pub whole : (i : ℕ) → IsDistinguishedAt s i → IsGrouped groups i
 
 -- what a survey has of the set
 pub record IsSurvey (s : GroundSet) (v : Survey) : Type 0 where
   pub table : IsTable s.terms v.table
-  pub constants : AreConstants s v.constants.items
+  pub groups : AreGroups s v.groups
   pub units : All (IsInRange s.terms) v.units.items
 
 -- two terms of one class that must differ

@@ -1,43 +1,74 @@
 // Two terms of one class that no model puts there. Only constants that differ by the rule alone can
-// be such, so only these are compared.
-ghost use Rattle.std.specs.Prelude.{◌≡◌, ◌<◌, ℕ, IfSome, IfNone, Contains, length, slice_index};
+// be such, and any two of one group must differ. So one pass over a group is enough, with a table that
+// has for a class the constant that was seen there last. The table isn't cleared: what it has of
+// another pass or another group is told from a constant of this one by a look at both terms.
+ghost use Rattle.std.specs.Prelude.{◌≡◌, ◌<◌, ℕ, IsTrue, IfSome, IfNone, All, Contains, false, length};
+ghost use Rattle.std.specs.Prelude.{slice_index};
 ghost use Rattle.plc_ground.specs.Fit.{IsWellFormed};
-ghost use Rattle.plc_ground.specs.Model.{MustDiffer};
-ghost use Rattle.plc_ground.specs.Classes.{AreApart};
-ghost use Rattle.plc_solve.specs.Search.{AreConstants, IsConflict};
+ghost use Rattle.plc_ground.specs.Classes.{AreApart, IsNoLater};
+ghost use Rattle.plc_solve.specs.Search.{AreGroups, IsGroup, IsConflict};
 
+use plc_base::Items;
 use plc_ground::{GroundSet, must_differ};
 
-/// A constant that is in the class of term `i` and must not be.
-fn conflict_with(set: &GroundSet, constants: &[u32], class: &[u32], i: usize) -> Option<usize>
+/// Whether two terms share a class and must differ; false where the second isn't a term.
+fn is_conflict(set: &GroundSet, class: &[u32], i: usize, j: usize) -> bool
     requires well { IsWellFormed set.now }
-    requires constants { AreConstants set.now constants.now }
     requires one_each { length class.now ≡ length set.now.terms }
     requires first { i < length set.now.terms }
-    ensures some { IfSome result (λ j. IsConflict set.now class.now i j) }
-    ensures none { IfNone result ((j : ℕ) → Contains constants.now j → AreApart set.now class.now i j) }
+    ensures yes { IsTrue result → IsConflict set.now class.now i j }
+    ensures no { IsConflict set.now class.now i j → IsTrue result }
 {
-    for k in 0..constants.len() {
-        let j = constants[k] as usize;
-        if class[i] == class[j] && must_differ(set, i, j) {
-            return Some(j);
+    j < set.terms.len() && class[i] == class[j] && must_differ(set, i, j)
+}
+
+/// Two constants of a group that share a class.
+fn conflict_in(
+    set: &GroundSet,
+    group: &[u32],
+    class: &[u32],
+    last: &mut [u32],
+) -> Option<(usize, usize)>
+    requires well { IsWellFormed set.now }
+    requires group { IsGroup set.now group.now }
+    requires one_each { length class.now ≡ length set.now.terms }
+    requires no_later { IsNoLater class.now }
+    requires last { length last.old ≡ length set.now.terms }
+    ensures some { IfSome result (λ p. IsConflict set.now class.now p.0 p.1) }
+    ensures none { IfNone result ((i j : ℕ) → Contains group.now i → Contains group.now j
+        → AreApart set.now class.now i j) }
+{
+    for k in 0..group.len() {
+        let i = group[k] as usize;
+        let own = class[i] as usize;
+        let j = last[own] as usize;
+        if is_conflict(set, class, i, j) {
+            return Some((i, j));
         }
+        last[own] = group[k];
     }
     None
 }
 
-/// Two terms of one class that must be in different ones.
-pub(crate) fn conflict(set: &GroundSet, constants: &[u32], class: &[u32]) -> Option<(usize, usize)>
+/// Two terms of one class that must be in different ones. `last` has for each class the constant that
+/// was seen there last.
+pub(crate) fn conflict(
+    set: &GroundSet,
+    groups: &[Items<u32>],
+    class: &[u32],
+    last: &mut [u32],
+) -> Option<(usize, usize)>
     requires well { IsWellFormed set.now }
-    requires constants { AreConstants set.now constants.now }
+    requires groups { AreGroups set.now groups.now }
     requires one_each { length class.now ≡ length set.now.terms }
+    requires no_later { IsNoLater class.now }
+    requires last { length last.old ≡ length set.now.terms }
     ensures some { IfSome result (λ p. IsConflict set.now class.now p.0 p.1) }
     ensures none { IfNone result ((i j : ℕ) → AreApart set.now class.now i j) }
 {
-    for k in 0..constants.len() {
-        let i = constants[k] as usize;
-        if let Some(j) = conflict_with(set, constants, class, i) {
-            return Some((i, j));
+    for group in groups {
+        if let Some(found) = conflict_in(set, group.as_slice(), class, last) {
+            return Some(found);
         }
     }
     None

@@ -32,12 +32,14 @@ fn find(
     set: &GroundSet,
     survey: &Survey,
     seen: &mut [usize],
+    last: &mut [u32],
     mut place: Place,
     first: Frame,
 ) -> Result<Answer, AllocError>
     requires well { IsWellFormed set.now }
     requires survey { IsSurvey set.now survey.now }
     requires seen { length seen.old ≡ length set.now.clauses }
+    requires last { length last.old ≡ length set.now.terms }
     requires stands { Stands set.now place (first ∷ []) }
     ensures open { IfOk result (CarriesModel set.now) }
     ensures closed { IfOk result (CarriesTree set.now) }
@@ -46,7 +48,7 @@ fn find(
     frames.push(first)?;
     'search: while let Some(mut top) = frames.pop() {
         go_up(&mut place, &top);
-        match take_child(alloc, set, survey, seen, &mut top, &mut place)? {
+        match take_child(alloc, set, survey, seen, last, &mut top, &mut place)? {
             Step::Open => return Ok(open(place)),
             Step::Closed => frames.push(top)?,
             Step::Deeper(child) => {
@@ -81,13 +83,14 @@ fn solve(alloc: Global, set: &GroundSet) -> Result<Answer, AllocError>
 {
     let survey = take_survey(alloc, set)?;
     let mut seen = vec![in alloc; 0usize; set.clauses.len()]?;
+    let mut last = vec![in alloc; 0u32; set.terms.len()]?;
     let place = Place {
         branch: Vec::new(alloc),
         equal: all_apart(alloc, set)?,
     };
     match enter(alloc, set, &survey, &mut seen, &place) {
         Step::Open => Ok(open(place)),
-        Step::Deeper(first) => Ok(find(alloc, set, &survey, &mut seen, place, first)?),
+        Step::Deeper(first) => Ok(find(alloc, set, &survey, &mut seen, &mut last, place, first)?),
         _ => unreachable!(),
     }
 }

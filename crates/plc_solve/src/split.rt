@@ -54,6 +54,7 @@ pub(crate) fn enter(
 fn descend(
     set: &GroundSet,
     survey: &Survey,
+    last: &mut [u32],
     place: &mut Place,
     l: Lit,
 ) -> Result<Descent, AllocError>
@@ -62,11 +63,12 @@ fn descend(
     requires place { IsPlace set.now place.old.branch.items place.old.equal.class }
     requires fit { LitFits set.now l }
     requires equal { l.equal ≡ true }
+    requires last { length last.old ≡ length set.now.terms }
     ensures descends { IfOk result (Descends set.now place.old l place.new) }
     ensures goes_on { OnOk result (GoesOn place.old place.new) }
 {
     put(set, &survey.table, &mut place.equal, l)?;
-    if let Some((a, b)) = conflict(set, &survey.constants, classes(&place.equal)) {
+    if let Some((a, b)) = conflict(set, survey.groups.as_slice(), classes(&place.equal), last) {
         return Ok(Descent::Conflict(a as u32, b as u32));
     }
     place.branch.push(l)?;
@@ -79,12 +81,14 @@ pub(crate) fn take_child(
     set: &GroundSet,
     survey: &Survey,
     seen: &mut [usize],
+    last: &mut [u32],
     top: &mut Frame,
     place: &mut Place,
 ) -> Result<Step, AllocError>
     requires well { IsWellFormed set.now }
     requires survey { IsSurvey set.now survey.now }
     requires seen { length seen.old ≡ length set.now.clauses }
+    requires last { length last.old ≡ length set.now.terms }
     requires sound { IsSound set.now (split_on place.old.branch.items place.old.equal.class top.old) }
     ensures gives { IfOk result (StepGives set.now place.old top.old top.new place.new) }
     ensures goes_on { OnOk result (GoesOn place.old place.new) }
@@ -98,7 +102,7 @@ pub(crate) fn take_child(
         take_leaf(set, top, l.left, l.right)?;
         return Ok(Step::Closed);
     }
-    match descend(set, survey, place, l)? {
+    match descend(set, survey, last, place, l)? {
         Descent::Conflict(a, b) => {
             take_leaf(set, top, a, b)?;
             Ok(Step::Closed)

@@ -1,12 +1,18 @@
 // What the search asks of a set again and again, found once: the applications by map and version,
-// the constants that differ from others, and the inequations that stand alone in a clause.
-ghost use Rattle.std.specs.Prelude.{◌≡◌, ◌<◌, ◌≢◌, ◌^◌, ℕ, IsTrue, IfOk, All, Contains, length};
+// the constants that differ from others, in groups, and the inequations that stand alone in a clause.
+// Any two constants of one group must differ, and of two groups never, so two that must differ are
+// looked for within a group.
+ghost use Rattle.std.specs.Prelude.{◌≡◌, ◌<◌, ◌≢◌, ◌^◌, ◌↔◌, ℕ, IsTrue, IfOk, OnOk, All};
+ghost use Rattle.std.specs.Prelude.{Contains, length};
 ghost use Rattle.plc_ground.specs.Fit.{IsWellFormed, IsInRange};
 ghost use Rattle.plc_ground.specs.Classes.{IsTable};
-ghost use Rattle.plc_solve.specs.Search.{IsDistinguishedAt, IsSurvey, AreConstants};
+ghost use Rattle.plc_solve.specs.Search.{IsDistinguishedAt, IsSurvey, IsOfGroup, IsGroupOf, IsGroup, IsGrouped};
+ghost use Rattle.plc_solve.specs.Search.{AreGroups};
 
+use plc_base::Items;
 use plc_ground::{
     Applications, GroundSet, GroundTerm, Lit, clause, is_distinguished, list_applications,
+    must_differ,
 };
 use std::alloc::{AllocError, Global};
 
@@ -14,8 +20,8 @@ use std::alloc::{AllocError, Global};
 #[derive(Debug, Drop)]
 pub(crate) struct Survey {
     pub table: Applications,
-    /// The terms that are constants which differ from others by the rule alone.
-    pub constants: Vec<u32>,
+    /// The terms that are constants which differ from others by the rule alone, in groups.
+    pub groups: Items<Items<u32>>,
     /// The inequations that are the one literal of a clause. They hold in every model.
     pub units: Vec<Lit>,
 }
@@ -31,17 +37,83 @@ fn is_constant(set: &GroundSet, i: usize) -> bool
     }
 }
 
-fn constants(alloc: Global, set: &GroundSet) -> Result<Vec<u32>, AllocError>
-    requires { IsWellFormed set.now }
-    ensures { IfOk result (λ list. AreConstants set.now list.items) }
+/// Whether a term is in the group of a constant: it is that constant, or must differ from it.
+fn is_of_group(set: &GroundSet, first: usize, i: usize) -> bool
+    requires well { IsWellFormed set.now }
+    requires first { first < length set.now.terms }
+    requires second { i < length set.now.terms }
+    ensures yes { IsTrue result → IsOfGroup set.now first i }
+    ensures no { IsOfGroup set.now first i → IsTrue result }
 {
-    let mut list = Vec::new(alloc);
+    first == i || must_differ(set, first, i)
+}
+
+/// The group of a constant.
+fn group_of(alloc: Global, set: &GroundSet, first: usize) -> Result<Items<u32>, AllocError>
+    requires well { IsWellFormed set.now }
+    requires first { first < length set.now.terms }
+    ensures { IfOk result (IsGroupOf set.now first) }
+{
+    let mut group = Items::new(alloc);
     for i in 0..set.terms.len() {
-        if is_constant(set, i) {
-            list.push(i as u32)?;
+        if is_of_group(set, first, i) {
+            group.push(i as u32)?;
         }
     }
-    Ok(list)
+    Ok(group)
+}
+
+fn contains(group: &[u32], i: u32) -> bool
+    ensures { IsTrue result ↔ Contains group.now i }
+{
+    group.contains(&i)
+}
+
+/// Whether a group has a term.
+fn is_grouped(groups: &[Items<u32>], i: u32) -> bool
+    ensures { IsTrue result → IsGrouped groups.now i }
+{
+    for group in groups {
+        if contains(group.as_slice(), i) {
+            return true;
+        }
+    }
+    false
+}
+
+/// Lists the group of a term, where it is a constant that differs from others and isn't in a group yet.
+fn list_group(
+    alloc: Global,
+    set: &GroundSet,
+    groups: &mut Items<Items<u32>>,
+    i: usize,
+) -> Result<(), AllocError>
+    requires well { IsWellFormed set.now }
+    requires range { i < length set.now.terms }
+    requires each { All (IsGroup set.now) groups.old }
+    ensures each { OnOk result (All (IsGroup set.now) groups.new) }
+    ensures grouped { OnOk result (IsDistinguishedAt set.now i → IsGrouped groups.new i) }
+    ensures kept { OnOk result ((j : ℕ) → IsGrouped groups.old j → IsGrouped groups.new j) }
+{
+    if !is_constant(set, i) {
+        return Ok(());
+    }
+    if !is_grouped(groups.as_slice(), i as u32) {
+        groups.push(group_of(alloc, set, i)?)?;
+    }
+    Ok(())
+}
+
+/// The constants that differ from others, in groups.
+fn groups(alloc: Global, set: &GroundSet) -> Result<Items<Items<u32>>, AllocError>
+    requires { IsWellFormed set.now }
+    ensures { IfOk result (AreGroups set.now) }
+{
+    let mut groups = Items::new(alloc);
+    for i in 0..set.terms.len() {
+        list_group(alloc, set, &mut groups, i)?;
+    }
+    Ok(groups)
 }
 
 fn units(alloc: Global, set: &GroundSet) -> Result<Vec<Lit>, AllocError>
@@ -65,7 +137,7 @@ pub(crate) fn take_survey(alloc: Global, set: &GroundSet) -> Result<Survey, Allo
 {
     Ok(Survey {
         table: list_applications(alloc, set)?,
-        constants: constants(alloc, set)?,
+        groups: groups(alloc, set)?,
         units: units(alloc, set)?,
     })
 }

@@ -25,6 +25,7 @@ search-preserved-in-Continue-branch-4 c =
       stands = subst (λ (fs : List Frame). Stands c.args.set.now c.take_child.new.place fs) (sym pushed) (next.0);
       nonempty = omega (arith, c.in_ok-push-in-Closed.ensures.len);
       seen = omega (arith, c.take_child.auto.seen, c.search.invariant.seen);
+      last = omega (arith, c.take_child.auto.last, c.search.invariant.last);
     }
 
 pub search-smaller-in-Continue-branch-4 : goal.search-smaller-in-Continue-branch-4
@@ -49,6 +50,7 @@ search-preserved-in-Continue-branch-6 c =
       stands = subst (λ (fs : List Frame). Stands c.args.set.now c.take_child.new.place fs) (sym pushed) (next.0);
       nonempty = omega (arith, c.in_ok-push-in-Deeper-2.ensures.len);
       seen = omega (arith, c.take_child.auto.seen, c.search.invariant.seen);
+      last = omega (arith, c.take_child.auto.last, c.search.invariant.last);
     }
 
 pub search-smaller-in-Continue-branch-6 : goal.search-smaller-in-Continue-branch-6

@@ -8,6 +8,7 @@ invariant-search l = record {
   stands : Stands l.set l.place (reverse l.frames.items);
   nonempty : 0 < vec_len l.frames;
   seen : length l.seen ≡ length l.set.clauses;
+  last : length l.last ≡ length l.set.terms;
 }
 
 abbrev pub decreases-search : goal.decreases-search

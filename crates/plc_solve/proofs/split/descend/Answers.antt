@@ -1,6 +1,7 @@
 use Rattle.std.proofs.Common.{◌∙◌, ◌∷◌, [], List, length, ap, subst, sym}
 use Rattle.std.proofs.lemmas.List.{append-nil}
 use Rattle.plc_ground.specs.declared.terms.Lit.{Lit}
+use Rattle.plc_ground.specs.Classes.{IsNoLater}
 use Rattle.plc_solve.specs.Search.{IsPlace, IsConflict}
 use Rattle.plc_solve.proofs.Searching.{conflict_is_right, place_longer}
 use Rattle.plc_solve.proofs.split.descend.Goals as goal
@@ -8,6 +9,10 @@ use Rattle.plc_solve.proofs.split.descend.Goals as goal
 pub conflict-requires-clause-one_each : goal.conflict-requires-clause-one_each
 conflict-requires-clause-one_each c =
     ap length c.classes.ensures ∙ (c.in_ok-put.ensures.closure c.args.place.now.branch.items c.requires.place.closure).merged.one_each
+
+pub conflict-requires-clause-no_later : goal.conflict-requires-clause-no_later
+conflict-requires-clause-no_later c =
+    subst IsNoLater (sym c.classes.ensures) (c.in_ok-put.ensures.closure c.args.place.now.branch.items c.requires.place.closure).merged.no_later
 
 pub returns-in-Some-clause-descends : goal.returns-in-Some-clause-descends
 returns-in-Some-clause-descends c =
