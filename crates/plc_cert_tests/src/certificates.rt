@@ -46,33 +46,33 @@ fn what_is_written_is_read(rt: HostRuntime) {
 }
 
 // Texts that are no JSON, and those whose part is the first that is at fault.
-const NOT_JSON: [&str; 3] = ["", "{", r#"{"env":1e999,"trees":[],"version":1}"#];
+const NOT_JSON: &[&str] = &["", "{", r#"{"env":1e999,"trees":[],"version":1}"#];
 
-const BAD_ROOTS: [&str; 4] = [
+const BAD_ROOTS: &[&str] = &[
     "{}",
     "[[],[],1]",
     r#"{"env":7,"trees":7,"version":2,"x":0}"#,
     r#"{"env":7,"tree":7,"version":2}"#,
 ];
 
-const BAD_VERSIONS: [&str; 3] = [
+const BAD_VERSIONS: &[&str] = &[
     r#"{"env":7,"trees":7,"version":1.0}"#,
     r#"{"env":7,"trees":7,"version":-1}"#,
     r#"{"env":7,"trees":7,"version":18446744073709551616}"#,
 ];
 
-const OTHER_VERSION: [&str; 1] = [r#"{"env":7,"trees":7,"version":2}"#];
+const OTHER_VERSION: &[&str] = &[r#"{"env":7,"trees":7,"version":2}"#];
 
-const LAST_VERSION: [&str; 1] = [r#"{"env":7,"trees":7,"version":18446744073709551615}"#];
+const LAST_VERSION: &[&str] = &[r#"{"env":7,"trees":7,"version":18446744073709551615}"#];
 
-const BAD_ENVS: [&str; 4] = [
+const BAD_ENVS: &[&str] = &[
     r#"{"env":7,"trees":7,"version":1}"#,
     r#"{"env":[[[1,0],[]]],"trees":7,"version":1}"#,
     r#"{"env":[[[8],[]]],"trees":7,"version":1}"#,
     r#"{"env":[[[],[[2,[]]]]],"trees":7,"version":1}"#,
 ];
 
-const BAD_TREES: [&str; 3] = [
+const BAD_TREES: &[&str] = &[
     r#"{"env":[],"trees":7,"version":1}"#,
     r#"{"env":[],"trees":[[[1,0]]],"version":1}"#,
     r#"{"env":[],"trees":[[[0,4294967296]]],"version":1}"#,
@@ -91,32 +91,17 @@ fn other_refusal(alloc: Global, texts: &[&'static str], fault: CertFault) -> Opt
 #[test]
 fn each_refusal_comes_in_its_order(rt: HostRuntime) {
     let shape = |field| CertFault::Shape { field };
-    let alloc = rt.alloc();
-    assert_eq!(rt; other_refusal(alloc, &NOT_JSON, CertFault::NotJson), None);
-    assert_eq!(rt;
-        other_refusal(alloc, &BAD_ROOTS, shape(CertField::Root)),
-        None
-    );
-    assert_eq!(rt;
-        other_refusal(alloc, &BAD_VERSIONS, shape(CertField::Version)),
-        None
-    );
-    assert_eq!(rt;
-        other_refusal(alloc, &OTHER_VERSION, CertFault::Version { n: 2 }),
-        None
-    );
-    assert_eq!(rt;
-        other_refusal(alloc, &LAST_VERSION, CertFault::Version { n: u64::MAX }),
-        None
-    );
-    assert_eq!(rt;
-        other_refusal(alloc, &BAD_ENVS, shape(CertField::Env)),
-        None
-    );
-    assert_eq!(rt;
-        other_refusal(alloc, &BAD_TREES, shape(CertField::Trees)),
-        None
-    );
+    for (texts, fault) in [
+        (NOT_JSON, CertFault::NotJson),
+        (BAD_ROOTS, shape(CertField::Root)),
+        (BAD_VERSIONS, shape(CertField::Version)),
+        (OTHER_VERSION, CertFault::Version { n: 2 }),
+        (LAST_VERSION, CertFault::Version { n: u64::MAX }),
+        (BAD_ENVS, shape(CertField::Env)),
+        (BAD_TREES, shape(CertField::Trees)),
+    ] {
+        assert_eq!(rt; other_refusal(rt.alloc(), texts, fault), None);
+    }
 }
 
 // One environment with a shared pointer and two locals, and one tree of a split and a leaf.

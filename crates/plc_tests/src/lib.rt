@@ -7,20 +7,4 @@
 #![tactic(auto)]
 
 #[cfg(test)]
-mod certificates;
-#[cfg(test)]
-mod faults;
-#[cfg(test)]
-mod files;
-#[cfg(test)]
-mod limits;
-#[cfg(test)]
-mod outlines;
-#[cfg(test)]
-mod outside;
-#[cfg(test)]
-mod program;
-#[cfg(test)]
-mod reclaimers;
-#[cfg(test)]
-mod rows;
+mod tests;

@@ -1,4 +1,4 @@
-// The answers that are wanted, as texts of sections: a section's head stands after `#` and has a row's words and
+// The answers that are wanted, as texts of sections: a section's head stands after `#` and has a row's commands and
 // status, its lines are the answer.
 
 pub(crate) const CHECKED: &str = "# check publish: 0
@@ -17,7 +17,7 @@ refused syntax token 4 line 1
 refused undeclared token 14 line 1
 # check loop: 0
 safe points 5 steps 4 locations 2 obligations 0
-# check claim: 1
+# check claim, certify claim: 1
 unproved claim step 0 prim 0 line 1
 term 0 null class 0
 term 1 a:n class 1
@@ -28,18 +28,7 @@ term 5 0 class 5
 term 6 retired.0(a:n) class 2
 # check outline: 0
 safe points 0 steps 0 locations 2 obligations 0
-# check outlined: 0
-at d W {u.idle u.held r.idle r.held r.kept}
-at d t S {u.held r.kept}
-at d s - {u.idle u.held r.idle r.held r.kept}
-at e W {u.idle u.held r.idle r.held r.kept}
-at e t S {u.held r.kept}
-at e s - {u.idle u.held r.idle r.held r.kept}
-at f W {u.idle u.held r.idle r.held r.kept}
-at f t S {u.held r.kept}
-at f s - {u.idle u.held r.idle r.held r.kept}
-safe points 37 steps 39 locations 7 obligations 2845
-# check hazards: 0
+# check outlined, check hazards: 0
 at d W {u.idle u.held r.idle r.held r.kept}
 at d t S {u.held r.kept}
 at d s - {u.idle u.held r.idle r.held r.kept}
@@ -120,7 +109,7 @@ at a W {u.idle u.held r.idle r.held r.kept}
 at a n ALS {u.held}
 safe points 5 steps 4 locations 7 obligations 0
 # check taken: 1
-untyped step 5 prim 0 line 6 retire t
+untyped step 5 prim 0 line 4 retire t
 # check twice: 1
 untyped step 3 prim 0 line 2 retire t
 # check once: 0
@@ -263,15 +252,6 @@ words refused
 // `certify` where there is no certificate, `verify` before one is judged, and samples.
 pub(crate) const CERTIFIED: &str = "# certify lost: 1
 untyped step 3 prim 0 line 8 deref m
-# certify claim: 1
-unproved claim step 0 prim 0 line 1
-term 0 null class 0
-term 1 a:n class 1
-term 2 yes class 2
-term 3 none class 3
-term 4 me class 4
-term 5 0 class 5
-term 6 retired.0(a:n) class 2
 # certify unclaimed: 1
 untyped step 24 prim 0 line 28 deref t
 # certify stray: 2

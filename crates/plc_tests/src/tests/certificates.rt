@@ -1,7 +1,7 @@
 // Certificates: what `certify` writes is verified, and a certificate that is changed in one place has the answer
 // that is due. A certificate is any valid one, so each change puts whole parts in the place of its own.
-use crate::files::{put, text_of};
-use crate::program::{answered, words_of};
+use crate::tests::files::{put, text_of};
+use crate::tests::program::{answered, words_of};
 use plc_cli::MemFiles;
 use std::alloc::{AllocError, Global};
 
@@ -64,7 +64,8 @@ fn what_is_certified_is_verified(rt: HostRuntime) -> Result<(), AllocError> {
 /// A certificate of `publish` with its strongest typing: a node that is made is local until it is shared, and then
 /// it may be retired.
 pub(crate) const PUBLISHED: &str =
-    r#"{"env":[[[0,1],[[7,[]]]],[[0,1],[[0,[0,1]]]],[[0,1],[[7,[0]]]],[[0,1],[[7,[0]]]],[[0,1],[[0,[0,1]]]]],"trees":[],"version":1}"#;
+    "{\"env\":[[[0,1],[[7,[]]]],[[0,1],[[0,[0,1]]]],[[0,1],[[7,[0]]]],[[0,1],[[7,[0]]]],[[0,1],[[0,[0,1]]]]],\
+     \"trees\":[],\"version\":1}";
 
 // Certificates that no `certify` wrote.
 const WRITTEN: [(&str, &str, &str); 5] = [

@@ -1,8 +1,8 @@
 // The limits: what has as many parts as there may be is judged, and what has one more is refused with that count.
 // `check` is asked for all, each command that reads files for those that are tested after the parse. The texts are made
 // here, part by part.
-use crate::files::put;
-use crate::program::head;
+use crate::tests::files::put;
+use crate::tests::program::head;
 use plc_cli::MemFiles;
 use std::alloc::{AllocError, Global};
 

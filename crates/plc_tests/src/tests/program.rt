@@ -1,10 +1,10 @@
 // Whole answers of `run` over files in memory. That there is memory for an answer, and which bytes an
 // output is handed, is what no contract can say. `files.rt` has the files, and `rows.rt` the rows of answers.
-use crate::files::{
+use crate::tests::files::{
     Entries, FILES, OUTLINED, SCHEDULES, STACKS, put, put_changed, put_made, put_pieces,
     put_sections, put_stacks, text_of,
 };
-use crate::rows::{CERTIFIED, CHECKED, PRINTED, REPLAYED, UNLISTED};
+use crate::tests::rows::{CERTIFIED, CHECKED, PRINTED, REPLAYED, UNLISTED};
 use plc_cli::{ByList, Epoch, FailSink, Files, Hazard, Leak, MemFiles, Reclaimer, VecSink, run};
 use std::alloc::{AllocError, Global};
 
@@ -69,26 +69,41 @@ pub(crate) fn answered<F: Files>(
     answered_under(alloc, files, words, reclaimers)
 }
 
+fn answer<F: Files>(alloc: Global, files: &mut F, words: &str) -> Result<String, AllocError> {
+    let words = words_of(alloc, words)?;
+    answered(alloc, files, &words)
+}
+
 // The status and the first line of what is answered.
 pub(crate) fn head<F: Files>(
     alloc: Global,
     files: &mut F,
     words: &str,
 ) -> Result<String, AllocError> {
-    let words = words_of(alloc, words)?;
-    let text = answered(alloc, files, &words)?;
+    let text = answer(alloc, files, words)?;
     let (status, rest) = text.as_str().split_once("\n").unwrap_or(("", ""));
     let (line, _) = rest.split_once("\n").unwrap_or(("", ""));
     format!(in alloc; "{status} {line}")
 }
 
-fn answer<F: Files>(alloc: Global, files: &mut F, words: &str) -> Result<String, AllocError> {
-    let list = words_of(alloc, words)?;
-    let text = answered(alloc, files, &list)?;
-    format!(in alloc; "{words}: {text}")
+// What is answered to commands, which commas part, where it isn't this.
+fn wrong_commands<F: Files>(
+    alloc: Global,
+    files: &mut F,
+    commands: &str,
+    want: &str,
+) -> Result<String, AllocError> {
+    let mut wrong = String::new(alloc);
+    for words in commands.split(", ") {
+        let have = answer(alloc, files, words)?;
+        if have.as_str() != want {
+            wrong.push_str(format!(in alloc; "{words}: {have}")?.as_str())?;
+        }
+    }
+    Ok(wrong)
 }
 
-// The answers of the rows that have another one; a row is its words, its status and its text.
+// The answers of the rows that have another one; a row is its commands, their status and their text.
 pub(crate) fn wrong_rows<F: Files>(
     alloc: Global,
     files: &mut F,
@@ -96,11 +111,8 @@ pub(crate) fn wrong_rows<F: Files>(
 ) -> Result<String, AllocError> {
     let mut wrong = String::new(alloc);
     for row in rows.split("# ") {
-        if let Some((words, _)) = row.split_once(": ") {
-            let have = answer(alloc, files, words)?;
-            if have.as_str() != row {
-                wrong.push_str(have.as_str())?;
-            }
+        if let Some((commands, want)) = row.split_once(": ") {
+            wrong.push_str(wrong_commands(alloc, files, commands, want)?.as_str())?;
         }
     }
     Ok(wrong)
@@ -178,8 +190,7 @@ fn printed(alloc: Global, text: &str) -> Result<String, AllocError> {
         Vec::from_slice(alloc, text.as_bytes())?,
     )?;
     let mut files = MemFiles::new(alloc, files, Vec::new(alloc));
-    let words = words_of(alloc, "print file")?;
-    answered(alloc, &mut files, &words)
+    answer(alloc, &mut files, "print file")
 }
 
 // A text's name where it is printed otherwise from what is printed of it.

@@ -95,10 +95,8 @@ call leave();
 use epoch(enter, leave);
 op g() { ptr t; ptr s; enter(); t := T; s := t.f; leave(); }
 # taken
-struct Node { ptr next; }
-shared Top;
-call protect(ptr);
-use hazard(protect);
+struct Node { ptr next; } shared Top;
+call protect(ptr); use hazard(protect);
 op put() { ptr n; n := new; Top := n; }
 op take() { ptr t; t := Top; Top := null; retire(t); }
 # once
@@ -235,22 +233,15 @@ or {
 }
 }
 }
-outline {
-inv Top == null or Top . st == linked ;
+outline {\ninv Top == null or Top . st == linked ;
 inv all x : x . st != linked or not retired ( x ) ;
 inv all x , y : x . st != linked or x . next != y or y . st == linked ;
 inv all x : Top == null or x . st != linked or x . next != Top ;
 inv all x , y : x . st != linked or y . st != linked or x . next == null or x . next != y . next or x == y ;
-over push : n == null or n . st == made ;
-over push : n == null or n . owner == me ;
-over push : n == null or not retired ( n ) ;
-over pop : t == null or t . st != made ;
-at d , e : t != null ;
-at d , e : t . next == s ;
-at f : t . st == cut ;
-at f : t . owner == me ;
-at f : not retired ( t ) ;
-}
+over push : n == null or n . st == made ;\nover push : n == null or n . owner == me ;
+over push : n == null or not retired ( n ) ;\nover pop : t == null or t . st != made ;
+at d , e : t != null ;\nat d , e : t . next == s ;
+at f : t . st == cut ;\nat f : t . owner == me ;\nat f : not retired ( t ) ;\n}
 ";
 
 // What schedules share: thread 1 puts a node, takes it, whereupon the reclaimer is asked, and ends that

@@ -2,8 +2,8 @@
 // by its row; these are whole answers of replays, of which no contract says that there is memory for them.
 ghost use Rattle.std.specs.Prelude.{codes};
 
-use crate::files::{Entries, PUT, PUT_AND_TAKE, TAKE, put, put_pieces, put_sections};
-use crate::program::{answered, answered_under, words_of, wrong_rows};
+use crate::tests::files::{Entries, PUT, PUT_AND_TAKE, TAKE, put, put_pieces, put_sections};
+use crate::tests::program::{answered, answered_under, words_of, wrong_rows};
 use plc_auto::Event;
 use plc_base::NoMemory;
 use plc_cli::{ByList, Leak, MemFiles, Reclaimer};

@@ -1,10 +1,10 @@
 // Calls of the outside that fail, each in its turn: a read that fails is answered with 4, and where an output fails
 // the status is 5 and a part of the answer was written. Files that never fail and an output with a fixed room
 // answer so too.
-use crate::certificates::PUBLISHED;
-use crate::files::{Entries, FILES, SCHEDULES, put, put_pieces, put_sections, put_stacks};
-use crate::program::words_of;
-use crate::rows::{CHECKED, REPLAYED};
+use crate::tests::certificates::PUBLISHED;
+use crate::tests::files::{Entries, FILES, SCHEDULES, put, put_pieces, put_sections, put_stacks};
+use crate::tests::program::words_of;
+use crate::tests::rows::{CHECKED, REPLAYED};
 use plc_base::NoMemory;
 use plc_cli::{FailSink, Files, MemFiles, Sink, run_with_own};
 use plc_outside::{FixedSink, HonestFiles};

@@ -4,8 +4,8 @@
 ghost use Rattle.std.specs.Prelude.{IfOk};
 ghost use Rattle.plc_setting.specs.Fit.{Fits};
 
-use crate::files::{CHANGED, changed};
-use crate::program::{answered, head, words_of};
+use crate::tests::files::{CHANGED, changed};
+use crate::tests::program::{answered, head, words_of};
 use plc_base::{Items, LARGEST_FILE, NoMemory};
 use plc_check::{Judged, load};
 use plc_cli::MemFiles;

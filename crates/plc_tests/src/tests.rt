@@ -1,0 +1,10 @@
+// The program as a whole: its rows, its limits and its outside.
+mod certificates;
+mod faults;
+mod files;
+mod limits;
+mod outlines;
+mod outside;
+mod program;
+mod reclaimers;
+mod rows;
