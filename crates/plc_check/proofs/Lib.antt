@@ -2,6 +2,7 @@ pub mod Completing
 pub mod Fitting
 pub mod Limiting
 pub mod Matching
+pub mod Noting
 pub mod Opening
 pub mod Readable
 pub mod Refusals

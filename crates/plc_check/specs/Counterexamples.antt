@@ -1,5 +1,5 @@
 -- What breaks obligations, and what shows that they are kept.
-use Rattle.std.specs.Prelude.{◌≡◌, List, [], ◌∷◌, Option, Some, None, Result, Ok, Err}
+use Rattle.std.specs.Prelude.{◌≡◌, ◌++◌, ℕ, List, [], ◌∷◌, Option, Some, None, Result, Ok, Err, Contains, slice_get}
 use Rattle.plc_flow.specs.declared.flow.Flow.{Flow}
 use Rattle.plc_logic.specs.declared.clause.Outline.{Outline}
 use Rattle.plc_setting.specs.declared.obligations.Obligation.{Obligation}
@@ -27,6 +27,10 @@ abbrev pub IsFirstCounterexample : Flow → Outline → Option Counterexample �
 IsFirstCounterexample flow outline None = OutlineHolds flow outline
 IsFirstCounterexample flow outline (Some x) = IsLeastOpen flow outline x.obligation × IsCounterexample flow outline x
 
+-- each obligation that is noted is kept
+abbrev pub NotedAreKept : Flow → Outline → List (Obligation × ℕ) → Type 0
+NotedAreKept flow outline noted = (x : Obligation × ℕ) → Contains noted x → IsKept flow outline x.0
+
 -- the tree closes the ground set of the obligation, no branch of it splits one clause twice, and its numbers have 32
 -- bits
 pub record IsTreeOf (flow : Flow) (outline : Outline) (o : Obligation) (t : Tree) : Type 0 where
@@ -38,6 +42,18 @@ pub record IsTreeOf (flow : Flow) (outline : Outline) (o : Obligation) (t : Tree
 abbrev pub IsTreeAt : Flow → Outline → Obligation → Result Tree Counterexample → Type 0
 IsTreeAt flow outline o (Ok t) = IsTreeOf flow outline o t
 IsTreeAt flow outline o (Err x) = (x.obligation ≡ o) × IsCounterexample flow outline x
+
+-- each obligation that is noted has the tree with its number
+abbrev pub NotedHaveTrees : Flow → Outline → List Tree → List (Obligation × ℕ) → Type 0
+NotedHaveTrees flow outline trees noted = (x : Obligation × ℕ) → Contains noted x
+    → (t : Tree) × (slice_get trees x.1 ≡ Some t) × IsTreeOf flow outline x.0 t
+
+-- a tree for the obligation, so that what is noted has trees among those that there are with it
+abbrev pub AddsTreeAt : Flow → Outline → Obligation → List Tree → List (Obligation × ℕ) → Result Tree Counterexample
+    → Type 0
+AddsTreeAt flow outline o trees noted (Ok t) =
+    IsTreeOf flow outline o t × NotedHaveTrees flow outline (trees ++ t ∷ []) noted
+AddsTreeAt flow outline o trees noted (Err x) = IsTreeAt flow outline o (Err x)
 
 -- one tree for each of these obligations, in order
 abbrev pub AreTreesFor : Flow → Outline → List Obligation → List Tree → Type 0

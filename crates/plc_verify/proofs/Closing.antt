@@ -1,11 +1,21 @@
 -- Going over the obligations with a tree for each.
 use Rattle.std.proofs.Common.{◌≡◌, ℕ, zero, suc, ◌+◌, ◌<◌, ◌≤◌, List, [], ◌∷◌, length, drop, Some, None, sym, ap, subst, ◌∙◌, arith, below_more}
-use Rattle.std.specs.Prelude.{slice_get}
+use Rattle.std.specs.Prelude.{slice_get, is_some, Option, Bool, true, false, ◌==◌, ◌&&◌, ◌⊎◌, Contains}
+use Rattle.std.specs.Bool.{Decides}
+use Rattle.std.specs.Cmp.Lexicographic.{pointwise}
+use Rattle.std.proofs.lemmas.Bool.{eqb-true, eq-eqb, and_parts, and_from, false≢true}
+use Rattle.std.proofs.lemmas.Slice.Eq.{slice_eq-Decides}
 use Rattle.std.proofs.lemmas.Option.{slice_get_within}
 use Rattle.plc_flow.specs.declared.flow.Flow.{Flow}
 use Rattle.plc_logic.specs.declared.clause.Outline.{Outline}
 use Rattle.plc_ground.specs.declared.terms.Tree.{Tree}
-use Rattle.plc_ground.specs.Trees.{IsVerdict}
+use Rattle.plc_ground.specs.declared.terms.GroundSet.{GroundSet}
+use Rattle.plc_ground.specs.declared.terms.Node.{Node}
+use Rattle.plc_ground.specs.declared.terms.Node.TheVariants.{Split, Leaf}
+use Rattle.plc_ground.specs.Trees.{Closes, IsVerdict}
+use Rattle.plc_oblig.specs.Alike.{IsNotedAs}
+use Rattle.plc_oblig.proofs.OneSet.{more_noted}
+use Rattle.plc_verify.specs.Tests.{NotedClose}
 use Rattle.plc_setting.specs.declared.obligations.Obligation.{Obligation}
 use Rattle.plc_oblig.specs.Obligations.{obligations}
 use Rattle.plc_oblig.specs.GroundSets.{ground_set}
@@ -67,3 +77,47 @@ module _ (flow : Flow) (outline : Outline) (trees : List Tree) where
     one_each = same;
     closed = λ j o t o_is t_is. let small = slice_get_within trees j t t_is in at.closed j (omega arith) o t o_is t_is;
   }
+
+-- ---- trees that were tried
+
+nodes_same : (E : Node → Node → Bool) → ((c d : ℕ) → E (Split c) (Split d) ≡ (c == d))
+    → ((c a b : ℕ) → E (Split c) (Leaf a b) ≡ false) → ((a b c : ℕ) → E (Leaf a b) (Split c) ≡ false)
+    → ((a b c d : ℕ) → E (Leaf a b) (Leaf c d) ≡ ((a == c) && (b == d))) → (x y : Node) → Decides (E x y) (x ≡ y)
+nodes_same E splits apart aside leaves (Split c) (Split d) = (
+  λ h. ap Split (eqb-true c d (sym (splits c d) ∙ h)),
+  λ h. splits c d ∙ (let same : c ≡ d = cc in eq-eqb c d same),
+)
+nodes_same E splits apart aside leaves (Split c) (Leaf a b) = (λ h. absurd (false≢true (sym (apart c a b) ∙ h)), λ h. absurd cc)
+nodes_same E splits apart aside leaves (Leaf a b) (Split c) = (λ h. absurd (false≢true (sym (aside a b c) ∙ h)), λ h. absurd cc)
+nodes_same E splits apart aside leaves (Leaf a b) (Leaf c d) = (
+  λ h. let p = and_parts (a == c) (b == d) (sym (leaves a b c d) ∙ h) in
+      let first = eqb-true a c p.0 in
+      let second = eqb-true b d p.1 in
+      cc,
+  λ h. leaves a b c d ∙ (let first : a ≡ c = cc in let second : b ≡ d = cc in and_from (a == c) (b == d) (eq-eqb a c first) (eq-eqb b d second)),
+)
+
+pub same_nodes : (E : Node → Node → Bool) → ((c d : ℕ) → E (Split c) (Split d) ≡ (c == d))
+    → ((c a b : ℕ) → E (Split c) (Leaf a b) ≡ false) → ((a b c : ℕ) → E (Leaf a b) (Split c) ≡ false)
+    → ((a b c d : ℕ) → E (Leaf a b) (Leaf c d) ≡ ((a == c) && (b == d))) → (xs ys : List Node) (r : Bool)
+    → r ≡ pointwise E xs ys → r ≡ true → xs ≡ ys
+same_nodes E splits apart aside leaves xs ys r is = (slice_eq-Decides (nodes_same E splits apart aside leaves) xs ys r is).0
+
+pub closes_if_none : (s : GroundSet) (nodes : List Node) (bad : Option ℕ) → IsVerdict s [] nodes bad → is_some bad ≡ false → Closes s nodes
+closes_if_none s nodes None verdict h = verdict
+closes_if_none s nodes (Some k) verdict h = absurd cc
+
+module _ (flow : Flow) (outline : Outline) (trees : List Tree) (tried : List (Obligation × ℕ)) (o : Obligation) (at : ℕ) (close : NotedClose flow outline trees tried) where
+  pub tried_closes : IsNotedAs flow outline tried o at → (t : Tree) (nodes : List Node) → slice_get trees at ≡ Some t → t.nodes ≡ nodes
+      → Closes (ground_set flow outline o) nodes
+  tried_closes noted t nodes is same =
+      let r = close (noted.0, at) noted.1 in
+      let one : r.0 ≡ t = let both : Some r.0 ≡ Some t = sym r.1 ∙ is in cc in
+      subst (λ (s : GroundSet). Closes s nodes) (sym noted.2)
+      (subst (Closes (ground_set flow outline noted.0)) same (subst (λ (u : Tree). Closes (ground_set flow outline noted.0) u.nodes) one r.2))
+
+  pub more_tried : (new : List (Obligation × ℕ)) (t : Tree) → slice_get trees at ≡ Some t → Closes (ground_set flow outline o) t.nodes
+      → ((x : Obligation × ℕ) → Contains new x → Contains tried x ⊎ (x ≡ (o, at))) → NotedClose flow outline trees new
+  more_tried new t is closes more =
+      more_noted (λ (x : Obligation × ℕ). (t : Tree) × (slice_get trees x.1 ≡ Some t) × Closes (ground_set flow outline x.0) t.nodes)
+      tried new (o, at) close (t, is, closes) more

@@ -1,6 +1,6 @@
 -- What private functions test and hand on.
-use Rattle.std.specs.Prelude.{◌≡◌, ◌&&◌, ◌==◌, ◌<◌, ◌≤◌, ℕ}
-use Rattle.std.specs.Prelude.{Bool, true, false, List, length, None, Result, Ok, Err}
+use Rattle.std.specs.Prelude.{◌≡◌, ◌&&◌, ◌==◌, ◌<◌, ◌≤◌, ℕ, Contains, slice_get}
+use Rattle.std.specs.Prelude.{Bool, true, false, List, length, None, Some, Result, Ok, Err}
 use Rattle.plc_base.specs.Mask.{within}
 use Rattle.plc_lang.specs.declared.syntax.Primitive.{Primitive}
 use Rattle.plc_lang.specs.Skeleton.{Skeleton}
@@ -11,6 +11,9 @@ use Rattle.plc_xfer.specs.Typings.{all_types, env_at, led, fault_at}
 use Rattle.plc_flow.specs.declared.flow.Flow.{Flow}
 use Rattle.plc_logic.specs.declared.clause.Outline.{Outline}
 use Rattle.plc_ground.specs.declared.terms.Tree.{Tree}
+use Rattle.plc_ground.specs.Trees.{Closes}
+use Rattle.plc_setting.specs.declared.obligations.Obligation.{Obligation}
+use Rattle.plc_oblig.specs.GroundSets.{ground_set}
 use Rattle.plc_verify.specs.declared.fault.VerifyFault.{VerifyFault}
 use Rattle.plc_verify.specs.declared.fault.VerifyFault.TheVariants.{EnvCount, EnvAt, EntryAt, TypeAt, FlowAt}
 use Rattle.plc_verify.specs.declared.fault.VerifyFault.TheVariants.{TreeCount, TreeAt, Memory}
@@ -64,3 +67,8 @@ MayNotClose flow outline trees (EntryAt op var) = ⊥
 MayNotClose flow outline trees (TypeAt step prim) = ⊥
 MayNotClose flow outline trees (FlowAt step var) = ⊥
 MayNotClose flow outline trees Memory = Unit {0}
+
+-- each obligation that is noted has the tree with its number, which closes its ground set
+abbrev pub NotedClose : Flow → Outline → List Tree → List (Obligation × ℕ) → Type 0
+NotedClose flow outline trees noted = (x : Obligation × ℕ) → Contains noted x
+    → (t : Tree) × (slice_get trees x.1 ≡ Some t) × Closes (ground_set flow outline x.0) t.nodes

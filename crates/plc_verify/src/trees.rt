@@ -1,19 +1,47 @@
 // Whether trees close the ground sets of the obligations, one for each in order. The obligations are walked over
-// and one ground set is made at a time, so that no list of either is held.
-ghost use Rattle.std.specs.Prelude.{◌≡◌, [], IfOk, MatchResult};
-ghost use Rattle.plc_ground.specs.Trees.{IsVerdict};
+// and one ground set is made at a time, so that no list of either is held. Obligations that are alike have one set, and
+// mostly one tree too: then the tree is tried once.
+ghost use Rattle.std.specs.Prelude.{◌≡◌, [], IsTrue, IfOk, OnOk, MatchResult, Some, slice_get};
+ghost use Rattle.plc_ground.specs.Trees.{Closes, IsVerdict};
 ghost use Rattle.plc_setting.specs.Fit.{Fits};
 ghost use Rattle.plc_oblig.specs.GroundSets.{ground_set};
 ghost use Rattle.plc_verify.specs.Trees.{TreesClose};
-ghost use Rattle.plc_verify.specs.Tests.{MayNotClose};
+ghost use Rattle.plc_verify.specs.Tests.{MayNotClose, NotedClose};
 
 use crate::fault::VerifyFault;
 use plc_base::NoMemory;
 use plc_flow::Flow;
-use plc_ground::{Tree, closes};
+use plc_ground::{Node, Tree, closes};
 use plc_logic::Outline;
-use plc_oblig::{Grounding, Obligation, Walk, count};
+use plc_oblig::{Grounding, Noted, Obligation, Walk, count};
 use std::alloc::Global;
+
+fn are_same(a: &[Node], b: &[Node]) -> bool
+    ensures { IsTrue result → a.now ≡ b.now }
+{
+    a == b
+}
+
+// Whether this tree was found to close the set of an obligation that is alike.
+fn is_tried(
+    flow: &Flow,
+    outline: &Outline,
+    trees: &[Tree],
+    tried: &Noted,
+    o: &Obligation,
+    tree: &Tree,
+) -> bool
+    requires { NotedClose flow.now outline.now trees.now tried.now }
+    ensures { IsTrue result → Closes (ground_set flow.now outline.now o.now) tree.now.nodes }
+{
+    let Some(at) = tried.find(flow, outline, o) else {
+        return false;
+    };
+    match trees.get(at) {
+        None => false,
+        Some(other) => are_same(other.nodes.as_slice(), tree.nodes.as_slice()),
+    }
+}
 
 // None where the tree closes the ground set of the obligation, else its first bad node.
 fn first_bad_node(
@@ -30,6 +58,34 @@ fn first_bad_node(
     let set = memory.ground(flow, outline, o)?;
     let bad = closes(alloc, &set, tree)?;
     memory.reuse(set);
+    Ok(bad)
+}
+
+// The same of the tree with a number, which is noted where it closes the set.
+fn try_tree(
+    alloc: Global,
+    memory: &mut Grounding,
+    tried: &mut Noted,
+    flow: &Flow,
+    outline: &Outline,
+    o: &Obligation,
+    trees: &[Tree],
+    at: usize,
+    tree: &Tree,
+) -> Result<Option<u64>, NoMemory>
+    requires fits { Fits flow.now outline.now }
+    requires tree { slice_get trees.now at ≡ Some tree.now }
+    requires tried { NotedClose flow.now outline.now trees.now tried.old }
+    ensures bad { IfOk result (λ bad. IsVerdict (ground_set flow.now outline.now o.now) [] tree.now.nodes bad) }
+    ensures tried { OnOk result (NotedClose flow.now outline.now trees.now tried.new) }
+{
+    if is_tried(flow, outline, trees, tried, o, tree) {
+        return Ok(None);
+    }
+    let bad = first_bad_node(alloc, memory, flow, outline, o, tree)?;
+    if bad.is_none() {
+        tried.note(o, at)?;
+    }
     Ok(bad)
 }
 
@@ -51,11 +107,24 @@ pub(crate) fn verify_trees(
     }
     let mut walk = Walk::new(alloc, flow, outline)?;
     let mut memory = Grounding::new(alloc);
+    let mut tried = Noted::new(alloc);
     for i in 0..trees.len() {
         let Some(o) = walk.next() else {
             unreachable!();
         };
-        if let Some(node) = first_bad_node(alloc, &mut memory, flow, outline, &o, &trees[i])? {
+        let tree = &trees[i];
+        let bad = try_tree(
+            alloc,
+            &mut memory,
+            &mut tried,
+            flow,
+            outline,
+            &o,
+            trees,
+            i,
+            tree,
+        )?;
+        if let Some(node) = bad {
             return Err(VerifyFault::TreeAt {
                 obligation: i as u64,
                 node,
