@@ -3,7 +3,6 @@
 ghost use Rattle.std.specs.Prelude.{◌≡◌, ◌==◌, ◌++◌, not, map, filter, IfOk};
 ghost use Rattle.plc_auto.specs.Table.{target_of};
 ghost use Rattle.plc_reclaim.specs.Rows.{is_kept_at};
-ghost use Rattle.plc_auto.specs.Events.{kind_of, thread_of, address_of};
 ghost use Rattle.plc_reclaim.specs.Tables.{is_thread, column_of};
 ghost use Rattle.plc_reclaim.specs.Tables.{fresh_table, others_after, own_after, table_after, keeps};
 
@@ -42,42 +41,6 @@ impl Model for Table {
     ghost Value = { Table };
 
     ghost view = { λ t. record { observer = t.observer; unheard = t.unheard; heard = t.heard.items } };
-}
-
-// An event without its thread and address.
-fn kind_of(e: &Event) -> EvKind
-    ensures { result ≡ kind_of e.now }
-{
-    match *e {
-        Event::Call { t: _, f, a: _ } => EvKind::Call(f),
-        Event::Done { t: _, f } => EvKind::Done(f),
-        Event::Free { a: _ } => EvKind::Free,
-    }
-}
-
-// The thread of a call or a return.
-fn thread_of(e: &Event) -> Option<u32>
-    ensures { result ≡ thread_of e.now }
-{
-    match *e {
-        Event::Call { t, f: _, a: _ } => Some(t),
-        Event::Done { t, f: _ } => Some(t),
-        Event::Free { a: _ } => None,
-    }
-}
-
-// The address that an event names; null where it names none.
-fn address_of(e: &Event) -> u32
-    ensures { result ≡ address_of e.now }
-{
-    match *e {
-        Event::Call { t: _, f: _, a } => match a {
-            None => 0,
-            Some(a) => a,
-        },
-        Event::Done { t: _, f: _ } => 0,
-        Event::Free { a } => a,
-    }
 }
 
 // `r.kept`, which has one number in both tables.
@@ -128,14 +91,14 @@ impl Table {
     pub fn after(&self, alloc: Global, e: &Event) -> Result<Table, NoMemory>
         ensures { IfOk result (λ t. t ≡ table_after e.now self.now) }
     {
-        let kind = kind_of(e);
-        let a = address_of(e);
+        let kind = e.kind();
+        let a = e.address();
         let unheard = self.unheard.after(alloc, &self.observer, kind, false, a)?;
         let heard = heard_after(
             alloc,
             &self.observer,
             kind,
-            thread_of(e),
+            e.thread(),
             a,
             &self.unheard,
             &self.heard,
