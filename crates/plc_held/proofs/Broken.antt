@@ -22,7 +22,7 @@ use Rattle.plc_setting.specs.Parts.{executed, acting_locals, has_owner, owner_lo
 use Rattle.plc_setting.specs.Setting.{variables_of}
 use Rattle.plc_setting.specs.Sorts.{symbol_sort, map_sort}
 use Rattle.plc_items.specs.Execution.{start}
-use Rattle.plc_gc.specs.State.{GcState}
+use Rattle.plc_gc.specs.State.{GcState, count}
 use Rattle.plc_gc.specs.Claims.{claim_holds}
 use Rattle.plc_gc.specs.Ranges.{IsInRange, ValuesAreInRange}
 use Rattle.plc_gc.specs.Run.{execute}
@@ -56,19 +56,8 @@ meant loads w g (symbols.Value v) = symbol_in w g (symbols.Value v)
 meant loads w g (symbols.Number n) = symbol_in w g (symbols.Number n)
 
 pub meant_named : (loads : ℕ → ℕ) (w : Scene) (g : GcState) (s : Symbol) → IsNamed s → meant loads w g s ≡ symbol_in w g s
-meant_named loads w g symbols.Null h = refl
-meant_named loads w g (symbols.Shared i) h = refl
-meant_named loads w g (symbols.Mine i) h = refl
-meant_named loads w g (symbols.Theirs i) h = refl
-meant_named loads w g symbols.New h = refl
-meant_named loads w g (symbols.Bound i) h = refl
 meant_named loads w g (symbols.Loaded j) h = cc
-meant_named loads w g symbols.Yes h = refl
-meant_named loads w g symbols.Nobody h = refl
-meant_named loads w g symbols.Me h = refl
-meant_named loads w g symbols.You h = refl
-meant_named loads w g (symbols.Value v) h = refl
-meant_named loads w g (symbols.Number n) h = refl
+meant_named loads w g s h = refl
 
 abbrev pub scene_of : Flow → Obligation → ℕ → ℕ → ℕ → (ℕ → ℕ) → Scene
 scene_of flow o acting owner node bound = record {
@@ -120,20 +109,24 @@ abbrev pub ClauseFails : File → Scene → GcState → Bool → Option Clause �
 ClauseFails file w h owner None = Unit {0}
 ClauseFails file w h owner (Some c) = IsFalse file w h owner c
 
--- the primitives lead from a state in which the premises hold to one in which the conclusion is false
-pub record IsBroken (flow : Flow) (outline : Outline) (o : Obligation) (w : Scene) (g h : GcState) : Type 0 where
-  pub apart : w.owner ≡ w.acting → ⊥
+-- all but the conclusion, at any nodes for its names
+pub record IsReady (flow : Flow) (outline : Outline) (o : Obligation) (acting owner : ℕ) (g h : GcState) : Type 0 where
+  pub apart : owner ≡ acting → ⊥
   pub shape : Shape
   pub shaped : ShapeFits shape (acting_locals flow o)
   pub names : PrimitivesIn shape (executed flow o)
   pub sorted : AreWellSorted flow.file (executed flow o)
   pub one_new : count_by is_new (executed flow o) ≤ 1
-  pub taken : execute g w.acting (executed flow o) ≡ Some h
+  pub taken : execute g acting (executed flow o) ≡ Some h
   pub fields : g.fields ≡ flow.file.fields
   pub ranges : IsInRange g
   pub values : ValuesAreInRange flow.file g
-  pub begins : BeginsAs w g o
-  pub acting_holds : Each (IsPremise flow.file w g false) (acting_premises flow outline o)
-  pub owner_holds : Each (IsPremise flow.file w g true) (owner_premises flow outline o)
-  pub clause_fails : ClauseFails flow.file w h (has_owner o) (conclusion flow outline o)
-  pub claim_fails : ClaimFails w h shape (claim_made flow o)
+  pub begins : (b : ℕ → ℕ) → BeginsAs (scene_of flow o acting owner (count g) b) g o
+  pub acting_holds : (b : ℕ → ℕ) → Each (IsPremise flow.file (scene_of flow o acting owner (count g) b) g false) (acting_premises flow outline o)
+  pub owner_holds : (b : ℕ → ℕ) → Each (IsPremise flow.file (scene_of flow o acting owner (count g) b) g true) (owner_premises flow outline o)
+
+-- the primitives lead from a state in which the premises hold to one in which the conclusion is false at these nodes
+pub record IsBroken (flow : Flow) (outline : Outline) (o : Obligation) (acting owner : ℕ) (bound : ℕ → ℕ) (g h : GcState) : Type 0 where
+  pub ready : IsReady flow outline o acting owner g h
+  pub clause_fails : ClauseFails flow.file (scene_of flow o acting owner (count g) bound) h (has_owner o) (conclusion flow outline o)
+  pub claim_fails : ClaimFails (scene_of flow o acting owner (count g) bound) h ready.shape (claim_made flow o)

@@ -45,7 +45,7 @@ use Rattle.plc_held.proofs.Apart.{apart as symbols_apart}
 use Rattle.plc_held.proofs.Broken.{meant_named, scene_of, acts_in, meaning_of, any_none, any_some, ClaimFails, ClauseFails, IsBroken}
 
 module _ (flow : Flow) (outline : Outline) (o : Obligation) (acting owner : ℕ) (bound : ℕ → ℕ) (g h : GcState)
-    (broken : IsBroken flow outline o (scene_of flow o acting owner (count g) bound) g h) where
+    (broken : IsBroken flow outline o acting owner bound g h) where
   abbrev w : Scene
   w = scene_of flow o acting owner (count g) bound
 
@@ -60,8 +60,8 @@ module _ (flow : Flow) (outline : Outline) (o : Obligation) (acting owner : ℕ)
 
   -- ---- the run
 
-  run : Ran flow.file w broken.shape broken.shaped broken.apart refl g (executed flow o) h
-  run = ran flow.file w broken.shape broken.shaped broken.apart refl (executed flow o) g h broken.taken broken.fields broken.ranges broken.names broken.sorted (λ some. refl) broken.one_new
+  run : Ran flow.file w broken.ready.shape broken.ready.shaped broken.ready.apart refl g (executed flow o) h
+  run = ran flow.file w broken.ready.shape broken.ready.shaped broken.ready.apart refl (executed flow o) g h broken.ready.taken broken.ready.fields broken.ready.ranges broken.ready.names broken.ready.sorted (λ some. refl) broken.ready.one_new
 
   acted : ActsRun (count g) (count h) (seen w g) acts (seen w h)
   acted = run.runs (count h) (omega arith)
@@ -72,7 +72,7 @@ module _ (flow : Flow) (outline : Outline) (o : Obligation) (acting owner : ℕ)
       go : (list_any is_new (executed flow o) ≡ true) ⊎ (list_any is_new (executed flow o) ≡ false) → (n < count g) ⊎ ((list_any is_new (executed flow o) ≡ true) × (n ≡ count g))
       go (inl made) = elim (cases_lt n (count g)) [
         | inl old ↦ inl old
-        | inr more ↦ inr (made, (let c = run.count_is in let one = broken.one_new in omega arith))
+        | inr more ↦ inr (made, (let c = run.count_is in let one = broken.ready.one_new in omega arith))
       ]
       go (inr none) = (let c = run.count_is in let z = any_none (executed flow o) none in inl (omega arith))
 
@@ -124,7 +124,7 @@ module _ (flow : Flow) (outline : Outline) (o : Obligation) (acting owner : ℕ)
   }
 
   before : IsBefore e flow.file w g (count h)
-  before = record { means = means_before; ranges = broken.ranges; node = refl; few = (let c = run.count_is in omega arith); fields = broken.fields }
+  before = record { means = means_before; ranges = broken.ready.ranges; node = refl; few = (let c = run.count_is in omega arith); fields = broken.ready.fields }
 
   -- ---- nodes
 
@@ -151,7 +151,7 @@ module _ (flow : Flow) (outline : Outline) (o : Obligation) (acting owner : ℕ)
 
   done : IsExecuted e (count g) (count h) refl refl s.nodes start acts (seen w h)
   done = is_executed e (count g) (count h) refl refl s.nodes are_nodes start (seen w g) acts (seen w h) foresees now
-      (acts_sorted e flow.file w sorts_are broken.shape broken.shaped (executed flow o) start broken.names broken.sorted load_sorts) acted
+      (acts_sorted e flow.file w sorts_are broken.ready.shape broken.ready.shaped (executed flow o) start broken.ready.names broken.ready.sorted load_sorts) acted
 
   means_after : Means e flow.file w (after_all start acts) h
   means_after = record {
@@ -170,23 +170,23 @@ module _ (flow : Flow) (outline : Outline) (o : Obligation) (acting owner : ℕ)
       clause None fails = tt
       clause (Some c) fails = clause_denied e flow.file w (after_all start acts) h means_after s c fails
 
-      claim : (k : Option Primitive) → ClaimFails w h broken.shape k → Each (IsTrueIn e) (denied_claim s (after_all start acts) k)
+      claim : (k : Option Primitive) → ClaimFails w h broken.ready.shape k → Each (IsTrueIn e) (denied_claim s (after_all start acts) k)
       claim None fails = tt
       claim (Some k) (p, is, there, fails) = subst (λ k. Each (IsTrueIn e) (denied_claim s (after_all start acts) (Some k))) (sym is)
-          (claim_denied e flow.file w (after_all start acts) h means_after s broken.shape broken.shaped refl p there fails)
+          (claim_denied e flow.file w (after_all start acts) h means_after s broken.ready.shape broken.ready.shaped refl p there fails)
 
   -- ---- all items
 
   premises_true : Each (IsTrueIn e) (premises flow outline s o)
   premises_true = each_both (IsTrueIn e) _ _
-      (instances_true e flow.file w g (count h) before (list_any is_new (executed flow o)) old_or_new s refl instance_nodes false (acting_premises flow outline o) broken.acting_holds)
-      (instances_true e flow.file w g (count h) before (list_any is_new (executed flow o)) old_or_new s refl instance_nodes true (owner_premises flow outline o) broken.owner_holds)
+      (instances_true e flow.file w g (count h) before (list_any is_new (executed flow o)) old_or_new s refl instance_nodes false (acting_premises flow outline o) (broken.ready.acting_holds bound))
+      (instances_true e flow.file w g (count h) before (list_any is_new (executed flow o)) old_or_new s refl instance_nodes true (owner_premises flow outline o) (broken.ready.owner_holds bound))
 
   all_true : Each (IsTrueIn e) (clauses_of flow outline s o)
   unfolding clauses_of
   all_true =
-      each_both (IsTrueIn e) (values_from 0 0 flow.file.ghosts s.nodes) _ (all_values_true e flow.file w g (count h) before broken.values s.nodes)
-      (each_both (IsTrueIn e) (beginning flow s o) _ (beginning_true e flow.file w g (count h) before flow s o refl refl broken.begins bound_small old_or_new)
+      each_both (IsTrueIn e) (values_from 0 0 flow.file.ghosts s.nodes) _ (all_values_true e flow.file w g (count h) before broken.ready.values s.nodes)
+      (each_both (IsTrueIn e) (beginning flow s o) _ (beginning_true e flow.file w g (count h) before flow s o refl refl (broken.ready.begins bound) bound_small old_or_new)
       (each_both (IsTrueIn e) (freshness flow.file s) _ (fresh_true e flow.file w g (count h) before s pointers (each_pointer_field flow.file))
       (each_both (IsTrueIn e) (premises flow outline s o) _ premises_true
       (each_both (IsTrueIn e) (executed_clauses s.nodes start s.acts) _ done.clauses denied_true))))
@@ -201,7 +201,7 @@ module _ (flow : Flow) (outline : Outline) (o : Obligation) (acting owner : ℕ)
       nobody = refl;
       me = omega arith;
       you = omega arith;
-      others = λ same. broken.apart (let n : suc acting ≡ suc owner = same in omega arith);
+      others = λ same. broken.ready.apart (let n : suc acting ≡ suc owner = same in omega arith);
       ghosts = flow.file.ghosts;
       values = λ v. refl;
       value_sorts = λ v. refl;

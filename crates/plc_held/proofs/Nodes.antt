@@ -33,7 +33,7 @@ use Rattle.plc_held.proofs.Acts.{View, act_after, ActsRun}
 use Rattle.plc_held.proofs.Meaning.{Meaning, node_in, node_sort}
 use Rattle.plc_held.proofs.Future.{Foresees, later}
 use Rattle.plc_held.proofs.Scene.{Scene, gc_map}
-use Rattle.plc_held.proofs.Reading.{Means}
+use Rattle.plc_held.proofs.Reading.{Means, locals_for, thread_for, local_is, local_named}
 
 -- the first state: what the meaning says of it, and the number of the next node
 pub record IsBefore (e : Meaning) (file : File) (w : Scene) (g : GcState) (limit : ℕ) : Type 0 where
@@ -113,30 +113,29 @@ module _ (e : Meaning) (file : File) (w : Scene) (g : GcState) (limit : ℕ) (be
     below = (let same = before.means.now.value (symbols.Shared i) refl in let small = before.ranges.shared i in omega arith);
   }
 
-  mine_below : (k : ℕ) → IsPlace is_pointer w.mine k → IsBelow e (count g) (symbols.Mine k)
-  mine_below k is = record {
-    sort = before.means.sorts_are.my k ∙ ap local_sort is.1 ∙ ap pointer_sort is.2;
-    below = (let same = before.means.now.value (symbols.Mine k) refl ∙ ap (declared_value g w.acting w.mine k) is.1
-        ∙ ap (λ b. if b then value g (in_local w.acting (pointer_number w.mine k)) else value g (in_data w.acting (data_number w.mine k))) is.2 in
-        let small = before.ranges.locals w.acting (pointer_number w.mine k) in omega arith);
-  }
-
-  theirs_below : (k : ℕ) → IsPlace is_pointer w.theirs k → IsBelow e (count g) (symbols.Theirs k)
-  theirs_below k is = record {
-    sort = before.means.sorts_are.other k ∙ ap local_sort is.1 ∙ ap pointer_sort is.2;
-    below = (let same = before.means.now.value (symbols.Theirs k) refl ∙ ap (declared_value g w.owner w.theirs k) is.1
-        ∙ ap (λ b. if b then value g (in_local w.owner (pointer_number w.theirs k)) else value g (in_data w.owner (data_number w.theirs k))) is.2 in
-        let small = before.ranges.locals w.owner (pointer_number w.theirs k) in omega arith);
-  }
+  local_below : (owner : Bool) (k : ℕ) → IsPlace is_pointer (locals_for w owner) k → IsBelow e (count g) (local_symbol owner k)
+  local_below owner k is =
+      let t = thread_for w owner in
+      let ls = locals_for w owner in
+      record {
+        sort = sorted owner k ∙ ap local_sort is.1 ∙ ap pointer_sort is.2;
+        below = (let same = before.means.now.value (local_symbol owner k) (local_named owner k) ∙ local_is w g owner k ∙ ap (declared_value g t ls k) is.1
+            ∙ ap (λ b. if b then value g (in_local t (pointer_number ls k)) else value g (in_data t (data_number ls k))) is.2 in
+            let small = before.ranges.locals t (pointer_number ls k) in omega arith);
+      }
+    where
+      sorted : (owner : Bool) (k : ℕ) → e.symbol_sort (local_symbol owner k) ≡ local_sort (slice_get (locals_for w owner) k)
+      sorted false k = before.means.sorts_are.my k
+      sorted true k = before.means.sorts_are.other k
 
   pub pointers_below : (shared : ℕ) → Each (IsBelow e (count g)) (pointer_variables shared (variables_of false w.mine) (variables_of true w.theirs))
   pointers_below shared = each_both (IsBelow e (count g)) (map symbols.Shared (below shared)) ((variables_of false w.mine).pointers ++ (variables_of true w.theirs).pointers)
       (each_map (IsBelow e (count g)) symbols.Shared (below shared) (each_all (λ i. IsBelow e (count g) (symbols.Shared i)) shared_below (below shared)))
       (each_both (IsBelow e (count g)) (variables_of false w.mine).pointers (variables_of true w.theirs).pointers
       (each_map (IsBelow e (count g)) (local_symbol false) (places_from is_pointer 0 w.mine)
-      (each_so (IsPlace is_pointer w.mine) (λ k. IsBelow e (count g) (symbols.Mine k)) mine_below (places_from is_pointer 0 w.mine) (each_place_of is_pointer w.mine)))
+      (each_so (IsPlace is_pointer w.mine) (λ k. IsBelow e (count g) (symbols.Mine k)) (local_below false) (places_from is_pointer 0 w.mine) (each_place_of is_pointer w.mine)))
       (each_map (IsBelow e (count g)) (local_symbol true) (places_from is_pointer 0 w.theirs)
-      (each_so (IsPlace is_pointer w.theirs) (λ k. IsBelow e (count g) (symbols.Theirs k)) theirs_below (places_from is_pointer 0 w.theirs) (each_place_of is_pointer w.theirs))))
+      (each_so (IsPlace is_pointer w.theirs) (λ k. IsBelow e (count g) (symbols.Theirs k)) (local_below true) (places_from is_pointer 0 w.theirs) (each_place_of is_pointer w.theirs))))
 
   weaker : (s : Symbol) → IsBelow e (count g) s → IsBelow e limit s
   weaker s h = record { sort = h.sort; below = (let a = h.below in let b = before.few in omega arith) }

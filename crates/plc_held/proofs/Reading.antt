@@ -29,7 +29,7 @@ use Rattle.plc_items.specs.Items.{base_node, me, read_term, read_literal}
 use Rattle.plc_symbolic.specs.declared.symbolic.NodeTerm.{NodeTerm}
 use Rattle.plc_symbolic.specs.declared.symbolic.NodeTerm.TheVariants.{At}
 use Rattle.plc_gc.specs.State.{GcState, entry, is_retired}
-use Rattle.plc_gc.specs.Clauses.{local_value, thread_number, base_node as gc_base_node, term_value, literal_holds}
+use Rattle.plc_gc.specs.Clauses.{declared_value, local_value, thread_number, base_node as gc_base_node, term_value, literal_holds}
 use Rattle.plc_flow.proofs.Each.{Each}
 use Rattle.plc_held.proofs.Acts.{IsNamed}
 use Rattle.plc_held.proofs.Numbering.{LiteralIsTrue}
@@ -44,6 +44,16 @@ use Rattle.plc_held.proofs.Variables.{SortsAre}
 abbrev pub locals_for : Scene → Bool → List Local
 locals_for w false = w.mine
 locals_for w true = w.theirs
+
+-- the thread that acts, or the owner
+abbrev pub thread_for : Scene → Bool → ℕ
+thread_for w false = w.acting
+thread_for w true = w.owner
+
+-- a local stands for its value in the state
+pub local_is : (w : Scene) (g : GcState) (owner : Bool) (k : ℕ) → symbol_in w g (local_symbol owner k) ≡ declared_value g (thread_for w owner) (locals_for w owner) k (slice_get (locals_for w owner) k)
+local_is w g false k = refl
+local_is w g true k = refl
 
 -- what a clause may name stands for what it names when it is asked for this thread, or for none
 pub record IsReadFor (w : Scene) (file : File) (reach : InReach) (g : GcState) (who : Option ℕ) (owner : Bool) : Type 0 where
@@ -60,7 +70,7 @@ pub record Means (e : Meaning) (file : File) (w : Scene) (x : Execution) (g : Gc
   pub entries : (m : Map) (n : ℕ) → e.version m (version x m) n ≡ entry g (gc_map g m) n
   pub constants : (s : Symbol) → slot_of w s ≡ None → IsNamed s → e.symbol s ≡ symbol_in w g s
 
-local_named : (owner : Bool) (k : ℕ) → IsNamed (local_symbol owner k)
+pub local_named : (owner : Bool) (k : ℕ) → IsNamed (local_symbol owner k)
 local_named false k = refl
 local_named true k = refl
 

@@ -29,10 +29,10 @@ use Rattle.plc_gc.proofs.Ranges.{ranged_given, ranged_first}
 use Rattle.plc_flow.proofs.Each.{Each, each_get}
 use Rattle.plc_oblig.proofs.Lists.{each_place, each_of_all}
 use Rattle.plc_held.proofs.Agreement.{each_same, nobody_sees, other_sees, given_fields}
-use Rattle.plc_held.proofs.Broken.{scene_of}
+use Rattle.plc_held.proofs.Broken.{scene_of, IsReady}
 use Rattle.plc_oblig.proofs.Standing.{Stands, point_clauses_fit, op_locals}
 use Rattle.plc_held.proofs.Obliged.{AreMet}
-use Rattle.plc_held.proofs.Concluding.{invariant_read, acting_read, invariants_hold, IsReady, concludes}
+use Rattle.plc_held.proofs.Concluding.{invariant_read, point_read, invariants_hold, concludes}
 use Rattle.plc_held.proofs.Parameters.{shape_fits, no_shape_fits, others_zero}
 use Rattle.plc_held.proofs.Steps.{clauses_counted}
 
@@ -155,7 +155,7 @@ module _ (flow : Flow) (outline : Outline) (threads : ℕ) (fits : Fits flow out
         (record {
           locals = operation.locals;
           in_operation = true;
-          reads = λ b. acting_read flow.file (scene_of flow (Enter (op_id op) i) t (suc t) (count new) b) new operation.locals x (op_locals flow op operation named) held;
+          reads = λ b. point_read flow.file (scene_of flow (Enter (op_id op) i) t (suc t) (count new) b) new false operation.locals x (op_locals flow op operation named) held;
           fits = each_get (ClauseFits flow.file operation.locals true) (clauses_at flow outline gate.entry.0) (point_clauses_fit flow outline fits op gate.entry.0 operation enters) i x at;
         }))
 

@@ -103,16 +103,7 @@ pub symbol_fixed : (w : Scene) (g h : GcState) (s : Symbol) → slot_of w s ≡ 
 symbol_fixed w g h (symbols.Shared i) e = cc
 symbol_fixed w g h (symbols.Mine k) e = declared_nowhere g h w.acting w.mine k (slice_get w.mine k) e
 symbol_fixed w g h (symbols.Theirs k) e = declared_nowhere g h w.owner w.theirs k (slice_get w.theirs k) e
-symbol_fixed w g h symbols.Null e = refl
-symbol_fixed w g h symbols.New e = refl
-symbol_fixed w g h (symbols.Bound i) e = refl
-symbol_fixed w g h (symbols.Loaded i) e = refl
-symbol_fixed w g h symbols.Yes e = refl
-symbol_fixed w g h symbols.Nobody e = refl
-symbol_fixed w g h symbols.Me e = refl
-symbol_fixed w g h symbols.You e = refl
-symbol_fixed w g h (symbols.Value v) e = refl
-symbol_fixed w g h (symbols.Number n) e = refl
+symbol_fixed w g h s e = refl
 
 -- ---- no two variables have one place
 

@@ -39,10 +39,10 @@ use Rattle.plc_flow.proofs.Each.{Each, each_both, each_get}
 use Rattle.plc_oblig.proofs.Lists.{each_place, each_of_all}
 use Rattle.plc_held.proofs.Premises.{IsPremise}
 use Rattle.plc_held.proofs.Beginning.{BeginsAs}
-use Rattle.plc_held.proofs.Broken.{scene_of}
+use Rattle.plc_held.proofs.Broken.{scene_of, IsReady}
 use Rattle.plc_oblig.proofs.Standing.{Stands, point_clauses_fit, op_locals, locals_at}
 use Rattle.plc_held.proofs.Obliged.{AreMet}
-use Rattle.plc_held.proofs.Concluding.{invariant_read, acting_read, owner_read, invariants_hold, acting_hold, owner_hold, IsReady, concludes, claims_truly}
+use Rattle.plc_held.proofs.Concluding.{invariant_read, point_read, invariants_hold, point_hold, concludes, claims_truly}
 use Rattle.plc_held.proofs.Parameters.{shape_fits}
 
 -- ---- lists
@@ -172,7 +172,7 @@ module _ (flow : Flow) (outline : Outline) (fits : Fits flow outline) (met : Are
     acting_holds = λ b. subst (Each (IsPremise flow.file (scene_of flow o t u (count g) b) g false)) (sym premises)
         (each_both (IsPremise flow.file (scene_of flow o t u (count g) b) g false) outline.invariants (clauses_at flow outline p.at)
         (invariants_hold flow.file (scene_of flow o t u (count g) b) g outline.invariants invariants_fit is.invariants)
-        (acting_hold flow.file (scene_of flow o t u (count g) b) g is.busy.operation.locals (clauses_at flow outline p.at) locals declared
+        (point_hold flow.file (scene_of flow o t u (count g) b) g false is.busy.operation.locals (clauses_at flow outline p.at) locals declared
         (point_clauses_fit flow outline fits p.op p.at is.busy.operation stands) is.clauses));
     owner_holds = owners;
   }
@@ -223,7 +223,7 @@ module _ (flow : Flow) (outline : Outline) (fits : Fits flow outline) (met : Are
       (record {
         locals = is.busy.operation.locals;
         in_operation = true;
-        reads = λ b. acting_read flow.file (scene_of flow (Own (step_id of_flow.place) (length outline.invariants + j)) t (suc t) (count g) b) h is.busy.operation.locals c its_locals held;
+        reads = λ b. point_read flow.file (scene_of flow (Own (step_id of_flow.place) (length outline.invariants + j)) t (suc t) (count g) b) h false is.busy.operation.locals c its_locals held;
         fits = each_get (ClauseFits flow.file is.busy.operation.locals true) (clauses_at flow outline step.to.0) (point_clauses_fit flow outline fits p.op step.to.0 is.busy.operation stands_to) j c at;
       }))
 
@@ -242,7 +242,7 @@ module _ (flow : Flow) (outline : Outline) (fits : Fits flow outline) (met : Are
 
     other_ready : (c : ℕ) (h : GcState) → execute g t step.prims ≡ Some h → IsReady flow outline (Other (step_id of_flow.place) (point_id q.at) c) t u g h
     other_ready c h e = ready (Other (step_id of_flow.place) (point_id q.at) c) step.prims u h ne prims its_locals its_premises (λ b. tt)
-        (λ b. owner_hold flow.file (scene_of flow (Other (step_id of_flow.place) (point_id q.at) c) t u (count g) b) g other.operation.locals (clauses_at flow outline q.at) other_locals other_declared other_fits holds)
+        (λ b. point_hold flow.file (scene_of flow (Other (step_id of_flow.place) (point_id q.at) c) t u (count g) b) g true other.operation.locals (clauses_at flow outline q.at) other_locals other_declared other_fits holds)
         names sorted_all one e
 
     small : q.at < flow.points
@@ -255,6 +255,6 @@ module _ (flow : Flow) (outline : Outline) (fits : Fits flow outline) (met : Are
         (record {
           locals = other.operation.locals;
           in_operation = true;
-          reads = λ b. owner_read flow.file (scene_of flow (Other (step_id of_flow.place) (point_id q.at) j) t u (count g) b) h other.operation.locals c other_locals held;
+          reads = λ b. point_read flow.file (scene_of flow (Other (step_id of_flow.place) (point_id q.at) j) t u (count g) b) h true other.operation.locals c other_locals held;
           fits = each_get (ClauseFits flow.file other.operation.locals true) (clauses_at flow outline q.at) other_fits j c at;
         }))

@@ -19,7 +19,9 @@ all_bare w (t ∷ ts) = (t.g.0 == 0) && ((t.m == w) && all_bare w ts)
 
 -- an environment of the observer, with so many types
 unfoldable pub fits : Observer → ℕ → ℕ → Env → Bool
-fits o shared locals e = within e.w (all_locations o) && ((length e.shared == shared) && (all_bare e.w e.shared && ((length e.locals == locals) && all_types o e.w e.locals)))
+fits o shared locals e =
+    within e.w (all_locations o) && ((length e.shared == shared) && (all_bare e.w e.shared
+    && ((length e.locals == locals) && all_types o e.w e.locals)))
 
 -- the sum of numbers
 abbrev pub total : List ℕ → ℕ

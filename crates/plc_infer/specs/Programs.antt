@@ -32,12 +32,14 @@ some_passage = record { from = 0; to = 0; prims = [] }
 abbrev pub passage_at : Skeleton → ℕ → Passage
 passage_at s k = get_or s.passages k some_passage
 
--- both ends of a step are points with as many pointer locals, operations begin at points, and points, steps and primitives can be numbered
+-- both ends of a step are points with as many pointer locals, operations begin at points, and points, steps and
+-- primitives can be numbered
 pub record IsProgram (s : Skeleton) : Type 0 where
   pub few : length s.locals ≤ most limits.Points
   pub few_steps : length s.passages < 65536
   pub short : (k : ℕ) → k < length s.passages → length (passage_at s k).prims < 65536
   pub from_in : (k : ℕ) → k < length s.passages → (passage_at s k).from < length s.locals
   pub to_in : (k : ℕ) → k < length s.passages → (passage_at s k).to < length s.locals
-  pub same_locals : (k : ℕ) → k < length s.passages → locals_at s (passage_at s k).to ≡ locals_at s (passage_at s k).from
+  pub same_locals : (k : ℕ) → k < length s.passages
+      → locals_at s (passage_at s k).to ≡ locals_at s (passage_at s k).from
   pub entries_in : (i p : ℕ) → slice_get s.entries i ≡ Some p → p < length s.locals

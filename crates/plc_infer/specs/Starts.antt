@@ -1,4 +1,5 @@
--- Where the iteration begins: the entry environment where an operation begins, and elsewhere the environment below all others.
+-- Where the iteration begins: the entry environment where an operation begins, and elsewhere the environment
+-- below all others.
 use Rattle.std.specs.Prelude.{ℕ, ◌==◌, List, length, if◌then◌else◌}
 use Rattle.std.specs.List.{list_any}
 use Rattle.plc_lang.specs.Skeleton.{Skeleton, locals_at}

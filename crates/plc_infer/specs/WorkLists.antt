@@ -1,5 +1,7 @@
--- What a work list holds while the iteration goes on: each step that may lead too far leaves a point on the list, or is still to be looked at.
-use Rattle.std.specs.Prelude.{◌≡◌, ℕ, ◌+◌, ◌<◌, ◌≤◌, Bool, true, false, List, [], ◌∷◌, ◌++◌, length, get_or, slice_set, ◌⊎◌}
+-- What a work list holds while the iteration goes on: each step that may lead too far leaves a point on the
+-- list, or is still to be looked at.
+use Rattle.std.specs.Prelude.{◌≡◌, ℕ, ◌+◌, ◌<◌, ◌≤◌, Bool, true, false, List, []}
+use Rattle.std.specs.Prelude.{◌∷◌, ◌++◌, length, get_or, slice_set, ◌⊎◌}
 use Rattle.plc_lang.specs.Skeleton.{Skeleton}
 use Rattle.plc_xfer.specs.Rules.{table}
 use Rattle.plc_infer.specs.Iteration.{Graph, Stays, Rising, Relaxed, total}
@@ -31,7 +33,8 @@ pub record LeavingBelow (s : Skeleton) (n : ℕ) (index : List (List ℕ)) : Typ
   pub all : (p k : ℕ) → p < length s.locals → k < n → (passage_at s k).from ≡ p → Among (get_or index p []) k
 
 -- on the way to the strongest, with the points on the list and the steps that are still to be looked at
-pub record UnderWay {E : Type 0} (g : Graph E) (starts envs : List E) (queue : List ℕ) (marks : List Bool) (todo : List ℕ) : Type 0 where
+pub record UnderWay {E : Type 0} (g : Graph E) (starts envs : List E) (queue : List ℕ) (marks : List Bool)
+    (todo : List ℕ) : Type 0 where
   pub rising : Rising g starts envs
   pub count : length marks ≡ g.points
   pub points : (p : ℕ) → Among queue p → p < g.points

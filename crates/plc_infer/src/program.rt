@@ -1,7 +1,8 @@
 // A control flow as plain lists. Inference reads no more of a flow than these, and borrows them, so that
 // a flow with further claims in front of some steps is judged without a copy of it: those steps get a
 // longer list of primitives, and every other step keeps that of the flow.
-ghost use Rattle.std.specs.Prelude.{◌≡◌, ◌++◌, ◌-◌, ◌≤◌, ◌<◌, IfOk, OnOk, length, map, replicate};
+ghost use Rattle.std.specs.Prelude.{◌≡◌, ◌++◌, ◌-◌, ◌≤◌, ◌<◌, IfOk};
+ghost use Rattle.std.specs.Prelude.{OnOk, length, map, replicate};
 ghost use Rattle.plc_base.specs.Limits.{most};
 ghost use Rattle.plc_base.specs.declared.limits.What1.TheVariants as limits;
 ghost use Rattle.plc_lang.specs.Fit.{FileFits};

@@ -1,7 +1,8 @@
 // The points that wait to be looked at, first come first taken: a point is taken after what reaches it
 // by as many steps, so that two ways of like length to one point cost one look and not two. A point
 // that waits isn't put on the list again; its mark says so without a search.
-ghost use Rattle.std.specs.Prelude.{◌≡◌, ◌≤◌, ◌<◌, ◌∷◌, [], ℕ, true, false, length, replicate, slice_set};
+ghost use Rattle.std.specs.Prelude.{◌≡◌, ◌≤◌, ◌<◌, ◌∷◌, [], ℕ, true};
+ghost use Rattle.std.specs.Prelude.{false, length, replicate, slice_set};
 ghost use Rattle.std.specs.Prelude.{IfOk, OnOk, MatchOption};
 ghost use Rattle.plc_infer.specs.WorkLists.{Among, Puts, numbers};
 

@@ -16,9 +16,11 @@ use Rattle.plc_replay.specs.Outcome.{ComesTo}
 
 -- whatever the meanings of the reclaimer are
 abbrev pub OneEnd : Flow → Observer → Meanings → List Scheme → Schedule → Type 0
-OneEnd flow o reclaimer schemes s = (e f : End) → ComesTo flow o reclaimer schemes s e → ComesTo flow o reclaimer schemes s f → e ≡ f
+OneEnd flow o reclaimer schemes s =
+    (e f : End) → ComesTo flow o reclaimer schemes s e → ComesTo flow o reclaimer schemes s f → e ≡ f
 
--- the reclaimer acts as `hazard` and the file has no `use epoch`, or it acts as `epoch` and the file has no `use hazard`
+-- the reclaimer acts as `hazard` and the file has no `use epoch`, or it acts as `epoch` and the file has no
+-- `use hazard`
 abbrev pub Serves : Observer → Meanings → Type 0
 Serves Plain m = ActsAs hazard_row m ⊎ ActsAs epoch_row m
 Serves (Hazard f) m = ActsAs hazard_row m

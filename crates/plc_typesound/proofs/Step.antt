@@ -79,12 +79,10 @@ module _ {o : Observer} {threads : ℕ} {h : List Event} {t : ℕ} {s : State} {
   called p false c = refl
 
   called_none : (b : Bool) → race_of_call s t b args.None ≡ None
-  called_none true = refl
-  called_none false = refl
+  called_none = elim [ true ↦ refl | false ↦ refl ]
 
   called_null : (b : Bool) → race_of_call s t b args.Null ≡ None
-  called_null true = refl
-  called_null false = refl
+  called_null = elim [ true ↦ refl | false ↦ refl ]
 
   -- a primitive whose condition holds is no race
   pub no_race : (k : Primitive) → fault_of e k ≡ None → race_of s t k ≡ None
@@ -130,12 +128,10 @@ module _ {o : Observer} {threads : ℕ} {h : List Event} {t : ℕ} {s : State} {
       (env_met o (h ++ ev ∷ []) t s e (λ v. other_type o kind (type_of e v)) (on_other o kind e.w) (own_other here ev kind reads live) (own_other_anywhere here ev kind reads live))
 
   no_change : (b : Bool) → after_call s t b args.None ≡ s
-  no_change true = refl
-  no_change false = refl
+  no_change = elim [ true ↦ refl | false ↦ refl ]
 
   null_changes_nothing : (b : Bool) → after_call s t b args.Null ≡ s
-  null_changes_nothing true = refl
-  null_changes_nothing false = refl
+  null_changes_nothing = elim [ true ↦ refl | false ↦ refl ]
 
   pub own_primitive : (a : ℕ) (k : Primitive) → race_of s t k ≡ None → goes s t a k ≡ true → ClaimTrue s t k → IsObserved o threads (after s t a k) (recorded h (event_of s t k)) → EnvMet o (recorded h (event_of s t k)) t (after s t a k) (env_after o e k)
   unfolding env_after

@@ -17,7 +17,8 @@ use Rattle.plc_xfer.specs.Rules.{type_of}
 -- what may happen meanwhile to an address that such a pointer holds: without S a free of it too,
 -- with L no retirement of it
 abbrev pub may_happen : Guar → EvKind → Bool → Bool
-may_happen g kind on_this = happens (not (is_safe g)) kind on_this && not (is_local g && (is_retirement kind && on_this))
+may_happen g kind on_this =
+    happens (not (is_safe g)) kind on_this && not (is_local g && (is_retirement kind && on_this))
 
 -- the locations are closed under what may happen; with S nothing may free the address; A stands beside
 -- L alone
