@@ -1,9 +1,8 @@
 -- What `reach` computes is what the relations of moves and races say.
-use Rattle.std.proofs.Common.{◌≡◌, ℕ, ◌<◌, Bool, true, false, ◌==◌, List, [], ◌∷◌, ◌++◌, Option, Some, None, length, slice_get, is_some, is_none, refl, sym, ap, ◌∙◌, arith, cond}
+use Rattle.std.proofs.Common.{◌≡◌, ℕ, ◌<◌, Bool, true, false, ◌==◌, List, [], ◌∷◌, ◌++◌, Option, Some, None, length, is_some, refl, sym, ap, ◌∙◌, arith, cond}
 use Rattle.std.specs.List.{list_any}
-use Rattle.std.proofs.lemmas.Bool.{and_parts, and_from, eq-eqb, eqb-true, ltb-true, lt-ltb}
+use Rattle.std.proofs.lemmas.Bool.{eqb-true}
 use Rattle.std.proofs.lemmas.Bool.Decides.{nat_tests}
-use Rattle.std.specs.Prelude.{nat_lt}
 use Rattle.plc_mem.specs.State.{with_locals, freed, starting}
 use Rattle.plc_base.specs.Tables.{put_at}
 use Rattle.plc_lang.specs.declared.syntax.Op.{Op}
@@ -12,21 +11,20 @@ use Rattle.plc_auto.specs.declared.observer.Observer.{Observer}
 use Rattle.plc_auto.specs.Location.{location, Allowed}
 use Rattle.plc_base.specs.declared.ids.OpId.{OpId}
 use Rattle.plc_flow.specs.declared.flow.Step.{Step}
-use Rattle.plc_flow.specs.declared.flow.Gate.{Gate}
 use Rattle.plc_flow.specs.declared.flow.Flow.{Flow}
 use Rattle.plc_flow.specs.declared.flow.Move.{Move}
 use Rattle.plc_flow.specs.declared.flow.Move.TheVariants.{Start, Step as Take, Return, Free}
-use Rattle.plc_lang.specs.Locals.{parameters_of}
 use Rattle.plc_flow.specs.declared.points.Point.{Point}
 use Rattle.plc_lang.specs.Allocation.{is_new}
 use Rattle.plc_run.specs.Run.{Ending, Fine, Stuck, Raced, Configuration, point_of, MayTake, taken, Moves, Races}
-use Rattle.plc_flow.specs.Points.{steps_from, names_rightly}
+use Rattle.plc_flow.specs.Points.{names_rightly}
+use Rattle.plc_threads.specs.Standing.{begun, step_of, at_exit}
+use Rattle.plc_threads.proofs.Moves.{begun_so, begins_so, taken_so, takes_so, exit_so, ends_so}
 use Rattle.plc_run.specs.Position.{IsForbidden, HasNone}
-use Rattle.plc_run.specs.Reach.{Reached, Goes, Blocks, Forbids, Breaks, is_idle, start_op, start_from, ended_as, take_step, step_from, return_to, return_from, may_free, free_of, reach}
+use Rattle.plc_run.specs.Reach.{Reached, Goes, Blocks, Forbids, Breaks, started, start_from, ended_as, take_step, step_from, return_from, may_free, free_of, reach}
 use Rattle.plc_flow.proofs.Leaving.{same_if, if_same}
 use Rattle.plc_run.proofs.Judged.{judged_allowed, judged_forbidden}
 use Rattle.plc_run.proofs.Runs.{one_step}
-use Rattle.plc_run.proofs.Shapes.{held_below}
 
 -- what each result says
 abbrev pub LeadsTo : Flow → Observer → ℕ → Configuration → Move → Reached → Type 0
@@ -40,39 +38,16 @@ LeadsTo flow o threads c move (Breaks kind k) = Races flow threads c move kind k
 start_none : (flow : Flow) (o : Observer) (threads : ℕ) (c : Configuration) (t : ℕ) (op : OpId) (args : List ℕ) → ((d : Configuration) → Moves flow o threads c (Start t op args) d → ⊥) → HasNone flow o threads c (Start t op args)
 start_none flow o threads c t op args f = record { no_move = f; no_race = λ kind k r. r; not_forbidden = λ r. r }
 
-none_if : {A : Type 0} (q : Option A) → is_none q ≡ true → q ≡ None
-none_if None e = refl
-none_if (Some x) e = cc
-
-is_none_of : {A : Type 0} (q : Option A) → q ≡ None → is_none q ≡ true
-is_none_of None e = refl
-is_none_of (Some x) e = cc
-
-start_counted : (flow : Flow) (o : Observer) (c : Configuration) (t : ℕ) (op : OpId) (args : List ℕ) (n : Op) (g : Gate) → t < length c.points → point_of c t ≡ None → slice_get flow.file.ops op.0 ≡ Some n → slice_get flow.gates op.0 ≡ Some g → LeadsTo flow o (length c.points) c (Start t op args) (start_op c t op.0 args (Some n) (Some g))
-start_counted flow o c t op args n g small free named opens = go (length args == parameters_of n) refl
-  where
-    go : (b : Bool) → (length args == parameters_of n) ≡ b → LeadsTo flow o (length c.points) c (Start t op args) (cond b (Goes (record c { state = with_locals c.state t (Some (starting n args)); points = put_at None c.points t (Some (record { op = op.0; at = g.entry.0 })) })) Blocks)
-    go true e = (n, g, small, free, named, opens, eqb-true _ _ e, refl)
-    go false e = start_none flow o (length c.points) c t op args (λ d m.
-        let same : n ≡ m.0 = (let a = m.4 in cc) in
-        let contrary : (length args == parameters_of n) ≡ true = eq-eqb (length args) (parameters_of n) (m.6 ∙ ap (λ (x : Op). parameters_of x) (sym same)) in
-        cc)
-
-start_opened : (flow : Flow) (o : Observer) (c : Configuration) (t : ℕ) (op : OpId) (args : List ℕ) → t < length c.points → point_of c t ≡ None → (a : Option Op) → slice_get flow.file.ops op.0 ≡ a → (b : Option Gate) → slice_get flow.gates op.0 ≡ b → LeadsTo flow o (length c.points) c (Start t op args) (start_op c t op.0 args a b)
-start_opened flow o c t op args small free None e b f = start_none flow o (length c.points) c t op args (λ d m. (let g = m.4 in cc))
-start_opened flow o c t op args small free (Some n) e None f = start_none flow o (length c.points) c t op args (λ d m. (let g = m.5 in cc))
-start_opened flow o c t op args small free (Some n) e (Some g) f = start_counted flow o c t op args n g small free e f
-
 start_leads : (flow : Flow) (o : Observer) (c : Configuration) (t : ℕ) (op : OpId) (args : List ℕ) → LeadsTo flow o (length c.points) c (Start t op args) (start_from flow c t op.0 args)
-start_leads flow o c t op args = go (is_idle c.points t) refl
+start_leads flow o c t op args = go (begun flow c.points t op.0 args) refl
   where
-    go : (b : Bool) → is_idle c.points t ≡ b → LeadsTo flow o (length c.points) c (Start t op args) (cond b (start_op c t op.0 args (slice_get flow.file.ops op.0) (slice_get flow.gates op.0)) Blocks)
-    go true e =
-        let parts = and_parts (nat_lt t (length c.points)) (is_none (point_of c t)) e in
-        start_opened flow o c t op args (ltb-true t (length c.points) parts.0) (none_if (point_of c t) parts.1) (slice_get flow.file.ops op.0) refl (slice_get flow.gates op.0) refl
-    go false e = start_none flow o (length c.points) c t op args (λ d m.
-        let contrary : is_idle c.points t ≡ true = and_from (nat_lt t (length c.points)) (is_none (point_of c t)) (lt-ltb t (length c.points) m.2) (is_none_of (point_of c t) m.3) in
+    go : (b : Option (Op × Point)) → begun flow c.points t op.0 args ≡ b → LeadsTo flow o (length c.points) c (Start t op args) (started c t args b)
+    go None e = start_none flow o (length c.points) c t op args (λ d m.
+        let contrary = begins_so flow c.points t op.0 args m.0 m.1 (record { known = m.2; idle = m.3; named = m.4; opens = m.5; counted = m.6 }) in
         cc)
+    go (Some (n, p)) e =
+        let b = begun_so flow c.points t op.0 args n p e in
+        (n, b.0, b.1.known, b.1.idle, b.1.named, b.1.opens, b.1.counted, ap (λ (p : Point). record c { state = with_locals c.state t (Some (starting n args)); points = put_at None c.points t (Some p) }) b.2)
 
 -- ---- steps
 
@@ -89,53 +64,42 @@ take_ended flow o threads c t nth addr p s may Stuck e = record {
 }
 take_ended flow o threads c t nth addr p s may (Raced kind k) e = (p, s, may, e)
 
-take_shaped : (flow : Flow) (o : Observer) (c : Configuration) (t nth : ℕ) (addr : Option ℕ) (p : Point) (s : Step) → point_of c t ≡ Some p → slice_get (steps_from flow p.at) nth ≡ Some s → LeadsTo flow o (length c.points) c (Take t nth addr) (take_step c t addr p (Some s))
-take_shaped flow o c t nth addr p s busy at = go (names_rightly addr s) refl
+take_leads : (flow : Flow) (o : Observer) (c : Configuration) (t nth : ℕ) (addr : Option ℕ) → LeadsTo flow o (length c.points) c (Take t nth addr) (step_from flow c t nth addr (point_of c t))
+take_leads flow o c t nth addr = go (step_of flow nth (point_of c t)) refl
   where
-    go : (b : Bool) → names_rightly addr s ≡ b → LeadsTo flow o (length c.points) c (Take t nth addr) (cond b (ended_as c t p s.to.0 (taken c t addr s)) Blocks)
-    go true e = take_ended flow o (length c.points) c t nth addr p s (record { known = held_below c.points t p busy; busy = busy; leaves_there = at; shape = same_if (is_some addr) (list_any is_new s.prims) e }) (taken c t addr s) refl
-    go false e = take_none flow o (length c.points) c t nth addr (λ q r m.
-        let point : p ≡ q = (let f = m.busy in cc) in
-        let step : s ≡ r = (let f = m.leaves_there in let g = ap (λ (x : Point). slice_get (steps_from flow x.at) nth) point in cc) in
-        let contrary : names_rightly addr s ≡ true = if_same (is_some addr) (list_any is_new s.prims) (m.shape ∙ ap (λ (x : Step). list_any is_new x.prims) (sym step)) in
+    shaped : (p : Point) (s : Step) → step_of flow nth (point_of c t) ≡ Some (p, s) → (b : Bool) → names_rightly addr s ≡ b → LeadsTo flow o (length c.points) c (Take t nth addr) (cond b (ended_as c t p s.to.0 (taken c t addr s)) Blocks)
+    shaped p s e true named =
+        let k = taken_so flow c.points t nth p s e in
+        take_ended flow o (length c.points) c t nth addr p s (record { known = k.known; busy = k.busy; leaves_there = k.leaves_there; shape = same_if (is_some addr) (list_any is_new s.prims) named }) (taken c t addr s) refl
+    shaped p s e false named = take_none flow o (length c.points) c t nth addr (λ q r m.
+        let other = takes_so flow (point_of c t) nth q r m.busy m.leaves_there in
+        let both : (p, s) ≡ (q, r) = cc in
+        let same : s ≡ r = ap (λ (x : Point × Step). x.1) both in
+        let step : list_any is_new s.prims ≡ list_any is_new r.prims = ap (λ (x : Step). list_any is_new x.prims) same in
+        let contrary : names_rightly addr s ≡ true = if_same (is_some addr) (list_any is_new s.prims) (m.shape ∙ sym step) in
         cc)
 
-take_there : (flow : Flow) (o : Observer) (c : Configuration) (t nth : ℕ) (addr : Option ℕ) (p : Point) → point_of c t ≡ Some p → (s : Option Step) → slice_get (steps_from flow p.at) nth ≡ s → LeadsTo flow o (length c.points) c (Take t nth addr) (take_step c t addr p s)
-take_there flow o c t nth addr p busy None at = take_none flow o (length c.points) c t nth addr (λ q r m.
-    let point : p ≡ q = (let f = m.busy in cc) in
-    let f = m.leaves_there in
-    let g = ap (λ (x : Point). slice_get (steps_from flow x.at) nth) point in
-    cc)
-take_there flow o c t nth addr p busy (Some s) at = take_shaped flow o c t nth addr p s busy at
-
-take_leads : (flow : Flow) (o : Observer) (c : Configuration) (t nth : ℕ) (addr : Option ℕ) (q : Option Point) → point_of c t ≡ q → LeadsTo flow o (length c.points) c (Take t nth addr) (step_from flow c t nth addr q)
-take_leads flow o c t nth addr None e = take_none flow o (length c.points) c t nth addr (λ p s m. (let f = m.busy in cc))
-take_leads flow o c t nth addr (Some p) e = take_there flow o c t nth addr p e (slice_get (steps_from flow p.at) nth) refl
+    go : (s : Option (Point × Step)) → step_of flow nth (point_of c t) ≡ s → LeadsTo flow o (length c.points) c (Take t nth addr) (take_step c t addr s)
+    go None e = take_none flow o (length c.points) c t nth addr (λ q r m.
+        let other = takes_so flow (point_of c t) nth q r m.busy m.leaves_there in
+        cc)
+    go (Some (p, s)) e = shaped p s e (names_rightly addr s) refl
 
 -- ---- returns
 
 return_none : (flow : Flow) (o : Observer) (threads : ℕ) (c : Configuration) (t : ℕ) → ((d : Configuration) → Moves flow o threads c (Return t) d → ⊥) → HasNone flow o threads c (Return t)
 return_none flow o threads c t f = record { no_move = f; no_race = λ kind k r. r; not_forbidden = λ r. r }
 
-return_at : (flow : Flow) (o : Observer) (c : Configuration) (t : ℕ) (p : Point) → point_of c t ≡ Some p → (g : Option Gate) → slice_get flow.gates p.op ≡ g → LeadsTo flow o (length c.points) c (Return t) (return_to c t p g)
-return_at flow o c t p busy None e = return_none flow o (length c.points) c t (λ d m.
-    let point : p ≡ m.0 = (let f = m.3 in cc) in
-    let f = m.4 in
-    let h = ap (λ (x : Point). slice_get flow.gates x.op) point in
-    cc)
-return_at flow o c t p busy (Some g) e = go (p.at == g.exit.0) refl
+return_leads : (flow : Flow) (o : Observer) (c : Configuration) (t : ℕ) → LeadsTo flow o (length c.points) c (Return t) (return_from flow c t (point_of c t))
+return_leads flow o c t = go (at_exit flow (point_of c t)) refl
   where
-    go : (b : Bool) → (p.at == g.exit.0) ≡ b → LeadsTo flow o (length c.points) c (Return t) (cond b (Goes (record c { state = with_locals c.state t None; points = put_at None c.points t None })) Blocks)
-    go true f = (p, g, held_below c.points t p busy, busy, e, eqb-true p.at g.exit.0 f, refl)
-    go false f = return_none flow o (length c.points) c t (λ d m.
-        let point : p ≡ m.0 = (let x = m.3 in cc) in
-        let gate : g ≡ m.1 = (let x = m.4 in let h = ap (λ (x : Point). slice_get flow.gates x.op) point in cc) in
-        let contrary : (p.at == g.exit.0) ≡ true = eq-eqb p.at g.exit.0 (ap (λ (x : Point). x.at) point ∙ m.5 ∙ ap (λ (x : Gate). x.exit.0) (sym gate)) in
+    go : (b : Bool) → at_exit flow (point_of c t) ≡ b → LeadsTo flow o (length c.points) c (Return t) (cond b (Goes (record c { state = with_locals c.state t None; points = put_at None c.points t None })) Blocks)
+    go true e =
+        let x = exit_so flow c.points t e in
+        (x.0, x.1, x.2.known, x.2.busy, x.2.opens, x.2.exits, refl)
+    go false e = return_none flow o (length c.points) c t (λ d m.
+        let contrary = ends_so flow (point_of c t) m.0 m.1 m.3 m.4 m.5 in
         cc)
-
-return_leads : (flow : Flow) (o : Observer) (c : Configuration) (t : ℕ) (q : Option Point) → point_of c t ≡ q → LeadsTo flow o (length c.points) c (Return t) (return_from flow c t q)
-return_leads flow o c t None e = return_none flow o (length c.points) c t (λ d m. (let f = m.3 in cc))
-return_leads flow o c t (Some p) e = return_at flow o c t p e (slice_get flow.gates p.op) refl
 
 -- ---- frees
 
@@ -156,6 +120,6 @@ free_leads flow o c a fine = go (a == 0) refl
 pub reach_leads : (flow : Flow) (o : Observer) (c : Configuration) (move : Move) → Allowed o (length c.points) c.history → LeadsTo flow o (length c.points) c move (reach flow o c move)
 unfolding reach
 reach_leads flow o c (Start t op args) fine = start_leads flow o c t op args
-reach_leads flow o c (Take t nth addr) fine = take_leads flow o c t nth addr (point_of c t) refl
-reach_leads flow o c (Return t) fine = return_leads flow o c t (point_of c t) refl
+reach_leads flow o c (Take t nth addr) fine = take_leads flow o c t nth addr
+reach_leads flow o c (Return t) fine = return_leads flow o c t
 reach_leads flow o c (Free a) fine = free_leads flow o c a fine

@@ -16,7 +16,7 @@ use Rattle.plc_base.specs.Tables.{put_at}
 use Rattle.plc_mem.specs.Primitives.{after_call, race_of, goes, after, event_of}
 use Rattle.plc_mem.specs.Fit.{shape}
 use Rattle.plc_base.proofs.Tables.{get-put_same, get-put_other}
-use Rattle.plc_mem.proofs.Places.{length_put}
+use Rattle.plc_threads.proofs.Places.{length_put, held_below}
 use Rattle.plc_run.specs.Run.{Ending, Fine, Stuck, Raced, turn, recorded, execute}
 
 -- thread t holds locals l before and m after; all else has its old shape
@@ -34,11 +34,6 @@ Keeps t s l new = (m : Locals) × KeepsShape t s l new m
 
 pub same_shape : {t : ℕ} {s new : State} {l m : Locals} → KeepsShape t s l new m → shape new m ≡ shape s l
 same_shape k = (let a = k.shared in let b = k.pointers in let c = k.values in let d = ap length k.fields in cc)
-
-pub held_below : {A : Type 0} (xs : List (Option A)) (t : ℕ) (l : A) → get_or xs t None ≡ Some l → t < length xs
-held_below [] t l e = cc
-held_below (x ∷ xs) zero l e = omega arith
-held_below (x ∷ xs) (suc t) l e = let h = held_below xs t l e in omega arith
 
 itself : (t : ℕ) (s : State) (l : Locals) → get_or s.locals t None ≡ Some l → KeepsShape t s l s l
 itself t s l held = record { fields = refl; shared = refl; threads = refl; others = λ u ne. refl; held = held; pointers = refl; values = refl }

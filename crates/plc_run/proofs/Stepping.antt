@@ -1,14 +1,12 @@
 -- What the code's parts of a move make together.
 use Rattle.std.proofs.Common.{Result, Ok, Err, IfOk, OnOk, OnErr, ◌≡◌, ℕ, zero, suc, ◌+◌, ◌<◌, Bool, true, false, cond, List, [], ◌∷◌, ◌++◌, Option, Some, None, length, get_or, set, slice_get, replicate, refl, sym, ap, ◌∙◌, subst, arith, append_assoc}
-use Rattle.std.specs.Prelude.{nat_lt, is_none}
 use Rattle.std.proofs.lemmas.List.{length-replicate}
-use Rattle.std.proofs.lemmas.Bool.{and_parts, eq-eqb, ltb-true}
-use Rattle.plc_lang.specs.Locals.{parameters_of}
 use Rattle.plc_base.specs.declared.ids.OpId.{OpId}
 use Rattle.plc_base.specs.declared.memory.NoMemory.{NoMemory}
-use Rattle.plc_flow.specs.declared.flow.Gate.{Gate}
 use Rattle.plc_run.specs.Fit.{ConfigurationFits}
-use Rattle.plc_run.proofs.Shapes.{held_below}
+use Rattle.plc_threads.specs.Standing.{begun, step_of, at_exit}
+use Rattle.plc_threads.proofs.Places.{put_is_set, length_put}
+use Rattle.plc_threads.proofs.Moves.{exit_so}
 use Rattle.plc_lang.specs.declared.syntax.Op.{Op}
 use Rattle.plc_lang.specs.declared.syntax.Primitive.{Primitive}
 use Rattle.plc_auto.specs.declared.event.Event.{Event}
@@ -26,11 +24,11 @@ use Rattle.plc_mem.specs.declared.cell.Outcome.TheVariants.{Next}
 use Rattle.plc_mem.specs.Outcomes.{outcome_of, next_of, address_or_null}
 use Rattle.plc_run.specs.Ended.{heard}
 use Rattle.plc_run.proofs.Executing.{turned, execute_first, given_back}
-use Rattle.plc_mem.proofs.Places.{put_is_set, put_put, length_put}
+use Rattle.plc_mem.proofs.Places.{put_put}
 use Rattle.plc_flow.specs.declared.points.Point.{Point}
 use Rattle.plc_run.specs.Run.{Ending, Fine, Stuck, Raced, turn, recorded, execute, Configuration, point_of, taken, Moves, Run, begin, more, beginning, initialised, first_configuration}
-use Rattle.plc_flow.specs.Points.{steps_from, names_rightly}
-use Rattle.plc_run.specs.Reach.{Reached, Goes, Blocks, Forbids, Breaks, is_idle, start_op, start_from, return_to, return_from, ended_as, take_step, step_from, free_of, reach, answer, Reaches}
+use Rattle.plc_flow.specs.Points.{names_rightly}
+use Rattle.plc_run.specs.Reach.{Reached, Goes, Blocks, Forbids, Breaks, started, start_from, return_from, ended_as, take_step, step_from, free_of, reach, answer, Reaches}
 use Rattle.plc_run.specs.declared.moved.Moved.{Moved}
 use Rattle.plc_run.specs.Position.{Position, threads_of, Follows, IsOfRun, Answers}
 use Rattle.plc_run.proofs.Reaching.{LeadsTo, reach_leads}
@@ -65,10 +63,9 @@ append_none [] = refl
 append_none (e ∷ h) = ap (λ x. e ∷ x) (append_none h)
 
 -- a step that may be taken
-pub stepped : (flow : Flow) (c : Configuration) (t nth : ℕ) (addr : Option ℕ) (p : Point) (step : Step) → point_of c t ≡ Some p → slice_get (steps_from flow p.at) nth ≡ Some step → names_rightly addr step ≡ true
+pub stepped : (flow : Flow) (c : Configuration) (t nth : ℕ) (addr : Option ℕ) (p : Point) (step : Step) → step_of flow nth (point_of c t) ≡ Some (p, step) → names_rightly addr step ≡ true
     → step_from flow c t nth addr (point_of c t) ≡ ended_as c t p step.to.0 (taken c t addr step)
-stepped flow c t nth addr p step busy at shaped =
-    ap (step_from flow c t nth addr) busy ∙ ap (take_step c t addr p) at ∙ ap (λ b. cond b (ended_as c t p step.to.0 (taken c t addr step)) Blocks) shaped
+stepped flow c t nth addr p step at shaped = ap (take_step c t addr) at ∙ ap (λ b. cond b (ended_as c t p step.to.0 (taken c t addr step)) Blocks) shaped
 
 -- what it comes to, where its events were gathered beside the history
 pub taken_so : (c : Configuration) (t : ℕ) (addr : Option ℕ) (step : Step) (end : Ending) → end ≡ execute c.state [] t (address_or_null addr) 0 step.prims → with_history c.history end ≡ taken c t addr step
@@ -77,14 +74,11 @@ taken_so c t addr step end ran =
     ∙ ap (λ h. execute c.state h t (address_or_null addr) 0 step.prims) (append_none c.history)
 
 -- all its primitives succeeded
-pub taken_fine : (c : Configuration) (t : ℕ) (addr : Option ℕ) (p : Point) (step : Step) (s : State) (g h : List Event) (ps : List (Option Point)) → t < length c.points
-    → Fine s g ≡ execute c.state [] t (address_or_null addr) 0 step.prims → h ≡ c.history ++ g → ps ≡ set c.points t (Some (record p { at = step.to.0 }))
+pub taken_fine : (c : Configuration) (t : ℕ) (addr : Option ℕ) (p : Point) (step : Step) (s : State) (g h : List Event) (ps : List (Option Point))
+    → Fine s g ≡ execute c.state [] t (address_or_null addr) 0 step.prims → h ≡ c.history ++ g → ps ≡ put_at None c.points t (Some (record p { at = step.to.0 }))
     → Goes (record { state = s; history = h; points = ps }) ≡ ended_as c t p step.to.0 (taken c t addr step)
-taken_fine c t addr p step s g h ps small ran longer points =
-    let to : Option Point = Some (record p { at = step.to.0 }) in
-    ap (λ ps. Goes (record { state = s; history = h; points = ps })) (points ∙ sym (put_is_set None c.points t to small))
-    ∙ ap (λ h. Goes (record { state = s; history = h; points = put_at None c.points t to })) longer
-    ∙ ap (ended_as c t p step.to.0) (taken_so c t addr step (Fine s g) ran)
+taken_fine c t addr p step s g h ps ran longer points =
+    (λ i. Goes (record { state = s; history = longer i; points = points i })) ∙ ap (ended_as c t p step.to.0) (taken_so c t addr step (Fine s g) ran)
 
 -- ---- where runs begin
 
@@ -137,12 +131,10 @@ run_answered flow o p q move run to follows =
 -- ---- a step of no or one primitive
 
 -- without primitives
-pub none_taken : (c : Configuration) (t : ℕ) (addr : Option ℕ) (p : Point) (step : Step) (ps : List (Option Point)) → t < length c.points
-    → step.prims ≡ [] → ps ≡ set c.points t (Some (record p { at = step.to.0 })) → Goes (record c { points = ps }) ≡ ended_as c t p step.to.0 (taken c t addr step)
-none_taken c t addr p step ps small none points =
-    let there : Option Point = Some (record p { at = step.to.0 }) in
-    let here : ps ≡ put_at None c.points t there = points ∙ sym (put_is_set None c.points t there small) in
-    (λ i. Goes (record c { points = here i })) ∙ ap (λ ks. ended_as c t p step.to.0 (execute c.state c.history t (address_or_null addr) 0 ks)) (sym none)
+pub none_taken : (c : Configuration) (t : ℕ) (addr : Option ℕ) (p : Point) (step : Step) (ps : List (Option Point))
+    → step.prims ≡ [] → ps ≡ put_at None c.points t (Some (record p { at = step.to.0 })) → Goes (record c { points = ps }) ≡ ended_as c t p step.to.0 (taken c t addr step)
+none_taken c t addr p step ps none points =
+    (λ i. Goes (record c { points = points i })) ∙ ap (λ ks. ended_as c t p step.to.0 (execute c.state c.history t (address_or_null addr) 0 ks)) (sym none)
 
 -- what it comes to, by the primitive's outcome
 pub one_taken : (c : Configuration) (t : ℕ) (addr : Option ℕ) (step : Step) (k : Primitive) (o : Outcome) → step.prims ≡ k ∷ [] → o ≡ outcome_of c.state t (address_or_null addr) k
@@ -152,13 +144,11 @@ one_taken c t addr step k o one is =
     ap (λ o. turned o 0 (Fine (next_of c.state t a k) (heard c.history o))) is ∙ sym (execute_first c.state c.history t a 0 k []) ∙ ap (execute c.state c.history t a 0) (sym one)
 
 -- it went
-pub one_went : (c : Configuration) (t : ℕ) (addr : Option ℕ) (p : Point) (step : Step) (k : Primitive) (e : Option Event) (s : State) (h : List Event) (ps : List (Option Point)) → t < length c.points
-    → step.prims ≡ k ∷ [] → Next e ≡ outcome_of c.state t (address_or_null addr) k → s ≡ next_of c.state t (address_or_null addr) k → h ≡ heard c.history (Next e) → ps ≡ set c.points t (Some (record p { at = step.to.0 }))
+pub one_went : (c : Configuration) (t : ℕ) (addr : Option ℕ) (p : Point) (step : Step) (k : Primitive) (e : Option Event) (s : State) (h : List Event) (ps : List (Option Point))
+    → step.prims ≡ k ∷ [] → Next e ≡ outcome_of c.state t (address_or_null addr) k → s ≡ next_of c.state t (address_or_null addr) k → h ≡ heard c.history (Next e) → ps ≡ put_at None c.points t (Some (record p { at = step.to.0 }))
     → Goes (record { state = s; history = h; points = ps }) ≡ ended_as c t p step.to.0 (taken c t addr step)
-one_went c t addr p step k e s h ps small one out to longer points =
-    let there : Option Point = Some (record p { at = step.to.0 }) in
-    let here : ps ≡ put_at None c.points t there = points ∙ sym (put_is_set None c.points t there small) in
-    (λ i. Goes (record { state = to i; history = longer i; points = here i })) ∙ ap (ended_as c t p step.to.0) (one_taken c t addr step k (Next e) one out)
+one_went c t addr p step k e s h ps one out to longer points =
+    (λ i. Goes (record { state = to i; history = longer i; points = points i })) ∙ ap (ended_as c t p step.to.0) (one_taken c t addr step k (Next e) one out)
 
 -- it stayed, and its locals were put back
 pub restored : (v q : Position) (mid s : State) (t : ℕ) (l m : Locals) → get_or v.here.state.locals t None ≡ Some l → mid ≡ record v.here.state { locals = set v.here.state.locals t None }
@@ -184,27 +174,19 @@ begun_run flow o threads p e follows =
     let many = begun_threads threads (initialised flow threads) p.here e in
     (record { moves = 0; run = subst (λ n. Run flow o n 0 p.here) (sym many) (begin e); follows = follows }, many)
 
-pub returned : (flow : Flow) (c : Configuration) (t : ℕ) (p : Point) (g : Gate) (s : State) (ps : List (Option Point)) → ConfigurationFits flow (length c.points) c → point_of c t ≡ Some p → slice_get flow.gates p.op ≡ Some g → p.at ≡ g.exit.0
-    → s ≡ record c.state { locals = set c.state.locals t None } → ps ≡ set c.points t None → return_from flow c t (point_of c t) ≡ Goes (record c { state = s; points = ps })
+pub returned : (flow : Flow) (c : Configuration) (t : ℕ) (s : State) (ps : List (Option Point)) → ConfigurationFits flow (length c.points) c → at_exit flow (point_of c t) ≡ true
+    → s ≡ record c.state { locals = set c.state.locals t None } → ps ≡ put_at None c.points t None → return_from flow c t (point_of c t) ≡ Goes (record c { state = s; points = ps })
 unfolding with_locals
-returned flow c t p g s ps fits busy opens at_exit new points =
-    let small = held_below c.points t p busy in
-    let gone : with_locals c.state t None ≡ s = ap (λ xs. record c.state { locals = xs }) (put_is_set None c.state.locals t None (omega (arith, fits.locals, small))) ∙ sym new in
-    let left : put_at None c.points t None ≡ ps = put_is_set None c.points t None small ∙ sym points in
-    ap (return_from flow c t) busy ∙ ap (return_to c t p) opens
-    ∙ ap (λ b. cond b (Goes (record c { state = with_locals c.state t None; points = put_at None c.points t None })) Blocks) (eq-eqb p.at g.exit.0 at_exit)
-    ∙ ap (λ s. Goes (record c { state = s; points = put_at None c.points t None })) gone ∙ ap (λ ps. Goes (record c { state = s; points = ps })) left
+returned flow c t s ps fits exit new points =
+    let small = (exit_so flow c.points t exit).2.known in
+    let gone : with_locals c.state t None ≡ s = ap (λ xs. record c.state { locals = xs }) (put_is_set None c.state.locals t None (omega (arith, fits.standing.locals, small))) ∙ sym new in
+    ap (λ b. cond b (Goes (record c { state = with_locals c.state t None; points = put_at None c.points t None })) Blocks) exit
+    ∙ ap (λ s. Goes (record c { state = s; points = put_at None c.points t None })) gone ∙ ap (λ ps. Goes (record c { state = s; points = ps })) (sym points)
 
-pub started_so : (flow : Flow) (c : Configuration) (t op : ℕ) (args : List ℕ) (o : Op) (g : Gate) (s : State) (ps : List (Option Point)) → is_idle c.points t ≡ true → slice_get flow.file.ops op ≡ Some o → slice_get flow.gates op ≡ Some g → length args ≡ parameters_of o
-    → s ≡ with_locals c.state t (Some (starting o args)) → ps ≡ set c.points t (Some (record { op = op; at = g.entry.0 })) → start_from flow c t op args ≡ Goes (record c { state = s; points = ps })
-started_so flow c t op args o g s ps idle named opens counted new points =
-    let small = ltb-true t (length c.points) (and_parts (nat_lt t (length c.points)) (is_none (get_or c.points t None)) idle).0 in
-    let to : Option Point = Some (record { op = op; at = g.entry.0 }) in
-    let there : put_at None c.points t to ≡ ps = put_is_set None c.points t to small ∙ sym points in
-    ap (λ b. cond b (start_op c t op args (slice_get flow.file.ops op) (slice_get flow.gates op)) Blocks) idle
-    ∙ ap (λ x. start_op c t op args x (slice_get flow.gates op)) named ∙ ap (start_op c t op args (Some o)) opens
-    ∙ ap (λ b. cond b (Goes (record c { state = with_locals c.state t (Some (starting o args)); points = put_at None c.points t to })) Blocks) (eq-eqb (length args) (parameters_of o) counted)
-    ∙ ap (λ s. Goes (record c { state = s; points = put_at None c.points t to })) (sym new) ∙ ap (λ ps. Goes (record c { state = s; points = ps })) there
+pub started_so : (flow : Flow) (c : Configuration) (t op : ℕ) (args : List ℕ) (o : Op) (p : Point) (s : State) (ps : List (Option Point)) → begun flow c.points t op args ≡ Some (o, p)
+    → s ≡ with_locals c.state t (Some (starting o args)) → ps ≡ put_at None c.points t (Some p) → start_from flow c t op args ≡ Goes (record c { state = s; points = ps })
+started_so flow c t op args o p s ps begins new points =
+    ap (started c t args) begins ∙ ap (λ s. Goes (record c { state = s; points = put_at None c.points t (Some p) })) (sym new) ∙ ap (λ ps. Goes (record c { state = s; points = ps })) (sym points)
 
 -- ---- the kinds of moves
 

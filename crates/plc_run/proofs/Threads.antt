@@ -1,7 +1,6 @@
 -- In every configuration of a run each busy thread holds the locals of its operation, and stands at one of its points.
 use Rattle.std.proofs.Common.{◌≡◌, ℕ, ◌+◌, ◌<◌, List, [], ◌++◌, Option, Some, None, length, get_or, slice_get, map, replicate, refl, sym, ap, ◌∙◌, subst, arith, inl, inr, length-append}
 use Rattle.std.proofs.lemmas.List.{length-map, length-replicate}
-use Rattle.std.proofs.lemmas.Bool.{cases_eq}
 use Rattle.plc_lang.specs.declared.syntax.Op.{Op}
 use Rattle.plc_lang.specs.Locals.{pointers_of, parameters_of, other_data_of}
 use Rattle.plc_lang.specs.Shape.{Shape, shape_of, init_shape, PrimitivesIn}
@@ -16,12 +15,13 @@ use Rattle.plc_auto.specs.declared.event.Event.{Event}
 use Rattle.plc_mem.specs.State.{State, Locals, null_cell, holds_pointer, cut, cut_locals, freed, with_locals, first_state, no_locals, starting}
 use Rattle.plc_base.specs.Tables.{put_at}
 use Rattle.plc_mem.specs.Fit.{shape}
-use Rattle.plc_base.proofs.Tables.{get-put_same, get-put_other, get-map, get-replicate}
-use Rattle.plc_mem.proofs.Places.{length_put}
+use Rattle.plc_base.proofs.Tables.{get-put_same, get-map}
 use Rattle.plc_flow.specs.declared.points.Point.{Point}
 use Rattle.plc_run.specs.Run.{Ending, Fine, Stuck, Raced, Configuration, point_of, Moves, Run, begin, more, beginning, initialised, first_configuration}
 use Rattle.plc_flow.specs.Points.{steps_from}
-use Rattle.plc_run.specs.Fit.{IsBusyAt, ThreadFits, ConfigurationFits}
+use Rattle.plc_threads.specs.Fit.{ThreadFits}
+use Rattle.plc_threads.proofs.Fit.{put_is_new, thread_came, all_idle, idle_again}
+use Rattle.plc_run.specs.Fit.{LocalsFit, IsBusyAt, ConfigurationFits}
 use Rattle.plc_flow.proofs.Gates.{gate_from}
 use Rattle.plc_flow.proofs.Leaving.{stay_in_their_gate}
 use Rattle.plc_run.proofs.Shapes.{EndsKept, same_shape, execute_keeps}
@@ -40,24 +40,14 @@ step_fits flow fits s t p step nth b at =
     let few = fits.well.short m.place step m.there in
     record {
       leads = m.leads;
-      names = subst (λ h. PrimitivesIn h step.prims) (sym b.shape) (fits.steps m.place step b.operation m.there (subst (λ i. slice_get flow.file.ops i ≡ Some b.operation) (sym m.of_op) b.named));
+      names = subst (λ h. PrimitivesIn h step.prims) (sym b.fits) (fits.steps m.place step b.operation m.there (subst (λ i. slice_get flow.file.ops i ≡ Some b.operation) (sym m.of_op) b.named));
       short = omega arith;
     }
 
--- ---- a thread whose locals and point stay
+-- ---- what fits goes on fitting
 
-thread_stays : (flow : Flow) (s new : State) (t : ℕ) (q : Option Point) → new.fields ≡ s.fields → length new.shared ≡ length s.shared → get_or new.locals t None ≡ get_or s.locals t None → ThreadFits flow s t q → ThreadFits flow new t q
-thread_stays flow s new t None f h e k = e ∙ k
-thread_stays flow s new t (Some p) f h e k = record {
-  operation = k.operation;
-  gate = k.gate;
-  locals = k.locals;
-  named = k.named;
-  opens = k.opens;
-  within = k.within;
-  held = e ∙ k.held;
-  shape = (let same : shape new k.locals ≡ shape s k.locals = (let a = ap length f in cc) in same ∙ k.shape);
-}
+same_shape_of : (s new : State) (l : Locals) → new.fields ≡ s.fields → length new.shared ≡ length s.shared → shape new l ≡ shape s l
+same_shape_of s new l f h = (let a = ap length f in cc)
 
 -- ---- moves
 
@@ -69,18 +59,12 @@ started_shape flow s o args h f counted =
 
 -- thread t comes to a point, or becomes idle, with these locals
 came : (flow : Flow) (threads : ℕ) (c : Configuration) (t : ℕ) (l : Option Locals) (q : Option Point) → t < threads → ConfigurationFits flow threads c
-    → ThreadFits flow (with_locals c.state t l) t q → ConfigurationFits flow threads (record c { state = with_locals c.state t l; points = put_at None c.points t q })
+    → ThreadFits flow (LocalsFit flow c.state) (put_at None c.state.locals t l) t q → ConfigurationFits flow threads (record c { state = with_locals c.state t l; points = put_at None c.points t q })
 unfolding with_locals
 came flow threads c t l q small k mine = record {
   shared = k.shared;
   fields = k.fields;
-  locals = length_put None c.state.locals t l (omega (arith, k.locals)) ∙ k.locals;
-  points = length_put None c.points t q (omega (arith, k.points)) ∙ k.points;
-  each = λ u. elim (cases_eq u t) [
-    | inl e ↦ subst (λ u. ThreadFits flow (with_locals c.state t l) u (get_or (put_at None c.points t q) u None)) (sym e) (subst (ThreadFits flow (with_locals c.state t l) t) (sym (get-put_same None c.points t q)) mine)
-    | inr ne ↦ subst (ThreadFits flow (with_locals c.state t l) u) (sym (get-put_other None c.points t q u ne))
-        (thread_stays flow c.state (with_locals c.state t l) u (point_of c u) refl refl (get-put_other None c.state.locals t l u ne) (k.each u))
-  ];
+  standing = thread_came flow (LocalsFit flow c.state) (LocalsFit flow c.state) threads c.state.locals _ c.points t q small (λ o l fits. fits) (put_is_new t c.state.locals l (omega (arith, small, k.standing.locals))) mine k.standing;
 }
 
 start_fits : (flow : Flow) → FlowFits flow → (threads : ℕ) (c : Configuration) (t op : ℕ) (o : Op) (g : Gate) (args : List ℕ) → t < threads → slice_get flow.file.ops op ≡ Some o → slice_get flow.gates op ≡ Some g → length args ≡ parameters_of o → ConfigurationFits flow threads c
@@ -95,7 +79,7 @@ start_fits flow fits threads c t op o g args small named opens counted k =
       opens = opens;
       within = (gate_from 0 flow.points flow.gates op g fits.well.ranges opens).entry;
       held = get-put_same None c.state.locals t (Some (starting o args));
-      shape = started_shape flow (with_locals c.state t (Some (starting o args))) o args k.shared k.fields counted;
+      fits = started_shape flow (with_locals c.state t (Some (starting o args))) o args k.shared k.fields counted;
     })
 
 return_fits : (flow : Flow) (threads : ℕ) (c : Configuration) (t : ℕ) → t < threads → ConfigurationFits flow threads c → ConfigurationFits flow threads (record c { state = with_locals c.state t None; points = put_at None c.points t None })
@@ -103,26 +87,20 @@ unfolding with_locals
 return_fits flow threads c t small k = came flow threads c t None None small k (get-put_same None c.state.locals t None)
 
 pub busy_at : (flow : Flow) (threads : ℕ) (c : Configuration) (t : ℕ) (p : Point) → ConfigurationFits flow threads c → point_of c t ≡ Some p → IsBusyAt flow c.state t p
-busy_at flow threads c t p k busy = subst (ThreadFits flow c.state t) busy (k.each t)
+busy_at flow threads c t p k busy = subst (ThreadFits flow (LocalsFit flow c.state) c.state.locals t) busy (k.standing.each t)
 
 take_fits : (flow : Flow) (threads : ℕ) (c : Configuration) (t : ℕ) (p : Point) (to : ℕ) (s : State) (h : List Event) (b : IsBusyAt flow c.state t p) → t < threads → IsPointOf b.gate to → EndsKept t c.state b.locals (Fine s h) → ConfigurationFits flow threads c
     → ConfigurationFits flow threads (record { state = s; history = h; points = put_at None c.points t (Some (record p { at = to })) })
 take_fits flow threads c t p to s h b small leads kept k = record {
   shared = kept.1.shared ∙ k.shared;
   fields = ap length kept.1.fields ∙ k.fields;
-  locals = kept.1.threads ∙ k.locals;
-  points = length_put None c.points t _ (omega (arith, k.points)) ∙ k.points;
-  each = λ u. elim (cases_eq u t) [
-    | inl e ↦ subst (λ u. ThreadFits flow s u (get_or (put_at None c.points t (Some (record p { at = to }))) u None)) (sym e) (subst (ThreadFits flow s t) (sym (get-put_same None c.points t (Some (record p { at = to })))) mine)
-    | inr ne ↦ subst (ThreadFits flow s u) (sym (get-put_other None c.points t (Some (record p { at = to })) u ne))
-        (thread_stays flow c.state s u (point_of c u) kept.1.fields kept.1.shared (kept.1.others u ne) (k.each u))
-  ];
+  standing = thread_came flow (LocalsFit flow c.state) (LocalsFit flow s) threads c.state.locals s.locals c.points t _ small (λ o l fits. same_shape_of c.state s l kept.1.fields kept.1.shared ∙ fits) (record { many = kept.1.threads; others = kept.1.others }) mine k.standing;
 }
   where
-    mine : ThreadFits flow s t (Some (record p { at = to }))
-    mine = record { operation = b.operation; gate = b.gate; locals = kept.0; named = b.named; opens = b.opens; within = leads; held = kept.1.held; shape = same_shape kept.1 ∙ b.shape }
+    mine : IsBusyAt flow s t (record p { at = to })
+    mine = record { operation = b.operation; gate = b.gate; locals = kept.0; named = b.named; opens = b.opens; within = leads; held = kept.1.held; fits = same_shape kept.1 ∙ b.fits }
 
-freed_thread : (flow : Flow) (s : State) (a t : ℕ) (q : Option Point) → ThreadFits flow s t q → ThreadFits flow (freed s a) t q
+freed_thread : (flow : Flow) (s : State) (a t : ℕ) (q : Option Point) → ThreadFits flow (LocalsFit flow s) s.locals t q → ThreadFits flow (LocalsFit flow (freed s a)) (freed s a).locals t q
 unfolding freed
 freed_thread flow s a t None k = get-map (cut_locals a) s.locals t None ∙ ap (cut_locals a) k
 freed_thread flow s a t (Some p) k = record {
@@ -133,7 +111,7 @@ freed_thread flow s a t (Some p) k = record {
   opens = k.opens;
   within = k.within;
   held = get-map (cut_locals a) s.locals t None ∙ ap (cut_locals a) k.held;
-  shape = (let e = length-map k.locals.pointers (cut a) in let f = length-map s.shared (cut a) in let g = k.shape in cc);
+  fits = (let e = length-map k.locals.pointers (cut a) in let f = length-map s.shared (cut a) in let g = k.fits in cc);
 }
 
 free_fits : (flow : Flow) (threads : ℕ) (c : Configuration) (a : ℕ) (h : List Event) → ConfigurationFits flow threads c → ConfigurationFits flow threads (record c { state = freed c.state a; history = h })
@@ -141,9 +119,11 @@ unfolding freed
 free_fits flow threads c a h k = record {
   shared = length-map c.state.shared (cut a) ∙ k.shared;
   fields = k.fields;
-  locals = length-map c.state.locals (cut_locals a) ∙ k.locals;
-  points = k.points;
-  each = λ t. freed_thread flow c.state a t (point_of c t) (k.each t);
+  standing = record {
+    locals = length-map c.state.locals (cut_locals a) ∙ k.standing.locals;
+    points = k.standing.points;
+    each = λ t. freed_thread flow c.state a t (point_of c t) (k.standing.each t);
+  };
 }
 
 move_fits : (flow : Flow) → FlowFits flow → (o : Observer) (threads : ℕ) (c d : Configuration) (move : Move) → Moves flow o threads c move d → ConfigurationFits flow threads c → ConfigurationFits flow threads d
@@ -172,16 +152,11 @@ ready_shape flow threads = (let a = length-replicate (length flow.file.shared) n
 begun : (flow : Flow) (threads : ℕ) (s : State) (h : List Event) → 0 < threads → EndsKept 0 (ready flow threads) no_locals (Fine s h) → ConfigurationFits flow threads (record { state = with_locals s 0 None; history = h; points = replicate threads None })
 unfolding with_locals ready
 begun flow threads s h some kept =
-    let all : length (put_at None (replicate threads None) 0 (Some no_locals)) ≡ threads = length_put None (replicate threads None) 0 (Some no_locals) (omega (arith, length-replicate {A = Option Locals} threads None)) ∙ length-replicate threads None in
+    let idle = idle_again threads no_locals s.locals some (record { many = kept.1.threads; others = kept.1.others }) in
     record {
       shared = kept.1.shared ∙ length-replicate (length flow.file.shared) null_cell;
       fields = ap length kept.1.fields ∙ length-map flow.file.fields holds_pointer;
-      locals = length_put None s.locals 0 None (omega (arith, kept.1.threads, all)) ∙ kept.1.threads ∙ all;
-      points = length-replicate threads None;
-      each = λ t. subst (ThreadFits flow (with_locals s 0 None) t) (sym (get-replicate None threads t)) (elim (cases_eq t 0) [
-        | inl e ↦ subst (λ t. get_or (put_at None s.locals 0 None) t None ≡ None) (sym e) (get-put_same None s.locals 0 None)
-        | inr ne ↦ get-put_other None s.locals 0 None t ne ∙ kept.1.others t ne ∙ get-put_other None (replicate threads None) 0 (Some no_locals) t ne ∙ get-replicate None threads t
-      ]);
+      standing = all_idle flow (LocalsFit flow (with_locals s 0 None)) threads _ idle.0 idle.1;
     }
 
 pub begun_fits : (flow : Flow) → FlowFits flow → (threads : ℕ) → 0 < threads → (c : Configuration) → first_configuration flow threads ≡ Some c → ConfigurationFits flow threads c

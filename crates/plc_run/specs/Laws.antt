@@ -25,15 +25,23 @@ MayMove flow o threads c move = (d : Configuration) × Moves flow o threads c mo
 pub record RunLaws (flow : Flow) (o : Observer) (threads : ℕ) : Type 0 where
   pub begins : (c : Configuration) → first_configuration flow threads ≡ Some c → Run flow o threads 0 c
   pub starts : (c : Configuration) (t : ℕ) (op : OpId) (args : List ℕ) (operation : Op) (gate : Gate)
-      → t < threads → point_of c t ≡ None → slice_get flow.file.ops op.0 ≡ Some operation → slice_get flow.gates op.0 ≡ Some gate → length args ≡ parameters_of operation
+      → t < threads → point_of c t ≡ None → slice_get flow.file.ops op.0 ≡ Some operation
+      → slice_get flow.gates op.0 ≡ Some gate → length args ≡ parameters_of operation
       → MayMove flow o threads c (Start t op args)
   pub steps : (c : Configuration) (t nth : ℕ) (addr : Option ℕ) (p : Point) (step : Step) (s : State) (h : List Event)
-      → MayTake flow threads c t nth addr p step → taken c t addr step ≡ Fine s h → MayMove flow o threads c (Take t nth addr)
+      → MayTake flow threads c t nth addr p step → taken c t addr step ≡ Fine s h
+      → MayMove flow o threads c (Take t nth addr)
   pub returns : (c : Configuration) (t : ℕ) (p : Point) (gate : Gate)
-      → t < threads → point_of c t ≡ Some p → slice_get flow.gates p.op ≡ Some gate → p.at ≡ gate.exit.0 → MayMove flow o threads c (Return t)
-  pub frees : (c : Configuration) (a : ℕ) → 0 < a → Allowed o threads (c.history ++ Freed a ∷ []) → MayMove flow o threads c (Free a)
-  pub frees_allowed : (c : Configuration) (a : ℕ) → MayMove flow o threads c (Free a) → Allowed o threads (c.history ++ Freed a ∷ [])
+      → t < threads → point_of c t ≡ Some p → slice_get flow.gates p.op ≡ Some gate → p.at ≡ gate.exit.0
+      → MayMove flow o threads c (Return t)
+  pub frees : (c : Configuration) (a : ℕ) → 0 < a → Allowed o threads (c.history ++ Freed a ∷ [])
+      → MayMove flow o threads c (Free a)
+  pub frees_allowed : (c : Configuration) (a : ℕ) → MayMove flow o threads c (Free a)
+      → Allowed o threads (c.history ++ Freed a ∷ [])
   pub frees_no_null : (c : Configuration) → MayMove flow o threads c (Free 0) → ⊥
-  pub one_end : (c d e : Configuration) (move : Move) → Moves flow o threads c move d → Moves flow o threads c move e → d ≡ e
-  pub race_is_last : (c d : Configuration) (move : Move) (kind : RaceKind) (k : ℕ) → Races flow threads c move kind k → Moves flow o threads c move d → ⊥
-  pub one_race : (c : Configuration) (move : Move) (kind other : RaceKind) (k n : ℕ) → Races flow threads c move kind k → Races flow threads c move other n → (kind ≡ other) × (k ≡ n)
+  pub one_end : (c d e : Configuration) (move : Move) → Moves flow o threads c move d → Moves flow o threads c move e
+      → d ≡ e
+  pub race_is_last : (c d : Configuration) (move : Move) (kind : RaceKind) (k : ℕ) → Races flow threads c move kind k
+      → Moves flow o threads c move d → ⊥
+  pub one_race : (c : Configuration) (move : Move) (kind other : RaceKind) (k n : ℕ)
+      → Races flow threads c move kind k → Races flow threads c move other n → (kind ≡ other) × (k ≡ n)

@@ -1,4 +1,5 @@
--- What every state of every run has, whatever the program's types: it is coherent, its history is allowed, and an address is retired in it exactly where the observer says so.
+-- What every state of every run has, whatever the program's types: it is coherent, its history is allowed, and an
+-- address is retired in it exactly where the observer says so.
 use Rattle.std.specs.Prelude.{◌≡◌, ℕ, ◌<◌, true, List, Some, None}
 use Rattle.plc_lang.specs.declared.syntax.Primitive.{Primitive}
 use Rattle.plc_auto.specs.declared.event.Event.{Event}
@@ -21,7 +22,11 @@ pub record IsObserved (o : Observer) (threads : ℕ) (s : State) (h : List Event
 
 -- it holds where a run begins, and each primitive that is no race and each move keeps it
 pub record RunsAreObserved (o : Observer) (threads : ℕ) : Type 0 where
-  pub begun : (flow : Flow) (c : Configuration) → first_configuration flow threads ≡ Some c → IsObserved o threads c.state c.history
-  pub by_primitive : (s : State) (h : List Event) (t a : ℕ) (k : Primitive) → race_of s t k ≡ None → goes s t a k ≡ true → IsObserved o threads s h → IsObserved o threads (after s t a k) (recorded h (event_of s t k))
-  pub by_move : (flow : Flow) (c d : Configuration) (move : Move) → Moves flow o threads c move d → IsObserved o threads c.state c.history → IsObserved o threads d.state d.history
+  pub begun : (flow : Flow) (c : Configuration) → first_configuration flow threads ≡ Some c
+      → IsObserved o threads c.state c.history
+  pub by_primitive : (s : State) (h : List Event) (t a : ℕ) (k : Primitive) → race_of s t k ≡ None
+      → goes s t a k ≡ true → IsObserved o threads s h
+      → IsObserved o threads (after s t a k) (recorded h (event_of s t k))
+  pub by_move : (flow : Flow) (c d : Configuration) (move : Move) → Moves flow o threads c move d
+      → IsObserved o threads c.state c.history → IsObserved o threads d.state d.history
   pub run : (flow : Flow) (n : ℕ) (c : Configuration) → Run flow o threads n c → IsObserved o threads c.state c.history

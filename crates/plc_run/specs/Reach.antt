@@ -1,12 +1,12 @@
--- What a move leads to, as a function: the code answers by it, and the law beside it says that it is what `Moves` and `Races` say.
-use Rattle.std.specs.Prelude.{◌≡◌, ℕ, zero, suc, Bool, true, false, ◌&&◌, ◌==◌, nat_lt, if◌then◌else◌, List, [], ◌∷◌, ◌++◌, length, get_or, slice_get, Option, Some, None, is_some, is_none}
+-- What a move leads to, as a function: the code answers by it, and the law beside it says that it is what `Moves` and
+-- `Races` say.
+use Rattle.std.specs.Prelude.{◌≡◌, ℕ, zero, suc, Bool, true, false, ◌&&◌, ◌==◌, if◌then◌else◌, List, [], ◌∷◌, ◌++◌}
+use Rattle.std.specs.Prelude.{length, Option, Some, None, is_some}
 use Rattle.plc_lang.specs.declared.syntax.Op.{Op}
-use Rattle.plc_lang.specs.Locals.{parameters_of}
 use Rattle.plc_auto.specs.declared.event.Event.TheVariants.{Free as Freed}
 use Rattle.plc_auto.specs.declared.observer.Observer.{Observer}
 use Rattle.plc_auto.specs.Location.{location, advance}
 use Rattle.plc_flow.specs.declared.flow.Step.{Step}
-use Rattle.plc_flow.specs.declared.flow.Gate.{Gate}
 use Rattle.plc_flow.specs.declared.flow.Flow.{Flow}
 use Rattle.plc_flow.specs.declared.flow.Move.{Move}
 use Rattle.plc_flow.specs.declared.flow.Move.TheVariants.{Start, Step as Take, Return, Free}
@@ -18,7 +18,8 @@ use Rattle.plc_run.specs.declared.moved.Moved.{Moved}
 use Rattle.plc_run.specs.declared.moved.Moved.TheVariants as moved
 use Rattle.plc_run.specs.Run.{Ending, Fine, Stuck, Raced, Configuration, point_of, taken, first_configuration}
 use Rattle.plc_run.specs.Position.{Position, threads_of, Follows}
-use Rattle.plc_flow.specs.Points.{steps_from, names_rightly}
+use Rattle.plc_flow.specs.Points.{names_rightly}
+use Rattle.plc_threads.specs.Standing.{begun, step_of, at_exit}
 
 -- a configuration, none, a free that the observer forbids, or a race
 pub data Reached : Type 0 where
@@ -27,48 +28,41 @@ pub data Reached : Type 0 where
   Forbids : Reached
   Breaks : RaceKind → ℕ → Reached
 
--- there is such a thread, and it is idle
-abbrev pub is_idle : List (Option Point) → ℕ → Bool
-is_idle ps t = nat_lt t (length ps) && is_none (get_or ps t None)
-
--- a start of this operation, where it and its gate are there and have so many parameters
-abbrev pub start_op : Configuration → ℕ → ℕ → List ℕ → Option Op → Option Gate → Reached
-start_op c t op args None g = Blocks
-start_op c t op args (Some o) None = Blocks
-start_op c t op args (Some o) (Some g) =
-    if length args == parameters_of o
-    then Goes (record c { state = with_locals c.state t (Some (starting o args)); points = put_at None c.points t (Some (record { op = op; at = g.entry.0 })) })
-    else Blocks
+-- thread t begins an operation, if there is one that it may begin
+abbrev pub started : Configuration → ℕ → List ℕ → Option (Op × Point) → Reached
+started c t args None = Blocks
+started c t args (Some b) = Goes (record c {
+  state = with_locals c.state t (Some (starting b.0 args));
+  points = put_at None c.points t (Some b.1);
+})
 
 -- a start
 abbrev pub start_from : Flow → Configuration → ℕ → ℕ → List ℕ → Reached
-start_from flow c t op args = if is_idle c.points t then start_op c t op args (slice_get flow.file.ops op) (slice_get flow.gates op) else Blocks
+start_from flow c t op args = started c t args (begun flow c.points t op args)
 
 -- what a step leads to by how its primitives end
 abbrev pub ended_as : Configuration → ℕ → Point → ℕ → Ending → Reached
-ended_as c t p to (Fine s h) = Goes (record { state = s; history = h; points = put_at None c.points t (Some (record p { at = to })) })
+ended_as c t p to (Fine s h) =
+    Goes (record { state = s; history = h; points = put_at None c.points t (Some (record p { at = to })) })
 ended_as c t p to Stuck = Blocks
 ended_as c t p to (Raced kind k) = Breaks kind k
 
--- a step, if there is one, by a move that names an address or none
-abbrev pub take_step : Configuration → ℕ → Option ℕ → Point → Option Step → Reached
-take_step c t addr p None = Blocks
-take_step c t addr p (Some s) = if names_rightly addr s then ended_as c t p s.to.0 (taken c t addr s) else Blocks
+-- thread t takes a step, if there is one that it may take, by a move that names an address or none
+abbrev pub take_step : Configuration → ℕ → Option ℕ → Option (Point × Step) → Reached
+take_step c t addr None = Blocks
+take_step c t addr (Some s) =
+    if names_rightly addr s.1 then ended_as c t s.0 s.1.to.0 (taken c t addr s.1) else Blocks
 
 -- a step
 abbrev pub step_from : Flow → Configuration → ℕ → ℕ → Option ℕ → Option Point → Reached
-step_from flow c t nth addr None = Blocks
-step_from flow c t nth addr (Some p) = take_step c t addr p (slice_get (steps_from flow p.at) nth)
-
--- a return through this gate, if the thread stands at its exit
-abbrev pub return_to : Configuration → ℕ → Point → Option Gate → Reached
-return_to c t p None = Blocks
-return_to c t p (Some g) = if p.at == g.exit.0 then Goes (record c { state = with_locals c.state t None; points = put_at None c.points t None }) else Blocks
+step_from flow c t nth addr q = take_step c t addr (step_of flow nth q)
 
 -- a return
 abbrev pub return_from : Flow → Configuration → ℕ → Option Point → Reached
-return_from flow c t None = Blocks
-return_from flow c t (Some p) = return_to c t p (slice_get flow.gates p.op)
+return_from flow c t q =
+    if at_exit flow q
+    then Goes (record c { state = with_locals c.state t None; points = put_at None c.points t None })
+    else Blocks
 
 -- for no thread below n does a free of the address lead to `bad` from where the thread stands for it
 abbrev pub may_free : Observer → (ℕ → Option ℕ) → ℕ → ℕ → Bool
@@ -79,7 +73,9 @@ may_free o at a (suc n) = may_free o at a n && is_some (advance o n a (Freed a) 
 abbrev pub free_of : Observer → Configuration → ℕ → Reached
 free_of o c a =
     if a == 0 then Blocks else
-    if may_free o (λ t. location o c.history t a) a (length c.points) then Goes (record c { state = freed c.state a; history = c.history ++ Freed a ∷ [] }) else Forbids
+    if may_free o (λ t. location o c.history t a) a (length c.points)
+    then Goes (record c { state = freed c.state a; history = c.history ++ Freed a ∷ [] })
+    else Forbids
 
 -- each kind of move
 unfoldable pub reach : Flow → Observer → Configuration → Move → Reached

@@ -1,5 +1,5 @@
--- The table of locations as the code keeps it beside the history: a row for each address that occurred, and one for the others,
--- which stand where the events left an address that none of them named.
+-- The table of locations as the code keeps it beside the history: a row for each address that occurred, and one for
+-- the others, which stand where the events left an address that none of them named.
 use Rattle.std.specs.Prelude.{◌≡◌, ℕ, suc, Bool, true, ◌==◌, ◌||◌, List, [], ◌∷◌, ◌++◌, Option}
 use Rattle.std.specs.List.{list_any, list_all}
 use Rattle.plc_auto.specs.declared.event.Event.{Event}

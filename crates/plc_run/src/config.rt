@@ -2,8 +2,9 @@
 // first: nothing that is seen of the configuration is changed before the last call that may run out of
 // memory, so that a move that is blocked or forbidden, and running out of memory, leave it as it was.
 // A step of no or one primitive, as most are, works on the memory itself, since a primitive that fails
-// changes nothing. A step of several works on a copy, because its first primitives may succeed and a later one not.
-ghost use Rattle.std.specs.Prelude.{◌≡◌, ℕ, ◌<◌, ◌++◌, ◌∷◌, [], Option, length, get_or, set, replicate, IfOk, OnOk, OnErr, Some, None};
+// changes nothing. A step of several works on a copy, because its first primitives may succeed and a later
+// one not.
+ghost use Rattle.std.specs.Prelude.{◌≡◌, ℕ, ◌<◌, ◌++◌, ◌∷◌, [], Option, IfOk, OnOk, OnErr, Some};
 ghost use Rattle.plc_lang.specs.Shape.{PrimitiveIn};
 ghost use Rattle.plc_flow.specs.WellFormed.{FlowFits};
 ghost use Rattle.plc_mem.specs.State.{with_locals};
@@ -12,7 +13,8 @@ ghost use Rattle.plc_mem.specs.Fit.{shape, Kept};
 ghost use Rattle.plc_run.specs.Run.{point_of, taken};
 ghost use Rattle.plc_run.specs.Ended.{IsReady, heard};
 ghost use Rattle.plc_run.specs.Fit.{ConfigurationFits};
-ghost use Rattle.plc_run.specs.Reach.{Breaks, is_idle, start_from, step_from, ended_as, return_from, free_of, reach, answer, Reaches, IsUnheard, Begins};
+ghost use Rattle.plc_run.specs.Reach.{Breaks, start_from, step_from, ended_as, return_from, free_of, reach};
+ghost use Rattle.plc_run.specs.Reach.{answer, Reaches, IsUnheard, Begins};
 ghost use Rattle.plc_run.specs.Position.{threads_of, Follows, IsOfRun, Answers, Starts};
 
 use crate::execute::{Ended, execute, try_step};
@@ -20,9 +22,10 @@ use crate::moved::Moved;
 use crate::table::Table;
 use plc_auto::{Event, Observer};
 use plc_base::{NoMemory, OpId};
-use plc_flow::{Flow, Move, Point, StartFault, Step, names_rightly, nth_step};
-use plc_lang::{Prim, count_parameters};
+use plc_flow::{Flow, Move, Point, StartFault, Step, names_rightly};
+use plc_lang::Prim;
 use plc_mem::{Locals, Memory, Outcome, RaceKind};
+use plc_threads::{arrival, at_exit, begun, none_held, set_point, step_at};
 use std::alloc::Global;
 use std::marker::Model;
 
@@ -51,51 +54,6 @@ impl Model for Config {
     } };
 
     ghost invariant = { λ c. (0 < length c.points.items) × (length c.points.items < 2 ^ 32) };
-}
-
-// So many idle threads.
-fn idle_points(alloc: Global, threads: u32) -> Result<Vec<Option<Point>>, NoMemory>
-    ensures { IfOk result (λ points. points.items ≡ replicate threads None) }
-{
-    let mut points = Vec::new(alloc);
-    for _t in 0..threads {
-        points.push(None)?;
-    }
-    Ok(points)
-}
-
-// The point where a thread stands.
-fn point_at(points: &[Option<Point>], t: u32) -> Option<Point>
-    ensures { result ≡ get_or points.now t None }
-{
-    let t = t as usize;
-    if t < points.len() { points[t] } else { None }
-}
-
-// Whether there is such a thread, and it is idle.
-fn is_idle(points: &[Option<Point>], t: u32) -> bool
-    ensures { result ≡ is_idle points.now t }
-{
-    let t = t as usize;
-    t < points.len() && points[t].is_none()
-}
-
-// Puts a thread at a point.
-fn set_point(points: &mut Vec<Option<Point>>, t: u32, p: Option<Point>)
-    requires { t < length points.old.items }
-    ensures { points.new.items ≡ set points.old.items t p }
-{
-    points[t as usize] = p;
-}
-
-// The point to which a step leads.
-fn arrival(point: Point, step: &Step) -> Point
-    ensures { result ≡ record point { at = step.now.to.0 } }
-{
-    Point {
-        op: point.op,
-        at: step.to.0,
-    }
 }
 
 impl Config {
@@ -141,7 +99,7 @@ impl Config {
                 memory,
                 table: Table::after(alloc, observer, threads, &history)?,
                 history,
-                points: idle_points(alloc, threads)?,
+                points: none_held(alloc, threads as usize)?,
                 ended: false,
             })),
             Ended::Stuck => Ok(None),
@@ -205,25 +163,12 @@ impl Config {
         ensures unheard { IsUnheard self.old self.new }
         ensures err { OnErr result (self.new ≡ self.old) }
     {
-        if !is_idle(&self.points, t) {
-            return Ok(Moved::Blocked);
-        }
-        let Some(operation) = flow.file.ops.get(op.0 as usize) else {
+        let Some((operation, entry)) = begun(flow, &self.points, t, op, args) else {
             return Ok(Moved::Blocked);
         };
-        let Some(gate) = flow.gates.get(op.0 as usize) else {
-            return Ok(Moved::Blocked);
-        };
-        if args.len() != count_parameters(operation) {
-            return Ok(Moved::Blocked);
-        }
         let l = Locals::new(self.alloc, operation, args)?;
         self.memory.put(t, l);
-        let to = Point {
-            op: op.0,
-            at: gate.entry.0,
-        };
-        set_point(&mut self.points, t, Some(to));
+        set_point(&mut self.points, t, Some(entry));
         Ok(Moved::Done)
     }
 
@@ -246,10 +191,7 @@ impl Config {
         ensures follows { Follows observer.now self.new }
         ensures err { OnErr result (self.new ≡ self.old) }
     {
-        let Some(point) = point_at(&self.points, t) else {
-            return Ok(Moved::Blocked);
-        };
-        let Some(step) = nth_step(flow, point.at, nth) else {
+        let Some((point, step)) = step_at(flow, &self.points, t, nth) else {
             return Ok(Moved::Blocked);
         };
         if !names_rightly(step, addr) {
@@ -290,7 +232,8 @@ impl Config {
         ensures answer { (addr : Option ℕ)
             → result ≡ answer (ended_as self.old.here t point step.now.to.0 (taken self.old.here t addr step.now)) }
         ensures after { (addr : Option ℕ)
-            → Reaches (ended_as self.old.here t point step.now.to.0 (taken self.old.here t addr step.now)) self.old self.new }
+            → let to = ended_as self.old.here t point step.now.to.0 (taken self.old.here t addr step.now)
+            in Reaches to self.old self.new }
         ensures unheard { IsUnheard self.old self.new }
     {
         set_point(&mut self.points, t, Some(arrival(point, step)));
@@ -346,8 +289,8 @@ impl Config {
         requires follows { Follows observer.now self.old }
         ensures outcome { let s = with_locals self.old.here.state t (Some me.old)
             in IfOk result (λ o. o ≡ outcome_of s t (address_or_null addr) prim.now) }
-        ensures next { let s = with_locals self.old.here.state t (Some me.old)
-            in OnOk result (with_locals self.new.here.state t (Some me.new) ≡ next_of s t (address_or_null addr) prim.now) }
+        ensures next { let s = with_locals self.old.here.state t (Some me.old) in OnOk result
+            (with_locals self.new.here.state t (Some me.new) ≡ next_of s t (address_or_null addr) prim.now) }
         ensures kept { Kept self.old.here.state me.old self.new.here.state me.new }
         ensures history { IfOk result (λ o. self.new.here.history ≡ heard self.old.here.history o) }
         ensures points { self.new.here.points ≡ self.old.here.points }
@@ -436,13 +379,7 @@ impl Config {
         ensures after { Reaches (return_from flow.now self.old.here t (point_of self.old.here t)) self.old self.new }
         ensures unheard { IsUnheard self.old self.new }
     {
-        let Some(point) = point_at(&self.points, t) else {
-            return Moved::Blocked;
-        };
-        let Some(gate) = flow.gates.get(point.op as usize) else {
-            return Moved::Blocked;
-        };
-        if point.at != gate.exit.0 {
+        if !at_exit(flow, &self.points, t) {
             return Moved::Blocked;
         }
         let _gone = self.memory.take(t);

@@ -2,7 +2,8 @@
 // read twice: a free is judged by one row. An event moves a row that has its address, and in every
 // other row its own thread alone, since what another thread does to another address moves nothing.
 // A row is added before the event that needs it, so that hearing the event takes no memory.
-ghost use Rattle.std.specs.Prelude.{◌≡◌, ◌==◌, ℕ, ◌<◌, true, map, set, get_or, replicate, is_some, Some, None, IfOk, OnOk};
+ghost use Rattle.std.specs.Prelude.{◌≡◌, ◌==◌, ℕ, ◌<◌, true, map, set, get_or, replicate, is_some, Some, None, IfOk};
+ghost use Rattle.std.specs.Prelude.{OnOk};
 ghost use Rattle.std.specs.List.{list_any};
 ghost use Rattle.plc_auto.specs.Table.{target_of};
 ghost use Rattle.plc_auto.specs.Location.{is_this, step_by, advance, location_from, location};
