@@ -25,7 +25,7 @@ use Rattle.plc_reclaim.specs.Waiting.{waiting_after}
 use Rattle.plc_reclaim.specs.Rows.{ActsAs, first_waiting, threads_in, is_kept_at, is_kept_by, is_kept_by_none, hazards, epochs, hazard_row, epoch_row}
 use Rattle.plc_reclaim.specs.Meanings.{Meanings}
 use Rattle.plc_reclaim.specs.Histories.{Happens, begins, hears, asks, frees, MakesAllowed}
-use Rattle.plc_reclaim.proofs.Either.{or_false, or_true}
+use Rattle.plc_base.proofs.Booleans.{or_false, or_true}
 use Rattle.plc_reclaim.proofs.Picks.{may_be_picked}
 
 -- ---- the tables

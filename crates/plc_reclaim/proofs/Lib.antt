@@ -1,5 +1,4 @@
 pub mod Allowing
-mod Either
 mod Numbers
 mod Past
 mod Picks

@@ -18,7 +18,7 @@ use Rattle.plc_reclaim.specs.Rows.{ActsAs, first_waiting, threads_in, is_kept_at
 use Rattle.plc_auto.specs.Events.{kind_of, thread_of, address_of}
 use Rattle.plc_reclaim.specs.Tables.{moved, same_location, Cell, Column, location_in, cell_after, cells_after, put_cell, with_cell, column_after, Heard, Table, column_of, fresh_table, is_thread, others_after, own_after, table_after, keeps}
 use Rattle.plc_reclaim.specs.Watch.{Watch, fresh_watch, watch_after, is_kept, first_free, numbers_of, held_after, free_of, by_tables}
-use Rattle.plc_reclaim.proofs.Either.{or_false, or_true}
+use Rattle.plc_base.proofs.Booleans.{or_false, or_true}
 use Rattle.plc_reclaim.proofs.Picks.{may_be_picked}
 use Rattle.plc_reclaim.proofs.Numbers.{begun_with_is, held_after_is, free_of_is}
 
