@@ -437,17 +437,6 @@ pub fn classes(equal: &Equalities) -> &[u32]
     equal.class.as_slice()
 }
 
-/// The table with these classes, and without a trail.
-pub fn of_classes(alloc: Global, class: &[u32]) -> Result<Equalities, AllocError>
-    ensures { IfOk result (λ equal. equal.class ≡ class.now) }
-{
-    Ok(Equalities {
-        class: Items::from_vec(Vec::from_slice(alloc, class)?),
-        trail: Items::new(alloc),
-        joined: Items::new(alloc),
-    })
-}
-
 /// The classes alone.
 pub fn into_classes(equal: Equalities) -> Vec<u32>
     ensures { result.items ≡ equal.class }
