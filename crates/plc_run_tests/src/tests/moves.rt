@@ -82,6 +82,10 @@ fn event_text(alloc: Global, event: &Event) -> Result<String, AllocError> {
     }
 }
 
+const NEXT: FieldId = FieldId(0);
+
+const VAL: FieldId = FieldId(1);
+
 // Places by short names: a data field and a local of a third thread, which aren't there, then shared pointers, locals
 // of two threads, and the field of two nodes.
 const PLACES: [(&str, Place); 9] = [
@@ -116,10 +120,6 @@ pub(crate) fn places_text(alloc: Global, memory: &Memory) -> Result<String, Allo
     }
     Ok(text)
 }
-
-const NEXT: FieldId = FieldId(0);
-
-const VAL: FieldId = FieldId(1);
 
 // An answer, and the events by which the history grew.
 fn moved_text(alloc: Global, answer: &Moved, events: &[Event]) -> Result<String, AllocError> {
