@@ -111,7 +111,7 @@ over push: retired(v); => sort 7
 ";
 
 #[test]
-fn outlines_and_items_are_read_or_refused(rt: HostRuntime) -> Result<(), AllocError> {
+fn outlines_are_read_or_refused(rt: HostRuntime) -> Result<(), AllocError> {
     let alloc = rt.alloc();
     for (rows, before, after) in [(OUTLINES, "", ""), (ITEMS, "outline { ", " }")] {
         for row in rows.lines() {
