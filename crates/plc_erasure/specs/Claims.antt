@@ -49,7 +49,7 @@ RunClaimsHold flow o threads n c (begin e) = Unit {0}
 RunClaimsHold flow o threads n d (more {n = m} {c = c} run move moved) =
     RunClaimsHold flow o threads m c run
     × ((g : GcConfiguration) → GcRun flow threads (moves_of flow o threads m c run) g
-      → ClaimsHold g.state (actor_of move) (taken_by flow o threads c d move moved))
+    → ClaimsHold g.state (actor_of move) (taken_by flow o threads c d move moved))
 
 -- each variable that the run's steps claimed to be active was so in memory
 abbrev pub RunClaimsAreActive : (flow : Flow) (o : Observer) (threads n : ℕ) (c : Configuration)

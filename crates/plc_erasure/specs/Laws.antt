@@ -58,11 +58,11 @@ pub record ErasureLaw (flow : Flow) (o : Observer) (threads : ℕ) : Type 0 wher
   pub by_primitive : (trace : Trace) (s : State) (g : GcState) (t a : ℕ) (k : Primitive) → race_of s t k ≡ None
       → goes s t a k ≡ true → IsCoherent s → IsErased trace s g
       → (gc_goes g t k ≡ true)
-        × IsErased (record { log = noted trace.log a k; gone = trace.gone }) (after s t a k) (gc_after g t k)
+      × IsErased (record { log = noted trace.log a k; gone = trace.gone }) (after s t a k) (gc_after g t k)
   pub by_claim : (trace : Trace) (s : State) (g : GcState) (t : ℕ) (p : Var) → IsCoherent s → IsErased trace s g
       → claim_holds g t (Active p) ≡ true → IsActive s t p
   pub by_move : (trace : Trace) (c d : Configuration) (before : GcConfiguration) (move : Move)
-        (m : Moves flow o threads c move d)
+      (m : Moves flow o threads c move d)
       → IsObserved o threads c.state c.history → AreErased trace c before
       → Follows flow threads (traced flow o threads c d trace move m) d before move
   pub run : (n : ℕ) (c : Configuration) (run : Run flow o threads n c) → IsErasedRun flow o threads n c run
