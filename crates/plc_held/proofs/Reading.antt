@@ -93,14 +93,14 @@ module _ (e : Meaning) (file : File) (w : Scene) (x : Execution) (g : GcState) (
       go false at = means.sorts_are.my k ∙ ap local_sort at
       go true at = means.sorts_are.other k ∙ ap local_sort at
 
-  local_is : (k : ℕ) (l : Local) → slice_get reach.locals k ≡ Some l → e.symbol (current x (local_symbol owner k)) ≡ local_value g who k
-  local_is k l at = means.now.value (local_symbol owner k) (local_named owner k) ∙ reads.value k l at
+  local_read : (k : ℕ) (l : Local) → slice_get reach.locals k ≡ Some l → e.symbol (current x (local_symbol owner k)) ≡ local_value g who k
+  local_read k l at = means.now.value (local_symbol owner k) (local_named owner k) ∙ reads.value k l at
 
   -- ---- nodes and terms
 
   base_is : (b : Base) → IsNode reach b → node_in e (base_node x owner names b) ≡ gc_base_node g who binding b
   base_is (bases.Shared i) h = means.now.value (symbols.Shared i) refl
-  base_is (bases.Local k) h = local_is k h.0 h.1
+  base_is (bases.Local k) h = local_read k h.0 h.1
   base_is (bases.Bound i) h = refl
 
   -- a term has its value, and its sort
@@ -113,7 +113,7 @@ module _ (e : Meaning) (file : File) (w : Scene) (x : Execution) (g : GcState) (
 
   term_is : (t : Term) (s : Sort) → HasSort reach t s → IsRead t s
   term_is (terms.Shared i) s h = record { value = means.now.value (symbols.Shared i) refl; sort = means.now.sort (symbols.Shared i) ∙ means.sorts_are.shared i ∙ sym h.1 }
-  term_is (terms.Local k) s h = record { value = local_is k h.0 h.1; sort = means.now.sort (local_symbol owner k) ∙ local_sorted k h.0 h.1 ∙ sym h.2 }
+  term_is (terms.Local k) s h = record { value = local_read k h.0 h.1; sort = means.now.sort (local_symbol owner k) ∙ local_sorted k h.0 h.1 ∙ sym h.2 }
   term_is (terms.Bound i) s h = record { value = node_value e (slice_index_or names i (At symbols.Null)); sort = node_at e names i means.sorts_are.null are_nodes ∙ sym h.1 }
   term_is (terms.FieldOf b f) s h = record {
     value = map_is (maps.Field f) b h.0;
