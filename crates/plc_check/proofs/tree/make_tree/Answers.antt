@@ -1,7 +1,7 @@
 use Rattle.std.proofs.Common.{[], ◌∷◌}
 use Rattle.plc_oblig.specs.GroundSets.{ground_set}
 use Rattle.plc_check.proofs.Readable.{nodes_fit}
-use Rattle.plc_check.proofs.tree.tree_at.Goals as goal
+use Rattle.plc_check.proofs.tree.make_tree.Goals as goal
 
 pub returns-in-Some : goal.returns-in-Some
 returns-in-Some c =
