@@ -59,9 +59,9 @@ impl Sink for FixedSink {
 
     // Beside what each sink promises, every answer and the sink after it.
     fn put(&mut self, piece: &[u8]) -> Result<usize, SinkFault>
-        ensures puts { Puts (known_of self.old) (known_of self.new) piece.now result }
         ensures answer { AnswersFixedPut self.old (length piece.now) result }
         ensures after { IsAfterFixedPut self.old self.new piece.now result }
+        ensures puts { Puts (known_of self.old) (known_of self.new) piece.now result }
     {
         let left = self.bytes.len() - self.count;
         if left == 0 && !piece.is_empty() {

@@ -63,8 +63,8 @@ impl Sink for VecSink {
 pub struct FailSink {
     most: usize,
     failing: Vec<u64>,
-    calls: u64,
     bytes: Vec<u8>,
+    calls: u64,
     faults: u64,
 }
 
@@ -97,8 +97,8 @@ impl FailSink {
         FailSink {
             most,
             failing,
-            calls: 0,
             bytes: Vec::new(alloc),
+            calls: 0,
             faults: 0,
         }
     }

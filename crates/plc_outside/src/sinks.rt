@@ -11,7 +11,8 @@ use std::alloc::AllocError;
 use thiserror::Error;
 
 /// Why nothing of a piece was written.
-#[derive(Clone, Copy, Debug, PartialEq, Eq, Error)]
+#[derive(Clone, Copy, PartialEq, Eq)]
+#[derive(Debug, Error)]
 pub enum SinkFault {
     /// The write failed, or the sink takes no more.
     #[error("failed")]

@@ -5,7 +5,7 @@ ghost use Rattle.plc_print.specs.Pieces.{Prints, kind_of};
 ghost use Rattle.plc_print.specs.Text.{after_symbol, outline_word, symbol_text, word_text};
 
 use plc_lex::{Keyword, Symbol};
-use std::alloc::Global;
+use std::alloc::{AllocError, Global};
 
 /// A token to print.
 #[derive(Clone, Copy)]

@@ -122,26 +122,16 @@ fn verdict(alloc: Global, nodes: &str) -> Result<Option<u64>, NoMemory> {
 
 #[test]
 fn trees_close_or_have_a_first_bad_node(rt: HostRuntime) -> Result<(), NoMemory> {
-    for (nodes, bad) in [
-        ("S0 S1 2,3", None),
-        ("S1 S0 3,2", None),
-        ("S3", None),
-        ("S2 4,5", None),
-        ("S4 S1 2,3 6,7", None),
-        ("", Some(0)),
+    for (trees, bad) in [
+        ("S0 S1 2,3; S1 S0 3,2; S3; S2 4,5; S4 S1 2,3 6,7", None),
+        ("; 4,5", Some(0)),
+        ("S0 S5; S0 2,11; S0 2,3; S1 2,3; S4 6,7; S3 S3", Some(1)),
         ("S0 S1", Some(2)),
-        ("S4 S1 2,3", Some(3)),
-        ("S0 S5", Some(1)),
-        ("S0 2,11", Some(1)),
-        ("S0 2,3", Some(1)),
-        ("S1 2,3", Some(1)),
-        ("4,5", Some(0)),
-        ("S4 6,7", Some(1)),
-        ("S4 S1 2,3 2,3", Some(3)),
-        ("S0 S1 2,3 2,3", Some(3)),
-        ("S3 S3", Some(1)),
+        ("S4 S1 2,3; S4 S1 2,3 2,3; S0 S1 2,3 2,3", Some(3)),
     ] {
-        assert_eq!(rt; verdict(rt.alloc(), nodes)?, bad, "{nodes}");
+        for nodes in trees.split("; ") {
+            assert_eq!(rt; verdict(rt.alloc(), nodes)?, bad, "{nodes}");
+        }
     }
     Ok(())
 }

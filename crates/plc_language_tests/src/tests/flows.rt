@@ -67,7 +67,7 @@ fn statement_flow(alloc: Global, statement: &str) -> Result<String, AllocError> 
     lowering(alloc, text.as_str())
 }
 
-const FLOWS: &str = "# n := new;
+const FLOWS: &str = "n := new;
 3 points gate 0 1 0 3
 0 0 2 8 [New { p: Local(0) }]
 0 2 1 6 []
@@ -157,16 +157,10 @@ const FLOWS: &str = "# n := new;
 
 #[test]
 fn flows_are_those_of_the_table(rt: HostRuntime) -> Result<(), AllocError> {
-    let alloc = rt.alloc();
-    for row in FLOWS.split("# ") {
-        if !row.is_empty() {
-            let (statement, want) = row.split_once("\n").unwrap_or((row, "?"));
-            assert_eq!(rt;
-                statement_flow(alloc, statement)?.as_str(),
-                want,
-                "{statement}"
-            );
-        }
+    for section in FLOWS.split("# ") {
+        let (statement, want) = section.split_once("\n").unwrap_or((section, "?"));
+        let have = statement_flow(rt.alloc(), statement)?;
+        assert_eq!(rt; have.as_str(), want, "{statement}");
     }
     Ok(())
 }

@@ -17,19 +17,19 @@ fn names_text(alloc: Global, text: &str) -> Result<String, AllocError> {
     Ok(answers)
 }
 
+const NAMES: &str = "\
+next => 0
+next value => 0 1
+next value value => 0 1 Duplicate { first: 1 }
+next value key => 0 1 Full { limit: 2 }
+next next next value => 0 Duplicate { first: 0 } Duplicate { first: 0 } 1
+";
+
 #[test]
 fn names_are_numbered_in_order(rt: HostRuntime) -> Result<(), AllocError> {
-    for (names, want) in [
-        ("next", "0 "),
-        ("next value", "0 1 "),
-        ("next value value", "0 1 Duplicate { first: 1 } "),
-        ("next value key", "0 1 Full { limit: 2 } "),
-        (
-            "next next next value",
-            "0 Duplicate { first: 0 } Duplicate { first: 0 } 1 ",
-        ),
-    ] {
-        assert_eq!(rt; names_text(rt.alloc(), names)?.as_str(), want);
+    for row in NAMES.lines() {
+        let (names, want) = row.split_once(" => ").unwrap_or((row, "?"));
+        assert_eq!(rt; names_text(rt.alloc(), names)?.as_str().trim_end(), want);
     }
     Ok(())
 }

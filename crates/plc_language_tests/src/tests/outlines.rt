@@ -113,19 +113,13 @@ over push: retired(v); => sort 7
 #[test]
 fn outlines_are_read_or_refused(rt: HostRuntime) -> Result<(), AllocError> {
     let alloc = rt.alloc();
-    for row in OUTLINES.lines() {
-        let (outline, want) = row.split_once(" => ").unwrap_or((row, "?"));
-        assert_eq!(rt; outline_answer(alloc, outline)?.as_str(), want, "{outline}");
-    }
-    Ok(())
-}
-
-#[test]
-fn items_are_read_or_refused(rt: HostRuntime) -> Result<(), AllocError> {
-    let alloc = rt.alloc();
-    for row in ITEMS.lines() {
-        let (items, want) = row.split_once(" => ").unwrap_or((row, "?"));
-        assert_eq!(rt; items_answer(alloc, items)?.as_str(), want, "{items}");
+    for (rows, before, after) in [(OUTLINES, "", ""), (ITEMS, "outline { ", " }")] {
+        for row in rows.lines() {
+            let (part, want) = row.split_once(" => ").unwrap_or((row, "?"));
+            let outline = format!(in alloc; "{before}{part}{after}")?;
+            let have = outline_answer(alloc, outline.as_str())?;
+            assert_eq!(rt; have.as_str(), want, "{part}");
+        }
     }
     Ok(())
 }

@@ -150,9 +150,9 @@ fn claims_text(
     config: &GcConfig,
     line: &str,
 ) -> Result<String, NoMemory>
+    requires of_run { IsOfRun flow.now config.now }
     requires fits { FlowFits flow.now }
     requires sorted { FlowIsWellSorted flow.now }
-    requires of_run { IsOfRun flow.now config.now }
 {
     let (t, nth, _) = three(line);
     let truths = config.claims(flow, t, (nth % 65536) as u16)?;
@@ -242,6 +242,7 @@ push 1 => yyy
 step 0 0 => Done
 step 0 0 => Done
 step 0 0 => Done
+invariants 0 1 1 => yyyyy
 step 0 0 => Done
 step 0 0 => Done
 step 0 0 => Done

@@ -66,9 +66,9 @@ fn answer(
 fn answers(
     alloc: Global,
     judged: &Judged,
+    lines: &str,
     config: &mut Config,
     collected: &mut GcConfig,
-    lines: &str,
 ) -> Result<String, NoMemory>
     requires of_run { IsOfMemoryRun judged.now.flow judged.now.observer config.old }
     requires of_collected_run { IsOfRun judged.now.flow collected.old }
@@ -77,7 +77,7 @@ fn answers(
 {
     let mut text = String::new(alloc);
     for line in lines.lines() {
-        let (line, _) = line.split_once(" => ").unwrap_or((line, ""));
+        let line = line.split(" => ").next().unwrap_or("");
         let came = answer(alloc, judged, config, collected, line)?;
         text.push_str(format!(in alloc; "{line} => {came}\n")?.as_str())?;
     }
@@ -95,7 +95,7 @@ fn run_text(alloc: Global, judged: &Judged, lines: &str) -> Result<String, NoMem
     let Ok(mut collected) = GcConfig::start(alloc, &judged.flow, 2) else {
         return Err(NoMemory);
     };
-    answers(alloc, judged, &mut config, &mut collected, lines)
+    answers(alloc, judged, lines, &mut config, &mut collected)
 }
 
 fn ran(alloc: Global, file: &str, lines: &str) -> Result<String, NoMemory> {

@@ -86,17 +86,18 @@ const NEXT: FieldId = FieldId(0);
 
 const VAL: FieldId = FieldId(1);
 
-// Places by short names: shared pointers, locals of two threads, and fields of two nodes.
+// Places by short names: a data field and a local of a third thread, which aren't there, then shared pointers, locals
+// of two threads, and the field of two nodes.
 const PLACES: [(&str, Place); 9] = [
+    ("1.val", Place::Cell { a: 1, f: VAL }),
+    ("s", Place::Local { t: 2, v: 0 }),
     ("Top", Place::Shared(0)),
     ("Other", Place::Shared(1)),
     ("p", Place::Local { t: 0, v: 0 }),
     ("q", Place::Local { t: 0, v: 1 }),
     ("r", Place::Local { t: 1, v: 0 }),
     ("1.next", Place::Cell { a: 1, f: NEXT }),
-    ("1.val", Place::Cell { a: 1, f: VAL }),
     ("2.next", Place::Cell { a: 2, f: NEXT }),
-    ("s", Place::Local { t: 2, v: 0 }),
 ];
 
 // Each place that is there with its number, after which `?` says that it is invalid; then the addresses that
@@ -249,39 +250,6 @@ step 0 0 1 => Done
 step 0 0 => Done
 step 0 0 => Done
 return 0 => Done
-start 1 2 => Done
-step 1 0 => Done
-step 1 0 => Done, 1 calls 1 with 1
-start 0 1 => Done
-step 0 0 => Done
-step 0 0 => Done
-step 0 0 => Done, 0 calls 0 with 1
-free 1 => Done, 1 is freed
-step 1 0 => Done, 1 is back from 1
-step 1 0 => Blocked
-start 0 2 => Blocked
-places => Top=0 p=1? r=1? 
-# start 0 0 7 => Done
-step 0 0 1 => Done
-step 0 0 => Done
-step 0 0 => Done
-return 0 => Done
-start 1 2 => Done
-step 1 0 => Done
-step 1 0 => Done, 1 calls 1 with 1
-step 1 0 => Done, 1 is back from 1
-step 1 0 => Done
-start 0 1 => Done
-step 0 0 => Done
-step 0 0 => Done
-step 0 0 => Done, 0 calls 0 with 1
-free 1 => Forbidden
-places => Top=0 p=1 r=1 1.next=0 used 1 retired 1 
-# start 0 0 7 => Done
-step 0 0 1 => Done
-step 0 0 => Done
-step 0 0 => Done
-return 0 => Done
 start 0 1 => Done
 start 1 1 => Done
 step 0 0 => Done
@@ -296,15 +264,43 @@ free 1 => Blocked
 places => Top=0 p=1? r=1? 
 ";
 
-// The transcript of moves in the stack, from the beginning.
-fn transcript(alloc: Global, moves: &str) -> Result<String, NoMemory> {
-    ran(alloc, STACK, "", moves)
-}
+// Moves from the beginning to the call by which a reader protects the node of `Top`.
+const PROTECT: &str = "start 0 0 7 => Done
+step 0 0 1 => Done
+step 0 0 => Done
+step 0 0 => Done
+return 0 => Done
+start 1 2 => Done
+step 1 0 => Done
+step 1 0 => Done, 1 calls 1 with 1
+";
+
+// Moves after those: the node is retired before the call returns, or after the pointer is valid for sure.
+const PROTECTED: &str = "# start 0 1 => Done
+step 0 0 => Done
+step 0 0 => Done
+step 0 0 => Done, 0 calls 0 with 1
+free 1 => Done, 1 is freed
+step 1 0 => Done, 1 is back from 1
+step 1 0 => Blocked
+start 0 2 => Blocked
+places => Top=0 p=1? r=1? 
+# step 1 0 => Done, 1 is back from 1
+step 1 0 => Done
+start 0 1 => Done
+step 0 0 => Done
+step 0 0 => Done
+step 0 0 => Done, 0 calls 0 with 1
+free 1 => Forbidden
+places => Top=0 p=1 r=1 1.next=0 used 1 retired 1 
+";
 
 #[test]
 fn moves_have_their_answers(rt: HostRuntime) -> Result<(), NoMemory> {
-    for row in MOVES.split("# ") {
-        assert_eq!(rt; transcript(rt.alloc(), row)?.as_str(), row);
+    for (before, rows) in [("", MOVES), ("", PROTECT), (PROTECT, PROTECTED)] {
+        for row in rows.split("# ") {
+            assert_eq!(rt; ran(rt.alloc(), STACK, before, row)?.as_str(), row);
+        }
     }
     Ok(())
 }

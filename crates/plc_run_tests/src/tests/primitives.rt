@@ -36,7 +36,7 @@ const INVALID: &str =
     "start 0 0\nstep 0 0 1\nstep 0 0\nreturn 0\nstart 0 1\nstep 0 0\nfree 1\nstep 0 0\nstep 0 0\nreturn 0\n";
 
 // What each primitive comes to where `Top` is null, valid, and invalid.
-const OUTCOMES: &str = "# Top := null;
+const OUTCOMES: &str = "Top := null;
 Done
 Done
 Done
@@ -194,9 +194,10 @@ Done
 Done
 ";
 
-// What a statement comes to in the three states, a line for each.
-fn outcomes(alloc: Global, statement: &str) -> Result<String, NoMemory> {
-    let mut text = String::new(alloc);
+// A section whose answers are written anew: what its statement comes to in the three states, a line for each.
+fn outcomes(alloc: Global, section: &str) -> Result<String, NoMemory> {
+    let (statement, _) = section.split_once("\n").unwrap_or((section, ""));
+    let mut text = format!(in alloc; "{statement}\n")?;
     for before in ["", VALID, INVALID] {
         text.push_str(outcome(alloc, statement, before)?.as_str())?;
         text.push('\n')?;
@@ -220,15 +221,13 @@ fn returns(alloc: Global, statement: &str) -> Result<String, NoMemory> {
 
 #[test]
 fn calls_return(rt: HostRuntime) -> Result<(), NoMemory> {
-    for (statement, want) in [
-        ("protect(Top);", "step 0 0 => Done, 0 is back from 1\n"),
-        ("protect(null);", "step 0 0 => Done, 0 is back from 1\n"),
-        ("enter();", "step 0 0 => Done, 0 is back from 2\n"),
-    ] {
-        let have = returns(rt.alloc(), statement)?;
+    let alloc = rt.alloc();
+    for (statement, call) in [("protect(Top);", 1), ("protect(null);", 1), ("enter();", 2)] {
+        let want = format!(in alloc; "step 0 0 => Done, 0 is back from {call}\n")?;
+        let want = format!(in alloc; "{want}{want}{want}")?;
         assert_eq!(rt;
-            have.as_str(),
-            format!(in rt.alloc(); "{want}{want}{want}")?.as_str(),
+            returns(alloc, statement)?.as_str(),
+            want.as_str(),
             "{statement}"
         );
     }
@@ -237,15 +236,8 @@ fn calls_return(rt: HostRuntime) -> Result<(), NoMemory> {
 
 #[test]
 fn primitives_have_their_outcomes(rt: HostRuntime) -> Result<(), NoMemory> {
-    for row in OUTCOMES.split("# ") {
-        if !row.is_empty() {
-            let (statement, want) = row.split_once("\n").unwrap_or((row, "?"));
-            assert_eq!(rt;
-                outcomes(rt.alloc(), statement)?.as_str(),
-                want,
-                "{statement}"
-            );
-        }
+    for section in OUTCOMES.split("# ") {
+        assert_eq!(rt; outcomes(rt.alloc(), section)?.as_str(), section);
     }
     Ok(())
 }

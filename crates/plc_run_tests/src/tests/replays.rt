@@ -14,9 +14,9 @@ use std::alloc::Global;
 // What a schedule comes to under a reclaimer.
 fn end_text(
     alloc: Global,
-    judged: &Judged,
-    schedule: &Schedule,
     reclaimer: &mut Box<dyn Reclaimer>,
+    schedule: &Schedule,
+    judged: &Judged,
 ) -> Result<String, NoMemory>
     requires { FlowFits judged.now.flow }
 {
@@ -44,7 +44,7 @@ fn replayed(
 ) -> Result<String, NoMemory> {
     let judged = loaded(alloc, DROPS)?;
     match read(alloc, text) {
-        Ok(schedule) => end_text(alloc, &judged, &schedule, reclaimer),
+        Ok(schedule) => end_text(alloc, reclaimer, &schedule, &judged),
         Err(_) => Err(NoMemory),
     }
 }

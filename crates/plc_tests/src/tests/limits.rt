@@ -2,7 +2,7 @@
 // `check` is asked for all, each command that reads files for those that are tested after the parse. The texts are made
 // here, part by part.
 use crate::tests::files::put;
-use crate::tests::program::head;
+use crate::tests::program::{Part, wrong_commands};
 use plc_cli::MemFiles;
 use std::alloc::{AllocError, Global};
 
@@ -157,42 +157,27 @@ const NUMBERS: [(&str, &str, &str); 7] = [
 
 const PLAIN: &str = "struct N { } op f() { ptr p; p := new; }";
 
-// The status and the first line of what is answered to words over `made` and a plain file.
-fn answer(alloc: Global, words: &str, made: &[u8]) -> Result<String, AllocError> {
-    let mut files = Vec::new(alloc);
-    for (name, bytes) in [("plain", PLAIN.as_bytes()), ("made", made)] {
-        put(alloc, &mut files, name, Vec::from_slice(alloc, bytes)?)?;
-    }
-    head(
-        alloc,
-        &mut MemFiles::new(alloc, files, Vec::new(alloc)),
-        words,
-    )
-}
-
-// The answers to commands that aren't as is wanted.
+// The answers to commands over `made` and a plain file whose status and first line aren't as is wanted.
 fn wrong_answers(
     alloc: Global,
     commands: &str,
     made: &[u8],
     want: &str,
 ) -> Result<String, AllocError> {
-    let mut wrong = String::new(alloc);
-    for words in commands.split(", ") {
-        let have = answer(alloc, words, made)?;
-        if have.as_str() != want {
-            wrong.push_str(format!(in alloc; "{words}: {have}, not {want}\n")?.as_str())?;
-        }
+    let mut files = Vec::new(alloc);
+    for (name, bytes) in [("plain", PLAIN.as_bytes()), ("made", made)] {
+        put(alloc, &mut files, name, Vec::from_slice(alloc, bytes)?)?;
     }
-    Ok(wrong)
+    let mut files = MemFiles::new(alloc, files, Vec::new(alloc));
+    wrong_commands(alloc, &mut files, commands, Part::Head, want)
 }
 
-// So many parts between two texts.
+// A text, then so many parts, then another text.
 fn parts(
     alloc: Global,
-    count: u32,
     before: &str,
     part: &str,
+    count: u32,
     after: &str,
 ) -> Result<String, AllocError> {
     let mut text = String::from_str(alloc, before)?;
@@ -218,7 +203,7 @@ fn wrong_in_row(alloc: Global, row: &str) -> Result<String, AllocError> {
     let after = fields.next().unwrap_or("");
     let mut wrong = String::new(alloc);
     for want in fields {
-        let made = parts(alloc, count, before, part, after)?;
+        let made = parts(alloc, before, part, count, after)?;
         let others = wrong_answers(alloc, commands, made.as_bytes(), want.trim_end())?;
         wrong.push_str(others.as_str())?;
         count = count.wrapping_add(1);
@@ -248,18 +233,6 @@ fn points_and_lines_have_limits(rt: HostRuntime) -> Result<(), AllocError> {
     Ok(())
 }
 
-#[test]
-fn obligations_have_a_limit(rt: HostRuntime) -> Result<(), AllocError> {
-    assert_eq!(rt; wrong_in_rows(rt.alloc(), OBLIGATIONS)?.as_str(), "");
-    Ok(())
-}
-
-#[test]
-fn a_million_obligations_are_judged(rt: HostRuntime) -> Result<(), AllocError> {
-    assert_eq!(rt; wrong_in_rows(rt.alloc(), MOST_OBLIGATIONS)?.as_str(), "");
-    Ok(())
-}
-
 // The wrong answers to commands over so many blanks.
 fn wrong_of_blanks(
     alloc: Global,
@@ -283,6 +256,12 @@ fn files_have_sizes(rt: HostRuntime) -> Result<(), AllocError> {
 }
 
 #[test]
+fn obligations_have_a_limit(rt: HostRuntime) -> Result<(), AllocError> {
+    assert_eq!(rt; wrong_in_rows(rt.alloc(), OBLIGATIONS)?.as_str(), "");
+    Ok(())
+}
+
+#[test]
 fn numbers_have_limits(rt: HostRuntime) -> Result<(), AllocError> {
     for (words, made, want) in NUMBERS {
         assert_eq!(rt;
@@ -290,5 +269,11 @@ fn numbers_have_limits(rt: HostRuntime) -> Result<(), AllocError> {
             ""
         );
     }
+    Ok(())
+}
+
+#[test]
+fn a_million_obligations_are_judged(rt: HostRuntime) -> Result<(), AllocError> {
+    assert_eq!(rt; wrong_in_rows(rt.alloc(), MOST_OBLIGATIONS)?.as_str(), "");
     Ok(())
 }

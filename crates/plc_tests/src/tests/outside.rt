@@ -97,13 +97,13 @@ fn failing_text(alloc: Global, most: usize, failing: u64) -> Result<String, Allo
 #[test]
 fn sinks_in_memory(rt: HostRuntime) -> Result<(), AllocError> {
     assert_eq!(rt; growing_text(rt.alloc())?.as_str(), "Ok(0) Ok(2) ok abcde");
-    for (most, failing, want) in [
-        (1, 0, "ok abc"),
-        (2, 0, "ok abc"),
-        (1, 2, "failed a"),
-        (2, 2, "failed ab"),
-        (9, 1, "failed "),
-        (0, 0, "failed "),
+    for (want, most, failing) in [
+        ("ok abc", 1, 0),
+        ("ok abc", 2, 0),
+        ("failed a", 1, 2),
+        ("failed ab", 2, 2),
+        ("failed ", 9, 1),
+        ("failed ", 0, 0),
     ] {
         assert_eq!(rt; failing_text(rt.alloc(), most, failing)?.as_str(), want);
     }

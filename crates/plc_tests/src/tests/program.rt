@@ -86,18 +86,38 @@ pub(crate) fn head<F: Files>(
     format!(in alloc; "{status} {line}")
 }
 
+// How much of an answer a row tells: all of it, or the status and the first line.
+#[derive(Clone, Copy)]
+pub(crate) enum Part {
+    Whole,
+    Head,
+}
+
+fn part_of_answer<F: Files>(
+    alloc: Global,
+    part: Part,
+    files: &mut F,
+    words: &str,
+) -> Result<String, AllocError> {
+    match part {
+        Part::Whole => answer(alloc, files, words),
+        Part::Head => head(alloc, files, words),
+    }
+}
+
 // What is answered to commands, which commas part, where it isn't this.
-fn wrong_commands<F: Files>(
+pub(crate) fn wrong_commands<F: Files>(
     alloc: Global,
     files: &mut F,
     commands: &str,
+    part: Part,
     want: &str,
 ) -> Result<String, AllocError> {
     let mut wrong = String::new(alloc);
     for words in commands.split(", ") {
-        let have = answer(alloc, files, words)?;
+        let have = part_of_answer(alloc, part, files, words)?;
         if have.as_str() != want {
-            wrong.push_str(format!(in alloc; "{words}: {have}")?.as_str())?;
+            wrong.push_str(format!(in alloc; "{words}: {have}, not {want}\n")?.as_str())?;
         }
     }
     Ok(wrong)
@@ -112,7 +132,8 @@ pub(crate) fn wrong_rows<F: Files>(
     let mut wrong = String::new(alloc);
     for row in rows.split("# ") {
         if let Some((commands, want)) = row.split_once(": ") {
-            wrong.push_str(wrong_commands(alloc, files, commands, want)?.as_str())?;
+            let others = wrong_commands(alloc, files, commands, Part::Whole, want)?;
+            wrong.push_str(others.as_str())?;
         }
     }
     Ok(wrong)

@@ -54,16 +54,14 @@ safe points 35 steps 36 locations 7 obligations 2559
 untyped step 24 prim 0 line 28 deref t
 # check retired-again: 1
 untyped step 29 prim 0 line 35 retire t
-# check left-early: 1
-untyped step 24 prim 0 line 28 deref t
 # check unchecked: 1
 untyped step 23 prim 0 line 27 deref t
-# check open-atomic: 2
-refused syntax token 18 line 1
 # check unknown-local: 2
 refused undeclared token 12 line 1
 # check pointless: 2
 refused sort token 12 line 1
+# check left-early: 1
+untyped step 24 prim 0 line 28 deref t
 # check watched-retire: 2
 refused sort token 7 line 1
 # check twice-watched: 2
@@ -76,14 +74,16 @@ refused number at 0
 refused name at 0
 # check sorts: 2
 refused sort token 22 line 1
+# check epochs: 1
+untyped step 3 prim 0 line 6 deref t
 # check calls: 2
 refused call token 9 line 2
 # check twice-declared: 2
 refused duplicate token 4 line 1
 # check compared: 1
 untyped step 1 prim 0 line 2 compare p
-# check epochs: 1
-untyped step 3 prim 0 line 6 deref t
+# check open-atomic: 2
+refused syntax token 18 line 1
 # check stack: 1
 untyped step 5 prim 0 line 6 retire t
 # check unknown-claim: 2
