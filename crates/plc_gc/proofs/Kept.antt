@@ -30,21 +30,13 @@ pub locals_held : (g : GcState) (t : ℕ) (q : Option Locals) → q ≡ get_or g
 unfolding locals_of
 locals_held g t q e = sym (ap locals_or_none e)
 
-pub pointer_held : (g : GcState) (t v : ℕ) (l : Locals) → Some l ≡ get_or g.locals t None → get_or l.pointers v 0 ≡ value g (in_local t v)
+pub pointer_held : (g : GcState) (t v : ℕ) (q : Option Locals) → q ≡ get_or g.locals t None → get_or (locals_or_none q).pointers v 0 ≡ value g (in_local t v)
 unfolding value
-pointer_held g t v l e = sym (ap (λ (m : Locals). get_or m.pointers v 0) (locals_held g t (Some l) e))
+pointer_held g t v q e = sym (ap (λ (m : Locals). get_or m.pointers v 0) (locals_held g t q e))
 
-pub no_pointer : (g : GcState) (t v : ℕ) → None ≡ get_or g.locals t None → 0 ≡ value g (in_local t v)
+pub data_held : (g : GcState) (t x : ℕ) (q : Option Locals) → q ≡ get_or g.locals t None → get_or (locals_or_none q).values x 0 ≡ value g (in_data t x)
 unfolding value
-no_pointer g t v e = sym (ap (λ (m : Locals). get_or m.pointers v 0) (locals_held g t None e))
-
-pub data_held : (g : GcState) (t x : ℕ) (l : Locals) → Some l ≡ get_or g.locals t None → get_or l.values x 0 ≡ value g (in_data t x)
-unfolding value
-data_held g t x l e = sym (ap (λ (m : Locals). get_or m.values x 0) (locals_held g t (Some l) e))
-
-pub no_data : (g : GcState) (t x : ℕ) → None ≡ get_or g.locals t None → 0 ≡ value g (in_data t x)
-unfolding value
-no_data g t x e = sym (ap (λ (m : Locals). get_or m.values x 0) (locals_held g t None e))
+data_held g t x q e = sym (ap (λ (m : Locals). get_or m.values x 0) (locals_held g t q e))
 
 -- a local by its number among all that are declared
 pub named_pointer : (g : GcState) (t i : ℕ) (l : Locals) (d : ALocal) → locals_of g t ≡ l → slice_get l.declared i ≡ Some d → d.pointer ≡ true → get_or l.pointers (pointer_number l.declared i) 0 ≡ declared_value g t l.declared i (slice_get l.declared i)

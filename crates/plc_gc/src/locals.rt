@@ -1,15 +1,15 @@
 // The locals of a thread that is in an operation. Clauses count pointer and data locals together, so the
 // declarations stand beside the values.
-ghost use Rattle.std.specs.Prelude.{◌≡◌, ℕ, ◌<◌, get_or, slice_get, set, replicate, length, nat_lt, if◌then◌else◌};
+ghost use Rattle.std.specs.Prelude.{◌≡◌, ℕ, ◌<◌, get_or, slice_get, length, nat_lt, if◌then◌else◌};
 ghost use Rattle.std.specs.Prelude.{IfOk, Some, None};
-ghost use Rattle.std.specs.Option.{option_copied};
 ghost use Rattle.plc_base.specs.Tables.{put_at};
 ghost use Rattle.plc_gc.specs.State.{GcState, Locals, locals_of, locals_or_none, no_locals, starting};
 ghost use Rattle.plc_gc.specs.Clauses.{declared_value};
 
-use crate::row::number_at;
+use crate::row::{find_number, number_at};
 use plc_base::NoMemory;
 use plc_lang::{Local, Op, count_other_data, count_pointers, data_number, pointer_number};
+use plc_threads::held;
 use std::alloc::Global;
 use std::marker::Model;
 
@@ -85,12 +85,7 @@ impl Locals {
         ensures { result
             ≡ (if nat_lt v (length self.now.pointers) then Some (get_or self.now.pointers v 0) else None) }
     {
-        let v = v as usize;
-        if v < self.pointers.len() {
-            Some(self.pointers[v])
-        } else {
-            None
-        }
+        find_number(&self.pointers, v as usize)
     }
 
     // The local by its number among all that are declared, 0 past the last.
@@ -128,30 +123,12 @@ impl Locals {
     }
 }
 
-// The locals of a thread, if it has any.
-pub fn held(locals: &[Option<Locals>], t: u32) -> Option<&Locals>
-    ensures { option_copied result ≡ get_or locals.now t None }
-{
-    match locals.get(t as usize) {
-        Some(Some(l)) => Some(l),
-        Some(None) => None,
-        None => None,
-    }
-}
-
 // A pointer local of a thread, if there is one of this number.
 pub fn local_of(locals: &[Option<Locals>], t: u32, v: u16) -> Option<u32>
     ensures { let l = locals_or_none (get_or locals.now t None)
         in result ≡ (if nat_lt v (length l.pointers) then Some (get_or l.pointers v 0) else None) }
 {
-    let t = t as usize;
-    if t >= locals.len() {
-        return None;
-    }
-    match &locals[t] {
-        Some(l) => l.find(v),
-        None => None,
-    }
+    held(locals, t)?.find(v)
 }
 
 // Puts a number into a pointer local of a thread.
@@ -198,15 +175,4 @@ pub fn copy_locals(
         copy.push(copy_held(held)?)?;
     }
     Ok(copy)
-}
-
-// So many idle threads.
-pub fn idle_threads(alloc: Global, threads: usize) -> Result<Vec<Option<Locals>>, NoMemory>
-    ensures { IfOk result (λ locals. locals.items ≡ replicate threads None) }
-{
-    let mut locals = Vec::new(alloc);
-    for _t in 0..threads {
-        locals.push(None)?;
-    }
-    Ok(locals)
 }

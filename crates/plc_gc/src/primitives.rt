@@ -1,7 +1,8 @@
 // One primitive, column by column of the table: where it isn't blocked, and what it changes. The second
 // takes its memory before it changes anything.
-ghost use Rattle.std.specs.Prelude.{◌≡◌, ℕ, ◌+◌, ◌<◌, ◌^◌, if◌then◌else◌, IfOk, OnOk, OnErr};
+ghost use Rattle.std.specs.Prelude.{◌≡◌, ℕ, ◌+◌, ◌<◌, ◌^◌, false, if◌then◌else◌, IfOk, OnOk, OnErr};
 ghost use Rattle.plc_base.specs.Functions.{is_retire};
+ghost use Rattle.plc_lang.specs.Allocation.{is_new};
 ghost use Rattle.plc_lang.specs.Shape.{VarIn, ArgIn};
 ghost use Rattle.plc_gc.specs.State.{number_of, count, made, put, update, slot};
 ghost use Rattle.plc_gc.specs.Primitives.{node_at, field_at, some_node, ghost_number, goes, goes_call, after};
@@ -158,69 +159,48 @@ impl State {
         ensures err { OnErr result (self.new ≡ self.old) }
     {
         match *prim {
-            Prim::Null { p } => {
-                self.write(t, p, 0);
-                Ok(())
-            }
-            Prim::Copy { p, q } => {
-                self.write(t, p, self.node(t, q));
-                Ok(())
-            }
             Prim::New { p } => self.change_by_new(t, p),
-            Prim::Load { p, q, f } => {
-                self.write(t, p, self.field_at(t, q, f));
+            _ => {
+                self.change_in_place(t, prim);
                 Ok(())
             }
-            Prim::Store { p, f, q } => {
-                self.change_at(t, p, Map::Pointer(f.0), self.node(t, q));
-                Ok(())
-            }
-            Prim::StoreNull { p, f } => {
-                self.change_at(t, p, Map::Pointer(f.0), 0);
-                Ok(())
-            }
-            Prim::DataSet { x, e } => {
-                self.put(Slot::Data { t, x }, self.number(t, e));
-                Ok(())
-            }
+        }
+    }
+
+    // What a primitive changes that makes no node.
+    fn change_in_place(&mut self, t: u32, prim: &Prim)
+        requires small { t + 1 < 2 ^ 32 }
+        requires there { FrameHas (frame self.old t) prim.now }
+        requires ranges { IsInRange self.old }
+        requires in_place { is_new prim.now ≡ false }
+        ensures { self.new ≡ after self.old t prim.now }
+    {
+        match *prim {
+            Prim::Null { p } => self.write(t, p, 0),
+            Prim::Copy { p, q } => self.write(t, p, self.node(t, q)),
+            Prim::Load { p, q, f } => self.write(t, p, self.field_at(t, q, f)),
+            Prim::Store { p, f, q } => self.change_at(t, p, Map::Pointer(f.0), self.node(t, q)),
+            Prim::StoreNull { p, f } => self.change_at(t, p, Map::Pointer(f.0), 0),
+            Prim::DataSet { x, e } => self.put(Slot::Data { t, x }, self.number(t, e)),
             Prim::DataLoad { x, q, f } => {
-                self.put(
-                    Slot::Data { t, x },
-                    self.entry(Map::Number(f.0), self.node(t, q)),
-                );
-                Ok(())
+                let n = self.entry(Map::Number(f.0), self.node(t, q));
+                self.put(Slot::Data { t, x }, n);
             }
             Prim::DataStore { p, f, e } => {
                 self.change_at(t, p, Map::Number(f.0), self.number(t, e));
-                Ok(())
             }
-            Prim::Eq { .. } => Ok(()),
-            Prim::Ne { .. } => Ok(()),
-            Prim::IsNull { .. } => Ok(()),
-            Prim::NotNull { .. } => Ok(()),
-            Prim::DataTest { .. } => Ok(()),
-            Prim::Refresh { p, q } => {
-                self.write(t, Var::Local(p), self.node(t, q));
-                Ok(())
-            }
+            Prim::Refresh { p, q } => self.write(t, Var::Local(p), self.node(t, q)),
             Prim::RefreshLoad { p, q, f } => {
                 self.write(t, Var::Local(p), self.field_at(t, q, f));
-                Ok(())
             }
             Prim::RefreshStore { p, f, q } => {
                 self.change_at(t, p, Map::Pointer(f.0), self.node(t, q));
-                Ok(())
             }
-            Prim::Call { func, arg } => {
-                self.change_by_call(t, func, arg);
-                Ok(())
-            }
-            Prim::Done { .. } => Ok(()),
-            Prim::Active { .. } => Ok(()),
+            Prim::Call { func, arg } => self.change_by_call(t, func, arg),
             Prim::Ghost { p, g, v } => {
                 self.change_at(t, p, Map::Auxiliary(g), ghost_number(t, v));
-                Ok(())
             }
+            _ => {}
         }
     }
 

@@ -1,6 +1,6 @@
 // The row of a node: a number for each field, of which a pointer field has the node in `pointers` and a
 // data field the number in `values`, one for each auxiliary field, and the retirement.
-ghost use Rattle.std.specs.Prelude.{◌≡◌, get_or, IfOk};
+ghost use Rattle.std.specs.Prelude.{◌≡◌, get_or, length, nat_lt, if◌then◌else◌, IfOk, Some, None};
 ghost use Rattle.plc_gc.specs.State.{row_entry, row_with, fresh_row};
 ghost use Rattle.plc_gc.specs.Fit.{EntryIn};
 
@@ -36,6 +36,17 @@ pub fn number_at(numbers: &[u32], i: usize) -> u32
     ensures { result ≡ get_or numbers.now i 0 }
 {
     if i < numbers.len() { numbers[i] } else { 0 }
+}
+
+// The number at a place of a table, if there is such a place.
+pub fn find_number(numbers: &[u32], i: usize) -> Option<u32>
+    ensures { result ≡ (if nat_lt i (length numbers.now) then Some (get_or numbers.now i 0) else None) }
+{
+    if i < numbers.len() {
+        Some(numbers[i])
+    } else {
+        None
+    }
 }
 
 impl Row {

@@ -7,12 +7,13 @@ ghost use Rattle.plc_gc.specs.State.{is_retired, is_made, is_pointer_field, node
 ghost use Rattle.plc_gc.specs.Clauses.{local_value, field_map};
 ghost use Rattle.plc_gc.specs.Fit.{SlotIn, MapIn};
 
-use crate::locals::{Locals, copy_locals, held, idle_threads, local_of, put_pointer, put_value};
-use crate::row::{Row, copy_rows, number_at};
+use crate::locals::{Locals, copy_locals, local_of, put_pointer, put_value};
+use crate::row::{Row, copy_rows, find_number, number_at};
 use crate::slot::{Map, Slot};
 use plc_base::{FieldId, NoMemory};
 use plc_flow::{Flow, Place};
 use plc_lang::Field;
+use plc_threads::{held, none_held};
 use std::alloc::Global;
 use std::marker::Model;
 
@@ -60,7 +61,7 @@ impl State {
             fields,
             ghosts,
             shared: vec![in alloc; 0; flow.file.shared.len()]?,
-            locals: idle_threads(alloc, threads as usize)?,
+            locals: none_held(alloc, threads as usize)?,
             rows,
         })
     }
@@ -179,12 +180,7 @@ impl State {
         ensures { result
             ≡ (if nat_lt i (length self.now.shared) then Some (get_or self.now.shared i 0) else None) }
     {
-        let i = i as usize;
-        if i < self.shared.len() {
-            Some(self.shared[i])
-        } else {
-            None
-        }
+        find_number(&self.shared, i as usize)
     }
 
     // Whether a node was made and isn't null.

@@ -124,6 +124,14 @@ nodes_fit_at k [] i d fit h = absurd (omega arith)
 nodes_fit_at k (n ∷ ns) zero d fit h = (fit.0, fit.1)
 nodes_fit_at k (n ∷ ns) (suc i) d fit h = nodes_fit_at k ns i d fit.2 (omega arith)
 
+-- the node to which the index leads, in the list that lies beside the index
+pub found_node : (k a i f : ℕ) (ns now : List Node) (d : Node) → ns ≡ now → position (λ n. n.address == a) now ≡ Some i → NodesFit k now → f < k
+    → (position (λ n. n.address == a) ns ≡ Some i) × (f < length (get_or ns i d).cells) × (f < length (get_or ns i d).values)
+found_node k a i f ns now d same found fit h =
+    let there : position (λ (n : Node). n.address == a) ns ≡ Some i = ap (position (λ (n : Node). n.address == a)) same ∙ found in
+    let fits = nodes_fit_at k ns i d (subst (NodesFit k) (sym same) fit) (node_at ns a i d there).0 in
+    (there, omega (arith, fits.0, h), omega (arith, fits.1, h))
+
 pub nodes_fit_push : (k : ℕ) (ns : List Node) (r : Node) → NodesFit k ns → length r.cells ≡ k → length r.values ≡ k → NodesFit k (ns ++ r ∷ [])
 nodes_fit_push k [] r fit c v = (c, v, tt)
 nodes_fit_push k (n ∷ ns) r fit c v = (fit.0, fit.1, nodes_fit_push k ns r fit.2 c v)

@@ -1,9 +1,11 @@
--- What every state of a run has, whatever the program's types: a valid pointer leads to a used address, and what is retired is used.
+-- What every state of a run has, whatever the program's types: a valid pointer leads to a used address, and what is
+-- retired is used.
 use Rattle.std.specs.Prelude.{◌≡◌, ℕ, ◌<◌, Bool, true, false, List, get_or, Some, None}
 use Rattle.plc_lang.specs.declared.syntax.Primitive.{Primitive}
 use Rattle.plc_lang.specs.declared.syntax.Op.{Op}
 use Rattle.plc_mem.specs.declared.cell.Cell.{Cell}
-use Rattle.plc_mem.specs.State.{State, Place, Locals, null_cell, is_null, at, is_used, is_retired, locals_of, with_locals, freed, fresh_state, no_locals, starting}
+use Rattle.plc_mem.specs.State.{State, Place, Locals, null_cell, is_null, at, is_used, is_retired, locals_of}
+use Rattle.plc_mem.specs.State.{with_locals, freed, fresh_state, no_locals, starting}
 use Rattle.plc_mem.specs.Primitives.{race_of, goes, after}
 use Rattle.plc_mem.specs.Outcomes.{next_of}
 
@@ -25,10 +27,12 @@ pub record IsCoherent (s : State) : Type 0 where
 -- the first state is coherent, and each change keeps it so
 pub record CoherenceIsKept : Type 0 where
   pub first : (fields : List Bool) (shared threads : ℕ) → IsCoherent (fresh_state fields shared threads)
-  pub by_primitive : (s : State) (t a : ℕ) (k : Primitive) → race_of s t k ≡ None → goes s t a k ≡ true → IsCoherent s → IsCoherent (after s t a k)
+  pub by_primitive : (s : State) (t a : ℕ) (k : Primitive) → race_of s t k ≡ None → goes s t a k ≡ true → IsCoherent s
+      → IsCoherent (after s t a k)
   pub by_any_primitive : (s : State) (t a : ℕ) (k : Primitive) → IsCoherent s → IsCoherent (next_of s t a k)
   pub by_free : (s : State) (a : ℕ) → 0 < a → IsCoherent s → IsCoherent (freed s a)
-  pub by_give : (s : State) (t : ℕ) (l : Locals) → LocalsCoherent s l → IsCoherent s → IsCoherent (with_locals s t (Some l))
+  pub by_give : (s : State) (t : ℕ) (l : Locals) → LocalsCoherent s l → IsCoherent s
+      → IsCoherent (with_locals s t (Some l))
   pub by_take : (s : State) (t : ℕ) → IsCoherent s → IsCoherent (with_locals s t None)
   pub held : (s : State) (t : ℕ) → IsCoherent s → LocalsCoherent s (locals_of s t)
   pub begun : (s : State) (o : Op) (args : List ℕ) → LocalsCoherent s (starting o args)

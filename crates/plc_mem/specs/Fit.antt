@@ -14,7 +14,12 @@ NodesFit fields (n ∷ ns) = (length n.cells ≡ fields) × (length n.values ≡
 
 -- what a thread with these locals may name
 abbrev pub shape : State → Locals → Shape
-shape s l = record { shared = length s.shared; pointers = length l.pointers; values = length l.values; fields = length s.fields }
+shape s l = record {
+  shared = length s.shared;
+  pointers = length l.pointers;
+  values = length l.values;
+  fields = length s.fields;
+}
 
 -- what no primitive changes: the locals of the other threads, the kinds of the fields, and what may be named
 pub record Kept (s : State) (l : Locals) (new : State) (m : Locals) : Type 0 where

@@ -1,7 +1,9 @@
 -- What each change of memory leaves at each place, and which addresses stay used and retired.
 use Rattle.std.specs.Prelude.{◌≡◌, ℕ, Bool, true, false, not, ◌&&◌, ◌||◌, ◌==◌, ◌<◌, List, Option, get_or}
 use Rattle.plc_mem.specs.declared.cell.Cell.{Cell}
-use Rattle.plc_mem.specs.State.{State, Place, at_shared, at_local, at_field, Locals, null_cell, cut, at, put, value_at, put_value, field_value, put_field_value, is_used, is_retired, with_node, with_retired, with_locals, locals_or_none, freed, fresh_state}
+use Rattle.plc_mem.specs.State.{State, Place, at_shared, at_local, at_field, Locals, null_cell, cut, at, put, value_at}
+use Rattle.plc_mem.specs.State.{put_value, field_value, put_field_value, is_used, is_retired, with_node, with_retired}
+use Rattle.plc_mem.specs.State.{with_locals, locals_or_none, freed, fresh_state}
 
 -- a field is there where its address is used; other places are always there
 abbrev pub is_there : State → Place → Bool
@@ -62,7 +64,8 @@ pub record WasRetired (s : State) (a : ℕ) (new : State) : Type 0 where
   pub used : (b : ℕ) → is_used new b ≡ is_used s b
   pub retired : (b : ℕ) → is_retired new b ≡ (is_retired s b || a == b)
 
--- numbers stay; invalid are now exactly the places that were so and those that hold the address; the fields of the address are gone
+-- numbers stay; invalid are now exactly the places that were so and those that hold the address; the fields of the
+-- address are gone
 pub record WasFreed (s : State) (a : ℕ) (new : State) : Type 0 where
   pub shared : (i : ℕ) → at new (at_shared i) ≡ cut a (at s (at_shared i))
   pub locals : (t v : ℕ) → at new (at_local t v) ≡ cut a (at s (at_local t v))

@@ -1,4 +1,5 @@
--- What a primitive answers and the state that it leaves, by the four columns of the table: a race first, then a blocked one.
+-- What a primitive answers and the state that it leaves, by the four columns of the table: a race first, then a blocked
+-- one.
 use Rattle.std.specs.Prelude.{ℕ, Bool, true, false, Option, Some, None}
 use Rattle.std.specs.Option.{unwrap_or}
 use Rattle.plc_lang.specs.declared.syntax.Primitive.{Primitive}

@@ -1,10 +1,14 @@
--- The table of the primitives, a function for each column: where it is a race, where it isn't blocked, the state after it, its event.
+-- The table of the primitives, a function for each column: where it is a race, where it isn't blocked, the state after
+-- it, its event.
 use Rattle.std.specs.Prelude.{ℕ, Bool, true, false, not, ◌&&◌, ◌==◌, if◌then◌else◌, Option, Some, None}
 use Rattle.plc_lang.specs.declared.syntax.Var.{Var}
 use Rattle.plc_lang.specs.declared.syntax.Arg.{Arg}
 use Rattle.plc_lang.specs.declared.syntax.Arg.TheVariants as args
 use Rattle.plc_lang.specs.declared.syntax.Primitive.{Primitive}
-use Rattle.plc_lang.specs.declared.syntax.Primitive.TheVariants.{Null, Copy, New, Load, Store, StoreNull, DataSet, DataLoad, DataStore, Eq, Ne, IsNull, NotNull, DataTest, Refresh, RefreshLoad, RefreshStore, Call, Done, Active, Ghost}
+use Rattle.plc_lang.specs.declared.syntax.Primitive.TheVariants.{Null, Copy, New, Load, Store, StoreNull, DataSet}
+use Rattle.plc_lang.specs.declared.syntax.Primitive.TheVariants.{DataLoad, DataStore, Eq, Ne, IsNull, NotNull, DataTest}
+use Rattle.plc_lang.specs.declared.syntax.Primitive.TheVariants.{Refresh, RefreshLoad, RefreshStore, Call, Done, Active}
+use Rattle.plc_lang.specs.declared.syntax.Primitive.TheVariants.{Ghost}
 use Rattle.plc_auto.specs.declared.event.Event.{Event}
 use Rattle.plc_auto.specs.declared.event.Event.TheVariants.{Call as Called, Done as Returned}
 use Rattle.plc_base.specs.Functions.{is_retire}
@@ -12,7 +16,9 @@ use Rattle.plc_lang.specs.Comparison.{compares}
 use Rattle.plc_mem.specs.declared.cell.Cell.{Cell}
 use Rattle.plc_mem.specs.declared.cell.RaceKind.{RaceKind}
 use Rattle.plc_mem.specs.declared.cell.RaceKind.TheVariants.{Deref, Compare, Pass, Double}
-use Rattle.plc_mem.specs.State.{State, at_local, at_field, null_cell, fresh_cell, is_null, same_pointer, at, put, value_at, put_value, field_value, put_field_value, place, number_of, with_node, with_retired, is_used, is_retired}
+use Rattle.plc_mem.specs.State.{State, at_local, at_field, null_cell, fresh_cell, is_null, same_pointer, at, put}
+use Rattle.plc_mem.specs.State.{value_at, put_value, field_value, put_field_value, place, number_of, with_node}
+use Rattle.plc_mem.specs.State.{with_retired, is_used, is_retired}
 
 -- what the variable of thread t holds
 abbrev pub cell_at : State → ℕ → Var → Cell
@@ -89,7 +95,8 @@ goes s t a (IsNull p) = is_null (cell_at s t p)
 goes s t a (NotNull p) = not (is_null (cell_at s t p))
 goes s t a (DataTest r x e) = compares r (value_at s t x) (number_of s t e)
 goes s t a (Refresh p q) = same_pointer (at s (at_local t p)) (cell_at s t q)
-goes s t a (RefreshLoad p q f) = not (is_null (cell_at s t q)) && same_pointer (at s (at_local t p)) (field_at s t q f.0)
+goes s t a (RefreshLoad p q f) =
+    not (is_null (cell_at s t q)) && same_pointer (at s (at_local t p)) (field_at s t q f.0)
 goes s t a (RefreshStore p f q) = not (is_null (cell_at s t p)) && same_pointer (field_at s t p f.0) (cell_at s t q)
 goes s t a (Call f r) = goes_call s t (is_retire f) r
 goes s t a (Done f) = true
@@ -135,24 +142,12 @@ address_of s t (args.Var p) = Some (cell_at s t p).number
 
 -- the fourth column: its event
 abbrev pub event_of : State → ℕ → Primitive → Option Event
-event_of s t (Null p) = None
-event_of s t (Copy p q) = None
-event_of s t (New p) = None
-event_of s t (Load p q f) = None
-event_of s t (Store p f q) = None
-event_of s t (StoreNull p f) = None
-event_of s t (DataSet x e) = None
-event_of s t (DataLoad x q f) = None
-event_of s t (DataStore p f e) = None
-event_of s t (Eq p q) = None
-event_of s t (Ne p q) = None
-event_of s t (IsNull p) = None
-event_of s t (NotNull p) = None
-event_of s t (DataTest r x e) = None
-event_of s t (Refresh p q) = None
-event_of s t (RefreshLoad p q f) = None
-event_of s t (RefreshStore p f q) = None
 event_of s t (Call f r) = Some (Called t f (address_of s t r))
 event_of s t (Done f) = Some (Returned t f)
-event_of s t (Active p) = None
-event_of s t (Ghost p g v) = None
+event_of s t k = None
+
+-- the primitive may need memory
+abbrev pub takes_memory : Primitive → Bool
+takes_memory (New p) = true
+takes_memory (Call f r) = true
+takes_memory k = false

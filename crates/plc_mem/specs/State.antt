@@ -1,5 +1,6 @@
 -- A state of memory: what shared pointers, locals and fields hold, and which addresses are used and retired.
-use Rattle.std.specs.Prelude.{ℕ, Bool, true, false, not, ◌&&◌, ◌==◌, nat_lt, if◌then◌else◌, List, [], ◌∷◌, ◌++◌, length, get_or, map, filter, replicate, Option, Some, None}
+use Rattle.std.specs.Prelude.{ℕ, Bool, true, false, not, ◌&&◌, ◌==◌, nat_lt, if◌then◌else◌, List, [], ◌∷◌, ◌++◌, length}
+use Rattle.std.specs.Prelude.{get_or, map, filter, replicate, Option, Some, None}
 use Rattle.std.specs.List.{list_any}
 use Rattle.plc_base.specs.Tables.{put_at}
 use Rattle.plc_lang.specs.declared.syntax.Var.{Var}
@@ -14,7 +15,8 @@ use Rattle.plc_flow.specs.declared.flow.Place.{Place as NamedPlace}
 use Rattle.plc_flow.specs.declared.flow.Place.TheVariants as named
 use Rattle.plc_mem.specs.declared.cell.Cell.{Cell}
 
--- the node at a used address: a cell and a number for each field, of which a pointer field has the cell and a data field the number
+-- the node at a used address: a cell and a number for each field, of which a pointer field has the cell and a data
+-- field the number
 pub record Node : Type 0 where
   pub address : ℕ
   pub cells : List Cell
@@ -25,7 +27,8 @@ pub record Locals : Type 0 where
   pub pointers : List Cell
   pub values : List ℕ
 
--- nodes are listed for the used addresses; locals for the threads, None for an idle one; of each field it is known whether it is a pointer field
+-- nodes are listed for the used addresses; locals for the threads, None for an idle one; of each field it is known
+-- whether it is a pointer field
 pub record State : Type 0 where
   pub fields : List Bool
   pub shared : List Cell
@@ -105,8 +108,11 @@ at s (at_field a f) = get_or (node_of s.nodes a).cells f null_cell
 unfoldable pub put : State → Place → Cell → State
 unfolding locals_of with_locals
 put s (at_shared i) c = record s { shared = put_at null_cell s.shared i c }
-put s (at_local t v) c = with_locals s t (Some (record (locals_of s t) { pointers = put_at null_cell (locals_of s t).pointers v c }))
-put s (at_field a f) c = record s { nodes = put_node s.nodes a (record (node_of s.nodes a) { cells = put_at null_cell (node_of s.nodes a).cells f c }) }
+put s (at_local t v) c =
+    with_locals s t (Some (record (locals_of s t) { pointers = put_at null_cell (locals_of s t).pointers v c }))
+put s (at_field a f) c = record s {
+  nodes = put_node s.nodes a (record (node_of s.nodes a) { cells = put_at null_cell (node_of s.nodes a).cells f c });
+}
 
 -- data: a local of thread t, a field of a node
 unfoldable pub value_at : State → ℕ → ℕ → ℕ
@@ -124,7 +130,9 @@ field_value s a f = get_or (node_of s.nodes a).values f 0
 
 -- the state with a number put into a data field
 unfoldable pub put_field_value : State → ℕ → ℕ → ℕ → State
-put_field_value s a f n = record s { nodes = put_node s.nodes a (record (node_of s.nodes a) { values = put_at 0 (node_of s.nodes a).values f n }) }
+put_field_value s a f n = record s {
+  nodes = put_node s.nodes a (record (node_of s.nodes a) { values = put_at 0 (node_of s.nodes a).values f n });
+}
 
 -- the place of a variable for thread t
 abbrev pub place : ℕ → Var → Place
@@ -173,7 +181,13 @@ freed s a = record {
 
 -- nothing used, shared pointers null, every thread idle
 abbrev pub fresh_state : List Bool → ℕ → ℕ → State
-fresh_state fields shared threads = record { fields = fields; shared = replicate shared null_cell; locals = replicate threads None; nodes = []; retired = [] }
+fresh_state fields shared threads = record {
+  fields = fields;
+  shared = replicate shared null_cell;
+  locals = replicate threads None;
+  nodes = [];
+  retired = [];
+}
 
 -- the field is a pointer field
 abbrev pub holds_pointer : Field → Bool

@@ -1,11 +1,12 @@
 // One primitive, column by column of the table: where it is a race, where it is blocked, its event,
 // what it changes. The first three only read, and the last takes its memory before it changes
 // anything, so that a race, a blocked primitive and running out of memory leave all as it was.
-ghost use Rattle.std.specs.Prelude.{◌≡◌, ℕ, true, IfOk, OnOk, OnErr, Some};
-ghost use Rattle.plc_lang.specs.Shape.{PrimitiveIn};
+ghost use Rattle.std.specs.Prelude.{◌≡◌, ℕ, ◌<◌, true, false, length, IfOk, OnOk, OnErr, Some};
+ghost use Rattle.plc_lang.specs.Shape.{PrimitiveIn, VarIn};
 ghost use Rattle.plc_base.specs.Functions.{is_retire};
-ghost use Rattle.plc_mem.specs.State.{with_locals};
-ghost use Rattle.plc_mem.specs.Primitives.{race_of, race_of_call, retirement, goes, goes_call, after, after_call, address_of, event_of};
+ghost use Rattle.plc_mem.specs.State.{with_locals, put, place, at_field};
+ghost use Rattle.plc_mem.specs.Primitives.{race_of, race_of_call, retirement, goes, goes_call, after, after_call};
+ghost use Rattle.plc_mem.specs.Primitives.{address_of, event_of, takes_memory, cell_at, field_at};
 ghost use Rattle.plc_mem.specs.Outcomes.{outcome_of, next_of, address_or_null, Stays};
 ghost use Rattle.plc_mem.specs.Fit.{shape, Kept};
 ghost use Rattle.plc_mem.specs.Coherence.{IsCoherent};
@@ -14,7 +15,7 @@ use crate::cell::{Cell, Outcome, RaceKind};
 use crate::locals::Locals;
 use crate::memory::Memory;
 use plc_auto::Event;
-use plc_base::{FuncId, NoMemory};
+use plc_base::{FieldId, FuncId, NoMemory};
 use plc_lang::{Arg, Prim, Var, compares};
 
 impl Memory {
@@ -209,74 +210,78 @@ impl Memory {
         ensures err { OnErr result ((self.new ≡ self.old) × (me.new ≡ me.old)) }
     {
         match *prim {
-            Prim::Null { p } => {
-                self.write(me, p, Cell::null());
-                Ok(())
-            }
-            Prim::Copy { p, q } => {
-                let c = self.read(me, q);
-                self.write(me, p, c);
-                Ok(())
-            }
             Prim::New { p } => {
                 self.add_node(a)?;
                 self.write(me, p, Cell::fresh(a));
                 Ok(())
             }
-            Prim::Load { p, q, f } => {
-                let c = self.field(self.read(me, q).number, f);
-                self.write(me, p, c);
+            Prim::Call { func, arg } => self.change_by_call(me, func, arg),
+            _ => {
+                self.change_in_place(me, prim);
                 Ok(())
             }
-            Prim::Store { p, f, q } => {
-                let c = self.read(me, q);
-                self.set_field(self.read(me, p).number, f, c);
-                Ok(())
-            }
-            Prim::StoreNull { p, f } => {
-                self.set_field(self.read(me, p).number, f, Cell::null());
-                Ok(())
-            }
-            Prim::DataSet { x, e } => {
-                let n = me.number(e);
-                me.set_value(x, n);
-                Ok(())
-            }
+        }
+    }
+
+    // What a primitive changes that takes no memory.
+    fn change_in_place(&mut self, me: &mut Locals, prim: &Prim)
+        requires named { PrimitiveIn (shape self.old me.old) prim.now }
+        requires in_place { takes_memory prim.now ≡ false }
+        ensures after { (t a : ℕ) → with_locals self.new t (Some me.new)
+            ≡ after (with_locals self.old t (Some me.old)) t a prim.now }
+        ensures kept { Kept self.old me.old self.new me.new }
+    {
+        match *prim {
+            Prim::Null { p } => self.write(me, p, Cell::null()),
+            Prim::Copy { p, q } => self.copy_pointer(me, p, q),
+            Prim::Load { p, q, f } => self.load(me, p, q, f),
+            Prim::Store { p, f, q } => self.store(me, p, f, self.read(me, q)),
+            Prim::StoreNull { p, f } => self.store(me, p, f, Cell::null()),
+            Prim::DataSet { x, e } => me.set_value(x, me.number(e)),
             Prim::DataLoad { x, q, f } => {
                 let n = self.field_value(self.read(me, q).number, f);
                 me.set_value(x, n);
-                Ok(())
             }
             Prim::DataStore { p, f, e } => {
-                let n = me.number(e);
-                self.set_field_value(self.read(me, p).number, f, n);
-                Ok(())
+                self.set_field_value(self.read(me, p).number, f, me.number(e));
             }
-            Prim::Eq { .. } => Ok(()),
-            Prim::Ne { .. } => Ok(()),
-            Prim::IsNull { .. } => Ok(()),
-            Prim::NotNull { .. } => Ok(()),
-            Prim::DataTest { .. } => Ok(()),
-            Prim::Refresh { p, q } => {
-                let c = self.read(me, q);
-                self.write(me, Var::Local(p), c);
-                Ok(())
-            }
-            Prim::RefreshLoad { p, q, f } => {
-                let c = self.field(self.read(me, q).number, f);
-                self.write(me, Var::Local(p), c);
-                Ok(())
-            }
-            Prim::RefreshStore { p, f, q } => {
-                let c = self.read(me, q);
-                self.set_field(self.read(me, p).number, f, c);
-                Ok(())
-            }
-            Prim::Call { func, arg } => self.change_by_call(me, func, arg),
-            Prim::Done { .. } => Ok(()),
-            Prim::Active { .. } => Ok(()),
-            Prim::Ghost { .. } => Ok(()),
+            Prim::Refresh { p, q } => self.copy_pointer(me, Var::Local(p), q),
+            Prim::RefreshLoad { p, q, f } => self.load(me, Var::Local(p), q, f),
+            Prim::RefreshStore { p, f, q } => self.store(me, p, f, self.read(me, q)),
+            _ => {}
         }
+    }
+
+    // A variable comes to hold what another one holds.
+    fn copy_pointer(&mut self, me: &mut Locals, p: Var, q: Var)
+        requires { VarIn (shape self.old me.old) p }
+        ensures after { (t : ℕ) → with_locals self.new t (Some me.new)
+            ≡ (let s = with_locals self.old t (Some me.old) in put s (place t p) (cell_at s t q)) }
+        ensures kept { Kept self.old me.old self.new me.new }
+    {
+        let c = self.read(me, q);
+        self.write(me, p, c);
+    }
+
+    // A variable comes to hold what a field holds of the node that another one leads to.
+    fn load(&mut self, me: &mut Locals, p: Var, q: Var, f: FieldId)
+        requires { VarIn (shape self.old me.old) p }
+        ensures after { (t : ℕ) → with_locals self.new t (Some me.new)
+            ≡ (let s = with_locals self.old t (Some me.old) in put s (place t p) (field_at s t q f.0)) }
+        ensures kept { Kept self.old me.old self.new me.new }
+    {
+        let c = self.field(self.read(me, q).number, f);
+        self.write(me, p, c);
+    }
+
+    // A field of the node that a variable leads to comes to hold a cell.
+    fn store(&mut self, me: &Locals, p: Var, f: FieldId, c: Cell)
+        requires { f.0 < length self.old.fields }
+        ensures after { (t : ℕ) → with_locals self.new t (Some me.now)
+            ≡ (let s = with_locals self.old t (Some me.now) in put s (at_field (cell_at s t p).number f.0) c) }
+        ensures kept { Kept self.old me.now self.new me.now }
+    {
+        self.set_field(self.read(me, p).number, f, c);
     }
 
     // What a call changes.

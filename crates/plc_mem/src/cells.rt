@@ -1,6 +1,6 @@
 // Tables of cells and of numbers. Past its end a table reads as null or 0, so that reading is total
 // and exact whatever is asked for.
-ghost use Rattle.std.specs.Prelude.{◌≡◌, get_or, map};
+ghost use Rattle.std.specs.Prelude.{◌≡◌, get_or, map, length, nat_lt, if◌then◌else◌, Some, None};
 ghost use Rattle.plc_mem.specs.State.{null_cell, cut};
 
 use crate::cell::Cell;
@@ -13,6 +13,17 @@ pub fn cell_or_null(cells: &[Cell], i: usize) -> Cell
         cells[i]
     } else {
         Cell::null()
+    }
+}
+
+// The cell at a place of a table, if there is such a place.
+pub fn find_cell(cells: &[Cell], i: usize) -> Option<Cell>
+    ensures { result ≡ (if nat_lt i (length cells.now) then Some (get_or cells.now i null_cell) else None) }
+{
+    if i < cells.len() {
+        Some(cells[i])
+    } else {
+        None
     }
 }
 

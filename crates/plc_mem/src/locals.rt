@@ -1,13 +1,16 @@
 // The locals of a thread that is in an operation. Between steps they lie in the memory; the acting
 // thread takes its own out, so that a primitive writes them and the memory side by side.
-ghost use Rattle.std.specs.Prelude.{◌≡◌, ℕ, ◌<◌, get_or, set, map, replicate, length, nat_lt, if◌then◌else◌, IfOk, OnOk, Some, None};
+ghost use Rattle.std.specs.Prelude.{◌≡◌, ℕ, ◌<◌, get_or, set, map, length, nat_lt, if◌then◌else◌, IfOk};
+ghost use Rattle.std.specs.Prelude.{OnOk, Some, None};
 ghost use Rattle.plc_lang.specs.Locals.{parameters_of};
-ghost use Rattle.plc_mem.specs.State.{State, Locals, null_cell, no_locals, locals_or_none, starting, with_locals, at, at_local, value_at, number_of, cut_locals};
+ghost use Rattle.plc_mem.specs.State.{State, Locals, null_cell, no_locals, locals_or_none, starting, with_locals, at};
+ghost use Rattle.plc_mem.specs.State.{at_local, value_at, number_of, cut_locals};
 
 use crate::cell::Cell;
-use crate::cells::{cell_or_null, cut_cells, value_or_0};
+use crate::cells::{cell_or_null, cut_cells, find_cell, value_or_0};
 use plc_base::NoMemory;
 use plc_lang::{Num, Op, count_other_data, count_pointers};
+use plc_threads::held;
 use std::alloc::Global;
 use std::marker::Model;
 
@@ -68,12 +71,7 @@ impl Locals {
         ensures { result
             ≡ (if nat_lt v (length self.now.pointers) then Some (get_or self.now.pointers v null_cell) else None) }
     {
-        let v = v as usize;
-        if v < self.pointers.len() {
-            Some(self.pointers[v])
-        } else {
-            None
-        }
+        find_cell(&self.pointers, v as usize)
     }
 
     // The pointer local, or null.
@@ -122,14 +120,7 @@ pub fn local_of(locals: &[Option<Locals>], t: u32, v: u16) -> Option<Cell>
     ensures { let l = locals_or_none (get_or locals.now t None)
         in result ≡ (if nat_lt v (length l.pointers) then Some (get_or l.pointers v null_cell) else None) }
 {
-    let t = t as usize;
-    if t >= locals.len() {
-        return None;
-    }
-    match &locals[t] {
-        Some(l) => l.find(v),
-        None => None,
-    }
+    held(locals, t)?.find(v)
 }
 
 // A copy of the locals of a thread, if it has any.
@@ -154,17 +145,6 @@ pub fn copy_locals(
         copy.push(copy_held(held)?)?;
     }
     Ok(copy)
-}
-
-// So many idle threads.
-pub fn idle_threads(alloc: Global, threads: usize) -> Result<Vec<Option<Locals>>, NoMemory>
-    ensures { IfOk result (λ locals. locals.items ≡ replicate threads None) }
-{
-    let mut locals = Vec::new(alloc);
-    for _t in 0..threads {
-        locals.push(None)?;
-    }
-    Ok(locals)
 }
 
 // Makes the pointers of a thread invalid that hold an address.

@@ -1,19 +1,23 @@
 // The memory that programs run on. What it is seen as is the state of the definitions, whatever index
 // its nodes have, and every read is total, so that nothing here rests on how an address came to be used.
-ghost use Rattle.std.specs.Prelude.{◌≡◌, ℕ, ◌<◌, ◌==◌, not, length, nat_lt, get_or, slice_set, filter, map, false, if◌then◌else◌, is_ok, IfOk, IfSome, Some, None};
+ghost use Rattle.std.specs.Prelude.{◌≡◌, ℕ, ◌<◌, ◌==◌, not, length, nat_lt, get_or, slice_set, filter, map, false};
+ghost use Rattle.std.specs.Prelude.{if◌then◌else◌, is_ok, IfOk, IfSome, Some, None};
 ghost use Rattle.plc_lang.specs.Shape.{VarIn};
-ghost use Rattle.plc_mem.specs.State.{State, null_cell, at, put, at_field, place, field_value, put_field_value, with_node, with_retired, with_locals, is_used, is_retired, freed, fresh_state, first_state, holds_pointer, cell_of, number_at, valid_at, place_of};
+ghost use Rattle.plc_mem.specs.State.{State, null_cell, at, put, at_field, place, field_value, put_field_value};
+ghost use Rattle.plc_mem.specs.State.{with_node, with_retired, with_locals, is_used, is_retired, freed, fresh_state};
+ghost use Rattle.plc_mem.specs.State.{first_state, holds_pointer, cell_of, number_at, valid_at, place_of};
 ghost use Rattle.plc_mem.specs.Primitives.{cell_at};
 ghost use Rattle.plc_mem.specs.Fit.{shape, Kept};
 ghost use Rattle.plc_mem.specs.Coherence.{IsCoherent, LocalsCoherent};
 
 use crate::cell::Cell;
-use crate::cells::{cell_or_null, cut_cells};
-use crate::locals::{Locals, copy_locals, cut_threads, idle_threads, local_of};
+use crate::cells::{cell_or_null, cut_cells, find_cell};
+use crate::locals::{Locals, copy_locals, cut_threads, local_of};
 use crate::node::Nodes;
 use plc_base::{FieldId, NoMemory};
 use plc_flow::{Flow, Place};
 use plc_lang::{Field, Var};
+use plc_threads::none_held;
 use std::alloc::Global;
 use std::marker::Model;
 
@@ -35,7 +39,13 @@ impl Model for Memory {
 
     ghost Value = { State };
 
-    ghost view = { λ m. record { fields = m.fields.items; shared = m.shared.items; locals = m.locals.items; nodes = m.nodes; retired = m.retired.items } };
+    ghost view = { λ m. record {
+      fields = m.fields.items;
+      shared = m.shared.items;
+      locals = m.locals.items;
+      nodes = m.nodes;
+      retired = m.retired.items;
+    } };
 
     ghost invariant = { λ m. NodesFit (length m.fields.items) m.nodes };
 }
@@ -83,7 +93,7 @@ impl Memory {
             alloc,
             fields,
             shared: vec![in alloc; null; shared]?,
-            locals: idle_threads(alloc, threads)?,
+            locals: none_held(alloc, threads)?,
             nodes: Nodes::new(alloc),
             retired: Vec::new(alloc),
         })
@@ -198,12 +208,7 @@ impl Memory {
         ensures { result
             ≡ (if nat_lt i (length self.now.shared) then Some (get_or self.now.shared i null_cell) else None) }
     {
-        let i = i as usize;
-        if i < self.shared.len() {
-            Some(self.shared[i])
-        } else {
-            None
-        }
+        find_cell(&self.shared, i as usize)
     }
 
     // Whether a field is a pointer field.

@@ -1,7 +1,8 @@
 // The nodes of the used addresses, in order of allocation, with an index from address to place beside
 // them, so that no look-up searches the nodes. A table indexed by address would be as long as the
 // largest address that a schedule names.
-ghost use Rattle.std.specs.Prelude.{◌≡◌, ℕ, ◌==◌, ◌<◌, ◌++◌, ◌∷◌, [], false, not, get_or, set, map, filter, is_ok, if◌then◌else◌, length, IfOk};
+ghost use Rattle.std.specs.Prelude.{◌≡◌, ℕ, ◌==◌, ◌<◌, ◌++◌, ◌∷◌, [], false, not, get_or, set, map, filter, is_ok};
+ghost use Rattle.std.specs.Prelude.{if◌then◌else◌, length, IfOk};
 ghost use Rattle.std.specs.List.{list_any, position};
 ghost use Rattle.plc_mem.specs.State.{Node, null_cell, node_of, put_node, fresh_node, cut_node};
 ghost use Rattle.plc_base.specs.Tables.{put_at};

@@ -15,16 +15,16 @@ use Rattle.plc_mem.specs.State.{State, Locals, null_cell, locals_or_none, locals
 use Rattle.plc_base.specs.Tables.{put_at}
 use Rattle.plc_mem.specs.Primitives.{after_call, race_of, goes, after, event_of}
 use Rattle.plc_mem.specs.Fit.{shape}
-use Rattle.plc_base.proofs.Tables.{get-put_same, get-put_other}
+use Rattle.plc_base.proofs.Tables.{get-put_same}
 use Rattle.plc_threads.proofs.Places.{length_put, held_below}
+use Rattle.plc_threads.proofs.Fit.{IsNewAt, put_is_new}
 use Rattle.plc_run.specs.Run.{Ending, Fine, Stuck, Raced, turn, recorded, execute}
 
 -- thread t holds locals l before and m after; all else has its old shape
 pub record KeepsShape (t : ℕ) (s : State) (l : Locals) (new : State) (m : Locals) : Type 0 where
   pub fields : new.fields ≡ s.fields
   pub shared : length new.shared ≡ length s.shared
-  pub threads : length new.locals ≡ length s.locals
-  pub others : (u : ℕ) → (u ≡ t → ⊥) → get_or new.locals u None ≡ get_or s.locals u None
+  pub table : IsNewAt t s.locals new.locals
   pub held : get_or new.locals t None ≡ Some m
   pub pointers : length m.pointers ≡ length l.pointers
   pub values : length m.values ≡ length l.values
@@ -36,7 +36,7 @@ pub same_shape : {t : ℕ} {s new : State} {l m : Locals} → KeepsShape t s l n
 same_shape k = (let a = k.shared in let b = k.pointers in let c = k.values in let d = ap length k.fields in cc)
 
 itself : (t : ℕ) (s : State) (l : Locals) → get_or s.locals t None ≡ Some l → KeepsShape t s l s l
-itself t s l held = record { fields = refl; shared = refl; threads = refl; others = λ u ne. refl; held = held; pointers = refl; values = refl }
+itself t s l held = record { fields = refl; shared = refl; table = record { many = refl; others = λ u ne. refl }; held = held; pointers = refl; values = refl }
 
 -- locals put in the place of those that were held
 given : (t : ℕ) (s : State) (l m : Locals) → get_or s.locals t None ≡ Some l → length m.pointers ≡ length l.pointers → length m.values ≡ length l.values → KeepsShape t s l (with_locals s t (Some m)) m
@@ -44,8 +44,7 @@ unfolding with_locals
 given t s l m held p v = record {
   fields = refl;
   shared = refl;
-  threads = length_put None s.locals t (Some m) (held_below s.locals t l held);
-  others = λ u ne. get-put_other None s.locals t (Some m) u ne;
+  table = put_is_new t s.locals (Some m) (held_below s.locals t l held);
   held = get-put_same None s.locals t (Some m);
   pointers = p;
   values = v;
@@ -57,14 +56,14 @@ held_is s t l held = ap locals_or_none held
 
 var_keeps : (t : ℕ) (s : State) (l : Locals) (v : Var) (c : Cell) → get_or s.locals t None ≡ Some l → VarIn (shape s l) v → Keeps t s l (put s (place t v) c)
 unfolding put
-var_keeps t s l (vars.Shared i) c held h = (l, record { fields = refl; shared = length_put null_cell s.shared i c h; threads = refl; others = λ u ne. refl; held = held; pointers = refl; values = refl })
+var_keeps t s l (vars.Shared i) c held h = (l, record { fields = refl; shared = length_put null_cell s.shared i c h; table = record { many = refl; others = λ u ne. refl }; held = held; pointers = refl; values = refl })
 var_keeps t s l (vars.Local v) c held h =
     let e = held_is s t l held in
     (_, given t s l (record (locals_of s t) { pointers = put_at null_cell (locals_of s t).pointers v c }) held (rw e (length_put null_cell l.pointers v c h)) (rw e refl))
 
 field_keeps : (t : ℕ) (s : State) (l : Locals) (a f : ℕ) (c : Cell) → get_or s.locals t None ≡ Some l → Keeps t s l (put s (at_field a f) c)
 unfolding put
-field_keeps t s l a f c held = (l, record { fields = refl; shared = refl; threads = refl; others = λ u ne. refl; held = held; pointers = refl; values = refl })
+field_keeps t s l a f c held = (l, record { fields = refl; shared = refl; table = record { many = refl; others = λ u ne. refl }; held = held; pointers = refl; values = refl })
 
 value_keeps : (t : ℕ) (s : State) (l : Locals) (x n : ℕ) → get_or s.locals t None ≡ Some l → x < length l.values → Keeps t s l (put_value s t x n)
 unfolding put_value
@@ -74,15 +73,15 @@ value_keeps t s l x n held h =
 
 field_value_keeps : (t : ℕ) (s : State) (l : Locals) (a f n : ℕ) → get_or s.locals t None ≡ Some l → Keeps t s l (put_field_value s a f n)
 unfolding put_field_value
-field_value_keeps t s l a f n held = (l, record { fields = refl; shared = refl; threads = refl; others = λ u ne. refl; held = held; pointers = refl; values = refl })
+field_value_keeps t s l a f n held = (l, record { fields = refl; shared = refl; table = record { many = refl; others = λ u ne. refl }; held = held; pointers = refl; values = refl })
 
 new_keeps : (t : ℕ) (s : State) (l : Locals) (a : ℕ) (v : Var) (c : Cell) → get_or s.locals t None ≡ Some l → VarIn (shape s l) v → Keeps t s l (put (with_node s a) (place t v) c)
 unfolding with_node
-new_keeps t s l a v c held h = let k = var_keeps t (with_node s a) l v c held h in (k.0, record { fields = k.1.fields; shared = k.1.shared; threads = k.1.threads; others = k.1.others; held = k.1.held; pointers = k.1.pointers; values = k.1.values })
+new_keeps t s l a v c held h = let k = var_keeps t (with_node s a) l v c held h in (k.0, record { fields = k.1.fields; shared = k.1.shared; table = k.1.table; held = k.1.held; pointers = k.1.pointers; values = k.1.values })
 
 call_keeps : (t : ℕ) (s : State) (l : Locals) (b : Bool) (r : Arg) → get_or s.locals t None ≡ Some l → Keeps t s l (after_call s t b r)
 unfolding with_retired
-call_keeps t s l true (args.Var p) held = (l, record { fields = refl; shared = refl; threads = refl; others = λ u ne. refl; held = held; pointers = refl; values = refl })
+call_keeps t s l true (args.Var p) held = (l, record { fields = refl; shared = refl; table = record { many = refl; others = λ u ne. refl }; held = held; pointers = refl; values = refl })
 call_keeps t s l true args.Null held = (l, itself t s l held)
 call_keeps t s l true args.None held = (l, itself t s l held)
 call_keeps t s l false r held = (l, itself t s l held)
@@ -116,8 +115,7 @@ keeps_then : {t : ℕ} {s new last : State} {l m n : Locals} → KeepsShape t s 
 keeps_then k j = record {
   fields = j.fields ∙ k.fields;
   shared = j.shared ∙ k.shared;
-  threads = j.threads ∙ k.threads;
-  others = λ u ne. j.others u ne ∙ k.others u ne;
+  table = record { many = j.table.many ∙ k.table.many; others = λ u ne. j.table.others u ne ∙ k.table.others u ne };
   held = j.held;
   pointers = j.pointers ∙ k.pointers;
   values = j.values ∙ k.values;

@@ -72,14 +72,14 @@ start_fits : (flow : Flow) → FlowFits flow → (threads : ℕ) (c : Configurat
 unfolding with_locals
 start_fits flow fits threads c t op o g args small named opens counted k =
     came flow threads c t (Some (starting o args)) (Some (record { op = op; at = g.entry.0 })) small k (record {
-      operation = o;
-      gate = g;
       locals = starting o args;
-      named = named;
-      opens = opens;
-      within = (gate_from 0 flow.points flow.gates op g fits.well.ranges opens).entry;
       held = get-put_same None c.state.locals t (Some (starting o args));
       fits = started_shape flow (with_locals c.state t (Some (starting o args))) o args k.shared k.fields counted;
+      operation = o;
+      named = named;
+      gate = g;
+      opens = opens;
+      within = (gate_from 0 flow.points flow.gates op g fits.well.ranges opens).entry;
     })
 
 return_fits : (flow : Flow) (threads : ℕ) (c : Configuration) (t : ℕ) → t < threads → ConfigurationFits flow threads c → ConfigurationFits flow threads (record c { state = with_locals c.state t None; points = put_at None c.points t None })
@@ -94,7 +94,7 @@ take_fits : (flow : Flow) (threads : ℕ) (c : Configuration) (t : ℕ) (p : Poi
 take_fits flow threads c t p to s h b small leads kept k = record {
   shared = kept.1.shared ∙ k.shared;
   fields = ap length kept.1.fields ∙ k.fields;
-  standing = thread_came flow (LocalsFit flow c.state) (LocalsFit flow s) threads c.state.locals s.locals c.points t _ small (λ o l fits. same_shape_of c.state s l kept.1.fields kept.1.shared ∙ fits) (record { many = kept.1.threads; others = kept.1.others }) mine k.standing;
+  standing = thread_came flow (LocalsFit flow c.state) (LocalsFit flow s) threads c.state.locals s.locals c.points t _ small (λ o l fits. same_shape_of c.state s l kept.1.fields kept.1.shared ∙ fits) kept.1.table mine k.standing;
 }
   where
     mine : IsBusyAt flow s t (record p { at = to })
@@ -152,7 +152,7 @@ ready_shape flow threads = (let a = length-replicate (length flow.file.shared) n
 begun : (flow : Flow) (threads : ℕ) (s : State) (h : List Event) → 0 < threads → EndsKept 0 (ready flow threads) no_locals (Fine s h) → ConfigurationFits flow threads (record { state = with_locals s 0 None; history = h; points = replicate threads None })
 unfolding with_locals ready
 begun flow threads s h some kept =
-    let idle = idle_again threads no_locals s.locals some (record { many = kept.1.threads; others = kept.1.others }) in
+    let idle = idle_again threads no_locals s.locals some kept.1.table in
     record {
       shared = kept.1.shared ∙ length-replicate (length flow.file.shared) null_cell;
       fields = ap length kept.1.fields ∙ length-map flow.file.fields holds_pointer;

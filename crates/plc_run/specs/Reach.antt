@@ -47,11 +47,15 @@ ended_as c t p to (Fine s h) =
 ended_as c t p to Stuck = Blocks
 ended_as c t p to (Raced kind k) = Breaks kind k
 
+-- what a step that leaves this point leads to
+abbrev pub step_leads : Configuration → ℕ → Point → Step → Option ℕ → Reached
+step_leads c t p step addr = ended_as c t p step.to.0 (taken c t addr step)
+
 -- thread t takes a step, if there is one that it may take, by a move that names an address or none
 abbrev pub take_step : Configuration → ℕ → Option ℕ → Option (Point × Step) → Reached
 take_step c t addr None = Blocks
 take_step c t addr (Some s) =
-    if names_rightly addr s.1 then ended_as c t s.0 s.1.to.0 (taken c t addr s.1) else Blocks
+    if names_rightly addr s.1 then step_leads c t s.0 s.1 addr else Blocks
 
 -- a step
 abbrev pub step_from : Flow → Configuration → ℕ → ℕ → Option ℕ → Option Point → Reached

@@ -10,10 +10,10 @@ ghost use Rattle.plc_flow.specs.WellFormed.{FlowFits};
 ghost use Rattle.plc_mem.specs.State.{with_locals};
 ghost use Rattle.plc_mem.specs.Outcomes.{outcome_of, next_of, address_or_null, Stays};
 ghost use Rattle.plc_mem.specs.Fit.{shape, Kept};
-ghost use Rattle.plc_run.specs.Run.{point_of, taken};
+ghost use Rattle.plc_run.specs.Run.{point_of};
 ghost use Rattle.plc_run.specs.Ended.{IsReady, heard};
 ghost use Rattle.plc_run.specs.Fit.{ConfigurationFits};
-ghost use Rattle.plc_run.specs.Reach.{Breaks, start_from, step_from, ended_as, return_from, free_of, reach};
+ghost use Rattle.plc_run.specs.Reach.{Breaks, start_from, step_from, step_leads, return_from, free_of, reach};
 ghost use Rattle.plc_run.specs.Reach.{answer, Reaches, IsUnheard, Begins};
 ghost use Rattle.plc_run.specs.Position.{threads_of, Follows, IsOfRun, Answers, Starts};
 
@@ -85,8 +85,8 @@ impl Config {
         observer: &Observer,
         threads: u32,
     ) -> Result<Option<Config>, NoMemory>
-        requires fits { FlowFits flow.now }
         requires some { 0 < threads }
+        requires fits { FlowFits flow.now }
         ensures { IfOk result (λ c. Begins flow.now observer.now threads c) }
     {
         let mut memory = Memory::new(alloc, flow, threads)?;
@@ -200,7 +200,8 @@ impl Config {
         self.take(observer, step, point, t, addr)
     }
 
-    // A step is taken: of no or one primitive in place, of several on a copy.
+    // A step is taken: of no or one primitive in place, of several on a copy of the memory, which then takes the
+    // place of the memory.
     fn take(
         &mut self,
         observer: &Observer,
@@ -211,17 +212,26 @@ impl Config {
     ) -> Result<Moved, NoMemory>
         requires ready { IsReady self.old.here t point step.now }
         requires follows { Follows observer.now self.old }
-        ensures answer { let to = ended_as self.old.here t point step.now.to.0 (taken self.old.here t addr step.now)
-            in IfOk result (λ r. r ≡ answer to) }
-        ensures after { let to = ended_as self.old.here t point step.now.to.0 (taken self.old.here t addr step.now)
-            in OnOk result (Reaches to self.old self.new) }
+        ensures answer { IfOk result (λ r. r ≡ answer (step_leads self.old.here t point step.now addr)) }
+        ensures after { OnOk result (Reaches (step_leads self.old.here t point step.now addr) self.old self.new) }
         ensures follows { Follows observer.now self.new }
         ensures err { OnErr result (self.new ≡ self.old) }
     {
         match step.prims.as_slice() {
-            [] => Ok(self.pass(step, point, t)),
-            [prim] => self.take_in_place(observer, step, prim, point, t, addr),
-            _ => self.take_on_copy(observer, step, point, t, addr),
+            [] => return Ok(self.pass(step, point, t)),
+            [prim] => return self.take_in_place(observer, step, prim, point, t, addr),
+            _ => {}
+        }
+        let tried = try_step(self.alloc, &self.memory, step, t, addr)?;
+        match tried.ended {
+            Ended::Stuck => Ok(Moved::Blocked),
+            Ended::Raced { kind, prim } => Ok(self.race(kind, prim)),
+            Ended::Fine => {
+                self.hear(observer, &tried.events)?;
+                self.memory = tried.memory;
+                set_point(&mut self.points, t, Some(arrival(point, step)));
+                Ok(Moved::Done)
+            }
         }
     }
 
@@ -229,11 +239,8 @@ impl Config {
     fn pass(&mut self, step: &Step, point: Point, t: u32) -> Moved
         requires none { step.now.prims ≡ [] }
         requires ready { IsReady self.old.here t point step.now }
-        ensures answer { (addr : Option ℕ)
-            → result ≡ answer (ended_as self.old.here t point step.now.to.0 (taken self.old.here t addr step.now)) }
-        ensures after { (addr : Option ℕ)
-            → let to = ended_as self.old.here t point step.now.to.0 (taken self.old.here t addr step.now)
-            in Reaches to self.old self.new }
+        ensures answer { (addr : Option ℕ) → result ≡ answer (step_leads self.old.here t point step.now addr) }
+        ensures after { (addr : Option ℕ) → Reaches (step_leads self.old.here t point step.now addr) self.old self.new }
         ensures unheard { IsUnheard self.old self.new }
     {
         set_point(&mut self.points, t, Some(arrival(point, step)));
@@ -253,12 +260,10 @@ impl Config {
         requires one { step.now.prims ≡ prim.now ∷ [] }
         requires ready { IsReady self.old.here t point step.now }
         requires follows { Follows observer.now self.old }
-        ensures answer { let to = ended_as self.old.here t point step.now.to.0 (taken self.old.here t addr step.now)
-            in IfOk result (λ r. r ≡ answer to) }
-        ensures after { let to = ended_as self.old.here t point step.now.to.0 (taken self.old.here t addr step.now)
-            in OnOk result (Reaches to self.old self.new) }
         ensures follows { Follows observer.now self.new }
         ensures err { OnErr result (self.new ≡ self.old) }
+        ensures answer { IfOk result (λ r. r ≡ answer (step_leads self.old.here t point step.now addr)) }
+        ensures after { OnOk result (Reaches (step_leads self.old.here t point step.now addr) self.old self.new) }
     {
         let Some(mut me) = self.memory.take(t) else {
             return Ok(Moved::Blocked);
@@ -324,37 +329,6 @@ impl Config {
     {
         self.ended = true;
         Moved::Race { kind, prim }
-    }
-
-    // A step on a copy of the memory, which then takes the place of the memory.
-    fn take_on_copy(
-        &mut self,
-        observer: &Observer,
-        step: &Step,
-        point: Point,
-        t: u32,
-        addr: Option<u32>,
-    ) -> Result<Moved, NoMemory>
-        requires ready { IsReady self.old.here t point step.now }
-        requires follows { Follows observer.now self.old }
-        ensures answer { let to = ended_as self.old.here t point step.now.to.0 (taken self.old.here t addr step.now)
-            in IfOk result (λ r. r ≡ answer to) }
-        ensures after { let to = ended_as self.old.here t point step.now.to.0 (taken self.old.here t addr step.now)
-            in OnOk result (Reaches to self.old self.new) }
-        ensures follows { Follows observer.now self.new }
-        ensures err { OnErr result (self.new ≡ self.old) }
-    {
-        let tried = try_step(self.alloc, &self.memory, step, t, addr)?;
-        match tried.ended {
-            Ended::Stuck => Ok(Moved::Blocked),
-            Ended::Raced { kind, prim } => Ok(self.race(kind, prim)),
-            Ended::Fine => {
-                self.hear(observer, &tried.events)?;
-                self.memory = tried.memory;
-                set_point(&mut self.points, t, Some(arrival(point, step)));
-                Ok(Moved::Done)
-            }
-        }
     }
 
     // Puts events after the history, and moves the table by them. The table's rows are had first.

@@ -44,12 +44,12 @@ fn one(
     addr: Option<u32>,
 ) -> Result<Outcome, NoMemory>
     requires { PrimitiveIn (shape memory.old me.old) prim.now }
+    ensures kept { OnOk result (Kept memory.old me.old memory.new me.new) }
+    ensures events { IfOk result (λ o. events.new.items ≡ heard events.old.items o) }
     ensures outcome { IfOk result (λ o. o
         ≡ outcome_of (with_locals memory.old t (Some me.old)) t (address_or_null addr) prim.now) }
     ensures next { OnOk result (with_locals memory.new t (Some me.new)
         ≡ next_of (with_locals memory.old t (Some me.old)) t (address_or_null addr) prim.now) }
-    ensures events { IfOk result (λ o. events.new.items ≡ heard events.old.items o) }
-    ensures kept { OnOk result (Kept memory.old me.old memory.new me.new) }
 {
     match memory.apply(prim, me, t, addr)? {
         Outcome::Next(Some(event)) => {
@@ -91,34 +91,7 @@ pub fn execute(
     Ok(Ended::Fine)
 }
 
-/// A step of a thread whose locals the memory holds.
-pub fn take_step(
-    memory: &mut Memory,
-    events: &mut Vec<Event>,
-    prims: &[Prim],
-    t: u32,
-    addr: Option<u32>,
-) -> Result<Ended, NoMemory>
-    requires busy { (l : Locals) × (get_or memory.old.locals t None ≡ Some l)
-        × PrimitivesIn (shape memory.old l) prims.now }
-    requires few { length prims.now < 65536 }
-    ensures { IfOk result (λ e. ending e memory.new events.new.items
-        ≡ execute memory.old events.old.items t (address_or_null addr) 0 prims.now) }
-{
-    let Some(mut me) = memory.take(t) else {
-        return Ok(Ended::Stuck);
-    };
-    match execute(memory, &mut me, events, prims, t, addr)? {
-        Ended::Fine => {
-            memory.put(t, me);
-            Ok(Ended::Fine)
-        }
-        Ended::Stuck => Ok(Ended::Stuck),
-        Ended::Raced { kind, prim } => Ok(Ended::Raced { kind, prim }),
-    }
-}
-
-/// A step of a thread on a copy of the memory, with its events beside the history.
+/// A step of a thread on a copy of the memory, which holds the thread's locals, with its events beside the history.
 pub fn try_step(
     alloc: Global,
     memory: &Memory,
@@ -134,7 +107,16 @@ pub fn try_step(
 {
     let mut memory = memory.copy()?;
     let mut events = Vec::new(alloc);
-    let ended = take_step(&mut memory, &mut events, step.prims.as_slice(), t, addr)?;
+    let Some(mut me) = memory.take(t) else {
+        return Ok(Tried {
+            memory,
+            events,
+            ended: Ended::Stuck,
+        });
+    };
+    let prims = step.prims.as_slice();
+    let ended = execute(&mut memory, &mut me, &mut events, prims, t, addr)?;
+    memory.put(t, me);
     Ok(Tried {
         memory,
         events,

@@ -1,15 +1,15 @@
 // The laws stand over the definitions, so that proofs above never open them.
 ghost use Rattle.std.specs.Prelude.{◌≡◌, ℕ, ◌<◌, true};
 ghost use Rattle.plc_auto.specs.declared.observer.Observer.{Observer};
-ghost use Rattle.plc_flow.specs.declared.flow.Flow.{Flow};
 ghost use Rattle.plc_auto.specs.Table.{is_well_formed};
-ghost use Rattle.plc_run.specs.Fit.{ConfigurationFits};
+ghost use Rattle.plc_flow.specs.declared.flow.Flow.{Flow};
 ghost use Rattle.plc_flow.specs.WellFormed.{FlowFits};
 ghost use Rattle.plc_flow.specs.WellSorted.{FlowIsWellSorted};
-ghost use Rattle.plc_run.specs.Quiet.{InitIsQuiet};
+ghost use Rattle.plc_run.specs.Run.{Configuration, Run};
+ghost use Rattle.plc_run.specs.Fit.{ConfigurationFits};
 ghost use Rattle.plc_run.specs.Laws.{RunLaws};
 ghost use Rattle.plc_run.specs.Observed.{RunsAreObserved};
-ghost use Rattle.plc_run.specs.Run.{Configuration, Run};
+ghost use Rattle.plc_run.specs.Quiet.{InitIsQuiet};
 
 /// Every flow has runs: they begin, an idle thread starts any operation, a step whose primitives
 /// succeed is taken, a thread at an exit returns, and an address is freed exactly where the longer

@@ -9,7 +9,7 @@ ghost use Rattle.plc_auto.specs.Table.{target_of};
 ghost use Rattle.plc_auto.specs.Location.{is_this, step_by, advance, location_from, location};
 ghost use Rattle.plc_auto.specs.declared.event.Event.TheVariants.{Free as Freed};
 ghost use Rattle.plc_run.specs.Reach.{may_free};
-ghost use Rattle.plc_auto.specs.Events.{thread_of, address_of};
+ghost use Rattle.plc_auto.specs.Events.{address_of};
 ghost use Rattle.plc_run.specs.Locations.{row_of, located, stands};
 ghost use Rattle.plc_run.specs.Table.{has_row, has_rows, all_after, row_after, AddsRows, IsReadyFor};
 
@@ -60,20 +60,6 @@ impl Model for Table {
     ghost invariant = { λ t. t.count ≤ length t.rows.items };
 }
 
-// The address that an event names, null where it names none.
-pub fn named(event: &Event) -> u32
-    ensures { result ≡ address_of event.now }
-{
-    match *event {
-        Event::Call { t: _, f: _, a } => match a {
-            None => 0,
-            Some(a) => a,
-        },
-        Event::Done { t: _, f: _ } => 0,
-        Event::Free { a } => a,
-    }
-}
-
 // Whether an address is the one that is watched; null and an absent address are other.
 fn is_this(b: Option<u32>, a: u32) -> bool
     ensures { result ≡ is_this b a }
@@ -115,18 +101,7 @@ fn advance(observer: &Observer, event: &Event, t: usize, a: u32, at: Option<LocI
 fn is_on(event: &Event, a: u32) -> bool
     ensures { result ≡ is_this (Some (address_of event.now)) a }
 {
-    is_this(Some(named(event)), a)
-}
-
-// The thread of a call or a return.
-fn thread_of(event: &Event) -> Option<u32>
-    ensures { result ≡ thread_of event.now }
-{
-    match *event {
-        Event::Call { t, f: _, a: _ } => Some(t),
-        Event::Done { t, f: _ } => Some(t),
-        Event::Free { a: _ } => None,
-    }
+    is_this(Some(event.address()), a)
 }
 
 // Moves every thread of a row.
@@ -156,7 +131,7 @@ fn move_row(at: &mut Vec<Option<LocId>>, observer: &Observer, event: &Event, a: 
         move_all(at, observer, event, a);
         return;
     }
-    if let Some(t) = thread_of(event) {
+    if let Some(t) = event.thread() {
         move_one(at, observer, event, a, t as usize);
     }
 }
@@ -221,8 +196,8 @@ fn has_row(rows: &[Row], a: u32) -> bool
 fn add_row(
     alloc: Global,
     rows: &mut Vec<Row>,
-    others: &[Option<LocId>],
     a: u32,
+    others: &[Option<LocId>],
 ) -> Result<(), NoMemory>
     ensures adds { AddsRows (map target_of others.now) rows.old.items rows.new.items }
     ensures there { OnOk result (has_row rows.new.items a ≡ true) }
@@ -239,14 +214,14 @@ fn add_row(
 fn add_rows(
     alloc: Global,
     rows: &mut Vec<Row>,
-    others: &[Option<LocId>],
     events: &[Event],
+    others: &[Option<LocId>],
 ) -> Result<(), NoMemory>
     ensures adds { AddsRows (map target_of others.now) rows.old.items rows.new.items }
     ensures there { OnOk result (has_rows rows.new.items events.now ≡ true) }
 {
     for event in events {
-        add_row(alloc, rows, others, named(event))?;
+        add_row(alloc, rows, event.address(), others)?;
     }
     Ok(())
 }
@@ -336,7 +311,7 @@ impl Table {
         ensures ready { OnOk result (IsReadyFor self.new events.now) }
     {
         self.rows.truncate(self.count);
-        add_rows(self.alloc, &mut self.rows, &self.others, events)?;
+        add_rows(self.alloc, &mut self.rows, events, &self.others)?;
         Ok(())
     }
 

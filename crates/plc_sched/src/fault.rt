@@ -8,12 +8,12 @@ use std::alloc::AllocError;
 /// Why bytes are no schedule. Of several reasons `Limit` comes first.
 #[derive(Clone, Copy, Debug, PartialEq, Eq)]
 pub enum SchedFault {
+    /// Memory ran out.
+    Memory,
     /// Line `n`, from 1 on, is the first that spells no head or entry. The empty file lacks line 1.
     Line { n: u32 },
     /// There are more than 100,000 lines; `count` is 100,001.
     Limit { count: u32 },
-    /// Memory ran out.
-    Memory,
 }
 
 impl From<AllocError> for SchedFault {

@@ -113,18 +113,22 @@ fn guarantees_are_a_chain(rt: HostRuntime) -> Result<(), AllocError> {
     Ok(())
 }
 
+const JOINS: &str = "\
+S26 ALS0 => S026 not below
+S26 S026 => S026 below
+ALS0 S026 => S026 below
+S026 ALS0 => S026 not below
+ALS ALS0 => ALS0 below
+ALS0 -0 => -0 below
+";
+
 #[test]
 fn types_are_ordered(rt: HostRuntime) -> Result<(), AllocError> {
-    let alloc = rt.alloc();
-    for (a, b, want) in [
-        ("S26", "ALS0", "S026 not below"),
-        ("S26", "S026", "S026 below"),
-        ("ALS0", "S026", "S026 below"),
-        ("S026", "ALS0", "S026 not below"),
-        ("ALS", "ALS0", "ALS0 below"),
-        ("ALS0", "-0", "-0 below"),
-    ] {
-        assert_eq!(rt; join_text(alloc, &type_of(a), &type_of(b))?.as_str(), want);
+    for row in JOINS.lines() {
+        let (types, want) = row.split_once(" => ").unwrap_or((row, "?"));
+        let (a, b) = types.split_once(" ").unwrap_or((types, ""));
+        let have = join_text(rt.alloc(), &type_of(a), &type_of(b))?;
+        assert_eq!(rt; have.as_str(), want, "{types}");
     }
     Ok(())
 }
@@ -504,23 +508,20 @@ fn interfered(alloc: Global, observer: &Observer, text: &str) -> Result<String, 
 
 #[test]
 fn interference_leaves_what_no_other_thread_takes(rt: HostRuntime) -> Result<(), NoMemory> {
-    for (observer, before, after) in [
-        (Observer::Plain, "ALS0", "-01 / ALS0 ALS / 01"),
-        (Observer::Plain, "AS0", "-01 / -01 ALS / 01"),
-        (Observer::Plain, "S0", "-01 / -01 ALS / 01"),
-        (Observer::Plain, "-0", "-01 / -01 ALS / 01"),
-        (Observer::Plain, "ALS", "-01 / ALS ALS / 01"),
-        (HAZARD, "ALS2", "-0123456 / ALS2 ALS / 0123456"),
-        (HAZARD, "AS2", "-0123456 / S26 ALS / 0123456"),
-        (HAZARD, "S2", "-0123456 / S26 ALS / 0123456"),
-        (HAZARD, "S0", "-0123456 / -03 ALS / 0123456"),
-        (HAZARD, "-2", "-0123456 / -26 ALS / 0123456"),
+    for (before, observer, after) in [
+        ("ALS0", Observer::Plain, "-01 / ALS0 ALS / 01"),
+        ("AS0", Observer::Plain, "-01 / -01 ALS / 01"),
+        ("S0", Observer::Plain, "-01 / -01 ALS / 01"),
+        ("-0", Observer::Plain, "-01 / -01 ALS / 01"),
+        ("ALS", Observer::Plain, "-01 / ALS ALS / 01"),
+        ("ALS2", HAZARD, "-0123456 / ALS2 ALS / 0123456"),
+        ("AS2", HAZARD, "-0123456 / S26 ALS / 0123456"),
+        ("S2", HAZARD, "-0123456 / S26 ALS / 0123456"),
+        ("S0", HAZARD, "-0123456 / -03 ALS / 0123456"),
+        ("-2", HAZARD, "-0123456 / -26 ALS / 0123456"),
     ] {
-        assert_eq!(rt;
-            interfered(rt.alloc(), &observer, before)?.as_str(),
-            after,
-            "{before}"
-        );
+        let have = interfered(rt.alloc(), &observer, before)?;
+        assert_eq!(rt; have.as_str(), after, "{before}");
     }
     Ok(())
 }

@@ -11,5 +11,5 @@ loop-event-preserved c =
     let i = c.loop-event.event-index in
     record {
       adds = adds_then (map target_of c.args.others.now) c.args.rows.now.items rows new c.loop-event.invariant.adds c.add_row.ensures.adds;
-      there = rows_more (map target_of c.args.others.now) rows new c.args.events.now i _ c.loop-event-test.true c.add_row.ensures.adds c.loop-event.invariant.there (sym (ap (has_row new) c.named.ensures) ∙ c.in_ok-add_row.ensures.there);
+      there = rows_more (map target_of c.args.others.now) rows new c.args.events.now i _ c.loop-event-test.true c.add_row.ensures.adds c.loop-event.invariant.there (sym (ap (has_row new) c.address.ensures) ∙ c.in_ok-add_row.ensures.there);
     }

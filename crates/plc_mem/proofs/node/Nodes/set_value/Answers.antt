@@ -1,31 +1,22 @@
-use Rattle.std.proofs.Common.{◌≡◌, ◌==◌, List, ℕ, Some, refl, sym, subst, ap, ◌∙◌, arith}
-use Rattle.std.specs.List.{position}
-use Rattle.plc_mem.specs.State.{Node, node_of, put_node, empty_node}
+use Rattle.std.proofs.Common.{List, ℕ, refl, sym, ap, ◌∙◌}
 use Rattle.plc_base.specs.Tables.{put_at}
-use Rattle.plc_mem.specs.Fit.{NodesFit}
-use Rattle.plc_mem.proofs.Places.{node_at, node_written, put_no_node, nodes_fit_at}
+use Rattle.plc_mem.specs.State.{Node, node_of, put_node, empty_node}
+use Rattle.plc_mem.proofs.Places.{found_node, node_written, put_no_node}
 use Rattle.plc_mem.proofs.Index.{index_kept}
 use Rattle.plc_mem.proofs.node.Nodes.set_value.Goals as goal
 
 pub put_value-requires-clause-field : goal.put_value-requires-clause-field
-put_value-requires-clause-field c = λ n.
-    let found : position (λ (n : Node). n.address == c.args.a) c.self.inside.nodes.items ≡ Some c.in-Some.i = ap (position (λ (n : Node). n.address == c.args.a)) c.self.view_is ∙ sym c.find.ensures ∙ c.in-Some.is in
-    let small = (node_at c.self.inside.nodes.items c.args.a c.in-Some.i n found).0 in
-    let fit = nodes_fit_at c.requires.0 c.self.inside.nodes.items c.in-Some.i n (subst (NodesFit c.requires.0) (sym c.self.view_is) c.requires.2) small in
-    omega (arith, fit.1, c.requires.1)
+put_value-requires-clause-field c = λ n. (found_node c.requires.0 c.args.a c.in-Some.i c.args.f c.self.inside.nodes.items c.args.self.now n c.self.view_is (sym c.find.ensures ∙ c.in-Some.is) c.requires.2 c.requires.1).2
 
 pub invariant_of-self : goal.invariant_of-self
 invariant_of-self c = index_kept c.self.inside.addresses.keys c.self.inside.nodes.items c.put_value.new.nodes.items c.in-Some.i _ (empty_node c.args.a) c.self.invariant (c.put_value.ensures (empty_node c.args.a)) refl
 
 pub returns-in-Some : goal.returns-in-Some
 returns-in-Some c =
-    let ns = c.self.inside.nodes.items in
     let none = empty_node c.args.a in
-    let found : position (λ (n : Node). n.address == c.args.a) ns ≡ Some c.in-Some.i = ap (position (λ (n : Node). n.address == c.args.a)) c.self.view_is ∙ sym c.find.ensures ∙ c.in-Some.is in
-    let small = (node_at ns c.args.a c.in-Some.i none found).0 in
-    let fit = nodes_fit_at c.requires.0 ns c.in-Some.i none (subst (NodesFit c.requires.0) (sym c.self.view_is) c.requires.2) small in
+    let r = found_node c.requires.0 c.args.a c.in-Some.i c.args.f c.self.inside.nodes.items c.args.self.now none c.self.view_is (sym c.find.ensures ∙ c.in-Some.is) c.requires.2 c.requires.1 in
     c.put_value.ensures none
-    ∙ node_written 0 (λ (n : Node). n.values) (λ (n : Node) (xs : List ℕ). record n { values = xs }) ns c.args.a c.in-Some.i c.args.f c.args.n _ none found refl (omega (arith, fit.1, c.requires.1))
+    ∙ node_written 0 (λ (n : Node). n.values) (λ (n : Node) (xs : List ℕ). record n { values = xs }) c.self.inside.nodes.items c.args.a c.in-Some.i c.args.f c.args.n _ none r.0 refl r.2
     ∙ ap (λ (ns : List Node). put_node ns c.args.a (record (node_of ns c.args.a) { values = put_at 0 (node_of ns c.args.a).values c.args.f c.args.n })) c.self.view_is
 
 pub returns-in_default : goal.returns-in_default

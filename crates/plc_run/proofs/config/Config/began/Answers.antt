@@ -8,8 +8,8 @@ use Rattle.plc_run.proofs.Stepping.{begun_with}
 use Rattle.plc_mem.specs.contracts.memory.Memory.{the_view}
 use Rattle.plc_run.proofs.config.Config.began.Goals as goal
 
-pub returns-in_ok-idle_points-in-Fine : goal.returns-in_ok-idle_points-in-Fine
-returns-in_ok-idle_points-in-Fine c =
+pub returns-in_ok-none_held-in-Fine : goal.returns-in_ok-none_held-in-Fine
+returns-in_ok-none_held-in-Fine c =
     let m = the_view c.memory-2.inside in
     let flow = c.args.flow.now in
     let threads = c.args.threads in
@@ -20,4 +20,4 @@ returns-in_ok-idle_points-in-Fine c =
     ∙ ap (λ (l : Locals). execute (with_locals (first_state flow threads) 0 (Some l)) c.new-history.result.items 0 1 0 c.as_slice-init.result.now) c.in_ok-me.ensures
     ∙ ap (λ h. execute (with_locals (first_state flow threads) 0 (Some no_locals)) h 0 1 0 c.as_slice-init.result.now) c.new-history.ensures.items
     ∙ ap (execute (with_locals (first_state flow threads) 0 (Some no_locals)) [] 0 1 0) c.as_slice-init.ensures in
-    (refl, begun_with flow threads m c.execute.new.me c.execute.new.events.items c.in_ok-idle_points-in-Fine.field-0.items c.requires.some idle c.in_ok-idle_points-in-Fine.ensures same, λ t a small. c.in_ok-after-in-Fine.ensures t a (omega (arith, small, ap length c.in_ok-idle_points-in-Fine.ensures, length-replicate {A = Option Point} threads None)) ∙ ap (λ h. location c.args.observer.now h t a) c.deref.ensures.value)
+    (refl, begun_with flow threads m c.execute.new.me c.execute.new.events.items c.in_ok-none_held-in-Fine.field-0.items c.requires.some idle c.in_ok-none_held-in-Fine.ensures same, λ t a small. c.in_ok-after-in-Fine.ensures t a (omega (arith, small, ap length c.in_ok-none_held-in-Fine.ensures, length-replicate {A = Option Point} threads None)) ∙ ap (λ h. location c.args.observer.now h t a) c.deref.ensures.value)

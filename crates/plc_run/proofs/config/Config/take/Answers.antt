@@ -7,7 +7,7 @@ use Rattle.plc_run.specs.contracts.config.Config.{the_view}
 use Rattle.plc_base.specs.Tables.{put_at}
 use Rattle.plc_run.proofs.Follow.{unheard}
 use Rattle.plc_run.proofs.Stepping.{taken_so, taken_fine}
-use Rattle.plc_run.proofs.config.Config.take_on_copy.Goals as goal
+use Rattle.plc_run.proofs.config.Config.take.Goals as goal
 
 pub returns-in-Stuck-clause-answer : goal.returns-in-Stuck-clause-answer
 returns-in-Stuck-clause-answer c =
