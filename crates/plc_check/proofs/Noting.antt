@@ -1,6 +1,7 @@
 -- What is known of obligations that were noted is so of those that are alike.
 use Rattle.std.specs.Prelude.{◌≡◌, ◌++◌, ◌⊎◌, ℕ, List, [], ◌∷◌, Contains, Some, slice_get, length}
-use Rattle.std.proofs.Common.{sym, subst, arith}
+use Rattle.std.proofs.Common.{sym, subst, ◌∙◌, ◌<◌, arith}
+use Rattle.std.proofs.lemmas.Option.{slice_get_within}
 use Rattle.plc_base.proofs.Lists.{slice_left, slice_right}
 use Rattle.plc_flow.specs.declared.flow.Flow.{Flow}
 use Rattle.plc_logic.specs.declared.clause.Outline.{Outline}
@@ -29,6 +30,15 @@ module _ (flow : Flow) (outline : Outline) (noted : List (Obligation × ℕ)) (o
           fits = r.2.fits;
         },
       )
+
+  pub tree_within : (trees : List Tree) → NotedHaveTrees flow outline trees noted → at < length trees
+  tree_within trees have = (let r = have (alike.0, at) alike.1 in slice_get_within trees at r.0 r.1)
+
+  pub alike_tree : (trees : List Tree) (t : Tree) → NotedHaveTrees flow outline trees noted → slice_get trees at ≡ Some t → IsTreeOf flow outline o t
+  alike_tree trees t have is =
+      let r = alike_has_tree trees have in
+      let one : r.0 ≡ t = let both : Some r.0 ≡ Some t = sym r.1 ∙ is in cc in
+      subst (IsTreeOf flow outline o) one r.2
 
 module _ (flow : Flow) (outline : Outline) where
   pub kept_noted : (old new : List (Obligation × ℕ)) (o : Obligation) (at : ℕ) → NotedAreKept flow outline old → IsKept flow outline o
