@@ -87,11 +87,13 @@ fn tree_at(
     if let Some(at) = noted.find(flow, outline, &obligation) {
         return Ok(Ok(copy_of(alloc, trees, at)?));
     }
-    let made = make_tree(alloc, memory, flow, outline, obligation)?;
-    if made.is_ok() {
-        noted.note(&obligation, trees.len())?;
+    match make_tree(alloc, memory, flow, outline, obligation)? {
+        Ok(tree) => {
+            noted.note(&obligation, trees.len())?;
+            Ok(Ok(tree))
+        }
+        Err(found) => Ok(Err(found)),
     }
-    Ok(made)
 }
 
 /// A tree for each obligation, or what breaks the least that isn't kept.

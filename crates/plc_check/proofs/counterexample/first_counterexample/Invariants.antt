@@ -1,11 +1,13 @@
 use Rattle.std.proofs.Common.{length}
 use Rattle.plc_oblig.specs.Obligations.{obligations}
 use Rattle.plc_oblig.specs.Outlines.{IsKept}
+use Rattle.plc_check.specs.Counterexamples.{NotedAreKept}
 use Rattle.plc_check.proofs.SoFar.{SoFar}
 use Rattle.plc_check.proofs.counterexample.first_counterexample.Given as goal
 
 abbrev pub invariant-loop-obligation : goal.invariant-loop-obligation
-invariant-loop-obligation l = SoFar (IsKept l.flow l.outline) (obligations l.flow l.outline) l.walk
+invariant-loop-obligation l =
+    SoFar (IsKept l.flow l.outline) (obligations l.flow l.outline) l.walk × NotedAreKept l.flow l.outline l.kept
 
 abbrev pub decreases-loop-obligation : goal.decreases-loop-obligation
 decreases-loop-obligation l = length l.walk

@@ -1,14 +1,20 @@
-use Rattle.std.proofs.Common.{[], ◌∷◌}
-use Rattle.plc_oblig.specs.GroundSets.{ground_set}
-use Rattle.plc_check.proofs.Readable.{nodes_fit}
+use Rattle.std.proofs.Common.{subst}
+use Rattle.plc_check.specs.Counterexamples.{IsTreeAt}
+use Rattle.plc_check.proofs.Noting.{alike_tree, tree_more, tree_noted, tree_within}
 use Rattle.plc_check.proofs.tree.tree_at.Goals as goal
+
+pub copy_of-requires : goal.copy_of-requires
+copy_of-requires c =
+    tree_within c.args.flow.now c.args.outline.now c.args.noted.now c.args.obligation c.in-Some.at c.in-Some.ensures c.args.trees.now c.requires.noted
 
 pub returns-in-Some : goal.returns-in-Some
 returns-in-Some c =
-    let set = ground_set c.args.flow.now c.args.outline.now c.args.obligation in
-    let tree = rw c.in-Some.is at c.in_ok-tree.ensures.tree in
-    record {
-      closes = tree.closes;
-      once = tree.once;
-      fits = nodes_fit set tree.well ([] ∷ []) c.in-Some.tree.nodes tree.closes;
-    }
+    let t = c.in_ok-copy_of.field-0 in (
+      alike_tree c.args.flow.now c.args.outline.now c.args.noted.now c.args.obligation c.in-Some.at c.in-Some.ensures c.args.trees.now t c.requires.noted c.in_ok-copy_of.ensures,
+      tree_more c.args.flow.now c.args.outline.now c.args.trees.now t c.args.noted.now c.requires.noted,
+    )
+
+pub returns-in_ok-note-in-Ok : goal.returns-in_ok-note-in-Ok
+returns-in_ok-note-in-Ok c =
+    let this = subst (IsTreeAt c.args.flow.now c.args.outline.now c.args.obligation) c.in-Ok.is c.in_ok-tree.ensures in
+    (this, tree_noted c.args.flow.now c.args.outline.now c.args.trees.now c.in-Ok.tree c.args.noted.now c.note.new.self c.args.obligation c.requires.noted this c.in_ok-note-in-Ok.ensures)

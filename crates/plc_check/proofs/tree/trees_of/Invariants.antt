@@ -1,9 +1,10 @@
 use Rattle.std.proofs.Common.{length}
+use Rattle.plc_check.specs.Counterexamples.{NotedHaveTrees}
 use Rattle.plc_check.proofs.Matching.{TreesSoFar}
 use Rattle.plc_check.proofs.tree.trees_of.Given as goal
 
 abbrev pub invariant-loop-obligation : goal.invariant-loop-obligation
-invariant-loop-obligation l = TreesSoFar l.flow l.outline l.walk l.trees
+invariant-loop-obligation l = TreesSoFar l.flow l.outline l.walk l.trees × NotedHaveTrees l.flow l.outline l.trees l.noted
 
 abbrev pub decreases-loop-obligation : goal.decreases-loop-obligation
 decreases-loop-obligation l = length l.walk

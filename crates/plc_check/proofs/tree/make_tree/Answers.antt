@@ -1,0 +1,14 @@
+use Rattle.std.proofs.Common.{[], ◌∷◌}
+use Rattle.plc_oblig.specs.GroundSets.{ground_set}
+use Rattle.plc_check.proofs.Readable.{nodes_fit}
+use Rattle.plc_check.proofs.tree.make_tree.Goals as goal
+
+pub returns-in-Some : goal.returns-in-Some
+returns-in-Some c =
+    let set = ground_set c.args.flow.now c.args.outline.now c.args.obligation in
+    let tree = rw c.in-Some.is at c.in_ok-tree.ensures.tree in
+    record {
+      closes = tree.closes;
+      once = tree.once;
+      fits = nodes_fit set tree.well ([] ∷ []) c.in-Some.tree.nodes tree.closes;
+    }
