@@ -28,7 +28,18 @@ term 5 0 class 5
 term 6 retired.0(a:n) class 2
 # check outline: 0
 safe points 0 steps 0 locations 2 obligations 0
-# check outlined, check hazards: 0
+# check outlined: 0
+at d W {u.idle u.held r.idle r.held r.kept}
+at d t S {u.held r.kept}
+at d s - {u.idle u.held r.idle r.held r.kept}
+at e W {u.idle u.held r.idle r.held r.kept}
+at e t S {u.held r.kept}
+at e s - {u.idle u.held r.idle r.held r.kept}
+at f W {u.idle u.held r.idle r.held r.kept}
+at f t S {u.held r.kept}
+at f s - {u.idle u.held r.idle r.held r.kept}
+safe points 37 steps 39 locations 7 obligations 2845
+# check hazards: 0
 at d W {u.idle u.held r.idle r.held r.kept}
 at d t S {u.held r.kept}
 at d s - {u.idle u.held r.idle r.held r.kept}
