@@ -57,97 +57,81 @@ plain_edges =
     edge 0 retires any this (to 1) ∷ edge 0 frees any this bad
     ∷ edge 1 frees any this (to 0) ∷ []
 
--- ---- hazard(f): `asks` is a call of f, `granted` its return
+-- ---- the locations of hazard(f) and epoch(e, l), which are numbered alike: whether the address is retired (u, r),
+-- and how far the thread's protection has come: none (idle, out), asked for (pend, coming), granted (held, in)
 abbrev pub hazard_names : List (List ℕ)
 hazard_names =
     codes "u.idle" ∷ codes "u.pend" ∷ codes "u.held"
     ∷ codes "r.idle" ∷ codes "r.pend" ∷ codes "r.held" ∷ codes "r.kept" ∷ []
 
--- not retired, and not asked for by this thread
-abbrev pub u_idle : ℕ
-u_idle = 0
-
--- asked for, but the call has not returned
-abbrev pub u_pend : ℕ
-u_pend = 1
-
--- protected
-abbrev pub u_held : ℕ
-u_held = 2
-
--- retired, and not protected before
-abbrev pub r_idle : ℕ
-r_idle = 3
-
--- retired, and asked for, but the call has not returned
-abbrev pub r_pend : ℕ
-r_pend = 4
-
--- protected after the retirement, which is too late
-abbrev pub r_held : ℕ
-r_held = 5
-
--- retired while it was protected, so that it isn't freed until the protection is given up
-abbrev pub r_kept : ℕ
-r_kept = 6
-
--- a thread's protection of an address ends where the thread asks for another
-abbrev pub hazard_edges : List Edge
-hazard_edges =
-    edge u_idle asks own this (to u_pend) ∷ edge u_idle retires any this (to r_idle) ∷ edge u_idle frees any this bad
-    ∷ edge u_pend asks own other (to u_idle) ∷ edge u_pend granted own every (to u_held)
-    ∷ edge u_pend retires any this (to r_pend) ∷ edge u_pend frees any this bad
-    ∷ edge u_held asks own other (to u_idle) ∷ edge u_held retires any this (to r_kept) ∷ edge u_held frees any this bad
-    ∷ edge r_idle asks own this (to r_pend) ∷ edge r_idle frees any this (to u_idle)
-    ∷ edge r_pend asks own other (to r_idle) ∷ edge r_pend granted own every (to r_held)
-    ∷ edge r_pend frees any this (to u_pend)
-    ∷ edge r_held asks own other (to r_idle) ∷ edge r_held retires any this (to r_kept)
-    ∷ edge r_held frees any this (to u_held)
-    ∷ edge r_kept asks own other (to r_idle) ∷ edge r_kept frees any this bad ∷ []
-
--- ---- epoch(e, l): `asks` is a call of e, `granted` its return, `gives_up` a call of l
 abbrev pub epoch_names : List (List ℕ)
 epoch_names =
     codes "u.out" ∷ codes "u.coming" ∷ codes "u.in"
     ∷ codes "r.out" ∷ codes "r.coming" ∷ codes "r.in" ∷ codes "r.kept" ∷ []
 
--- not retired, and this thread is outside
-abbrev pub u_out : ℕ
-u_out = 0
+-- not retired, and this thread has no protection
+abbrev pub u_none : ℕ
+u_none = 0
 
--- the thread enters, but the call has not returned
-abbrev pub u_coming : ℕ
-u_coming = 1
+-- asked for, but the call has not returned
+abbrev pub u_asked : ℕ
+u_asked = 1
 
--- the thread is inside
-abbrev pub u_in : ℕ
-u_in = 2
+-- protected
+abbrev pub u_granted : ℕ
+u_granted = 2
 
--- retired while the thread was outside
-abbrev pub r_out : ℕ
-r_out = 3
+-- retired, and not protected before
+abbrev pub r_none : ℕ
+r_none = 3
 
--- retired before the thread was inside, which it enters
-abbrev pub r_coming : ℕ
-r_coming = 4
+-- retired, and asked for, but the call has not returned
+abbrev pub r_asked : ℕ
+r_asked = 4
 
--- the thread came in after the retirement, which is too late
-abbrev pub r_in : ℕ
-r_in = 5
+-- protected after the retirement, which is too late
+abbrev pub r_granted : ℕ
+r_granted = 5
 
--- what is retired while a thread is inside isn't freed until it leaves
+-- retired while it was protected, so that it isn't freed until the protection is given up
+abbrev pub r_kept : ℕ
+r_kept = 6
+
+-- ---- hazard(f): `asks` is a call of f, `granted` its return
+
+-- a thread's protection of an address ends where the thread asks for another
+abbrev pub hazard_edges : List Edge
+hazard_edges =
+    edge u_none asks own this (to u_asked) ∷ edge u_none retires any this (to r_none)
+    ∷ edge u_none frees any this bad
+    ∷ edge u_asked asks own other (to u_none) ∷ edge u_asked granted own every (to u_granted)
+    ∷ edge u_asked retires any this (to r_asked) ∷ edge u_asked frees any this bad
+    ∷ edge u_granted asks own other (to u_none) ∷ edge u_granted retires any this (to r_kept)
+    ∷ edge u_granted frees any this bad
+    ∷ edge r_none asks own this (to r_asked) ∷ edge r_none frees any this (to u_none)
+    ∷ edge r_asked asks own other (to r_none) ∷ edge r_asked granted own every (to r_granted)
+    ∷ edge r_asked frees any this (to u_asked)
+    ∷ edge r_granted asks own other (to r_none) ∷ edge r_granted retires any this (to r_kept)
+    ∷ edge r_granted frees any this (to u_granted)
+    ∷ edge r_kept asks own other (to r_none) ∷ edge r_kept frees any this bad ∷ []
+
+-- ---- epoch(e, l): `asks` is a call of e, `granted` its return, `gives_up` a call of l
+
+-- a thread that is inside protects every address until it leaves
 abbrev pub epoch_edges : List Edge
 epoch_edges =
-    edge u_out asks own every (to u_coming) ∷ edge u_out retires any this (to r_out) ∷ edge u_out frees any this bad
-    ∷ edge u_coming granted own every (to u_in) ∷ edge u_coming gives_up own every (to u_out)
-    ∷ edge u_coming retires any this (to r_coming) ∷ edge u_coming frees any this bad
-    ∷ edge u_in gives_up own every (to u_out) ∷ edge u_in retires any this (to r_kept) ∷ edge u_in frees any this bad
-    ∷ edge r_out asks own every (to r_coming) ∷ edge r_out frees any this (to u_out)
-    ∷ edge r_coming granted own every (to r_in) ∷ edge r_coming gives_up own every (to r_out)
-    ∷ edge r_coming frees any this (to u_coming)
-    ∷ edge r_in gives_up own every (to r_out) ∷ edge r_in retires any this (to r_kept)
-    ∷ edge r_in frees any this (to u_in)
-    ∷ edge r_kept gives_up own every (to r_out) ∷ edge r_kept frees any this bad ∷ []
+    edge u_none asks own every (to u_asked) ∷ edge u_none retires any this (to r_none)
+    ∷ edge u_none frees any this bad
+    ∷ edge u_asked granted own every (to u_granted) ∷ edge u_asked gives_up own every (to u_none)
+    ∷ edge u_asked retires any this (to r_asked) ∷ edge u_asked frees any this bad
+    ∷ edge u_granted gives_up own every (to u_none) ∷ edge u_granted retires any this (to r_kept)
+    ∷ edge u_granted frees any this bad
+    ∷ edge r_none asks own every (to r_asked) ∷ edge r_none frees any this (to u_none)
+    ∷ edge r_asked granted own every (to r_granted) ∷ edge r_asked gives_up own every (to r_none)
+    ∷ edge r_asked frees any this (to u_asked)
+    ∷ edge r_granted gives_up own every (to r_none) ∷ edge r_granted retires any this (to r_kept)
+    ∷ edge r_granted frees any this (to u_granted)
+    ∷ edge r_kept gives_up own every (to r_none) ∷ edge r_kept frees any this bad ∷ []
 
 -- the live locations in order
 abbrev pub names_of : Observer → List (List ℕ)

@@ -14,33 +14,20 @@ const U: u16 = 0;
 
 const R: u16 = 1;
 
-// `hazard(f)`
-const U_IDLE: u16 = 0;
+// `hazard(f)` and `epoch(e, l)`, numbered alike: no protection, asked for, granted
+const U_NONE: u16 = 0;
 
-const U_PEND: u16 = 1;
+const U_ASKED: u16 = 1;
 
-const U_HELD: u16 = 2;
+const U_GRANTED: u16 = 2;
 
-const R_IDLE: u16 = 3;
+const R_NONE: u16 = 3;
 
-const R_PEND: u16 = 4;
+const R_ASKED: u16 = 4;
 
-const R_HELD: u16 = 5;
+const R_GRANTED: u16 = 5;
 
-// `epoch(e, l)`
-const U_OUT: u16 = 0;
-
-const U_COMING: u16 = 1;
-
-const U_IN: u16 = 2;
-
-const R_OUT: u16 = 3;
-
-const R_COMING: u16 = 4;
-
-const R_IN: u16 = 5;
-
-// both: retired too late to be freed
+// retired while it was protected
 pub const R_KEPT: u16 = 6;
 
 // names of `plain`
@@ -60,12 +47,12 @@ pub fn hazard_name(at: LocId) -> &'static [u8]
     ensures { result.now ≡ get_or hazard_names at.0 [] }
 {
     match at.0 {
-        U_IDLE => b"u.idle",
-        U_PEND => b"u.pend",
-        U_HELD => b"u.held",
-        R_IDLE => b"r.idle",
-        R_PEND => b"r.pend",
-        R_HELD => b"r.held",
+        U_NONE => b"u.idle",
+        U_ASKED => b"u.pend",
+        U_GRANTED => b"u.held",
+        R_NONE => b"r.idle",
+        R_ASKED => b"r.pend",
+        R_GRANTED => b"r.held",
         _ => b"r.kept",
     }
 }
@@ -76,12 +63,12 @@ pub fn epoch_name(at: LocId) -> &'static [u8]
     ensures { result.now ≡ get_or epoch_names at.0 [] }
 {
     match at.0 {
-        U_OUT => b"u.out",
-        U_COMING => b"u.coming",
-        U_IN => b"u.in",
-        R_OUT => b"r.out",
-        R_COMING => b"r.coming",
-        R_IN => b"r.in",
+        U_NONE => b"u.out",
+        U_ASKED => b"u.coming",
+        U_GRANTED => b"u.in",
+        R_NONE => b"r.out",
+        R_ASKED => b"r.coming",
+        R_GRANTED => b"r.in",
         _ => b"r.kept",
     }
 }
@@ -103,25 +90,25 @@ pub fn hazard_step(f: FuncId, at: LocId, kind: EvKind, own: bool, this: bool) ->
     ensures { target_of result ≡ along (bears (Observer.Hazard f) kind) own this at.0 hazard_edges }
 {
     match (at.0, kind) {
-        (U_IDLE, EvKind::Call(g)) if g == f && own && this => Some(LocId(U_PEND)),
-        (U_IDLE, EvKind::Call(g)) if g.is_retire() && this => Some(LocId(R_IDLE)),
-        (U_IDLE, EvKind::Free) if this => None,
-        (U_PEND, EvKind::Call(g)) if g == f && own && !this => Some(LocId(U_IDLE)),
-        (U_PEND, EvKind::Done(g)) if g == f && own => Some(LocId(U_HELD)),
-        (U_PEND, EvKind::Call(g)) if g.is_retire() && this => Some(LocId(R_PEND)),
-        (U_PEND, EvKind::Free) if this => None,
-        (U_HELD, EvKind::Call(g)) if g == f && own && !this => Some(LocId(U_IDLE)),
-        (U_HELD, EvKind::Call(g)) if g.is_retire() && this => Some(LocId(R_KEPT)),
-        (U_HELD, EvKind::Free) if this => None,
-        (R_IDLE, EvKind::Call(g)) if g == f && own && this => Some(LocId(R_PEND)),
-        (R_IDLE, EvKind::Free) if this => Some(LocId(U_IDLE)),
-        (R_PEND, EvKind::Call(g)) if g == f && own && !this => Some(LocId(R_IDLE)),
-        (R_PEND, EvKind::Done(g)) if g == f && own => Some(LocId(R_HELD)),
-        (R_PEND, EvKind::Free) if this => Some(LocId(U_PEND)),
-        (R_HELD, EvKind::Call(g)) if g == f && own && !this => Some(LocId(R_IDLE)),
-        (R_HELD, EvKind::Call(g)) if g.is_retire() && this => Some(LocId(R_KEPT)),
-        (R_HELD, EvKind::Free) if this => Some(LocId(U_HELD)),
-        (R_KEPT, EvKind::Call(g)) if g == f && own && !this => Some(LocId(R_IDLE)),
+        (U_NONE, EvKind::Call(g)) if g == f && own && this => Some(LocId(U_ASKED)),
+        (U_NONE, EvKind::Call(g)) if g.is_retire() && this => Some(LocId(R_NONE)),
+        (U_NONE, EvKind::Free) if this => None,
+        (U_ASKED, EvKind::Call(g)) if g == f && own && !this => Some(LocId(U_NONE)),
+        (U_ASKED, EvKind::Done(g)) if g == f && own => Some(LocId(U_GRANTED)),
+        (U_ASKED, EvKind::Call(g)) if g.is_retire() && this => Some(LocId(R_ASKED)),
+        (U_ASKED, EvKind::Free) if this => None,
+        (U_GRANTED, EvKind::Call(g)) if g == f && own && !this => Some(LocId(U_NONE)),
+        (U_GRANTED, EvKind::Call(g)) if g.is_retire() && this => Some(LocId(R_KEPT)),
+        (U_GRANTED, EvKind::Free) if this => None,
+        (R_NONE, EvKind::Call(g)) if g == f && own && this => Some(LocId(R_ASKED)),
+        (R_NONE, EvKind::Free) if this => Some(LocId(U_NONE)),
+        (R_ASKED, EvKind::Call(g)) if g == f && own && !this => Some(LocId(R_NONE)),
+        (R_ASKED, EvKind::Done(g)) if g == f && own => Some(LocId(R_GRANTED)),
+        (R_ASKED, EvKind::Free) if this => Some(LocId(U_ASKED)),
+        (R_GRANTED, EvKind::Call(g)) if g == f && own && !this => Some(LocId(R_NONE)),
+        (R_GRANTED, EvKind::Call(g)) if g.is_retire() && this => Some(LocId(R_KEPT)),
+        (R_GRANTED, EvKind::Free) if this => Some(LocId(U_GRANTED)),
+        (R_KEPT, EvKind::Call(g)) if g == f && own && !this => Some(LocId(R_NONE)),
         (R_KEPT, EvKind::Free) if this => None,
         _ => Some(at),
     }
@@ -139,25 +126,25 @@ pub fn epoch_step(
     ensures { target_of result ≡ along (bears (Observer.Epoch enter leave) kind) own this at.0 epoch_edges }
 {
     match (at.0, kind) {
-        (U_OUT, EvKind::Call(g)) if g == enter && own => Some(LocId(U_COMING)),
-        (U_OUT, EvKind::Call(g)) if g.is_retire() && this => Some(LocId(R_OUT)),
-        (U_OUT, EvKind::Free) if this => None,
-        (U_COMING, EvKind::Done(g)) if g == enter && own => Some(LocId(U_IN)),
-        (U_COMING, EvKind::Call(g)) if g == leave && own => Some(LocId(U_OUT)),
-        (U_COMING, EvKind::Call(g)) if g.is_retire() && this => Some(LocId(R_COMING)),
-        (U_COMING, EvKind::Free) if this => None,
-        (U_IN, EvKind::Call(g)) if g == leave && own => Some(LocId(U_OUT)),
-        (U_IN, EvKind::Call(g)) if g.is_retire() && this => Some(LocId(R_KEPT)),
-        (U_IN, EvKind::Free) if this => None,
-        (R_OUT, EvKind::Call(g)) if g == enter && own => Some(LocId(R_COMING)),
-        (R_OUT, EvKind::Free) if this => Some(LocId(U_OUT)),
-        (R_COMING, EvKind::Done(g)) if g == enter && own => Some(LocId(R_IN)),
-        (R_COMING, EvKind::Call(g)) if g == leave && own => Some(LocId(R_OUT)),
-        (R_COMING, EvKind::Free) if this => Some(LocId(U_COMING)),
-        (R_IN, EvKind::Call(g)) if g == leave && own => Some(LocId(R_OUT)),
-        (R_IN, EvKind::Call(g)) if g.is_retire() && this => Some(LocId(R_KEPT)),
-        (R_IN, EvKind::Free) if this => Some(LocId(U_IN)),
-        (R_KEPT, EvKind::Call(g)) if g == leave && own => Some(LocId(R_OUT)),
+        (U_NONE, EvKind::Call(g)) if g == enter && own => Some(LocId(U_ASKED)),
+        (U_NONE, EvKind::Call(g)) if g.is_retire() && this => Some(LocId(R_NONE)),
+        (U_NONE, EvKind::Free) if this => None,
+        (U_ASKED, EvKind::Done(g)) if g == enter && own => Some(LocId(U_GRANTED)),
+        (U_ASKED, EvKind::Call(g)) if g == leave && own => Some(LocId(U_NONE)),
+        (U_ASKED, EvKind::Call(g)) if g.is_retire() && this => Some(LocId(R_ASKED)),
+        (U_ASKED, EvKind::Free) if this => None,
+        (U_GRANTED, EvKind::Call(g)) if g == leave && own => Some(LocId(U_NONE)),
+        (U_GRANTED, EvKind::Call(g)) if g.is_retire() && this => Some(LocId(R_KEPT)),
+        (U_GRANTED, EvKind::Free) if this => None,
+        (R_NONE, EvKind::Call(g)) if g == enter && own => Some(LocId(R_ASKED)),
+        (R_NONE, EvKind::Free) if this => Some(LocId(U_NONE)),
+        (R_ASKED, EvKind::Done(g)) if g == enter && own => Some(LocId(R_GRANTED)),
+        (R_ASKED, EvKind::Call(g)) if g == leave && own => Some(LocId(R_NONE)),
+        (R_ASKED, EvKind::Free) if this => Some(LocId(U_ASKED)),
+        (R_GRANTED, EvKind::Call(g)) if g == leave && own => Some(LocId(R_NONE)),
+        (R_GRANTED, EvKind::Call(g)) if g.is_retire() && this => Some(LocId(R_KEPT)),
+        (R_GRANTED, EvKind::Free) if this => Some(LocId(U_GRANTED)),
+        (R_KEPT, EvKind::Call(g)) if g == leave && own => Some(LocId(R_NONE)),
         (R_KEPT, EvKind::Free) if this => None,
         _ => Some(at),
     }
