@@ -30,15 +30,28 @@ const R_GRANTED: u16 = 5;
 // retired while it was protected
 pub const R_KEPT: u16 = 6;
 
+const PLAIN_NAMES: [&[u8]; 2] = [b"u", b"r"];
+
+const HAZARD_NAMES: [&[u8]; 7] = [
+    b"u.idle", b"u.pend", b"u.held", b"r.idle", b"r.pend", b"r.held", b"r.kept",
+];
+
+const EPOCH_NAMES: [&[u8]; 7] = [
+    b"u.out",
+    b"u.coming",
+    b"u.in",
+    b"r.out",
+    b"r.coming",
+    b"r.in",
+    b"r.kept",
+];
+
 // names of `plain`
 pub fn plain_name(at: LocId) -> &'static [u8]
     requires { at.0 < length plain_names }
     ensures { result.now ≡ get_or plain_names at.0 [] }
 {
-    match at.0 {
-        U => b"u",
-        _ => b"r",
-    }
+    PLAIN_NAMES[at.0 as usize]
 }
 
 // names of `hazard(f)`
@@ -46,15 +59,7 @@ pub fn hazard_name(at: LocId) -> &'static [u8]
     requires { at.0 < length hazard_names }
     ensures { result.now ≡ get_or hazard_names at.0 [] }
 {
-    match at.0 {
-        U_NONE => b"u.idle",
-        U_ASKED => b"u.pend",
-        U_GRANTED => b"u.held",
-        R_NONE => b"r.idle",
-        R_ASKED => b"r.pend",
-        R_GRANTED => b"r.held",
-        _ => b"r.kept",
-    }
+    HAZARD_NAMES[at.0 as usize]
 }
 
 // names of `epoch(e, l)`
@@ -62,15 +67,7 @@ pub fn epoch_name(at: LocId) -> &'static [u8]
     requires { at.0 < length epoch_names }
     ensures { result.now ≡ get_or epoch_names at.0 [] }
 {
-    match at.0 {
-        U_NONE => b"u.out",
-        U_ASKED => b"u.coming",
-        U_GRANTED => b"u.in",
-        R_NONE => b"r.out",
-        R_ASKED => b"r.coming",
-        R_GRANTED => b"r.in",
-        _ => b"r.kept",
-    }
+    EPOCH_NAMES[at.0 as usize]
 }
 
 // edges of `plain`
