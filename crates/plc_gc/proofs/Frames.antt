@@ -2,7 +2,7 @@
 use Rattle.std.proofs.Common.{◌≡◌, ℕ, ◌<◌, Bool, true, false, List, [], ◌∷◌, Some, None, length, get_or, refl, sym, ap, ◌∙◌, subst}
 use Rattle.plc_base.specs.Functions.{is_retire}
 use Rattle.plc_base.specs.Tables.{put_at}
-use Rattle.plc_base.proofs.Tables.{get-put_same, get-put_other}
+use Rattle.plc_base.proofs.Tables.{get-put_same, get-put_other, length_put}
 use Rattle.plc_lang.specs.declared.syntax.Var.{Var}
 use Rattle.plc_lang.specs.declared.syntax.Var.TheVariants as vars
 use Rattle.plc_lang.specs.declared.syntax.Arg.{Arg}
@@ -17,7 +17,7 @@ use Rattle.plc_gc.specs.State.{GcState, Locals, locals_or_none, locals_of, with_
 use Rattle.plc_gc.specs.Primitives.{after_call, goes, after}
 use Rattle.plc_gc.specs.Run.{turn, execute}
 use Rattle.plc_gc.specs.Fit.{Frame, frame, FrameHasAll, SlotIn}
-use Rattle.plc_threads.proofs.Places.{length_put, held_below}
+use Rattle.plc_threads.proofs.Places.{held_below}
 
 -- thread t held locals l before and holds m now; all else has its old frame
 pub record KeepsFrame (t : ℕ) (g : GcState) (l : Locals) (new : GcState) (m : Locals) : Type 0 where

@@ -13,7 +13,7 @@ use Rattle.plc_gc.specs.declared.slot.Map.TheVariants.{Pointer as pointer_field,
 use Rattle.plc_gc.specs.State.{GcState, Row, Locals, no_row, fresh_row, row_entry, row_with, locals_or_none, locals_of, value, entry}
 use Rattle.plc_gc.specs.Clauses.{declared_value, local_value}
 use Rattle.plc_gc.specs.Fit.{RowsFit, EntryIn, MapIn}
-use Rattle.plc_threads.proofs.Places.{put_is_set, length_put}
+use Rattle.plc_base.proofs.Tables.{put_is_set, length_put}
 use Rattle.plc_gc.proofs.Views.{no_entry}
 
 -- ---- what is looked up

@@ -17,7 +17,7 @@ use Rattle.plc_gc.specs.Fit.{IsReady}
 use Rattle.plc_gc.specs.Threads.{GcConfigurationFits}
 use Rattle.plc_gc.specs.Reach.{start_from, step_from, return_from, reach}
 use Rattle.plc_gc.specs.Position.{threads_of, IsOfRun, Answers, answer, reached}
-use Rattle.plc_threads.proofs.Places.{length_put}
+use Rattle.plc_base.proofs.Tables.{length_put}
 use Rattle.plc_threads.proofs.Moves.{Takes}
 use Rattle.plc_gc.proofs.Ranges.{ranged_run, ranged_given, ranged_first}
 use Rattle.plc_gc.proofs.Threads.{ready, ready_held, init_names, run_fits, busy_at, step_fits}

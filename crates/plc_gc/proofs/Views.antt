@@ -3,8 +3,7 @@ use Rattle.std.proofs.Common.{◌≡◌, ℕ, zero, suc, ◌≤◌, List, [], �
 use Rattle.std.proofs.lemmas.Bool.{cases_eq}
 use Rattle.std.proofs.lemmas.List.{get_or_past}
 use Rattle.plc_base.specs.Tables.{put_at}
-use Rattle.plc_base.proofs.Tables.{get-put_same, get-put_other, get-replicate}
-use Rattle.plc_threads.proofs.Places.{length_put}
+use Rattle.plc_base.proofs.Tables.{get-put_same, get-put_other, get-replicate, length_put}
 use Rattle.plc_lang.specs.declared.syntax.Field.{Field}
 use Rattle.plc_gc.specs.declared.slot.Slot.{Slot}
 use Rattle.plc_gc.specs.declared.slot.Slot.TheVariants.{Shared as in_shared, Local as in_local, Data as in_data}

@@ -16,8 +16,7 @@ use Rattle.plc_mem.specs.Outcomes.{moved, next_of}
 use Rattle.plc_mem.specs.Laws.{is_there, SamePointers, SameAddresses}
 use Rattle.plc_mem.specs.Coherence.{CellCoherent, LocalsCoherent, IsCoherent, CoherenceIsKept}
 use Rattle.plc_base.specs.declared.memory.NoMemory.{NoMemory}
-use Rattle.plc_mem.proofs.Places.{put_is_set}
-use Rattle.plc_base.proofs.Tables.{get-replicate}
+use Rattle.plc_base.proofs.Tables.{get-replicate, put_is_set}
 use Rattle.plc_mem.proofs.Views.{cases_place, writes, writes_nothing, writes_local, writes_field, writes_no_field, makes, retires, frees, gives, fresh_is_null, fresh_is_unused, fresh_is_unretired}
 
 -- ---- cells

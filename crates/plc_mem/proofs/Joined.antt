@@ -8,7 +8,7 @@ use Rattle.plc_mem.specs.State.{State, Locals, at_shared, at_local, at_field, nu
 use Rattle.plc_base.specs.Tables.{put_at}
 use Rattle.plc_mem.specs.Primitives.{goes}
 use Rattle.plc_mem.specs.Fit.{Kept}
-use Rattle.plc_mem.proofs.Places.{put_is_set, put_put}
+use Rattle.plc_base.proofs.Tables.{put_is_set, put_put}
 use Rattle.plc_mem.proofs.Views.{locals-with_same}
 
 pub with_with : (s : State) (t : ℕ) (l m : Locals) → with_locals (with_locals s t (Some l)) t (Some m) ≡ with_locals s t (Some m)

@@ -8,23 +8,10 @@ use Rattle.std.proofs.lemmas.List.{length-map, length-replicate, with_items_is, 
 use Rattle.plc_mem.specs.declared.cell.Cell.{Cell}
 use Rattle.plc_mem.specs.State.{State, Node, null_cell, node_of, put_node, empty_node, fresh_node, with_node, cut, cut_node}
 use Rattle.plc_base.specs.Tables.{put_at}
+use Rattle.plc_base.proofs.Tables.{put_is_set, length_put, put_put}
 use Rattle.plc_mem.specs.Fit.{NodesFit}
 
 -- ---- a table
-
-pub put_is_set : {A : Type 0} (d : A) (xs : List A) (i : ℕ) (v : A) → i < length xs → put_at d xs i v ≡ set xs i v
-put_is_set d [] i v h = absurd (omega arith)
-put_is_set d (x ∷ xs) zero v h = refl
-put_is_set d (x ∷ xs) (suc i) v h = ap (λ ys. x ∷ ys) (put_is_set d xs i v (omega arith))
-
-pub put_put : {A : Type 0} (d : A) (xs : List A) (i : ℕ) (v w : A) → put_at d (put_at d xs i v) i w ≡ put_at d xs i w
-put_put d [] zero v w = refl
-put_put d [] (suc i) v w = ap (λ ys. d ∷ ys) (put_put d [] i v w)
-put_put d (x ∷ xs) zero v w = refl
-put_put d (x ∷ xs) (suc i) v w = ap (λ ys. x ∷ ys) (put_put d xs i v w)
-
-pub length_put : {A : Type 0} (d : A) (xs : List A) (i : ℕ) (v : A) → i < length xs → length (put_at d xs i v) ≡ length xs
-length_put d xs i v h = ap length (put_is_set d xs i v h) ∙ length-set xs i v
 
 set_past : {A : Type 0} (xs : List A) (i : ℕ) (v : A) → length xs ≤ i → set xs i v ≡ xs
 set_past [] i v h = refl

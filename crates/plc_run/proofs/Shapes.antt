@@ -15,8 +15,8 @@ use Rattle.plc_mem.specs.State.{State, Locals, null_cell, locals_or_none, locals
 use Rattle.plc_base.specs.Tables.{put_at}
 use Rattle.plc_mem.specs.Primitives.{after_call, race_of, goes, after, event_of}
 use Rattle.plc_mem.specs.Fit.{shape}
-use Rattle.plc_base.proofs.Tables.{get-put_same}
-use Rattle.plc_threads.proofs.Places.{length_put, held_below}
+use Rattle.plc_base.proofs.Tables.{get-put_same, length_put}
+use Rattle.plc_threads.proofs.Places.{held_below}
 use Rattle.plc_threads.proofs.Fit.{IsNewAt, put_is_new}
 use Rattle.plc_run.specs.Run.{Ending, Fine, Stuck, Raced, turn, recorded, execute}
 

@@ -5,7 +5,7 @@ use Rattle.plc_base.specs.declared.ids.OpId.{OpId}
 use Rattle.plc_base.specs.declared.memory.NoMemory.{NoMemory}
 use Rattle.plc_run.specs.Fit.{ConfigurationFits}
 use Rattle.plc_threads.specs.Standing.{begun, step_of, at_exit}
-use Rattle.plc_threads.proofs.Places.{put_is_set, length_put}
+use Rattle.plc_base.proofs.Tables.{put_is_set, length_put, put_put}
 use Rattle.plc_threads.proofs.Moves.{exit_so}
 use Rattle.plc_lang.specs.declared.syntax.Op.{Op}
 use Rattle.plc_lang.specs.declared.syntax.Primitive.{Primitive}
@@ -24,7 +24,6 @@ use Rattle.plc_mem.specs.declared.cell.Outcome.TheVariants.{Next}
 use Rattle.plc_mem.specs.Outcomes.{outcome_of, next_of, address_or_null}
 use Rattle.plc_run.specs.Ended.{heard}
 use Rattle.plc_run.proofs.Executing.{turned, execute_first, given_back}
-use Rattle.plc_mem.proofs.Places.{put_put}
 use Rattle.plc_flow.specs.declared.points.Point.{Point}
 use Rattle.plc_run.specs.Run.{Ending, Fine, Stuck, Raced, turn, recorded, execute, Configuration, point_of, taken, Moves, Run, begin, more, beginning, initialised, first_configuration}
 use Rattle.plc_flow.specs.Points.{names_rightly}

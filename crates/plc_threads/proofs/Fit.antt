@@ -3,12 +3,11 @@ use Rattle.std.proofs.Common.{◌≡◌, ℕ, ◌<◌, List, Option, Some, None,
 use Rattle.std.proofs.lemmas.List.{length-replicate}
 use Rattle.std.proofs.lemmas.Bool.{cases_eq}
 use Rattle.plc_base.specs.Tables.{put_at}
-use Rattle.plc_base.proofs.Tables.{get-put_same, get-put_other, get-replicate}
+use Rattle.plc_base.proofs.Tables.{get-put_same, get-put_other, get-replicate, length_put}
 use Rattle.plc_lang.specs.declared.syntax.Op.{Op}
 use Rattle.plc_flow.specs.declared.flow.Flow.{Flow}
 use Rattle.plc_flow.specs.declared.points.Point.{Point}
 use Rattle.plc_threads.specs.Fit.{ThreadFits, ThreadsFit}
-use Rattle.plc_threads.proofs.Places.{length_put}
 
 -- a thread that holds what it held, where what fitted fits still
 pub thread_stays : {L : Type 0} (flow : Flow) (F G : Op → L → Type 0) (table new : List (Option L)) (t : ℕ) (q : Option Point) → ((o : Op) (l : L) → F o l → G o l) → get_or new t None ≡ get_or table t None → ThreadFits flow F table t q → ThreadFits flow G new t q

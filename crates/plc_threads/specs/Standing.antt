@@ -30,7 +30,7 @@ abbrev pub step_of : Flow → ℕ → Option Point → Option (Point × Step)
 step_of flow nth None = None
 step_of flow nth (Some p) = option_map (λ s. (p, s)) (slice_get (steps_from flow p.at) nth)
 
--- the point is the exit behind this gate
+-- the point is the exit of the operation of this gate
 abbrev pub exits : Point → Option Gate → Bool
 exits p None = false
 exits p (Some g) = p.at == g.exit.0

@@ -1,5 +1,5 @@
 use Rattle.std.proofs.Common.{None, sym}
-use Rattle.plc_threads.proofs.Places.{put_is_set}
+use Rattle.plc_base.proofs.Tables.{put_is_set}
 use Rattle.plc_threads.proofs.standing.set_point.Goals as goal
 
 pub returns-clause-put : goal.returns-clause-put

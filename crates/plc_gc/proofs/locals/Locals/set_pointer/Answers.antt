@@ -1,6 +1,6 @@
 use Rattle.std.proofs.Common.{sym, ap}
 use Rattle.plc_gc.specs.contracts.locals.Locals.{the_view}
-use Rattle.plc_threads.proofs.Places.{put_is_set}
+use Rattle.plc_base.proofs.Tables.{put_is_set}
 use Rattle.plc_gc.proofs.locals.Locals.set_pointer.Goals as goal
 
 pub returns : goal.returns

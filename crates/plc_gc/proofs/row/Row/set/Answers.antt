@@ -1,6 +1,6 @@
 use Rattle.std.proofs.Common.{sym, ap}
 use Rattle.plc_gc.specs.contracts.row.Row.{the_view}
-use Rattle.plc_threads.proofs.Places.{put_is_set}
+use Rattle.plc_base.proofs.Tables.{put_is_set}
 use Rattle.plc_gc.proofs.row.Row.set.Goals as goal
 
 pub returns-in-Pointer : goal.returns-in-Pointer

@@ -1,7 +1,7 @@
 use Rattle.std.proofs.Common.{sym, ap, None}
 use Rattle.plc_gc.specs.State.{with_locals}
 use Rattle.plc_gc.specs.contracts.state.State.{the_view}
-use Rattle.plc_threads.proofs.Places.{put_is_set}
+use Rattle.plc_base.proofs.Tables.{put_is_set}
 use Rattle.plc_gc.proofs.state.State.give.Goals as goal
 
 pub returns : goal.returns

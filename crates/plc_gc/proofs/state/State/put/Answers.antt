@@ -1,7 +1,7 @@
 use Rattle.std.proofs.Common.{sym, ap, refl}
 use Rattle.plc_gc.specs.State.{put, with_locals, locals_of}
 use Rattle.plc_gc.specs.contracts.state.State.{the_view}
-use Rattle.plc_threads.proofs.Places.{put_is_set}
+use Rattle.plc_base.proofs.Tables.{put_is_set}
 use Rattle.plc_gc.proofs.state.State.put.Goals as goal
 
 pub put_pointer-requires : goal.put_pointer-requires

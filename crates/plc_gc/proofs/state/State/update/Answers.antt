@@ -3,7 +3,7 @@ use Rattle.std.proofs.lemmas.List.{get_or_default}
 use Rattle.plc_gc.specs.State.{Row, update, count, no_row, row_with}
 use Rattle.plc_gc.specs.Fit.{EntryIn, RowsFit}
 use Rattle.plc_gc.specs.contracts.state.State.{the_view}
-use Rattle.plc_threads.proofs.Places.{put_is_set}
+use Rattle.plc_base.proofs.Tables.{put_is_set}
 use Rattle.plc_gc.proofs.Kept.{entry_in, has_entry, rows_fit_set}
 use Rattle.plc_gc.proofs.state.State.update.Goals as goal
 

@@ -1,7 +1,7 @@
 use Rattle.std.proofs.Common.{subst, sym, None, Some, ap}
 use Rattle.plc_mem.specs.State.{with_locals}
 use Rattle.plc_mem.specs.contracts.memory.Memory.{the_view}
-use Rattle.plc_mem.proofs.Places.{put_is_set}
+use Rattle.plc_base.proofs.Tables.{put_is_set}
 use Rattle.plc_mem.specs.Coherence.{IsCoherent}
 use Rattle.plc_mem.proofs.Coherence.{coherence}
 use Rattle.plc_mem.proofs.memory.Memory.put.Goals as goal
