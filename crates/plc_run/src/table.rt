@@ -269,11 +269,7 @@ fn all_bear_free(observer: &Observer, threads: u32, a: u32, at: &[Option<LocId>]
 fn first_row(alloc: Global, threads: u32) -> Result<Vec<Option<LocId>>, NoMemory>
     ensures { IfOk result (λ at. at.items ≡ replicate threads (Some (record { 0 = 0 }))) }
 {
-    let mut at = Vec::new(alloc);
-    for _t in 0..threads {
-        at.push(Some(LocId(0)))?;
-    }
-    Ok(at)
+    Ok(vec![in alloc; Some(LocId(0)); threads as usize]?)
 }
 
 impl Table {
