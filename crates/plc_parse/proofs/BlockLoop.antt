@@ -53,9 +53,11 @@ module _ (lines : List ℕ) (in_loop : Bool) where
   unfolding block_in
   block_out k ls s at ts total l so_far = sym so_far ∙ rw l refl
 
-  pub block_end : (k n : ℕ) (ls : List Line) (s : Scope) (at : ℕ) (ts us : List TokenKind) (total : ReadTo (Statements × Scope × ℕ)) → k ≡ suc n → closing_of ts ≡ Some us
-      → lines_before ls (block_in lines k s in_loop at ts) ≡ total → total ≡ Ok ((block_of ls, s, at + 1), us)
-  block_end k n ls s at ts us total l e so_far = sym so_far ∙ ap (lines_before ls) (block_ends k n s at ts us l e) ∙ ap (λ b. Ok ((b, s, at + 1), us)) (ahead_all ls)
+  -- the block that was made is that of the lines, and the place that was reached is the one after the brace
+  pub block_end : (k n : ℕ) (ls : List Line) (b : Statements) (s : Scope) (at after : ℕ) (ts us : List TokenKind) (total : ReadTo (Statements × Scope × ℕ)) → k ≡ suc n → closing_of ts ≡ Some us
+      → b ≡ block_of ls → after ≡ at + 1 → lines_before ls (block_in lines k s in_loop at ts) ≡ total → total ≡ Ok ((b, s, after), us)
+  block_end k n ls b s at after ts us total l e made place so_far =
+      sym so_far ∙ ap (lines_before ls) (block_ends k n s at ts us l e) ∙ ap (λ c. Ok ((c, s, at + 1), us)) (ahead_all ls ∙ sym made) ∙ ap (λ p. Ok ((b, s, p), us)) (sym place)
 
   pub block_turn : (k n : ℕ) (ls : List Line) (x : Line) (s t : Scope) (at after : ℕ) (ts us : List TokenKind) → k ≡ suc n → closing_of ts ≡ None → x.line ≡ line_at lines at
       → statement_in (block_in lines n) n s in_loop at ts ≡ Ok ((statement_of x.stmt, t, after), us)

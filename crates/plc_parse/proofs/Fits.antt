@@ -11,9 +11,8 @@ use Rattle.plc_lang.specs.declared.syntax.Primitive.{Primitive}
 use Rattle.plc_lang.specs.declared.syntax.Ghost.{Ghost}
 use Rattle.plc_lang.specs.declared.syntax.Local.{Local}
 use Rattle.plc_lang.specs.Allocation.{is_new}
-use Rattle.plc_lang.specs.Statements.{Statement, Statements, Blocks}
-use Rattle.plc_syntax.specs.Trees.{Text, FieldTree, PointerField, DataField, FunctionTree, Declares, GhostTree, Auxiliary, OneOf, OfThreads, InitialTree, StatementTree, PrimitiveStatement, AtomicStatement, CallStatement, IfStatement, ChooseStatement, LoopStatement, BreakStatement, ReturnStatement, LabelStatement, BlockTree, NoStatement, Then, ElseTree, NoElse, ElseBlock, OrTree, NoOr, OrBlock, OpTree, Operates, FileTree}
-use Rattle.plc_forms.specs.Sizes.{initial_size, primitive_size, condition_size, call_size}
+use Rattle.plc_syntax.specs.Trees.{Text, FieldTree, PointerField, DataField, FunctionTree, Declares, GhostTree, Auxiliary, OneOf, OfThreads, InitialTree, BlockTree, OpTree, Operates, FileTree}
+use Rattle.plc_forms.specs.Sizes.{initial_size, primitive_size}
 use Rattle.plc_scope.specs.declared.fault.ParseFault.{ParseFault}
 use Rattle.plc_scope.specs.declared.fault.ParseFault.TheVariants as faults
 use Rattle.plc_scope.specs.declared.scope.Scope.{Scope}
@@ -23,9 +22,10 @@ use Rattle.plc_scope.specs.Scope.{◌>>=◌, most_locals, if_new, first_scope, w
 use Rattle.plc_scope.specs.Primitives.{primitive_means, initial_means, condition_means, call_means}
 use Rattle.plc_parse.specs.declared.unit.Unit.{Unit as FileUnit}
 use Rattle.plc_scope.specs.Limits.{stands_at}
-use Rattle.plc_parse.specs.Meaning.{counted, count_of, before, allocates, forms_mean, atomic_means, initials_mean, one_or_skip, label_means, during_means, statement_means, statements_mean, else_means, or_means, field_means, shared_means, function_means, value_means, values_mean, ghost_means, listed, watch_means, init_means, others_mean, parameters_mean, local_means, locals_mean, op_means, outlined_means, file_means}
+use Rattle.plc_parse.specs.Meaning.{counted, count_of, before, allocates, forms_mean, atomic_means, initials_mean, one_or_skip, label_means, statements_mean, field_means, shared_means, function_means, value_means, values_mean, ghost_means, listed, watch_means, init_means, others_mean, parameters_mean, local_means, locals_mean, op_means, outlined_means, file_means}
 use Rattle.plc_scope.proofs.Holds.{Has, has_along, weaker, next, any, unless, if_ok, both_err, below}
 use Rattle.plc_parse.proofs.Holds.{OneHas, EachHas, one_name, each_has, Free}
+use Rattle.plc_parse.proofs.Upward.{Facts, GoesUp, PartsHave, PrimitiveHas, AtomicHas, CallHas, LabelRead, Read, all_have, statements_read}
 
 -- ---- between declarations
 
@@ -121,10 +121,6 @@ forms_fit means size n has_new at (x ∷ xs) le = next (Fewer n) (FormsFit n) (c
 abbrev FewLabels : Scope → Type 0
 FewLabels s = length s.labels ≤ most limits.Labels
 
--- what a label was read as, and a scope of which this holds
-abbrev pub LabelRead : (Scope → Type 0) → {Y : Type 0} → Y × Scope → Type 0
-LabelRead State r = State r.1
-
 label_fits : (s : Scope) (at : ℕ) (n : Text) → FewLabels s → Has (LabelRead FewLabels) (label_means s at n)
 label_fits s at n h = below (LabelRead FewLabels) (length s.labels) (most limits.Labels) _ _ h (λ less. next FewLabels (LabelRead FewLabels) (declared_label s n (at + 1)) _ (new (place_of n s.names.names) less) (λ t k. k))
   where
@@ -136,60 +132,37 @@ one_fits : (k : Option Primitive) → StatementFits (one_or_skip k)
 one_fits None = tt
 one_fits (Some k) = tt
 
-pub record StatementRead (State : Scope → Type 0) {Y : Type 0} (P : Y → Type 0) (r : Y × Scope × ℕ) : Type 0 where
-  pub fits : P r.0
-  pub state : State r.1
+-- within the limits
+abbrev Limits : Facts
+Limits = record { Condition = Free; One = StatementFits; Many = StatementsFit; Several = BlocksFit }
+
+limits_go_up : GoesUp Limits
+limits_go_up = record {
+  of_if = λ k a b free yes no. (yes, no);
+  of_choice = λ bs h. h;
+  of_loop = λ b h. h;
+  of_break = tt;
+  of_return = tt;
+  of_label = λ l. tt;
+  of_empty = tt;
+  of_more = λ line st b h others. (h, others);
+  of_none = tt;
+  of_further = λ b bs h others. (h, others);
+}
 
 -- statements leave in a scope what labels leave
-module _ (State : Scope → Type 0) (label_keeps : (s : Scope) (at : ℕ) (n : Text) → State s → Has (LabelRead State) (label_means s at n)) (lines : List ℕ) where
-  abbrev OneRead : Statement × Scope × ℕ → Type 0
-  OneRead = StatementRead State StatementFits
+module _ (State : Scope → Type 0) (label_keeps : (s : Scope) (at : ℕ) (n : Text) → State s → Has (LabelRead State) (label_means s at n)) where
+  parts_fit : PartsHave State Limits
+  parts_fit = record {
+    primitive = λ s at p h. all_have (PrimitiveHas Limits) (primitive_means s at p) one_fits;
+    atomic = λ s at ps h. weaker (FormsFit 0) (AtomicHas Limits) (atomic_means s at ps) (λ b k. omega (arith, k)) (forms_fit (primitive_means s) primitive_size 0 false at ps (omega arith));
+    call = λ s at n a h. all_have (CallHas Limits) (call_means s at n a) (λ c l. tt);
+    condition = λ s at c h. all_have Free (condition_means s at c) (λ k. tt);
+    label = label_keeps;
+  }
 
-  abbrev ManyRead : Statements × Scope × ℕ → Type 0
-  ManyRead = StatementRead State StatementsFit
-
-  abbrev BlocksRead : Blocks × Scope × ℕ → Type 0
-  BlocksRead = StatementRead State BlocksFit
-
-  during_fits : (s : Scope) (at : ℕ) (d : Option Text) → State s → Has (LabelRead State) (during_means s at d)
-  during_fits s at None h = h
-  during_fits s at (Some n) h = next (LabelRead State) (LabelRead State) (label_means s at n) _ (label_keeps s at n h) (λ l k. k)
-
-  mutual
-    statement_fits : (s : Scope) (in_loop : Bool) (at : ℕ) (st : StatementTree) → State s → Has OneRead (statement_means lines s in_loop at st)
-    statement_fits s in_loop at (PrimitiveStatement p) h = any OneRead (primitive_means s at p) _ (λ k. record { fits = one_fits k; state = h })
-    statement_fits s in_loop at (AtomicStatement ps) h = next (FormsFit 0) OneRead (atomic_means s (at + 2) ps) _ (forms_fit (primitive_means s) primitive_size 0 false (at + 2) ps (omega arith)) (λ b f. record { fits = omega (arith, f); state = h })
-    statement_fits s in_loop at (CallStatement f a d) h = any OneRead (call_means s at f a) _ (λ c. next (LabelRead State) OneRead (during_means s (at + call_size a) d) _ (during_fits s (at + call_size a) d h) (λ l k. record { fits = tt; state = k }))
-    statement_fits s in_loop at (IfStatement c b e) h = any OneRead (condition_means s (at + 2) c) _ (λ k.
-        next ManyRead OneRead (statements_mean lines s in_loop (at + 2 + condition_size c + 2) b) _ (statements_fit s in_loop (at + 2 + condition_size c + 2) b h) (λ x f.
-        next ManyRead OneRead (else_means lines x.1 in_loop (x.2 + 1) e) _ (else_fits x.1 in_loop (x.2 + 1) e f.state) (λ y g.
-        record { fits = (f.fits, g.fits); state = g.state })))
-    statement_fits s in_loop at (ChooseStatement a b os) h =
-        next ManyRead OneRead (statements_mean lines s in_loop (at + 2) a) _ (statements_fit s in_loop (at + 2) a h) (λ x f.
-        next ManyRead OneRead (statements_mean lines x.1 in_loop (x.2 + 3) b) _ (statements_fit x.1 in_loop (x.2 + 3) b f.state) (λ y g.
-        next BlocksRead OneRead (or_means lines y.1 in_loop (y.2 + 1) os) _ (ors_fit y.1 in_loop (y.2 + 1) os g.state) (λ z k.
-        record { fits = (f.fits, (g.fits, k.fits)); state = k.state })))
-    statement_fits s in_loop at (LoopStatement b) h = next ManyRead OneRead (statements_mean lines s true (at + 2) b) _ (statements_fit s true (at + 2) b h) (λ x f. record { fits = f.fits; state = f.state })
-    statement_fits s true at BreakStatement h = record { fits = tt; state = h }
-    statement_fits s false at BreakStatement h = tt
-    statement_fits s in_loop at ReturnStatement h = record { fits = tt; state = h }
-    statement_fits s in_loop at (LabelStatement n) h = next (LabelRead State) OneRead (label_means s at n) _ (label_keeps s at n h) (λ l k. record { fits = tt; state = k })
-
-    pub statements_fit : (s : Scope) (in_loop : Bool) (at : ℕ) (b : BlockTree) → State s → Has ManyRead (statements_mean lines s in_loop at b)
-    statements_fit s in_loop at NoStatement h = record { fits = tt; state = h }
-    statements_fit s in_loop at (Then st b) h = next OneRead ManyRead (statement_means lines s in_loop at st) _ (statement_fits s in_loop at st h) (λ first f.
-        next ManyRead ManyRead (statements_mean lines first.1 in_loop first.2 b) _ (statements_fit first.1 in_loop first.2 b f.state) (λ others g.
-        record { fits = (f.fits, g.fits); state = g.state }))
-
-    else_fits : (s : Scope) (in_loop : Bool) (at : ℕ) (e : ElseTree) → State s → Has ManyRead (else_means lines s in_loop at e)
-    else_fits s in_loop at NoElse h = record { fits = tt; state = h }
-    else_fits s in_loop at (ElseBlock b) h = next ManyRead ManyRead (statements_mean lines s in_loop (at + 2) b) _ (statements_fit s in_loop (at + 2) b h) (λ x f. record { fits = f.fits; state = f.state })
-
-    ors_fit : (s : Scope) (in_loop : Bool) (at : ℕ) (os : OrTree) → State s → Has BlocksRead (or_means lines s in_loop at os)
-    ors_fit s in_loop at NoOr h = record { fits = tt; state = h }
-    ors_fit s in_loop at (OrBlock b os) h = next ManyRead BlocksRead (statements_mean lines s in_loop (at + 2) b) _ (statements_fit s in_loop (at + 2) b h) (λ x f.
-        next BlocksRead BlocksRead (or_means lines x.1 in_loop (x.2 + 1) os) _ (ors_fit x.1 in_loop (x.2 + 1) os f.state) (λ y g.
-        record { fits = (f.fits, g.fits); state = g.state }))
+  pub statements_fit : (lines : List ℕ) (s : Scope) (in_loop : Bool) (at : ℕ) (b : BlockTree) → State s → Has (Read State StatementsFit) (statements_mean lines s in_loop at b)
+  statements_fit lines s in_loop at b h = statements_read State Limits limits_go_up parts_fit lines s in_loop at b h
 
 -- ---- locals
 
@@ -256,8 +229,8 @@ op_fits lines s n at (Operates name ps ls b) h =
     next (FewAfter t) (OneHas OpFits (Room limits.Ops) n) (parameters_mean t (at + 3) ps) _ (parameters_few t t (at + 3) ps (record { locals = omega arith; labels = refl })) (λ p kept.
     next (FewAfter t) (OneHas OpFits (Room limits.Ops) n) (locals_mean p.0 (p.1 + 2) ls) _ (locals_few t p.0 (p.1 + 2) ls kept) (λ l fewer.
     let same : length l.0.labels ≡ length t.labels = ap length fewer.labels in
-    next (StatementRead FewLabels StatementsFit) (OneHas OpFits (Room limits.Ops) n) (statements_mean lines l.0 false l.1 b) _ (statements_fit FewLabels label_fits lines l.0 false l.1 b (omega (arith, k.between.labels))) (λ body f.
-    record { is = record { locals = fewer.locals; body = f.fits }; state = record { count = k.count; between = record { locals = refl; labels = f.state } } })))))
+    next (Read FewLabels StatementsFit) (OneHas OpFits (Room limits.Ops) n) (statements_mean lines l.0 false l.1 b) _ (statements_fit FewLabels label_fits lines l.0 false l.1 b (omega (arith, k.between.labels))) (λ body f.
+    record { is = record { locals = fewer.locals; body = f.is }; state = record { count = k.count; between = record { locals = refl; labels = f.state } } })))))
 
 -- ---- the file
 

@@ -6,6 +6,7 @@ pub mod Blocks
 pub mod Law
 pub mod Holds
 pub mod Reach
+pub mod Upward
 pub mod Naming
 pub mod Fits
 pub mod There

@@ -6,7 +6,6 @@ use Rattle.plc_lang.specs.declared.syntax.Rel.{Rel}
 use Rattle.plc_lang.specs.declared.syntax.Primitive.{Primitive}
 use Rattle.plc_lang.specs.declared.syntax.Op.{Op}
 use Rattle.plc_lang.specs.Allocation.{is_new}
-use Rattle.plc_lang.specs.Statements.{Statement, Statements, Blocks}
 use Rattle.plc_lang.specs.Fit.{NamesWhatIsThere}
 use Rattle.plc_lang.specs.Shape.{Shape, VarIn, VarOrNullIn, ArgIn, PrimitiveIn, PrimitivesIn, CondIn, StatementIn, StatementsIn, BlocksIn}
 use Rattle.plc_base.specs.Limits.{most}
@@ -15,8 +14,8 @@ use Rattle.plc_base.specs.declared.ids.FieldId.{FieldId}
 use Rattle.plc_base.specs.declared.ids.FuncId.{FuncId}
 use Rattle.plc_auto.specs.declared.observer.Observer.{Observer}
 use Rattle.plc_auto.specs.Table.{is_well_formed}
-use Rattle.plc_syntax.specs.Trees.{Text, PlaceTree, PlaceOf, AtomTree, NullAtom, NumberAtom, NameAtom, ValueTree, NullValue, NewValue, NumberValue, PlaceValue, SetTree, SetName, SetField, RefreshTree, RefreshName, RefreshField, GhostSetTree, SetGhost, InitialTree, InitialSet, InitialGhost, Comparison, SameAs, OtherThan, LessThan, NotLessThan, TestTree, Compares, ConditionTree, TestCondition, RefreshCondition, CasCondition, PrimitiveTree, SetPrimitive, RefreshPrimitive, GhostPrimitive, ActivePrimitive, AssumePrimitive, SkipPrimitive, ArgumentTree, NoArgument, NullArgument, NameArgument, ActiveArgument, FieldTree, PointerField as PointerFieldTree, DataField as DataFieldTree, FunctionTree, Declares, WatchTree, UseHazard, UseEpoch, OneOf, OfThreads, GhostTree, Auxiliary as AuxiliaryTree, StatementTree, PrimitiveStatement, AtomicStatement, CallStatement, IfStatement, ChooseStatement, LoopStatement, BreakStatement, ReturnStatement, LabelStatement, BlockTree, NoStatement, Then as ThenStatement, ElseTree, NoElse, ElseBlock, OrTree, NoOr, OrBlock, OpTree, Operates, FileTree}
-use Rattle.plc_forms.specs.Sizes.{initial_size, primitive_size, condition_size, call_size, word_size}
+use Rattle.plc_syntax.specs.Trees.{Text, PlaceTree, PlaceOf, AtomTree, NullAtom, NumberAtom, NameAtom, ValueTree, NullValue, NewValue, NumberValue, PlaceValue, SetTree, SetName, SetField, RefreshTree, RefreshName, RefreshField, GhostSetTree, SetGhost, InitialTree, InitialSet, InitialGhost, Comparison, SameAs, OtherThan, LessThan, NotLessThan, TestTree, Compares, ConditionTree, TestCondition, RefreshCondition, CasCondition, PrimitiveTree, SetPrimitive, RefreshPrimitive, GhostPrimitive, ActivePrimitive, AssumePrimitive, SkipPrimitive, ArgumentTree, NoArgument, NullArgument, NameArgument, ActiveArgument, FieldTree, PointerField as PointerFieldTree, DataField as DataFieldTree, FunctionTree, Declares, WatchTree, UseHazard, UseEpoch, OneOf, OfThreads, GhostTree, Auxiliary as AuxiliaryTree, BlockTree, OpTree, Operates, FileTree}
+use Rattle.plc_forms.specs.Sizes.{initial_size, primitive_size, word_size}
 use Rattle.plc_scope.specs.declared.fault.ParseFault.{ParseFault}
 use Rattle.plc_scope.specs.declared.scope.Scope.{Scope}
 use Rattle.plc_scope.specs.declared.binding.Binding.{Binding}
@@ -27,9 +26,10 @@ use Rattle.plc_scope.specs.Scope.{◌>>=◌, first_scope, needed, any_role, role
 use Rattle.plc_scope.specs.Primitives.{pointer_value, data_value, value_into, pointer_atom, data_atom, atom_into, set_means, refresh_from, refresh_name_means, refresh_means, ghost_value_means, ghost_set_means, pointer_equality, pointer_test, data_test, test_of, test_means, pointer_or_null, condition_means, primitive_means, initial_means, CallMeaning, argument_means, call_means}
 use Rattle.plc_parse.specs.declared.unit.Unit.{Unit as FileUnit}
 use Rattle.plc_scope.specs.Limits.{stands_at}
-use Rattle.plc_parse.specs.Meaning.{counted, before, allocates, count_of, forms_mean, atomic_means, initials_mean, one_or_skip, label_means, during_means, statement_means, statements_mean, else_means, or_means, field_means, shared_means, function_means, value_means, values_mean, ghost_means, listed, watch_means, init_means, others_mean, parameters_mean, local_means, locals_mean, op_means, outlined_means, file_means}
-use Rattle.plc_scope.proofs.Holds.{Has, has_along, next, any, unless, both_err}
+use Rattle.plc_parse.specs.Meaning.{counted, before, allocates, count_of, forms_mean, atomic_means, initials_mean, one_or_skip, label_means, statements_mean, field_means, shared_means, function_means, value_means, values_mean, ghost_means, listed, watch_means, init_means, others_mean, parameters_mean, local_means, locals_mean, op_means, outlined_means, file_means}
+use Rattle.plc_scope.proofs.Holds.{Has, has_along, weaker, next, any, unless, both_err}
 use Rattle.plc_parse.proofs.Holds.{OneHas, EachHas, one_name, each_has, Free}
+use Rattle.plc_parse.proofs.Upward.{Facts, GoesUp, PartsHave, PrimitiveHas, AtomicHas, CallHas, LabelRead, Read, statements_read}
 use Rattle.plc_parse.proofs.Reach.{BindingIn, RoleIn, Bound, Reaches, outside, inside, reaches_more, first_reaches, declared_reaches, label_reaches, local_bound, parameter_bound, PointerIn, ValueIn, FieldIn, NotRetire, any_in, pointer_in, pointer_local_in, value_in, pointer_field_in, data_field_in, hazard_in, epoch_in}
 
 -- ---- primitives, conditions and calls in a scope
@@ -199,72 +199,43 @@ module _ (h : Shape) where
 
 -- ---- statements
 
--- what was read names what is there, and so does what is in reach after it
-record StatementRead (h : Shape) {Y : Type 0} (P : Y → Type 0) (r : Y × Scope × ℕ) : Type 0 where
-  is : P r.0
-  reaches : Reaches h r.1
-
-abbrev LabelRead : Shape → {Y : Type 0} → Y × Scope → Type 0
-LabelRead h r = Reaches h r.1
-
 one_in : (h : Shape) (k : Option Primitive) → IfPrimitiveIn h k → StatementIn h (one_or_skip k)
 one_in h None is = tt
 one_in h (Some k) is = is
 
-label_in : (h : Shape) (s : Scope) (at : ℕ) (n : Text) → Reaches h s → Has (LabelRead h) (label_means s at n)
-label_in h s at n r = unless (LabelRead h) (length s.labels == most limits.Labels) _ _ (λ few. next (Reaches h) (LabelRead h) (declared_label s n (at + 1)) _ (label_reaches h s n (at + 1) r) (λ t k. k))
+label_in : (h : Shape) (s : Scope) (at : ℕ) (n : Text) → Reaches h s → Has (LabelRead (Reaches h)) (label_means s at n)
+label_in h s at n r = unless (LabelRead (Reaches h)) (length s.labels == most limits.Labels) _ _ (λ few. next (Reaches h) (LabelRead (Reaches h)) (declared_label s n (at + 1)) _ (label_reaches h s n (at + 1) r) (λ t k. k))
 
-during_in : (h : Shape) (s : Scope) (at : ℕ) (d : Option Text) → Reaches h s → Has (LabelRead h) (during_means s at d)
-during_in h s at None r = r
-during_in h s at (Some n) r = next (LabelRead h) (LabelRead h) (label_means s at n) _ (label_in h s at n r) (λ l k. k)
+module _ (h : Shape) where
+  -- names what is there
+  abbrev Names : Facts
+  Names = record { Condition = CondIn h; One = StatementIn h; Many = StatementsIn h; Several = BlocksIn h }
 
-module _ (lines : List ℕ) (h : Shape) where
-  abbrev OneRead : Statement × Scope × ℕ → Type 0
-  OneRead = StatementRead h (StatementIn h)
+  names_go_up : GoesUp Names
+  names_go_up = record {
+    of_if = λ k a b is yes no. (is, yes, no);
+    of_choice = λ bs is. is;
+    of_loop = λ b is. is;
+    of_break = tt;
+    of_return = tt;
+    of_label = λ l. tt;
+    of_empty = tt;
+    of_more = λ line st b is others. (is, others);
+    of_none = tt;
+    of_further = λ b bs is others. (is, others);
+  }
 
-  abbrev ManyRead : Statements × Scope × ℕ → Type 0
-  ManyRead = StatementRead h (StatementsIn h)
+  parts_in : PartsHave (Reaches h) Names
+  parts_in = record {
+    primitive = λ s at p r. weaker (IfPrimitiveIn h) (PrimitiveHas Names) (primitive_means s at p) (one_in h) (primitive_in h s r at p);
+    atomic = λ s at ps r. weaker (FormsIn h) (AtomicHas Names) (atomic_means s at ps) (λ b is. is) (forms_in h (primitive_means s) primitive_size (primitive_in h s r) 0 false at ps);
+    call = λ s at n a r. weaker (CallIn h s r) (CallHas Names) (call_means s at n a) (λ c is l. is) (call_in h s r at n a);
+    condition = λ s at c r. condition_in h s r at c;
+    label = label_in h;
+  }
 
-  abbrev BlocksRead : Blocks × Scope × ℕ → Type 0
-  BlocksRead = StatementRead h (BlocksIn h)
-
-  mutual
-    statement_in : (s : Scope) (in_loop : Bool) (at : ℕ) (st : StatementTree) → Reaches h s → Has OneRead (statement_means lines s in_loop at st)
-    statement_in s in_loop at (PrimitiveStatement p) r = next (IfPrimitiveIn h) OneRead (primitive_means s at p) _ (primitive_in h s r at p) (λ k a. record { is = one_in h k a; reaches = r })
-    statement_in s in_loop at (AtomicStatement ps) r = next (FormsIn h) OneRead (atomic_means s (at + 2) ps) _
-        (forms_in h (primitive_means s) primitive_size (primitive_in h s r) 0 false (at + 2) ps) (λ b a. record { is = a; reaches = r })
-    statement_in s in_loop at (CallStatement f a d) r = next (CallIn h s r) OneRead (call_means s at f a) _ (call_in h s r at f a) (λ c b.
-        next (LabelRead h) OneRead (during_means s (at + call_size a) d) _ (during_in h s (at + call_size a) d r) (λ l k. record { is = b; reaches = k }))
-    statement_in s in_loop at (IfStatement c b e) r = next (CondIn h) OneRead (condition_means s (at + 2) c) _ (condition_in h s r (at + 2) c) (λ k a.
-        next ManyRead OneRead (statements_mean lines s in_loop (at + 2 + condition_size c + 2) b) _ (statements_in s in_loop (at + 2 + condition_size c + 2) b r) (λ x f.
-        next ManyRead OneRead (else_means lines x.1 in_loop (x.2 + 1) e) _ (else_in x.1 in_loop (x.2 + 1) e f.reaches) (λ y g.
-        record { is = (a, f.is, g.is); reaches = g.reaches })))
-    statement_in s in_loop at (ChooseStatement a b os) r =
-        next ManyRead OneRead (statements_mean lines s in_loop (at + 2) a) _ (statements_in s in_loop (at + 2) a r) (λ x f.
-        next ManyRead OneRead (statements_mean lines x.1 in_loop (x.2 + 3) b) _ (statements_in x.1 in_loop (x.2 + 3) b f.reaches) (λ y g.
-        next BlocksRead OneRead (or_means lines y.1 in_loop (y.2 + 1) os) _ (ors_in y.1 in_loop (y.2 + 1) os g.reaches) (λ z k.
-        record { is = (f.is, (g.is, k.is)); reaches = k.reaches })))
-    statement_in s in_loop at (LoopStatement b) r = next ManyRead OneRead (statements_mean lines s true (at + 2) b) _ (statements_in s true (at + 2) b r) (λ x f. record { is = f.is; reaches = f.reaches })
-    statement_in s true at BreakStatement r = record { is = tt; reaches = r }
-    statement_in s false at BreakStatement r = tt
-    statement_in s in_loop at ReturnStatement r = record { is = tt; reaches = r }
-    statement_in s in_loop at (LabelStatement n) r = next (LabelRead h) OneRead (label_means s at n) _ (label_in h s at n r) (λ l k. record { is = tt; reaches = k })
-
-    statements_in : (s : Scope) (in_loop : Bool) (at : ℕ) (b : BlockTree) → Reaches h s → Has ManyRead (statements_mean lines s in_loop at b)
-    statements_in s in_loop at NoStatement r = record { is = tt; reaches = r }
-    statements_in s in_loop at (ThenStatement st b) r = next OneRead ManyRead (statement_means lines s in_loop at st) _ (statement_in s in_loop at st r) (λ first f.
-        next ManyRead ManyRead (statements_mean lines first.1 in_loop first.2 b) _ (statements_in first.1 in_loop first.2 b f.reaches) (λ others g.
-        record { is = (f.is, g.is); reaches = g.reaches }))
-
-    else_in : (s : Scope) (in_loop : Bool) (at : ℕ) (e : ElseTree) → Reaches h s → Has ManyRead (else_means lines s in_loop at e)
-    else_in s in_loop at NoElse r = record { is = tt; reaches = r }
-    else_in s in_loop at (ElseBlock b) r = next ManyRead ManyRead (statements_mean lines s in_loop (at + 2) b) _ (statements_in s in_loop (at + 2) b r) (λ x f. record { is = f.is; reaches = f.reaches })
-
-    ors_in : (s : Scope) (in_loop : Bool) (at : ℕ) (os : OrTree) → Reaches h s → Has BlocksRead (or_means lines s in_loop at os)
-    ors_in s in_loop at NoOr r = record { is = tt; reaches = r }
-    ors_in s in_loop at (OrBlock b os) r = next ManyRead BlocksRead (statements_mean lines s in_loop (at + 2) b) _ (statements_in s in_loop (at + 2) b r) (λ x f.
-        next BlocksRead BlocksRead (or_means lines x.1 in_loop (x.2 + 1) os) _ (ors_in x.1 in_loop (x.2 + 1) os f.reaches) (λ y g.
-        record { is = (f.is, g.is); reaches = g.reaches }))
+  statements_in : (lines : List ℕ) (s : Scope) (in_loop : Bool) (at : ℕ) (b : BlockTree) → Reaches h s → Has (Read (Reaches h) (StatementsIn h)) (statements_mean lines s in_loop at b)
+  statements_in lines s in_loop at b r = statements_read (Reaches h) Names names_go_up parts_in lines s in_loop at b r
 
 -- ---- locals
 
@@ -354,8 +325,8 @@ module _ (shared fields : ℕ) where
       next (BoundAfter (BindingIn shared fields)) (OneHas OpIn Stays n) (parameters_mean t (at + 3) ps) _ (parameters_bound (BindingIn shared fields) tt t (at + 3) ps k.bound) (λ p c.
       next (BoundAfter (BindingIn shared fields)) (OneHas OpIn Stays n) (locals_mean p.0 (p.1 + 2) ls) _ (locals_bound (BindingIn shared fields) tt p.0 (p.1 + 2) ls c) (λ l d.
       let here : Shape = inside shared fields l.0.locals in
-      next (ManyRead lines here) (OneHas OpIn Stays n) (statements_mean lines l.0 false l.1 b) _ (statements_in lines here l.0 false l.1 b (record { bound = d; pointers = omega arith; values = omega arith })) (λ body f.
-      record { is = f.is; state = record { bound = f.reaches.bound; pointers = omega arith; values = omega arith } })))))
+      next (Read (Reaches here) (StatementsIn here)) (OneHas OpIn Stays n) (statements_mean lines l.0 false l.1 b) _ (statements_in here lines l.0 false l.1 b (record { bound = d; pointers = omega arith; values = omega arith })) (λ body f.
+      record { is = f.is; state = record { bound = f.state.bound; pointers = omega arith; values = omega arith } })))))
 
 -- ---- the file
 

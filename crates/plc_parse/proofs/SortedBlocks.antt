@@ -30,7 +30,8 @@ use Rattle.plc_scope.specs.Primitives.{primitive_means, initial_means, condition
 use Rattle.plc_scope.proofs.Holds.{Has, weaker, next, any, unless, both_err}
 use Rattle.plc_parse.specs.Growth.{KeepsLists}
 use Rattle.plc_parse.specs.Meaning.{counted, before, allocates, count_of, forms_mean, atomic_means, one_or_skip, label_means, during_means, statement_means, statements_mean, else_means, or_means, others_mean, parameters_mean, local_means, locals_mean, op_means, line_at}
-use Rattle.plc_parse.proofs.Fits.{LabelRead, StatementRead as Fitting, statements_fit, Kept, number_keeps}
+use Rattle.plc_parse.proofs.Fits.{statements_fit, Kept, number_keeps}
+use Rattle.plc_parse.proofs.Upward.{LabelRead, Read as Fitting}
 use Rattle.plc_parse.proofs.Holds.{OneOn}
 use Rattle.plc_parse.proofs.Naming.{BoundAfter, parameters_bound, locals_bound}
 use Rattle.plc_parse.proofs.There.{Lists, IsThere, AllThere, lists_of, Named, named}

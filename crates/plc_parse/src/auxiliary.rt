@@ -4,7 +4,7 @@ ghost use Rattle.plc_base.specs.Limits.{most};
 ghost use Rattle.plc_scope.specs.Answers.{Gives, HasRoom};
 ghost use Rattle.plc_parse.specs.Growth.{AddsNames, AddsNamesWithin, ghost_names};
 ghost use Rattle.plc_parse.specs.Meaning.{value_means};
-ghost use Rattle.plc_parse.specs.Reading.{values_in, of_threads_in, all_values_in, of_values_in, ghost_in, ghosts_in};
+ghost use Rattle.plc_parse.specs.Reading.{values_in, all_values_in, of_values_in, ghost_in, ghosts_in};
 ghost use Rattle.plc_outparse.specs.Views.{kinds_left};
 ghost use Rattle.plc_parse.specs.Views.{read_in};
 
@@ -112,30 +112,8 @@ fn read_of_values<'a>(
     Ok((Ghost { name, values }, rest))
 }
 
-// An auxiliary field that is a thread.
-#[tactic(auto, unfolding(crate::specs::Reading::of_threads_in))]
-fn read_of_threads<'a>(
-    alloc: Global,
-    scope: &mut Scope,
-    count: usize,
-    at: u32,
-    name: &[u8],
-    start: Rest<'a>,
-) -> Parsed<'a, Ghost>
-    requires limit { count < most What1.Ghosts }
-    requires room { HasRoom scope.old 1 }
-    requires kind { start.at ≡ at + 4 }
-    ensures read { Gives (λ r. read_in r.0 scope.new r.1) result
-        (of_threads_in scope.old count at name.now (kinds_left start.entry)) }
-    ensures declares { IfOk result (λ r. AddsNamesWithin scope.old scope.new 1 start.entry r.1) }
-{
-    let name = declare(scope, name, at + 1, Binding::Auxiliary(count as u16, true))?;
-    let values = Items::new(alloc);
-    Ok((Ghost { name, values }, start))
-}
-
 // An auxiliary field at a place, from after its name, with so many before it.
-#[tactic(auto, unfolding(crate::specs::Reading::ghost_in))]
+#[tactic(auto, unfolding(crate::specs::Reading::ghost_in, crate::specs::Reading::of_threads_in))]
 fn read_ghost<'a>(
     alloc: Global,
     scope: &mut Scope,
@@ -156,7 +134,9 @@ fn read_ghost<'a>(
         return Err(ParseFault::past(What1::Ghosts));
     }
     if let Some(after) = thread_at(start) {
-        return read_of_threads(alloc, scope, count, at, name, after);
+        let name = declare(scope, name, at + 1, Binding::Auxiliary(count as u16, true))?;
+        let values = Items::new(alloc);
+        return Ok((Ghost { name, values }, after));
     }
     match first_value_at(start) {
         Some((value, after)) => read_of_values(alloc, scope, count, at, name, value, after),

@@ -14,7 +14,7 @@ use crate::primitives::initial_line;
 use crate::statements::statements;
 use crate::tokens::{BEGIN, CLOSE, COMMA, END, OPEN, Piece, Printed, Printer, SEMICOLON};
 use plc_auto::Observer;
-use plc_lang::{Field, File, Func, Ghost, Local, Op, Prim, function_name, name_at};
+use plc_lang::{Field, File, Ghost, Local, Op, Prim, function_name, name_at};
 use plc_lex::{Keyword, Symbol};
 use std::alloc::{AllocError, Global};
 
@@ -83,28 +83,19 @@ fn function(out: &mut Printer, name: &[u8], pointer: bool) -> Printed
     }
 }
 
-// Reclaimer functions.
-fn functions(out: &mut Printer, file: &File, funcs: &[Func]) -> Printed
-    ensures { OnOk result
-        (Prints out.old out.new (each_then function_then (map (λ f. Declares
-        (name_at file.now f.name) f.pointer) funcs.now) [])) }
-{
-    for func in funcs {
-        function(out, name_at(file, func.name), func.pointer)?;
-    }
-    Ok(())
-}
-
 /// The reclaimer functions but `retire`, which is declared from the start.
 pub fn declared_functions(out: &mut Printer, file: &File) -> Printed
     ensures { OnOk result
         (Prints out.old out.new (each_then function_then (map (λ f. Declares (name_at file.now f.name) f.pointer)
         (drop 1 file.now.funcs)) [])) }
 {
-    match file.funcs.as_slice() {
-        [] => Ok(()),
-        [_retire, others @ ..] => functions(out, file, others),
+    let [_retire, others @ ..] = file.funcs.as_slice() else {
+        return Ok(());
+    };
+    for func in others {
+        function(out, name_at(file, func.name), func.pointer)?;
     }
+    Ok(())
 }
 
 /// What is observed.

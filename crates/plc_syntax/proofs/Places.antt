@@ -120,3 +120,11 @@ nesting_is_right ts place h = record {
     always = λ k. inl (ap (λ p. Err (Nesting p)) (one_nesting ts place at h k));
   };
 }
+
+-- that memory ran out is an answer whatever the tokens are
+pub memory_is_right : (ts : List TokenKind) (answer : Answer) → answer ≡ Err Memory → IsRight ts answer
+memory_is_right ts answer m = record {
+  file = record { only = λ e. cc; always = λ _. inr m };
+  syntax_fault = λ at. record { only = λ e. cc; always = λ _. inr m };
+  nesting_fault = λ at. record { only = λ e. cc; always = λ _. inr m };
+}

@@ -1,4 +1,4 @@
-use Rattle.std.proofs.Common.{◌≡◌, ◌∙◌, ◌+◌, ◌-◌, ℕ, suc, List, [], ◌∷◌, ◌++◌, Ok, sym, ap, arith}
+use Rattle.std.proofs.Common.{◌≡◌, ◌∙◌, ◌+◌, ◌-◌, ℕ, suc, List, [], ◌∷◌, ◌++◌, sym, ap, arith}
 use Rattle.std.proofs.lemmas.Result.{err_from_is_err_and}
 use Rattle.plc_syntax.specs.Syntax.{kinds}
 use Rattle.plc_lang.specs.declared.syntax.Line.{Line}
@@ -12,9 +12,8 @@ use Rattle.plc_parse.proofs.block.+block.Goals as goal
 pub read_block-returns-in-Some-clause-read : goal.read_block-returns-in-Some-clause-read
 read_block-returns-in-Some-clause-read t c =
     let more : c.args.context.most - c.loop-i.i ≡ suc (c.args.context.most - 1 - c.loop-i.i) = omega (arith, c.loop-i-test.true) in
-    block_end (lines_of c.args.context.tokens.now) c.args.context.in_loop (c.args.context.most - c.loop-i.i) (c.args.context.most - 1 - c.loop-i.i) c.loop-i.lines.items c.loop-i.scope c.loop-i.rest.at _ (kinds c.in-Some.after.tokens.now) _ more c.in-Some.ensures.read c.loop-i.invariant.read
-    ∙ ap (λ (b : Statements). Ok ((b, c.loop-i.scope, c.loop-i.rest.at + 1), kinds c.in-Some.after.tokens.now)) (sym c.new.ensures)
-    ∙ ap (λ (p : ℕ). Ok ((c.new.result, c.loop-i.scope, p), kinds c.in-Some.after.tokens.now)) (sym c.in-Some.ensures.after.at)
+    block_end (lines_of c.args.context.tokens.now) c.args.context.in_loop (c.args.context.most - c.loop-i.i) (c.args.context.most - 1 - c.loop-i.i) c.loop-i.lines.items c.new.result c.loop-i.scope c.loop-i.rest.at c.in-Some.after.at _ (kinds c.in-Some.after.tokens.now) _ more c.in-Some.ensures.read
+    c.new.ensures c.in-Some.ensures.after.at c.loop-i.invariant.read
 
 pub read_block-returns-in_err-stmt-clause-read : goal.read_block-returns-in_err-stmt-clause-read
 read_block-returns-in_err-stmt-clause-read t c =

@@ -1,12 +1,19 @@
-use Rattle.std.proofs.Common.{◌∙◌, length, reverse, sym, ap, arith, Some}
+use Rattle.std.proofs.Common.{◌∙◌, length, reverse, sym, ap, arith, Some, Err}
+use Rattle.std.proofs.lemmas.Result.{err_from_is_err_and}
 use Rattle.std.specs.List.{list_all}
 use Rattle.std.proofs.lemmas.Bool.{false≢true}
 use Rattle.plc_syntax.specs.Table.{may_be_empty}
 use Rattle.plc_syntax.specs.Nesting.{is_open_brace, is_close_brace}
 use Rattle.plc_syntax.specs.Syntax.{kinds}
-use Rattle.plc_syntax.proofs.Places.{file_is_right, syntax_is_right, nesting_is_right}
+use Rattle.plc_syntax.proofs.Places.{file_is_right, syntax_is_right, nesting_is_right, memory_is_right}
 use Rattle.plc_syntax.proofs.Steps.{stuck_is_fault, deep_is_fault, passed_more, counted_more, count_fits, end_is_file, end_is_fault}
 use Rattle.plc_syntax.proofs.recognizer.syntax.Goals as goal
+
+pub returns-in_err-stack : goal.returns-in_err-stack
+returns-in_err-stack c =
+    let p = err_from_is_err_and c.from_residual.result c.from_residual.ensures.1 in
+    let right = memory_is_right (kinds c.args.tokens.now) c.from_residual.result (p.1 ∙ ap Err p.2) in
+    record { file = right.file; syntax = right.syntax_fault; nesting = right.nesting_fault }
 
 pub loop-place-init : goal.loop-place-init
 loop-place-init c = record {
@@ -14,6 +21,12 @@ loop-place-init c = record {
   counted = c.none-braces.ensures;
   shallow = λ lesser l. absurd (omega arith);
 }
+
+pub returns-in_err-advance : goal.returns-in_err-advance
+returns-in_err-advance c =
+    let p = err_from_is_err_and c.from_residual-in_err-advance.result c.from_residual-in_err-advance.ensures.1 in
+    let right = memory_is_right (kinds c.args.tokens.now) c.from_residual-in_err-advance.result (p.1 ∙ ap Err p.2) in
+    record { file = right.file; syntax = right.syntax_fault; nesting = right.nesting_fault }
 
 pub returns-then-not-branch : goal.returns-then-not-branch
 returns-then-not-branch c =
