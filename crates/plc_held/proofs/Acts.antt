@@ -7,7 +7,7 @@ use Rattle.plc_ground.specs.declared.terms.Map.{Map}
 use Rattle.plc_ground.specs.declared.terms.Map.TheVariants as maps
 use Rattle.plc_setting.specs.declared.acts.Act.{Act}
 use Rattle.plc_setting.specs.declared.acts.Act.TheVariants.{Assign, Make, Fetch, Update, Test, Skip}
-use Rattle.plc_symbolic.specs.Same.{same_symbol, same_map}
+use Rattle.plc_ground.specs.Symbols.{same_symbol, same_map}
 
 -- a value for each constant, what each map has at each node, and the number of the next node
 pub record View : Type 0 where

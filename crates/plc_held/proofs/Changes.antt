@@ -6,7 +6,7 @@ use Rattle.plc_lang.specs.declared.syntax.Field.{Field}
 use Rattle.plc_ground.specs.declared.terms.Symbol.{Symbol}
 use Rattle.plc_ground.specs.declared.terms.Map.{Map}
 use Rattle.plc_ground.specs.declared.terms.Map.TheVariants as maps
-use Rattle.plc_symbolic.specs.Same.{same_symbol, same_map}
+use Rattle.plc_ground.specs.Symbols.{same_symbol, same_map}
 use Rattle.plc_gc.specs.declared.slot.Slot.{Slot}
 use Rattle.plc_gc.specs.declared.slot.Slot.TheVariants.{Shared as in_shared, Local as in_local, Data as in_data}
 use Rattle.plc_gc.specs.declared.slot.Map.{Map as GcMap}
@@ -14,7 +14,7 @@ use Rattle.plc_gc.specs.declared.slot.Map.TheVariants.{Pointer as pointer_field,
 use Rattle.plc_gc.specs.State.{GcState, value, entry, count, put, update, made, with_locals}
 use Rattle.plc_gc.specs.Clauses.{declared_map}
 use Rattle.plc_gc.proofs.Views.{puts, updates, makes}
-use Rattle.plc_oblig.proofs.Equal.{same_symbol_true, same_symbol_refl, same_map_true, same_map_refl, field_id}
+use Rattle.plc_ground.proofs.Symbols.{same_symbol_true, same_symbol_refl, same_map_true, same_map_refl, field_id}
 use Rattle.plc_held.proofs.Acts.{View, with_symbol, with_map, changed}
 use Rattle.plc_held.proofs.Scene.{Scene, symbol_in, gc_map, seen, slot_of, symbol_there, symbol_fixed, one_symbol}
 

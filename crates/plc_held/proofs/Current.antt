@@ -9,8 +9,8 @@ use Rattle.plc_setting.specs.declared.acts.Act.TheVariants.{Assign, Make, Fetch,
 use Rattle.plc_setting.specs.Setting.{is_fetch}
 use Rattle.plc_items.specs.declared.execution.Execution.{Execution}
 use Rattle.plc_items.specs.Execution.{version, after}
-use Rattle.plc_symbolic.specs.Same.{same_map}
-use Rattle.plc_oblig.proofs.Equal.{same_map_refl}
+use Rattle.plc_ground.specs.Symbols.{same_map}
+use Rattle.plc_ground.proofs.Symbols.{same_map_refl}
 use Rattle.plc_held.proofs.Acts.{View, act_after, with_symbol, with_map, changed}
 
 abbrev pub bit : Bool → ℕ

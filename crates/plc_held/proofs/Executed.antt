@@ -15,10 +15,10 @@ use Rattle.plc_symbolic.specs.declared.symbolic.NodeTerm.{NodeTerm}
 use Rattle.plc_symbolic.specs.declared.symbolic.NodeTerm.TheVariants.{At}
 use Rattle.plc_symbolic.specs.declared.symbolic.SymbolicTerm.{SymbolicTerm}
 use Rattle.plc_symbolic.specs.declared.symbolic.SymbolicTerm.TheVariants.{Constant, Application}
-use Rattle.plc_symbolic.specs.Same.{same_symbol}
+use Rattle.plc_ground.specs.Symbols.{same_symbol}
 use Rattle.plc_symbolic.specs.Terms.{term_of, is, is_not, null}
 use Rattle.plc_flow.proofs.Each.{Each, each_both, each_so}
-use Rattle.plc_oblig.proofs.Equal.{same_symbol_true, same_map_refl}
+use Rattle.plc_ground.proofs.Symbols.{same_symbol_true, same_map_refl}
 use Rattle.plc_oblig.proofs.Lists.{each_flat}
 use Rattle.plc_held.proofs.Acts.{View, tests, goes_checked, with_symbol, with_map, changed, act_after, IsNamed, Acted, ActsRun}
 use Rattle.plc_oblig.proofs.Sides.{current_given}

@@ -23,7 +23,8 @@ use Rattle.plc_symbolic.specs.Tidy.{IsTidy, HasSides}
 use Rattle.plc_flow.proofs.Each.{Each}
 use Rattle.plc_symbolic.proofs.Places.{place_read, listed_at, argument_listed}
 use Rattle.plc_symbolic.proofs.Drafts.{kept, lists_all, writes_all, written_all-clauses, listed_all-clauses}
-use Rattle.plc_oblig.proofs.Equal.{same_sort, same_sort_true, same_sort_refl}
+use Rattle.plc_logic.specs.Sorts.{same_sort}
+use Rattle.plc_logic.proofs.Sorts.{same_sort_true, same_sort_refl}
 use Rattle.plc_oblig.proofs.Lists.{each_all_of}
 use Rattle.plc_oblig.proofs.Places.{in_at, first_found, first_least, first_same, map_at, map_there, map_get, there}
 

@@ -13,7 +13,7 @@ use Rattle.plc_symbolic.specs.declared.symbolic.NodeTerm.TheVariants.{At}
 use Rattle.plc_symbolic.specs.declared.symbolic.SymbolicTerm.{SymbolicTerm}
 use Rattle.plc_symbolic.specs.declared.symbolic.SymbolicTerm.TheVariants.{Constant, Application}
 use Rattle.plc_symbolic.specs.declared.symbolic.SymbolicLit.{SymbolicLit}
-use Rattle.plc_symbolic.specs.Same.{same_symbol, same_map}
+use Rattle.plc_ground.specs.Symbols.{same_symbol, same_map}
 use Rattle.plc_symbolic.specs.Terms.{term_of, is, is_not, null}
 
 -- nothing was executed

@@ -5,7 +5,6 @@ ghost use Rattle.std.specs.Prelude.{◌++◌, ◌∷◌, [], length, flat_map};
 ghost use Rattle.plc_ground.specs.declared.terms.Map.TheVariants as maps;
 ghost use Rattle.plc_ground.specs.declared.terms.Symbol.TheVariants as symbols;
 ghost use Rattle.plc_setting.specs.declared.acts.Act.TheVariants.{Fetch, Update};
-ghost use Rattle.plc_symbolic.specs.Same.{same_symbol, same_map};
 ghost use Rattle.plc_symbolic.specs.Numbering.{written, written_all};
 ghost use Rattle.plc_items.specs.Execution.{start, current, version, held, assigned, after, after_all, not_null};
 ghost use Rattle.plc_items.specs.Execution.{update_at, if_checked, test_lit, act_clauses, executed_clauses};
@@ -38,19 +37,13 @@ impl Execution {
     }
 }
 
-fn is_same_symbol(a: Symbol, b: Symbol) -> bool
-    ensures { result ≡ same_symbol a b }
-{
-    a == b
-}
-
 /// The constant that a variable has now; any other constant is itself.
 pub fn current(x: &Execution, symbol: Symbol) -> Symbol
     ensures { result ≡ current x.now symbol }
 {
     let mut now = symbol;
     for (variable, value) in x.assigned.as_slice() {
-        if is_same_symbol(*variable, symbol) {
+        if *variable == symbol {
             now = *value;
         }
     }

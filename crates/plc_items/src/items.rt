@@ -14,11 +14,8 @@ use crate::instances::{Premises, push_invariants, push_point};
 use crate::subject::Subject;
 use crate::values::push_values;
 use plc_base::NoMemory;
-use plc_flow::Flow;
-use plc_logic::Outline;
-use plc_setting::{Obligation, Setting, acting_point, invariants_before, owner_point};
+use plc_setting::{acting_point, invariants_before, owner_point};
 use plc_symbolic::Draft;
-use std::alloc::Global;
 
 fn push_premises(w: &Subject, out: &mut Draft) -> Result<(), NoMemory>
     requires { Fits w.now.flow.now w.now.outline.now }
@@ -74,26 +71,12 @@ fn push_step(w: &Subject, out: &mut Draft) -> Result<(), NoMemory>
 }
 
 /// Writes the clauses of the obligation's ground set.
-pub fn push_items(
-    alloc: Global,
-    flow: &Flow,
-    outline: &Outline,
-    s: &Setting,
-    o: &Obligation,
-    out: &mut Draft,
-) -> Result<(), NoMemory>
-    requires fits { Fits flow.now outline.now }
-    requires setting { s.now ≡ setting_of flow.now outline.now o.now }
-    ensures { OnOk result (out.new
-        ≡ written_all out.old (clauses_of flow.now outline.now s.now o.now)) }
+pub fn push_items(w: &Subject, out: &mut Draft) -> Result<(), NoMemory>
+    requires fits { Fits w.now.flow.now w.now.outline.now }
+    requires setting { w.now.setting.now ≡ setting_of w.now.flow.now w.now.outline.now w.now.obligation.now }
+    ensures { OnOk result (out.new ≡ written_all out.old
+        (clauses_of w.now.flow.now w.now.outline.now w.now.setting.now w.now.obligation.now)) }
 {
-    let w = Subject {
-        alloc,
-        flow,
-        outline,
-        setting: s,
-        obligation: o,
-    };
-    push_known(&w, out)?;
-    push_step(&w, out)
+    push_known(w, out)?;
+    push_step(w, out)
 }

@@ -15,3 +15,4 @@ mod values;
 
 pub use execution::Execution;
 pub use items::push_items;
+pub use subject::Subject;

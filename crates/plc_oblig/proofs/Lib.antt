@@ -8,7 +8,6 @@ mod UnitTrees
 mod Ending
 pub mod Lists
 pub mod Places
-pub mod Equal
 pub mod Standing
 pub mod ValueSorts
 pub mod Sides

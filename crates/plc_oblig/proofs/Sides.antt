@@ -33,7 +33,7 @@ use Rattle.plc_symbolic.specs.declared.symbolic.NodeTerm.{NodeTerm}
 use Rattle.plc_symbolic.specs.declared.symbolic.NodeTerm.TheVariants.{At}
 use Rattle.plc_symbolic.specs.declared.symbolic.SymbolicTerm.TheVariants.{Constant, Application}
 use Rattle.plc_symbolic.specs.declared.symbolic.SymbolicLit.{SymbolicLit}
-use Rattle.plc_symbolic.specs.Same.{same_symbol}
+use Rattle.plc_ground.specs.Symbols.{same_symbol}
 use Rattle.plc_symbolic.specs.Terms.{Clauses, term_of, is, is_not, null}
 use Rattle.plc_setting.specs.declared.acts.Act.{Act}
 use Rattle.plc_setting.specs.declared.acts.Act.TheVariants.{Assign, Make, Fetch, Update, Test, Skip}
@@ -49,7 +49,7 @@ use Rattle.plc_setting.proofs.ActSorts.{kind_at_place}
 use Rattle.plc_items.specs.declared.execution.Execution.{Execution}
 use Rattle.plc_items.specs.Execution.{start, current, version, held, after, after_all, not_null, update_at, if_checked, test_lit, act_clauses, executed_clauses}
 use Rattle.plc_items.specs.Items.{one_of_values, field_values, values_from, equals, only_new, start_clauses, enter_clauses, beginning, is_other, field_default, field_defaults_from, ghost_default, ghost_defaults_from, no_field_leads, unretired, default_is, if_fresh, freshness, me, read_term, read_literal, escapes, instance_at, tuples, instances, bound_nodes, denied_clause, denied_claim}
-use Rattle.plc_oblig.proofs.Equal.{same_symbol_true}
+use Rattle.plc_ground.proofs.Symbols.{same_symbol_true}
 use Rattle.plc_oblig.proofs.Lists.{each_flat, each_map, each_all, each_from, each_place, each_of_all}
 use Rattle.plc_oblig.proofs.ValueSorts.{NumberedFrom, numbered_next, value_is_of}
 

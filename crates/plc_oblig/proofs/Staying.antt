@@ -34,7 +34,7 @@ use Rattle.plc_items.specs.Items.{base_node, read_term, read_literal}
 use Rattle.plc_symbolic.specs.declared.symbolic.NodeTerm.{NodeTerm}
 use Rattle.plc_symbolic.specs.declared.symbolic.NodeTerm.TheVariants.{At}
 use Rattle.plc_symbolic.specs.declared.symbolic.SymbolicTerm.TheVariants.{Application, Constant}
-use Rattle.plc_symbolic.specs.Same.{same_symbol}
+use Rattle.plc_ground.specs.Symbols.{same_symbol}
 use Rattle.plc_symbolic.specs.Terms.{term_of}
 use Rattle.plc_oblig.specs.Still.{is_shared, changes}
 

@@ -12,6 +12,7 @@ use Rattle.plc_setting.specs.Parts.{has_point}
 use Rattle.plc_setting.specs.Points.{stands_at}
 use Rattle.plc_oblig.specs.GroundSets.{ground_set}
 
+-- both are so, or neither is
 abbrev pub agree : Bool → Bool → Bool
 agree true b = b
 agree false b = not b

@@ -16,9 +16,9 @@ ghost use Rattle.plc_oblig.specs.GroundSets.{drafted, ground_set};
 use plc_base::{Items, NoMemory};
 use plc_flow::Flow;
 use plc_ground::{GroundSet, Sort, Symbol};
-use plc_items::push_items;
+use plc_items::{Subject, push_items};
 use plc_logic::Outline;
-use plc_setting::{Act, Obligation, Setting, constants_of, setting_of, sort_of};
+use plc_setting::{Act, Obligation, constants_of, setting_of, sort_of};
 use plc_symbolic::{Draft, NodeTerm, SymbolicTerm, term_of};
 use std::alloc::Global;
 
@@ -70,24 +70,18 @@ fn sorts_of(
 }
 
 // Writes the clauses of the set, after the terms that are listed first.
-fn write_draft(
-    alloc: Global,
-    flow: &Flow,
-    outline: &Outline,
-    o: &Obligation,
-    s: &Setting,
-    draft: &mut Draft,
-) -> Result<(), NoMemory>
-    requires fits { Fits flow.now outline.now }
-    requires setting { s.now ≡ setting_of flow.now outline.now o.now }
-    requires few { length s.now.acts ≤ most_step_primitives }
+fn write_draft(w: &Subject, draft: &mut Draft) -> Result<(), NoMemory>
+    requires fits { Fits w.now.flow.now w.now.outline.now }
+    requires setting { w.now.setting.now ≡ setting_of w.now.flow.now w.now.outline.now w.now.obligation.now }
+    requires few { length w.now.setting.now.acts ≤ most_step_primitives }
     requires blank { draft.old ≡ blank }
-    ensures { OnOk result (draft.new ≡ drafted flow.now outline.now s.now o.now) }
+    ensures { OnOk result (draft.new
+        ≡ drafted w.now.flow.now w.now.outline.now w.now.setting.now w.now.obligation.now) }
 {
-    let constants = constants_of(alloc, flow, outline, s)?;
+    let constants = constants_of(w.alloc, w.flow, w.outline, w.setting)?;
     list_constants(constants.as_slice(), draft)?;
-    list_nodes(s.nodes.as_slice(), draft)?;
-    push_items(alloc, flow, outline, s, o, draft)?;
+    list_nodes(w.setting.nodes.as_slice(), draft)?;
+    push_items(w, draft)?;
     Ok(())
 }
 
@@ -120,7 +114,14 @@ impl Grounding {
     {
         let s = setting_of(self.alloc, flow, outline, o)?;
         self.draft.clear();
-        write_draft(self.alloc, flow, outline, o, &s, &mut self.draft)?;
+        let w = Subject {
+            alloc: self.alloc,
+            flow,
+            outline,
+            setting: &s,
+            obligation: o,
+        };
+        write_draft(&w, &mut self.draft)?;
         let sorts = sorts_of(self.alloc, flow, o, s.acts.as_slice(), &self.draft)?;
         let set = self.draft.finish(sorts)?;
         Ok(set)

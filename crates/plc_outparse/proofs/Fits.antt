@@ -24,6 +24,8 @@ use Rattle.plc_logic.specs.declared.clause.Base.TheVariants as bases
 use Rattle.plc_logic.specs.declared.clause.Term.{Term}
 use Rattle.plc_logic.specs.declared.clause.Sort.{Sort}
 use Rattle.plc_logic.specs.declared.clause.Sort.TheVariants as sorts
+use Rattle.plc_logic.specs.Sorts.{same_sort}
+use Rattle.plc_logic.proofs.Sorts.{same_sort_true}
 use Rattle.plc_logic.specs.declared.clause.Literal.{Literal}
 use Rattle.plc_logic.specs.declared.clause.Clause.{Clause}
 use Rattle.plc_logic.specs.declared.clause.Site.{Site}
@@ -39,7 +41,7 @@ use Rattle.plc_outparse.specs.Reach.{Reach, auxiliary_sort, kind_outside, kind_o
 use Rattle.plc_outparse.specs.Sizes.{term_size, literal_size, bound_size, depth_size}
 use Rattle.plc_scope.specs.Limits.{stands_at}
 use Rattle.plc_lang.specs.Locals.{locals_or_none, locals_of}
-use Rattle.plc_outparse.specs.Meaning.{in_turn, me_means, term_means, same_sort, sort_place, second_means, literal_means, counted, Literals, literal_step, none_bound, if_free, bound_with, second_bound, bound_means, reach, clause_means, clause_line_means, op_named, op_at, label_named, with_op, label_at, if_same_op, Labels, label_step, labels_mean, Parts, with_invariant, with_item, item_step, depth_means, outline_means}
+use Rattle.plc_outparse.specs.Meaning.{in_turn, me_means, term_means, sort_place, second_means, literal_means, counted, Literals, literal_step, none_bound, if_free, bound_with, second_bound, bound_means, reach, clause_means, clause_line_means, op_named, op_at, label_named, with_op, label_at, if_same_op, Labels, label_step, labels_mean, Parts, with_invariant, with_item, item_step, depth_means, outline_means}
 
 abbrev HasSome : {A : Type 0} → (A → Type 0) → Option A → Type 0
 HasSome P (Some x) = P x
@@ -186,35 +188,8 @@ module _ (file : File) (r : Reach) (names : NamesOf r.scope file) where
   term_sorted at MeTerm = me_sorted r.in_operation at refl
   term_sorted at NoneTerm = refl
 
-  same_sorts : (a b : Sort) → same_sort a b ≡ true → a ≡ b
-  same_sorts sorts.Node sorts.Node e = refl
-  same_sorts sorts.Node sorts.Number e = absurd cc
-  same_sorts sorts.Node sorts.Thread e = absurd cc
-  same_sorts sorts.Node (sorts.Value h) e = absurd cc
-  same_sorts sorts.Node sorts.Truth e = absurd cc
-  same_sorts sorts.Number sorts.Node e = absurd cc
-  same_sorts sorts.Number sorts.Number e = refl
-  same_sorts sorts.Number sorts.Thread e = absurd cc
-  same_sorts sorts.Number (sorts.Value h) e = absurd cc
-  same_sorts sorts.Number sorts.Truth e = absurd cc
-  same_sorts sorts.Thread sorts.Node e = absurd cc
-  same_sorts sorts.Thread sorts.Number e = absurd cc
-  same_sorts sorts.Thread sorts.Thread e = refl
-  same_sorts sorts.Thread (sorts.Value h) e = absurd cc
-  same_sorts sorts.Thread sorts.Truth e = absurd cc
-  same_sorts (sorts.Value g) sorts.Node e = absurd cc
-  same_sorts (sorts.Value g) sorts.Number e = absurd cc
-  same_sorts (sorts.Value g) sorts.Thread e = absurd cc
-  same_sorts (sorts.Value g) (sorts.Value h) e = ap sorts.Value (eqb-true g h e)
-  same_sorts (sorts.Value g) sorts.Truth e = absurd cc
-  same_sorts sorts.Truth sorts.Node e = absurd cc
-  same_sorts sorts.Truth sorts.Number e = absurd cc
-  same_sorts sorts.Truth sorts.Thread e = absurd cc
-  same_sorts sorts.Truth (sorts.Value h) e = absurd cc
-  same_sorts sorts.Truth sorts.Truth e = refl
-
   if_sorted : (wanted : Sort) (at : ℕ) (t : Term × Sort) (b : Bool) → same_sort t.1 wanted ≡ b → Sorted t → Has (λ x. HasSort w x wanted) (if b then Ok t.0 else Err (faults.WrongSort at))
-  if_sorted wanted at t true e h = subst (HasSort w t.0) (same_sorts t.1 wanted e) h
+  if_sorted wanted at t true e h = subst (HasSort w t.0) (same_sort_true t.1 wanted e) h
   if_sorted wanted at t false e h = tt
 
   second_sorted : (wanted : Sort) (at : ℕ) (t : TermTree) → Has (λ x. HasSort w x wanted) (second_means r wanted at t)

@@ -29,6 +29,7 @@ use Rattle.plc_logic.specs.declared.clause.Item.{Item}
 use Rattle.plc_logic.specs.declared.clause.Outline.{Outline}
 use Rattle.plc_logic.specs.declared.clause.Sort.{Sort}
 use Rattle.plc_logic.specs.declared.clause.Sort.TheVariants as sorts
+use Rattle.plc_logic.specs.Sorts.{same_sort}
 use Rattle.plc_outparse.specs.declared.kind.Kind.{Kind}
 use Rattle.plc_outparse.specs.Sizes.{term_size, literal_size, bound_size, depth_size}
 use Rattle.plc_outparse.specs.Reach.{Reach, declared_kind, kind_of, known, base_at, as_term, as_field}
@@ -74,15 +75,6 @@ sort_place at NullTerm = at
 sort_place at (NumberTerm n) = at
 sort_place at MeTerm = at
 sort_place at NoneTerm = at
-
--- whether two sorts are one
-abbrev pub same_sort : Sort → Sort → Bool
-same_sort sorts.Node sorts.Node = true
-same_sort sorts.Number sorts.Number = true
-same_sort sorts.Thread sorts.Thread = true
-same_sort (sorts.Value g) (sorts.Value h) = g == h
-same_sort sorts.Truth sorts.Truth = true
-same_sort s t = false
 
 -- a term of the wanted sort
 abbrev pub if_same_sort : Sort → ℕ → Term × Sort → Result Term ParseFault

@@ -6,7 +6,7 @@ ghost use Rattle.plc_forms.specs.Sizes.{place_size};
 ghost use Rattle.plc_forms.specs.Views.{place_tree};
 ghost use Rattle.plc_scope.specs.Answers.{Gives};
 ghost use Rattle.plc_scope.specs.Scope.{most_locals};
-ghost use Rattle.plc_outparse.specs.Meaning.{place_means, me_means, term_means, sort_place, same_sort, second_means};
+ghost use Rattle.plc_outparse.specs.Meaning.{place_means, me_means, term_means, sort_place, second_means};
 ghost use Rattle.plc_outparse.specs.Meaning.{flag_means, literal_means};
 ghost use Rattle.plc_outparse.specs.Reach.{base_term, as_term, as_field};
 ghost use Rattle.plc_outparse.specs.Sizes.{term_size, literal_size};
@@ -126,19 +126,6 @@ fn sort_place(at: u32, side: Side) -> u32
     }
 }
 
-fn same_sort(a: Sort, b: Sort) -> bool
-    ensures { result ≡ same_sort a b }
-{
-    match (a, b) {
-        (Sort::Node, Sort::Node)
-        | (Sort::Number, Sort::Number)
-        | (Sort::Thread, Sort::Thread)
-        | (Sort::Truth, Sort::Truth) => true,
-        (Sort::Value(g), Sort::Value(h)) => g == h,
-        _ => false,
-    }
-}
-
 // The second term of an equation, which has the sort of the first.
 #[tactic(auto, unfolding(crate::specs::Meaning::second_means))]
 fn second(reach: &Reach, sort: Sort, at: u32, side: Side) -> Result<Term, ParseFault>
@@ -147,7 +134,7 @@ fn second(reach: &Reach, sort: Sort, at: u32, side: Side) -> Result<Term, ParseF
     ensures { Gives (λ r. r) result (second_means (reach_of reach.now) sort at (side_tree side.entry)) }
 {
     let (second, found) = term(reach, at, side)?;
-    if same_sort(found, sort) {
+    if found == sort {
         Ok(second)
     } else {
         Err(ParseFault::WrongSort {

@@ -26,7 +26,8 @@ use Rattle.plc_outparse.specs.declared.kind.Kind.{Kind}
 use Rattle.plc_outparse.specs.declared.kind.Kind.TheVariants as kinds
 use Rattle.plc_outparse.specs.Sizes.{term_size, literal_size, bound_size}
 use Rattle.plc_outparse.specs.Reach.{Reach, kind_outside, kind_of_local, kind_inside, kind_or, declared_at, declared_kind, kind_or_bound, kind_of, known, as_base, base_at, as_term, as_field}
-use Rattle.plc_outparse.specs.Meaning.{in_turn, me_means, term_means, same_sort, sort_place, if_same_sort, second_means, flag_means, literal_means, counted, literal_step, none_bound, if_free, bound_with, bound_means, reach, clause_means, clause_line_means}
+use Rattle.plc_logic.specs.Sorts.{same_sort}
+use Rattle.plc_outparse.specs.Meaning.{in_turn, me_means, term_means, sort_place, if_same_sort, second_means, flag_means, literal_means, counted, literal_step, none_bound, if_free, bound_with, bound_means, reach, clause_means, clause_line_means}
 use Rattle.plc_print.specs.Outlines.{base_name, term_tree, flag_literal, literal_tree, bound_tree, claims_tree, clause_tree}
 use Rattle.plc_print.proofs.Steps.{within, after, Found, then_found, moved, if_found}
 use Rattle.plc_print.proofs.SpelledNames.{IsBound, Bound, Ends, from_number, number_named, place_found, fits_found}

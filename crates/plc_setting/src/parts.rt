@@ -8,7 +8,7 @@ ghost use Rattle.plc_setting.specs.Fit.{Fits};
 ghost use Rattle.plc_setting.specs.Parts.{prims_of, executed, locals_of_step, acting_locals, has_point, point_locals};
 ghost use Rattle.plc_setting.specs.Parts.{owner_locals, has_owner, first_point, acting_point, owner_point};
 ghost use Rattle.plc_setting.specs.Parts.{invariants_before, clauses_of, acting_premises, owner_premises};
-ghost use Rattle.plc_setting.specs.Parts.{entry_clauses, clauses_after, conclusion, claim_made};
+ghost use Rattle.plc_setting.specs.Parts.{clauses_after, conclusion, claim_made};
 
 use crate::obligations::Obligation;
 use crate::points::clause_at;
@@ -164,38 +164,6 @@ pub fn invariants_before<'a>(outline: &'a Outline, o: &Obligation) -> &'a [Claus
     }
 }
 
-// The clauses of an operation's entry.
-fn entry_clause<'a>(
-    flow: &Flow,
-    outline: &'a Outline,
-    gate: Option<&Gate>,
-    clause: u16,
-) -> Option<&'a Clause>
-    ensures { option_copied result
-        ≡ slice_get (entry_clauses flow.now outline.now (option_copied gate.entry)) clause }
-{
-    match gate {
-        None => None,
-        Some(gate) => clause_at(flow, outline, gate.entry.0, clause),
-    }
-}
-
-// The clauses of a step's last point.
-fn last_clause<'a>(
-    flow: &Flow,
-    outline: &'a Outline,
-    step: Option<&Step>,
-    clause: u16,
-) -> Option<&'a Clause>
-    ensures { option_copied result
-        ≡ slice_get (clauses_after flow.now outline.now (option_copied step.entry)) clause }
-{
-    match step {
-        None => None,
-        Some(step) => clause_at(flow, outline, step.to.0, clause),
-    }
-}
-
 // An invariant, or, where the number is past theirs, a clause of the step's last point.
 fn own_clause<'a>(
     flow: &Flow,
@@ -211,7 +179,8 @@ fn own_clause<'a>(
     if clause < invariants {
         return outline.invariants.get(clause as usize);
     }
-    last_clause(flow, outline, step_at(flow, step), clause - invariants)
+    let step = step_at(flow, step)?;
+    clause_at(flow, outline, step.to.0, clause - invariants)
 }
 
 /// The clause that is to hold after, if it isn't a claim.
@@ -222,7 +191,8 @@ pub fn conclusion<'a>(flow: &Flow, outline: &'a Outline, o: &Obligation) -> Opti
     match *o {
         Obligation::Start { inv } => outline.invariants.get(inv as usize),
         Obligation::Enter { op, clause } => {
-            entry_clause(flow, outline, flow.gates.get(op.0 as usize), clause)
+            let gate = flow.gates.get(op.0 as usize)?;
+            clause_at(flow, outline, gate.entry.0, clause)
         }
         Obligation::Own { step, clause } => own_clause(flow, outline, step, clause),
         Obligation::Other { point, clause, .. } => clause_at(flow, outline, point.0, clause),

@@ -2,4 +2,5 @@ pub mod Searching
 pub mod Stacking
 pub mod Grouping
 pub mod Places
+pub mod Turns
 pub mod Answering

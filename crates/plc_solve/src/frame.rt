@@ -1,7 +1,8 @@
 // A split on the present branch. It knows how long the branch above it is, and the mark of the table of
-// equalities there, so that going back up is cutting both back. The nodes of the children that are
-// closed stay with the frame until all are, so that a tree can be left out where it stands in place of
-// its split.
+// equalities there, so that going back up is cutting both back. The trees of the children that are
+// closed stay with the frame until all are, and nothing is written into an answer before: so where one
+// child's tree closes the branch above too, it takes the place of the whole split, whose frame and all
+// its nodes are dropped.
 ghost use Rattle.std.specs.Prelude.{◌≡◌, ◌<◌, ◌+◌, ◌∷◌, [], IfOk, OnOk, length};
 ghost use Rattle.plc_ground.specs.Model.{literals};
 ghost use Rattle.plc_ground.specs.declared.terms.Node.{Node};

@@ -1,6 +1,6 @@
 // A tree that was found for one child of a split may not need the child's literal. The walk that
 // judges trees, begun on the branch above the split, tells; then the tree stands in place of the
-// whole split, and the split's other children are never looked at. This is what keeps trees near the
+// whole split, and the children after it are never looked at. This is what keeps trees near the
 // size of the reason why a set has no model, as jumping back does where reasons are kept.
 ghost use Rattle.std.specs.Prelude.{◌≡◌, ◌<◌, ◌≤◌, ◌∷◌, ℕ, [], IsTrue, IfOk, IfSome, OnOk};
 ghost use Rattle.std.specs.Prelude.{None, Ok, reverse, vec_len};

@@ -9,23 +9,22 @@ use Rattle.std.proofs.lemmas.List.Folds.{position_or_len_push, Any-from_list_any
 use Rattle.plc_symbolic.specs.declared.symbolic.SymbolicTerm.{SymbolicTerm}
 use Rattle.plc_symbolic.specs.declared.symbolic.SymbolicTerm.TheVariants.{Constant, Application}
 use Rattle.plc_symbolic.specs.Terms.{term_of}
-use Rattle.plc_symbolic.specs.Same.{same_term}
+use Rattle.plc_symbolic.specs.Same.{same_term, same_term_true, same_term_refl}
 use Rattle.plc_symbolic.specs.Numbering.{put, place, IsListed}
 use Rattle.plc_symbolic.specs.Tidy.{IsTidy, HasArgument, Grows}
-use Rattle.plc_symbolic.specs.Equal.{term_is, term_itself}
 
 -- ---- places
 
 -- a term stands at its place
 pub place_read : (ts : List SymbolicTerm) (t d : SymbolicTerm) → IsListed ts t → get_or ts (place ts t) d ≡ t
 unfolding place
-place_read ts t d h = sym (term_is t (get_or ts (place ts t) d) (passes_at_first (same_term t) ts d h))
+place_read ts t d h = sym (same_term_true t (get_or ts (place ts t) d) (passes_at_first (same_term t) ts d h))
 
 -- and not before it
 pub place_first : (ts : List SymbolicTerm) (k : ℕ) (t : SymbolicTerm) → slice_get ts k ≡ Some t → place ts t ≤ k
 unfolding place
 place_first ts k t h = elim (cases_lt k (place ts t)) [
-  | inl early ↦ absurd (both_ways (same_term t t) (subst (λ x. same_term t x ≡ false) (get_or_from_slice_get ts k t t h) (fails_before_first (same_term t) ts k t early)) (term_itself t))
+  | inl early ↦ absurd (both_ways (same_term t t) (subst (λ x. same_term t x ≡ false) (get_or_from_slice_get ts k t t h) (fails_before_first (same_term t) ts k t early)) (same_term_refl t))
   | inr le ↦ le
 ]
 
@@ -35,7 +34,7 @@ listed_at ts k t h = omega (arith, place_first ts k t h, slice_get_within ts k t
 any_listed : (ts : List SymbolicTerm) (t : SymbolicTerm) → list_any (same_term t) ts ≡ true → IsListed ts t
 any_listed ts t h =
     let any = Any-from_list_any (same_term t) ts h in
-    let here : slice_get ts any.0 ≡ Some t = slice_get-get_or ts any.0 any.1 any.2 ∙ ap Some (any.3 ∙ sym (term_is t any.1 any.4)) in
+    let here : slice_get ts any.0 ≡ Some t = slice_get-get_or ts any.0 any.1 any.2 ∙ ap Some (any.3 ∙ sym (same_term_true t any.1 any.4)) in
     listed_at ts any.0 t here
 
 none_listed : (ts : List SymbolicTerm) (t : SymbolicTerm) → list_any (same_term t) ts ≡ false → place ts t ≡ length ts
@@ -89,7 +88,7 @@ place_push ts u t h = position_or_len_push (same_term t) ts u ∙ cond-false _ _
 place_last : (ts : List SymbolicTerm) (t : SymbolicTerm) → place ts t ≡ length ts → place (ts ++ t ∷ []) t ≡ length ts
 unfolding place
 place_last ts t h = position_or_len_push (same_term t) ts t ∙ cond-true _ _ _ (eq-eqb (place ts t) (length ts) h)
-    ∙ ap (λ b. length ts + cond b 0 1) (term_itself t) ∙ omega arith
+    ∙ ap (λ b. length ts + cond b 0 1) (same_term_refl t) ∙ omega arith
 
 -- ---- growing
 
@@ -193,5 +192,5 @@ not_found old now t e h listed =
 pub recalled : (keys now : List SymbolicTerm) (t found : SymbolicTerm) (k : ℕ) → keys ≡ now → IsTidy keys → Some found ≡ slice_get keys k → same_term found t ≡ true
     → IsListed now t × (k ≡ place now t)
 recalled keys now t found k e tidy at same =
-    let here : slice_get now k ≡ Some t = subst (λ ts. slice_get ts k ≡ Some t) e (sym at ∙ ap Some (term_is found t same)) in
+    let here : slice_get now k ≡ Some t = subst (λ ts. slice_get ts k ≡ Some t) e (sym at ∙ ap Some (same_term_true found t same)) in
     (listed_at now k t here, sym ((subst IsTidy e tidy).distinct k t here))

@@ -2,7 +2,6 @@
 pub mod Terms
 pub mod Keys
 pub mod Same
-pub mod Equal
 pub mod Numbering
 pub mod Tidy
 pub mod Drafts

@@ -3,7 +3,7 @@
 ghost use Rattle.std.specs.Prelude.{◌≡◌};
 ghost use Rattle.std.proofs.Common.{ap};
 ghost use Rattle.plc_symbolic.specs.Keys.{symbol_key, node_key, map_key, term_key, term_input};
-ghost use Rattle.plc_symbolic.specs.Equal.{term_is};
+ghost use Rattle.plc_symbolic.specs.Same.{same_term_true};
 
 use plc_base::FieldId;
 use plc_ground::{Map, Symbol};
@@ -94,7 +94,7 @@ pub fn term_key(term: SymbolicTerm) -> u64
 impl Hash for SymbolicTerm {
     ghost hash_input = { term_input };
 
-    ghost respects_eq = { λ a b same. ap term_input (term_is a b same) };
+    ghost respects_eq = { λ a b same. ap term_input (same_term_true a b same) };
 
     fn hash<H: Hasher>(&self, state: &mut H) {
         state.write_u64(term_key(*self));

@@ -27,24 +27,23 @@ pub fn applied(map: Map, version: u16, node: NodeTerm) -> SymbolicTerm
     SymbolicTerm::Application { map, version, node }
 }
 
+// Two terms are equal, or are not.
+fn compared(left: SymbolicTerm, right: SymbolicTerm, equal: bool) -> SymbolicLit
+    ensures { result ≡ record { left = left; right = right; equal = equal } }
+{
+    SymbolicLit { left, right, equal }
+}
+
 /// `left == right`
 pub fn is(left: SymbolicTerm, right: SymbolicTerm) -> SymbolicLit
     ensures { result ≡ is left right }
 {
-    SymbolicLit {
-        left,
-        right,
-        equal: true,
-    }
+    compared(left, right, true)
 }
 
 /// `left != right`
 pub fn is_not(left: SymbolicTerm, right: SymbolicTerm) -> SymbolicLit
     ensures { result ≡ is_not left right }
 {
-    SymbolicLit {
-        left,
-        right,
-        equal: false,
-    }
+    compared(left, right, false)
 }

@@ -2,9 +2,9 @@ use Rattle.std.proofs.Common.{◌≡◌, ◌<◌, ◌+◌, ◌∙◌, ℕ, Bool,
 use Rattle.std.proofs.lemmas.List.Sums.{fold_more}
 use Rattle.plc_ground.specs.declared.terms.Symbol.{Symbol}
 use Rattle.plc_ground.specs.declared.terms.Symbol.TheVariants as symbols
-use Rattle.plc_symbolic.specs.Same.{same_symbol}
+use Rattle.plc_ground.specs.Symbols.{same_symbol}
 use Rattle.plc_items.proofs.execution.current.Goals as goal
-use Rattle.plc_items.proofs.execution.current.Goals.{then-is_same_symbol, else-is_same_symbol}
+use Rattle.plc_items.proofs.execution.current.Goals.{then-eq, else-eq}
 
 -- the constant after one more assignment
 abbrev next : Symbol → Symbol → Symbol × Symbol → Symbol
@@ -25,9 +25,9 @@ more s now xs ys i same e h n t =
 pub loop-variable-preserved : goal.loop-variable-preserved
 loop-variable-preserved c =
     let step = more c.args.symbol c.loop-variable.now c.args.x.now.assigned c.as_slice-variable-items.result.now
-    c.loop-variable.variable-index c.is_same_symbol.result c.as_slice-variable-items.ensures
-    c.loop-variable-test.true c.loop-variable.invariant c.is_same_symbol.ensures in
-    elim c.if-is_same_symbol.branch [
-      | then-is_same_symbol w ↦ w.now-is ∙ (rw w.if-is_same_symbol.true at step)
-      | else-is_same_symbol w ↦ w.now-is ∙ (rw w.if-is_same_symbol.false at step)
+    c.loop-variable.variable-index c.eq.result c.as_slice-variable-items.ensures
+    c.loop-variable-test.true c.loop-variable.invariant c.eq.ensures in
+    elim c.if-eq.branch [
+      | then-eq w ↦ w.now-is ∙ (rw w.if-eq.true at step)
+      | else-eq w ↦ w.now-is ∙ (rw w.if-eq.false at step)
     ]

@@ -8,10 +8,10 @@ use Rattle.plc_items.proofs.items.push_items.Goals as goal
 pub returns : goal.returns
 unfolding clauses_of
 returns c =
-    let flow = c.args.flow.now in
-    let outline = c.args.outline.now in
-    let s = c.args.s.now in
-    let o = c.args.o.now in
+    let flow = c.args.w.now.flow.now in
+    let outline = c.args.w.now.outline.now in
+    let s = c.args.w.now.setting.now in
+    let o = c.args.w.now.obligation.now in
     let P : Drafted → Type 0 = λ d. OnOk c.push_step.result (c.push_step.new.out ≡ d) in
     subst P
     (written-known c.args.out.now c.push_known.new.out (values_from 0 0 flow.file.ghosts s.nodes) (beginning flow s o)

@@ -6,7 +6,8 @@ use Rattle.plc_oblig.proofs.Assembled.{draft_is}
 use Rattle.plc_oblig.proofs.grounding.write_draft.Goals as goal
 
 pub returns : goal.returns
-returns c = draft_is c.args.flow.now c.args.outline.now c.args.o.now c.args.s.now c.as_slice.result.now _ _ _
+returns c = let w = c.args.w.now in
+    draft_is w.flow.now w.outline.now w.obligation.now w.setting.now c.as_slice.result.now _ _ _
     (c.as_slice.ensures ∙ c.in_ok-constants.ensures)
     (c.in_ok-list_constants.ensures ∙ ap (λ d. listed_all d (map Constant c.as_slice.result.now)) c.requires.blank)
     (c.in_ok-list_nodes.ensures ∙ ap (λ ns. listed_all c.list_constants.new.out (map term_of ns)) c.as_slice-2.ensures)

@@ -1,39 +1,13 @@
--- Tests of equality say what they test.
-use Rattle.std.proofs.Common.{◌≡◌, Bool, true, false, ◌==◌, refl, ap}
-use Rattle.std.proofs.lemmas.Bool.{eq-eqb, eqb-true}
-use Rattle.plc_logic.specs.declared.clause.Sort.{Sort}
-use Rattle.plc_logic.specs.declared.clause.Sort.TheVariants as sorts
+-- The tests of equality of constants and of maps hold of one alone.
+use Rattle.std.proofs.Common.{◌≡◌, true, refl, ap}
+use Rattle.std.proofs.lemmas.Bool.{eqb-true, eq-eqb}
+use Rattle.plc_base.specs.declared.ids.FieldId.{FieldId}
 use Rattle.plc_ground.specs.declared.terms.Symbol.{Symbol}
-use Rattle.plc_ground.specs.declared.terms.Symbol.TheVariants.{Null, Shared, Mine, Theirs, New, Bound, Loaded, Yes, Nobody, Me, You, Value, Number}
+use Rattle.plc_ground.specs.declared.terms.Symbol.TheVariants.{Null, Shared, Mine, Theirs, New, Bound, Loaded}
+use Rattle.plc_ground.specs.declared.terms.Symbol.TheVariants.{Yes, Nobody, Me, You, Value, Number}
 use Rattle.plc_ground.specs.declared.terms.Map.{Map}
 use Rattle.plc_ground.specs.declared.terms.Map.TheVariants.{Field, Ghost, Retired}
-use Rattle.plc_base.specs.declared.ids.FieldId.{FieldId}
-use Rattle.plc_symbolic.specs.Same.{same_symbol, same_map}
-
--- ---- sorts
-
-abbrev pub same_sort : Sort → Sort → Bool
-same_sort sorts.Node sorts.Node = true
-same_sort sorts.Number sorts.Number = true
-same_sort sorts.Thread sorts.Thread = true
-same_sort (sorts.Value g) (sorts.Value h) = g == h
-same_sort sorts.Truth sorts.Truth = true
-same_sort _ _ = false
-
-pub same_sort_true : (a b : Sort) → same_sort a b ≡ true → a ≡ b
-same_sort_true sorts.Node sorts.Node h = refl
-same_sort_true sorts.Number sorts.Number h = refl
-same_sort_true sorts.Thread sorts.Thread h = refl
-same_sort_true (sorts.Value g) (sorts.Value k) h = ap sorts.Value (eqb-true g k h)
-same_sort_true sorts.Truth sorts.Truth h = refl
-same_sort_true _ _ h = cc
-
-pub same_sort_refl : (a : Sort) → same_sort a a ≡ true
-same_sort_refl sorts.Node = refl
-same_sort_refl sorts.Number = refl
-same_sort_refl sorts.Thread = refl
-same_sort_refl (sorts.Value g) = eq-eqb g g refl
-same_sort_refl sorts.Truth = refl
+use Rattle.plc_ground.specs.Symbols.{same_symbol, same_map}
 
 -- ---- constants
 
