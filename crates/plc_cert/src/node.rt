@@ -33,21 +33,18 @@ fn leaf(kind: &Value, left: &Value, right: &Value) -> Option<Node>
     }
 }
 
-fn node(value: &Value) -> Option<Node>
-    ensures { result ≡ node_of (view value.now) }
-{
-    match value.as_array()?.as_slice() {
-        [kind, clause] => split(kind, clause),
-        [kind, left, right] => leaf(kind, left, right),
-        _ => None,
-    }
-}
-
 impl Part for Node {
     ghost shape = { node_of };
 
     fn read(_alloc: Global, value: &Value) -> Result<Option<Node>, NoMemory> {
-        Ok(node(value))
+        let Some(items) = value.as_array() else {
+            return Ok(None);
+        };
+        match items.as_slice() {
+            [kind, clause] => Ok(split(kind, clause)),
+            [kind, left, right] => Ok(leaf(kind, left, right)),
+            _ => Ok(None),
+        }
     }
 }
 
