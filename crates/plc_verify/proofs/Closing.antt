@@ -73,11 +73,11 @@ module _ (flow : Flow) (outline : Outline) (trees : List Tree) where
     }
 
   -- a tree that stands nowhere
-  no_tree : Tree
+  abbrev no_tree : Tree
   no_tree = record { nodes = [] }
 
   module _ (i : ℕ) (left after : List Obligation) (o : Obligation) (at : IsAt i left) (next : left ≡ o ∷ after) (small : i < length trees) where
-    this_tree : Tree
+    abbrev this_tree : Tree
     this_tree = get_or trees i no_tree
 
     there : slice_get trees i ≡ Some this_tree
@@ -126,6 +126,11 @@ same_nodes E splits apart aside leaves xs ys r is = (slice_eq-Decides (nodes_sam
 pub closes_if_none : (s : GroundSet) (nodes : List Node) (bad : Option ℕ) → IsVerdict s [] nodes bad → is_some bad ≡ false → Closes s nodes
 closes_if_none s nodes None verdict h = verdict
 closes_if_none s nodes (Some k) verdict h = absurd cc
+
+pub verdict_at : (flow : Flow) (outline : Outline) (trees : List Tree) (at : ℕ) (o : Obligation) (t : Tree) (bad : Option ℕ) → slice_get trees at ≡ Some t
+    → IsVerdict (ground_set flow outline o) [] t.nodes bad → IsVerdictAt flow outline trees at o bad
+verdict_at flow outline trees at o t bad is verdict =
+    subst (λ (u : Option Tree). IfSome u (λ t. IsVerdict (ground_set flow outline o) [] t.nodes bad)) (sym is) verdict
 
 module _ (flow : Flow) (outline : Outline) (trees : List Tree) (tried : List (Obligation × ℕ)) (o : Obligation) (at : ℕ) (close : NotedClose flow outline trees tried) where
   pub tried_closes : IsNotedAs flow outline tried o at → (t : Tree) (nodes : List Node) → slice_get trees at ≡ Some t → t.nodes ≡ nodes

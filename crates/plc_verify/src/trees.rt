@@ -31,7 +31,7 @@ fn are_same(a: &[Node], b: &[Node]) -> bool
     a == b
 }
 
-// Whether this tree was found to close the set of an obligation that is alike.
+/// Whether this tree was found to close the set of an obligation that is alike.
 fn is_tried(evidence: &Evidence, tried: &Noted, o: &Obligation, tree: &Tree) -> bool
     requires { NotedClose evidence.now.flow.now evidence.now.outline.now evidence.now.trees.now tried.now }
     ensures { IsTrue result
@@ -46,7 +46,7 @@ fn is_tried(evidence: &Evidence, tried: &Noted, o: &Obligation, tree: &Tree) -> 
     }
 }
 
-// None where the tree closes the ground set of the obligation, else its first bad node.
+/// None where the tree closes the ground set of the obligation, else its first bad node.
 fn first_bad_node(
     alloc: Global,
     memory: &mut Grounding,
@@ -64,7 +64,7 @@ fn first_bad_node(
     Ok(bad)
 }
 
-// The same of the tree with a number, which is noted where it closes the set.
+/// The same of the tree with a number, which is noted where it closes the set.
 fn try_tree(
     alloc: Global,
     memory: &mut Grounding,
@@ -92,7 +92,7 @@ fn try_tree(
     Ok(bad)
 }
 
-// Tries each tree in order, where there is one for each obligation.
+/// Tries each tree in order, where there is one for each obligation.
 fn try_trees(alloc: Global, evidence: &Evidence) -> Result<(), VerifyFault>
     requires fits { Fits evidence.now.flow.now evidence.now.outline.now }
     requires one_each { length evidence.now.trees.now
