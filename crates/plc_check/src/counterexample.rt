@@ -1,7 +1,7 @@
-// What breaks an outline. The obligations are gone over in order, up to the first that isn't kept. One that is still, or
-// alike one that was found to be kept, is known to be kept without a set. Of each other the ground set is made and given
-// to the solver, which closes it or finds a model: the state in which the step breaks the clause. One set is held at a
-// time.
+// What breaks an outline. The obligations are gone over in order, up to the first that isn't kept. One that is still,
+// or alike one that was found to be kept, is known to be kept without a set. Of each other the ground set is made and
+// given to the solver, which closes it or finds a model: the state in which the step breaks the clause. One set is held
+// at a time.
 ghost use Rattle.std.specs.Prelude.{IfOk, OnOk, IsTrue, Contains};
 ghost use Rattle.plc_setting.specs.Fit.{Fits};
 ghost use Rattle.plc_oblig.specs.Obligations.{obligations};
