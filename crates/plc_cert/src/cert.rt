@@ -17,19 +17,6 @@ pub struct Cert {
     pub trees: Items<Tree>,
 }
 
-/// The part of a certificate that isn't of its form.
-#[derive(Clone, Copy, Debug, PartialEq, Eq)]
-pub enum CertField {
-    /// The whole: no object, or one whose members aren't just `env`, `trees` and `version`.
-    Root,
-    /// `version` is no whole number from 0 and below 2^64.
-    Version,
-    /// `env` is no list of environments.
-    Env,
-    /// `trees` is no list of trees.
-    Trees,
-}
-
 /// Why bytes are no certificate.
 #[derive(Clone, Copy, Debug, PartialEq, Eq)]
 pub enum CertFault {
@@ -41,6 +28,19 @@ pub enum CertFault {
     Version { n: u64 },
     /// Memory ran out.
     Memory,
+}
+
+/// The part of a certificate that isn't of its form.
+#[derive(Clone, Copy, Debug, PartialEq, Eq)]
+pub enum CertField {
+    /// The whole: no object, or one whose members aren't just `env`, `trees` and `version`.
+    Root,
+    /// `version` is no whole number from 0 and below 2^64.
+    Version,
+    /// `env` is no list of environments.
+    Env,
+    /// `trees` is no list of trees.
+    Trees,
 }
 
 impl From<NoMemory> for CertFault {

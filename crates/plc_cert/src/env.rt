@@ -11,7 +11,7 @@ use plc_type::{Env, Guar, PtrType};
 use serde_json::Value;
 use std::alloc::Global;
 
-// A set of locations. Each stands above the one before it, from `least` on.
+/// A set of locations. Each stands above the one before it, from `least` on.
 fn mask(value: &Value) -> Option<Mask>
     ensures { result ≡ mask_of (view value.now) }
 {
@@ -28,7 +28,7 @@ fn mask(value: &Value) -> Option<Mask>
     Some(members)
 }
 
-// One of the four sets of guarantees.
+/// One of the four sets of guarantees.
 fn guarantee(value: &Value) -> Option<Guar>
     ensures { result ≡ guarantee_of (view value.now) }
 {
@@ -41,7 +41,7 @@ fn guarantee(value: &Value) -> Option<Guar>
     }
 }
 
-// The type of a pointer local.
+/// The type of a pointer local.
 fn pointer(value: &Value) -> Option<PtrType>
     ensures { result ≡ pointer_of (view value.now) }
 {

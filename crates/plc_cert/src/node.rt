@@ -11,7 +11,7 @@ use plc_ground::{Node, Tree};
 use serde_json::Value;
 use std::alloc::Global;
 
-// What two items are.
+/// What two items are.
 fn split(kind: &Value, clause: &Value) -> Option<Node>
     ensures { result ≡ split_of (view kind.now) (view clause.now) }
 {
@@ -22,7 +22,7 @@ fn split(kind: &Value, clause: &Value) -> Option<Node>
     }
 }
 
-// What three items are.
+/// What three items are.
 fn leaf(kind: &Value, left: &Value, right: &Value) -> Option<Node>
     ensures { result ≡ leaf_of (view kind.now) (view left.now) (view right.now) }
 {
@@ -33,21 +33,18 @@ fn leaf(kind: &Value, left: &Value, right: &Value) -> Option<Node>
     }
 }
 
-fn node(value: &Value) -> Option<Node>
-    ensures { result ≡ node_of (view value.now) }
-{
-    match value.as_array()?.as_slice() {
-        [kind, clause] => split(kind, clause),
-        [kind, left, right] => leaf(kind, left, right),
-        _ => None,
-    }
-}
-
 impl Part for Node {
     ghost shape = { node_of };
 
     fn read(_alloc: Global, value: &Value) -> Result<Option<Node>, NoMemory> {
-        Ok(node(value))
+        let Some(items) = value.as_array() else {
+            return Ok(None);
+        };
+        match items.as_slice() {
+            [kind, clause] => Ok(split(kind, clause)),
+            [kind, left, right] => Ok(leaf(kind, left, right)),
+            _ => Ok(None),
+        }
     }
 }
 

@@ -21,7 +21,7 @@ pub(crate) trait Part: Sized {
         ensures { IfOk result (λ part. part ≡ shape (view value.now)) };
 }
 
-// The parts that the values are, or `None` where one of them is none.
+/// The parts that the values are, or `None` where one of them is none.
 fn each<T: Part + Drop>(alloc: Global, values: &[Value]) -> Result<Option<Items<T>>, NoMemory>
     ensures { IfOk result (λ parts. parts ≡ each T.shape (items_view values.now)) }
 {

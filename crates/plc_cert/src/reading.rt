@@ -10,8 +10,8 @@ use crate::part::list;
 use serde_json::Value;
 use std::alloc::Global;
 
-// The values at `env`, `trees` and `version`, where these are the members. An object has its members
-// in the order of their names, however the text has them.
+/// The values at `env`, `trees` and `version`, where these are the members. An object has its members
+/// in the order of their names, however the text has them.
 fn root(value: &Value) -> Option<(&Value, &Value, &Value)>
     ensures { option_map (λ r. (view r.0.now, view r.1.now, view r.2.now)) result
         ≡ root_of (view value.now) }
@@ -30,7 +30,7 @@ fn root(value: &Value) -> Option<(&Value, &Value, &Value)>
     }
 }
 
-// That it is version 1.
+/// That it is version 1.
 fn version(value: &Value) -> Result<(), CertFault>
     ensures { result ≡ with_version (whole_of (view value.now)) (Ok tt) }
 {
@@ -46,7 +46,7 @@ fn version(value: &Value) -> Result<(), CertFault>
     }
 }
 
-// The certificate that a JSON value is.
+/// The certificate that a JSON value is.
 fn certificate(alloc: Global, value: &Value) -> Result<Cert, CertFault>
     ensures { Answers result (certificate_of (view value.now)) }
 {

@@ -24,7 +24,7 @@ trait Sent {
         ensures { OnOk result (SendsValue (json self.now) (S.written out.old) (S.written out.new)) };
 }
 
-// An array of the items.
+/// An array of the items.
 fn send_list<T: Sent, S: Serializer>(items: &[T], out: &mut S) -> Result<(), S::Error>
     ensures { OnOk result (SendsValue (list T.json items.now) (S.written out.old) (S.written out.new)) }
 {
@@ -77,7 +77,7 @@ impl Sent for Tree {
     }
 }
 
-// The locations in a set, ascending, and how many there are.
+/// The locations in a set, ascending, and how many there are.
 fn locations_in(mask: &Mask) -> ([u16; 8], usize)
     ensures value { take result.1 result.0 ≡ members mask.now }
     ensures count { result.1 ≤ length result.0 }

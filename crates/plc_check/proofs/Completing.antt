@@ -1,5 +1,5 @@
 -- A typing with its trees is a valid certificate: a certificate's types of shared pointers are those of a typing.
-use Rattle.std.proofs.Common.{◌≡◌, ◌<◌, ℕ, List, length, get_or, sym, ap, ◌∙◌, subst, arith}
+use Rattle.std.proofs.Common.{◌≡◌, ◌<◌, ℕ, List, length, get_or, Err, sym, ap, ◌∙◌, subst, arith}
 use Rattle.std.proofs.lemmas.List.{ext_get_or, get_or-map, length-map}
 use Rattle.plc_type.specs.declared.env.PtrType.{PtrType}
 use Rattle.plc_type.specs.declared.env.Env.{Env}
@@ -12,7 +12,11 @@ use Rattle.plc_oblig.specs.Obligations.{obligations}
 use Rattle.plc_cert.specs.declared.cert.Cert.{Cert}
 use Rattle.plc_verify.specs.Environments.{with_shared, completed}
 use Rattle.plc_check.specs.declared.judged.Judged.{Judged}
-use Rattle.plc_check.specs.Certified.{ShowsSafe}
+use Rattle.plc_check.specs.declared.certified.Certified.TheVariants.{No}
+use Rattle.plc_check.specs.declared.verdict.Verdict.{Verdict}
+use Rattle.plc_check.specs.declared.verdict.Verdict.TheVariants.{Safe, Untyped, Unproved}
+use Rattle.plc_check.specs.Certified.{ShowsSafe, IsCertified}
+use Rattle.plc_check.specs.Verdicts.{IsVerdictOn, IsStrongestOrNone}
 use Rattle.plc_check.specs.Counterexamples.{AreTreesFor}
 use Rattle.plc_check.proofs.Matching.{one_each, tree_of, trees_fit}
 use Rattle.plc_check.proofs.Readable.{envs_fit}
@@ -43,3 +47,9 @@ certificate j cert typing strongest trees = record {
   once = λ i o t e f. (tree_of j.flow j.unit_outline (obligations j.flow j.unit_outline) cert.trees i o t trees e f).once;
   fits = (envs_fit j.observer (skeleton_of j.flow) cert.env typing.pretyping, trees_fit j.flow j.unit_outline (obligations j.flow j.unit_outline) cert.trees trees);
 }
+
+-- where there is no typing, what is told is the verdict, and there is nothing else to show
+pub none_typed : (j : Judged) (v : Verdict) → IsStrongestOrNone j (Err v) → IsVerdictOn j v × IsCertified j (No v)
+none_typed j (Untyped step prim fault) stuck = (stuck, stuck)
+none_typed j (Safe typing count) none = absurd none
+none_typed j (Unproved obligation set model) none = absurd none

@@ -1,16 +1,15 @@
 // What shows that a file is safe: the strongest typing, and a tree for each obligation.
 ghost use Rattle.std.specs.Prelude.{IfOk};
-ghost use Rattle.plc_xfer.specs.Typings.{IsTyping, IsStrongest};
-ghost use Rattle.plc_flow.specs.Skeleton.{skeleton_of};
 ghost use Rattle.plc_setting.specs.Fit.{Fits};
 ghost use Rattle.plc_check.specs.Certified.{IsCertified};
+ghost use Rattle.plc_check.specs.Verdicts.{IsStrongestTyping};
 
 use crate::judged::Judged;
 use crate::tree::trees_of;
-use crate::verdict::Verdict;
+use crate::verdict::{Verdict, strongest, unproved};
 use plc_base::NoMemory;
 use plc_cert::Cert;
-use plc_infer::{InferFault, Typing, infer};
+use plc_infer::Typing;
 use std::alloc::Global;
 
 /// What there is to show of a file.
@@ -23,24 +22,18 @@ pub enum Certified {
     No(Verdict),
 }
 
-// What there is to show where there is a typing: the trees decide.
+/// What there is to show where there is a typing: the trees decide.
 fn certify_outline(alloc: Global, judged: &Judged, typing: Typing) -> Result<Certified, NoMemory>
     requires fits { Fits judged.now.flow judged.now.unit_outline }
-    requires typing { IsTyping judged.now.observer (skeleton_of judged.now.flow) typing.env }
-    requires strongest { IsStrongest judged.now.observer (skeleton_of judged.now.flow) typing.env }
+    requires typing { IsStrongestTyping judged.now typing }
     ensures { IfOk result (IsCertified judged.now) }
 {
-    let found = trees_of(alloc, &judged.flow, &judged.unit_outline)?;
-    match found {
+    match trees_of(alloc, judged)? {
         Ok(trees) => Ok(Certified::Yes(Cert {
             env: typing.env,
             trees,
         })),
-        Err(found) => Ok(Certified::No(Verdict::Unproved {
-            obligation: found.obligation,
-            set: found.set,
-            model: found.model,
-        })),
+        Err(found) => Ok(Certified::No(unproved(found))),
     }
 }
 
@@ -50,13 +43,8 @@ pub fn certify(alloc: Global, judged: &Judged) -> Result<Certified, NoMemory>
     requires { Fits judged.now.flow judged.now.unit_outline }
     ensures { IfOk result (IsCertified judged.now) }
 {
-    match infer(alloc, &judged.flow, &judged.observer) {
+    match strongest(alloc, judged)? {
         Ok(typing) => certify_outline(alloc, judged, typing),
-        Err(InferFault::Stuck { step, prim, fault }) => Ok(Certified::No(Verdict::Untyped {
-            step,
-            prim,
-            fault,
-        })),
-        Err(InferFault::Memory) => Err(NoMemory),
+        Err(verdict) => Ok(Certified::No(verdict)),
     }
 }

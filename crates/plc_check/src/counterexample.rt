@@ -1,17 +1,17 @@
-// Obligations that aren't kept: the ground set of each is made and given to the solver, one at a time, and a
-// model of it shows how the program breaks the outline. Of obligations that are alike one is looked at, since they
-// have one set.
+// What breaks an outline. The obligations are gone over in order, up to the first that isn't kept. One that is still,
+// or alike one that was found to be kept, is known to be kept without a set. Of each other the ground set is made and
+// given to the solver, which closes it or finds a model: the state in which the step breaks the clause. One set is held
+// at a time.
 ghost use Rattle.std.specs.Prelude.{IfOk, OnOk, IsTrue, Contains};
 ghost use Rattle.plc_setting.specs.Fit.{Fits};
 ghost use Rattle.plc_oblig.specs.Obligations.{obligations};
 ghost use Rattle.plc_oblig.specs.Outlines.{IsKept};
 ghost use Rattle.plc_check.specs.Counterexamples.{IsCounterexampleAt, IsFirstCounterexample, NotedAreKept};
 
+use crate::judged::Judged;
 use crate::tree::solve_at;
 use plc_base::NoMemory;
-use plc_flow::Flow;
 use plc_ground::{GroundModel, GroundSet};
-use plc_logic::Outline;
 use plc_oblig::{Grounding, Noted, Obligation, Walk, still};
 use std::alloc::Global;
 
@@ -23,41 +23,42 @@ pub(crate) struct Counterexample {
     pub(crate) model: GroundModel,
 }
 
-// Whether the obligation is seen to be kept without a set: it is still, or one that is alike is kept.
-fn is_plain(flow: &Flow, outline: &Outline, kept: &Noted, o: &Obligation) -> bool
-    requires fits { Fits flow.now outline.now }
-    requires there { Contains (obligations flow.now outline.now) o.now }
-    requires kept { NotedAreKept flow.now outline.now kept.now }
-    ensures { IsTrue result → IsKept flow.now outline.now o.now }
+/// Whether the obligation is known to be kept before its set is made: it is still, or one that is alike was found to be
+/// kept, which has the same set.
+fn is_known_kept(judged: &Judged, kept: &Noted, o: &Obligation) -> bool
+    requires fits { Fits judged.now.flow judged.now.unit_outline }
+    requires there { Contains (obligations judged.now.flow judged.now.unit_outline) o.now }
+    requires kept { NotedAreKept judged.now.flow judged.now.unit_outline kept.now }
+    ensures { IsTrue result → IsKept judged.now.flow judged.now.unit_outline o.now }
 {
-    if still(flow, outline, o) {
+    if still(&judged.flow, &judged.unit_outline, o) {
         return true;
     }
-    match kept.find(flow, outline, o) {
+    match kept.find(&judged.flow, &judged.unit_outline, o) {
         Some(_) => true,
         None => false,
     }
 }
 
-// What breaks one obligation, if it isn't kept. One that is kept is noted.
+/// What breaks one obligation, if it isn't kept. One that is kept is noted.
 fn counterexample_at(
     alloc: Global,
     memory: &mut Grounding,
     kept: &mut Noted,
-    flow: &Flow,
-    outline: &Outline,
+    judged: &Judged,
     obligation: Obligation,
 ) -> Result<Option<Counterexample>, NoMemory>
-    requires fits { Fits flow.now outline.now }
-    requires there { Contains (obligations flow.now outline.now) obligation }
-    requires kept { NotedAreKept flow.now outline.now kept.old }
-    ensures found { IfOk result (IsCounterexampleAt flow.now outline.now obligation) }
-    ensures kept { OnOk result (NotedAreKept flow.now outline.now kept.new) }
+    requires fits { Fits judged.now.flow judged.now.unit_outline }
+    requires there { Contains (obligations judged.now.flow judged.now.unit_outline) obligation }
+    requires kept { NotedAreKept judged.now.flow judged.now.unit_outline kept.old }
+    ensures found { IfOk result (IsCounterexampleAt judged.now.flow judged.now.unit_outline obligation) }
+    ensures kept { OnOk result (NotedAreKept judged.now.flow judged.now.unit_outline kept.new) }
 {
-    if is_plain(flow, outline, kept, &obligation) {
+    if is_known_kept(judged, kept, &obligation) {
         return Ok(None);
     }
-    let Err(found) = solve_at(alloc, memory, flow, outline, obligation)? else {
+    let Err(found) = solve_at(alloc, memory, judged, obligation)? else {
+        // Only that it is found counts here, so it may have any number.
         kept.note(&obligation, 0)?;
         return Ok(None);
     };
@@ -67,17 +68,16 @@ fn counterexample_at(
 /// What breaks the least obligation that isn't kept, if the outline doesn't hold.
 pub(crate) fn first_counterexample(
     alloc: Global,
-    flow: &Flow,
-    outline: &Outline,
+    judged: &Judged,
 ) -> Result<Option<Counterexample>, NoMemory>
-    requires { Fits flow.now outline.now }
-    ensures { IfOk result (IsFirstCounterexample flow.now outline.now) }
+    requires { Fits judged.now.flow judged.now.unit_outline }
+    ensures { IfOk result (IsFirstCounterexample judged.now.flow judged.now.unit_outline) }
 {
-    let mut walk = Walk::new(alloc, flow, outline)?;
+    let mut walk = Walk::new(alloc, &judged.flow, &judged.unit_outline)?;
     let mut memory = Grounding::new(alloc);
     let mut kept = Noted::new(alloc);
     while let Some(obligation) = walk.next() {
-        let found = counterexample_at(alloc, &mut memory, &mut kept, flow, outline, obligation)?;
+        let found = counterexample_at(alloc, &mut memory, &mut kept, judged, obligation)?;
         if let Some(found) = found {
             return Ok(Some(found));
         }

@@ -12,7 +12,7 @@ use plc_logic::Outline;
 use plc_oblig::{Walk, clauses, count};
 use std::alloc::Global;
 
-// Whether the ground set of any obligation has more clauses than it may.
+/// Whether the ground set of any obligation has more clauses than it may.
 fn has_large_set(alloc: Global, flow: &Flow, outline: &Outline) -> Result<bool, NoMemory>
     requires { Fits flow.now outline.now }
     ensures { IfOk result (λ large. MatchBool large (HasLargeSet flow.now outline.now)
@@ -27,7 +27,7 @@ fn has_large_set(alloc: Global, flow: &Flow, outline: &Outline) -> Result<bool, 
     Ok(false)
 }
 
-// The first limit that the outline passes, if it passes one.
+/// The first limit that the outline passes, if it passes one.
 fn passed_limit(alloc: Global, flow: &Flow, outline: &Outline) -> Result<Option<What1>, NoMemory>
     requires { Fits flow.now outline.now }
     ensures { IfOk result (IsPassedLimit flow.now outline.now) }

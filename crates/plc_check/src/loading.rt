@@ -17,7 +17,7 @@ use plc_reclaim::schemes_of;
 use plc_scope::ParseFault;
 use std::alloc::Global;
 
-// Where a lower call runs out of memory so does this one.
+/// Where a lower call runs out of memory so does this one.
 fn lex_refusal(fault: LexFault) -> LoadFault
     ensures { result ≡ lex_refusal fault }
 {
@@ -27,7 +27,7 @@ fn lex_refusal(fault: LexFault) -> LoadFault
     }
 }
 
-// The line of the end.
+/// The line of the end.
 fn end_line(bytes: &[u8]) -> u32
     requires { length bytes.now ≤ largest_file }
     ensures { result ≡ 1 + line_feeds bytes.now }
@@ -41,7 +41,7 @@ fn end_line(bytes: &[u8]) -> u32
     line
 }
 
-// The line of a place among the tokens of the bytes.
+/// The line of a place among the tokens of the bytes.
 fn line_of(bytes: &[u8], tokens: &[Token], place: u32) -> u32
     requires { length bytes.now ≤ largest_file }
     ensures { result ≡ line_of bytes.now tokens.now place }
@@ -52,7 +52,7 @@ fn line_of(bytes: &[u8], tokens: &[Token], place: u32) -> u32
     }
 }
 
-// The place of a fault, if it is told with one.
+/// The place of a fault, if it is told with one.
 fn place_of(fault: &ParseFault) -> Option<u32>
     ensures { result ≡ place_of fault.now }
 {
@@ -66,7 +66,7 @@ fn place_of(fault: &ParseFault) -> Option<u32>
     }
 }
 
-// A fault that is told without a place: a limit, or running out of memory.
+/// A fault that is told without a place: a limit, or running out of memory.
 fn unplaced(fault: ParseFault) -> LoadFault
     ensures { result ≡ unplaced fault }
 {
@@ -76,7 +76,7 @@ fn unplaced(fault: ParseFault) -> LoadFault
     }
 }
 
-// The same of the parser's faults; where one has a place its line is told with it.
+/// The same of the parser's faults; where one has a place its line is told with it.
 fn parse_refusal(bytes: &[u8], tokens: &[Token], fault: ParseFault) -> LoadFault
     requires { length bytes.now ≤ largest_file }
     ensures { result ≡ parse_refusal bytes.now tokens.now fault }
@@ -90,7 +90,7 @@ fn parse_refusal(bytes: &[u8], tokens: &[Token], fault: ParseFault) -> LoadFault
     }
 }
 
-// What is judged of a unit.
+/// What is judged of a unit.
 fn lowered(alloc: Global, unit: Unit) -> Result<Judged, LoadFault>
     ensures { IsLowered unit result }
 {
@@ -114,7 +114,7 @@ fn lowered(alloc: Global, unit: Unit) -> Result<Judged, LoadFault>
     }
 }
 
-// What is judged of a unit, where its outline is within its limits.
+/// What is judged of a unit, where its outline is within its limits.
 fn judged_of(alloc: Global, unit: Unit) -> Result<Judged, LoadFault>
     requires { UnitFits unit }
     ensures { IsJudgedOf unit result }

@@ -7,10 +7,9 @@ ghost use Rattle.plc_oblig.specs.Obligations.{obligations};
 ghost use Rattle.plc_check.specs.Counterexamples.{IsTreeAt, NotedHaveTrees, AddsTreeAt, AreTreesOrBroken};
 
 use crate::counterexample::Counterexample;
+use crate::judged::Judged;
 use plc_base::{Items, NoMemory};
-use plc_flow::Flow;
 use plc_ground::Tree;
-use plc_logic::Outline;
 use plc_oblig::{Grounding, Noted, Obligation, Walk};
 use plc_solve::{Answer, refute};
 use std::alloc::Global;
@@ -19,14 +18,13 @@ use std::alloc::Global;
 pub(crate) fn solve_at(
     alloc: Global,
     memory: &mut Grounding,
-    flow: &Flow,
-    outline: &Outline,
+    judged: &Judged,
     obligation: Obligation,
 ) -> Result<Result<Tree, Counterexample>, NoMemory>
-    requires { Fits flow.now outline.now }
-    ensures { IfOk result (IsTreeAt flow.now outline.now obligation) }
+    requires { Fits judged.now.flow judged.now.unit_outline }
+    ensures { IfOk result (IsTreeAt judged.now.flow judged.now.unit_outline obligation) }
 {
-    let set = memory.ground(flow, outline, &obligation)?;
+    let set = memory.ground(&judged.flow, &judged.unit_outline, &obligation)?;
     match refute(alloc, &set) {
         Ok(Answer::Closed(tree)) => {
             memory.reuse(set);
@@ -41,21 +39,20 @@ pub(crate) fn solve_at(
     }
 }
 
-// The same; of a still obligation the solver isn't asked.
+/// The same; of a still obligation the solver isn't asked.
 fn make_tree(
     alloc: Global,
     memory: &mut Grounding,
-    flow: &Flow,
-    outline: &Outline,
+    judged: &Judged,
     obligation: Obligation,
 ) -> Result<Result<Tree, Counterexample>, NoMemory>
-    requires fits { Fits flow.now outline.now }
-    requires there { Contains (obligations flow.now outline.now) obligation }
-    ensures { IfOk result (IsTreeAt flow.now outline.now obligation) }
+    requires fits { Fits judged.now.flow judged.now.unit_outline }
+    requires there { Contains (obligations judged.now.flow judged.now.unit_outline) obligation }
+    ensures { IfOk result (IsTreeAt judged.now.flow judged.now.unit_outline obligation) }
 {
-    match memory.direct(flow, outline, &obligation)? {
+    match memory.direct(&judged.flow, &judged.unit_outline, &obligation)? {
         Some(tree) => Ok(Ok(tree)),
-        None => solve_at(alloc, memory, flow, outline, obligation),
+        None => solve_at(alloc, memory, judged, obligation),
     }
 }
 
@@ -69,25 +66,24 @@ fn copy_of(alloc: Global, trees: &[Tree], at: usize) -> Result<Tree, NoMemory>
     })
 }
 
-// A tree for one more obligation: that of one which is alike, or one that is made and noted.
+/// A tree for one more obligation: that of one which is alike, or one that is made and noted.
 fn tree_at(
     alloc: Global,
     memory: &mut Grounding,
     noted: &mut Noted,
     trees: &[Tree],
-    flow: &Flow,
-    outline: &Outline,
+    judged: &Judged,
     obligation: Obligation,
 ) -> Result<Result<Tree, Counterexample>, NoMemory>
-    requires fits { Fits flow.now outline.now }
-    requires there { Contains (obligations flow.now outline.now) obligation }
-    requires noted { NotedHaveTrees flow.now outline.now trees.now noted.old }
-    ensures { IfOk result (AddsTreeAt flow.now outline.now obligation trees.now noted.new) }
+    requires fits { Fits judged.now.flow judged.now.unit_outline }
+    requires there { Contains (obligations judged.now.flow judged.now.unit_outline) obligation }
+    requires noted { NotedHaveTrees judged.now.flow judged.now.unit_outline trees.now noted.old }
+    ensures { IfOk result (AddsTreeAt judged.now.flow judged.now.unit_outline obligation trees.now noted.new) }
 {
-    if let Some(at) = noted.find(flow, outline, &obligation) {
+    if let Some(at) = noted.find(&judged.flow, &judged.unit_outline, &obligation) {
         return Ok(Ok(copy_of(alloc, trees, at)?));
     }
-    match make_tree(alloc, memory, flow, outline, obligation)? {
+    match make_tree(alloc, memory, judged, obligation)? {
         Ok(tree) => {
             noted.note(&obligation, trees.len())?;
             Ok(Ok(tree))
@@ -99,14 +95,13 @@ fn tree_at(
 /// A tree for each obligation, or what breaks the least that isn't kept.
 pub(crate) fn trees_of(
     alloc: Global,
-    flow: &Flow,
-    outline: &Outline,
+    judged: &Judged,
 ) -> Result<Result<Items<Tree>, Counterexample>, NoMemory>
-    requires { Fits flow.now outline.now }
-    ensures { IfOk result (AreTreesOrBroken flow.now outline.now) }
+    requires { Fits judged.now.flow judged.now.unit_outline }
+    ensures { IfOk result (AreTreesOrBroken judged.now.flow judged.now.unit_outline) }
 {
     let mut trees = Items::new(alloc);
-    let mut walk = Walk::new(alloc, flow, outline)?;
+    let mut walk = Walk::new(alloc, &judged.flow, &judged.unit_outline)?;
     let mut memory = Grounding::new(alloc);
     let mut noted = Noted::new(alloc);
     while let Some(obligation) = walk.next() {
@@ -115,8 +110,7 @@ pub(crate) fn trees_of(
             &mut memory,
             &mut noted,
             trees.as_slice(),
-            flow,
-            outline,
+            judged,
             obligation,
         )?;
         match tree {

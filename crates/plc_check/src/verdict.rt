@@ -1,11 +1,10 @@
 // The verdict on what is judged, by its types and by its outline.
-ghost use Rattle.std.specs.Prelude.{IfOk};
-ghost use Rattle.plc_xfer.specs.Typings.{IsTyping, IsStrongest};
-ghost use Rattle.plc_flow.specs.Skeleton.{skeleton_of};
+ghost use Rattle.std.specs.Prelude.{◌≡◌, IfOk};
 ghost use Rattle.plc_setting.specs.Fit.{Fits};
-ghost use Rattle.plc_check.specs.Verdicts.{IsVerdictOn};
+ghost use Rattle.plc_check.specs.declared.verdict.Verdict.TheVariants.{Unproved};
+ghost use Rattle.plc_check.specs.Verdicts.{IsVerdictOn, IsStrongestTyping, IsStrongestOrNone};
 
-use crate::counterexample::first_counterexample;
+use crate::counterexample::{Counterexample, first_counterexample};
 use crate::judged::Judged;
 use plc_base::{NoMemory, StepId};
 use plc_ground::{GroundModel, GroundSet};
@@ -37,24 +36,43 @@ pub enum Verdict {
     },
 }
 
-// The verdict where there is a typing: by the outline alone.
+/// The strongest typing, or the verdict that there is none.
+pub(crate) fn strongest(alloc: Global, judged: &Judged) -> Result<Result<Typing, Verdict>, NoMemory>
+    requires { Fits judged.now.flow judged.now.unit_outline }
+    ensures { IfOk result (IsStrongestOrNone judged.now) }
+{
+    match infer(alloc, &judged.flow, &judged.observer) {
+        Ok(typing) => Ok(Ok(typing)),
+        Err(InferFault::Stuck { step, prim, fault }) => {
+            Ok(Err(Verdict::Untyped { step, prim, fault }))
+        }
+        Err(InferFault::Memory) => Err(NoMemory),
+    }
+}
+
+/// The verdict that an obligation isn't kept.
+pub(crate) fn unproved(found: Counterexample) -> Verdict
+    ensures { result ≡ Unproved found.obligation found.set found.model }
+{
+    Verdict::Unproved {
+        obligation: found.obligation,
+        set: found.set,
+        model: found.model,
+    }
+}
+
+/// The verdict where there is a typing: by the outline alone.
 fn judge_outline(alloc: Global, judged: &Judged, typing: Typing) -> Result<Verdict, NoMemory>
     requires fits { Fits judged.now.flow judged.now.unit_outline }
-    requires typing { IsTyping judged.now.observer (skeleton_of judged.now.flow) typing.env }
-    requires strongest { IsStrongest judged.now.observer (skeleton_of judged.now.flow) typing.env }
+    requires typing { IsStrongestTyping judged.now typing }
     ensures { IfOk result (IsVerdictOn judged.now) }
 {
-    match first_counterexample(alloc, &judged.flow, &judged.unit_outline) {
-        Ok(None) => Ok(Verdict::Safe {
+    match first_counterexample(alloc, judged)? {
+        None => Ok(Verdict::Safe {
             typing,
             obligations: count(&judged.flow, &judged.unit_outline),
         }),
-        Ok(Some(found)) => Ok(Verdict::Unproved {
-            obligation: found.obligation,
-            set: found.set,
-            model: found.model,
-        }),
-        Err(NoMemory) => Err(NoMemory),
+        Some(found) => Ok(unproved(found)),
     }
 }
 
@@ -65,9 +83,8 @@ pub fn check(alloc: Global, judged: &Judged) -> Result<Verdict, NoMemory>
     requires { Fits judged.now.flow judged.now.unit_outline }
     ensures { IfOk result (IsVerdictOn judged.now) }
 {
-    match infer(alloc, &judged.flow, &judged.observer) {
+    match strongest(alloc, judged)? {
         Ok(typing) => judge_outline(alloc, judged, typing),
-        Err(InferFault::Stuck { step, prim, fault }) => Ok(Verdict::Untyped { step, prim, fault }),
-        Err(InferFault::Memory) => Err(NoMemory),
+        Err(verdict) => Ok(verdict),
     }
 }

@@ -58,7 +58,7 @@ of_unit : (bytes certificate : List ℕ) (u : FileUnit) → IsFileOf bytes u →
 of_unit bytes certificate u spelled (inl refused) = absurd (refused.none u spelled)
 of_unit bytes certificate u spelled (inr file) =
     subst (λ (v : FileUnit). AreValid (judged_of v) certificate) (one_file bytes file.unit u file.spelled spelled)
-    (shown (judged_of file.unit) certificate file.answer.certified file.answer.right file.answer.status_is file.answer.text_is)
+    (shown (judged_of file.unit) certificate file.answer.what file.answer.right file.answer.status_is file.answer.text_is)
 
 -- `verify` may answer so
 is_accepted : (bytes certificate : List ℕ) (u : FileUnit) → IsFileOf bytes u → AreValid (judged_of u) certificate

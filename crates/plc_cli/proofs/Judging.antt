@@ -1,12 +1,11 @@
 -- From the answer that is due to what a 0 says, and when it comes: the bytes spell one unit, which has a typing or is stuck, and not both.
-use Rattle.std.proofs.Common.{◌≡◌, ◌<◌, ◌≤◌, ◌⊎◌, inl, inr, ℕ, List, [], length, Option, Some, None, Result, Ok, Err, ap, sym, subst, refl, ◌∙◌, arith}
-use Rattle.std.specs.Prelude.{◌++◌, ◌∷◌, All, Contains, IfSome, IfOk}
+use Rattle.std.proofs.Common.{◌≡◌, ◌<◌, ◌≤◌, ◌⊎◌, inl, inr, ℕ, List, [], length, Option, Some, None, ap, sym, subst, refl, ◌∙◌, arith}
+use Rattle.std.specs.Prelude.{◌++◌, ◌∷◌, All, Contains, IfSome}
 use Rattle.std.proofs.lemmas.List.Elements.{All-contains, Contains-append_right}
 use Rattle.plc_base.specs.Limits.{largest_file}
 use Rattle.plc_outside.specs.Known.{KnownFiles, KnownSink}
 use Rattle.plc_parse.specs.declared.unit.Unit.{Unit as FileUnit}
 use Rattle.plc_auto.specs.declared.observer.Observer.{Observer}
-use Rattle.plc_print.specs.Text.{canonical_text}
 use Rattle.plc_flow.specs.Lowering.{flow_of}
 use Rattle.plc_xfer.specs.declared.fault.TypeFault.{TypeFault}
 use Rattle.plc_xfer.specs.Typings.{HasTyping, IsStuckAt}
@@ -17,18 +16,17 @@ use Rattle.plc_flow.specs.declared.flow.Flow.{Flow}
 use Rattle.plc_logic.specs.declared.clause.Outline.{Outline}
 use Rattle.plc_setting.specs.declared.obligations.Obligation.{Obligation}
 use Rattle.plc_oblig.specs.Outlines.{IsKept, OutlineHolds, IsLeastOpen}
-use Rattle.plc_check.specs.declared.judged.Judged.{Judged}
 use Rattle.plc_check.specs.declared.verdict.Verdict.{Verdict}
 use Rattle.plc_check.specs.declared.verdict.Verdict.TheVariants.{Safe, Untyped, Unproved}
-use Rattle.plc_check.specs.Loading.{IsFileOf, IsLoaded, judged_of}
+use Rattle.plc_check.specs.Loading.{IsFileOf, judged_of}
 use Rattle.plc_check.specs.Verdicts.{IsVerdictOn}
 use Rattle.plc_check.proofs.Unique.{one_file}
 use Rattle.plc_cli.specs.Requests.{Request, Check, Verify}
 use Rattle.plc_cli.specs.Reads.{Only, IsUnread, IsGivenFile, IsDueForFile}
 use Rattle.plc_cli.specs.Answer.{IsDueFor, Outcome}
-use Rattle.plc_cli.specs.Files.{IsAnswerTo, IsJudgedAs, IsPrintOf, unit_of}
+use Rattle.plc_cli.specs.Files.{IsAnswerTo, IsJudgedAs}
 use Rattle.plc_cli.specs.Statuses.{unwritten, no_memory}
-use Rattle.plc_cli.specs.Verdicts.{verdict_status, verdict_text}
+use Rattle.plc_cli.specs.Verdicts.{verdict_status}
 use Rattle.plc_cli.specs.Headline.{Headline, IsSafeProgram, IsSafeRead, IsProved}
 use Rattle.plc_cli.proofs.Racing.{never_races}
 use Rattle.plc_cli.proofs.TwoReads.{told_is, unread_status}
@@ -60,7 +58,7 @@ module _ (v : FileUnit) where
 
 module _ (bytes : List ℕ) (status : ℕ) (text : List ℕ) where
   judged_proved : (v : FileUnit) → IsJudgedAs (judged_of v) status text → status ≡ 0 → IsProved v
-  judged_proved v judged zero = proved_by v judged.verdict judged.right (sym judged.status_is ∙ zero)
+  judged_proved v judged zero = proved_by v judged.what judged.right (sym judged.status_is ∙ zero)
 
   pub safe_at_0 : IsAnswerTo bytes status text → status ≡ 0 → IsSafeProgram bytes
   safe_at_0 (inl refused) zero = let is = refused.status_is in absurd cc
@@ -72,7 +70,7 @@ module _ (bytes : List ℕ) (status : ℕ) (text : List ℕ) where
     proved_at_0 (inr judged) zero = subst IsProved (one_file bytes judged.unit u judged.spelled spelled) (judged_proved judged.unit judged.answer zero)
 
     judged_zero : (v : FileUnit) → IsJudgedAs (judged_of v) status text → IsProved v → status ≡ 0
-    judged_zero v judged proved = judged.status_is ∙ zero_by v judged.verdict judged.right proved
+    judged_zero v judged proved = judged.status_is ∙ zero_by v judged.what judged.right proved
 
     pub at_0_where_proved : IsAnswerTo bytes status text → IsProved u → status ≡ 0
     at_0_where_proved (inl refused) proved = absurd (refused.none u spelled)
@@ -161,17 +159,3 @@ headline_from reclaimers request old new sink sink_now result (inr written) = go
         subst (Headline request old new) (sym is)
         (headline_of reclaimers request old new written.status written.text written.due)
     go (inr unwhole) = no_headline request old new result unwhole
-
--- a right verdict that is told is the answer to what is judged
-pub verdict_answers : (j : Judged) (verdict : Verdict) (status : ℕ) (text : List ℕ) → IsVerdictOn j verdict → status ≡ verdict_status verdict → text ≡ verdict_text j verdict → IsJudgedAs j status text
-verdict_answers j verdict status text right status_is text_is = record { verdict = verdict; right = right; status_is = status_is; text_is = text_is }
-
--- what is printed of a flow that was loaded is the answer to its bytes
-pub printed_answers : (bytes : List ℕ) (j : Judged) (status : ℕ) (text : List ℕ) → IsLoaded bytes (Ok j) → status ≡ 0 → text ≡ canonical_text (unit_of j) → IsPrintOf bytes status text
-printed_answers bytes j status text loaded zero is =
-    inr (record { unit = loaded.0; spelled = loaded.1; answer = record { status_is = zero; text_is = subst (λ (x : Judged). text ≡ canonical_text (unit_of x)) loaded.2 is } })
-
--- a fact on the value, where there is one, from another
-pub if_ok_from : {A E : Type 0} (r : Result A E) (P Q : A → Type 0) → ((a : A) → P a → Q a) → IfOk r P → IfOk r Q
-if_ok_from (Ok a) P Q f h = f a h
-if_ok_from (Err e) P Q f h = tt

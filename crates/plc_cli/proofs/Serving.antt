@@ -40,10 +40,10 @@ module _ (status : ℕ) (text : List ℕ) (one : status ≡ 1) where
     schedule_fails (inr replayed) = record {
       schedule = replayed.schedule;
       spelled = replayed.spelled;
-      end = replayed.answer.end;
-      comes = replayed.answer.comes;
+      end = replayed.answer.what;
+      comes = replayed.answer.right;
       failed = sym replayed.answer.status_is ∙ one;
-      allowed = end_allowed served.unit bytes served.spelled m served.serves replayed.schedule replayed.answer.end replayed.answer.comes;
+      allowed = end_allowed served.unit bytes served.spelled m served.serves replayed.schedule replayed.answer.what replayed.answer.right;
       text = subst (Appends sink.written sink_now.written) replayed.answer.text_is whole;
     }
 

@@ -15,12 +15,12 @@ use Rattle.plc_check.specs.declared.certified.Certified.{Certified}
 use Rattle.plc_check.specs.declared.certified.Certified.TheVariants.{Yes, No}
 use Rattle.plc_check.specs.Loading.{judged_of}
 use Rattle.plc_cli.specs.Certificates.{IsCertifiedAs, IsCertificateOf, IsCertificateJudged, IsCertificateAnswered, IsVerificationOf, certified_status}
-use Rattle.plc_cli.specs.Files.{IsAnsweredFile, IsJudgedAs, IsAnswerTo, IsPrintedAs, IsPrintOf}
+use Rattle.plc_cli.specs.Files.{IsAnsweredFile, IsTold, IsJudgedAs, IsAnswerTo, IsPrintedAs, IsPrintOf}
 use Rattle.plc_cli.specs.Samples.{IsSampledAs, IsSampleAnswer}
 use Rattle.plc_sample.specs.Sample.{sample_text}
 use Rattle.plc_cli.specs.Requests.{Request, Check, Certify, Print, Verify, Replay, Sample}
 use Rattle.plc_cli.specs.Reads.{IsDueForFile, IsDueForPair}
-use Rattle.plc_cli.specs.Answer.{IsScheduleAnswered, IsReplayOf, IsDueFor, IsUnwritten, Outcome}
+use Rattle.plc_cli.specs.Answer.{IsScheduleAnswered, IsReplayOf, IsDueFor, IsUnwritten, Ends, Outcome}
 use Rattle.plc_cli.specs.Statuses.{unwritten, no_memory, end_status}
 use Rattle.plc_cli.specs.Verdicts.{verdict_status}
 use Rattle.plc_cli.proofs.TwoReads.{unread_status, unread_pair_status}
@@ -47,15 +47,16 @@ module _ (status : ℕ) (text : List ℕ) where
   answered_low IsDue low bytes (inl refused) = omega (arith, refused.status_is)
   answered_low IsDue low bytes (inr spelled) = low spelled.unit spelled.answer
 
-  judged_low : (j : Judged) → IsJudgedAs j status text → status ≤ 3
-  judged_low j judged = let low = verdict_low judged.verdict in omega (arith, judged.status_is, low)
+  -- what is told has a low status where each thing that may be told has one
+  told_low : {A : Type 0} (IsRight : A → Type 0) (status_of : A → ℕ) (text_of : A → List ℕ) → ((x : A) → status_of x ≤ 3) →
+      IsTold IsRight status_of text_of status text → status ≤ 3
+  told_low IsRight status_of text_of low told = omega (arith, told.status_is, low told.what)
 
   pub check_low : (bytes : List ℕ) → IsAnswerTo bytes status text → status ≤ 3
-  check_low bytes = answered_low (λ u. IsJudgedAs (judged_of u)) (λ u. judged_low (judged_of u)) bytes
+  check_low bytes = answered_low (λ u. IsJudgedAs (judged_of u)) (λ u. told_low _ _ _ verdict_low) bytes
 
   pub certify_low : (bytes : List ℕ) → IsCertificateOf bytes status text → status ≤ 3
-  certify_low bytes = answered_low (λ u. IsCertifiedAs (judged_of u))
-      (λ u certified. let low = certified_low certified.certified in omega (arith, certified.status_is, low)) bytes
+  certify_low bytes = answered_low (λ u. IsCertifiedAs (judged_of u)) (λ u. told_low _ _ _ certified_low) bytes
 
   pub print_low : (bytes : List ℕ) → IsPrintOf bytes status text → status ≤ 3
   print_low bytes = answered_low IsPrintedAs (λ u printed. omega (arith, printed.status_is)) bytes
@@ -73,14 +74,13 @@ module _ (status : ℕ) (text : List ℕ) where
 
   schedule_low : (j : Judged) (r : Meanings) (bytes : List ℕ) → IsScheduleAnswered j r bytes status text → status ≤ 3
   schedule_low j r bytes (inl refused) = omega (arith, refused.status_is)
-  schedule_low j r bytes (inr replayed) = let low = end_low replayed.answer.end in omega (arith, replayed.answer.status_is, low)
+  schedule_low j r bytes (inr replayed) = told_low _ _ _ end_low replayed.answer
 
   pub replay_low : (r : Meanings) (bytes second : List ℕ) → IsReplayOf r bytes second status text → status ≤ 3
   replay_low r bytes second = answered_low (λ u. IsScheduleAnswered (judged_of u) r second) (λ u. schedule_low (judged_of u) r second) bytes
 
   pub sample_low : (k n : ℕ) → IsSampleAnswer k n status text → status ≤ 3
-  sample_low k n = answered_low (λ u. IsSampledAs k n (judged_of u))
-      (λ u sampled. let low = verdict_low sampled.verdict in omega (arith, sampled.status_is, low)) (sample_text k n)
+  sample_low k n = answered_low (λ u. IsSampledAs k n (judged_of u)) (λ u. told_low _ _ _ verdict_low) (sample_text k n)
 
   file_low : (old new : KnownFiles) (name : List ℕ) (Answers : List ℕ → Type 0) →
       ((bytes : List ℕ) → Answers bytes → status ≤ 3) → IsDueForFile old new name Answers status text → status ≤ 4
@@ -107,43 +107,32 @@ module _ (status : ℕ) (text : List ℕ) where
     low : status ≤ 4
     low = due_low reclaimers request old new due
 
+    -- the due text was written as far as this says
+    written_so : (result : ℕ) → Ends status text sink sink_now result → Outcome reclaimers request old new sink sink_now result
+    written_so result ends = inr (record { status = status; text = text; due = due; ends = ends })
+
     pub all_written : Appends sink.written sink_now.written text →
         Outcome reclaimers request old new sink sink_now status
-    all_written a = inr (record {
-      status = status;
-      text = text;
-      due = due;
-      ends = record {
-        only = inl refl;
-        whole = λ e. a;
-        failed = λ e. absurd (omega (arith, low, e));
-        memory = λ e. absurd (omega (arith, low, e));
-      };
+    all_written a = written_so status (record {
+      only = inl refl;
+      whole = λ e. a;
+      failed = λ e. absurd (omega (arith, low, e));
+      memory = λ e. absurd (omega (arith, low, e));
     })
 
     pub part_written : IsUnwritten text sink sink_now → Outcome reclaimers request old new sink sink_now unwritten
-    part_written a = inr (record {
-      status = status;
-      text = text;
-      due = due;
-      ends = record {
-        only = inr (inl refl);
-        whole = λ e. absurd (omega (arith, low, e));
-        failed = λ e. a;
-        memory = λ e. absurd (omega (arith, e));
-      };
+    part_written a = written_so unwritten (record {
+      only = inr (inl refl);
+      whole = λ e. absurd (omega (arith, low, e));
+      failed = λ e. a;
+      memory = λ e. absurd (omega (arith, e));
     })
 
     pub memory_ran_out : AppendsPart sink.written sink_now.written text →
         Outcome reclaimers request old new sink sink_now no_memory
-    memory_ran_out a = inr (record {
-      status = status;
-      text = text;
-      due = due;
-      ends = record {
-        only = inr (inr refl);
-        whole = λ e. absurd (omega (arith, low, e));
-        failed = λ e. absurd (omega (arith, e));
-        memory = λ e. a;
-      };
+    memory_ran_out a = written_so no_memory (record {
+      only = inr (inr refl);
+      whole = λ e. absurd (omega (arith, low, e));
+      failed = λ e. absurd (omega (arith, e));
+      memory = λ e. a;
     })

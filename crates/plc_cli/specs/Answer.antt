@@ -11,12 +11,11 @@ use Rattle.plc_sched.specs.declared.fault.SchedFault.{SchedFault}
 use Rattle.plc_sched.specs.declared.fault.SchedFault.TheVariants as sched
 use Rattle.plc_sched.specs.Schedules.{IsScheduleOf, IsScheduleFault}
 use Rattle.plc_reclaim.specs.Meanings.{Meanings}
-use Rattle.plc_replay.specs.declared.end.End.{End}
 use Rattle.plc_replay.specs.Outcome.{ComesTo}
 use Rattle.plc_texts.specs.Refusals.{words_refused}
 use Rattle.plc_texts.specs.Replays.{schedule_text, end_text}
 use Rattle.plc_cli.specs.Certificates.{IsCertificateOf, IsVerificationOf}
-use Rattle.plc_cli.specs.Files.{IsAnsweredFile, IsAnswerTo, IsPrintOf}
+use Rattle.plc_cli.specs.Files.{IsAnsweredFile, IsTold, IsAnswerTo, IsPrintOf}
 use Rattle.plc_cli.specs.Reads.{IsDueForFile, IsDueForPair}
 use Rattle.plc_cli.specs.Requests.{Request, Check, Certify, Print, Verify, Replay, Sample}
 use Rattle.plc_cli.specs.Samples.{IsSampleAnswer}
@@ -33,11 +32,8 @@ pub record IsRefusedSchedule (bytes : List ℕ) (status : ℕ) (text : List ℕ)
   pub text_is : text ≡ schedule_text fault
 
 -- what the schedule leads to under a reclaimer
-pub record IsEndOf (j : Judged) (reclaimer : Meanings) (schedule : Schedule) (status : ℕ) (text : List ℕ) : Type 0 where
-  pub end : End
-  pub comes : ComesTo j.flow j.observer reclaimer j.schemes schedule end
-  pub status_is : status ≡ end_status end
-  pub text_is : text ≡ end_text end
+abbrev pub IsEndOf : Judged → Meanings → Schedule → ℕ → List ℕ → Type 0
+IsEndOf j reclaimer schedule = IsTold (ComesTo j.flow j.observer reclaimer j.schemes schedule) end_status end_text
 
 -- the bytes spell a schedule, and its end is answered
 pub record IsReplayed (j : Judged) (reclaimer : Meanings) (bytes : List ℕ) (status : ℕ) (text : List ℕ) : Type 0 where

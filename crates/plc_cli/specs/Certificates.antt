@@ -14,7 +14,7 @@ use Rattle.plc_check.specs.declared.certified.Certified.TheVariants.{Yes, No}
 use Rattle.plc_check.specs.Loading.{judged_of}
 use Rattle.plc_check.specs.Certified.{IsCertified}
 use Rattle.plc_texts.specs.Certificates.{certificate_text, verified_text, invalid_text}
-use Rattle.plc_cli.specs.Files.{IsAnsweredFile}
+use Rattle.plc_cli.specs.Files.{IsAnsweredFile, IsTold}
 use Rattle.plc_cli.specs.Statuses.{holds, fails, refused}
 use Rattle.plc_cli.specs.Verdicts.{verdict_status, verdict_text}
 
@@ -31,11 +31,8 @@ certified_text j (Yes cert) = written.text cert ++ codes "\n"
 certified_text j (No verdict) = verdict_text j verdict
 
 -- any certificate that is right, or the verdict on a file that isn't safe
-pub record IsCertifiedAs (j : Judged) (status : ℕ) (text : List ℕ) : Type 0 where
-  pub certified : Certified
-  pub right : IsCertified j certified
-  pub status_is : status ≡ certified_status certified
-  pub text_is : text ≡ certified_text j certified
+abbrev pub IsCertifiedAs : Judged → ℕ → List ℕ → Type 0
+IsCertifiedAs j = IsTold (IsCertified j) certified_status (certified_text j)
 
 -- what `certify` answers to bytes: refused, or certified, or not safe
 abbrev pub IsCertificateOf : List ℕ → ℕ → List ℕ → Type 0

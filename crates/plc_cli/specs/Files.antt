@@ -5,7 +5,6 @@ use Rattle.plc_print.specs.Text.{canonical_text}
 use Rattle.plc_check.specs.declared.judged.Judged.{Judged}
 use Rattle.plc_check.specs.declared.judged.LoadFault.{LoadFault}
 use Rattle.plc_check.specs.declared.judged.LoadFault.TheVariants.{Memory}
-use Rattle.plc_check.specs.declared.verdict.Verdict.{Verdict}
 use Rattle.plc_check.specs.Loading.{IsFileOf, HasFault, judged_of}
 use Rattle.plc_check.specs.Verdicts.{IsVerdictOn}
 use Rattle.plc_cli.specs.Refusals.{load_text}
@@ -32,14 +31,19 @@ pub record IsSpelledFile (IsDue : FileUnit → ℕ → List ℕ → Type 0) (byt
 abbrev pub IsAnsweredFile : (FileUnit → ℕ → List ℕ → Type 0) → List ℕ → ℕ → List ℕ → Type 0
 IsAnsweredFile IsDue bytes status text = IsRefusedFile bytes status text ⊎ IsSpelledFile IsDue bytes status text
 
+-- something that is right, told by its status and its text
+pub record IsTold {A : Type 0} (IsRight : A → Type 0) (status_of : A → ℕ) (text_of : A → List ℕ) (status : ℕ)
+    (text : List ℕ) : Type 0 where
+  pub what : A
+  pub right : IsRight what
+  pub status_is : status ≡ status_of what
+  pub text_is : text ≡ text_of what
+
 -- ---- the verdict on a file
 
 -- any verdict that is right, since an outline that doesn't hold may have several models
-pub record IsJudgedAs (j : Judged) (status : ℕ) (text : List ℕ) : Type 0 where
-  pub verdict : Verdict
-  pub right : IsVerdictOn j verdict
-  pub status_is : status ≡ verdict_status verdict
-  pub text_is : text ≡ verdict_text j verdict
+abbrev pub IsJudgedAs : Judged → ℕ → List ℕ → Type 0
+IsJudgedAs j = IsTold (IsVerdictOn j) verdict_status (verdict_text j)
 
 -- what `check` answers to bytes: refused, or safe, untyped or unproved
 abbrev pub IsAnswerTo : List ℕ → ℕ → List ℕ → Type 0

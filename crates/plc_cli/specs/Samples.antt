@@ -1,5 +1,5 @@
 -- What `sample` answers: what `check` does to a text that is made, with one line where it is safe.
-use Rattle.std.specs.Prelude.{◌≡◌, ℕ, List}
+use Rattle.std.specs.Prelude.{ℕ, List}
 use Rattle.plc_check.specs.declared.judged.Judged.{Judged}
 use Rattle.plc_check.specs.declared.verdict.Verdict.{Verdict}
 use Rattle.plc_check.specs.declared.verdict.Verdict.TheVariants.{Safe, Untyped, Unproved}
@@ -7,7 +7,7 @@ use Rattle.plc_check.specs.Loading.{judged_of}
 use Rattle.plc_check.specs.Verdicts.{IsVerdictOn}
 use Rattle.plc_sample.specs.Sample.{sample_text}
 use Rattle.plc_texts.specs.Samples.{summary_text}
-use Rattle.plc_cli.specs.Files.{IsAnsweredFile}
+use Rattle.plc_cli.specs.Files.{IsAnsweredFile, IsTold}
 use Rattle.plc_cli.specs.Verdicts.{verdict_status, verdict_text}
 
 -- the summary where the sample is safe, else the text of the verdict
@@ -17,11 +17,8 @@ sampled_text k n j (Untyped step prim fault) = verdict_text j (Untyped step prim
 sampled_text k n j (Unproved obligation set model) = verdict_text j (Unproved obligation set model)
 
 -- any verdict that is right
-pub record IsSampledAs (k n : ℕ) (j : Judged) (status : ℕ) (text : List ℕ) : Type 0 where
-  pub verdict : Verdict
-  pub right : IsVerdictOn j verdict
-  pub status_is : status ≡ verdict_status verdict
-  pub text_is : text ≡ sampled_text k n j verdict
+abbrev pub IsSampledAs : ℕ → ℕ → Judged → ℕ → List ℕ → Type 0
+IsSampledAs k n j = IsTold (IsVerdictOn j) verdict_status (sampled_text k n j)
 
 -- what is answered to the text of a sample: refused, or safe, untyped or unproved
 abbrev pub IsSampledFile : ℕ → ℕ → List ℕ → ℕ → List ℕ → Type 0

@@ -26,7 +26,7 @@ pub(crate) fn refused_words(alloc: Global) -> Result<Answer, AllocError>
     })
 }
 
-// The text of a refusal; running out of memory has none.
+/// The text of a refusal; running out of memory has none.
 fn refusal_text(alloc: Global, fault: &LoadFault) -> Result<Vec<u8>, AllocError>
     ensures { IfOk result (λ text. text.items ≡ load_text fault.now) }
 {

@@ -1,79 +1,38 @@
-// The certificate of a file that is safe.
-ghost use Rattle.std.specs.Prelude.{◌≡◌, ◌≤◌, ◌++◌, IfOk, length, codes};
-ghost use Rattle.plc_base.specs.Limits.{largest_file};
+// The certificate of a file that is safe, and the law that it is accepted.
+ghost use Rattle.std.specs.Prelude.{◌≡◌, ◌++◌, IfOk, codes};
 ghost use Rattle.plc_cert.specs.Written.{text as written_text};
-ghost use Rattle.plc_setting.specs.Fit.{Fits};
-ghost use Rattle.plc_cli.specs.Certificates.{IsCertificateOf, IsCertifiedAs, certified_status, certified_text};
-ghost use Rattle.plc_cli.specs.Reads.{FilesAreKept, IsDueForFile};
+ghost use Rattle.plc_cli.specs.Certificates.{IsCertifiedAs};
+ghost use Rattle.plc_cli.specs.Laws.{CertifiedFilesVerify};
 
-use crate::answer::{Answer, refusal};
+use crate::answer::Answer;
+use crate::asking::Question;
 use crate::checking::told;
-use crate::reading::{Content, read};
 use crate::status::HOLDS;
-use plc_base::{LARGEST_FILE, NoMemory};
+use plc_base::NoMemory;
 use plc_cert::{Cert, write};
-use plc_check::{Certified, Judged, LoadFault, certify, load};
-use plc_outside::Files;
+use plc_check::{Certified, Judged, certify};
 use std::alloc::{AllocError, Global};
 
-/// The answer to `certify FILE`.
-pub(crate) fn certify_file<F: Files>(
-    alloc: Global,
-    files: &mut F,
-    file: &str,
-) -> Result<Answer, AllocError>
-    ensures kept { FilesAreKept (F.known files.old) (F.known files.new) }
-    ensures due { IfOk result (λ answer. IsDueForFile (F.known files.old) (F.known files.new) file.now
-        (λ bytes. IsCertificateOf bytes answer.status answer.text.items) answer.status answer.text.items) }
-{
-    match read(alloc, files, file, LARGEST_FILE)? {
-        Content::Read(bytes) => certified(alloc, &bytes),
-        Content::Unread(answer) => Ok(answer),
+/// The question for the certificate of a file, or for the verdict on one that has none.
+#[derive(Drop)]
+pub(crate) struct ForCertificate;
+
+impl Question for ForCertificate {
+    ghost due = { λ _ judged. IsCertifiedAs judged };
+
+    fn answer(&self, alloc: Global, judged: Judged) -> Result<Answer, AllocError> {
+        match certify(alloc, &judged) {
+            Ok(Certified::Yes(cert)) => Ok(Answer {
+                status: HOLDS,
+                text: written(alloc, &cert)?,
+            }),
+            Ok(Certified::No(verdict)) => told(alloc, &judged, &verdict),
+            Err(NoMemory) => Err(AllocError),
+        }
     }
 }
 
-// The answer to the bytes of a file.
-fn certified(alloc: Global, bytes: &[u8]) -> Result<Answer, AllocError>
-    requires { length bytes.now ≤ largest_file }
-    ensures { IfOk result (λ answer. IsCertificateOf bytes.now answer.status answer.text.items) }
-{
-    match load(alloc, bytes) {
-        Ok(judged) => certify_judged(alloc, &judged),
-        Err(LoadFault::Memory) => Err(AllocError),
-        Err(fault) => refusal(alloc, &fault),
-    }
-}
-
-// The answer to a file that was loaded.
-fn certify_judged(alloc: Global, judged: &Judged) -> Result<Answer, AllocError>
-    requires { Fits judged.now.flow judged.now.unit_outline }
-    ensures { IfOk result (λ answer. IsCertifiedAs judged.now answer.status answer.text.items) }
-{
-    match certify(alloc, judged) {
-        Ok(certified) => told_certified(alloc, judged, &certified),
-        Err(NoMemory) => Err(AllocError),
-    }
-}
-
-// The answer that holds a certificate, or the verdict on a file that has none.
-fn told_certified(
-    alloc: Global,
-    judged: &Judged,
-    certified: &Certified,
-) -> Result<Answer, AllocError>
-    ensures { IfOk result (λ answer. (answer.status ≡ certified_status certified.now)
-        × (answer.text.items ≡ certified_text judged.now certified.now)) }
-{
-    match certified {
-        Certified::Yes(cert) => Ok(Answer {
-            status: HOLDS,
-            text: written(alloc, cert)?,
-        }),
-        Certified::No(verdict) => told(alloc, judged, verdict),
-    }
-}
-
-// The text of a certificate, and a line feed.
+/// The text of a certificate, and a line feed.
 fn written(alloc: Global, cert: &Cert) -> Result<Vec<u8>, AllocError>
     ensures { IfOk result (λ text. text.items ≡ written_text cert.now ++ codes "\n") }
 {
@@ -85,3 +44,9 @@ fn written(alloc: Global, cert: &Cert) -> Result<Vec<u8>, AllocError>
         Err(NoMemory) => Err(AllocError),
     }
 }
+
+/// The law that what `certify` writes with 0, `verify` accepts: to the bytes of the same file and of that text it
+/// answers with 0, as to any valid certificate. That the text is short enough to be read isn't part of it.
+pub fn certified_files_verify()
+    ensures { CertifiedFilesVerify }
+{}

@@ -46,6 +46,7 @@
 #![tactic(auto)]
 
 mod answer;
+mod asking;
 mod certifying;
 mod checking;
 mod laws;
@@ -59,7 +60,8 @@ mod status;
 mod verifying;
 mod words;
 
-pub use laws::{certified_files_verify, honest_runs_are_answered};
+pub use certifying::certified_files_verify;
+pub use laws::honest_runs_are_answered;
 pub use own::run_with_own;
 pub use plc_outside::{
     FailSink, FileFault, Files, FixedSink, HonestFiles, MemFiles, OutSink, RealFiles, Sink,

@@ -11,7 +11,7 @@ use plc_outside::{Files, Sink};
 use plc_reclaim::{ByList, Epoch, Hazard, Leak, Reclaimer};
 use std::alloc::{AllocError, Global};
 
-// The status of `run` under these four.
+/// The status of `run` under these four.
 fn run_under<F: Files, S: Sink>(
     alloc: Global,
     words: &[String],
@@ -39,7 +39,7 @@ fn run_under<F: Files, S: Sink>(
     Ok(run(alloc, words, files, out, reclaimers))
 }
 
-// The same, where there is memory for the four.
+/// The same, where there is memory for the four.
 fn run_made<F: Files, S: Sink>(
     alloc: Global,
     words: &[String],

@@ -9,9 +9,10 @@ ghost use Rattle.plc_cli.specs.Headline.{Headline};
 ghost use Rattle.plc_cli.specs.Served.{ServedReplays};
 
 use crate::answer::{Answer, refused_words};
-use crate::certifying::certify_file;
-use crate::checking::check_file;
-use crate::printing::print_file;
+use crate::asking::answer_file;
+use crate::certifying::ForCertificate;
+use crate::checking::ForVerdict;
+use crate::printing::ForText;
 use crate::replaying::replay_file;
 use crate::sampling::judge_sample;
 use crate::status::{NO_MEMORY, UNWRITTEN};
@@ -21,7 +22,7 @@ use plc_outside::{Files, Sink, SinkFault, write_text};
 use plc_reclaim::Reclaimer;
 use std::alloc::{AllocError, Global};
 
-// The answer to the words.
+/// The answer to the words.
 fn answer_to<F: Files>(
     alloc: Global,
     words: &[String],
@@ -36,9 +37,9 @@ fn answer_to<F: Files>(
         (F.known files.old) (F.known files.new) answer.status answer.text.items) }
 {
     match requested(reclaimers, words) {
-        Some(Request::Check { file }) => check_file(alloc, files, file),
-        Some(Request::Certify { file }) => certify_file(alloc, files, file),
-        Some(Request::Print { file }) => print_file(alloc, files, file),
+        Some(Request::Check { file }) => answer_file(alloc, files, file, ForVerdict),
+        Some(Request::Certify { file }) => answer_file(alloc, files, file, ForCertificate),
+        Some(Request::Print { file }) => answer_file(alloc, files, file, ForText),
         Some(Request::Verify { file, certificate }) => {
             verify_file(alloc, files, file, certificate)
         }

@@ -19,7 +19,7 @@ use plc_sched::{SchedFault, Schedule, read_schedule};
 use plc_texts::{ended, unscheduled};
 use std::alloc::{AllocError, Global};
 
-// The status of an end: that of a failure where it isn't the end of the schedule.
+/// The status of an end: that of a failure where it isn't the end of the schedule.
 fn status_of(end: &End) -> u8
     ensures { result ≡ end_status end.now }
 {
@@ -29,7 +29,7 @@ fn status_of(end: &End) -> u8
     }
 }
 
-// The answer to a schedule that was read.
+/// The answer to a schedule that was read.
 fn answered(
     alloc: Global,
     judged: &Judged,
@@ -58,7 +58,7 @@ fn answered(
     }
 }
 
-// The answer to the bytes of a schedule.
+/// The answer to the bytes of a schedule.
 fn scheduled(
     alloc: Global,
     judged: &Judged,
@@ -79,7 +79,7 @@ fn scheduled(
     }
 }
 
-// The answer to the bytes of a file and of a schedule; the file's refusals go first.
+/// The answer to the bytes of a file and of a schedule; the file's refusals go first.
 fn replayed(
     alloc: Global,
     bytes: &[u8],

@@ -1,21 +1,20 @@
 // The verdict on a sample: its text is made, and then judged as that of a file is.
-ghost use Rattle.std.specs.Prelude.{◌≡◌, ◌≤◌, IfOk, length};
-ghost use Rattle.plc_base.specs.Limits.{largest_file};
-ghost use Rattle.plc_setting.specs.Fit.{Fits};
+ghost use Rattle.std.specs.Prelude.{◌≡◌, ◌≤◌, IfOk};
 ghost use Rattle.plc_sample.specs.Numbers.{most_copies, sample_lines};
 ghost use Rattle.plc_sample.specs.Sample.{sample_text};
-ghost use Rattle.plc_cli.specs.Samples.{IsSampleAnswer, IsSampledAs, IsSampledFile, sampled_text};
+ghost use Rattle.plc_cli.specs.Samples.{IsSampleAnswer, IsSampledAs, sampled_text};
 ghost use Rattle.plc_cli.specs.Verdicts.{verdict_status};
 
-use crate::answer::{Answer, refusal};
+use crate::answer::Answer;
+use crate::asking::{Question, answer_bytes};
 use crate::checking::{status_of, text_of};
 use plc_base::NoMemory;
-use plc_check::{Judged, LoadFault, Verdict, check, load};
+use plc_check::{Judged, Verdict, check};
 use plc_sample::text;
 use plc_texts::sampled;
 use std::alloc::{AllocError, Global};
 
-// The text of a verdict: one line where the sample is safe.
+/// The text of a verdict: one line where the sample is safe.
 fn sampled_text(
     alloc: Global,
     copies: u8,
@@ -33,7 +32,7 @@ fn sampled_text(
     }
 }
 
-// The answer that says a verdict.
+/// The answer that says a verdict.
 fn told_sample(
     alloc: Global,
     copies: u8,
@@ -50,26 +49,21 @@ fn told_sample(
     })
 }
 
-// The answer to a sample that was loaded.
-fn judge_loaded(alloc: Global, copies: u8, line: u16, judged: &Judged) -> Result<Answer, AllocError>
-    requires { Fits judged.now.flow judged.now.unit_outline }
-    ensures { IfOk result (λ answer. IsSampledAs copies line judged.now answer.status answer.text.items) }
-{
-    match check(alloc, judged) {
-        Ok(verdict) => told_sample(alloc, copies, line, judged, &verdict),
-        Err(NoMemory) => Err(AllocError),
-    }
+/// The question for the verdict on the sample with so many copies, without this line.
+#[derive(Drop)]
+struct ForSample {
+    copies: u8,
+    line: u16,
 }
 
-// The answer to the bytes of a sample.
-fn judge_bytes(alloc: Global, copies: u8, line: u16, bytes: &[u8]) -> Result<Answer, AllocError>
-    requires { length bytes.now ≤ largest_file }
-    ensures { IfOk result (λ answer. IsSampledFile copies line bytes.now answer.status answer.text.items) }
-{
-    match load(alloc, bytes) {
-        Ok(judged) => judge_loaded(alloc, copies, line, &judged),
-        Err(LoadFault::Memory) => Err(AllocError),
-        Err(fault) => refusal(alloc, &fault),
+impl Question for ForSample {
+    ghost due = { λ sample judged. IsSampledAs sample.copies sample.line judged };
+
+    fn answer(&self, alloc: Global, judged: Judged) -> Result<Answer, AllocError> {
+        match check(alloc, &judged) {
+            Ok(verdict) => told_sample(alloc, self.copies, self.line, &judged, &verdict),
+            Err(NoMemory) => Err(AllocError),
+        }
     }
 }
 
@@ -80,7 +74,7 @@ pub(crate) fn judge_sample(alloc: Global, copies: u8, line: u16) -> Result<Answe
     ensures { IfOk result (λ answer. IsSampleAnswer copies line answer.status answer.text.items) }
 {
     match text(alloc, copies, line) {
-        Ok(bytes) => judge_bytes(alloc, copies, line, &bytes),
+        Ok(bytes) => answer_bytes(alloc, &bytes, &ForSample { copies, line }),
         Err(NoMemory) => Err(AllocError),
     }
 }

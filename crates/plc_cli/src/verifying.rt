@@ -1,22 +1,23 @@
 // Whether a certificate is valid for a file. No verdict is made: neither the inference nor the solver is called.
-ghost use Rattle.std.specs.Prelude.{◌≡◌, ◌≤◌, IfOk, length};
-ghost use Rattle.plc_base.specs.Limits.{largest_file, largest_certificate};
+ghost use Rattle.std.specs.Prelude.{◌≡◌, IfOk};
+ghost use Rattle.plc_base.specs.Limits.{largest_certificate};
 ghost use Rattle.plc_setting.specs.Fit.{Fits};
 ghost use Rattle.plc_cli.specs.Certificates.{IsVerificationOf, IsCertificateAnswered, IsCertificateJudged};
 ghost use Rattle.plc_cli.specs.Reads.{FilesAreKept, IsDueForPair};
 
-use crate::answer::{Answer, refusal};
+use crate::answer::Answer;
+use crate::asking::{Question, answer_bytes};
 use crate::reading::{Contents, read_both};
 use crate::status::{FAILS, HOLDS, REFUSED};
 use plc_base::LARGEST_CERTIFICATE;
 use plc_cert::{Cert, CertFault, read};
-use plc_check::{Judged, LoadFault, load};
+use plc_check::Judged;
 use plc_outside::Files;
 use plc_texts::{invalid, uncertified, verified};
 use plc_verify::{VerifyFault, verify};
 use std::alloc::{AllocError, Global};
 
-// The answer to a certificate that was read.
+/// The answer to a certificate that was read.
 fn judge_certificate(alloc: Global, judged: &Judged, cert: &Cert) -> Result<Answer, AllocError>
     requires { Fits judged.now.flow judged.now.unit_outline }
     ensures { IfOk result (λ answer.
@@ -42,7 +43,7 @@ fn judge_certificate(alloc: Global, judged: &Judged, cert: &Cert) -> Result<Answ
     }
 }
 
-// The answer to the bytes of a certificate.
+/// The answer to the bytes of a certificate.
 fn answer_certificate(alloc: Global, judged: &Judged, bytes: &[u8]) -> Result<Answer, AllocError>
     requires { Fits judged.now.flow judged.now.unit_outline }
     ensures { IfOk result (λ answer.
@@ -58,16 +59,17 @@ fn answer_certificate(alloc: Global, judged: &Judged, bytes: &[u8]) -> Result<An
     }
 }
 
-// The answer to the bytes of a file and of a certificate; the file's refusals go first.
-fn verified_file(alloc: Global, bytes: &[u8], second: &[u8]) -> Result<Answer, AllocError>
-    requires { length bytes.now ≤ largest_file }
-    ensures { IfOk result (λ answer.
-        IsVerificationOf bytes.now second.now answer.status answer.text.items) }
-{
-    match load(alloc, bytes) {
-        Ok(judged) => answer_certificate(alloc, &judged, second),
-        Err(LoadFault::Memory) => Err(AllocError),
-        Err(fault) => refusal(alloc, &fault),
+/// The question whether these bytes are a certificate that is valid for a file.
+#[derive(Drop)]
+struct ForValidity<'a> {
+    certificate: &'a [u8],
+}
+
+impl<'a> Question for ForValidity<'a> {
+    ghost due = { λ question judged. IsCertificateAnswered judged question.certificate.now };
+
+    fn answer(&self, alloc: Global, judged: Judged) -> Result<Answer, AllocError> {
+        answer_certificate(alloc, &judged, self.certificate)
     }
 }
 
@@ -85,7 +87,13 @@ pub(crate) fn verify_file<F: Files>(
         answer.status answer.text.items) }
 {
     match read_both(alloc, files, file, certificate, LARGEST_CERTIFICATE)? {
-        Contents::Read(bytes, second) => verified_file(alloc, &bytes, &second),
+        Contents::Read(bytes, second) => answer_bytes(
+            alloc,
+            &bytes,
+            &ForValidity {
+                certificate: &second,
+            },
+        ),
         Contents::Unread(answer) => Ok(answer),
     }
 }

@@ -42,7 +42,7 @@ pub(crate) enum Request<'a> {
     },
 }
 
-// A command with one file.
+/// A command with one file.
 fn request_of_two<'a>(command: &str, file: &'a str) -> Option<Request<'a>>
     ensures asks { option_map request_view result ≡ request_of_two command.now file.now }
     ensures in_range { (count : ℕ) → IfSome result (IsInRange count) }
@@ -55,7 +55,7 @@ fn request_of_two<'a>(command: &str, file: &'a str) -> Option<Request<'a>>
     }
 }
 
-// The number that a word spells, among those from `least` to `most`.
+/// The number that a word spells, among those from `least` to `most`.
 fn number_in(word: &str, least: u32, most: u32) -> Option<u32>
     requires { least ≤ most }
     ensures spelled { result ≡ number_in least most word.now }
@@ -64,7 +64,7 @@ fn number_in(word: &str, least: u32, most: u32) -> Option<u32>
     number_of(word.as_bytes(), least, most)
 }
 
-// A sample: how many copies, and the line that is left out.
+/// A sample: how many copies, and the line that is left out.
 fn sample_of<'a>(copies: &str, line: &str) -> Option<Request<'a>>
     ensures asks { option_map request_view result ≡ sample_of copies.now line.now }
     ensures in_range { (count : ℕ) → IfSome result (IsInRange count) }
@@ -77,7 +77,7 @@ fn sample_of<'a>(copies: &str, line: &str) -> Option<Request<'a>>
     })
 }
 
-// A command with a file and its certificate, or with the numbers of a sample.
+/// A command with a file and its certificate, or with the numbers of a sample.
 fn request_of_three<'a>(command: &str, first: &'a str, second: &'a str) -> Option<Request<'a>>
     ensures asks { option_map request_view result ≡ request_of_three command.now first.now second.now }
     ensures in_range { (count : ℕ) → IfSome result (IsInRange count) }
@@ -92,7 +92,7 @@ fn request_of_three<'a>(command: &str, first: &'a str, second: &'a str) -> Optio
     }
 }
 
-// A command with two files and a reclaimer.
+/// A command with two files and a reclaimer.
 fn request_of_four<'a>(
     reclaimers: &[Box<dyn Reclaimer>],
     command: &str,

@@ -5,7 +5,6 @@ use Rattle.plc_lang.specs.declared.syntax.Var.TheVariants as vars
 use Rattle.plc_lang.specs.declared.syntax.File.{File}
 use Rattle.plc_lang.specs.Names.{operation_name}
 use Rattle.plc_flow.specs.declared.flow.Flow.{Flow}
-use Rattle.plc_cert.specs.declared.cert.CertField.{CertField}
 use Rattle.plc_cert.specs.declared.cert.CertField.TheVariants.{Root, Version, Env, Trees}
 use Rattle.plc_cert.specs.declared.cert.CertFault.{CertFault}
 use Rattle.plc_cert.specs.declared.cert.CertFault.TheVariants as cert
@@ -20,18 +19,14 @@ use Rattle.plc_texts.specs.Untyped.{step_operation}
 
 -- ---- bytes that are no certificate
 
--- NAME
-abbrev pub field_word : CertField → List ℕ
-field_word Root = codes "root"
-field_word Version = codes "version"
-field_word Env = codes "env"
-field_word Trees = codes "trees"
-
--- refused certificate json; refused certificate field NAME; refused certificate version N; running out of memory has
--- no text
+-- refused certificate json; refused certificate field NAME, of each part; refused certificate version N; running out
+-- of memory has no text
 abbrev pub certificate_text : CertFault → List ℕ
 certificate_text cert.NotJson = codes "refused certificate json\n"
-certificate_text (cert.Shape field) = codes "refused certificate field " ++ field_word field ++ codes "\n"
+certificate_text (cert.Shape Root) = codes "refused certificate field root\n"
+certificate_text (cert.Shape Version) = codes "refused certificate field version\n"
+certificate_text (cert.Shape Env) = codes "refused certificate field env\n"
+certificate_text (cert.Shape Trees) = codes "refused certificate field trees\n"
 certificate_text (cert.Version n) = codes "refused certificate version " ++ decimal n ++ codes "\n"
 certificate_text cert.Memory = []
 

@@ -1,7 +1,8 @@
 // What is said of a certificate: why its bytes are none, that it is valid, or its first item that fails.
 ghost use Rattle.std.specs.Prelude.{◌≡◌, ◌++◌, IfOk, slice_get, codes, decimal};
+ghost use Rattle.plc_cert.specs.declared.cert.CertFault.TheVariants.{Shape};
 ghost use Rattle.plc_lang.specs.Names.{operation_name};
-ghost use Rattle.plc_texts.specs.Certificates.{field_word, certificate_text, verified_text};
+ghost use Rattle.plc_texts.specs.Certificates.{certificate_text, verified_text};
 ghost use Rattle.plc_texts.specs.Certificates.{slot_name, pair_text, invalid_text};
 ghost use Rattle.plc_texts.specs.Untyped.{step_operation};
 
@@ -16,34 +17,24 @@ use plc_lang::{File, Var, operation_name};
 use plc_verify::{Slot, VerifyFault};
 use std::alloc::{AllocError, Global};
 
-// The name of a part of a certificate.
-fn field_word(field: CertField) -> &'static str
-    ensures { result.now ≡ field_word field }
+/// A part that isn't of its form.
+fn misshapen(alloc: Global, field: CertField) -> Result<Vec<u8>, AllocError>
+    ensures { IfOk result (λ v. v.items ≡ certificate_text (Shape field)) }
 {
     match field {
-        CertField::Root => "root",
-        CertField::Version => "version",
-        CertField::Env => "env",
-        CertField::Trees => "trees",
+        CertField::Root => fixed(alloc, "refused certificate field root\n"),
+        CertField::Version => fixed(alloc, "refused certificate field version\n"),
+        CertField::Env => fixed(alloc, "refused certificate field env\n"),
+        CertField::Trees => fixed(alloc, "refused certificate field trees\n"),
     }
 }
 
-// A part that isn't of its form.
-fn misshapen(alloc: Global, field: CertField) -> Result<Vec<u8>, AllocError>
-    ensures { IfOk result (λ v. v.items ≡ codes "refused certificate field " ++ field_word field ++ codes "\n") }
-{
-    let mut out = fixed(alloc, "refused certificate field ")?;
-    push(&mut out, field_word(field))?;
-    push(&mut out, "\n")?;
-    Ok(out)
-}
-
-// Another version.
+/// Another version.
 fn other_version(alloc: Global, version: u64) -> Result<Vec<u8>, AllocError>
     ensures { IfOk result (λ v. v.items ≡ codes "refused certificate version " ++ decimal version ++ codes "\n") }
 {
     let mut out = fixed(alloc, "refused certificate version ")?;
-    push_number(alloc, &mut out, version)?;
+    push_number(&mut out, version)?;
     push(&mut out, "\n")?;
     Ok(out)
 }
@@ -66,12 +57,12 @@ pub fn verified(alloc: Global, flow: &Flow, obligations: u64) -> Result<Vec<u8>,
     ensures { IfOk result (λ v. v.items ≡ verified_text flow.now obligations) }
 {
     let mut out = fixed(alloc, "verified")?;
-    push_counts(alloc, &mut out, flow, obligations)?;
+    push_counts(&mut out, flow, obligations)?;
     push(&mut out, "\n")?;
     Ok(out)
 }
 
-// The operation of a step.
+/// The operation of a step.
 fn operation_of(flow: &Flow, step: StepId) -> u16
     ensures { result ≡ step_operation (slice_get flow.now.steps step.0) }
 {
@@ -81,7 +72,7 @@ fn operation_of(flow: &Flow, step: StepId) -> u16
     }
 }
 
-// A part of an environment: W, or a pointer local of the operation.
+/// A part of an environment: W, or a pointer local of the operation.
 fn slot_name(file: &File, operation: u16, slot: Slot) -> &[u8]
     ensures { result.now ≡ slot_name file.now operation slot }
 {
@@ -91,19 +82,19 @@ fn slot_name(file: &File, operation: u16, slot: Slot) -> &[u8]
     }
 }
 
-// Two numbers, each after words.
+/// Two numbers, each after words.
 fn paired(alloc: Global, first: &str, a: u64, second: &str, b: u64) -> Result<Vec<u8>, AllocError>
     ensures { IfOk result (λ v. v.items ≡ pair_text first.now a second.now b) }
 {
     let mut out = fixed(alloc, first)?;
-    push_number(alloc, &mut out, a)?;
+    push_number(&mut out, a)?;
     push(&mut out, second)?;
-    push_number(alloc, &mut out, b)?;
+    push_number(&mut out, b)?;
     push(&mut out, "\n")?;
     Ok(out)
 }
 
-// An operation that begins otherwise.
+/// An operation that begins otherwise.
 fn entry(alloc: Global, flow: &Flow, op: OpId, var: Slot) -> Result<Vec<u8>, AllocError>
     ensures { IfOk result (λ v. v.items ≡ codes "invalid entry " ++ operation_name flow.now.file op
         ++ codes " " ++ slot_name flow.now.file op.0 var ++ codes "\n") }
@@ -116,13 +107,13 @@ fn entry(alloc: Global, flow: &Flow, op: OpId, var: Slot) -> Result<Vec<u8>, All
     Ok(out)
 }
 
-// A step that leads to too much.
+/// A step that leads to too much.
 fn passage(alloc: Global, flow: &Flow, step: StepId, var: Slot) -> Result<Vec<u8>, AllocError>
     ensures { IfOk result (λ v. v.items ≡ codes "invalid flow step " ++ decimal step.0 ++ codes " "
         ++ slot_name flow.now.file (step_operation (slice_get flow.now.steps step.0)) var ++ codes "\n") }
 {
     let mut out = fixed(alloc, "invalid flow step ")?;
-    push_number(alloc, &mut out, u64::from(step.0))?;
+    push_number(&mut out, u64::from(step.0))?;
     push(&mut out, " ")?;
     push_bytes(
         &mut out,

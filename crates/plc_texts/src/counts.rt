@@ -4,11 +4,10 @@ ghost use Rattle.plc_texts.specs.Counts.{counts_text};
 
 use crate::push::{push, push_number};
 use plc_flow::Flow;
-use std::alloc::{AllocError, Global};
+use std::alloc::AllocError;
 
 /// The numbers of points, steps and obligations.
 pub(crate) fn push_counts(
-    alloc: Global,
     out: &mut Vec<u8>,
     flow: &Flow,
     obligations: u64,
@@ -16,9 +15,9 @@ pub(crate) fn push_counts(
     ensures { OnOk result (out.new.items ≡ out.old.items ++ counts_text flow.now obligations) }
 {
     push(out, " points ")?;
-    push_number(alloc, out, u64::from(flow.points))?;
+    push_number(out, u64::from(flow.points))?;
     push(out, " steps ")?;
-    push_number(alloc, out, flow.steps.len() as u64)?;
+    push_number(out, flow.steps.len() as u64)?;
     push(out, " obligations ")?;
-    push_number(alloc, out, obligations)
+    push_number(out, obligations)
 }

@@ -46,11 +46,11 @@ pub fn untyped(
     };
     let mut out = Vec::new(alloc);
     push(&mut out, "untyped step ")?;
-    push_number(alloc, &mut out, u64::from(step))?;
+    push_number(&mut out, u64::from(step))?;
     push(&mut out, " prim ")?;
-    push_number(alloc, &mut out, u64::from(prim))?;
+    push_number(&mut out, u64::from(prim))?;
     push(&mut out, " line ")?;
-    push_number(alloc, &mut out, u64::from(line))?;
+    push_number(&mut out, u64::from(line))?;
     push(&mut out, " ")?;
     push(&mut out, fault_word(fault))?;
     push(&mut out, " ")?;

@@ -19,7 +19,7 @@ use plc_lang::{
 use plc_setting::{Obligation, acting_locals, owner_locals};
 use std::alloc::{AllocError, Global};
 
-// The line of a step.
+/// The line of a step.
 fn line_of(flow: &Flow, step: StepId) -> u32
     ensures { result ≡ step_line (slice_get flow.now.steps step.0) }
 {
@@ -29,43 +29,31 @@ fn line_of(flow: &Flow, step: StepId) -> u32
     }
 }
 
-// A step with its line, after words.
-fn push_step(
-    alloc: Global,
-    out: &mut Vec<u8>,
-    words: &str,
-    flow: &Flow,
-    step: StepId,
-) -> Result<(), AllocError>
+/// A step with its line, after words.
+fn push_step(out: &mut Vec<u8>, words: &str, flow: &Flow, step: StepId) -> Result<(), AllocError>
     ensures { OnOk result (out.new.items ≡ out.old.items ++ words.now ++ step_text flow.now step.0) }
 {
-    push_numbered(alloc, out, words, u32::from(step.0))?;
-    push_numbered(alloc, out, " line ", line_of(flow, step))
+    push_numbered(out, words, u32::from(step.0))?;
+    push_numbered(out, " line ", line_of(flow, step))
 }
 
-// A claim with its step and line.
-fn push_claim(
-    alloc: Global,
-    out: &mut Vec<u8>,
-    flow: &Flow,
-    step: StepId,
-    prim: u16,
-) -> Result<(), AllocError>
+/// A claim with its step and line.
+fn push_claim(out: &mut Vec<u8>, flow: &Flow, step: StepId, prim: u16) -> Result<(), AllocError>
     ensures { OnOk result (out.new.items ≡ out.old.items ++ codes "claim step " ++ claim_text flow.now step.0 prim) }
 {
-    push_numbered(alloc, out, "claim step ", u32::from(step.0))?;
-    push_numbered(alloc, out, " prim ", u32::from(prim))?;
-    push_numbered(alloc, out, " line ", line_of(flow, step))
+    push_numbered(out, "claim step ", u32::from(step.0))?;
+    push_numbered(out, " prim ", u32::from(prim))?;
+    push_numbered(out, " line ", line_of(flow, step))
 }
 
-// The number of a clause.
-fn push_clause(alloc: Global, out: &mut Vec<u8>, clause: u16) -> Result<(), AllocError>
+/// The number of a clause.
+fn push_clause(out: &mut Vec<u8>, clause: u16) -> Result<(), AllocError>
     ensures { OnOk result (out.new.items ≡ out.old.items ++ codes " clause " ++ decimal clause) }
 {
-    push_numbered(alloc, out, " clause ", u32::from(clause))
+    push_numbered(out, " clause ", u32::from(clause))
 }
 
-// Words with a name after them.
+/// Words with a name after them.
 fn push_named(out: &mut Vec<u8>, words: &str, name: &[u8]) -> Result<(), AllocError>
     ensures { OnOk result (out.new.items ≡ out.old.items ++ words.now ++ name.now) }
 {
@@ -73,39 +61,34 @@ fn push_named(out: &mut Vec<u8>, words: &str, name: &[u8]) -> Result<(), AllocEr
     push_bytes(out, name)
 }
 
-// What has to be proved.
-fn push_obligation(
-    alloc: Global,
-    out: &mut Vec<u8>,
-    flow: &Flow,
-    o: &Obligation,
-) -> Result<(), AllocError>
+/// What has to be proved.
+fn push_obligation(out: &mut Vec<u8>, flow: &Flow, o: &Obligation) -> Result<(), AllocError>
     ensures { OnOk result (out.new.items ≡ out.old.items ++ obligation_text flow.now o.now) }
 {
     match *o {
-        Obligation::Start { inv } => { push_numbered(alloc, out, "start clause ", u32::from(inv)) }
+        Obligation::Start { inv } => { push_numbered(out, "start clause ", u32::from(inv)) }
         Obligation::Enter { op, clause } => {
             push_named(out, "enter ", operation_name(&flow.file, op))?;
-            push_clause(alloc, out, clause)
+            push_clause(out, clause)
         }
         Obligation::Own { step, clause } => {
-            push_step(alloc, out, "own step ", flow, step)?;
-            push_clause(alloc, out, clause)
+            push_step(out, "own step ", flow, step)?;
+            push_clause(out, clause)
         }
         Obligation::Other {
             step,
             point,
             clause,
         } => {
-            push_step(alloc, out, "other step ", flow, step)?;
-            push_numbered(alloc, out, " point ", u32::from(point.0))?;
-            push_clause(alloc, out, clause)
+            push_step(out, "other step ", flow, step)?;
+            push_numbered(out, " point ", u32::from(point.0))?;
+            push_clause(out, clause)
         }
-        Obligation::Claim { step, prim } => push_claim(alloc, out, flow, step, prim),
+        Obligation::Claim { step, prim } => push_claim(out, flow, step, prim),
     }
 }
 
-// The name of a value of an auxiliary field.
+/// The name of a value of an auxiliary field.
 fn value_of(file: &File, field: usize, value: u32) -> &[u8]
     ensures { result.now ≡ value_name file.now field value }
 {
@@ -118,7 +101,7 @@ fn value_of(file: &File, field: usize, value: u32) -> &[u8]
     }
 }
 
-// The name of a value by its number over the file.
+/// The name of a value by its number over the file.
 fn value_text(file: &File, number: u16) -> &[u8]
     ensures { result.now ≡ value_in file.now (value_at file.now.ghosts number) }
 {
@@ -128,9 +111,8 @@ fn value_text(file: &File, number: u16) -> &[u8]
     }
 }
 
-// A constant.
+/// A constant.
 fn push_symbol(
-    alloc: Global,
     out: &mut Vec<u8>,
     file: &File,
     mine: &[Local],
@@ -145,18 +127,18 @@ fn push_symbol(
         Symbol::Mine(v) => push_named(out, "a:", local_name(file, mine, v)),
         Symbol::Theirs(v) => push_named(out, "b:", local_name(file, theirs, v)),
         Symbol::New => push(out, "new"),
-        Symbol::Bound(c) => push_numbered(alloc, out, "c", u32::from(c)),
-        Symbol::Loaded(r) => push_numbered(alloc, out, "r", u32::from(r)),
+        Symbol::Bound(c) => push_numbered(out, "c", u32::from(c)),
+        Symbol::Loaded(r) => push_numbered(out, "r", u32::from(r)),
         Symbol::Yes => push(out, "yes"),
         Symbol::Nobody => push(out, "none"),
         Symbol::Me => push(out, "me"),
         Symbol::You => push(out, "you"),
         Symbol::Value(v) => push_bytes(out, value_text(file, v)),
-        Symbol::Number(n) => push_number(alloc, out, u64::from(n)),
+        Symbol::Number(n) => push_number(out, u64::from(n)),
     }
 }
 
-// The name of what is applied.
+/// The name of what is applied.
 fn map_name(file: &File, map: Map) -> &[u8]
     ensures { result.now ≡ map_name file.now map }
 {
@@ -167,7 +149,7 @@ fn map_name(file: &File, map: Map) -> &[u8]
     }
 }
 
-// The text at a place, or nothing after the last.
+/// The text at a place, or nothing after the last.
 fn text_at(texts: &[Vec<u8>], at: u32) -> &[u8]
     ensures { result.now ≡ get_or (map (λ t. t.items) texts.now) at [] }
 {
@@ -177,9 +159,8 @@ fn text_at(texts: &[Vec<u8>], at: u32) -> &[u8]
     }
 }
 
-// An application, by the text of its argument.
+/// An application, by the text of its argument.
 fn push_application(
-    alloc: Global,
     out: &mut Vec<u8>,
     name: &[u8],
     version: u16,
@@ -189,14 +170,13 @@ fn push_application(
         ++ name.now ++ codes "." ++ decimal version ++ codes "(" ++ arg.now ++ codes ")") }
 {
     push_bytes(out, name)?;
-    push_numbered(alloc, out, ".", u32::from(version))?;
+    push_numbered(out, ".", u32::from(version))?;
     push_named(out, "(", arg)?;
     push(out, ")")
 }
 
-// A term, where the texts of the terms before it are these.
+/// A term, where the texts of the terms before it are these.
 fn push_term(
-    alloc: Global,
     out: &mut Vec<u8>,
     file: &File,
     mine: &[Local],
@@ -208,9 +188,8 @@ fn push_term(
         ++ term_text file.now mine.now theirs.now (map (λ t. t.items) before.now) term) }
 {
     match term {
-        GroundTerm::Const(symbol) => push_symbol(alloc, out, file, mine, theirs, symbol),
+        GroundTerm::Const(symbol) => push_symbol(out, file, mine, theirs, symbol),
         GroundTerm::App { map, version, arg } => push_application(
-            alloc,
             out,
             map_name(file, map),
             version,
@@ -219,7 +198,7 @@ fn push_term(
     }
 }
 
-// The text of the next term.
+/// The text of the next term.
 fn next_text(
     alloc: Global,
     file: &File,
@@ -232,11 +211,11 @@ fn next_text(
         ≡ term_text file.now mine.now theirs.now (map (λ t. t.items) before.now) term) }
 {
     let mut out = Vec::new(alloc);
-    push_term(alloc, &mut out, file, mine, theirs, before, term)?;
+    push_term(&mut out, file, mine, theirs, before, term)?;
     Ok(out)
 }
 
-// The texts of terms, in their order.
+/// The texts of terms, in their order.
 fn term_texts(
     alloc: Global,
     file: &File,
@@ -255,30 +234,19 @@ fn term_texts(
     Ok(texts)
 }
 
-// The line of a term.
-fn push_line(
-    alloc: Global,
-    out: &mut Vec<u8>,
-    term: u64,
-    text: &[u8],
-    class: u32,
-) -> Result<(), AllocError>
+/// The line of a term.
+fn push_line(out: &mut Vec<u8>, term: u64, text: &[u8], class: u32) -> Result<(), AllocError>
     ensures { OnOk result (out.new.items ≡ out.old.items ++ term_line term text.now class) }
 {
     push(out, "term ")?;
-    push_number(alloc, out, term)?;
+    push_number(out, term)?;
     push_named(out, " ", text)?;
-    push_numbered(alloc, out, " class ", class)?;
+    push_numbered(out, " class ", class)?;
     push(out, "\n")
 }
 
-// The lines of the terms that have a class.
-fn push_lines(
-    alloc: Global,
-    out: &mut Vec<u8>,
-    texts: &[Vec<u8>],
-    class: &[u32],
-) -> Result<(), AllocError>
+/// The lines of the terms that have a class.
+fn push_lines(out: &mut Vec<u8>, texts: &[Vec<u8>], class: &[u32]) -> Result<(), AllocError>
     ensures { OnOk result (out.new.items ≡ out.old.items
         ++ term_lines 0 (map (λ t. t.items) texts.now) class.now) }
 {
@@ -286,7 +254,7 @@ fn push_lines(
         let Some(class) = class.get(i) else {
             return Ok(());
         };
-        push_line(alloc, out, i as u64, &texts[i], *class)?;
+        push_line(out, i as u64, &texts[i], *class)?;
     }
     Ok(())
 }
@@ -309,8 +277,8 @@ pub fn unproved(
     let texts = term_texts(alloc, &flow.file, mine, theirs, set.terms.as_slice())?;
     let mut out = Vec::new(alloc);
     push(&mut out, "unproved ")?;
-    push_obligation(alloc, &mut out, flow, obligation)?;
+    push_obligation(&mut out, flow, obligation)?;
     push(&mut out, "\n")?;
-    push_lines(alloc, &mut out, &texts, class)?;
+    push_lines(&mut out, &texts, class)?;
     Ok(out)
 }

@@ -1,7 +1,7 @@
 // A text grows at its end, piece by piece; it is built whole before any of it is written.
 ghost use Rattle.std.specs.Prelude.{◌≡◌, ◌++◌, OnOk, decimal};
 
-use std::alloc::{AllocError, Global};
+use std::alloc::AllocError;
 
 /// One more piece.
 pub(crate) fn push(out: &mut Vec<u8>, text: &str) -> Result<(), AllocError>
@@ -18,22 +18,17 @@ pub(crate) fn push_bytes(out: &mut Vec<u8>, bytes: &[u8]) -> Result<(), AllocErr
 }
 
 /// A number in decimal.
-pub(crate) fn push_number(alloc: Global, out: &mut Vec<u8>, number: u64) -> Result<(), AllocError>
+pub(crate) fn push_number(out: &mut Vec<u8>, number: u64) -> Result<(), AllocError>
     ensures { OnOk result (out.new.items ≡ out.old.items ++ decimal number) }
 {
-    let digits = number.to_string(alloc)?;
+    let digits = number.to_string(*out.allocator())?;
     out.extend_from_slice(digits.as_bytes())
 }
 
 /// A number after words.
-pub(crate) fn push_numbered(
-    alloc: Global,
-    out: &mut Vec<u8>,
-    words: &str,
-    number: u32,
-) -> Result<(), AllocError>
+pub(crate) fn push_numbered(out: &mut Vec<u8>, words: &str, number: u32) -> Result<(), AllocError>
     ensures { OnOk result (out.new.items ≡ out.old.items ++ words.now ++ decimal number) }
 {
     push(out, words)?;
-    push_number(alloc, out, u64::from(number))
+    push_number(out, u64::from(number))
 }

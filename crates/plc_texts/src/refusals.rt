@@ -42,7 +42,7 @@ pub(crate) fn numbered(alloc: Global, words: &str, number: u32) -> Result<Vec<u8
     ensures { IfOk result (λ v. v.items ≡ words.now ++ decimal number ++ codes "\n") }
 {
     let mut out = fixed(alloc, words)?;
-    push_number(alloc, &mut out, u64::from(number))?;
+    push_number(&mut out, u64::from(number))?;
     push(&mut out, "\n")?;
     Ok(out)
 }
@@ -66,21 +66,21 @@ pub fn limit(alloc: Global, what: What1, count: u32) -> Result<Vec<u8>, AllocErr
     let mut out = fixed(alloc, "refused limit ")?;
     push(&mut out, what.name())?;
     push(&mut out, " ")?;
-    push_number(alloc, &mut out, u64::from(count))?;
+    push_number(&mut out, u64::from(count))?;
     push(&mut out, "\n")?;
     Ok(out)
 }
 
-// A fault at a token.
+/// A fault at a token.
 fn token(alloc: Global, kind: &str, at: u32, line: u32) -> Result<Vec<u8>, AllocError>
     ensures { IfOk result (λ v. v.items ≡ token_text kind.now at line) }
 {
     let mut out = fixed(alloc, "refused ")?;
     push(&mut out, kind)?;
     push(&mut out, " token ")?;
-    push_number(alloc, &mut out, u64::from(at))?;
+    push_number(&mut out, u64::from(at))?;
     push(&mut out, " line ")?;
-    push_number(alloc, &mut out, u64::from(line))?;
+    push_number(&mut out, u64::from(line))?;
     push(&mut out, "\n")?;
     Ok(out)
 }

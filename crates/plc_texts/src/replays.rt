@@ -9,7 +9,7 @@ use plc_replay::End;
 use plc_sched::SchedFault;
 use std::alloc::{AllocError, Global};
 
-// The word of a race.
+/// The word of a race.
 fn race_name(kind: RaceKind) -> &'static str
     ensures { result.now ≡ race_name kind }
 {
@@ -21,40 +21,40 @@ fn race_name(kind: RaceKind) -> &'static str
     }
 }
 
-// The schedule was followed to its end.
+/// The schedule was followed to its end.
 fn followed(alloc: Global, lines: u32, events: u32, freed: u32) -> Result<Vec<u8>, AllocError>
     ensures { IfOk result (λ v. v.items ≡ codes "end lines " ++ decimal lines ++ codes " events " ++ decimal events
         ++ codes " freed " ++ decimal freed ++ codes "\n") }
 {
     let mut out = Vec::new(alloc);
-    push_numbered(alloc, &mut out, "end lines ", lines)?;
-    push_numbered(alloc, &mut out, " events ", events)?;
-    push_numbered(alloc, &mut out, " freed ", freed)?;
+    push_numbered(&mut out, "end lines ", lines)?;
+    push_numbered(&mut out, " events ", events)?;
+    push_numbered(&mut out, " freed ", freed)?;
     push(&mut out, "\n")?;
     Ok(out)
 }
 
-// A race of a primitive.
+/// A race of a primitive.
 fn raced(alloc: Global, kind: RaceKind, line: u32, prim: u16) -> Result<Vec<u8>, AllocError>
     ensures { IfOk result (λ v. v.items ≡ codes "race " ++ race_name kind ++ codes " line " ++ decimal line
         ++ codes " prim " ++ decimal prim ++ codes "\n") }
 {
     let mut out = fixed(alloc, "race ")?;
     push(&mut out, race_name(kind))?;
-    push_numbered(alloc, &mut out, " line ", line)?;
-    push_numbered(alloc, &mut out, " prim ", u32::from(prim))?;
+    push_numbered(&mut out, " line ", line)?;
+    push_numbered(&mut out, " prim ", u32::from(prim))?;
     push(&mut out, "\n")?;
     Ok(out)
 }
 
-// A free that isn't allowed.
+/// A free that isn't allowed.
 fn forbidden(alloc: Global, a: u32, line: u32) -> Result<Vec<u8>, AllocError>
     ensures { IfOk result (λ v. v.items ≡ codes "forbidden free " ++ decimal a
         ++ codes " line " ++ decimal line ++ codes "\n") }
 {
     let mut out = Vec::new(alloc);
-    push_numbered(alloc, &mut out, "forbidden free ", a)?;
-    push_numbered(alloc, &mut out, " line ", line)?;
+    push_numbered(&mut out, "forbidden free ", a)?;
+    push_numbered(&mut out, " line ", line)?;
     push(&mut out, "\n")?;
     Ok(out)
 }

@@ -18,9 +18,9 @@ pub fn sampled(
     ensures { IfOk result (λ v. v.items ≡ summary_text k n flow.now obligations) }
 {
     let mut out = Vec::new(alloc);
-    push_numbered(alloc, &mut out, "sample ", u32::from(k))?;
-    push_numbered(alloc, &mut out, " ", u32::from(n))?;
-    push_counts(alloc, &mut out, flow, obligations)?;
+    push_numbered(&mut out, "sample ", u32::from(k))?;
+    push_numbered(&mut out, " ", u32::from(n))?;
+    push_counts(&mut out, flow, obligations)?;
     push(&mut out, " safe\n")?;
     Ok(out)
 }

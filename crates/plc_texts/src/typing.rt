@@ -15,7 +15,7 @@ use plc_lang::{File, Local, locals_of, name_at};
 use plc_type::{Env, Guar, PtrType};
 use std::alloc::{AllocError, Global};
 
-// The words after the first.
+/// The words after the first.
 fn push_others(out: &mut Vec<u8>, words: &[&[u8]]) -> Result<(), AllocError>
     ensures { OnOk result (out.new.items ≡ out.old.items ++ others (map (λ w. w.now) words.now)) }
 {
@@ -26,7 +26,7 @@ fn push_others(out: &mut Vec<u8>, words: &[&[u8]]) -> Result<(), AllocError>
     Ok(())
 }
 
-// Words parted by one space.
+/// Words parted by one space.
 fn push_parted(out: &mut Vec<u8>, words: &[&[u8]]) -> Result<(), AllocError>
     ensures { OnOk result (out.new.items ≡ out.old.items ++ parted (map (λ w. w.now) words.now)) }
 {
@@ -39,7 +39,7 @@ fn push_parted(out: &mut Vec<u8>, words: &[&[u8]]) -> Result<(), AllocError>
     }
 }
 
-// The names of the locations in a set, in the table's order.
+/// The names of the locations in a set, in the table's order.
 fn member_names<'a>(
     alloc: Global,
     observer: &'a Observer,
@@ -57,16 +57,11 @@ fn member_names<'a>(
     Ok(names)
 }
 
-// A set of locations in braces.
-fn push_set(
-    alloc: Global,
-    out: &mut Vec<u8>,
-    observer: &Observer,
-    set: Mask,
-) -> Result<(), AllocError>
+/// A set of locations in braces.
+fn push_set(out: &mut Vec<u8>, observer: &Observer, set: Mask) -> Result<(), AllocError>
     ensures { OnOk result (out.new.items ≡ out.old.items ++ set_text observer.now set) }
 {
-    let names = member_names(alloc, observer, set)?;
+    let names = member_names(*out.allocator(), observer, set)?;
     push(out, "{")?;
     push_parted(out, &names)?;
     push(out, "}")
@@ -86,9 +81,8 @@ fn guarantees(g: Guar) -> &'static str
     }
 }
 
-// The line that says where any address may stand.
+/// The line that says where any address may stand.
 fn push_anywhere(
-    alloc: Global,
     out: &mut Vec<u8>,
     label: &[u8],
     observer: &Observer,
@@ -99,13 +93,12 @@ fn push_anywhere(
     push(out, "at ")?;
     push_bytes(out, label)?;
     push(out, " W ")?;
-    push_set(alloc, out, observer, set)?;
+    push_set(out, observer, set)?;
     push(out, "\n")
 }
 
-// The line of a pointer local.
+/// The line of a pointer local.
 fn push_local(
-    alloc: Global,
     out: &mut Vec<u8>,
     label: &[u8],
     observer: &Observer,
@@ -121,13 +114,12 @@ fn push_local(
     push(out, " ")?;
     push(out, guarantees(t.g))?;
     push(out, " ")?;
-    push_set(alloc, out, observer, t.m)?;
+    push_set(out, observer, t.m)?;
     push(out, "\n")
 }
 
-// The lines of the pointer locals among all locals of an operation.
+/// The lines of the pointer locals among all locals of an operation.
 fn push_locals(
-    alloc: Global,
     out: &mut Vec<u8>,
     file: &File,
     observer: &Observer,
@@ -144,14 +136,14 @@ fn push_locals(
             let Some(t) = types.get(at) else {
                 return Ok(());
             };
-            push_local(alloc, out, label, observer, name_at(file, local.name), t)?;
+            push_local(out, label, observer, name_at(file, local.name), t)?;
             at += 1;
         }
     }
     Ok(())
 }
 
-// The number of the operation that has a point.
+/// The number of the operation that has a point.
 fn operation_of(gates: &[Gate], point: PointId) -> usize
     ensures { result ≡ operation_from 0 gates.now point.0 }
 {
@@ -165,9 +157,8 @@ fn operation_of(gates: &[Gate], point: PointId) -> usize
     operation
 }
 
-// The lines of a label whose point has this environment.
+/// The lines of a label whose point has this environment.
 fn push_env(
-    alloc: Global,
     out: &mut Vec<u8>,
     flow: &Flow,
     observer: &Observer,
@@ -183,9 +174,8 @@ fn push_env(
         flow.file.ops.as_slice(),
         operation_of(flow.gates.as_slice(), point),
     );
-    push_anywhere(alloc, out, name, observer, env.w)?;
+    push_anywhere(out, name, observer, env.w)?;
     push_locals(
-        alloc,
         out,
         &flow.file,
         observer,
@@ -195,9 +185,8 @@ fn push_env(
     )
 }
 
-// The lines of a label.
+/// The lines of a label.
 fn push_label(
-    alloc: Global,
     out: &mut Vec<u8>,
     flow: &Flow,
     observer: &Observer,
@@ -209,14 +198,13 @@ fn push_label(
         ++ env_lines flow.now observer.now (name_at flow.now.file label) point.0 (slice_get envs.now point.0)) }
 {
     match envs.get(point.0 as usize) {
-        Some(env) => push_env(alloc, out, flow, observer, label, point, env),
+        Some(env) => push_env(out, flow, observer, label, point, env),
         None => Ok(()),
     }
 }
 
-// The lines of labels, by the numbers of their names and their points.
+/// The lines of labels, by the numbers of their names and their points.
 fn push_labels(
-    alloc: Global,
     out: &mut Vec<u8>,
     flow: &Flow,
     observer: &Observer,
@@ -231,12 +219,12 @@ fn push_labels(
         let Some(point) = points.get(i) else {
             return Ok(());
         };
-        push_label(alloc, out, flow, observer, envs, labels[i], *point)?;
+        push_label(out, flow, observer, envs, labels[i], *point)?;
     }
     Ok(())
 }
 
-// The line of the counts.
+/// The line of the counts.
 fn counts(
     alloc: Global,
     flow: &Flow,
@@ -247,13 +235,13 @@ fn counts(
 {
     let mut out = Vec::new(alloc);
     push(&mut out, "safe points ")?;
-    push_number(alloc, &mut out, u64::from(flow.points))?;
+    push_number(&mut out, u64::from(flow.points))?;
     push(&mut out, " steps ")?;
-    push_number(alloc, &mut out, flow.steps.len() as u64)?;
+    push_number(&mut out, flow.steps.len() as u64)?;
     push(&mut out, " locations ")?;
-    push_number(alloc, &mut out, u64::from(observer.count()))?;
+    push_number(&mut out, u64::from(observer.count()))?;
     push(&mut out, " obligations ")?;
-    push_number(alloc, &mut out, obligations)?;
+    push_number(&mut out, obligations)?;
     push(&mut out, "\n")?;
     Ok(out)
 }
@@ -271,7 +259,7 @@ pub fn safe(
     ensures { IfOk result (λ v. v.items ≡ safe_text flow.now observer.now envs.now obligations) }
 {
     let mut out = Vec::new(alloc);
-    push_labels(alloc, &mut out, flow, observer, envs)?;
+    push_labels(&mut out, flow, observer, envs)?;
     push_bytes(&mut out, &counts(alloc, flow, observer, obligations)?)?;
     Ok(out)
 }

@@ -1,11 +1,11 @@
 -- Going over the obligations with a tree for each.
-use Rattle.std.proofs.Common.{◌≡◌, ℕ, zero, suc, ◌+◌, ◌<◌, ◌≤◌, List, [], ◌∷◌, length, drop, Some, None, sym, ap, subst, ◌∙◌, arith, below_more}
-use Rattle.std.specs.Prelude.{slice_get, is_some, Option, Bool, true, false, ◌==◌, ◌&&◌, ◌⊎◌, Contains}
+use Rattle.std.proofs.Common.{◌≡◌, ℕ, zero, suc, ◌+◌, ◌<◌, ◌≤◌, List, [], ◌∷◌, length, drop, get_or, Some, None, sym, ap, subst, ◌∙◌, arith, below_more}
+use Rattle.std.specs.Prelude.{slice_get, is_some, IfSome, Option, Bool, true, false, ◌==◌, ◌&&◌, ◌⊎◌, Contains}
 use Rattle.std.specs.Bool.{Decides}
 use Rattle.std.specs.Cmp.Lexicographic.{pointwise}
 use Rattle.std.proofs.lemmas.Bool.{eqb-true, eq-eqb, and_parts, and_from, false≢true}
 use Rattle.std.proofs.lemmas.Slice.Eq.{slice_eq-Decides}
-use Rattle.std.proofs.lemmas.Option.{slice_get_within}
+use Rattle.std.proofs.lemmas.Option.{slice_get_within, slice_get-get_or}
 use Rattle.plc_flow.specs.declared.flow.Flow.{Flow}
 use Rattle.plc_logic.specs.declared.clause.Outline.{Outline}
 use Rattle.plc_ground.specs.declared.terms.Tree.{Tree}
@@ -15,7 +15,7 @@ use Rattle.plc_ground.specs.declared.terms.Node.TheVariants.{Split, Leaf}
 use Rattle.plc_ground.specs.Trees.{Closes, IsVerdict}
 use Rattle.plc_oblig.specs.Alike.{IsNotedAs}
 use Rattle.plc_oblig.proofs.OneSet.{more_noted}
-use Rattle.plc_verify.specs.Tests.{NotedClose}
+use Rattle.plc_verify.specs.Tests.{NotedClose, IsVerdictAt}
 use Rattle.plc_setting.specs.declared.obligations.Obligation.{Obligation}
 use Rattle.plc_oblig.specs.Obligations.{obligations}
 use Rattle.plc_oblig.specs.GroundSets.{ground_set}
@@ -48,7 +48,7 @@ module _ (flow : Flow) (outline : Outline) (trees : List Tree) where
     here : (slice_get (obligations flow outline) i ≡ Some o) × (drop (suc i) (obligations flow outline) ≡ after)
     here = at_drop (obligations flow outline) i o after (at.rest ∙ next)
 
-    pub goes_on : IsVerdict (ground_set flow outline o) [] t.nodes None → IsAt (i + 1) after
+    goes_on : IsVerdict (ground_set flow outline o) [] t.nodes None → IsAt (i + 1) after
     goes_on closes = record {
       rest = let one : i + 1 ≡ suc i = omega arith in ap (λ (n : ℕ). drop n (obligations flow outline)) one ∙ here.1;
       closed = below_more (ClosesAt flow outline trees) i at.closed this;
@@ -61,7 +61,7 @@ module _ (flow : Flow) (outline : Outline) (trees : List Tree) where
             subst (λ (x : Tree). IsVerdict (ground_set flow outline p) [] x.nodes None) same_t
             (subst (λ (q : Obligation). IsVerdict (ground_set flow outline q) [] t.nodes None) same_o closes)
 
-    pub fails_here : (k : ℕ) → IsVerdict (ground_set flow outline o) [] t.nodes (Some k) → length trees ≡ length (obligations flow outline) → FailsAtTree flow outline trees i k
+    fails_here : (k : ℕ) → IsVerdict (ground_set flow outline o) [] t.nodes (Some k) → length trees ≡ length (obligations flow outline) → FailsAtTree flow outline trees i k
     fails_here k bad same = record {
       one_each = same;
       before = at.closed;
@@ -71,6 +71,26 @@ module _ (flow : Flow) (outline : Outline) (trees : List Tree) where
       tree_is = is;
       fails = bad;
     }
+
+  -- a tree that stands nowhere
+  abbrev no_tree : Tree
+  no_tree = record { nodes = [] }
+
+  module _ (i : ℕ) (left after : List Obligation) (o : Obligation) (at : IsAt i left) (next : left ≡ o ∷ after) (small : i < length trees) where
+    abbrev this_tree : Tree
+    this_tree = get_or trees i no_tree
+
+    there : slice_get trees i ≡ Some this_tree
+    there = slice_get-get_or trees i no_tree small
+
+    verdict : (bad : Option ℕ) → IsVerdictAt flow outline trees i o bad → IsVerdict (ground_set flow outline o) [] this_tree.nodes bad
+    verdict bad found = subst (λ (t : Option Tree). IfSome t (λ t. IsVerdict (ground_set flow outline o) [] t.nodes bad)) there found
+
+    pub closed_here : IsVerdictAt flow outline trees i o None → IsAt (i + 1) after
+    closed_here found = goes_on i left after o this_tree at next there (verdict None found)
+
+    pub failed_here : (k : ℕ) → IsVerdictAt flow outline trees i o (Some k) → length trees ≡ length (obligations flow outline) → FailsAtTree flow outline trees i k
+    failed_here k found same = fails_here i left after o this_tree at next there k (verdict (Some k) found) same
 
   pub all_close : (i : ℕ) (left : List Obligation) → IsAt i left → length trees ≤ i → length trees ≡ length (obligations flow outline) → TreesClose flow outline trees
   all_close i left at past same = record {
@@ -106,6 +126,11 @@ same_nodes E splits apart aside leaves xs ys r is = (slice_eq-Decides (nodes_sam
 pub closes_if_none : (s : GroundSet) (nodes : List Node) (bad : Option ℕ) → IsVerdict s [] nodes bad → is_some bad ≡ false → Closes s nodes
 closes_if_none s nodes None verdict h = verdict
 closes_if_none s nodes (Some k) verdict h = absurd cc
+
+pub verdict_at : (flow : Flow) (outline : Outline) (trees : List Tree) (at : ℕ) (o : Obligation) (t : Tree) (bad : Option ℕ) → slice_get trees at ≡ Some t
+    → IsVerdict (ground_set flow outline o) [] t.nodes bad → IsVerdictAt flow outline trees at o bad
+verdict_at flow outline trees at o t bad is verdict =
+    subst (λ (u : Option Tree). IfSome u (λ t. IsVerdict (ground_set flow outline o) [] t.nodes bad)) (sym is) verdict
 
 module _ (flow : Flow) (outline : Outline) (trees : List Tree) (tried : List (Obligation × ℕ)) (o : Obligation) (at : ℕ) (close : NotedClose flow outline trees tried) where
   pub tried_closes : IsNotedAs flow outline tried o at → (t : Tree) (nodes : List Node) → slice_get trees at ≡ Some t → t.nodes ≡ nodes

@@ -1,6 +1,6 @@
 -- What private functions test and hand on.
-use Rattle.std.specs.Prelude.{◌≡◌, ◌&&◌, ◌==◌, ◌<◌, ◌≤◌, ℕ, Contains, slice_get}
-use Rattle.std.specs.Prelude.{Bool, true, false, List, length, None, Some, Result, Ok, Err}
+use Rattle.std.specs.Prelude.{◌≡◌, ◌&&◌, ◌==◌, ◌<◌, ◌≤◌, ℕ, [], Contains, slice_get}
+use Rattle.std.specs.Prelude.{Bool, true, false, List, length, Option, None, Some, IfSome, Result, Ok, Err}
 use Rattle.plc_base.specs.Mask.{within}
 use Rattle.plc_lang.specs.declared.syntax.Primitive.{Primitive}
 use Rattle.plc_lang.specs.Skeleton.{Skeleton}
@@ -11,7 +11,7 @@ use Rattle.plc_xfer.specs.Typings.{all_types, env_at, led, fault_at}
 use Rattle.plc_flow.specs.declared.flow.Flow.{Flow}
 use Rattle.plc_logic.specs.declared.clause.Outline.{Outline}
 use Rattle.plc_ground.specs.declared.terms.Tree.{Tree}
-use Rattle.plc_ground.specs.Trees.{Closes}
+use Rattle.plc_ground.specs.Trees.{Closes, IsVerdict}
 use Rattle.plc_setting.specs.declared.obligations.Obligation.{Obligation}
 use Rattle.plc_oblig.specs.GroundSets.{ground_set}
 use Rattle.plc_verify.specs.declared.fault.VerifyFault.{VerifyFault}
@@ -72,3 +72,8 @@ MayNotClose flow outline trees Memory = Unit {0}
 abbrev pub NotedClose : Flow → Outline → List Tree → List (Obligation × ℕ) → Type 0
 NotedClose flow outline trees noted = (x : Obligation × ℕ) → Contains noted x
     → (t : Tree) × (slice_get trees x.1 ≡ Some t) × Closes (ground_set flow outline x.0) t.nodes
+
+-- what is found of the tree with this number, over the ground set of an obligation: its first bad node, if it has one
+abbrev pub IsVerdictAt : Flow → Outline → List Tree → ℕ → Obligation → Option ℕ → Type 0
+IsVerdictAt flow outline trees at o bad =
+    IfSome (slice_get trees at) (λ t. IsVerdict (ground_set flow outline o) [] t.nodes bad)

@@ -16,7 +16,7 @@ use plc_lang::count_pointers;
 use plc_type::{Env, Guar, PtrType};
 use std::alloc::Global;
 
-// One of the four sets of guarantees.
+/// One of the four sets of guarantees.
 fn is_guarantee_set(g: Guar) -> bool
     ensures { result ≡ is_guarantee_set g }
 {
@@ -26,7 +26,7 @@ fn is_guarantee_set(g: Guar) -> bool
         || g == Guar::active_local_safe()
 }
 
-// Whether a type is one beside W.
+/// Whether a type is one beside W.
 fn is_type(t: &PtrType, w: Mask, observer: &Observer) -> bool
     ensures { result ≡ is_type observer.now w t.now }
 {
@@ -47,7 +47,7 @@ fn are_types(types: &[PtrType], w: Mask, observer: &Observer) -> bool
     true
 }
 
-// Whether an environment is one for so many locals.
+/// Whether an environment is one for so many locals.
 fn env_fits(env: &Env, locals: usize, observer: &Observer) -> bool
     ensures { result ≡ env_fits observer.now locals env.now }
 {
@@ -56,7 +56,7 @@ fn env_fits(env: &Env, locals: usize, observer: &Observer) -> bool
         && are_types(env.locals.as_slice(), env.w, observer)
 }
 
-// The first point of an operation whose environment isn't one.
+/// The first point of an operation whose environment isn't one.
 fn first_unfit(envs: &[Env], gate: Gate, locals: usize, observer: &Observer) -> Option<u16>
     requires { gate.after ≤ length envs.now }
     ensures { MatchOption result (AllFit observer.now locals envs.now gate.first gate.after)
@@ -90,7 +90,7 @@ pub(crate) fn first_bad_point(flow: &Flow, observer: &Observer, envs: &[Env]) ->
     None
 }
 
-// An environment with types of so many shared pointers, in memory of its own.
+/// An environment with types of so many shared pointers, in memory of its own.
 fn with_shared(alloc: Global, shared: usize, env: &Env) -> Result<Env, NoMemory>
     ensures { IfOk result (λ whole. whole ≡ with_shared shared env.now) }
 {

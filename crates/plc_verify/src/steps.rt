@@ -17,8 +17,8 @@ use plc_type::{Env, below};
 use plc_xfer::{apply, condition, interfere};
 use std::alloc::Global;
 
-// What the primitives of a step and then interference make of an environment; or the first primitive whose
-// condition fails.
+/// What the primitives of a step and then interference make of an environment; or the first primitive whose
+/// condition fails.
 fn run(
     alloc: Global,
     env: &Env,
@@ -40,7 +40,7 @@ fn run(
     Ok(Ok(reached))
 }
 
-// The first part of an environment that isn't below that of another.
+/// The first part of an environment that isn't below that of another.
 fn first_above(a: &Env, b: &Env) -> Option<Slot>
     requires same { length a.now.locals ≡ length b.now.locals }
     requires few { length a.now.locals ≤ 65536 }
@@ -59,7 +59,7 @@ fn first_above(a: &Env, b: &Env) -> Option<Slot>
     None
 }
 
-// Judges a step, where those before it hold.
+/// Judges a step, where those before it hold.
 fn verify_step(
     alloc: Global,
     flow: &Flow,

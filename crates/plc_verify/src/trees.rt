@@ -1,12 +1,13 @@
 // Whether trees close the ground sets of the obligations, one for each in order. The obligations are walked over
 // and one ground set is made at a time, so that no list of either is held. Obligations that are alike have one set, and
 // mostly one tree too: then the tree is tried once.
-ghost use Rattle.std.specs.Prelude.{◌≡◌, [], IsTrue, IfOk, OnOk, MatchResult, Some, slice_get};
+ghost use Rattle.std.specs.Prelude.{◌≡◌, ◌<◌, [], IsTrue, IfOk, OnOk, MatchResult, length};
 ghost use Rattle.plc_ground.specs.Trees.{Closes, IsVerdict};
 ghost use Rattle.plc_setting.specs.Fit.{Fits};
+ghost use Rattle.plc_oblig.specs.Obligations.{obligations};
 ghost use Rattle.plc_oblig.specs.GroundSets.{ground_set};
 ghost use Rattle.plc_verify.specs.Trees.{TreesClose};
-ghost use Rattle.plc_verify.specs.Tests.{MayNotClose, NotedClose};
+ghost use Rattle.plc_verify.specs.Tests.{MayNotClose, NotedClose, IsVerdictAt};
 
 use crate::fault::VerifyFault;
 use plc_base::NoMemory;
@@ -16,34 +17,36 @@ use plc_logic::Outline;
 use plc_oblig::{Grounding, Noted, Obligation, Walk, count};
 use std::alloc::Global;
 
+/// What is said to show that the outline of a flow holds: trees, one for each of its obligations in order.
+#[derive(Clone, Copy)]
+struct Evidence<'a> {
+    flow: &'a Flow,
+    outline: &'a Outline,
+    trees: &'a [Tree],
+}
+
 fn are_same(a: &[Node], b: &[Node]) -> bool
     ensures { IsTrue result → a.now ≡ b.now }
 {
     a == b
 }
 
-// Whether this tree was found to close the set of an obligation that is alike.
-fn is_tried(
-    flow: &Flow,
-    outline: &Outline,
-    trees: &[Tree],
-    tried: &Noted,
-    o: &Obligation,
-    tree: &Tree,
-) -> bool
-    requires { NotedClose flow.now outline.now trees.now tried.now }
-    ensures { IsTrue result → Closes (ground_set flow.now outline.now o.now) tree.now.nodes }
+/// Whether this tree was found to close the set of an obligation that is alike.
+fn is_tried(evidence: &Evidence, tried: &Noted, o: &Obligation, tree: &Tree) -> bool
+    requires { NotedClose evidence.now.flow.now evidence.now.outline.now evidence.now.trees.now tried.now }
+    ensures { IsTrue result
+        → Closes (ground_set evidence.now.flow.now evidence.now.outline.now o.now) tree.now.nodes }
 {
-    let Some(at) = tried.find(flow, outline, o) else {
+    let Some(at) = tried.find(evidence.flow, evidence.outline, o) else {
         return false;
     };
-    match trees.get(at) {
+    match evidence.trees.get(at) {
         None => false,
         Some(other) => are_same(other.nodes.as_slice(), tree.nodes.as_slice()),
     }
 }
 
-// None where the tree closes the ground set of the obligation, else its first bad node.
+/// None where the tree closes the ground set of the obligation, else its first bad node.
 fn first_bad_node(
     alloc: Global,
     memory: &mut Grounding,
@@ -61,32 +64,59 @@ fn first_bad_node(
     Ok(bad)
 }
 
-// The same of the tree with a number, which is noted where it closes the set.
+/// The same of the tree with a number, which is noted where it closes the set.
 fn try_tree(
     alloc: Global,
     memory: &mut Grounding,
     tried: &mut Noted,
-    flow: &Flow,
-    outline: &Outline,
+    evidence: &Evidence,
     o: &Obligation,
-    trees: &[Tree],
     at: usize,
-    tree: &Tree,
 ) -> Result<Option<u64>, NoMemory>
-    requires fits { Fits flow.now outline.now }
-    requires tree { slice_get trees.now at ≡ Some tree.now }
-    requires tried { NotedClose flow.now outline.now trees.now tried.old }
-    ensures bad { IfOk result (λ bad. IsVerdict (ground_set flow.now outline.now o.now) [] tree.now.nodes bad) }
-    ensures tried { OnOk result (NotedClose flow.now outline.now trees.now tried.new) }
+    requires fits { Fits evidence.now.flow.now evidence.now.outline.now }
+    requires there { at < length evidence.now.trees.now }
+    requires tried { NotedClose evidence.now.flow.now evidence.now.outline.now evidence.now.trees.now tried.old }
+    ensures bad { IfOk result
+        (IsVerdictAt evidence.now.flow.now evidence.now.outline.now evidence.now.trees.now at o.now) }
+    ensures tried { OnOk result
+        (NotedClose evidence.now.flow.now evidence.now.outline.now evidence.now.trees.now tried.new) }
 {
-    if is_tried(flow, outline, trees, tried, o, tree) {
+    let tree = &evidence.trees[at];
+    if is_tried(evidence, tried, o, tree) {
         return Ok(None);
     }
-    let bad = first_bad_node(alloc, memory, flow, outline, o, tree)?;
+    let bad = first_bad_node(alloc, memory, evidence.flow, evidence.outline, o, tree)?;
     if bad.is_none() {
         tried.note(o, at)?;
     }
     Ok(bad)
+}
+
+/// Tries each tree in order, where there is one for each obligation.
+fn try_trees(alloc: Global, evidence: &Evidence) -> Result<(), VerifyFault>
+    requires fits { Fits evidence.now.flow.now evidence.now.outline.now }
+    requires one_each { length evidence.now.trees.now
+        ≡ length (obligations evidence.now.flow.now evidence.now.outline.now) }
+    ensures { MatchResult result
+        (λ _. TreesClose evidence.now.flow.now evidence.now.outline.now evidence.now.trees.now)
+        (λ fault. MayNotClose evidence.now.flow.now evidence.now.outline.now evidence.now.trees.now fault) }
+{
+    let mut walk = Walk::new(alloc, evidence.flow, evidence.outline)?;
+    let mut memory = Grounding::new(alloc);
+    let mut tried = Noted::new(alloc);
+    for i in 0..evidence.trees.len() {
+        let Some(o) = walk.next() else {
+            unreachable!();
+        };
+        let bad = try_tree(alloc, &mut memory, &mut tried, evidence, &o, i)?;
+        if let Some(node) = bad {
+            return Err(VerifyFault::TreeAt {
+                obligation: i as u64,
+                node,
+            });
+        }
+    }
+    Ok(())
 }
 
 /// Ok exactly where there is one tree for each obligation, which closes its ground set.
@@ -105,31 +135,10 @@ pub(crate) fn verify_trees(
     if have != want {
         return Err(VerifyFault::TreeCount { have, want });
     }
-    let mut walk = Walk::new(alloc, flow, outline)?;
-    let mut memory = Grounding::new(alloc);
-    let mut tried = Noted::new(alloc);
-    for i in 0..trees.len() {
-        let Some(o) = walk.next() else {
-            unreachable!();
-        };
-        let tree = &trees[i];
-        let bad = try_tree(
-            alloc,
-            &mut memory,
-            &mut tried,
-            flow,
-            outline,
-            &o,
-            trees,
-            i,
-            tree,
-        )?;
-        if let Some(node) = bad {
-            return Err(VerifyFault::TreeAt {
-                obligation: i as u64,
-                node,
-            });
-        }
-    }
-    Ok(())
+    let evidence = Evidence {
+        flow,
+        outline,
+        trees,
+    };
+    try_trees(alloc, &evidence)
 }

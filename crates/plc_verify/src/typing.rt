@@ -17,7 +17,7 @@ use plc_flow::Flow;
 use plc_type::Env;
 use std::alloc::Global;
 
-// The first operation at whose entry not every location is in W.
+/// The first operation at whose entry not every location is in W.
 fn first_narrow_entry(flow: &Flow, observer: &Observer, envs: &[Env]) -> Option<OpId>
     requires flow { IsWellFormed flow.now }
     requires file { FileFits flow.now.file }

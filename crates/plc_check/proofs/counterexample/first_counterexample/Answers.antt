@@ -7,18 +7,18 @@ use Rattle.plc_check.proofs.counterexample.first_counterexample.Goals as goal
 
 pub loop-obligation-preserved : goal.loop-obligation-preserved
 loop-obligation-preserved c = (
-  advanced (IsKept c.args.flow.now c.args.outline.now) (obligations c.args.flow.now c.args.outline.now)
+  advanced (IsKept c.args.judged.now.flow c.args.judged.now.unit_outline) (obligations c.args.judged.now.flow c.args.judged.now.unit_outline)
       c.loop-obligation.walk c.next.new.self c.in-Some.obligation c.loop-obligation.invariant.0 c.in-Some.ensures
-      (subst (IsCounterexampleAt c.args.flow.now c.args.outline.now c.in-Some.obligation) c.in_default-found.is c.in_ok-found.ensures.found),
+      (subst (IsCounterexampleAt c.args.judged.now.flow c.args.judged.now.unit_outline c.in-Some.obligation) c.in_default-found.is c.in_ok-found.ensures.found),
   c.in_ok-found.ensures.kept,
 )
 
 pub returns : goal.returns
 returns c =
-    ended (IsKept c.args.flow.now c.args.outline.now) (obligations c.args.flow.now c.args.outline.now)
+    ended (IsKept c.args.judged.now.flow c.args.judged.now.unit_outline) (obligations c.args.judged.now.flow c.args.judged.now.unit_outline)
     c.loop-obligation.walk c.loop-obligation.invariant.0 c.in_default.ensures.0
 
 pub counterexample_at-requires-clause-there : goal.counterexample_at-requires-clause-there
 counterexample_at-requires-clause-there c =
-    is_listed (IsKept c.args.flow.now c.args.outline.now) (obligations c.args.flow.now c.args.outline.now)
+    is_listed (IsKept c.args.judged.now.flow c.args.judged.now.unit_outline) (obligations c.args.judged.now.flow c.args.judged.now.unit_outline)
     c.loop-obligation.walk c.next.new.self c.in-Some.obligation c.loop-obligation.invariant.0 c.in-Some.ensures

@@ -7,7 +7,7 @@ use Rattle.plc_check.proofs.counterexample.first_counterexample.Given as goal
 
 abbrev pub invariant-loop-obligation : goal.invariant-loop-obligation
 invariant-loop-obligation l =
-    SoFar (IsKept l.flow l.outline) (obligations l.flow l.outline) l.walk × NotedAreKept l.flow l.outline l.kept
+    SoFar (IsKept l.judged.flow l.judged.unit_outline) (obligations l.judged.flow l.judged.unit_outline) l.walk × NotedAreKept l.judged.flow l.judged.unit_outline l.kept
 
 abbrev pub decreases-loop-obligation : goal.decreases-loop-obligation
 decreases-loop-obligation l = length l.walk

@@ -10,8 +10,8 @@ use Rattle.plc_check.proofs.tree.trees_of.Goals as goal
 
 pub loop-obligation-preserved : goal.loop-obligation-preserved
 loop-obligation-preserved c =
-    let flow = c.args.flow.now in
-    let outline = c.args.outline.now in
+    let flow = c.args.judged.now.flow in
+    let outline = c.args.judged.now.unit_outline in
     let added = subst (AddsTreeAt flow outline c.in-Some.obligation c.as_slice.result.now c.tree_at.new.noted) c.in-Ok.is c.in_ok-tree.ensures in
     let have = subst (λ (ts : List Tree). NotedHaveTrees flow outline (ts ++ c.in-Ok.tree ∷ []) c.tree_at.new.noted) c.as_slice.ensures added.1 in (
       subst (TreesSoFar flow outline c.next.new.self) (sym c.in_ok-push-in-Ok.ensures.ok)
@@ -22,18 +22,18 @@ loop-obligation-preserved c =
 
 pub returns-in-Err : goal.returns-in-Err
 returns-in-Err c =
-    let broken = subst (AddsTreeAt c.args.flow.now c.args.outline.now c.in-Some.obligation c.as_slice.result.now c.tree_at.new.noted) c.in-Err.is c.in_ok-tree.ensures in
-    least_broken c.args.flow.now c.args.outline.now c.loop-obligation.walk c.next.new.self c.in-Some.obligation c.in-Err.found
-    (kept_so_far c.args.flow.now c.args.outline.now c.loop-obligation.walk c.loop-obligation.trees c.loop-obligation.invariant.0)
+    let broken = subst (AddsTreeAt c.args.judged.now.flow c.args.judged.now.unit_outline c.in-Some.obligation c.as_slice.result.now c.tree_at.new.noted) c.in-Err.is c.in_ok-tree.ensures in
+    least_broken c.args.judged.now.flow c.args.judged.now.unit_outline c.loop-obligation.walk c.next.new.self c.in-Some.obligation c.in-Err.found
+    (kept_so_far c.args.judged.now.flow c.args.judged.now.unit_outline c.loop-obligation.walk c.loop-obligation.trees c.loop-obligation.invariant.0)
     c.in-Some.ensures broken
 
 pub tree_at-requires-clause-there : goal.tree_at-requires-clause-there
 tree_at-requires-clause-there c =
-    is_listed (IsKept c.args.flow.now c.args.outline.now) (obligations c.args.flow.now c.args.outline.now)
+    is_listed (IsKept c.args.judged.now.flow c.args.judged.now.unit_outline) (obligations c.args.judged.now.flow c.args.judged.now.unit_outline)
     c.loop-obligation.walk c.next.new.self c.in-Some.obligation
-    (kept_so_far c.args.flow.now c.args.outline.now c.loop-obligation.walk c.loop-obligation.trees c.loop-obligation.invariant.0)
+    (kept_so_far c.args.judged.now.flow c.args.judged.now.unit_outline c.loop-obligation.walk c.loop-obligation.trees c.loop-obligation.invariant.0)
     c.in-Some.ensures
 
 pub tree_at-requires-clause-noted : goal.tree_at-requires-clause-noted
 tree_at-requires-clause-noted c =
-    subst (λ (ts : List Tree). NotedHaveTrees c.args.flow.now c.args.outline.now ts c.loop-obligation.noted) (sym c.as_slice.ensures) c.loop-obligation.invariant.1
+    subst (λ (ts : List Tree). NotedHaveTrees c.args.judged.now.flow c.args.judged.now.unit_outline ts c.loop-obligation.noted) (sym c.as_slice.ensures) c.loop-obligation.invariant.1

@@ -4,7 +4,7 @@ use Rattle.plc_check.proofs.Matching.{TreesSoFar}
 use Rattle.plc_check.proofs.tree.trees_of.Given as goal
 
 abbrev pub invariant-loop-obligation : goal.invariant-loop-obligation
-invariant-loop-obligation l = TreesSoFar l.flow l.outline l.walk l.trees × NotedHaveTrees l.flow l.outline l.trees l.noted
+invariant-loop-obligation l = TreesSoFar l.judged.flow l.judged.unit_outline l.walk l.trees × NotedHaveTrees l.judged.flow l.judged.unit_outline l.trees l.noted
 
 abbrev pub decreases-loop-obligation : goal.decreases-loop-obligation
 decreases-loop-obligation l = length l.walk

@@ -3,7 +3,7 @@ use Rattle.std.proofs.lemmas.Option.{slice_get-get_or, slice_get-map}
 use Rattle.plc_cli.specs.Answer.{IsDueFor}
 use Rattle.plc_cli.specs.Requests.{Request}
 use Rattle.plc_cli.specs.Views.{request_view}
-use Rattle.plc_cli.proofs.Judging.{if_ok_from}
+use Rattle.plc_cli.proofs.Answering.{if_ok_from}
 use Rattle.plc_cli.proofs.program.answer_to.Goals as goal
 
 pub returns-in-Some-Replay-clause-due : goal.returns-in-Some-Replay-clause-due

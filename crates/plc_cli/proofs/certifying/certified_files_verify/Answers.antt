@@ -1,5 +1,5 @@
 use Rattle.plc_cli.proofs.Accepted.{certified_verify}
-use Rattle.plc_cli.proofs.laws.certified_files_verify.Goals as goal
+use Rattle.plc_cli.proofs.certifying.certified_files_verify.Goals as goal
 
 pub returns : goal.returns
 returns c = certified_verify

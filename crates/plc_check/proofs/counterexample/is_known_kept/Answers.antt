@@ -1,0 +1,13 @@
+use Rattle.std.proofs.Common.{sym, ◌∙◌}
+use Rattle.plc_oblig.proofs.Opposites.{still_is_kept}
+use Rattle.plc_check.proofs.Noting.{alike_is_kept}
+use Rattle.plc_check.proofs.counterexample.is_known_kept.Goals as goal
+
+pub returns-then-still : goal.returns-then-still
+returns-then-still c h =
+    still_is_kept c.args.judged.now.flow c.args.judged.now.unit_outline c.args.o.now c.requires.fits c.requires.there
+    (sym c.still.ensures ∙ c.if-still.true)
+
+pub returns-in-Some : goal.returns-in-Some
+returns-in-Some c h =
+    alike_is_kept c.args.judged.now.flow c.args.judged.now.unit_outline c.args.kept.now c.args.o.now c.in-Some.field-0 c.in-Some.ensures c.requires.kept

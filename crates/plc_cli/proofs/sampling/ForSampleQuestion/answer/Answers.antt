@@ -1,0 +1,10 @@
+use Rattle.plc_check.specs.Verdicts.{IsVerdictOn}
+use Rattle.plc_cli.specs.Samples.{sampled_text}
+use Rattle.plc_cli.specs.Verdicts.{verdict_status}
+use Rattle.plc_cli.proofs.Answering.{if_told}
+use Rattle.plc_cli.proofs.sampling.ForSampleQuestion.answer.Goals as goal
+
+pub returns-in-Ok : goal.returns-in-Ok
+returns-in-Ok c =
+    if_told c.told_sample.result (IsVerdictOn c.args.judged) verdict_status (sampled_text c.args.self.now.copies c.args.self.now.line c.args.judged)
+    c.in-Ok.verdict c.in-Ok.ensures c.told_sample.ensures

@@ -1,0 +1,64 @@
+// What is asked of one file, and the one way from a question to its answer: the file is read, its bytes are loaded, and
+// where they are refused that is the answer. So a question says no more than what is due for a file that was loaded.
+ghost use Rattle.std.specs.Prelude.{◌≤◌, IfOk, length};
+ghost use Rattle.plc_base.specs.Limits.{largest_file};
+ghost use Rattle.plc_setting.specs.Fit.{Fits};
+ghost use Rattle.plc_check.specs.Loading.{judged_of};
+ghost use Rattle.plc_cli.specs.Files.{IsAnsweredFile};
+ghost use Rattle.plc_cli.specs.Reads.{FilesAreKept, IsDueForFile};
+
+use crate::answer::{Answer, refusal};
+use crate::reading::{Content, read};
+use plc_base::LARGEST_FILE;
+use plc_check::{Judged, LoadFault, load};
+use plc_outside::Files;
+use std::alloc::{AllocError, Global};
+
+/// What is asked of a file.
+pub(crate) trait Question: Drop {
+    ghost use Rattle.std.specs.Prelude.{ℕ, List};
+    ghost use Rattle.plc_check.specs.declared.judged.Judged.{Judged as AJudged};
+
+    /// Whether a status and a text are due for a file that was loaded.
+    ghost due: { Self → AJudged → ℕ → List ℕ → Type 0 };
+
+    /// The answer to a file that was loaded.
+    fn answer(&self, alloc: Global, judged: Judged) -> Result<Answer, AllocError>
+        requires { Fits judged.flow judged.unit_outline }
+        ensures { IfOk result (λ answer. due self.now judged answer.status answer.text.items) };
+}
+
+/// The answer to the bytes of a file.
+pub(crate) fn answer_bytes<Q: Question>(
+    alloc: Global,
+    bytes: &[u8],
+    question: &Q,
+) -> Result<Answer, AllocError>
+    requires { length bytes.now ≤ largest_file }
+    ensures { IfOk result (λ answer.
+        IsAnsweredFile (λ u. Q.due question.now (judged_of u)) bytes.now answer.status answer.text.items) }
+{
+    match load(alloc, bytes) {
+        Ok(judged) => question.answer(alloc, judged),
+        Err(LoadFault::Memory) => Err(AllocError),
+        Err(fault) => refusal(alloc, &fault),
+    }
+}
+
+/// The answer to a command with one file.
+pub(crate) fn answer_file<F: Files, Q: Question>(
+    alloc: Global,
+    files: &mut F,
+    file: &str,
+    question: Q,
+) -> Result<Answer, AllocError>
+    ensures kept { FilesAreKept (F.known files.old) (F.known files.new) }
+    ensures due { IfOk result (λ answer. IsDueForFile (F.known files.old) (F.known files.new) file.now
+        (λ bytes. IsAnsweredFile (λ u. Q.due question (judged_of u)) bytes answer.status answer.text.items)
+        answer.status answer.text.items) }
+{
+    match read(alloc, files, file, LARGEST_FILE)? {
+        Content::Read(bytes) => answer_bytes(alloc, &bytes, &question),
+        Content::Unread(answer) => Ok(answer),
+    }
+}

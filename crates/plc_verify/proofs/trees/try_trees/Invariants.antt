@@ -1,0 +1,7 @@
+use Rattle.plc_verify.specs.Tests.{NotedClose}
+use Rattle.plc_verify.proofs.Closing.{IsAt}
+use Rattle.plc_verify.proofs.trees.try_trees.Given as goal
+
+abbrev pub invariant-loop-i : goal.invariant-loop-i
+invariant-loop-i l =
+    IsAt l.evidence.flow.now l.evidence.outline.now l.evidence.trees.now l.i l.walk × NotedClose l.evidence.flow.now l.evidence.outline.now l.evidence.trees.now l.tried
