@@ -1,5 +1,6 @@
-// Garbage-collected runs, and the obligations of outlines with their ground sets.
+// Garbage-collected runs, the obligations of outlines with their ground sets, and how these are answered.
 mod amounts;
+mod certificates;
 mod checksums;
 mod collected;
 mod deep;
@@ -7,4 +8,5 @@ mod erased;
 mod loading;
 mod obligations;
 mod sets;
+mod solver;
 mod whole_sets;

@@ -1,7 +1,9 @@
-// From one primitive over moves and schedules to whole replays.
+// From types, and from one primitive over moves and schedules, to whole replays.
 mod copying;
 mod moves;
+mod observers;
 mod primitives;
 mod reclaimers;
 mod replays;
 mod schedules;
+mod types;

@@ -218,10 +218,11 @@ fn head_of(alloc: Global, count: u32) -> Result<String, AllocError> {
 
 #[test]
 fn a_flow_has_at_most_4096_points(rt: HostRuntime) -> Result<(), AllocError> {
-    for (count, want) in [
+    for row in &[
         (4094, "4096 points gate 0 1 0 4096"),
         (4095, "TooManyPoints { count: 4097 }"),
     ] {
+        let (count, want) = *row;
         assert_eq!(rt; head_of(rt.alloc(), count)?.as_str(), want);
     }
     Ok(())

@@ -49,7 +49,7 @@ fn nested_answers(alloc: Global, depth: u32, inside: &str) -> Result<String, All
 
 #[test]
 fn blocks_stand_in_blocks_at_most_64_deep(rt: HostRuntime) -> Result<(), AllocError> {
-    for (depth, inside, want) in [
+    for row in &[
         (64, "", "Ok(()) and unit"),
         (
             64,
@@ -60,6 +60,7 @@ fn blocks_stand_in_blocks_at_most_64_deep(rt: HostRuntime) -> Result<(), AllocEr
         (65, "", "Err(Nesting { at: 138 }) and limit Nesting 65"),
         (70, "", "Err(Nesting { at: 138 }) and limit Nesting 65"),
     ] {
+        let (depth, inside, want) = *row;
         assert_eq!(rt; nested_answers(rt.alloc(), depth, inside)?.as_str(), want);
     }
     Ok(())

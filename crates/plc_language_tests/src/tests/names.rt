@@ -36,7 +36,7 @@ fn names_are_numbered_in_order(rt: HostRuntime) -> Result<(), AllocError> {
 
 #[test]
 fn limits_have_names(rt: HostRuntime) {
-    for (limit, name) in [
+    for row in &[
         (What1::Fields, "fields"),
         (What1::Shared, "shared"),
         (What1::Calls, "calls"),
@@ -56,6 +56,7 @@ fn limits_have_names(rt: HostRuntime) {
         (What1::Clauses, "clauses"),
         (What1::Points, "points"),
     ] {
+        let (limit, name) = *row;
         assert_eq!(rt; limit.name(), name);
     }
 }

@@ -126,7 +126,7 @@ fn outlines_are_read_or_refused(rt: HostRuntime) -> Result<(), AllocError> {
 
 // So many times the same between two texts, and what these items come to: of a limit that is passed and a name that
 // isn't declared the one at the earlier token is told, at one token the name.
-const MANY_ITEMS: [(u32, &str, &str, &str, &str); 3] = [
+const MANY_ITEMS: &[(u32, &str, &str, &str, &str)] = &[
     (
         15,
         "inv Top == null",
@@ -153,7 +153,8 @@ const MANY_ITEMS: [(u32, &str, &str, &str, &str); 3] = [
 #[test]
 fn limits_come_in_their_order(rt: HostRuntime) -> Result<(), AllocError> {
     let alloc = rt.alloc();
-    for (count, before, each, after, want) in MANY_ITEMS {
+    for row in MANY_ITEMS {
+        let (count, before, each, after, want) = *row;
         let items = repeated(alloc, count, before, each, after)?;
         assert_eq!(rt;
             items_answer(alloc, items.as_str())?.as_str(),

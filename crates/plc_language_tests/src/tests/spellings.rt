@@ -40,7 +40,7 @@ fn spelled(alloc: Global, text: &str) -> Result<String, AllocError> {
     }
 }
 
-const SPELLINGS: [(&str, &str); 30] = [
+const SPELLINGS: &[(&str, &str)] = &[
     ("", ""),
     (" \t\r\n// none\n//", ""),
     ("struct N", "Struct 0..6 line 1;'N' 7..8 line 1;"),
@@ -144,7 +144,8 @@ fn each_keyword_is_a_word(rt: HostRuntime) -> Result<(), AllocError> {
 #[test]
 fn texts_spell_tokens(rt: HostRuntime) -> Result<(), AllocError> {
     let alloc = rt.alloc();
-    for (text, want) in SPELLINGS {
+    for row in SPELLINGS {
+        let (text, want) = *row;
         assert_eq!(rt; spelled(alloc, text)?.as_str(), want);
     }
     Ok(())

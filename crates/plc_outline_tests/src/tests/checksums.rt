@@ -2,7 +2,7 @@
 // computed.
 
 // Of the stack with hazard pointers.
-pub(crate) const OF_HAZARDS: [(u64, u32); 13] = [
+pub(crate) const OF_HAZARDS: &[(u64, u32)] = &[
     (6, 0x02be_20ff),
     (9, 0xb3fc_e87d),
     (14, 0x7bec_4624),
@@ -19,7 +19,7 @@ pub(crate) const OF_HAZARDS: [(u64, u32); 13] = [
 ];
 
 // Of the file with every form.
-pub(crate) const OF_DEEP: [(u64, u32); 35] = [
+pub(crate) const OF_DEEP: &[(u64, u32)] = &[
     (1, 0xb390_8d91),
     (2, 0x8b92_79d1),
     (3, 0x3857_3a91),

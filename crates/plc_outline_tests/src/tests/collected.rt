@@ -67,7 +67,7 @@ const NEXT: FieldId = FieldId(0);
 const VAL: FieldId = FieldId(1);
 
 // Places by short names: the shared pointer, two locals of two threads, and the fields of null and two nodes.
-const PLACES: [(&str, Place); 9] = [
+const PLACES: &[(&str, Place)] = &[
     ("Top", Place::Shared(0)),
     ("n", Place::Local { t: 0, v: 0 }),
     ("t", Place::Local { t: 0, v: 1 }),
@@ -82,7 +82,8 @@ const PLACES: [(&str, Place); 9] = [
 // Each place that is there with its node.
 fn places_text(alloc: Global, config: &GcConfig) -> Result<String, AllocError> {
     let mut text = String::new(alloc);
-    for (name, place) in PLACES {
+    for row in PLACES {
+        let (name, place) = *row;
         if let Some(node) = config.node(&place) {
             text.push_str(format!(in alloc; " {name}={node}")?.as_str())?;
         }

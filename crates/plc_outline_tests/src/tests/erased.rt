@@ -16,7 +16,7 @@ use plc_run::Config;
 use std::alloc::{AllocError, Global};
 
 // Places by short names: the shared pointer, and the first local of each thread.
-const PLACES: [(&str, Place); 3] = [
+const PLACES: &[(&str, Place)] = &[
     ("Top", Place::Shared(0)),
     ("t", Place::Local { t: 0, v: 0 }),
     ("u", Place::Local { t: 1, v: 0 }),
@@ -25,7 +25,8 @@ const PLACES: [(&str, Place); 3] = [
 // Each place that is there with its number in memory, after which `?` says that it is invalid, and its node.
 fn places_text(alloc: Global, memory: &Memory, collected: &GcConfig) -> Result<String, AllocError> {
     let mut text = String::new(alloc);
-    for (name, place) in PLACES {
+    for row in PLACES {
+        let (name, place) = *row;
         if let Some(number) = memory.number(&place) {
             let doubt = if memory.valid(&place) { "" } else { "?" };
             let node = collected.node(&place).unwrap_or(9);

@@ -150,13 +150,14 @@ fn answer_of_hazards(alloc: Global, i: u64) -> Result<String, NoMemory> {
 
 #[test]
 fn sets_are_those_of_the_format(rt: HostRuntime) -> Result<(), NoMemory> {
-    for (i, text) in [
+    for row in &[
         (0, START),
         (5, ENTER),
         (13, OWN),
         (2840, OTHER),
         (2841, CLAIM),
     ] {
+        let (i, text) = *row;
         assert_eq!(rt; answer_of_hazards(rt.alloc(), i)?.as_str(), text);
     }
     assert_eq!(rt; answer(rt.alloc(), DEEP, 0)?.as_str(), DEEP_START);
@@ -165,10 +166,12 @@ fn sets_are_those_of_the_format(rt: HostRuntime) -> Result<(), NoMemory> {
 
 #[test]
 fn other_sets_have_their_checksums(rt: HostRuntime) -> Result<(), NoMemory> {
-    for (i, sum) in OF_HAZARDS {
+    for row in OF_HAZARDS {
+        let (i, sum) = *row;
         assert_eq!(rt; checksum(answer_of_hazards(rt.alloc(), i)?.as_str()), sum);
     }
-    for (i, sum) in OF_DEEP {
+    for row in OF_DEEP {
+        let (i, sum) = *row;
         assert_eq!(rt; checksum(answer(rt.alloc(), DEEP, i)?.as_str()), sum);
     }
     Ok(())

@@ -88,7 +88,7 @@ const VAL: FieldId = FieldId(1);
 
 // Places by short names: a data field and a local of a third thread, which aren't there, then shared pointers, locals
 // of two threads, and the field of two nodes.
-const PLACES: [(&str, Place); 9] = [
+const PLACES: &[(&str, Place)] = &[
     ("1.val", Place::Cell { a: 1, f: VAL }),
     ("s", Place::Local { t: 2, v: 0 }),
     ("Top", Place::Shared(0)),
@@ -104,7 +104,8 @@ const PLACES: [(&str, Place); 9] = [
 // are used, and those that are retired.
 pub(crate) fn places_text(alloc: Global, memory: &Memory) -> Result<String, AllocError> {
     let mut text = String::new(alloc);
-    for (name, place) in PLACES {
+    for row in PLACES {
+        let (name, place) = *row;
         if let Some(number) = memory.number(&place) {
             let doubt = if memory.valid(&place) { "" } else { "?" };
             text.push_str(format!(in alloc; "{name}={number}{doubt} ")?.as_str())?;

@@ -337,11 +337,12 @@ places => Top=1? Other=0 p=0
 
 #[test]
 fn effects_are_seen(rt: HostRuntime) -> Result<(), NoMemory> {
-    for (before, rows) in [
+    for row in &[
         (VALID, EFFECTS_VALID),
         (RETIRED, EFFECTS_RETIRED),
         (INVALID, EFFECTS_INVALID),
     ] {
+        let (before, rows) = *row;
         for row in rows.split("# ") {
             if !row.is_empty() {
                 let (statement, want) = row.split_once("\n").unwrap_or((row, "?"));

@@ -83,12 +83,13 @@ fn the_reclaimer_decides(rt: HostRuntime) -> Result<(), NoMemory> {
         leak_end(alloc, DROPPED)?.as_str(),
         "Ended { lines: 8, events: 2, freed: 0 }"
     );
-    for (list, want) in [
+    for row in &[
         ("1", "Ended { lines: 8, events: 3, freed: 1 }"),
         ("2", "ForbiddenFree { a: 2, line: 8 }"),
         ("0", "Impossible { line: 8 }"),
         ("", "Ended { lines: 8, events: 2, freed: 0 }"),
     ] {
+        let (list, want) = *row;
         assert_eq!(rt; listed_end(alloc, DROPPED, list)?.as_str(), want, "{list}");
     }
     Ok(())
@@ -100,7 +101,7 @@ const BOTH: &str = "threads 2\nstart 0 drop\nstart 1 drop\nstep 0 0 1\nstep 1 0 
 #[test]
 fn the_first_bad_line_is_named(rt: HostRuntime) -> Result<(), NoMemory> {
     let alloc = rt.alloc();
-    for (lines, want) in [
+    for row in &[
         (
             "step 1 0\ntick\n",
             "Race { kind: Double, line: 7, prim: 0 }",
@@ -111,6 +112,7 @@ fn the_first_bad_line_is_named(rt: HostRuntime) -> Result<(), NoMemory> {
         ("step 1 0 3\ntick\n", "Impossible { line: 7 }"),
         ("start 1 retire\ntick\n", "Impossible { line: 7 }"),
     ] {
+        let (lines, want) = *row;
         let text = format!(in alloc; "{BOTH}{lines}")?;
         assert_eq!(rt; list_end(alloc, text.as_str())?.as_str(), want, "{lines}");
     }

@@ -66,7 +66,7 @@ fn counted(alloc: Global, first: &str, lines: u32) -> Result<String, AllocError>
 }
 
 // Schedules that are read as they are written.
-const WRITTEN: [&str; 5] = [
+const WRITTEN: &[&str] = &[
     "threads 1\n",
     "threads 64\nreturn 63\ntick\ntick\n",
     "threads 2\nstart 1 put\nstep 1 0 1\nstep 1 0\nstep 1 0\nreturn 1\nstart 0 look\nstep 0 0\nstart 1 take\n\
@@ -78,7 +78,7 @@ const WRITTEN: [&str; 5] = [
 ];
 
 // Schedules with another answer.
-const SCHEDULES: [(&str, &str); 40] = [
+const SCHEDULES: &[(&str, &str)] = &[
     ("threads 3\nstep 2 0\ntick", "threads 3\nstep 2 0\ntick\n"),
     ("", "line 1"),
     ("\n", "line 1"),
@@ -131,7 +131,8 @@ const SCHEDULES: [(&str, &str); 40] = [
 #[test]
 fn schedules_are_read_as_they_are_written(rt: HostRuntime) -> Result<(), AllocError> {
     let alloc = rt.alloc();
-    for text in WRITTEN {
+    for row in WRITTEN {
+        let text = *row;
         assert_eq!(rt; scheduled(alloc, text)?.as_str(), text);
     }
     Ok(())
@@ -139,7 +140,8 @@ fn schedules_are_read_as_they_are_written(rt: HostRuntime) -> Result<(), AllocEr
 
 #[test]
 fn the_first_bad_line_of_a_schedule_is_named(rt: HostRuntime) -> Result<(), AllocError> {
-    for (text, want) in SCHEDULES {
+    for row in SCHEDULES {
+        let (text, want) = *row;
         assert_eq!(rt; scheduled(rt.alloc(), text)?.as_str(), want, "{text}");
     }
     Ok(())

@@ -42,7 +42,7 @@ fn verified_own(alloc: Global, name: &str) -> Result<String, AllocError> {
 
 #[test]
 fn what_is_certified_is_verified(rt: HostRuntime) -> Result<(), AllocError> {
-    for (name, want) in [
+    for row in &[
         ("hazards", "points 37 steps 39 obligations 2845"),
         ("epochs-held", "points 35 steps 36 obligations 2559"),
         ("publish", "points 5 steps 4 obligations 0"),
@@ -51,6 +51,7 @@ fn what_is_certified_is_verified(rt: HostRuntime) -> Result<(), AllocError> {
         ("protected", "points 5 steps 4 obligations 0"),
         ("once", "points 5 steps 4 obligations 0"),
     ] {
+        let (name, want) = *row;
         let want = format!(in rt.alloc(); "0\nverified {want}\n")?;
         assert_eq!(rt;
             verified_own(rt.alloc(), name)?.as_str(),
@@ -68,7 +69,7 @@ pub(crate) const PUBLISHED: &str =
      \"trees\":[],\"version\":1}";
 
 // Certificates that no `certify` wrote.
-const WRITTEN: [(&str, &str, &str); 5] = [
+const WRITTEN: &[(&str, &str, &str)] = &[
     (
         "least",
         r#"{"env":[],"trees":[],"version":1}"#,
@@ -86,7 +87,8 @@ const WRITTEN: [(&str, &str, &str); 5] = [
 
 #[test]
 fn certificates_from_elsewhere_are_judged(rt: HostRuntime) -> Result<(), AllocError> {
-    for (name, certificate, want) in WRITTEN {
+    for row in WRITTEN {
+        let (name, certificate, want) = *row;
         assert_eq!(rt;
             verified(rt.alloc(), name, certificate)?.as_str(),
             want,
@@ -154,7 +156,7 @@ fn a_certificate_with_another_text_has_its_answer(rt: HostRuntime) -> Result<(),
 // and the answer. The points 25 and 26 stand before and after the load of `t.next`, the only step between them, which
 // is step 24; the entry of `pop` is point 13. An environment with all locations and no guarantee holds wherever a step
 // leads.
-const ENV_CHANGES: [(usize, &str, &str); 6] = [
+const ENV_CHANGES: &[(usize, &str, &str)] = &[
     // a local too few, a set that isn't within the other, an active pointer that may be retired
     (5, "0],[[0,[0", "1 invalid env 5\n"),
     (5, "0],[[0,[3]],[0,[0", "1 invalid env 5\n"),
@@ -206,7 +208,8 @@ fn a_certificate_with_another_environment_has_its_answer(
     rt: HostRuntime,
 ) -> Result<(), AllocError> {
     let certificate = certificate_of(rt.alloc(), "hazards")?;
-    for (point, env, want) in ENV_CHANGES {
+    for row in ENV_CHANGES {
+        let (point, env, want) = *row;
         let have = verified_env(rt.alloc(), certificate.as_str(), point, env)?;
         assert_eq!(rt; have.as_str(), want);
     }

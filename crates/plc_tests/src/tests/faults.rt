@@ -12,7 +12,7 @@ use std::alloc::{AllocError, Global};
 
 // Words, how many reads they ask for, how many bytes an output is to take at each call, and one call more than
 // it then needs.
-const COMMANDS: [(&str, u64, usize, usize); 3] = [
+const COMMANDS: &[(&str, u64, usize, usize)] = &[
     ("check hazards", 1, 150, 4),
     ("verify publish certificate", 2, 20, 3),
     ("replay stack reused list", 2, 10, 4),
@@ -51,7 +51,7 @@ fn entries(alloc: Global) -> Result<Entries, AllocError> {
     let mut files = Vec::new(alloc);
     put_sections(alloc, &mut files, FILES)?;
     put_stacks(alloc, &mut files)?;
-    put_pieces(alloc, &mut files, &SCHEDULES)?;
+    put_pieces(alloc, &mut files, SCHEDULES)?;
     let bytes = Vec::from_slice(alloc, PUBLISHED.as_bytes())?;
     put(alloc, &mut files, "certificate", bytes)?;
     Ok(files)
@@ -118,7 +118,8 @@ fn wrong_writes(
 #[test]
 fn each_call_of_the_outside_fails_in_turn(rt: HostRuntime) -> Result<(), AllocError> {
     let alloc = rt.alloc();
-    for (words, reads, most, writes) in COMMANDS {
+    for row in COMMANDS {
+        let (words, reads, most, writes) = *row;
         assert_eq!(rt; wrong_reads(alloc, words, reads, most)?.as_str(), "");
         assert_eq!(rt; wrong_writes(alloc, words, most, writes)?.as_str(), "");
     }

@@ -119,10 +119,10 @@ op peek() { ptr t; ptr s; t := Top; s := t.next; }
 ";
 
 // Stacks with their outlines, whose nodes hazard pointers or epochs protect.
-pub(crate) const STACKS: [&str; 2] = ["hazards", "epochs-held"];
+pub(crate) const STACKS: &[&str] = &["hazards", "epochs-held"];
 
 // Files that differ from another in some lines, each by its number and with what stands in its place.
-pub(crate) const CHANGED: [(&str, &str, &[(usize, &str)]); 7] = [
+pub(crate) const CHANGED: &[(&str, &str, &[(usize, &str)])] = &[
     ("unclaimed", "hazards", &[(27, "atomic { t ?= Top; }\n")]),
     (
         "retired-again",
@@ -292,7 +292,7 @@ tick
 // `reused`: the node is freed and its address is allocated again between the read of `Top` and the look
 // after it; `stale`: the same without a hazard pointer; `kept`: the reclaimer is asked while a hazard
 // pointer keeps the node.
-pub(crate) const SCHEDULES: [(&str, &[&str]); 9] = [
+pub(crate) const SCHEDULES: &[(&str, &[&str])] = &[
     (
         "reused",
         &[
@@ -402,10 +402,11 @@ fn made_bytes(alloc: Global, name: &str) -> Result<Vec<u8>, AllocError> {
     }
 }
 
-const MADE: [&str; 4] = ["reuses", "open-atomic", "outlined", "byte"];
+const MADE: &[&str] = &["reuses", "open-atomic", "outlined", "byte"];
 
 pub(crate) fn put_made(alloc: Global, files: &mut Entries) -> Result<(), AllocError> {
-    for name in MADE {
+    for row in MADE {
+        let name = *row;
         put(alloc, files, name, made_bytes(alloc, name)?)?;
     }
     Ok(())
@@ -413,7 +414,8 @@ pub(crate) fn put_made(alloc: Global, files: &mut Entries) -> Result<(), AllocEr
 
 // The stacks by their names: `hazards` and `epochs-held`.
 pub(crate) fn put_stacks(alloc: Global, files: &mut Entries) -> Result<(), AllocError> {
-    for name in STACKS {
+    for row in STACKS {
+        let name = *row;
         put(alloc, files, name, text_of(alloc, name)?.into_bytes())?;
     }
     Ok(())
@@ -477,7 +479,7 @@ pub(crate) fn changed(
 }
 
 pub(crate) fn put_changed(alloc: Global, files: &mut Entries) -> Result<(), AllocError> {
-    for (name, base, changes) in &CHANGED {
+    for (name, base, changes) in CHANGED {
         let text = changed(alloc, *base, *changes)?;
         put(alloc, files, *name, text.into_bytes())?;
     }

@@ -107,7 +107,7 @@ const MOST_OBLIGATIONS: &str = "\
 ";
 
 // Commands over a file of so many blanks, with the answer to each.
-const SIZES: [(&str, usize, &str); 6] = [
+const SIZES: &[(&str, usize, &str)] = &[
     ("check made", 1_048_576, "2 refused syntax token 0 line 1"),
     (
         "check made, print made, certify made, verify made absent, replay made absent leak",
@@ -129,7 +129,7 @@ const SIZES: [(&str, usize, &str); 6] = [
 ];
 
 // The greatest number that may stand in a schedule or in words, and the next one.
-const NUMBERS: [(&str, &str, &str); 7] = [
+const NUMBERS: &[(&str, &str, &str)] = &[
     (
         "replay plain made leak",
         "threads 64\n",
@@ -246,7 +246,8 @@ fn wrong_of_blanks(
 
 #[test]
 fn files_have_sizes(rt: HostRuntime) -> Result<(), AllocError> {
-    for (commands, count, want) in SIZES {
+    for row in SIZES {
+        let (commands, count, want) = *row;
         assert_eq!(rt;
             wrong_of_blanks(rt.alloc(), commands, count, want)?.as_str(),
             ""
@@ -263,7 +264,8 @@ fn obligations_have_a_limit(rt: HostRuntime) -> Result<(), AllocError> {
 
 #[test]
 fn numbers_have_limits(rt: HostRuntime) -> Result<(), AllocError> {
-    for (words, made, want) in NUMBERS {
+    for row in NUMBERS {
+        let (words, made, want) = *row;
         assert_eq!(rt;
             wrong_answers(rt.alloc(), words, made.as_bytes(), want)?.as_str(),
             ""

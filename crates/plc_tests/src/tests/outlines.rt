@@ -94,7 +94,7 @@ fn answer_to(alloc: Global, text: &str) -> Result<String, AllocError> {
 
 // The first line of what is answered to a file that is changed, where its classes are a model.
 fn first_line(alloc: Global, name: &str) -> Result<String, NoMemory> {
-    for (changed_name, base, changes) in &CHANGED {
+    for (changed_name, base, changes) in CHANGED {
         if *changed_name == name {
             let text = changed(alloc, *base, *changes)?;
             return first_line_of(alloc, text.as_str());
@@ -117,7 +117,7 @@ fn first_line_of(alloc: Global, text: &str) -> Result<String, NoMemory> {
 
 #[test]
 fn what_is_printed_is_a_model(rt: HostRuntime) -> Result<(), NoMemory> {
-    for (name, want) in [
+    for row in &[
         ("claimed-late", "unproved claim step 29 prim 0 line 36"),
         ("weaker", "unproved own step 6 line 15 clause 3"),
         (
@@ -125,6 +125,7 @@ fn what_is_printed_is_a_model(rt: HostRuntime) -> Result<(), NoMemory> {
             "unproved other step 6 line 15 point 0 clause 0",
         ),
     ] {
+        let (name, want) = *row;
         assert_eq!(rt; first_line(rt.alloc(), name)?.as_str(), want);
     }
     Ok(())
@@ -141,7 +142,7 @@ fn sampled(alloc: Global, words: &str) -> Result<String, AllocError> {
 
 #[test]
 fn samples_have_their_verdicts(rt: HostRuntime) -> Result<(), AllocError> {
-    for (words, want) in [
+    for row in &[
         ("sample 1 46", "1 unproved own step 6 line 15 clause 3"),
         (
             "sample 4 0",
@@ -152,6 +153,7 @@ fn samples_have_their_verdicts(rt: HostRuntime) -> Result<(), AllocError> {
             "0 sample 8 0 points 296 steps 312 obligations 166869 safe",
         ),
     ] {
+        let (words, want) = *row;
         assert_eq!(rt; sampled(rt.alloc(), words)?.as_str(), want);
     }
     Ok(())

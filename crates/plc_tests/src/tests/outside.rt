@@ -44,7 +44,7 @@ fn some_files(alloc: Global) -> Result<MemFiles, AllocError> {
 fn reads_text(alloc: Global) -> Result<String, AllocError> {
     let mut files = some_files(alloc)?;
     let mut text = String::new(alloc);
-    for (name, max) in [
+    for row in &[
         ("a", 3),
         ("a", 2),
         ("b", 0),
@@ -53,6 +53,7 @@ fn reads_text(alloc: Global) -> Result<String, AllocError> {
         ("c", 9),
         ("", 0),
     ] {
+        let (name, max) = *row;
         text.push_str(read_text(alloc, &mut files, name, max)?.as_str())?;
     }
     Ok(text)
@@ -97,7 +98,7 @@ fn failing_text(alloc: Global, most: usize, failing: u64) -> Result<String, Allo
 #[test]
 fn sinks_in_memory(rt: HostRuntime) -> Result<(), AllocError> {
     assert_eq!(rt; growing_text(rt.alloc())?.as_str(), "Ok(0) Ok(2) ok abcde");
-    for (want, most, failing) in [
+    for row in &[
         ("ok abc", 1, 0),
         ("ok abc", 2, 0),
         ("failed a", 1, 2),
@@ -105,6 +106,7 @@ fn sinks_in_memory(rt: HostRuntime) -> Result<(), AllocError> {
         ("failed ", 9, 1),
         ("failed ", 0, 0),
     ] {
+        let (want, most, failing) = *row;
         assert_eq!(rt; failing_text(rt.alloc(), most, failing)?.as_str(), want);
     }
     Ok(())

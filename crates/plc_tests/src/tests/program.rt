@@ -12,7 +12,7 @@ fn entries(alloc: Global) -> Result<Entries, AllocError> {
     let mut files = Vec::new(alloc);
     put_sections(alloc, &mut files, FILES)?;
     put_stacks(alloc, &mut files)?;
-    put_pieces(alloc, &mut files, &SCHEDULES)?;
+    put_pieces(alloc, &mut files, SCHEDULES)?;
     put_made(alloc, &mut files)?;
     put_changed(alloc, &mut files)?;
     Ok(files)
@@ -147,13 +147,14 @@ fn wrong_answers(alloc: Global, rows: &str, failing: &[u64]) -> Result<String, A
 
 #[test]
 fn each_row_has_its_answer(rt: HostRuntime) -> Result<(), AllocError> {
-    for (rows, failing) in [
+    for row in &[
         (CHECKED, [0]),
         (PRINTED, [0]),
         (REPLAYED, [0]),
         (CERTIFIED, [0]),
         (UNLISTED, [1]),
     ] {
+        let (rows, failing) = *row;
         assert_eq!(rt; wrong_answers(rt.alloc(), rows, &failing)?.as_str(), "");
     }
     Ok(())
@@ -189,13 +190,14 @@ fn taken(alloc: Global, most: usize, failing: u64) -> Result<String, AllocError>
 
 #[test]
 fn an_output_takes_all_or_a_part(rt: HostRuntime) -> Result<(), AllocError> {
-    for (most, failing, want) in [
+    for row in &[
         (1, 0, "1 untyped step 3 prim 0 line 8 deref m\n"),
         (1, 2, "5 u"),
         (3, 2, "5 unt"),
         (99, 1, "5 "),
         (0, 0, "5 "),
     ] {
+        let (most, failing, want) = *row;
         assert_eq!(rt; taken(rt.alloc(), most, failing)?.as_str(), want);
     }
     Ok(())
@@ -229,7 +231,8 @@ fn a_print_is_printed_the_same(rt: HostRuntime) -> Result<(), AllocError> {
         let (name, file) = section.split_once("\n").unwrap_or(("", ""));
         assert_eq!(rt; misprint(rt.alloc(), name, file)?, "");
     }
-    for name in STACKS {
+    for row in STACKS {
+        let name = *row;
         let file = text_of(rt.alloc(), name)?;
         assert_eq!(rt; misprint(rt.alloc(), name, file.as_str())?, "");
     }

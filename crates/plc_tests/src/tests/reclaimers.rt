@@ -35,7 +35,7 @@ op put() { ptr n; n := new; Top := n; }
 op take() { ptr t; t := Top; Top := null; retire(t); }
 ";
 
-const SCHEDULES: [(&str, &[&str]); 4] = [
+const SCHEDULES: &[(&str, &[&str])] = &[
     (
         "held",
         &[
@@ -88,7 +88,7 @@ end lines 12 events 2 freed 1
 fn entries(alloc: Global) -> Result<Entries, AllocError> {
     let mut files = Vec::new(alloc);
     put_sections(alloc, &mut files, FILES)?;
-    put_pieces(alloc, &mut files, &SCHEDULES)?;
+    put_pieces(alloc, &mut files, SCHEDULES)?;
     Ok(files)
 }
 
@@ -203,7 +203,7 @@ fn drawn_answer(
 
 // A replay of a file with its operation that reads, how many lines that has, and whether it may end in a
 // free that is forbidden: not under the reclaimer that serves the file's scheme, and not where none is freed.
-const DRAWN: [(&str, &str, u32, bool); 8] = [
+const DRAWN: &[(&str, &str, u32, bool)] = &[
     ("replay hazards drawn leak", "hold", 5, false),
     ("replay hazards drawn list", "hold", 5, true),
     ("replay hazards drawn hazard", "hold", 5, false),
@@ -216,7 +216,8 @@ const DRAWN: [(&str, &str, u32, bool); 8] = [
 
 fn wrong_drawn(alloc: Global, seed: u32) -> Result<String, AllocError> {
     let mut wrong = String::new(alloc);
-    for (words, op, last, may_be_forbidden) in DRAWN {
+    for row in DRAWN {
+        let (words, op, last, may_be_forbidden) = *row;
         let answer = drawn_answer(alloc, words, op, last, seed)?;
         let text = answer.as_str();
         let ended = text.starts_with("0\nend lines ");
@@ -300,10 +301,11 @@ fn answer_of_two(alloc: Global, list_is_first: bool) -> Result<String, AllocErro
 
 #[test]
 fn of_two_reclaimers_of_one_name_the_first_counts(rt: HostRuntime) -> Result<(), AllocError> {
-    for (list_is_first, want) in [
+    for row in &[
         (true, "1\nforbidden free 1 line 15\n"),
         (false, "0\nend lines 17 events 4 freed 0\n"),
     ] {
+        let (list_is_first, want) = *row;
         assert_eq!(rt; answer_of_two(rt.alloc(), list_is_first)?.as_str(), want);
     }
     Ok(())

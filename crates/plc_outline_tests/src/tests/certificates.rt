@@ -91,7 +91,7 @@ fn other_refusal(alloc: Global, texts: &[&'static str], fault: CertFault) -> Opt
 #[test]
 fn each_refusal_comes_in_its_order(rt: HostRuntime) {
     let shape = |field| CertFault::Shape { field };
-    for (texts, fault) in [
+    for row in &[
         (NOT_JSON, CertFault::NotJson),
         (BAD_ROOTS, shape(CertField::Root)),
         (BAD_VERSIONS, shape(CertField::Version)),
@@ -100,6 +100,7 @@ fn each_refusal_comes_in_its_order(rt: HostRuntime) {
         (BAD_ENVS, shape(CertField::Env)),
         (BAD_TREES, shape(CertField::Trees)),
     ] {
+        let (texts, fault) = *row;
         assert_eq!(rt; other_refusal(rt.alloc(), texts, fault), None);
     }
 }

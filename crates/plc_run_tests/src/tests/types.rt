@@ -3,7 +3,7 @@
 ghost use Rattle.std.specs.Prelude.{IfOk};
 ghost use Rattle.plc_xfer.specs.Rules.{FitsObserver};
 
-use crate::observers::{push_set, set_of};
+use crate::tests::observers::{push_set, set_of};
 use plc_auto::Observer;
 use plc_base::{FieldId, FuncId, Items, Mask, NoMemory};
 use plc_check::load;
@@ -95,7 +95,7 @@ fn join_text(alloc: Global, a: &PtrType, b: &PtrType) -> Result<String, AllocErr
 #[test]
 fn guarantees_are_a_chain(rt: HostRuntime) -> Result<(), AllocError> {
     let alloc = rt.alloc();
-    for (g, h, want) in [
+    for row in &[
         ("-", "S", "- S true - -"),
         ("S", "-", "- S false S S"),
         ("S", "AS", "S AS true S S"),
@@ -105,6 +105,7 @@ fn guarantees_are_a_chain(rt: HostRuntime) -> Result<(), AllocError> {
         ("ALS", "ALS", "ALS ALS true S AS"),
         ("ALS", "-", "- ALS false S AS"),
     ] {
+        let (g, h, want) = *row;
         assert_eq!(rt;
             chain_text(alloc, &type_of(g).g, &type_of(h).g)?.as_str(),
             want
@@ -253,7 +254,7 @@ fn applied(
 }
 
 // What a primitive makes of `-01 S01 ALS0`.
-const EFFECTS: [(Prim, &str); 21] = [
+const EFFECTS: &[(Prim, &str)] = &[
     (Prim::Null { p: P }, "-01 / ALS ALS0 / 01"),
     (Prim::Copy { p: P, q: Q }, "-01 / AS0 AS0 / 01"),
     (Prim::Copy { p: Q, q: Q }, "-01 / S01 AS0 / 01"),
@@ -296,7 +297,8 @@ const EFFECTS: [(Prim, &str); 21] = [
 
 #[test]
 fn primitives_have_their_effects(rt: HostRuntime) -> Result<(), NoMemory> {
-    for (prim, want) in EFFECTS {
+    for row in EFFECTS {
+        let (prim, want) = *row;
         let have = applied(rt.alloc(), &Observer::Plain, "-01 S01 ALS0", &prim)?;
         assert_eq!(rt; have.as_str(), want, "{prim:?}");
     }
@@ -308,7 +310,7 @@ const HAZARD: Observer = Observer::Hazard(PROTECT);
 const EPOCH: Observer = Observer::Epoch(PROTECT, LEAVE);
 
 // What a call, or its return, makes of `-0123456 AS2 ALS0`.
-const CALLS: [(Observer, Prim, &str); 10] = [
+const CALLS: &[(Observer, Prim, &str)] = &[
     (
         HAZARD,
         Prim::Call {
@@ -390,7 +392,8 @@ const CALLS: [(Observer, Prim, &str); 10] = [
 
 #[test]
 fn calls_have_their_effects(rt: HostRuntime) -> Result<(), NoMemory> {
-    for (observer, prim, want) in CALLS {
+    for row in CALLS {
+        let (observer, prim, want) = *row;
         let have = applied(rt.alloc(), &observer, "-0123456 AS2 ALS0", &prim)?;
         assert_eq!(rt; have.as_str(), want, "{prim:?}");
     }
@@ -413,7 +416,7 @@ const COMPARE_MISSING: Option<TypeFault> = Some(TypeFault::CompareNotSafe { var:
 const RETIRE_UNSAFE: Option<TypeFault> = Some(TypeFault::RetireNotActive { var: P });
 
 // Primitives with the fault of their condition.
-const CONDITIONS: [(Prim, Option<TypeFault>); 31] = [
+const CONDITIONS: &[(Prim, Option<TypeFault>)] = &[
     (Prim::Null { p: Q }, None),
     (Prim::Copy { p: P, q: Q }, None),
     (Prim::New { p: Q }, None),
@@ -487,7 +490,8 @@ const CONDITIONS: [(Prim, Option<TypeFault>); 31] = [
 
 #[test]
 fn conditions_name_the_variable(rt: HostRuntime) -> Result<(), NoMemory> {
-    for (prim, fault) in CONDITIONS {
+    for row in CONDITIONS {
+        let (prim, fault) = *row;
         assert!(rt; fault_of(rt.alloc(), &prim)? == fault, "{prim:?}");
     }
     Ok(())
@@ -508,7 +512,7 @@ fn interfered(alloc: Global, observer: &Observer, text: &str) -> Result<String, 
 
 #[test]
 fn interference_leaves_what_no_other_thread_takes(rt: HostRuntime) -> Result<(), NoMemory> {
-    for (before, observer, after) in [
+    for row in &[
         ("ALS0", Observer::Plain, "-01 / ALS0 ALS / 01"),
         ("AS0", Observer::Plain, "-01 / -01 ALS / 01"),
         ("S0", Observer::Plain, "-01 / -01 ALS / 01"),
@@ -520,6 +524,7 @@ fn interference_leaves_what_no_other_thread_takes(rt: HostRuntime) -> Result<(),
         ("S0", HAZARD, "-0123456 / -03 ALS / 0123456"),
         ("-2", HAZARD, "-0123456 / -26 ALS / 0123456"),
     ] {
+        let (before, observer, after) = *row;
         let have = interfered(rt.alloc(), &observer, before)?;
         assert_eq!(rt; have.as_str(), after, "{before}");
     }

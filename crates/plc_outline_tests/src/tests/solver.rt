@@ -13,6 +13,10 @@ fn number(text: &str) -> u32 {
     text.parse::<u32>().unwrap_or(9999)
 }
 
+fn place(text: &str) -> u16 {
+    text.parse::<u16>().unwrap_or(999)
+}
+
 fn literal(text: &str) -> Lit {
     if let Some((left, right)) = text.split_once("!=") {
         return Lit {
@@ -49,25 +53,64 @@ fn clauses(alloc: Global, text: &str) -> Result<Items<Items<Lit>>, AllocError> {
     Ok(all)
 }
 
-const fn next(arg: u32) -> GroundTerm {
+// A term that a word writes: a constant, or `next` of the term of a number.
+fn term(word: &str) -> GroundTerm {
+    match word {
+        "null" => GroundTerm::Const(Symbol::Null),
+        "none" => GroundTerm::Const(Symbol::Nobody),
+        "me" => GroundTerm::Const(Symbol::Me),
+        _ => numbered(word),
+    }
+}
+
+fn numbered(word: &str) -> GroundTerm {
+    let (kind, rest) = word.split_once(".").unwrap_or((word, ""));
+    match kind {
+        "bound" => GroundTerm::Const(Symbol::Bound(place(rest))),
+        "shared" => GroundTerm::Const(Symbol::Shared(place(rest))),
+        "value" => GroundTerm::Const(Symbol::Value(place(rest))),
+        "number" => GroundTerm::Const(Symbol::Number(number(rest))),
+        "next" => GroundTerm::App {
+            map: Map::Field(FieldId(0)),
+            version: 0,
+            arg: number(rest),
+        },
+        "ghost0" => auxiliary(0, number(rest)),
+        _ => auxiliary(1, number(rest)),
+    }
+}
+
+// An auxiliary field of the term of a number.
+fn auxiliary(field: u16, arg: u32) -> GroundTerm {
     GroundTerm::App {
-        map: Map::Field(FieldId(0)),
+        map: Map::Ghost(field),
         version: 0,
         arg,
     }
 }
 
-const NULL: GroundTerm = GroundTerm::Const(Symbol::Null);
+fn sort(word: &str) -> Sort {
+    match word {
+        "node" => Sort::Node,
+        "thread" => Sort::Thread,
+        "number" => Sort::Number,
+        "value0" => Sort::Value(0),
+        _ => Sort::Value(1),
+    }
+}
 
-const TOP: GroundTerm = GroundTerm::Const(Symbol::Shared(0));
-
-// Terms with their sorts.
-fn set(alloc: Global, terms: &[(GroundTerm, Sort)], rows: &str) -> Result<GroundSet, AllocError> {
+// Terms with their sorts, and clauses; a term that stands alone has no sort.
+fn set(alloc: Global, terms: &str, rows: &str) -> Result<GroundSet, AllocError> {
     let mut names = Items::new(alloc);
     let mut sorts = Items::new(alloc);
-    for (term, sort) in terms {
-        names.push(*term)?;
-        sorts.push(*sort)?;
+    for word in terms.split_whitespace() {
+        match word.split_once(":") {
+            Some((before, after)) => {
+                names.push(term(after))?;
+                sorts.push(sort(before))?;
+            }
+            None => names.push(term(word))?,
+        }
     }
     Ok(GroundSet {
         terms: names,
@@ -76,23 +119,9 @@ fn set(alloc: Global, terms: &[(GroundTerm, Sort)], rows: &str) -> Result<Ground
     })
 }
 
-// null, c0, next(null), next(c0), none, me, two numbers, two values of one field and one of another.
-fn mixed(alloc: Global, rows: &str) -> Result<GroundSet, AllocError> {
-    let terms = [
-        (NULL, Sort::Node),
-        (GroundTerm::Const(Symbol::Bound(0)), Sort::Node),
-        (next(0), Sort::Node),
-        (next(1), Sort::Node),
-        (GroundTerm::Const(Symbol::Nobody), Sort::Thread),
-        (GroundTerm::Const(Symbol::Me), Sort::Thread),
-        (GroundTerm::Const(Symbol::Number(0)), Sort::Number),
-        (GroundTerm::Const(Symbol::Number(7)), Sort::Number),
-        (GroundTerm::Const(Symbol::Value(0)), Sort::Value(0)),
-        (GroundTerm::Const(Symbol::Value(1)), Sort::Value(0)),
-        (GroundTerm::Const(Symbol::Value(2)), Sort::Value(1)),
-    ];
-    set(alloc, &terms, rows)
-}
+// Two nodes and `next` of each, two threads, two numbers, two values of one field and one of another.
+const MIXED: &str = "node:null node:bound.0 node:next.0 node:next.1 thread:none thread:me \
+    number:number.0 number:number.7 value0:value.0 value0:value.1 value1:value.2";
 
 // A tree's node: `S` with a clause, or the two terms of a leaf.
 fn node(text: &str) -> Node {
@@ -113,7 +142,7 @@ fn tree(alloc: Global, text: &str) -> Result<Tree, AllocError> {
 
 // The verdict on a tree over five clauses, of which the fourth is empty.
 fn verdict(alloc: Global, nodes: &str) -> Result<Option<u64>, NoMemory> {
-    let set = mixed(alloc, "0=1; 2!=3; 4=5; -; 0=1 or 6=7")?;
+    let set = set(alloc, MIXED, "0=1; 2!=3; 4=5; -; 0=1 or 6=7")?;
     if !is_well_formed(&set) {
         return Err(NoMemory);
     }
@@ -122,13 +151,14 @@ fn verdict(alloc: Global, nodes: &str) -> Result<Option<u64>, NoMemory> {
 
 #[test]
 fn trees_close_or_have_a_first_bad_node(rt: HostRuntime) -> Result<(), NoMemory> {
-    for (trees, bad) in [
+    for row in &[
         ("S0 S1 2,3; S1 S0 3,2; S3; S2 4,5; S4 S1 2,3 6,7", None),
         ("; 4,5", Some(0)),
         ("S0 S5; S0 2,11; S0 2,3; S1 2,3; S4 6,7; S3 S3", Some(1)),
         ("S0 S1", Some(2)),
         ("S4 S1 2,3; S4 S1 2,3 2,3; S0 S1 2,3 2,3", Some(3)),
     ] {
+        let (trees, bad) = *row;
         for nodes in trees.split("; ") {
             assert_eq!(rt; verdict(rt.alloc(), nodes)?, bad, "{nodes}");
         }
@@ -146,14 +176,14 @@ fn model(alloc: Global, text: &str) -> Result<GroundModel, AllocError> {
 
 // Whether these classes are a model of two clauses over the terms.
 fn are_a_model(alloc: Global, classes: &str) -> Result<bool, AllocError> {
-    let set = mixed(alloc, "0=1; 6!=7 or 2=3")?;
+    let set = set(alloc, MIXED, "0=1; 6!=7 or 2=3")?;
     let model = model(alloc, classes)?;
     Ok(is_well_formed(&set) && is_model(&set, &model))
 }
 
 #[test]
 fn classes_are_a_model_or_not(rt: HostRuntime) -> Result<(), AllocError> {
-    for (classes, is, why) in [
+    for row in &[
         ("0 0 2 2 4 5 6 7 8 9 10", true, "two nodes"),
         ("0 0 0 0 4 5 6 7 8 9 10", true, "one node"),
         ("0 1 2 3 4 5 6 7 8 9 10", false, "a false clause"),
@@ -165,80 +195,34 @@ fn classes_are_a_model_or_not(rt: HostRuntime) -> Result<(), AllocError> {
         ("1 1 2 2 4 5 6 7 8 9 10", false, "not the least"),
         ("0 0 2 2 4 5 6 7 8 9", false, "a class is missing"),
     ] {
+        let (classes, is, why) = *row;
         assert_eq!(rt; are_a_model(rt.alloc(), classes)?, is, "{why}");
     }
     Ok(())
 }
 
 // Whether a set of these terms and one clause fits.
-fn fits(alloc: Global, terms: &[(GroundTerm, Sort)], literal: &str) -> Result<bool, AllocError> {
+fn fits(alloc: Global, terms: &str, literal: &str) -> Result<bool, AllocError> {
     let set = set(alloc, terms, literal)?;
     Ok(is_well_formed(&set))
 }
 
-// The same where the last term has no sort.
-fn fits_short(alloc: Global, terms: &[(GroundTerm, Sort)]) -> Result<bool, AllocError> {
-    let mut set = set(alloc, terms, "0=1")?;
-    set.terms.push(next(1))?;
-    Ok(is_well_formed(&set))
-}
-
-const NEXT_OF_FIRST: GroundTerm = GroundTerm::App {
-    map: Map::Field(FieldId(0)),
-    version: 0,
-    arg: 0,
-};
-
-const NEXT_OF_SECOND: GroundTerm = GroundTerm::App {
-    map: Map::Field(FieldId(0)),
-    version: 0,
-    arg: 1,
-};
-
-type Terms = [(GroundTerm, Sort); 3];
-
-const GOOD: Terms = [
-    (NULL, Sort::Node),
-    (NEXT_OF_FIRST, Sort::Node),
-    (NEXT_OF_SECOND, Sort::Node),
-];
-
-const TWICE: Terms = [(NULL, Sort::Node), (TOP, Sort::Node), (NULL, Sort::Node)];
-
-const LATER: Terms = [
-    (NULL, Sort::Node),
-    (NEXT_OF_SECOND, Sort::Node),
-    (TOP, Sort::Node),
-];
-
-const OTHER_SORT: Terms = [
-    (NULL, Sort::Node),
-    (NEXT_OF_FIRST, Sort::Node),
-    (NEXT_OF_SECOND, Sort::Number),
-];
-
-const NUMBER: Terms = [
-    (NULL, Sort::Node),
-    (TOP, Sort::Number),
-    (NEXT_OF_FIRST, Sort::Node),
-];
-
 #[test]
 fn sets_fit_or_not(rt: HostRuntime) -> Result<(), AllocError> {
-    for (terms, literal, fit, why) in [
-        (GOOD, "0=1", true, "good"),
-        (TWICE, "0=1", false, "a term twice"),
-        (LATER, "0=1", false, "a later argument"),
-        (OTHER_SORT, "0=1", false, "a map of another sort"),
-        (GOOD, "0=3", false, "no such term"),
-        (NUMBER, "0=1", false, "two sorts"),
+    for row in &[
+        ("node:null node:next.0 node:next.1", "0=1", true),
+        // a term twice, a later argument, a map of another sort
+        ("node:null node:shared.0 node:null", "0=1", false),
+        ("node:null node:next.1 node:shared.0", "0=1", false),
+        ("node:null node:next.0 number:next.1", "0=1", false),
+        // no such term, two sorts, no sort
+        ("node:null node:next.0 node:next.1", "0=3", false),
+        ("node:null number:shared.0 node:next.0", "0=1", false),
+        ("node:null node:shared.0 next.1", "0=1", false),
     ] {
-        assert_eq!(rt; fits(rt.alloc(), &terms, literal)?, fit, "{why}");
+        let (terms, literal, fit) = *row;
+        assert_eq!(rt; fits(rt.alloc(), terms, literal)?, fit, "{terms}");
     }
-    assert!(rt;
-        !fits_short(rt.alloc(), &[(NULL, Sort::Node), (TOP, Sort::Node)])?,
-        "no sort"
-    );
     Ok(())
 }
 
@@ -277,70 +261,19 @@ fn found(alloc: Global, set: &GroundSet) -> Result<String, NoMemory> {
 }
 
 // What is found of a set of these terms.
-fn solved(alloc: Global, terms: &[(GroundTerm, Sort)], rows: &str) -> Result<String, NoMemory> {
+fn solved(alloc: Global, terms: &str, rows: &str) -> Result<String, NoMemory> {
     let set = set(alloc, terms, rows)?;
     found(alloc, &set)
 }
 
-// null, c0, c1, and `next` of each.
-const NODES: [(GroundTerm, Sort); 6] = [
-    (NULL, Sort::Node),
-    (GroundTerm::Const(Symbol::Bound(0)), Sort::Node),
-    (GroundTerm::Const(Symbol::Bound(1)), Sort::Node),
-    (
-        GroundTerm::App {
-            map: Map::Field(FieldId(0)),
-            version: 0,
-            arg: 0,
-        },
-        Sort::Node,
-    ),
-    (
-        GroundTerm::App {
-            map: Map::Field(FieldId(0)),
-            version: 0,
-            arg: 1,
-        },
-        Sort::Node,
-    ),
-    (
-        GroundTerm::App {
-            map: Map::Field(FieldId(0)),
-            version: 0,
-            arg: 2,
-        },
-        Sort::Node,
-    ),
-];
+const NODES: &str = "node:null node:bound.0 node:bound.1 node:next.0 node:next.1 node:next.2";
 
-// none, me, a term of that sort, two values of a field, a term of that sort, two numbers.
-const CONSTANTS: [(GroundTerm, Sort); 9] = [
-    (NULL, Sort::Node),
-    (GroundTerm::Const(Symbol::Nobody), Sort::Thread),
-    (GroundTerm::Const(Symbol::Me), Sort::Thread),
-    (
-        GroundTerm::App {
-            map: Map::Ghost(1),
-            version: 0,
-            arg: 0,
-        },
-        Sort::Thread,
-    ),
-    (GroundTerm::Const(Symbol::Value(0)), Sort::Value(0)),
-    (GroundTerm::Const(Symbol::Value(1)), Sort::Value(0)),
-    (
-        GroundTerm::App {
-            map: Map::Ghost(0),
-            version: 0,
-            arg: 0,
-        },
-        Sort::Value(0),
-    ),
-    (GroundTerm::Const(Symbol::Number(0)), Sort::Number),
-    (GroundTerm::Const(Symbol::Number(1)), Sort::Number),
-];
+// Two threads and a term of that sort, two values of a field and a term of that sort, two numbers.
+const CONSTANTS: &str =
+    "node:null thread:none thread:me thread:ghost1.0 value0:value.0 value0:value.1 \
+    value0:ghost0.0 number:number.0 number:number.1";
 
-const SOLVED_NODES: [(&str, &str); 13] = [
+const SOLVED_NODES: &[(&str, &str)] = &[
     ("", "open"),
     ("-", "closed"),
     ("0=1", "open"),
@@ -356,7 +289,7 @@ const SOLVED_NODES: [(&str, &str); 13] = [
     ("0=1 or 0=2; 3!=4 or 4=5; 3!=5", "closed"),
 ];
 
-const SOLVED_CONSTANTS: [(&str, &str); 6] = [
+const SOLVED_CONSTANTS: &[(&str, &str)] = &[
     ("", "open"),
     ("1=2", "closed"),
     ("7=8", "closed"),
@@ -376,7 +309,7 @@ fn first_word(text: &str) -> &str {
 // The first set over these terms that is answered otherwise.
 fn other_answer(
     alloc: Global,
-    terms: &[(GroundTerm, Sort)],
+    terms: &str,
     table: &[(&'static str, &'static str)],
 ) -> Result<Option<&'static str>, NoMemory> {
     for (rows, want) in table {
@@ -390,56 +323,33 @@ fn other_answer(
 
 #[test]
 fn sets_are_solved(rt: HostRuntime) -> Result<(), NoMemory> {
-    assert_eq!(rt; other_answer(rt.alloc(), &NODES, &SOLVED_NODES)?, None);
+    assert_eq!(rt; other_answer(rt.alloc(), NODES, SOLVED_NODES)?, None);
     assert_eq!(rt;
-        other_answer(rt.alloc(), &CONSTANTS, &SOLVED_CONSTANTS)?,
+        other_answer(rt.alloc(), CONSTANTS, SOLVED_CONSTANTS)?,
         None
     );
     Ok(())
 }
 
+// In the last row the first clause has nothing to do with why there is no model; it is split first, and goes.
 #[test]
 fn answers_are_whole(rt: HostRuntime) -> Result<(), NoMemory> {
-    let alloc = rt.alloc();
-    let nodes = [
-        (NULL, Sort::Node),
-        (GroundTerm::Const(Symbol::Bound(0)), Sort::Node),
-    ];
-    let numbers = [
-        (GroundTerm::Const(Symbol::Number(0)), Sort::Number),
-        (GroundTerm::Const(Symbol::Number(1)), Sort::Number),
-    ];
-    for (terms, rows, want) in [
-        (nodes, "0=1", "open [0, 0]"),
-        (numbers, "", "open [0, 1]"),
+    for row in &[
+        ("node:null node:bound.0", "0=1", "open [0, 0]"),
+        ("number:number.0 number:number.1", "", "open [0, 1]"),
         (
-            nodes,
+            "node:null node:bound.0",
             "0=1; 0!=1",
             "closed [Split(0), Split(1), Leaf(0, 1)]",
         ),
+        (
+            "node:bound.0 node:bound.1 node:shared.0 node:shared.1 node:shared.2 node:next.0 node:next.1 node:next.2",
+            "3=4 or 3=1; 0=1 or 0=2; 5!=6; 5!=7",
+            "closed [Split(1), Split(2), Leaf(5, 6), Split(3), Leaf(5, 7)]",
+        ),
     ] {
-        assert_eq!(rt; solved(alloc, &terms, rows)?.as_str(), want);
+        let (terms, rows, want) = *row;
+        assert_eq!(rt; solved(rt.alloc(), terms, rows)?.as_str(), want);
     }
-    Ok(())
-}
-
-// The first clause has nothing to do with why there is no model; it is split first, and goes.
-#[test]
-fn needless_splits_go(rt: HostRuntime) -> Result<(), NoMemory> {
-    let node = Sort::Node;
-    let terms = [
-        (GroundTerm::Const(Symbol::Bound(0)), node),
-        (GroundTerm::Const(Symbol::Bound(1)), node),
-        (GroundTerm::Const(Symbol::Shared(0)), node),
-        (GroundTerm::Const(Symbol::Shared(1)), node),
-        (GroundTerm::Const(Symbol::Shared(2)), node),
-        (next(0), node),
-        (next(1), node),
-        (next(2), node),
-    ];
-    assert_eq!(rt;
-        solved(rt.alloc(), &terms, "3=4 or 3=1; 0=1 or 0=2; 5!=6; 5!=7")?.as_str(),
-        "closed [Split(1), Split(2), Leaf(5, 6), Split(3), Leaf(5, 7)]"
-    );
     Ok(())
 }

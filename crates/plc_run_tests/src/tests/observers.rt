@@ -151,12 +151,13 @@ fn each_edge_is_that_of_the_table(rt: HostRuntime) -> Result<(), AllocError> {
     let hazard = [retire, first, other, done, done_other, free];
     let epoch = [retire, first, second, other, done, done_second, free];
     let both = [first];
-    for (observer, kinds, want) in [
+    for row in &[
         (PLAIN, plain.as_slice(), PLAIN_TABLE),
         (HAZARD, hazard.as_slice(), HAZARD_TABLE),
         (EPOCH, epoch.as_slice(), EPOCH_TABLE),
         (BOTH, both.as_slice(), BOTH_TABLE),
     ] {
+        let (observer, kinds, want) = *row;
         assert_eq!(rt; table_text(rt.alloc(), &observer, kinds)?.as_str(), want);
     }
     Ok(())
@@ -206,11 +207,12 @@ fn step_text(
 #[test]
 fn sets_are_those_of_the_tables(rt: HostRuntime) -> Result<(), AllocError> {
     let alloc = rt.alloc();
-    for (observer, want) in [
+    for row in &[
         (PLAIN, "01 0 0 "),
         (HAZARD, "0123456 012 0126 "),
         (EPOCH, "0123456 012 0126 "),
     ] {
+        let (observer, want) = *row;
         assert_eq!(rt; sets_text(alloc, &observer)?.as_str(), want);
     }
     Ok(())
@@ -219,7 +221,7 @@ fn sets_are_those_of_the_tables(rt: HostRuntime) -> Result<(), AllocError> {
 #[test]
 fn closures_hold_what_happens_meanwhile(rt: HostRuntime) -> Result<(), AllocError> {
     let alloc = rt.alloc();
-    for (observer, set, want) in [
+    for row in &[
         (HAZARD, "2", "26 26 "),
         (HAZARD, "3", "3 03 "),
         (HAZARD, "5", "56 256 "),
@@ -229,6 +231,7 @@ fn closures_hold_what_happens_meanwhile(rt: HostRuntime) -> Result<(), AllocErro
         (EPOCH, "2", "26 26 "),
         (EPOCH, "4", "4 14 "),
     ] {
+        let (observer, set, want) = *row;
         assert_eq!(rt;
             closures_text(alloc, &observer, set)?.as_str(),
             want,
@@ -241,11 +244,12 @@ fn closures_hold_what_happens_meanwhile(rt: HostRuntime) -> Result<(), AllocErro
 #[test]
 fn a_set_steps_member_by_member(rt: HostRuntime) -> Result<(), AllocError> {
     let alloc = rt.alloc();
-    for (kind, own, this, want) in [
+    for row in &[
         (EvKind::Call(RETIRE), false, true, "46"),
         (EvKind::Call(FIRST), true, false, "0"),
         (EvKind::Free, false, true, ""),
     ] {
+        let (kind, own, this, want) = *row;
         assert_eq!(rt; step_text(alloc, "12", kind, own, this)?.as_str(), want);
     }
     Ok(())
@@ -267,12 +271,13 @@ fn masks_text(alloc: Global, first: &Mask, second: &Mask) -> Result<String, Allo
 
 #[test]
 fn masks_are_sets_of_locations(rt: HostRuntime) -> Result<(), AllocError> {
-    for (first, second, want) in [
+    for row in &[
         (set_of("1357"), Mask::full(4), "012357 13 170 4 false"),
         (set_of("13"), Mask::full(4), "0123 13 10 2 true"),
         (Mask::full(8), Mask::empty(), "01234567  255 8 false"),
         (Mask::empty(), Mask::full(0), "  0 0 true"),
     ] {
+        let (first, second, want) = *row;
         assert_eq!(rt; masks_text(rt.alloc(), &first, &second)?.as_str(), want);
     }
     Ok(())

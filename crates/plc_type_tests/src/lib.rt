@@ -1,8 +1,0 @@
-//! Tests of observers, types and inference: whole answers to rows of texts, with memory enough. They stand on
-//! top of the crates that they test, as plc_tests says.
-#![tactic(auto)]
-
-#[cfg(test)]
-mod observers;
-#[cfg(test)]
-mod types;
