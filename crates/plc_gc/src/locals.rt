@@ -9,7 +9,7 @@ ghost use Rattle.plc_gc.specs.Clauses.{declared_value};
 use crate::row::{find_number, number_at};
 use plc_base::NoMemory;
 use plc_lang::{Local, Op, count_other_data, count_pointers, data_number, pointer_number};
-use plc_threads::held;
+use plc_threads::{TryCopy, held};
 use std::alloc::Global;
 use std::marker::Model;
 
@@ -27,6 +27,16 @@ impl Model for Locals {
     ghost Value = { Locals };
 
     ghost view = { λ l. record { declared = l.declared.items; pointers = l.pointers.items; values = l.values.items } };
+}
+
+impl TryCopy for Locals {
+    fn try_copy(&self) -> Result<Locals, NoMemory> {
+        Ok(Locals {
+            declared: self.declared.clone()?,
+            pointers: self.pointers.clone()?,
+            values: self.values.clone()?,
+        })
+    }
 }
 
 impl Locals {
@@ -53,17 +63,6 @@ impl Locals {
             pointers: Vec::new(alloc),
             values: Vec::new(alloc),
         }
-    }
-
-    // A copy.
-    pub fn copy(&self) -> Result<Locals, NoMemory>
-        ensures { IfOk result (λ l. l ≡ self.now) }
-    {
-        Ok(Locals {
-            declared: self.declared.clone()?,
-            pointers: self.pointers.clone()?,
-            values: self.values.clone()?,
-        })
     }
 
     // The pointer local, 0 past the last.
@@ -151,28 +150,4 @@ pub fn put_value(locals: &mut Vec<Option<Locals>>, t: u32, x: u16, n: u32)
     if let Some(l) = &mut locals[t as usize] {
         l.set_value(x, n);
     }
-}
-
-// A copy of the locals of a thread, if it has any.
-fn copy_held(held: &Option<Locals>) -> Result<Option<Locals>, NoMemory>
-    ensures { IfOk result (λ copy. copy ≡ held.now) }
-{
-    match held {
-        Some(l) => Ok(Some(l.copy()?)),
-        None => Ok(None),
-    }
-}
-
-// Copies of the locals of all threads.
-pub fn copy_locals(
-    alloc: Global,
-    locals: &[Option<Locals>],
-) -> Result<Vec<Option<Locals>>, NoMemory>
-    ensures { IfOk result (λ copy. copy.items ≡ locals.now) }
-{
-    let mut copy = Vec::new(alloc);
-    for held in locals {
-        copy.push(copy_held(held)?)?;
-    }
-    Ok(copy)
 }

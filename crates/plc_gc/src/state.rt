@@ -7,13 +7,13 @@ ghost use Rattle.plc_gc.specs.State.{is_retired, is_made, is_pointer_field, node
 ghost use Rattle.plc_gc.specs.Clauses.{local_value, field_map};
 ghost use Rattle.plc_gc.specs.Fit.{SlotIn, MapIn};
 
-use crate::locals::{Locals, copy_locals, local_of, put_pointer, put_value};
+use crate::locals::{Locals, local_of, put_pointer, put_value};
 use crate::row::{Row, copy_rows, find_number, number_at};
 use crate::slot::{Map, Slot};
 use plc_base::{FieldId, NoMemory};
 use plc_flow::{Flow, Place};
 use plc_lang::Field;
-use plc_threads::{held, none_held};
+use plc_threads::{copy_held, held, none_held};
 use std::alloc::Global;
 use std::marker::Model;
 
@@ -75,7 +75,7 @@ impl State {
             fields: self.fields.clone()?,
             ghosts: self.ghosts,
             shared: self.shared.clone()?,
-            locals: copy_locals(self.alloc, &self.locals)?,
+            locals: copy_held(self.alloc, &self.locals)?,
             rows: copy_rows(self.alloc, &self.rows)?,
         })
     }

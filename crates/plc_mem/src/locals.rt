@@ -10,7 +10,7 @@ use crate::cell::Cell;
 use crate::cells::{cell_or_null, cut_cells, find_cell, value_or_0};
 use plc_base::NoMemory;
 use plc_lang::{Num, Op, count_other_data, count_pointers};
-use plc_threads::held;
+use plc_threads::{TryCopy, held};
 use std::alloc::Global;
 use std::marker::Model;
 
@@ -27,6 +27,12 @@ impl Model for Locals {
     ghost Value = { Locals };
 
     ghost view = { λ l. record { pointers = l.pointers.items; values = l.values.items } };
+}
+
+impl TryCopy for Locals {
+    fn try_copy(&self) -> Result<Locals, NoMemory> {
+        self.copy()
+    }
 }
 
 impl Locals {
@@ -121,30 +127,6 @@ pub fn local_of(locals: &[Option<Locals>], t: u32, v: u16) -> Option<Cell>
         in result ≡ (if nat_lt v (length l.pointers) then Some (get_or l.pointers v null_cell) else None) }
 {
     held(locals, t)?.find(v)
-}
-
-// A copy of the locals of a thread, if it has any.
-fn copy_held(held: &Option<Locals>) -> Result<Option<Locals>, NoMemory>
-    ensures { IfOk result (λ copy. copy ≡ held.now) }
-{
-    match held {
-        Some(l) => Ok(Some(l.copy()?)),
-        None => Ok(None),
-    }
-}
-
-// Copies of the locals of all threads.
-pub fn copy_locals(
-    alloc: Global,
-    locals: &[Option<Locals>],
-) -> Result<Vec<Option<Locals>>, NoMemory>
-    ensures { IfOk result (λ copy. copy.items ≡ locals.now) }
-{
-    let mut copy = Vec::new(alloc);
-    for held in locals {
-        copy.push(copy_held(held)?)?;
-    }
-    Ok(copy)
 }
 
 // Makes the pointers of a thread invalid that hold an address.

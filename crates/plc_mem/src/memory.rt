@@ -12,12 +12,12 @@ ghost use Rattle.plc_mem.specs.Coherence.{IsCoherent, LocalsCoherent};
 
 use crate::cell::Cell;
 use crate::cells::{cell_or_null, cut_cells, find_cell};
-use crate::locals::{Locals, copy_locals, cut_threads, local_of};
+use crate::locals::{Locals, cut_threads, local_of};
 use crate::node::Nodes;
 use plc_base::{FieldId, NoMemory};
 use plc_flow::{Flow, Place};
 use plc_lang::{Field, Var};
-use plc_threads::none_held;
+use plc_threads::{copy_held, none_held};
 use std::alloc::Global;
 use std::marker::Model;
 
@@ -107,7 +107,7 @@ impl Memory {
             alloc: self.alloc,
             fields: self.fields.clone()?,
             shared: self.shared.clone()?,
-            locals: copy_locals(self.alloc, &self.locals)?,
+            locals: copy_held(self.alloc, &self.locals)?,
             nodes: self.nodes.copy(self.alloc)?,
             retired: self.retired.clone()?,
         })

@@ -7,4 +7,4 @@ mod standing;
 mod table;
 
 pub use standing::{arrival, at_exit, begun, point_at, set_point, step_at};
-pub use table::{held, none_held};
+pub use table::{TryCopy, copy_held, held, none_held};

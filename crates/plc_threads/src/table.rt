@@ -29,3 +29,31 @@ pub fn held<T>(table: &[Option<T>], t: u32) -> Option<&T>
         None => None,
     }
 }
+
+/// What a thread holds, which is copied where there is memory for it.
+pub trait TryCopy: Drop {
+    /// A copy, equal to this.
+    fn try_copy(&self) -> Result<Self, NoMemory>
+        ensures { IfOk result (λ copy. copy ≡ self.now) };
+}
+
+// A copy of what a thread holds, if it holds something.
+fn copy_of<T: TryCopy>(held: &Option<T>) -> Result<Option<T>, NoMemory>
+    ensures { IfOk result (λ copy. copy ≡ held.now) }
+{
+    match held {
+        Some(l) => Ok(Some(l.try_copy()?)),
+        None => Ok(None),
+    }
+}
+
+/// Copies of what all threads hold.
+pub fn copy_held<T: TryCopy>(alloc: Global, table: &[Option<T>]) -> Result<Vec<Option<T>>, NoMemory>
+    ensures { IfOk result (λ copy. copy.items ≡ table.now) }
+{
+    let mut copy = Vec::new(alloc);
+    for held in table {
+        copy.push(copy_of(held)?)?;
+    }
+    Ok(copy)
+}
