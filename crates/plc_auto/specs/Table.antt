@@ -64,6 +64,7 @@ hazard_names =
     codes "u.idle" ∷ codes "u.pend" ∷ codes "u.held"
     ∷ codes "r.idle" ∷ codes "r.pend" ∷ codes "r.held" ∷ codes "r.kept" ∷ []
 
+-- the same of epoch
 abbrev pub epoch_names : List (List ℕ)
 epoch_names =
     codes "u.out" ∷ codes "u.coming" ∷ codes "u.in"
@@ -81,7 +82,7 @@ u_asked = 1
 abbrev pub u_granted : ℕ
 u_granted = 2
 
--- retired, and not protected before
+-- retired, and this thread has no protection
 abbrev pub r_none : ℕ
 r_none = 3
 
@@ -117,7 +118,7 @@ hazard_edges =
 
 -- ---- epoch(e, l): `asks` is a call of e, `granted` its return, `gives_up` a call of l
 
--- a thread that is inside protects every address until it leaves
+-- what is retired while a thread is inside isn't freed until it leaves
 abbrev pub epoch_edges : List Edge
 epoch_edges =
     edge u_none asks own every (to u_asked) ∷ edge u_none retires any this (to r_none)

@@ -11,7 +11,7 @@ use plc_base::{FuncId, LocId, Mask};
 
 const RETIRE: FuncId = FuncId(0);
 
-// the locations of a set, and the one in which a protected address stands after its retirement
+/// the locations of a set, and the one in which a protected address stands after its retirement
 fn with_kept(mut m: Mask) -> Mask
     ensures { result ≡ union m (single 6) }
 {

@@ -16,7 +16,8 @@ use Rattle.plc_check.specs.declared.certified.Certified.TheVariants.{No}
 use Rattle.plc_check.specs.declared.verdict.Verdict.{Verdict}
 use Rattle.plc_check.specs.declared.verdict.Verdict.TheVariants.{Safe, Untyped, Unproved}
 use Rattle.plc_check.specs.Certified.{ShowsSafe, IsCertified}
-use Rattle.plc_check.specs.Verdicts.{IsVerdictOn, IsStrongestOrNone}
+use Rattle.plc_check.specs.Verdicts.{IsVerdictOn}
+use Rattle.plc_check.specs.Strongest.{IsStrongestOrNone}
 use Rattle.plc_check.specs.Counterexamples.{AreTreesFor}
 use Rattle.plc_check.proofs.Matching.{one_each, tree_of, trees_fit}
 use Rattle.plc_check.proofs.Readable.{envs_fit}

@@ -6,3 +6,4 @@ pub mod Certified
 -- words of private functions alone
 pub mod Refusals
 pub mod Counterexamples
+pub mod Strongest

@@ -1,6 +1,5 @@
 -- The verdict on a file, by its types and by its outline.
-use Rattle.std.specs.Prelude.{◌≡◌, length, Result, Ok, Err}
-use Rattle.plc_infer.specs.declared.typing.Typing.{Typing}
+use Rattle.std.specs.Prelude.{◌≡◌, length}
 use Rattle.plc_xfer.specs.Typings.{HasTyping, IsTyping, IsStrongest, IsStuckAt}
 use Rattle.plc_flow.specs.Skeleton.{skeleton_of}
 use Rattle.plc_ground.specs.Model.{IsModel}
@@ -10,11 +9,6 @@ use Rattle.plc_oblig.specs.Outlines.{OutlineHolds, IsLeastOpen}
 use Rattle.plc_check.specs.declared.judged.Judged.{Judged}
 use Rattle.plc_check.specs.declared.verdict.Verdict.{Verdict}
 use Rattle.plc_check.specs.declared.verdict.Verdict.TheVariants.{Safe, Untyped, Unproved}
-
--- a typing below which no other is
-abbrev pub IsStrongestTyping : Judged → Typing → Type 0
-IsStrongestTyping j typing =
-    IsTyping j.observer (skeleton_of j.flow) typing.env × IsStrongest j.observer (skeleton_of j.flow) typing.env
 
 -- safe with the strongest typing, where the outline holds; the condition that fails under every pre-typing; or, only
 -- where a typing exists, the least obligation whose ground set has a model, with the set and any of its models
@@ -26,10 +20,3 @@ IsVerdictOn j (Untyped step prim fault) = IsStuckAt j.observer (skeleton_of j.fl
 IsVerdictOn j (Unproved obligation set model) =
     HasTyping j.observer (skeleton_of j.flow) × IsLeastOpen j.flow j.unit_outline obligation
     × (set ≡ ground_set j.flow j.unit_outline obligation) × IsModel set model.class
-
--- the strongest typing; or where there is none, the verdict that says so
-abbrev pub IsStrongestOrNone : Judged → Result Typing Verdict → Type 0
-IsStrongestOrNone j (Ok typing) = IsStrongestTyping j typing
-IsStrongestOrNone j (Err (Untyped step prim fault)) = IsVerdictOn j (Untyped step prim fault)
-IsStrongestOrNone j (Err (Safe typing count)) = ⊥
-IsStrongestOrNone j (Err (Unproved obligation set model)) = ⊥

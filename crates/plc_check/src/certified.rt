@@ -2,7 +2,7 @@
 ghost use Rattle.std.specs.Prelude.{IfOk};
 ghost use Rattle.plc_setting.specs.Fit.{Fits};
 ghost use Rattle.plc_check.specs.Certified.{IsCertified};
-ghost use Rattle.plc_check.specs.Verdicts.{IsStrongestTyping};
+ghost use Rattle.plc_check.specs.Strongest.{IsStrongestTyping};
 
 use crate::judged::Judged;
 use crate::tree::trees_of;

@@ -2,7 +2,8 @@
 ghost use Rattle.std.specs.Prelude.{◌≡◌, IfOk};
 ghost use Rattle.plc_setting.specs.Fit.{Fits};
 ghost use Rattle.plc_check.specs.declared.verdict.Verdict.TheVariants.{Unproved};
-ghost use Rattle.plc_check.specs.Verdicts.{IsVerdictOn, IsStrongestTyping, IsStrongestOrNone};
+ghost use Rattle.plc_check.specs.Strongest.{IsStrongestTyping, IsStrongestOrNone};
+ghost use Rattle.plc_check.specs.Verdicts.{IsVerdictOn};
 
 use crate::counterexample::{Counterexample, first_counterexample};
 use crate::judged::Judged;

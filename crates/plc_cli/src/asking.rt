@@ -1,5 +1,6 @@
-// What is asked of one file, and the one way from a question to its answer: the file is read, its bytes are loaded, and
+// What is asked of a file, and the way from a question to its answer: the file is read, its bytes are loaded, and
 // where they are refused that is the answer. So a question says no more than what is due for a file that was loaded.
+// `replay` loads its file itself, since a reclaimer is lent to it meanwhile.
 ghost use Rattle.std.specs.Prelude.{◌≤◌, IfOk, length};
 ghost use Rattle.plc_base.specs.Limits.{largest_file};
 ghost use Rattle.plc_setting.specs.Fit.{Fits};

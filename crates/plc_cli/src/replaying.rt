@@ -79,7 +79,8 @@ fn scheduled(
     }
 }
 
-/// The answer to the bytes of a file and of a schedule; the file's refusals go first.
+/// The answer to the bytes of a file and of a schedule; the file's refusals go first. It is no `Question`, since the
+/// reclaimer is lent to it.
 fn replayed(
     alloc: Global,
     bytes: &[u8],

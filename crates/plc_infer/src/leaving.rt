@@ -8,7 +8,7 @@ use crate::program::Program;
 use plc_base::{Items, NoMemory};
 use std::alloc::Global;
 
-// No step for any of so many points.
+/// No step for any of so many points.
 fn no_steps(alloc: Global, points: usize) -> Result<Vec<Items<u16>>, NoMemory>
     ensures { IfOk result (λ index. index.items ≡ replicate points []) }
 {

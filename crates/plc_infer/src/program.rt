@@ -66,7 +66,7 @@ pub fn entries(alloc: Global, flow: &Flow) -> Result<Vec<PointId>, NoMemory>
     Ok(entries)
 }
 
-// How many pointer locals an operation has, as environments count them.
+/// How many pointer locals an operation has, as environments count them.
 fn pointer_count(op: &Op) -> u16
     requires { length op.now.locals ≤ most limits.Locals }
     ensures { result ≡ pointers_of op.now }
@@ -74,7 +74,7 @@ fn pointer_count(op: &Op) -> u16
     count_pointers(op) as u16
 }
 
-// The count of one operation at each of its points, after those of the operations before.
+/// The count of one operation at each of its points, after those of the operations before.
 fn push_counts(count: u16, gate: Gate, counts: &mut Vec<u16>) -> Result<(), NoMemory>
     requires { gate.first < gate.after }
     ensures { OnOk result (counts.new.items ≡ counts.old.items ++ replicate (gate.after - gate.first) count) }

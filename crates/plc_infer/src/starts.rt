@@ -14,14 +14,14 @@ use plc_base::{NoMemory, PointId};
 use plc_type::Env;
 use std::alloc::Global;
 
-// Whether an operation begins at a point.
+/// Whether an operation begins at a point.
 fn is_entry(entries: &[PointId], point: u16) -> bool
     ensures { result ≡ list_any (λ (e : PointId). e.0 == point) entries.now }
 {
     entries.iter().any(|e| e.0 == point)
 }
 
-// The environment of a point at the start.
+/// The environment of a point at the start.
 fn start(alloc: Global, program: &Program, observer: &Observer, point: u16) -> Result<Env, NoMemory>
     requires { point < length program.now.locals.now }
     ensures { IfOk result (λ env. env ≡ start_at observer.now (program_of program.now) point) }

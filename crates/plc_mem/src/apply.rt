@@ -62,7 +62,7 @@ impl Memory {
         Outcome::Next(self.event(me, prim, t))
     }
 
-    // The race of a primitive, if it is one.
+    /// The race of a primitive, if it is one.
     fn race(&self, me: &Locals, prim: &Prim) -> Option<RaceKind>
         ensures { (t : ℕ) → result ≡ race_of (with_locals self.now t (Some me.now)) t prim.now }
     {
@@ -91,7 +91,7 @@ impl Memory {
         }
     }
 
-    // The race of a call.
+    /// The race of a call.
     fn race_of_call(&self, me: &Locals, func: FuncId, arg: Arg) -> Option<RaceKind>
         ensures { (t : ℕ) → result ≡ race_of_call (with_locals self.now t (Some me.now)) t (is_retire func) arg }
     {
@@ -105,7 +105,7 @@ impl Memory {
         }
     }
 
-    // The race of a retirement.
+    /// The race of a retirement.
     fn retirement(&self, c: Cell) -> Option<RaceKind>
         ensures { result ≡ retirement self.now c }
     {
@@ -119,7 +119,7 @@ impl Memory {
         }
     }
 
-    // Whether a primitive isn't blocked.
+    /// Whether a primitive isn't blocked.
     fn goes(&self, me: &Locals, prim: &Prim, a: u32) -> bool
         ensures { (t : ℕ) → result ≡ goes (with_locals self.now t (Some me.now)) t a prim.now }
     {
@@ -160,7 +160,7 @@ impl Memory {
         }
     }
 
-    // Whether a call isn't blocked.
+    /// Whether a call isn't blocked.
     fn goes_call(&self, me: &Locals, func: FuncId, arg: Arg) -> bool
         ensures { (t : ℕ) → result ≡ goes_call (with_locals self.now t (Some me.now)) t (is_retire func) arg }
     {
@@ -174,7 +174,7 @@ impl Memory {
         }
     }
 
-    // The address that a call hands over.
+    /// The address that a call hands over.
     fn address(&self, me: &Locals, arg: Arg) -> Option<u32>
         ensures { (t : ℕ) → result ≡ address_of (with_locals self.now t (Some me.now)) t arg }
     {
@@ -185,7 +185,7 @@ impl Memory {
         }
     }
 
-    // The event of a primitive, if it has one.
+    /// The event of a primitive, if it has one.
     fn event(&self, me: &Locals, prim: &Prim, t: u32) -> Option<Event>
         ensures { result ≡ event_of (with_locals self.now t (Some me.now)) t prim.now }
     {
@@ -200,7 +200,7 @@ impl Memory {
         }
     }
 
-    // What a primitive changes.
+    /// What a primitive changes.
     fn change(&mut self, me: &mut Locals, prim: &Prim, a: u32) -> Result<(), NoMemory>
         requires named { PrimitiveIn (shape self.old me.old) prim.now }
         requires goes { (t : ℕ) × (goes (with_locals self.old t (Some me.old)) t a prim.now ≡ true) }
@@ -223,7 +223,7 @@ impl Memory {
         }
     }
 
-    // What a primitive changes that takes no memory.
+    /// What a primitive changes that takes no memory.
     fn change_in_place(&mut self, me: &mut Locals, prim: &Prim)
         requires named { PrimitiveIn (shape self.old me.old) prim.now }
         requires in_place { takes_memory prim.now ≡ false }
@@ -252,7 +252,7 @@ impl Memory {
         }
     }
 
-    // A variable comes to hold what another one holds.
+    /// A variable comes to hold what another one holds.
     fn copy_pointer(&mut self, me: &mut Locals, p: Var, q: Var)
         requires { VarIn (shape self.old me.old) p }
         ensures after { (t : ℕ) → with_locals self.new t (Some me.new)
@@ -263,7 +263,7 @@ impl Memory {
         self.write(me, p, c);
     }
 
-    // A variable comes to hold what a field holds of the node that another one leads to.
+    /// A variable comes to hold what a field holds of the node that another one leads to.
     fn load(&mut self, me: &mut Locals, p: Var, q: Var, f: FieldId)
         requires { VarIn (shape self.old me.old) p }
         ensures after { (t : ℕ) → with_locals self.new t (Some me.new)
@@ -274,7 +274,7 @@ impl Memory {
         self.write(me, p, c);
     }
 
-    // A field of the node that a variable leads to comes to hold a cell.
+    /// A field of the node that a variable leads to comes to hold a cell.
     fn store(&mut self, me: &Locals, p: Var, f: FieldId, c: Cell)
         requires { f.0 < length self.old.fields }
         ensures after { (t : ℕ) → with_locals self.new t (Some me.now)
@@ -284,7 +284,7 @@ impl Memory {
         self.set_field(self.read(me, p).number, f, c);
     }
 
-    // What a call changes.
+    /// What a call changes.
     fn change_by_call(&mut self, me: &Locals, func: FuncId, arg: Arg) -> Result<(), NoMemory>
         ensures after { OnOk result ((t : ℕ) → with_locals self.new t (Some me.now)
             ≡ after_call (with_locals self.old t (Some me.now)) t (is_retire func) arg) }

@@ -5,7 +5,7 @@ ghost use Rattle.plc_mem.specs.State.{null_cell, cut};
 
 use crate::cell::Cell;
 
-// The cell at a place of a table.
+/// The cell at a place of a table.
 pub fn cell_or_null(cells: &[Cell], i: usize) -> Cell
     ensures { result ≡ get_or cells.now i null_cell }
 {
@@ -16,7 +16,7 @@ pub fn cell_or_null(cells: &[Cell], i: usize) -> Cell
     }
 }
 
-// The cell at a place of a table, if there is such a place.
+/// The cell at a place of a table, if there is such a place.
 pub fn find_cell(cells: &[Cell], i: usize) -> Option<Cell>
     ensures { result ≡ (if nat_lt i (length cells.now) then Some (get_or cells.now i null_cell) else None) }
 {
@@ -27,14 +27,14 @@ pub fn find_cell(cells: &[Cell], i: usize) -> Option<Cell>
     }
 }
 
-// The number at a place of a table.
+/// The number at a place of a table.
 pub fn value_or_0(values: &[u32], i: usize) -> u32
     ensures { result ≡ get_or values.now i 0 }
 {
     if i < values.len() { values[i] } else { 0 }
 }
 
-// Makes the cells invalid that hold an address.
+/// Makes the cells invalid that hold an address.
 pub fn cut_cells(cells: &mut [Cell], a: u32)
     ensures { cells.new ≡ map (cut a) cells.old }
 {

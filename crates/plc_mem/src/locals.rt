@@ -1,10 +1,10 @@
 // The locals of a thread that is in an operation. Between steps they lie in the memory; the acting
 // thread takes its own out, so that a primitive writes them and the memory side by side.
 ghost use Rattle.std.specs.Prelude.{◌≡◌, ℕ, ◌<◌, get_or, set, map, length, nat_lt, if◌then◌else◌, IfOk};
-ghost use Rattle.std.specs.Prelude.{OnOk, Some, None};
+ghost use Rattle.std.specs.Prelude.{Some, None};
 ghost use Rattle.plc_lang.specs.Locals.{parameters_of};
 ghost use Rattle.plc_mem.specs.State.{State, Locals, null_cell, no_locals, locals_or_none, starting, with_locals, at};
-ghost use Rattle.plc_mem.specs.State.{at_local, value_at, number_of, cut_locals};
+ghost use Rattle.plc_mem.specs.State.{value_at, number_of, cut_locals};
 
 use crate::cell::Cell;
 use crate::cells::{cell_or_null, cut_cells, find_cell, value_or_0};
@@ -72,7 +72,7 @@ impl Locals {
         })
     }
 
-    // The pointer local, if there is one of this number.
+    /// The pointer local, if there is one of this number.
     fn find(&self, v: u16) -> Option<Cell>
         ensures { result
             ≡ (if nat_lt v (length self.now.pointers) then Some (get_or self.now.pointers v null_cell) else None) }
@@ -80,14 +80,14 @@ impl Locals {
         find_cell(&self.pointers, v as usize)
     }
 
-    // The pointer local, or null.
+    /// The pointer local, or null.
     pub(crate) fn pointer(&self, v: u16) -> Cell
         ensures { result ≡ get_or self.now.pointers v null_cell }
     {
         cell_or_null(&self.pointers, v as usize)
     }
 
-    // Puts a cell into a pointer local.
+    /// Puts a cell into a pointer local.
     pub(crate) fn set_pointer(&mut self, v: u16, c: Cell)
         requires { v < length self.old.pointers }
         ensures { self.new ≡ record self.old { pointers = set self.old.pointers v c } }
@@ -95,14 +95,14 @@ impl Locals {
         self.pointers[v as usize] = c;
     }
 
-    // The data local.
+    /// The data local.
     pub(crate) fn value(&self, x: u16) -> u32
         ensures { (s : State) (t : ℕ) → result ≡ value_at (with_locals s t (Some self.now)) t x }
     {
         value_or_0(&self.values, x as usize)
     }
 
-    // Puts a number into a data local.
+    /// Puts a number into a data local.
     pub(crate) fn set_value(&mut self, x: u16, n: u32)
         requires { x < length self.old.values }
         ensures { self.new ≡ record self.old { values = set self.old.values x n } }
@@ -110,7 +110,7 @@ impl Locals {
         self.values[x as usize] = n;
     }
 
-    // The number that is put into data.
+    /// The number that is put into data.
     pub(crate) fn number(&self, e: Num) -> u32
         ensures { (s : State) (t : ℕ) → result ≡ number_of (with_locals s t (Some self.now)) t e }
     {
@@ -121,7 +121,7 @@ impl Locals {
     }
 }
 
-// A pointer local of a thread, if there is one of this number.
+/// A pointer local of a thread, if there is one of this number.
 pub fn local_of(locals: &[Option<Locals>], t: u32, v: u16) -> Option<Cell>
     ensures { let l = locals_or_none (get_or locals.now t None)
         in result ≡ (if nat_lt v (length l.pointers) then Some (get_or l.pointers v null_cell) else None) }
@@ -129,7 +129,7 @@ pub fn local_of(locals: &[Option<Locals>], t: u32, v: u16) -> Option<Cell>
     held(locals, t)?.find(v)
 }
 
-// Makes the pointers of a thread invalid that hold an address.
+/// Makes the pointers of a thread invalid that hold an address.
 fn cut_held(held: &mut Option<Locals>, a: u32)
     ensures { held.new ≡ cut_locals a held.old }
 {
@@ -138,7 +138,7 @@ fn cut_held(held: &mut Option<Locals>, a: u32)
     }
 }
 
-// Makes the pointers of all threads invalid that hold an address.
+/// Makes the pointers of all threads invalid that hold an address.
 pub fn cut_threads(locals: &mut [Option<Locals>], a: u32)
     ensures { locals.new ≡ map (cut_locals a) locals.old }
 {

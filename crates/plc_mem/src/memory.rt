@@ -50,7 +50,7 @@ impl Model for Memory {
     ghost invariant = { λ m. NodesFit (length m.fields.items) m.nodes };
 }
 
-// Which of the fields are pointer fields.
+/// Which of the fields are pointer fields.
 fn kinds(alloc: Global, fields: &[Field]) -> Result<Vec<bool>, NoMemory>
     ensures { IfOk result (λ kinds. kinds.items ≡ map holds_pointer fields.now) }
 {
@@ -61,7 +61,7 @@ fn kinds(alloc: Global, fields: &[Field]) -> Result<Vec<bool>, NoMemory>
     Ok(kinds)
 }
 
-// Takes an address out of a list.
+/// Takes an address out of a list.
 fn drop_address(addresses: &mut Vec<u32>, a: u32)
     ensures { addresses.new.items ≡ filter (λ x. not (x == a)) addresses.old.items }
 {
@@ -79,7 +79,7 @@ impl Memory {
         Memory::fresh(alloc, fields, flow.file.shared.len(), threads as usize)
     }
 
-    // Nothing used, shared pointers null, no locals.
+    /// Nothing used, shared pointers null, no locals.
     fn fresh(
         alloc: Global,
         fields: Vec<bool>,
@@ -186,7 +186,7 @@ impl Memory {
         }
     }
 
-    // What a pointer place holds, if there is such a place.
+    /// What a pointer place holds, if there is such a place.
     fn cell(&self, place: &Place) -> Option<Cell>
         ensures { result ≡ cell_of self.now (place_of place.now) }
     {
@@ -203,7 +203,7 @@ impl Memory {
         }
     }
 
-    // The shared pointer, if there is one of this number.
+    /// The shared pointer, if there is one of this number.
     fn shared_pointer(&self, i: u16) -> Option<Cell>
         ensures { result
             ≡ (if nat_lt i (length self.now.shared) then Some (get_or self.now.shared i null_cell) else None) }
@@ -211,7 +211,7 @@ impl Memory {
         find_cell(&self.shared, i as usize)
     }
 
-    // Whether a field is a pointer field.
+    /// Whether a field is a pointer field.
     fn is_pointer(&self, f: FieldId) -> bool
         ensures { result ≡ get_or self.now.fields f.0 false }
     {
@@ -223,7 +223,7 @@ impl Memory {
         }
     }
 
-    // What a variable of the acting thread holds.
+    /// What a variable of the acting thread holds.
     pub(crate) fn read(&self, me: &Locals, v: Var) -> Cell
         ensures { (t : ℕ) → result ≡ cell_at (with_locals self.now t (Some me.now)) t v }
     {
@@ -233,7 +233,7 @@ impl Memory {
         }
     }
 
-    // Puts a cell into a variable of the acting thread.
+    /// Puts a cell into a variable of the acting thread.
     pub(crate) fn write(&mut self, me: &mut Locals, v: Var, c: Cell)
         requires { VarIn (shape self.old me.old) v }
         ensures written { (t : ℕ) → with_locals self.new t (Some me.new)
@@ -246,14 +246,14 @@ impl Memory {
         }
     }
 
-    // What a field of a node holds.
+    /// What a field of a node holds.
     pub(crate) fn field(&self, a: u32, f: FieldId) -> Cell
         ensures { result ≡ at self.now (at_field a f.0) }
     {
         self.nodes.cell(a, f.0 as usize)
     }
 
-    // Puts a cell into a field of a node.
+    /// Puts a cell into a field of a node.
     pub(crate) fn set_field(&mut self, a: u32, f: FieldId, c: Cell)
         requires { f.0 < length self.old.fields }
         ensures { self.new ≡ put self.old (at_field a f.0) c }
@@ -261,14 +261,14 @@ impl Memory {
         self.nodes.set_cell(a, f.0 as usize, c);
     }
 
-    // The number of a data field of a node.
+    /// The number of a data field of a node.
     pub(crate) fn field_value(&self, a: u32, f: FieldId) -> u32
         ensures { result ≡ field_value self.now a f.0 }
     {
         self.nodes.value(a, f.0 as usize)
     }
 
-    // Puts a number into a data field of a node.
+    /// Puts a number into a data field of a node.
     pub(crate) fn set_field_value(&mut self, a: u32, f: FieldId, n: u32)
         requires { f.0 < length self.old.fields }
         ensures { self.new ≡ put_field_value self.old a f.0 n }
@@ -276,7 +276,7 @@ impl Memory {
         self.nodes.set_value(a, f.0 as usize, n);
     }
 
-    // A fresh node of an address that isn't used.
+    /// A fresh node of an address that isn't used.
     pub(crate) fn add_node(&mut self, a: u32) -> Result<(), NoMemory>
         requires { is_used self.old a ≡ false }
         ensures { self.new ≡ (if is_ok result then with_node self.old a else self.old) }
@@ -284,7 +284,7 @@ impl Memory {
         self.nodes.add(self.alloc, self.fields.len(), a)
     }
 
-    // An address is handed to the reclaimer.
+    /// An address is handed to the reclaimer.
     pub(crate) fn retire(&mut self, a: u32) -> Result<(), NoMemory>
         ensures { self.new ≡ (if is_ok result then with_retired self.old a else self.old) }
     {

@@ -33,7 +33,7 @@ impl Model for Node {
 }
 
 impl Node {
-    // A node that was just allocated: pointer fields null, data fields 0.
+    /// A node that was just allocated: pointer fields null, data fields 0.
     fn fresh(alloc: Global, fields: usize, a: u32) -> Result<Node, NoMemory>
         ensures { IfOk result (λ n. n ≡ fresh_node fields a) }
     {
@@ -45,7 +45,7 @@ impl Node {
         })
     }
 
-    // A copy.
+    /// A copy.
     fn copy(&self) -> Result<Node, NoMemory>
         ensures { IfOk result (λ n. n ≡ self.now) }
     {
@@ -57,7 +57,7 @@ impl Node {
     }
 }
 
-// Copies of nodes.
+/// Copies of nodes.
 fn copy_nodes(alloc: Global, nodes: &[Node]) -> Result<Vec<Node>, NoMemory>
     ensures { IfOk result (λ copy. copy.items ≡ nodes.now) }
 {
@@ -68,7 +68,7 @@ fn copy_nodes(alloc: Global, nodes: &[Node]) -> Result<Vec<Node>, NoMemory>
     Ok(copy)
 }
 
-// Puts a cell into a field of the node at a place.
+/// Puts a cell into a field of the node at a place.
 fn put_cell(nodes: &mut Vec<Node>, i: usize, f: usize, c: Cell)
     requires place { i < length nodes.old.items }
     requires field { (n : Node) → f < length (get_or nodes.old.items i n).cells }
@@ -79,7 +79,7 @@ fn put_cell(nodes: &mut Vec<Node>, i: usize, f: usize, c: Cell)
     node.cells[f] = c;
 }
 
-// Puts a number into a field of the node at a place.
+/// Puts a number into a field of the node at a place.
 fn put_value(nodes: &mut Vec<Node>, i: usize, f: usize, n: u32)
     requires place { i < length nodes.old.items }
     requires field { (m : Node) → f < length (get_or nodes.old.items i m).values }
@@ -90,7 +90,7 @@ fn put_value(nodes: &mut Vec<Node>, i: usize, f: usize, n: u32)
     node.values[f] = n;
 }
 
-// Makes the fields invalid that hold an address.
+/// Makes the fields invalid that hold an address.
 fn cut_nodes(nodes: &mut [Node], a: u32)
     ensures { nodes.new ≡ map (cut_node a) nodes.old }
 {
@@ -99,14 +99,14 @@ fn cut_nodes(nodes: &mut [Node], a: u32)
     }
 }
 
-// Takes the node of an address out.
+/// Takes the node of an address out.
 fn drop_node(nodes: &mut Vec<Node>, a: u32)
     ensures { nodes.new.items ≡ filter (λ n. not (n.address == a)) nodes.old.items }
 {
     nodes.retain(|n| n.address != a);
 }
 
-// Takes an address out of the index.
+/// Takes an address out of the index.
 fn drop_address(addresses: &mut IndexSet<u32>, a: u32)
     ensures { addresses.new.keys ≡ filter (λ x. not (x == a)) addresses.old.keys }
 {
@@ -133,7 +133,7 @@ impl Model for Nodes {
 }
 
 impl Nodes {
-    // No nodes.
+    /// No nodes.
     pub fn new(alloc: Global) -> Nodes
         ensures { result ≡ [] }
     {
@@ -143,7 +143,7 @@ impl Nodes {
         }
     }
 
-    // A copy.
+    /// A copy.
     pub fn copy(&self, alloc: Global) -> Result<Nodes, NoMemory>
         ensures { IfOk result (λ copy. copy ≡ self.now) }
     {
@@ -153,21 +153,21 @@ impl Nodes {
         })
     }
 
-    // The place of the node of an address.
+    /// The place of the node of an address.
     fn find(&self, a: u32) -> Option<usize>
         ensures { result ≡ position (λ n. n.address == a) self.now }
     {
         self.addresses.get_index_of(&a)
     }
 
-    // Whether an address has a node.
+    /// Whether an address has a node.
     pub fn holds(&self, a: u32) -> bool
         ensures { result ≡ list_any (λ n. n.address == a) self.now }
     {
         self.addresses.contains(&a)
     }
 
-    // What a field holds; null where the address has no node.
+    /// What a field holds; null where the address has no node.
     pub fn cell(&self, a: u32, f: usize) -> Cell
         ensures { result ≡ get_or (node_of self.now a).cells f null_cell }
     {
@@ -180,7 +180,7 @@ impl Nodes {
         }
     }
 
-    // Puts a cell into a field; nothing where the address has no node.
+    /// Puts a cell into a field; nothing where the address has no node.
     pub fn set_cell(&mut self, a: u32, f: usize, c: Cell)
         requires { (k : ℕ) × (f < k) × NodesFit k self.old }
         ensures { self.new ≡ put_node self.old a
@@ -191,7 +191,7 @@ impl Nodes {
         }
     }
 
-    // The number of a data field; 0 where the address has no node.
+    /// The number of a data field; 0 where the address has no node.
     pub fn value(&self, a: u32, f: usize) -> u32
         ensures { result ≡ get_or (node_of self.now a).values f 0 }
     {
@@ -204,7 +204,7 @@ impl Nodes {
         }
     }
 
-    // Puts a number into a data field; nothing where the address has no node.
+    /// Puts a number into a data field; nothing where the address has no node.
     pub fn set_value(&mut self, a: u32, f: usize, n: u32)
         requires { (k : ℕ) × (f < k) × NodesFit k self.old }
         ensures { self.new ≡ put_node self.old a
@@ -215,7 +215,7 @@ impl Nodes {
         }
     }
 
-    // A fresh node of an address that has none, with so many fields.
+    /// A fresh node of an address that has none, with so many fields.
     pub fn add(&mut self, alloc: Global, fields: usize, a: u32) -> Result<(), NoMemory>
         requires { list_any (λ n. n.address == a) self.old ≡ false }
         ensures { self.new ≡ (if is_ok result then self.old ++ fresh_node fields a ∷ [] else self.old) }
@@ -227,7 +227,7 @@ impl Nodes {
         Ok(())
     }
 
-    // Takes the node of an address out, and makes the fields invalid that hold the address.
+    /// Takes the node of an address out, and makes the fields invalid that hold the address.
     pub fn free(&mut self, a: u32)
         ensures { self.new ≡ map (cut_node a) (filter (λ n. not (n.address == a)) self.old) }
     {

@@ -1,7 +1,7 @@
 // Obligations that are alike. While one thread takes a step, another may stand at many points of its operation at
 // which the outline puts the same clauses. Nothing else of the point is in the ground set, so all these obligations
 // have one set, and who goes over them needs to look at it once. The stack with hazard pointers has 2,845
-// obligations, of which some 700 are then left to look at.
+// obligations, of which some 700 are then left for `certify`, and some 170 for `check`, which makes none for still ones.
 ghost use Rattle.std.specs.Prelude.{◌≡◌, ◌⊎◌, ℕ, [], Contains, OnOk, IfSome};
 ghost use Rattle.std.specs.List.{list_all};
 ghost use Rattle.plc_setting.specs.declared.obligations.Obligation.{Obligation as AnObligation};
@@ -49,14 +49,14 @@ fn share_items(flow: &Flow, items: &[Item], p: u16, q: u16) -> bool
     items.iter().all(|item| share_item(flow, p, q, item))
 }
 
-// Whether the points belong to one operation, and the outline puts the same clauses there.
+/// Whether the points belong to one operation, and the outline puts the same clauses there.
 fn are_points_alike(flow: &Flow, outline: &Outline, p: u16, q: u16) -> bool
     ensures { result ≡ are_points_alike flow.now outline.now p q }
 {
     share_gates(flow.gates.as_slice(), p, q) && share_items(flow, outline.items.as_slice(), p, q)
 }
 
-// Whether both say the same clause of another thread after the same step, at points that are alike.
+/// Whether both say the same clause of another thread after the same step, at points that are alike.
 fn are_alike(flow: &Flow, outline: &Outline, a: &Obligation, b: &Obligation) -> bool
     ensures { result ≡ are_alike flow.now outline.now a.now b.now }
 {
@@ -100,7 +100,7 @@ impl Model for Noted {
     ghost view = { λ n. n.entries.items };
 }
 
-// The step after which another thread's clause is said.
+/// The step after which another thread's clause is said.
 fn step_of(o: &Obligation) -> Option<StepId> {
     match *o {
         Obligation::Other { step, .. } => Some(step),
@@ -130,7 +130,7 @@ impl Noted {
         None
     }
 
-    // Whether no more can be noted beside those that are: there is no room, or they are of another step.
+    /// Whether no more can be noted beside those that are: there is no room, or they are of another step.
     fn is_full(&self, step: StepId) -> bool {
         match self.entries.first() {
             None => false,

@@ -12,7 +12,7 @@ use plc_flow::Flow;
 use plc_logic::Outline;
 use plc_setting::count_at;
 
-// Those of entries.
+/// Those of entries.
 fn count_enters(flow: &Flow, outline: &Outline) -> u64
     requires { HasFewParts flow.now outline.now }
     ensures count { result ≡ length (enters flow.now outline.now) }
@@ -25,7 +25,7 @@ fn count_enters(flow: &Flow, outline: &Outline) -> u64
     total
 }
 
-// Those of own steps.
+/// Those of own steps.
 fn count_owns(flow: &Flow, outline: &Outline) -> u64
     requires { HasFewParts flow.now outline.now }
     ensures count { result ≡ length (owns flow.now outline.now) }
@@ -51,7 +51,7 @@ pub(crate) fn count_points(flow: &Flow, outline: &Outline) -> u64
     total
 }
 
-// Those of claims.
+/// Those of claims.
 fn count_all_claims(flow: &Flow, outline: &Outline) -> u64
     requires { HasFewParts flow.now outline.now }
     ensures count { result ≡ length (claims flow.now) }

@@ -66,7 +66,7 @@ fn nth_own(flow: &Flow, outline: &Outline, i: u64) -> Result<Obligation, u64>
     Err(left)
 }
 
-// Of one step.
+/// Of one step.
 fn nth_at_points(flow: &Flow, outline: &Outline, step: StepId, i: u64) -> Result<Obligation, u64>
     requires { HasFewParts flow.now outline.now }
     ensures { IsFoundIn (parts_from (others_at flow.now outline.now step.0) 0 (below flow.now.points)) i result }
@@ -101,7 +101,7 @@ fn nth_other(flow: &Flow, outline: &Outline, i: u64) -> Result<Obligation, u64>
     Err(left)
 }
 
-// Of one step.
+/// Of one step.
 fn nth_claim_of(step: StepId, prims: &[Prim], i: u64) -> Result<Obligation, u64>
     requires { length prims.now ≤ most_step_primitives }
     ensures { IsFoundIn (claims_in step.0 0 prims.now) i result }
@@ -135,7 +135,7 @@ fn nth_claim(flow: &Flow, outline: &Outline, i: u64) -> Result<Obligation, u64>
     Err(left)
 }
 
-// Those of steps at other points, and claims after them.
+/// Those of steps at other points, and claims after them.
 fn nth_from_other(flow: &Flow, outline: &Outline, i: u64) -> Result<Obligation, u64>
     requires { HasFewParts flow.now outline.now }
     ensures { IsFoundIn (others flow.now outline.now ++ claims flow.now) i result }
@@ -146,7 +146,7 @@ fn nth_from_other(flow: &Flow, outline: &Outline, i: u64) -> Result<Obligation, 
     }
 }
 
-// The same after those of own steps.
+/// The same after those of own steps.
 fn nth_from_own(flow: &Flow, outline: &Outline, i: u64) -> Result<Obligation, u64>
     requires { HasFewParts flow.now outline.now }
     ensures { IsFoundIn (owns flow.now outline.now ++ (others flow.now outline.now ++ claims flow.now)) i result }
@@ -157,7 +157,7 @@ fn nth_from_own(flow: &Flow, outline: &Outline, i: u64) -> Result<Obligation, u6
     }
 }
 
-// The same after those of entries.
+/// The same after those of entries.
 fn nth_from_enter(flow: &Flow, outline: &Outline, i: u64) -> Result<Obligation, u64>
     requires { HasFewParts flow.now outline.now }
     ensures { IsFoundIn (enters flow.now outline.now ++ (owns flow.now outline.now
@@ -169,7 +169,7 @@ fn nth_from_enter(flow: &Flow, outline: &Outline, i: u64) -> Result<Obligation, 
     }
 }
 
-// All of them.
+/// All of them.
 fn nth_of_all(flow: &Flow, outline: &Outline, i: u64) -> Result<Obligation, u64>
     requires { HasFewParts flow.now outline.now }
     ensures { IsFoundIn (obligations flow.now outline.now) i result }

@@ -40,7 +40,7 @@ fn list_nodes(nodes: &[NodeTerm], out: &mut Draft) -> Result<(), NoMemory>
     Ok(())
 }
 
-// The sort of the term with a number.
+/// The sort of the term with a number.
 fn sort_at(flow: &Flow, o: &Obligation, acts: &[Act], draft: &Draft, k: usize) -> Sort
     requires file { FileFits flow.now.file }
     requires listed { k < length draft.now.terms }
@@ -69,7 +69,7 @@ fn sorts_of(
     Ok(Items::from_vec(sorts))
 }
 
-// Writes the clauses of the set, after the terms that are listed first.
+/// Writes the clauses of the set, after the terms that are listed first.
 fn write_draft(w: &Subject, draft: &mut Draft) -> Result<(), NoMemory>
     requires fits { Fits w.now.flow.now w.now.outline.now }
     requires setting { w.now.setting.now ≡ setting_of w.now.flow.now w.now.outline.now w.now.obligation.now }

@@ -8,7 +8,7 @@ use plc_base::{Items, NoMemory};
 use plc_ground::{GroundSet, Lit, Node, Tree, clause};
 use std::alloc::Global;
 
-// Whether the clause is the opposite of a literal alone.
+/// Whether the clause is the opposite of a literal alone.
 fn is_opposite(literals: &[Lit], l: Lit) -> bool
     ensures yes { IsTrue result → literals.now ≡ opposite l ∷ [] }
     ensures no { result ≡ false → literals.now ≢ opposite l ∷ [] }
@@ -19,7 +19,7 @@ fn is_opposite(literals: &[Lit], l: Lit) -> bool
     }
 }
 
-// Whether the set ends with the opposites of this clause's literals, and the clause stands before them.
+/// Whether the set ends with the opposites of this clause's literals, and the clause stands before them.
 fn is_refuted(set: &GroundSet, c: usize) -> bool
     requires { c < length set.now.clauses }
     ensures yes { IsTrue result → IsRefuted set.now c }
@@ -38,7 +38,7 @@ fn is_refuted(set: &GroundSet, c: usize) -> bool
     true
 }
 
-// Whether the last n clauses are the opposites of this clause's literals, and the clause stands before them.
+/// Whether the last n clauses are the opposites of this clause's literals, and the clause stands before them.
 fn is_refuted_by_last(set: &GroundSet, n: usize, c: usize) -> bool
     requires { c < length set.now.clauses }
     ensures yes { IsTrue result → IsRefutedByLast set.now n c }

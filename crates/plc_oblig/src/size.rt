@@ -64,7 +64,7 @@ fn count_pointer_fields(fields: &[Field]) -> u64
     fields.iter().filter(|f| f.pointer).count() as u64
 }
 
-// Auxiliary fields that have values.
+/// Auxiliary fields that have values.
 fn count_enumerated(ghosts: &[Ghost]) -> u64
     ensures { result ≡ count_by has_values ghosts.now }
 {
@@ -83,7 +83,7 @@ fn count_pointer_loads(prims: &[Prim]) -> u64
     total
 }
 
-// How many clauses a primitive gives, where there are so many nodes.
+/// How many clauses a primitive gives, where there are so many nodes.
 fn prim_size(nodes: u64, prim: &Prim) -> u64
     requires { nodes ≤ most_nodes }
     ensures size { result ≡ prim_size nodes prim.now }
@@ -104,7 +104,7 @@ fn prim_size(nodes: u64, prim: &Prim) -> u64
     }
 }
 
-// The pointer fields of so many nodes, where premises are deep.
+/// The pointer fields of so many nodes, where premises are deep.
 fn deep_nodes(deep: bool, nodes: u64, fields: u64) -> u64
     requires nodes { nodes ≤ most_constants }
     requires fields { fields ≤ most limits.Fields }
@@ -123,7 +123,7 @@ fn one_if(made: bool) -> u64
     if made { 1 } else { 0 }
 }
 
-// The pointer locals of the acting thread.
+/// The pointer locals of the acting thread.
 fn count_mine(flow: &Flow, o: &Obligation) -> u64
     requires { FileFits flow.now.file }
     ensures count { result ≡ count_by is_pointer (acting_locals flow.now o.now) }
@@ -132,7 +132,7 @@ fn count_mine(flow: &Flow, o: &Obligation) -> u64
     count_pointers(acting_locals(flow, o))
 }
 
-// Those of the owner.
+/// Those of the owner.
 fn count_theirs(flow: &Flow, o: &Obligation) -> u64
     requires { FileFits flow.now.file }
     ensures count { result ≡ count_by is_pointer (owner_locals flow.now o.now) }
@@ -189,7 +189,7 @@ fn sizes_of(flow: &Flow, outline: &Outline, o: &Obligation) -> Sizes
     }
 }
 
-// That each node has one of the values of each field.
+/// That each node has one of the values of each field.
 fn values_size(ghosts: &[Ghost], nodes: u64) -> u64
     requires few { length ghosts.now ≤ most limits.Ghosts }
     requires nodes { nodes ≤ most_nodes }
@@ -199,7 +199,7 @@ fn values_size(ghosts: &[Ghost], nodes: u64) -> u64
     count_enumerated(ghosts) * nodes
 }
 
-// How things are at first.
+/// How things are at first.
 fn beginning_size(flow: &Flow, z: Sizes, o: &Obligation) -> u64
     requires few { AreFew z }
     requires shared { length flow.now.file.shared ≤ most limits.Shared }
@@ -214,7 +214,7 @@ fn beginning_size(flow: &Flow, z: Sizes, o: &Obligation) -> u64
     }
 }
 
-// What is known of the new node.
+/// What is known of the new node.
 fn freshness_size(file: &File, z: Sizes) -> u64
     requires few { AreFew z }
     requires fields { length file.now.fields ≤ most limits.Fields }
@@ -233,7 +233,7 @@ fn freshness_size(file: &File, z: Sizes) -> u64
     0
 }
 
-// The instances of a clause, where each name stands for so many nodes.
+/// The instances of a clause, where each name stands for so many nodes.
 fn instances_size(places: u64, clause: &Clause) -> u64
     requires few { places ≤ most_nodes }
     requires bound { length clause.now.bound.names ≤ most_bound }
@@ -250,7 +250,7 @@ fn instances_size(places: u64, clause: &Clause) -> u64
     places * places
 }
 
-// Those of clauses.
+/// Those of clauses.
 fn premises_size(places: u64, clauses: &[Clause]) -> u64
     requires few { places ≤ most_nodes }
     requires bound { All (λ c. length c.bound.names ≤ most_bound) clauses.now }
@@ -265,7 +265,7 @@ fn premises_size(places: u64, clauses: &[Clause]) -> u64
     total
 }
 
-// Those of the clauses at a point.
+/// Those of the clauses at a point.
 fn point_size(places: u64, flow: &Flow, outline: &Outline, p: u16) -> u64
     requires few { places ≤ most_nodes }
     requires bound { All (λ i. length i.clause.bound.names ≤ most_bound) outline.now.items }
@@ -282,7 +282,7 @@ fn point_size(places: u64, flow: &Flow, outline: &Outline, p: u16) -> u64
     total
 }
 
-// What is executed.
+/// What is executed.
 fn executed_size(nodes: u64, prims: &[Prim]) -> u64
     requires few { nodes ≤ most_nodes }
     requires short { length prims.now ≤ most_step_primitives }
@@ -296,7 +296,7 @@ fn executed_size(nodes: u64, prims: &[Prim]) -> u64
     total
 }
 
-// The clauses of a point, where a thread stands at one.
+/// The clauses of a point, where a thread stands at one.
 fn standing_size(places: u64, flow: &Flow, outline: &Outline, point: Option<PointId>) -> u64
     requires few { places ≤ most_nodes }
     requires fits { Fits flow.now outline.now }

@@ -16,8 +16,8 @@ fn is_shared(p: Var) -> bool
     matches!(p, Var::Shared(_))
 }
 
-// Whether the primitive makes a node, writes a field or an auxiliary field, retires, or gives a shared
-// pointer a value.
+/// Whether the primitive makes a node, writes a field or an auxiliary field, retires, or gives a shared
+/// pointer a value.
 fn changes(prim: &Prim) -> bool
     ensures { result ≡ changes prim.now }
 {
@@ -42,7 +42,7 @@ fn any_changes(prims: &[Prim]) -> bool
     prims.iter().any(|prim| changes(prim))
 }
 
-// Whether no primitive that is executed does.
+/// Whether no primitive that is executed does.
 fn is_quiet(flow: &Flow, o: &Obligation) -> bool
     ensures { result ≡ not (list_any changes (executed flow.now o.now)) }
 {

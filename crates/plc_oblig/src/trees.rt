@@ -17,7 +17,7 @@ use plc_setting::Obligation;
 use std::alloc::Global;
 
 impl Grounding {
-    // The tree of a still obligation.
+    /// The tree of a still obligation.
     fn tree_of_still(
         &mut self,
         flow: &Flow,

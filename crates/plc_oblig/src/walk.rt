@@ -40,7 +40,7 @@ fn counts_of(alloc: Global, flow: &Flow, outline: &Outline) -> Result<Items<u16>
     Ok(counts)
 }
 
-// How many clauses there are at a point.
+/// How many clauses there are at a point.
 fn count_of(o: Counted<'_>, p: PointId) -> u16
     requires point { p.0 < o.flow.now.points }
     requires fits { Fits o.flow.now o.outline.now }
@@ -102,7 +102,7 @@ fn first_own(o: Counted<'_>, step: StepId, clause: u16) -> Option<Obligation>
     None
 }
 
-// Of one step.
+/// Of one step.
 fn first_at_points(o: Counted<'_>, step: StepId, point: PointId, clause: u16) -> Option<Obligation>
     requires fits { Fits o.flow.now o.outline.now }
     requires step { step.0 < length o.flow.now.steps }
@@ -141,7 +141,7 @@ fn first_other(o: Counted<'_>, step: StepId, point: PointId, clause: u16) -> Opt
     None
 }
 
-// Of one step.
+/// Of one step.
 fn first_claim_of(o: Counted<'_>, step: StepId, prim: u16) -> Option<Obligation>
     requires fits { Fits o.flow.now o.outline.now }
     requires step { step.0 < length o.flow.now.steps }
@@ -234,7 +234,7 @@ fn first_from(o: Counted<'_>, at: Obligation) -> Option<Obligation>
     }
 }
 
-// The place after an obligation.
+/// The place after an obligation.
 fn following(o: Obligation) -> Obligation
     requires { last_number o < 65535 }
     ensures { result ≡ following o }

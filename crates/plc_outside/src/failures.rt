@@ -36,7 +36,7 @@ impl FailedReads {
         }
     }
 
-    // One more name at the end, or an unchanged list.
+    /// One more name at the end, or an unchanged list.
     fn add(&mut self, name: &str) -> Result<(), NoMemory>
         ensures ok { OnOk result (self.new ≡ self.old ++ name.now ∷ []) }
         ensures err { OnErr result (self.new ≡ self.old) }

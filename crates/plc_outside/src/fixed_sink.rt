@@ -57,7 +57,7 @@ impl FixedSink {
 impl Sink for FixedSink {
     ghost known = { known_of };
 
-    // Beside what each sink promises, every answer and the sink after it.
+    /// Beside what each sink promises, every answer and the sink after it.
     fn put(&mut self, piece: &[u8]) -> Result<usize, SinkFault>
         ensures answer { AnswersFixedPut self.old (length piece.now) result }
         ensures after { IsAfterFixedPut self.old self.new piece.now result }

@@ -47,7 +47,7 @@ impl HonestFiles {
     }
 }
 
-// The bytes under a name.
+/// The bytes under a name.
 fn bytes_of<'a>(files: &'a [(String, Vec<u8>)], name: &str) -> &'a [u8]
     ensures { result.now ≡ bytes_of (entries_of files.now) name.now }
 {

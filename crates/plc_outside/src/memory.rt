@@ -80,7 +80,7 @@ pub(crate) fn find<'a>(files: &'a [(String, Vec<u8>)], name: &str) -> Option<&'a
     None
 }
 
-// The bytes that a call finds, or `None` where it is to fail or the name is absent.
+/// The bytes that a call finds, or `None` where it is to fail or the name is absent.
 fn found<'a>(
     files: &'a [(String, Vec<u8>)],
     name: &str,

@@ -111,7 +111,7 @@ impl FailSink {
     }
 }
 
-// Whether a call fails: it is to fail, or it would take nothing of a piece with bytes.
+/// Whether a call fails: it is to fail, or it would take nothing of a piece with bytes.
 fn fails(failing: &[u64], call: u64, most: usize, size: usize) -> bool
     ensures { result ≡ (is_failing failing.now call || (most == 0 && not (size == 0))) }
 {

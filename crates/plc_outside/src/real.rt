@@ -63,8 +63,8 @@ enum Stop {
     Memory,
 }
 
-// Takes one more piece of a file, of at most `most` bytes, and answers how many there were. Room is
-// made first, so that no byte is taken and lost.
+/// Takes one more piece of a file, of at most `most` bytes, and answers how many there were. Room is
+/// made first, so that no byte is taken and lost.
 fn read_piece<R: Read>(file: &mut R, most: usize, bytes: &mut Vec<u8>) -> Result<usize, Stop>
     ensures bound { IfOk result (λ n. n ≤ most) }
     ensures count { IfOk result (λ n. length bytes.new.items ≡ length bytes.old.items + n) }
@@ -87,7 +87,7 @@ fn read_piece<R: Read>(file: &mut R, most: usize, bytes: &mut Vec<u8>) -> Result
     }
 }
 
-// Reads to the end, but at most one byte more than `max`.
+/// Reads to the end, but at most one byte more than `max`.
 fn read_start<R: Read>(file: &mut R, max: usize, bytes: &mut Vec<u8>) -> Result<(), Stop>
     requires { bytes.old.items ≡ [] }
     ensures bound { length bytes.new.items ≤ max + 1 }
@@ -102,7 +102,7 @@ fn read_start<R: Read>(file: &mut R, max: usize, bytes: &mut Vec<u8>) -> Result<
     Ok(())
 }
 
-// The first bytes of a file, as far as `read_start` goes.
+/// The first bytes of a file, as far as `read_start` goes.
 fn read_file<R: rt::Files>(
     host: &R,
     name: &str,

@@ -1,5 +1,5 @@
--- What holds of the parts of a statement and goes up to the whole holds of each statement that is read: one induction over the trees for all such
--- facts. Along the way something holds of the scope, which labels leave so.
+-- What holds of the parts of a statement and goes up to the whole holds of each statement that is read: one induction
+-- over the trees for all such facts. Along the way something holds of the scope, which labels leave so.
 use Rattle.std.proofs.Common.{ℕ, ◌+◌, Bool, true, false, Option, Some, None, Result, Ok, Err, List}
 use Rattle.plc_lang.specs.declared.syntax.Primitive.{Primitive}
 use Rattle.plc_lang.specs.declared.syntax.Cond.{Cond}

@@ -17,7 +17,7 @@ use plc_outparse::Parsed;
 use plc_scope::{Binding, ParseFault, Scope};
 use std::alloc::Global;
 
-// One value of an auxiliary field, with so many before it; the number of its name.
+/// One value of an auxiliary field, with so many before it; the number of its name.
 fn declare_value(
     scope: &mut Scope,
     owner: usize,
@@ -39,7 +39,7 @@ fn declare_value(
     Ok(number)
 }
 
-// The values from after the first one, which has this number.
+/// The values from after the first one, which has this number.
 fn read_values<'a>(
     alloc: Global,
     scope: &mut Scope,
@@ -64,7 +64,7 @@ fn read_values<'a>(
     Ok((values, rest))
 }
 
-// All values, from after the first one's name, which stands at a place.
+/// All values, from after the first one's name, which stands at a place.
 #[tactic(auto, unfolding(crate::specs::Reading::all_values_in))]
 fn read_all_values<'a>(
     alloc: Global,
@@ -89,7 +89,7 @@ fn read_all_values<'a>(
     }
 }
 
-// An auxiliary field that is one of its values, with so many fields before it.
+/// An auxiliary field that is one of its values, with so many fields before it.
 #[tactic(auto, unfolding(crate::specs::Reading::of_values_in))]
 fn read_of_values<'a>(
     alloc: Global,
@@ -112,7 +112,7 @@ fn read_of_values<'a>(
     Ok((Ghost { name, values }, rest))
 }
 
-// An auxiliary field at a place, from after its name, with so many before it.
+/// An auxiliary field at a place, from after its name, with so many before it.
 #[tactic(auto, unfolding(crate::specs::Reading::ghost_in, crate::specs::Reading::of_threads_in))]
 fn read_ghost<'a>(
     alloc: Global,

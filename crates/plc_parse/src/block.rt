@@ -31,7 +31,7 @@ pub struct Context<'a> {
     pub in_loop: bool,
 }
 
-// A loop, from after its brace.
+/// A loop, from after its brace.
 #[cycle(block)]
 #[tactic(auto, unfolding(crate::specs::Reading::loop_in))]
 fn read_loop<'a>(context: Context, scope: &mut Scope, start: Rest<'a>) -> Parsed<'a, Stmt>
@@ -48,7 +48,7 @@ fn read_loop<'a>(context: Context, scope: &mut Scope, start: Rest<'a>) -> Parsed
     Ok((Stmt::Loop(body), rest))
 }
 
-// The second block of an `if`, which is empty where it is left out.
+/// The second block of an `if`, which is empty where it is left out.
 #[cycle(block)]
 #[tactic(auto, unfolding(crate::specs::Reading::else_in))]
 fn read_else<'a>(context: Context, scope: &mut Scope, start: Rest<'a>) -> Parsed<'a, Block>
@@ -64,7 +64,7 @@ fn read_else<'a>(context: Context, scope: &mut Scope, start: Rest<'a>) -> Parsed
     }
 }
 
-// The two blocks of an `if`, from after the first one's brace.
+/// The two blocks of an `if`, from after the first one's brace.
 #[cycle(block)]
 #[tactic(auto, unfolding(crate::specs::Reading::branches_in))]
 fn read_branches<'a>(
@@ -83,7 +83,7 @@ fn read_branches<'a>(
     Ok((yes, no, rest))
 }
 
-// An `if`, from after its parenthesis.
+/// An `if`, from after its parenthesis.
 #[cycle(block)]
 #[tactic(auto, unfolding(crate::specs::Reading::if_in))]
 fn read_if<'a>(context: Context, scope: &mut Scope, start: Rest<'a>) -> Parsed<'a, Stmt>
@@ -103,7 +103,7 @@ fn read_if<'a>(context: Context, scope: &mut Scope, start: Rest<'a>) -> Parsed<'
     Ok((Stmt::If { cond, yes, no }, rest))
 }
 
-// The blocks of a choice, from after the first one.
+/// The blocks of a choice, from after the first one.
 #[cycle(block)]
 #[tactic(auto, unfolding(crate::specs::Reading::blocks_in))]
 fn read_blocks<'a>(
@@ -132,7 +132,7 @@ fn read_blocks<'a>(
     Err(ParseFault::Syntax { at: rest.at })
 }
 
-// A choice, from after its first brace.
+/// A choice, from after its first brace.
 #[cycle(block)]
 #[tactic(auto, unfolding(crate::specs::Reading::choose_in))]
 fn read_choose<'a>(context: Context, scope: &mut Scope, start: Rest<'a>) -> Parsed<'a, Stmt>
@@ -147,7 +147,7 @@ fn read_choose<'a>(context: Context, scope: &mut Scope, start: Rest<'a>) -> Pars
     Ok((Stmt::Choose(blocks), rest))
 }
 
-// A statement; at most so many stand within it.
+/// A statement; at most so many stand within it.
 #[cycle(block)]
 #[tactic(auto, unfolding(crate::specs::Reading::statement_in))]
 fn read_statement<'a>(context: Context, scope: &mut Scope, start: Rest<'a>) -> Parsed<'a, Stmt>

@@ -29,7 +29,7 @@ pub fn declare(scope: &mut Scope, name: &[u8], at: u32, binding: Binding) -> Res
     scope.declare(name, at, binding)
 }
 
-// One field, with so many before it.
+/// One field, with so many before it.
 fn declare_field(
     scope: &mut Scope,
     count: usize,
@@ -88,7 +88,7 @@ impl Listed for Fields {
     }
 }
 
-// One shared pointer, with so many before it; the number of its name.
+/// One shared pointer, with so many before it; the number of its name.
 fn declare_shared(scope: &mut Scope, count: usize, at: u32, name: &[u8]) -> Result<u16, ParseFault>
     requires limit { count ≤ most What1.Shared }
     requires room { HasRoom scope.old 1 }
@@ -120,7 +120,7 @@ impl Listed for SharedPointers {
     }
 }
 
-// One function, with so many before it beside `retire`.
+/// One function, with so many before it beside `retire`.
 fn declare_function(
     scope: &mut Scope,
     count: usize,

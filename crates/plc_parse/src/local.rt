@@ -11,7 +11,7 @@ ghost use Rattle.plc_outparse.specs.Views.{read_with, kinds_left};
 use plc_forms::{Declaration, Rest, comma_name_at, declaration_at, name_at, opening_at};
 use plc_scope::{ParseFault, Scope};
 
-// Declares one parameter.
+/// Declares one parameter.
 #[tactic(auto, using(crate::proofs::Growth::parameter_labels))]
 fn declare_parameter(scope: &mut Scope, name: &[u8], at: u32) -> Result<(), ParseFault>
     requires { HasRoomForLocals scope.old }
@@ -22,7 +22,7 @@ fn declare_parameter(scope: &mut Scope, name: &[u8], at: u32) -> Result<(), Pars
     scope.declare_parameter(name, at)
 }
 
-// The parameters after the first.
+/// The parameters after the first.
 fn read_others<'a>(scope: &mut Scope, start: Rest<'a>) -> Result<Rest<'a>, ParseFault>
     requires { HasRoomForLocals scope.old }
     ensures read { Gives (read_with scope.new) result
@@ -52,7 +52,7 @@ fn read_parameters<'a>(scope: &mut Scope, start: Rest<'a>) -> Result<Rest<'a>, P
     }
 }
 
-// Declares one local that is no parameter.
+/// Declares one local that is no parameter.
 #[tactic(auto, using(crate::proofs::Growth::local_labels))]
 fn declare_name(scope: &mut Scope, name: &[u8], at: u32, pointer: bool) -> Result<(), ParseFault>
     requires { HasRoomForLocals scope.old }

@@ -22,7 +22,7 @@ use plc_outparse::Parsed;
 use plc_scope::{Binding, ParseFault, Scope};
 use std::alloc::Global;
 
-// An operation at a place, with so many before it, from after its name and `(`.
+/// An operation at a place, with so many before it, from after its name and `(`.
 #[tactic(auto, unfolding(crate::specs::Reading::op_in))]
 fn read_op<'a>(
     alloc: Global,
@@ -65,7 +65,7 @@ fn read_op<'a>(
     Ok((op, rest))
 }
 
-// The operation at a place, from after its name and `(`, added to those before.
+/// The operation at a place, from after its name and `(`, added to those before.
 fn read_next<'a>(
     alloc: Global,
     scope: &mut Scope,

@@ -47,7 +47,7 @@ const RETIRE: Func = Func {
     pointer: true,
 };
 
-// The struct's name, declared, and what is after its opening brace.
+/// The struct's name, declared, and what is after its opening brace.
 #[tactic(auto, unfolding(crate::specs::Reading::struct_in))]
 fn read_struct(alloc: Global, tokens: &[Token]) -> Result<(Scope, Rest), ParseFault>
     requires { length tokens.now < 2 ^ 32 }
@@ -73,7 +73,7 @@ struct Declared {
     functions: Items<Func>,
 }
 
-// The fields of the struct, the shared pointers and the functions.
+/// The fields of the struct, the shared pointers and the functions.
 #[tactic(auto, unfolding(crate::specs::Reading::declarations_in))]
 fn read_declarations<'a>(alloc: Global, scope: &mut Scope, start: Rest<'a>) -> Parsed<'a, Declared>
     requires { HasRoom scope.old (most What1.Fields + most What1.Shared + most What1.Calls + 1) }
@@ -97,7 +97,7 @@ fn read_declarations<'a>(alloc: Global, scope: &mut Scope, start: Rest<'a>) -> P
     Ok((declared, rest))
 }
 
-// What a file says that is watched.
+/// What a file says that is watched.
 fn observer(scope: &Scope, at: u32, watch: Watch) -> Result<Observer, ParseFault>
     requires locals { length scope.now.locals ≤ most_locals }
     requires place { at + watch_size (watch_tree watch) < 2 ^ 32 }
@@ -114,7 +114,7 @@ fn observer(scope: &Scope, at: u32, watch: Watch) -> Result<Observer, ParseFault
     }
 }
 
-// The observer, which is plain where the file names none.
+/// The observer, which is plain where the file names none.
 #[tactic(auto, unfolding(crate::specs::Reading::watch_in))]
 fn read_watch<'a>(scope: &Scope, start: Rest<'a>) -> Parsed<'a, Observer>
     requires { length scope.now.locals ≤ most_locals }
@@ -131,7 +131,7 @@ fn read_watch<'a>(scope: &Scope, start: Rest<'a>) -> Parsed<'a, Observer>
     }
 }
 
-// The primitives of `init`, which may be left out.
+/// The primitives of `init`, which may be left out.
 #[tactic(auto, unfolding(crate::specs::Reading::init_in))]
 fn read_init<'a>(alloc: Global, scope: &Scope, start: Rest<'a>) -> Parsed<'a, Items<Prim>>
     requires { length scope.now.locals ≤ most_locals }
@@ -145,7 +145,7 @@ fn read_init<'a>(alloc: Global, scope: &Scope, start: Rest<'a>) -> Parsed<'a, It
     }
 }
 
-// The functions of a file: `retire`, and then those that it declares.
+/// The functions of a file: `retire`, and then those that it declares.
 fn with_retire(functions: Items<Func>) -> Result<Items<Func>, ParseFault>
     ensures { Gives (λ all. all) result (Ok (retire ∷ functions)) }
 {
@@ -154,7 +154,7 @@ fn with_retire(functions: Items<Func>) -> Result<Items<Func>, ParseFault>
     Ok(Items::from_vec(all))
 }
 
-// The outline, which may be left out; nothing may be left after it.
+/// The outline, which may be left out; nothing may be left after it.
 #[tactic(auto, unfolding(crate::specs::Reading::outlined_in))]
 fn read_outlined(
     alloc: Global,
@@ -190,8 +190,8 @@ struct Front {
     init: Items<Prim>,
 }
 
-// What stands before the operations. Each part has a function of its own, so that few values live where
-// one may fail.
+/// What stands before the operations. Each part has a function of its own, so that few values live where
+/// one may fail.
 #[tactic(auto, unfolding(crate::specs::Reading::front_in))]
 fn read_front<'a>(alloc: Global, scope: &mut Scope, start: Rest<'a>) -> Parsed<'a, Front>
     requires room { HasRoom scope.old (front_names + ghost_names) }
@@ -213,7 +213,7 @@ fn read_front<'a>(alloc: Global, scope: &mut Scope, start: Rest<'a>) -> Parsed<'
     Ok((front, rest))
 }
 
-// The operations and the outline.
+/// The operations and the outline.
 #[tactic(auto, unfolding(crate::specs::Reading::body_in))]
 fn read_body(
     alloc: Global,
@@ -233,7 +233,7 @@ fn read_body(
     Ok((ops, outline))
 }
 
-// The unit of these parts, with the names and labels in reach at its end.
+/// The unit of these parts, with the names and labels in reach at its end.
 fn unit(scope: Scope, front: Front, ops: Items<Op>, outline: Outline) -> Result<Unit, ParseFault>
     ensures { Gives (λ unit. unit) result (Ok (unit_from (front_of front) (ops, outline, scope))) }
 {
@@ -260,7 +260,7 @@ fn unit(scope: Scope, front: Front, ops: Items<Op>, outline: Outline) -> Result<
     })
 }
 
-// The unit of tokens that are a file's.
+/// The unit of tokens that are a file's.
 #[tactic(auto, unfolding(crate::specs::Reading::file_in))]
 fn read_file(alloc: Global, tokens: &[Token]) -> Result<Unit, ParseFault>
     requires { length tokens.now < 2 ^ 32 }

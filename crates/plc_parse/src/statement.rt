@@ -23,7 +23,7 @@ use plc_outparse::Parsed;
 use plc_scope::{ParseFault, Scope, call, primitive};
 use std::alloc::Global;
 
-// Declares a label after the word at a place, and answers its number.
+/// Declares a label after the word at a place, and answers its number.
 #[tactic(auto, using(crate::proofs::Growth::labelled))]
 fn declare_label(scope: &mut Scope, at: u32, name: &[u8]) -> Result<u16, ParseFault>
     requires room { CanLabel scope.old }
@@ -39,7 +39,7 @@ fn declare_label(scope: &mut Scope, at: u32, name: &[u8]) -> Result<u16, ParseFa
     Ok(count as u16)
 }
 
-// Declares the label of a call, if it has one.
+/// Declares the label of a call, if it has one.
 fn declare_during(
     scope: &mut Scope,
     at: u32,
@@ -59,7 +59,7 @@ fn declare_during(
     }
 }
 
-// A label, from after its semicolon.
+/// A label, from after its semicolon.
 fn read_label<'a>(scope: &mut Scope, at: u32, name: &[u8], start: Rest<'a>) -> Parsed<'a, Stmt>
     requires room { CanLabel scope.old }
     requires word { start.at ≡ at + 3 }
@@ -84,7 +84,7 @@ fn read_break<'a>(in_loop: bool, at: u32, start: Rest<'a>) -> Parsed<'a, Stmt>
     }
 }
 
-// An atomic block, from after its brace.
+/// An atomic block, from after its brace.
 fn read_atomic<'a>(alloc: Global, scope: &Scope, at: u32, start: Rest<'a>) -> Parsed<'a, Stmt>
     requires locals { length scope.now.locals ≤ most_locals }
     requires word { start.at ≡ at + 2 }
@@ -96,7 +96,7 @@ fn read_atomic<'a>(alloc: Global, scope: &Scope, at: u32, start: Rest<'a>) -> Pa
     Ok((Stmt::Atomic(primitives), rest))
 }
 
-// A call, from after its closing parenthesis.
+/// A call, from after its closing parenthesis.
 #[tactic(auto, unfolding(crate::specs::Reading::called_in))]
 fn read_call<'a>(scope: &mut Scope, at: u32, form: Call, start: Rest<'a>) -> Parsed<'a, Stmt>
     requires room { CanLabel scope.old }
@@ -121,7 +121,7 @@ fn read_call<'a>(scope: &mut Scope, at: u32, form: Call, start: Rest<'a>) -> Par
     Ok((stmt, rest))
 }
 
-// One primitive, from after its semicolon.
+/// One primitive, from after its semicolon.
 fn read_primitive<'a>(scope: &Scope, at: u32, form: Primitive, start: Rest<'a>) -> Parsed<'a, Stmt>
     requires locals { length scope.now.locals ≤ most_locals }
     requires form { start.at ≡ at + primitive_size (primitive_tree form) + 1 }
@@ -135,7 +135,7 @@ fn read_primitive<'a>(scope: &Scope, at: u32, form: Primitive, start: Rest<'a>) 
     }
 }
 
-// A step: an atomic block, a call, or one primitive.
+/// A step: an atomic block, a call, or one primitive.
 #[tactic(auto, unfolding(crate::specs::Reading::step_in))]
 fn read_step<'a>(alloc: Global, scope: &mut Scope, start: Rest<'a>) -> Parsed<'a, Stmt>
     requires room { CanLabel scope.old }

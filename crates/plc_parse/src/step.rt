@@ -42,14 +42,14 @@ impl Step {
         }
     }
 
-    // Whether there are as many primitives as there may be.
+    /// Whether there are as many primitives as there may be.
     fn is_full(&self) -> bool
         ensures { result ≡ (length self.now.primitives == most What1.Prims) }
     {
         self.primitives.len() == What1::Prims.most() as usize
     }
 
-    // One more primitive.
+    /// One more primitive.
     fn push(&mut self, primitive: Prim) -> Result<(), ParseFault>
         ensures { Gives (λ _. (self.new.primitives, self.new.has_new)) result
             (with_form self.old.primitives self.old.has_new 0 (Ok (Some primitive))) }
@@ -65,8 +65,8 @@ impl Step {
         Ok(())
     }
 
-    // What a form at a place means, added. The limit's place is the form's first token, so a fault of
-    // that token goes before it.
+    /// What a form at a place means, added. The limit's place is the form's first token, so a fault of
+    /// that token goes before it.
     fn add(&mut self, at: u32, meaning: Result<Option<Prim>, ParseFault>) -> Result<(), ParseFault>
         ensures { (said : Result (Option Primitive) ParseFault) → Gives (λ k. k) meaning said
             → Gives (λ _. (self.new.primitives, self.new.has_new)) result
@@ -80,7 +80,7 @@ impl Step {
         }
     }
 
-    // A fault of a form, or that there is no room for the form.
+    /// A fault of a form, or that there is no room for the form.
     fn fault(&self, at: u32, fault: ParseFault) -> ParseFault
         ensures { result ≡ (if stands_at at fault then fault
             else (if length self.now.primitives == most What1.Prims
@@ -165,7 +165,7 @@ impl StepForms for InitialForms {
     ghost shrinks = { initial_line_shrinks };
 }
 
-// Forms while there is one, and the closing brace.
+/// Forms while there is one, and the closing brace.
 fn read_forms<'a, F: StepForms>(
     alloc: Global,
     scope: &Scope,

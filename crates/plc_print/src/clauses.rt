@@ -20,7 +20,7 @@ use plc_logic::{Base, Clause, Literal, Term};
 
 const ALL: Piece<'static> = Piece::Word(Keyword::All);
 
-// A quantified name, by its number.
+/// A quantified name, by its number.
 fn bound_name(bound: &Names, i: u16) -> &[u8]
     ensures { result.now ≡ get_or bound.now.names i [] }
 {
@@ -36,7 +36,7 @@ struct InClause<'a> {
 }
 
 impl<'a> InClause<'a> {
-    // The name of a node.
+    /// The name of a node.
     fn base(self, base: Base) -> &'a [u8]
         ensures { result.now ≡ base_name self.entry.file.now self.entry.locals.now self.entry.bound.now.names base }
     {
@@ -48,7 +48,7 @@ impl<'a> InClause<'a> {
     }
 }
 
-// A field of a node.
+/// A field of a node.
 fn field_of<'x>(out: &mut Printer, reach: InClause<'x>, base: Base, field: &'x [u8]) -> Printed
     ensures { OnOk result
         (Prints out.old out.new (term_then
@@ -58,7 +58,7 @@ fn field_of<'x>(out: &mut Printer, reach: InClause<'x>, base: Base, field: &'x [
     out.tokens(&[node, DOT, field])
 }
 
-// One side of an equation.
+/// One side of an equation.
 fn term(out: &mut Printer, reach: InClause, term: Term) -> Printed
     ensures { OnOk result
         (Prints out.old out.new (term_then
@@ -78,7 +78,7 @@ fn term(out: &mut Printer, reach: InClause, term: Term) -> Printed
     }
 }
 
-// `==` or `!=`.
+/// `==` or `!=`.
 fn equality(equal: bool) -> Symbol
     ensures { result ≡ equality_symbol equal }
 {
@@ -89,7 +89,7 @@ fn equality(equal: bool) -> Symbol
     }
 }
 
-// Two terms that are equal, or are not.
+/// Two terms that are equal, or are not.
 fn same(out: &mut Printer, reach: InClause, a: Term, b: Term, equal: bool) -> Printed
     ensures { OnOk result
         (Prints out.old out.new (literal_then
@@ -101,7 +101,7 @@ fn same(out: &mut Printer, reach: InClause, a: Term, b: Term, equal: bool) -> Pr
     term(out, reach, b)
 }
 
-// A node that is retired, or is not.
+/// A node that is retired, or is not.
 fn retired(out: &mut Printer, reach: InClause, x: Base, yes: bool) -> Printed
     ensures { OnOk result
         (Prints out.old out.new (literal_then
@@ -117,7 +117,7 @@ fn retired(out: &mut Printer, reach: InClause, x: Base, yes: bool) -> Printed
     }
 }
 
-// A literal.
+/// A literal.
 fn literal(out: &mut Printer, reach: InClause, literal: Literal) -> Printed
     ensures { OnOk result
         (Prints out.old out.new (literal_then
@@ -129,7 +129,7 @@ fn literal(out: &mut Printer, reach: InClause, literal: Literal) -> Printed
     }
 }
 
-// A literal after the first.
+/// A literal after the first.
 fn or_literal(out: &mut Printer, reach: InClause, further: Literal) -> Printed
     ensures { OnOk result
         (Prints out.old out.new (or_literal_then
@@ -139,7 +139,7 @@ fn or_literal(out: &mut Printer, reach: InClause, further: Literal) -> Printed
     literal(out, reach, further)
 }
 
-// The literals after the first.
+/// The literals after the first.
 fn or_literals(out: &mut Printer, reach: InClause, literals: &[Literal]) -> Printed
     ensures { OnOk result
         (Prints out.old out.new (each_then or_literal_then (map
@@ -151,7 +151,7 @@ fn or_literals(out: &mut Printer, reach: InClause, literals: &[Literal]) -> Prin
     Ok(())
 }
 
-// The literals of a clause.
+/// The literals of a clause.
 fn claims(out: &mut Printer, reach: InClause, literals: &[Literal]) -> Printed
     ensures { OnOk result
         (Prints out.old out.new (clause_then (claims_tree NoBound (map
@@ -166,7 +166,7 @@ fn claims(out: &mut Printer, reach: InClause, literals: &[Literal]) -> Printed
     }
 }
 
-// The quantified names of a clause, of which there are at most two.
+/// The quantified names of a clause, of which there are at most two.
 fn quantified(out: &mut Printer, bound: &Names) -> Printed
     ensures { OnOk result (Prints out.old out.new (bound_then (bound_tree bound.now.names) [])) }
 {
@@ -179,7 +179,7 @@ fn quantified(out: &mut Printer, bound: &Names) -> Printed
     }
 }
 
-// A clause, without its semicolon.
+/// A clause, without its semicolon.
 fn clause(out: &mut Printer, reach: Reach, clause: &Clause) -> Printed
     ensures { OnOk result
         (Prints out.old out.new (clause_then (clause_tree reach.entry.file.now reach.entry.locals.now clause.now) [])) }

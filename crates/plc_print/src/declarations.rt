@@ -18,7 +18,7 @@ use plc_lang::{Field, File, Ghost, Local, Op, Prim, function_name, name_at};
 use plc_lex::{Keyword, Symbol};
 use std::alloc::{AllocError, Global};
 
-// A pointer or data.
+/// A pointer or data.
 fn declaration(out: &mut Printer, name: &[u8], pointer: bool) -> Printed
     ensures { OnOk result (Prints out.old out.new (field_then (declaration_tree name.now pointer) [])) }
 {
@@ -26,7 +26,7 @@ fn declaration(out: &mut Printer, name: &[u8], pointer: bool) -> Printed
     out.tokens(&[Piece::Word(word), Piece::Name(name), SEMICOLON])
 }
 
-// The fields of the struct.
+/// The fields of the struct.
 fn fields(out: &mut Printer, file: &File, fields: &[Field]) -> Printed
     ensures { OnOk result
         (Prints out.old out.new (each_then field_then (map (λ f. declaration_tree
@@ -64,7 +64,7 @@ pub fn shared_pointers(out: &mut Printer, file: &File, numbers: &[u16]) -> Print
     Ok(())
 }
 
-// A reclaimer function.
+/// A reclaimer function.
 fn function(out: &mut Printer, name: &[u8], pointer: bool) -> Printed
     ensures { OnOk result (Prints out.old out.new (function_then (Declares name.now pointer) [])) }
 {
@@ -121,7 +121,7 @@ pub fn watch(out: &mut Printer, file: &File, observer: Observer) -> Printed
     }
 }
 
-// Names after the first, by their numbers.
+/// Names after the first, by their numbers.
 fn comma_names(out: &mut Printer, file: &File, numbers: &[u16]) -> Printed
     ensures { OnOk result (Prints out.old out.new (each_then comma_name_then (map (name_at file.now) numbers.now) [])) }
 {
@@ -131,7 +131,7 @@ fn comma_names(out: &mut Printer, file: &File, numbers: &[u16]) -> Printed
     Ok(())
 }
 
-// What an auxiliary field holds, by the numbers of its values' names.
+/// What an auxiliary field holds, by the numbers of its values' names.
 fn kind(out: &mut Printer, file: &File, values: &[u16]) -> Printed
     ensures { OnOk result (Prints out.old out.new (ghost_kind_then (ghost_kind file.now values.now) [])) }
 {
@@ -145,7 +145,7 @@ fn kind(out: &mut Printer, file: &File, values: &[u16]) -> Printed
     }
 }
 
-// An auxiliary field.
+/// An auxiliary field.
 fn auxiliary(out: &mut Printer, file: &File, field: &Ghost) -> Printed
     ensures { OnOk result
         (Prints out.old out.new (ghost_then (Auxiliary (name_at file.now field.now.name)
@@ -171,7 +171,7 @@ pub fn auxiliaries(out: &mut Printer, file: &File, fields: &[Ghost]) -> Printed
     Ok(())
 }
 
-// The primitives of `init`.
+/// The primitives of `init`.
 fn initials(out: &mut Printer, file: &File, prims: &[Prim]) -> Printed
     ensures { OnOk result (Prints out.old out.new (each_then initial_then (map (initial_tree file.now) prims.now) [])) }
 {
@@ -195,7 +195,7 @@ pub fn start(out: &mut Printer, file: &File) -> Printed
     }
 }
 
-// The numbers of the names of the parameters.
+/// The numbers of the names of the parameters.
 fn parameter_numbers(alloc: Global, locals: &[Local]) -> Result<Vec<u16>, AllocError>
     ensures { IfOk result (λ numbers. numbers.items ≡ map (λ l. l.name) (filter is_parameter locals.now)) }
 {
@@ -208,7 +208,7 @@ fn parameter_numbers(alloc: Global, locals: &[Local]) -> Result<Vec<u16>, AllocE
     Ok(numbers)
 }
 
-// Names with a comma before each but the first, by their numbers.
+/// Names with a comma before each but the first, by their numbers.
 fn parted_names(out: &mut Printer, file: &File, numbers: &[u16]) -> Printed
     ensures { OnOk result (Prints out.old out.new (parameters_then (map (name_at file.now) numbers.now) [])) }
 {
@@ -221,7 +221,7 @@ fn parted_names(out: &mut Printer, file: &File, numbers: &[u16]) -> Printed
     }
 }
 
-// The parameters of an operation.
+/// The parameters of an operation.
 fn parameters(alloc: Global, out: &mut Printer, file: &File, locals: &[Local]) -> Printed
     ensures { OnOk result
         (Prints out.old out.new (parameters_then (map (λ l. name_at file.now l.name)
@@ -231,7 +231,7 @@ fn parameters(alloc: Global, out: &mut Printer, file: &File, locals: &[Local]) -
     parted_names(out, file, &numbers)
 }
 
-// The locals of an operation that are no parameters.
+/// The locals of an operation that are no parameters.
 fn locals(out: &mut Printer, file: &File, locals: &[Local]) -> Printed
     ensures { OnOk result
         (Prints out.old out.new (each_then field_then (map (λ l. declaration_tree
@@ -245,7 +245,7 @@ fn locals(out: &mut Printer, file: &File, locals: &[Local]) -> Printed
     Ok(())
 }
 
-// An operation.
+/// An operation.
 fn operation(alloc: Global, out: &mut Printer, file: &File, op: &Op) -> Printed
     ensures { OnOk result (Prints out.old out.new (op_then (op_tree file.now op.now) [])) }
 {

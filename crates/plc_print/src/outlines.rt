@@ -22,7 +22,7 @@ use plc_lex::Keyword;
 use plc_logic::{Clause, Item, Outline, Site, op_of_site};
 use std::alloc::{AllocError, Global};
 
-// An invariant.
+/// An invariant.
 fn invariant(out: &mut Printer, file: &File, clause: &Clause) -> Printed
     ensures { OnOk result (Prints out.old out.new (item_then (invariant_tree file.now clause.now) [])) }
 {
@@ -31,7 +31,7 @@ fn invariant(out: &mut Printer, file: &File, clause: &Clause) -> Printed
     clause_line(out, reach, clause)
 }
 
-// The invariants.
+/// The invariants.
 fn invariants(out: &mut Printer, file: &File, clauses: &[Clause]) -> Printed
     ensures { OnOk result
         (Prints out.old out.new (each_then item_then (map (invariant_tree file.now) clauses.now) [])) }
@@ -42,7 +42,7 @@ fn invariants(out: &mut Printer, file: &File, clauses: &[Clause]) -> Printed
     Ok(())
 }
 
-// A clause over an operation.
+/// A clause over an operation.
 fn over(out: &mut Printer, reach: Reach, op: OpId, clause: &Clause) -> Printed
     ensures { OnOk result
         (Prints out.old out.new (item_then (site_tree reach.entry.file.now (sites.Over op)
@@ -53,7 +53,7 @@ fn over(out: &mut Printer, reach: Reach, op: OpId, clause: &Clause) -> Printed
     clause_line(out, reach, clause)
 }
 
-// Labels after the first.
+/// Labels after the first.
 fn comma_labels(out: &mut Printer, file: &File, labels: &[u16]) -> Printed
     ensures { OnOk result
         (Prints out.old out.new (each_then comma_name_then (map (label_name file.now) labels.now) [])) }
@@ -64,7 +64,7 @@ fn comma_labels(out: &mut Printer, file: &File, labels: &[u16]) -> Printed
     Ok(())
 }
 
-// A clause at a label and those after it.
+/// A clause at a label and those after it.
 fn at_names(
     out: &mut Printer,
     reach: Reach,
@@ -82,7 +82,7 @@ fn at_names(
     clause_line(out, reach, clause)
 }
 
-// A clause at labels.
+/// A clause at labels.
 fn at(out: &mut Printer, reach: Reach, labels: &[u16], clause: &Clause) -> Printed
     ensures { OnOk result
         (Prints out.old out.new (item_then (site_tree reach.entry.file.now (sites.At labels.now)
@@ -97,7 +97,7 @@ fn at(out: &mut Printer, reach: Reach, labels: &[u16], clause: &Clause) -> Print
     }
 }
 
-// The locals in reach of an item, given the labels of each operation.
+/// The locals in reach of an item, given the labels of each operation.
 fn locals_in_reach<'a>(file: &'a File, by_op: &[Items<u16>], site: &Site) -> &'a [Local]
     ensures { result.now ≡ locals_in_reach file.now (op_of_site by_op.now site.now) }
 {
@@ -107,7 +107,7 @@ fn locals_in_reach<'a>(file: &'a File, by_op: &[Items<u16>], site: &Site) -> &'a
     }
 }
 
-// A clause at points.
+/// A clause at points.
 fn item(out: &mut Printer, file: &File, by_op: &[Items<u16>], item: &Item) -> Printed
     ensures { OnOk result
         (Prints out.old out.new (item_then (site_tree file.now item.now.site (clause_tree file.now
@@ -121,7 +121,7 @@ fn item(out: &mut Printer, file: &File, by_op: &[Items<u16>], item: &Item) -> Pr
     }
 }
 
-// The items but the invariants.
+/// The items but the invariants.
 fn items(out: &mut Printer, file: &File, by_op: &[Items<u16>], items: &[Item]) -> Printed
     ensures { OnOk result
         (Prints out.old out.new (each_then item_then (map (λ (i : OutlineItem). site_tree file.now i.site
@@ -133,7 +133,7 @@ fn items(out: &mut Printer, file: &File, by_op: &[Items<u16>], items: &[Item]) -
     Ok(())
 }
 
-// The depth, which is left out where it is 0.
+/// The depth, which is left out where it is 0.
 fn depth(out: &mut Printer, depth: u8) -> Printed
     ensures { OnOk result (Prints out.old out.new (maybe_then depth_then (depth_tree depth) [])) }
 {
@@ -144,7 +144,7 @@ fn depth(out: &mut Printer, depth: u8) -> Printed
     out.tokens(&[Piece::Word(Keyword::Depth), number, SEMICOLON])
 }
 
-// The labels of each operation.
+/// The labels of each operation.
 fn labels(alloc: Global, file: &File) -> Result<Items<Items<u16>>, AllocError>
     ensures { IfOk result (λ by_op. by_op ≡ labels_by_op file.now.ops) }
 {
@@ -154,7 +154,7 @@ fn labels(alloc: Global, file: &File) -> Result<Items<Items<u16>>, AllocError>
     }
 }
 
-// An outline, even where it says nothing.
+/// An outline, even where it says nothing.
 fn outlined(alloc: Global, out: &mut Printer, file: &File, outline: &Outline) -> Printed
     ensures { OnOk result
         (Prints out.old out.new (outline_then (Outlined (depth_tree outline.now.depth)

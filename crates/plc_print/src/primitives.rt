@@ -22,7 +22,7 @@ use crate::tokens::{
 use plc_lang::{Cond, File, GhostVal, Num, Prim, Rel, Var, auxiliary_name, value_name};
 use plc_lex::{Keyword, Symbol};
 
-// A number or a data local.
+/// A number or a data local.
 fn number<'a>(reach: Reach<'a>, e: Num) -> Piece<'a>
     ensures value { value_then (value_tree reach.entry.file.now reach.entry.locals.now e) [] ≡ kind_of result ∷ [] }
     ensures atom { atom_then (number_tree reach.entry.file.now reach.entry.locals.now e) [] ≡ kind_of result ∷ [] }
@@ -33,7 +33,7 @@ fn number<'a>(reach: Reach<'a>, e: Num) -> Piece<'a>
     }
 }
 
-// A token that is put into a name.
+/// A token that is put into a name.
 fn set_name<'x>(out: &mut Printer, name: &'x [u8], value: Piece<'x>) -> Printed
     ensures { OnOk result
         (Prints out.old out.new (NameToken name.now ∷ SymbolToken symbols.Assign ∷ kind_of value.entry ∷ [])) }
@@ -41,7 +41,7 @@ fn set_name<'x>(out: &mut Printer, name: &'x [u8], value: Piece<'x>) -> Printed
     out.tokens(&[Piece::Name(name), ASSIGN, value])
 }
 
-// A field that is put into a name.
+/// A field that is put into a name.
 fn load<'x>(out: &mut Printer, name: &'x [u8], from: &'x [u8], field: &'x [u8]) -> Printed
     ensures { OnOk result
         (Prints out.old out.new (set_then (SetName name.now (PlaceValue (PlaceOf from.now (Some field.now)))) [])) }
@@ -50,7 +50,7 @@ fn load<'x>(out: &mut Printer, name: &'x [u8], from: &'x [u8], field: &'x [u8]) 
     out.tokens(&[name, ASSIGN, from, DOT, field])
 }
 
-// A token that is put into a field.
+/// A token that is put into a field.
 fn store<'x>(out: &mut Printer, name: &'x [u8], field: &'x [u8], atom: Piece<'x>) -> Printed
     ensures { OnOk result
         (Prints out.old out.new
@@ -60,7 +60,7 @@ fn store<'x>(out: &mut Printer, name: &'x [u8], field: &'x [u8], atom: Piece<'x>
     out.tokens(&[Piece::Name(name), DOT, Piece::Name(field), ASSIGN, atom])
 }
 
-// An assignment.
+/// An assignment.
 fn set(out: &mut Printer, reach: Reach, prim: Prim) -> Printed
     ensures { OnOk result
         (Prints out.old out.new (set_then (set_tree reach.entry.file.now reach.entry.locals.now prim) [])) }
@@ -84,7 +84,7 @@ fn set(out: &mut Printer, reach: Reach, prim: Prim) -> Printed
     }
 }
 
-// What is put into an auxiliary field.
+/// What is put into an auxiliary field.
 fn ghost_value<'a>(reach: Reach<'a>, g: u16, v: GhostVal) -> Piece<'a>
     ensures { ghost_value_then (ghost_value_tree reach.entry.file.now reach.entry.locals.now g v) [] ≡ kind_of result
         ∷ [] }
@@ -96,7 +96,7 @@ fn ghost_value<'a>(reach: Reach<'a>, g: u16, v: GhostVal) -> Piece<'a>
     }
 }
 
-// An assignment to an auxiliary field.
+/// An assignment to an auxiliary field.
 fn ghost_set(out: &mut Printer, reach: Reach, p: Var, g: u16, v: GhostVal) -> Printed
     ensures { OnOk result
         (Prints out.old out.new (ghost_set_then (ghost_tree reach.entry.file.now reach.entry.locals.now p g v) [])) }
@@ -107,14 +107,14 @@ fn ghost_set(out: &mut Printer, reach: Reach, p: Var, g: u16, v: GhostVal) -> Pr
     out.tokens(&[word, node, DOT, auxiliary, ASSIGN, ghost_value(reach, g, v)])
 }
 
-// A refresh into a pointer local.
+/// A refresh into a pointer local.
 fn refresh_name<'x>(out: &mut Printer, name: &'x [u8], from: &'x [u8]) -> Printed
     ensures { OnOk result (Prints out.old out.new (refresh_then (RefreshName name.now (PlaceOf from.now None)) [])) }
 {
     out.tokens(&[Piece::Name(name), REFRESH, Piece::Name(from)])
 }
 
-// A refresh of a field into a pointer local.
+/// A refresh of a field into a pointer local.
 fn refresh_load<'x>(out: &mut Printer, name: &'x [u8], from: &'x [u8], field: &'x [u8]) -> Printed
     ensures { OnOk result
         (Prints out.old out.new (refresh_then (RefreshName name.now (PlaceOf from.now (Some field.now))) [])) }
@@ -123,7 +123,7 @@ fn refresh_load<'x>(out: &mut Printer, name: &'x [u8], from: &'x [u8], field: &'
     out.tokens(&[name, REFRESH, from, DOT, field])
 }
 
-// A refresh into a field.
+/// A refresh into a field.
 fn refresh_store<'x>(out: &mut Printer, name: &'x [u8], field: &'x [u8], from: &'x [u8]) -> Printed
     ensures { OnOk result (Prints out.old out.new (refresh_then (RefreshField name.now field.now from.now) [])) }
 {
@@ -142,7 +142,7 @@ fn relation(rel: Rel) -> Symbol
     }
 }
 
-// A comparison of a name with a token.
+/// A comparison of a name with a token.
 fn compare<'x>(out: &mut Printer, name: &'x [u8], symbol: Symbol, atom: Piece<'x>) -> Printed
     ensures { OnOk result
         (Prints out.old out.new (NameToken name.now ∷ SymbolToken symbol ∷ kind_of atom.entry ∷ [])) }
@@ -150,7 +150,7 @@ fn compare<'x>(out: &mut Printer, name: &'x [u8], symbol: Symbol, atom: Piece<'x
     out.tokens(&[Piece::Name(name), Piece::Sign(symbol), atom])
 }
 
-// A test.
+/// A test.
 fn test(out: &mut Printer, reach: Reach, prim: Prim) -> Printed
     ensures { OnOk result
         (Prints out.old out.new (test_then (test_tree reach.entry.file.now reach.entry.locals.now prim) [])) }
@@ -173,7 +173,7 @@ fn test(out: &mut Printer, reach: Reach, prim: Prim) -> Printed
     }
 }
 
-// An assumption.
+/// An assumption.
 fn assume(out: &mut Printer, reach: Reach, prim: Prim) -> Printed
     ensures { OnOk result
         (Prints out.old out.new (WordToken words.Assume ∷ test_then
@@ -183,7 +183,7 @@ fn assume(out: &mut Printer, reach: Reach, prim: Prim) -> Printed
     test(out, reach, prim)
 }
 
-// A primitive, without its semicolon.
+/// A primitive, without its semicolon.
 fn primitive(out: &mut Printer, reach: Reach, prim: Prim) -> Printed
     ensures { OnOk result
         (Prints out.old out.new (primitive_then (primitive_tree reach.entry.file.now reach.entry.locals.now prim) [])) }
@@ -244,7 +244,7 @@ pub fn initial_line(out: &mut Printer, file: &File, prim: Prim) -> Printed
     out.token(SEMICOLON)
 }
 
-// A pointer variable, or null.
+/// A pointer variable, or null.
 fn name_or_null<'a>(reach: Reach<'a>, q: Option<Var>) -> Piece<'a>
     ensures { name_or_null_then (name_or_null reach.entry.file.now reach.entry.locals.now q) []
         ≡ kind_of result ∷ [] }
@@ -255,7 +255,7 @@ fn name_or_null<'a>(reach: Reach<'a>, q: Option<Var>) -> Piece<'a>
     }
 }
 
-// A compare-and-swap: what it is of, what is expected there, and what is put there.
+/// A compare-and-swap: what it is of, what is expected there, and what is put there.
 fn cas(
     out: &mut Printer,
     reach: Reach,
@@ -278,7 +278,7 @@ fn cas(
     }
 }
 
-// A refresh, as a condition.
+/// A refresh, as a condition.
 fn refresh(out: &mut Printer, reach: Reach, prim: Prim) -> Printed
     ensures { OnOk result
         (Prints out.old out.new (condition_then

@@ -14,7 +14,7 @@ use plc_base::NoMemory;
 use plc_parse::Unit;
 use std::alloc::Global;
 
-// All parts of a unit.
+/// All parts of a unit.
 fn parts(alloc: Global, out: &mut Printer, unit: &Unit) -> Printed
     ensures { OnOk result (Prints out.old out.new (file_tokens (canonical_tree unit.now))) }
 {

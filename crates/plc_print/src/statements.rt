@@ -25,7 +25,7 @@ const OR: Piece<'static> = Piece::Word(Keyword::Or);
 
 const CHOOSE: Piece<'static> = Piece::Word(Keyword::Choose);
 
-// What a function is called with.
+/// What a function is called with.
 fn argument(out: &mut Printer, reach: Reach, arg: Arg, active: bool) -> Printed
     ensures { OnOk result
         (Prints out.old out.new (argument_then
@@ -41,7 +41,7 @@ fn argument(out: &mut Printer, reach: Reach, arg: Arg, active: bool) -> Printed
     }
 }
 
-// The label between a call and its return.
+/// The label between a call and its return.
 fn during(out: &mut Printer, reach: Reach, label: Option<u16>) -> Printed
     ensures { OnOk result
         (Prints out.old out.new (maybe_then during_then (option_map (label_name reach.entry.file.now) label) [])) }
@@ -55,7 +55,7 @@ fn during(out: &mut Printer, reach: Reach, label: Option<u16>) -> Printed
     }
 }
 
-// A call.
+/// A call.
 fn call(
     out: &mut Printer,
     reach: Reach,
@@ -76,7 +76,7 @@ fn call(
     out.token(SEMICOLON)
 }
 
-// Primitives that are one step.
+/// Primitives that are one step.
 fn atomic(out: &mut Printer, reach: Reach, prims: &[Prim]) -> Printed
     ensures { OnOk result
         (Prints out.old out.new (statement_then (AtomicStatement (map
@@ -87,14 +87,14 @@ fn atomic(out: &mut Printer, reach: Reach, prims: &[Prim]) -> Printed
     out.token(END)
 }
 
-// A statement that is a word and its semicolon.
+/// A statement that is a word and its semicolon.
 fn word(out: &mut Printer, word: Keyword) -> Printed
     ensures { OnOk result (Prints out.old out.new (WordToken word ∷ SymbolToken symbols.Semicolon ∷ [])) }
 {
     out.tokens(&[Piece::Word(word), SEMICOLON])
 }
 
-// A label.
+/// A label.
 fn label(out: &mut Printer, name: &[u8]) -> Printed
     ensures { OnOk result (Prints out.old out.new (statement_then (LabelStatement name.now) [])) }
 {
@@ -126,7 +126,7 @@ fn statement(out: &mut Printer, reach: Reach, stmt: &Stmt) -> Printed
     }
 }
 
-// An `if`.
+/// An `if`.
 #[cycle(statement)]
 fn branch(out: &mut Printer, reach: Reach, cond: Cond, yes: &Block, no: &Block) -> Printed
     ensures { OnOk result
@@ -140,7 +140,7 @@ fn branch(out: &mut Printer, reach: Reach, cond: Cond, yes: &Block, no: &Block) 
     otherwise(out, reach, no)
 }
 
-// The second block of an `if`, which is left out where it is empty.
+/// The second block of an `if`, which is left out where it is empty.
 #[cycle(statement)]
 fn otherwise(out: &mut Printer, reach: Reach, block: &Block) -> Printed
     ensures { OnOk result
@@ -156,7 +156,7 @@ fn otherwise(out: &mut Printer, reach: Reach, block: &Block) -> Printed
     }
 }
 
-// A choice. One of fewer than two blocks has no text, so that empty blocks stand for them.
+/// A choice. One of fewer than two blocks has no text, so that empty blocks stand for them.
 #[cycle(statement)]
 fn choose(out: &mut Printer, reach: Reach, blocks: &[Block]) -> Printed
     ensures { OnOk result
@@ -179,7 +179,7 @@ fn choose(out: &mut Printer, reach: Reach, blocks: &[Block]) -> Printed
     }
 }
 
-// A further block of a choice.
+/// A further block of a choice.
 #[cycle(statement)]
 fn or_block(out: &mut Printer, reach: Reach, block: &Block) -> Printed
     ensures { OnOk result
@@ -190,7 +190,7 @@ fn or_block(out: &mut Printer, reach: Reach, block: &Block) -> Printed
     braced(out, reach, block)
 }
 
-// The blocks of a choice after its second.
+/// The blocks of a choice after its second.
 #[cycle(statement)]
 fn or_blocks(out: &mut Printer, reach: Reach, blocks: &[Block]) -> Printed
     ensures { OnOk result
@@ -203,7 +203,7 @@ fn or_blocks(out: &mut Printer, reach: Reach, blocks: &[Block]) -> Printed
     Ok(())
 }
 
-// A loop.
+/// A loop.
 #[cycle(statement)]
 fn repeat(out: &mut Printer, reach: Reach, block: &Block) -> Printed
     ensures { OnOk result
@@ -214,7 +214,7 @@ fn repeat(out: &mut Printer, reach: Reach, block: &Block) -> Printed
     braced(out, reach, block)
 }
 
-// A block in its braces.
+/// A block in its braces.
 #[cycle(statement)]
 fn braced(out: &mut Printer, reach: Reach, block: &Block) -> Printed
     ensures { OnOk result

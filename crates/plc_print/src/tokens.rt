@@ -59,7 +59,7 @@ pub struct Printer {
     pub text: Vec<u8>,
 }
 
-// The letters of a keyword that stands in outlines alone.
+/// The letters of a keyword that stands in outlines alone.
 fn outline_word(word: Keyword) -> &'static [u8]
     ensures { result.now ≡ outline_word word }
 {
@@ -76,7 +76,7 @@ fn outline_word(word: Keyword) -> &'static [u8]
     }
 }
 
-// The letters of a keyword.
+/// The letters of a keyword.
 fn word_text(word: Keyword) -> &'static [u8]
     ensures { result.now ≡ word_text word }
 {
@@ -115,7 +115,7 @@ fn word_text(word: Keyword) -> &'static [u8]
     }
 }
 
-// The characters of a symbol.
+/// The characters of a symbol.
 fn symbol_text(symbol: Symbol) -> &'static [u8]
     ensures { result.now ≡ symbol_text symbol }
 {
@@ -137,7 +137,7 @@ fn symbol_text(symbol: Symbol) -> &'static [u8]
     }
 }
 
-// What follows a symbol.
+/// What follows a symbol.
 fn after_symbol(symbol: Symbol) -> u8
     ensures { result ≡ after_symbol symbol }
 {
@@ -165,7 +165,7 @@ impl Printer {
         self.text
     }
 
-    // A token's text and what follows it.
+    /// A token's text and what follows it.
     fn put(&mut self, text: &[u8], after: u8) -> Printed
         ensures { OnOk result (self.new.text.items ≡ self.old.text.items ++ text.now ++ after ∷ []) }
     {

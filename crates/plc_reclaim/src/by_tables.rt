@@ -79,7 +79,7 @@ impl<S: Serves> Reclaimer for ByTables<S> {
     }
 }
 
-// The observers of the schemes that are served.
+/// The observers of the schemes that are served.
 fn observers<S: Serves>(alloc: Global, schemes: &[Scheme]) -> Result<Vec<Observer>, NoMemory>
     ensures { IfOk result (λ observers. observers.items ≡ filter_map S.observer schemes.now) }
 {

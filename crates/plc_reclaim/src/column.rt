@@ -50,7 +50,7 @@ impl Model for Column {
 }
 
 impl Cell {
-    // The cell after an event that doesn't name its address.
+    /// The cell after an event that doesn't name its address.
     fn after(&self, observer: &Observer, kind: EvKind, by_own: bool) -> Cell
         ensures { result ≡ cell_after observer.now kind by_own self.now }
     {
@@ -61,7 +61,7 @@ impl Cell {
     }
 }
 
-// Where an event leads from a location; a number that is none is never left.
+/// Where an event leads from a location; a number that is none is never left.
 fn moved_from(
     observer: &Observer,
     kind: EvKind,
@@ -78,7 +78,7 @@ fn moved_from(
     }
 }
 
-// Where an event leads; `bad` is never left.
+/// Where an event leads; `bad` is never left.
 fn moved(
     observer: &Observer,
     kind: EvKind,
@@ -94,7 +94,7 @@ fn moved(
     }
 }
 
-// Whether two locations are the same.
+/// Whether two locations are the same.
 fn same_location(at: Option<LocId>, other: Option<LocId>) -> bool
     ensures { result ≡ same_location (target_of at) (target_of other) }
 {
@@ -143,7 +143,7 @@ impl Column {
     }
 }
 
-// The cells of all addresses but the one that an event names.
+/// The cells of all addresses but the one that an event names.
 fn cells_after(
     alloc: Global,
     observer: &Observer,
@@ -163,7 +163,7 @@ fn cells_after(
     )
 }
 
-// The place of an address in cells that are in order: all before it have smaller addresses.
+/// The place of an address in cells that are in order: all before it have smaller addresses.
 fn place_for(cells: &[Cell], a: u32) -> usize
     requires { IsInOrder cells.now }
     ensures { IsPlaceFor cells.now a result }
@@ -171,7 +171,7 @@ fn place_for(cells: &[Cell], a: u32) -> usize
     cells.partition_point(|cell| cell.address < a)
 }
 
-// Where an address stands by these cells, or where the others do.
+/// Where an address stands by these cells, or where the others do.
 fn location_in(cells: &[Cell], others: Option<LocId>, a: u32) -> Option<LocId>
     requires { IsInOrder cells.now }
     ensures { target_of result ≡ location_in cells.now (target_of others) a }
@@ -186,7 +186,7 @@ fn location_in(cells: &[Cell], others: Option<LocId>, a: u32) -> Option<LocId>
     others
 }
 
-// These cells and that of an address, unless it stands where the others do.
+/// These cells and that of an address, unless it stands where the others do.
 fn with_cell(
     mut cells: Vec<Cell>,
     others: Option<LocId>,

@@ -6,7 +6,7 @@ ghost use Rattle.plc_reclaim.specs.Lookup.{first_named};
 
 use crate::reclaimer::Reclaimer;
 
-// Whether a reclaimer has this name.
+/// Whether a reclaimer has this name.
 fn is_named(reclaimer: &Box<dyn Reclaimer>, name: &str) -> bool
     ensures { result ≡ bytes_eq name.now (named reclaimer.now) }
 {

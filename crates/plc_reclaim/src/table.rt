@@ -46,7 +46,7 @@ impl Model for Table {
 // `r.kept`, which has one number in both tables.
 const R_KEPT: u16 = 6;
 
-// Whether a location is that of an address retired too late.
+/// Whether a location is that of an address retired too late.
 fn is_kept_at(at: Option<LocId>) -> bool
     ensures { result ≡ is_kept_at (target_of at) }
 {
@@ -56,7 +56,7 @@ fn is_kept_at(at: Option<LocId>) -> bool
     }
 }
 
-// The column of a thread.
+/// The column of a thread.
 fn column_of<'a>(heard: &'a [Heard], unheard: &'a Column, t: u32) -> &'a Column
     ensures { result.now ≡ column_of heard.now unheard.now t }
 {
@@ -111,7 +111,7 @@ impl Table {
     }
 }
 
-// Whether a thread is that of a call or a return.
+/// Whether a thread is that of a call or a return.
 fn is_thread(by: Option<u32>, h: &Heard) -> bool
     ensures { result ≡ is_thread by h.now }
 {
@@ -121,7 +121,7 @@ fn is_thread(by: Option<u32>, h: &Heard) -> bool
     }
 }
 
-// The columns of those heard, all but one, after an event of another thread.
+/// The columns of those heard, all but one, after an event of another thread.
 fn others_after(
     alloc: Global,
     observer: &Observer,
@@ -145,7 +145,7 @@ fn others_after(
     Ok(after)
 }
 
-// Those heard after an event, by its thread, if it has one.
+/// Those heard after an event, by its thread, if it has one.
 fn heard_after(
     alloc: Global,
     observer: &Observer,

@@ -90,21 +90,21 @@ impl Watch {
     }
 }
 
-// The first of these addresses that no table keeps.
+/// The first of these addresses that no table keeps.
 fn first_unkept(waiting: &[u32], tables: &[Table]) -> Option<u32>
     ensures { result ≡ find (λ a. not (is_kept tables.now a)) waiting.now }
 {
     waiting.iter().copied().find(|a| !is_kept(tables, *a))
 }
 
-// Whether a table keeps the address.
+/// Whether a table keeps the address.
 fn is_kept(tables: &[Table], a: u32) -> bool
     ensures { result ≡ is_kept tables.now a }
 {
     tables.iter().any(|t| t.keeps(a))
 }
 
-// The tables before every event.
+/// The tables before every event.
 fn fresh_tables(alloc: Global, observers: &[Observer]) -> Result<Vec<Table>, NoMemory>
     ensures { IfOk result (λ tables. tables.items ≡ map fresh_table observers.now) }
 {
@@ -116,7 +116,7 @@ fn fresh_tables(alloc: Global, observers: &[Observer]) -> Result<Vec<Table>, NoM
     )
 }
 
-// The tables after an event.
+/// The tables after an event.
 fn tables_after(alloc: Global, tables: &[Table], e: &Event) -> Result<Vec<Table>, NoMemory>
     ensures { IfOk result (λ after. after.items ≡ map (table_after e.now) tables.now) }
 {

@@ -78,7 +78,7 @@ impl Config {
         }
     }
 
-    // What `init` leaves, or nothing where it is blocked.
+    /// What `init` leaves, or nothing where it is blocked.
     fn began(
         alloc: Global,
         flow: &Flow,
@@ -137,7 +137,7 @@ impl Config {
         self.advance(flow, observer, m)
     }
 
-    // One move of a run that no race has ended.
+    /// One move of a run that no race has ended.
     fn advance(&mut self, flow: &Flow, observer: &Observer, m: &Move) -> Result<Moved, NoMemory>
         requires flow { FlowFits flow.now }
         requires fits { ConfigurationFits flow.now (threads_of self.old) self.old.here }
@@ -155,7 +155,7 @@ impl Config {
         }
     }
 
-    // A start: the thread gets the locals of the operation.
+    /// A start: the thread gets the locals of the operation.
     fn start_move(&mut self, flow: &Flow, t: u32, op: OpId, args: &[u32]) -> Result<Moved, NoMemory>
         requires { ConfigurationFits flow.now (threads_of self.old) self.old.here }
         ensures answer { IfOk result (λ r. r ≡ answer (start_from flow.now self.old.here t op.0 args.now)) }
@@ -172,7 +172,7 @@ impl Config {
         Ok(Moved::Done)
     }
 
-    // A step, if there is one and the move is of its shape.
+    /// A step, if there is one and the move is of its shape.
     fn step_move(
         &mut self,
         flow: &Flow,
@@ -200,8 +200,8 @@ impl Config {
         self.take(observer, step, point, t, addr)
     }
 
-    // A step is taken: of no or one primitive in place, of several on a copy of the memory, which then takes the
-    // place of the memory.
+    /// A step is taken: of no or one primitive in place, of several on a copy of the memory, which then takes the
+    /// place of the memory.
     fn take(
         &mut self,
         observer: &Observer,
@@ -235,7 +235,7 @@ impl Config {
         }
     }
 
-    // A step without primitives moves its thread alone.
+    /// A step without primitives moves its thread alone.
     fn pass(&mut self, step: &Step, point: Point, t: u32) -> Moved
         requires none { step.now.prims ≡ [] }
         requires ready { IsReady self.old.here t point step.now }
@@ -247,7 +247,7 @@ impl Config {
         Moved::Done
     }
 
-    // A step of one primitive, which works on the memory itself.
+    /// A step of one primitive, which works on the memory itself.
     fn take_in_place(
         &mut self,
         observer: &Observer,
@@ -280,8 +280,8 @@ impl Config {
         }
     }
 
-    // One primitive of a thread that lends its locals. The table's row and the history's place are had
-    // before the primitive changes anything.
+    /// One primitive of a thread that lends its locals. The table's row and the history's place are had
+    /// before the primitive changes anything.
     fn act(
         &mut self,
         observer: &Observer,
@@ -322,7 +322,7 @@ impl Config {
         }
     }
 
-    // A race ends the run.
+    /// A race ends the run.
     fn race(&mut self, kind: RaceKind, prim: u16) -> Moved
         ensures answer { result ≡ answer (Breaks kind prim) }
         ensures after { Reaches (Breaks kind prim) self.old self.new }
@@ -331,7 +331,7 @@ impl Config {
         Moved::Race { kind, prim }
     }
 
-    // Puts events after the history, and moves the table by them. The table's rows are had first.
+    /// Puts events after the history, and moves the table by them. The table's rows are had first.
     fn hear(&mut self, observer: &Observer, events: &[Event]) -> Result<(), NoMemory>
         requires follows { Follows observer.now self.old }
         ensures here { OnOk result (self.new.here
@@ -346,7 +346,7 @@ impl Config {
         Ok(())
     }
 
-    // A return: the thread's locals are gone.
+    /// A return: the thread's locals are gone.
     fn return_move(&mut self, flow: &Flow, t: u32) -> Moved
         requires { ConfigurationFits flow.now (threads_of self.old) self.old.here }
         ensures answer { result ≡ answer (return_from flow.now self.old.here t (point_of self.old.here t)) }
@@ -361,7 +361,7 @@ impl Config {
         Moved::Done
     }
 
-    // A free, judged by the table for each thread.
+    /// A free, judged by the table for each thread.
     fn free_move(&mut self, observer: &Observer, a: u32) -> Result<Moved, NoMemory>
         requires follows { Follows observer.now self.old }
         ensures answer { IfOk result (λ r. r ≡ answer (free_of observer.now self.old.here a)) }

@@ -34,7 +34,7 @@ pub struct Tried {
     pub ended: Ended,
 }
 
-// One primitive, whose event joins the events.
+/// One primitive, whose event joins the events.
 fn one(
     memory: &mut Memory,
     me: &mut Locals,

@@ -60,7 +60,7 @@ impl Model for Table {
     ghost invariant = { λ t. t.count ≤ length t.rows.items };
 }
 
-// Whether an address is the one that is watched; null and an absent address are other.
+/// Whether an address is the one that is watched; null and an absent address are other.
 fn is_this(b: Option<u32>, a: u32) -> bool
     ensures { result ≡ is_this b a }
 {
@@ -70,8 +70,8 @@ fn is_this(b: Option<u32>, a: u32) -> bool
     }
 }
 
-// Where an event leads from a location, for thread `t` and address `a`. A number that is no location
-// is never left.
+/// Where an event leads from a location, for thread `t` and address `a`. A number that is no location
+/// is never left.
 fn step_by(observer: &Observer, event: &Event, t: usize, a: u32, l: LocId) -> Option<LocId>
     ensures { target_of result ≡ step_by observer.now t a event.now l.0 }
 {
@@ -87,7 +87,7 @@ fn step_by(observer: &Observer, event: &Event, t: usize, a: u32, l: LocId) -> Op
     }
 }
 
-// Where an event leads; `bad` is never left.
+/// Where an event leads; `bad` is never left.
 fn advance(observer: &Observer, event: &Event, t: usize, a: u32, at: Option<LocId>) -> Option<LocId>
     ensures { target_of result ≡ advance observer.now t a event.now (target_of at) }
 {
@@ -97,14 +97,14 @@ fn advance(observer: &Observer, event: &Event, t: usize, a: u32, at: Option<LocI
     }
 }
 
-// Whether an event names the address; none names null.
+/// Whether an event names the address; none names null.
 fn is_on(event: &Event, a: u32) -> bool
     ensures { result ≡ is_this (Some (address_of event.now)) a }
 {
     is_this(Some(event.address()), a)
 }
 
-// Moves every thread of a row.
+/// Moves every thread of a row.
 fn move_all(at: &mut Vec<Option<LocId>>, observer: &Observer, event: &Event, a: u32)
     ensures { map target_of at.new.items ≡ all_after observer.now event.now a 0 (map target_of at.old.items) }
 {
@@ -113,7 +113,7 @@ fn move_all(at: &mut Vec<Option<LocId>>, observer: &Observer, event: &Event, a: 
     }
 }
 
-// Moves one thread of a row, if the row has it.
+/// Moves one thread of a row, if the row has it.
 fn move_one(at: &mut Vec<Option<LocId>>, observer: &Observer, event: &Event, a: u32, t: usize)
     ensures { map target_of at.new.items ≡ set (map target_of at.old.items) t
         (advance observer.now t a event.now (get_or (map target_of at.old.items) t None)) }
@@ -123,7 +123,7 @@ fn move_one(at: &mut Vec<Option<LocId>>, observer: &Observer, event: &Event, a: 
     }
 }
 
-// Moves the row of an address: all of it where the event names the address, else its own thread.
+/// Moves the row of an address: all of it where the event names the address, else its own thread.
 fn move_row(at: &mut Vec<Option<LocId>>, observer: &Observer, event: &Event, a: u32)
     ensures { map target_of at.new.items ≡ all_after observer.now event.now a 0 (map target_of at.old.items) }
 {
@@ -137,7 +137,7 @@ fn move_row(at: &mut Vec<Option<LocId>>, observer: &Observer, event: &Event, a: 
 }
 
 impl Row {
-    // Moves the row by an event.
+    /// Moves the row by an event.
     fn hear(&mut self, observer: &Observer, event: &Event)
         ensures { self.new ≡ row_after observer.now event.now self.old }
     {
@@ -145,7 +145,7 @@ impl Row {
     }
 }
 
-// Moves these rows by an event.
+/// Moves these rows by an event.
 fn move_rows(rows: &mut [Row], observer: &Observer, event: &Event)
     ensures { rows.new ≡ map (row_after observer.now event.now) rows.old }
 {
@@ -154,14 +154,14 @@ fn move_rows(rows: &mut [Row], observer: &Observer, event: &Event)
     }
 }
 
-// The same of rows that may grow.
+/// The same of rows that may grow.
 fn hear_rows(rows: &mut Vec<Row>, observer: &Observer, event: &Event)
     ensures { rows.new.items ≡ map (row_after observer.now event.now) rows.old.items }
 {
     move_rows(rows, observer, event);
 }
 
-// Moves all rows by these events, each of which has a row for its address.
+/// Moves all rows by these events, each of which has a row for its address.
 fn hear_all(
     rows: &mut Vec<Row>,
     others: &mut Vec<Option<LocId>>,
@@ -178,21 +178,21 @@ fn hear_all(
     }
 }
 
-// Whether an address has a row.
+/// Whether an address has a row.
 fn holds_row(rows: &[Row], a: u32) -> bool
     ensures { result ≡ list_any (λ r. r.address == a) rows.now }
 {
     rows.iter().any(|row| row.address == a)
 }
 
-// Whether an address has a row, or needs none.
+/// Whether an address has a row, or needs none.
 fn has_row(rows: &[Row], a: u32) -> bool
     ensures { result ≡ has_row rows.now a }
 {
     a == 0 || holds_row(rows, a)
 }
 
-// A row for an address, if it has none: what every other address has.
+/// A row for an address, if it has none: what every other address has.
 fn add_row(
     alloc: Global,
     rows: &mut Vec<Row>,
@@ -210,7 +210,7 @@ fn add_row(
     Ok(())
 }
 
-// Rows for the addresses of these events.
+/// Rows for the addresses of these events.
 fn add_rows(
     alloc: Global,
     rows: &mut Vec<Row>,
@@ -226,7 +226,7 @@ fn add_rows(
     Ok(())
 }
 
-// The row of an address, or that of the others.
+/// The row of an address, or that of the others.
 fn row_of<'a>(rows: &'a [Row], others: &'a [Option<LocId>], a: u32) -> &'a [Option<LocId>]
     ensures { map target_of result.now ≡ row_of rows.now (map target_of others.now) a }
 {
@@ -238,7 +238,7 @@ fn row_of<'a>(rows: &'a [Row], others: &'a [Option<LocId>], a: u32) -> &'a [Opti
     others
 }
 
-// Where a thread stands in a row.
+/// Where a thread stands in a row.
 fn location_at(at: &[Option<LocId>], t: u32) -> Option<LocId>
     ensures { target_of result ≡ get_or (map target_of at.now) t None }
 {
@@ -246,14 +246,14 @@ fn location_at(at: &[Option<LocId>], t: u32) -> Option<LocId>
     if t < at.len() { at[t] } else { None }
 }
 
-// Whether a free of an address leaves a thread that stands there out of `bad`.
+/// Whether a free of an address leaves a thread that stands there out of `bad`.
 fn bears_free(observer: &Observer, a: u32, t: u32, at: Option<LocId>) -> bool
     ensures { result ≡ is_some (advance observer.now t a (Freed a) (target_of at)) }
 {
     advance(observer, &Event::Free { a }, t as usize, a, at).is_some()
 }
 
-// Whether a free of an address leaves every thread of its row out of `bad`.
+/// Whether a free of an address leaves every thread of its row out of `bad`.
 fn all_bear_free(observer: &Observer, threads: u32, a: u32, at: &[Option<LocId>]) -> bool
     ensures { result ≡ may_free observer.now (λ t. get_or (map target_of at.now) t None) a threads }
 {
@@ -265,7 +265,7 @@ fn all_bear_free(observer: &Observer, threads: u32, a: u32, at: &[Option<LocId>]
     true
 }
 
-// So many threads in the first location.
+/// So many threads in the first location.
 fn first_row(alloc: Global, threads: u32) -> Result<Vec<Option<LocId>>, NoMemory>
     ensures { IfOk result (λ at. at.items ≡ replicate threads (Some (record { 0 = 0 }))) }
 {
@@ -273,7 +273,7 @@ fn first_row(alloc: Global, threads: u32) -> Result<Vec<Option<LocId>>, NoMemory
 }
 
 impl Table {
-    // So many threads, each in the first location for every address.
+    /// So many threads, each in the first location for every address.
     fn fresh(alloc: Global, threads: u32) -> Result<Table, NoMemory>
         ensures { IfOk result (λ x. (t a : ℕ) → t < threads → stands x.locations t a ≡ Some 0) }
     {

@@ -17,7 +17,7 @@ use plc_base::{FuncId, Items, Mask};
 use plc_lang::{Arg, Var};
 use plc_type::{Env, Guar, PtrType};
 
-// The locations after a call on this address or on another.
+/// The locations after a call on this address or on another.
 fn on_either(m: &Mask, func: FuncId, observer: &Observer) -> Mask
     requires { within m.now (all_locations observer.now) ≡ true }
     ensures { result ≡ on_either observer.now (EvKind.Call func) m.now }
@@ -27,7 +27,7 @@ fn on_either(m: &Mask, func: FuncId, observer: &Observer) -> Mask
     this.union(&observer.step_set(m, kind, true, false))
 }
 
-// The type of the pointer that a function is called with.
+/// The type of the pointer that a function is called with.
 fn argument_type(t: &PtrType, func: FuncId, observer: &Observer) -> PtrType
     requires { within t.now.m (all_locations observer.now) ≡ true }
     ensures { result ≡ argument_type observer.now func t.now }
@@ -42,7 +42,7 @@ fn argument_type(t: &PtrType, func: FuncId, observer: &Observer) -> PtrType
     PtrType { g: t.g, m }
 }
 
-// The type of a pointer beside one that is retired.
+/// The type of a pointer beside one that is retired.
 fn beside_retired(t: &PtrType, func: FuncId, observer: &Observer) -> PtrType
     requires { within t.now.m (all_locations observer.now) ≡ true }
     ensures { result ≡ beside_retired observer.now func t.now }
@@ -60,7 +60,7 @@ fn beside_retired(t: &PtrType, func: FuncId, observer: &Observer) -> PtrType
     }
 }
 
-// The type of a pointer beside the one that a function is called with.
+/// The type of a pointer beside the one that a function is called with.
 fn beside_type(t: &PtrType, func: FuncId, observer: &Observer) -> PtrType
     requires { within t.now.m (all_locations observer.now) ≡ true }
     ensures { result ≡ beside_type observer.now func t.now }
@@ -74,7 +74,7 @@ fn beside_type(t: &PtrType, func: FuncId, observer: &Observer) -> PtrType
     }
 }
 
-// Makes the types of pointers what they are beside the one that a function is called with.
+/// Makes the types of pointers what they are beside the one that a function is called with.
 fn call_beside(types: &mut Items<PtrType>, func: FuncId, observer: &Observer)
     requires { all_within (all_locations observer.now) types.old ≡ true }
     ensures { types.new ≡ map (beside_type observer.now func) types.old }
@@ -85,7 +85,7 @@ fn call_beside(types: &mut Items<PtrType>, func: FuncId, observer: &Observer)
     }
 }
 
-// Makes the types of pointers what they are after a call or a return that names none.
+/// Makes the types of pointers what they are after a call or a return that names none.
 fn pass_other(types: &mut Items<PtrType>, kind: EvKind, observer: &Observer)
     requires { all_within (all_locations observer.now) types.old ≡ true }
     ensures { types.new ≡ map (other_type observer.now kind) types.old }

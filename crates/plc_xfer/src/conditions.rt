@@ -10,7 +10,7 @@ use plc_base::FuncId;
 use plc_lang::{Arg, Prim, Var};
 use plc_type::Env;
 
-// An access asks that the pointer is safe.
+/// An access asks that the pointer is safe.
 fn access(env: &Env, var: Var) -> Result<(), TypeFault>
     ensures { result_err result ≡ access_fault env.now var }
 {
@@ -21,7 +21,7 @@ fn access(env: &Env, var: Var) -> Result<(), TypeFault>
     }
 }
 
-// A comparison asks that both pointers are safe.
+/// A comparison asks that both pointers are safe.
 fn compare(env: &Env, p: Var, q: Var) -> Result<(), TypeFault>
     ensures { result_err result ≡ compare_fault env.now p q }
 {
@@ -34,7 +34,7 @@ fn compare(env: &Env, p: Var, q: Var) -> Result<(), TypeFault>
     Ok(())
 }
 
-// A retirement asks that the pointer is active.
+/// A retirement asks that the pointer is active.
 fn retire(env: &Env, var: Var) -> Result<(), TypeFault>
     ensures { result_err result ≡ retire_fault env.now var }
 {
@@ -45,7 +45,7 @@ fn retire(env: &Env, var: Var) -> Result<(), TypeFault>
     }
 }
 
-// Of calls only a retirement of a pointer asks anything.
+/// Of calls only a retirement of a pointer asks anything.
 fn call(env: &Env, func: FuncId, arg: Arg) -> Result<(), TypeFault>
     ensures { result_err result ≡ call_fault env.now func arg }
 {

@@ -15,7 +15,7 @@ use plc_base::FuncId;
 use plc_lang::{Arg, Prim, Var};
 use plc_type::{Env, Guar, PtrType};
 
-// The type of a variable, without L.
+/// The type of a variable, without L.
 fn shared_type(env: &Env, var: Var) -> PtrType
     ensures { result ≡ shared_type (type_of env.now var) }
 {
@@ -26,7 +26,7 @@ fn shared_type(env: &Env, var: Var) -> PtrType
     }
 }
 
-// The type of a pointer to a node that was just allocated.
+/// The type of a pointer to a node that was just allocated.
 fn new_type(env: &Env, observer: &Observer) -> PtrType
     ensures { result ≡ new_type observer.now env.now }
 {
@@ -36,7 +36,7 @@ fn new_type(env: &Env, observer: &Observer) -> PtrType
     }
 }
 
-// The type of two pointers that are found equal.
+/// The type of two pointers that are found equal.
 fn equal_type(env: &Env, p: Var, q: Var) -> PtrType
     ensures { result ≡ equal_type (type_of env.now p) (type_of env.now q) }
 {
@@ -48,7 +48,7 @@ fn equal_type(env: &Env, p: Var, q: Var) -> PtrType
     }
 }
 
-// The type of a pointer and of the one that is assigned to it, where they hold one address already.
+/// The type of a pointer and of the one that is assigned to it, where they hold one address already.
 fn refreshed_type(env: &Env, p: Var, q: Var) -> PtrType
     ensures { result ≡ refreshed_type (type_of env.now p) (type_of env.now q) }
 {
@@ -60,7 +60,7 @@ fn refreshed_type(env: &Env, p: Var, q: Var) -> PtrType
     }
 }
 
-// The type of a variable, without any guarantee.
+/// The type of a variable, without any guarantee.
 fn placed_type(env: &Env, var: Var) -> PtrType
     ensures { result ≡ placed_type (type_of env.now var) }
 {
@@ -70,7 +70,7 @@ fn placed_type(env: &Env, var: Var) -> PtrType
     }
 }
 
-// The type of a pointer that is claimed to be active.
+/// The type of a pointer that is claimed to be active.
 fn active_type(env: &Env, var: Var, observer: &Observer) -> PtrType
     ensures { result ≡ active_type observer.now (type_of env.now var) }
 {
@@ -81,7 +81,7 @@ fn active_type(env: &Env, var: Var, observer: &Observer) -> PtrType
     }
 }
 
-// Writes what a call makes of the types.
+/// Writes what a call makes of the types.
 #[tactic(auto, using(crate::proofs::Rows::calls))]
 fn write_call(env: &mut Env, func: FuncId, arg: Arg, observer: &Observer)
     requires { FitsObserver observer.now env.old }
@@ -94,7 +94,7 @@ fn write_call(env: &mut Env, func: FuncId, arg: Arg, observer: &Observer)
     }
 }
 
-// Writes what a primitive makes of the types.
+/// Writes what a primitive makes of the types.
 #[tactic(auto, using(crate::proofs::Rows::rows))]
 fn write_effect(env: &mut Env, prim: &Prim, observer: &Observer)
     requires { FitsObserver observer.now env.old }

@@ -13,7 +13,7 @@ use plc_auto::Observer;
 use plc_base::{Items, Mask};
 use plc_type::{Env, Guar, PtrType};
 
-// The type of a local after interference.
+/// The type of a local after interference.
 fn interfered_local(t: &PtrType, observer: &Observer) -> PtrType
     requires { within t.now.m (all_locations observer.now) ≡ true }
     ensures { result ≡ interfered_local observer.now t.now }
@@ -37,7 +37,7 @@ fn interfered_local(t: &PtrType, observer: &Observer) -> PtrType
     }
 }
 
-// Makes the types of the locals what they are after interference.
+/// Makes the types of the locals what they are after interference.
 fn interfere_locals(locals: &mut Items<PtrType>, observer: &Observer)
     requires { all_within (all_locations observer.now) locals.old ≡ true }
     ensures { locals.new ≡ map (interfered_local observer.now) locals.old }
@@ -48,7 +48,7 @@ fn interfere_locals(locals: &mut Items<PtrType>, observer: &Observer)
     }
 }
 
-// Forgets all types but where any address may stand.
+/// Forgets all types but where any address may stand.
 fn forget(types: &mut Items<PtrType>, w: Mask)
     ensures { types.new ≡ replicate (length types.old) (bare w) }
 {

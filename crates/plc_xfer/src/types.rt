@@ -9,7 +9,7 @@ use plc_base::{Items, Mask};
 use plc_lang::Var;
 use plc_type::{Env, PtrType};
 
-// The type at a place of a list, and past its end that of any address.
+/// The type at a place of a list, and past its end that of any address.
 fn type_at(types: &[PtrType], at: u16, w: Mask) -> PtrType
     ensures { result ≡ get_or types.now at (bare w) }
 {
@@ -19,7 +19,7 @@ fn type_at(types: &[PtrType], at: u16, w: Mask) -> PtrType
     }
 }
 
-// Puts a type at a place of a list; past its end nothing changes.
+/// Puts a type at a place of a list; past its end nothing changes.
 fn set_type_at(types: &mut Items<PtrType>, at: u16, t: &PtrType)
     ensures { types.new ≡ slice_set types.old at t.now }
 {
@@ -28,7 +28,7 @@ fn set_type_at(types: &mut Items<PtrType>, at: u16, t: &PtrType)
     }
 }
 
-// The type of a variable.
+/// The type of a variable.
 #[tactic(auto, unfolding(crate::specs::Rules::type_of))]
 pub(crate) fn type_of(env: &Env, var: Var) -> PtrType
     ensures { result ≡ type_of env.now var }
@@ -39,8 +39,8 @@ pub(crate) fn type_of(env: &Env, var: Var) -> PtrType
     }
 }
 
-// Gives a variable a type. The type stands first, since it may be read from the environment that is
-// written.
+/// Gives a variable a type. The type stands first, since it may be read from the environment that is
+/// written.
 #[tactic(auto, unfolding(crate::specs::Writes::with_type))]
 pub(crate) fn set_type(t: &PtrType, env: &mut Env, var: Var)
     ensures { env.new ≡ with_type env.old var t.now }
@@ -51,7 +51,7 @@ pub(crate) fn set_type(t: &PtrType, env: &mut Env, var: Var)
     }
 }
 
-// Gives two variables, which may be one, the same type.
+/// Gives two variables, which may be one, the same type.
 pub(crate) fn set_both(t: &PtrType, env: &mut Env, p: Var, q: Var)
     ensures { env.new ≡ with_type (with_type env.old p t.now) q t.now }
 {

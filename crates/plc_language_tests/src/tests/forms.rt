@@ -1,6 +1,6 @@
 // Syntax alone: each form of the grammar, and how deep blocks may stand, beside what the parser says of it.
-use crate::tests::spellings::MOST_BYTES;
 use crate::tests::texts::{fate, repeated};
+use plc_base::LARGEST_FILE;
 use plc_lex::tokens;
 use plc_syntax::syntax;
 use std::alloc::{AllocError, Global};
@@ -25,7 +25,7 @@ over f: all x, y: x.st != made or 7 == y.val; at l, k: all x: me == none; }";
 
 // What the test of syntax alone answers.
 fn syntax_answer(alloc: Global, text: &str) -> Result<String, AllocError> {
-    if text.len() > MOST_BYTES {
+    if text.len() > LARGEST_FILE {
         return Err(AllocError);
     }
     match tokens(alloc, text.as_bytes()) {

@@ -1,9 +1,7 @@
 // Texts with their tokens, or the first place where none stands: by the written grammar.
+use plc_base::LARGEST_FILE;
 use plc_lex::{Token, TokenKind, tokens};
 use std::alloc::{AllocError, Global};
-
-/// The longest text that has tokens.
-pub(crate) const MOST_BYTES: usize = 1048576;
 
 // What a token is, with its bytes and its line.
 fn token_text(alloc: Global, token: &Token) -> Result<String, AllocError> {
@@ -31,7 +29,7 @@ fn tokens_text(alloc: Global, tokens: &[Token]) -> Result<String, AllocError> {
 
 // The tokens of a text, or the fault.
 fn spelled(alloc: Global, text: &str) -> Result<String, AllocError> {
-    if text.len() > MOST_BYTES {
+    if text.len() > LARGEST_FILE {
         return Err(AllocError);
     }
     match tokens(alloc, text.as_bytes()) {
@@ -120,7 +118,7 @@ fn push_keywords(text: &mut String, tokens: &[Token], alloc: Global) -> Result<(
 }
 
 fn keywords(alloc: Global, spelled: &str) -> Result<String, AllocError> {
-    if spelled.len() > MOST_BYTES {
+    if spelled.len() > LARGEST_FILE {
         return Err(AllocError);
     }
     let mut text = String::new(alloc);

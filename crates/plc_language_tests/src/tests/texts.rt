@@ -1,14 +1,13 @@
 // What a text comes to: its canonical text, or the first fault with its place, which counts from the first token
 // of the part that is the row.
-use crate::tests::spellings::MOST_BYTES;
-use plc_base::NoMemory;
+use plc_base::{LARGEST_FILE, NoMemory};
 use plc_lex::tokens;
 use plc_parse::{ParseFault, Unit, parse};
 use plc_print::print;
 use std::alloc::{AllocError, Global};
 
 pub(crate) fn read(alloc: Global, text: &str) -> Result<Unit, ParseFault> {
-    if text.len() > MOST_BYTES {
+    if text.len() > LARGEST_FILE {
         return Err(ParseFault::Memory);
     }
     match tokens(alloc, text.as_bytes()) {
@@ -70,11 +69,11 @@ pub(crate) fn fate(alloc: Global, text: &str, before: u32) -> Result<String, All
 }
 
 pub(crate) fn count_tokens(alloc: Global, text: &str) -> u32 {
-    if text.len() > MOST_BYTES {
+    if text.len() > LARGEST_FILE {
         return 0;
     }
     match tokens(alloc, text.as_bytes()) {
-        Ok(tokens) => tokens.len().min(MOST_BYTES) as u32,
+        Ok(tokens) => tokens.len().min(LARGEST_FILE) as u32,
         Err(_) => 0,
     }
 }

@@ -221,7 +221,7 @@ fn sets_fit_or_not(rt: HostRuntime) -> Result<(), AllocError> {
         ("node:null node:shared.0 next.1", "0=1", false),
     ] {
         let (terms, literal, fit) = *row;
-        assert_eq!(rt; fits(rt.alloc(), terms, literal)?, fit, "{terms}");
+        assert_eq!(rt; fits(rt.alloc(), terms, literal)?, fit, "{terms} {literal}");
     }
     Ok(())
 }

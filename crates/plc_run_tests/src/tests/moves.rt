@@ -4,7 +4,7 @@ ghost use Rattle.plc_flow.specs.WellFormed.{FlowFits};
 ghost use Rattle.plc_run.specs.Position.{IsOfRun};
 
 use plc_auto::{Event, Observer};
-use plc_base::{FieldId, Items, NoMemory, OpId};
+use plc_base::{FieldId, Items, LARGEST_FILE, NoMemory, OpId};
 use plc_check::{Judged, load};
 use plc_flow::{Flow, Move, Place};
 use plc_mem::Memory;
@@ -15,7 +15,7 @@ use std::alloc::{AllocError, Global};
 pub(crate) fn loaded(alloc: Global, text: &str) -> Result<Judged, NoMemory>
     ensures { IfOk result (λ judged. FlowFits judged.flow) }
 {
-    if text.len() > 1048576 {
+    if text.len() > LARGEST_FILE {
         return Err(NoMemory);
     }
     match load(alloc, text.as_bytes()) {

@@ -1,4 +1,5 @@
 // Schedules with their entries, or the first line that is none.
+use plc_base::LARGEST_SCHEDULE;
 use plc_sched::{Entry, SchedFault, Schedule, read_schedule};
 use std::alloc::{AllocError, Global};
 
@@ -35,7 +36,7 @@ fn schedule_text(alloc: Global, schedule: &Schedule) -> Result<String, AllocErro
 }
 
 pub(crate) fn read(alloc: Global, text: &str) -> Result<Schedule, SchedFault> {
-    if text.len() > 4194304 {
+    if text.len() > LARGEST_SCHEDULE {
         return Err(SchedFault::Memory);
     }
     read_schedule(alloc, text.as_bytes())

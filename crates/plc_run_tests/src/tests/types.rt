@@ -5,7 +5,7 @@ ghost use Rattle.plc_xfer.specs.Rules.{FitsObserver};
 
 use crate::tests::observers::{push_set, set_of};
 use plc_auto::Observer;
-use plc_base::{FieldId, FuncId, Items, Mask, NoMemory};
+use plc_base::{FieldId, FuncId, Items, LARGEST_FILE, Mask, NoMemory};
 use plc_check::load;
 use plc_infer::infer;
 use plc_lang::{Arg, GhostVal, Num, Prim, Rel, Var};
@@ -543,7 +543,7 @@ fn typing_text(alloc: Global, envs: &[Env]) -> Result<String, AllocError> {
 
 // The strongest typing of a file.
 fn inferred(alloc: Global, text: &str) -> Result<String, AllocError> {
-    if text.len() > 1048576 {
+    if text.len() > LARGEST_FILE {
         return Err(AllocError);
     }
     let Ok(judged) = load(alloc, text.as_bytes()) else {

@@ -172,6 +172,14 @@ fn wrong_answers(
     wrong_commands(alloc, &mut files, commands, Part::Head, want)
 }
 
+// A part, with its number in the place of `$`.
+fn numbered(alloc: Global, part: &str, i: u32) -> Result<String, AllocError> {
+    match part.split_once("$") {
+        Some((left, right)) => format!(in alloc; "{left}{i}{right}"),
+        None => String::from_str(alloc, part),
+    }
+}
+
 // A text, then so many parts, then another text.
 fn parts(
     alloc: Global,
@@ -180,17 +188,11 @@ fn parts(
     count: u32,
     after: &str,
 ) -> Result<String, AllocError> {
-    let mut text = String::from_str(alloc, before)?;
+    let mut text = String::new(alloc);
     for i in 0..count {
-        match part.split_once("$") {
-            Some((left, right)) => {
-                text.push_str(format!(in alloc; "{left}{i}{right}")?.as_str())?;
-            }
-            None => text.push_str(part)?,
-        }
+        text.push_str(numbered(alloc, part, i)?.as_str())?;
     }
-    text.push_str(after)?;
-    Ok(text)
+    format!(in alloc; "{before}{text}{after}")
 }
 
 // The answers of a row that aren't as is wanted.

@@ -1,5 +1,6 @@
 // Files and sinks: that each call which takes memory succeeds where there is enough of it, what a fault
 // prints, and what the system does after its handle.
+use crate::tests::files::put_sections;
 use plc_outside::{
     FailSink, FileFault, Files, MemFiles, OutSink, RealFiles, Sink, SinkFault, VecSink, write_text,
 };
@@ -33,10 +34,7 @@ fn read_text<F: Files>(
 // Three entries, the first and the last under one name; the fourth call fails.
 fn some_files(alloc: Global) -> Result<MemFiles, AllocError> {
     let mut files = Vec::new(alloc);
-    for (name, text) in [("a", "abc"), ("b", ""), ("a", "later")] {
-        let bytes = Vec::from_slice(alloc, text.as_bytes())?;
-        files.push((String::from_str(alloc, name)?, bytes))?;
-    }
+    put_sections(alloc, &mut files, "# a\nabc# b\n# a\nlater")?;
     Ok(MemFiles::new(alloc, files, vec![in alloc; 4]?))
 }
 
@@ -112,16 +110,25 @@ fn sinks_in_memory(rt: HostRuntime) -> Result<(), AllocError> {
     Ok(())
 }
 
+const FILE_FAULTS: &[(FileFault, &str)] = &[
+    (FileFault::Failed, "failed"),
+    (FileFault::TooLong, "too long"),
+    (FileFault::Memory, "no memory"),
+];
+
+const SINK_FAULTS: &[(SinkFault, &str)] = &[
+    (SinkFault::Failed, "failed"),
+    (SinkFault::Memory, "no memory"),
+];
+
 #[test]
 fn faults_print_their_cause(rt: HostRuntime) -> Result<(), AllocError> {
     let alloc = rt.alloc();
-    let files = [FileFault::Failed, FileFault::TooLong, FileFault::Memory];
-    let sinks = [SinkFault::Failed, SinkFault::Memory];
-    for (fault, want) in files.iter().zip(["failed", "too long", "no memory"]) {
-        assert_eq!(rt; format!(in alloc; "{fault}")?.as_str(), want);
+    for (fault, want) in FILE_FAULTS {
+        assert_eq!(rt; format!(in alloc; "{fault}")?.as_str(), *want);
     }
-    for (fault, want) in sinks.iter().zip(["failed", "no memory"]) {
-        assert_eq!(rt; format!(in alloc; "{fault}")?.as_str(), want);
+    for (fault, want) in SINK_FAULTS {
+        assert_eq!(rt; format!(in alloc; "{fault}")?.as_str(), *want);
     }
     Ok(())
 }

@@ -5,7 +5,7 @@ use crate::tests::files::{
     put_sections, put_stacks, text_of,
 };
 use crate::tests::rows::{CERTIFIED, CHECKED, PRINTED, REPLAYED, UNLISTED};
-use plc_cli::{ByList, Epoch, FailSink, Files, Hazard, Leak, MemFiles, Reclaimer, VecSink, run};
+use plc_cli::{FailSink, Files, MemFiles, VecSink, run, run_with_own};
 use std::alloc::{AllocError, Global};
 
 fn entries(alloc: Global) -> Result<Entries, AllocError> {
@@ -34,39 +34,16 @@ pub(crate) fn words_of(alloc: Global, words: &str) -> Result<Vec<String>, AllocE
     Ok(list)
 }
 
-type Reclaimers = Vec<Box<dyn Reclaimer>>;
-
-// The reclaimers of the program, in its order.
-fn push_reclaimers(alloc: Global, reclaimers: &mut Reclaimers) -> Result<(), AllocError> {
-    reclaimers.push(Box::new(alloc, Leak::new(alloc))?)?;
-    reclaimers.push(Box::new(alloc, ByList::new(alloc))?)?;
-    reclaimers.push(Box::new(alloc, Hazard::new(alloc))?)?;
-    reclaimers.push(Box::new(alloc, Epoch::new(alloc))?)?;
-    Ok(())
-}
-
-// The status and then the text, where these reclaimers are handed in.
-pub(crate) fn answered_under<F: Files>(
-    alloc: Global,
-    files: &mut F,
-    words: &[String],
-    reclaimers: Reclaimers,
-) -> Result<String, AllocError> {
-    let mut out = VecSink::new(alloc);
-    let status = run(alloc, words, files, &mut out, reclaimers);
-    let text = str::from_utf8(out.written()).unwrap_or("?");
-    format!(in alloc; "{status}\n{text}")
-}
-
-// The same where those of the program are handed in.
+// The status and then the text.
 pub(crate) fn answered<F: Files>(
     alloc: Global,
     files: &mut F,
     words: &[String],
 ) -> Result<String, AllocError> {
-    let mut reclaimers = Vec::new(alloc);
-    push_reclaimers(alloc, &mut reclaimers)?;
-    answered_under(alloc, files, words, reclaimers)
+    let mut out = VecSink::new(alloc);
+    let status = run_with_own(alloc, words, files, &mut out);
+    let text = str::from_utf8(out.written()).unwrap_or("?");
+    format!(in alloc; "{status}\n{text}")
 }
 
 fn answer<F: Files>(alloc: Global, files: &mut F, words: &str) -> Result<String, AllocError> {

@@ -3,10 +3,10 @@
 ghost use Rattle.std.specs.Prelude.{codes};
 
 use crate::tests::files::{Entries, PUT, PUT_AND_TAKE, TAKE, put, put_pieces, put_sections};
-use crate::tests::program::{answered, answered_under, words_of, wrong_rows};
+use crate::tests::program::{answered, words_of, wrong_rows};
 use plc_auto::Event;
 use plc_base::NoMemory;
-use plc_cli::{ByList, Leak, MemFiles, Reclaimer};
+use plc_cli::{ByList, Leak, MemFiles, Reclaimer, VecSink, run};
 use plc_reclaim::Scheme;
 use std::alloc::{AllocError, Global};
 
@@ -292,11 +292,23 @@ fn two(alloc: Global, list_is_first: bool) -> Result<Reclaimers, AllocError> {
     Ok(reclaimers)
 }
 
+// The status and then the text of `replay hazards held list`, where these reclaimers are handed in.
+fn answered_under(
+    alloc: Global,
+    files: &mut MemFiles,
+    reclaimers: Reclaimers,
+) -> Result<String, AllocError> {
+    let words = words_of(alloc, "replay hazards held list")?;
+    let mut out = VecSink::new(alloc);
+    let status = run(alloc, &words, files, &mut out, reclaimers);
+    let text = str::from_utf8(out.written()).unwrap_or("?");
+    format!(in alloc; "{status}\n{text}")
+}
+
 fn answer_of_two(alloc: Global, list_is_first: bool) -> Result<String, AllocError> {
     let mut files = some_files(alloc)?;
-    let words = words_of(alloc, "replay hazards held list")?;
     let reclaimers = two(alloc, list_is_first)?;
-    answered_under(alloc, &mut files, &words, reclaimers)
+    answered_under(alloc, &mut files, reclaimers)
 }
 
 #[test]

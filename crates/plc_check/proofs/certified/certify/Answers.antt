@@ -1,5 +1,5 @@
 use Rattle.std.proofs.Common.{subst}
-use Rattle.plc_check.specs.Verdicts.{IsStrongestOrNone}
+use Rattle.plc_check.specs.Strongest.{IsStrongestOrNone}
 use Rattle.plc_check.proofs.Completing.{none_typed}
 use Rattle.plc_check.proofs.certified.certify.Goals as goal
 

@@ -1,5 +1,5 @@
-use Rattle.std.proofs.Common.{refl, subst}
-use Rattle.plc_check.specs.declared.certified.Certified.TheVariants.{Yes, No}
+use Rattle.std.proofs.Common.{subst}
+use Rattle.plc_check.specs.declared.certified.Certified.TheVariants.{No}
 use Rattle.plc_check.specs.Certified.{IsCertified}
 use Rattle.plc_cli.specs.Certificates.{certified_status, certified_text}
 use Rattle.plc_cli.proofs.Answering.{if_told}
