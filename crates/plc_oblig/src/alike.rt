@@ -1,7 +1,7 @@
 // Obligations that are alike. While one thread takes a step, another may stand at many points of its operation at
 // which the outline puts the same clauses. Nothing else of the point is in the ground set, so all these obligations
 // have one set, and who goes over them needs to look at it once. The stack with hazard pointers has 2,845
-// obligations, of which some 700 are then left for `certify`, and some 170 for `check`, which makes none for still ones.
+// obligations, of which some 700 are left for `certify`, and some 170 for `check`, which makes none for still ones.
 ghost use Rattle.std.specs.Prelude.{◌≡◌, ◌⊎◌, ℕ, [], Contains, OnOk, IfSome};
 ghost use Rattle.std.specs.List.{list_all};
 ghost use Rattle.plc_setting.specs.declared.obligations.Obligation.{Obligation as AnObligation};
