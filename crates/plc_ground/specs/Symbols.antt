@@ -1,4 +1,5 @@
--- Whether two constants, and two maps, are one, as the program compares them.
+-- Whether two constants, and two maps, are one, as the program compares them. That it holds of one alone is shown:
+-- `same_symbol_true`, `same_symbol_refl`, `same_map_true` and `same_map_refl` in proofs/Symbols.
 use Rattle.std.specs.Prelude.{Bool}
 use Rattle.plc_ground.specs.declared.terms.Symbol.{Symbol}
 use Rattle.plc_ground.specs.declared.terms.Map.{Map}

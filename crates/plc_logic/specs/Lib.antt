@@ -2,5 +2,4 @@
 pub mod Negation
 pub mod Sites
 pub mod Fit
--- what contracts say for the crates above alone, beside what a reader must believe
 pub mod Sorts
