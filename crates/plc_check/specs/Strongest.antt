@@ -1,5 +1,5 @@
 -- The typing on which `check` and `certify` both go on: the strongest one, or the verdict that there is none.
-use Rattle.std.specs.Prelude.{◌≡◌, Result, Ok, Err}
+use Rattle.std.specs.Prelude.{Result, Ok, Err}
 use Rattle.plc_infer.specs.declared.typing.Typing.{Typing}
 use Rattle.plc_xfer.specs.Typings.{IsTyping, IsStrongest}
 use Rattle.plc_flow.specs.Skeleton.{skeleton_of}

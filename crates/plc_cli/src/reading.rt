@@ -1,6 +1,6 @@
 // The files among the words are read whole before anything is judged, in the order of the words, so
 // the first read that gives no bytes is the answer. What is answered to the bytes isn't known here.
-ghost use Rattle.std.specs.Prelude.{◌≡◌, ◌≢◌, ◌≤◌, ℕ, List, IfOk};
+ghost use Rattle.std.specs.Prelude.{◌≡◌, ◌≢◌, ℕ, List, IfOk};
 ghost use Rattle.plc_cli.specs.Reads.{FilesAreKept};
 ghost use Rattle.plc_cli.specs.Views.{IsContentOf, AreContentsOf};
 

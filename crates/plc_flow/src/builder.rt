@@ -1,7 +1,7 @@
 // What the lowering has made so far. It only grows: points are counted, steps and labels are pushed,
 // so that what a statement makes is said by its own points, steps and labels, and one statement
 // after another by `+` and `++`.
-ghost use Rattle.std.specs.Prelude.{◌≡◌, ◌≤◌, ◌+◌, ◌∷◌, []};
+ghost use Rattle.std.specs.Prelude.{◌≤◌, ◌+◌};
 ghost use Rattle.plc_flow.specs.Lowering.{most_points, label_made};
 ghost use Rattle.plc_flow.specs.Builder.{Makes, a_point, a_step, a_during, a_join};
 

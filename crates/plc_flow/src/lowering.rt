@@ -1,6 +1,6 @@
 // The operations of a file one after another, each with a run of points of its own, which begins
 // with its entry and its exit.
-ghost use Rattle.std.specs.Prelude.{◌≡◌, ◌≤◌, ◌+◌, IfOk};
+ghost use Rattle.std.specs.Prelude.{◌≤◌, ◌+◌, IfOk};
 ghost use Rattle.plc_lang.specs.Fit.{FileFits, NamesWhatIsThere};
 ghost use Rattle.plc_lang.specs.WellSorted.{FileIsWellSorted};
 ghost use Rattle.plc_flow.specs.Lowering.{IsLowered, most_points, op_made, ops_made};

@@ -32,7 +32,7 @@ pub fn nth_step(flow: &Flow, at: u16, nth: u16) -> Option<&Step>
     None
 }
 
-// Whether one of these primitives allocates.
+/// Whether one of these primitives allocates.
 fn has_new(prims: &[Prim]) -> bool
     ensures { result ≡ list_any is_new prims.now }
 {

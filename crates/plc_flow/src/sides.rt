@@ -1,6 +1,6 @@
 // The two sides of a condition, each as the primitives of one step: a test and its opposite, a
 // refresh and nothing, and for a `cas` the comparison with the write, and the comparison that fails.
-ghost use Rattle.std.specs.Prelude.{◌≡◌, ◌++◌, ◌∷◌, [], IfOk};
+ghost use Rattle.std.specs.Prelude.{◌≡◌, ◌∷◌, [], IfOk};
 ghost use Rattle.plc_flow.specs.Sides.{opposite, equals, differs, becomes, claim, true_side, false_side, call_side};
 
 use plc_base::{FuncId, Items};

@@ -1,12 +1,11 @@
 // The table of the statements, a row each: the points that it makes, then its steps, and the point
 // that the next statement goes on from. Points that no step leads to may be made; none is left out
 // or joined with another.
-ghost use Rattle.std.specs.Prelude.{◌≡◌, ◌≤◌, ◌+◌, ◌∷◌, []};
+ghost use Rattle.std.specs.Prelude.{◌≤◌};
 ghost use Rattle.plc_lang.specs.Statements.{Call, If, Choose, Loop};
 ghost use Rattle.plc_lang.specs.Views.{statement_of, blocks_of};
 ghost use Rattle.plc_flow.specs.Lowering.{most_points, one_made, call_made, side_made, leave_made};
 ghost use Rattle.plc_flow.specs.Lowering.{statement_made, statements_made, blocks_made};
-ghost use Rattle.plc_flow.specs.Sides.{call_side};
 ghost use Rattle.plc_flow.specs.Builder.{Makes, MakesBranches};
 
 use crate::builder::{Builder, Here, Next, join_all, label, label_during, point, step};

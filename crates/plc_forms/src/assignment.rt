@@ -13,14 +13,14 @@ use crate::front::{first, name_at, name_symbol_at, symbol_name_at, word_name_at}
 use crate::rest::Rest;
 use plc_lex::{Keyword, Symbol, TokenKind};
 
-// A field, after its dot.
+/// A field, after its dot.
 fn dot_name_at<'a>(rest: Rest<'a>) -> Option<(&'a [u8], Rest<'a>)>
     ensures { Reads dot_name_of text_of (λ _. 2) rest.entry result }
 {
     symbol_name_at(rest, Symbol::Dot)
 }
 
-// A place, from after its name.
+/// A place, from after its name.
 fn place_of_name_at<'a>(name: &'a [u8], rest: Rest<'a>) -> (Place<'a>, Rest<'a>)
     ensures read { place_of_name name.now (kinds rest.entry.tokens.now)
         ≡ (place_tree result.0, kinds result.1.tokens.now) }
@@ -43,7 +43,7 @@ pub fn place_at<'a>(rest: Rest<'a>) -> Option<(Place<'a>, Rest<'a>)>
     Some(place_of_name_at(name, after))
 }
 
-// What is put into a name.
+/// What is put into a name.
 fn value_at<'a>(rest: Rest<'a>) -> Option<(Value<'a>, Rest<'a>)>
     ensures { Reads value_of value_tree value_size rest.entry result }
 {
@@ -70,7 +70,7 @@ pub fn atom_at<'a>(rest: Rest<'a>) -> Option<(Atom<'a>, Rest<'a>)>
     }
 }
 
-// An assignment to a name.
+/// An assignment to a name.
 fn set_name_at<'a>(rest: Rest<'a>) -> Option<(Set<'a>, Rest<'a>)>
     ensures { Reads set_name_of set_tree set_size rest.entry result }
 {
@@ -79,7 +79,7 @@ fn set_name_at<'a>(rest: Rest<'a>) -> Option<(Set<'a>, Rest<'a>)>
     Some((Set::Name(name, value), after))
 }
 
-// A field of what a name points to, and a symbol.
+/// A field of what a name points to, and a symbol.
 fn field_symbol_at<'a>(rest: Rest<'a>, symbol: Symbol) -> Option<((&'a [u8], &'a [u8]), Rest<'a>)>
     ensures { Reads (field_symbol_of symbol) (λ x. (x.0.now, x.1.now)) (λ _. 4) rest.entry result }
 {
@@ -88,7 +88,7 @@ fn field_symbol_at<'a>(rest: Rest<'a>, symbol: Symbol) -> Option<((&'a [u8], &'a
     Some(((name, field), after))
 }
 
-// An assignment to a field.
+/// An assignment to a field.
 fn set_field_at<'a>(rest: Rest<'a>) -> Option<(Set<'a>, Rest<'a>)>
     ensures { Reads set_field_of set_tree set_size rest.entry result }
 {
@@ -113,7 +113,7 @@ pub fn refresh_name_at<'a>(rest: Rest<'a>) -> Option<((&'a [u8], Place<'a>), Res
     Some(((name, place), after))
 }
 
-// A refresh into a field.
+/// A refresh into a field.
 fn refresh_field_at<'a>(rest: Rest<'a>) -> Option<(Refresh<'a>, Rest<'a>)>
     ensures { Reads refresh_field_of refresh_tree refresh_size rest.entry result }
 {
@@ -132,7 +132,7 @@ pub fn refresh_at<'a>(rest: Rest<'a>) -> Option<(Refresh<'a>, Rest<'a>)>
     }
 }
 
-// What is put into an auxiliary field.
+/// What is put into an auxiliary field.
 fn ghost_value_at<'a>(rest: Rest<'a>) -> Option<(GhostValue<'a>, Rest<'a>)>
     ensures { Reads ghost_value_of ghost_value_tree (λ _. 1) rest.entry result }
 {

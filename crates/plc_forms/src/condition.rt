@@ -13,7 +13,7 @@ use crate::front::{first, name_at, symbol_at, word_at};
 use crate::rest::Rest;
 use plc_lex::{Keyword, Symbol, TokenKind};
 
-// What stands between the sides of a test.
+/// What stands between the sides of a test.
 fn relation_at<'a>(rest: Rest<'a>) -> Option<(Relation, Rest<'a>)>
     ensures { Reads comparison_of relation_tree (λ _. 1) rest.entry result }
 {
@@ -41,7 +41,7 @@ pub fn test_at<'a>(rest: Rest<'a>) -> Option<(Test<'a>, Rest<'a>)>
     Some((test, after))
 }
 
-// A name, or `null`.
+/// A name, or `null`.
 fn name_or_null_at<'a>(rest: Rest<'a>) -> Option<(Option<&'a [u8]>, Rest<'a>)>
     ensures { Reads name_or_null_of text_or_none (λ _. 1) rest.entry result }
 {
@@ -52,14 +52,14 @@ fn name_or_null_at<'a>(rest: Rest<'a>) -> Option<(Option<&'a [u8]>, Rest<'a>)>
     }
 }
 
-// A comma and a name, or `null`.
+/// A comma and a name, or `null`.
 fn comma_name_or_null_at<'a>(rest: Rest<'a>) -> Option<(Option<&'a [u8]>, Rest<'a>)>
     ensures { Reads comma_name_or_null_of text_or_none (λ _. 2) rest.entry result }
 {
     name_or_null_at(symbol_at(rest, Symbol::Comma)?)
 }
 
-// "active", which may be left out.
+/// "active", which may be left out.
 fn active_word_at<'a>(rest: Rest<'a>) -> (bool, Rest<'a>)
     ensures read { active_word_of (kinds rest.entry.tokens.now) ≡ (result.0, kinds result.1.tokens.now) }
     ensures after { After rest.entry (word_size result.0) result.1 }
@@ -70,7 +70,7 @@ fn active_word_at<'a>(rest: Rest<'a>) -> (bool, Rest<'a>)
     }
 }
 
-// The three pointers of a cas and the parenthesis after them.
+/// The three pointers of a cas and the parenthesis after them.
 fn cas_at<'a>(is_active: bool, rest: Rest<'a>) -> Option<(Cas<'a>, Rest<'a>)>
     ensures form { Reads (cas_of is_active) cas_tree (λ _. 6) rest.entry result }
     ensures claim { IfSome result (λ r. r.0.is_active ≡ is_active) }
@@ -88,7 +88,7 @@ fn cas_at<'a>(is_active: bool, rest: Rest<'a>) -> Option<(Cas<'a>, Rest<'a>)>
     Some((cas, after))
 }
 
-// A cas, from after its first word.
+/// A cas, from after its first word.
 fn cas_condition_at<'a>(rest: Rest<'a>) -> Option<(Condition<'a>, Rest<'a>)>
     ensures { Reads cas_condition_of condition_tree (λ t. condition_size t - 1) rest.entry result }
 {
@@ -98,7 +98,7 @@ fn cas_condition_at<'a>(rest: Rest<'a>) -> Option<(Condition<'a>, Rest<'a>)>
     Some((Condition::Cas(cas), after))
 }
 
-// A condition that begins with a name.
+/// A condition that begins with a name.
 fn named_condition_at<'a>(rest: Rest<'a>) -> Option<(Condition<'a>, Rest<'a>)>
     ensures { Reads named_condition_of condition_tree condition_size rest.entry result }
 {

@@ -89,14 +89,14 @@ pub fn parenthesis_at<'a>(rest: Rest<'a>) -> Option<Rest<'a>>
     symbol_at(rest, Symbol::CloseParen)
 }
 
-// A closing parenthesis and a semicolon.
+/// A closing parenthesis and a semicolon.
 fn end_at<'a>(rest: Rest<'a>) -> Option<Rest<'a>>
     ensures { Passes end_of 2 rest.entry result }
 {
     symbol_at(symbol_at(rest, Symbol::CloseParen)?, Symbol::Semicolon)
 }
 
-// "ptr", which may be left out.
+/// "ptr", which may be left out.
 fn pointer_word_at<'a>(rest: Rest<'a>) -> (bool, Rest<'a>)
     ensures read { pointer_word_of (kinds rest.entry.tokens.now) ≡ (result.0, kinds result.1.tokens.now) }
     ensures after { After rest.entry (word_size result.0) result.1 }
@@ -123,7 +123,7 @@ pub fn function_at<'a>(rest: Rest<'a>) -> Option<(Function<'a>, Rest<'a>)>
     ))
 }
 
-// The use of hazard pointers, after its first word.
+/// The use of hazard pointers, after its first word.
 fn hazard_at<'a>(rest: Rest<'a>) -> Option<(Watch<'a>, Rest<'a>)>
     ensures { Reads hazard_of watch_tree (λ _. 5) rest.entry result }
 {
@@ -132,7 +132,7 @@ fn hazard_at<'a>(rest: Rest<'a>) -> Option<(Watch<'a>, Rest<'a>)>
     Some((Watch::Hazard(function), end_at(after)?))
 }
 
-// The use of epochs, after its first word.
+/// The use of epochs, after its first word.
 fn epoch_at<'a>(rest: Rest<'a>) -> Option<(Watch<'a>, Rest<'a>)>
     ensures { Reads epoch_of watch_tree (λ _. 7) rest.entry result }
 {

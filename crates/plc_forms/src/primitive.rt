@@ -12,7 +12,7 @@ use crate::front::{first, name_at};
 use crate::rest::Rest;
 use plc_lex::{Keyword, TokenKind};
 
-// A primitive that begins with a name.
+/// A primitive that begins with a name.
 fn named_at<'a>(rest: Rest<'a>) -> Option<(Primitive<'a>, Rest<'a>)>
     ensures { Reads named_of primitive_tree primitive_size rest.entry result }
 {
@@ -23,7 +23,7 @@ fn named_at<'a>(rest: Rest<'a>) -> Option<(Primitive<'a>, Rest<'a>)>
     Some((Primitive::Refresh(refresh), after))
 }
 
-// A primitive, without its semicolon.
+/// A primitive, without its semicolon.
 fn primitive_at<'a>(rest: Rest<'a>) -> Option<(Primitive<'a>, Rest<'a>)>
     ensures { Reads primitive_of primitive_tree primitive_size rest.entry result }
 {
@@ -53,7 +53,7 @@ pub fn primitive_line_at<'a>(rest: Rest<'a>) -> Option<(Primitive<'a>, Rest<'a>)
     Some((primitive, semicolon_at(after)?))
 }
 
-// An assignment of `init`, without its semicolon.
+/// An assignment of `init`, without its semicolon.
 fn initial_at<'a>(rest: Rest<'a>) -> Option<(Initial<'a>, Rest<'a>)>
     ensures { Reads initial_of initial_tree initial_size rest.entry result }
 {

@@ -19,14 +19,14 @@ pub fn label_at<'a>(rest: Rest<'a>) -> Option<(&'a [u8], Rest<'a>)>
     word_name_at(rest, Keyword::Label, Symbol::Semicolon)
 }
 
-// A name that is claimed to be active.
+/// A name that is claimed to be active.
 fn active_name_at<'a>(rest: Rest<'a>) -> Option<(&'a [u8], Rest<'a>)>
     ensures { Reads active_name_of text_of (λ _. 2) rest.entry result }
 {
     name_at(word_at(rest, Keyword::Active)?)
 }
 
-// What stands between the parentheses of a call.
+/// What stands between the parentheses of a call.
 fn argument_at<'a>(rest: Rest<'a>) -> (Argument<'a>, Rest<'a>)
     ensures read { argument_of (kinds rest.entry.tokens.now) ≡ (argument_tree result.0, kinds result.1.tokens.now) }
     ensures after { After rest.entry (argument_size (argument_tree result.0)) result.1 }
@@ -53,7 +53,7 @@ pub fn call_at<'a>(rest: Rest<'a>) -> Option<(Call<'a>, Rest<'a>)>
     Some((Call { name, argument }, after))
 }
 
-// A label after its word.
+/// A label after its word.
 fn during_name_at<'a>(rest: Rest<'a>) -> Option<(&'a [u8], Rest<'a>)>
     ensures { Reads during_name_of text_of (λ _. 2) rest.entry result }
 {

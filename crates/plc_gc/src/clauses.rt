@@ -8,7 +8,7 @@ use crate::slot::{Map, Slot};
 use crate::state::State;
 use plc_logic::{Base, Clause, Literal, Term};
 
-// The node at a place of a binding, null past its end.
+/// The node at a place of a binding, null past its end.
 fn bound_node(bound: &[u32], i: u16) -> u32
     ensures { result ≡ bound_to bound.now i }
 {
@@ -16,8 +16,8 @@ fn bound_node(bound: &[u32], i: u16) -> u32
     if i < bound.len() { bound[i] } else { 0 }
 }
 
-// The number by which auxiliary fields name a thread. It is one more than the thread's, which may be the last
-// of 32 bits.
+/// The number by which auxiliary fields name a thread. It is one more than the thread's, which may be the last
+/// of 32 bits.
 fn thread_number(thread: Option<u32>) -> u64
     ensures { result ≡ thread_number thread }
 {
@@ -28,7 +28,7 @@ fn thread_number(thread: Option<u32>) -> u64
 }
 
 impl State {
-    // The node that a name stands for.
+    /// The node that a name stands for.
     fn base(&self, thread: Option<u32>, bound: &[u32], x: Base) -> u32
         ensures { result ≡ base_node self.now thread (bound_to bound.now) x }
     {
@@ -39,7 +39,7 @@ impl State {
         }
     }
 
-    // The value of a term.
+    /// The value of a term.
     fn term(&self, thread: Option<u32>, bound: &[u32], x: Term) -> u64
         ensures { result ≡ term_value self.now thread (bound_to bound.now) x }
     {
@@ -59,7 +59,7 @@ impl State {
         }
     }
 
-    // Whether a literal is true.
+    /// Whether a literal is true.
     fn literal_holds(&self, thread: Option<u32>, bound: &[u32], literal: &Literal) -> bool
         ensures { result ≡ literal_holds self.now thread (bound_to bound.now) literal.now }
     {
@@ -75,7 +75,7 @@ impl State {
         }
     }
 
-    // Whether a clause is true.
+    /// Whether a clause is true.
     fn clause_holds(&self, thread: Option<u32>, bound: &[u32], c: &Clause) -> bool
         ensures { result ≡ holds_at self.now thread (bound_to bound.now) c.now }
     {

@@ -1,7 +1,7 @@
 // A garbage-collected configuration in code. What a move leads to is computed beside it: nothing of the
 // configuration is touched before the last call that may need memory, so that a move that is blocked, and
 // running out of memory, leave it as it was.
-ghost use Rattle.std.specs.Prelude.{◌≡◌, ℕ, ◌<◌, [], IfOk, OnOk, OnErr, Some, None};
+ghost use Rattle.std.specs.Prelude.{◌≡◌, ◌<◌, [], IfOk, OnOk, OnErr, Some, None};
 ghost use Rattle.plc_flow.specs.declared.flow.Step.{Step as AStep};
 ghost use Rattle.plc_flow.specs.declared.points.Point.{Point as APoint};
 ghost use Rattle.plc_flow.specs.WellFormed.{FlowFits};
@@ -68,7 +68,7 @@ impl GcConfig {
         }
     }
 
-    // What `init` leaves, or nothing where it is blocked.
+    /// What `init` leaves, or nothing where it is blocked.
     fn began(alloc: Global, flow: &Flow, threads: u32) -> Result<Option<GcConfig>, NoMemory>
         requires fits { FlowFits flow.now }
         requires sorted { FlowIsWellSorted flow.now }
@@ -88,7 +88,7 @@ impl GcConfig {
         }))
     }
 
-    // The values.
+    /// The values.
     pub(crate) fn state(&self) -> &State
         ensures { result.now ≡ self.now.state }
     {
@@ -117,7 +117,7 @@ impl GcConfig {
         self.advance(flow, m)
     }
 
-    // One move.
+    /// One move.
     fn advance(&mut self, flow: &Flow, m: &Move) -> Result<GcMoved, NoMemory>
         requires fits { FlowFits flow.now }
         requires sorted { FlowIsWellSorted flow.now }
@@ -134,7 +134,7 @@ impl GcConfig {
         }
     }
 
-    // A start: the thread gets the locals of the operation.
+    /// A start: the thread gets the locals of the operation.
     fn start_move(
         &mut self,
         flow: &Flow,
@@ -158,7 +158,7 @@ impl GcConfig {
         Ok(GcMoved::Done)
     }
 
-    // A step, if there is one.
+    /// A step, if there is one.
     fn step_move(&mut self, flow: &Flow, t: u32, nth: u16) -> Result<GcMoved, NoMemory>
         requires fits { FlowFits flow.now }
         requires sorted { FlowIsWellSorted flow.now }
@@ -174,7 +174,7 @@ impl GcConfig {
         self.take(step, point, t)
     }
 
-    // A step is taken on a copy of the values, which then takes their place.
+    /// A step is taken on a copy of the values, which then takes their place.
     fn take(&mut self, step: &Step, point: Point, t: u32) -> Result<GcMoved, NoMemory>
         requires stands { point_of self.old t ≡ Some point }
         requires ready { IsReady self.old.state t step.now.prims }
@@ -193,7 +193,7 @@ impl GcConfig {
         Ok(GcMoved::Done)
     }
 
-    // A return: the thread's locals are gone.
+    /// A return: the thread's locals are gone.
     fn return_move(&mut self, flow: &Flow, t: u32) -> GcMoved
         requires fits { FlowFits flow.now }
         requires sorted { FlowIsWellSorted flow.now }
@@ -228,7 +228,7 @@ impl GcConfig {
         }
     }
 
-    // The truth of each claim that a step reaches, on a copy of the values.
+    /// The truth of each claim that a step reaches, on a copy of the values.
     fn claims_of(&self, step: &Step, t: u32) -> Result<Vec<bool>, NoMemory>
         requires { IsReady self.now.state t step.now.prims }
         ensures { IfOk result (λ truths. truths.items ≡ claims self.now.state t step.now.prims) }

@@ -12,7 +12,7 @@ use plc_base::NoMemory;
 use plc_lang::Prim;
 use std::alloc::Global;
 
-// Primitives of thread `t` in order; whether none is blocked.
+/// Primitives of thread `t` in order; whether none is blocked.
 pub fn execute(state: &mut State, t: u32, prims: &[Prim]) -> Result<bool, NoMemory>
     requires small { t + 1 < 2 ^ 32 }
     requires held { IsHeld state.old t }
@@ -28,7 +28,7 @@ pub fn execute(state: &mut State, t: u32, prims: &[Prim]) -> Result<bool, NoMemo
     Ok(true)
 }
 
-// Adds the truth of the claim of a primitive, if it is one.
+/// Adds the truth of the claim of a primitive, if it is one.
 fn note_claim(truths: &mut Vec<bool>, state: &State, t: u32, prim: &Prim) -> Result<(), NoMemory>
     ensures { OnOk result (truths.new.items
         ≡ truths.old.items ++ (if is_claim prim.now then claim_holds state.now t prim.now ∷ [] else [])) }
@@ -42,7 +42,7 @@ fn note_claim(truths: &mut Vec<bool>, state: &State, t: u32, prim: &Prim) -> Res
     }
 }
 
-// The truth of each claim that the primitives of thread `t` reach before one is blocked.
+/// The truth of each claim that the primitives of thread `t` reach before one is blocked.
 pub fn claims(
     alloc: Global,
     state: &mut State,

@@ -40,7 +40,7 @@ impl TryCopy for Locals {
 }
 
 impl Locals {
-    // The locals at the start of an operation: pointers null, parameters as given, other data 0.
+    /// The locals at the start of an operation: pointers null, parameters as given, other data 0.
     pub fn new(alloc: Global, op: &Op, args: &[u32]) -> Result<Locals, NoMemory>
         ensures { IfOk result (λ l. l ≡ starting op.now args.now) }
     {
@@ -54,7 +54,7 @@ impl Locals {
         })
     }
 
-    // The locals of `init`, which has none.
+    /// The locals of `init`, which has none.
     pub fn none(alloc: Global) -> Locals
         ensures { result ≡ no_locals }
     {
@@ -65,21 +65,21 @@ impl Locals {
         }
     }
 
-    // The pointer local, 0 past the last.
+    /// The pointer local, 0 past the last.
     pub fn pointer(&self, v: u16) -> u32
         ensures { result ≡ get_or self.now.pointers v 0 }
     {
         number_at(&self.pointers, v as usize)
     }
 
-    // The data local, 0 past the last.
+    /// The data local, 0 past the last.
     pub fn value(&self, x: u16) -> u32
         ensures { result ≡ get_or self.now.values x 0 }
     {
         number_at(&self.values, x as usize)
     }
 
-    // The pointer local, if there is one of this number.
+    /// The pointer local, if there is one of this number.
     pub fn find(&self, v: u16) -> Option<u32>
         ensures { result
             ≡ (if nat_lt v (length self.now.pointers) then Some (get_or self.now.pointers v 0) else None) }
@@ -87,7 +87,7 @@ impl Locals {
         find_number(&self.pointers, v as usize)
     }
 
-    // The local by its number among all that are declared, 0 past the last.
+    /// The local by its number among all that are declared, 0 past the last.
     pub fn named(&self, i: u16) -> u32
         ensures { (g : GcState) (t : ℕ) → locals_of g t ≡ self.now
             → result ≡ declared_value g t self.now.declared i (slice_get self.now.declared i) }
@@ -105,7 +105,7 @@ impl Locals {
         }
     }
 
-    // Puts a number into a pointer local.
+    /// Puts a number into a pointer local.
     pub fn set_pointer(&mut self, v: u16, n: u32)
         requires { v < length self.old.pointers }
         ensures { self.new ≡ record self.old { pointers = put_at 0 self.old.pointers v n } }
@@ -113,7 +113,7 @@ impl Locals {
         self.pointers[v as usize] = n;
     }
 
-    // Puts a number into a data local.
+    /// Puts a number into a data local.
     pub fn set_value(&mut self, x: u16, n: u32)
         requires { x < length self.old.values }
         ensures { self.new ≡ record self.old { values = put_at 0 self.old.values x n } }
@@ -122,7 +122,7 @@ impl Locals {
     }
 }
 
-// A pointer local of a thread, if there is one of this number.
+/// A pointer local of a thread, if there is one of this number.
 pub fn local_of(locals: &[Option<Locals>], t: u32, v: u16) -> Option<u32>
     ensures { let l = locals_or_none (get_or locals.now t None)
         in result ≡ (if nat_lt v (length l.pointers) then Some (get_or l.pointers v 0) else None) }
@@ -130,7 +130,7 @@ pub fn local_of(locals: &[Option<Locals>], t: u32, v: u16) -> Option<u32>
     held(locals, t)?.find(v)
 }
 
-// Puts a number into a pointer local of a thread.
+/// Puts a number into a pointer local of a thread.
 pub fn put_pointer(locals: &mut Vec<Option<Locals>>, t: u32, v: u16, n: u32)
     requires { v < length (locals_or_none (get_or locals.old.items t None)).pointers }
     ensures { let l = locals_or_none (get_or locals.old.items t None)
@@ -141,7 +141,7 @@ pub fn put_pointer(locals: &mut Vec<Option<Locals>>, t: u32, v: u16, n: u32)
     }
 }
 
-// Puts a number into a data local of a thread.
+/// Puts a number into a data local of a thread.
 pub fn put_value(locals: &mut Vec<Option<Locals>>, t: u32, x: u16, n: u32)
     requires { x < length (locals_or_none (get_or locals.old.items t None)).values }
     ensures { let l = locals_or_none (get_or locals.old.items t None)

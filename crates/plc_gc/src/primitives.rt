@@ -1,6 +1,6 @@
 // One primitive, column by column of the table: where it isn't blocked, and what it changes. The second
 // takes its memory before it changes anything.
-ghost use Rattle.std.specs.Prelude.{◌≡◌, ℕ, ◌+◌, ◌<◌, ◌^◌, false, if◌then◌else◌, IfOk, OnOk, OnErr};
+ghost use Rattle.std.specs.Prelude.{◌≡◌, ◌+◌, ◌<◌, ◌^◌, false, if◌then◌else◌, IfOk, OnOk, OnErr};
 ghost use Rattle.plc_base.specs.Functions.{is_retire};
 ghost use Rattle.plc_lang.specs.Allocation.{is_new};
 ghost use Rattle.plc_lang.specs.Shape.{VarIn, ArgIn};
@@ -16,7 +16,7 @@ use crate::state::State;
 use plc_base::{FieldId, FuncId, NoMemory};
 use plc_lang::{Arg, GhostVal, Num, Prim, Var, compares};
 
-// What a `ghost` write puts into an auxiliary field: a value, or a thread by its number and one more.
+/// What a `ghost` write puts into an auxiliary field: a value, or a thread by its number and one more.
 fn ghost_number(t: u32, v: GhostVal) -> u32
     requires { t + 1 < 2 ^ 32 }
     ensures { result ≡ ghost_number t v }
@@ -29,28 +29,28 @@ fn ghost_number(t: u32, v: GhostVal) -> u32
 }
 
 impl State {
-    // The node that a variable of a thread leads to.
+    /// The node that a variable of a thread leads to.
     pub fn node(&self, t: u32, v: Var) -> u32
         ensures { result ≡ node_at self.now t v }
     {
         self.value(slot_of(t, v))
     }
 
-    // Whether a variable isn't null.
+    /// Whether a variable isn't null.
     fn some_node(&self, t: u32, v: Var) -> bool
         ensures { result ≡ some_node self.now t v }
     {
         self.node(t, v) != 0
     }
 
-    // The node in a pointer field of the node that a variable leads to.
+    /// The node in a pointer field of the node that a variable leads to.
     fn field_at(&self, t: u32, v: Var, f: FieldId) -> u32
         ensures { result ≡ field_at self.now t v f.0 }
     {
         self.entry(Map::Pointer(f.0), self.node(t, v))
     }
 
-    // The number that is put into data.
+    /// The number that is put into data.
     fn number(&self, t: u32, e: Num) -> u32
         ensures { result ≡ number_of self.now t e }
     {
@@ -60,7 +60,7 @@ impl State {
         }
     }
 
-    // Whether a primitive isn't blocked.
+    /// Whether a primitive isn't blocked.
     pub fn goes(&self, t: u32, prim: &Prim) -> bool
         ensures { result ≡ goes self.now t prim.now }
     {
@@ -91,7 +91,7 @@ impl State {
         }
     }
 
-    // Whether a call isn't blocked.
+    /// Whether a call isn't blocked.
     fn goes_call(&self, t: u32, func: FuncId, arg: Arg) -> bool
         ensures { result ≡ goes_call self.now t (is_retire func) arg }
     {
@@ -105,7 +105,7 @@ impl State {
         }
     }
 
-    // Puts a node into a variable of a thread.
+    /// Puts a node into a variable of a thread.
     fn write(&mut self, t: u32, p: Var, node: u32)
         requires { VarIn (frame self.old t).shape p }
         ensures { self.new ≡ put self.old (slot t p) node }
@@ -113,7 +113,7 @@ impl State {
         self.put(slot_of(t, p), node);
     }
 
-    // Changes a map at the node that a variable of a thread leads to.
+    /// Changes a map at the node that a variable of a thread leads to.
     fn change_at(&mut self, t: u32, p: Var, map: Map, n: u32)
         requires ranges { IsInRange self.old }
         requires var { VarIn (frame self.old t).shape p }
@@ -123,7 +123,7 @@ impl State {
         self.update(map, self.node(t, p), n);
     }
 
-    // A node that is made, and to which a variable of a thread leads then.
+    /// A node that is made, and to which a variable of a thread leads then.
     fn change_by_new(&mut self, t: u32, p: Var) -> Result<(), NoMemory>
         requires { VarIn (frame self.old t).shape p }
         ensures after { OnOk result (self.new ≡ put (made self.old) (slot t p) (count self.old)) }
@@ -134,7 +134,7 @@ impl State {
         Ok(())
     }
 
-    // What a call changes.
+    /// What a call changes.
     fn change_by_call(&mut self, t: u32, func: FuncId, arg: Arg)
         requires ranges { IsInRange self.old }
         requires there { ArgIn (frame self.old t).shape arg }
@@ -150,7 +150,7 @@ impl State {
         }
     }
 
-    // What a primitive changes.
+    /// What a primitive changes.
     pub fn change(&mut self, t: u32, prim: &Prim) -> Result<(), NoMemory>
         requires small { t + 1 < 2 ^ 32 }
         requires there { FrameHas (frame self.old t) prim.now }
@@ -167,7 +167,7 @@ impl State {
         }
     }
 
-    // What a primitive changes that makes no node.
+    /// What a primitive changes that makes no node.
     fn change_in_place(&mut self, t: u32, prim: &Prim)
         requires small { t + 1 < 2 ^ 32 }
         requires there { FrameHas (frame self.old t) prim.now }
@@ -204,7 +204,7 @@ impl State {
         }
     }
 
-    // One primitive, if it isn't blocked; whether it is not.
+    /// One primitive, if it isn't blocked; whether it is not.
     pub fn apply(&mut self, t: u32, prim: &Prim) -> Result<bool, NoMemory>
         requires small { t + 1 < 2 ^ 32 }
         requires held { IsHeld self.old t }
@@ -224,7 +224,7 @@ impl State {
         Ok(true)
     }
 
-    // The truth of the claim of a primitive; true where it is no claim.
+    /// The truth of the claim of a primitive; true where it is no claim.
     pub fn claim_holds(&self, t: u32, prim: &Prim) -> bool
         ensures { result ≡ claim_holds self.now t prim.now }
     {

@@ -31,14 +31,14 @@ impl Model for Row {
     } };
 }
 
-// The number at a place of a table, 0 past its end.
+/// The number at a place of a table, 0 past its end.
 pub fn number_at(numbers: &[u32], i: usize) -> u32
     ensures { result ≡ get_or numbers.now i 0 }
 {
     if i < numbers.len() { numbers[i] } else { 0 }
 }
 
-// The number at a place of a table, if there is such a place.
+/// The number at a place of a table, if there is such a place.
 pub fn find_number(numbers: &[u32], i: usize) -> Option<u32>
     ensures { result ≡ (if nat_lt i (length numbers.now) then Some (get_or numbers.now i 0) else None) }
 {
@@ -50,7 +50,7 @@ pub fn find_number(numbers: &[u32], i: usize) -> Option<u32>
 }
 
 impl Row {
-    // A node that was just allocated, and null.
+    /// A node that was just allocated, and null.
     pub fn fresh(alloc: Global, fields: usize, ghosts: usize) -> Result<Row, NoMemory>
         ensures { IfOk result (λ r. r ≡ fresh_row fields ghosts) }
     {
@@ -62,7 +62,7 @@ impl Row {
         })
     }
 
-    // A copy.
+    /// A copy.
     pub fn copy(&self) -> Result<Row, NoMemory>
         ensures { IfOk result (λ r. r ≡ self.now) }
     {
@@ -74,7 +74,7 @@ impl Row {
         })
     }
 
-    // What a map has at this node.
+    /// What a map has at this node.
     pub fn entry(&self, map: Map) -> u32
         ensures { result ≡ row_entry self.now map }
     {
@@ -86,7 +86,7 @@ impl Row {
         }
     }
 
-    // Puts a number into a map at this node.
+    /// Puts a number into a map at this node.
     pub fn set(&mut self, map: Map, n: u32)
         requires { EntryIn self.old map }
         ensures { self.new ≡ row_with self.old map n }
@@ -100,7 +100,7 @@ impl Row {
     }
 }
 
-// Copies of rows.
+/// Copies of rows.
 pub fn copy_rows(alloc: Global, rows: &[Row]) -> Result<Vec<Row>, NoMemory>
     ensures { IfOk result (λ copy. copy.items ≡ rows.now) }
 {

@@ -1,6 +1,6 @@
 // The values of a garbage-collected state. A node's number is the place of its row, and no row is taken
 // back, so that a look-up is an index. What it is seen as is the state of the definitions; reads are total.
-ghost use Rattle.std.specs.Prelude.{◌≡◌, ℕ, ◌<◌, nat_lt, if◌then◌else◌, get_or, slice_get, length, IfOk, OnOk, OnErr};
+ghost use Rattle.std.specs.Prelude.{◌≡◌, ◌<◌, nat_lt, if◌then◌else◌, get_or, slice_get, length, IfOk, OnOk, OnErr};
 ghost use Rattle.std.specs.Prelude.{Some, None};
 ghost use Rattle.plc_gc.specs.State.{GcState, first_state, with_locals, value, entry, count, put, update, made};
 ghost use Rattle.plc_gc.specs.State.{is_retired, is_made, is_pointer_field, node_of};
@@ -47,7 +47,7 @@ impl Model for State {
 }
 
 impl State {
-    // The state of a flow before its `init`: null alone, shared pointers null, every thread idle.
+    /// The state of a flow before its `init`: null alone, shared pointers null, every thread idle.
     pub fn first(alloc: Global, flow: &Flow, threads: u32) -> Result<State, NoMemory>
         ensures { IfOk result (λ s. s ≡ first_state flow.now threads) }
     {
@@ -66,7 +66,7 @@ impl State {
         })
     }
 
-    // A copy.
+    /// A copy.
     pub fn copy(&self) -> Result<State, NoMemory>
         ensures { IfOk result (λ s. s ≡ self.now) }
     {
@@ -80,7 +80,7 @@ impl State {
         })
     }
 
-    // Gives a thread its locals, or takes them.
+    /// Gives a thread its locals, or takes them.
     pub fn give(&mut self, t: u32, l: Option<Locals>)
         requires { t < length self.old.locals }
         ensures { self.new ≡ with_locals self.old t l }
@@ -88,7 +88,7 @@ impl State {
         self.locals[t as usize] = l;
     }
 
-    // The value of a place.
+    /// The value of a place.
     pub fn value(&self, slot: Slot) -> u32
         ensures { result ≡ value self.now slot }
     {
@@ -105,7 +105,7 @@ impl State {
         }
     }
 
-    // The entry of a map at a node.
+    /// The entry of a map at a node.
     pub fn entry(&self, map: Map, node: u32) -> u32
         ensures { result ≡ entry self.now map node }
     {
@@ -115,14 +115,14 @@ impl State {
         }
     }
 
-    // Whether a node was retired.
+    /// Whether a node was retired.
     pub fn is_retired(&self, node: u32) -> bool
         ensures { result ≡ is_retired self.now node }
     {
         self.entry(Map::Retirement, node) == 1
     }
 
-    // Puts a value into a place.
+    /// Puts a value into a place.
     pub fn put(&mut self, slot: Slot, n: u32)
         requires { SlotIn self.old slot }
         ensures { self.new ≡ put self.old slot n }
@@ -134,7 +134,7 @@ impl State {
         }
     }
 
-    // Changes a map at a node that was made.
+    /// Changes a map at a node that was made.
     pub fn update(&mut self, map: Map, node: u32, n: u32)
         requires made { node < count self.old }
         requires there { MapIn self.old map }
@@ -143,7 +143,7 @@ impl State {
         self.rows[node as usize].set(map, n);
     }
 
-    // Makes a node, whose number is how many there were with null. There are at most 2^32.
+    /// Makes a node, whose number is how many there were with null. There are at most 2^32.
     pub fn make(&mut self) -> Result<u32, NoMemory>
         ensures node { IfOk result (λ node. node ≡ count self.old) }
         ensures made { OnOk result (self.new ≡ made self.old) }
@@ -158,7 +158,7 @@ impl State {
         Ok(made as u32)
     }
 
-    // The node that a pointer place holds, if there is such a place.
+    /// The node that a pointer place holds, if there is such a place.
     pub fn node_in(&self, place: &Place) -> Option<u32>
         ensures { result ≡ node_of self.now place.now }
     {
@@ -175,7 +175,7 @@ impl State {
         }
     }
 
-    // The shared pointer, if there is one of this number.
+    /// The shared pointer, if there is one of this number.
     fn shared_pointer(&self, i: u16) -> Option<u32>
         ensures { result
             ≡ (if nat_lt i (length self.now.shared) then Some (get_or self.now.shared i 0) else None) }
@@ -183,7 +183,7 @@ impl State {
         find_number(&self.shared, i as usize)
     }
 
-    // Whether a node was made and isn't null.
+    /// Whether a node was made and isn't null.
     #[tactic(auto, unfolding(crate::specs::State::is_made, crate::specs::State::count))]
     fn is_made(&self, node: u32) -> bool
         ensures { result ≡ is_made self.now node }
@@ -191,7 +191,7 @@ impl State {
         0 < node && (node as usize) < self.rows.len()
     }
 
-    // Whether there is such a field, and it is a pointer field.
+    /// Whether there is such a field, and it is a pointer field.
     fn is_pointer_field(&self, f: FieldId) -> bool
         ensures { result ≡ is_pointer_field (slice_get self.now.fields f.0) }
     {
@@ -201,7 +201,7 @@ impl State {
         }
     }
 
-    // The local of a thread by its number among all that are declared; 0 where there is none.
+    /// The local of a thread by its number among all that are declared; 0 where there is none.
     pub fn local(&self, thread: Option<u32>, i: u16) -> u32
         ensures { result ≡ local_value self.now thread i }
     {
@@ -214,7 +214,7 @@ impl State {
         }
     }
 
-    // What a field holds at a node, whichever kind it has.
+    /// What a field holds at a node, whichever kind it has.
     pub fn field(&self, f: FieldId, node: u32) -> u32
         ensures { result ≡ entry self.now (field_map self.now f.0) node }
     {

@@ -9,10 +9,10 @@
 // searched. Union by size and a forest of reasons win little on sets of a hundred terms, and each
 // would have to be kept true by proof.
 ghost use Rattle.std.specs.Prelude.{◌≡◌, ◌≢◌, ◌+◌, ◌-◌, ◌<◌, ◌≤◌, ◌==◌, ℕ, length};
-ghost use Rattle.std.specs.Prelude.{slice_index, slice_get, slice_set, Some, IfSome, IfNone, List, sum, ◌^◌, All};
-ghost use Rattle.std.specs.Prelude.{IfOk, OnOk, take, drop, ◌∷◌, ◌++◌, [], Contains, Ok, true, false, IsTrue};
+ghost use Rattle.std.specs.Prelude.{slice_index, slice_set, Some, IfSome, IfNone, List, sum, ◌^◌, All};
+ghost use Rattle.std.specs.Prelude.{IfOk, OnOk, take, drop, ◌∷◌, ◌++◌, [], Ok, true, false, IsTrue};
 ghost use Rattle.plc_ground.specs.Fit.{IsWellFormed, IsInRange};
-ghost use Rattle.plc_ground.specs.Classes.{Joins, IsMerged, IsClosure, IsClash, IsCoarser, IsTable, IsOfOneMap};
+ghost use Rattle.plc_ground.specs.Classes.{Joins, IsClosure, IsClash, IsTable, IsOfOneMap};
 ghost use Rattle.plc_ground.specs.Changes.{Extends, undone, ClashOnlyIn, HasArgumentIn, AgreeAt, IsAloneIn, IsClearOf};
 ghost use Rattle.plc_ground.specs.Changes.{IsJoined, Settles, to_settle};
 ghost use Rattle.plc_ground.specs.Model.{IsCongruent};

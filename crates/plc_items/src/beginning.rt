@@ -1,6 +1,6 @@
 // How executions begin: all shared pointers are null before `init`, where no node is there yet; a thread starts
 // an operation with null in its pointer locals and 0 in the data locals that are no parameters.
-ghost use Rattle.std.specs.Prelude.{◌≡◌, ◌<◌, ◌≤◌, length, map, OnOk};
+ghost use Rattle.std.specs.Prelude.{◌≡◌, ◌<◌, length, map, OnOk};
 ghost use Rattle.plc_lang.specs.Locals.{is_other_data};
 ghost use Rattle.plc_lang.specs.Numbering.{places_from};
 ghost use Rattle.plc_ground.specs.declared.terms.Symbol.TheVariants as symbols;
@@ -22,7 +22,7 @@ fn push_equal(left: Symbol, right: Symbol, out: &mut Draft) -> Result<(), NoMemo
     out.push(&[is(SymbolicTerm::Constant(left), SymbolicTerm::Constant(right))])
 }
 
-// The one node that there may be is the new one.
+/// The one node that there may be is the new one.
 fn push_only_new(makes: bool, c: Symbol, out: &mut Draft) -> Result<(), NoMemory>
     ensures { OnOk result (out.new ≡ written out.old (only_new makes c)) }
 {

@@ -39,7 +39,7 @@ fn push_nodes(bound: u16, out: &mut Draft) -> Result<(), NoMemory>
     Ok(())
 }
 
-// The nodes of which the conclusion speaks.
+/// The nodes of which the conclusion speaks.
 fn bound_nodes(alloc: Global, bound: u16) -> Result<Items<NodeTerm>, NoMemory>
     ensures { IfOk result (λ nodes. nodes ≡ bound_nodes bound) }
 {
@@ -93,7 +93,7 @@ fn push_denied_clause(
     push_denied(&r, clause.literals.as_slice(), out)
 }
 
-// The claim on a pointer is false: it leads to a node that is retired.
+/// The claim on a pointer is false: it leads to a node that is retired.
 fn push_claim(x: &Execution, p: Symbol, out: &mut Draft) -> Result<(), NoMemory>
     requires { length x.now.written < 65536 }
     ensures { OnOk result (out.new ≡ written_all out.old

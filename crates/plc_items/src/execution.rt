@@ -1,9 +1,7 @@
 // The executed part. Each variable has a current constant and each map a current version. What was assigned and
 // what was written is kept as it came, so the current ones are read off the past.
 ghost use Rattle.std.specs.Prelude.{◌≡◌, ◌+◌, ◌<◌, ◌≤◌, true, IfOk, OnOk};
-ghost use Rattle.std.specs.Prelude.{◌++◌, ◌∷◌, [], length, flat_map};
-ghost use Rattle.plc_ground.specs.declared.terms.Map.TheVariants as maps;
-ghost use Rattle.plc_ground.specs.declared.terms.Symbol.TheVariants as symbols;
+ghost use Rattle.std.specs.Prelude.{◌∷◌, [], length, flat_map};
 ghost use Rattle.plc_setting.specs.declared.acts.Act.TheVariants.{Fetch, Update};
 ghost use Rattle.plc_symbolic.specs.Numbering.{written, written_all};
 ghost use Rattle.plc_items.specs.Execution.{start, current, version, held, assigned, after, after_all, not_null};
@@ -59,7 +57,7 @@ pub fn version(x: &Execution, map: Map) -> u16
     x.written.as_slice().iter().filter(|m| **m == map).count() as u16
 }
 
-// The constant that a variable has now, as a term.
+/// The constant that a variable has now, as a term.
 fn held(x: &Execution, symbol: Symbol) -> SymbolicTerm
     ensures { result ≡ held x.now symbol }
 {
@@ -100,7 +98,7 @@ fn fetch(
     Ok(())
 }
 
-// The next version of a map, which differs from this one at most at the node that is written.
+/// The next version of a map, which differs from this one at most at the node that is written.
 fn push_update_at(
     map: Map,
     version: u16,
@@ -181,7 +179,7 @@ fn push_checked(x: &Execution, checked: bool, p: Symbol, out: &mut Draft) -> Res
     Ok(())
 }
 
-// One more act.
+/// One more act.
 fn act(x: &mut Execution, a: Act, nodes: &[NodeTerm], out: &mut Draft) -> Result<(), NoMemory>
     requires written { length x.old.written < 65535 }
     requires loads { x.old.loads < 65535 }

@@ -1,11 +1,10 @@
 // What is known of the node that a step makes: before the step no variable and no field leads to it, and all
 // that it holds is the default.
-ghost use Rattle.std.specs.Prelude.{◌≡◌, ◌<◌, ◌≤◌, ◌∷◌, length, map, flat_map, OnOk};
+ghost use Rattle.std.specs.Prelude.{◌≡◌, ◌<◌, length, map, flat_map, OnOk};
 ghost use Rattle.std.specs.List.{sum_by};
 ghost use Rattle.plc_lang.specs.Numbering.{values_in};
 ghost use Rattle.plc_symbolic.specs.declared.symbolic.SymbolicTerm.TheVariants.{Constant};
 ghost use Rattle.plc_symbolic.specs.Numbering.{written, written_all};
-ghost use Rattle.plc_symbolic.specs.Terms.{null};
 ghost use Rattle.plc_items.specs.Items.{is_other, default_is, field_default, field_defaults_from, ghost_default};
 ghost use Rattle.plc_items.specs.Items.{ghost_defaults_from, no_field_leads, unretired, freshness};
 
@@ -49,7 +48,7 @@ fn push_no_field(nodes: &[NodeTerm], fields: &[FieldId], out: &mut Draft) -> Res
     Ok(())
 }
 
-// A map has its default at the new node.
+/// A map has its default at the new node.
 fn push_default(map: Map, default: Symbol, out: &mut Draft) -> Result<(), NoMemory>
     ensures { OnOk result (out.new ≡ written out.old (default_is map default)) }
 {

@@ -19,7 +19,7 @@ use plc_setting::{Setting, stands_at};
 use plc_symbolic::{Draft, NodeTerm, SymbolicLit, SymbolicTerm, is, term_of};
 use std::alloc::Global;
 
-// The cases in which an instance says nothing: its node is null, or isn't there yet.
+/// The cases in which an instance says nothing: its node is null, or isn't there yet.
 fn push_escape(makes: bool, node: NodeTerm, lits: &mut Items<SymbolicLit>) -> Result<(), NoMemory>
     ensures { OnOk result (lits.new ≡ lits.old ++ escapes makes node) }
 {
@@ -72,7 +72,7 @@ pub struct Premises<'a> {
     pub owner: bool,
 }
 
-// The clause at a node for each of its names.
+/// The clause at a node for each of its names.
 fn push_instance(
     w: &Premises,
     literals: &[Literal],
@@ -96,7 +96,7 @@ fn push_instance(
     out.push(lits.as_slice())
 }
 
-// Under one name: at each node.
+/// Under one name: at each node.
 fn push_singles(w: &Premises, literals: &[Literal], out: &mut Draft) -> Result<(), NoMemory>
     requires reads { ReadsBefore w.now.ghosts.now w.now.before.now }
     requires values { All (ValuesIn w.now.ghosts.now) literals.now }
@@ -110,7 +110,7 @@ fn push_singles(w: &Premises, literals: &[Literal], out: &mut Draft) -> Result<(
     Ok(())
 }
 
-// Under two names, with this node for the first: at each node for the second.
+/// Under two names, with this node for the first: at each node for the second.
 fn push_pairs_of(
     w: &Premises,
     literals: &[Literal],
@@ -171,7 +171,7 @@ pub fn push_invariants(w: &Premises, clauses: &[Clause], out: &mut Draft) -> Res
     Ok(())
 }
 
-// The instances of an item's clause, if it stands at the point.
+/// The instances of an item's clause, if it stands at the point.
 fn push_item(
     w: &Premises,
     flow: &Flow,

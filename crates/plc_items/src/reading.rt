@@ -27,7 +27,7 @@ pub struct Reading<'a> {
     pub names: &'a [NodeTerm],
 }
 
-// The node of a quantified name.
+/// The node of a quantified name.
 fn bound_node(names: &[NodeTerm], i: u16) -> NodeTerm
     ensures { result ≡ slice_index_or names.now i (At symbols.Null) }
 {

@@ -1,5 +1,5 @@
 // What is known of auxiliary fields that have values: each node has one of them.
-ghost use Rattle.std.specs.Prelude.{◌≡◌, ◌+◌, ◌<◌, ◌≤◌, length, OnOk};
+ghost use Rattle.std.specs.Prelude.{◌≡◌, ◌+◌, ◌<◌, length, OnOk};
 ghost use Rattle.std.specs.List.{sum_by};
 ghost use Rattle.plc_lang.specs.Numbering.{values_in};
 ghost use Rattle.plc_symbolic.specs.Numbering.{written, written_all};
@@ -11,7 +11,7 @@ use plc_lang::Ghost;
 use plc_symbolic::{Draft, NodeTerm, SymbolicTerm, applied, is};
 use std::alloc::Global;
 
-// The node has one of so many values of the field.
+/// The node has one of so many values of the field.
 fn push_one_of(
     alloc: Global,
     g: u16,

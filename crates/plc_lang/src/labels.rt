@@ -1,7 +1,6 @@
 // In which operation each label stands. The labels of the statements are noted once, one list for each
 // operation, since an item may name many labels and the statements may be many.
 ghost use Rattle.std.specs.Prelude.{◌≡◌, ◌++◌, IfOk, OnOk};
-ghost use Rattle.std.specs.List.{position_from};
 ghost use Rattle.plc_lang.specs.Views.{statement_of, blocks_of};
 ghost use Rattle.plc_lang.specs.Labels.{label_or_none, statement_labels, block_labels, blocks_labels};
 ghost use Rattle.plc_lang.specs.Labels.{labels_by_op, has_label, op_of_label};
@@ -11,7 +10,7 @@ use crate::syntax::{Op, Stmt};
 use plc_base::{Items, NoMemory};
 use std::alloc::Global;
 
-// The label of a call, if it has one.
+/// The label of a call, if it has one.
 fn note_during(during: Option<u16>, labels: &mut Items<u16>) -> Result<(), NoMemory>
     ensures { OnOk result (labels.new ≡ labels.old ++ label_or_none during) }
 {
@@ -35,7 +34,7 @@ fn note_statement(stmt: &Stmt, labels: &mut Items<u16>) -> Result<(), NoMemory>
     }
 }
 
-// The two blocks of an `if`.
+/// The two blocks of an `if`.
 #[cycle(note)]
 fn note_both(yes: &Block, no: &Block, labels: &mut Items<u16>) -> Result<(), NoMemory>
     ensures { OnOk result (labels.new ≡ labels.old ++ (block_labels yes.now ++ block_labels no.now)) }
@@ -44,7 +43,7 @@ fn note_both(yes: &Block, no: &Block, labels: &mut Items<u16>) -> Result<(), NoM
     note_block(no, labels)
 }
 
-// The blocks of a choice.
+/// The blocks of a choice.
 #[cycle(note)]
 fn note_blocks(blocks: &[Block], labels: &mut Items<u16>) -> Result<(), NoMemory>
     ensures { OnOk result (labels.new ≡ labels.old ++ blocks_labels (blocks_of blocks.now)) }
@@ -65,7 +64,7 @@ fn note_block(block: &Block, labels: &mut Items<u16>) -> Result<(), NoMemory>
     Ok(())
 }
 
-// The labels of an operation.
+/// The labels of an operation.
 fn labels_of(alloc: Global, op: &Op) -> Result<Items<u16>, NoMemory>
     ensures { IfOk result (λ labels. labels ≡ block_labels op.now.body) }
 {

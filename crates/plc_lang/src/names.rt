@@ -2,7 +2,7 @@
 // empty name, so that whoever writes a text of a file asks nothing of it.
 ghost use Rattle.std.specs.Prelude.{◌≡◌, option_map};
 ghost use Rattle.plc_lang.specs.Numbering.{local_at};
-ghost use Rattle.plc_lang.specs.Names.{name_at, name_of, values_of, field_name, function_name, operation_name};
+ghost use Rattle.plc_lang.specs.Names.{name_at, name_of, field_name, function_name, operation_name};
 ghost use Rattle.plc_lang.specs.Names.{auxiliary_name, value_name, label_name, shared_name};
 ghost use Rattle.plc_lang.specs.Names.{pointer_name, data_name, local_name, variable_name};
 
@@ -21,7 +21,7 @@ pub fn name_at(file: &File, number: u16) -> &[u8]
     }
 }
 
-// The name whose number a declaration has.
+/// The name whose number a declaration has.
 fn name_of(file: &File, number: Option<u16>) -> &[u8]
     ensures { result.now ≡ name_of file.now number }
 {
@@ -83,7 +83,7 @@ pub fn shared_name(file: &File, i: u16) -> &[u8]
     name_of(file, file.shared.get(i as usize).copied())
 }
 
-// The number of the name of the local at a place.
+/// The number of the name of the local at a place.
 fn number_at(locals: &[Local], place: Option<usize>) -> Option<u16>
     ensures { result ≡ option_map (λ l. l.name) (local_at locals.now place) }
 {

@@ -1,7 +1,7 @@
 // A local has two numbers: primitives and environments count pointer locals and data locals apart,
 // clauses count all locals of an operation together. A value of an auxiliary field has two as well: in
 // its field, and over the file. Here one is turned into the other.
-ghost use Rattle.std.specs.Prelude.{◌≡◌, ◌+◌, ◌≤◌, ◌<◌, ◌^◌, length, List};
+ghost use Rattle.std.specs.Prelude.{◌≡◌, ◌+◌, ◌≤◌, ◌<◌, length, List};
 ghost use Rattle.std.specs.List.{sum_by};
 ghost use Rattle.plc_lang.specs.declared.syntax.Local.{Local as ALocal};
 ghost use Rattle.plc_lang.specs.declared.syntax.Ghost.{Ghost as AField};

@@ -25,7 +25,7 @@ fn next_line(line: u32, b: u8) -> u32
     if b == b'\n' { line + 1 } else { line }
 }
 
-// What is left after the space or the comment at the front.
+/// What is left after the space or the comment at the front.
 fn skip_one_blank<'a>(rest: Rest<'a>) -> Option<Rest<'a>>
     ensures none { IfNone result (IsAtToken rest.entry.bytes.now) }
     ensures reads { IfSome result (Reads rest.entry.at rest.entry.line rest.entry.bytes.now []) }
@@ -45,7 +45,7 @@ fn skip_one_blank<'a>(rest: Rest<'a>) -> Option<Rest<'a>>
     }
 }
 
-// What is left after all spaces and comments at the front.
+/// What is left after all spaces and comments at the front.
 fn skip_blank<'a>(rest: Rest<'a>) -> Rest<'a>
     ensures at_token { IsAtToken result.bytes.now }
     ensures reads { Reads rest.entry.at rest.entry.line rest.entry.bytes.now [] result }
@@ -58,7 +58,7 @@ fn skip_blank<'a>(rest: Rest<'a>) -> Rest<'a>
     left
 }
 
-// The token at the front, and what is left after it.
+/// The token at the front, and what is left after it.
 fn first_token<'a>(alloc: Global, rest: Rest<'a>) -> Result<(Token, Rest<'a>), LexFault>
     requires at_token { IsAtToken rest.bytes.now }
     requires some { 0 < length rest.bytes.now }

@@ -12,7 +12,7 @@ use crate::words::{keyword, symbol};
 use plc_base::{Items, MOST_NAME_BYTES};
 use std::alloc::Global;
 
-// The token of a run of letters and digits.
+/// The token of a run of letters and digits.
 fn name_or_word(alloc: Global, run: &[u8]) -> Result<TokenKind, LexFault>
     ensures ok { IfOk result (λ kind. kind ≡ spec.name_or_word run.now) }
     ensures err { IfErr result (λ e. e ≡ Memory) }
@@ -36,7 +36,7 @@ fn name_at(alloc: Global, bytes: &[u8], at: u32) -> Result<(TokenKind, usize), L
     Ok((kind, length))
 }
 
-// The number that digits write, or 2^32 where it is no less.
+/// The number that digits write, or 2^32 where it is no less.
 fn value(digits: &[u8]) -> u64
     ensures { result ≡ min (spec.value digits.now) (2 ^ 32) }
 {

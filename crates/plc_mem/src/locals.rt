@@ -3,7 +3,7 @@
 ghost use Rattle.std.specs.Prelude.{◌≡◌, ℕ, ◌<◌, get_or, set, map, length, nat_lt, if◌then◌else◌, IfOk};
 ghost use Rattle.std.specs.Prelude.{Some, None};
 ghost use Rattle.plc_lang.specs.Locals.{parameters_of};
-ghost use Rattle.plc_mem.specs.State.{State, Locals, null_cell, no_locals, locals_or_none, starting, with_locals, at};
+ghost use Rattle.plc_mem.specs.State.{State, Locals, null_cell, no_locals, locals_or_none, starting, with_locals};
 ghost use Rattle.plc_mem.specs.State.{value_at, number_of, cut_locals};
 
 use crate::cell::Cell;

@@ -5,7 +5,6 @@
 ghost use Rattle.std.specs.Prelude.{◌≡◌, ◌+◌, ◌<◌, ◌≤◌, length, IfOk};
 ghost use Rattle.plc_lang.specs.WellSorted.{is_claim};
 ghost use Rattle.plc_setting.specs.Points.{count_at};
-ghost use Rattle.plc_setting.specs.Setting.{below};
 ghost use Rattle.plc_setting.specs.Fit.{Fits};
 ghost use Rattle.plc_setting.specs.declared.obligations.Obligation.TheVariants as places;
 ghost use Rattle.plc_oblig.specs.Obligations.{op_id, step_id, point_id, obligations};

@@ -24,7 +24,7 @@ use plc_logic::{Clause, Literal};
 use plc_scope::{ParseFault, Scope, add_name};
 use std::alloc::Global;
 
-// A quantified name that differs from those before.
+/// A quantified name that differs from those before.
 fn add_bound(names: &mut Names, name: &[u8], at: u32) -> Result<(), ParseFault>
     requires { HasRoomForBound names.old 1 }
     ensures read { Gives (λ _. names.new) result
@@ -36,7 +36,7 @@ fn add_bound(names: &mut Names, name: &[u8], at: u32) -> Result<(), ParseFault>
     Ok(())
 }
 
-// A quantified name, which no name in reach has.
+/// A quantified name, which no name in reach has.
 #[tactic(auto, unfolding(crate::specs::Meaning::bound_with))]
 fn bind(
     scope: &Scope,
@@ -56,7 +56,7 @@ fn bind(
     }
 }
 
-// The second quantified name, if there is one.
+/// The second quantified name, if there is one.
 fn bind_second(
     scope: &Scope,
     locals: &[Local],
@@ -75,7 +75,7 @@ fn bind_second(
     }
 }
 
-// The quantified names of a clause.
+/// The quantified names of a clause.
 #[tactic(auto, unfolding(crate::specs::Meaning::bound_means))]
 fn quantified(
     alloc: Global,
@@ -99,8 +99,8 @@ fn quantified(
     }
 }
 
-// A literal with so many before it. The limit's place is the literal's first token, so a fault of that
-// token goes before it.
+/// A literal with so many before it. The limit's place is the literal's first token, so a fault of that
+/// token goes before it.
 fn counted(
     count: usize,
     at: u32,
@@ -117,7 +117,7 @@ fn counted(
     }
 }
 
-// A further literal, whose "or" stands at the place.
+/// A further literal, whose "or" stands at the place.
 #[tactic(auto, unfolding(crate::specs::Meaning::literal_step))]
 fn add_literal(
     reach: &Reach,
@@ -135,7 +135,7 @@ fn add_literal(
     Ok(())
 }
 
-// The literals after the first.
+/// The literals after the first.
 fn read_further_literals<'a>(
     reach: &Reach,
     literals: &mut Items<Literal>,
@@ -157,7 +157,7 @@ fn read_further_literals<'a>(
     Err(ParseFault::Syntax { at: rest.at })
 }
 
-// All literals of a clause.
+/// All literals of a clause.
 #[tactic(auto, unfolding(crate::specs::Reading::all_literals_in))]
 fn read_literals<'a>(alloc: Global, reach: &Reach, start: Rest<'a>) -> Parsed<'a, Items<Literal>>
     requires { length reach.now.locals.now ≤ most_locals }

@@ -1,6 +1,6 @@
 // The items of an outline, each with those before it. The limit's place is the first token of the item
 // past it.
-ghost use Rattle.std.specs.Prelude.{◌≡◌, ◌+◌, ◌<◌, ◌≤◌, IfOk, length};
+ghost use Rattle.std.specs.Prelude.{◌≡◌, ◌+◌, ◌<◌, IfOk};
 ghost use Rattle.plc_base.specs.Limits.{most};
 ghost use Rattle.plc_base.specs.declared.limits.What1.TheVariants as limits;
 ghost use Rattle.plc_scope.specs.Answers.{Gives, Within};
@@ -27,7 +27,7 @@ pub struct Parts {
     pub items: Items<Item>,
 }
 
-// An invariant, whose word stands at the place, from after it.
+/// An invariant, whose word stands at the place, from after it.
 #[tactic(auto, unfolding(crate::specs::Reading::invariant_in))]
 fn read_invariant<'a>(
     alloc: Global,
@@ -49,7 +49,7 @@ fn read_invariant<'a>(
     Ok(rest)
 }
 
-// An item over an operation, whose word stands at the place, from after its colon.
+/// An item over an operation, whose word stands at the place, from after its colon.
 #[tactic(auto, unfolding(crate::specs::Reading::over_in))]
 fn read_over<'a>(
     alloc: Global,
@@ -77,7 +77,7 @@ fn read_over<'a>(
     Ok(rest)
 }
 
-// An item at labels, whose word stands at the place, from after the name of the first label.
+/// An item at labels, whose word stands at the place, from after the name of the first label.
 #[tactic(auto, unfolding(crate::specs::Reading::at_in))]
 fn read_at<'a>(
     alloc: Global,
@@ -105,7 +105,7 @@ fn read_at<'a>(
     Ok(rest)
 }
 
-// An item, from after how it begins, which stands at the place.
+/// An item, from after how it begins, which stands at the place.
 #[tactic(auto, unfolding(crate::specs::Reading::item_in))]
 fn read_item<'a>(
     alloc: Global,

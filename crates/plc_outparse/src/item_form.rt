@@ -41,7 +41,7 @@ pub fn outline_head_at<'a>(rest: Rest<'a>) -> Option<Rest<'a>>
     word_symbol_at(rest, Keyword::Outline, Symbol::OpenBrace)
 }
 
-// A number and a semicolon.
+/// A number and a semicolon.
 fn number_line_at<'a>(rest: Rest<'a>) -> Option<(Option<u32>, Rest<'a>)>
     ensures { Reads number_line_of (λ x. x) (λ t. depth_size t - 1) rest.entry result }
 {

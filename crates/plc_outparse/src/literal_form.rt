@@ -15,7 +15,7 @@ use plc_forms::{
 };
 use plc_lex::{Keyword, Symbol, TokenKind};
 
-// A side of an equation.
+/// A side of an equation.
 fn side_at<'a>(rest: Rest<'a>) -> Option<(Side<'a>, Rest<'a>)>
     ensures { Reads term_of side_tree term_size rest.entry result }
 {
@@ -31,7 +31,7 @@ fn side_at<'a>(rest: Rest<'a>) -> Option<(Side<'a>, Rest<'a>)>
     }
 }
 
-// What stands between the sides, and whether it says that they are equal.
+/// What stands between the sides, and whether it says that they are equal.
 fn equality_at<'a>(rest: Rest<'a>) -> Option<(bool, Rest<'a>)>
     ensures { Reads equality_of (λ x. x) (λ _. 1) rest.entry result }
 {
@@ -42,7 +42,7 @@ fn equality_at<'a>(rest: Rest<'a>) -> Option<(bool, Rest<'a>)>
     }
 }
 
-// "retired", and a name in parentheses.
+/// "retired", and a name in parentheses.
 fn flag_at<'a>(rest: Rest<'a>) -> Option<(&'a [u8], Rest<'a>)>
     ensures { Reads flag_of (λ x. RetiredFlag x.now) (λ _. 4) rest.entry result }
 {
@@ -50,7 +50,7 @@ fn flag_at<'a>(rest: Rest<'a>) -> Option<(&'a [u8], Rest<'a>)>
     name_symbol_at(after, Symbol::CloseParen)
 }
 
-// An equation or an inequation.
+/// An equation or an inequation.
 fn equation_at<'a>(rest: Rest<'a>) -> Option<(LiteralForm<'a>, Rest<'a>)>
     ensures { Reads equation_of literal_tree literal_size rest.entry result }
 {
@@ -84,7 +84,7 @@ pub fn or_literal_at<'a>(rest: Rest<'a>) -> Option<(LiteralForm<'a>, Rest<'a>)>
     literal_at(word_at(rest, Keyword::Or)?)
 }
 
-// A comma and a name, which may be left out.
+/// A comma and a name, which may be left out.
 fn further_name_at<'a>(rest: Rest<'a>) -> (Option<&'a [u8]>, Rest<'a>)
     ensures read { further_name_of (kinds rest.entry.tokens.now)
         ≡ (text_or_none result.0, kinds result.1.tokens.now) }
@@ -96,7 +96,7 @@ fn further_name_at<'a>(rest: Rest<'a>) -> (Option<&'a [u8]>, Rest<'a>)
     }
 }
 
-// One or two names and a colon, from after "all".
+/// One or two names and a colon, from after "all".
 fn all_names_at<'a>(rest: Rest<'a>) -> Option<(Quantified<'a>, Rest<'a>)>
     ensures { Reads all_names_of quantified_tree (λ t. bound_size t - 1) rest.entry result }
 {

@@ -9,7 +9,6 @@ ghost use Rattle.plc_outparse.specs.Meaning.{depth_means};
 ghost use Rattle.plc_outparse.specs.Outlines.{Means, IsPartFault};
 ghost use Rattle.plc_outparse.specs.Reading.{depth_in, parts_in, outline_in};
 ghost use Rattle.plc_outparse.specs.Sizes.{depth_size};
-ghost use Rattle.plc_forms.specs.Views.{Reads};
 ghost use Rattle.plc_outparse.specs.Views.{read_with, kinds_left};
 
 use crate::context::Context;
@@ -24,7 +23,7 @@ use plc_scope::{ParseFault, Scope};
 use plc_syntax::outline_fault;
 use std::alloc::Global;
 
-// The depth, whose word stands at the place.
+/// The depth, whose word stands at the place.
 fn depth(at: u32, number: Option<u32>) -> Result<u8, ParseFault>
     requires { at + depth_size number < 2 ^ 32 }
     ensures { Gives (λ depth. depth) result (depth_means at number) }
@@ -47,7 +46,7 @@ fn read_depth<'a>(start: Rest<'a>) -> Parsed<'a, u8>
     }
 }
 
-// Depth and items, from after the opening brace, and the closing one.
+/// Depth and items, from after the opening brace, and the closing one.
 #[tactic(auto, unfolding(crate::specs::Reading::parts_in))]
 fn read_parts<'a>(alloc: Global, context: &Context, start: Rest<'a>) -> Parsed<'a, Outline>
     requires limits { IsWithinLimits context.now }
@@ -73,7 +72,7 @@ fn read_parts<'a>(alloc: Global, context: &Context, start: Rest<'a>) -> Parsed<'
     Ok((outline, after))
 }
 
-// The outline at the front, once it is known that one stands there.
+/// The outline at the front, once it is known that one stands there.
 #[tactic(auto, unfolding(crate::specs::Reading::outline_in))]
 fn outline_at<'a>(alloc: Global, scope: &Scope, ops: &[Op], start: Rest<'a>) -> Parsed<'a, Outline>
     requires labels { length scope.now.labels ≤ most limits.Labels }

@@ -61,7 +61,7 @@ fn kind_of_local(number: u16, pointer: bool) -> Kind
     }
 }
 
-// The local with a name's number, by its number among all locals.
+/// The local with a name's number, by its number among all locals.
 fn kind_inside(locals: &[Local], name: u16) -> Option<Kind>
     requires { length locals.now ≤ most_locals }
     ensures { result ≡ kind_inside 0 locals.now name }
@@ -74,7 +74,7 @@ fn kind_inside(locals: &[Local], name: u16) -> Option<Kind>
     None
 }
 
-// What the name with a number is, without the quantified names.
+/// What the name with a number is, without the quantified names.
 fn declared_at(scope: &Scope, locals: &[Local], number: u16) -> Option<Kind>
     requires { length locals.now ≤ most_locals }
     ensures { result ≡ declared_at scope.now locals.now (Some number) }

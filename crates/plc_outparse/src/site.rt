@@ -21,7 +21,7 @@ use plc_lang::{Local, Op, locals_of, op_of_label};
 use plc_scope::{ParseFault, Scope};
 use std::alloc::Global;
 
-// The operation with a name's number.
+/// The operation with a name's number.
 fn op_with_name(ops: &[Op], name: u16) -> Option<u16>
     requires { length ops.now ≤ most limits.Ops }
     ensures { result ≡ op_named ops.now (Some name) }
@@ -66,7 +66,7 @@ pub fn few_locals_of<'a>(context: &Context<'a>, op: usize) -> &'a [Local]
     locals_of(context.ops, op)
 }
 
-// The label with a name's number.
+/// The label with a name's number.
 fn label_with_name(labels: &[u16], name: u16) -> Option<u16>
     requires { length labels.now ≤ most limits.Labels }
     ensures { result ≡ label_named labels.now (Some name) }
@@ -89,7 +89,7 @@ fn label_named(scope: &Scope, name: &[u8]) -> Option<u16>
     }
 }
 
-// The label that a name at a place is, and the operation in which it stands; with the same faults.
+/// The label that a name at a place is, and the operation in which it stands; with the same faults.
 #[tactic(auto, unfolding(crate::specs::Meaning::label_at))]
 fn label_at(context: &Context, name: &[u8], at: u32) -> Result<(u16, usize), ParseFault>
     requires limits { IsWithinLimits context.now }
@@ -105,7 +105,7 @@ fn label_at(context: &Context, name: &[u8], at: u32) -> Result<(u16, usize), Par
     }
 }
 
-// A further label, whose comma stands at the place. `WrongSort` where it stands in another operation.
+/// A further label, whose comma stands at the place. `WrongSort` where it stands in another operation.
 #[tactic(auto, unfolding(crate::specs::Meaning::label_step))]
 fn add_label(
     context: &Context,
@@ -127,7 +127,7 @@ fn add_label(
     Ok(())
 }
 
-// The labels after the first.
+/// The labels after the first.
 fn read_further_labels<'a>(
     context: &Context,
     op: usize,

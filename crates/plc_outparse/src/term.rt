@@ -29,7 +29,7 @@ fn base_term(base: Base) -> Term
     }
 }
 
-// The term that a name alone is.
+/// The term that a name alone is.
 fn as_term(kind: Kind) -> Option<(Term, Sort)>
     ensures { result ≡ as_term kind }
 {
@@ -41,7 +41,7 @@ fn as_term(kind: Kind) -> Option<(Term, Sort)>
     }
 }
 
-// The term that a name is after a base and a dot.
+/// The term that a name is after a base and a dot.
 fn as_field(base: Base, kind: Kind) -> Option<(Term, Sort)>
     ensures { result ≡ as_field base kind }
 {
@@ -52,7 +52,7 @@ fn as_field(base: Base, kind: Kind) -> Option<(Term, Sort)>
     }
 }
 
-// A name alone.
+/// A name alone.
 fn name(reach: &Reach, at: u32, name: &[u8]) -> Result<(Term, Sort), ParseFault>
     requires { length reach.now.locals.now ≤ most_locals }
     ensures { Gives (λ r. (r.0, r.1)) result (place_means (reach_of reach.now) at (PlaceOf name.now None)) }
@@ -63,7 +63,7 @@ fn name(reach: &Reach, at: u32, name: &[u8]) -> Result<(Term, Sort), ParseFault>
     }
 }
 
-// A field of a base.
+/// A field of a base.
 fn field(reach: &Reach, at: u32, name: &[u8], field: &[u8]) -> Result<(Term, Sort), ParseFault>
     requires locals { length reach.now.locals.now ≤ most_locals }
     requires place { at + 3 < 2 ^ 32 }
@@ -88,7 +88,7 @@ fn place(reach: &Reach, at: u32, place: Place) -> Result<(Term, Sort), ParseFaul
     }
 }
 
-// The thread that is in the operation, which an invariant lacks.
+/// The thread that is in the operation, which an invariant lacks.
 fn me(in_operation: bool, at: u32) -> Result<(Term, Sort), ParseFault>
     ensures { Gives (λ r. (r.0, r.1)) result (me_means in_operation at) }
 {
@@ -99,7 +99,7 @@ fn me(in_operation: bool, at: u32) -> Result<(Term, Sort), ParseFault>
     }
 }
 
-// A term with its sort.
+/// A term with its sort.
 #[tactic(auto, unfolding(crate::specs::Meaning::term_means))]
 fn term(reach: &Reach, at: u32, side: Side) -> Result<(Term, Sort), ParseFault>
     requires locals { length reach.now.locals.now ≤ most_locals }
@@ -115,7 +115,7 @@ fn term(reach: &Reach, at: u32, side: Side) -> Result<(Term, Sort), ParseFault>
     }
 }
 
-// The token by which a term has its sort.
+/// The token by which a term has its sort.
 fn sort_place(at: u32, side: Side) -> u32
     requires { at + term_size (side_tree side) < 2 ^ 32 }
     ensures { result ≡ sort_place at (side_tree side.entry) }
@@ -126,7 +126,7 @@ fn sort_place(at: u32, side: Side) -> u32
     }
 }
 
-// The second term of an equation, which has the sort of the first.
+/// The second term of an equation, which has the sort of the first.
 #[tactic(auto, unfolding(crate::specs::Meaning::second_means))]
 fn second(reach: &Reach, sort: Sort, at: u32, side: Side) -> Result<Term, ParseFault>
     requires locals { length reach.now.locals.now ≤ most_locals }
@@ -143,7 +143,7 @@ fn second(reach: &Reach, sort: Sort, at: u32, side: Side) -> Result<Term, ParseF
     }
 }
 
-// Whether a node is retired.
+/// Whether a node is retired.
 fn flag(reach: &Reach, yes: bool, at: u32, name: &[u8]) -> Result<Literal, ParseFault>
     requires locals { length reach.now.locals.now ≤ most_locals }
     requires place { at + 4 < 2 ^ 32 }
@@ -172,7 +172,7 @@ pub fn literal(reach: &Reach, at: u32, form: LiteralForm) -> Result<Literal, Par
     }
 }
 
-// How many tokens a side has.
+/// How many tokens a side has.
 fn side_size(side: Side) -> u32
     ensures { result ≡ term_size (side_tree side.entry) }
 {

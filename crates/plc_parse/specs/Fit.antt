@@ -1,6 +1,5 @@
 -- What every unit keeps that was read, whatever its tokens.
 use Rattle.std.specs.Prelude.{◌≡◌, true, false, List}
-use Rattle.plc_base.specs.Functions.{is_retire}
 use Rattle.plc_lang.specs.declared.syntax.File.{File}
 use Rattle.plc_lang.specs.Fit.{FileFits, NamesWhatIsThere}
 use Rattle.plc_lang.specs.WellSorted.{FunctionIs, FileIsWellSorted}

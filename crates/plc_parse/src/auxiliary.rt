@@ -1,5 +1,5 @@
 // Auxiliary fields. One is a thread or one of its values, whose names are declared with it.
-ghost use Rattle.std.specs.Prelude.{◌≡◌, ◌+◌, ◌-◌, ◌*◌, ◌<◌, ◌≤◌, ◌^◌, IfOk, [], ◌∷◌, length};
+ghost use Rattle.std.specs.Prelude.{◌≡◌, ◌+◌, ◌-◌, ◌*◌, ◌<◌, ◌≤◌, IfOk, [], ◌∷◌};
 ghost use Rattle.plc_base.specs.Limits.{most};
 ghost use Rattle.plc_scope.specs.Answers.{Gives, HasRoom};
 ghost use Rattle.plc_parse.specs.Growth.{AddsNames, AddsNamesWithin, ghost_names};

@@ -2,7 +2,7 @@
 // closing one. Each statement takes a token, so fewer statements stand after and within one another
 // than there are tokens: `most` is that number, which ends the recursion. Blocks are nested 64 deep at
 // most, since the syntax was judged before.
-ghost use Rattle.std.specs.Prelude.{◌≡◌, ◌+◌, IfOk, length};
+ghost use Rattle.std.specs.Prelude.{IfOk, length};
 ghost use Rattle.plc_lang.specs.Views.{statement_of, blocks_of};
 ghost use Rattle.plc_scope.specs.Answers.{Gives};
 ghost use Rattle.plc_parse.specs.Growth.{ReadsBlock, CanReadBlock};

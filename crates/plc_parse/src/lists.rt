@@ -1,8 +1,7 @@
 // Declarations of one kind that follow one another. The loop is one for all kinds: it reads a
 // declaration while one begins, each with the number of those before it; the limit's place is the
 // first token of the declaration past it.
-ghost use Rattle.std.specs.Prelude.{◌≡◌, ◌+◌, ◌*◌, IfOk};
-ghost use Rattle.plc_syntax.specs.Syntax.{kinds};
+ghost use Rattle.std.specs.Prelude.{◌+◌, ◌*◌, IfOk};
 ghost use Rattle.plc_scope.specs.Answers.{Gives, HasRoom};
 ghost use Rattle.plc_parse.specs.Growth.{AddsNamesWithin};
 ghost use Rattle.plc_parse.specs.Reading.{listed_in};

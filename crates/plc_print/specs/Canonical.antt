@@ -7,7 +7,6 @@ use Rattle.plc_lang.specs.Locals.{is_parameter}
 use Rattle.plc_lang.specs.Names.{name_at, field_name, function_name, auxiliary_name, value_name, label_name}
 use Rattle.plc_lang.specs.Names.{pointer_name, data_name, variable_name}
 use Rattle.plc_lang.specs.declared.syntax.Var.{Var}
-use Rattle.plc_lang.specs.declared.syntax.Var.TheVariants as vars
 use Rattle.plc_lang.specs.declared.syntax.Num.{Num}
 use Rattle.plc_lang.specs.declared.syntax.Num.TheVariants as nums
 use Rattle.plc_lang.specs.declared.syntax.Arg.{Arg}

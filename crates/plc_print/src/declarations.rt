@@ -1,5 +1,5 @@
 // The parts of a file, each with its optional parts left out where they are empty.
-ghost use Rattle.std.specs.Prelude.{◌≡◌, ◌∷◌, [], OnOk, IfOk, filter, map, drop};
+ghost use Rattle.std.specs.Prelude.{◌≡◌, [], OnOk, IfOk, filter, map, drop};
 ghost use Rattle.plc_lang.specs.Locals.{is_parameter};
 ghost use Rattle.plc_syntax.specs.Trees.{Declares, Auxiliary, each_then, maybe_then, comma_name_then, field_then};
 ghost use Rattle.plc_syntax.specs.Trees.{struct_then, shared_then, function_then, watch_then, ghost_kind_then};

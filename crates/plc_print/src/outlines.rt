@@ -1,7 +1,7 @@
 // The outline, which stands after everything else: invariants go before the other items, and an
 // outline of depth 0 that says nothing is left out. An item at no label has no text, so that the empty
 // name stands for its label.
-ghost use Rattle.std.specs.Prelude.{◌≡◌, ◌∷◌, [], IfOk, OnOk, map};
+ghost use Rattle.std.specs.Prelude.{◌≡◌, [], IfOk, OnOk, map};
 ghost use Rattle.plc_logic.specs.declared.clause.Item.{Item as OutlineItem};
 ghost use Rattle.plc_logic.specs.declared.clause.Site.TheVariants as sites;
 ghost use Rattle.plc_lang.specs.Labels.{labels_by_op};

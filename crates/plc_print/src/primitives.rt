@@ -6,7 +6,7 @@ ghost use Rattle.plc_lex.specs.declared.token.TokenKind.TheVariants.{Word as Wor
 ghost use Rattle.plc_lang.specs.declared.syntax.Cond.TheVariants as conds;
 ghost use Rattle.plc_lex.specs.declared.token.Symbol.TheVariants as symbols;
 ghost use Rattle.plc_lex.specs.declared.token.Keyword.TheVariants as words;
-ghost use Rattle.plc_syntax.specs.Trees.{each_then, PlaceOf, RefreshName, RefreshField, SetField, SetName, PlaceValue};
+ghost use Rattle.plc_syntax.specs.Trees.{each_then, PlaceOf, RefreshName, RefreshField, SetName, PlaceValue};
 ghost use Rattle.plc_syntax.specs.Trees.{refresh_then, set_then, test_then, ghost_set_then, primitive_then};
 ghost use Rattle.plc_syntax.specs.Trees.{primitive_line_then, initial_then, condition_then, comparison_symbol};
 ghost use Rattle.plc_syntax.specs.Trees.{value_then, atom_then, name_or_null_then, ghost_value_then};

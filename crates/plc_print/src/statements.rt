@@ -1,6 +1,6 @@
 // Statements and the blocks in them. A block's lines are printed one after the other, so that only
 // blocks within one another deepen the recursion.
-ghost use Rattle.std.specs.Prelude.{◌≡◌, ◌∷◌, [], OnOk, map, option_map};
+ghost use Rattle.std.specs.Prelude.{◌∷◌, [], OnOk, map, option_map};
 ghost use Rattle.plc_lang.specs.Statements.{If};
 ghost use Rattle.plc_lang.specs.Views.{statement_of, blocks_of};
 ghost use Rattle.plc_lex.specs.declared.token.TokenKind.TheVariants.{Symbol as SymbolToken, Word as WordToken};
@@ -9,7 +9,7 @@ ghost use Rattle.plc_lex.specs.declared.token.Keyword.TheVariants as words;
 ghost use Rattle.plc_syntax.specs.Trees.{AtomicStatement, CallStatement, LabelStatement, LoopStatement, maybe_then};
 ghost use Rattle.plc_syntax.specs.Trees.{argument_then, during_then, statement_then, statements_then, else_then};
 ghost use Rattle.plc_syntax.specs.Trees.{or_then};
-ghost use Rattle.plc_print.specs.Canonical.{primitive_tree, condition_tree, argument_tree, else_block, choice_tree};
+ghost use Rattle.plc_print.specs.Canonical.{primitive_tree, argument_tree, else_block, choice_tree};
 ghost use Rattle.plc_print.specs.Canonical.{statement_tree, block_tree, blocks_tree};
 ghost use Rattle.plc_lang.specs.Names.{function_name, label_name};
 ghost use Rattle.plc_print.specs.Pieces.{Prints};

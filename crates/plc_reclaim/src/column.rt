@@ -4,7 +4,7 @@
 // waits, so a search from the first cell on would cost it the square of what waits, and one by halves costs
 // little more than the list. An event makes a new column, so that the old one stays whole where memory runs
 // out; moving the cells in place would leave it half moved.
-ghost use Rattle.std.specs.Prelude.{◌≡◌, ◌==◌, not, map, filter, IfOk};
+ghost use Rattle.std.specs.Prelude.{◌≡◌, ◌==◌, map, filter, IfOk};
 ghost use Rattle.plc_auto.specs.Table.{step, target_of};
 ghost use Rattle.plc_reclaim.specs.Tables.{moved, same_location, location_in};
 ghost use Rattle.plc_reclaim.specs.Tables.{fresh_column, cell_after, cells_after, with_cell, column_after};

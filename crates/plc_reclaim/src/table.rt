@@ -1,6 +1,6 @@
 // Where the threads stand, by the observer of one scheme: a column for each thread that called or
 // returned, and one for all others, which stand alike. So threads needn't be announced, and may be many.
-ghost use Rattle.std.specs.Prelude.{◌≡◌, ◌==◌, ◌++◌, not, map, filter, IfOk};
+ghost use Rattle.std.specs.Prelude.{◌≡◌, ◌==◌, ◌++◌, IfOk};
 ghost use Rattle.plc_auto.specs.Table.{target_of};
 ghost use Rattle.plc_reclaim.specs.Rows.{is_kept_at};
 ghost use Rattle.plc_reclaim.specs.Tables.{is_thread, column_of};

@@ -2,7 +2,6 @@
 // that they serve. Which schemes these are is all in which they differ. A pick that finds all that waits
 // kept has asked for each address in each column, so it is remembered until the next event.
 ghost use Rattle.std.specs.Prelude.{◌≡◌, [], not, map, find, OnOk, OnErr, IfOk};
-ghost use Rattle.std.specs.List.{list_any};
 ghost use Rattle.plc_reclaim.specs.Tables.{fresh_table, keeps, table_after};
 ghost use Rattle.plc_reclaim.specs.Watch.{fresh_watch, watch_after, is_kept, first_free};
 

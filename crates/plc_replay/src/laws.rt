@@ -1,6 +1,6 @@
 // The law that makes the definition a function, so that an answer is the one answer, and the law that
 // rules one end out.
-ghost use Rattle.std.specs.Prelude.{◌≡◌, List};
+ghost use Rattle.std.specs.Prelude.{List};
 ghost use Rattle.plc_auto.specs.declared.observer.Observer.{Observer};
 ghost use Rattle.plc_flow.specs.declared.flow.Flow.{Flow};
 ghost use Rattle.plc_reclaim.specs.declared.scheme.Scheme.{Scheme};

@@ -1,6 +1,6 @@
 // The primitives of a step in order. They run on a memory that may be thrown away, so that a step
 // that is blocked, or is a race, has changed nothing.
-ghost use Rattle.std.specs.Prelude.{◌≡◌, ℕ, ◌<◌, get_or, length, IfOk, OnOk, Some, None, []};
+ghost use Rattle.std.specs.Prelude.{◌≡◌, ◌<◌, get_or, length, IfOk, OnOk, Some, None, []};
 ghost use Rattle.plc_lang.specs.Shape.{PrimitiveIn, PrimitivesIn};
 ghost use Rattle.plc_mem.specs.State.{Locals, with_locals};
 ghost use Rattle.plc_mem.specs.Outcomes.{outcome_of, next_of, address_or_null};

@@ -4,7 +4,7 @@ ghost use Rattle.plc_sample.specs.Sample.{numbered_byte, numbered, copies};
 
 use std::alloc::{AllocError, Global};
 
-// A byte of a part.
+/// A byte of a part.
 fn push_byte(alloc: Global, out: &mut Vec<u8>, number: u8, byte: u8) -> Result<(), AllocError>
     ensures { OnOk result (out.new.items ≡ out.old.items ++ numbered_byte number byte) }
 {
@@ -17,7 +17,7 @@ fn push_byte(alloc: Global, out: &mut Vec<u8>, number: u8, byte: u8) -> Result<(
     }
 }
 
-// The copy of a part with this number.
+/// The copy of a part with this number.
 fn push_numbered(alloc: Global, out: &mut Vec<u8>, number: u8, part: &str) -> Result<(), AllocError>
     ensures { OnOk result (out.new.items ≡ out.old.items ++ numbered number part.now) }
 {

@@ -2,7 +2,7 @@
 ghost use Rattle.std.specs.Prelude.{◌≡◌, ◌≤◌, ◌+◌, ◌++◌, IfOk, OnOk, length};
 ghost use Rattle.plc_base.specs.Limits.{largest_file};
 ghost use Rattle.plc_sample.specs.Numbers.{most_copies, sample_lines};
-ghost use Rattle.plc_sample.specs.Sample.{whole_text, line_after, kept_byte, without_from, sample_text};
+ghost use Rattle.plc_sample.specs.Sample.{whole_text, kept_byte, without_from, sample_text};
 ghost use Rattle.plc_sample.specs.Sample.{line_feeds, lines_out};
 
 use crate::numbering::push_copies;
@@ -33,7 +33,7 @@ fn whole_text(alloc: Global, copies: u8) -> Result<Vec<u8>, AllocError>
     Ok(out)
 }
 
-// A byte of a line, where that isn't the line that is left out.
+/// A byte of a line, where that isn't the line that is left out.
 fn push_kept(out: &mut Vec<u8>, without: usize, line: usize, byte: u8) -> Result<(), AllocError>
     ensures { OnOk result (out.new.items ≡ out.old.items ++ kept_byte without line byte) }
 {

@@ -31,7 +31,7 @@ fn is_all_in_name(word: &[u8]) -> bool
     word.iter().all(|b| in_name(*b))
 }
 
-// Whether a word is spelled as a name is: a keyword may be one here.
+/// Whether a word is spelled as a name is: a keyword may be one here.
 fn is_name(word: &[u8]) -> bool
     ensures { result ≡ is_name word.now }
 {
@@ -62,7 +62,7 @@ fn read_start(alloc: Global, threads: u32, words: Words) -> Result<Option<Entry>
     Ok(Some(Entry::Start { t, op, args }))
 }
 
-// The address of a step: none, or the last word.
+/// The address of a step: none, or the last word.
 fn address(words: Words) -> Option<Option<u32>>
     ensures { IsAddress (words_left words.entry) result }
 {
@@ -105,7 +105,7 @@ fn read_tick(words: Words) -> Option<Entry>
     }
 }
 
-// The entry that has these words.
+/// The entry that has these words.
 fn read_words(alloc: Global, threads: u32, words: Words) -> Result<Option<Entry>, SchedFault>
     requires { 1 ≤ threads }
     ensures ok { IfOk result (IsEntryOf threads (words_left words.entry)) }

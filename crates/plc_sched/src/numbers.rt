@@ -1,6 +1,6 @@
 // Numbers within a range, as words. Only the one spelling that printing gives is read: the library
 // also reads a plus and leading zeros, which are refused here.
-ghost use Rattle.std.specs.Prelude.{◌≡◌, ◌≤◌, ◌∷◌, [], length, All, IfOk, IfErr};
+ghost use Rattle.std.specs.Prelude.{◌≡◌, IfOk, IfErr};
 ghost use Rattle.plc_sched.specs.Numbers.{is_plain, IsNumberOf, IsNextNumber, IsLastNumber, AreNumbers};
 ghost use Rattle.plc_sched.specs.Words.{words_left};
 ghost use Rattle.plc_sched.specs.declared.fault.SchedFault.TheVariants.{Memory};
@@ -10,7 +10,7 @@ use crate::words::{Words, next_word};
 use plc_base::{Items, What1};
 use std::alloc::Global;
 
-// Whether printing a number could give these bytes, as far as the first of them tells.
+/// Whether printing a number could give these bytes, as far as the first of them tells.
 fn is_plain(word: &[u8]) -> bool
     ensures { result ≡ is_plain word.now }
 {

@@ -1,6 +1,6 @@
 // Lines are counted first, no further than their limit, and then read one by one, so that the number of
 // a bad line is known from the entries before it.
-ghost use Rattle.std.specs.Prelude.{◌≡◌, ◌≢◌, ◌<◌, ◌≤◌, ◌∷◌};
+ghost use Rattle.std.specs.Prelude.{◌≡◌, ◌≢◌, ◌<◌, ◌∷◌};
 ghost use Rattle.std.specs.Prelude.{length, IfOk, IfErr, IfSome, IfNone, OnOk, MatchResult};
 ghost use Rattle.plc_sched.specs.declared.schedule.Schedule.{Schedule};
 ghost use Rattle.plc_sched.specs.declared.fault.SchedFault.{SchedFault};
@@ -22,7 +22,7 @@ use std::alloc::Global;
 
 const THREADS: &[u8] = b"threads";
 
-// The number of threads, which the first line spells.
+/// The number of threads, which the first line spells.
 fn head_of(line: &[u8]) -> Option<u32>
     ensures { IsHead line.now result }
 {
@@ -34,7 +34,7 @@ fn head_of(line: &[u8]) -> Option<u32>
     }
 }
 
-// The number of threads and what stands after the first line.
+/// The number of threads and what stands after the first line.
 fn read_head<'a>(bytes: &'a [u8]) -> Option<(u32, &'a [u8])>
     ensures none { IfNone result (HasNoHead (lines_of bytes.now)) }
     ensures fits { IfSome result (λ read. ThreadsFit read.0) }
@@ -45,8 +45,8 @@ fn read_head<'a>(bytes: &'a [u8]) -> Option<(u32, &'a [u8])>
     Some((threads, after))
 }
 
-// The entries that all lines spell, or the number of the first line that spells none. The head
-// stands before them.
+/// The entries that all lines spell, or the number of the first line that spells none. The head
+/// stands before them.
 fn read_entries(alloc: Global, threads: u32, bytes: &[u8]) -> Result<Items<Entry>, SchedFault>
     requires threads { ThreadsFit threads }
     requires count { length (lines_of bytes.now) < line_limit }

@@ -12,7 +12,7 @@ pub struct Words<'a> {
     pub left: Option<&'a [u8]>,
 }
 
-// How many bytes stand before the first mark.
+/// How many bytes stand before the first mark.
 fn piece_length(bytes: &[u8], mark: u8) -> usize
     ensures value { result ≡ prefix_len (λ b. not (b == mark)) bytes.now }
     ensures within { result ≤ length bytes.now }

@@ -17,7 +17,7 @@ use plc_base::FieldId;
 use plc_forms::{Atom, Place, Set, Value};
 use plc_lang::{Num, Prim, Var};
 
-// What is put into a pointer variable.
+/// What is put into a pointer variable.
 fn pointer_value(scope: &Scope, p: Var, at: u32, value: Value) -> Result<Prim, ParseFault>
     requires locals { length scope.now.locals ≤ most_locals }
     requires place { at + value_size (value_tree value) < 2 ^ 32 }
@@ -40,7 +40,7 @@ fn pointer_value(scope: &Scope, p: Var, at: u32, value: Value) -> Result<Prim, P
     }
 }
 
-// What is put into a data local.
+/// What is put into a data local.
 fn data_value(scope: &Scope, x: u16, at: u32, value: Value) -> Result<Prim, ParseFault>
     requires locals { length scope.now.locals ≤ most_locals }
     requires place { at + value_size (value_tree value) < 2 ^ 32 }
@@ -67,7 +67,7 @@ fn data_value(scope: &Scope, x: u16, at: u32, value: Value) -> Result<Prim, Pars
     }
 }
 
-// The left side, which stands at the second place, is any variable.
+/// The left side, which stands at the second place, is any variable.
 fn value_into(
     scope: &Scope,
     at: u32,
@@ -86,7 +86,7 @@ fn value_into(
     }
 }
 
-// What is put into a pointer field.
+/// What is put into a pointer field.
 fn pointer_atom(scope: &Scope, p: Var, f: FieldId, at: u32, atom: Atom) -> Result<Prim, ParseFault>
     requires { length scope.now.locals ≤ most_locals }
     ensures { Gives (λ k. k) result (pointer_atom scope.now p f at (atom_tree atom.entry)) }
@@ -101,7 +101,7 @@ fn pointer_atom(scope: &Scope, p: Var, f: FieldId, at: u32, atom: Atom) -> Resul
     }
 }
 
-// What is put into a data field.
+/// What is put into a data field.
 fn data_atom(scope: &Scope, p: Var, f: FieldId, at: u32, atom: Atom) -> Result<Prim, ParseFault>
     requires { length scope.now.locals ≤ most_locals }
     ensures { Gives (λ k. k) result (data_atom scope.now p f at (atom_tree atom.entry)) }
@@ -110,7 +110,7 @@ fn data_atom(scope: &Scope, p: Var, f: FieldId, at: u32, atom: Atom) -> Result<P
     Ok(Prim::DataStore { p, f, e })
 }
 
-// The field, which stands at the second place, is a field.
+/// The field, which stands at the second place, is a field.
 fn atom_into(
     scope: &Scope,
     p: Var,

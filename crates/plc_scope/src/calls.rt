@@ -23,7 +23,7 @@ pub struct Called {
     pub active: bool,
 }
 
-// The argument of a function that takes a pointer.
+/// The argument of a function that takes a pointer.
 fn pointer_argument(
     scope: &Scope,
     func: FuncId,

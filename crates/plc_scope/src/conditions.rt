@@ -2,9 +2,9 @@
 // before the right side.
 ghost use Rattle.std.specs.Prelude.{◌+◌, ◌<◌, ◌≤◌, ◌^◌, length, ◌≡◌};
 ghost use Rattle.plc_forms.specs.Sizes.{test_size, condition_size};
-ghost use Rattle.plc_forms.specs.Views.{text_or_none, atom_tree, relation_tree, test_tree, cas_tree, condition_tree};
+ghost use Rattle.plc_forms.specs.Views.{text_or_none, atom_tree, relation_tree, test_tree, condition_tree};
 ghost use Rattle.plc_scope.specs.Answers.{Gives};
-ghost use Rattle.plc_scope.specs.Primitives.{pointer_equality, pointer_test, relation, data_test, test_of};
+ghost use Rattle.plc_scope.specs.Primitives.{pointer_equality, pointer_test, relation, data_test};
 ghost use Rattle.plc_scope.specs.Primitives.{test_means, pointer_or_null, cas_means, condition_means};
 ghost use Rattle.plc_scope.specs.Scope.{most_locals};
 
@@ -16,7 +16,7 @@ use crate::scope::Scope;
 use plc_forms::{Atom, Cas, Condition, Relation, Test};
 use plc_lang::{Cond, Prim, Rel, Var};
 
-// A test of equality of pointers, or its opposite.
+/// A test of equality of pointers, or its opposite.
 fn pointer_equality(
     scope: &Scope,
     p: Var,
@@ -42,7 +42,7 @@ fn pointer_equality(
     }
 }
 
-// Pointers have no order; the relation stands at the place.
+/// Pointers have no order; the relation stands at the place.
 fn pointer_test(
     scope: &Scope,
     p: Var,
@@ -72,7 +72,7 @@ fn data_relation(form: Relation) -> Rel
     }
 }
 
-// What a data local is compared with.
+/// What a data local is compared with.
 fn data_test(scope: &Scope, x: u16, rel: Rel, at: u32, atom: Atom) -> Result<Prim, ParseFault>
     requires { length scope.now.locals ≤ most_locals }
     ensures { Gives (λ k. k) result (data_test scope.now x rel at (atom_tree atom.entry)) }
@@ -96,7 +96,7 @@ pub fn test(scope: &Scope, at: u32, test: Test) -> Result<Prim, ParseFault>
     }
 }
 
-// A pointer variable, or none for null.
+/// A pointer variable, or none for null.
 fn pointer_or_null(scope: &Scope, at: u32, name: Option<&[u8]>) -> Result<Option<Var>, ParseFault>
     requires { length scope.now.locals ≤ most_locals }
     ensures { Gives (λ v. v) result (pointer_or_null scope.now at (text_or_none name.entry)) }
@@ -107,7 +107,7 @@ fn pointer_or_null(scope: &Scope, at: u32, name: Option<&[u8]>) -> Result<Option
     }
 }
 
-// The three pointers of a cas, two tokens apart.
+/// The three pointers of a cas, two tokens apart.
 fn cas(scope: &Scope, at: u32, cas: Cas) -> Result<Cond, ParseFault>
     requires locals { length scope.now.locals ≤ most_locals }
     requires place { at + 4 < 2 ^ 32 }

@@ -28,7 +28,7 @@ fn role_outside(binding: Binding) -> Option<Role>
     }
 }
 
-// The local with a name's number; pointers and data are counted apart.
+/// The local with a name's number; pointers and data are counted apart.
 fn role_inside(locals: &[Local], number: u16) -> Option<Role>
     requires { length locals.now < 2 ^ 16 }
     ensures { result ≡ role_inside 0 0 locals.now number }

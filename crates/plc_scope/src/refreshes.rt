@@ -13,7 +13,7 @@ use crate::scope::Scope;
 use plc_forms::{GhostSet, GhostValue, Place, Refresh};
 use plc_lang::{GhostVal, Prim};
 
-// What a pointer local is refreshed from.
+/// What a pointer local is refreshed from.
 fn refresh_from(scope: &Scope, p: u16, at: u32, place: Place) -> Result<Prim, ParseFault>
     requires locals { length scope.now.locals ≤ most_locals }
     requires place { at + place_size (place_tree place) < 2 ^ 32 }
@@ -58,8 +58,8 @@ pub fn refresh(scope: &Scope, at: u32, refresh: Refresh) -> Result<Prim, ParseFa
     }
 }
 
-// A value is that of an enumerated field; the acting thread, which `init` lacks, or none goes into a
-// field that holds a thread.
+/// A value is that of an enumerated field; the acting thread, which `init` lacks, or none goes into a
+/// field that holds a thread.
 fn ghost_value(
     scope: &Scope,
     in_init: bool,

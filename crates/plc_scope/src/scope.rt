@@ -113,7 +113,7 @@ impl Scope {
         }
     }
 
-    // Whether a name that is there may be a local's: it is one of another operation, and nothing else.
+    /// Whether a name that is there may be a local's: it is one of another operation, and nothing else.
     fn may_name_local(&self, number: u16) -> bool
         ensures { result ≡ may_name_local (slice_get self.now.bindings number) (has_local self.now.locals number) }
     {
@@ -123,7 +123,7 @@ impl Scope {
         }
     }
 
-    // The number of a name that a local of another operation has, or none where the name is new.
+    /// The number of a name that a local of another operation has, or none where the name is new.
     fn reused(&self, name: &[u8], at: u32) -> Result<Option<u16>, ParseFault>
         ensures { Gives (λ number. number) result (reused (place_of name.now self.now.names.names) self.now at) }
     {
@@ -147,7 +147,7 @@ impl Scope {
         Ok(())
     }
 
-    // A local with a new name.
+    /// A local with a new name.
     fn add_new_local(&mut self, name: &[u8], pointer: bool, param: bool) -> Result<(), ParseFault>
         requires room { HasRoom self.old 1 }
         requires new { place_of name.now self.old.names.names ≡ None }

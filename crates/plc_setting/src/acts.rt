@@ -132,7 +132,7 @@ fn test(left: Symbol, right: Symbol, equal: bool) -> Act
     Act::Test { left, right, equal }
 }
 
-// A test of data: an order says nothing in ground sets.
+/// A test of data: an order says nothing in ground sets.
 fn data_test(rel: Rel, left: Symbol, right: Symbol) -> Act
     ensures { result ≡ data_test rel left right }
 {
@@ -143,7 +143,7 @@ fn data_test(rel: Rel, left: Symbol, right: Symbol) -> Act
     }
 }
 
-// A call retires its argument, where it is one of `retire`.
+/// A call retires its argument, where it is one of `retire`.
 fn call(variables: &Variables, retires: bool, arg: Arg) -> Act
     ensures { result ≡ call_act variables.now retires arg }
 {

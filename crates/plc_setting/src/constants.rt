@@ -40,7 +40,7 @@ fn push_numbers(list: &mut Items<Symbol>, numbers: &BTreeSet<u32>) -> Result<(),
     Ok(())
 }
 
-// The locals of both threads.
+/// The locals of both threads.
 fn push_variables(list: &mut Items<Symbol>, s: &Setting) -> Result<(), NoMemory>
     ensures { OnOk result (list.new ≡ list.old ++ (s.now.mine.pointers ++ (s.now.mine.values
         ++ (s.now.theirs.pointers ++ s.now.theirs.values)))) }
@@ -51,7 +51,7 @@ fn push_variables(list: &mut Items<Symbol>, s: &Setting) -> Result<(), NoMemory>
     push_all(list, s.theirs.values.as_slice())
 }
 
-// What `retired` is for a retired node, and the threads.
+/// What `retired` is for a retired node, and the threads.
 fn push_threads(list: &mut Items<Symbol>, owned: bool) -> Result<(), NoMemory>
     ensures { OnOk result (list.new
         ≡ list.old ++ (symbols.Yes ∷ symbols.Nobody ∷ symbols.Me ∷ if_owned owned)) }

@@ -1,5 +1,5 @@
 // The nodes of a ground set: constants and, at depth 1, their pointer fields in the state before.
-ghost use Rattle.std.specs.Prelude.{◌≡◌, ◌≤◌, ◌++◌, map, flat_map, OnOk, IfOk};
+ghost use Rattle.std.specs.Prelude.{◌≡◌, ◌++◌, map, OnOk, IfOk};
 ghost use Rattle.plc_symbolic.specs.declared.symbolic.NodeTerm.TheVariants as nodes;
 ghost use Rattle.plc_setting.specs.Setting.{node_constants, plain_constants, fields_of, targets_of, nodes_of};
 
@@ -54,7 +54,7 @@ fn push_constants(list: &mut Items<NodeTerm>, symbols: &[Symbol]) -> Result<(), 
     Ok(())
 }
 
-// The pointer fields of a node.
+/// The pointer fields of a node.
 fn push_fields_of(
     list: &mut Items<NodeTerm>,
     of: Symbol,
@@ -68,7 +68,7 @@ fn push_fields_of(
     Ok(())
 }
 
-// Those of nodes, node by node.
+/// Those of nodes, node by node.
 fn push_fields(
     list: &mut Items<NodeTerm>,
     symbols: &[Symbol],

@@ -89,7 +89,7 @@ pub fn has_point(gate: &Gate, p: u16) -> bool
     gate.first <= p && p < gate.after
 }
 
-// The locals of the operation that has the point.
+/// The locals of the operation that has the point.
 fn point_locals(flow: &Flow, point: PointId) -> &[Local]
     ensures { result.now ≡ point_locals flow.now point.0 }
 {
@@ -164,7 +164,7 @@ pub fn invariants_before<'a>(outline: &'a Outline, o: &Obligation) -> &'a [Claus
     }
 }
 
-// An invariant, or, where the number is past theirs, a clause of the step's last point.
+/// An invariant, or, where the number is past theirs, a clause of the step's last point.
 fn own_clause<'a>(
     flow: &Flow,
     outline: &'a Outline,

@@ -7,7 +7,7 @@ use plc_base::PointId;
 use plc_flow::{Flow, Gate};
 use plc_logic::{Clause, Item, Outline, Site};
 
-// Whether the point is one of the operation, other than its exit.
+/// Whether the point is one of the operation, other than its exit.
 fn is_over(gate: Option<&Gate>, p: u16) -> bool
     ensures { result ≡ is_over (option_copied gate.entry) p }
 {
@@ -17,7 +17,7 @@ fn is_over(gate: Option<&Gate>, p: u16) -> bool
     }
 }
 
-// Whether the label names the point.
+/// Whether the label names the point.
 fn names_point(labels: &[PointId], p: u16, label: u16) -> bool
     ensures { result ≡ names_point labels.now p label }
 {
@@ -27,7 +27,7 @@ fn names_point(labels: &[PointId], p: u16, label: u16) -> bool
     }
 }
 
-// Whether one of the labels names the point.
+/// Whether one of the labels names the point.
 fn is_named(labels: &[PointId], p: u16, named: &[u16]) -> bool
     ensures { result ≡ list_any (names_point labels.now p) named.now }
 {

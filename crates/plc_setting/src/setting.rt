@@ -1,5 +1,5 @@
 // What every item of a ground set rests on: the variables of the threads, what is executed, and the nodes.
-ghost use Rattle.std.specs.Prelude.{◌≡◌, ◌≤◌, ◌++◌, length, map, IfOk, option_copied};
+ghost use Rattle.std.specs.Prelude.{◌≡◌, ◌≤◌, length, map, IfOk, option_copied};
 ghost use Rattle.std.specs.List.{list_any};
 ghost use Rattle.plc_base.specs.Limits.{most};
 ghost use Rattle.plc_base.specs.declared.limits.What1.TheVariants as limits;
@@ -77,7 +77,7 @@ fn is_kind(local: &Local, pointers: bool) -> bool
     }
 }
 
-// The constants of the locals of a kind, by their numbers among all locals.
+/// The constants of the locals of a kind, by their numbers among all locals.
 fn local_symbols(
     alloc: Global,
     locals: &[Local],
@@ -136,7 +136,7 @@ pub fn bound_of(clause: Option<&Clause>) -> u16
     }
 }
 
-// The pointer variables of all threads that there are.
+/// The pointer variables of all threads that there are.
 fn pointer_variables(
     alloc: Global,
     shared: usize,
@@ -153,7 +153,7 @@ fn pointer_variables(
     Ok(list)
 }
 
-// The nodes that are read.
+/// The nodes that are read.
 fn loaded_pointers(alloc: Global, acts: &[Act]) -> Result<Items<Symbol>, NoMemory>
     requires { length acts.now ≤ most_step_primitives }
     ensures { IfOk result (λ list. list ≡ pointer_loads_from 0 acts.now) }

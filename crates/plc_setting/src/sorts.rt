@@ -69,7 +69,7 @@ fn local_sort(locals: &[Local], place: u16) -> Sort
     }
 }
 
-// The sort of what is read, by its number among all that is read.
+/// The sort of what is read, by its number among all that is read.
 fn load_sort(acts: &[Act], k: u16) -> Sort
     ensures { result ≡ load_sort (slice_get (loads_of acts.now) k) }
 {

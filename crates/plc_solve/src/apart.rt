@@ -2,8 +2,7 @@
 // be such, and any two of one group must differ. So one pass over a group is enough, with a table that
 // has for a class the constant that was seen there last. The table isn't cleared: what it has of
 // another pass or another group is told from a constant of this one by a look at both terms.
-ghost use Rattle.std.specs.Prelude.{◌≡◌, ◌<◌, ℕ, IsTrue, IfSome, IfNone, All, Contains, false, length};
-ghost use Rattle.std.specs.Prelude.{slice_index};
+ghost use Rattle.std.specs.Prelude.{◌≡◌, ◌<◌, ℕ, IsTrue, IfSome, IfNone, Contains, length};
 ghost use Rattle.plc_ground.specs.Fit.{IsWellFormed};
 ghost use Rattle.plc_ground.specs.Classes.{AreApart, IsNoLater};
 ghost use Rattle.plc_solve.specs.Search.{AreGroups, IsGroup, IsConflict};

@@ -16,7 +16,7 @@ ghost use Rattle.std.specs.Prelude.{◌≡◌, ◌<◌, ◌⊎◌, ℕ, IsTrue, 
 ghost use Rattle.std.specs.Prelude.{Any, false, length, slice_index};
 ghost use Rattle.plc_ground.specs.Fit.{IsWellFormed, IsInRange};
 ghost use Rattle.plc_ground.specs.Classes.{IsNoLater};
-ghost use Rattle.plc_ground.specs.Model.{HoldsIn, FailsIn, literals};
+ghost use Rattle.plc_ground.specs.Model.{HoldsIn, literals};
 ghost use Rattle.plc_solve.specs.Search.{IsSurvey, IsFalse, AreFalse, AreInside};
 ghost use Rattle.plc_ground.specs.declared.terms.Lit.{Lit};
 

@@ -2,7 +2,7 @@
 // false under it and no two constants come together that must differ, it is a model. Else a false
 // clause is split. The stack of splits is a list, so no depth is too great. A split above the
 // present branch has a true equation on it, so a clause that is false wasn't split: none is twice.
-ghost use Rattle.std.specs.Prelude.{◌≡◌, ◌↔◌, ◌<◌, ◌∷◌, [], IfOk, length, reverse, vec_len};
+ghost use Rattle.std.specs.Prelude.{◌≡◌, ◌↔◌, ◌<◌, ◌∷◌, [], IfOk, length};
 ghost use Rattle.plc_ground.specs.Fit.{IsWellFormed};
 ghost use Rattle.plc_ground.specs.Trees.{HasModel};
 ghost use Rattle.plc_solve.specs.Search.{IsSurvey, Stands};

@@ -2,10 +2,9 @@
 // the constants that differ from others, in groups, and the inequations that stand alone in a clause.
 // Any two constants of one group must differ, and of two groups never, so two that must differ are
 // looked for within a group.
-ghost use Rattle.std.specs.Prelude.{◌≡◌, ◌<◌, ◌≢◌, ◌^◌, ◌↔◌, ℕ, IsTrue, IfOk, OnOk, All};
+ghost use Rattle.std.specs.Prelude.{◌<◌, ◌↔◌, ℕ, IsTrue, IfOk, OnOk, All};
 ghost use Rattle.std.specs.Prelude.{Contains, length};
 ghost use Rattle.plc_ground.specs.Fit.{IsWellFormed, IsInRange};
-ghost use Rattle.plc_ground.specs.Classes.{IsTable};
 ghost use Rattle.plc_solve.specs.Search.{IsDistinguishedAt, IsSurvey, IsOfGroup, IsGroupOf, IsGroup, IsGrouped};
 ghost use Rattle.plc_solve.specs.Search.{AreGroups};
 

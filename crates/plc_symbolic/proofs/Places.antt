@@ -9,7 +9,8 @@ use Rattle.std.proofs.lemmas.List.Folds.{position_or_len_push, Any-from_list_any
 use Rattle.plc_symbolic.specs.declared.symbolic.SymbolicTerm.{SymbolicTerm}
 use Rattle.plc_symbolic.specs.declared.symbolic.SymbolicTerm.TheVariants.{Constant, Application}
 use Rattle.plc_symbolic.specs.Terms.{term_of}
-use Rattle.plc_symbolic.specs.Same.{same_term, same_term_true, same_term_refl}
+use Rattle.plc_symbolic.specs.Equality.{same_term_true, same_term_refl}
+use Rattle.plc_symbolic.specs.Same.{same_term}
 use Rattle.plc_symbolic.specs.Numbering.{put, place, IsListed}
 use Rattle.plc_symbolic.specs.Tidy.{IsTidy, HasArgument, Grows}
 

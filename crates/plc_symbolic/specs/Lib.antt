@@ -5,3 +5,5 @@ pub mod Same
 pub mod Numbering
 pub mod Tidy
 pub mod Drafts
+-- lemmas that an impl of the code cites
+pub mod Equality

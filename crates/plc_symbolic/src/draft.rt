@@ -73,7 +73,7 @@ impl Draft {
         Ok(())
     }
 
-    // An empty list, over memory that is spare where there is some.
+    /// An empty list, over memory that is spare where there is some.
     fn empty_list(&mut self) -> Items<Lit>
         ensures kept { self.new ≡ self.old }
         ensures empty { result ≡ [] }

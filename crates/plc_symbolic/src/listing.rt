@@ -37,7 +37,7 @@ impl Model for Listing {
     ghost invariant = { λ a. IsTidy a.terms.keys };
 }
 
-// A place as ground sets have it. More than 2^32 terms count as memory that runs out.
+/// A place as ground sets have it. More than 2^32 terms count as memory that runs out.
 fn short(at: usize) -> Result<u32, NoMemory>
     ensures { IfOk result (λ n. n ≡ at) }
 {
@@ -79,7 +79,7 @@ impl Listing {
         self.terms.get_index(k).copied()
     }
 
-    // The place of a term, if it stands where a term of its key was found last.
+    /// The place of a term, if it stands where a term of its key was found last.
     fn recall(&self, term: SymbolicTerm) -> Option<u32>
         ensures place { IfSome result (λ n. IsListed self.now term × (n ≡ place self.now term)) }
         ensures tidy { IsTidy self.now }
@@ -89,7 +89,7 @@ impl Listing {
         if *listed == term { Some(at) } else { None }
     }
 
-    // Keeps where a term was found.
+    /// Keeps where a term was found.
     fn keep(&mut self, term: SymbolicTerm, at: u32) -> Result<u32, NoMemory>
         ensures kept { self.new ≡ self.old }
         ensures place { IfOk result (λ n. n ≡ at) }
@@ -98,7 +98,7 @@ impl Listing {
         Ok(at)
     }
 
-    // The place of a term whose argument is listed, by its hash; it goes last where it is new.
+    /// The place of a term whose argument is listed, by its hash; it goes last where it is new.
     fn insert(&mut self, term: SymbolicTerm) -> Result<u32, NoMemory>
         requires { HasArgument self.old term }
         ensures place { IfOk result (λ n. n ≡ place self.new term) }
@@ -109,7 +109,7 @@ impl Listing {
         short(at)
     }
 
-    // The same of a term that may have been found lately.
+    /// The same of a term that may have been found lately.
     fn put(&mut self, term: SymbolicTerm) -> Result<u32, NoMemory>
         requires { HasArgument self.old term }
         ensures grows { Grows self.old self.new }
@@ -125,7 +125,7 @@ impl Listing {
         }
     }
 
-    // Lists a node and its argument.
+    /// Lists a node and its argument.
     fn put_node(&mut self, node: NodeTerm) -> Result<(), NoMemory>
         ensures grows { Grows self.old self.new }
         ensures listed { OnOk result (self.new ≡ note self.old (term_of node)) }
@@ -137,7 +137,7 @@ impl Listing {
         Ok(())
     }
 
-    // Lists an application, its arguments before it. The answer is its place.
+    /// Lists an application, its arguments before it. The answer is its place.
     fn put_application(&mut self, node: NodeTerm, term: SymbolicTerm) -> Result<u32, NoMemory>
         requires { IsAppliedTo node term }
         ensures grows { Grows self.old self.new }
@@ -148,7 +148,7 @@ impl Listing {
         self.put(term)
     }
 
-    // Lists a term, its arguments before it, where they are new. The answer is its place.
+    /// Lists a term, its arguments before it, where they are new. The answer is its place.
     fn put_with_arguments(&mut self, term: SymbolicTerm) -> Result<u32, NoMemory>
         ensures grows { Grows self.old self.new }
         ensures listed { OnOk result (self.new ≡ note self.old term) }
@@ -172,7 +172,7 @@ impl Listing {
         }
     }
 
-    // The literal by places. Its sides are listed where they are new, the left one first.
+    /// The literal by places. Its sides are listed where they are new, the left one first.
     fn note_literal(&mut self, l: SymbolicLit) -> Result<Lit, NoMemory>
         ensures grows { Grows self.old self.new }
         ensures listed { OnOk result (self.new ≡ note_literal self.old l) }
@@ -206,7 +206,7 @@ impl Listing {
         Ok(())
     }
 
-    // The place of a term that is listed, by its hash.
+    /// The place of a term that is listed, by its hash.
     fn looked_up(&self, term: SymbolicTerm) -> u32
         requires listed { IsListed self.now term }
         requires few { length self.now < 2 ^ 32 }
@@ -218,7 +218,7 @@ impl Listing {
         }
     }
 
-    // The same of a term that may have been found lately.
+    /// The same of a term that may have been found lately.
     fn place(&self, term: SymbolicTerm) -> u32
         requires listed { IsListed self.now term }
         requires few { length self.now < 2 ^ 32 }
@@ -230,7 +230,7 @@ impl Listing {
         }
     }
 
-    // A term by the place of its argument.
+    /// A term by the place of its argument.
     fn number(&self, term: SymbolicTerm) -> GroundTerm
         requires listed { HasArgument self.now term }
         requires few { length self.now < 2 ^ 32 }

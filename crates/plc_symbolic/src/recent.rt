@@ -12,8 +12,8 @@ pub struct Recent {
     places: Vec<u32>,
 }
 
-// The slot of a key. Multiplying by a large odd number lets every bit of the key change the upper bits of the
-// product, and the upper ten, which are kept, number the 1,024 slots.
+/// The slot of a key. Multiplying by a large odd number lets every bit of the key change the upper bits of the
+/// product, and the upper ten, which are kept, number the 1,024 slots.
 fn slot(key: u64) -> usize {
     (key.wrapping_mul(0x9E37_79B9_7F4A_7C15) >> 54) as usize
 }

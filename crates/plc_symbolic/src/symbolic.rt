@@ -3,7 +3,7 @@
 ghost use Rattle.std.specs.Prelude.{◌≡◌};
 ghost use Rattle.std.proofs.Common.{ap};
 ghost use Rattle.plc_symbolic.specs.Keys.{symbol_key, node_key, map_key, term_key, term_input};
-ghost use Rattle.plc_symbolic.specs.Same.{same_term_true};
+ghost use Rattle.plc_symbolic.specs.Equality.{same_term_true};
 
 use plc_base::FieldId;
 use plc_ground::{Map, Symbol};
@@ -37,7 +37,7 @@ pub struct SymbolicLit {
     pub equal: bool,
 }
 
-// A number of a constant, for hashing alone: different constants may share it.
+/// A number of a constant, for hashing alone: different constants may share it.
 fn symbol_key(symbol: Symbol) -> u64
     ensures { result ≡ symbol_key symbol }
 {
@@ -58,7 +58,7 @@ fn symbol_key(symbol: Symbol) -> u64
     }
 }
 
-// The same of a node.
+/// The same of a node.
 fn node_key(node: NodeTerm) -> u64
     ensures { result ≡ node_key node }
 {
@@ -68,7 +68,7 @@ fn node_key(node: NodeTerm) -> u64
     }
 }
 
-// The same of a map.
+/// The same of a map.
 fn map_key(map: Map) -> u64
     ensures { result ≡ map_key map }
 {

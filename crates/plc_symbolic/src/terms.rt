@@ -27,7 +27,7 @@ pub fn applied(map: Map, version: u16, node: NodeTerm) -> SymbolicTerm
     SymbolicTerm::Application { map, version, node }
 }
 
-// Two terms are equal, or are not.
+/// Two terms are equal, or are not.
 fn compared(left: SymbolicTerm, right: SymbolicTerm, equal: bool) -> SymbolicLit
     ensures { result ≡ record { left = left; right = right; equal = equal } }
 {

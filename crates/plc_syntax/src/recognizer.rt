@@ -46,7 +46,7 @@ pub fn syntax(alloc: Global, tokens: &[Token]) -> Result<(), SyntaxFault>
     Ok(())
 }
 
-// The place at which the machine doesn't go on before an outline is read.
+/// The place at which the machine doesn't go on before an outline is read.
 fn outline_stuck_at(alloc: Global, tokens: &[Token]) -> Result<Option<u32>, AllocError>
     requires { length tokens.now < 2 ^ 32 }
     ensures { IfOk result (λ place. place ≡ outline_stuck_at (kinds tokens.now)) }

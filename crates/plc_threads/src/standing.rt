@@ -16,7 +16,7 @@ pub fn point_at(points: &[Option<Point>], t: u32) -> Option<Point>
     if t < points.len() { points[t] } else { None }
 }
 
-// Whether there is such a thread, and it is idle.
+/// Whether there is such a thread, and it is idle.
 fn is_idle(points: &[Option<Point>], t: u32) -> bool
     ensures { result ≡ is_idle points.now t }
 {

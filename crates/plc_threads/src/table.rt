@@ -37,7 +37,7 @@ pub trait TryCopy: Drop {
         ensures { IfOk result (λ copy. copy ≡ self.now) };
 }
 
-// A copy of what a thread holds, if it holds something.
+/// A copy of what a thread holds, if it holds something.
 fn copy_of<T: TryCopy>(held: &Option<T>) -> Result<Option<T>, NoMemory>
     ensures { IfOk result (λ copy. copy ≡ held.now) }
 {

@@ -1,7 +1,6 @@
 // The environments of points: whether each is one of its point's operation, and the types of shared pointers
 // that a certificate leaves out.
 ghost use Rattle.std.specs.Prelude.{◌≡◌, ◌≤◌, ◌<◌, ℕ, IfOk, MatchOption, length};
-ghost use Rattle.plc_lang.specs.Fit.{FileFits};
 ghost use Rattle.plc_flow.specs.WellFormed.{IsWellFormed};
 ghost use Rattle.plc_flow.specs.Skeleton.{skeleton_of};
 ghost use Rattle.plc_type.specs.Guarantees.{is_guarantee_set};
