@@ -24,9 +24,9 @@ pub(crate) trait Question: Drop {
     ghost due: { Self → AJudged → ℕ → List ℕ → Type 0 };
 
     /// The answer to a file that was loaded.
-    fn answer(&self, alloc: Global, judged: Judged) -> Result<Answer, AllocError>
-        requires { Fits judged.flow judged.unit_outline }
-        ensures { IfOk result (λ answer. due self.now judged answer.status answer.text.items) };
+    fn answer(&self, alloc: Global, judged: &Judged) -> Result<Answer, AllocError>
+        requires { Fits judged.now.flow judged.now.unit_outline }
+        ensures { IfOk result (λ answer. due self.now judged.now answer.status answer.text.items) };
 }
 
 /// The answer to the bytes of a file.
@@ -40,7 +40,7 @@ pub(crate) fn answer_bytes<Q: Question>(
         IsAnsweredFile (λ u. Q.due question.now (judged_of u)) bytes.now answer.status answer.text.items) }
 {
     match load(alloc, bytes) {
-        Ok(judged) => question.answer(alloc, judged),
+        Ok(judged) => question.answer(alloc, &judged),
         Err(LoadFault::Memory) => Err(AllocError),
         Err(fault) => refusal(alloc, &fault),
     }

@@ -20,13 +20,13 @@ pub(crate) struct ForCertificate;
 impl Question for ForCertificate {
     ghost due = { λ _ judged. IsCertifiedAs judged };
 
-    fn answer(&self, alloc: Global, judged: Judged) -> Result<Answer, AllocError> {
-        match certify(alloc, &judged) {
+    fn answer(&self, alloc: Global, judged: &Judged) -> Result<Answer, AllocError> {
+        match certify(alloc, judged) {
             Ok(Certified::Yes(cert)) => Ok(Answer {
                 status: HOLDS,
                 text: written(alloc, &cert)?,
             }),
-            Ok(Certified::No(verdict)) => told(alloc, &judged, &verdict),
+            Ok(Certified::No(verdict)) => told(alloc, judged, &verdict),
             Err(NoMemory) => Err(AllocError),
         }
     }

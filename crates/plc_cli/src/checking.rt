@@ -18,9 +18,9 @@ pub(crate) struct ForVerdict;
 impl Question for ForVerdict {
     ghost due = { λ _ judged. IsJudgedAs judged };
 
-    fn answer(&self, alloc: Global, judged: Judged) -> Result<Answer, AllocError> {
-        match check(alloc, &judged) {
-            Ok(verdict) => told(alloc, &judged, &verdict),
+    fn answer(&self, alloc: Global, judged: &Judged) -> Result<Answer, AllocError> {
+        match check(alloc, judged) {
+            Ok(verdict) => told(alloc, judged, &verdict),
             Err(NoMemory) => Err(AllocError),
         }
     }

@@ -6,8 +6,7 @@ use crate::asking::Question;
 use crate::status::HOLDS;
 use plc_base::NoMemory;
 use plc_check::Judged;
-use plc_parse::Unit;
-use plc_print::print;
+use plc_print::print_parts;
 use std::alloc::{AllocError, Global};
 
 /// The question for the canonical text of a file.
@@ -17,16 +16,9 @@ pub(crate) struct ForText;
 impl Question for ForText {
     ghost due = { λ _ judged. IsPrintedAs (unit_of judged) };
 
-    fn answer(&self, alloc: Global, judged: Judged) -> Result<Answer, AllocError> {
-        let observer = judged.observer;
-        let outline = judged.unit_outline;
-        let flow = judged.flow;
-        let unit = Unit {
-            file: flow.file,
-            observer,
-            outline,
-        };
-        match print(alloc, &unit) {
+    fn answer(&self, alloc: Global, judged: &Judged) -> Result<Answer, AllocError> {
+        let file = &judged.flow.file;
+        match print_parts(alloc, file, judged.observer, &judged.unit_outline) {
             Ok(text) => Ok(Answer {
                 status: HOLDS,
                 text,

@@ -58,9 +58,9 @@ struct ForSample {
 impl Question for ForSample {
     ghost due = { λ sample judged. IsSampledAs sample.copies sample.line judged };
 
-    fn answer(&self, alloc: Global, judged: Judged) -> Result<Answer, AllocError> {
-        match check(alloc, &judged) {
-            Ok(verdict) => told_sample(alloc, self.copies, self.line, &judged, &verdict),
+    fn answer(&self, alloc: Global, judged: &Judged) -> Result<Answer, AllocError> {
+        match check(alloc, judged) {
+            Ok(verdict) => told_sample(alloc, self.copies, self.line, judged, &verdict),
             Err(NoMemory) => Err(AllocError),
         }
     }

@@ -68,8 +68,8 @@ struct ForValidity<'a> {
 impl<'a> Question for ForValidity<'a> {
     ghost due = { λ question judged. IsCertificateAnswered judged question.certificate.now };
 
-    fn answer(&self, alloc: Global, judged: Judged) -> Result<Answer, AllocError> {
-        answer_certificate(alloc, &judged, self.certificate)
+    fn answer(&self, alloc: Global, judged: &Judged) -> Result<Answer, AllocError> {
+        answer_certificate(alloc, judged, self.certificate)
     }
 }
 

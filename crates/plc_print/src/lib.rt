@@ -13,4 +13,4 @@ mod statements;
 mod tokens;
 
 pub use laws::{canonical_texts_read_back, canonical_trees_read_back, tokens_read_back};
-pub use printing::print;
+pub use printing::{print, print_parts};

@@ -10,23 +10,32 @@ use crate::declarations::{
 };
 use crate::outlines::outline;
 use crate::tokens::{Printed, Printer};
+use plc_auto::Observer;
 use plc_base::NoMemory;
+use plc_lang::File;
+use plc_logic::Outline;
 use plc_parse::Unit;
 use std::alloc::Global;
 
 /// All parts of a unit.
-fn parts(alloc: Global, out: &mut Printer, unit: &Unit) -> Printed
-    ensures { OnOk result (Prints out.old out.new (file_tokens (canonical_tree unit.now))) }
+fn parts(
+    alloc: Global,
+    out: &mut Printer,
+    file: &File,
+    observer: Observer,
+    outlined: &Outline,
+) -> Printed
+    ensures { OnOk result (Prints out.old out.new
+        (file_tokens (canonical_tree (record { file = file.now; observer = observer; outline = outlined.now })))) }
 {
-    let file = &unit.file;
     structure(out, file)?;
     shared_pointers(out, file, file.shared.as_slice())?;
     declared_functions(out, file)?;
-    watch(out, file, unit.observer)?;
+    watch(out, file, observer)?;
     auxiliaries(out, file, file.ghosts.as_slice())?;
     start(out, file)?;
     operations(alloc, out, file, file.ops.as_slice())?;
-    outline(alloc, out, file, &unit.outline)
+    outline(alloc, out, file, outlined)
 }
 
 /// The canonical text of a unit: each name as the file has it, each token followed by one space, but
@@ -35,7 +44,21 @@ fn parts(alloc: Global, out: &mut Printer, unit: &Unit) -> Printed
 pub fn print(alloc: Global, unit: &Unit) -> Result<Vec<u8>, NoMemory>
     ensures { IfOk result (λ text. text.items ≡ canonical_text unit.now) }
 {
+    print_parts(alloc, &unit.file, unit.observer, &unit.outline)
+}
+
+/// The canonical text of the unit that has these parts, for who has it in parts. Its one error is that memory
+/// ran out.
+pub fn print_parts(
+    alloc: Global,
+    file: &File,
+    observer: Observer,
+    outlined: &Outline,
+) -> Result<Vec<u8>, NoMemory>
+    ensures { IfOk result (λ text.
+        text.items ≡ canonical_text (record { file = file.now; observer = observer; outline = outlined.now })) }
+{
     let mut out = Printer::new(alloc);
-    parts(alloc, &mut out, unit)?;
+    parts(alloc, &mut out, file, observer, outlined)?;
     Ok(out.into_text())
 }

@@ -11,8 +11,8 @@ use Rattle.plc_print.proofs.printing.parts.Goals as goal
 
 pub returns : goal.returns
 returns c =
-    let file = c.args.unit.now.file in
-    let tree = canonical_tree c.args.unit.now in
+    let file = c.args.file.now in
+    let tree = canonical_tree (record { file = file; observer = c.args.observer; outline = c.args.outlined.now }) in
     let outlined = maybe_then outline_then tree.outlined [] in
     let ops = each_then op_then tree.ops outlined in
     let starts = maybe_then init_then tree.starts ops in
