@@ -45,13 +45,6 @@ read_as f (Some x) = Some (f x.0, x.1)
 abbrev pub same_word : Keyword → Keyword → Bool
 same_word a b = sameb keyword.the_type a b
 
--- whether a token is this keyword
-abbrev pub is_word : Keyword → TokenKind → Bool
-is_word word (Word found) = same_word found word
-is_word word (Name n) = false
-is_word word (Number n) = false
-is_word word (Symbol s) = false
-
 -- a keyword
 abbrev pub word_of : Keyword → List TokenKind → Option (List TokenKind)
 word_of word (Word found ∷ rest) = if same_word found word then Some rest else None

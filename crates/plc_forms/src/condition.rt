@@ -52,7 +52,7 @@ fn name_or_null_at<'a>(rest: Rest<'a>) -> Option<(Option<&'a [u8]>, Rest<'a>)>
     }
 }
 
-/// A comma and a name, or `null`.
+/// A comma, and then a name or `null`.
 fn comma_name_or_null_at<'a>(rest: Rest<'a>) -> Option<(Option<&'a [u8]>, Rest<'a>)>
     ensures { Reads comma_name_or_null_of text_or_none (λ _. 2) rest.entry result }
 {

@@ -2,7 +2,7 @@
 // names, or answers `None` where another token stands; larger forms are chains of these.
 ghost use Rattle.std.specs.Prelude.{◌≡◌, ◌+◌, IfSome, MatchOption, Some, None, [], ◌∷◌};
 ghost use Rattle.plc_syntax.specs.Syntax.{kinds};
-ghost use Rattle.plc_forms.specs.Forms.{is_word, word_of, symbol_of, name_of, word_symbol_of};
+ghost use Rattle.plc_forms.specs.Forms.{word_of, symbol_of, name_of, word_symbol_of};
 ghost use Rattle.plc_forms.specs.Forms.{symbol_name_of, name_symbol_of, word_name_of};
 ghost use Rattle.plc_forms.specs.Views.{After, Passes, Reads, text_of};
 
@@ -85,14 +85,4 @@ pub fn word_name_at<'a>(
     ensures { Reads (word_name_of word symbol) text_of (λ _. 3) rest.entry result }
 {
     name_symbol_at(word_at(rest, word)?, symbol)
-}
-
-/// Whether a token is this keyword.
-pub fn is_word(kind: &TokenKind, word: Keyword) -> bool
-    ensures { result ≡ is_word word kind.now }
-{
-    match kind {
-        TokenKind::Word(found) => *found == word,
-        _ => false,
-    }
 }

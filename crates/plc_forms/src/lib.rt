@@ -24,7 +24,7 @@ pub use form::{
     Place, Primitive, Refresh, Relation, Set, Test, Value, Watch,
 };
 pub use front::{
-    first, is_word, name_at, name_symbol_at, symbol_at, symbol_name_at, word_at, word_symbol_at,
+    first, name_at, name_symbol_at, symbol_at, symbol_name_at, word_at, word_symbol_at,
 };
 pub use primitive::{initial_line_at, primitive_line_at};
 pub use rest::Rest;

@@ -16,8 +16,8 @@ fn bound_node(bound: &[u32], i: u16) -> u32
     if i < bound.len() { bound[i] } else { 0 }
 }
 
-/// The number by which auxiliary fields name a thread. It is one more than the thread's, which may be the last
-/// of 32 bits.
+/// The number by which auxiliary fields name a thread: one more than the thread's own, which may be the largest
+/// number of 32 bits.
 fn thread_number(thread: Option<u32>) -> u64
     ensures { result ≡ thread_number thread }
 {

@@ -88,7 +88,7 @@ impl GcConfig {
         }))
     }
 
-    /// The values.
+    /// What the places of the program hold now.
     pub(crate) fn state(&self) -> &State
         ensures { result.now ≡ self.now.state }
     {
@@ -117,7 +117,7 @@ impl GcConfig {
         self.advance(flow, m)
     }
 
-    /// One move.
+    /// Takes one move, and says what became of it.
     fn advance(&mut self, flow: &Flow, m: &Move) -> Result<GcMoved, NoMemory>
         requires fits { FlowFits flow.now }
         requires sorted { FlowIsWellSorted flow.now }

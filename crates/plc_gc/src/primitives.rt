@@ -204,7 +204,7 @@ impl State {
         }
     }
 
-    /// One primitive, if it isn't blocked; whether it is not.
+    /// Takes one primitive unless it is blocked, and says whether it was taken.
     pub fn apply(&mut self, t: u32, prim: &Prim) -> Result<bool, NoMemory>
         requires small { t + 1 < 2 ^ 32 }
         requires held { IsHeld self.old t }

@@ -62,7 +62,7 @@ impl Row {
         })
     }
 
-    /// A copy.
+    /// The same numbers, in memory of their own.
     pub fn copy(&self) -> Result<Row, NoMemory>
         ensures { IfOk result (λ r. r ≡ self.now) }
     {

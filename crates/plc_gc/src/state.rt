@@ -66,7 +66,7 @@ impl State {
         })
     }
 
-    /// A copy.
+    /// The same state, in memory of its own.
     pub fn copy(&self) -> Result<State, NoMemory>
         ensures { IfOk result (λ s. s ≡ self.now) }
     {

@@ -1,6 +1,6 @@
 -- what contracts of public calls say
 pub mod Programs
--- words of private functions
+-- words of private functions alone
 pub mod Graphs
 pub mod Iteration
 pub mod Starts

@@ -179,7 +179,7 @@ fn push_checked(x: &Execution, checked: bool, p: Symbol, out: &mut Draft) -> Res
     Ok(())
 }
 
-/// One more act.
+/// Takes one more act: the clauses that it writes, and what holds after it.
 fn act(x: &mut Execution, a: Act, nodes: &[NodeTerm], out: &mut Draft) -> Result<(), NoMemory>
     requires written { length x.old.written < 65535 }
     requires loads { x.old.loads < 65535 }

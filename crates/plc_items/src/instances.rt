@@ -96,7 +96,7 @@ fn push_instance(
     out.push(lits.as_slice())
 }
 
-/// Under one name: at each node.
+/// The instances of a clause under one name, one at each node.
 fn push_singles(w: &Premises, literals: &[Literal], out: &mut Draft) -> Result<(), NoMemory>
     requires reads { ReadsBefore w.now.ghosts.now w.now.before.now }
     requires values { All (ValuesIn w.now.ghosts.now) literals.now }
@@ -110,7 +110,7 @@ fn push_singles(w: &Premises, literals: &[Literal], out: &mut Draft) -> Result<(
     Ok(())
 }
 
-/// Under two names, with this node for the first: at each node for the second.
+/// The instances of a clause under two names whose first is this node, one at each node for the second.
 fn push_pairs_of(
     w: &Premises,
     literals: &[Literal],

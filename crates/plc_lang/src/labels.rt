@@ -10,7 +10,7 @@ use crate::syntax::{Op, Stmt};
 use plc_base::{Items, NoMemory};
 use std::alloc::Global;
 
-/// The label of a call, if it has one.
+/// Notes a label, if there is one.
 fn note_during(during: Option<u16>, labels: &mut Items<u16>) -> Result<(), NoMemory>
     ensures { OnOk result (labels.new ≡ labels.old ++ label_or_none during) }
 {
@@ -34,7 +34,7 @@ fn note_statement(stmt: &Stmt, labels: &mut Items<u16>) -> Result<(), NoMemory>
     }
 }
 
-/// The two blocks of an `if`.
+/// Notes the labels of the two blocks of an `if`.
 #[cycle(note)]
 fn note_both(yes: &Block, no: &Block, labels: &mut Items<u16>) -> Result<(), NoMemory>
     ensures { OnOk result (labels.new ≡ labels.old ++ (block_labels yes.now ++ block_labels no.now)) }
@@ -43,7 +43,7 @@ fn note_both(yes: &Block, no: &Block, labels: &mut Items<u16>) -> Result<(), NoM
     note_block(no, labels)
 }
 
-/// The blocks of a choice.
+/// Notes the labels of the blocks of a choice.
 #[cycle(note)]
 fn note_blocks(blocks: &[Block], labels: &mut Items<u16>) -> Result<(), NoMemory>
     ensures { OnOk result (labels.new ≡ labels.old ++ blocks_labels (blocks_of blocks.now)) }

@@ -37,14 +37,14 @@ items_mapped v ws f e = items_kept v ws (ap length e ∙ length-map v.items f) �
 -- ---- a cell that a free passes by
 
 pub cut_keeps : (a : ℕ) (c : Cell) → (c.number ≡ a → ⊥) → cut a c ≡ c
-cut_keeps a c ne = ap (λ b. record { number = c.number; valid = c.valid && not b }) (ne_eqb c.number a ne) ∙ ap (λ b. record { number = c.number; valid = b }) (and_true c.valid)
+cut_keeps a c ne = ap (λ b. record c { valid = c.valid && not b }) (ne_eqb c.number a ne) ∙ ap (λ b. record c { valid = b }) (and_true c.valid)
   where
     and_true : (b : Bool) → (b && true) ≡ b
     and_true true = refl
     and_true false = refl
 
-pub cut_clears : (a : ℕ) (c : Cell) → c.number ≡ a → cut a c ≡ record { number = c.number; valid = false }
-cut_clears a c e = ap (λ b. record { number = c.number; valid = c.valid && not b }) (eq-eqb c.number a e) ∙ ap (λ b. record { number = c.number; valid = b }) (and_false c.valid)
+pub cut_clears : (a : ℕ) (c : Cell) → c.number ≡ a → cut a c ≡ record c { valid = false }
+cut_clears a c e = ap (λ b. record c { valid = c.valid && not b }) (eq-eqb c.number a e) ∙ ap (λ b. record c { valid = b }) (and_false c.valid)
   where
     and_false : (b : Bool) → (b && false) ≡ false
     and_false true = refl

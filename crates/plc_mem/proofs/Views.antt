@@ -233,7 +233,7 @@ retires s a = record {
 -- ---- a free
 
 zero_cut : (a : ℕ) → 0 < a → cut a null_cell ≡ null_cell
-zero_cut a pos = ap (λ b. record { number = 0; valid = not b }) (ne_eqb 0 a (λ e. absurd (omega arith)))
+zero_cut a pos = ap (λ b. record null_cell { valid = not b }) (ne_eqb 0 a (λ e. absurd (omega arith)))
 
 -- a table of cells that are cut
 cut_table : (a : ℕ) → 0 < a → (xs : List Cell) (i : ℕ) → get_or (map (cut a) xs) i null_cell ≡ cut a (get_or xs i null_cell)

@@ -158,21 +158,20 @@ with_retired s a = record s { retired = s.retired ++ a ∷ [] }
 
 -- a free of a: the address is neither used nor retired any more, and every place that holds it is invalid
 abbrev pub cut : ℕ → Cell → Cell
-cut a c = record { number = c.number; valid = c.valid && not (c.number == a) }
+cut a c = record c { valid = c.valid && not (c.number == a) }
 
 -- a node whose cells of the address became invalid
 abbrev pub cut_node : ℕ → Node → Node
-cut_node a n = record { address = n.address; cells = map (cut a) n.cells; values = n.values }
+cut_node a n = record n { cells = map (cut a) n.cells }
 
 -- locals whose cells of the address became invalid
 abbrev pub cut_locals : ℕ → Option Locals → Option Locals
 cut_locals a None = None
-cut_locals a (Some l) = Some (record { pointers = map (cut a) l.pointers; values = l.values })
+cut_locals a (Some l) = Some (record l { pointers = map (cut a) l.pointers })
 
 -- the state after a free
 unfoldable pub freed : State → ℕ → State
-freed s a = record {
-  fields = s.fields;
+freed s a = record s {
   shared = map (cut a) s.shared;
   locals = map (cut_locals a) s.locals;
   nodes = map (cut_node a) (filter (λ n. not (n.address == a)) s.nodes);

@@ -3,6 +3,8 @@
 // each step asks again. The place is the obligation that would come next if its part went on: from there
 // each kind is searched on, and where it has no more the next kind is searched from its beginning.
 ghost use Rattle.std.specs.Prelude.{◌≡◌, ◌+◌, ◌<◌, ◌≤◌, length, IfOk};
+ghost use Rattle.plc_base.specs.Limits.{most};
+ghost use Rattle.plc_base.specs.declared.limits.What1.TheVariants as limits;
 ghost use Rattle.plc_lang.specs.WellSorted.{is_claim};
 ghost use Rattle.plc_setting.specs.Points.{count_at};
 ghost use Rattle.plc_setting.specs.Fit.{Fits};
@@ -44,7 +46,7 @@ fn count_of(o: Counted<'_>, p: PointId) -> u16
     requires point { p.0 < o.flow.now.points }
     requires fits { Fits o.flow.now o.outline.now }
     ensures count { result ≡ count_at o.entry.flow.now o.entry.outline.now p.0 }
-    ensures few { result ≤ 256 }
+    ensures few { result ≤ most limits.Items }
 {
     o.counts[p.0 as usize]
 }

@@ -1,22 +1,11 @@
--- What is asked of the operations of a file and of quantified names.
-use Rattle.std.specs.Prelude.{◌≡◌, ◌+◌, ◌≤◌, ℕ, List, length, slice_get, Some}
+-- What is asked of the operations of a file.
+use Rattle.std.specs.Prelude.{◌≡◌, ◌≤◌, ℕ, List, length, slice_get, Some}
 use Rattle.plc_base.specs.Limits.{most}
-use Rattle.plc_base.specs.Names.{NameList}
 use Rattle.plc_base.specs.declared.limits.What1.TheVariants as limits
 use Rattle.plc_lang.specs.declared.syntax.Op.{Op}
 use Rattle.plc_scope.specs.Scope.{most_locals}
-use Rattle.plc_outparse.specs.declared.context.Context.{Context}
 
 -- operations within the limits of a file
 pub record OpsFit (ops : List Op) : Type 0 where
   pub count : length ops ≤ most limits.Ops
   pub locals : (k : ℕ) (o : Op) → slice_get ops k ≡ Some o → length o.locals ≤ most_locals
-
--- labels and operations within the limits of a file
-pub record IsWithinLimits (context : Context) : Type 0 where
-  pub labels : length context.scope.now.labels ≤ most limits.Labels
-  pub ops : OpsFit context.ops.now
-
--- so many more quantified names can be added
-pub record HasRoomForBound (bound : NameList) (count : ℕ) : Type 0 where
-  pub names : length bound.names + count ≤ bound.limit

@@ -10,3 +10,4 @@ pub mod Reading
 pub mod Views
 -- words of private functions alone
 pub mod Forms
+pub mod Context

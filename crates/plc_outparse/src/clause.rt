@@ -6,7 +6,7 @@ ghost use Rattle.plc_logic.specs.declared.clause.Literal.{Literal};
 ghost use Rattle.plc_scope.specs.declared.fault.ParseFault.{ParseFault};
 ghost use Rattle.plc_scope.specs.Answers.{Gives, Within};
 ghost use Rattle.plc_scope.specs.Scope.{most_locals, if_new, with_last};
-ghost use Rattle.plc_outparse.specs.Answers.{HasRoomForBound};
+ghost use Rattle.plc_outparse.specs.Context.{HasRoomForBound};
 ghost use Rattle.plc_scope.specs.Limits.{stands_at};
 ghost use Rattle.plc_outparse.specs.Meaning.{counted, literal_step, bound_with, second_bound, bound_means};
 ghost use Rattle.plc_outparse.specs.Reading.{literals_in, all_literals_in, clause_line_in};

@@ -3,7 +3,8 @@ ghost use Rattle.std.specs.Prelude.{◌+◌, ◌<◌, ◌≤◌, ◌^◌, IfOk, 
 ghost use Rattle.plc_base.specs.Limits.{most};
 ghost use Rattle.plc_base.specs.declared.limits.What1.TheVariants as limits;
 ghost use Rattle.plc_scope.specs.Answers.{Gives, Within};
-ghost use Rattle.plc_outparse.specs.Answers.{OpsFit, IsWithinLimits};
+ghost use Rattle.plc_outparse.specs.Answers.{OpsFit};
+ghost use Rattle.plc_outparse.specs.Context.{IsWithinLimits};
 ghost use Rattle.plc_outparse.specs.Fit.{OutlinesFit};
 ghost use Rattle.plc_outparse.specs.Meaning.{depth_means};
 ghost use Rattle.plc_outparse.specs.Outlines.{Means, IsPartFault};

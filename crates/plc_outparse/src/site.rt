@@ -6,7 +6,7 @@ ghost use Rattle.plc_base.specs.declared.limits.What1.TheVariants as limits;
 ghost use Rattle.plc_base.specs.Names.{place_of};
 ghost use Rattle.plc_scope.specs.Answers.{Gives, Within};
 ghost use Rattle.plc_scope.specs.Scope.{most_locals};
-ghost use Rattle.plc_outparse.specs.Answers.{IsWithinLimits};
+ghost use Rattle.plc_outparse.specs.Context.{IsWithinLimits};
 ghost use Rattle.plc_lang.specs.Locals.{locals_of};
 ghost use Rattle.plc_outparse.specs.Meaning.{op_named, op_at, label_named, label_at, label_step};
 ghost use Rattle.plc_outparse.specs.Reading.{labels_in, all_labels_in};
@@ -89,7 +89,7 @@ fn label_named(scope: &Scope, name: &[u8]) -> Option<u16>
     }
 }
 
-/// The label that a name at a place is, and the operation in which it stands; with the same faults.
+/// The label that a name at a place is, and its operation. `Undeclared` and `WrongSort` where it is none.
 #[tactic(auto, unfolding(crate::specs::Meaning::label_at))]
 fn label_at(context: &Context, name: &[u8], at: u32) -> Result<(u16, usize), ParseFault>
     requires limits { IsWithinLimits context.now }

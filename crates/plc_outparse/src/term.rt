@@ -143,7 +143,7 @@ fn second(reach: &Reach, sort: Sort, at: u32, side: Side) -> Result<Term, ParseF
     }
 }
 
-/// Whether a node is retired.
+/// The literal that a node is retired, or is not.
 fn flag(reach: &Reach, yes: bool, at: u32, name: &[u8]) -> Result<Literal, ParseFault>
     requires locals { length reach.now.locals.now ≤ most_locals }
     requires place { at + 4 < 2 ^ 32 }

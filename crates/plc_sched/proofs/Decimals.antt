@@ -7,7 +7,7 @@ use Rattle.std.proofs.lemmas.Bool.{false≢true}
 use Rattle.std.proofs.lemmas.Str.{IsUtf8-from_ascii}
 use Rattle.std.proofs.lemmas.Fmt.{decimal_digit, first_decimal, decimal-digits_value, IsAscii-decimal, parse-decimal}
 use Rattle.std.proofs.lemmas.Str.Parse.{numerals_by_value, tells_digits, without_leading_plus_none}
-use Rattle.plc_sched.specs.Numbers.{is_plain}
+use Rattle.plc_sched.specs.NumberWords.{is_plain}
 
 other : (c k : ℕ) (same : Bool) → (c == k) ≡ same → k < c → same ≡ false
 other c k true e h = absurd (omega (arith, eqb-true c k e))

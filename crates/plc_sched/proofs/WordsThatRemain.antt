@@ -10,7 +10,8 @@ use Rattle.std.proofs.lemmas.List.Splits.{length-slice_split}
 use Rattle.plc_base.specs.Limits.{most_addresses, most_threads}
 use Rattle.plc_sched.specs.declared.words.Words.{Words}
 use Rattle.plc_sched.specs.Entries.{head_words}
-use Rattle.plc_sched.specs.Numbers.{most_arguments, IsNextNumber, IsLastNumber}
+use Rattle.plc_sched.specs.Numbers.{most_arguments}
+use Rattle.plc_sched.specs.NumberWords.{IsNextNumber, IsLastNumber}
 use Rattle.plc_sched.specs.Reading.{IsAddress, IsHead}
 use Rattle.plc_sched.specs.Words.{pieces_after, words_left}
 use Rattle.plc_sched.proofs.WordsOfEntries.{split_head, line_from_words}

@@ -6,3 +6,4 @@ pub mod Schedules
 -- words of private functions alone
 pub mod Reading
 pub mod Words
+pub mod NumberWords

@@ -1,7 +1,8 @@
 // Numbers within a range, as words. Only the one spelling that printing gives is read: the library
 // also reads a plus and leading zeros, which are refused here.
 ghost use Rattle.std.specs.Prelude.{◌≡◌, IfOk, IfErr};
-ghost use Rattle.plc_sched.specs.Numbers.{is_plain, IsNumberOf, IsNextNumber, IsLastNumber, AreNumbers};
+ghost use Rattle.plc_sched.specs.Numbers.{IsNumberOf};
+ghost use Rattle.plc_sched.specs.NumberWords.{is_plain, IsNextNumber, IsLastNumber, AreNumbers};
 ghost use Rattle.plc_sched.specs.Words.{words_left};
 ghost use Rattle.plc_sched.specs.declared.fault.SchedFault.TheVariants.{Memory};
 

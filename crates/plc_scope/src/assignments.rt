@@ -67,7 +67,7 @@ fn data_value(scope: &Scope, x: u16, at: u32, value: Value) -> Result<Prim, Pars
     }
 }
 
-/// The left side, which stands at the second place, is any variable.
+/// What is put into the variable on the left, whose name stands at the second place.
 fn value_into(
     scope: &Scope,
     at: u32,
@@ -110,7 +110,7 @@ fn data_atom(scope: &Scope, p: Var, f: FieldId, at: u32, atom: Atom) -> Result<P
     Ok(Prim::DataStore { p, f, e })
 }
 
-/// The field, which stands at the second place, is a field.
+/// What is put into the field, whose name stands at the second place.
 fn atom_into(
     scope: &Scope,
     p: Var,

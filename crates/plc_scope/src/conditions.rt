@@ -42,7 +42,7 @@ fn pointer_equality(
     }
 }
 
-/// Pointers have no order; the relation stands at the place.
+/// A test of pointers, which have no order; the relation stands at the place.
 fn pointer_test(
     scope: &Scope,
     p: Var,

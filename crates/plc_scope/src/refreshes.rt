@@ -58,8 +58,8 @@ pub fn refresh(scope: &Scope, at: u32, refresh: Refresh) -> Result<Prim, ParseFa
     }
 }
 
-/// A value is that of an enumerated field; the acting thread, which `init` lacks, or none goes into a
-/// field that holds a thread.
+/// What is put into an auxiliary field: one of its own values or, where it holds threads, none or the acting
+/// thread, which `init` lacks.
 fn ghost_value(
     scope: &Scope,
     in_init: bool,

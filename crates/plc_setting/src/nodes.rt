@@ -68,7 +68,7 @@ fn push_fields_of(
     Ok(())
 }
 
-/// Those of nodes, node by node.
+/// The pointer fields of nodes, node by node.
 fn push_fields(
     list: &mut Items<NodeTerm>,
     symbols: &[Symbol],

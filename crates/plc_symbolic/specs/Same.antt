@@ -1,4 +1,4 @@
--- Whether two terms are one, as the program compares them. That this holds of one term alone is shown in Equality.
+-- Whether two terms are one, as the program compares them. That this is equality is shown in Equality.
 use Rattle.std.specs.Prelude.{Bool}
 use Rattle.plc_symbolic.specs.contracts.symbolic.NodeTermPartialEq.TheImpl as node
 use Rattle.plc_symbolic.specs.contracts.symbolic.SymbolicTermPartialEq.TheImpl as term

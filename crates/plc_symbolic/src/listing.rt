@@ -109,7 +109,7 @@ impl Listing {
         short(at)
     }
 
-    /// The same of a term that may have been found lately.
+    /// The place of a term that may have been found lately; it goes last where it is new.
     fn put(&mut self, term: SymbolicTerm) -> Result<u32, NoMemory>
         requires { HasArgument self.old term }
         ensures grows { Grows self.old self.new }
@@ -218,7 +218,7 @@ impl Listing {
         }
     }
 
-    /// The same of a term that may have been found lately.
+    /// The place of a term that is listed and may have been found lately.
     fn place(&self, term: SymbolicTerm) -> u32
         requires listed { IsListed self.now term }
         requires few { length self.now < 2 ^ 32 }

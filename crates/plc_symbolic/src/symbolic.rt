@@ -58,7 +58,7 @@ fn symbol_key(symbol: Symbol) -> u64
     }
 }
 
-/// The same of a node.
+/// A number of a node, for hashing alone.
 fn node_key(node: NodeTerm) -> u64
     ensures { result ≡ node_key node }
 {
@@ -68,7 +68,7 @@ fn node_key(node: NodeTerm) -> u64
     }
 }
 
-/// The same of a map.
+/// A number of a map, for hashing alone.
 fn map_key(map: Map) -> u64
     ensures { result ≡ map_key map }
 {

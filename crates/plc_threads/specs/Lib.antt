@@ -1,4 +1,4 @@
 -- what contracts of public calls say
 pub mod Standing
--- what layers above say of a run's threads
+-- what contracts say for the crates above alone, beside what a reader must believe
 pub mod Fit

@@ -57,7 +57,7 @@ fn call(env: &Env, func: FuncId, arg: Arg) -> Result<(), TypeFault>
 
 /// What a primitive asks of the environment before it: an access and a comparison ask that their
 /// pointers are safe, a retirement asks that its pointer is active. The fault says what fails, and of
-/// which variable. No observer makes a difference to it.
+/// which variable. The observer is handed in as to all rules, and no condition depends on it.
 pub fn condition(env: &Env, prim: &Prim, _observer: &Observer) -> Result<(), TypeFault>
     ensures { result_err result ≡ fault_of env.now prim.now }
 {

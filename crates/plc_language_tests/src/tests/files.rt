@@ -122,7 +122,7 @@ undeclared 12
 syntax 18
 # struct N { } op f ( ) { choose { } }
 syntax 12
-# struct N { } init { N := mark ; } 7
+# struct N { } init { N := spot ; } 7
 syntax 11
 # struct N { } }
 syntax 4

@@ -1,0 +1,16 @@
+-- What readers of an outline ask of what stands around it.
+use Rattle.std.specs.Prelude.{◌+◌, ◌≤◌, ℕ, length}
+use Rattle.plc_base.specs.Limits.{most}
+use Rattle.plc_base.specs.Names.{NameList}
+use Rattle.plc_base.specs.declared.limits.What1.TheVariants as limits
+use Rattle.plc_outparse.specs.Answers.{OpsFit}
+use Rattle.plc_outparse.specs.declared.context.Context.{Context}
+
+-- labels and operations within the limits of a file
+pub record IsWithinLimits (context : Context) : Type 0 where
+  pub labels : length context.scope.now.labels ≤ most limits.Labels
+  pub ops : OpsFit context.ops.now
+
+-- so many more quantified names can be added
+pub record HasRoomForBound (bound : NameList) (count : ℕ) : Type 0 where
+  pub names : length bound.names + count ≤ bound.limit
