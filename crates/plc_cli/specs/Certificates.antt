@@ -1,11 +1,10 @@
 -- What `certify` and `verify` answer.
-use Rattle.std.specs.Prelude.{◌≡◌, ◌≢◌, ◌⊎◌, ℕ, List, ◌++◌, length, Ok, Err, codes}
+use Rattle.std.specs.Prelude.{◌≡◌, ◌≢◌, ◌⊎◌, ℕ, List, length, Ok, Err}
 use Rattle.plc_oblig.specs.Obligations.{obligations}
 use Rattle.plc_cert.specs.declared.cert.Cert.{Cert}
 use Rattle.plc_cert.specs.declared.cert.CertFault.{CertFault}
 use Rattle.plc_cert.specs.declared.cert.CertFault.TheVariants as faults
 use Rattle.plc_cert.specs.Shape.{reading}
-use Rattle.plc_cert.specs.Written as written
 use Rattle.plc_verify.specs.declared.fault.VerifyFault.{VerifyFault}
 use Rattle.plc_verify.specs.Validity.{IsValid, IsFirstFault}
 use Rattle.plc_check.specs.declared.judged.Judged.{Judged}
@@ -13,7 +12,7 @@ use Rattle.plc_check.specs.declared.certified.Certified.{Certified}
 use Rattle.plc_check.specs.declared.certified.Certified.TheVariants.{Yes, No}
 use Rattle.plc_check.specs.Loading.{judged_of}
 use Rattle.plc_check.specs.Certified.{IsCertified}
-use Rattle.plc_texts.specs.Certificates.{certificate_text, verified_text, invalid_text}
+use Rattle.plc_texts.specs.Certificates.{certificate_line, certificate_text, verified_text, invalid_text}
 use Rattle.plc_cli.specs.Files.{IsAnsweredFile, IsTold}
 use Rattle.plc_cli.specs.Statuses.{holds, fails, refused}
 use Rattle.plc_cli.specs.Verdicts.{verdict_status, verdict_text}
@@ -25,9 +24,9 @@ abbrev pub certified_status : Certified → ℕ
 certified_status (Yes cert) = holds
 certified_status (No verdict) = verdict_status verdict
 
--- the certificate with a line feed, or the verdict
+-- the certificate, or the verdict
 abbrev pub certified_text : Judged → Certified → List ℕ
-certified_text j (Yes cert) = written.text cert ++ codes "\n"
+certified_text j (Yes cert) = certificate_line cert
 certified_text j (No verdict) = verdict_text j verdict
 
 -- any certificate that is right, or the verdict on a file that isn't safe

@@ -1,6 +1,4 @@
 // The certificate of a file that is safe, and the law that it is accepted.
-ghost use Rattle.std.specs.Prelude.{◌≡◌, ◌++◌, IfOk, codes};
-ghost use Rattle.plc_cert.specs.Written.{text as written_text};
 ghost use Rattle.plc_cli.specs.Certificates.{IsCertifiedAs};
 ghost use Rattle.plc_cli.specs.Laws.{CertifiedFilesVerify};
 
@@ -9,8 +7,8 @@ use crate::asking::Question;
 use crate::checking::told;
 use crate::status::HOLDS;
 use plc_base::NoMemory;
-use plc_cert::{Cert, write};
 use plc_check::{Certified, Judged, certify};
+use plc_texts::certified;
 use std::alloc::{AllocError, Global};
 
 /// The question for the certificate of a file, or for the verdict on one that has none.
@@ -24,24 +22,11 @@ impl Question for ForCertificate {
         match certify(alloc, judged) {
             Ok(Certified::Yes(cert)) => Ok(Answer {
                 status: HOLDS,
-                text: written(alloc, &cert)?,
+                text: certified(alloc, &cert)?,
             }),
             Ok(Certified::No(verdict)) => told(alloc, judged, &verdict),
             Err(NoMemory) => Err(AllocError),
         }
-    }
-}
-
-/// The text of a certificate, and a line feed.
-fn written(alloc: Global, cert: &Cert) -> Result<Vec<u8>, AllocError>
-    ensures { IfOk result (λ text. text.items ≡ written_text cert.now ++ codes "\n") }
-{
-    match write(alloc, cert) {
-        Ok(mut text) => {
-            text.push(b'\n')?;
-            Ok(text)
-        }
-        Err(NoMemory) => Err(AllocError),
     }
 }
 

@@ -1,5 +1,4 @@
 -- The text of a sample: a stack under hazard pointers, with as many copies of its operations as are asked for.
-use Rattle.std.specs.List.{count_by}
 use Rattle.std.specs.Prelude.{ℕ, suc, zero, ◌+◌, ◌==◌, if◌then◌else◌}
 use Rattle.std.specs.Prelude.{List, [], ◌∷◌, ◌++◌, codes, decimal}
 
@@ -123,10 +122,6 @@ abbrev pub sample_text : ℕ → ℕ → List ℕ
 sample_text k n = without_from n 1 (whole_text k)
 
 -- ---- its lines
-
--- each line is ended by a line feed
-abbrev pub line_feeds : List ℕ → ℕ
-line_feeds text = count_by (λ byte. byte == 10) text
 
 -- so many lines are left out
 abbrev pub lines_out : ℕ → ℕ

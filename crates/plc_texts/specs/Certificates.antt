@@ -1,13 +1,15 @@
--- What is said of a certificate: why its bytes are none, that it is valid, or its first item that fails. Each line ends
--- with a line feed.
+-- A certificate as a line, and what is said of one: why its bytes are none, that it is valid, or its first item that
+-- fails. Each line ends with a line feed.
 use Rattle.std.specs.Prelude.{ℕ, List, [], ◌++◌, codes, decimal, slice_get}
 use Rattle.plc_lang.specs.declared.syntax.Var.TheVariants as vars
 use Rattle.plc_lang.specs.declared.syntax.File.{File}
 use Rattle.plc_lang.specs.Names.{operation_name}
 use Rattle.plc_flow.specs.declared.flow.Flow.{Flow}
+use Rattle.plc_cert.specs.declared.cert.Cert.{Cert}
 use Rattle.plc_cert.specs.declared.cert.CertField.TheVariants.{Root, Version, Env, Trees}
 use Rattle.plc_cert.specs.declared.cert.CertFault.{CertFault}
 use Rattle.plc_cert.specs.declared.cert.CertFault.TheVariants as cert
+use Rattle.plc_cert.specs.Written as written
 use Rattle.plc_verify.specs.declared.fault.Slot.{Slot}
 use Rattle.plc_verify.specs.declared.fault.Slot.TheVariants.{W, Local}
 use Rattle.plc_verify.specs.declared.fault.VerifyFault.{VerifyFault}
@@ -16,6 +18,10 @@ use Rattle.plc_verify.specs.declared.fault.VerifyFault.TheVariants.{TreeCount, T
 use Rattle.plc_texts.specs.Counts.{counts_text}
 use Rattle.plc_texts.specs.Names.{variable_in}
 use Rattle.plc_texts.specs.Untyped.{step_operation}
+
+-- the certificate
+abbrev pub certificate_line : Cert → List ℕ
+certificate_line cert = written.text cert ++ codes "\n"
 
 -- ---- bytes that are no certificate
 

@@ -1,8 +1,9 @@
-// What is said of a certificate: why its bytes are none, that it is valid, or its first item that fails.
+// A certificate as a line, and what is said of one: why its bytes are none, that it is valid, or its first item that
+// fails.
 ghost use Rattle.std.specs.Prelude.{◌≡◌, ◌++◌, IfOk, slice_get, codes, decimal};
 ghost use Rattle.plc_cert.specs.declared.cert.CertFault.TheVariants.{Shape};
 ghost use Rattle.plc_lang.specs.Names.{operation_name};
-ghost use Rattle.plc_texts.specs.Certificates.{certificate_text, verified_text};
+ghost use Rattle.plc_texts.specs.Certificates.{certificate_line, certificate_text, verified_text};
 ghost use Rattle.plc_texts.specs.Certificates.{slot_name, pair_text, invalid_text};
 ghost use Rattle.plc_texts.specs.Untyped.{step_operation};
 
@@ -10,12 +11,25 @@ use crate::counts::push_counts;
 use crate::names::variable_in;
 use crate::push::{push, push_bytes, push_number};
 use crate::refusals::{fixed, numbered};
-use plc_base::{OpId, StepId};
-use plc_cert::{CertFault, CertField};
+use plc_base::{NoMemory, OpId, StepId};
+use plc_cert::{Cert, CertFault, CertField, write};
 use plc_flow::Flow;
 use plc_lang::{File, Var, operation_name};
 use plc_verify::{Slot, VerifyFault};
 use std::alloc::{AllocError, Global};
+
+/// A certificate, and a line feed.
+pub fn certified(alloc: Global, cert: &Cert) -> Result<Vec<u8>, AllocError>
+    ensures { IfOk result (λ v. v.items ≡ certificate_line cert.now) }
+{
+    match write(alloc, cert) {
+        Ok(mut line) => {
+            push(&mut line, "\n")?;
+            Ok(line)
+        }
+        Err(NoMemory) => Err(AllocError),
+    }
+}
 
 /// A part that isn't of its form.
 fn misshapen(alloc: Global, field: CertField) -> Result<Vec<u8>, AllocError>

@@ -13,7 +13,7 @@ mod replays;
 mod samples;
 mod typing;
 
-pub use certificates::{invalid, uncertified, verified};
+pub use certificates::{certified, invalid, uncertified, verified};
 pub use failing::untyped;
 pub use models::unproved;
 pub use refusals::{lexical, limit, parsed, read_failed, read_too_long, words_refused};
