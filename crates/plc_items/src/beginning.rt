@@ -16,6 +16,7 @@ use plc_lang::Local;
 use plc_setting::{Obligation, Setting, acting_locals};
 use plc_symbolic::{Draft, SymbolicTerm, is};
 
+/// Two constants are equal.
 fn push_equal(left: Symbol, right: Symbol, out: &mut Draft) -> Result<(), NoMemory>
     ensures { OnOk result (out.new ≡ written out.old (equals left right)) }
 {
@@ -32,6 +33,7 @@ fn push_only_new(makes: bool, c: Symbol, out: &mut Draft) -> Result<(), NoMemory
     out.push(&[])
 }
 
+/// The shared pointers are null.
 fn push_shared_null(shared: u16, out: &mut Draft) -> Result<(), NoMemory>
     ensures { OnOk result (out.new
         ≡ written_all out.old (map (λ i. equals (symbols.Shared i) symbols.Null) (below shared))) }
@@ -42,6 +44,7 @@ fn push_shared_null(shared: u16, out: &mut Draft) -> Result<(), NoMemory>
     Ok(())
 }
 
+/// Each bound node is null or the new one.
 fn push_bound_new(makes: bool, bound: u16, out: &mut Draft) -> Result<(), NoMemory>
     ensures { OnOk result (out.new
         ≡ written_all out.old (map (λ i. only_new makes (symbols.Bound i)) (below bound))) }
@@ -52,6 +55,7 @@ fn push_bound_new(makes: bool, bound: u16, out: &mut Draft) -> Result<(), NoMemo
     Ok(())
 }
 
+/// What is known before `init`.
 fn push_start(shared: u16, s: &Setting, out: &mut Draft) -> Result<(), NoMemory>
     ensures { OnOk result (out.new ≡ written_all out.old (start_clauses shared s.now)) }
 {
@@ -59,12 +63,14 @@ fn push_start(shared: u16, s: &Setting, out: &mut Draft) -> Result<(), NoMemory>
     push_bound_new(s.makes, s.bound, out)
 }
 
+/// Whether a local is data and no parameter.
 fn is_other_data(local: &Local) -> bool
     ensures { result ≡ is_other_data local.now }
 {
     !local.pointer && !local.param
 }
 
+/// Data that are no parameters are 0.
 fn push_zeros(locals: &[Local], out: &mut Draft) -> Result<(), NoMemory>
     requires { length locals.now < 65536 }
     ensures { OnOk result (out.new ≡ written_all out.old
@@ -78,6 +84,7 @@ fn push_zeros(locals: &[Local], out: &mut Draft) -> Result<(), NoMemory>
     Ok(())
 }
 
+/// These pointers are null.
 fn push_nulls(pointers: &[Symbol], out: &mut Draft) -> Result<(), NoMemory>
     ensures { OnOk result (out.new ≡ written_all out.old (map (λ p. equals p symbols.Null) pointers.now)) }
 {
@@ -87,6 +94,7 @@ fn push_nulls(pointers: &[Symbol], out: &mut Draft) -> Result<(), NoMemory>
     Ok(())
 }
 
+/// What is known of locals when an operation begins.
 fn push_enter(locals: &[Local], s: &Setting, out: &mut Draft) -> Result<(), NoMemory>
     requires { length locals.now < 65536 }
     ensures { OnOk result (out.new ≡ written_all out.old (enter_clauses locals.now s.now)) }

@@ -26,6 +26,7 @@ use plc_setting::{Setting, claim_made, conclusion, pointer_symbol};
 use plc_symbolic::{Draft, NodeTerm, SymbolicTerm, applied, is, is_not};
 use std::alloc::Global;
 
+/// Each bound node isn't null.
 fn push_nodes(bound: u16, out: &mut Draft) -> Result<(), NoMemory>
     ensures { OnOk result (out.new
         ≡ written_all out.old (map (λ i. is_not (Constant (symbols.Bound i)) null ∷ []) (below bound))) }
@@ -50,6 +51,7 @@ fn bound_nodes(alloc: Global, bound: u16) -> Result<Items<NodeTerm>, NoMemory>
     Ok(nodes)
 }
 
+/// Each literal is false.
 fn push_denied(r: &Reading, literals: &[Literal], out: &mut Draft) -> Result<(), NoMemory>
     requires versions { length r.now.execution.now.written < 65536 }
     requires few { sum_by values_in r.now.ghosts.now < 65536 }
@@ -64,6 +66,7 @@ fn push_denied(r: &Reading, literals: &[Literal], out: &mut Draft) -> Result<(),
     Ok(())
 }
 
+/// The clause is false at the bound nodes.
 fn push_denied_clause(
     alloc: Global,
     ghosts: &[Ghost],
@@ -110,6 +113,7 @@ fn push_claim(x: &Execution, p: Symbol, out: &mut Draft) -> Result<(), NoMemory>
     out.push(&[is(retired, SymbolicTerm::Constant(Symbol::Yes))])
 }
 
+/// What is concluded is false after the step.
 fn push_denied_claim(
     s: &Setting,
     x: &Execution,

@@ -64,12 +64,14 @@ fn held(x: &Execution, symbol: Symbol) -> SymbolicTerm
     SymbolicTerm::Constant(current(x, symbol))
 }
 
+/// The pointer isn't null.
 pub fn push_not_null(x: &Execution, p: Symbol, out: &mut Draft) -> Result<(), NoMemory>
     ensures { OnOk result (out.new ≡ written out.old (not_null x.now p)) }
 {
     out.push(&[is_not(held(x, p), SymbolicTerm::Constant(Symbol::Null))])
 }
 
+/// The variable holds this constant now.
 fn assign(x: &mut Execution, to: Symbol, value: Symbol) -> Result<(), NoMemory>
     ensures { OnOk result (x.new ≡ assigned x.old to value) }
 {
@@ -77,6 +79,7 @@ fn assign(x: &mut Execution, to: Symbol, value: Symbol) -> Result<(), NoMemory>
     Ok(())
 }
 
+/// The variable holds what the field has at the node, which is read.
 fn fetch(
     x: &mut Execution,
     to: Symbol,
@@ -116,6 +119,7 @@ fn push_update_at(
     out.push(&[is(term, at), is(next, applied(map, version, node))])
 }
 
+/// The next version of a map, node by node.
 fn push_updates(
     map: Map,
     version: u16,
@@ -133,6 +137,7 @@ fn push_updates(
     Ok(())
 }
 
+/// The map gets a value at a node.
 fn update(
     x: &mut Execution,
     map: Map,
@@ -154,6 +159,7 @@ fn update(
     Ok(())
 }
 
+/// Two variables are equal, or are not.
 fn test(
     x: &Execution,
     left: Symbol,
@@ -170,6 +176,7 @@ fn test(
     out.push(&[is_not(left, right)])
 }
 
+/// The pointer isn't null, where that is asked.
 fn push_checked(x: &Execution, checked: bool, p: Symbol, out: &mut Draft) -> Result<(), NoMemory>
     ensures { OnOk result (out.new ≡ written_all out.old (if_checked checked (not_null x.now p))) }
 {

@@ -14,12 +14,14 @@ use plc_lang::{Field, File, Ghost};
 use plc_setting::Setting;
 use plc_symbolic::{Draft, NodeTerm, SymbolicTerm, applied, is, is_not};
 
+/// The term isn't the new node.
 fn push_other(term: SymbolicTerm, out: &mut Draft) -> Result<(), NoMemory>
     ensures { OnOk result (out.new ≡ written out.old (is_other term)) }
 {
     out.push(&[is_not(SymbolicTerm::Constant(Symbol::New), term)])
 }
 
+/// No pointer leads to the new node.
 fn push_no_variable(pointers: &[Symbol], out: &mut Draft) -> Result<(), NoMemory>
     ensures { OnOk result (out.new
         ≡ written_all out.old (map (λ p. is_other (Constant p)) pointers.now)) }
@@ -30,6 +32,7 @@ fn push_no_variable(pointers: &[Symbol], out: &mut Draft) -> Result<(), NoMemory
     Ok(())
 }
 
+/// No pointer field of a node leads to the new node.
 fn push_no_field_of(node: NodeTerm, fields: &[FieldId], out: &mut Draft) -> Result<(), NoMemory>
     ensures { OnOk result (out.new ≡ written_all out.old (no_field_leads fields.now node)) }
 {
@@ -39,6 +42,7 @@ fn push_no_field_of(node: NodeTerm, fields: &[FieldId], out: &mut Draft) -> Resu
     Ok(())
 }
 
+/// No pointer field of the nodes leads to the new node.
 fn push_no_field(nodes: &[NodeTerm], fields: &[FieldId], out: &mut Draft) -> Result<(), NoMemory>
     ensures { OnOk result (out.new ≡ written_all out.old (flat_map (no_field_leads fields.now) nodes.now)) }
 {
@@ -56,6 +60,7 @@ fn push_default(map: Map, default: Symbol, out: &mut Draft) -> Result<(), NoMemo
     out.push(&[is(held, SymbolicTerm::Constant(default))])
 }
 
+/// What a field holds at a new node.
 fn field_default(pointer: bool) -> Symbol
     ensures { result ≡ field_default pointer }
 {
@@ -66,6 +71,7 @@ fn field_default(pointer: bool) -> Symbol
     }
 }
 
+/// Each field has its default at the new node.
 fn push_field_defaults(fields: &[Field], out: &mut Draft) -> Result<(), NoMemory>
     requires { length fields.now < 65536 }
     ensures { OnOk result (out.new ≡ written_all out.old (field_defaults_from 0 fields.now)) }
@@ -80,6 +86,7 @@ fn push_field_defaults(fields: &[Field], out: &mut Draft) -> Result<(), NoMemory
     Ok(())
 }
 
+/// What an auxiliary field holds at a new node.
 fn ghost_default(first: u16, count: usize) -> Symbol
     ensures { result ≡ ghost_default first count }
 {
@@ -90,6 +97,7 @@ fn ghost_default(first: u16, count: usize) -> Symbol
     }
 }
 
+/// Each auxiliary field has its default at the new node.
 fn push_ghost_defaults(ghosts: &[Ghost], out: &mut Draft) -> Result<(), NoMemory>
     requires fields { length ghosts.now < 65536 }
     requires values { sum_by values_in ghosts.now < 65536 }
@@ -104,6 +112,7 @@ fn push_ghost_defaults(ghosts: &[Ghost], out: &mut Draft) -> Result<(), NoMemory
     Ok(())
 }
 
+/// The new node isn't retired.
 fn push_unretired(out: &mut Draft) -> Result<(), NoMemory>
     ensures { OnOk result (out.new ≡ written_all out.old unretired) }
 {

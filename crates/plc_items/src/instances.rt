@@ -31,6 +31,7 @@ fn push_escape(makes: bool, node: NodeTerm, lits: &mut Items<SymbolicLit>) -> Re
     Ok(())
 }
 
+/// The cases in which an instance at these nodes says nothing.
 fn push_escapes(
     makes: bool,
     names: &[NodeTerm],
@@ -44,6 +45,7 @@ fn push_escapes(
     Ok(())
 }
 
+/// The literals of a clause, as they read at its nodes.
 fn push_read(
     r: &Reading,
     literals: &[Literal],
@@ -129,6 +131,7 @@ fn push_pairs_of(
     Ok(())
 }
 
+/// The instances of a clause under two names.
 fn push_pairs(w: &Premises, literals: &[Literal], out: &mut Draft) -> Result<(), NoMemory>
     requires reads { ReadsBefore w.now.ghosts.now w.now.before.now }
     requires values { All (ValuesIn w.now.ghosts.now) literals.now }
@@ -144,6 +147,7 @@ fn push_pairs(w: &Premises, literals: &[Literal], out: &mut Draft) -> Result<(),
     Ok(())
 }
 
+/// The instances of a clause, at each node for each name.
 fn push_instances(w: &Premises, clause: &Clause, out: &mut Draft) -> Result<(), NoMemory>
     requires reads { ReadsBefore w.now.ghosts.now w.now.before.now }
     requires clause { ClauseIn w.now.ghosts.now clause.now }
@@ -191,6 +195,7 @@ fn push_item(
     Ok(())
 }
 
+/// The instances of the clauses that stand at the point.
 fn push_items_at(
     w: &Premises,
     flow: &Flow,

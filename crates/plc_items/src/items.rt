@@ -17,6 +17,7 @@ use plc_base::NoMemory;
 use plc_setting::{acting_point, invariants_before, owner_point};
 use plc_symbolic::Draft;
 
+/// What is known before the step of all clauses that hold there.
 fn push_premises(w: &Subject, out: &mut Draft) -> Result<(), NoMemory>
     requires { Fits w.now.flow.now w.now.outline.now }
     ensures { OnOk result (out.new ≡ written_all out.old

@@ -37,6 +37,7 @@ fn bound_node(names: &[NodeTerm], i: u16) -> NodeTerm
     }
 }
 
+/// The node that a base names.
 fn base_node(r: &Reading, base: Base) -> NodeTerm
     ensures { result ≡ base_node r.now.execution.now r.now.owner r.now.names.now base }
 {
@@ -47,6 +48,7 @@ fn base_node(r: &Reading, base: Base) -> NodeTerm
     }
 }
 
+/// What a map has now at the node of a base.
 fn map_at(r: &Reading, map: Map, base: Base) -> SymbolicTerm
     requires { length r.now.execution.now.written < 65536 }
     ensures { result ≡ map_now r.now.execution.now map
@@ -55,12 +57,14 @@ fn map_at(r: &Reading, map: Map, base: Base) -> SymbolicTerm
     applied(map, version(r.execution, map), base_node(r, base))
 }
 
+/// The thread that the clause speaks of.
 fn me(owner: bool) -> Symbol
     ensures { result ≡ me owner }
 {
     if owner { Symbol::You } else { Symbol::Me }
 }
 
+/// The constant of a value of an auxiliary field.
 fn value_symbol(ghosts: &[Ghost], g: u16, v: u16) -> Symbol
     requires few { sum_by values_in ghosts.now < 65536 }
     requires field { g ≤ length ghosts.now }
@@ -70,6 +74,7 @@ fn value_symbol(ghosts: &[Ghost], g: u16, v: u16) -> Symbol
     Symbol::Value(value_number(ghosts, g as usize, v) as u16)
 }
 
+/// A term of a clause, as it reads now.
 fn read_term(r: &Reading, term: Term) -> SymbolicTerm
     requires versions { length r.now.execution.now.written < 65536 }
     requires few { sum_by values_in r.now.ghosts.now < 65536 }

@@ -31,6 +31,7 @@ fn push_one_of(
     out.push(clause.as_slice())
 }
 
+/// Each node has one of the values of the field.
 fn push_field_values(
     alloc: Global,
     g: u16,

@@ -19,30 +19,35 @@ use std::marker::Model;
 // made, and with this many that costs less than making the set.
 const MOST_NOTED: usize = 64;
 
+/// Whether both are true or both false.
 fn agree(a: bool, b: bool) -> bool
     ensures { result ≡ agree a b }
 {
     a == b
 }
 
+/// Whether both points lie in the operation, or neither does.
 fn share_gate(p: u16, q: u16, gate: &Gate) -> bool
     ensures { result ≡ share_gate p q gate.now }
 {
     agree(has_point(gate, p), has_point(gate, q))
 }
 
+/// Whether the item stands at both points, or at neither.
 fn share_item(flow: &Flow, p: u16, q: u16, item: &Item) -> bool
     ensures { result ≡ share_item flow.now p q item.now }
 {
     agree(stands_at(flow, p, item), stands_at(flow, q, item))
 }
 
+/// The same of all operations.
 fn share_gates(gates: &[Gate], p: u16, q: u16) -> bool
     ensures { result ≡ list_all (share_gate p q) gates.now }
 {
     gates.iter().all(|gate| share_gate(p, q, gate))
 }
 
+/// The same of all items.
 fn share_items(flow: &Flow, items: &[Item], p: u16, q: u16) -> bool
     ensures { result ≡ list_all (share_item flow.now p q) items.now }
 {

@@ -22,6 +22,7 @@ use plc_setting::{Act, Obligation, constants_of, setting_of, sort_of};
 use plc_symbolic::{Draft, NodeTerm, SymbolicTerm, term_of};
 use std::alloc::Global;
 
+/// Lists constants.
 fn list_constants(symbols: &[Symbol], out: &mut Draft) -> Result<(), NoMemory>
     ensures { OnOk result (out.new ≡ listed_all out.old (map Constant symbols.now)) }
 {
@@ -31,6 +32,7 @@ fn list_constants(symbols: &[Symbol], out: &mut Draft) -> Result<(), NoMemory>
     Ok(())
 }
 
+/// Lists nodes.
 fn list_nodes(nodes: &[NodeTerm], out: &mut Draft) -> Result<(), NoMemory>
     ensures { OnOk result (out.new ≡ listed_all out.old (map term_of nodes.now)) }
 {
@@ -52,6 +54,7 @@ fn sort_at(flow: &Flow, o: &Obligation, acts: &[Act], draft: &Draft, k: usize) -
     }
 }
 
+/// The sorts of the terms that are listed.
 fn sorts_of(
     alloc: Global,
     flow: &Flow,

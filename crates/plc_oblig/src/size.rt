@@ -46,18 +46,21 @@ pub struct Sizes {
     pub instances: u64,
 }
 
+/// How many locals are pointers.
 fn count_pointers(locals: &[Local]) -> u64
     ensures { result ≡ count_by is_pointer locals.now }
 {
     locals.iter().filter(|l| l.pointer).count() as u64
 }
 
+/// How many locals are data and no parameters.
 fn count_other_data(locals: &[Local]) -> u64
     ensures { result ≡ count_by is_other_data locals.now }
 {
     locals.iter().filter(|l| !l.pointer && !l.param).count() as u64
 }
 
+/// How many fields are pointer fields.
 fn count_pointer_fields(fields: &[Field]) -> u64
     ensures { result ≡ count_by is_pointer_field fields.now }
 {
@@ -71,6 +74,7 @@ fn count_enumerated(ghosts: &[Ghost]) -> u64
     ghosts.iter().filter(|g| !g.values.is_empty()).count() as u64
 }
 
+/// How many primitives load a pointer.
 fn count_pointer_loads(prims: &[Prim]) -> u64
     ensures { result ≡ count_by is_pointer_load prims.now }
 {
@@ -117,6 +121,7 @@ fn deep_nodes(deep: bool, nodes: u64, fields: u64) -> u64
     0
 }
 
+/// One where a node is made.
 fn one_if(made: bool) -> u64
     ensures { result ≡ cond made 1 0 }
 {
@@ -141,6 +146,7 @@ fn count_theirs(flow: &Flow, o: &Obligation) -> u64
     count_pointers(owner_locals(flow, o))
 }
 
+/// How many pointer fields the file has.
 fn count_fields(file: &File) -> u64
     requires { FileFits file.now }
     ensures count { result ≡ count_by is_pointer_field file.now.fields }
@@ -149,6 +155,7 @@ fn count_fields(file: &File) -> u64
     count_pointer_fields(file.fields.as_slice())
 }
 
+/// How many pointers are loaded.
 fn count_loads(flow: &Flow, outline: &Outline, o: &Obligation) -> u64
     requires { Fits flow.now outline.now }
     ensures count { result ≡ count_by is_pointer_load (executed flow.now o.now) }
@@ -157,6 +164,7 @@ fn count_loads(flow: &Flow, outline: &Outline, o: &Obligation) -> u64
     count_pointer_loads(executed(flow, o))
 }
 
+/// How many nodes the conclusion binds.
 fn count_bound(flow: &Flow, outline: &Outline, o: &Obligation) -> u64
     requires { Fits flow.now outline.now }
     ensures count { result ≡ bound_of (conclusion flow.now outline.now o.now) }
@@ -165,6 +173,7 @@ fn count_bound(flow: &Flow, outline: &Outline, o: &Obligation) -> u64
     bound_of(conclusion(flow, outline, o)) as u64
 }
 
+/// The counts on which the number of clauses depends.
 fn sizes_of(flow: &Flow, outline: &Outline, o: &Obligation) -> Sizes
     requires { Fits flow.now outline.now }
     ensures sizes { AreSizesOf (setting_of flow.now outline.now o.now) result }

@@ -10,6 +10,7 @@ use plc_lang::{Prim, Var};
 use plc_logic::Outline;
 use plc_setting::{Obligation, executed};
 
+/// Whether the variable is a shared pointer.
 fn is_shared(p: Var) -> bool
     ensures { result ≡ is_shared p }
 {
@@ -36,6 +37,7 @@ fn changes(prim: &Prim) -> bool
     }
 }
 
+/// Whether a primitive changes what other threads see.
 fn any_changes(prims: &[Prim]) -> bool
     ensures { result ≡ list_any changes prims.now }
 {

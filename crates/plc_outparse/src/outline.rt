@@ -36,6 +36,7 @@ fn depth(at: u32, number: Option<u32>) -> Result<u8, ParseFault>
     }
 }
 
+/// The number of the depth.
 #[tactic(auto, unfolding(crate::specs::Reading::depth_in))]
 fn read_depth<'a>(start: Rest<'a>) -> Parsed<'a, u8>
     ensures read { Gives (λ r. read_with r.0 r.1) result (depth_in start.entry.at (kinds_left start.entry)) }

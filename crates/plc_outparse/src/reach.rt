@@ -25,6 +25,7 @@ pub struct Reach<'a> {
     pub bound: &'a Names,
 }
 
+/// The sort of what an auxiliary field holds.
 fn auxiliary_sort(g: u16, of_threads: bool) -> Sort
     ensures { result ≡ auxiliary_sort g of_threads }
 {
@@ -35,6 +36,7 @@ fn auxiliary_sort(g: u16, of_threads: bool) -> Sort
     }
 }
 
+/// What a name of the file is to a clause.
 fn kind_outside(binding: Binding) -> Option<Kind>
     ensures { result ≡ kind_outside binding }
 {
@@ -51,6 +53,7 @@ fn kind_outside(binding: Binding) -> Option<Kind>
     }
 }
 
+/// What a local is to a clause.
 fn kind_of_local(number: u16, pointer: bool) -> Kind
     ensures { result ≡ kind_of_local number pointer }
 {

@@ -34,6 +34,7 @@ fn op_with_name(ops: &[Op], name: u16) -> Option<u16>
     None
 }
 
+/// The operation with this name.
 fn op_named(scope: &Scope, ops: &[Op], name: &[u8]) -> Option<u16>
     requires { length ops.now ≤ most limits.Ops }
     ensures { result ≡ op_named ops.now (place_of name.now scope.now.names.names) }
@@ -79,6 +80,7 @@ fn label_with_name(labels: &[u16], name: u16) -> Option<u16>
     None
 }
 
+/// The label with this name.
 fn label_named(scope: &Scope, name: &[u8]) -> Option<u16>
     requires { length scope.now.labels ≤ most limits.Labels }
     ensures { result ≡ label_named scope.now.labels (place_of name.now scope.now.names.names) }

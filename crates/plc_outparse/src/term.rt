@@ -19,6 +19,7 @@ use plc_forms::Place;
 use plc_logic::{Base, Literal, Sort, Term};
 use plc_scope::ParseFault;
 
+/// The term that a base alone is.
 fn base_term(base: Base) -> Term
     ensures { result ≡ base_term base }
 {
@@ -77,6 +78,7 @@ fn field(reach: &Reach, at: u32, name: &[u8], field: &[u8]) -> Result<(Term, Sor
     }
 }
 
+/// A name, or a field of one, as a term with its sort.
 fn place(reach: &Reach, at: u32, place: Place) -> Result<(Term, Sort), ParseFault>
     requires locals { length reach.now.locals.now ≤ most_locals }
     requires place { at + place_size (place_tree place) < 2 ^ 32 }

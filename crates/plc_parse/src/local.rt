@@ -37,6 +37,7 @@ fn read_others<'a>(scope: &mut Scope, start: Rest<'a>) -> Result<Rest<'a>, Parse
     Ok(rest)
 }
 
+/// The parameters, of which there may be none.
 fn read_parameters<'a>(scope: &mut Scope, start: Rest<'a>) -> Result<Rest<'a>, ParseFault>
     requires { HasRoomForLocals scope.old }
     ensures read { Gives (read_with scope.new) result
@@ -63,6 +64,7 @@ fn declare_name(scope: &mut Scope, name: &[u8], at: u32, pointer: bool) -> Resul
     scope.declare_local(name, at, pointer)
 }
 
+/// Declares the local of a declaration, which stands at the place.
 fn declare_local(scope: &mut Scope, at: u32, declaration: Declaration) -> Result<(), ParseFault>
     requires room { HasRoomForLocals scope.old }
     requires place { at + 1 < 2 ^ 32 }
@@ -75,6 +77,7 @@ fn declare_local(scope: &mut Scope, at: u32, declaration: Declaration) -> Result
     }
 }
 
+/// The declarations of locals.
 fn read_locals<'a>(scope: &mut Scope, start: Rest<'a>) -> Result<Rest<'a>, ParseFault>
     requires { HasRoomForLocals scope.old }
     ensures read { Gives (read_with scope.new) result

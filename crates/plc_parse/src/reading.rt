@@ -272,6 +272,7 @@ fn read_file(alloc: Global, tokens: &[Token]) -> Result<Unit, ParseFault>
     unit(scope, front, ops, outline)
 }
 
+/// Refuses tokens that don't spell a file, or nest too deep.
 fn check_syntax(alloc: Global, tokens: &[Token]) -> Result<(), ParseFault>
     requires { length tokens.now < 2 ^ 32 }
     ensures ok { IfOk result (λ _. IsShallowFile (kinds tokens.now)) }

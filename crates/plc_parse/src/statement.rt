@@ -71,6 +71,7 @@ fn read_label<'a>(scope: &mut Scope, at: u32, name: &[u8], start: Rest<'a>) -> P
     Ok((Stmt::Label(number), start))
 }
 
+/// A `break`, which stands at the place and must be in a loop.
 fn read_break<'a>(in_loop: bool, at: u32, start: Rest<'a>) -> Parsed<'a, Stmt>
     requires word { start.at ≡ at + 2 }
     ensures read { (s : Scope) → Gives (λ r. read_in (statement_of r.0) s r.1) result

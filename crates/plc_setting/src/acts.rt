@@ -50,6 +50,7 @@ pub enum Act {
     Skip,
 }
 
+/// The constant at a place, null past the end.
 fn symbol_at(symbols: &Items<Symbol>, k: u16) -> Symbol
     ensures { result ≡ symbol_at symbols.now k }
 {
@@ -69,12 +70,14 @@ pub fn pointer_symbol(variables: &Variables, p: Var) -> Symbol
     }
 }
 
+/// The constant of a data local.
 fn data_symbol(variables: &Variables, x: u16) -> Symbol
     ensures { result ≡ symbol_at variables.now.values x }
 {
     symbol_at(&variables.values, x)
 }
 
+/// The constant of what is put into data.
 fn number_symbol(variables: &Variables, e: Num) -> Symbol
     ensures { result ≡ number_symbol variables.now e }
 {
@@ -84,6 +87,7 @@ fn number_symbol(variables: &Variables, e: Num) -> Symbol
     }
 }
 
+/// The constant of what is put into an auxiliary field.
 fn ghost_symbol(file: &File, g: u16, v: GhostVal) -> Symbol
     requires fits { FileFits file.now }
     requires sorted { WriteIsWellSorted file.now g v }
@@ -98,12 +102,14 @@ fn ghost_symbol(file: &File, g: u16, v: GhostVal) -> Symbol
     }
 }
 
+/// A variable gets a constant.
 fn assign(to: Symbol, from: Symbol) -> Act
     ensures { result ≡ Assign to from }
 {
     Act::Assign { to, from }
 }
 
+/// A variable gets what a field holds.
 fn fetch(to: Symbol, node: Symbol, f: FieldId, pointer: bool) -> Act
     ensures { result ≡ Fetch to node f pointer }
 {
@@ -115,6 +121,7 @@ fn fetch(to: Symbol, node: Symbol, f: FieldId, pointer: bool) -> Act
     }
 }
 
+/// A field gets a constant.
 fn store(f: FieldId, at: Symbol, value: Symbol) -> Act
     ensures { result ≡ Update true (maps.Field f) at value }
 {
@@ -126,6 +133,7 @@ fn store(f: FieldId, at: Symbol, value: Symbol) -> Act
     }
 }
 
+/// Two constants are equal, or are not.
 fn test(left: Symbol, right: Symbol, equal: bool) -> Act
     ensures { result ≡ Test left right equal }
 {

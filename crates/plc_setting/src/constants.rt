@@ -20,6 +20,7 @@ use plc_logic::Outline;
 use std::alloc::Global;
 use std::collections::BTreeSet;
 
+/// How many values all auxiliary fields have.
 fn count_values(ghosts: &[Ghost]) -> u16
     requires { sum_by values_in ghosts.now < 65536 }
     ensures { result ≡ sum_by values_in ghosts.now }
@@ -31,6 +32,7 @@ fn count_values(ghosts: &[Ghost]) -> u16
     count
 }
 
+/// The numbers, as constants.
 fn push_numbers(list: &mut Items<Symbol>, numbers: &BTreeSet<u32>) -> Result<(), NoMemory>
     ensures { OnOk result (list.new ≡ list.old ++ map symbols.Number numbers.now.keys) }
 {

@@ -45,6 +45,7 @@ pub fn plain_constants(
     Ok(list)
 }
 
+/// Constants, as nodes.
 fn push_constants(list: &mut Items<NodeTerm>, symbols: &[Symbol]) -> Result<(), NoMemory>
     ensures { OnOk result (list.new ≡ list.old ++ map nodes.At symbols.now) }
 {

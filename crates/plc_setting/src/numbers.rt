@@ -11,6 +11,7 @@ use plc_logic::{Clause, Item, Literal, Outline, Term};
 use std::alloc::Global;
 use std::collections::BTreeSet;
 
+/// The number that is put into data, if it is one.
 fn number_of(e: Num) -> Option<u32>
     ensures { option_to_list result ≡ num_numbers e }
 {
@@ -20,6 +21,7 @@ fn number_of(e: Num) -> Option<u32>
     }
 }
 
+/// The number in a primitive, if it has one.
 fn number_in(prim: &Prim) -> Option<u32>
     ensures { option_to_list result ≡ prim_numbers prim.now }
 {
@@ -31,6 +33,7 @@ fn number_in(prim: &Prim) -> Option<u32>
     }
 }
 
+/// The number that a term is, if it is one.
 fn number_that_is(term: &Term) -> Option<u32>
     ensures { option_to_list result ≡ term_numbers term.now }
 {
@@ -40,6 +43,7 @@ fn number_that_is(term: &Term) -> Option<u32>
     }
 }
 
+/// Adds a number, if there is one.
 fn put(numbers: &mut BTreeSet<u32>, n: Option<u32>) -> Result<(), NoMemory>
     ensures { OnOk result (numbers.new.keys ≡ with_numbers numbers.old.keys (option_to_list n)) }
 {
@@ -49,6 +53,7 @@ fn put(numbers: &mut BTreeSet<u32>, n: Option<u32>) -> Result<(), NoMemory>
     Ok(())
 }
 
+/// Adds the numbers in primitives.
 fn put_of_prims(numbers: &mut BTreeSet<u32>, prims: &[Prim]) -> Result<(), NoMemory>
     ensures { OnOk result (numbers.new.keys ≡ with_numbers numbers.old.keys (flat_map prim_numbers prims.now)) }
 {
@@ -58,6 +63,7 @@ fn put_of_prims(numbers: &mut BTreeSet<u32>, prims: &[Prim]) -> Result<(), NoMem
     Ok(())
 }
 
+/// Adds the numbers in steps.
 fn put_of_steps(numbers: &mut BTreeSet<u32>, steps: &[Step]) -> Result<(), NoMemory>
     ensures { OnOk result (numbers.new.keys ≡ with_numbers numbers.old.keys (flat_map step_numbers steps.now)) }
 {
@@ -67,6 +73,7 @@ fn put_of_steps(numbers: &mut BTreeSet<u32>, steps: &[Step]) -> Result<(), NoMem
     Ok(())
 }
 
+/// Adds the numbers in a literal.
 fn put_of_literal(numbers: &mut BTreeSet<u32>, literal: &Literal) -> Result<(), NoMemory>
     ensures { OnOk result (numbers.new.keys ≡ with_numbers numbers.old.keys (literal_numbers literal.now)) }
 {
@@ -79,6 +86,7 @@ fn put_of_literal(numbers: &mut BTreeSet<u32>, literal: &Literal) -> Result<(), 
     }
 }
 
+/// Adds the numbers in a clause.
 fn put_of_clause(numbers: &mut BTreeSet<u32>, clause: &Clause) -> Result<(), NoMemory>
     ensures { OnOk result (numbers.new.keys ≡ with_numbers numbers.old.keys (clause_numbers clause.now)) }
 {
@@ -88,6 +96,7 @@ fn put_of_clause(numbers: &mut BTreeSet<u32>, clause: &Clause) -> Result<(), NoM
     Ok(())
 }
 
+/// Adds the numbers in clauses.
 fn put_of_clauses(numbers: &mut BTreeSet<u32>, clauses: &[Clause]) -> Result<(), NoMemory>
     ensures { OnOk result (numbers.new.keys ≡ with_numbers numbers.old.keys (flat_map clause_numbers clauses.now)) }
 {
@@ -97,6 +106,7 @@ fn put_of_clauses(numbers: &mut BTreeSet<u32>, clauses: &[Clause]) -> Result<(),
     Ok(())
 }
 
+/// Adds the numbers in the clauses of items.
 fn put_of_items(numbers: &mut BTreeSet<u32>, items: &[Item]) -> Result<(), NoMemory>
     ensures { OnOk result (numbers.new.keys ≡ with_numbers numbers.old.keys (flat_map item_numbers items.now)) }
 {

@@ -17,12 +17,14 @@ use plc_flow::{Flow, Gate, Step};
 use plc_lang::{Local, Prim, locals_of};
 use plc_logic::{Clause, Outline};
 
+/// The step, if there is one with this number.
 fn step_at(flow: &Flow, step: StepId) -> Option<&Step>
     ensures { option_copied result ≡ slice_get flow.now.steps step.0 }
 {
     flow.steps.get(step.0 as usize)
 }
 
+/// The primitives of a step.
 fn prims_of(step: Option<&Step>) -> &[Prim]
     ensures { result.now ≡ prims_of (option_copied step.entry) }
 {
@@ -32,6 +34,7 @@ fn prims_of(step: Option<&Step>) -> &[Prim]
     }
 }
 
+/// The first primitives, so many.
 fn first_prims(prims: &[Prim], k: usize) -> &[Prim]
     ensures { result.now ≡ take k prims.now }
 {
@@ -54,12 +57,14 @@ pub fn executed<'a>(flow: &'a Flow, o: &Obligation) -> &'a [Prim]
     }
 }
 
+/// The locals of an operation.
 fn op_locals(flow: &Flow, op: OpId) -> &[Local]
     ensures { result.now ≡ locals_of flow.now.file.ops op.0 }
 {
     locals_of(flow.file.ops.as_slice(), op.0 as usize)
 }
 
+/// The locals of the operation of a step.
 fn step_locals<'a>(flow: &'a Flow, step: Option<&Step>) -> &'a [Local]
     ensures { result.now ≡ locals_of_step flow.now (option_copied step.entry) }
 {
@@ -118,6 +123,7 @@ pub fn has_owner(o: &Obligation) -> bool
     matches!(o, Obligation::Other { .. })
 }
 
+/// The point from which a step goes.
 fn first_point(step: Option<&Step>) -> Option<PointId>
     ensures { result ≡ first_point (option_copied step.entry) }
 {

@@ -67,6 +67,7 @@ pub fn local_symbol(owner: bool, place: u16) -> Symbol
     }
 }
 
+/// Whether a local is a pointer, or is data.
 fn is_kind(local: &Local, pointers: bool) -> bool
     ensures { result ≡ is_kind pointers local.now }
 {
@@ -97,6 +98,7 @@ fn local_symbols(
     Ok(list)
 }
 
+/// The constants of locals, of the acting thread or of the other one.
 fn variables_of(alloc: Global, locals: &[Local], owner: bool) -> Result<Variables, NoMemory>
     requires { length locals.now ≤ most limits.Locals }
     ensures { IfOk result (λ v. v ≡ variables_of owner locals.now) }
@@ -106,6 +108,7 @@ fn variables_of(alloc: Global, locals: &[Local], owner: bool) -> Result<Variable
     Ok(Variables { pointers, values })
 }
 
+/// The pointer fields.
 fn pointer_fields(alloc: Global, fields: &[Field]) -> Result<Items<FieldId>, NoMemory>
     requires { length fields.now ≤ most limits.Fields }
     ensures { IfOk result (λ ids. ids ≡ pointer_fields_from 0 fields.now) }

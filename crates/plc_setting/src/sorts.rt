@@ -17,12 +17,14 @@ use plc_ground::{Map, Sort, Symbol};
 use plc_lang::{Field, File, Ghost, Local, value_at};
 use plc_symbolic::SymbolicTerm;
 
+/// The sort of a pointer, or of data.
 fn pointer_sort(pointer: bool) -> Sort
     ensures { result ≡ pointer_sort pointer }
 {
     if pointer { Sort::Node } else { Sort::Number }
 }
 
+/// The sort of what a field holds.
 fn field_sort(fields: &[Field], f: FieldId) -> Sort
     ensures { result ≡ field_sort (slice_get fields.now f.0) }
 {
@@ -32,6 +34,7 @@ fn field_sort(fields: &[Field], f: FieldId) -> Sort
     }
 }
 
+/// The sort of what an auxiliary field with these values holds.
 fn values_sort(g: u16, values: &[u16]) -> Sort
     ensures { result ≡ ghost_sort g values.now }
 {
@@ -41,6 +44,7 @@ fn values_sort(g: u16, values: &[u16]) -> Sort
     }
 }
 
+/// The sort of what an auxiliary field holds.
 fn auxiliary_sort(ghosts: &[Ghost], g: u16) -> Sort
     ensures { result ≡ auxiliary_sort g (slice_get ghosts.now g) }
 {
@@ -50,6 +54,7 @@ fn auxiliary_sort(ghosts: &[Ghost], g: u16) -> Sort
     }
 }
 
+/// The sort of what a map gives.
 fn map_sort(file: &File, map: Map) -> Sort
     ensures { result ≡ map_sort file.now map }
 {
@@ -60,6 +65,7 @@ fn map_sort(file: &File, map: Map) -> Sort
     }
 }
 
+/// The sort of a local, by its number among all.
 fn local_sort(locals: &[Local], place: u16) -> Sort
     ensures { result ≡ local_sort (slice_get locals.now place) }
 {
@@ -85,6 +91,7 @@ fn load_sort(acts: &[Act], k: u16) -> Sort
     Sort::Node
 }
 
+/// The sort of a value, by its number among all values.
 fn value_sort(ghosts: &[Ghost], v: u16) -> Sort
     requires { length ghosts.now ≤ most limits.Ghosts }
     ensures { result ≡ value_sort (value_at ghosts.now v) }
@@ -95,6 +102,7 @@ fn value_sort(ghosts: &[Ghost], v: u16) -> Sort
     }
 }
 
+/// The sort of a constant.
 fn symbol_sort(flow: &Flow, o: &Obligation, acts: &[Act], symbol: Symbol) -> Sort
     requires { FileFits flow.now.file }
     ensures { result ≡ symbol_sort flow.now o.now acts.now symbol }

@@ -68,6 +68,7 @@ fn find(
     unreachable!()
 }
 
+/// The classes of a branch on which no clause is false, as a model.
 fn open(place: Place) -> Answer
     ensures { result ≡ Answer.Open (record { class = place.equal.class }) }
 {
@@ -76,6 +77,7 @@ fn open(place: Place) -> Answer
     })
 }
 
+/// The answer to a set: a tree that closes it, or a model.
 fn solve(alloc: Global, set: &GroundSet) -> Result<Answer, AllocError>
     requires { IsWellFormed set.now }
     ensures open { IfOk result (CarriesModel set.now) }

@@ -25,6 +25,7 @@ pub(crate) struct Survey {
     pub units: Vec<Lit>,
 }
 
+/// Whether the term is a constant that differs from others by the rule alone.
 fn is_constant(set: &GroundSet, i: usize) -> bool
     requires { i < length set.now.terms }
     ensures yes { IsTrue result → IsDistinguishedAt set.now i }
@@ -62,6 +63,7 @@ fn group_of(alloc: Global, set: &GroundSet, first: usize) -> Result<Items<u32>, 
     Ok(group)
 }
 
+/// Whether a group has the term.
 fn contains(group: &[u32], i: u32) -> bool
     ensures { IsTrue result ↔ Contains group.now i }
 {
@@ -115,6 +117,7 @@ fn groups(alloc: Global, set: &GroundSet) -> Result<Items<Items<u32>>, AllocErro
     Ok(groups)
 }
 
+/// The inequations that are the one literal of a clause.
 fn units(alloc: Global, set: &GroundSet) -> Result<Vec<Lit>, AllocError>
     requires { IsWellFormed set.now }
     ensures { IfOk result (λ list. All (IsInRange set.now.terms) list.items) }
