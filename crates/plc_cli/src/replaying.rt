@@ -8,7 +8,7 @@ ghost use Rattle.plc_cli.specs.Reads.{FilesAreKept, IsDueForPair};
 ghost use Rattle.plc_cli.specs.Statuses.{end_status};
 
 use crate::answer::{Answer, refusal};
-use crate::asking::{PairQuestion, answer_pair};
+use crate::reading::{Contents, read_both};
 use crate::status::{FAILS, HOLDS, REFUSED};
 use plc_base::{LARGEST_SCHEDULE, NoMemory};
 use plc_check::{Judged, LoadFault, load};
@@ -79,8 +79,8 @@ fn scheduled(
     }
 }
 
-/// The answer to the bytes of a file and of a schedule; the file's refusals go first. It is no question about one file,
-/// since the reclaimer changes meanwhile.
+/// The answer to the bytes of a file and of a schedule; the file's refusals go first. It is no `Question`, since the
+/// reclaimer is lent to it.
 fn replayed(
     alloc: Global,
     bytes: &[u8],
@@ -98,15 +98,6 @@ fn replayed(
     }
 }
 
-/// A reclaimer is asked what a schedule leads to under it.
-impl PairQuestion for Box<dyn Reclaimer> {
-    ghost due = { λ reclaimer bytes second. IsReplayOf (meanings reclaimer) bytes second };
-
-    fn answer(&mut self, alloc: Global, bytes: &[u8], more: &[u8]) -> Result<Answer, AllocError> {
-        replayed(alloc, bytes, more, self)
-    }
-}
-
 /// The answer to `replay FILE SCHEDULE RECLAIMER`.
 pub(crate) fn replay_file<F: Files>(
     alloc: Global,
@@ -121,5 +112,8 @@ pub(crate) fn replay_file<F: Files>(
         (λ bytes second. IsReplayOf (meanings reclaimer.old) bytes second answer.status answer.text.items)
         answer.status answer.text.items) }
 {
-    answer_pair(alloc, files, file, schedule, LARGEST_SCHEDULE, reclaimer)
+    match read_both(alloc, files, file, schedule, LARGEST_SCHEDULE)? {
+        Contents::Read(bytes, second) => replayed(alloc, &bytes, &second, reclaimer),
+        Contents::Unread(answer) => Ok(answer),
+    }
 }

@@ -6,7 +6,8 @@ ghost use Rattle.plc_cli.specs.Certificates.{IsVerificationOf, IsCertificateAnsw
 ghost use Rattle.plc_cli.specs.Reads.{FilesAreKept, IsDueForPair};
 
 use crate::answer::Answer;
-use crate::asking::{PairQuestion, Question, answer_bytes, answer_pair};
+use crate::asking::{Question, answer_bytes};
+use crate::reading::{Contents, read_both};
 use crate::status::{FAILS, HOLDS, REFUSED};
 use plc_base::LARGEST_CERTIFICATE;
 use plc_cert::{Cert, CertFault, read};
@@ -72,17 +73,6 @@ impl<'a> Question for ForValidity<'a> {
     }
 }
 
-/// The question whether a file has a certificate that is valid for it.
-struct ForCertificateOf;
-
-impl PairQuestion for ForCertificateOf {
-    ghost due = { λ _ bytes more. IsVerificationOf bytes more };
-
-    fn answer(&mut self, alloc: Global, bytes: &[u8], more: &[u8]) -> Result<Answer, AllocError> {
-        answer_bytes(alloc, bytes, &ForValidity { certificate: more })
-    }
-}
-
 /// The answer to `verify FILE CERTIFICATE`.
 pub(crate) fn verify_file<F: Files>(
     alloc: Global,
@@ -96,13 +86,14 @@ pub(crate) fn verify_file<F: Files>(
         (λ bytes second. IsVerificationOf bytes second answer.status answer.text.items)
         answer.status answer.text.items) }
 {
-    let question = &mut ForCertificateOf;
-    answer_pair(
-        alloc,
-        files,
-        file,
-        certificate,
-        LARGEST_CERTIFICATE,
-        question,
-    )
+    match read_both(alloc, files, file, certificate, LARGEST_CERTIFICATE)? {
+        Contents::Read(bytes, second) => answer_bytes(
+            alloc,
+            &bytes,
+            &ForValidity {
+                certificate: &second,
+            },
+        ),
+        Contents::Unread(answer) => Ok(answer),
+    }
 }
