@@ -4,9 +4,9 @@
 ghost use Rattle.plc_setting.specs.Fit.{Fits};
 
 use crate::tests::deep::DEEP;
-use crate::tests::loading::loaded;
+use crate::tests::loading::{Asked, asked};
 use plc_base::{Items, LARGEST_FILE, NoMemory};
-use plc_check::{Judged, load};
+use plc_check::{Judged, LoadFault, load};
 use plc_ground::{GroundSet, Lit};
 use plc_oblig::{Obligation, clauses, ground, nth};
 use plc_stacks::HAZARDS;
@@ -99,22 +99,50 @@ fn sum_of(alloc: Global, judged: &Judged, from: u64, most: u64) -> Result<Amount
     Ok(sum)
 }
 
+#[derive(Clone, Copy)]
+struct Sums {
+    from: u64,
+    most: u64,
+}
+
+impl Asked for Sums {
+    fn answer(&self, alloc: Global, judged: &Judged) -> Result<String, NoMemory> {
+        let sum = sum_of(alloc, judged, self.from, self.most)?;
+        Ok(format!(in alloc;
+            "{} sets, {} terms, {} clauses, {} literals, at most {} clauses",
+            sum.sets, sum.terms, sum.clauses, sum.literals, sum.most_clauses
+        )?)
+    }
+}
+
 fn answer(alloc: Global, file: &str, from: u64, most: u64) -> Result<String, NoMemory> {
-    let judged = loaded(alloc, file)?;
-    let sum = sum_of(alloc, &judged, from, most)?;
-    Ok(format!(in alloc;
-        "{} sets, {} terms, {} clauses, {} literals, at most {} clauses",
-        sum.sets, sum.terms, sum.clauses, sum.literals, sum.most_clauses
-    )?)
+    asked(alloc, file, &Sums { from, most })
 }
 
 // How many clauses are counted for the obligation with a number.
-fn counted(alloc: Global, file: &str, i: u64) -> Result<u64, NoMemory> {
-    let judged = loaded(alloc, file)?;
-    match nth(&judged.flow, &judged.unit_outline, i) {
-        None => Err(NoMemory),
-        Some(o) => Ok(clauses(&judged.flow, &judged.unit_outline, &o)),
+#[derive(Clone, Copy)]
+struct Counted {
+    i: u64,
+}
+
+impl Asked for Counted {
+    fn answer(&self, alloc: Global, judged: &Judged) -> Result<String, NoMemory> {
+        match nth(&judged.flow, &judged.unit_outline, self.i) {
+            None => Err(NoMemory),
+            Some(o) => {
+                let count = clauses(&judged.flow, &judged.unit_outline, &o);
+                Ok(format!(in alloc; "{count}")?)
+            }
+        }
     }
+}
+
+fn no_refusal(alloc: Global, _judged: Judged) -> Result<String, AllocError> {
+    format!(in alloc; "none")
+}
+
+fn fault_text(alloc: Global, fault: &LoadFault) -> Result<String, AllocError> {
+    format!(in alloc; "{fault:?}")
 }
 
 // Why a file is refused.
@@ -123,8 +151,8 @@ fn refusal(alloc: Global, file: &str) -> Result<String, AllocError> {
         return Err(AllocError);
     }
     match load(alloc, file.as_bytes()) {
-        Ok(_) => format!(in alloc; "none"),
-        Err(fault) => format!(in alloc; "{fault:?}"),
+        Ok(judged) => no_refusal(alloc, judged),
+        Err(fault) => fault_text(alloc, &fault),
     }
 }
 
@@ -140,7 +168,10 @@ fn sets_are_as_large_as_the_format_says(rt: HostRuntime) -> Result<(), NoMemory>
         "677 sets, 81385 terms, 313503 clauses, 1759449 literals, at most 742 clauses"
     );
     let full = format!(in alloc; "{WIDE}{FULL}}}\n")?;
-    assert_eq!(rt; counted(alloc, full.as_str(), 33)?, 65536);
+    assert_eq!(rt;
+        asked(alloc, full.as_str(), &Counted { i: 33 })?.as_str(),
+        "65536"
+    );
     assert_eq!(rt;
         answer(alloc, full.as_str(), 33, 1)?.as_str(),
         "1 sets, 256 terms, 65536 clauses, 194048 literals, at most 65536 clauses"

@@ -4,7 +4,7 @@ ghost use Rattle.plc_flow.specs.WellFormed.{FlowFits};
 ghost use Rattle.plc_flow.specs.WellSorted.{FlowIsWellSorted};
 ghost use Rattle.plc_gc.specs.Position.{IsOfRun};
 
-use crate::tests::loading::loaded;
+use crate::tests::loading::{Asked, asked};
 use plc_base::{FieldId, Items, NoMemory, OpId};
 use plc_check::Judged;
 use plc_flow::{Flow, Move, Place, StartFault};
@@ -219,9 +219,19 @@ fn run_text(alloc: Global, judged: &Judged, lines: &str) -> Result<String, NoMem
     }
 }
 
+#[derive(Clone, Copy)]
+struct Run<'a> {
+    lines: &'a str,
+}
+
+impl<'a> Asked for Run<'a> {
+    fn answer(&self, alloc: Global, judged: &Judged) -> Result<String, NoMemory> {
+        run_text(alloc, judged, self.lines)
+    }
+}
+
 fn ran(alloc: Global, file: &str, lines: &str) -> Result<String, NoMemory> {
-    let judged = loaded(alloc, file)?;
-    run_text(alloc, &judged, lines)
+    asked(alloc, file, &Run { lines })
 }
 
 // One thread pushes a node; then it pushes a second one while the other thread pops and retires the first, so that

@@ -6,7 +6,7 @@ ghost use Rattle.plc_gc.specs.Position.{IsOfRun};
 ghost use Rattle.plc_run.specs.Position.{IsOfRun as IsOfMemoryRun};
 
 use crate::tests::collected::move_of;
-use crate::tests::loading::loaded;
+use crate::tests::loading::{Asked, asked};
 use plc_base::NoMemory;
 use plc_check::Judged;
 use plc_flow::Place;
@@ -99,9 +99,19 @@ fn run_text(alloc: Global, judged: &Judged, lines: &str) -> Result<String, NoMem
     answers(alloc, judged, lines, &mut config, &mut collected)
 }
 
+#[derive(Clone, Copy)]
+struct BothRuns<'a> {
+    lines: &'a str,
+}
+
+impl<'a> Asked for BothRuns<'a> {
+    fn answer(&self, alloc: Global, judged: &Judged) -> Result<String, NoMemory> {
+        run_text(alloc, judged, self.lines)
+    }
+}
+
 fn ran(alloc: Global, file: &str, lines: &str) -> Result<String, NoMemory> {
-    let judged = loaded(alloc, file)?;
-    run_text(alloc, &judged, lines)
+    asked(alloc, file, &BothRuns { lines })
 }
 
 const STACK: &str = "struct Node { ptr next; }

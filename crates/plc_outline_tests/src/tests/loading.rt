@@ -1,4 +1,5 @@
-// Files that are judged, with their flows and outlines.
+// What is asked of files that are judged. A file is owned and lent here alone: what a function has to show at each of
+// its ends while it owns one costs more than all else that a test says.
 ghost use Rattle.std.specs.Prelude.{IfOk};
 ghost use Rattle.plc_flow.specs.WellFormed.{FlowFits};
 ghost use Rattle.plc_flow.specs.WellSorted.{FlowIsWellSorted};
@@ -9,7 +10,7 @@ use plc_check::{Judged, load};
 use std::alloc::Global;
 
 // A file with its flow and its outline.
-pub(crate) fn loaded(alloc: Global, text: &str) -> Result<Judged, NoMemory>
+fn loaded(alloc: Global, text: &str) -> Result<Judged, NoMemory>
     ensures whole { IfOk result (λ judged. Fits judged.flow judged.unit_outline) }
     ensures fits { IfOk result (λ judged. FlowFits judged.flow) }
     ensures sorted { IfOk result (λ judged. FlowIsWellSorted judged.flow) }
@@ -21,4 +22,28 @@ pub(crate) fn loaded(alloc: Global, text: &str) -> Result<Judged, NoMemory>
         Ok(judged) => Ok(judged),
         Err(_) => Err(NoMemory),
     }
+}
+
+// What is asked of a file.
+pub(crate) trait Asked {
+    ghost use Rattle.plc_flow.specs.WellFormed.{FlowFits};
+    ghost use Rattle.plc_flow.specs.WellSorted.{FlowIsWellSorted};
+    ghost use Rattle.plc_setting.specs.Fit.{Fits};
+
+    fn answer(&self, alloc: Global, judged: &Judged) -> Result<String, NoMemory>
+        requires whole { Fits judged.now.flow judged.now.unit_outline }
+        requires fits { FlowFits judged.now.flow }
+        requires sorted { FlowIsWellSorted judged.now.flow };
+}
+
+fn lent<A: Asked>(alloc: Global, judged: Judged, question: &A) -> Result<String, NoMemory>
+    requires whole { Fits judged.flow judged.unit_outline }
+    requires fits { FlowFits judged.flow }
+    requires sorted { FlowIsWellSorted judged.flow }
+{
+    question.answer(alloc, &judged)
+}
+
+pub(crate) fn asked<A: Asked>(alloc: Global, text: &str, question: &A) -> Result<String, NoMemory> {
+    lent(alloc, loaded(alloc, text)?, question)
 }

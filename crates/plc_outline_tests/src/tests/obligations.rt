@@ -4,8 +4,9 @@
 ghost use Rattle.plc_setting.specs.Fit.{Fits};
 
 use crate::tests::deep::DEEP;
-use crate::tests::loading::loaded;
+use crate::tests::loading::{Asked, asked};
 use plc_base::NoMemory;
+use plc_check::Judged;
 use plc_flow::Flow;
 use plc_logic::Outline;
 use plc_oblig::{Obligation, count, nth};
@@ -70,9 +71,19 @@ fn text_of(
 }
 
 // How many obligations a file has, and those with these numbers.
+#[derive(Clone, Copy)]
+struct Listed<'a> {
+    numbers: &'a [u64],
+}
+
+impl<'a> Asked for Listed<'a> {
+    fn answer(&self, alloc: Global, judged: &Judged) -> Result<String, NoMemory> {
+        Ok(text_of(alloc, &judged.flow, &judged.unit_outline, self.numbers)?)
+    }
+}
+
 fn answer(alloc: Global, file: &str, numbers: &[u64]) -> Result<String, NoMemory> {
-    let judged = loaded(alloc, file)?;
-    Ok(text_of(alloc, &judged.flow, &judged.unit_outline, numbers)?)
+    asked(alloc, file, &Listed { numbers })
 }
 
 #[test]

@@ -5,7 +5,7 @@ ghost use Rattle.plc_setting.specs.Fit.{Fits};
 
 use crate::tests::checksums::{OF_DEEP, OF_HAZARDS};
 use crate::tests::deep::DEEP;
-use crate::tests::loading::loaded;
+use crate::tests::loading::{Asked, asked};
 use crate::tests::whole_sets::{CLAIM, DEEP_START, ENTER, OTHER, OWN, START};
 use plc_base::NoMemory;
 use plc_check::Judged;
@@ -134,12 +134,22 @@ fn text_of(alloc: Global, judged: &Judged, o: &Obligation) -> Result<String, All
 }
 
 // The set of the obligation with a number.
-fn answer(alloc: Global, file: &str, i: u64) -> Result<String, NoMemory> {
-    let judged = loaded(alloc, file)?;
-    match nth(&judged.flow, &judged.unit_outline, i) {
-        None => Err(NoMemory),
-        Some(o) => Ok(text_of(alloc, &judged, &o)?),
+#[derive(Clone, Copy)]
+struct SetAt {
+    i: u64,
+}
+
+impl Asked for SetAt {
+    fn answer(&self, alloc: Global, judged: &Judged) -> Result<String, NoMemory> {
+        match nth(&judged.flow, &judged.unit_outline, self.i) {
+            None => Err(NoMemory),
+            Some(o) => Ok(text_of(alloc, judged, &o)?),
+        }
     }
+}
+
+fn answer(alloc: Global, file: &str, i: u64) -> Result<String, NoMemory> {
+    asked(alloc, file, &SetAt { i })
 }
 
 // The same of the stack with hazard pointers.

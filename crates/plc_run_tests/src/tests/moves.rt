@@ -1,5 +1,6 @@
 // The moves of runs with their answers: a text has a move a line, and so has its transcript.
 ghost use Rattle.std.specs.Prelude.{IfOk};
+ghost use Rattle.plc_lang.specs.Fit.{FileFits};
 ghost use Rattle.plc_flow.specs.WellFormed.{FlowFits};
 ghost use Rattle.plc_run.specs.Position.{IsOfRun};
 
@@ -13,7 +14,8 @@ use std::alloc::{AllocError, Global};
 
 // A file with its flow.
 pub(crate) fn loaded(alloc: Global, text: &str) -> Result<Judged, NoMemory>
-    ensures { IfOk result (λ judged. FlowFits judged.flow) }
+    ensures flow { IfOk result (λ judged. FlowFits judged.flow) }
+    ensures file { IfOk result (λ judged. FileFits judged.flow.file) }
 {
     if text.len() > LARGEST_FILE {
         return Err(NoMemory);

@@ -37,16 +37,27 @@ fn end_text(
     Ok(format!(in alloc; "{end:?}")?)
 }
 
+fn replayed_in(
+    alloc: Global,
+    text: &str,
+    judged: &Judged,
+    reclaimer: &mut Box<dyn Reclaimer>,
+) -> Result<String, NoMemory>
+    requires { FlowFits judged.now.flow }
+{
+    match read(alloc, text) {
+        Ok(schedule) => end_text(alloc, reclaimer, &schedule, judged),
+        Err(_) => Err(NoMemory),
+    }
+}
+
 fn replayed(
     alloc: Global,
     text: &str,
     reclaimer: &mut Box<dyn Reclaimer>,
 ) -> Result<String, NoMemory> {
     let judged = loaded(alloc, DROPS)?;
-    match read(alloc, text) {
-        Ok(schedule) => end_text(alloc, reclaimer, &schedule, &judged),
-        Err(_) => Err(NoMemory),
-    }
+    replayed_in(alloc, text, &judged, reclaimer)
 }
 
 fn list_end(alloc: Global, text: &str) -> Result<String, NoMemory> {

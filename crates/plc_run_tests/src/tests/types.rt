@@ -1,12 +1,15 @@
 // Types by the written rules: the order, the rows of effects and conditions, what interference leaves, and
 // the strongest typing. A type is written as its guarantees, `ALS`, `AS`, `S` or `-`, with its locations.
 ghost use Rattle.std.specs.Prelude.{IfOk};
+ghost use Rattle.plc_lang.specs.Fit.{FileFits};
+ghost use Rattle.plc_flow.specs.WellFormed.{FlowFits};
 ghost use Rattle.plc_xfer.specs.Rules.{FitsObserver};
 
+use crate::tests::moves::loaded;
 use crate::tests::observers::{push_set, set_of};
 use plc_auto::Observer;
-use plc_base::{FieldId, FuncId, Items, LARGEST_FILE, Mask, NoMemory};
-use plc_check::load;
+use plc_base::{FieldId, FuncId, Items, Mask, NoMemory};
+use plc_check::Judged;
 use plc_infer::infer;
 use plc_lang::{Arg, GhostVal, Num, Prim, Rel, Var};
 use plc_type::{Env, Guar, PtrType, below, env_below, env_join, join};
@@ -542,17 +545,19 @@ fn typing_text(alloc: Global, envs: &[Env]) -> Result<String, AllocError> {
 }
 
 // The strongest typing of a file.
-fn inferred(alloc: Global, text: &str) -> Result<String, AllocError> {
-    if text.len() > LARGEST_FILE {
-        return Err(AllocError);
-    }
-    let Ok(judged) = load(alloc, text.as_bytes()) else {
-        return Err(AllocError);
-    };
+fn inferred_in(alloc: Global, judged: &Judged) -> Result<String, AllocError>
+    requires flow { FlowFits judged.now.flow }
+    requires file { FileFits judged.now.flow.file }
+{
     match infer(alloc, &judged.flow, &judged.observer) {
         Ok(typing) => typing_text(alloc, typing.env.as_slice()),
         Err(fault) => format!(in alloc; "{fault:?}"),
     }
+}
+
+fn inferred(alloc: Global, text: &str) -> Result<String, NoMemory> {
+    let judged = loaded(alloc, text)?;
+    Ok(inferred_in(alloc, &judged)?)
 }
 
 const TYPINGS: &str = "# struct N { } shared T;
@@ -585,7 +590,7 @@ Stuck { step: StepId(2), prim: 0, fault: DerefNotSafe { var: Local(0) } }
 ";
 
 #[test]
-fn each_point_has_its_strongest_types(rt: HostRuntime) -> Result<(), AllocError> {
+fn each_point_has_its_strongest_types(rt: HostRuntime) -> Result<(), NoMemory> {
     for row in TYPINGS.split("# ") {
         if !row.is_empty() {
             let (file, want) = row.split_once("\n").unwrap_or((row, "?"));

@@ -103,10 +103,15 @@ fn first_line(alloc: Global, name: &str) -> Result<String, NoMemory> {
     Ok(String::new(alloc))
 }
 
-fn first_line_of(alloc: Global, text: &str) -> Result<String, NoMemory> {
+// Whether an answer to a file tells a model.
+fn tells_a_model(alloc: Global, text: &str, answer: &str) -> Result<bool, NoMemory> {
     let judged = loaded(alloc, text)?;
+    has_model(alloc, &judged, answer)
+}
+
+fn first_line_of(alloc: Global, text: &str) -> Result<String, NoMemory> {
     let answer = answer_to(alloc, text)?;
-    if !has_model(alloc, &judged, answer.as_str())? {
+    if !tells_a_model(alloc, text, answer.as_str())? {
         return Ok(String::new(alloc));
     }
     match answer.as_str().split_once("\n") {
