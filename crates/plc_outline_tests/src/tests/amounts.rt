@@ -4,7 +4,7 @@
 ghost use Rattle.plc_setting.specs.Fit.{Fits};
 
 use crate::tests::deep::DEEP;
-use crate::tests::loading::{Asked, asked};
+use crate::tests::loading::{Asked, answered};
 use plc_base::{Items, LARGEST_FILE, NoMemory};
 use plc_check::{Judged, LoadFault, load};
 use plc_ground::{GroundSet, Lit};
@@ -116,7 +116,7 @@ impl Asked for Sums {
 }
 
 fn answer(alloc: Global, file: &str, from: u64, most: u64) -> Result<String, NoMemory> {
-    asked(alloc, file, &Sums { from, most })
+    answered(alloc, file, &Sums { from, most })
 }
 
 // How many clauses are counted for the obligation with a number.
@@ -169,7 +169,7 @@ fn sets_are_as_large_as_the_format_says(rt: HostRuntime) -> Result<(), NoMemory>
     );
     let full = format!(in alloc; "{WIDE}{FULL}}}\n")?;
     assert_eq!(rt;
-        asked(alloc, full.as_str(), &Counted { i: 33 })?.as_str(),
+        answered(alloc, full.as_str(), &Counted { i: 33 })?.as_str(),
         "65536"
     );
     assert_eq!(rt;

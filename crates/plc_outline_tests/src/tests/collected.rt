@@ -4,7 +4,7 @@ ghost use Rattle.plc_flow.specs.WellFormed.{FlowFits};
 ghost use Rattle.plc_flow.specs.WellSorted.{FlowIsWellSorted};
 ghost use Rattle.plc_gc.specs.Position.{IsOfRun};
 
-use crate::tests::loading::{Asked, asked};
+use crate::tests::loading::{Asked, answered};
 use plc_base::{FieldId, Items, NoMemory, OpId};
 use plc_check::Judged;
 use plc_flow::{Flow, Move, Place, StartFault};
@@ -231,7 +231,7 @@ impl<'a> Asked for Run<'a> {
 }
 
 fn ran(alloc: Global, file: &str, lines: &str) -> Result<String, NoMemory> {
-    asked(alloc, file, &Run { lines })
+    answered(alloc, file, &Run { lines })
 }
 
 // One thread pushes a node; then it pushes a second one while the other thread pops and retires the first, so that

@@ -6,7 +6,7 @@ ghost use Rattle.plc_gc.specs.Position.{IsOfRun};
 ghost use Rattle.plc_run.specs.Position.{IsOfRun as IsOfMemoryRun};
 
 use crate::tests::collected::move_of;
-use crate::tests::loading::{Asked, asked};
+use crate::tests::loading::{Asked, answered};
 use plc_base::NoMemory;
 use plc_check::Judged;
 use plc_flow::Place;
@@ -111,7 +111,7 @@ impl<'a> Asked for BothRuns<'a> {
 }
 
 fn ran(alloc: Global, file: &str, lines: &str) -> Result<String, NoMemory> {
-    asked(alloc, file, &BothRuns { lines })
+    answered(alloc, file, &BothRuns { lines })
 }
 
 const STACK: &str = "struct Node { ptr next; }

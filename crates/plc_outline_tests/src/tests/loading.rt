@@ -44,6 +44,10 @@ fn lent<A: Asked>(alloc: Global, judged: Judged, question: &A) -> Result<String,
     question.answer(alloc, &judged)
 }
 
-pub(crate) fn asked<A: Asked>(alloc: Global, text: &str, question: &A) -> Result<String, NoMemory> {
+pub(crate) fn answered<A: Asked>(
+    alloc: Global,
+    text: &str,
+    question: &A,
+) -> Result<String, NoMemory> {
     lent(alloc, loaded(alloc, text)?, question)
 }

@@ -4,7 +4,7 @@
 ghost use Rattle.plc_setting.specs.Fit.{Fits};
 
 use crate::tests::deep::DEEP;
-use crate::tests::loading::{Asked, asked};
+use crate::tests::loading::{Asked, answered};
 use plc_base::NoMemory;
 use plc_check::Judged;
 use plc_flow::Flow;
@@ -83,7 +83,7 @@ impl<'a> Asked for Listed<'a> {
 }
 
 fn answer(alloc: Global, file: &str, numbers: &[u64]) -> Result<String, NoMemory> {
-    asked(alloc, file, &Listed { numbers })
+    answered(alloc, file, &Listed { numbers })
 }
 
 #[test]

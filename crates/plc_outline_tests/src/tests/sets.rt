@@ -5,7 +5,7 @@ ghost use Rattle.plc_setting.specs.Fit.{Fits};
 
 use crate::tests::checksums::{OF_DEEP, OF_HAZARDS};
 use crate::tests::deep::DEEP;
-use crate::tests::loading::{Asked, asked};
+use crate::tests::loading::{Asked, answered};
 use crate::tests::whole_sets::{CLAIM, DEEP_START, ENTER, OTHER, OWN, START};
 use plc_base::NoMemory;
 use plc_check::Judged;
@@ -149,7 +149,7 @@ impl Asked for SetAt {
 }
 
 fn answer(alloc: Global, file: &str, i: u64) -> Result<String, NoMemory> {
-    asked(alloc, file, &SetAt { i })
+    answered(alloc, file, &SetAt { i })
 }
 
 // The same of the stack with hazard pointers.
