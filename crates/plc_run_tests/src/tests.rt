@@ -7,3 +7,4 @@ mod reclaimers;
 mod replays;
 mod schedules;
 mod types;
+mod typings;

@@ -1,16 +1,11 @@
-// Types by the written rules: the order, the rows of effects and conditions, what interference leaves, and
-// the strongest typing. A type is written as its guarantees, `ALS`, `AS`, `S` or `-`, with its locations.
+// Types by the written rules: the order, the rows of effects and conditions, and what interference leaves. A
+// type is written as its guarantees, `ALS`, `AS`, `S` or `-`, with its locations.
 ghost use Rattle.std.specs.Prelude.{IfOk};
-ghost use Rattle.plc_lang.specs.Fit.{FileFits};
-ghost use Rattle.plc_flow.specs.WellFormed.{FlowFits};
 ghost use Rattle.plc_xfer.specs.Rules.{FitsObserver};
 
-use crate::tests::moves::loaded;
 use crate::tests::observers::{push_set, set_of};
 use plc_auto::Observer;
 use plc_base::{FieldId, FuncId, Items, Mask, NoMemory};
-use plc_check::Judged;
-use plc_infer::infer;
 use plc_lang::{Arg, GhostVal, Num, Prim, Rel, Var};
 use plc_type::{Env, Guar, PtrType, below, env_below, env_join, join};
 use plc_xfer::{TypeFault, apply, condition, interfere};
@@ -59,7 +54,7 @@ fn push_type(text: &mut String, of: &PtrType) -> Result<(), AllocError> {
 }
 
 // The shared pointers, the locals, and where any address may stand.
-fn push_env(text: &mut String, env: &Env) -> Result<(), AllocError> {
+pub(crate) fn push_env(text: &mut String, env: &Env) -> Result<(), AllocError> {
     for of in env.shared.as_slice() {
         push_type(text, of)?;
     }
@@ -530,76 +525,6 @@ fn interference_leaves_what_no_other_thread_takes(rt: HostRuntime) -> Result<(),
         let (before, observer, after) = *row;
         let have = interfered(rt.alloc(), &observer, before)?;
         assert_eq!(rt; have.as_str(), after, "{before}");
-    }
-    Ok(())
-}
-
-// The types of each point, a line for each.
-fn typing_text(alloc: Global, envs: &[Env]) -> Result<String, AllocError> {
-    let mut text = String::new(alloc);
-    for env in envs {
-        push_env(&mut text, env)?;
-        text.push('\n')?;
-    }
-    Ok(text)
-}
-
-// The strongest typing of a file.
-fn inferred_in(alloc: Global, judged: &Judged) -> Result<String, AllocError>
-    requires flow { FlowFits judged.now.flow }
-    requires file { FileFits judged.now.flow.file }
-{
-    match infer(alloc, &judged.flow, &judged.observer) {
-        Ok(typing) => typing_text(alloc, typing.env.as_slice()),
-        Err(fault) => format!(in alloc; "{fault:?}"),
-    }
-}
-
-fn inferred(alloc: Global, text: &str) -> Result<String, NoMemory> {
-    let judged = loaded(alloc, text)?;
-    Ok(inferred_in(alloc, &judged)?)
-}
-
-const TYPINGS: &str = "# struct N { } shared T;
-# struct N { ptr f; data d; } shared T; op g(v) { ptr n; ptr a; ptr b; n := new; n.d := v; T := n; }
--01 / ALS ALS ALS / 01
--01 / -01 ALS ALS / 01
--01 / ALS0 ALS ALS / 01
--01 / ALS0 ALS ALS / 01
--01 / -01 ALS ALS / 01
-# struct N { ptr f; data d; } shared T; call p(ptr); use hazard(p); op g(v) { ptr n; ptr a; ptr b; n := new; \
-    n.d := v; T := n; }
--0123456 / ALS ALS ALS / 0123456
--0123456 / -012346 ALS ALS / 0123456
--0123456 / ALS012 ALS ALS / 0123456
--0123456 / ALS012 ALS ALS / 0123456
--0123456 / -012346 ALS ALS / 0123456
-# struct N { ptr f; data d; } shared T; op g(v) { ptr n; n := new; T := n; n.d := v; }
-Stuck { step: StepId(2), prim: 0, fault: DerefNotSafe { var: Local(0) } }
-# struct N { ptr f; } shared T; op g() { ptr p; ptr q; loop { choose { break; } or { q := p; p := T; } } }
--01 / ALS ALS / 01
--01 / -01 -01 / 01
--01 / -01 -01 / 01
--01 / -01 -01 / 01
--01 / -01 -01 / 01
-- / ALS ALS / 
--01 / -01 -01 / 01
--01 / -01 -01 / 01
--01 / -01 -01 / 01
--01 / -01 -01 / 01
-";
-
-#[test]
-fn each_point_has_its_strongest_types(rt: HostRuntime) -> Result<(), NoMemory> {
-    for row in TYPINGS.split("# ") {
-        if !row.is_empty() {
-            let (file, want) = row.split_once("\n").unwrap_or((row, "?"));
-            assert_eq!(rt;
-                inferred(rt.alloc(), file)?.as_str().trim_end(),
-                want.trim_end(),
-                "{file}"
-            );
-        }
     }
     Ok(())
 }
