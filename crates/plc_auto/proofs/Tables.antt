@@ -1,14 +1,15 @@
 -- Facts on the three tables. Each is a test of every live location, of what an event may be to a table, and of own or
 -- other and this or other; it computes for each observer, and `each_at` turns the test into the fact.
 use Rattle.std.proofs.Common.{◌≡◌, ℕ, zero, suc, ◌<◌, Bool, true, false, not, ◌&&◌, ◌||◌, ◌==◌, Option, Some, None, is_none, refl, sym, ap, ◌∙◌, subst, arith, inl, inr}
-use Rattle.std.specs.Prelude.{nat_lt}
+use Rattle.std.specs.Prelude.{nat_lt, IfSome}
 use Rattle.std.proofs.lemmas.Bool.{and_parts, and_from, cases_eq, ltb-true, eqb-true, eq-eqb, not-true, not_from_false, both_ways}
 use Rattle.plc_base.specs.declared.ids.FuncId.{FuncId}
+use Rattle.plc_base.specs.declared.ids.LocId.{LocId}
 use Rattle.plc_auto.specs.declared.event.EvKind.{EvKind}
 use Rattle.plc_auto.specs.declared.event.EvKind.TheVariants.{Call, Done, Free}
 use Rattle.plc_auto.specs.declared.observer.Observer.{Observer}
 use Rattle.plc_auto.specs.declared.observer.Observer.TheVariants.{Plain, Hazard, Epoch}
-use Rattle.plc_auto.specs.Table.{Label, retires, asks, granted, gives_up, frees, bears, asks_by, gives_up_by, along, edges_of, count_of, step, is_well_formed}
+use Rattle.plc_auto.specs.Table.{Label, retires, asks, granted, gives_up, frees, bears, asks_by, gives_up_by, along, edges_of, count_of, step, target_of, is_well_formed}
 use Rattle.plc_base.specs.Functions.{is_retire}
 use Rattle.plc_auto.specs.Location.{is_retired_location}
 use Rattle.plc_auto.specs.Laws.{is_free, is_retirement}
@@ -123,6 +124,15 @@ live_table = by_tables (λ o. each o (λ l x by_own on_this k. is_live o k) ≡ 
 pub step_live : (o : Observer) (l k : ℕ) (kind : EvKind) (by_own on_this : Bool) → l < count_of o → step o l kind by_own on_this ≡ Some k → k < count_of o
 step_live o l k kind by_own on_this h e =
     ltb-true k (count_of o) (subst (λ j. is_live o j ≡ true) e (each_at o (λ l x by_own on_this k. is_live o k) (live_table o) l kind by_own on_this h))
+
+-- the edges of an observer's table lead where its step leads
+pub along_step : (o table : Observer) (l : ℕ) (kind : EvKind) (by_own on_this : Bool) {q : Option ℕ} → o ≡ table → q ≡ along (bears table kind) by_own on_this l (edges_of table) → q ≡ step o l kind by_own on_this
+unfolding step
+along_step o table l kind by_own on_this is e = e ∙ ap (λ o. along (bears o kind) by_own on_this l (edges_of o)) (sym is)
+
+pub target_live : (o : Observer) (l : ℕ) (kind : EvKind) (by_own on_this : Bool) (q : Option LocId) → l < count_of o → target_of q ≡ step o l kind by_own on_this → IfSome q (λ k. k.0 < count_of o)
+target_live o l kind by_own on_this None h e = tt
+target_live o l kind by_own on_this (Some k) h e = step_live o l k.0 kind by_own on_this h (sym e)
 
 -- ---- only a free of the address leads to `bad`
 

@@ -17,3 +17,4 @@ pub use laws::{
 };
 pub use observer::Observer;
 pub use set_laws::{closures_are_least, sets_grow, sets_of_locations};
+pub use table::R_KEPT;

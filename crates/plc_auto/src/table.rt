@@ -27,7 +27,7 @@ const R_ASKED: u16 = 4;
 
 const R_GRANTED: u16 = 5;
 
-// retired while it was protected
+/// `r.kept` of `hazard` and of `epoch`: the address was retired while this thread protected it.
 pub const R_KEPT: u16 = 6;
 
 const PLAIN_NAMES: [&[u8]; 2] = [b"u", b"r"];

@@ -12,7 +12,7 @@ use Rattle.plc_lex.specs.declared.token.Keyword.TheVariants.{Null, Cas, Me, None
 use Rattle.plc_lex.specs.declared.token.Symbol.{Symbol as Punctuation}
 use Rattle.plc_lex.specs.declared.token.Symbol.TheVariants.{Assign, Refresh, Equal, Unequal, AtLeast, Less, OpenBrace}
 use Rattle.plc_lex.specs.declared.token.Symbol.TheVariants.{CloseBrace, OpenParen, CloseParen, Semicolon, Comma, Dot}
-use Rattle.plc_syntax.specs.Table.{same_symbol}
+use Rattle.plc_syntax.specs.Table.{same_punctuation}
 use Rattle.plc_syntax.specs.Trees.{Text, FieldTree, PointerField, DataField, PlaceTree, PlaceOf, AtomTree, NullAtom}
 use Rattle.plc_syntax.specs.Trees.{NumberAtom, NameAtom, ValueTree, NullValue, NewValue, NumberValue, PlaceValue}
 use Rattle.plc_syntax.specs.Trees.{SetTree, SetName, SetField, RefreshTree, RefreshName, RefreshField, GhostValueTree}
@@ -52,7 +52,7 @@ word_of word ts = None
 
 -- a symbol
 abbrev pub symbol_of : Punctuation → List TokenKind → Option (List TokenKind)
-symbol_of symbol (Symbol found ∷ rest) = if same_symbol found symbol then Some rest else None
+symbol_of symbol (Symbol found ∷ rest) = if same_punctuation found symbol then Some rest else None
 symbol_of symbol ts = None
 
 -- a name, the first parameter

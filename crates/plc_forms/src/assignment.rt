@@ -47,10 +47,10 @@ pub fn place_at<'a>(rest: Rest<'a>) -> Option<(Place<'a>, Rest<'a>)>
 fn value_at<'a>(rest: Rest<'a>) -> Option<(Value<'a>, Rest<'a>)>
     ensures { Reads value_of value_tree value_size rest.entry result }
 {
-    match first(rest)? {
-        (TokenKind::Word(Keyword::Null), after) => Some((Value::Null, after)),
-        (TokenKind::Word(Keyword::New), after) => Some((Value::New, after)),
-        (TokenKind::Number(n), after) => Some((Value::Number(*n), after)),
+    match first(rest) {
+        Some((TokenKind::Word(Keyword::Null), after)) => Some((Value::Null, after)),
+        Some((TokenKind::Word(Keyword::New), after)) => Some((Value::New, after)),
+        Some((TokenKind::Number(n), after)) => Some((Value::Number(*n), after)),
         _ => {
             let (place, after) = place_at(rest)?;
             Some((Value::Place(place), after))
@@ -62,10 +62,10 @@ fn value_at<'a>(rest: Rest<'a>) -> Option<(Value<'a>, Rest<'a>)>
 pub fn atom_at<'a>(rest: Rest<'a>) -> Option<(Atom<'a>, Rest<'a>)>
     ensures { Reads atom_of atom_tree (λ _. 1) rest.entry result }
 {
-    match first(rest)? {
-        (TokenKind::Word(Keyword::Null), after) => Some((Atom::Null, after)),
-        (TokenKind::Number(n), after) => Some((Atom::Number(*n), after)),
-        (TokenKind::Name(name), after) => Some((Atom::Name(name.as_slice()), after)),
+    match first(rest) {
+        Some((TokenKind::Word(Keyword::Null), after)) => Some((Atom::Null, after)),
+        Some((TokenKind::Number(n), after)) => Some((Atom::Number(*n), after)),
+        Some((TokenKind::Name(name), after)) => Some((Atom::Name(name.as_slice()), after)),
         _ => None,
     }
 }
@@ -136,10 +136,10 @@ pub fn refresh_at<'a>(rest: Rest<'a>) -> Option<(Refresh<'a>, Rest<'a>)>
 fn ghost_value_at<'a>(rest: Rest<'a>) -> Option<(GhostValue<'a>, Rest<'a>)>
     ensures { Reads ghost_value_of ghost_value_tree (λ _. 1) rest.entry result }
 {
-    match first(rest)? {
-        (TokenKind::Name(name), after) => Some((GhostValue::Name(name.as_slice()), after)),
-        (TokenKind::Word(Keyword::Me), after) => Some((GhostValue::Me, after)),
-        (TokenKind::Word(Keyword::None), after) => Some((GhostValue::None, after)),
+    match first(rest) {
+        Some((TokenKind::Name(name), after)) => Some((GhostValue::Name(name.as_slice()), after)),
+        Some((TokenKind::Word(Keyword::Me), after)) => Some((GhostValue::Me, after)),
+        Some((TokenKind::Word(Keyword::None), after)) => Some((GhostValue::None, after)),
         _ => None,
     }
 }

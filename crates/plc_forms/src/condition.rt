@@ -17,11 +17,11 @@ use plc_lex::{Keyword, Symbol, TokenKind};
 fn relation_at<'a>(rest: Rest<'a>) -> Option<(Relation, Rest<'a>)>
     ensures { Reads comparison_of relation_tree (λ _. 1) rest.entry result }
 {
-    match first(rest)? {
-        (TokenKind::Symbol(Symbol::Equal), after) => Some((Relation::Same, after)),
-        (TokenKind::Symbol(Symbol::Unequal), after) => Some((Relation::Other, after)),
-        (TokenKind::Symbol(Symbol::Less), after) => Some((Relation::Less, after)),
-        (TokenKind::Symbol(Symbol::AtLeast), after) => Some((Relation::NotLess, after)),
+    match first(rest) {
+        Some((TokenKind::Symbol(Symbol::Equal), after)) => Some((Relation::Same, after)),
+        Some((TokenKind::Symbol(Symbol::Unequal), after)) => Some((Relation::Other, after)),
+        Some((TokenKind::Symbol(Symbol::Less), after)) => Some((Relation::Less, after)),
+        Some((TokenKind::Symbol(Symbol::AtLeast), after)) => Some((Relation::NotLess, after)),
         _ => None,
     }
 }
@@ -45,9 +45,9 @@ pub fn test_at<'a>(rest: Rest<'a>) -> Option<(Test<'a>, Rest<'a>)>
 fn name_or_null_at<'a>(rest: Rest<'a>) -> Option<(Option<&'a [u8]>, Rest<'a>)>
     ensures { Reads name_or_null_of text_or_none (λ _. 1) rest.entry result }
 {
-    match first(rest)? {
-        (TokenKind::Name(name), after) => Some((Some(name.as_slice()), after)),
-        (TokenKind::Word(Keyword::Null), after) => Some((None, after)),
+    match first(rest) {
+        Some((TokenKind::Name(name), after)) => Some((Some(name.as_slice()), after)),
+        Some((TokenKind::Word(Keyword::Null), after)) => Some((None, after)),
         _ => None,
     }
 }
@@ -113,8 +113,8 @@ fn named_condition_at<'a>(rest: Rest<'a>) -> Option<(Condition<'a>, Rest<'a>)>
 pub fn condition_at<'a>(rest: Rest<'a>) -> Option<(Condition<'a>, Rest<'a>)>
     ensures { Reads condition_of condition_tree condition_size rest.entry result }
 {
-    match first(rest)? {
-        (TokenKind::Word(Keyword::Cas), after) => cas_condition_at(after),
+    match first(rest) {
+        Some((TokenKind::Word(Keyword::Cas), after)) => cas_condition_at(after),
         _ => named_condition_at(rest),
     }
 }

@@ -27,12 +27,12 @@ pub fn struct_at<'a>(rest: Rest<'a>) -> Option<(&'a [u8], Rest<'a>)>
 pub fn declaration_at<'a>(rest: Rest<'a>) -> Option<(Declaration<'a>, Rest<'a>)>
     ensures { Reads field_of field_tree (λ _. 3) rest.entry result }
 {
-    match first(rest)? {
-        (TokenKind::Word(Keyword::Ptr), after) => {
+    match first(rest) {
+        Some((TokenKind::Word(Keyword::Ptr), after)) => {
             let (name, after) = name_symbol_at(after, Symbol::Semicolon)?;
             Some((Declaration::Pointer(name), after))
         }
-        (TokenKind::Word(Keyword::Data), after) => {
+        Some((TokenKind::Word(Keyword::Data), after)) => {
             let (name, after) = name_symbol_at(after, Symbol::Semicolon)?;
             Some((Declaration::Data(name), after))
         }

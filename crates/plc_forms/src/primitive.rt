@@ -27,17 +27,17 @@ fn named_at<'a>(rest: Rest<'a>) -> Option<(Primitive<'a>, Rest<'a>)>
 fn primitive_at<'a>(rest: Rest<'a>) -> Option<(Primitive<'a>, Rest<'a>)>
     ensures { Reads primitive_of primitive_tree primitive_size rest.entry result }
 {
-    match first(rest)? {
-        (TokenKind::Word(Keyword::Skip), after) => Some((Primitive::Skip, after)),
-        (TokenKind::Word(Keyword::Active), after) => {
+    match first(rest) {
+        Some((TokenKind::Word(Keyword::Skip), after)) => Some((Primitive::Skip, after)),
+        Some((TokenKind::Word(Keyword::Active), after)) => {
             let (name, after) = name_at(after)?;
             Some((Primitive::Active(name), after))
         }
-        (TokenKind::Word(Keyword::Assume), after) => {
+        Some((TokenKind::Word(Keyword::Assume), after)) => {
             let (test, after) = test_at(after)?;
             Some((Primitive::Assume(test), after))
         }
-        (TokenKind::Word(Keyword::Ghost), _) => {
+        Some((TokenKind::Word(Keyword::Ghost), _)) => {
             let (set, after) = ghost_set_at(rest)?;
             Some((Primitive::Ghost(set), after))
         }

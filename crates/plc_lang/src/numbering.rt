@@ -27,7 +27,7 @@ pub fn pointer_place(locals: &[Local], number: u16) -> Option<usize>
     None
 }
 
-/// The same of a data local, by its number among the data locals.
+/// The place of a data local, by its number among the data locals.
 pub fn data_place(locals: &[Local], number: u16) -> Option<usize>
     ensures { result ≡ data_place locals.now number }
 {

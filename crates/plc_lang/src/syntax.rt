@@ -106,7 +106,7 @@ pub enum Primitive {
 }
 
 /// The condition of an `if`.
-#[derive(Clone, Copy, Debug, PartialEq, Eq)]
+#[derive(Clone, Copy)]
 pub enum Cond {
     /// A test, one of `Eq`, `Ne`, `IsNull`, `NotNull` and `DataTest`.
     Test(Primitive),
@@ -163,7 +163,7 @@ pub struct Line {
 }
 
 /// A local of an operation, parameters before declarations.
-#[derive(Clone, Copy, Debug, PartialEq, Eq)]
+#[derive(Clone, Copy)]
 pub struct Local {
     /// The number of its name among the names of the file.
     pub name: u16,
@@ -183,7 +183,7 @@ pub struct Op {
 }
 
 /// A field of the struct.
-#[derive(Clone, Copy, Debug, PartialEq, Eq)]
+#[derive(Clone, Copy)]
 pub struct Field {
     /// The number of its name among the names of the file.
     pub name: u16,
@@ -191,7 +191,7 @@ pub struct Field {
 }
 
 /// A reclaimer function. The first of a file is `retire`, which takes a pointer.
-#[derive(Clone, Copy, Debug, PartialEq, Eq)]
+#[derive(Clone, Copy)]
 pub struct Func {
     /// The number of its name among the names of the file.
     pub name: u16,
@@ -200,7 +200,7 @@ pub struct Func {
 }
 
 /// An auxiliary field of a node.
-#[derive(Debug, Drop)]
+#[derive(Drop)]
 pub struct Ghost {
     /// The number of its name among the names of the file.
     pub name: u16,

@@ -79,7 +79,7 @@ pub enum Symbol {
 }
 
 /// What a token is.
-#[derive(Debug, Drop)]
+#[derive(Drop)]
 pub enum TokenKind {
     Word(Keyword),
     /// A name's bytes, at least 1 and at most 64.
@@ -89,7 +89,7 @@ pub enum TokenKind {
 }
 
 /// A token with its place.
-#[derive(Debug, Drop)]
+#[derive(Drop)]
 pub struct Token {
     pub kind: TokenKind,
     /// The bytes that spell it.

@@ -7,4 +7,4 @@ mod numbering;
 mod parts;
 mod sample;
 
-pub use sample::{MOST_COPIES, lines_of, text};
+pub use sample::{lines_of, text};

@@ -1,7 +1,7 @@
 // The whole text of a sample, and the same without one line.
 ghost use Rattle.std.specs.Prelude.{◌≡◌, ◌≤◌, ◌+◌, ◌++◌, IfOk, OnOk, length};
-ghost use Rattle.plc_base.specs.Limits.{largest_file};
-ghost use Rattle.plc_sample.specs.Numbers.{most_copies, sample_lines};
+ghost use Rattle.plc_base.specs.Limits.{largest_file, most_copies};
+ghost use Rattle.plc_sample.specs.Numbers.{sample_lines};
 ghost use Rattle.plc_sample.specs.Sample.{whole_text, kept_byte, without_from, sample_text};
 ghost use Rattle.plc_lex.specs.Spelling.{line_feeds};
 ghost use Rattle.plc_sample.specs.Sample.{lines_out};
@@ -10,9 +10,6 @@ use crate::numbering::push_copies;
 use crate::parts::{clauses, declarations, ending, invariants, operations};
 use plc_base::NoMemory;
 use std::alloc::{AllocError, Global};
-
-/// So many copies a sample may have.
-pub const MOST_COPIES: u32 = 16;
 
 /// How many lines a sample with so many copies has.
 pub fn lines_of(copies: u32) -> u32
@@ -58,7 +55,7 @@ fn without_line(alloc: Global, text: &[u8], without: usize) -> Result<Vec<u8>, A
     Ok(out)
 }
 
-/// The sample with `k` copies of the operations, from 1 to [`MOST_COPIES`], without line `n`, which is one of its
+/// The sample with `k` copies of the operations, from 1 to `MOST_COPIES`, without line `n`, which is one of its
 /// [`lines_of`] counted from 1, or whole where `n` is 0. It has that many lines, or one fewer, each ended by a line
 /// feed, and is short enough for a file. The one error is that memory runs out.
 pub fn text(alloc: Global, k: u8, n: u16) -> Result<Vec<u8>, NoMemory>

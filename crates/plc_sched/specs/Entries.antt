@@ -3,7 +3,7 @@ use Rattle.std.specs.Prelude.{◌≡◌, ◌<◌, ◌≤◌, ◌&&◌, ◌^◌, 
 use Rattle.std.specs.Prelude.{List, [], ◌∷◌, length, map, codes, nat_le, Option, Some, None, All}
 use Rattle.std.specs.List.{list_all, join_with_byte}
 use Rattle.std.specs.Fmt.{decimal}
-use Rattle.plc_base.specs.Limits.{most_name_bytes, most_threads, most_addresses}
+use Rattle.plc_base.specs.Limits.{most_name_bytes, most_threads, most_addresses, greatest_place}
 use Rattle.plc_lex.specs.Characters.{is_letter, in_name}
 use Rattle.plc_sched.specs.declared.schedule.Entry.{Entry}
 use Rattle.plc_sched.specs.declared.schedule.Entry.TheVariants.{Start, Step, Return, Tick}
@@ -57,7 +57,7 @@ pub record StartFits (threads t : ℕ) (op args : List ℕ) : Type 0 where
 -- a step among so many threads
 pub record StepFits (threads t nth : ℕ) (addr : Option ℕ) : Type 0 where
   pub thread : t < threads
-  pub place : nth ≤ 65535
+  pub place : nth ≤ greatest_place
   pub address : AddressFits addr
 
 -- an entry among so many threads

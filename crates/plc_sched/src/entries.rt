@@ -13,7 +13,7 @@ use crate::fault::SchedFault;
 use crate::numbers::{last_number, next_number, numbers};
 use crate::schedule::Entry;
 use crate::words::{Words, next_word};
-use plc_base::{Items, MOST_ADDRESSES, MOST_NAME_BYTES};
+use plc_base::{GREATEST_PLACE, Items, MOST_ADDRESSES, MOST_NAME_BYTES};
 use plc_lex::{in_name, is_letter};
 use std::alloc::Global;
 
@@ -78,7 +78,7 @@ fn read_step(threads: u32, words: Words) -> Option<Entry>
     ensures { IsEntryOf threads (codes "step" ∷ words_left words.entry) result }
 {
     let (t, words) = next_number(words, 0, threads - 1)?;
-    let (nth, words) = next_number(words, 0, 65535)?;
+    let (nth, words) = next_number(words, 0, GREATEST_PLACE)?;
     let addr = address(words)?;
     Some(Entry::Step {
         t,

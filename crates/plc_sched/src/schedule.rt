@@ -3,7 +3,7 @@
 use plc_base::Items;
 
 /// One move of a recorded run.
-#[derive(Debug, Drop)]
+#[derive(Drop)]
 pub enum Entry {
     /// Thread `t` begins the operation named `op`, a name of 1 to 64 bytes, with at most 32 arguments.
     Start {
@@ -27,7 +27,7 @@ pub enum Entry {
 
 /// A recorded run: how many threads there are, 1 to 64, and its moves in order, at most 99,999. The
 /// thread of each entry is below `threads`. Entry i stands on line i + 2.
-#[derive(Debug, Drop)]
+#[derive(Drop)]
 pub struct Schedule {
     pub threads: u32,
     pub entries: Items<Entry>,

@@ -3,7 +3,7 @@ use Rattle.std.specs.Prelude.{◌==◌, ◌&&◌, not, ◌+◌, ℕ, Bool, true,
 use Rattle.std.specs.Prelude.{slice_get, codes, Option, Some, None, Result, Ok, Err}
 use Rattle.std.specs.List.{list_any}
 use Rattle.plc_base.specs.Functions.{is_retire}
-use Rattle.plc_base.specs.Limits.{most}
+use Rattle.plc_base.specs.Limits.{most, most_names}
 use Rattle.plc_base.specs.Names.{NameList, place_of}
 use Rattle.plc_base.specs.declared.ids.FieldId.{FieldId}
 use Rattle.plc_base.specs.declared.ids.FuncId.{FuncId}
@@ -29,10 +29,6 @@ infixl 10 ◌>>=◌
 abbrev pub ◌>>=◌ : {A B : Type 0} → Result A ParseFault → (A → Result B ParseFault) → Result B ParseFault
 (Ok x) >>= f = f x
 (Err e) >>= f = Err e
-
--- far more than the limits of a file let it have
-abbrev pub most_names : ℕ
-most_names = 65535
 
 -- `retire` is declared from the start
 abbrev pub first_scope : Scope

@@ -4,7 +4,7 @@ use plc_base::{FieldId, FuncId};
 use plc_lang::Var;
 
 /// What a name stands for outside operations.
-#[derive(Clone, Copy, Debug, PartialEq, Eq)]
+#[derive(Clone, Copy)]
 pub enum Binding {
     /// The struct, an operation or a label, which stand for no value.
     Taken,
@@ -22,7 +22,7 @@ pub enum Binding {
 }
 
 /// What a name is in an operation.
-#[derive(Clone, Copy, Debug, PartialEq, Eq)]
+#[derive(Clone, Copy)]
 pub enum Role {
     PointerVariable(Var),
     DataLocal(u16),

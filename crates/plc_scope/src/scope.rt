@@ -14,12 +14,9 @@ ghost use Rattle.plc_scope.specs.declared.binding.Binding.TheVariants.{LocalOnly
 
 use crate::binding::Binding;
 use crate::fault::ParseFault;
-use plc_base::{FuncId, Items, NameFault, Names, What1};
+use plc_base::{FuncId, Items, MOST_NAMES, NameFault, Names, What1};
 use plc_lang::Local;
 use std::alloc::Global;
-
-/// How many names the list of names may have.
-const MOST_NAMES: u16 = 65535;
 
 /// The names in reach.
 #[derive(Drop)]

@@ -410,13 +410,13 @@ may_be_empty (Part OrLiterals) = true
 may_be_empty _ = false
 
 -- whether two symbols are one
-abbrev pub same_symbol : Punctuation → Punctuation → Bool
-same_symbol a b = sameb punctuation.the_type a b
+abbrev pub same_punctuation : Punctuation → Punctuation → Bool
+same_punctuation a b = sameb punctuation.the_type a b
 
 -- what is still to come after a token
 abbrev pub after_expected : Expected → TokenKind → Option (List Expected)
 after_expected Name (kinds.Name n) = Some []
 after_expected Number (kinds.Number n) = Some []
-after_expected (Symbol wanted) (kinds.Symbol found) = cond (same_symbol wanted found) (Some []) None
+after_expected (Symbol wanted) (kinds.Symbol found) = cond (same_punctuation wanted found) (Some []) None
 after_expected (Part part) t = after_part part t
 after_expected _ _ = None

@@ -4,7 +4,7 @@
 use plc_lex::Symbol;
 
 /// A part of the grammar.
-#[derive(Clone, Copy, Debug, PartialEq, Eq)]
+#[derive(Clone, Copy)]
 pub enum Part {
     /// A whole file.
     File,
@@ -105,7 +105,7 @@ pub enum Part {
 }
 
 /// What is still to come.
-#[derive(Clone, Copy, Debug, PartialEq, Eq)]
+#[derive(Clone, Copy)]
 pub enum Expected {
     Name,
     Number,
