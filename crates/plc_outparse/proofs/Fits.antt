@@ -7,6 +7,8 @@ use Rattle.std.proofs.lemmas.List.{length-append}
 use Rattle.std.proofs.lemmas.Option.{slice_get_within}
 use Rattle.std.proofs.lemmas.List.Elements.{All-nil, All-cons, All-append, All-push}
 use Rattle.std.proofs.lemmas.List.Quantifiers.{position-Some}
+use Rattle.plc_base.specs.Limits.{most}
+use Rattle.plc_base.specs.declared.limits.What1.TheVariants as limits
 use Rattle.plc_base.specs.Names.{NameList, place_of}
 use Rattle.plc_lang.specs.declared.syntax.Local.{Local}
 use Rattle.plc_lang.specs.declared.syntax.Op.{Op}
@@ -207,7 +209,7 @@ module _ (file : File) (r : Reach) (names : NamesOf r.scope file) where
       next (λ y. HasSort w y x.1) (LiteralFits w) (second_means r x.1 (at + term_size a + 1) b) _ (second_sorted x.1 (at + term_size a + 1) b) (λ y k. (x.1, h, k)))
 
   record CountedFits (n : ℕ) (l : Literal) : Type 0 where
-    fewer : n < 16
+    fewer : n < most limits.Literals
     fits : LiteralFits w l
 
   no_literal : (n : ℕ) (b c : Bool) (e f g : ParseFault) → Has (CountedFits n) (if b then Err e else (if c then Err f else Err g))
@@ -215,13 +217,13 @@ module _ (file : File) (r : Reach) (names : NamesOf r.scope file) where
   no_literal n false true e f g = tt
   no_literal n false false e f g = tt
 
-  counted_fits : (n at : ℕ) (m : Result Literal ParseFault) → n ≤ 16 → Has (LiteralFits w) m → Has (CountedFits n) (counted n at m)
-  counted_fits n at (Ok l) le h = below (CountedFits n) n 16 _ (Ok l) le (λ less. record { fewer = less; fits = h })
-  counted_fits n at (Err e) le h = no_literal n (stands_at at e) (n == 16) _ _ _
+  counted_fits : (n at : ℕ) (m : Result Literal ParseFault) → n ≤ most limits.Literals → Has (LiteralFits w) m → Has (CountedFits n) (counted n at m)
+  counted_fits n at (Ok l) le h = below (CountedFits n) n (most limits.Literals) _ (Ok l) le (λ less. record { fewer = less; fits = h })
+  counted_fits n at (Err e) le h = no_literal n (stands_at at e) (n == most limits.Literals) _ _ _
 
   record LiteralsFit (s : Literals) : Type 0 where
     some : 0 < length s.0
-    count : length s.0 ≤ 16
+    count : length s.0 ≤ most limits.Literals
     each : All (LiteralFits w) s.0
 
   step_fits : (s : Literals) (l : LiteralTree) → LiteralsFit s → Has LiteralsFit (literal_step r s l)
@@ -382,16 +384,16 @@ module _ (file : File) (s : Scope) (names : NamesOf s file) where
   -- ---- items
 
   record PartsFit (st : Parts) : Type 0 where
-    invariants : length st.0 ≤ 64
+    invariants : length st.0 ≤ most limits.Invariants
     each_invariant : All (InvariantFits file) st.0
-    items : length st.1 ≤ 256
+    items : length st.1 ≤ most limits.Items
     each_item : All (ItemFits file) st.1
 
   -- the locals of an operation that is there
   own_locals : (k : ℕ) (op : Op) (c : Clause) → slice_get file.ops k ≡ Some op → ClauseFits file (locals_of file.ops k) true c → ClauseFits file op.locals true c
   own_locals k op c e h = subst (λ (ls : List Local). ClauseFits file ls true c) (ap locals_or_none e) h
 
-  invariant_more : (st : Parts) (c : Clause × ℕ) → PartsFit st → length st.0 < 64 → InvariantFits file c.0 → PartsFit (with_invariant st c)
+  invariant_more : (st : Parts) (c : Clause × ℕ) → PartsFit st → length st.0 < most limits.Invariants → InvariantFits file c.0 → PartsFit (with_invariant st c)
   invariant_more st c h less fits =
       let count = length-append st.0 (c.0 ∷ []) in
       record {
@@ -401,7 +403,7 @@ module _ (file : File) (s : Scope) (names : NamesOf s file) where
         each_item = h.each_item;
       }
 
-  item_more : (st : Parts) (site : Site) (c : Clause × ℕ) → PartsFit st → length st.1 < 256 → SiteFits file c.0 site → PartsFit (with_item st site c)
+  item_more : (st : Parts) (site : Site) (c : Clause × ℕ) → PartsFit st → length st.1 < most limits.Items → SiteFits file c.0 site → PartsFit (with_item st site c)
   item_more st site c h less fits =
       let item : Item = record { site = site; clause = c.0 } in
       let count = length-append st.1 (item ∷ []) in
@@ -414,13 +416,13 @@ module _ (file : File) (s : Scope) (names : NamesOf s file) where
 
   item_keeps : (st : Parts) (x : ItemTree) → PartsFit st → Has PartsFit (item_step s file.ops (labels_by_op file.ops) st x)
   unfolding item_step
-  item_keeps st (InvariantItem c) h = below PartsFit (length st.0) 64 _ _ h.invariants (λ less.
+  item_keeps st (InvariantItem c) h = below PartsFit (length st.0) (most limits.Invariants) _ _ h.invariants (λ less.
       next (λ k. InvariantFits file k.0) PartsFit (clause_line_means s [] false (st.2 + 1) c) _ (line_fits [] false (st.2 + 1) c) (λ k fits. invariant_more st k h less fits))
-  item_keeps st (OverItem name c) h = below PartsFit (length st.1) 256 _ _ h.items (λ less.
+  item_keeps st (OverItem name c) h = below PartsFit (length st.1) (most limits.Items) _ _ h.items (λ less.
       next IsOp PartsFit (op_at s file.ops name (st.2 + 1)) _ (op_is_there name (st.2 + 1)) (λ o is.
       next (λ k. ClauseFits file (locals_of file.ops o) true k.0) PartsFit (clause_line_means s (locals_of file.ops o) true (st.2 + 3) c) _ (line_fits (locals_of file.ops o) true (st.2 + 3) c) (λ k fits.
       item_more st (Over (record { 0 = o })) k h less (is.0, is.1, own_locals o is.0 k.0 is.1 fits))))
-  item_keeps st (AtItem name others c) h = below PartsFit (length st.1) 256 _ _ h.items (λ less.
+  item_keeps st (AtItem name others c) h = below PartsFit (length st.1) (most limits.Items) _ _ h.items (λ less.
       next AreLabels PartsFit (labels_mean s (labels_by_op file.ops) (st.2 + 1) name others) _ (labels_are (st.2 + 1) name others) (λ ls are.
       next (λ k. ClauseFits file (locals_of file.ops ls.1) true k.0) PartsFit (clause_line_means s (locals_of file.ops ls.1) true ls.0.1 c) _ (line_fits (locals_of file.ops ls.1) true ls.0.1 c) (λ k fits.
       item_more st (At ls.0.0) k h less (ls.1, are.0.0, are.0.1, are.1, own_locals ls.1 are.0.0 k.0 are.0.1 fits))))

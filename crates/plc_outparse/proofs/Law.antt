@@ -1,5 +1,7 @@
 -- What is read of the tokens of an outline's tree is what the tree means.
 use Rattle.std.proofs.Common.{◌≡◌, ◌==◌, ℕ, ◌+◌, ◌<◌, Bool, true, false, Option, Result, Ok, Err, List, [], ◌∷◌, length, refl, ap, ◌∙◌, arith}
+use Rattle.plc_base.specs.Limits.{most}
+use Rattle.plc_base.specs.declared.limits.What1.TheVariants as limits
 use Rattle.plc_lex.specs.declared.token.TokenKind.{TokenKind}
 use Rattle.plc_lex.specs.declared.token.TokenKind.TheVariants.{Symbol}
 use Rattle.plc_lex.specs.declared.token.Symbol.TheVariants.{CloseBrace, Semicolon, Colon}
@@ -83,13 +85,13 @@ labels_read s by_op at name names rest =
 module _ (s : Scope) (ops : List Op) (by_op : List (List ℕ)) where
   item_read : (st : Parts) (x : ItemTree) (rest : List TokenKind) → item_in s ops by_op st (item_front x) (item_after x rest) ≡ (item_step s ops by_op st x >>= λ t. Ok (t, rest))
   unfolding item_in item_step invariant_in over_in at_in
-  item_read st (InvariantItem c) rest = limit_within (length st.0 == 64) _ _ _ _
+  item_read st (InvariantItem c) rest = limit_within (length st.0 == most limits.Invariants) _ _ _ _
       (read_within (clause_line_in s [] false (st.2 + 1) (clause_then c (Symbol Semicolon ∷ rest))) (clause_line_means s [] false (st.2 + 1) c) (λ r. Ok (r, rest)) _ _ _ (clause_line_read s [] false (st.2 + 1) c rest) (λ k. refl))
-  item_read st (OverItem name c) rest = limit_within (length st.1 == 256) _ _ _ _
+  item_read st (OverItem name c) rest = limit_within (length st.1 == most limits.Items) _ _ _ _
       (bind_within (op_at s ops name (st.2 + 1)) _ _ _ (λ o.
       read_within (clause_line_in s (locals_of ops o) true (st.2 + 3) (clause_then c (Symbol Semicolon ∷ rest))) (clause_line_means s (locals_of ops o) true (st.2 + 3) c) (λ r. Ok (r, rest)) _ _ _
       (clause_line_read s (locals_of ops o) true (st.2 + 3) c rest) (λ k. refl)))
-  item_read st (AtItem name names c) rest = limit_within (length st.1 == 256) _ _ _ _
+  item_read st (AtItem name names c) rest = limit_within (length st.1 == most limits.Items) _ _ _ _
       (read_within (all_labels_in s by_op (st.2 + 1) name (item_after (AtItem name names c) rest)) (labels_mean s by_op (st.2 + 1) name names) (λ r. Ok (r, clause_then c (Symbol Semicolon ∷ rest))) _ _ _
       (labels_read s by_op (st.2 + 1) name names (clause_then c (Symbol Semicolon ∷ rest))) (λ ls.
       read_within (clause_line_in s (locals_of ops ls.1) true ls.0.1 (clause_then c (Symbol Semicolon ∷ rest))) (clause_line_means s (locals_of ops ls.1) true ls.0.1 c) (λ r. Ok (r, rest)) _ _ _

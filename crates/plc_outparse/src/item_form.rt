@@ -13,13 +13,13 @@ use plc_lex::{Keyword, Symbol, TokenKind};
 pub fn head_at<'a>(rest: Rest<'a>) -> Option<(Head<'a>, Rest<'a>)>
     ensures { Reads item_head_of head_tree head_size rest.entry result }
 {
-    match first(rest)? {
-        (TokenKind::Word(Keyword::Inv), after) => Some((Head::Invariant, after)),
-        (TokenKind::Word(Keyword::Over), after) => {
+    match first(rest) {
+        Some((TokenKind::Word(Keyword::Inv), after)) => Some((Head::Invariant, after)),
+        Some((TokenKind::Word(Keyword::Over), after)) => {
             let (name, after) = name_symbol_at(after, Symbol::Colon)?;
             Some((Head::Over(name), after))
         }
-        (TokenKind::Word(Keyword::At), after) => {
+        Some((TokenKind::Word(Keyword::At), after)) => {
             let (name, after) = name_at(after)?;
             Some((Head::At(name), after))
         }
@@ -45,8 +45,8 @@ pub fn outline_head_at<'a>(rest: Rest<'a>) -> Option<Rest<'a>>
 fn number_line_at<'a>(rest: Rest<'a>) -> Option<(Option<u32>, Rest<'a>)>
     ensures { Reads number_line_of (λ x. x) (λ t. depth_size t - 1) rest.entry result }
 {
-    match first(rest)? {
-        (TokenKind::Number(n), after) => {
+    match first(rest) {
+        Some((TokenKind::Number(n), after)) => {
             let after = symbol_at(after, Symbol::Semicolon)?;
             Some((Some(*n), after))
         }

@@ -19,11 +19,11 @@ use plc_lex::{Keyword, Symbol, TokenKind};
 fn side_at<'a>(rest: Rest<'a>) -> Option<(Side<'a>, Rest<'a>)>
     ensures { Reads term_of side_tree term_size rest.entry result }
 {
-    match first(rest)? {
-        (TokenKind::Word(Keyword::Null), after) => Some((Side::Null, after)),
-        (TokenKind::Word(Keyword::Me), after) => Some((Side::Me, after)),
-        (TokenKind::Word(Keyword::None), after) => Some((Side::None, after)),
-        (TokenKind::Number(n), after) => Some((Side::Number(*n), after)),
+    match first(rest) {
+        Some((TokenKind::Word(Keyword::Null), after)) => Some((Side::Null, after)),
+        Some((TokenKind::Word(Keyword::Me), after)) => Some((Side::Me, after)),
+        Some((TokenKind::Word(Keyword::None), after)) => Some((Side::None, after)),
+        Some((TokenKind::Number(n), after)) => Some((Side::Number(*n), after)),
         _ => {
             let (place, after) = place_at(rest)?;
             Some((Side::Place(place), after))
@@ -35,9 +35,9 @@ fn side_at<'a>(rest: Rest<'a>) -> Option<(Side<'a>, Rest<'a>)>
 fn equality_at<'a>(rest: Rest<'a>) -> Option<(bool, Rest<'a>)>
     ensures { Reads equality_of (λ x. x) (λ _. 1) rest.entry result }
 {
-    match first(rest)? {
-        (TokenKind::Symbol(Symbol::Equal), after) => Some((true, after)),
-        (TokenKind::Symbol(Symbol::Unequal), after) => Some((false, after)),
+    match first(rest) {
+        Some((TokenKind::Symbol(Symbol::Equal), after)) => Some((true, after)),
+        Some((TokenKind::Symbol(Symbol::Unequal), after)) => Some((false, after)),
         _ => None,
     }
 }
@@ -64,12 +64,12 @@ fn equation_at<'a>(rest: Rest<'a>) -> Option<(LiteralForm<'a>, Rest<'a>)>
 pub fn literal_at<'a>(rest: Rest<'a>) -> Option<(LiteralForm<'a>, Rest<'a>)>
     ensures { Reads literal_of literal_tree literal_size rest.entry result }
 {
-    match first(rest)? {
-        (TokenKind::Word(Keyword::Not), after) => {
+    match first(rest) {
+        Some((TokenKind::Word(Keyword::Not), after)) => {
             let (name, after) = flag_at(after)?;
             Some((LiteralForm::NotRetired(name), after))
         }
-        (TokenKind::Word(Keyword::Retired), _) => {
+        Some((TokenKind::Word(Keyword::Retired), _)) => {
             let (name, after) = flag_at(rest)?;
             Some((LiteralForm::Retired(name), after))
         }

@@ -39,10 +39,7 @@ fn op_named(scope: &Scope, ops: &[Op], name: &[u8]) -> Option<u16>
     requires { length ops.now ≤ most limits.Ops }
     ensures { result ≡ op_named ops.now (place_of name.now scope.now.names.names) }
 {
-    match scope.names.find(name) {
-        Some(number) => op_with_name(ops, number),
-        None => None,
-    }
+    op_with_name(ops, scope.names.find(name)?)
 }
 
 /// The operation that a name at a place is; `Undeclared`, or `WrongSort` for another thing.
@@ -85,10 +82,7 @@ fn label_named(scope: &Scope, name: &[u8]) -> Option<u16>
     requires { length scope.now.labels ≤ most limits.Labels }
     ensures { result ≡ label_named scope.now.labels (place_of name.now scope.now.names.names) }
 {
-    match scope.names.find(name) {
-        Some(number) => label_with_name(scope.labels.as_slice(), number),
-        None => None,
-    }
+    label_with_name(scope.labels.as_slice(), scope.names.find(name)?)
 }
 
 /// The label that a name at a place is, and its operation. `Undeclared` and `WrongSort` where it is none.

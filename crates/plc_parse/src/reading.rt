@@ -2,7 +2,7 @@
 // they can stand in no other order, and looks each name up where it stands.
 ghost use Rattle.std.specs.Prelude.{◌≡◌, ◌≤◌, ◌<◌, ◌^◌, ◌+◌, ◌-◌, ◌*◌, ◌∷◌, Some, Ok, [], true, length, IfOk};
 ghost use Rattle.std.specs.Prelude.{IfErr};
-ghost use Rattle.plc_base.specs.Limits.{most};
+ghost use Rattle.plc_base.specs.Limits.{most, most_names};
 ghost use Rattle.plc_lang.specs.Fit.{FileFits, NamesWhatIsThere};
 ghost use Rattle.plc_lang.specs.WellSorted.{FileIsWellSorted};
 ghost use Rattle.plc_lex.specs.declared.token.Token.{Token};
@@ -10,7 +10,7 @@ ghost use Rattle.plc_syntax.specs.Syntax.{kinds};
 ghost use Rattle.plc_forms.specs.Sizes.{watch_size};
 ghost use Rattle.plc_forms.specs.Views.{watch_tree};
 ghost use Rattle.plc_scope.specs.Answers.{Gives, HasRoom, Within};
-ghost use Rattle.plc_scope.specs.Scope.{most_names, most_locals};
+ghost use Rattle.plc_scope.specs.Scope.{most_locals};
 ghost use Rattle.plc_parse.specs.declared.unit.Unit.{Unit as FileUnit};
 ghost use Rattle.plc_parse.specs.Fit.{ObserverFits, UnitsFit};
 ghost use Rattle.plc_parse.specs.Growth.{AddsNamesWithin, IsLeftOf, op_names, most_labels, ghost_names, front_names};

@@ -1,6 +1,8 @@
 -- How scopes grow: names, labels and bindings stay, and what is declared has the number of its name.
 use Rattle.std.proofs.Common.{◌≡◌, ◌==◌, inl, inr, ℕ, zero, suc, ◌+◌, false, Option, Some, None, option_map, Result, Ok, Err, List, [], ◌∷◌, ◌++◌, length, slice_get, refl, sym, ap, ◌∙◌, subst, arith}
 use Rattle.std.proofs.lemmas.List.{length-append}
+use Rattle.plc_base.specs.Limits.{most}
+use Rattle.plc_base.specs.declared.limits.What1.TheVariants as limits
 use Rattle.plc_base.specs.Names.{place_of}
 use Rattle.plc_lang.specs.declared.syntax.File.{File}
 use Rattle.plc_syntax.specs.Trees.{Text}
@@ -99,15 +101,15 @@ module _ (file : File) where
   }
 
   pub label_found : (s : Scope) (at : ℕ) (n : Text) → Has (Found (LabelRead s n) (λ a. label_means s a n)) (label_means s at n)
-  label_found s at n = unless (Found (LabelRead s n) (λ a. label_means s a n)) (length s.labels == 256) _ _ (λ below.
+  label_found s at n = unless (Found (LabelRead s n) (λ a. label_means s a n)) (length s.labels == most limits.Labels) _ _ (λ below.
       new_label (declared s n (at + 1) Taken) below (declared_found s n (at + 1) Taken))
     where
-      new_label : (r : Result Scope ParseFault) → (length s.labels == 256) ≡ false → Has (Found (Declares n Taken s) (λ a. declared s n a Taken)) r
+      new_label : (r : Result Scope ParseFault) → (length s.labels == most limits.Labels) ≡ false → Has (Found (Declares n Taken s) (λ a. declared s n a Taken)) r
           → Has (Found (LabelRead s n) (λ a. label_means s a n)) ((r >>= λ t. Ok (with_label t (length s.names.names))) >>= λ t. Ok (length s.labels, t))
       new_label (Err e) below h = tt
       new_label (Ok t) below h = record {
         named = label_declared s t n h.named;
-        again = λ a. within (length s.labels == 256) _ _ _ below (ap (λ (r : Result Scope ParseFault). (r >>= λ t. Ok (with_label t (length s.names.names))) >>= λ t. Ok (length s.labels, t)) (h.again (a + 1)));
+        again = λ a. within (length s.labels == most limits.Labels) _ _ _ below (ap (λ (r : Result Scope ParseFault). (r >>= λ t. Ok (with_label t (length s.names.names))) >>= λ t. Ok (length s.labels, t)) (h.again (a + 1)));
       }
 
   pub record DuringRead (s : Scope) (d : Option Text) (x : Option ℕ × Scope) : Type 0 where

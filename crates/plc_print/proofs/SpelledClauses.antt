@@ -1,6 +1,7 @@
 -- Each clause of an outline that is read is spelled by the tree that it was read from, and comes again at every place.
 use Rattle.std.proofs.Common.{◌≡◌, ◌==◌, ℕ, suc, ◌+◌, Bool, true, false, if◌then◌else◌, Option, Some, None, IfSome, option_map, Result, Ok, Err, List, [], ◌∷◌, ◌++◌, map, length, slice_get, refl, sym, ap, ap₂, ◌∙◌, append_assoc, append-nil, eqb-true, arith}
 use Rattle.std.proofs.lemmas.Option.{get_or_from_slice_get}
+use Rattle.plc_base.specs.Limits.{most}
 use Rattle.plc_base.specs.Names.{NameList, place_of}
 use Rattle.plc_base.specs.declared.limits.What1.TheVariants as limits
 use Rattle.plc_lang.specs.Names.{name_at, field_name, auxiliary_name, value_name, local_name}
@@ -222,9 +223,9 @@ module _ (file : File) (s : Scope) (bound : Bound file s) where
         record { named = λ e. ap₂ (λ (v w : TermTree). EqualityLiteral v is_equal w) (h e) (g e); again = λ a. refl }))
 
     counted_found : (n at : ℕ) (l : LiteralTree) (m : Result Literal ParseFault) → Has (Found (IsLiteral l) (λ a. literal_means here a l)) m → Has (Found (IsLiteral l) (λ a. counted n a (literal_means here a l))) (counted n at m)
-    counted_found n at l (Ok x) h = unless (Found (IsLiteral l) (λ a. counted n a (literal_means here a l))) (n == 16) (faults.Limit limits.Literals 17) (Ok x) (λ below.
-        record { named = h.named; again = λ a. ap (counted n a) (h.again a) ∙ within (n == 16) (faults.Limit limits.Literals 17) (Ok x) (Ok x) below refl })
-    counted_found n at l (Err e) h = both_err (Found (IsLiteral l) (λ a. counted n a (literal_means here a l))) (stands_at at e) (n == 16) e (faults.Limit limits.Literals 17) e
+    counted_found n at l (Ok x) h = unless (Found (IsLiteral l) (λ a. counted n a (literal_means here a l))) (n == most limits.Literals) (faults.Limit limits.Literals (most limits.Literals + 1)) (Ok x) (λ below.
+        record { named = h.named; again = λ a. ap (counted n a) (h.again a) ∙ within (n == most limits.Literals) (faults.Limit limits.Literals (most limits.Literals + 1)) (Ok x) (Ok x) below refl })
+    counted_found n at l (Err e) h = both_err (Found (IsLiteral l) (λ a. counted n a (literal_means here a l))) (stands_at at e) (n == most limits.Literals) e (faults.Limit limits.Literals (most limits.Literals + 1)) e
 
     step_found : (st : List Literal × ℕ) (l : LiteralTree) → Has (OneMore (Ends file s) (literal_tree file ls quantified.names) (literal_step here) st l) (literal_step here st l)
     unfolding literal_step

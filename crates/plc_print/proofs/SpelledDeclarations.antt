@@ -1,5 +1,7 @@
 -- Declarations that are read are spelled by the trees they were read from, and what they bind is as the file has it.
 use Rattle.std.proofs.Common.{◌≡◌, ◌==◌, ℕ, suc, ◌+◌, true, false, Option, Some, option_map, Result, List, [], ◌∷◌, map, slice_get, refl, ap, ap₂, ◌∙◌, subst, add-zero, arith}
+use Rattle.plc_base.specs.Limits.{most}
+use Rattle.plc_base.specs.declared.limits.What1.TheVariants as limits
 use Rattle.plc_lang.specs.declared.syntax.File.{File}
 use Rattle.plc_lang.specs.declared.syntax.Field.{Field}
 use Rattle.plc_lang.specs.declared.syntax.Func.{Func}
@@ -73,13 +75,13 @@ module _ (file : File) where
   OneField = OneRead file FieldTree Field field_means field_spelled FieldThere
 
   pub field_found : (s : Scope) (n at : ℕ) (f : FieldTree) → Has (OneField s n f) (field_means s n at f)
-  field_found s n at (PointerFieldTree name) = unless (OneField s n (PointerFieldTree name)) (n == 8) _ _ (λ less.
+  field_found s n at (PointerFieldTree name) = unless (OneField s n (PointerFieldTree name)) (n == most limits.Fields) _ _ (λ less.
       next (Found (Declares file name (PointerField (record { 0 = n })) s) (λ a. declared s name a (PointerField (record { 0 = n })))) _ (declared s name (at + 1) (PointerField (record { 0 = n }))) _ (declared_found file s name (at + 1) (PointerField (record { 0 = n }))) (λ t d there. record {
         goes = goes_by file s t name (PointerField (record { 0 = n })) d.named (λ b. ap (option_map (λ (x : Field). x.name)) there);
         locals = d.named.locals;
         tree = λ e. ap PointerFieldTree (declared_name file s t name (PointerField (record { 0 = n })) d.named e);
       }))
-  field_found s n at (DataFieldTree name) = unless (OneField s n (DataFieldTree name)) (n == 8) _ _ (λ less.
+  field_found s n at (DataFieldTree name) = unless (OneField s n (DataFieldTree name)) (n == most limits.Fields) _ _ (λ less.
       next (Found (Declares file name (DataField (record { 0 = n })) s) (λ a. declared s name a (DataField (record { 0 = n })))) _ (declared s name (at + 1) (DataField (record { 0 = n }))) _ (declared_found file s name (at + 1) (DataField (record { 0 = n }))) (λ t d there. record {
         goes = goes_by file s t name (DataField (record { 0 = n })) d.named (λ b. ap (option_map (λ (x : Field). x.name)) there);
         locals = d.named.locals;
@@ -93,7 +95,7 @@ module _ (file : File) where
   OneShared = OneRead file Text ℕ shared_means (name_at file) SharedThere
 
   pub shared_found : (s : Scope) (n at : ℕ) (name : Text) → Has (OneShared s n name) (shared_means s n at name)
-  shared_found s n at name = unless (OneShared s n name) (n == 16) _ _ (λ less.
+  shared_found s n at name = unless (OneShared s n name) (n == most limits.Shared) _ _ (λ less.
       next (Found (Declares file name (Shared n) s) (λ a. declared s name a (Shared n))) _ (declared s name (at + 1) (Shared n)) _ (declared_found file s name (at + 1) (Shared n)) (λ t d there. record {
         goes = goes_by file s t name (Shared n) d.named (λ b. there);
         locals = d.named.locals;
@@ -111,7 +113,7 @@ module _ (file : File) where
   OneFunction = OneRead file FunctionTree Func function_means function_spelled FunctionThere
 
   pub function_declared : (s : Scope) (n at : ℕ) (f : FunctionTree) → Has (OneFunction s n f) (function_means s n at f)
-  function_declared s n at (FunctionDeclares name p) = unless (OneFunction s n (FunctionDeclares name p)) (n == 16) _ _ (λ less.
+  function_declared s n at (FunctionDeclares name p) = unless (OneFunction s n (FunctionDeclares name p)) (n == most limits.Calls) _ _ (λ less.
       next (Found (Declares file name (Function (record { 0 = n + 1 }) p) s) (λ a. declared s name a (Function (record { 0 = n + 1 }) p))) _ (declared s name (at + 1) (Function (record { 0 = n + 1 }) p)) _ (declared_found file s name (at + 1) (Function (record { 0 = n + 1 }) p)) (λ t d there. record {
         goes = goes_by file s t name (Function (record { 0 = n + 1 }) p) d.named (λ b. ap (option_map (λ (x : Func). x.name)) there);
         locals = d.named.locals;
@@ -129,7 +131,7 @@ module _ (file : File) where
   value_declared : (s : Scope) (g k at : ℕ) (name : Text) → Has (OneValue s g k name) (value_means s g k at name)
   value_declared s g k at name =
       next (Found (Declares file name (Value g k) s) (λ a. declared s name a (Value g k))) (OneValue s g k name) (declared s name at (Value g k)) _ (declared_found file s name at (Value g k)) (λ t d.
-      unless (OneValue s g k name) (k == 16) _ _ (λ less there. record { goes = goes_by file s t name (Value g k) d.named (λ b. there); locals = d.named.locals; tree = λ e. declared_name file s t name (Value g k) d.named e }))
+      unless (OneValue s g k name) (k == most limits.Values) _ _ (λ less there. record { goes = goes_by file s t name (Value g k) d.named (λ b. there); locals = d.named.locals; tree = λ e. declared_name file s t name (Value g k) d.named e }))
 
   abbrev ManyValues : Scope → ℕ → ℕ → List Text → List ℕ × Scope × ℕ → Type 0
   ManyValues s g k names r = AllThere (ValueThere g) k r.0 → Spelled file (map (name_at file)) s names r.0 r.1
@@ -151,13 +153,13 @@ module _ (file : File) where
   OneGhost = OneRead file GhostTree Ghost ghost_means ghost_spelled GhostThere
 
   pub ghost_declared : (s : Scope) (n at : ℕ) (g : GhostTree) → Has (OneGhost s n g) (ghost_means s n at g)
-  ghost_declared s n at (AuxiliaryTree name OfThreads) = unless (OneGhost s n (AuxiliaryTree name OfThreads)) (n == 4) _ _ (λ less.
+  ghost_declared s n at (AuxiliaryTree name OfThreads) = unless (OneGhost s n (AuxiliaryTree name OfThreads)) (n == most limits.Ghosts) _ _ (λ less.
       next (Found (Declares file name (Auxiliary n true) s) (λ a. declared s name a (Auxiliary n true))) _ (declared s name (at + 1) (Auxiliary n true)) _ (declared_found file s name (at + 1) (Auxiliary n true)) (λ t d there. record {
         goes = goes_by file s t name (Auxiliary n true) d.named (λ b. ap (option_map (λ (x : Ghost). x.name)) there);
         locals = d.named.locals;
         tree = λ e. ap (λ m. AuxiliaryTree m OfThreads) (declared_name file s t name (Auxiliary n true) d.named e);
       }))
-  ghost_declared s n at (AuxiliaryTree name (OneOf v vs)) = unless (OneGhost s n (AuxiliaryTree name (OneOf v vs))) (n == 4) _ _ (λ less.
+  ghost_declared s n at (AuxiliaryTree name (OneOf v vs)) = unless (OneGhost s n (AuxiliaryTree name (OneOf v vs))) (n == most limits.Ghosts) _ _ (λ less.
       next (Found (Declares file name (Auxiliary n false) s) (λ a. declared s name a (Auxiliary n false))) _ (declared s name (at + 1) (Auxiliary n false)) _ (declared_found file s name (at + 1) (Auxiliary n false)) (λ t d.
       next (OneValue t n 0 v) _ (value_means t n 0 (at + 3) v) _ (value_declared t n 0 (at + 3) v) (λ first f.
       next (ManyValues first.1 n 1 vs) _ (values_mean first.1 n 1 (at + 4) vs) _ (values_declared first.1 n 1 (at + 4) vs) (λ others h there.

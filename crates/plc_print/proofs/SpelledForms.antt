@@ -1,5 +1,6 @@
 -- The primitives of an atomic block and of `init`: those that stay mean the same.
 use Rattle.std.proofs.Common.{◌≡◌, ◌==◌, ℕ, ◌+◌, Bool, true, false, cond, ◌&&◌, ◌||◌, if◌then◌else◌, Option, Some, None, Result, Ok, Err, List, [], ◌∷◌, map, filter, refl, sym, ap, ap₂, ◌∙◌, add-zero}
+use Rattle.plc_base.specs.Limits.{most}
 use Rattle.plc_base.specs.declared.limits.What1.TheVariants as limits
 use Rattle.plc_lang.specs.declared.syntax.Primitive.{Primitive}
 use Rattle.plc_scope.specs.declared.fault.ParseFault.{ParseFault}
@@ -25,9 +26,9 @@ module _ {X : Type 0} (means : ℕ → X → Result (Option Primitive) ParseFaul
   counted_found : (n : ℕ) (has_new : Bool) (x : X) (at : ℕ) (m : Result (Option Primitive) ParseFault) → Has (Found (Is x) (λ a. means a x)) m → Has (Found (Is x) (λ a. counted n has_new a (means a x))) (counted n has_new at m)
   counted_found n has_new x at (Ok None) h = record { named = h.named; again = λ a. ap (counted n has_new a) (h.again a) }
   counted_found n has_new x at (Ok (Some k)) h =
-      unless _ (n == 64) _ _ (λ below. unless _ (has_new && is_new k) _ _ (λ one.
-      record { named = h.named; again = λ a. ap (counted n has_new a) (h.again a) ∙ within (n == 64) (faults.Limit limits.Prims 65) _ _ below (within (has_new && is_new k) (faults.Limit limits.News 2) _ _ one refl) }))
-  counted_found n has_new x at (Err e) h = refused _ (stands_at at e) (n == 64) e _ e
+      unless _ (n == most limits.Prims) _ _ (λ below. unless _ (has_new && is_new k) _ _ (λ one.
+      record { named = h.named; again = λ a. ap (counted n has_new a) (h.again a) ∙ within (n == most limits.Prims) (faults.Limit limits.Prims (most limits.Prims + 1)) _ _ below (within (has_new && is_new k) (faults.Limit limits.News (most limits.News + 1)) _ _ one refl) }))
+  counted_found n has_new x at (Err e) h = refused _ (stands_at at e) (n == most limits.Prims) e _ e
 
   -- the same primitives, from those forms alone that stay
   pub record FormsRead (n : ℕ) (has_new : Bool) (xs : List X) (r : List Primitive × ℕ) : Type 0 where

@@ -2,6 +2,8 @@
 use Rattle.std.proofs.Common.{◌≡◌, ◌==◌, ℕ, ◌+◌, Bool, true, false, if◌then◌else◌, Option, Some, None, Result, Ok, Err, List, [], ◌∷◌, ◌++◌, map, filter, slice_get, length, refl, sym, ap, ap₂, ◌∙◌, append_assoc, append-nil}
 use Rattle.std.proofs.lemmas.List.{map-append}
 use Rattle.std.proofs.lemmas.List.Elements.{filter-append}
+use Rattle.plc_base.specs.Limits.{most}
+use Rattle.plc_base.specs.declared.limits.What1.TheVariants as limits
 use Rattle.plc_base.specs.Names.{place_of}
 use Rattle.plc_lang.specs.Locals.{is_parameter}
 use Rattle.plc_lang.specs.declared.syntax.File.{File}
@@ -69,16 +71,16 @@ module _ (file : File) where
 
   local_found : (s : Scope) (name : Text) (at : ℕ) (p : Bool) → Has (Found (Adds s name p false) (λ a. declared_local s name a p)) (declared_local s name at p)
   unfolding declared_local
-  local_found s name at p = unless (Found (Adds s name p false) (λ a. declared_local s name a p)) (length s.locals == 32) _ _ (λ less.
+  local_found s name at p = unless (Found (Adds s name p false) (λ a. declared_local s name a p)) (length s.locals == most limits.Locals) _ _ (λ less.
       next (Found (NumberRead s name) (λ a. local_number (place_of name s.names.names) s name a)) _ (local_number (place_of name s.names.names) s name at) _ (number_found s name at) (λ x f.
-      record { named = one_more s name p false x f.named; again = λ a. within (length s.locals == 32) _ _ _ less (after _ _ _ _ (f.again a) refl) }))
+      record { named = one_more s name p false x f.named; again = λ a. within (length s.locals == most limits.Locals) _ _ _ less (after _ _ _ _ (f.again a) refl) }))
 
   parameter_found : (s : Scope) (name : Text) (at : ℕ) → Has (Found (Adds s name false true) (λ a. declared_parameter s name a)) (declared_parameter s name at)
   unfolding declared_parameter
   parameter_found s name at =
       next (Found (NumberRead s name) (λ a. local_number (place_of name s.names.names) s name a)) (Found (Adds s name false true) (λ a. declared_parameter s name a)) (local_number (place_of name s.names.names) s name at) _ (number_found s name at) (λ x f.
-      unless (Found (Adds s name false true) (λ a. declared_parameter s name a)) (length s.locals == 32) _ _ (λ less.
-      record { named = one_more s name false true x f.named; again = λ a. after _ _ _ _ (f.again a) (within (length s.locals == 32) _ _ _ less refl) }))
+      unless (Found (Adds s name false true) (λ a. declared_parameter s name a)) (length s.locals == most limits.Locals) _ _ (λ less.
+      record { named = one_more s name false true x f.named; again = λ a. after _ _ _ _ (f.again a) (within (length s.locals == most limits.Locals) _ _ _ less refl) }))
 
   -- ---- parameters and other locals in order
 
@@ -175,7 +177,7 @@ module _ (file : File) where
     between : Between r.1
     read : Read file (λ (ls : List Local) (p : Op). op_tree file p) op_without_lines (λ lines at. op_means lines s n at (normal_op o)) s (normal_op o) r
 
-  op_read : (lines : List ℕ) (s t : Scope) (n at : ℕ) (name : Text) (ps : List Text) (ls : List FieldTree) (body : BlockTree) (p l : Scope × ℕ) (b : Statements × Scope × ℕ) → Between s → (n == 32) ≡ false
+  op_read : (lines : List ℕ) (s t : Scope) (n at : ℕ) (name : Text) (ps : List Text) (ls : List FieldTree) (body : BlockTree) (p l : Scope × ℕ) (b : Statements × Scope × ℕ) → Between s → (n == most limits.Ops) ≡ false
       → Found (Declares file name Taken s) (λ a. declared s name a Taken) t → LocalsRead t ps [] (λ a. parameters_mean t a ps) p → LocalsRead p.0 [] ls (λ a. locals_mean p.0 a ls) l → BlockRead file l.0 false body b
       → OneOp s n (Operates name ps ls body) (record { name = length s.names.names; locals = l.0.locals; body = b.0; line = line_at lines at }, without_locals b.1, b.2 + 1)
   op_read lines s t n at name ps ls body p l b before less d f g h =
@@ -202,14 +204,14 @@ module _ (file : File) where
               record {
                 value = record { name = length s.names.names; locals = l.0.locals; body = w.value; line = line_at ms a };
                 place = w.place + 1;
-                means = within (n == 32) _ _ _ less (after _ _ _ _ (d.again (a + 1)) (after _ _ _ _ q.1 (after _ _ _ _ r.1 (after _ _ _ _ w.means refl))));
+                means = within (n == most limits.Ops) _ _ _ less (after _ _ _ _ (d.again (a + 1)) (after _ _ _ _ q.1 (after _ _ _ _ r.1 (after _ _ _ _ w.means refl))));
                 as_before = ap (λ (y : Statements). record { name = length s.names.names; locals = l.0.locals; body = y; line = 0 }) w.as_before;
               };
         };
       }
 
   op_found : (lines : List ℕ) (s : Scope) (n at : ℕ) (o : OpTree) → Between s → Has (OneOp s n o) (op_means lines s n at o)
-  op_found lines s n at (Operates name ps ls body) before = unless (OneOp s n (Operates name ps ls body)) (n == 32) _ _ (λ less.
+  op_found lines s n at (Operates name ps ls body) before = unless (OneOp s n (Operates name ps ls body)) (n == most limits.Ops) _ _ (λ less.
       next (Found (Declares file name Taken s) (λ a. declared s name a Taken)) (OneOp s n (Operates name ps ls body)) (declared s name (at + 1) Taken) _ (declared_found file s name (at + 1) Taken) (λ t d.
       next (LocalsRead t ps [] (λ a. parameters_mean t a ps)) (OneOp s n (Operates name ps ls body)) (parameters_mean t (at + 3) ps) _ (parameters_found t (at + 3) ps) (λ p f.
       next (LocalsRead p.0 [] ls (λ a. locals_mean p.0 a ls)) (OneOp s n (Operates name ps ls body)) (locals_mean p.0 (p.1 + 2) ls) _ (locals_found p.0 (p.1 + 2) ls) (λ l g.

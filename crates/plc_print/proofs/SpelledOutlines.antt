@@ -2,6 +2,7 @@
 use Rattle.std.proofs.Common.{◌≡◌, ◌==◌, ℕ, zero, suc, ◌+◌, Bool, true, false, cond, not, ◌||◌, Option, Some, None, IfSome, option_map, Result, Ok, Err, List, [], ◌∷◌, ◌++◌, map, filter, length, slice_get, refl, sym, ap, ap₂, ◌∙◌, append_assoc, append-nil, eqb-true, arith}
 use Rattle.std.specs.List.{position_from}
 use Rattle.std.proofs.lemmas.Option.{IfSome_then}
+use Rattle.plc_base.specs.Limits.{most}
 use Rattle.plc_base.specs.Names.{place_of}
 use Rattle.plc_base.specs.declared.limits.What1.TheVariants as limits
 use Rattle.plc_lang.specs.Locals.{locals_of}
@@ -153,15 +154,15 @@ module _ (file : File) (s : Scope) (bound : Bound file s) where
 
   part_found : (st : Parts) (x : ItemTree) → Has (PartRead st x) (step st x)
   unfolding item_step
-  part_found st (InvariantItem c) = unless (InvariantRead st (InvariantItem c)) (length st.0 == 64) _ _ (λ below.
+  part_found st (InvariantItem c) = unless (InvariantRead st (InvariantItem c)) (length st.0 == most limits.Invariants) _ _ (λ below.
       next (ClauseRead file s bound [] (λ a. clause_line_means s [] false a c) c) _ (clause_line_means s [] false (st.2 + 1) c) _ (line_found file s bound [] false (st.2 + 1) c) (λ k f. record {
         clause = k.0;
         is = refl;
         others = refl;
         tree = λ e. ap InvariantItem (f.tree e);
-        again = λ items at. let one = f.again (at + 1) in (one.0, within (length st.0 == 64) (faults.Limit limits.Invariants 65) _ _ below (after _ _ _ _ one.1 refl));
+        again = λ items at. let one = f.again (at + 1) in (one.0, within (length st.0 == most limits.Invariants) (faults.Limit limits.Invariants (most limits.Invariants + 1)) _ _ below (after _ _ _ _ one.1 refl));
       }))
-  part_found st (OverItem n c) = unless (ItemRead st (OverItem n c)) (length st.1 == 256) _ _ (λ below.
+  part_found st (OverItem n c) = unless (ItemRead st (OverItem n c)) (length st.1 == most limits.Items) _ _ (λ below.
       next (Found (IsOp n) (op_at s file.ops n)) _ (op_at s file.ops n (st.2 + 1)) _ (op_found n (st.2 + 1)) (λ o f.
       next (ClauseRead file s bound (locals_of file.ops o) (λ a. clause_line_means s (locals_of file.ops o) true a c) c) _ (clause_line_means s (locals_of file.ops o) true (st.2 + 3) c) _
       (line_found file s bound (locals_of file.ops o) true (st.2 + 3) c) (λ k g. record {
@@ -169,9 +170,9 @@ module _ (file : File) (s : Scope) (bound : Bound file s) where
         is = refl;
         others = refl;
         tree = λ e. ap₂ OverItem (f.named e) (g.tree e);
-        again = λ invariants at. let one = g.again (at + 3) in (one.0, within (length st.1 == 256) (faults.Limit limits.Items 257) _ _ below (after _ _ _ _ (f.again (at + 1)) (after _ _ _ _ one.1 refl)));
+        again = λ invariants at. let one = g.again (at + 3) in (one.0, within (length st.1 == most limits.Items) (faults.Limit limits.Items (most limits.Items + 1)) _ _ below (after _ _ _ _ (f.again (at + 1)) (after _ _ _ _ one.1 refl)));
       })))
-  part_found st (AtItem n names c) = unless (ItemRead st (AtItem n names c)) (length st.1 == 256) _ _ (λ below.
+  part_found st (AtItem n names c) = unless (ItemRead st (AtItem n names c)) (length st.1 == most limits.Items) _ _ (λ below.
       next (LabelsRead n names) _ (labels_mean s by_op (st.2 + 1) n names) _ (labels_found (st.2 + 1) n names) (λ ls f.
       next (ClauseRead file s bound (locals_of file.ops ls.1) (λ a. clause_line_means s (locals_of file.ops ls.1) true a c) c) _ (clause_line_means s (locals_of file.ops ls.1) true ls.0.1 c) _
       (line_found file s bound (locals_of file.ops ls.1) true ls.0.1 c) (λ k g. record {
@@ -182,7 +183,7 @@ module _ (file : File) (s : Scope) (bound : Bound file s) where
         again = λ invariants at.
             let labels = f.again (at + 1) in
             let one = g.again labels.0 in
-            (one.0, within (length st.1 == 256) (faults.Limit limits.Items 257) _ _ below (after _ _ _ _ labels.1 (after _ _ _ _ one.1 refl)));
+            (one.0, within (length st.1 == most limits.Items) (faults.Limit limits.Items (most limits.Items + 1)) _ _ below (after _ _ _ _ labels.1 (after _ _ _ _ one.1 refl)));
       })))
 
   abbrev is_other : ItemTree → Bool
