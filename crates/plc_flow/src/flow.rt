@@ -9,7 +9,7 @@ use plc_lang::{File, Prim};
 use std::alloc::AllocError;
 
 /// A step of an operation.
-#[derive(Debug, Drop)]
+#[derive(Drop)]
 pub struct Step {
     pub op: OpId,
     pub from: PointId,
@@ -20,7 +20,7 @@ pub struct Step {
 }
 
 /// The points of an operation: from `first` to below `after`.
-#[derive(Clone, Copy, Debug, PartialEq, Eq)]
+#[derive(Clone, Copy)]
 pub struct Gate {
     pub entry: PointId,
     pub exit: PointId,
@@ -57,7 +57,7 @@ impl From<AllocError> for FlowFault {
 }
 
 /// A move of a run.
-#[derive(Debug, Drop)]
+#[derive(Drop)]
 pub enum Move {
     /// Thread `t`, which is idle, starts an operation with one number for each parameter.
     Start { t: u32, op: OpId, args: Items<u32> },
@@ -70,7 +70,7 @@ pub enum Move {
 }
 
 /// A place of the memory that holds a number.
-#[derive(Clone, Copy, Debug, PartialEq, Eq)]
+#[derive(Clone, Copy)]
 pub enum Place {
     /// A shared pointer.
     Shared(u16),

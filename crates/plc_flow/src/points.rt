@@ -10,7 +10,7 @@ use crate::flow::{Flow, Step};
 use plc_lang::{Prim, is_new};
 
 /// The operation and the point of a thread.
-#[derive(Clone, Copy, Debug, PartialEq, Eq)]
+#[derive(Clone, Copy)]
 pub struct Point {
     pub op: u16,
     pub at: u16,

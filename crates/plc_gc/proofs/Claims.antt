@@ -1,7 +1,8 @@
 -- The claims that a step reaches.
-use Rattle.std.proofs.Common.{◌≡◌, ℕ, Bool, true, false, List, [], ◌∷◌, ◌++◌, Some, not, ◌||◌, refl, sym, ap, ◌∙◌}
+use Rattle.std.proofs.Common.{◌≡◌, ℕ, ◌+◌, ◌<◌, length, get_or, drop, append_assoc, Bool, true, false, List, [], ◌∷◌, ◌++◌, Some, not, ◌||◌, refl, sym, ap, ◌∙◌}
 use Rattle.std.specs.List.{list_any}
 use Rattle.std.proofs.lemmas.Bool.{or_parts}
+use Rattle.std.proofs.lemmas.List.{at_drop_more}
 use Rattle.std.specs.Prelude.{if◌then◌else◌, ◌↔◌}
 use Rattle.plc_lang.specs.declared.syntax.Primitive.{Primitive}
 use Rattle.plc_lang.specs.declared.syntax.Primitive.TheVariants.{Active}
@@ -44,6 +45,35 @@ told g t (p ∷ ps) = go (is_claim p) refl (goes g t p) refl (told (after g t p)
     go true isx false isy rest = (λ e. none_false (claim_holds g t p) false e.0 refl, λ e. (let parts = or_parts (not (claim_holds g t p)) false e in (not-false _ parts.0, λ h. cc)))
     go false isx true isy rest = (λ e. rest.0 (e.1 isy), λ e. (no_claim g t p isx, λ h. rest.1 e))
     go false isx false isy rest = (λ e. refl, λ e. (no_claim g t p isx, λ h. cc))
+
+-- ---- in code, primitive by primitive
+
+append_none : (bs : List Bool) → bs ++ [] ≡ bs
+append_none [] = refl
+append_none (b ∷ bs) = ap (λ xs. b ∷ xs) (append_none bs)
+
+-- the claim of one primitive, if it is one
+abbrev own : GcState → ℕ → Primitive → List Bool
+own g t p = if is_claim p then claim_holds g t p ∷ [] else []
+
+-- a primitive that went, whose claim was noted
+pub claims_went : (g new : GcState) (t : ℕ) (old noted : List Bool) (ps : List Primitive) (k : ℕ) (d : Primitive) (end : List Bool) → k < length ps
+    → noted ≡ old ++ own g t (get_or ps k d) → new ≡ (if goes g t (get_or ps k d) then after g t (get_or ps k d) else g) → goes g t (get_or ps k d) ≡ true
+    → old ++ claims g t (drop k ps) ≡ end → noted ++ claims new t (drop (k + 1) ps) ≡ end
+claims_went g new t old noted ps k d end small is next unblocked same =
+    let p = get_or ps k d in
+    let rest = claims (after g t p) t (drop (k + 1) ps) in
+    let state : new ≡ after g t p = next ∙ ap (λ b. if b then after g t p else g) unblocked in
+    (λ i. is i ++ claims (state i) t (drop (k + 1) ps)) ∙ append_assoc old (own g t p) rest
+    ∙ ap (λ b. old ++ (own g t p ++ (if b then rest else []))) (sym unblocked) ∙ sym (at_drop_more (λ qs. old ++ claims g t qs) ps k d small) ∙ same
+
+-- a primitive that is blocked, whose claim was noted
+pub claims_stopped : (g : GcState) (t : ℕ) (old noted : List Bool) (ps : List Primitive) (k : ℕ) (d : Primitive) (end : List Bool) → k < length ps
+    → noted ≡ old ++ own g t (get_or ps k d) → goes g t (get_or ps k d) ≡ false → old ++ claims g t (drop k ps) ≡ end → noted ≡ end
+claims_stopped g t old noted ps k d end small is blocked same =
+    let p = get_or ps k d in
+    is ∙ ap (λ bs. old ++ bs) (sym (append_none (own g t p)))
+    ∙ ap (λ b. old ++ (own g t p ++ (if b then claims (after g t p) t (drop (k + 1) ps) else []))) (sym blocked) ∙ sym (at_drop_more (λ qs. old ++ claims g t qs) ps k d small) ∙ same
 
 pub reached : ClaimsAreReached
 reached = record { at_prefix = at_prefix; told = told }

@@ -55,6 +55,10 @@ pub went : (b : Bool) (new : GcState) (end : Option GcState) → b ≡ true → 
 went true new end e same = sym same
 went false new end e same = cc
 
+pub stopped : (b : Bool) (new : GcState) (end : Option GcState) → b ≡ false → turn b (Some new) ≡ end → end ≡ None
+stopped true new end e same = cc
+stopped false new end e same = sym same
+
 pub init_room : (flow : Flow) → FlowFits flow → FlowIsWellSorted flow → (threads : ℕ) → 0 < threads → (new : GcState) → initialised flow threads ≡ Some new → 0 < length new.locals
 unfolding ready with_locals
 init_room flow fits sorted threads some new e =

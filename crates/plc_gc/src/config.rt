@@ -1,19 +1,19 @@
 // A garbage-collected configuration in code. What a move leads to is computed beside it: nothing of the
 // configuration is touched before the last call that may need memory, so that a move that is blocked, and
 // running out of memory, leave it as it was.
-ghost use Rattle.std.specs.Prelude.{◌≡◌, ◌<◌, [], IfOk, OnOk, OnErr, Some, None};
+ghost use Rattle.std.specs.Prelude.{◌≡◌, ◌<◌, length, [], IfOk, OnOk, OnErr, Some, None};
 ghost use Rattle.plc_flow.specs.declared.flow.Step.{Step as AStep};
 ghost use Rattle.plc_flow.specs.declared.points.Point.{Point as APoint};
 ghost use Rattle.plc_flow.specs.WellFormed.{FlowFits};
 ghost use Rattle.plc_flow.specs.WellSorted.{FlowIsWellSorted};
 ghost use Rattle.plc_gc.specs.State.{node_of};
-ghost use Rattle.plc_gc.specs.Run.{MayTake, point_of, execute};
+ghost use Rattle.plc_gc.specs.Run.{MayTake, point_of, execute, beginning};
 ghost use Rattle.plc_gc.specs.Claims.{claims};
 ghost use Rattle.plc_gc.specs.Fit.{IsReady};
 ghost use Rattle.plc_gc.specs.Reach.{start_from, step_from, ended_as, return_from, reach};
 ghost use Rattle.plc_gc.specs.Position.{threads_of, IsOfRun, Begins, Starts, Answers, answer, reached};
 
-use crate::execute::{claims, execute};
+use crate::execute::{claims, try_init, try_step};
 use crate::locals::Locals;
 use crate::state::State;
 use plc_base::{NoMemory, OpId};
@@ -75,17 +75,26 @@ impl GcConfig {
         requires some { 0 < threads }
         ensures { IfOk result (λ c. Begins flow.now threads c) }
     {
-        let mut state = State::first(alloc, flow, threads)?;
-        state.give(0, Some(Locals::none(alloc)));
-        if !execute(&mut state, 0, flow.file.init.as_slice())? {
-            return Ok(None);
+        match try_init(alloc, flow, threads)? {
+            Some(state) => Ok(Some(GcConfig::idle(alloc, threads, state)?)),
+            None => Ok(None),
         }
+    }
+
+    /// These values, with every thread idle, thread 0 too.
+    fn idle(alloc: Global, threads: u32, state: State) -> Result<GcConfig, NoMemory>
+        requires some { 0 < threads }
+        requires room { 0 < length state.locals }
+        ensures { IfOk result (λ c. Some c ≡ beginning threads (Some state)) }
+    {
+        let points = none_held(alloc, threads as usize)?;
+        let mut state = state;
         state.give(0, None);
-        Ok(Some(GcConfig {
+        Ok(GcConfig {
             alloc,
             state,
-            points: none_held(alloc, threads as usize)?,
-        }))
+            points,
+        })
     }
 
     /// What the places of the program hold now.
@@ -184,13 +193,14 @@ impl GcConfig {
             ≡ reached (ended_as self.old t point step.now.to.0 (execute self.old.state t step.now.prims)) self.old) }
         ensures err { OnErr result (self.new ≡ self.old) }
     {
-        let mut state = self.state.copy()?;
-        if !execute(&mut state, t, step.prims.as_slice())? {
-            return Ok(GcMoved::Blocked);
+        match try_step(&self.state, t, step.prims.as_slice())? {
+            Some(state) => {
+                self.state = state;
+                set_point(&mut self.points, t, Some(arrival(point, step)));
+                Ok(GcMoved::Done)
+            }
+            None => Ok(GcMoved::Blocked),
         }
-        self.state = state;
-        set_point(&mut self.points, t, Some(arrival(point, step)));
-        Ok(GcMoved::Done)
     }
 
     /// A return: the thread's locals are gone.

@@ -1,19 +1,24 @@
-// The primitives of a step in order, and the claims that they reach. Both run on a state that may be thrown
-// away, so that a step that is blocked, and running out of memory, have changed nothing.
-ghost use Rattle.std.specs.Prelude.{◌≡◌, ◌+◌, ◌<◌, ◌^◌, ◌++◌, ◌∷◌, [], if◌then◌else◌, IfOk, OnOk, Some};
+// The primitives of a step in order, those of `init`, and the claims that primitives reach. All run on a state
+// that may be thrown away, so that a step that is blocked, and running out of memory, have changed nothing.
+ghost use Rattle.std.specs.Prelude.{◌≡◌, ◌+◌, ◌<◌, ◌^◌, ◌++◌, ◌∷◌, [], if◌then◌else◌, length, IfOk, OnOk, Some};
 ghost use Rattle.plc_lang.specs.WellSorted.{is_claim};
-ghost use Rattle.plc_gc.specs.Run.{turn, execute};
+ghost use Rattle.plc_flow.specs.WellFormed.{FlowFits};
+ghost use Rattle.plc_flow.specs.WellSorted.{FlowIsWellSorted};
+ghost use Rattle.plc_gc.specs.State.{with_locals, no_locals};
+ghost use Rattle.plc_gc.specs.Run.{turn, execute, initialised};
 ghost use Rattle.plc_gc.specs.Claims.{claim_holds, claims};
 ghost use Rattle.plc_gc.specs.Ranges.{IsInRange};
-ghost use Rattle.plc_gc.specs.Fit.{IsHeld, frame, FrameHasAll};
+ghost use Rattle.plc_gc.specs.Fit.{IsHeld, frame, FrameHasAll, IsReady};
 
+use crate::locals::Locals;
 use crate::state::State;
 use plc_base::NoMemory;
+use plc_flow::Flow;
 use plc_lang::Prim;
 use std::alloc::Global;
 
 /// Primitives of thread `t` in order; whether none is blocked.
-pub fn execute(state: &mut State, t: u32, prims: &[Prim]) -> Result<bool, NoMemory>
+fn execute(state: &mut State, t: u32, prims: &[Prim]) -> Result<bool, NoMemory>
     requires small { t + 1 < 2 ^ 32 }
     requires held { IsHeld state.old t }
     requires there { FrameHasAll (frame state.old t) prims.now }
@@ -26,6 +31,45 @@ pub fn execute(state: &mut State, t: u32, prims: &[Prim]) -> Result<bool, NoMemo
         }
     }
     Ok(true)
+}
+
+/// Primitives of thread `t` in order on a copy of these values, and nothing where one is blocked.
+pub fn try_step(state: &State, t: u32, prims: &[Prim]) -> Result<Option<State>, NoMemory>
+    requires { IsReady state.now t prims.now }
+    ensures { IfOk result (λ s. s ≡ execute state.now t prims.now) }
+{
+    let mut state = state.copy()?;
+    if execute(&mut state, t, prims)? {
+        Ok(Some(state))
+    } else {
+        Ok(None)
+    }
+}
+
+/// The primitives of `init`, by thread 0 without locals; whether none is blocked.
+fn run_init(alloc: Global, flow: &Flow, state: &mut State) -> Result<bool, NoMemory>
+    requires room { 0 < length state.old.locals }
+    requires ready { IsReady (with_locals state.old 0 (Some no_locals)) 0 flow.now.file.init }
+    ensures { IfOk result (λ went. turn went (Some state.new)
+        ≡ execute (with_locals state.old 0 (Some no_locals)) 0 flow.now.file.init) }
+{
+    state.give(0, Some(Locals::none(alloc)));
+    execute(state, 0, flow.file.init.as_slice())
+}
+
+/// `init` on a new state for so many threads, and nothing where it is blocked.
+pub fn try_init(alloc: Global, flow: &Flow, threads: u32) -> Result<Option<State>, NoMemory>
+    requires fits { FlowFits flow.now }
+    requires sorted { FlowIsWellSorted flow.now }
+    requires some { 0 < threads }
+    ensures { IfOk result (λ s. s ≡ initialised flow.now threads) }
+{
+    let mut state = State::first(alloc, flow, threads)?;
+    if run_init(alloc, flow, &mut state)? {
+        Ok(Some(state))
+    } else {
+        Ok(None)
+    }
 }
 
 /// Adds the truth of the claim of a primitive, if it is one.

@@ -13,7 +13,7 @@ use plc_threads::{TryCopy, held};
 use std::alloc::Global;
 use std::marker::Model;
 
-// The pointer locals and the data locals of a thread, with the declarations of both.
+/// The pointer locals and the data locals of a thread, with the declarations of both.
 #[derive(Drop)]
 pub struct Locals {
     declared: Vec<Local>,

@@ -9,7 +9,7 @@ use plc_base::NoMemory;
 use std::alloc::Global;
 use std::marker::Model;
 
-// What is known of a node.
+/// What is known of a node.
 #[derive(Drop)]
 pub struct Row {
     pointers: Vec<u32>,

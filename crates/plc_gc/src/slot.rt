@@ -7,7 +7,7 @@ ghost use Rattle.plc_gc.specs.State.{slot};
 use plc_lang::Var;
 
 /// Where a value stands.
-#[derive(Clone, Copy, Debug, PartialEq, Eq)]
+#[derive(Clone, Copy)]
 pub enum Slot {
     /// A shared pointer.
     Shared(u16),
@@ -18,7 +18,7 @@ pub enum Slot {
 }
 
 /// What is known of each node.
-#[derive(Clone, Copy, Debug, PartialEq, Eq)]
+#[derive(Clone, Copy)]
 pub enum Map {
     /// The node that a pointer field holds.
     Pointer(u16),

@@ -17,7 +17,7 @@ use plc_threads::{copy_held, held, none_held};
 use std::alloc::Global;
 use std::marker::Model;
 
-// What shared pointers and locals hold, and what is known of each node; the first row is that of null.
+/// What shared pointers and locals hold, and what is known of each node; the first row is that of null.
 #[derive(Drop)]
 pub struct State {
     alloc: Global,

@@ -1,7 +1,7 @@
 -- The points of a flow: where they begin, and that the starts and the counts of locals are theirs.
-use Rattle.std.proofs.Common.{◌≡◌, ℕ, zero, suc, ◌+◌, ◌-◌, ◌<◌, ◌≤◌, List, [], ◌∷◌, length, get_or, map, replicate, Some, sym, ap, subst, ◌∙◌, arith, length-append}
+use Rattle.std.proofs.Common.{◌≡◌, ℕ, zero, suc, ◌+◌, ◌-◌, ◌<◌, ◌≤◌, List, [], ◌∷◌, ◌++◌, drop, length, get_or, map, replicate, append_assoc, Some, sym, ap, subst, ◌∙◌, arith, length-append}
 use Rattle.std.specs.Prelude.{slice_get}
-use Rattle.std.proofs.lemmas.List.{get_or-append_right, get_or_append_left, get_or-replicate}
+use Rattle.std.proofs.lemmas.List.{get_or-append_right, get_or_append_left, get_or-replicate, at_drop_more}
 use Rattle.plc_lang.specs.declared.syntax.Op.{Op}
 use Rattle.plc_flow.specs.declared.flow.Gate.{Gate}
 use Rattle.plc_flow.specs.WellFormed.{GatesFrom, IsPointOf}
@@ -73,3 +73,14 @@ gate_wide n (x ∷ gs) end zero g (first, entry_is, exit_is, wide, rest) e =
     let here : x.first < x.after = omega arith in
     subst (λ (y : Gate). y.first < y.after) is here
 gate_wide n (x ∷ gs) end (suc k) g (first, entry_is, exit_is, wide, rest) e = gate_wide x.after gs end k g rest e
+
+-- the points of one operation more, read from the slices of both
+pub points_more : (ops os : List Op) (gates gs : List Gate) (k : ℕ) (o : Op) (g : Gate) (count : ℕ) (counts new end : List ℕ) → os ≡ ops → gs ≡ gates → k < length os → k < length gs
+    → count ≡ pointers_of (get_or os k o) → new ≡ counts ++ replicate ((get_or gs k g).after - (get_or gs k g).first) count
+    → counts ++ pointers_by_point (drop k ops) (drop k gates) ≡ end → new ++ pointers_by_point (drop (k + 1) ops) (drop (k + 1) gates) ≡ end
+points_more ops os gates gs k o g count counts new end ops_are gates_are below there counted is same =
+    let many = (get_or gs k g).after - (get_or gs k g).first in
+    let rest = pointers_by_point (drop (k + 1) os) (drop (k + 1) gs) in
+    let at = at_drop_more (λ os. counts ++ pointers_by_point os (drop k gs)) os k o below ∙ at_drop_more (λ gs. counts ++ pointers_by_point (get_or os k o ∷ drop (k + 1) os) gs) gs k g there in
+    (λ i. new ++ pointers_by_point (drop (k + 1) (sym ops_are i)) (drop (k + 1) (sym gates_are i))) ∙ ap (λ ns. ns ++ rest) (is ∙ ap (λ n. counts ++ replicate many n) counted)
+    ∙ append_assoc counts (replicate many (pointers_of (get_or os k o))) rest ∙ sym at ∙ (λ i. counts ++ pointers_by_point (drop k (ops_are i)) (drop k (gates_are i))) ∙ same

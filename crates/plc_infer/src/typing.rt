@@ -22,7 +22,7 @@ use plc_xfer::TypeFault;
 use std::alloc::{AllocError, Global};
 
 /// An environment for each point of a flow.
-#[derive(Debug, Drop)]
+#[derive(Drop)]
 pub struct Typing {
     pub env: Items<Env>,
 }

@@ -8,7 +8,7 @@ ghost use Rattle.plc_mem.specs.Primitives.{access, comparison};
 use plc_auto::Event;
 
 /// A pointer with its validity; the number 0 is null, and null is valid.
-#[derive(Clone, Copy, Debug, PartialEq, Eq)]
+#[derive(Clone, Copy, PartialEq, Eq)]
 pub struct Cell {
     pub number: u32,
     pub valid: bool,

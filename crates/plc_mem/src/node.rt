@@ -15,8 +15,8 @@ use plc_base::NoMemory;
 use std::alloc::Global;
 use std::marker::Model;
 
-// The node of a used address: for each field a cell and a number, of which a pointer field has the
-// cell and a data field the number.
+/// The node of a used address: for each field a cell and a number, of which a pointer field has the
+/// cell and a data field the number.
 #[derive(Drop)]
 pub struct Node {
     address: u32,
@@ -113,7 +113,7 @@ fn drop_address(addresses: &mut IndexSet<u32>, a: u32)
     addresses.retain(|x| *x != a);
 }
 
-// The nodes of the used addresses. The place of an address in the index is that of its node.
+/// The nodes of the used addresses. The place of an address in the index is that of its node.
 #[derive(Drop)]
 pub struct Nodes {
     addresses: IndexSet<u32>,

@@ -10,7 +10,7 @@ use std::alloc::Global;
 use std::marker::Model;
 use std::snapshot::Snapshot;
 
-// A name with the bytes that a read of it gave.
+/// A name with the bytes that a read of it gave.
 #[derive(Drop)]
 struct Named {
     name: String,

@@ -17,7 +17,7 @@ use std::io::{Read, Write};
 use std::marker::Model;
 use std::{fs, rt};
 
-// How many bytes one call takes from the system at most.
+/// How many bytes one call takes from the system at most.
 const BUFFER: usize = 4096;
 
 /// The files of the system, reached through the handle that `main` is given.
@@ -57,7 +57,7 @@ impl<R: rt::Files + Drop> RealFiles<R> {
     }
 }
 
-// Why a file was not read on: the system's error, or no room for what it would give.
+/// Why a file was not read on: the system's error, or no room for what it would give.
 enum Stop {
     Error,
     Memory,
@@ -118,6 +118,34 @@ fn read_file<R: rt::Files>(
     }
 }
 
+/// The answer to a read of a name that took these bytes and came to this end. It is noted among the
+/// failed reads, or among those that gave bytes.
+fn answer(
+    end: Result<(), Stop>,
+    bytes: Vec<u8>,
+    max: usize,
+    name: &str,
+    failed: &mut FailedReads,
+    given: &mut Readings,
+) -> Result<Vec<u8>, FileFault>
+    requires { length bytes.items ≤ max + 1 }
+    ensures others { (other : List ℕ) → other ≢ name.now → times failed.new other ≡ times failed.old other }
+    ensures cause { ReadHasCause (times failed.old name.now) (times failed.new name.now)
+        (length bytes.items) max result }
+    ensures told { AgreesWith None max result }
+    ensures given { NotesReading given.old given.new name.now result }
+    ensures noted { NotesFailure failed.old failed.new name.now result }
+    ensures whole { IfOk result (λ answered. length answered.items ≡ length bytes.items) }
+    ensures long { IsErrOf result FileFault.TooLong → length bytes.items ≡ max + 1 }
+{
+    match end {
+        Err(Stop::Error) => Err(failed.note(name)),
+        Err(Stop::Memory) => Err(FileFault::Memory),
+        Ok(()) if bytes.len() > max => Err(FileFault::TooLong),
+        Ok(()) => given.note(name, bytes),
+    }
+}
+
 impl<R: rt::Files + Drop> Files for RealFiles<R> {
     ghost known = { λ s. record {
       content = λ _. None;
@@ -143,12 +171,7 @@ impl<R: rt::Files + Drop> Files for RealFiles<R> {
         let mut bytes = Vec::new(self.alloc);
         let end = read_file(&self.host, name, max, &mut bytes);
         self.taken = bytes.len();
-        match end {
-            Err(Stop::Error) => Err(self.failed.note(name)),
-            Err(Stop::Memory) => Err(FileFault::Memory),
-            Ok(()) if bytes.len() > max => Err(FileFault::TooLong),
-            Ok(()) => self.given.note(name, bytes),
-        }
+        answer(end, bytes, max, name, &mut self.failed, &mut self.given)
     }
 }
 

@@ -15,7 +15,7 @@ use plc_base::{LocId, NoMemory};
 use std::alloc::Global;
 use std::marker::Model;
 
-// An address and its location, `None` for `bad`.
+/// An address and its location, `None` for `bad`.
 #[derive(Drop)]
 struct Cell {
     address: u32,

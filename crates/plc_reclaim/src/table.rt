@@ -7,12 +7,12 @@ ghost use Rattle.plc_reclaim.specs.Tables.{is_thread, column_of};
 ghost use Rattle.plc_reclaim.specs.Tables.{fresh_table, others_after, own_after, table_after, keeps};
 
 use crate::column::Column;
-use plc_auto::{EvKind, Event, Observer};
+use plc_auto::{EvKind, Event, Observer, R_KEPT};
 use plc_base::{LocId, NoMemory};
 use std::alloc::Global;
 use std::marker::Model;
 
-// A thread that called or returned.
+/// A thread that called or returned.
 #[derive(Drop)]
 struct Heard {
     thread: u32,
@@ -42,9 +42,6 @@ impl Model for Table {
 
     ghost view = { λ t. record { observer = t.observer; unheard = t.unheard; heard = t.heard.items } };
 }
-
-// `r.kept`, which has one number in both tables.
-const R_KEPT: u16 = 6;
 
 /// Whether a location is that of an address retired too late.
 fn is_kept_at(at: Option<LocId>) -> bool

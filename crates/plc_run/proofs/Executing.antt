@@ -1,18 +1,22 @@
 -- A step taken primitive by primitive, as the code does.
-use Rattle.std.proofs.Common.{set, ◌≡◌, ℕ, zero, suc, ◌+◌, ◌<◌, Bool, true, false, List, [], ◌∷◌, Option, Some, None, drop, length, get_or, refl, sym, ap, ◌∙◌, arith}
+use Rattle.std.proofs.Common.{Result, Ok, Err, IfOk, OnOk, set, ◌≡◌, ℕ, zero, suc, ◌+◌, ◌<◌, Bool, true, false, List, [], ◌∷◌, Option, Some, None, drop, length, get_or, refl, sym, ap, ◌∙◌, arith, length-set}
 use Rattle.std.proofs.lemmas.List.{at_drop_more}
 use Rattle.plc_lang.specs.declared.syntax.Primitive.{Primitive}
 use Rattle.plc_lang.specs.Shape.{Shape, PrimitiveIn, PrimitivesIn}
 use Rattle.plc_auto.specs.declared.event.Event.{Event}
+use Rattle.plc_base.specs.declared.memory.NoMemory.{NoMemory}
+use Rattle.plc_mem.specs.Fit.{Kept}
 use Rattle.plc_mem.specs.declared.cell.Outcome.{Outcome}
 use Rattle.plc_mem.specs.declared.cell.Outcome.TheVariants.{Next, Blocked, Race}
 use Rattle.plc_mem.specs.declared.cell.RaceKind.{RaceKind}
-use Rattle.plc_mem.specs.State.{State, Locals, with_locals}
+use Rattle.plc_mem.specs.State.{State, Locals, no_locals, with_locals}
 use Rattle.plc_base.specs.Tables.{put_at}
+use Rattle.plc_base.proofs.Lists.{held_below}
 use Rattle.plc_mem.specs.Primitives.{race_of, goes, after, event_of}
 use Rattle.plc_mem.specs.Outcomes.{outcome, moved, outcome_of, next_of}
 use Rattle.plc_run.specs.Run.{Ending, Stuck, Raced, turn, recorded, execute}
-use Rattle.plc_run.specs.Ended.{heard}
+use Rattle.plc_run.specs.declared.execute.Ended.{Ended}
+use Rattle.plc_run.specs.Ended.{heard, ending, InitEnds}
 
 -- what the outcome of the first primitive makes of what the others come to
 abbrev pub turned : Outcome → ℕ → Ending → Ending
@@ -65,3 +69,25 @@ put_back (x ∷ xs) (suc t) l e = ap (λ ys. x ∷ ys) (put_back xs t l e)
 pub given_back : (s : State) (t : ℕ) (l : Locals) → get_or s.locals t None ≡ Some l → with_locals (record s { locals = set s.locals t None }) t (Some l) ≡ s
 unfolding with_locals
 given_back s t l e = ap (λ xs. record s { locals = xs }) (put_back s.locals t l e)
+
+-- the thread has a place for its locals, which holds none
+set_none : {A : Type 0} (xs : List (Option A)) (t : ℕ) → get_or (set xs t None) t None ≡ None
+set_none [] t = refl
+set_none (x ∷ xs) zero = refl
+set_none (x ∷ xs) (suc t) = set_none xs t
+
+pub place_there : (s lent new : State) (t : ℕ) (l : Locals) → get_or s.locals t None ≡ Some l → lent ≡ record s { locals = set s.locals t None } → new.locals ≡ lent.locals → t < length new.locals
+place_there s lent new t l held rest same =
+    omega (arith, held_below s.locals t l held, ap (λ (s : State). length s.locals) rest, length-set s.locals t None, ap length same)
+
+pub place_empty : (s lent new : State) (t : ℕ) → lent ≡ record s { locals = set s.locals t None } → new.locals ≡ lent.locals → get_or new.locals t None ≡ None
+place_empty s lent new t rest same =
+    ap (λ xs. get_or xs t None) same ∙ ap (λ (s : State). get_or s.locals t None) rest ∙ set_none s.locals t
+
+-- ---- `init`
+
+pub init_ends : (s new : State) (h g : List Event) (init ps : List Primitive) (me left : Locals) (r : Result Ended NoMemory) → me ≡ no_locals → ps ≡ init
+    → IfOk r (λ e. ending e (with_locals new 0 (Some left)) g ≡ execute (with_locals s 0 (Some me)) h 0 1 0 ps) → OnOk r (Kept s me new left) → IfOk r (λ e. InitEnds s h init e new g)
+init_ends s new h g init ps me left (Ok e) none same ends kept =
+    record { left = left; ends = ends ∙ (λ i. execute (with_locals s 0 (Some (none i))) h 0 1 0 (same i)); others = kept.locals }
+init_ends s new h g init ps me left (Err e) none same ends kept = tt

@@ -20,14 +20,17 @@ use Rattle.plc_mem.specs.State.{State, Locals, with_locals, starting}
 use Rattle.plc_base.specs.Tables.{put_at}
 use Rattle.plc_mem.specs.Primitives.{race_of, goes, after, event_of}
 use Rattle.plc_mem.specs.declared.cell.Outcome.{Outcome}
-use Rattle.plc_mem.specs.declared.cell.Outcome.TheVariants.{Next}
-use Rattle.plc_mem.specs.Outcomes.{outcome_of, next_of, address_or_null}
-use Rattle.plc_run.specs.Ended.{heard}
+use Rattle.plc_mem.specs.declared.cell.Outcome.TheVariants.{Next, Blocked, Race}
+use Rattle.plc_mem.specs.Outcomes.{outcome_of, next_of, address_or_null, Stays}
+use Rattle.plc_run.specs.declared.execute.Ended.{Ended}
+use Rattle.plc_run.specs.declared.execute.Ended.TheVariants as ends
+use Rattle.plc_run.specs.Ended.{heard, ending}
+use Rattle.plc_mem.proofs.Outcomes.{has_stayed}
 use Rattle.plc_run.proofs.Executing.{turned, execute_first, given_back}
 use Rattle.plc_flow.specs.declared.points.Point.{Point}
 use Rattle.plc_run.specs.Run.{Ending, Fine, Stuck, Raced, turn, recorded, execute, Configuration, point_of, taken, Moves, Run, begin, more, beginning, initialised, first_configuration}
 use Rattle.plc_flow.specs.Points.{names_rightly}
-use Rattle.plc_run.specs.Reach.{Reached, Goes, Blocks, Forbids, Breaks, started, start_from, return_from, ended_as, take_step, step_from, free_of, reach, answer, Reaches}
+use Rattle.plc_run.specs.Reach.{Reached, Goes, Blocks, Forbids, Breaks, started, start_from, return_from, ended_as, arrived, settled, concluded, step_leads, Acts, ActsWith, take_step, step_from, free_of, reach, answer, Reaches}
 use Rattle.plc_run.specs.declared.moved.Moved.{Moved}
 use Rattle.plc_run.specs.Position.{Position, threads_of, Follows, IsOfRun, Answers}
 use Rattle.plc_run.proofs.Reaching.{LeadsTo, reach_leads}
@@ -72,12 +75,13 @@ taken_so c t addr step end ran =
     ap (with_history c.history) ran ∙ sym (execute_with_history c.state c.history [] t (address_or_null addr) 0 step.prims)
     ∙ ap (λ h. execute c.state h t (address_or_null addr) 0 step.prims) (append_none c.history)
 
--- all its primitives succeeded
-pub taken_fine : (c : Configuration) (t : ℕ) (addr : Option ℕ) (p : Point) (step : Step) (s : State) (g h : List Event) (ps : List (Option Point))
-    → Fine s g ≡ execute c.state [] t (address_or_null addr) 0 step.prims → h ≡ c.history ++ g → ps ≡ put_at None c.points t (Some (record p { at = step.to.0 }))
-    → Goes (record { state = s; history = h; points = ps }) ≡ ended_as c t p step.to.0 (taken c t addr step)
-taken_fine c t addr p step s g h ps ran longer points =
-    (λ i. Goes (record { state = s; history = longer i; points = points i })) ∙ ap (ended_as c t p step.to.0) (taken_so c t addr step (Fine s g) ran)
+-- what it leads to, where its primitives were taken on a copy of the memory
+pub settled_so : (c : Configuration) (t : ℕ) (addr : Option ℕ) (p to : Point) (step : Step) (e : Ended) (s : State) (g : List Event)
+    → ending e s g ≡ execute c.state [] t (address_or_null addr) 0 step.prims → to ≡ record p { at = step.to.0 } → settled c t to e s g ≡ step_leads c t p step addr
+settled_so c t addr p to step ends.Fine s g ran there =
+    (λ i. Goes (arrived c t (there i) s g)) ∙ ap (ended_as c t p step.to.0) (taken_so c t addr step (Fine s g) ran)
+settled_so c t addr p to step ends.Stuck s g ran there = ap (ended_as c t p step.to.0) (taken_so c t addr step Stuck ran)
+settled_so c t addr p to step (ends.Raced kind k) s g ran there = ap (ended_as c t p step.to.0) (taken_so c t addr step (Raced kind k) ran)
 
 -- ---- where runs begin
 
@@ -142,13 +146,6 @@ one_taken c t addr step k o one is =
     let a = address_or_null addr in
     ap (λ o. turned o 0 (Fine (next_of c.state t a k) (heard c.history o))) is ∙ sym (execute_first c.state c.history t a 0 k []) ∙ ap (execute c.state c.history t a 0) (sym one)
 
--- it went
-pub one_went : (c : Configuration) (t : ℕ) (addr : Option ℕ) (p : Point) (step : Step) (k : Primitive) (e : Option Event) (s : State) (h : List Event) (ps : List (Option Point))
-    → step.prims ≡ k ∷ [] → Next e ≡ outcome_of c.state t (address_or_null addr) k → s ≡ next_of c.state t (address_or_null addr) k → h ≡ heard c.history (Next e) → ps ≡ put_at None c.points t (Some (record p { at = step.to.0 }))
-    → Goes (record { state = s; history = h; points = ps }) ≡ ended_as c t p step.to.0 (taken c t addr step)
-one_went c t addr p step k e s h ps one out to longer points =
-    (λ i. Goes (record { state = to i; history = longer i; points = points i })) ∙ ap (ended_as c t p step.to.0) (one_taken c t addr step k (Next e) one out)
-
 -- it stayed, and its locals were put back
 pub restored : (v q : Position) (mid s : State) (t : ℕ) (l m : Locals) → get_or v.here.state.locals t None ≡ Some l → mid ≡ record v.here.state { locals = set v.here.state.locals t None }
     → q ≡ record v { here = record v.here { state = mid } } → m ≡ l → s ≡ with_locals q.here.state t (Some m) → record q { here = record q.here { state = s } } ≡ v
@@ -157,9 +154,90 @@ restored v q mid s t l m held rest same as_lent given =
     let state : s ≡ v.here.state = given ∙ (λ i. with_locals (same i).here.state t (Some (as_lent i))) ∙ back in
     λ i. record { here = record { state = state i; history = (same i).here.history; points = (same i).here.points }; ended = (same i).ended; located = (same i).located }
 
-pub if_err : {A E P : Type 0} (r : Result A E) → P → OnErr r P
-if_err (Ok x) p = tt
-if_err (Err x) p = p
+-- a primitive that was blocked or is a race
+pub nothing_done : (t a : ℕ) (k : Primitive) (p : Position) (l : Locals) (o : Outcome) → Stays o → o ≡ outcome_of (with_locals p.here.state t (Some l)) t a k → ActsWith t a k p l o p l
+nothing_done t a k p l (Next e) stays is = absurd stays
+nothing_done t a k p l Blocked stays is = record {
+  outcome = is;
+  state = has_stayed (with_locals p.here.state t (Some l)) t a k Blocked stays is;
+  history = refl;
+  points = refl;
+  ended = refl;
+  unchanged = λ s. (refl, refl);
+}
+nothing_done t a k p l (Race kind) stays is = record {
+  outcome = is;
+  state = has_stayed (with_locals p.here.state t (Some l)) t a k (Race kind) stays is;
+  history = refl;
+  points = refl;
+  ended = refl;
+  unchanged = λ s. (refl, refl);
+}
+
+-- a primitive that went, of which this is heard
+pub went_with : (t a : ℕ) (k : Primitive) (p q : Position) (l m : Locals) (e : Option Event) → outcome_of (with_locals p.here.state t (Some l)) t a k ≡ Next e → with_locals q.here.state t (Some m) ≡ next_of (with_locals p.here.state t (Some l)) t a k
+    → q.here.history ≡ heard p.here.history (Next e) → q.here.points ≡ p.here.points → q.ended ≡ p.ended → ActsWith t a k p l (Next e) q m
+went_with t a k p q l m e is to longer stood live = record {
+  outcome = sym is;
+  state = to;
+  history = longer;
+  points = stood;
+  ended = live;
+  unchanged = λ stays. absurd stays;
+}
+
+-- the memory is whole with the locals that were lent
+whole : (s lent : State) (t : ℕ) (l : Locals) → get_or s.locals t None ≡ Some l → lent ≡ record s { locals = set s.locals t None } → with_locals lent t (Some l) ≡ s
+whole s lent t l held rest = ap (λ (s : State). with_locals s t (Some l)) rest ∙ given_back s t l held
+
+-- what a primitive left, once the locals that it was lent were put back
+pub locals_back : (v q new : Position) (lent s : State) (t a : ℕ) (l m : Locals) (k : Primitive) (r : Result Outcome NoMemory) → get_or v.here.state.locals t None ≡ Some l → lent ≡ record v.here.state { locals = set v.here.state.locals t None } → q ≡ new
+    → IfOk r (λ o. ActsWith t a k (record v { here = record v.here { state = lent } }) l o new m) → s ≡ with_locals q.here.state t (Some m) → IfOk r (λ o. Acts t a k v o (record q { here = record q.here { state = s } }))
+locals_back v q new lent s t a l m k (Err e) held rest same acts given = tt
+locals_back v q new lent s t a l m k (Ok o) held rest same acts given =
+    let back = whole v.here.state lent t l held rest in
+    let w = subst (λ (q : Position). ActsWith t a k (record v { here = record v.here { state = lent } }) l o q m) (sym same) acts in
+    let state : s ≡ next_of v.here.state t a k = given ∙ w.state ∙ ap (λ (s : State). next_of s t a k) back in
+    record {
+      outcome = w.outcome ∙ ap (λ (s : State). outcome_of s t a k) back;
+      here = λ i. record { state = state i; history = w.history i; points = w.points i };
+      ended = w.ended;
+      unchanged = λ stays. restored v q lent s t l m held rest (w.unchanged stays).0 (w.unchanged stays).1 given;
+    }
+
+pub locals_back_err : (v q new : Position) (lent s : State) (t : ℕ) (l m : Locals) (r : Result Outcome NoMemory) → get_or v.here.state.locals t None ≡ Some l → lent ≡ record v.here.state { locals = set v.here.state.locals t None } → q ≡ new
+    → OnErr r ((new ≡ record v { here = record v.here { state = lent } }) × (m ≡ l)) → s ≡ with_locals q.here.state t (Some m) → OnErr r (record q { here = record q.here { state = s } } ≡ v)
+locals_back_err v q new lent s t l m (Ok o) held rest same err given = tt
+locals_back_err v q new lent s t l m (Err e) held rest same err given = restored v q lent s t l m held rest (same ∙ err.0) err.1 given
+
+-- what a step of one primitive leads to, by what the primitive left
+concluded_leads : (p q : Position) (t : ℕ) (addr : Option ℕ) (at to : Point) (step : Step) (k : Primitive) (o : Outcome) → step.prims ≡ k ∷ [] → Acts t (address_or_null addr) k p o q → to ≡ record at { at = step.to.0 }
+    → concluded q.here t to o ≡ step_leads p.here t at step addr
+concluded_leads p q t addr at to step k o one acts there =
+    let a = address_or_null addr in
+    let same : concluded q.here t to o ≡ concluded (record p.here { state = next_of p.here.state t a k; history = heard p.here.history o }) t (record at { at = step.to.0 }) o = (λ i. concluded (acts.here i) t (there i) o) in
+    same ∙ go o ∙ ap (ended_as p.here t at step.to.0) (one_taken p.here t addr step k o one acts.outcome)
+  where
+    go : (o : Outcome) → concluded (record p.here { state = next_of p.here.state t (address_or_null addr) k; history = heard p.here.history o }) t (record at { at = step.to.0 }) o
+        ≡ ended_as p.here t at step.to.0 (turned o 0 (Fine (next_of p.here.state t (address_or_null addr) k) (heard p.here.history o)))
+    go (Next e) = refl
+    go Blocked = refl
+    go (Race kind) = refl
+
+pub concluded_answer : (p q : Position) (t : ℕ) (addr : Option ℕ) (at to : Point) (step : Step) (k : Primitive) (o : Outcome) (r : Moved) → step.prims ≡ k ∷ [] → Acts t (address_or_null addr) k p o q → to ≡ record at { at = step.to.0 }
+    → r ≡ answer (concluded q.here t to o) → r ≡ answer (step_leads p.here t at step addr)
+concluded_answer p q t addr at to step k o r one acts there is = is ∙ ap answer (concluded_leads p q t addr at to step k o one acts there)
+
+-- and from where the step began
+from_before : (p q new : Position) (t : ℕ) (to : Point) (o : Outcome) → q.ended ≡ p.ended → (Stays o → q ≡ p) → Reaches (concluded q.here t to o) q new → Reaches (concluded q.here t to o) p new
+from_before p q new t to (Next e) live stayed reaches = (reaches.0, reaches.1 ∙ live)
+from_before p q new t to Blocked live stayed reaches = reaches ∙ stayed tt
+from_before p q new t to (Race kind) live stayed reaches = reaches ∙ ap (λ (p : Position). record p { ended = true }) (stayed tt)
+
+pub concluded_so : (p q new : Position) (t : ℕ) (addr : Option ℕ) (at to : Point) (step : Step) (k : Primitive) (o : Outcome) → step.prims ≡ k ∷ [] → Acts t (address_or_null addr) k p o q → to ≡ record at { at = step.to.0 }
+    → Reaches (concluded q.here t to o) q new → Reaches (step_leads p.here t at step addr) p new
+concluded_so p q new t addr at to step k o one acts there reaches =
+    subst (λ (r : Reached). Reaches r p new) (concluded_leads p q t addr at to step k o one acts there) (from_before p q new t to o acts.ended acts.unchanged reaches)
 
 -- ---- starts and returns in code
 

@@ -1,16 +1,17 @@
 -- How the code says that primitives in order ended, and what it asks before it takes a step.
 use Rattle.std.specs.Prelude.{◌≡◌, ℕ, ◌<◌, List, length, get_or, Some, None}
+use Rattle.plc_lang.specs.declared.syntax.Primitive.{Primitive}
 use Rattle.plc_lang.specs.Shape.{PrimitivesIn}
 use Rattle.plc_auto.specs.declared.event.Event.{Event}
 use Rattle.plc_mem.specs.declared.cell.Outcome.{Outcome}
 use Rattle.plc_mem.specs.declared.cell.Outcome.TheVariants.{Next, Blocked, Race}
 use Rattle.plc_flow.specs.declared.flow.Step.{Step}
 use Rattle.plc_flow.specs.declared.points.Point.{Point}
-use Rattle.plc_mem.specs.State.{State, Locals}
+use Rattle.plc_mem.specs.State.{State, Locals, with_locals, no_locals}
 use Rattle.plc_mem.specs.Fit.{shape}
 use Rattle.plc_run.specs.declared.execute.Ended.{Ended}
 use Rattle.plc_run.specs.declared.execute.Ended.TheVariants as ends
-use Rattle.plc_run.specs.Run.{Configuration, Ending, Fine, Stuck, Raced, point_of, recorded}
+use Rattle.plc_run.specs.Run.{Configuration, Ending, Fine, Stuck, Raced, execute, point_of, recorded}
 
 -- a history with the event of an outcome after it, if there is one
 abbrev pub heard : List Event → Outcome → List Event
@@ -23,6 +24,13 @@ abbrev pub ending : Ended → State → List Event → Ending
 ending ends.Fine s h = Fine s h
 ending ends.Stuck s h = Stuck
 ending (ends.Raced kind k) s h = Raced kind k
+
+-- how `init` ended from a state: in that state with some locals of the thread that took it, the threads' own as before
+pub record InitEnds (s : State) (h : List Event) (init : List Primitive) (e : Ended) (new : State) (g : List Event)
+    : Type 0 where
+  pub left : Locals
+  pub ends : ending e (with_locals new 0 (Some left)) g ≡ execute (with_locals s 0 (Some no_locals)) h 0 1 0 init
+  pub others : new.locals ≡ s.locals
 
 -- thread t stands at the point and holds locals to which the step's primitives fit
 pub record IsReady (c : Configuration) (t : ℕ) (p : Point) (step : Step) : Type 0 where

@@ -3,6 +3,8 @@
 use Rattle.std.specs.Prelude.{◌≡◌, ℕ, zero, suc, Bool, true, false, ◌&&◌, ◌==◌, if◌then◌else◌, List, [], ◌∷◌, ◌++◌}
 use Rattle.std.specs.Prelude.{length, Option, Some, None, is_some}
 use Rattle.plc_lang.specs.declared.syntax.Op.{Op}
+use Rattle.plc_lang.specs.declared.syntax.Primitive.{Primitive}
+use Rattle.plc_auto.specs.declared.event.Event.{Event}
 use Rattle.plc_auto.specs.declared.event.Event.TheVariants.{Free as Freed}
 use Rattle.plc_auto.specs.declared.observer.Observer.{Observer}
 use Rattle.plc_auto.specs.Location.{location, advance}
@@ -11,12 +13,18 @@ use Rattle.plc_flow.specs.declared.flow.Flow.{Flow}
 use Rattle.plc_flow.specs.declared.flow.Move.{Move}
 use Rattle.plc_flow.specs.declared.flow.Move.TheVariants.{Start, Step as Take, Return, Free}
 use Rattle.plc_mem.specs.declared.cell.RaceKind.{RaceKind}
-use Rattle.plc_mem.specs.State.{with_locals, freed, starting}
+use Rattle.plc_mem.specs.declared.cell.Outcome.{Outcome}
+use Rattle.plc_mem.specs.declared.cell.Outcome.TheVariants.{Next, Blocked, Race}
+use Rattle.plc_mem.specs.Outcomes.{outcome_of, next_of, Stays}
+use Rattle.plc_mem.specs.State.{State, Locals, with_locals, freed, starting}
 use Rattle.plc_base.specs.Tables.{put_at}
 use Rattle.plc_flow.specs.declared.points.Point.{Point}
+use Rattle.plc_run.specs.declared.execute.Ended.{Ended}
+use Rattle.plc_run.specs.declared.execute.Ended.TheVariants as ends
 use Rattle.plc_run.specs.declared.moved.Moved.{Moved}
 use Rattle.plc_run.specs.declared.moved.Moved.TheVariants as moved
 use Rattle.plc_run.specs.Run.{Ending, Fine, Stuck, Raced, Configuration, point_of, taken, first_configuration}
+use Rattle.plc_run.specs.Ended.{heard}
 use Rattle.plc_run.specs.Position.{Position, threads_of, Follows}
 use Rattle.plc_flow.specs.Points.{names_rightly}
 use Rattle.plc_threads.specs.Standing.{begun, step_of, at_exit}
@@ -50,6 +58,23 @@ ended_as c t p to (Raced kind k) = Breaks kind k
 -- what a step that leaves this point leads to
 abbrev pub step_leads : Configuration → ℕ → Point → Step → Option ℕ → Reached
 step_leads c t p step addr = ended_as c t p step.to.0 (taken c t addr step)
+
+-- thread t came to this point, with this state and these events after the history
+abbrev pub arrived : Configuration → ℕ → Point → State → List Event → Configuration
+arrived c t to s events =
+    record { state = s; history = c.history ++ events; points = put_at None c.points t (Some to) }
+
+-- what a step to this point leads to, by how its primitives ended on a copy of the memory
+abbrev pub settled : Configuration → ℕ → Point → Ended → State → List Event → Reached
+settled c t to ends.Fine s events = Goes (arrived c t to s events)
+settled c t to ends.Stuck s events = Blocks
+settled c t to (ends.Raced kind k) s events = Breaks kind k
+
+-- what a step of one primitive to this point leads to, from the configuration that its primitive left
+abbrev pub concluded : Configuration → ℕ → Point → Outcome → Reached
+concluded c t to (Next e) = Goes (record c { points = put_at None c.points t (Some to) })
+concluded c t to Blocked = Blocks
+concluded c t to (Race kind) = Breaks kind 0
 
 -- thread t takes a step, if there is one that it may take, by a move that names an address or none
 abbrev pub take_step : Configuration → ℕ → Option ℕ → Option (Point × Step) → Reached
@@ -107,6 +132,27 @@ pub record IsUnheard (p q : Position) : Type 0 where
   pub threads : threads_of q ≡ threads_of p
   pub history : q.here.history ≡ p.here.history
   pub located : q.located ≡ p.located
+
+-- thread t took a primitive with these locals: its outcome, and the position and the locals after it
+pub record ActsWith (t a : ℕ) (k : Primitive) (p : Position) (l : Locals) (o : Outcome) (q : Position) (m : Locals)
+    : Type 0 where
+  pub outcome : o ≡ outcome_of (with_locals p.here.state t (Some l)) t a k
+  pub state : with_locals q.here.state t (Some m) ≡ next_of (with_locals p.here.state t (Some l)) t a k
+  pub history : q.here.history ≡ heard p.here.history o
+  pub points : q.here.points ≡ p.here.points
+  pub ended : q.ended ≡ p.ended
+  pub unchanged : Stays o → (q ≡ p) × (m ≡ l)
+
+-- the same with the locals that the position holds
+pub record Acts (t a : ℕ) (k : Primitive) (p : Position) (o : Outcome) (q : Position) : Type 0 where
+  pub outcome : o ≡ outcome_of p.here.state t a k
+  pub here : q.here ≡ record {
+    state = next_of p.here.state t a k;
+    history = heard p.here.history o;
+    points = p.here.points;
+  }
+  pub ended : q.ended ≡ p.ended
+  pub unchanged : Stays o → q ≡ p
 
 -- where the runs begin, or nowhere
 abbrev pub Begins : Flow → Observer → ℕ → Option Position → Type 0

@@ -4,20 +4,23 @@
 // A step of no or one primitive, as most are, works on the memory itself, since a primitive that fails
 // changes nothing. A step of several works on a copy, because its first primitives may succeed and a later
 // one not.
-ghost use Rattle.std.specs.Prelude.{◌≡◌, ℕ, ◌<◌, ◌++◌, ◌∷◌, [], Option, IfOk, OnOk, OnErr, Some};
+ghost use Rattle.std.specs.Prelude.{◌≡◌, ℕ, ◌<◌, ◌++◌, ◌∷◌, [], Option, IfOk, OnOk, OnErr, Some, None};
+ghost use Rattle.std.specs.Prelude.{get_or, replicate, false};
 ghost use Rattle.plc_lang.specs.Shape.{PrimitiveIn};
 ghost use Rattle.plc_flow.specs.WellFormed.{FlowFits};
-ghost use Rattle.plc_mem.specs.State.{with_locals};
-ghost use Rattle.plc_mem.specs.Outcomes.{outcome_of, next_of, address_or_null, Stays};
+ghost use Rattle.plc_mem.specs.State.{Locals, with_locals};
+ghost use Rattle.plc_mem.specs.declared.cell.Outcome.TheVariants.{Next};
+ghost use Rattle.plc_mem.specs.Outcomes.{outcome_of, address_or_null};
 ghost use Rattle.plc_mem.specs.Fit.{shape, Kept};
 ghost use Rattle.plc_run.specs.Run.{point_of};
-ghost use Rattle.plc_run.specs.Ended.{IsReady, heard};
+ghost use Rattle.plc_run.specs.Ended.{IsReady};
 ghost use Rattle.plc_run.specs.Fit.{ConfigurationFits};
-ghost use Rattle.plc_run.specs.Reach.{Breaks, start_from, step_from, step_leads, return_from, free_of, reach};
+ghost use Rattle.plc_run.specs.Reach.{Goes, Breaks, arrived, settled, concluded, Acts, ActsWith};
+ghost use Rattle.plc_run.specs.Reach.{start_from, step_from, step_leads, return_from, free_of, reach};
 ghost use Rattle.plc_run.specs.Reach.{answer, Reaches, IsUnheard, Begins};
 ghost use Rattle.plc_run.specs.Position.{threads_of, Follows, IsOfRun, Answers, Starts};
 
-use crate::execute::{Ended, execute, try_step};
+use crate::execute::{Ended, Tried, try_init, try_step};
 use crate::moved::Moved;
 use crate::table::Table;
 use plc_auto::{Event, Observer};
@@ -89,22 +92,41 @@ impl Config {
         requires fits { FlowFits flow.now }
         ensures { IfOk result (λ c. Begins flow.now observer.now threads c) }
     {
-        let mut memory = Memory::new(alloc, flow, threads)?;
-        let mut me = Locals::none(alloc)?;
-        let mut history = Vec::new(alloc);
-        let init = flow.file.init.as_slice();
-        match execute(&mut memory, &mut me, &mut history, init, 0, Some(1))? {
-            Ended::Fine => Ok(Some(Config {
-                alloc,
-                memory,
-                table: Table::after(alloc, observer, threads, &history)?,
-                history,
-                points: none_held(alloc, threads as usize)?,
-                ended: false,
-            })),
+        let tried = try_init(alloc, flow, threads)?;
+        match tried.ended {
+            Ended::Fine => {
+                let c = Config::idle(alloc, observer, threads, tried.memory, tried.events)?;
+                Ok(Some(c))
+            }
             Ended::Stuck => Ok(None),
             Ended::Raced { .. } => Ok(None),
         }
+    }
+
+    /// This memory and history, with every thread idle.
+    fn idle(
+        alloc: Global,
+        observer: &Observer,
+        threads: u32,
+        memory: Memory,
+        history: Vec<Event>,
+    ) -> Result<Config, NoMemory>
+        requires { 0 < threads }
+        ensures here { IfOk result (λ c. c.here
+            ≡ record { state = memory; history = history.items; points = replicate threads None }) }
+        ensures live { IfOk result (λ c. c.ended ≡ false) }
+        ensures follows { IfOk result (λ c. Follows observer.now c) }
+    {
+        let points = none_held(alloc, threads as usize)?;
+        let table = Table::after(alloc, observer, threads, &history)?;
+        Ok(Config {
+            alloc,
+            memory,
+            table,
+            history,
+            points,
+            ended: false,
+        })
     }
 
     /// The events so far.
@@ -218,21 +240,76 @@ impl Config {
         ensures err { OnErr result (self.new ≡ self.old) }
     {
         match step.prims.as_slice() {
-            [] => return Ok(self.pass(step, point, t)),
-            [prim] => return self.take_in_place(observer, step, prim, point, t, addr),
-            _ => {}
+            [] => Ok(self.pass(step, point, t)),
+            [prim] => self.take_in_place(observer, step, prim, point, t, addr),
+            _ => self.take_on_copy(observer, step, point, t, addr),
         }
+    }
+
+    /// A step of several primitives, which works on a copy of the memory.
+    fn take_on_copy(
+        &mut self,
+        observer: &Observer,
+        step: &Step,
+        point: Point,
+        t: u32,
+        addr: Option<u32>,
+    ) -> Result<Moved, NoMemory>
+        requires ready { IsReady self.old.here t point step.now }
+        requires follows { Follows observer.now self.old }
+        ensures answer { IfOk result (λ r. r ≡ answer (step_leads self.old.here t point step.now addr)) }
+        ensures after { OnOk result (Reaches (step_leads self.old.here t point step.now addr) self.old self.new) }
+        ensures follows { Follows observer.now self.new }
+        ensures err { OnErr result (self.new ≡ self.old) }
+    {
         let tried = try_step(self.alloc, &self.memory, step, t, addr)?;
+        self.settle(observer, tried, arrival(point, step), t)
+    }
+
+    /// What was tried on a copy comes about: the copy takes the place of the memory.
+    fn settle(
+        &mut self,
+        observer: &Observer,
+        tried: Tried,
+        to: Point,
+        t: u32,
+    ) -> Result<Moved, NoMemory>
+        requires known { t < threads_of self.old }
+        requires follows { Follows observer.now self.old }
+        ensures answer { let come = settled self.old.here t to tried.ended tried.memory tried.events.items
+            in IfOk result (λ r. r ≡ answer come) }
+        ensures after { let come = settled self.old.here t to tried.ended tried.memory tried.events.items
+            in OnOk result (Reaches come self.old self.new) }
+        ensures follows { Follows observer.now self.new }
+        ensures err { OnErr result (self.new ≡ self.old) }
+    {
         match tried.ended {
             Ended::Stuck => Ok(Moved::Blocked),
             Ended::Raced { kind, prim } => Ok(self.race(kind, prim)),
-            Ended::Fine => {
-                self.hear(observer, &tried.events)?;
-                self.memory = tried.memory;
-                set_point(&mut self.points, t, Some(arrival(point, step)));
-                Ok(Moved::Done)
-            }
+            Ended::Fine => self.adopt(observer, tried.memory, &tried.events, to, t),
         }
+    }
+
+    /// The memory, the events and the point to which a step led its thread.
+    fn adopt(
+        &mut self,
+        observer: &Observer,
+        memory: Memory,
+        events: &[Event],
+        to: Point,
+        t: u32,
+    ) -> Result<Moved, NoMemory>
+        requires known { t < threads_of self.old }
+        requires follows { Follows observer.now self.old }
+        ensures answer { IfOk result (λ r. r ≡ answer (Goes (arrived self.old.here t to memory events.now))) }
+        ensures after { OnOk result (Reaches (Goes (arrived self.old.here t to memory events.now)) self.old self.new) }
+        ensures follows { Follows observer.now self.new }
+        ensures err { OnErr result (self.new ≡ self.old) }
+    {
+        self.hear(observer, events)?;
+        self.memory = memory;
+        set_point(&mut self.points, t, Some(to));
+        Ok(Moved::Done)
     }
 
     /// A step without primitives moves its thread alone.
@@ -265,24 +342,52 @@ impl Config {
         ensures answer { IfOk result (λ r. r ≡ answer (step_leads self.old.here t point step.now addr)) }
         ensures after { OnOk result (Reaches (step_leads self.old.here t point step.now addr) self.old self.new) }
     {
-        let Some(mut me) = self.memory.take(t) else {
-            return Ok(Moved::Blocked);
-        };
-        let done = self.act(observer, prim, &mut me, t, addr);
-        self.memory.put(t, me);
-        match done? {
+        let done = self.act(observer, prim, t, addr)?;
+        Ok(self.conclude(done, arrival(point, step), t))
+    }
+
+    /// What a step of one primitive comes to, once the primitive was taken.
+    fn conclude(&mut self, done: Outcome, to: Point, t: u32) -> Moved
+        requires { t < threads_of self.old }
+        ensures answer { result ≡ answer (concluded self.old.here t to done) }
+        ensures after { Reaches (concluded self.old.here t to done) self.old self.new }
+        ensures unheard { IsUnheard self.old self.new }
+    {
+        match done {
             Outcome::Next(_) => {
-                set_point(&mut self.points, t, Some(arrival(point, step)));
-                Ok(Moved::Done)
+                set_point(&mut self.points, t, Some(to));
+                Moved::Done
             }
-            Outcome::Blocked => Ok(Moved::Blocked),
-            Outcome::Race(kind) => Ok(self.race(kind, 0)),
+            Outcome::Blocked => Moved::Blocked,
+            Outcome::Race(kind) => self.race(kind, 0),
         }
     }
 
-    /// One primitive of a thread that lends its locals. The table's row and the history's place are had
-    /// before the primitive changes anything.
+    /// One primitive of a thread, which lends its locals.
     fn act(
+        &mut self,
+        observer: &Observer,
+        prim: &Prim,
+        t: u32,
+        addr: Option<u32>,
+    ) -> Result<Outcome, NoMemory>
+        requires busy { (l : Locals) × (get_or self.old.here.state.locals t None ≡ Some l)
+            × PrimitiveIn (shape self.old.here.state l) prim.now }
+        requires follows { Follows observer.now self.old }
+        ensures acts { IfOk result (λ o. Acts t (address_or_null addr) prim.now self.old o self.new) }
+        ensures follows { Follows observer.now self.new }
+        ensures err { OnErr result (self.new ≡ self.old) }
+    {
+        let Some(mut me) = self.memory.take(t) else {
+            return Ok(Outcome::Blocked);
+        };
+        let done = self.act_with(observer, prim, &mut me, t, addr);
+        self.memory.put(t, me);
+        done
+    }
+
+    /// One primitive of a thread with these locals.
+    fn act_with(
         &mut self,
         observer: &Observer,
         prim: &Prim,
@@ -292,27 +397,14 @@ impl Config {
     ) -> Result<Outcome, NoMemory>
         requires named { PrimitiveIn (shape self.old.here.state me.old) prim.now }
         requires follows { Follows observer.now self.old }
-        ensures outcome { let s = with_locals self.old.here.state t (Some me.old)
-            in IfOk result (λ o. o ≡ outcome_of s t (address_or_null addr) prim.now) }
-        ensures next { let s = with_locals self.old.here.state t (Some me.old) in OnOk result
-            (with_locals self.new.here.state t (Some me.new) ≡ next_of s t (address_or_null addr) prim.now) }
+        ensures acts { IfOk result (λ o.
+            ActsWith t (address_or_null addr) prim.now self.old me.old o self.new me.new) }
         ensures kept { Kept self.old.here.state me.old self.new.here.state me.new }
-        ensures history { IfOk result (λ o. self.new.here.history ≡ heard self.old.here.history o) }
-        ensures points { self.new.here.points ≡ self.old.here.points }
-        ensures ended { self.new.ended ≡ self.old.ended }
         ensures follows { Follows observer.now self.new }
-        ensures unchanged { IfOk result (λ o. Stays o → (self.new ≡ self.old) × (me.new ≡ me.old)) }
         ensures err { OnErr result ((self.new ≡ self.old) × (me.new ≡ me.old)) }
     {
         match self.memory.outcome(prim, me, t, addr) {
-            Outcome::Next(Some(event)) => {
-                self.table.admit(&[event])?;
-                self.history.reserve(1)?;
-                self.memory.apply(prim, me, t, addr)?;
-                self.history.push(event)?;
-                self.table.hear(observer, &[event]);
-                Ok(Outcome::Next(Some(event)))
-            }
+            Outcome::Next(Some(event)) => self.act_heard(observer, prim, me, t, addr, event),
             Outcome::Next(None) => {
                 self.memory.apply(prim, me, t, addr)?;
                 Ok(Outcome::Next(None))
@@ -320,6 +412,35 @@ impl Config {
             Outcome::Blocked => Ok(Outcome::Blocked),
             Outcome::Race(kind) => Ok(Outcome::Race(kind)),
         }
+    }
+
+    /// One primitive that observers hear, of a thread with these locals. The table's row and the history's place are
+    /// had before the primitive changes anything.
+    fn act_heard(
+        &mut self,
+        observer: &Observer,
+        prim: &Prim,
+        me: &mut Locals,
+        t: u32,
+        addr: Option<u32>,
+        event: Event,
+    ) -> Result<Outcome, NoMemory>
+        requires named { PrimitiveIn (shape self.old.here.state me.old) prim.now }
+        requires follows { Follows observer.now self.old }
+        requires heard { outcome_of (with_locals self.old.here.state t (Some me.old)) t (address_or_null addr) prim.now
+            ≡ Next (Some event) }
+        ensures acts { IfOk result (λ o.
+            ActsWith t (address_or_null addr) prim.now self.old me.old o self.new me.new) }
+        ensures kept { Kept self.old.here.state me.old self.new.here.state me.new }
+        ensures follows { Follows observer.now self.new }
+        ensures err { OnErr result ((self.new ≡ self.old) × (me.new ≡ me.old)) }
+    {
+        self.table.admit(&[event])?;
+        self.history.reserve(1)?;
+        self.memory.apply(prim, me, t, addr)?;
+        self.history.push(event)?;
+        self.table.hear(observer, &[event]);
+        Ok(Outcome::Next(Some(event)))
     }
 
     /// A race ends the run.

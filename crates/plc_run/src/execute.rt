@@ -2,15 +2,16 @@
 // that is blocked, or is a race, has changed nothing.
 ghost use Rattle.std.specs.Prelude.{◌≡◌, ◌<◌, get_or, length, IfOk, OnOk, Some, None, []};
 ghost use Rattle.plc_lang.specs.Shape.{PrimitiveIn, PrimitivesIn};
-ghost use Rattle.plc_mem.specs.State.{Locals, with_locals};
+ghost use Rattle.plc_flow.specs.WellFormed.{FlowFits};
+ghost use Rattle.plc_mem.specs.State.{Locals, with_locals, first_state, no_locals};
 ghost use Rattle.plc_mem.specs.Outcomes.{outcome_of, next_of, address_or_null};
 ghost use Rattle.plc_mem.specs.Fit.{shape, Kept};
 ghost use Rattle.plc_run.specs.Run.{execute};
-ghost use Rattle.plc_run.specs.Ended.{heard, ending};
+ghost use Rattle.plc_run.specs.Ended.{heard, ending, InitEnds};
 
 use plc_auto::Event;
 use plc_base::NoMemory;
-use plc_flow::Step;
+use plc_flow::{Flow, Step};
 use plc_lang::Prim;
 use plc_mem::{Locals, Memory, Outcome, RaceKind};
 use std::alloc::Global;
@@ -26,7 +27,7 @@ pub enum Ended {
     Raced { kind: RaceKind, prim: u16 },
 }
 
-/// What a step came to on a copy of the memory.
+/// What primitives came to on a memory of their own, with their events.
 #[derive(Drop)]
 pub struct Tried {
     pub memory: Memory,
@@ -91,6 +92,28 @@ pub fn execute(
     Ok(Ended::Fine)
 }
 
+/// A step of a thread whose locals the memory holds.
+fn run_step(
+    memory: &mut Memory,
+    events: &mut Vec<Event>,
+    step: &Step,
+    t: u32,
+    addr: Option<u32>,
+) -> Result<Ended, NoMemory>
+    requires busy { (l : Locals) × (get_or memory.old.locals t None ≡ Some l)
+        × PrimitivesIn (shape memory.old l) step.now.prims }
+    requires few { length step.now.prims < 65536 }
+    ensures { IfOk result (λ e. ending e memory.new events.new.items
+        ≡ execute memory.old events.old.items t (address_or_null addr) 0 step.now.prims) }
+{
+    let Some(mut me) = memory.take(t) else {
+        return Ok(Ended::Stuck);
+    };
+    let ended = execute(memory, &mut me, events, step.prims.as_slice(), t, addr)?;
+    memory.put(t, me);
+    Ok(ended)
+}
+
 /// A step of a thread on a copy of the memory, which holds the thread's locals, with its events beside the history.
 pub fn try_step(
     alloc: Global,
@@ -107,16 +130,46 @@ pub fn try_step(
 {
     let mut memory = memory.copy()?;
     let mut events = Vec::new(alloc);
-    let Some(mut me) = memory.take(t) else {
-        return Ok(Tried {
-            memory,
-            events,
-            ended: Ended::Stuck,
-        });
-    };
-    let prims = step.prims.as_slice();
-    let ended = execute(&mut memory, &mut me, &mut events, prims, t, addr)?;
-    memory.put(t, me);
+    let ended = run_step(&mut memory, &mut events, step, t, addr)?;
+    Ok(Tried {
+        memory,
+        events,
+        ended,
+    })
+}
+
+/// The primitives of `init`, by thread 0 before it has locals. Its `new` takes the address 1.
+fn run_init(
+    alloc: Global,
+    flow: &Flow,
+    memory: &mut Memory,
+    events: &mut Vec<Event>,
+) -> Result<Ended, NoMemory>
+    requires fit { PrimitivesIn (shape memory.old no_locals) flow.now.file.init }
+    requires few { length flow.now.file.init < 65536 }
+    ensures { IfOk result (λ e.
+        InitEnds memory.old events.old.items flow.now.file.init e memory.new events.new.items) }
+{
+    let mut me = Locals::none(alloc)?;
+    execute(
+        memory,
+        &mut me,
+        events,
+        flow.file.init.as_slice(),
+        0,
+        Some(1),
+    )
+}
+
+/// `init` on a new memory for so many threads.
+pub fn try_init(alloc: Global, flow: &Flow, threads: u32) -> Result<Tried, NoMemory>
+    requires { FlowFits flow.now }
+    ensures { IfOk result (λ x.
+        InitEnds (first_state flow.now threads) [] flow.now.file.init x.ended x.memory x.events.items) }
+{
+    let mut memory = Memory::new(alloc, flow, threads)?;
+    let mut events = Vec::new(alloc);
+    let ended = run_init(alloc, flow, &mut memory, &mut events)?;
     Ok(Tried {
         memory,
         events,

@@ -18,7 +18,7 @@ use plc_base::{LocId, NoMemory};
 use std::alloc::Global;
 use std::marker::Model;
 
-// Where each thread stands for an address, `None` for `bad`.
+/// Where each thread stands for an address, `None` for `bad`.
 #[derive(Drop)]
 struct Row {
     address: u32,
@@ -154,7 +154,7 @@ fn move_rows(rows: &mut [Row], observer: &Observer, event: &Event)
     }
 }
 
-/// The same of rows that may grow.
+/// Moves rows that may grow by an event.
 fn hear_rows(rows: &mut Vec<Row>, observer: &Observer, event: &Event)
     ensures { rows.new.items ≡ map (row_after observer.now event.now) rows.old.items }
 {

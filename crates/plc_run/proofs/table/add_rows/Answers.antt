@@ -13,3 +13,7 @@ loop-event-preserved c =
       adds = adds_then (map target_of c.args.others.now) c.args.rows.now.items rows new c.loop-event.invariant.adds c.add_row.ensures.adds;
       there = rows_more (map target_of c.args.others.now) rows new c.args.events.now i _ c.loop-event-test.true c.add_row.ensures.adds c.loop-event.invariant.there (sym (ap (has_row new) c.address.ensures) ∙ c.in_ok-add_row.ensures.there);
     }
+
+pub returns-in_err-add_row-clause-adds : goal.returns-in_err-add_row-clause-adds
+returns-in_err-add_row-clause-adds c =
+    adds_then (map target_of c.args.others.now) c.args.rows.now.items c.loop-event.rows.items c.add_row.new.rows.items c.loop-event.invariant.adds c.add_row.ensures.adds
