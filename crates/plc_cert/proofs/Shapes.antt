@@ -1,13 +1,15 @@
 -- Reading the items of an array.
-use Rattle.std.proofs.Common.{◌≡◌, ℕ, ◌+◌, ◌≤◌, ◌||◌, List, [], ◌∷◌, length, get_or, Bool, true, false, IsUtf8, IsTrue, if◌then◌else◌, nat_le, Option, Some, None, option_map, option_and_then, refl, sym, ap, ◌∙◌, arith, le-leb}
+use Rattle.std.proofs.Common.{◌≡◌, ℕ, ◌+◌, ◌<◌, ◌≤◌, ◌||◌, List, drop, [], ◌∷◌, length, get_or, Bool, true, false, IsUtf8, IsTrue, if◌then◌else◌, nat_le, Option, Some, None, option_map, option_and_then, refl, sym, ap, subst, ◌++◌, ◌∙◌, arith, le-leb}
 use Rattle.std.proofs.lemmas.Str.{is_utf8-from_IsUtf8, IsUtf8-from_is_utf8}
 use Rattle.std.proofs.Math.Bool.{or_assoc}
+use Rattle.std.proofs.lemmas.List.{append_assoc, append-nil, drop_more}
+use Rattle.serde_json.specs.Data.{Data}
 use Rattle.serde_json.specs.View.{view, items_view}
 use Rattle.serde_json.specs.Read.{read}
 use Rattle.serde_json.specs.declared.value.Value.{Value}
 use Rattle.plc_base.specs.Mask.{no_members, single, union, has}
 use Rattle.plc_base.proofs.MaskLemmas.{same_members, has-union, has-empty, union_absorbs, empty_within}
-use Rattle.plc_cert.specs.Shape.{node_from, pair_from, json_of, whole_below, locations_from}
+use Rattle.plc_cert.specs.Shape.{each, node_from, pair_from, json_of, whole_below, locations_from}
 
 -- an array of any other length is no node
 pub other_length : (vs : List Value) → (length vs ≡ 2 → ⊥) → (length vs ≡ 3 → ⊥) → node_from (items_view vs) ≡ None
@@ -74,3 +76,42 @@ json_of-none bytes h = no_json _ bytes (λ e. h (IsUtf8-from_is_utf8 bytes e))
 
 pub no_truth : IsTrue false → ⊥
 no_truth h = cc
+
+-- ---- lists of parts
+
+before_all : {A : Type 0} (all : Option (List A)) → all ≡ option_map (λ rest. [] ++ rest) all
+before_all None = refl
+before_all (Some xs) = refl
+
+one_later : {A : Type 0} (done : List A) (x : A) (rest : Option (List A)) →
+    option_map (λ ys. done ++ ys) (option_map (λ ys. x ∷ ys) rest) ≡ option_map (λ ys. (done ++ x ∷ []) ++ ys) rest
+one_later done x None = refl
+one_later done x (Some ys) = ap Some (sym (append_assoc done (x ∷ []) ys))
+
+module _ {A : Type 0} (f : Data → Option A) where
+  pub each_first : (vs : List Value) (none : List A) → none ≡ [] → each f (items_view vs) ≡ option_map (λ rest. none ++ rest) (each f (items_view vs))
+  each_first vs none is = subst (λ (xs : List A). each f (items_view vs) ≡ option_map (λ rest. xs ++ rest) (each f (items_view vs))) (sym is) (before_all (each f (items_view vs)))
+
+  -- all values were read
+  pub each_last : (all : Option (List A)) (done : List A) (vs : List Value) → vs ≡ []
+      → all ≡ option_map (λ rest. done ++ rest) (each f (items_view vs)) → Some done ≡ all
+  each_last all done vs none h =
+      sym (h ∙ ap (λ ys. option_map (λ rest. done ++ rest) (each f (items_view ys))) none ∙ ap Some (append-nil done))
+
+  -- the next value
+  module _ (all : Option (List A)) (done : List A) (vs : List Value) (i : ℕ) (v : Value) (small : i < length vs) (is : v ≡ get_or vs i v)
+      (h : all ≡ option_map (λ rest. done ++ rest) (each f (items_view (drop i vs)))) where
+    next : (o : Option A) → o ≡ f (view v)
+        → all ≡ option_map (λ rest. done ++ rest) (option_and_then (λ y. option_map (λ ys. y ∷ ys) (each f (items_view (drop (i + 1) vs)))) o)
+    next o part =
+        h ∙ ap (λ ys. option_map (λ rest. done ++ rest) (each f (items_view ys))) (drop_more vs i v small ∙ ap (λ y. y ∷ drop (i + 1) vs) (sym is))
+        ∙ ap (λ o. option_map (λ rest. done ++ rest) (option_and_then (λ y. option_map (λ ys. y ∷ ys) (each f (items_view (drop (i + 1) vs)))) o)) (sym part)
+
+    pub each_more : (x : A) → Some x ≡ f (view v) → (now : List A) → now ≡ done ++ x ∷ []
+        → all ≡ option_map (λ rest. now ++ rest) (each f (items_view (drop (i + 1) vs)))
+    each_more x part now pushed =
+        subst (λ ys. all ≡ option_map (λ rest. ys ++ rest) (each f (items_view (drop (i + 1) vs)))) (sym pushed)
+        (next (Some x) part ∙ one_later done x (each f (items_view (drop (i + 1) vs))))
+
+    pub each_none : None ≡ f (view v) → None ≡ all
+    each_none part = sym (next None part)

@@ -8,7 +8,7 @@ use plc_ground::Tree;
 use plc_type::Env;
 
 /// What shows that a file is safe.
-#[derive(Debug, Drop)]
+#[derive(Drop)]
 pub struct Cert {
     /// An environment for each point, in order. The types of shared pointers aren't written, so one
     /// that was read has none.

@@ -1,14 +1,42 @@
 // Reading, over the JSON value of the whole text. Refusals come in one order: what isn't JSON at all,
 // the members of the object, the version, and only then the two lists, since another version may
 // have another form.
-ghost use Rattle.std.specs.Prelude.{◌≡◌, option_map};
-ghost use Rattle.serde_json.specs.View.{view};
-ghost use Rattle.plc_cert.specs.Shape.{whole_of, with_version, root_of, certificate_of, reading, Answers};
+ghost use Rattle.std.specs.Prelude.{◌≡◌, ◌&&◌, bytes_eq, codes, option_map};
+ghost use Rattle.serde_json.specs.View.{view, members_view};
+ghost use Rattle.plc_cert.specs.Shape.{whole_of, with_version, root_from, root_of, certificate_of, reading, Answers};
 
 use crate::cert::{Cert, CertFault, CertField};
 use crate::part::list;
 use serde_json::Value;
 use std::alloc::Global;
+use std::collections::btree_map::Iter;
+
+/// Whether three names are those of the members.
+fn are_named(first: &str, second: &str, third: &str) -> bool
+    ensures { result ≡ (bytes_eq first.now (codes "env")
+        && (bytes_eq second.now (codes "trees") && bytes_eq third.now (codes "version"))) }
+{
+    first == "env" && second == "trees" && third == "version"
+}
+
+/// The values at `env`, `trees` and `version`, where these are the members that are left.
+fn values<'a>(members: &mut Iter<'a, String, Value>) -> Option<(&'a Value, &'a Value, &'a Value)>
+    ensures { option_map (λ r. (view r.0.now, view r.1.now, view r.2.now)) result
+        ≡ root_from (members_view members.old) }
+{
+    match (
+        members.next(),
+        members.next(),
+        members.next(),
+        members.next(),
+    ) {
+        (Some((first, env)), Some((second, trees)), Some((third, version)), None)
+            if are_named(first.as_str(), second.as_str(), third.as_str()) => {
+            Some((env, trees, version))
+        }
+        _ => None,
+    }
+}
 
 /// The values at `env`, `trees` and `version`, where these are the members. An object has its members
 /// in the order of their names, however the text has them.
@@ -16,18 +44,7 @@ fn root(value: &Value) -> Option<(&Value, &Value, &Value)>
     ensures { option_map (λ r. (view r.0.now, view r.1.now, view r.2.now)) result
         ≡ root_of (view value.now) }
 {
-    let mut members = value.as_object()?.iter();
-    let (first, env) = members.next()?;
-    let (second, trees) = members.next()?;
-    let (third, version) = members.next()?;
-    if members.next().is_some() {
-        return None;
-    }
-    if first.as_str() == "env" && second.as_str() == "trees" && third.as_str() == "version" {
-        Some((env, trees, version))
-    } else {
-        None
-    }
+    values(&mut value.as_object()?.iter())
 }
 
 /// That it is version 1.

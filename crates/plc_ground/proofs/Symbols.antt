@@ -1,6 +1,6 @@
 -- The tests of equality of constants and of maps hold of one alone.
 use Rattle.std.proofs.Common.{◌≡◌, true, refl, ap}
-use Rattle.std.proofs.lemmas.Bool.{eqb-true, eq-eqb}
+use Rattle.std.proofs.lemmas.Bool.{eqb-true, eq-eqb, false≢true}
 use Rattle.plc_base.specs.declared.ids.FieldId.{FieldId}
 use Rattle.plc_ground.specs.declared.terms.Symbol.{Symbol}
 use Rattle.plc_ground.specs.declared.terms.Symbol.TheVariants.{Null, Shared, Mine, Theirs, New, Bound, Loaded}
@@ -25,7 +25,7 @@ same_symbol_true Me Me h = refl
 same_symbol_true You You h = refl
 same_symbol_true (Value i) (Value j) h = ap Value (eqb-true i j h)
 same_symbol_true (Number i) (Number j) h = ap Number (eqb-true i j h)
-same_symbol_true _ _ h = cc
+same_symbol_true _ _ h = absurd (false≢true h)
 
 pub same_symbol_refl : (a : Symbol) → same_symbol a a ≡ true
 same_symbol_refl Null = refl
@@ -51,7 +51,7 @@ pub same_map_true : (a b : Map) → same_map a b ≡ true → a ≡ b
 same_map_true (Field f) (Field g) h = ap Field (field_id f g (eqb-true f.0 g.0 h))
 same_map_true (Ghost i) (Ghost j) h = ap Ghost (eqb-true i j h)
 same_map_true Retired Retired h = refl
-same_map_true _ _ h = cc
+same_map_true _ _ h = absurd (false≢true h)
 
 pub same_map_refl : (a : Map) → same_map a a ≡ true
 same_map_refl (Field f) = eq-eqb f.0 f.0 refl

@@ -24,14 +24,14 @@ use plc_base::Items;
 use std::alloc::{AllocError, Global};
 
 /// What a change wrote over: the class that a term had.
-#[derive(Clone, Copy, Debug)]
+#[derive(Clone, Copy)]
 pub struct Change {
     pub(crate) term: u32,
     pub(crate) class: u32,
 }
 
 /// The terms that a branch makes equal, as a class for each term, and how to take that back.
-#[derive(Debug, Drop)]
+#[derive(Drop)]
 pub struct Equalities {
     pub(crate) class: Items<u32>,
     pub(crate) trail: Items<Change>,

@@ -15,7 +15,7 @@ use std::alloc::Global;
 
 /// What was executed so far: the variables that were given a constant, the maps that were written, and how
 /// often a field was read.
-#[derive(Debug, Drop)]
+#[derive(Drop)]
 pub struct Execution {
     pub assigned: Items<(Symbol, Symbol)>,
     pub written: Items<Map>,

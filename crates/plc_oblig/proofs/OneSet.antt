@@ -1,16 +1,14 @@
 -- Obligations that are alike have one ground set: of the other thread's point it has the locals of its operation and
 -- the clauses there, and nothing else.
-use Rattle.std.specs.Prelude.{◌≡◌, ◌++◌, ◌==◌, Contains, ◌&&◌, ℕ, Bool, true, false, not, cond, List, [], ◌∷◌, map, flat_map, filter, Some, nat_lt, length, slice_get}
-use Rattle.std.specs.List.{list_all, position, position_or_len}
+use Rattle.std.specs.Prelude.{◌≡◌, ◌==◌, Contains, ℕ, Bool, true, false, not, cond, List, [], ◌∷◌, map, filter, length, slice_get}
+use Rattle.std.specs.List.{list_all, position_or_len}
 use Rattle.std.proofs.Common.{refl, sym, ap, ◌∙◌, subst, ◌+◌, ◌<◌, get_or, inl, inr, ◌⊎◌}
 use Rattle.std.proofs.lemmas.List.Elements.{Contains-get_or}
 use Rattle.std.proofs.lemmas.Bool.{eqb-true, and_parts, false≢true}
 use Rattle.plc_base.specs.declared.ids.PointId.{PointId}
 use Rattle.plc_base.specs.declared.ids.StepId.{StepId}
 use Rattle.plc_lang.specs.declared.syntax.Local.{Local}
-use Rattle.plc_flow.specs.declared.flow.Gate.{Gate}
 use Rattle.plc_flow.specs.declared.flow.Flow.{Flow}
-use Rattle.plc_logic.specs.declared.clause.Clause.{Clause}
 use Rattle.plc_logic.specs.declared.clause.Item.{Item}
 use Rattle.plc_logic.specs.declared.clause.Outline.{Outline}
 use Rattle.plc_ground.specs.declared.terms.GroundSet.{GroundSet}

@@ -15,8 +15,8 @@ use plc_setting::{Obligation, has_point, stands_at};
 use std::alloc::Global;
 use std::marker::Model;
 
-// How many obligations are noted at most. An obligation is compared with all that are noted before its ground set is
-// made, and with this many that costs less than making the set.
+/// How many obligations are noted at most. An obligation is compared with all that are noted before its ground set is
+/// made, and with this many that costs less than making the set.
 const MOST_NOTED: usize = 64;
 
 /// Whether both are true or both false.
@@ -40,14 +40,14 @@ fn share_item(flow: &Flow, p: u16, q: u16, item: &Item) -> bool
     agree(stands_at(flow, p, item), stands_at(flow, q, item))
 }
 
-/// The same of all operations.
+/// Whether each operation has both points or neither.
 fn share_gates(gates: &[Gate], p: u16, q: u16) -> bool
     ensures { result ≡ list_all (share_gate p q) gates.now }
 {
     gates.iter().all(|gate| share_gate(p, q, gate))
 }
 
-/// The same of all items.
+/// Whether each item stands at both points or at neither.
 fn share_items(flow: &Flow, items: &[Item], p: u16, q: u16) -> bool
     ensures { result ≡ list_all (share_item flow.now p q) items.now }
 {

@@ -16,9 +16,7 @@ use plc_lang::Prim;
 use plc_logic::Outline;
 use plc_setting::{Obligation, count_at};
 
-// Each of these answers its obligation with the number, or, where it has too few, the number counted
-// after all of them.
-
+/// The obligation with a number among those of the start, or what is left of the number after these.
 fn nth_start(flow: &Flow, outline: &Outline, i: u64) -> Result<Obligation, u64>
     requires { HasFewParts flow.now outline.now }
     ensures { IsFoundIn (starts outline.now) i result }
@@ -30,6 +28,7 @@ fn nth_start(flow: &Flow, outline: &Outline, i: u64) -> Result<Obligation, u64>
     Err(i - count)
 }
 
+/// The obligation with a number among those of entries, or what is left of the number after these.
 fn nth_enter(flow: &Flow, outline: &Outline, i: u64) -> Result<Obligation, u64>
     requires { HasFewParts flow.now outline.now }
     ensures { IsFoundIn (enters flow.now outline.now) i result }
@@ -48,6 +47,7 @@ fn nth_enter(flow: &Flow, outline: &Outline, i: u64) -> Result<Obligation, u64>
     Err(left)
 }
 
+/// The obligation with a number among those of own steps, or what is left of the number after these.
 fn nth_own(flow: &Flow, outline: &Outline, i: u64) -> Result<Obligation, u64>
     requires { HasFewParts flow.now outline.now }
     ensures { IsFoundIn (owns flow.now outline.now) i result }
@@ -66,7 +66,7 @@ fn nth_own(flow: &Flow, outline: &Outline, i: u64) -> Result<Obligation, u64>
     Err(left)
 }
 
-/// Of one step.
+/// The obligation with a number among those of one step at other points, or what is left of the number after these.
 fn nth_at_points(flow: &Flow, outline: &Outline, step: StepId, i: u64) -> Result<Obligation, u64>
     requires { HasFewParts flow.now outline.now }
     ensures { IsFoundIn (parts_from (others_at flow.now outline.now step.0) 0 (below flow.now.points)) i result }
@@ -86,6 +86,7 @@ fn nth_at_points(flow: &Flow, outline: &Outline, step: StepId, i: u64) -> Result
     Err(left)
 }
 
+/// The obligation with a number among those of all steps at other points, or what is left of the number after these.
 fn nth_other(flow: &Flow, outline: &Outline, i: u64) -> Result<Obligation, u64>
     requires { HasFewParts flow.now outline.now }
     ensures { IsFoundIn (others flow.now outline.now) i result }
@@ -101,7 +102,7 @@ fn nth_other(flow: &Flow, outline: &Outline, i: u64) -> Result<Obligation, u64>
     Err(left)
 }
 
-/// Of one step.
+/// The obligation with a number among the claims of one step, or what is left of the number after these.
 fn nth_claim_of(step: StepId, prims: &[Prim], i: u64) -> Result<Obligation, u64>
     requires { length prims.now ≤ most_step_primitives }
     ensures { IsFoundIn (claims_in step.0 0 prims.now) i result }
@@ -121,6 +122,7 @@ fn nth_claim_of(step: StepId, prims: &[Prim], i: u64) -> Result<Obligation, u64>
     Err(left)
 }
 
+/// The obligation with a number among the claims of all steps, or what is left of the number after these.
 fn nth_claim(flow: &Flow, outline: &Outline, i: u64) -> Result<Obligation, u64>
     requires { HasFewParts flow.now outline.now }
     ensures { IsFoundIn (claims flow.now) i result }
@@ -135,7 +137,8 @@ fn nth_claim(flow: &Flow, outline: &Outline, i: u64) -> Result<Obligation, u64>
     Err(left)
 }
 
-/// Those of steps at other points, and claims after them.
+/// The obligation with a number among those of steps at other points and of claims, or what is left of the number
+/// after these.
 fn nth_from_other(flow: &Flow, outline: &Outline, i: u64) -> Result<Obligation, u64>
     requires { HasFewParts flow.now outline.now }
     ensures { IsFoundIn (others flow.now outline.now ++ claims flow.now) i result }
@@ -146,7 +149,7 @@ fn nth_from_other(flow: &Flow, outline: &Outline, i: u64) -> Result<Obligation, 
     }
 }
 
-/// The same after those of own steps.
+/// The obligation with a number among those of own steps and all that come after.
 fn nth_from_own(flow: &Flow, outline: &Outline, i: u64) -> Result<Obligation, u64>
     requires { HasFewParts flow.now outline.now }
     ensures { IsFoundIn (owns flow.now outline.now ++ (others flow.now outline.now ++ claims flow.now)) i result }
@@ -157,7 +160,7 @@ fn nth_from_own(flow: &Flow, outline: &Outline, i: u64) -> Result<Obligation, u6
     }
 }
 
-/// The same after those of entries.
+/// The obligation with a number among those of entries and all that come after.
 fn nth_from_enter(flow: &Flow, outline: &Outline, i: u64) -> Result<Obligation, u64>
     requires { HasFewParts flow.now outline.now }
     ensures { IsFoundIn (enters flow.now outline.now ++ (owns flow.now outline.now
@@ -169,7 +172,7 @@ fn nth_from_enter(flow: &Flow, outline: &Outline, i: u64) -> Result<Obligation, 
     }
 }
 
-/// All of them.
+/// The obligation with a number among all, or what is left of the number after these.
 fn nth_of_all(flow: &Flow, outline: &Outline, i: u64) -> Result<Obligation, u64>
     requires { HasFewParts flow.now outline.now }
     ensures { IsFoundIn (obligations flow.now outline.now) i result }

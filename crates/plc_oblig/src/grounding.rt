@@ -18,7 +18,7 @@ use plc_flow::Flow;
 use plc_ground::{GroundSet, Sort, Symbol};
 use plc_items::{Subject, push_items};
 use plc_logic::Outline;
-use plc_setting::{Act, Obligation, constants_of, setting_of, sort_of};
+use plc_setting::{Act, Obligation, Setting, constants_of, setting_of, sort_of};
 use plc_symbolic::{Draft, NodeTerm, SymbolicTerm, term_of};
 use std::alloc::Global;
 
@@ -88,6 +88,35 @@ fn write_draft(w: &Subject, draft: &mut Draft) -> Result<(), NoMemory>
     Ok(())
 }
 
+/// The ground set of an obligation whose setting this is.
+fn assemble(
+    alloc: Global,
+    flow: &Flow,
+    outline: &Outline,
+    s: &Setting,
+    o: &Obligation,
+    draft: &mut Draft,
+) -> Result<GroundSet, NoMemory>
+    requires fits { Fits flow.now outline.now }
+    requires setting { s.now ≡ setting_of flow.now outline.now o.now }
+    requires few { length s.now.acts ≤ most_step_primitives }
+    ensures well { IfOk result (λ set. IsWellFormed set) }
+    ensures set { IfOk result (λ set. set ≡ ground_set flow.now outline.now o.now) }
+{
+    let w = Subject {
+        alloc,
+        flow,
+        outline,
+        setting: s,
+        obligation: o,
+    };
+    draft.clear();
+    write_draft(&w, draft)?;
+    let sorts = sorts_of(alloc, flow, o, s.acts.as_slice(), draft)?;
+    let set = draft.finish(sorts)?;
+    Ok(set)
+}
+
 /// Memory for ground sets that are made one after another.
 #[derive(Drop)]
 pub struct Grounding {
@@ -116,18 +145,7 @@ impl Grounding {
         ensures set { IfOk result (λ set. set ≡ ground_set flow.now outline.now o.now) }
     {
         let s = setting_of(self.alloc, flow, outline, o)?;
-        self.draft.clear();
-        let w = Subject {
-            alloc: self.alloc,
-            flow,
-            outline,
-            setting: &s,
-            obligation: o,
-        };
-        write_draft(&w, &mut self.draft)?;
-        let sorts = sorts_of(self.alloc, flow, o, s.acts.as_slice(), &self.draft)?;
-        let set = self.draft.finish(sorts)?;
-        Ok(set)
+        assemble(self.alloc, flow, outline, &s, o, &mut self.draft)
     }
 
     /// Takes the memory of a set that isn't needed any more, for those that are still to come.

@@ -29,7 +29,7 @@ use plc_setting::{
 };
 
 /// How many there are of what a set rests on.
-#[derive(Clone, Copy, Debug)]
+#[derive(Clone, Copy)]
 pub struct Sizes {
     /// The pointer locals of the acting thread.
     pub mine: u64,

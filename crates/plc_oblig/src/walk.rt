@@ -21,7 +21,7 @@ use plc_setting::{Obligation, count_at};
 use std::alloc::Global;
 use std::marker::Model;
 
-// An outline, with the number of clauses at each point.
+/// An outline, with the number of clauses at each point.
 #[derive(Clone, Copy)]
 struct Counted<'a> {
     flow: &'a Flow,

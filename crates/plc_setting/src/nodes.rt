@@ -29,7 +29,7 @@ pub fn node_constants(
     Ok(list)
 }
 
-/// The same without null and the new node.
+/// The node constants but for null and the new node.
 pub fn plain_constants(
     alloc: Global,
     pointers: &[Symbol],

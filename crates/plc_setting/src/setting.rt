@@ -1,14 +1,18 @@
 // What every item of a ground set rests on: the variables of the threads, what is executed, and the nodes.
-ghost use Rattle.std.specs.Prelude.{◌≡◌, ◌≤◌, length, map, IfOk, option_copied};
+ghost use Rattle.std.specs.Prelude.{◌≡◌, ◌≤◌, ◌==◌, true, false, length, map, IfOk, option_copied};
 ghost use Rattle.std.specs.List.{list_any};
 ghost use Rattle.plc_base.specs.Limits.{most};
 ghost use Rattle.plc_base.specs.declared.limits.What1.TheVariants as limits;
 ghost use Rattle.plc_lang.specs.Allocation.{is_new};
 ghost use Rattle.plc_lang.specs.Numbering.{places_from};
 ghost use Rattle.plc_flow.specs.WellFormed.{most_step_primitives};
+ghost use Rattle.plc_logic.specs.declared.clause.Outline.{Outline as AnOutline};
 ghost use Rattle.plc_setting.specs.Fit.{Fits};
 ghost use Rattle.plc_setting.specs.Setting.{local_symbol, is_kind, variables_of, pointer_fields_from, bound_of};
 ghost use Rattle.plc_setting.specs.Setting.{pointer_variables, pointer_loads_from, setting_of};
+ghost use Rattle.plc_setting.specs.Setting.{node_constants, plain_constants, nodes_of};
+ghost use Rattle.plc_setting.specs.Parts.{executed, acting_locals, owner_locals};
+ghost use Rattle.plc_setting.specs.Acts.{acts_of};
 
 use crate::acts::{Act, acts_of};
 use crate::nodes::{node_constants, nodes_of, plain_constants};
@@ -24,14 +28,14 @@ use plc_symbolic::NodeTerm;
 use std::alloc::Global;
 
 /// The locals of a thread: the constants of its pointer locals and of its data locals.
-#[derive(Debug, Drop)]
+#[derive(Drop)]
 pub struct Variables {
     pub pointers: Items<Symbol>,
     pub values: Items<Symbol>,
 }
 
 /// What the items of a ground set rest on.
-#[derive(Debug, Drop)]
+#[derive(Drop)]
 pub struct Setting {
     /// Those of the acting thread.
     pub mine: Variables,
@@ -166,6 +170,142 @@ fn loaded_pointers(alloc: Global, acts: &[Act]) -> Result<Items<Symbol>, NoMemor
     Ok(list)
 }
 
+/// What is executed, and the locals of the threads.
+#[derive(Drop)]
+struct Execution {
+    mine: Variables,
+    theirs: Variables,
+    acts: Items<Act>,
+}
+
+/// What an obligation executes.
+fn execution_of(alloc: Global, flow: &Flow, o: &Obligation) -> Result<Execution, NoMemory>
+    requires { (outline : AnOutline) × Fits flow.now outline }
+    ensures mine { IfOk result (λ run. run.mine ≡ variables_of false (acting_locals flow.now o.now)) }
+    ensures theirs { IfOk result (λ run. run.theirs ≡ variables_of true (owner_locals flow.now o.now)) }
+    ensures acts { IfOk result (λ run. run.acts ≡ acts_of flow.now.file.ghosts run.mine (executed flow.now o.now)) }
+{
+    let mine = variables_of(alloc, acting_locals(flow, o), false)?;
+    let theirs = variables_of(alloc, owner_locals(flow, o), true)?;
+    let acts = acts_of(alloc, &flow.file, &mine, executed(flow, o))?;
+    Ok(Execution { mine, theirs, acts })
+}
+
+/// The constants that are nodes, the nodes, and those at which premises are instantiated.
+#[derive(Drop)]
+struct NodeLists {
+    constants: Items<Symbol>,
+    nodes: Items<NodeTerm>,
+    instances: Items<NodeTerm>,
+}
+
+/// The nodes of these pointer variables, nodes that the conclusion names and nodes that are read.
+fn node_lists(
+    alloc: Global,
+    pointers: &[Symbol],
+    makes: bool,
+    bound: u16,
+    loaded: &[Symbol],
+    deep: bool,
+    fields: &[FieldId],
+) -> Result<NodeLists, NoMemory>
+    ensures constants { IfOk result (λ l. l.constants ≡ node_constants pointers.now makes bound loaded.now) }
+    ensures nodes { IfOk result (λ l. l.nodes ≡ nodes_of l.constants deep l.constants fields.now) }
+    ensures instances { IfOk result (λ l. l.instances
+        ≡ nodes_of (plain_constants pointers.now bound loaded.now) deep l.constants fields.now) }
+{
+    let constants = node_constants(alloc, pointers, makes, bound, loaded)?;
+    let plain = plain_constants(alloc, pointers, bound, loaded)?;
+    let roots = constants.as_slice();
+    let nodes = nodes_of(alloc, roots, deep, roots, fields)?;
+    let instances = nodes_of(alloc, plain.as_slice(), deep, roots, fields)?;
+    Ok(NodeLists {
+        constants,
+        nodes,
+        instances,
+    })
+}
+
+/// The pointers through which the nodes of an execution are found, and these nodes.
+#[derive(Drop)]
+struct Surroundings {
+    pointers: Items<Symbol>,
+    fields: Items<FieldId>,
+    lists: NodeLists,
+}
+
+/// The nodes of an execution.
+fn surround(
+    alloc: Global,
+    flow: &Flow,
+    outline: &Outline,
+    run: &Execution,
+    makes: bool,
+    bound: u16,
+) -> Result<Surroundings, NoMemory>
+    requires fits { Fits flow.now outline.now }
+    requires few { length run.now.acts ≤ most_step_primitives }
+    ensures pointers { IfOk result (λ around. around.pointers
+        ≡ pointer_variables (length flow.now.file.shared) run.now.mine run.now.theirs) }
+    ensures fields { IfOk result (λ around. around.fields ≡ pointer_fields_from 0 flow.now.file.fields) }
+    ensures constants { IfOk result (λ around. around.lists.constants
+        ≡ node_constants around.pointers makes bound (pointer_loads_from 0 run.now.acts)) }
+    ensures nodes { IfOk result (λ around. around.lists.nodes
+        ≡ nodes_of around.lists.constants (outline.now.depth == 1) around.lists.constants around.fields) }
+    ensures instances { IfOk result (λ around. around.lists.instances
+        ≡ nodes_of (plain_constants around.pointers bound (pointer_loads_from 0 run.now.acts))
+        (outline.now.depth == 1) around.lists.constants around.fields) }
+{
+    let pointers = pointer_variables(alloc, flow.file.shared.len(), &run.mine, &run.theirs)?;
+    let loaded = loaded_pointers(alloc, run.acts.as_slice())?;
+    let fields = pointer_fields(alloc, flow.file.fields.as_slice())?;
+    let lists = node_lists(
+        alloc,
+        pointers.as_slice(),
+        makes,
+        bound,
+        loaded.as_slice(),
+        outline.depth == 1,
+        fields.as_slice(),
+    )?;
+    Ok(Surroundings {
+        pointers,
+        fields,
+        lists,
+    })
+}
+
+/// The setting of which these are the parts.
+fn joined(run: Execution, owned: bool, makes: bool, bound: u16, around: Surroundings) -> Setting
+    ensures { result ≡ record {
+      mine = run.mine;
+      theirs = run.theirs;
+      owned = owned;
+      acts = run.acts;
+      makes = makes;
+      bound = bound;
+      pointers = around.pointers;
+      constants = around.lists.constants;
+      nodes = around.lists.nodes;
+      instances = around.lists.instances;
+      fields = around.fields;
+    } }
+{
+    Setting {
+        mine: run.mine,
+        theirs: run.theirs,
+        owned,
+        acts: run.acts,
+        makes,
+        bound,
+        pointers: around.pointers,
+        constants: around.lists.constants,
+        nodes: around.lists.nodes,
+        instances: around.lists.instances,
+        fields: around.fields,
+    }
+}
+
 /// The setting of an obligation.
 pub fn setting_of(
     alloc: Global,
@@ -177,32 +317,9 @@ pub fn setting_of(
     ensures setting { IfOk result (λ s. s ≡ setting_of flow.now outline.now o.now) }
     ensures few { IfOk result (λ s. length s.acts ≤ most_step_primitives) }
 {
-    let mine = variables_of(alloc, acting_locals(flow, o), false)?;
-    let theirs = variables_of(alloc, owner_locals(flow, o), true)?;
-    let prims = executed(flow, o);
-    let acts = acts_of(alloc, &flow.file, &mine, prims)?;
-    let makes = has_new(prims);
+    let run = execution_of(alloc, flow, o)?;
+    let makes = has_new(executed(flow, o));
     let bound = bound_of(conclusion(flow, outline, o));
-    let pointers = pointer_variables(alloc, flow.file.shared.len(), &mine, &theirs)?;
-    let loaded = loaded_pointers(alloc, acts.as_slice())?;
-    let fields = pointer_fields(alloc, flow.file.fields.as_slice())?;
-    let constants = node_constants(alloc, pointers.as_slice(), makes, bound, loaded.as_slice())?;
-    let plain = plain_constants(alloc, pointers.as_slice(), bound, loaded.as_slice())?;
-    let deep = outline.depth == 1;
-    let roots = constants.as_slice();
-    let nodes = nodes_of(alloc, roots, deep, roots, fields.as_slice())?;
-    let instances = nodes_of(alloc, plain.as_slice(), deep, roots, fields.as_slice())?;
-    Ok(Setting {
-        mine,
-        theirs,
-        owned: has_owner(o),
-        acts,
-        makes,
-        bound,
-        pointers,
-        constants,
-        nodes,
-        instances,
-        fields,
-    })
+    let around = surround(alloc, flow, outline, &run, makes, bound)?;
+    Ok(joined(run, has_owner(o), makes, bound, around))
 }

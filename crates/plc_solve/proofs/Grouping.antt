@@ -9,7 +9,7 @@ use Rattle.plc_ground.specs.declared.terms.GroundTerm.TheVariants.{Const}
 use Rattle.plc_ground.specs.declared.terms.GroundSet.{GroundSet}
 use Rattle.plc_ground.specs.Model.{symbol_family, MustDiffer}
 use Rattle.plc_ground.specs.Fit.{IsWellFormed}
-use Rattle.plc_ground.specs.Classes.{AreApart}
+use Rattle.plc_ground.specs.Classes.{AreApart, IsNoLater}
 use Rattle.plc_solve.specs.Search.{IsConflict, IsOfGroup, IsGroup, AreGroups}
 
 must_back : (s : GroundSet) (i j : ℕ) → MustDiffer s i j → MustDiffer s j i
@@ -138,3 +138,13 @@ passes_all s group class last k p le i j (m, ml, me) (n, nl, ne) =
 pub group_within : (s : GroundSet) (first i : ℕ) → first < length s.terms → IsOfGroup s first i → i < length s.terms
 group_within s first i lt (inl e) = omega (arith, e, lt)
 group_within s first i lt (inr d) = slice_get_within s.terms i _ d.second_is
+
+-- what stands in a group is a term, and so is its class
+pub term_at : (s : GroundSet) (group : List ℕ) → IsGroup s group → (k : ℕ) → k < length group → slice_index group k < length s.terms
+term_at s group g k lt = group_within s g.0 (slice_index group k) g.1 (g.2.each k 0 lt)
+
+pub class_at : (s : GroundSet) (group class : List ℕ) → IsGroup s group → length class ≡ length s.terms → IsNoLater class → (k : ℕ) → k < length group →
+    slice_index class (slice_index group k) < length s.terms
+class_at s group class g one_each no_later k lt =
+    let within = term_at s group g k lt in
+    let le = no_later (slice_index group k) (omega (arith, within, one_each)) in omega (arith, le, within)

@@ -67,7 +67,7 @@ fn is_false(set: &GroundSet, class: &[u32], c: usize, seen: &mut usize) -> bool
 }
 
 /// A clause that may be split, and how many of its literals are open.
-#[derive(Clone, Copy, Debug)]
+#[derive(Clone, Copy)]
 struct Choice {
     clause: usize,
     open: usize,

@@ -2,10 +2,11 @@
 // false under it and no two constants come together that must differ, it is a model. Else a false
 // clause is split. The stack of splits is a list, so no depth is too great. A split above the
 // present branch has a true equation on it, so a clause that is false wasn't split: none is twice.
-ghost use Rattle.std.specs.Prelude.{◌≡◌, ◌↔◌, ◌<◌, ◌∷◌, [], IfOk, length};
+ghost use Rattle.std.specs.Prelude.{◌≡◌, ◌↔◌, ◌<◌, [], IfOk, IfSome, None, Ok, length, reverse, vec_len};
 ghost use Rattle.plc_ground.specs.Fit.{IsWellFormed};
+ghost use Rattle.plc_ground.specs.Model.{IsModel};
 ghost use Rattle.plc_ground.specs.Trees.{HasModel};
-ghost use Rattle.plc_solve.specs.Search.{IsSurvey, Stands};
+ghost use Rattle.plc_solve.specs.Search.{IsSurvey, IsPlace, Stands, ClosesTop};
 ghost use Rattle.plc_solve.specs.Answers.{IsOpen, CarriesModel, CarriesTree};
 
 use crate::frame::{Frame, Step, whole};
@@ -14,11 +15,11 @@ use crate::place::{Place, go_up};
 use crate::split::{enter, take_child};
 use crate::survey::{Survey, take_survey};
 use plc_base::{Items, NoMemory};
-use plc_ground::{GroundModel, GroundSet, Tree, all_apart, into_classes};
+use plc_ground::{GroundModel, GroundSet, Node, Tree, all_apart, into_classes};
 use std::alloc::{AllocError, Global};
 
 /// What the solver finds.
-#[derive(Debug, Drop)]
+#[derive(Drop)]
 pub enum Answer {
     /// A tree that closes the set, so that no model exists. No branch splits one clause twice.
     Closed(Tree),
@@ -26,30 +27,30 @@ pub enum Answer {
     Open(GroundModel),
 }
 
-/// The answer that comes of the first split.
-fn find(
+/// The nodes of a tree that closes the set, found from the splits of the place; or `None` where the
+/// classes of the place that it came to are a model.
+fn search(
     alloc: Global,
     set: &GroundSet,
     survey: &Survey,
     seen: &mut [usize],
     last: &mut [u32],
-    mut place: Place,
-    first: Frame,
-) -> Result<Answer, AllocError>
+    frames: &mut Vec<Frame>,
+    place: &mut Place,
+) -> Result<Option<Vec<Node>>, AllocError>
     requires well { IsWellFormed set.now }
     requires survey { IsSurvey set.now survey.now }
     requires seen { length seen.old ≡ length set.now.clauses }
     requires last { length last.old ≡ length set.now.terms }
-    requires stands { Stands set.now place (first ∷ []) }
-    ensures open { IfOk result (CarriesModel set.now) }
-    ensures closed { IfOk result (CarriesTree set.now) }
+    requires stands { Stands set.now place.old (reverse frames.old.items) }
+    requires nonempty { 0 < vec_len frames.old }
+    ensures open { result ≡ Ok None → IsModel set.now place.new.equal.class }
+    ensures closed { IfOk result (λ o. IfSome o (λ nodes. ClosesTop set.now [] nodes.items)) }
 {
-    let mut frames = Vec::new(alloc);
-    frames.push(first)?;
     'search: while let Some(mut top) = frames.pop() {
-        go_up(&mut place, &top);
-        match take_child(alloc, set, survey, seen, last, &mut top, &mut place)? {
-            Step::Open => return Ok(open(place)),
+        go_up(place, &top);
+        match take_child(alloc, set, survey, seen, last, &mut top, place)? {
+            Step::Open => return Ok(None),
             Step::Closed => frames.push(top)?,
             Step::Deeper(child) => {
                 frames.push(top)?;
@@ -57,15 +58,56 @@ fn find(
             }
             Step::Complete => {
                 let tree = whole(alloc, top.clause, &top.nodes)?;
-                if let Some(nodes) = hand_up(alloc, set, survey, &mut frames, &mut place, tree)? {
-                    return Ok(Answer::Closed(Tree {
-                        nodes: Items::from_vec(nodes),
-                    }));
+                if let Some(nodes) = hand_up(alloc, set, survey, frames, place, tree)? {
+                    return Ok(Some(nodes));
                 }
             }
         }
     }
     unreachable!()
+}
+
+/// What [`search`] finds from a place on which nothing is split yet.
+fn search_from(
+    alloc: Global,
+    set: &GroundSet,
+    survey: &Survey,
+    seen: &mut [usize],
+    last: &mut [u32],
+    place: &mut Place,
+) -> Result<Option<Vec<Node>>, AllocError>
+    requires well { IsWellFormed set.now }
+    requires survey { IsSurvey set.now survey.now }
+    requires seen { length seen.old ≡ length set.now.clauses }
+    requires last { length last.old ≡ length set.now.terms }
+    requires place { IsPlace set.now place.old.branch.items place.old.equal.class }
+    requires empty { place.old.branch.items ≡ [] }
+    ensures open { result ≡ Ok None → IsModel set.now place.new.equal.class }
+    ensures closed { IfOk result (λ o. IfSome o (λ nodes. ClosesTop set.now [] nodes.items)) }
+{
+    match enter(alloc, set, survey, seen, place) {
+        Step::Open => Ok(None),
+        Step::Deeper(first) => {
+            let mut frames = Vec::new(alloc);
+            frames.push(first)?;
+            search(alloc, set, survey, seen, last, &mut frames, place)
+        }
+        _ => unreachable!(),
+    }
+}
+
+/// What [`search_from`] finds, with what it asks of the set again and again.
+fn find(alloc: Global, set: &GroundSet, place: &mut Place) -> Result<Option<Vec<Node>>, AllocError>
+    requires well { IsWellFormed set.now }
+    requires place { IsPlace set.now place.old.branch.items place.old.equal.class }
+    requires empty { place.old.branch.items ≡ [] }
+    ensures open { result ≡ Ok None → IsModel set.now place.new.equal.class }
+    ensures closed { IfOk result (λ o. IfSome o (λ nodes. ClosesTop set.now [] nodes.items)) }
+{
+    let survey = take_survey(alloc, set)?;
+    let mut seen = vec![in alloc; 0usize; set.clauses.len()]?;
+    let mut last = vec![in alloc; 0u32; set.terms.len()]?;
+    search_from(alloc, set, &survey, &mut seen, &mut last, place)
 }
 
 /// The classes of a branch on which no clause is false, as a model.
@@ -83,17 +125,15 @@ fn solve(alloc: Global, set: &GroundSet) -> Result<Answer, AllocError>
     ensures open { IfOk result (CarriesModel set.now) }
     ensures closed { IfOk result (CarriesTree set.now) }
 {
-    let survey = take_survey(alloc, set)?;
-    let mut seen = vec![in alloc; 0usize; set.clauses.len()]?;
-    let mut last = vec![in alloc; 0u32; set.terms.len()]?;
-    let place = Place {
+    let mut place = Place {
         branch: Vec::new(alloc),
         equal: all_apart(alloc, set)?,
     };
-    match enter(alloc, set, &survey, &mut seen, &place) {
-        Step::Open => Ok(open(place)),
-        Step::Deeper(first) => Ok(find(alloc, set, &survey, &mut seen, &mut last, place, first)?),
-        _ => unreachable!(),
+    match find(alloc, set, &mut place)? {
+        Some(nodes) => Ok(Answer::Closed(Tree {
+            nodes: Items::from_vec(nodes),
+        })),
+        None => Ok(open(place)),
     }
 }
 

@@ -16,7 +16,7 @@ use plc_ground::{GroundSet, Lit, classes, clause, mark, put};
 use std::alloc::{AllocError, Global};
 
 /// What an equation more makes of a branch.
-#[derive(Clone, Copy, Debug)]
+#[derive(Clone, Copy)]
 pub(crate) enum Descent {
     /// Two terms come into one class that must not.
     Conflict(u32, u32),

@@ -16,7 +16,7 @@ use plc_ground::{
 use std::alloc::{AllocError, Global};
 
 /// What the search knows of a set before it begins.
-#[derive(Debug, Drop)]
+#[derive(Drop)]
 pub(crate) struct Survey {
     pub table: Applications,
     /// The terms that are constants which differ from others by the rule alone, in groups.
@@ -117,6 +117,20 @@ fn groups(alloc: Global, set: &GroundSet) -> Result<Items<Items<u32>>, AllocErro
     Ok(groups)
 }
 
+/// Lists the one literal of a clause, where it is an inequation.
+fn list_unit(set: &GroundSet, list: &mut Vec<Lit>, c: usize) -> Result<(), AllocError>
+    requires well { IsWellFormed set.now }
+    requires clause { c < length set.now.clauses }
+    requires each { All (IsInRange set.now.terms) list.old.items }
+    ensures { OnOk result (All (IsInRange set.now.terms) list.new.items) }
+{
+    let literals = clause(set, c);
+    if literals.len() == 1 && !literals[0].equal {
+        list.push(literals[0])?;
+    }
+    Ok(())
+}
+
 /// The inequations that are the one literal of a clause.
 fn units(alloc: Global, set: &GroundSet) -> Result<Vec<Lit>, AllocError>
     requires { IsWellFormed set.now }
@@ -124,10 +138,7 @@ fn units(alloc: Global, set: &GroundSet) -> Result<Vec<Lit>, AllocError>
 {
     let mut list = Vec::new(alloc);
     for c in 0..set.clauses.len() {
-        let literals = clause(set, c);
-        if literals.len() == 1 && !literals[0].equal {
-            list.push(literals[0])?;
-        }
+        list_unit(set, &mut list, c)?;
     }
     Ok(list)
 }

@@ -1,13 +1,16 @@
 -- Clauses over places, read back as clauses over terms.
-use Rattle.std.proofs.Common.{◌≡◌, ℕ, ◌<◌, List, [], ◌∷◌, ◌++◌, length, get_or, map, All, refl, sym, ap, subst, ◌∙◌, arith}
+use Rattle.std.proofs.Common.{◌≡◌, ℕ, ◌+◌, ◌<◌, take, List, [], ◌∷◌, ◌++◌, length, get_or, map, All, Some, refl, sym, ap, subst, ◌∙◌, arith}
+use Rattle.std.specs.Prelude.{slice_get}
+use Rattle.std.proofs.lemmas.List.{take_more}
 use Rattle.std.proofs.lemmas.Option.{slice_get-get_or, get_or_from_slice_get}
 use Rattle.std.proofs.lemmas.List.Elements.{All-weaker, All-map, All-push}
 use Rattle.plc_ground.specs.declared.terms.Lit.{Lit}
 use Rattle.plc_symbolic.specs.declared.symbolic.SymbolicTerm.{SymbolicTerm}
+use Rattle.plc_symbolic.specs.declared.symbolic.SymbolicTerm.TheVariants.{Constant, Application}
 use Rattle.plc_symbolic.specs.declared.symbolic.SymbolicLit.{SymbolicLit}
 use Rattle.plc_symbolic.specs.Terms.{null}
 use Rattle.plc_symbolic.specs.Numbering.{note, note_clause, place, number_lit, listed, written}
-use Rattle.plc_symbolic.specs.Tidy.{IsTidy, HasSides, Grows, IsInside, read, read_draft}
+use Rattle.plc_symbolic.specs.Tidy.{IsTidy, HasArgument, HasSides, Grows, IsInside, read, read_draft}
 use Rattle.plc_symbolic.proofs.Places.{place_read}
 use Rattle.plc_symbolic.proofs.Noting.{map_agree, grows_note, grows_clause, sides_clause}
 
@@ -53,6 +56,18 @@ map_same (x ∷ xs) = ap (λ ys. x ∷ ys) (map_same xs)
 map_push : {A B : Type 0} (f : A → B) (xs : List A) (x : A) → map f (xs ++ x ∷ []) ≡ map f xs ++ f x ∷ []
 map_push f [] x = refl
 map_push f (y ∷ ys) x = ap (λ zs. f y ∷ zs) (map_push f ys x)
+
+-- the argument of a term that is listed
+pub argument_there : (ts : List SymbolicTerm) → IsTidy ts → (k : ℕ) (t : SymbolicTerm) → slice_get ts k ≡ Some t → k < length ts → HasArgument ts t
+argument_there ts tidy k (Constant s) is small = tt
+argument_there ts tidy k (Application m v n) is small = let before = tidy.arguments k m v n is in omega (arith, before, small)
+
+-- one more of a list was mapped
+pub mapped_more : {A B : Type 0} (f : A → B) (xs ys : List A) → ys ≡ xs → (i : ℕ) (d : A) → i < length ys → (done now : List B) → done ≡ map f (take i xs)
+    → now ≡ done ++ f (get_or ys i d) ∷ [] → now ≡ map f (take (i + 1) xs)
+mapped_more f xs ys same i d small done now is pushed =
+    pushed ∙ ap (λ zs. zs ++ f (get_or ys i d) ∷ []) is ∙ ap (λ zs. map f (take i xs) ++ f (get_or zs i d) ∷ []) same
+    ∙ sym (map_push f (take i xs) (get_or xs i d)) ∙ sym (ap (map f) (take_more xs i d (subst (λ zs. i < length zs) same small)))
 
 -- two functions undo each other on a list
 map_back : {A B : Type 0} (f : B → A) (g : A → B) (P : A → Type 0) → ((x : A) → P x → f (g x) ≡ x) → (xs : List A) → All P xs → map f (map g xs) ≡ xs

@@ -10,7 +10,7 @@ use plc_ground::{Map, Symbol};
 use std::hash::{Hash, Hasher};
 
 /// A node of a ground set.
-#[derive(Clone, Copy, Debug, PartialEq, Eq)]
+#[derive(Clone, Copy, PartialEq, Eq)]
 pub enum NodeTerm {
     At(Symbol),
     /// A pointer field of a node, in the state before.
@@ -18,7 +18,7 @@ pub enum NodeTerm {
 }
 
 /// A term of a ground set.
-#[derive(Clone, Copy, Debug, PartialEq, Eq)]
+#[derive(Clone, Copy, PartialEq, Eq)]
 pub enum SymbolicTerm {
     Constant(Symbol),
     /// A version of a map at a node.
@@ -30,7 +30,7 @@ pub enum SymbolicTerm {
 }
 
 /// An equation or an inequation of two terms.
-#[derive(Clone, Copy, Debug, PartialEq, Eq)]
+#[derive(Clone, Copy, PartialEq, Eq)]
 pub struct SymbolicLit {
     pub left: SymbolicTerm,
     pub right: SymbolicTerm,

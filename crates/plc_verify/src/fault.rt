@@ -16,7 +16,7 @@ pub enum Slot {
 
 /// The first item of a certificate that fails, in the order of the variants; but the items of a step,
 /// `TypeAt` and then `FlowAt`, come before those of the next step.
-#[derive(Clone, Copy, Debug, PartialEq, Eq)]
+#[derive(Clone, Copy, Debug)]
 pub enum VerifyFault {
     /// There are `have` environments, and the flow has `want` points.
     EnvCount { have: u64, want: u32 },

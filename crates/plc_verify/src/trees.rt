@@ -64,7 +64,7 @@ fn first_bad_node(
     Ok(bad)
 }
 
-/// The same of the tree with a number, which is noted where it closes the set.
+/// None where the tree with a number closes the ground set of the obligation, and is noted; else its first bad node.
 fn try_tree(
     alloc: Global,
     memory: &mut Grounding,
@@ -92,7 +92,39 @@ fn try_tree(
     Ok(bad)
 }
 
-/// Tries each tree in order, where there is one for each obligation.
+/// Tries each tree in order, over the walk from the first obligation on.
+fn try_each(
+    alloc: Global,
+    memory: &mut Grounding,
+    tried: &mut Noted,
+    walk: &mut Walk,
+    evidence: &Evidence,
+) -> Result<(), VerifyFault>
+    requires fits { Fits evidence.now.flow.now evidence.now.outline.now }
+    requires one_each { length evidence.now.trees.now
+        ≡ length (obligations evidence.now.flow.now evidence.now.outline.now) }
+    requires tried { NotedClose evidence.now.flow.now evidence.now.outline.now evidence.now.trees.now tried.old }
+    requires first { walk.old ≡ obligations evidence.now.flow.now evidence.now.outline.now }
+    ensures { MatchResult result
+        (λ _. TreesClose evidence.now.flow.now evidence.now.outline.now evidence.now.trees.now)
+        (λ fault. MayNotClose evidence.now.flow.now evidence.now.outline.now evidence.now.trees.now fault) }
+{
+    for i in 0..evidence.trees.len() {
+        let Some(o) = walk.next() else {
+            unreachable!();
+        };
+        let bad = try_tree(alloc, memory, tried, evidence, &o, i)?;
+        if let Some(node) = bad {
+            return Err(VerifyFault::TreeAt {
+                obligation: i as u64,
+                node,
+            });
+        }
+    }
+    Ok(())
+}
+
+/// Tries each tree, where there is one for each obligation.
 fn try_trees(alloc: Global, evidence: &Evidence) -> Result<(), VerifyFault>
     requires fits { Fits evidence.now.flow.now evidence.now.outline.now }
     requires one_each { length evidence.now.trees.now
@@ -104,19 +136,7 @@ fn try_trees(alloc: Global, evidence: &Evidence) -> Result<(), VerifyFault>
     let mut walk = Walk::new(alloc, evidence.flow, evidence.outline)?;
     let mut memory = Grounding::new(alloc);
     let mut tried = Noted::new(alloc);
-    for i in 0..evidence.trees.len() {
-        let Some(o) = walk.next() else {
-            unreachable!();
-        };
-        let bad = try_tree(alloc, &mut memory, &mut tried, evidence, &o, i)?;
-        if let Some(node) = bad {
-            return Err(VerifyFault::TreeAt {
-                obligation: i as u64,
-                node,
-            });
-        }
-    }
-    Ok(())
+    try_each(alloc, &mut memory, &mut tried, &mut walk, evidence)
 }
 
 /// Ok exactly where there is one tree for each obligation, which closes its ground set.

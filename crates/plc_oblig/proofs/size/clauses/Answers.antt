@@ -1,12 +1,55 @@
-use Rattle.std.proofs.Common.{sym, ap, ◌∙◌, sum_by, length}
+use Rattle.std.proofs.Common.{sym, ap, ◌∙◌, sum_by, length, arith}
 use Rattle.plc_setting.specs.Parts.{executed as executed_of}
 use Rattle.plc_setting.specs.Setting.{setting_of}
 use Rattle.plc_items.specs.Execution.{start, after_all}
 use Rattle.plc_items.specs.Items.{values_from}
 use Rattle.plc_oblig.specs.Size.{clause_size, prim_size}
+use Rattle.plc_oblig.proofs.Bounds.{short_before, short_executed}
 use Rattle.plc_oblig.proofs.Executed.{executed_length}
 use Rattle.plc_oblig.proofs.Wholes.{whole_length, set_length}
 use Rattle.plc_oblig.proofs.size.clauses.Goals as goal
+
+pub overflow_add-result : goal.overflow_add-result
+overflow_add-result c =
+    omega (arith, c.values_size.ensures.small, c.beginning_size.ensures.small)
+
+pub overflow_add-result-2 : goal.overflow_add-result-2
+overflow_add-result-2 c =
+    omega (arith, c.values_size.ensures.small, c.beginning_size.ensures.small, c.freshness_size.ensures.small)
+
+pub overflow_add-result-3 : goal.overflow_add-result-3
+overflow_add-result-3 c =
+    let before = short_before c.args.outline.now c.args.o.now c.requires.outline_fits.invariants in
+    let same = ap length c.invariants_before.ensures in
+    omega (arith, c.values_size.ensures.small, c.beginning_size.ensures.small, c.freshness_size.ensures.small, c.premises_size.ensures.small, before, same)
+
+pub overflow_add-result-4 : goal.overflow_add-result-4
+overflow_add-result-4 c =
+    let before = short_before c.args.outline.now c.args.o.now c.requires.outline_fits.invariants in
+    let same = ap length c.invariants_before.ensures in
+    omega (arith, c.values_size.ensures.small, c.beginning_size.ensures.small, c.freshness_size.ensures.small, c.premises_size.ensures.small, c.standing_size.ensures.small, before, same)
+
+pub overflow_add-result-5 : goal.overflow_add-result-5
+overflow_add-result-5 c =
+    let before = short_before c.args.outline.now c.args.o.now c.requires.outline_fits.invariants in
+    let same = ap length c.invariants_before.ensures in
+    omega (arith, c.values_size.ensures.small, c.beginning_size.ensures.small, c.freshness_size.ensures.small, c.premises_size.ensures.small, c.standing_size.ensures.small, c.standing_size-2.ensures.small, before, same)
+
+pub overflow_add-result-6 : goal.overflow_add-result-6
+overflow_add-result-6 c =
+    let before = short_before c.args.outline.now c.args.o.now c.requires.outline_fits.invariants in
+    let same = ap length c.invariants_before.ensures in
+    let run = short_executed c.args.flow.now c.args.outline.now c.args.o.now c.requires in
+    let same_run = ap length c.executed.ensures in
+    omega (arith, c.values_size.ensures.small, c.beginning_size.ensures.small, c.freshness_size.ensures.small, c.premises_size.ensures.small, c.standing_size.ensures.small, c.standing_size-2.ensures.small, c.executed_size.ensures.small, before, same, run, same_run)
+
+pub overflow_add-result-7 : goal.overflow_add-result-7
+overflow_add-result-7 c =
+    let before = short_before c.args.outline.now c.args.o.now c.requires.outline_fits.invariants in
+    let same = ap length c.invariants_before.ensures in
+    let run = short_executed c.args.flow.now c.args.outline.now c.args.o.now c.requires in
+    let same_run = ap length c.executed.ensures in
+    omega (arith, c.values_size.ensures.small, c.beginning_size.ensures.small, c.freshness_size.ensures.small, c.premises_size.ensures.small, c.standing_size.ensures.small, c.standing_size-2.ensures.small, c.executed_size.ensures.small, c.denied_size.ensures.small, before, same, run, same_run)
 
 pub returns : goal.returns
 returns c =

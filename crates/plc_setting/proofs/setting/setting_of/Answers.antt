@@ -1,53 +1,46 @@
-use Rattle.std.proofs.Common.{true, false, length, refl, ap, ◌∙◌}
+use Rattle.std.proofs.Common.{length, refl, ap, ◌∙◌}
 use Rattle.std.specs.List.{list_any}
 use Rattle.plc_lang.specs.Allocation.{is_new}
 use Rattle.plc_setting.specs.Acts.{acts_of}
-use Rattle.plc_setting.specs.Setting.{variables_of, bound_of, pointer_variables, pointer_loads_from, pointer_fields_from, node_constants, plain_constants, nodes_of}
-use Rattle.plc_setting.proofs.Fitting.{executed_sorted, acts_short}
+use Rattle.plc_setting.specs.Parts.{executed}
+use Rattle.plc_setting.specs.Setting.{bound_of, pointer_variables, pointer_loads_from, node_constants, plain_constants, nodes_of}
+use Rattle.plc_setting.proofs.Fitting.{acts_short}
 use Rattle.plc_setting.proofs.Alike.{both, all_three, all_four, one_setting}
 use Rattle.plc_setting.proofs.setting.setting_of.Goals as goal
 
-pub acts_of-requires-clause-sorted : goal.acts_of-requires-clause-sorted
-acts_of-requires-clause-sorted c =
-    rw c.executed-prims.ensures (executed_sorted c.args.flow.now c.args.outline.now c.args.o.now c.requires)
+pub execution_of-requires : goal.execution_of-requires
+execution_of-requires c = (c.args.outline.now, c.requires)
 
-pub loaded_pointers-requires : goal.loaded_pointers-requires
-loaded_pointers-requires c =
-    rw c.as_slice.ensures (acts_short c.args.flow.now c.args.outline.now c.args.o.now _ _ _ c.requires c.executed-prims.ensures c.in_ok-acts.ensures)
+pub surround-requires-clause-few : goal.surround-requires-clause-few
+surround-requires-clause-few c =
+    acts_short c.args.flow.now c.args.outline.now c.args.o.now _ _ _ c.requires refl c.in_ok-run.ensures.acts
 
 -- each part of the result is that of the setting
 pub returns-clause-setting : goal.returns-clause-setting
 returns-clause-setting c =
     let flow = c.args.flow.now in
-    let ghosts = flow.file.ghosts in
-    let o = c.args.o.now in
-    let shared = length flow.file.shared in
-    let prims = c.executed-prims.ensures in
-    let mine = c.in_ok-mine.ensures ∙ ap (variables_of false) c.acting_locals.ensures in
-    let theirs = c.in_ok-theirs.ensures ∙ ap (variables_of true) c.owner_locals.ensures in
-    let acts = c.in_ok-acts.ensures ∙ both (acts_of ghosts) mine prims in
-    let makes = c.has_new-makes.ensures ∙ ap (list_any is_new) prims in
+    let run = c.in_ok-run.ensures in
+    let around = c.in_ok-around.ensures in
+    let acts = run.acts ∙ ap (λ v. acts_of flow.file.ghosts v (executed flow c.args.o.now)) run.mine in
+    let makes = c.has_new-makes.ensures ∙ ap (list_any is_new) c.executed.ensures in
     let bound = c.bound_of-bound.ensures ∙ ap bound_of c.conclusion.ensures in
-    let pointers = c.in_ok-pointers.ensures ∙ ap (λ n. pointer_variables n c.in_ok-mine.mine c.in_ok-theirs.theirs) c.len.ensures ∙ both (pointer_variables shared) mine theirs in
-    let loads = c.in_ok-loaded.ensures ∙ ap (pointer_loads_from 0) (c.as_slice.ensures ∙ acts) in
-    let plain = c.in_ok-plain.ensures ∙ all_three plain_constants (c.as_slice-5.ensures ∙ pointers) bound (c.as_slice-6.ensures ∙ loads) in
-    let constants = c.in_ok-constants.ensures ∙ all_four node_constants (c.as_slice-3.ensures ∙ pointers) makes bound (c.as_slice-4.ensures ∙ loads) in
-    let roots = c.as_slice-roots.ensures ∙ constants in
-    let fields = c.in_ok-fields.ensures ∙ ap (pointer_fields_from 0) c.as_slice-2.ensures in
-    one_setting _ _ (record {
-      mine = mine;
-      theirs = theirs;
+    let pointers = around.pointers ∙ both (pointer_variables (length flow.file.shared)) run.mine run.theirs in
+    let loads = ap (pointer_loads_from 0) acts in
+    let constants = around.constants ∙ all_four node_constants pointers makes bound loads in
+    c.joined.ensures ∙ one_setting _ _ (record {
+      mine = run.mine;
+      theirs = run.theirs;
       owned = c.has_owner.ensures;
       acts = acts;
       makes = makes;
       bound = bound;
       pointers = pointers;
       constants = constants;
-      nodes = c.in_ok-nodes.ensures ∙ all_four nodes_of roots refl roots (c.as_slice-7.ensures ∙ fields);
-      instances = c.in_ok-instances.ensures ∙ all_four nodes_of (c.as_slice-8.ensures ∙ plain) refl roots (c.as_slice-9.ensures ∙ fields);
-      fields = fields;
+      nodes = around.nodes ∙ all_four nodes_of constants refl constants around.fields;
+      instances = around.instances ∙ all_four nodes_of (all_three plain_constants pointers bound loads) refl constants around.fields;
+      fields = around.fields;
     })
 
 pub returns-clause-few : goal.returns-clause-few
 returns-clause-few c =
-    acts_short c.args.flow.now c.args.outline.now c.args.o.now _ _ _ c.requires c.executed-prims.ensures c.in_ok-acts.ensures
+    rw c.joined.ensures (acts_short c.args.flow.now c.args.outline.now c.args.o.now _ _ _ c.requires refl c.in_ok-run.ensures.acts)

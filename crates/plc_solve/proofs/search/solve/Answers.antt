@@ -4,8 +4,8 @@ use Rattle.plc_solve.specs.Search.{IsPlace}
 use Rattle.plc_solve.proofs.Searching.{place_alone}
 use Rattle.plc_solve.proofs.search.solve.Goals as goal
 
-pub enter-requires-clause-place : goal.enter-requires-clause-place
-enter-requires-clause-place c =
+pub find-requires-clause-place : goal.find-requires-clause-place
+find-requires-clause-place c =
     let equal = c.in_ok-all_apart.field-0 in
     subst (λ (branch : List Lit). IsPlace c.args.set.now branch equal.class) (sym c.new.ensures.items)
     (place_alone c.args.set.now equal.class c.in_ok-all_apart.ensures.closure c.in_ok-all_apart.ensures.own)

@@ -1,36 +1,36 @@
 use Rattle.std.proofs.Common.{arith, Ok, ap}
 use Rattle.plc_solve.specs.Measure.{base_of}
 use Rattle.plc_solve.proofs.Turns.{cut_is_sound, closed_turn, deeper_turn, complete_turn}
-use Rattle.plc_solve.proofs.search.find.Goals as goal
+use Rattle.plc_solve.proofs.search.search.Goals as goal
 
 pub take_child-requires-clause-sound : goal.take_child-requires-clause-sound
 take_child-requires-clause-sound c =
     cut_is_sound c.args.set.now c.search.place c.go_up.new.place c.in-Some.top c.search.frames.items c.pop.new.self.items
     c.in-Some.ensures.items c.search.invariant.stands c.go_up.ensures
 
-pub search-preserved-in-Continue-branch-4 : goal.search-preserved-in-Continue-branch-4
-search-preserved-in-Continue-branch-4 c =
+pub search-preserved-in-Continue-branch-3 : goal.search-preserved-in-Continue-branch-3
+search-preserved-in-Continue-branch-3 c =
     let turn = closed_turn c.args.set.now c.search.place c.go_up.new.place c.in-Some.top c.search.frames.items c.pop.new.self.items
     c.in-Some.ensures.items c.search.invariant.stands c.go_up.ensures c.take_child.new.place c.take_child.new.top c.in_ok-take_child.ensures.goes_on
-    c.push-in-Closed.new.self.items c.in_ok-push-in-Closed.ensures.items (rw c.in-Closed.is at c.in_ok-take_child.ensures.gives) in
+    c.push.new.self.items c.in_ok-push-in-Closed.ensures.items (rw c.in-Closed.is at c.in_ok-take_child.ensures.gives) in
     record { stands = turn.0; nonempty = omega (arith, c.in_ok-push-in-Closed.ensures.len); seen = omega (arith, c.take_child.auto.seen, c.search.invariant.seen); last = omega (arith, c.take_child.auto.last, c.search.invariant.last) }
 
-pub search-smaller-in-Continue-branch-4 : goal.search-smaller-in-Continue-branch-4
-search-smaller-in-Continue-branch-4 c =
+pub search-smaller-in-Continue-branch-3 : goal.search-smaller-in-Continue-branch-3
+search-smaller-in-Continue-branch-3 c =
     (closed_turn c.args.set.now c.search.place c.go_up.new.place c.in-Some.top c.search.frames.items c.pop.new.self.items
     c.in-Some.ensures.items c.search.invariant.stands c.go_up.ensures c.take_child.new.place c.take_child.new.top c.in_ok-take_child.ensures.goes_on
-    c.push-in-Closed.new.self.items c.in_ok-push-in-Closed.ensures.items (rw c.in-Closed.is at c.in_ok-take_child.ensures.gives)).1
+    c.push.new.self.items c.in_ok-push-in-Closed.ensures.items (rw c.in-Closed.is at c.in_ok-take_child.ensures.gives)).1
 
-pub search-preserved-in-Continue-branch-6 : goal.search-preserved-in-Continue-branch-6
-search-preserved-in-Continue-branch-6 c =
+pub search-preserved-in-Continue-branch-5 : goal.search-preserved-in-Continue-branch-5
+search-preserved-in-Continue-branch-5 c =
     let turn = deeper_turn c.args.set.now c.search.place c.go_up.new.place c.in-Some.top c.search.frames.items c.pop.new.self.items
     c.in-Some.ensures.items c.search.invariant.stands c.go_up.ensures c.take_child.new.place c.take_child.new.top c.in_ok-take_child.ensures.goes_on
     c.in-Deeper.child c.push-in-Deeper.new.self.items c.push-in-Deeper-2.new.self.items c.in_ok-push-in-Deeper.ensures.items
     c.in_ok-push-in-Deeper-2.ensures.items (rw c.in-Deeper.is at c.in_ok-take_child.ensures.gives) in
     record { stands = turn.0; nonempty = omega (arith, c.in_ok-push-in-Deeper-2.ensures.len); seen = omega (arith, c.take_child.auto.seen, c.search.invariant.seen); last = omega (arith, c.take_child.auto.last, c.search.invariant.last) }
 
-pub search-smaller-in-Continue-branch-6 : goal.search-smaller-in-Continue-branch-6
-search-smaller-in-Continue-branch-6 c =
+pub search-smaller-in-Continue-branch-5 : goal.search-smaller-in-Continue-branch-5
+search-smaller-in-Continue-branch-5 c =
     (deeper_turn c.args.set.now c.search.place c.go_up.new.place c.in-Some.top c.search.frames.items c.pop.new.self.items
     c.in-Some.ensures.items c.search.invariant.stands c.go_up.ensures c.take_child.new.place c.take_child.new.top c.in_ok-take_child.ensures.goes_on
     c.in-Deeper.child c.push-in-Deeper.new.self.items c.push-in-Deeper-2.new.self.items c.in_ok-push-in-Deeper.ensures.items

@@ -1,6 +1,6 @@
 use Rattle.plc_verify.specs.Tests.{NotedClose}
 use Rattle.plc_verify.proofs.Closing.{IsAt}
-use Rattle.plc_verify.proofs.trees.try_trees.Given as goal
+use Rattle.plc_verify.proofs.trees.try_each.Given as goal
 
 abbrev pub invariant-loop-i : goal.invariant-loop-i
 invariant-loop-i l =

@@ -1,7 +1,7 @@
 use Rattle.std.proofs.Common.{◌≡◌, ◌<◌, length, reverse, vec_len}
 use Rattle.plc_solve.specs.Search.{Stands, splits}
 use Rattle.plc_solve.specs.Measure.{left, base_of}
-use Rattle.plc_solve.proofs.search.find.Given as goal
+use Rattle.plc_solve.proofs.search.search.Given as goal
 
 abbrev pub invariant-search : goal.invariant-search
 invariant-search l = record {

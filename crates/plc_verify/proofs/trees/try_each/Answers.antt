@@ -1,5 +1,5 @@
 use Rattle.plc_verify.proofs.Closing.{closed_here, failed_here, all_close, not_done}
-use Rattle.plc_verify.proofs.trees.try_trees.Goals as goal
+use Rattle.plc_verify.proofs.trees.try_each.Goals as goal
 
 pub unreachable-requires : goal.unreachable-requires
 unreachable-requires c =
