@@ -41,6 +41,13 @@ module _ (flow : Flow) (outline : Outline) (noted : List (Obligation × ℕ)) (o
       subst (IsTreeOf flow outline o) one r.2
 
 module _ (flow : Flow) (outline : Outline) where
+  -- where nothing is noted, it all is kept and has its tree
+  pub none_kept : NotedAreKept flow outline []
+  none_kept x among = absurd (omega (arith, among.1))
+
+  pub none_have : (trees : List Tree) → NotedHaveTrees flow outline trees []
+  none_have trees x among = absurd (omega (arith, among.1))
+
   pub kept_noted : (old new : List (Obligation × ℕ)) (o : Obligation) (at : ℕ) → NotedAreKept flow outline old → IsKept flow outline o
       → ((x : Obligation × ℕ) → Contains new x → Contains old x ⊎ (x ≡ (o, at))) → NotedAreKept flow outline new
   kept_noted old new o at kept this more = more_noted (λ (x : Obligation × ℕ). IsKept flow outline x.0) old new (o, at) kept this more

@@ -14,6 +14,8 @@ use Rattle.plc_logic.specs.declared.clause.Outline.{Outline}
 use Rattle.plc_lang.specs.Fit.{FileFits, NamesWhatIsThere}
 use Rattle.plc_lang.specs.WellSorted.{FileIsWellSorted}
 use Rattle.plc_flow.specs.declared.flow.Flow.{Flow}
+use Rattle.plc_flow.specs.declared.flow.FlowFault.{FlowFault}
+use Rattle.plc_flow.specs.declared.flow.FlowFault.TheVariants as flow
 use Rattle.plc_flow.specs.Lowering.{made_of, flow_of, most_points}
 use Rattle.plc_flow.specs.WellFormed.{FlowFits}
 use Rattle.plc_flow.specs.WellSorted.{FlowIsWellSorted}
@@ -45,6 +47,11 @@ parse_refusal bytes ts (parse.WrongSort at) = faults.Parse (parse.WrongSort at) 
 parse_refusal bytes ts (parse.NoSuchCall at) = faults.Parse (parse.NoSuchCall at) (line_of bytes ts at)
 parse_refusal bytes ts (parse.Limit what count) = faults.Limit what count
 parse_refusal bytes ts parse.Memory = faults.Memory
+
+-- the lowering's faults, of which one is a limit
+abbrev pub flow_refusal : FlowFault → LoadFault
+flow_refusal (flow.TooManyPoints count) = faults.Limit limits.Points count
+flow_refusal flow.Memory = faults.Memory
 
 -- the points of a unit are too many
 pub record HasManyPoints (u : FileUnit) (what : What1) (count : ℕ) : Type 0 where

@@ -13,7 +13,7 @@ use plc_infer::Typing;
 use std::alloc::Global;
 
 /// What there is to show of a file.
-#[derive(Debug, Drop)]
+#[derive(Drop)]
 pub enum Certified {
     /// It is safe: a certificate that is valid, with the strongest typing, and with trees in which no branch
     /// splits one clause twice. What it is written as is read again, and valid too.

@@ -2,7 +2,7 @@
 // or alike one that was found to be kept, is known to be kept without a set. Of each other the ground set is made and
 // given to the solver, which closes it or finds a model: the state in which the step breaks the clause. One set is held
 // at a time.
-ghost use Rattle.std.specs.Prelude.{IfOk, OnOk, IsTrue, Contains};
+ghost use Rattle.std.specs.Prelude.{◌≡◌, [], IfOk, OnOk, IsTrue, Contains};
 ghost use Rattle.plc_setting.specs.Fit.{Fits};
 ghost use Rattle.plc_oblig.specs.Obligations.{obligations};
 ghost use Rattle.plc_oblig.specs.Outlines.{IsKept};
@@ -16,7 +16,7 @@ use plc_oblig::{Grounding, Noted, Obligation, Walk, still};
 use std::alloc::Global;
 
 /// An obligation that isn't kept, with its ground set and a model of it.
-#[derive(Debug, Drop)]
+#[derive(Drop)]
 pub(crate) struct Counterexample {
     pub(crate) obligation: Obligation,
     pub(crate) set: GroundSet,
@@ -65,6 +65,29 @@ fn counterexample_at(
     Ok(Some(found))
 }
 
+/// What breaks the first of the obligations that a walk hands out and that isn't kept. The walk stands at its
+/// beginning, and nothing is noted yet.
+fn first_on_walk(
+    alloc: Global,
+    memory: &mut Grounding,
+    kept: &mut Noted,
+    walk: &mut Walk<'_>,
+    judged: &Judged,
+) -> Result<Option<Counterexample>, NoMemory>
+    requires fits { Fits judged.now.flow judged.now.unit_outline }
+    requires begun { walk.old ≡ obligations judged.now.flow judged.now.unit_outline }
+    requires none_noted { kept.old ≡ [] }
+    ensures { IfOk result (IsFirstCounterexample judged.now.flow judged.now.unit_outline) }
+{
+    while let Some(obligation) = walk.next() {
+        let found = counterexample_at(alloc, memory, kept, judged, obligation)?;
+        if let Some(found) = found {
+            return Ok(Some(found));
+        }
+    }
+    Ok(None)
+}
+
 /// What breaks the least obligation that isn't kept, if the outline doesn't hold.
 pub(crate) fn first_counterexample(
     alloc: Global,
@@ -76,11 +99,9 @@ pub(crate) fn first_counterexample(
     let mut walk = Walk::new(alloc, &judged.flow, &judged.unit_outline)?;
     let mut memory = Grounding::new(alloc);
     let mut kept = Noted::new(alloc);
-    while let Some(obligation) = walk.next() {
-        let found = counterexample_at(alloc, &mut memory, &mut kept, judged, obligation)?;
-        if let Some(found) = found {
-            return Ok(Some(found));
-        }
-    }
-    Ok(None)
+    let found = first_on_walk(alloc, &mut memory, &mut kept, &mut walk, judged);
+    drop(walk);
+    drop(memory);
+    drop(kept);
+    found
 }

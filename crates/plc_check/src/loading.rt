@@ -5,15 +5,16 @@ ghost use Rattle.plc_check.specs.Fit.{FilesFit, JudgedFits};
 ghost use Rattle.plc_check.specs.Loading.{IsLoaded, FilesAreUnique, line_of, place_of};
 ghost use Rattle.plc_lex.specs.Spelling.{line_feeds};
 ghost use Rattle.plc_parse.specs.Fit.{UnitFits};
-ghost use Rattle.plc_check.specs.Refusals.{lex_refusal, parse_refusal, unplaced, IsLowered, IsJudgedOf};
+ghost use Rattle.plc_reclaim.specs.Schemes.{schemes_of};
+ghost use Rattle.plc_check.specs.Refusals.{lex_refusal, parse_refusal, flow_refusal, unplaced, IsLowered, IsJudgedOf};
 
 use crate::judged::{Judged, LoadFault};
 use crate::limits::limited;
-use plc_base::What1;
+use plc_base::{Items, What1};
 use plc_flow::{FlowFault, lower};
 use plc_lex::{LexFault, Token, tokens};
 use plc_parse::{Unit, parse};
-use plc_reclaim::schemes_of;
+use plc_reclaim::{Scheme, schemes_of};
 use plc_scope::ParseFault;
 use std::alloc::Global;
 
@@ -76,7 +77,7 @@ fn unplaced(fault: ParseFault) -> LoadFault
     }
 }
 
-/// The same of the parser's faults; where one has a place its line is told with it.
+/// The refusal that a fault of the parser is; where the fault has a place its line is told with it.
 fn parse_refusal(bytes: &[u8], tokens: &[Token], fault: ParseFault) -> LoadFault
     requires { length bytes.now ≤ largest_file }
     ensures { result ≡ parse_refusal bytes.now tokens.now fault }
@@ -90,15 +91,26 @@ fn parse_refusal(bytes: &[u8], tokens: &[Token], fault: ParseFault) -> LoadFault
     }
 }
 
-/// What is judged of a unit.
-fn lowered(alloc: Global, unit: Unit) -> Result<Judged, LoadFault>
+/// Where the flow has too many points a limit is passed.
+fn flow_refusal(fault: FlowFault) -> LoadFault
+    ensures { result ≡ flow_refusal fault }
+{
+    match fault {
+        FlowFault::TooManyPoints { count } => LoadFault::Limit {
+            what: What1::Points,
+            count,
+        },
+        FlowFault::Memory => LoadFault::Memory,
+    }
+}
+
+/// What is judged of a unit, with what the reclaimer is told.
+fn lowered_with(alloc: Global, unit: Unit, schemes: Items<Scheme>) -> Result<Judged, LoadFault>
+    requires { schemes ≡ schemes_of unit.observer }
     ensures { IsLowered unit result }
 {
     let observer = unit.observer;
     let unit_outline = unit.outline;
-    let Ok(schemes) = schemes_of(alloc, &observer) else {
-        return Err(LoadFault::Memory);
-    };
     match lower(alloc, unit.file) {
         Ok(flow) => Ok(Judged {
             unit_outline,
@@ -106,11 +118,24 @@ fn lowered(alloc: Global, unit: Unit) -> Result<Judged, LoadFault>
             schemes,
             flow,
         }),
-        Err(FlowFault::TooManyPoints { count }) => Err(LoadFault::Limit {
-            what: What1::Points,
-            count,
-        }),
-        Err(FlowFault::Memory) => Err(LoadFault::Memory),
+        Err(fault) => {
+            drop(unit_outline);
+            drop(schemes);
+            Err(flow_refusal(fault))
+        }
+    }
+}
+
+/// What is judged of a unit.
+fn lowered(alloc: Global, unit: Unit) -> Result<Judged, LoadFault>
+    ensures { IsLowered unit result }
+{
+    match schemes_of(alloc, &unit.observer) {
+        Ok(schemes) => lowered_with(alloc, unit, schemes),
+        Err(_) => {
+            drop(unit);
+            Err(LoadFault::Memory)
+        }
     }
 }
 

@@ -1,7 +1,7 @@
 // Trees that close the ground sets of obligations: that of an obligation which is alike, where there is one, else the
 // direct one where the obligation is still, else as the solver finds it. The sets are made one after another over the
 // same memory.
-ghost use Rattle.std.specs.Prelude.{◌≡◌, ◌<◌, IfOk, Contains, Some, length, slice_get};
+ghost use Rattle.std.specs.Prelude.{◌≡◌, ◌<◌, [], IfOk, Contains, Some, length, slice_get};
 ghost use Rattle.plc_setting.specs.Fit.{Fits};
 ghost use Rattle.plc_oblig.specs.Obligations.{obligations};
 ghost use Rattle.plc_check.specs.Counterexamples.{IsTreeAt, NotedHaveTrees, AddsTreeAt, AreTreesOrBroken};
@@ -39,7 +39,8 @@ pub(crate) fn solve_at(
     }
 }
 
-/// The same; of a still obligation the solver isn't asked.
+/// A tree that closes the ground set of an obligation, or what breaks it; of a still obligation the solver isn't
+/// asked.
 fn make_tree(
     alloc: Global,
     memory: &mut Grounding,
@@ -92,6 +93,31 @@ fn tree_at(
     }
 }
 
+/// A tree for each obligation that a walk hands out, or what breaks the first that isn't kept. The walk stands at its
+/// beginning, and nothing is noted yet.
+fn trees_on_walk(
+    alloc: Global,
+    memory: &mut Grounding,
+    noted: &mut Noted,
+    walk: &mut Walk<'_>,
+    judged: &Judged,
+) -> Result<Result<Items<Tree>, Counterexample>, NoMemory>
+    requires fits { Fits judged.now.flow judged.now.unit_outline }
+    requires begun { walk.old ≡ obligations judged.now.flow judged.now.unit_outline }
+    requires none_noted { noted.old ≡ [] }
+    ensures { IfOk result (AreTreesOrBroken judged.now.flow judged.now.unit_outline) }
+{
+    let mut trees = Items::new(alloc);
+    while let Some(obligation) = walk.next() {
+        let tree = tree_at(alloc, memory, noted, trees.as_slice(), judged, obligation)?;
+        match tree {
+            Ok(tree) => trees.push(tree)?,
+            Err(found) => return Ok(Err(found)),
+        }
+    }
+    Ok(Ok(trees))
+}
+
 /// A tree for each obligation, or what breaks the least that isn't kept.
 pub(crate) fn trees_of(
     alloc: Global,
@@ -100,23 +126,12 @@ pub(crate) fn trees_of(
     requires { Fits judged.now.flow judged.now.unit_outline }
     ensures { IfOk result (AreTreesOrBroken judged.now.flow judged.now.unit_outline) }
 {
-    let mut trees = Items::new(alloc);
     let mut walk = Walk::new(alloc, &judged.flow, &judged.unit_outline)?;
     let mut memory = Grounding::new(alloc);
     let mut noted = Noted::new(alloc);
-    while let Some(obligation) = walk.next() {
-        let tree = tree_at(
-            alloc,
-            &mut memory,
-            &mut noted,
-            trees.as_slice(),
-            judged,
-            obligation,
-        )?;
-        match tree {
-            Ok(tree) => trees.push(tree)?,
-            Err(found) => return Ok(Err(found)),
-        }
-    }
-    Ok(Ok(trees))
+    let trees = trees_on_walk(alloc, &mut memory, &mut noted, &mut walk, judged);
+    drop(walk);
+    drop(memory);
+    drop(noted);
+    trees
 }

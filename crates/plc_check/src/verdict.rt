@@ -15,7 +15,7 @@ use plc_xfer::TypeFault;
 use std::alloc::Global;
 
 /// What the checker says of a file.
-#[derive(Debug, Drop)]
+#[derive(Drop)]
 pub enum Verdict {
     /// It has a typing, of which the strongest is given, and its outline holds, with so many obligations.
     Safe {

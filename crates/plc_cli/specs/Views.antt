@@ -1,7 +1,8 @@
 -- What the program's requests and the contents that it read stand for.
 use Rattle.std.specs.Prelude.{ℕ, ◌<◌, ◌≤◌, List, [], ◌∷◌}
 use Rattle.plc_outside.specs.Known.{KnownFiles}
-use Rattle.plc_sample.specs.Numbers.{most_copies, sample_lines}
+use Rattle.plc_base.specs.Limits.{most_copies}
+use Rattle.plc_sample.specs.Numbers.{sample_lines}
 use Rattle.plc_cli.specs.declared.words.Request.{Request as Asked}
 use Rattle.plc_cli.specs.declared.words.Request.TheVariants as asked
 use Rattle.plc_cli.specs.declared.reading.Content.{Content}

@@ -29,6 +29,20 @@ pub(crate) trait Question: Drop {
         ensures { IfOk result (λ answer. due self.now judged.now answer.status answer.text.items) };
 }
 
+/// The answer to a file that was loaded.
+fn answer_loaded<Q: Question>(
+    alloc: Global,
+    judged: Judged,
+    question: &Q,
+) -> Result<Answer, AllocError>
+    requires { Fits judged.flow judged.unit_outline }
+    ensures { IfOk result (λ answer. Q.due question.now judged answer.status answer.text.items) }
+{
+    let answer = question.answer(alloc, &judged);
+    drop(judged);
+    answer
+}
+
 /// The answer to the bytes of a file.
 pub(crate) fn answer_bytes<Q: Question>(
     alloc: Global,
@@ -40,7 +54,7 @@ pub(crate) fn answer_bytes<Q: Question>(
         IsAnsweredFile (λ u. Q.due question.now (judged_of u)) bytes.now answer.status answer.text.items) }
 {
     match load(alloc, bytes) {
-        Ok(judged) => question.answer(alloc, &judged),
+        Ok(judged) => answer_loaded(alloc, judged, question),
         Err(LoadFault::Memory) => Err(AllocError),
         Err(fault) => refusal(alloc, &fault),
     }

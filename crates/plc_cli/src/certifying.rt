@@ -1,15 +1,31 @@
 // The certificate of a file that is safe, and the law that it is accepted.
+ghost use Rattle.std.specs.Prelude.{◌≡◌, IfOk};
+ghost use Rattle.plc_texts.specs.Certificates.{certificate_line};
 ghost use Rattle.plc_cli.specs.Certificates.{IsCertifiedAs};
 ghost use Rattle.plc_cli.specs.Laws.{CertifiedFilesVerify};
+ghost use Rattle.plc_cli.specs.Statuses.{holds};
 
 use crate::answer::Answer;
 use crate::asking::Question;
 use crate::checking::told;
 use crate::status::HOLDS;
 use plc_base::NoMemory;
+use plc_cert::Cert;
 use plc_check::{Certified, Judged, certify};
 use plc_texts::certified;
 use std::alloc::{AllocError, Global};
+
+/// The answer that writes a certificate.
+fn shown(alloc: Global, cert: Cert) -> Result<Answer, AllocError>
+    ensures { IfOk result (λ answer. (answer.status ≡ holds) × (answer.text.items ≡ certificate_line cert)) }
+{
+    let text = certified(alloc, &cert);
+    drop(cert);
+    Ok(Answer {
+        status: HOLDS,
+        text: text?,
+    })
+}
 
 /// The question for the certificate of a file, or for the verdict on one that has none.
 #[derive(Drop)]
@@ -20,11 +36,8 @@ impl Question for ForCertificate {
 
     fn answer(&self, alloc: Global, judged: &Judged) -> Result<Answer, AllocError> {
         match certify(alloc, judged) {
-            Ok(Certified::Yes(cert)) => Ok(Answer {
-                status: HOLDS,
-                text: certified(alloc, &cert)?,
-            }),
-            Ok(Certified::No(verdict)) => told(alloc, judged, &verdict),
+            Ok(Certified::Yes(cert)) => shown(alloc, cert),
+            Ok(Certified::No(verdict)) => told(alloc, judged, verdict),
             Err(NoMemory) => Err(AllocError),
         }
     }

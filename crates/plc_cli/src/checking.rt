@@ -20,7 +20,7 @@ impl Question for ForVerdict {
 
     fn answer(&self, alloc: Global, judged: &Judged) -> Result<Answer, AllocError> {
         match check(alloc, judged) {
-            Ok(verdict) => told(alloc, judged, &verdict),
+            Ok(verdict) => told(alloc, judged, verdict),
             Err(NoMemory) => Err(AllocError),
         }
     }
@@ -66,12 +66,15 @@ pub(crate) fn text_of(
 }
 
 /// The answer that says a verdict.
-pub(crate) fn told(alloc: Global, judged: &Judged, verdict: &Verdict) -> Result<Answer, AllocError>
-    ensures { IfOk result (λ answer. (answer.status ≡ verdict_status verdict.now)
-        × (answer.text.items ≡ verdict_text judged.now verdict.now)) }
+pub(crate) fn told(alloc: Global, judged: &Judged, verdict: Verdict) -> Result<Answer, AllocError>
+    ensures { IfOk result (λ answer. (answer.status ≡ verdict_status verdict)
+        × (answer.text.items ≡ verdict_text judged.now verdict)) }
 {
+    let status = status_of(&verdict);
+    let text = text_of(alloc, judged, &verdict);
+    drop(verdict);
     Ok(Answer {
-        status: status_of(verdict),
-        text: text_of(alloc, judged, verdict)?,
+        status,
+        text: text?,
     })
 }

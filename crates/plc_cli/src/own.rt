@@ -39,7 +39,7 @@ fn run_under<F: Files, S: Sink>(
     Ok(run(alloc, words, files, out, reclaimers))
 }
 
-/// The same, where there is memory for the four.
+/// `run` with plc's own reclaimers, where there is memory for the four.
 fn run_made<F: Files, S: Sink>(
     alloc: Global,
     words: &[String],

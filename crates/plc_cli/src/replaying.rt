@@ -79,6 +79,22 @@ fn scheduled(
     }
 }
 
+/// The answer to the bytes of a schedule for a file that was loaded.
+fn scheduled_for(
+    alloc: Global,
+    judged: Judged,
+    bytes: &[u8],
+    reclaimer: &mut Box<dyn Reclaimer>,
+) -> Result<Answer, AllocError>
+    requires flow { FlowFits judged.flow }
+    ensures { IfOk result (λ answer.
+        IsScheduleAnswered judged (meanings reclaimer.old) bytes.now answer.status answer.text.items) }
+{
+    let answer = scheduled(alloc, &judged, bytes, reclaimer);
+    drop(judged);
+    answer
+}
+
 /// The answer to the bytes of a file and of a schedule; the file's refusals go first. It is no `Question`, since the
 /// reclaimer is lent to it.
 fn replayed(
@@ -92,7 +108,7 @@ fn replayed(
         IsReplayOf (meanings reclaimer.old) bytes.now second.now answer.status answer.text.items) }
 {
     match load(alloc, bytes) {
-        Ok(judged) => scheduled(alloc, &judged, second, reclaimer),
+        Ok(judged) => scheduled_for(alloc, judged, second, reclaimer),
         Err(LoadFault::Memory) => Err(AllocError),
         Err(fault) => refusal(alloc, &fault),
     }

@@ -5,8 +5,9 @@ ghost use Rattle.plc_cli.specs.Requests.{request_of, request_of_two, request_of_
 ghost use Rattle.plc_cli.specs.Requests.{sample_of, number_in};
 ghost use Rattle.plc_cli.specs.Views.{request_view, IsInRange};
 
+use plc_base::MOST_COPIES;
 use plc_reclaim::{Reclaimer, find_named};
-use plc_sample::{MOST_COPIES, lines_of};
+use plc_sample::lines_of;
 use plc_sched::number_of;
 
 /// What words ask for.

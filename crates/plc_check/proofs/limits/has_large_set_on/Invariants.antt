@@ -5,7 +5,7 @@ use Rattle.plc_setting.specs.declared.obligations.Obligation.{Obligation}
 use Rattle.plc_oblig.specs.Obligations.{obligations}
 use Rattle.plc_oblig.specs.GroundSets.{ground_set}
 use Rattle.plc_check.proofs.SoFar.{SoFar}
-use Rattle.plc_check.proofs.limits.has_large_set.Given as goal
+use Rattle.plc_check.proofs.limits.has_large_set_on.Given as goal
 
 abbrev pub invariant-loop-obligation : goal.invariant-loop-obligation
 invariant-loop-obligation l =

@@ -1,9 +1,18 @@
-use Rattle.std.proofs.Common.{subst}
+use Rattle.std.proofs.Common.{sym, subst}
 use Rattle.plc_oblig.specs.Obligations.{obligations}
 use Rattle.plc_oblig.specs.Outlines.{IsKept}
-use Rattle.plc_check.specs.Counterexamples.{IsCounterexampleAt}
-use Rattle.plc_check.proofs.SoFar.{advanced, ended, is_listed}
-use Rattle.plc_check.proofs.counterexample.first_counterexample.Goals as goal
+use Rattle.plc_check.specs.Counterexamples.{IsCounterexampleAt, NotedAreKept}
+use Rattle.plc_check.proofs.Noting.{none_kept}
+use Rattle.plc_check.proofs.SoFar.{SoFar, begun, advanced, ended, is_listed}
+use Rattle.plc_check.proofs.counterexample.first_on_walk.Goals as goal
+
+pub loop-obligation-init : goal.loop-obligation-init
+loop-obligation-init c =
+    let flow = c.args.judged.now.flow in
+    let outline = c.args.judged.now.unit_outline in (
+      subst (SoFar (IsKept flow outline) (obligations flow outline)) (sym c.requires.begun) (begun (IsKept flow outline) (obligations flow outline)),
+      subst (NotedAreKept flow outline) (sym c.requires.none_noted) (none_kept flow outline),
+    )
 
 pub loop-obligation-preserved : goal.loop-obligation-preserved
 loop-obligation-preserved c = (

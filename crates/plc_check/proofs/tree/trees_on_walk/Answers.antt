@@ -1,12 +1,23 @@
 use Rattle.std.proofs.Common.{List, [], ◌∷◌, ◌++◌, sym, subst}
 use Rattle.plc_oblig.specs.Obligations.{obligations}
 use Rattle.plc_oblig.specs.Outlines.{IsKept}
+use Rattle.plc_setting.specs.declared.obligations.Obligation.{Obligation}
 use Rattle.plc_ground.specs.declared.terms.Tree.{Tree}
 use Rattle.plc_check.specs.Counterexamples.{AddsTreeAt, NotedHaveTrees}
-use Rattle.plc_check.proofs.Matching.{TreesSoFar, one_more, kept_so_far}
+use Rattle.plc_check.proofs.Matching.{TreesSoFar, no_trees, one_more, kept_so_far}
+use Rattle.plc_check.proofs.Noting.{none_have}
 use Rattle.plc_check.proofs.SoFar.{is_listed}
 use Rattle.plc_check.proofs.Opening.{least_broken}
-use Rattle.plc_check.proofs.tree.trees_of.Goals as goal
+use Rattle.plc_check.proofs.tree.trees_on_walk.Goals as goal
+
+pub loop-obligation-init : goal.loop-obligation-init
+loop-obligation-init c =
+    let flow = c.args.judged.now.flow in
+    let outline = c.args.judged.now.unit_outline in
+    let none = subst (λ (os : List Obligation). TreesSoFar flow outline os []) (sym c.requires.begun) (no_trees flow outline) in (
+      subst (TreesSoFar flow outline c.args.walk.now) (sym c.new-trees.ensures) none,
+      subst (NotedHaveTrees flow outline c.new-trees.result) (sym c.requires.none_noted) (none_have flow outline c.new-trees.result),
+    )
 
 pub loop-obligation-preserved : goal.loop-obligation-preserved
 loop-obligation-preserved c =

@@ -1,7 +1,7 @@
 use Rattle.std.proofs.Common.{length}
 use Rattle.plc_check.specs.Counterexamples.{NotedHaveTrees}
 use Rattle.plc_check.proofs.Matching.{TreesSoFar}
-use Rattle.plc_check.proofs.tree.trees_of.Given as goal
+use Rattle.plc_check.proofs.tree.trees_on_walk.Given as goal
 
 abbrev pub invariant-loop-obligation : goal.invariant-loop-obligation
 invariant-loop-obligation l = TreesSoFar l.judged.flow l.judged.unit_outline l.walk l.trees × NotedHaveTrees l.judged.flow l.judged.unit_outline l.trees l.noted

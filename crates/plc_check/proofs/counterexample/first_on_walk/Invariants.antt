@@ -3,7 +3,7 @@ use Rattle.plc_oblig.specs.Obligations.{obligations}
 use Rattle.plc_oblig.specs.Outlines.{IsKept}
 use Rattle.plc_check.specs.Counterexamples.{NotedAreKept}
 use Rattle.plc_check.proofs.SoFar.{SoFar}
-use Rattle.plc_check.proofs.counterexample.first_counterexample.Given as goal
+use Rattle.plc_check.proofs.counterexample.first_on_walk.Given as goal
 
 abbrev pub invariant-loop-obligation : goal.invariant-loop-obligation
 invariant-loop-obligation l =
