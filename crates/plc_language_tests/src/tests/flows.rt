@@ -51,7 +51,11 @@ fn lowered(alloc: Global, text: &str) -> Result<Flow, FlowFault> {
 
 fn lowering(alloc: Global, text: &str) -> Result<String, AllocError> {
     match lowered(alloc, text) {
-        Ok(flow) => flow_text(alloc, &flow),
+        Ok(flow) => {
+            let text = flow_text(alloc, &flow);
+            drop(flow);
+            text
+        }
         Err(fault) => format!(in alloc; "{fault:?}\n"),
     }
 }

@@ -77,7 +77,11 @@ fn numbers_text(alloc: Global, unit: &Unit) -> Result<String, NoMemory> {
 
 fn numbers_of(alloc: Global, text: &str) -> Result<String, NoMemory> {
     match read(alloc, text) {
-        Ok(unit) => numbers_text(alloc, &unit),
+        Ok(unit) => {
+            let text = numbers_text(alloc, &unit);
+            drop(unit);
+            text
+        }
         Err(_) => Err(NoMemory),
     }
 }

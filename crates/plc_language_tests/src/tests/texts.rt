@@ -18,7 +18,9 @@ pub(crate) fn read(alloc: Global, text: &str) -> Result<Unit, ParseFault> {
 
 fn printed(alloc: Global, text: &str) -> Result<Vec<u8>, ParseFault> {
     let unit = read(alloc, text)?;
-    match print(alloc, &unit) {
+    let printed = print(alloc, &unit);
+    drop(unit);
+    match printed {
         Ok(text) => Ok(text),
         Err(NoMemory) => Err(ParseFault::Memory),
     }

@@ -213,7 +213,11 @@ fn run_text(alloc: Global, judged: &Judged, lines: &str) -> Result<String, NoMem
     requires sorted { FlowIsWellSorted judged.now.flow }
 {
     match GcConfig::start(alloc, &judged.flow, 2) {
-        Ok(mut config) => answers(alloc, judged, &mut config, lines),
+        Ok(mut config) => {
+            let text = answers(alloc, judged, &mut config, lines);
+            drop(config);
+            text
+        }
         Err(StartFault::NoStart) => Ok(String::from_str(alloc, "no start")?),
         Err(StartFault::Memory) => Err(NoMemory),
     }

@@ -85,18 +85,40 @@ fn answers(
     Ok(text)
 }
 
+// The answers of a run in memory with two threads and of the garbage-collected run beside it.
+fn run_beside(
+    alloc: Global,
+    judged: &Judged,
+    lines: &str,
+    config: &mut Config,
+) -> Result<String, NoMemory>
+    requires fits { FlowFits judged.now.flow }
+    requires sorted { FlowIsWellSorted judged.now.flow }
+    requires of_run { IsOfMemoryRun judged.now.flow judged.now.observer config.old }
+{
+    match GcConfig::start(alloc, &judged.flow, 2) {
+        Ok(mut collected) => {
+            let text = answers(alloc, judged, lines, config, &mut collected);
+            drop(collected);
+            text
+        }
+        Err(_) => Err(NoMemory),
+    }
+}
+
 // The answers of both runs with two threads.
 fn run_text(alloc: Global, judged: &Judged, lines: &str) -> Result<String, NoMemory>
     requires fits { FlowFits judged.now.flow }
     requires sorted { FlowIsWellSorted judged.now.flow }
 {
-    let Ok(mut config) = Config::start(alloc, &judged.flow, &judged.observer, 2) else {
-        return Err(NoMemory);
-    };
-    let Ok(mut collected) = GcConfig::start(alloc, &judged.flow, 2) else {
-        return Err(NoMemory);
-    };
-    answers(alloc, judged, lines, &mut config, &mut collected)
+    match Config::start(alloc, &judged.flow, &judged.observer, 2) {
+        Ok(mut config) => {
+            let text = run_beside(alloc, judged, lines, &mut config);
+            drop(config);
+            text
+        }
+        Err(_) => Err(NoMemory),
+    }
 }
 
 #[derive(Clone, Copy)]

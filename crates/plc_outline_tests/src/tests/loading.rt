@@ -41,7 +41,9 @@ fn lent<A: Asked>(alloc: Global, judged: Judged, question: &A) -> Result<String,
     requires fits { FlowFits judged.flow }
     requires sorted { FlowIsWellSorted judged.flow }
 {
-    question.answer(alloc, &judged)
+    let answer = question.answer(alloc, &judged);
+    drop(judged);
+    answer
 }
 
 pub(crate) fn answered<A: Asked>(

@@ -114,6 +114,14 @@ fn checksum(text: &str) -> u32 {
     sum
 }
 
+// A set, if it has this many clauses.
+fn counted_text(alloc: Global, set: &GroundSet, count: u64) -> Result<String, AllocError> {
+    if set.clauses.len() as u64 != count {
+        return format!(in alloc; "{count} clauses were counted");
+    }
+    set_text(alloc, set)
+}
+
 // The set of an obligation, if it has as many clauses as are counted.
 fn text_of(alloc: Global, judged: &Judged, o: &Obligation) -> Result<String, AllocError>
     requires { Fits judged.now.flow judged.now.unit_outline }
@@ -124,13 +132,14 @@ fn text_of(alloc: Global, judged: &Judged, o: &Obligation) -> Result<String, All
     if count > 65536 {
         return format!(in alloc; "too large");
     }
-    let Ok(set) = ground(alloc, flow, outline, o) else {
-        return Err(AllocError);
-    };
-    if set.clauses.len() as u64 != count {
-        return format!(in alloc; "{count} clauses were counted");
+    match ground(alloc, flow, outline, o) {
+        Ok(set) => {
+            let text = counted_text(alloc, &set, count);
+            drop(set);
+            text
+        }
+        Err(_) => Err(AllocError),
     }
-    set_text(alloc, &set)
 }
 
 // The set of the obligation with a number.

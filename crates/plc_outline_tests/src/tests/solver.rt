@@ -263,7 +263,9 @@ fn found(alloc: Global, set: &GroundSet) -> Result<String, NoMemory> {
 // What is found of a set of these terms.
 fn solved(alloc: Global, terms: &str, rows: &str) -> Result<String, NoMemory> {
     let set = set(alloc, terms, rows)?;
-    found(alloc, &set)
+    let answer = found(alloc, &set);
+    drop(set);
+    answer
 }
 
 const NODES: &str = "node:null node:bound.0 node:bound.1 node:next.0 node:next.1 node:next.2";

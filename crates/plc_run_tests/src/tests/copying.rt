@@ -76,12 +76,16 @@ fn linked_copies(alloc: Global, judged: &Judged) -> Result<String, NoMemory>
     requires { FlowFits judged.now.flow }
 {
     let config = config_of(alloc, &judged.flow, &judged.observer, SHARED)?;
-    all_copies(alloc, &judged.flow, config.memory())
+    let text = all_copies(alloc, &judged.flow, config.memory());
+    drop(config);
+    text
 }
 
 fn copies(alloc: Global) -> Result<String, NoMemory> {
     let judged = loaded(alloc, LINKED)?;
-    linked_copies(alloc, &judged)
+    let text = linked_copies(alloc, &judged);
+    drop(judged);
+    text
 }
 
 const COPIES: &str = "Top=1 p=1 q=0 r=1 1.next=1 used 1 retired 1 

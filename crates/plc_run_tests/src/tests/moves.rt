@@ -201,7 +201,9 @@ fn run_text(alloc: Global, judged: &Judged, before: &str, moves: &str) -> Result
     requires { FlowFits judged.now.flow }
 {
     let mut config = config_of(alloc, &judged.flow, &judged.observer, before)?;
-    take_moves(alloc, &judged.flow, &judged.observer, &mut config, moves)
+    let answers = take_moves(alloc, &judged.flow, &judged.observer, &mut config, moves);
+    drop(config);
+    answers
 }
 
 pub(crate) fn ran(
@@ -211,7 +213,9 @@ pub(crate) fn ran(
     moves: &str,
 ) -> Result<String, NoMemory> {
     let judged = loaded(alloc, file)?;
-    run_text(alloc, &judged, before, moves)
+    let answers = run_text(alloc, &judged, before, moves);
+    drop(judged);
+    answers
 }
 
 // A stack whose readers protect their nodes by hazard pointers.

@@ -57,7 +57,9 @@ fn replayed(
     reclaimer: &mut Box<dyn Reclaimer>,
 ) -> Result<String, NoMemory> {
     let judged = loaded(alloc, DROPS)?;
-    replayed_in(alloc, text, &judged, reclaimer)
+    let end = replayed_in(alloc, text, &judged, reclaimer);
+    drop(judged);
+    end
 }
 
 fn list_end(alloc: Global, text: &str) -> Result<String, NoMemory> {

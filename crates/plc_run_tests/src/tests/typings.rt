@@ -33,7 +33,9 @@ fn inferred_in(alloc: Global, judged: &Judged) -> Result<String, AllocError>
 
 fn inferred(alloc: Global, text: &str) -> Result<String, NoMemory> {
     let judged = loaded(alloc, text)?;
-    Ok(inferred_in(alloc, &judged)?)
+    let types = inferred_in(alloc, &judged);
+    drop(judged);
+    Ok(types?)
 }
 
 const TYPINGS: &str = "# struct N { } shared T;

@@ -106,7 +106,9 @@ fn first_line(alloc: Global, name: &str) -> Result<String, NoMemory> {
 // Whether an answer to a file tells a model.
 fn tells_a_model(alloc: Global, text: &str, answer: &str) -> Result<bool, NoMemory> {
     let judged = loaded(alloc, text)?;
-    has_model(alloc, &judged, answer)
+    let tells = has_model(alloc, &judged, answer);
+    drop(judged);
+    tells
 }
 
 fn first_line_of(alloc: Global, text: &str) -> Result<String, NoMemory> {
