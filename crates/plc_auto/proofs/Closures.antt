@@ -10,8 +10,8 @@ use Rattle.plc_auto.specs.declared.event.EvKind.TheVariants.{Call, Done, Free}
 use Rattle.plc_auto.specs.declared.observer.Observer.{Observer}
 use Rattle.plc_auto.specs.declared.observer.Observer.TheVariants.{Plain, Hazard, Epoch}
 use Rattle.plc_auto.specs.Table.{retires, frees, along, edges_of, count_of, step}
-use Rattle.plc_base.specs.Functions.{is_retire}
-use Rattle.plc_auto.specs.Sets.{any_below_8, leads_to, all_locations, step_set, retire, arrivals, reach, closure, happens, IsClosed, IsClosureOf, Within}
+use Rattle.plc_base.specs.Functions.{retire, is_retire}
+use Rattle.plc_auto.specs.Sets.{any_below_8, leads_to, all_locations, step_set, arrivals, reach, closure, happens, IsClosed, IsClosureOf, Within}
 use Rattle.plc_auto.proofs.Tables.{all_below, below_all, each, each_at, implies, implied, heard_by, called, freed, step_live}
 use Rattle.plc_auto.proofs.SetLemmas.{any_at, any_in, all_has, member_live, live_small, in_step_set, step_set_has, leads_is}
 

@@ -1,7 +1,7 @@
 -- Sets of live locations.
 use Rattle.std.specs.Prelude.{◌≡◌, ◌==◌, ◌&&◌, ◌||◌, ℕ, Bool, true, false, not}
 use Rattle.std.specs.Prelude.{if◌then◌else◌, Option, Some, None, nat_lt, is_none}
-use Rattle.plc_base.specs.declared.ids.FuncId.{FuncId}
+use Rattle.plc_base.specs.Functions.{retire}
 use Rattle.plc_base.specs.Mask.{has, no_members, single, union, mask_of}
 use Rattle.plc_auto.specs.declared.event.EvKind.{EvKind}
 use Rattle.plc_auto.specs.declared.event.EvKind.TheVariants.{Call, Done, Free}
@@ -61,10 +61,6 @@ pub record IsClosureOf (o : Observer) (with_free : Bool) (m c : ℕ) : Type 0 wh
   pub holds : Within m c
   pub closed : IsClosed o with_free c
   pub least : (d : ℕ) → Within m d → IsClosed o with_free d → Within c d
-
--- the function that hands an address to the reclaimer
-abbrev pub retire : FuncId
-retire = record { 0 = 0 }
 
 -- the set of the location to which an edge leads
 abbrev pub arrivals : Option ℕ → ℕ

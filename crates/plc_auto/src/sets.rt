@@ -9,8 +9,6 @@ use crate::observer::Observer;
 use crate::table::R_KEPT;
 use plc_base::{FuncId, LocId, Mask};
 
-const RETIRE: FuncId = FuncId(0);
-
 /// the locations of a set, and the one in which a protected address stands after its retirement
 fn with_kept(mut m: Mask) -> Mask
     ensures { result ≡ union m (single 6) }
@@ -82,7 +80,7 @@ impl Observer {
         ensures least { IsClosureOf self.now with_free m.now result }
         ensures live { within result (all_locations self.now) ≡ true }
     {
-        let retired = self.step_set(m, EvKind::Call(RETIRE), false, true);
+        let retired = self.step_set(m, EvKind::Call(FuncId::RETIRE), false, true);
         let kept = m.union(&retired);
         if !with_free {
             return kept;

@@ -13,6 +13,11 @@ pub gates_rise : (n end : ℕ) (gs : List Gate) → GatesFrom n gs end → n ≤
 gates_rise n end [] all = omega arith
 gates_rise n end (g ∷ gs) all = let later = gates_rise g.after end gs all.4 in let wide = all.3 in omega arith
 
+-- operations end where they begin or later
+pub ends_after : (n : ℕ) (gs : List Gate) (end : ℕ) → GatesFrom n gs end → n ≤ end
+ends_after n [] end h = omega arith
+ends_after n (g ∷ gs) end (first, entry_is, exit_is, wide, rest) = let r = ends_after g.after gs end rest in omega arith
+
 -- each point of the operations has its locals
 pub points_counted : (n end : ℕ) (os : List Op) (gs : List Gate) → length os ≡ length gs → GatesFrom n gs end → n + length (pointers_by_point os gs) ≡ end
 points_counted n end [] [] same all = omega arith

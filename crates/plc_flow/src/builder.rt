@@ -10,6 +10,7 @@ use plc_base::{Items, OpId, PointId, What1};
 use plc_lang::Prim;
 use std::alloc::Global;
 
+/// The points, the steps and the labels that are made so far.
 #[derive(Drop)]
 pub(crate) struct Builder {
     pub points: u16,

@@ -7,6 +7,7 @@ use plc_base::{FuncId, Items};
 use plc_lang::{Arg, Cond, Prim, Rel, Var};
 use std::alloc::{AllocError, Global};
 
+/// The test that holds exactly where this one fails.
 fn opposite_of(test: Prim) -> Prim
     ensures { result ≡ opposite test }
 {
@@ -53,6 +54,7 @@ fn set(p: Var, e: Option<Var>) -> Prim
     }
 }
 
+/// The list of one primitive.
 pub(crate) fn one(alloc: Global, prim: Prim) -> Result<Items<Prim>, AllocError>
     ensures { IfOk result (λ prims. prims ≡ prim ∷ []) }
 {
@@ -61,6 +63,7 @@ pub(crate) fn one(alloc: Global, prim: Prim) -> Result<Items<Prim>, AllocError>
     Ok(prims)
 }
 
+/// A list with a copy of each primitive.
 pub(crate) fn copied(alloc: Global, prims: &[Prim]) -> Result<Items<Prim>, AllocError>
     ensures { IfOk result (λ made. made ≡ prims.now) }
 {

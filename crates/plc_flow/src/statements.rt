@@ -12,7 +12,7 @@ use crate::builder::{Builder, Here, Next, join_all, label, label_during, point, 
 use crate::flow::FlowFault;
 use crate::sides::{call_prims, copied, false_prims, one, true_prims};
 use plc_base::{FuncId, Items, PointId};
-use plc_lang::{Arg, Block, Cond, Line, Prim, Stmt};
+use plc_lang::{Block, Cond, Prim, Stmt};
 use std::alloc::Global;
 
 /// Primitives that are one step.
@@ -53,6 +53,7 @@ fn lower_leave(alloc: Global, here: Here, from: PointId, to: PointId, out: &mut 
     point(out)
 }
 
+/// One statement, by its kind.
 #[cycle(lower)]
 fn lower_stmt(alloc: Global, here: Here, from: PointId, stmt: &Stmt, out: &mut Builder) -> Next
     requires { out.old.points ≤ most_points }

@@ -3,8 +3,8 @@ use Rattle.std.proofs.Common.{◌≡◌, List, ◌∷◌, Option, Some, None, tr
 use Rattle.plc_lex.specs.declared.token.TokenKind.{TokenKind}
 use Rattle.plc_lex.specs.declared.token.TokenKind.TheVariants.{Name, Symbol}
 use Rattle.plc_lex.specs.declared.token.Symbol.TheVariants.{Semicolon, CloseParen, OpenParen, Comma}
-use Rattle.plc_syntax.specs.Trees.{Text, maybe_then, comma_name_then, name_or_null_then, FieldTree, PointerField, DataField, field_then, shared_then, FunctionTree, Declares, function_then, WatchTree, UseHazard, UseEpoch, watch_then, PlaceOf, AtomTree, NullAtom, NumberAtom, NameAtom, atom_then, NullValue, NewValue, NumberValue, PlaceValue, SetTree, SetName, SetField, set_then, RefreshTree, RefreshName, RefreshField, refresh_then, GhostValueTree, NameGhost, MeGhost, NoneGhost, ghost_value_then, GhostSetTree, SetGhost, ghost_set_then, InitialTree, InitialSet, InitialGhost, initial_then, SameAs, OtherThan, LessThan, NotLessThan, TestTree, Compares, test_then, ConditionTree, TestCondition, RefreshCondition, CasCondition, condition_then, PrimitiveTree, SetPrimitive, RefreshPrimitive, GhostPrimitive, ActivePrimitive, AssumePrimitive, SkipPrimitive, primitive_then, ArgumentTree, NoArgument, NullArgument, NameArgument, ActiveArgument, argument_then, during_then}
-use Rattle.plc_forms.specs.Forms.{field_of, shared_of, comma_name_of, function_of, watch_of, atom_of, set_of, refresh_of, ghost_value_of, ghost_set_of, test_of, name_or_null_of, condition_of, primitive_of, primitive_line_of, initial_line_of, call_of, during_of}
+use Rattle.plc_syntax.specs.Trees.{Text, comma_name_then, name_or_null_then, FieldTree, PointerField, DataField, field_then, shared_then, FunctionTree, Declares, function_then, WatchTree, UseHazard, UseEpoch, watch_then, PlaceOf, AtomTree, NullAtom, NumberAtom, NameAtom, atom_then, NullValue, NewValue, NumberValue, PlaceValue, SetTree, SetName, SetField, set_then, RefreshName, RefreshField, GhostValueTree, NameGhost, MeGhost, NoneGhost, ghost_value_then, SetGhost, InitialTree, InitialSet, InitialGhost, initial_then, SameAs, OtherThan, LessThan, NotLessThan, TestTree, Compares, test_then, ConditionTree, TestCondition, RefreshCondition, CasCondition, condition_then, PrimitiveTree, SetPrimitive, RefreshPrimitive, GhostPrimitive, ActivePrimitive, AssumePrimitive, SkipPrimitive, primitive_then, ArgumentTree, NoArgument, NullArgument, NameArgument, ActiveArgument, argument_then}
+use Rattle.plc_forms.specs.Forms.{field_of, shared_of, comma_name_of, function_of, watch_of, atom_of, set_of, ghost_value_of, test_of, name_or_null_of, condition_of, primitive_of, primitive_line_of, initial_line_of, call_of}
 
 -- ---- declarations
 
@@ -41,18 +41,10 @@ set_reads (SetName n (PlaceValue (PlaceOf m None))) rest = refl
 set_reads (SetName n (PlaceValue (PlaceOf m (Some f)))) rest = refl
 set_reads (SetField n f a) rest = rw (atom_reads a (Symbol Semicolon ∷ rest)) refl
 
-pub refresh_reads : (r : RefreshTree) (rest : List TokenKind) → refresh_of (refresh_then r (Symbol Semicolon ∷ rest)) ≡ Some (r, Symbol Semicolon ∷ rest)
-refresh_reads (RefreshName n (PlaceOf m None)) rest = refl
-refresh_reads (RefreshName n (PlaceOf m (Some f))) rest = refl
-refresh_reads (RefreshField n f q) rest = refl
-
 pub ghost_value_reads : (v : GhostValueTree) (rest : List TokenKind) → ghost_value_of (ghost_value_then v rest) ≡ Some (v, rest)
 ghost_value_reads (NameGhost n) rest = refl
 ghost_value_reads MeGhost rest = refl
 ghost_value_reads NoneGhost rest = refl
-
-pub ghost_set_reads : (g : GhostSetTree) (rest : List TokenKind) → ghost_set_of (ghost_set_then g rest) ≡ Some (g, rest)
-ghost_set_reads (SetGhost n g v) rest = rw (ghost_value_reads v rest) refl
 
 -- ---- tests and conditions
 
@@ -103,7 +95,3 @@ call_reads n NoArgument rest = refl
 call_reads n NullArgument rest = refl
 call_reads n (NameArgument m) rest = refl
 call_reads n (ActiveArgument m) rest = refl
-
-pub during_reads : (d : Option Text) (rest : List TokenKind) → during_of (maybe_then during_then d (Symbol Semicolon ∷ rest)) ≡ (d, Symbol Semicolon ∷ rest)
-during_reads None rest = refl
-during_reads (Some l) rest = refl

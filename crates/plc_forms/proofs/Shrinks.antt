@@ -3,12 +3,12 @@ use Rattle.std.proofs.Common.{◌≡◌, ◌<◌, ◌≤◌, ◌+◌, ℕ, List,
 use Rattle.plc_lex.specs.declared.token.TokenKind.{TokenKind}
 use Rattle.plc_lex.specs.declared.token.TokenKind.TheVariants.{Word, Name, Number, Symbol}
 use Rattle.plc_lex.specs.declared.token.Keyword.{Keyword}
-use Rattle.plc_lex.specs.declared.token.Keyword.TheVariants.{Ptr, Data, Shared, Call, Ghost, Skip, Active, Assume, New, Null, Me, None as NoneWord}
+use Rattle.plc_lex.specs.declared.token.Keyword.TheVariants.{Ptr, Data, Ghost, Skip, Active, Assume, New, Null, Me, None as NoneWord}
 use Rattle.plc_lex.specs.declared.token.Symbol.{Symbol as Punctuation}
-use Rattle.plc_lex.specs.declared.token.Symbol.TheVariants.{Assign, Refresh, Equal, Unequal, AtLeast, Less, OpenParen, CloseParen, Semicolon, Comma, Dot}
+use Rattle.plc_lex.specs.declared.token.Symbol.TheVariants.{Assign, Refresh, Equal, Unequal, AtLeast, Less, Semicolon, Comma, Dot}
 use Rattle.plc_syntax.specs.Table.{same_punctuation}
-use Rattle.plc_syntax.specs.Trees.{Text, FieldTree, PointerField, DataField, PlaceTree, PlaceValue, SetName, SetField, RefreshName, RefreshField, SetGhost, InitialTree, InitialSet, InitialGhost, Compares, PrimitiveTree, SetPrimitive, RefreshPrimitive, GhostPrimitive, ActivePrimitive, AssumePrimitive, FunctionTree, Declares}
-use Rattle.plc_forms.specs.Forms.{◌>>=◌, read_or, read_as, same_word, word_of, symbol_of, name_of, semicolon_of, name_symbol_of, symbol_name_of, word_name_of, field_of, shared_of, comma_name_of, pointer_word_of, end_of, function_of, dot_name_of, place_with, place_of, value_of, atom_of, set_name_of, field_symbol_of, set_field_of, set_of, refresh_name_of, refresh_field_of, refresh_of, ghost_value_of, ghost_set_of, comparison_of, test_of, named_of, primitive_of, line_of, primitive_line_of, initial_of, initial_line_of}
+use Rattle.plc_syntax.specs.Trees.{Text, FieldTree, PointerField, DataField, PlaceTree, PlaceValue, SetName, SetField, RefreshName, RefreshField, SetGhost, InitialTree, InitialSet, InitialGhost, Compares, PrimitiveTree, SetPrimitive, RefreshPrimitive, GhostPrimitive, ActivePrimitive, AssumePrimitive}
+use Rattle.plc_forms.specs.Forms.{◌>>=◌, read_or, read_as, same_word, word_of, symbol_of, name_of, semicolon_of, name_symbol_of, symbol_name_of, word_name_of, field_of, comma_name_of, dot_name_of, place_with, place_of, value_of, atom_of, set_name_of, field_symbol_of, set_field_of, set_of, refresh_name_of, refresh_field_of, refresh_of, ghost_value_of, ghost_set_of, comparison_of, test_of, named_of, primitive_of, line_of, primitive_line_of, initial_of, initial_line_of}
 
 -- at least so many of n tokens are taken; what is left is seen in the answer
 abbrev Takes : {A : Type 0} → (A → List TokenKind) → ℕ → ℕ → Option A → Type 0
@@ -87,18 +87,6 @@ field : (ts : List TokenKind) → Takes after 1 (length ts) (field_of ts)
 field (Word Ptr ∷ rest) = declared PointerField rest (length (Word Ptr ∷ rest)) (omega arith)
 field (Word Data ∷ rest) = declared DataField rest (length (Word Data ∷ rest)) (omega arith)
 field ts = tt
-
-pointer_word : (ts : List TokenKind) → length (pointer_word_of ts).1 ≤ length ts
-pointer_word (Word Ptr ∷ rest) = omega arith
-pointer_word ts = omega arith
-
-end : (ts : List TokenKind) → Takes whole 1 (length ts) (end_of ts)
-end ts = next whole whole 1 (length ts) (symbol_of CloseParen ts) (symbol_of Semicolon) (symbol CloseParen ts) (λ us. lax whole (length us) (symbol_of Semicolon us) (symbol Semicolon us))
-
-function : (ts : List TokenKind) → Takes after 1 (length ts) (function_of ts)
-function ts = next after after 1 (length ts) (word_name_of Call OpenParen ts) _ (word_name Call OpenParen ts)
-    (λ n. further after 0 (length (pointer_word_of n.1).1) (length n.1) (end_of (pointer_word_of n.1).1 >>= λ rest. Some (Declares n.0 (pointer_word_of n.1).0, rest)) (let h = pointer_word n.1 in omega arith)
-    (last (Declares n.0 (pointer_word_of n.1).0) (length (pointer_word_of n.1).1) (end_of (pointer_word_of n.1).1) (end (pointer_word_of n.1).1)))
 
 -- ---- assignments and refreshes
 
@@ -191,14 +179,8 @@ shorter n (Some y) h x e = let same : y ≡ x = cc in rw (← same) (omega arith
 pub field_shrinks : (ts : List TokenKind) (x : FieldTree × List TokenKind) → field_of ts ≡ Some x → length x.1 < length ts
 field_shrinks ts = shorter (length ts) (field_of ts) (field ts)
 
-pub shared_shrinks : (ts : List TokenKind) (x : Text × List TokenKind) → shared_of ts ≡ Some x → length x.1 < length ts
-shared_shrinks ts = shorter (length ts) (shared_of ts) (word_name Shared Semicolon ts)
-
 pub comma_name_shrinks : (ts : List TokenKind) (x : Text × List TokenKind) → comma_name_of ts ≡ Some x → length x.1 < length ts
 comma_name_shrinks ts = shorter (length ts) (comma_name_of ts) (symbol_name Comma ts)
-
-pub function_shrinks : (ts : List TokenKind) (x : FunctionTree × List TokenKind) → function_of ts ≡ Some x → length x.1 < length ts
-function_shrinks ts = shorter (length ts) (function_of ts) (function ts)
 
 pub primitive_line_shrinks : (ts : List TokenKind) (x : PrimitiveTree × List TokenKind) → primitive_line_of ts ≡ Some x → length x.1 < length ts
 primitive_line_shrinks ts = shorter (length ts) (primitive_line_of ts) (line (length ts) (primitive_of ts) (primitive ts))

@@ -7,7 +7,7 @@ ghost use Rattle.plc_forms.specs.Forms.{symbol_name_of, name_symbol_of, word_nam
 ghost use Rattle.plc_forms.specs.Views.{After, Passes, Reads, text_of};
 
 use crate::rest::Rest;
-use plc_lex::{Keyword, Symbol, Token, TokenKind};
+use plc_lex::{Keyword, Symbol, TokenKind};
 
 /// The first token, of whatever kind.
 pub fn first<'a>(rest: Rest<'a>) -> Option<(&'a TokenKind, Rest<'a>)>

@@ -6,7 +6,8 @@ use Rattle.std.proofs.lemmas.Bool.{lt-ltb, le-ltb, ltb-false}
 use Rattle.std.proofs.lemmas.List.Sums.{sum_by-cons}
 use Rattle.plc_lang.specs.declared.syntax.Local.{Local}
 use Rattle.plc_lang.specs.declared.syntax.Ghost.{Ghost}
-use Rattle.plc_lang.specs.Numbering.{places_from, local_at, value_from, value_number, values_in, NumbersAreOne, ValuesAreNumbered}
+use Rattle.plc_lang.specs.Numbering.{places_from, value_from, value_number, values_in, NumbersAreOne, ValuesAreNumbered}
+use Rattle.plc_lang.specs.Lookup.{local_at}
 use Rattle.plc_lang.specs.Locals.{is_pointer, is_data}
 
 module _ (k : Local → Bool) where

@@ -11,6 +11,8 @@ pub mod Skeleton
 pub mod Statements
 pub mod Views
 pub mod WellSorted
--- words of private functions alone
+-- words and lemmas that an impl of the code cites
 pub mod Falls
 pub mod Postorder
+-- words of private functions alone
+pub mod Lookup

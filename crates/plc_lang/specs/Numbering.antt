@@ -21,11 +21,6 @@ pointer_place locals v = slice_get (places_from is_pointer 0 locals) v
 abbrev pub data_place : List Local → ℕ → Option ℕ
 data_place locals x = slice_get (places_from is_data 0 locals) x
 
--- the local at a place, if there is such a place
-abbrev pub local_at : List Local → Option ℕ → Option Local
-local_at locals None = None
-local_at locals (Some place) = slice_get locals place
-
 -- the number of the local at a place among the pointer locals, or among the data locals: how many of its kind stand
 -- before
 abbrev pub pointer_number : List Local → ℕ → ℕ

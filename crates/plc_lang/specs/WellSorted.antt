@@ -3,7 +3,7 @@
 use Rattle.std.specs.Prelude.{◌≡◌, ◌≤◌, ◌<◌, ◌+◌, ℕ, Bool, true, false, not, ◌&&◌}
 use Rattle.std.specs.Prelude.{List, [], ◌∷◌, ◌++◌, length, filter, count_by, slice_get, Some}
 use Rattle.std.specs.List.{list_any, concat, range_with_len}
-use Rattle.plc_base.specs.Functions.{is_retire}
+use Rattle.plc_base.specs.Functions.{retire, is_retire}
 use Rattle.plc_base.specs.declared.ids.FieldId.{FieldId}
 use Rattle.plc_base.specs.declared.ids.FuncId.{FuncId}
 use Rattle.plc_lang.specs.declared.syntax.Arg.{Arg}
@@ -216,7 +216,7 @@ LabelsAreNumbered file = concat (labels_by_op file.ops) ≡ range_with_len 0 (le
 
 -- a file; its first function is `retire`, which takes a pointer
 pub record FileIsWellSorted (file : File) : Type 0 where
-  pub retires : FunctionIs file true (record { 0 = 0 })
+  pub retires : FunctionIs file true retire
   pub init : InitIsWellSorted file
   pub each_op : (k : ℕ) (o : Op) → slice_get file.ops k ≡ Some o → OpIsWellSorted file o
   pub labels : LabelsAreNumbered file

@@ -20,6 +20,7 @@ fn note_during(during: Option<u16>, labels: &mut Items<u16>) -> Result<(), NoMem
     Ok(())
 }
 
+/// Notes the labels of a statement, with those of its blocks.
 #[cycle(note)]
 fn note_statement(stmt: &Stmt, labels: &mut Items<u16>) -> Result<(), NoMemory>
     ensures { OnOk result (labels.new ≡ labels.old ++ statement_labels (statement_of stmt.now)) }
@@ -54,6 +55,7 @@ fn note_blocks(blocks: &[Block], labels: &mut Items<u16>) -> Result<(), NoMemory
     Ok(())
 }
 
+/// Notes the labels of a block, statement by statement.
 #[cycle(note)]
 fn note_block(block: &Block, labels: &mut Items<u16>) -> Result<(), NoMemory>
     ensures { OnOk result (labels.new ≡ labels.old ++ block_labels block.now) }
@@ -84,6 +86,7 @@ pub fn labels_by_op(alloc: Global, ops: &[Op]) -> Result<Items<Items<u16>>, NoMe
     Ok(by_op)
 }
 
+/// Whether a label is one of these.
 fn has_label(labels: &Items<u16>, label: u16) -> bool
     ensures { result ≡ has_label label labels.now }
 {

@@ -1,7 +1,7 @@
 // Names by the numbers of what they name, as texts show them. A number that nothing has shows as the
 // empty name, so that whoever writes a text of a file asks nothing of it.
 ghost use Rattle.std.specs.Prelude.{◌≡◌, option_map};
-ghost use Rattle.plc_lang.specs.Numbering.{local_at};
+ghost use Rattle.plc_lang.specs.Lookup.{local_at};
 ghost use Rattle.plc_lang.specs.Names.{name_at, name_of, field_name, function_name, operation_name};
 ghost use Rattle.plc_lang.specs.Names.{auxiliary_name, value_name, label_name, shared_name};
 ghost use Rattle.plc_lang.specs.Names.{pointer_name, data_name, local_name, variable_name};

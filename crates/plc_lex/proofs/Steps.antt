@@ -7,7 +7,8 @@ use Rattle.plc_lex.specs.declared.fault.LexFault.TheVariants.{BadByte, LongName,
 use Rattle.plc_lex.specs.declared.rest.Rest.{Rest}
 use Rattle.plc_lex.specs.Characters.{is_space}
 use Rattle.plc_lex.specs.Spelling.{token_at, is_comment, comment_length, next_line, Spells, at_end, after_space, after_comment, token, Stops, here, past_space, past_comment, past_token}
-use Rattle.plc_lex.specs.Refused.{IsFaultAt, StopsWith}
+use Rattle.plc_lex.specs.Refused.{StopsWith}
+use Rattle.plc_lex.specs.Reading.{IsFaultAt}
 use Rattle.plc_lex.specs.Reading.{IsAtToken, Reads}
 
 pub reads_space : (at line : ℕ) (bytes : List ℕ) (rest : Rest) → 0 < length bytes → is_space (get_or bytes 0 0) ≡ true → rest.bytes.now ≡ drop 1 bytes → rest.at ≡ at + 1 → rest.line ≡ next_line line (get_or bytes 0 0) → Reads at line bytes [] rest

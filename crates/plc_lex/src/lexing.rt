@@ -1,6 +1,6 @@
 // A text is read from left to right. After each token all spaces and comments are passed at once,
 // so the loop over tokens meets a token, a fault or the end.
-ghost use Rattle.std.specs.Prelude.{◌≡◌, ◌<◌, ◌≤◌, ◌∷◌, [], ℕ, List, length};
+ghost use Rattle.std.specs.Prelude.{◌≡◌, ◌<◌, ◌≤◌, ◌+◌, ◌∷◌, [], ℕ, List, length};
 ghost use Rattle.std.specs.Prelude.{vec_len, All, IfOk, IfErr, IfSome, IfNone, OnOk, MatchResult};
 ghost use Rattle.plc_base.specs.Limits.{largest_file};
 ghost use Rattle.plc_lex.specs.declared.token.Token.{Token};
@@ -18,8 +18,9 @@ use crate::token::Token;
 use plc_base::Span;
 use std::alloc::Global;
 
+/// The line of what stands after a byte.
 fn next_line(line: u32, b: u8) -> u32
-    requires { line ≤ 1048577 }
+    requires { line ≤ largest_file + 1 }
     ensures { result ≡ next_line line b }
 {
     if b == b'\n' { line + 1 } else { line }

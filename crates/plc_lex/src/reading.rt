@@ -3,7 +3,7 @@
 ghost use Rattle.std.specs.Prelude.{◌≡◌, ◌<◌, ◌≤◌, ◌^◌, length, min, IfOk, IfErr};
 ghost use Rattle.plc_lex.specs.declared.fault.LexFault.TheVariants.{Memory};
 ghost use Rattle.plc_lex.specs.Spelling as spec;
-ghost use Rattle.plc_lex.specs.Refused.{IsFaultAt};
+ghost use Rattle.plc_lex.specs.Reading.{IsFaultAt};
 
 use crate::characters::{digits_length, is_digit, is_letter, name_length};
 use crate::fault::LexFault;
@@ -23,6 +23,7 @@ fn name_or_word(alloc: Global, run: &[u8]) -> Result<TokenKind, LexFault>
     }
 }
 
+/// The name or the keyword at the front, and its length. `LongName` where the run has too many bytes.
 #[tactic(auto, unfolding(crate::specs::Spelling::name_at))]
 fn name_at(alloc: Global, bytes: &[u8], at: u32) -> Result<(TokenKind, usize), LexFault>
     ensures ok { IfOk result (λ token. spec.name_at bytes.now ≡ Ok token) }
@@ -47,6 +48,7 @@ fn value(digits: &[u8]) -> u64
     value
 }
 
+/// Whether there is one digit, or several of which the first isn't 0.
 fn is_plain(digits: &[u8]) -> bool
     ensures { result ≡ spec.is_plain digits.now }
 {
@@ -57,6 +59,7 @@ fn is_plain(digits: &[u8]) -> bool
     }
 }
 
+/// The number at the front, and its length. `BadNumber` where it is 2^32 or more, or isn't plain.
 #[tactic(auto, unfolding(crate::specs::Spelling::number_at))]
 fn number_at(bytes: &[u8], at: u32) -> Result<(TokenKind, usize), LexFault>
     ensures ok { IfOk result (λ token. spec.number_at bytes.now ≡ Ok token) }
@@ -72,6 +75,7 @@ fn number_at(bytes: &[u8], at: u32) -> Result<(TokenKind, usize), LexFault>
     }
 }
 
+/// The longest symbol at the front, and its length. `BadByte` where none stands there.
 #[tactic(auto, unfolding(crate::specs::Spelling::symbol_at))]
 fn symbol_at(bytes: &[u8], at: u32) -> Result<(TokenKind, usize), LexFault>
     ensures ok { IfOk result (λ token. spec.symbol_at bytes.now ≡ Ok token) }

@@ -62,6 +62,7 @@ const SYMBOLS: [(&[u8], Symbol); 14] = [
     (b"<", Symbol::Less),
 ];
 
+/// The keyword of a table that a run of bytes spells.
 fn keyword_in(mut table: &[(&[u8], Keyword)], run: &[u8]) -> Option<Keyword>
     ensures { result ≡ keyword_in (map (λ k. (k.0.now, k.1)) table.entry.now) run.now }
 {
@@ -82,6 +83,7 @@ pub fn keyword(run: &[u8]) -> Option<Keyword>
     keyword_in(&KEYWORDS, run)
 }
 
+/// The first symbol of a table with which bytes begin, and its length.
 fn symbol_in(mut table: &[(&[u8], Symbol)], bytes: &[u8]) -> Option<(Symbol, usize)>
     ensures { result ≡ symbol_in (map (λ s. (s.0.now, s.1)) table.entry.now) bytes.now }
 {

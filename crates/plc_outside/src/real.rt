@@ -1,6 +1,7 @@
-// The edge to the system: its files, and any writer of std. What lies in a file, and what becomes
-// of the bytes that are written, no clause can say; what is proved is that each fault has a cause
-// and that no more is taken than was asked for. This module alone is trusted to do what it says.
+// The edge to the system: its files, and any writer of std. No contract can say what lies in a file,
+// or what becomes of the bytes that are written. What is proved is that each fault has a cause, and
+// that a read takes at most one byte more than was asked for. This module alone is trusted to do what
+// it says.
 ghost use Rattle.std.specs.Prelude.{◌≡◌, ◌≢◌, ◌≤◌, ◌<◌, ◌+◌};
 ghost use Rattle.std.specs.Prelude.{◌++◌, ℕ, Some, None, IfSome};
 ghost use Rattle.std.specs.Prelude.{List, [], IfOk, IfErr, OnOk, OnErr, IsErrOf, length, take, drop};
@@ -22,9 +23,10 @@ const BUFFER: usize = 4096;
 
 /// The files of the system, reached through the handle that `main` is given.
 ///
-/// It tells no content. A file that is not there and each error of the system is `Failed`, and adds
-/// the name to the list of failed reads; where that list cannot grow, or there is no room for the
-/// bytes, the answer is `Memory`. A read takes at most one byte more than was asked for.
+/// Proofs know no content of them. Where a file is not there, or the system answers an error, the read
+/// answers `Failed` and adds the name to the list of failed reads. Where that list cannot grow, or
+/// memory runs out for the bytes, it answers `Memory`. A read takes at most one byte more than was
+/// asked for.
 #[derive(Drop)]
 pub struct RealFiles<R: rt::Files + Drop> {
     alloc: Global,
@@ -57,14 +59,14 @@ impl<R: rt::Files + Drop> RealFiles<R> {
     }
 }
 
-/// Why a file was not read on: the system's error, or no room for what it would give.
+/// Why reading stopped before the end: an error of the system, or no memory for more bytes.
 enum Stop {
     Error,
     Memory,
 }
 
-/// Takes one more piece of a file, of at most `most` bytes, and answers how many there were. Room is
-/// made first, so that no byte is taken and lost.
+/// Reads the next piece of a file, of at most `most` bytes, and answers how many they were. Memory for
+/// them is asked for first, so that no byte is read and then lost.
 fn read_piece<R: Read>(file: &mut R, most: usize, bytes: &mut Vec<u8>) -> Result<usize, Stop>
     ensures bound { IfOk result (λ n. n ≤ most) }
     ensures count { IfOk result (λ n. length bytes.new.items ≡ length bytes.old.items + n) }
@@ -87,7 +89,7 @@ fn read_piece<R: Read>(file: &mut R, most: usize, bytes: &mut Vec<u8>) -> Result
     }
 }
 
-/// Reads to the end, but at most one byte more than `max`.
+/// Reads a file to its end, or only `max` + 1 bytes where it has more.
 fn read_start<R: Read>(file: &mut R, max: usize, bytes: &mut Vec<u8>) -> Result<(), Stop>
     requires { bytes.old.items ≡ [] }
     ensures bound { length bytes.new.items ≤ max + 1 }
@@ -102,7 +104,7 @@ fn read_start<R: Read>(file: &mut R, max: usize, bytes: &mut Vec<u8>) -> Result<
     Ok(())
 }
 
-/// The first bytes of a file, as far as `read_start` goes.
+/// Opens the file of a name and reads it to its end, or only `max` + 1 bytes where it has more.
 fn read_file<R: rt::Files>(
     host: &R,
     name: &str,
@@ -118,8 +120,8 @@ fn read_file<R: rt::Files>(
     }
 }
 
-/// The answer to a read of a name that took these bytes and came to this end. It is noted among the
-/// failed reads, or among those that gave bytes.
+/// The answer to a read of a name, which took these bytes and came to this end. A read that failed is
+/// noted in `failed`, and one that gives its bytes in `given`.
 fn answer(
     end: Result<(), Stop>,
     bytes: Vec<u8>,
@@ -175,10 +177,10 @@ impl<R: rt::Files + Drop> Files for RealFiles<R> {
     }
 }
 
-/// A sink over any writer of std, as the standard output.
+/// A sink over any writer of std, such as the standard output.
 ///
-/// Each error of the writer is `Failed` and raises the count, up to the last value of a `u64`, and
-/// so is a write that takes nothing of a piece with bytes. It never answers `Memory`.
+/// Where the writer answers an error, or takes nothing of a piece that has bytes, the sink answers
+/// `Failed` and counts a fault; the count stays at the last value of a `u64`. It never answers `Memory`.
 #[derive(Drop)]
 pub struct OutSink<W: Write + Drop> {
     out: W,
@@ -194,8 +196,8 @@ impl<W: Write + Drop> Model for OutSink<W> {
 }
 
 impl<W: Write + Drop> OutSink<W> {
-    /// A sink that writes to this writer. What was written begins as what the writer holds, which
-    /// the standard output does not tell.
+    /// A sink that writes to this writer. What the writer holds already counts as written; the standard
+    /// output does not tell what that is.
     pub fn new(out: W) -> OutSink<W>
         ensures { result ≡ record { written = W.contents out; faults = 0 } }
     {

@@ -1,4 +1,4 @@
-// The whole text of a sample, and the same without one line.
+// The text of a sample, whole or without one line.
 ghost use Rattle.std.specs.Prelude.{◌≡◌, ◌≤◌, ◌+◌, ◌++◌, IfOk, OnOk, length};
 ghost use Rattle.plc_base.specs.Limits.{largest_file, most_copies};
 ghost use Rattle.plc_sample.specs.Numbers.{sample_lines};
@@ -19,6 +19,7 @@ pub fn lines_of(copies: u32) -> u32
     44 * copies + 13
 }
 
+/// The text with so many copies of the operations, no line left out.
 fn whole_text(alloc: Global, copies: u8) -> Result<Vec<u8>, AllocError>
     ensures { IfOk result (λ text. text.items ≡ whole_text copies) }
 {
@@ -41,6 +42,7 @@ fn push_kept(out: &mut Vec<u8>, without: usize, line: usize, byte: u8) -> Result
     Ok(())
 }
 
+/// The text without one of its lines, counted from 1; whole where that is 0.
 fn without_line(alloc: Global, text: &[u8], without: usize) -> Result<Vec<u8>, AllocError>
     ensures { IfOk result (λ kept. kept.items ≡ without_from without 1 text.now) }
 {

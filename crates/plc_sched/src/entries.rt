@@ -25,6 +25,7 @@ const RETURN: &[u8] = b"return";
 
 const TICK: &[u8] = b"tick";
 
+/// Whether each byte goes on a name.
 fn is_all_in_name(word: &[u8]) -> bool
     ensures { result ≡ list_all in_name word.now }
 {
@@ -41,6 +42,7 @@ fn is_name(word: &[u8]) -> bool
     }
 }
 
+/// The start of an operation, from the words after `start`.
 fn read_start(alloc: Global, threads: u32, words: Words) -> Result<Option<Entry>, SchedFault>
     requires { 1 ≤ threads }
     ensures ok { IfOk result (IsEntryOf threads (codes "start" ∷ words_left words.entry)) }
@@ -73,6 +75,7 @@ fn address(words: Words) -> Option<Option<u32>>
     Some(Some(address))
 }
 
+/// A step of a thread, from the words after `step`.
 fn read_step(threads: u32, words: Words) -> Option<Entry>
     requires { 1 ≤ threads }
     ensures { IsEntryOf threads (codes "step" ∷ words_left words.entry) result }
@@ -87,6 +90,7 @@ fn read_step(threads: u32, words: Words) -> Option<Entry>
     })
 }
 
+/// The return of a thread, from the words after `return`.
 fn read_return(threads: u32, words: Words) -> Option<Entry>
     requires { 1 ≤ threads }
     ensures { IsEntryOf threads (codes "return" ∷ words_left words.entry) result }
@@ -95,6 +99,7 @@ fn read_return(threads: u32, words: Words) -> Option<Entry>
     Some(Entry::Return { t })
 }
 
+/// A tick, after whose kind no word stands.
 fn read_tick(words: Words) -> Option<Entry>
     ensures { (threads : ℕ) → IsEntryOf threads (codes "tick" ∷ words_left words.entry) result }
 {

@@ -2,7 +2,7 @@
 use Rattle.std.specs.Prelude.{◌==◌, ◌&&◌, not, ◌+◌, ℕ, Bool, true, false, if◌then◌else◌, List, [], ◌∷◌, ◌++◌, length}
 use Rattle.std.specs.Prelude.{slice_get, codes, Option, Some, None, Result, Ok, Err}
 use Rattle.std.specs.List.{list_any}
-use Rattle.plc_base.specs.Functions.{is_retire}
+use Rattle.plc_base.specs.Functions.{retire, is_retire}
 use Rattle.plc_base.specs.Limits.{most, most_names}
 use Rattle.plc_base.specs.Names.{NameList, place_of}
 use Rattle.plc_base.specs.declared.ids.FieldId.{FieldId}
@@ -34,7 +34,7 @@ abbrev pub ◌>>=◌ : {A B : Type 0} → Result A ParseFault → (A → Result 
 abbrev pub first_scope : Scope
 first_scope = record {
   names = record { names = codes "retire" ∷ []; limit = most_names };
-  bindings = Function (record { 0 = 0 }) true ∷ [];
+  bindings = Function retire true ∷ [];
   locals = [];
   labels = [];
 }

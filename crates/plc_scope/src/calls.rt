@@ -16,7 +16,7 @@ use plc_lang::Arg;
 
 /// A call of a reclaimer function: the function, its argument, and whether the argument is claimed to
 /// be active.
-#[derive(Clone, Copy, PartialEq, Eq)]
+#[derive(Clone, Copy)]
 pub struct Called {
     pub func: FuncId,
     pub arg: Arg,

@@ -61,6 +61,7 @@ fn pointer_test(
     }
 }
 
+/// The relation of data values that is written.
 fn data_relation(form: Relation) -> Rel
     ensures { result ≡ relation (relation_tree form) }
 {

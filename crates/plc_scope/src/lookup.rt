@@ -13,6 +13,7 @@ use crate::scope::Scope;
 use plc_base::{FieldId, FuncId};
 use plc_lang::{Local, Var};
 
+/// What a name is outside operations; `None` where it only names locals.
 fn role_outside(binding: Binding) -> Option<Role>
     ensures { result ≡ role_outside binding }
 {
@@ -48,6 +49,7 @@ fn role_inside(locals: &[Local], number: u16) -> Option<Role>
     None
 }
 
+/// What a local is, given how many pointers and how many data locals stand before it.
 fn local_role(local: Local, pointers: u16, values: u16) -> Role
     ensures { result ≡ (if local.pointer then Role.PointerVariable (Var.Local pointers) else Role.DataLocal values) }
 {
@@ -69,6 +71,7 @@ macro_rules! wanted {
 }
 
 impl Scope {
+    /// What the name with a number is in the present operation.
     fn role_at(&self, number: u16) -> Option<Role>
         requires { length self.now.locals ≤ most_locals }
         ensures { result ≡ role_at self.now (Some number) }
@@ -114,7 +117,8 @@ impl Scope {
         wanted! { self, name, at; Role::PointerVariable(variable) => variable }
     }
 
-    /// The reclaimer function, and whether it takes a pointer, with the same faults.
+    /// The reclaimer function that a name at a place is, and whether it takes a pointer; `Undeclared`, or
+    /// `WrongSort` for another thing.
     #[tactic(auto, unfolding(crate::specs::Scope::function_at))]
     pub fn function_at(&self, name: &[u8], at: u32) -> Result<(FuncId, bool), ParseFault>
         requires { length self.now.locals ≤ most_locals }
@@ -123,7 +127,8 @@ impl Scope {
         wanted! { self, name, at; Role::Function(function, takes_pointer) => (function, takes_pointer) }
     }
 
-    /// The auxiliary field, and whether it holds a thread, with the same faults.
+    /// The auxiliary field that a name at a place is, and whether it holds a thread; `Undeclared`, or
+    /// `WrongSort` for another thing.
     #[tactic(auto, unfolding(crate::specs::Scope::auxiliary_at))]
     pub fn auxiliary_at(&self, name: &[u8], at: u32) -> Result<(u16, bool), ParseFault>
         requires { length self.now.locals ≤ most_locals }
@@ -132,7 +137,7 @@ impl Scope {
         wanted! { self, name, at; Role::Auxiliary(field, of_threads) => (field, of_threads) }
     }
 
-    /// The data local that a name at a place is, with the same faults.
+    /// The data local that a name at a place is; `Undeclared`, or `WrongSort` for another thing.
     #[tactic(auto, unfolding(crate::specs::Scope::data_at))]
     pub fn data_at(&self, name: &[u8], at: u32) -> Result<u16, ParseFault>
         requires { length self.now.locals ≤ most_locals }
@@ -141,7 +146,8 @@ impl Scope {
         wanted! { self, name, at; Role::DataLocal(local) => local }
     }
 
-    /// The function that sets a hazard pointer: it takes a pointer and isn't `retire`; with the same faults.
+    /// The function that sets a hazard pointer: it takes a pointer and isn't `retire`; `Undeclared`, or
+    /// `WrongSort` for another thing.
     #[tactic(auto, unfolding(crate::specs::Scope::protecting_at))]
     pub fn protecting_at(&self, name: &[u8], at: u32) -> Result<FuncId, ParseFault>
         requires { length self.now.locals ≤ most_locals }
@@ -150,7 +156,7 @@ impl Scope {
         wanted! { self, name, at; Role::Function(function, true) if !function.is_retire() => function }
     }
 
-    /// The pointer field that a name at a place is, with the same faults.
+    /// The pointer field that a name at a place is; `Undeclared`, or `WrongSort` for another thing.
     #[tactic(auto, unfolding(crate::specs::Scope::pointer_field_at))]
     pub fn pointer_field_at(&self, name: &[u8], at: u32) -> Result<FieldId, ParseFault>
         requires { length self.now.locals ≤ most_locals }
@@ -159,7 +165,8 @@ impl Scope {
         wanted! { self, name, at; Role::PointerField(field) => field }
     }
 
-    /// The function that takes no pointer, such as those of an epoch; with the same faults.
+    /// The function that takes no pointer, such as those of an epoch; `Undeclared`, or `WrongSort` for
+    /// another thing.
     #[tactic(auto, unfolding(crate::specs::Scope::without_pointer_at))]
     pub fn without_pointer_at(&self, name: &[u8], at: u32) -> Result<FuncId, ParseFault>
         requires { length self.now.locals ≤ most_locals }
@@ -168,7 +175,7 @@ impl Scope {
         wanted! { self, name, at; Role::Function(function, false) => function }
     }
 
-    /// The data field that a name at a place is, with the same faults.
+    /// The data field that a name at a place is; `Undeclared`, or `WrongSort` for another thing.
     #[tactic(auto, unfolding(crate::specs::Scope::data_field_at))]
     pub fn data_field_at(&self, name: &[u8], at: u32) -> Result<FieldId, ParseFault>
         requires { length self.now.locals ≤ most_locals }
@@ -177,7 +184,7 @@ impl Scope {
         wanted! { self, name, at; Role::DataField(field) => field }
     }
 
-    /// The pointer local, with the same faults.
+    /// The pointer local that a name at a place is; `Undeclared`, or `WrongSort` for another thing.
     #[tactic(auto, unfolding(crate::specs::Scope::pointer_local_at))]
     pub fn pointer_local_at(&self, name: &[u8], at: u32) -> Result<u16, ParseFault>
         requires { length self.now.locals ≤ most_locals }
@@ -186,7 +193,8 @@ impl Scope {
         wanted! { self, name, at; Role::PointerVariable(Var::Local(local)) => local }
     }
 
-    /// The value of an auxiliary field, by its number, with the same faults.
+    /// The value that a name at a place is, of the auxiliary field with this number; `Undeclared`, or
+    /// `WrongSort` for another thing.
     #[tactic(auto, unfolding(crate::specs::Scope::value_at))]
     pub fn value_at(&self, field: u16, name: &[u8], at: u32) -> Result<u16, ParseFault>
         requires { length self.now.locals ≤ most_locals }

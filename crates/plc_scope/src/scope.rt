@@ -47,6 +47,7 @@ pub fn add_name(names: &mut Names, name: &[u8], at: u32) -> Result<u16, ParseFau
     }
 }
 
+/// Whether a local has the name with this number.
 fn has_local(locals: &[Local], number: u16) -> bool
     ensures { result ≡ has_local locals.now number }
 {
@@ -65,7 +66,7 @@ impl Scope {
             locals: Items::new(alloc),
             labels: Items::new(alloc),
         };
-        scope.declare(b"retire", 0, Binding::Function(FuncId(0), true))?;
+        scope.declare(b"retire", 0, Binding::Function(FuncId::RETIRE, true))?;
         Ok(scope)
     }
 
@@ -131,6 +132,7 @@ impl Scope {
         }
     }
 
+    /// Adds a local that has the name with this number.
     fn add_local(&mut self, name: u16, pointer: bool, param: bool) -> Result<(), ParseFault>
         ensures read { Gives (λ _. self.new) result (Ok (with_local self.old name pointer param)) }
         ensures err { OnErr result (self.new ≡ self.old) }
@@ -182,8 +184,8 @@ impl Scope {
         }
     }
 
-    /// Declares a parameter of the present operation, with the same faults; the name is judged
-    /// before the limit.
+    /// Declares a parameter of the present operation. `Duplicate` where the name is not new, but for a
+    /// local of another operation, and else `Limit` where the operation has as many locals as it may.
     #[tactic(auto, unfolding(crate::specs::Scope::declared_parameter))]
     pub fn declare_parameter(&mut self, name: &[u8], at: u32) -> Result<(), ParseFault>
         requires { HasRoomForLocals self.old }

@@ -16,7 +16,8 @@ use Rattle.plc_syntax.specs.declared.nesting.Braces.{Braces}
 use Rattle.plc_syntax.specs.Table.{after_expected, may_be_empty}
 use Rattle.plc_syntax.specs.Machine.{after_token, left_of, and_then}
 use Rattle.plc_syntax.specs.Syntax.{kinds, IsFile}
-use Rattle.plc_syntax.specs.Nesting.{is_open_brace, is_close_brace, HasCounted, TooDeepAt, NoneTooDeep, NoneTooDeepBefore, SyntaxFaultAt, NestingFaultAt}
+use Rattle.plc_syntax.specs.Nesting.{is_open_brace, is_close_brace, TooDeepAt, NoneTooDeep, NoneTooDeepBefore, SyntaxFaultAt, NestingFaultAt}
+use Rattle.plc_syntax.specs.Braces.{HasCounted}
 use Rattle.plc_syntax.proofs.Laws.{run_one}
 use Rattle.plc_syntax.proofs.Exact.{begins_part, begins_none, is_whole, is_no_whole}
 use Rattle.plc_syntax.proofs.Again.{file_read}

@@ -6,5 +6,6 @@ pub mod Syntax
 pub mod Trees
 -- what contracts say for the crates above alone, beside what a reader must believe
 pub mod Machine
--- words of private functions alone
 pub mod Table
+-- words of private functions alone
+pub mod Braces

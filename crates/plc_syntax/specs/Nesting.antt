@@ -9,7 +9,6 @@ use Rattle.plc_lex.specs.declared.token.TokenKind.{TokenKind}
 use Rattle.plc_lex.specs.declared.token.TokenKind.TheVariants.{Word, Symbol}
 use Rattle.plc_lex.specs.declared.token.Keyword.TheVariants.{Atomic}
 use Rattle.plc_lex.specs.declared.token.Symbol.TheVariants.{OpenBrace, CloseBrace}
-use Rattle.plc_syntax.specs.declared.nesting.Braces.{Braces}
 use Rattle.plc_syntax.specs.Syntax.{BeginsFile, FaultAt}
 
 -- how many blocks may stand within one another
@@ -29,11 +28,6 @@ is_close_brace _ = false
 -- how many braces tokens leave open
 abbrev pub open_braces : List TokenKind → ℕ
 open_braces ts = count_by is_open_brace ts - count_by is_close_brace ts
-
--- the braces are counted: these are as many of each as the tokens have
-pub record HasCounted (braces : Braces) (ts : List TokenKind) : Type 0 where
-  pub opened : braces.opened ≡ count_by is_open_brace ts
-  pub closed : braces.closed ≡ count_by is_close_brace ts
 
 -- a block begins at a place: its token is a brace and isn't that of an `atomic`
 pub record OpensBlockAt (ts : List TokenKind) (place : ℕ) : Type 0 where

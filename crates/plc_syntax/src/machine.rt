@@ -35,6 +35,7 @@ pub fn advance(stack: &mut Vec<Expected>, kind: &TokenKind) -> Result<bool, Allo
     Ok(false)
 }
 
+/// Puts a row on the stack, so that its first item comes next.
 fn push_row(stack: &mut Vec<Expected>, row: &[Expected]) -> Result<(), AllocError>
     ensures { OnOk result (stack.new.items ≡ stack.old.items ++ reverse row.now) }
 {

@@ -2,7 +2,8 @@
 // could be read off the machine's stack too, but then the limit would be stated of the machine.
 ghost use Rattle.std.specs.Prelude.{◌≡◌, ◌+◌, ◌-◌, ◌<◌, ◌^◌, ◌↔◌, ◌∷◌, [], IsTrue, length, take};
 ghost use Rattle.std.specs.List.{count_by};
-ghost use Rattle.plc_syntax.specs.Nesting.{is_open_brace, is_close_brace, HasCounted, OpensBlockAt, TooDeepAt};
+ghost use Rattle.plc_syntax.specs.Nesting.{is_open_brace, is_close_brace, OpensBlockAt, TooDeepAt};
+ghost use Rattle.plc_syntax.specs.Braces.{HasCounted};
 ghost use Rattle.plc_syntax.specs.Syntax.{kinds};
 
 use plc_base::What1;
@@ -41,6 +42,7 @@ impl Braces {
         }
     }
 
+    /// How many of the braces that are opened aren't closed.
     fn open(&self) -> u32
         ensures { result ≡ self.now.opened - self.now.closed }
     {
@@ -58,6 +60,7 @@ pub fn is_too_deep(tokens: &[Token], place: usize, before: &Braces) -> bool
     before.open() > What1::Nesting.most() && opens_block(tokens, place)
 }
 
+/// Whether the token at a place is the brace that begins a block, and not that of an `atomic`.
 fn opens_block(tokens: &[Token], place: usize) -> bool
     requires { place < length tokens.now }
     ensures { IsTrue result ↔ OpensBlockAt (kinds tokens.now) place }
@@ -65,12 +68,14 @@ fn opens_block(tokens: &[Token], place: usize) -> bool
     is_open_brace(&tokens[place]) && !(place > 0 && is_atomic(&tokens[place - 1]))
 }
 
+/// Whether a token is `{`.
 fn is_open_brace(token: &Token) -> bool
     ensures { IsTrue result ↔ (token.now.kind ≡ TokenKind.Symbol Symbol.OpenBrace) }
 {
     matches!(token.kind, TokenKind::Symbol(Symbol::OpenBrace))
 }
 
+/// Whether a token is the word `atomic`.
 fn is_atomic(token: &Token) -> bool
     ensures { IsTrue result ↔ (token.now.kind ≡ TokenKind.Word Keyword.Atomic) }
 {

@@ -57,6 +57,7 @@ pub fn after_expected(expected: Expected, kind: &TokenKind) -> Option<&'static [
     }
 }
 
+/// The row of a token that fits, after which nothing is to come.
 fn nothing_if(fits: bool) -> Option<&'static [Expected]>
     ensures { MatchOption result (fits ≡ false) (λ row. (fits ≡ true) × (row.now ≡ [])) }
 {
@@ -99,6 +100,7 @@ pub fn may_be_empty(expected: Expected) -> bool
     )
 }
 
+/// The row of a part for a token, or `None` where the part can't begin with the token.
 fn after_part(part: Part, kind: &TokenKind) -> Option<&'static [Expected]>
     ensures { IsRow result (after_part part kind.now) }
 {

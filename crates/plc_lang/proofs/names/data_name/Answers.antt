@@ -2,7 +2,7 @@ use Rattle.std.proofs.Common.{option_map, sym, ap, ◌∙◌}
 use Rattle.plc_lang.specs.declared.syntax.Local.{Local}
 use Rattle.plc_lang.specs.Locals.{is_data}
 use Rattle.plc_lang.specs.Names.{name_of}
-use Rattle.plc_lang.specs.Numbering.{local_at}
+use Rattle.plc_lang.specs.Lookup.{local_at}
 use Rattle.plc_lang.proofs.Numbers.{local_of_place}
 use Rattle.plc_lang.proofs.names.data_name.Goals as goal
 
