@@ -77,6 +77,12 @@ pub data HeadTree : Type 0 where
   OverHead : Text → HeadTree
   AtHead : Text → HeadTree
 
+-- how many tokens the beginning of an item has
+abbrev pub head_size : HeadTree → ℕ
+head_size InvariantHead = 1
+head_size (OverHead name) = 3
+head_size (AtHead name) = 2
+
 abbrev pub item_head_of : List TokenKind → Option (HeadTree × List TokenKind)
 item_head_of (Word Inv ∷ rest) = Some (InvariantHead, rest)
 item_head_of (Word Over ∷ rest) = read_as OverHead (name_symbol_of Colon rest)

@@ -6,8 +6,8 @@ pub mod Outlines
 pub mod Answers
 pub mod Fit
 -- what contracts say for the crates above alone, beside what a reader must believe
+pub mod Forms
 pub mod Reading
 pub mod Views
 -- words of private functions alone
-pub mod Forms
 pub mod Context

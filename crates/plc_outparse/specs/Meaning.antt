@@ -6,6 +6,7 @@ use Rattle.std.specs.Prelude.{Some, None, Result, Ok, Err}
 use Rattle.std.specs.List.{position_from}
 use Rattle.plc_base.specs.Names.{NameList, place_of}
 use Rattle.plc_base.specs.declared.limits.What1.TheVariants as limits
+use Rattle.plc_base.specs.Limits.{most_bound}
 use Rattle.plc_lang.specs.declared.syntax.Local.{Local}
 use Rattle.plc_lang.specs.declared.syntax.Op.{Op}
 use Rattle.plc_lang.specs.Locals.{locals_of}
@@ -120,9 +121,9 @@ literal_step r s l = do
 
 -- ---- clauses
 
--- no quantified names, of which there are at most two
+-- no quantified names yet
 abbrev pub none_bound : NameList
-none_bound = record { names = []; limit = 2 }
+none_bound = record { names = []; limit = most_bound }
 
 -- a name that has no declaration in reach
 abbrev pub if_free : {A : Type 0} → ℕ → Option Kind → Result A ParseFault → Result A ParseFault

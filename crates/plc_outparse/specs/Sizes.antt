@@ -3,7 +3,6 @@ use Rattle.std.specs.Prelude.{ℕ, ◌+◌, Option, Some, None}
 use Rattle.plc_syntax.specs.Trees.{TermTree, PlaceTerm, NullTerm, NumberTerm, MeTerm, NoneTerm, LiteralTree}
 use Rattle.plc_syntax.specs.Trees.{FlagLiteral, NotLiteral, EqualityLiteral, BoundTree, NoBound, AllOf}
 use Rattle.plc_forms.specs.Sizes.{place_size}
-use Rattle.plc_outparse.specs.Forms.{HeadTree, InvariantHead, OverHead, AtHead}
 
 -- a side of an equation
 abbrev pub term_size : TermTree → ℕ
@@ -29,9 +28,3 @@ bound_size (AllOf n (Some m)) = 5
 abbrev pub depth_size : Option ℕ → ℕ
 depth_size None = 0
 depth_size (Some n) = 3
-
--- how an item begins
-abbrev pub head_size : HeadTree → ℕ
-head_size InvariantHead = 1
-head_size (OverHead name) = 3
-head_size (AtHead name) = 2

@@ -1,5 +1,5 @@
 // Clauses: their quantified names, which differ from all names in reach, and their literals.
-ghost use Rattle.std.specs.Prelude.{◌+◌, ◌<◌, ◌≤◌, ◌^◌, Result, IfOk, length};
+ghost use Rattle.std.specs.Prelude.{◌≡◌, ◌+◌, ◌<◌, ◌≤◌, ◌^◌, Result, [], IfOk, length};
 ghost use Rattle.plc_base.specs.Names.{place_of};
 ghost use Rattle.plc_forms.specs.Views.{text_or_none};
 ghost use Rattle.plc_logic.specs.declared.clause.Literal.{Literal};
@@ -8,7 +8,8 @@ ghost use Rattle.plc_scope.specs.Answers.{Gives, Within};
 ghost use Rattle.plc_scope.specs.Scope.{most_locals, if_new, with_last};
 ghost use Rattle.plc_outparse.specs.Context.{HasRoomForBound};
 ghost use Rattle.plc_scope.specs.Limits.{stands_at};
-ghost use Rattle.plc_outparse.specs.Meaning.{counted, literal_step, bound_with, second_bound, bound_means};
+ghost use Rattle.plc_outparse.specs.Meaning.{counted, literal_step, none_bound, bound_with, second_bound};
+ghost use Rattle.plc_outparse.specs.Meaning.{bound_means};
 ghost use Rattle.plc_outparse.specs.Reading.{literals_in, all_literals_in, clause_line_in};
 ghost use Rattle.plc_outparse.specs.Sizes.{literal_size, bound_size};
 ghost use Rattle.plc_outparse.specs.Views.{literal_tree, quantified_tree, reach_of, read_with, kinds_left};
@@ -75,26 +76,25 @@ fn bind_second(
     }
 }
 
-/// The quantified names of a clause.
+/// The quantified names of a clause, put where there is none yet.
 #[tactic(auto, unfolding(crate::specs::Meaning::bound_means))]
-fn quantified(
-    alloc: Global,
+fn bind_all(
     scope: &Scope,
     locals: &[Local],
+    bound: &mut Names,
     at: u32,
     form: Quantified,
-) -> Result<Names, ParseFault>
+) -> Result<(), ParseFault>
     requires locals { length locals.now ≤ most_locals }
+    requires none { bound.old ≡ none_bound }
     requires place { at + bound_size (quantified_tree form) < 2 ^ 32 }
-    ensures { Gives (λ bound. bound) result (bound_means scope.now locals.now at (quantified_tree form.entry)) }
+    ensures { Gives (λ _. bound.new) result (bound_means scope.now locals.now at (quantified_tree form.entry)) }
 {
-    let mut bound = Names::new(alloc, MOST_BOUND);
     match form {
-        Quantified::None => Ok(bound),
+        Quantified::None => Ok(()),
         Quantified::All(first, second) => {
-            bind(scope, locals, &mut bound, at + 1, first)?;
-            bind_second(scope, locals, &mut bound, at + 3, second)?;
-            Ok(bound)
+            bind(scope, locals, bound, at + 1, first)?;
+            bind_second(scope, locals, bound, at + 3, second)
         }
     }
 }
@@ -157,25 +157,60 @@ fn read_further_literals<'a>(
     Err(ParseFault::Syntax { at: rest.at })
 }
 
-/// All literals of a clause.
+/// All literals of a clause, put where there is none yet.
 #[tactic(auto, unfolding(crate::specs::Reading::all_literals_in))]
-fn read_literals<'a>(alloc: Global, reach: &Reach, start: Rest<'a>) -> Parsed<'a, Items<Literal>>
-    requires { length reach.now.locals.now ≤ most_locals }
-    ensures read { Gives (λ r. read_with r.0 r.1) result
+fn read_literals<'a>(
+    reach: &Reach,
+    literals: &mut Items<Literal>,
+    start: Rest<'a>,
+) -> Result<Rest<'a>, ParseFault>
+    requires locals { length reach.now.locals.now ≤ most_locals }
+    requires none { literals.old ≡ [] }
+    ensures read { Gives (read_with literals.new) result
         (all_literals_in (reach_of reach.now) start.entry.at (kinds_left start.entry)) }
-    ensures place { IfOk result (λ r. Within start.entry r.1) }
+    ensures place { IfOk result (λ r. Within start.entry r) }
 {
     let Some((form, after)) = literal_at(start) else {
         return Err(ParseFault::Syntax { at: start.at });
     };
-    let mut literals = Items::new(alloc);
     literals.push(literal(reach, start.at, form)?)?;
-    let rest = read_further_literals(reach, &mut literals, after)?;
-    Ok((literals, rest))
+    read_further_literals(reach, literals, after)
+}
+
+/// The quantified names of a clause, its literals and its semicolon, put into a clause that has none yet.
+#[tactic(auto, unfolding(crate::specs::Reading::clause_in, crate::specs::Reading::clause_line_in))]
+fn read_into<'a>(
+    scope: &Scope,
+    locals: &[Local],
+    in_operation: bool,
+    clause: &mut Clause,
+    start: Rest<'a>,
+) -> Result<Rest<'a>, ParseFault>
+    requires locals { length locals.now ≤ most_locals }
+    requires bound { clause.old.bound ≡ none_bound }
+    requires literals { clause.old.literals ≡ [] }
+    ensures read { Gives (read_with clause.new) result
+        (clause_line_in scope.now locals.now in_operation start.entry.at (kinds_left start.entry)) }
+    ensures place { IfOk result (λ r. Within start.entry r) }
+{
+    let Some((form, after)) = quantified_at(start) else {
+        return Err(ParseFault::Syntax { at: start.at });
+    };
+    bind_all(scope, locals, &mut clause.bound, start.at, form)?;
+    let reach = Reach {
+        scope,
+        locals,
+        in_operation,
+        bound: &clause.bound,
+    };
+    let rest = read_literals(&reach, &mut clause.literals, after)?;
+    match semicolon_at(rest) {
+        Some(end) => Ok(end),
+        None => Err(ParseFault::Syntax { at: rest.at }),
+    }
 }
 
 /// A clause and its semicolon, in an operation with these locals or in an invariant.
-#[tactic(auto, unfolding(crate::specs::Reading::clause_in, crate::specs::Reading::clause_line_in))]
 pub fn read_clause_line<'a>(
     alloc: Global,
     scope: &Scope,
@@ -188,19 +223,12 @@ pub fn read_clause_line<'a>(
         (clause_line_in scope.now locals.now in_operation start.entry.at (kinds_left start.entry)) }
     ensures place { IfOk result (λ r. Within start.entry r.1) }
 {
-    let Some((form, after)) = quantified_at(start) else {
-        return Err(ParseFault::Syntax { at: start.at });
+    let mut clause = Clause {
+        bound: Names::new(alloc, MOST_BOUND),
+        literals: Items::new(alloc),
     };
-    let bound = quantified(alloc, scope, locals, start.at, form)?;
-    let reach = Reach {
-        scope,
-        locals,
-        in_operation,
-        bound: &bound,
-    };
-    let (literals, rest) = read_literals(alloc, &reach, after)?;
-    match semicolon_at(rest) {
-        Some(end) => Ok((Clause { bound, literals }, end)),
-        None => Err(ParseFault::Syntax { at: rest.at }),
+    match read_into(scope, locals, in_operation, &mut clause, start) {
+        Ok(rest) => Ok((clause, rest)),
+        Err(fault) => Err(fault),
     }
 }

@@ -5,8 +5,8 @@ ghost use Rattle.plc_base.specs.Limits.{most};
 ghost use Rattle.plc_base.specs.declared.limits.What1.TheVariants as limits;
 ghost use Rattle.plc_scope.specs.Answers.{Gives, Within};
 ghost use Rattle.plc_outparse.specs.Context.{IsWithinLimits};
+ghost use Rattle.plc_outparse.specs.Forms.{head_size};
 ghost use Rattle.plc_outparse.specs.Reading.{invariant_in, over_in, at_in, item_in, items_in};
-ghost use Rattle.plc_outparse.specs.Sizes.{head_size};
 ghost use Rattle.plc_outparse.specs.Views.{head_tree, parts_at, parts_with, kinds_left};
 
 use crate::clause::read_clause_line;

@@ -1,8 +1,9 @@
 // How items and the outline begin, and what stands between their parts.
 ghost use Rattle.std.specs.Prelude.{◌-◌, Some, None};
 ghost use Rattle.plc_forms.specs.Views.{Passes, Reads};
-ghost use Rattle.plc_outparse.specs.Forms.{item_head_of, colon_of, outline_head_of, number_line_of, depth_of};
-ghost use Rattle.plc_outparse.specs.Sizes.{head_size, depth_size};
+ghost use Rattle.plc_outparse.specs.Forms.{item_head_of, head_size, colon_of, outline_head_of, number_line_of};
+ghost use Rattle.plc_outparse.specs.Forms.{depth_of};
+ghost use Rattle.plc_outparse.specs.Sizes.{depth_size};
 ghost use Rattle.plc_outparse.specs.Views.{head_tree};
 
 use crate::form::Head;
@@ -16,13 +17,15 @@ pub fn head_at<'a>(rest: Rest<'a>) -> Option<(Head<'a>, Rest<'a>)>
     match first(rest) {
         Some((TokenKind::Word(Keyword::Inv), after)) => Some((Head::Invariant, after)),
         Some((TokenKind::Word(Keyword::Over), after)) => {
-            let (name, after) = name_symbol_at(after, Symbol::Colon)?;
-            Some((Head::Over(name), after))
+            match name_symbol_at(after, Symbol::Colon) {
+                Some((name, after)) => Some((Head::Over(name), after)),
+                None => None,
+            }
         }
-        Some((TokenKind::Word(Keyword::At), after)) => {
-            let (name, after) = name_at(after)?;
-            Some((Head::At(name), after))
-        }
+        Some((TokenKind::Word(Keyword::At), after)) => match name_at(after) {
+            Some((name, after)) => Some((Head::At(name), after)),
+            None => None,
+        },
         _ => None,
     }
 }
@@ -46,10 +49,10 @@ fn number_line_at<'a>(rest: Rest<'a>) -> Option<(Option<u32>, Rest<'a>)>
     ensures { Reads number_line_of (λ x. x) (λ t. depth_size t - 1) rest.entry result }
 {
     match first(rest) {
-        Some((TokenKind::Number(n), after)) => {
-            let after = symbol_at(after, Symbol::Semicolon)?;
-            Some((Some(*n), after))
-        }
+        Some((TokenKind::Number(n), after)) => match symbol_at(after, Symbol::Semicolon) {
+            Some(after) => Some((Some(*n), after)),
+            None => None,
+        },
         _ => None,
     }
 }

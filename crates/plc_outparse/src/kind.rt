@@ -3,7 +3,7 @@ use plc_base::FieldId;
 use plc_logic::{Base, Sort};
 
 /// What a name is in a clause.
-#[derive(Clone, Copy, PartialEq, Eq)]
+#[derive(Clone, Copy)]
 pub enum Kind {
     /// A shared pointer, a pointer local or a quantified name.
     Node(Base),

@@ -24,10 +24,10 @@ fn side_at<'a>(rest: Rest<'a>) -> Option<(Side<'a>, Rest<'a>)>
         Some((TokenKind::Word(Keyword::Me), after)) => Some((Side::Me, after)),
         Some((TokenKind::Word(Keyword::None), after)) => Some((Side::None, after)),
         Some((TokenKind::Number(n), after)) => Some((Side::Number(*n), after)),
-        _ => {
-            let (place, after) = place_at(rest)?;
-            Some((Side::Place(place), after))
-        }
+        _ => match place_at(rest) {
+            Some((place, after)) => Some((Side::Place(place), after)),
+            None => None,
+        },
     }
 }
 
@@ -65,14 +65,14 @@ pub fn literal_at<'a>(rest: Rest<'a>) -> Option<(LiteralForm<'a>, Rest<'a>)>
     ensures { Reads literal_of literal_tree literal_size rest.entry result }
 {
     match first(rest) {
-        Some((TokenKind::Word(Keyword::Not), after)) => {
-            let (name, after) = flag_at(after)?;
-            Some((LiteralForm::NotRetired(name), after))
-        }
-        Some((TokenKind::Word(Keyword::Retired), _)) => {
-            let (name, after) = flag_at(rest)?;
-            Some((LiteralForm::Retired(name), after))
-        }
+        Some((TokenKind::Word(Keyword::Not), after)) => match flag_at(after) {
+            Some((name, after)) => Some((LiteralForm::NotRetired(name), after)),
+            None => None,
+        },
+        Some((TokenKind::Word(Keyword::Retired), _)) => match flag_at(rest) {
+            Some((name, after)) => Some((LiteralForm::Retired(name), after)),
+            None => None,
+        },
         _ => equation_at(rest),
     }
 }

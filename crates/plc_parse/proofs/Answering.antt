@@ -9,8 +9,8 @@ use Rattle.plc_scope.specs.declared.fault.ParseFault.{ParseFault}
 use Rattle.plc_scope.specs.declared.fault.ParseFault.TheVariants as faults
 use Rattle.plc_parse.specs.declared.unit.Unit.{Unit as FileUnit}
 use Rattle.plc_scope.specs.Answers.{Gives}
-use Rattle.plc_parse.specs.Reading.{file_in}
-use Rattle.plc_parse.specs.Units.{lines_of, Means, IsUnitOf, IsFaultOf, no_unit, no_memory, IsShallowFile, UnitsAreUnique}
+use Rattle.plc_parse.specs.Reading.{file_in, IsShallowFile}
+use Rattle.plc_parse.specs.Units.{lines_of, Means, IsUnitOf, IsFaultOf, no_unit, no_memory, UnitsAreUnique}
 use Rattle.plc_parse.specs.Fit.{ObserverFits, UnitFits, UnitsFit}
 use Rattle.plc_parse.proofs.Law.{file_read}
 use Rattle.plc_parse.proofs.Naming.{file_named}

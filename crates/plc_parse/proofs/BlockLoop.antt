@@ -36,10 +36,6 @@ ahead_all (k ∷ ks) = ap (Then k.line (statement_of k.stmt)) (ahead_all ks)
 abbrev pub lines_before : List Line → ReadTo (Statements × Scope × ℕ) → ReadTo (Statements × Scope × ℕ)
 lines_before ls r = r >>= λ b. Ok ((ahead ls b.0.0, b.0.1, b.0.2), b.1)
 
-pub no_line_before : (r : ReadTo (Statements × Scope × ℕ)) → lines_before [] r ≡ r
-no_line_before (Ok b) = refl
-no_line_before (Err e) = refl
-
 module _ (lines : List ℕ) (in_loop : Bool) where
   block_goes : (k n : ℕ) (s : Scope) (at : ℕ) (ts : List TokenKind) → k ≡ suc n → closing_of ts ≡ None → block_in lines k s in_loop at ts ≡ statements_in lines (block_in lines n) n s in_loop at ts
   unfolding block_in

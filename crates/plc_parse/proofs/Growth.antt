@@ -1,20 +1,16 @@
 -- What was declared before and what is declared next.
-use Rattle.std.proofs.Common.{◌≡◌, ◌⊎◌, inl, inr, ◌+◌, ◌≤◌, ◌<◌, ℕ, zero, suc, Bool, List, [], ◌∷◌, ◌++◌, length, slice_get, Option, Some, None, Ok, ◌∙◌, refl, ap, subst, arith}
+use Rattle.std.proofs.Common.{◌≡◌, ◌⊎◌, inl, inr, ◌+◌, ◌≤◌, ◌<◌, ℕ, zero, suc, Bool, List, [], ◌∷◌, ◌++◌, length, slice_get, Option, Some, None, Ok, ◌∙◌, refl, ap, arith}
 use Rattle.std.proofs.lemmas.List.{length-append}
-use Rattle.plc_base.specs.Limits.{most}
-use Rattle.plc_base.specs.declared.limits.What1.TheVariants as limits
 use Rattle.plc_base.specs.Names.{place_of}
-use Rattle.plc_lang.specs.declared.syntax.Op.{Op}
 use Rattle.plc_forms.specs.declared.rest.Rest.{Rest}
 use Rattle.plc_forms.specs.Views.{After}
 use Rattle.plc_syntax.specs.Trees.{Text}
 use Rattle.plc_scope.specs.declared.scope.Scope.{Scope}
 use Rattle.plc_scope.specs.declared.binding.Binding.{Binding}
 use Rattle.plc_scope.specs.declared.binding.Binding.TheVariants.{Taken}
-use Rattle.plc_scope.specs.Scope.{◌>>=◌, if_new, with_name, with_label, declared, declared_label, declared_local, declared_parameter, most_locals}
+use Rattle.plc_scope.specs.Scope.{◌>>=◌, if_new, with_name, with_label, declared, declared_label, declared_local, declared_parameter}
 use Rattle.plc_scope.specs.Answers.{GrowsBy, HasRoomForLocals, GrowsByLocals, Within}
-use Rattle.plc_outparse.specs.Answers.{OpsFit}
-use Rattle.plc_parse.specs.Growth.{most_labels, IsLeftOf, KeepsLists, CanLabel, GrowsByLabels, GrowsByOps}
+use Rattle.plc_parse.specs.Growth.{most_labels, KeepsLists, CanLabel, GrowsByLabels, GrowsByOps}
 use Rattle.plc_scope.proofs.Holds.{has_along}
 use Rattle.plc_parse.proofs.Fits.{Few, parameter_few, local_few}
 
@@ -71,22 +67,9 @@ locals_then a b c g h = record { locals = h.locals; names = omega (arith, g.name
 pub within_then : (a b c : Rest) (n : ℕ) → Within a b → After b n c → Within a c
 within_then a b c n w h = record { end = omega (arith, w.end, h.at, h.tokens) }
 
-pub left_then : (total : ℕ) (b c : Rest) (n : ℕ) → IsLeftOf total b → After b n c → IsLeftOf total c
-left_then total b c n w h = record { end = omega (arith, w.end, h.at, h.tokens) }
-
 -- what is in a list with one more is in the list, or is the one more
 pub from_last : {A : Type 0} (xs : List A) (y : A) (i : ℕ) (x : A) → slice_get (xs ++ y ∷ []) i ≡ Some x → (slice_get xs i ≡ Some x) ⊎ ((i ≡ length xs) × (y ≡ x))
 from_last [] y zero x e = inr (refl, cc)
 from_last [] y (suc i) x e = absurd cc
 from_last (z ∷ xs) y zero x e = inl e
 from_last (z ∷ xs) y (suc i) x e = elim (from_last xs y i x e) [ inl h ↦ inl h | inr h ↦ inr (ap suc h.0, h.1) ]
-
--- one operation more
-pub one_more_fits : (ops : List Op) (o : Op) → OpsFit ops → length ops < most limits.Ops → length o.locals ≤ most_locals → OpsFit (ops ++ o ∷ [])
-one_more_fits ops o h less few = record {
-  count = omega (arith, length-append ops (o ∷ []));
-  locals = λ k p e. elim (from_last ops o k p e) [
-    | inl there ↦ h.locals k p there
-    | inr last ↦ subst (λ (q : Op). length q.locals ≤ most_locals) last.1 few
-  ];
-}

@@ -16,7 +16,8 @@ use Rattle.plc_lang.specs.Statements.{Statement, Atomic, Call, If, Choose, Loop,
 use Rattle.plc_lang.specs.Statements.{Empty, Then, Blocks, NoBlock, And}
 use Rattle.plc_auto.specs.declared.observer.Observer.{Observer}
 use Rattle.plc_auto.specs.declared.observer.Observer.TheVariants.{Plain}
-use Rattle.plc_syntax.specs.Syntax.{kinds}
+use Rattle.plc_syntax.specs.Syntax.{kinds, IsFile}
+use Rattle.plc_syntax.specs.Nesting.{NoneTooDeep}
 use Rattle.plc_forms.specs.declared.rest.Rest.{Rest}
 use Rattle.plc_forms.specs.Views.{After}
 use Rattle.plc_scope.specs.Answers.{Gives}
@@ -456,10 +457,19 @@ body_in lines s at ts = do
 abbrev pub unit_from : FrontParts → List Op × Outline × Scope → FileUnit
 unit_from f b = record { file = file_from f.0 f.1 f.2 f.4 f.5 b.0 b.2; observer = f.3; outline = b.1 }
 
+-- the parts of a file after its struct's name, as its unit
+abbrev pub parts_in : List ℕ → Scope → ℕ → List TokenKind → Result FileUnit ParseFault
+parts_in lines s at ts = do
+  f ← front_in s at ts
+  b ← body_in lines f.0.1 f.0.2 f.1
+  Ok (unit_from f.0.0 b)
+
 -- the parts of a file in order
 unfoldable pub file_in : List ℕ → List TokenKind → Result FileUnit ParseFault
 file_in lines ts = do
   s ← struct_in ts
-  f ← front_in s.0.0 s.0.1 s.1
-  b ← body_in lines f.0.1 f.0.2 f.1
-  Ok (unit_from f.0.0 b)
+  parts_in lines s.0.0 s.0.1 s.1
+
+-- the tokens are a file's, in which no block stands too deep
+abbrev pub IsShallowFile : List TokenKind → Type 0
+IsShallowFile ts = IsFile ts × NoneTooDeep ts

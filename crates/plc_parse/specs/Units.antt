@@ -1,11 +1,10 @@
 -- Which unit tokens spell, and what else they are answered with.
 use Rattle.std.specs.Prelude.{◌≡◌, ◌≢◌, ◌+◌, ℕ, List, map, Result, Ok, Err}
 use Rattle.plc_lex.specs.declared.token.Token.{Token}
-use Rattle.plc_lex.specs.declared.token.TokenKind.{TokenKind}
 use Rattle.plc_base.specs.declared.limits.What1.TheVariants as limits
 use Rattle.plc_base.specs.Limits.{most}
 use Rattle.plc_syntax.specs.Trees.{FileTree, file_tokens}
-use Rattle.plc_syntax.specs.Syntax.{kinds, IsFile}
+use Rattle.plc_syntax.specs.Syntax.{kinds}
 use Rattle.plc_syntax.specs.Nesting.{NoneTooDeep, SyntaxFaultAt, NestingFaultAt}
 use Rattle.plc_scope.specs.declared.fault.ParseFault.{ParseFault}
 use Rattle.plc_scope.specs.declared.fault.ParseFault.TheVariants as faults
@@ -22,11 +21,7 @@ pub record Means (ts : List Token) (meaning : Result FileUnit ParseFault) : Type
   pub tokens : file_tokens tree ≡ kinds ts
   pub is : file_means (lines_of ts) tree ≡ meaning
 
--- the tokens are a file's, in which no block stands too deep
-abbrev pub IsShallowFile : List TokenKind → Type 0
-IsShallowFile ts = IsFile ts × NoneTooDeep ts
-
--- the same, and they mean this
+-- no block stands too deep among the tokens, which are those of a tree with this meaning
 pub record AreRead (ts : List Token) (meaning : Result FileUnit ParseFault) : Type 0 where
   pub shallow : NoneTooDeep (kinds ts)
   pub means : Means ts meaning

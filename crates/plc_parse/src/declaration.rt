@@ -74,12 +74,7 @@ impl Listed for Fields {
 
     ghost kind = { fields };
 
-    fn next<'a>(
-        _alloc: Global,
-        scope: &mut Scope,
-        count: usize,
-        start: Rest<'a>,
-    ) -> Turn<'a, Field> {
+    fn next<'a>(_: Global, scope: &mut Scope, count: usize, start: Rest<'a>) -> Turn<'a, Field> {
         let Some((declaration, after)) = declaration_at(start) else {
             return Ok(None);
         };
@@ -111,7 +106,7 @@ impl Listed for SharedPointers {
 
     ghost kind = { shared_pointers };
 
-    fn next<'a>(_alloc: Global, scope: &mut Scope, count: usize, start: Rest<'a>) -> Turn<'a, u16> {
+    fn next<'a>(_: Global, scope: &mut Scope, count: usize, start: Rest<'a>) -> Turn<'a, u16> {
         let Some((name, after)) = shared_at(start) else {
             return Ok(None);
         };
@@ -152,12 +147,7 @@ impl Listed for Functions {
 
     ghost kind = { functions };
 
-    fn next<'a>(
-        _alloc: Global,
-        scope: &mut Scope,
-        count: usize,
-        start: Rest<'a>,
-    ) -> Turn<'a, Func> {
+    fn next<'a>(_: Global, scope: &mut Scope, count: usize, start: Rest<'a>) -> Turn<'a, Func> {
         let Some((function, after)) = function_at(start) else {
             return Ok(None);
         };

@@ -1,7 +1,6 @@
 // The two passes. The first knows the grammar and no names; the second reads the forms again, where
 // they can stand in no other order, and looks each name up where it stands.
-ghost use Rattle.std.specs.Prelude.{◌≡◌, ◌≤◌, ◌<◌, ◌^◌, ◌+◌, ◌-◌, ◌*◌, ◌∷◌, Some, Ok, [], true, length, IfOk};
-ghost use Rattle.std.specs.Prelude.{IfErr};
+ghost use Rattle.std.specs.Prelude.{◌≡◌, ◌≤◌, ◌<◌, ◌^◌, ◌+◌, ◌-◌, ◌*◌, ◌∷◌, Some, Ok, [], true, length, IfOk, IfErr};
 ghost use Rattle.plc_base.specs.Limits.{most, most_names};
 ghost use Rattle.plc_lang.specs.Fit.{FileFits, NamesWhatIsThere};
 ghost use Rattle.plc_lang.specs.WellSorted.{FileIsWellSorted};
@@ -18,9 +17,9 @@ ghost use Rattle.plc_parse.specs.Meaning.{retire, watch_means};
 ghost use Rattle.plc_logic.specs.Fit.{OutlineFits};
 ghost use Rattle.plc_outparse.specs.Answers.{OpsFit};
 ghost use Rattle.plc_parse.specs.Reading.{struct_in, declarations_in, watch_in, init_in, front_in};
-ghost use Rattle.plc_parse.specs.Reading.{outlined_in, body_in, unit_from, file_in};
+ghost use Rattle.plc_parse.specs.Reading.{outlined_in, body_in, unit_from, parts_in, file_in, IsShallowFile};
 ghost use Rattle.plc_parse.specs.Front.{front_of};
-ghost use Rattle.plc_parse.specs.Units.{lines_of, IsUnitOf, IsFaultOf, IsShallowFile, UnitsAreUnique, FaultsAreOne};
+ghost use Rattle.plc_parse.specs.Units.{lines_of, IsUnitOf, IsFaultOf, UnitsAreUnique, FaultsAreOne};
 ghost use Rattle.plc_outparse.specs.Views.{read_with, kinds_left};
 ghost use Rattle.plc_parse.specs.Views.{read_in};
 
@@ -61,8 +60,10 @@ fn read_struct(alloc: Global, tokens: &[Token]) -> Result<(Scope, Rest), ParseFa
         return Err(ParseFault::Syntax { at: 0 });
     };
     let mut scope = Scope::new(alloc)?;
-    declare(&mut scope, name, 1, Binding::Taken)?;
-    Ok((scope, rest))
+    match declare(&mut scope, name, 1, Binding::Taken) {
+        Ok(_) => Ok((scope, rest)),
+        Err(fault) => Err(fault),
+    }
 }
 
 /// The declarations of a file before those of auxiliary fields.
@@ -203,14 +204,18 @@ fn read_front<'a>(alloc: Global, scope: &mut Scope, start: Rest<'a>) -> Parsed<'
     let (declared, rest) = read_declarations(alloc, scope, start)?;
     let (observer, rest) = read_watch(scope, rest)?;
     let (ghosts, rest) = read_ghosts(alloc, scope, rest)?;
-    let (init, rest) = read_init(alloc, scope, rest)?;
-    let front = Front {
-        declared,
-        observer,
-        ghosts,
-        init,
-    };
-    Ok((front, rest))
+    match read_init(alloc, scope, rest) {
+        Ok((init, rest)) => {
+            let front = Front {
+                declared,
+                observer,
+                ghosts,
+                init,
+            };
+            Ok((front, rest))
+        }
+        Err(fault) => Err(fault),
+    }
 }
 
 /// The operations and the outline.
@@ -260,6 +265,27 @@ fn unit(scope: Scope, front: Front, ops: Items<Op>, outline: Outline) -> Result<
     })
 }
 
+/// The parts of a file after its struct's name. The scope stays with the caller, which ends it.
+fn read_parts(
+    alloc: Global,
+    scope: &mut Scope,
+    tokens: &[Token],
+    start: Rest,
+) -> Result<(Front, Items<Op>, Outline), ParseFault>
+    requires room { HasRoom scope.old (most_names - 2) }
+    requires locals { scope.old.locals ≡ [] }
+    requires labels { scope.old.labels ≡ [] }
+    requires place { IsLeftOf (length tokens.now) start }
+    ensures { Gives (λ r. unit_from (front_of r.0) (r.1, r.2, scope.new)) result
+        (parts_in (lines_of tokens.now) scope.old start.entry.at (kinds_left start.entry)) }
+{
+    let (front, rest) = read_front(alloc, scope, start)?;
+    match read_body(alloc, scope, tokens, rest) {
+        Ok((ops, outline)) => Ok((front, ops, outline)),
+        Err(fault) => Err(fault),
+    }
+}
+
 /// The unit of tokens that are a file's.
 #[tactic(auto, unfolding(crate::specs::Reading::file_in))]
 fn read_file(alloc: Global, tokens: &[Token]) -> Result<Unit, ParseFault>
@@ -267,9 +293,10 @@ fn read_file(alloc: Global, tokens: &[Token]) -> Result<Unit, ParseFault>
     ensures { Gives (λ unit. unit) result (file_in (lines_of tokens.now) (kinds tokens.now)) }
 {
     let (mut scope, rest) = read_struct(alloc, tokens)?;
-    let (front, rest) = read_front(alloc, &mut scope, rest)?;
-    let (ops, outline) = read_body(alloc, &mut scope, tokens, rest)?;
-    unit(scope, front, ops, outline)
+    match read_parts(alloc, &mut scope, tokens, rest) {
+        Ok((front, ops, outline)) => unit(scope, front, ops, outline),
+        Err(fault) => Err(fault),
+    }
 }
 
 /// Refuses tokens that don't spell a file, or nest too deep.

@@ -32,6 +32,7 @@ struct Step {
 }
 
 impl Step {
+    /// A step with no primitive yet.
     fn new(alloc: Global) -> Step
         ensures primitives { result.primitives ≡ [] }
         ensures has_new { result.has_new ≡ false }

@@ -15,7 +15,7 @@ use crate::statements::statements;
 use crate::tokens::{BEGIN, CLOSE, COMMA, END, OPEN, Piece, Printed, Printer, SEMICOLON};
 use plc_auto::Observer;
 use plc_lang::{Field, File, Ghost, Local, Op, Prim, function_name, name_at};
-use plc_lex::{Keyword, Symbol};
+use plc_lex::Keyword;
 use std::alloc::{AllocError, Global};
 
 /// A pointer or data.

@@ -131,6 +131,7 @@ fn refresh_store<'x>(out: &mut Printer, name: &'x [u8], field: &'x [u8], from: &
     out.tokens(&[name, DOT, field, REFRESH, from])
 }
 
+/// The symbol of a comparison of data.
 fn relation(rel: Rel) -> Symbol
     ensures { result ≡ comparison_symbol (comparison rel) }
 {

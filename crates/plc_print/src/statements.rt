@@ -101,6 +101,7 @@ fn label(out: &mut Printer, name: &[u8]) -> Printed
     out.tokens(&[Piece::Word(Keyword::Label), Piece::Name(name), SEMICOLON])
 }
 
+/// A statement, with the blocks in it.
 #[cycle(statement)]
 fn statement(out: &mut Printer, reach: Reach, stmt: &Stmt) -> Printed
     ensures { OnOk result

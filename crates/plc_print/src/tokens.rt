@@ -174,6 +174,7 @@ impl Printer {
         Ok(())
     }
 
+    /// A number in decimal digits, and a space.
     fn number(&mut self, number: u32) -> Printed
         ensures { OnOk result (self.new.text.items ≡ self.old.text.items ++ decimal number ++ 32 ∷ []) }
     {
