@@ -13,7 +13,7 @@ use Rattle.plc_base.specs.Functions.{is_retire}
 use Rattle.plc_lang.specs.Comparison.{compares}
 use Rattle.plc_mem.specs.declared.cell.Cell.{Cell}
 use Rattle.plc_mem.specs.State.{State, at_field, null_cell, fresh_cell, is_null, same_pointer, put, put_value, field_value, put_field_value, number_of, is_used, with_node, with_retired}
-use Rattle.plc_mem.specs.Primitives.{cell_at, field_at, access, comparison, retirement as retirement_race, race_of_call, goes_call, after_call, race_of, goes, after}
+use Rattle.plc_mem.specs.Primitives.{cell_at, field_at, comparison, race_of_call, goes_call, after_call, race_of, goes, after}
 use Rattle.plc_mem.specs.Coherence.{CellCoherent, IsCoherent}
 use Rattle.plc_gc.specs.declared.slot.Slot.TheVariants.{Data as in_data}
 use Rattle.plc_gc.specs.declared.slot.Map.TheVariants.{Pointer as pointer_field, Number as data_field, Retirement as retirement}
@@ -24,28 +24,15 @@ use Rattle.plc_erasure.specs.Erasure.{Shows, IsErased}
 use Rattle.plc_erasure.proofs.Nodes.{node_apart}
 use Rattle.plc_erasure.proofs.Changes.{null_shows, shown, node_made, erased_variable, erased_field, erased_data, erased_data_field, erased_auxiliary, erased_retire}
 use Rattle.plc_erasure.proofs.Allocation.{longer, erased_made, fresh_shows}
+use Rattle.plc_mem.proofs.Coherence.{valid_if, retired_if}
 
 -- ---- what the absence of a race says
-
-valid_if : (c : Cell) → access c ≡ None → c.valid ≡ true
-valid_if c e = go c.valid refl e
-  where
-    go : (b : Bool) → c.valid ≡ b → access c ≡ None → c.valid ≡ true
-    go true is e = is
-    go false is e = let contrary = rw is at e in cc
 
 both_valid : (c d : Cell) → comparison c d ≡ None → (c.valid ≡ true) × (d.valid ≡ true)
 both_valid c d e = go (c.valid && d.valid) refl e
   where
     go : (b : Bool) → (c.valid && d.valid) ≡ b → comparison c d ≡ None → (c.valid ≡ true) × (d.valid ≡ true)
     go true is e = and_parts c.valid d.valid is
-    go false is e = let contrary = rw is at e in cc
-
-handed_over : (s : State) (c : Cell) → retirement_race s c ≡ None → c.valid ≡ true
-handed_over s c e = go c.valid refl e
-  where
-    go : (b : Bool) → c.valid ≡ b → retirement_race s c ≡ None → c.valid ≡ true
-    go true is e = is
     go false is e = let contrary = rw is at e in cc
 
 -- ---- a valid pointer that isn't null leads to the node of a used address
@@ -98,7 +85,7 @@ Keeps trace s g t a k = (gc_goes g t k ≡ true) × IsErased (record { log = not
 call_erased : (trace : Trace) (s : State) (g : GcState) (t : ℕ) (b : Bool) (r : Arg) → race_of_call s t b r ≡ None → goes_call s t b r ≡ true → IsCoherent s → IsErased trace s g
     → (gc_goes_call g t b r ≡ true) × IsErased trace (after_call s t b r) (gc_after_call g t b r)
 call_erased trace s g t true (args.Var p) fine may k er =
-    let l = leads trace s g t p k er (handed_over s (cell_at s t p) fine) may in
+    let l = leads trace s g t p k er (retired_if s (cell_at s t p) fine) may in
     (l.some, subst (λ j. IsErased trace (with_retired s (cell_at s t p).number) (update g retirement j 1)) (sym l.node) (erased_retire trace s g (cell_at s t p).number er l.used))
 call_erased trace s g t true args.Null fine may k er = (refl, er)
 call_erased trace s g t true args.None fine may k er = (refl, er)

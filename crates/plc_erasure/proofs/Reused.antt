@@ -1,6 +1,6 @@
 -- A worked case: thread 0 allocates at the address 1 and retires it, it is freed, and thread 1 allocates there again. Thread 0 holds an invalid pointer of the same number, whose node is the first.
 use Rattle.std.proofs.Common.{◌≡◌, true, false, [], ◌∷◌, Some, refl}
-use Rattle.plc_base.specs.declared.ids.FuncId.{FuncId}
+use Rattle.plc_base.specs.Functions.{retire}
 use Rattle.plc_lang.specs.declared.syntax.Var.TheVariants.{Local}
 use Rattle.plc_lang.specs.declared.syntax.Arg.TheVariants as args
 use Rattle.plc_lang.specs.declared.syntax.Primitive.TheVariants.{New, Call}
@@ -12,9 +12,6 @@ use Rattle.plc_gc.specs.State.{GcState, Locals as GcLocals, value, entry, count,
 use Rattle.plc_gc.specs.Primitives.{after as gc_after}
 use Rattle.plc_erasure.specs.Trace.{last_node}
 
-retire : FuncId
-retire = record { 0 = 0 }
-
 one_local : Locals
 one_local = record { pointers = null_cell ∷ []; values = [] }
 
@@ -22,41 +19,41 @@ one_gc_local : GcLocals
 one_gc_local = record { declared = record { name = 0; pointer = true; param = false } ∷ []; pointers = 0 ∷ []; values = [] }
 
 reused : State
-unfolding retire one_local
+unfolding one_local
 reused =
     let busy = with_locals (with_locals (fresh_state (true ∷ []) 0 2) 0 (Some one_local)) 1 (Some one_local) in
     let handed_over = after (after busy 0 1 (New (Local 0))) 0 0 (Call retire (args.Var (Local 0))) in
     after (freed handed_over 1) 1 1 (New (Local 0))
 
 never_reused : GcState
-unfolding retire one_gc_local
+unfolding one_gc_local
 never_reused =
     let busy = gc_with_locals (gc_with_locals (gc_fresh_state (record { name = 0; pointer = true } ∷ []) 0 0 2) 0 (Some one_gc_local)) 1 (Some one_gc_local) in
     let handed_over = gc_after (gc_after busy 0 (New (Local 0))) 0 (Call retire (args.Var (Local 0))) in
     gc_after handed_over 1 (New (Local 0))
 
 stale : at reused (at_local 0 0) ≡ record { number = 1; valid = false }
-unfolding retire one_local reused at put with_node with_retired with_locals locals_of freed
+unfolding one_local reused at put with_node with_retired with_locals locals_of freed
 stale = refl
 
 fresh : at reused (at_local 1 0) ≡ record { number = 1; valid = true }
-unfolding retire one_local reused at put with_node with_retired with_locals locals_of freed
+unfolding one_local reused at put with_node with_retired with_locals locals_of freed
 fresh = refl
 
 stale_node : value never_reused (in_local 0 0) ≡ 1
-unfolding retire one_gc_local never_reused value entry count gc_put update made gc_with_locals gc_locals_of
+unfolding one_gc_local never_reused value entry count gc_put update made gc_with_locals gc_locals_of
 stale_node = refl
 
 fresh_node : value never_reused (in_local 1 0) ≡ 2
-unfolding retire one_gc_local never_reused value entry count gc_put update made gc_with_locals gc_locals_of
+unfolding one_gc_local never_reused value entry count gc_put update made gc_with_locals gc_locals_of
 fresh_node = refl
 
 first_is_retired : entry never_reused retirement 1 ≡ 1
-unfolding retire one_gc_local never_reused value entry count gc_put update made gc_with_locals gc_locals_of
+unfolding one_gc_local never_reused value entry count gc_put update made gc_with_locals gc_locals_of
 first_is_retired = refl
 
 second_isnt : entry never_reused retirement 2 ≡ 0
-unfolding retire one_gc_local never_reused value entry count gc_put update made gc_with_locals gc_locals_of
+unfolding one_gc_local never_reused value entry count gc_put update made gc_with_locals gc_locals_of
 second_isnt = refl
 
 last_is_second : last_node (1 ∷ 1 ∷ []) 1 ≡ 2

@@ -84,10 +84,6 @@ slot_keeps t g l (in_data u x) n held h a b =
     subst (λ u. x < length (locals_of g u).values → Keeps t g l (with_locals g u (Some (record (locals_of g u) { values = put_at 0 (locals_of g u).values x n })))) (sym own)
     (λ small. (_, given t g l (record (locals_of g t) { values = put_at 0 (locals_of g t).values x n }) held (rw e refl) (rw e refl) (length_put 0 (locals_of g t).values x n small ∙ ap (λ (m : Locals). length m.values) e))) h
 
-pub var_in : (g : GcState) (t : ℕ) (p : Var) → VarIn (frame g t).shape p → SlotIn g (slot t p)
-var_in g t (vars.Shared i) h = h
-var_in g t (vars.Local v) h = h
-
 var_keeps : (t : ℕ) (g : GcState) (l : Locals) (p : Var) (n : ℕ) → get_or g.locals t None ≡ Some l → VarIn (frame g t).shape p → Keeps t g l (put g (slot t p) n)
 var_keeps t g l (vars.Shared i) n held h = slot_keeps t g l (in_shared i) n held h (λ u v e. cc) (λ u x e. cc)
 var_keeps t g l (vars.Local v) n held h = slot_keeps t g l (in_local t v) n held h (λ u w e. cc) (λ u x e. cc)

@@ -3,7 +3,7 @@ use Rattle.std.proofs.Common.{◌≡◌, ℕ, zero, suc, ◌<◌, true, false, L
 use Rattle.std.specs.Prelude.{nat_lt}
 use Rattle.std.proofs.lemmas.Bool.{ltb-true, ltb-false}
 use Rattle.std.proofs.lemmas.List.{get_or_past, get_or_default, length-replicate}
-use Rattle.std.proofs.lemmas.Option.{slice_get_read, slice_get_past, get_or_from_slice_get}
+use Rattle.std.proofs.lemmas.Option.{slice_get_read, get_or_from_slice_get}
 use Rattle.plc_base.specs.Tables.{put_at}
 use Rattle.plc_lang.specs.declared.syntax.Local.{Local as ALocal}
 use Rattle.plc_lang.specs.Numbering.{pointer_number, data_number}
@@ -20,9 +20,6 @@ use Rattle.plc_gc.proofs.Views.{no_entry}
 
 pub looked : {A : Type 0} (xs : List A) (i : ℕ) (x : A) → true ≡ nat_lt i (length xs) → x ≡ get_or xs i x → slice_get xs i ≡ Some x
 looked xs i x small e = slice_get_read xs (length xs) i x refl (ltb-true i (length xs) (sym small)) e
-
-pub looked_past : {A : Type 0} (xs : List A) (i : ℕ) → false ≡ nat_lt i (length xs) → slice_get xs i ≡ None
-looked_past xs i large = slice_get_past xs i (ltb-false i (length xs) (sym large))
 
 -- ---- locals
 

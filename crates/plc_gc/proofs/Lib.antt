@@ -1,3 +1,4 @@
+pub mod Busy
 pub mod Claims
 pub mod Executing
 pub mod Frames

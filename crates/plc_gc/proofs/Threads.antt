@@ -27,7 +27,8 @@ use Rattle.plc_gc.specs.Run.{GcConfiguration, point_of, Moves, GcRun, begin, mor
 use Rattle.plc_gc.specs.Fit.{Frame, frame, WriteIn, FrameHasAll}
 use Rattle.plc_threads.specs.Fit.{ThreadFits}
 use Rattle.plc_threads.proofs.Fit.{put_is_new, thread_came, all_idle, idle_again}
-use Rattle.plc_gc.specs.Threads.{LocalsFit, IsBusyAt, GcConfigurationFits}
+use Rattle.plc_gc.specs.Threads.{LocalsFit, GcConfigurationFits}
+use Rattle.plc_gc.proofs.Busy.{IsBusyAt}
 use Rattle.plc_gc.proofs.Frames.{Keeps, frame_held, execute_keeps}
 
 -- ---- the step that a busy thread takes

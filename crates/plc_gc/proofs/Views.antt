@@ -18,7 +18,7 @@ locals-with_same : (g : GcState) (t : ℕ) (l : Option Locals) → locals_of (wi
 unfolding locals_of with_locals
 locals-with_same g t l = ap locals_or_none (get-put_same None g.locals t l)
 
-locals-with_other : (g : GcState) (t : ℕ) (l : Option Locals) (u : ℕ) → (u ≡ t → ⊥) → locals_of (with_locals g t l) u ≡ locals_of g u
+pub locals-with_other : (g : GcState) (t : ℕ) (l : Option Locals) (u : ℕ) → (u ≡ t → ⊥) → locals_of (with_locals g t l) u ≡ locals_of g u
 unfolding locals_of with_locals
 locals-with_other g t l u ne = ap locals_or_none (get-put_other None g.locals t l u ne)
 

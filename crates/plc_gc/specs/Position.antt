@@ -16,10 +16,6 @@ threads_of c = length c.points
 abbrev pub IsOfRun : Flow → GcConfiguration → Type 0
 IsOfRun flow c = (moves : List Move) × GcRun flow (threads_of c) moves c
 
--- where the runs begin, or nowhere
-abbrev pub Begins : Flow → ℕ → Option GcConfiguration → Type 0
-Begins flow threads c = first_configuration flow threads ≡ c
-
 -- what the answer of a start says
 abbrev pub Starts : Flow → ℕ → Result GcConfiguration StartFault → Type 0
 Starts flow threads (Ok c) = first_configuration flow threads ≡ Some c
@@ -35,8 +31,3 @@ Answers flow c move moved.Blocked d = ((e : GcConfiguration) → Moves flow (thr
 abbrev pub answer : Option GcConfiguration → GcMoved
 answer (Some d) = moved.Done
 answer None = moved.Blocked
-
--- the configuration after it
-abbrev pub reached : Option GcConfiguration → GcConfiguration → GcConfiguration
-reached (Some d) c = d
-reached None c = c

@@ -4,9 +4,8 @@ use Rattle.std.specs.Prelude.{◌≡◌, ℕ, ◌+◌, length}
 use Rattle.plc_lang.specs.declared.syntax.Op.{Op}
 use Rattle.plc_lang.specs.Locals.{pointers_of, parameters_of, other_data_of}
 use Rattle.plc_flow.specs.declared.flow.Flow.{Flow}
-use Rattle.plc_flow.specs.declared.points.Point.{Point}
-use Rattle.plc_threads.specs.Fit.{HoldsAt, ThreadsFit}
-use Rattle.plc_gc.specs.State.{GcState, Locals}
+use Rattle.plc_threads.specs.Fit.{ThreadsFit}
+use Rattle.plc_gc.specs.State.{Locals}
 use Rattle.plc_gc.specs.Run.{GcConfiguration}
 
 -- the locals are those of an operation
@@ -15,11 +14,7 @@ pub record LocalsFit (operation : Op) (l : Locals) : Type 0 where
   pub pointers : length l.pointers ≡ pointers_of operation
   pub values : length l.values ≡ parameters_of operation + other_data_of operation
 
--- a thread at this point holds the locals of the point's operation
-abbrev pub IsBusyAt : Flow → GcState → ℕ → Point → Type 0
-IsBusyAt flow g t p = HoldsAt flow LocalsFit g.locals t p
-
--- so it is with every thread, and the state is that of the flow
+-- each busy thread holds locals of its operation, and the state is that of the flow
 pub record GcConfigurationFits (flow : Flow) (threads : ℕ) (c : GcConfiguration) : Type 0 where
   pub shared : length c.state.shared ≡ length flow.file.shared
   pub fields : c.state.fields ≡ flow.file.fields

@@ -86,6 +86,29 @@ fn note_claim(truths: &mut Vec<bool>, state: &State, t: u32, prim: &Prim) -> Res
     }
 }
 
+/// Adds the truth of each claim that the primitives of thread `t` reach before one is blocked.
+fn note_claims(
+    truths: &mut Vec<bool>,
+    state: &mut State,
+    t: u32,
+    prims: &[Prim],
+) -> Result<(), NoMemory>
+    requires small { t + 1 < 2 ^ 32 }
+    requires held { IsHeld state.old t }
+    requires there { FrameHasAll (frame state.old t) prims.now }
+    requires ranges { IsInRange state.old }
+    ensures { OnOk result (truths.new.items ≡ truths.old.items ++ claims state.old t prims.now) }
+{
+    for k in 0..prims.len() {
+        let prim = &prims[k];
+        note_claim(truths, state, t, prim)?;
+        if !state.apply(t, prim)? {
+            return Ok(());
+        }
+    }
+    Ok(())
+}
+
 /// The truth of each claim that the primitives of thread `t` reach before one is blocked.
 pub fn claims(
     alloc: Global,
@@ -100,12 +123,6 @@ pub fn claims(
     ensures { IfOk result (λ truths. truths.items ≡ claims state.old t prims.now) }
 {
     let mut truths = Vec::new(alloc);
-    for k in 0..prims.len() {
-        let prim = &prims[k];
-        note_claim(&mut truths, state, t, prim)?;
-        if !state.apply(t, prim)? {
-            return Ok(truths);
-        }
-    }
+    note_claims(&mut truths, state, t, prims)?;
     Ok(truths)
 }

@@ -62,7 +62,7 @@ impl Row {
         })
     }
 
-    /// The same numbers, in memory of their own.
+    /// A copy of this row, in memory of its own.
     pub fn copy(&self) -> Result<Row, NoMemory>
         ensures { IfOk result (λ r. r ≡ self.now) }
     {

@@ -66,7 +66,7 @@ impl State {
         })
     }
 
-    /// The same state, in memory of its own.
+    /// A copy of this state, in memory of its own.
     pub fn copy(&self) -> Result<State, NoMemory>
         ensures { IfOk result (λ s. s ≡ self.now) }
     {

@@ -1,5 +1,5 @@
 -- A well-formed flow's skeleton is a program.
-use Rattle.std.proofs.Common.{◌≡◌, ℕ, ◌-◌, ◌<◌, ◌≤◌, List, [], ◌∷◌, length, get_or, map, Option, Some, refl, sym, ap, subst, ◌∙◌, arith}
+use Rattle.std.proofs.Common.{◌≡◌, ℕ, ◌-◌, ◌<◌, List, [], ◌∷◌, length, get_or, map, Option, Some, refl, sym, ap, subst, ◌∙◌, arith}
 use Rattle.std.specs.Prelude.{slice_get, option_map}
 use Rattle.std.proofs.lemmas.List.{length-map}
 use Rattle.std.proofs.lemmas.Option.{slice_get-map, slice_get-get_or, get_or_from_slice_get}
@@ -11,16 +11,14 @@ use Rattle.plc_lang.specs.Skeleton.{Skeleton, Passage, locals_at}
 use Rattle.plc_flow.specs.Skeleton.{skeleton_of, passage_of, pointers_by_point}
 use Rattle.plc_infer.specs.declared.program.Program.{Program}
 use Rattle.plc_infer.specs.Programs.{edge_of, program_of, passage_at, some_passage, number_of, IsProgram}
-use Rattle.plc_infer.proofs.Points.{locals_length, locals_there, entries_within}
+use Rattle.plc_infer.proofs.Points.{locals_there, entries_within}
+use Rattle.plc_flow.proofs.Gates.{point_count}
 
 pub passage_is : (flow : Flow) (k : ℕ) (s : Step) → slice_get flow.steps k ≡ Some s → passage_at (skeleton_of flow) k ≡ passage_of s
 passage_is flow k s e = get_or_from_slice_get (map passage_of flow.steps) k (passage_of s) some_passage (slice_get-map passage_of flow.steps k ∙ ap (λ (o : Option Step). option_map passage_of o) e)
 
 pub passages_length : (flow : Flow) → length (skeleton_of flow).passages ≡ length flow.steps
 passages_length flow = length-map flow.steps passage_of
-
-pub points_length : (flow : Flow) → IsWellFormed flow → length (skeleton_of flow).locals ≡ flow.points
-points_length flow w = let e = locals_length 0 flow.file.ops flow.gates flow.points (sym w.gates) w.ranges in omega (arith, e)
 
 -- both ends of a step are points with the same locals
 pub record Ends (flow : Flow) (s : Step) : Type 0 where
@@ -33,7 +31,7 @@ ends_of flow k s w e =
     let within = w.steps k s e in
     let f = locals_there 0 flow.file.ops flow.gates flow.points s.op.0 s.from.0 within.0 (sym w.gates) w.ranges within.1 within.2 in
     let t = locals_there 0 flow.file.ops flow.gates flow.points s.op.0 s.to.0 within.0 (sym w.gates) w.ranges within.1 within.3 in
-    let points = points_length flow w in
+    let points = point_count flow w in
     let from_is : s.from.0 - 0 ≡ s.from.0 = omega arith in
     let to_is : s.to.0 - 0 ≡ s.to.0 = omega arith in
     record {
@@ -51,13 +49,13 @@ step_at flow k = get_or flow.steps k some_step
 -- what inference asks of a program
 pub flow_is_program : (flow : Flow) → IsWellFormed flow → IsProgram (skeleton_of flow)
 flow_is_program flow w = record {
-  few = let points = points_length flow w in let few = w.few in omega (arith, points, few);
+  few = let points = point_count flow w in let few = w.few in omega (arith, points, few);
   few_steps = let few = w.few_steps in omega (arith, passages_length flow, few);
   short = λ k small. subst (λ (x : Passage). length x.prims < 65536) (sym (at k small).0) (let short = w.short k (step_at flow k) (there k small) in omega (arith, short));
   from_in = λ k small. subst (λ (x : Passage). x.from < length (skeleton_of flow).locals) (sym (at k small).0) ((at k small).1.from_in);
   to_in = λ k small. subst (λ (x : Passage). x.to < length (skeleton_of flow).locals) (sym (at k small).0) ((at k small).1.to_in);
   same_locals = λ k small. subst (λ (x : Passage). locals_at (skeleton_of flow) x.to ≡ locals_at (skeleton_of flow) x.from) (sym (at k small).0) ((at k small).1.same);
-  entries_in = λ i p e. let points = points_length flow w in let h = (entries_within 0 flow.gates flow.points i p w.ranges e).1 in omega (arith, points, h);
+  entries_in = λ i p e. let points = point_count flow w in let h = (entries_within 0 flow.gates flow.points i p w.ranges e).1 in omega (arith, points, h);
 }
   where
     there : (k : ℕ) → k < length (skeleton_of flow).passages → slice_get flow.steps k ≡ Some (step_at flow k)

@@ -1,5 +1,5 @@
 -- The points of a flow: where they begin, and that the starts and the counts of locals are theirs.
-use Rattle.std.proofs.Common.{◌≡◌, ℕ, zero, suc, ◌+◌, ◌-◌, ◌<◌, ◌≤◌, List, [], ◌∷◌, ◌++◌, drop, length, get_or, map, replicate, append_assoc, Some, sym, ap, subst, ◌∙◌, arith, length-append}
+use Rattle.std.proofs.Common.{◌≡◌, ℕ, zero, suc, ◌+◌, ◌-◌, ◌<◌, ◌≤◌, List, [], ◌∷◌, ◌++◌, drop, length, get_or, map, replicate, append_assoc, Some, sym, ap, subst, ◌∙◌, arith}
 use Rattle.std.specs.Prelude.{slice_get}
 use Rattle.std.proofs.lemmas.List.{get_or-append_right, get_or_append_left, get_or-replicate, at_drop_more}
 use Rattle.plc_lang.specs.declared.syntax.Op.{Op}
@@ -8,6 +8,7 @@ use Rattle.plc_flow.specs.WellFormed.{GatesFrom, IsPointOf}
 use Rattle.plc_lang.specs.Locals.{pointers_of}
 use Rattle.plc_flow.specs.Skeleton.{pointers_by_point}
 use Rattle.plc_infer.proofs.Environments.{length_of}
+use Rattle.plc_flow.proofs.Gates.{ends_after}
 
 abbrev pub entries_of : List Gate → List ℕ
 entries_of gs = map (λ (g : Gate). g.entry.0) gs
@@ -16,18 +17,6 @@ abbrev nth_pointers : List Op → ℕ → ℕ
 nth_pointers [] k = 0
 nth_pointers (o ∷ os) zero = pointers_of o
 nth_pointers (o ∷ os) (suc k) = nth_pointers os k
-
-pub ends_after : (n : ℕ) (gs : List Gate) (end : ℕ) → GatesFrom n gs end → n ≤ end
-ends_after n [] end h = omega arith
-ends_after n (g ∷ gs) end (first, entry_is, exit_is, wide, rest) = let r = ends_after g.after gs end rest in omega arith
-
-pub locals_length : (n : ℕ) (os : List Op) (gs : List Gate) (end : ℕ) → length os ≡ length gs → GatesFrom n gs end → n + length (pointers_by_point os gs) ≡ end
-locals_length n [] [] end same h = omega arith
-locals_length n (o ∷ os) [] end same h = absurd (omega arith)
-locals_length n [] (g ∷ gs) end same h = absurd (omega arith)
-locals_length n (o ∷ os) (g ∷ gs) end same (first, entry_is, exit_is, wide, rest) =
-    let r = locals_length g.after os gs end (omega arith) rest in
-    omega (arith, r, length-append (replicate (g.after - g.first) (pointers_of o)) (pointers_by_point os gs), length_of (g.after - g.first) (pointers_of o))
 
 -- the points of the k-th gate have the locals of the k-th operation
 pub locals_there : (n : ℕ) (os : List Op) (gs : List Gate) (end k p : ℕ) (g : Gate) → length os ≡ length gs → GatesFrom n gs end → slice_get gs k ≡ Some g → IsPointOf g p

@@ -40,14 +40,8 @@ step_read p k small = get_or_default p.steps.now k no_edge (step_at p k) small
 pub step_from : (p : Program) (k : ℕ) → k < length p.steps.now → (passage_at (program_of p) k).from ≡ (step_at p k).from.0
 step_from p k small = ap (λ (x : Passage). x.from) (step_is p k (step_at p k) small (step_read p k small))
 
-pub step_to : (p : Program) (k : ℕ) → k < length p.steps.now → (passage_at (program_of p) k).to ≡ (step_at p k).to.0
-step_to p k small = ap (λ (x : Passage). x.to) (step_is p k (step_at p k) small (step_read p k small))
-
 pub from_point : (p : Program) (k : ℕ) → IsProgram (program_of p) → k < length p.steps.now → (step_at p k).from.0 < length (program_of p).locals
 from_point p k well small = subst (λ (n : ℕ). n < length (program_of p).locals) (step_from p k small) (well.from_in k (subst (λ (n : ℕ). k < n) (sym (steps_length p)) small))
-
-pub to_point : (p : Program) (k : ℕ) → IsProgram (program_of p) → k < length p.steps.now → (step_at p k).to.0 < length (program_of p).locals
-to_point p k well small = subst (λ (n : ℕ). n < length (program_of p).locals) (step_to p k small) (well.to_in k (subst (λ (n : ℕ). k < n) (sym (steps_length p)) small))
 
 pub step_short : (p : Program) (k : ℕ) → IsProgram (program_of p) → k < length p.steps.now → length (step_at p k).prims.now < 65536
 step_short p k well small = subst (λ (x : Passage). length x.prims < 65536) (step_is p k (step_at p k) small (step_read p k small)) (well.short k (subst (λ (n : ℕ). k < n) (sym (steps_length p)) small))

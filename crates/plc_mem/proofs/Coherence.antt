@@ -166,14 +166,14 @@ held_coherent s t k v = k.cells (at_local t v)
 
 -- ---- primitives
 
-valid_if : (c : Cell) → access c ≡ None → c.valid ≡ true
+pub valid_if : (c : Cell) → access c ≡ None → c.valid ≡ true
 valid_if c e = go c.valid refl e
   where
     go : (b : Bool) → c.valid ≡ b → access c ≡ None → c.valid ≡ true
     go true is e = is
     go false is e = let contrary = rw is at e in cc
 
-retired_if : (s : State) (c : Cell) → retirement s c ≡ None → c.valid ≡ true
+pub retired_if : (s : State) (c : Cell) → retirement s c ≡ None → c.valid ≡ true
 retired_if s c e = go c.valid refl e
   where
     go : (b : Bool) → c.valid ≡ b → retirement s c ≡ None → c.valid ≡ true

@@ -6,7 +6,7 @@ use Rattle.std.proofs.Math.Seq.{map-set_same}
 use Rattle.std.proofs.lemmas.List.{map-append}
 use Rattle.plc_base.proofs.Positions.{position-map}
 use Rattle.plc_mem.specs.State.{Node, cut_node}
-use Rattle.plc_mem.specs.Fit.{addresses_of}
+use Rattle.plc_mem.specs.Access.{addresses_of}
 
 flipped : (a b : ℕ) → (a == b) ≡ (b == a)
 flipped a b = elim (cases_eq a b) [ inl e ↦ eq-eqb a b e ∙ sym (eq-eqb b a (sym e)) | inr ne ↦ ne_eqb a b ne ∙ sym (ne_eqb b a (λ e. ne (sym e))) ]

@@ -4,7 +4,7 @@ use Rattle.std.proofs.lemmas.Bool.{and_parts}
 use Rattle.plc_lang.specs.declared.syntax.Var.{Var}
 use Rattle.plc_lang.specs.declared.syntax.Primitive.TheVariants.{New}
 use Rattle.plc_mem.specs.declared.cell.Cell.{Cell}
-use Rattle.plc_mem.specs.State.{State, Locals, at_shared, at_local, at_field, null_cell, with_locals, is_used, is_retired, at, put, value_at, put_value, field_value, put_field_value, with_node, with_retired}
+use Rattle.plc_mem.specs.State.{State, Locals, at_shared, at_local, at_field, null_cell, with_locals, is_used, at, put, value_at, put_value, field_value, put_field_value, with_node, with_retired}
 use Rattle.plc_base.specs.Tables.{put_at}
 use Rattle.plc_mem.specs.Primitives.{goes}
 use Rattle.plc_mem.specs.Fit.{Kept}
@@ -69,17 +69,9 @@ pub join_node : (s : State) (t : ℕ) (l : Locals) (a : ℕ) → with_locals (wi
 unfolding with_node with_locals
 join_node s t l a = refl
 
-pub join_retired : (s : State) (t : ℕ) (l : Locals) (a : ℕ) → with_locals (with_retired s a) t (Some l) ≡ with_retired (with_locals s t (Some l)) a
-unfolding with_retired with_locals
-join_retired s t l a = refl
-
 pub used_join : (s : State) (t : ℕ) (l : Locals) (a : ℕ) → is_used (with_locals s t (Some l)) a ≡ is_used s a
 unfolding is_used with_locals
 used_join s t l a = refl
-
-pub retired_join : (s : State) (t : ℕ) (l : Locals) (a : ℕ) → is_retired (with_locals s t (Some l)) a ≡ is_retired s a
-unfolding is_retired with_locals
-retired_join s t l a = refl
 
 -- where a `new` isn't blocked its address isn't used
 pub new_is_unused : (s : State) (t : ℕ) (l : Locals) (a : ℕ) (p : Var) → goes (with_locals s t (Some l)) t a (New p) ≡ true → is_used s a ≡ false

@@ -1,5 +1,5 @@
 -- The tables and nodes of the definitions against std's lists: what is written at a place in range, and where the node of an address stands.
-use Rattle.std.proofs.Common.{◌≡◌, ℕ, zero, suc, ◌+◌, ◌<◌, ◌≤◌, List, [], ◌∷◌, ◌++◌, Bool, true, false, not, ◌&&◌, ◌==◌, cond, if◌then◌else◌, length, set, get_or, take, drop, map, filter, Some, None, Vec, refl, sym, ap, ◌∙◌, subst, arith, add-one, length-set}
+use Rattle.std.proofs.Common.{◌≡◌, ℕ, zero, suc, ◌+◌, ◌<◌, ◌≤◌, List, [], ◌∷◌, ◌++◌, Bool, true, false, not, ◌&&◌, ◌==◌, cond, if◌then◌else◌, length, set, get_or, take, drop, map, filter, Some, None, Vec, refl, sym, ap, ◌∙◌, subst, arith, add-one}
 use Rattle.std.specs.Vec.{with_items}
 use Rattle.std.specs.List.{position, position_or_len}
 use Rattle.std.proofs.lemmas.Bool.{eq-eqb, ne_eqb}
@@ -8,7 +8,7 @@ use Rattle.std.proofs.lemmas.List.{length-map, length-replicate, with_items_is, 
 use Rattle.plc_mem.specs.declared.cell.Cell.{Cell}
 use Rattle.plc_mem.specs.State.{State, Node, null_cell, node_of, put_node, empty_node, fresh_node, with_node, cut, cut_node}
 use Rattle.plc_base.specs.Tables.{put_at}
-use Rattle.plc_base.proofs.Tables.{put_is_set, length_put, put_put}
+use Rattle.plc_base.proofs.Tables.{put_is_set, length_put}
 use Rattle.plc_mem.specs.Fit.{NodesFit}
 
 -- ---- a table
@@ -100,9 +100,6 @@ node_written d part with_part ns a i f v n some e is small =
     ap (λ (n : Node). set ns i (with_part n (set (part n) f v))) (is ∙ r.1)
     ∙ ap (λ xs. set ns i (with_part (node_of ns a) xs)) (sym (put_is_set d (part (node_of ns a)) f v h))
     ∙ sym (put_node_at ns a i _ e)
-
-pub length_put_node : (ns : List Node) (a : ℕ) (r : Node) → length (put_node ns a r) ≡ length ns
-length_put_node ns a r = ap length (put_node_place ns a r) ∙ length-set ns _ r
 
 -- ---- nodes with a cell and a number for each field
 

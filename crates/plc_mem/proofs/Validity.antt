@@ -3,14 +3,11 @@ use Rattle.std.proofs.Common.{◌≡◌, ℕ, Bool, true, false, List, Option, g
 use Rattle.std.proofs.lemmas.Bool.{cases_Bool, cases_eq, and_parts, not-true}
 use Rattle.plc_lang.specs.declared.syntax.Arg.{Arg}
 use Rattle.plc_lang.specs.declared.syntax.Arg.TheVariants as args
-use Rattle.plc_lang.specs.declared.syntax.Op.{Op}
 use Rattle.plc_lang.specs.declared.syntax.Primitive.{Primitive}
 use Rattle.plc_lang.specs.declared.syntax.Primitive.TheVariants.{Null, Copy, New, Load, Store, StoreNull, DataSet, DataLoad, DataStore, Eq, Ne, IsNull, NotNull, DataTest, Refresh, RefreshLoad, RefreshStore, Call, Done, Active, Ghost}
-use Rattle.plc_lang.specs.Locals.{pointers_of}
 use Rattle.plc_base.specs.Functions.{is_retire}
-use Rattle.plc_base.proofs.Tables.{get-replicate}
 use Rattle.plc_mem.specs.declared.cell.Cell.{Cell}
-use Rattle.plc_mem.specs.State.{State, Place, at_shared, at_local, at_field, Locals, null_cell, fresh_cell, locals_or_none, at, put, place, is_used, with_node, with_locals, put_value, put_field_value, fresh_state, starting}
+use Rattle.plc_mem.specs.State.{State, Place, at_shared, at_local, at_field, Locals, null_cell, fresh_cell, locals_or_none, at, put, place, is_used, with_node, with_locals, put_value, put_field_value, fresh_state}
 use Rattle.plc_mem.specs.Primitives.{cell_at, field_at, after_call, goes, after}
 use Rattle.plc_mem.specs.Laws.{is_there}
 use Rattle.plc_mem.proofs.Views.{cases_place, writes, writes_nothing, writes_local, writes_field, writes_no_field, makes, retires, gives, fresh_is_null}
@@ -85,9 +82,6 @@ given_valid s t l all mine (at_local u v) = elim (cases_eq u t) [
   | inl e ↦ is_valid (at (with_locals s t l) (at_local u v)) (get_or (locals_or_none l).pointers v null_cell) (ap (λ u. at (with_locals s t l) (at_local u v)) e ∙ (gives s t l).pointers v) (mine v)
   | inr other ↦ is_valid (at (with_locals s t l) (at_local u v)) (at s (at_local u v)) ((gives s t l).others u v other) (all (at_local u v))
 ]
-
-pub starting_valid : (o : Op) (args : List ℕ) (v : ℕ) → (get_or (starting o args).pointers v null_cell).valid ≡ true
-starting_valid o args v = is_valid (get_or (starting o args).pointers v null_cell) null_cell (get-replicate null_cell (pointers_of o) v) refl
 
 pub first_valid : (fields : List Bool) (shared threads : ℕ) → AllValid (fresh_state fields shared threads)
 first_valid fields shared threads p = is_valid (at (fresh_state fields shared threads) p) null_cell (fresh_is_null fields shared threads p) refl

@@ -1,11 +1,7 @@
 -- Which states the code keeps, and which locals and primitives fit them.
-use Rattle.std.specs.Prelude.{◌≡◌, ℕ, List, [], ◌∷◌, length, map}
+use Rattle.std.specs.Prelude.{◌≡◌, ℕ, List, [], ◌∷◌, length}
 use Rattle.plc_lang.specs.Shape.{Shape}
 use Rattle.plc_mem.specs.State.{State, Node, Locals}
-
--- the addresses of nodes, in their order
-abbrev pub addresses_of : List Node → List ℕ
-addresses_of ns = map (λ n. n.address) ns
 
 -- each node has a cell and a number for each field
 abbrev pub NodesFit : ℕ → List Node → Type 0

@@ -5,3 +5,5 @@ pub mod Laws
 pub mod Outcomes
 pub mod Primitives
 pub mod State
+-- words of private functions alone
+pub mod Access

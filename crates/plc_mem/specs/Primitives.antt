@@ -145,9 +145,3 @@ abbrev pub event_of : State → ℕ → Primitive → Option Event
 event_of s t (Call f r) = Some (Called t f (address_of s t r))
 event_of s t (Done f) = Some (Returned t f)
 event_of s t k = None
-
--- the primitive may need memory
-abbrev pub takes_memory : Primitive → Bool
-takes_memory (New p) = true
-takes_memory (Call f r) = true
-takes_memory k = false

@@ -8,7 +8,7 @@ ghost use Rattle.plc_mem.specs.Primitives.{access, comparison};
 use plc_auto::Event;
 
 /// A pointer with its validity; the number 0 is null, and null is valid.
-#[derive(Clone, Copy, PartialEq, Eq)]
+#[derive(Clone, Copy)]
 pub struct Cell {
     pub number: u32,
     pub valid: bool,
@@ -28,7 +28,7 @@ pub enum RaceKind {
 }
 
 /// What a primitive answers.
-#[derive(Clone, Copy, Debug, PartialEq, Eq)]
+#[derive(Clone, Copy)]
 pub enum Outcome {
     /// It succeeded, with its event if observers hear it.
     Next(Option<Event>),

@@ -5,7 +5,8 @@ ghost use Rattle.std.specs.Prelude.{if◌then◌else◌, is_ok, IfOk, IfSome, So
 ghost use Rattle.plc_lang.specs.Shape.{VarIn};
 ghost use Rattle.plc_mem.specs.State.{State, null_cell, at, put, at_field, place, field_value, put_field_value};
 ghost use Rattle.plc_mem.specs.State.{with_node, with_retired, with_locals, is_used, is_retired, freed, fresh_state};
-ghost use Rattle.plc_mem.specs.State.{first_state, holds_pointer, cell_of, number_at, valid_at, place_of};
+ghost use Rattle.plc_mem.specs.State.{first_state, holds_pointer, number_at, valid_at, place_of};
+ghost use Rattle.plc_mem.specs.Access.{cell_of};
 ghost use Rattle.plc_mem.specs.Primitives.{cell_at};
 ghost use Rattle.plc_mem.specs.Fit.{shape, Kept};
 ghost use Rattle.plc_mem.specs.Coherence.{IsCoherent, LocalsCoherent};

@@ -123,7 +123,7 @@ pub struct Nodes {
 impl Model for Nodes {
     ghost use Rattle.std.specs.Prelude.{◌≡◌, List};
     ghost use Rattle.plc_mem.specs.State.{Node};
-    ghost use Rattle.plc_mem.specs.Fit.{addresses_of};
+    ghost use Rattle.plc_mem.specs.Access.{addresses_of};
 
     ghost Value = { List Node };
 

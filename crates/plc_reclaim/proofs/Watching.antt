@@ -18,7 +18,7 @@ use Rattle.plc_reclaim.specs.Rows.{ActsAs, first_waiting, threads_in, is_kept_at
 use Rattle.plc_auto.specs.Events.{kind_of, thread_of, address_of}
 use Rattle.plc_reclaim.specs.Tables.{moved, same_location, Cell, Column, location_in, cell_after, cells_after, put_cell, with_cell, column_after, Heard, Table, column_of, fresh_table, is_thread, others_after, own_after, table_after, keeps}
 use Rattle.plc_reclaim.specs.Watch.{Watch, fresh_watch, watch_after, is_kept, first_free, numbers_of, held_after, free_of, by_tables}
-use Rattle.plc_base.proofs.Booleans.{or_false, or_true}
+use Rattle.plc_base.proofs.Booleans.{or_false, or_true, same_tests}
 use Rattle.plc_reclaim.proofs.Picks.{may_be_picked}
 use Rattle.plc_reclaim.proofs.Numbers.{begun_with_is, held_after_is, free_of_is}
 
@@ -209,10 +209,6 @@ heard_more (Freed b) t u = others_heard (column_after t.observer Free false b) N
 abbrev table_at_end : Table → List Event → Table
 table_at_end t events = fold (λ t e. table_after e t) t events
 
-end_observer : (t : Table) (events : List Event) → (table_at_end t events).observer ≡ t.observer
-end_observer t [] = refl
-end_observer t (e ∷ events) = end_observer (table_after e t) events
-
 -- where a thread stands for an address
 end_location : (t : Table) (events : List Event) (u a : ℕ) → at (column_for (table_at_end t events) u) a ≡ location_from t.observer u a (at (column_for t u) a) events
 end_location t [] u a = refl
@@ -322,11 +318,6 @@ this_in q (x ∷ xs) u e is = go (x == u) refl e (λ e. this_in q xs u e is)
     go : (b : Bool) → (x == u) ≡ b → (b || is_in xs u) ≡ true → (is_in xs u ≡ true → list_any q xs ≡ true) → (q x || list_any q xs) ≡ true
     go true same e later = ap (λ s. s || list_any q xs) (ap q (eqb-true x u same) ∙ is)
     go false same e later = ap (λ s. q x || s) (later e) ∙ or_true (q x)
-
-same_tests : (x y : Bool) → (x ≡ true → y ≡ true) → (y ≡ true → x ≡ true) → x ≡ y
-same_tests true y f g = sym (f refl)
-same_tests false true f g = g refl
-same_tests false false f g = refl
 
 -- a table keeps what a thread keeps that the events name
 keeps_is : (o : Observer) (events : List Event) (a : ℕ) → keeps a (table_at_end (fresh_table o) events) ≡ is_kept_by events a o

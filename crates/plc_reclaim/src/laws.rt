@@ -21,7 +21,8 @@ pub fn hazard_makes_allowed_histories()
     ensures { (schemes : List Scheme) (m : Meanings) → ActsAs hazard_row m → MakesAllowed (hazards schemes) schemes m }
 {}
 
-/// The same of a reclaimer that acts as `epoch`, and of each Epoch scheme.
+/// Where each event is handed to a reclaimer that acts as `epoch`, and each free comes directly after
+/// its pick, the history is allowed by `plain` and by the observer of each Epoch scheme.
 pub fn epoch_makes_allowed_histories()
     ensures { (schemes : List Scheme) (m : Meanings) → ActsAs epoch_row m → MakesAllowed (epochs schemes) schemes m }
 {}

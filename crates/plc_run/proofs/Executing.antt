@@ -89,5 +89,5 @@ place_empty s lent new t rest same =
 pub init_ends : (s new : State) (h g : List Event) (init ps : List Primitive) (me left : Locals) (r : Result Ended NoMemory) → me ≡ no_locals → ps ≡ init
     → IfOk r (λ e. ending e (with_locals new 0 (Some left)) g ≡ execute (with_locals s 0 (Some me)) h 0 1 0 ps) → OnOk r (Kept s me new left) → IfOk r (λ e. InitEnds s h init e new g)
 init_ends s new h g init ps me left (Ok e) none same ends kept =
-    record { left = left; ends = ends ∙ (λ i. execute (with_locals s 0 (Some (none i))) h 0 1 0 (same i)); others = kept.locals }
+    record { left = left; ends = ends ∙ (λ i. execute (with_locals s 0 (Some (none i))) h 0 1 0 (same i)); kept = kept.locals }
 init_ends s new h g init ps me left (Err e) none same ends kept = tt

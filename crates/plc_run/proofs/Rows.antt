@@ -1,7 +1,7 @@
 -- The rows of the table after an event: the look-up after is the look-up before, moved, whatever the rows are.
 use Rattle.std.proofs.Common.{◌≡◌, ℕ, zero, suc, ◌+◌, ◌<◌, ◌≤◌, Bool, true, false, not, ◌&&◌, ◌||◌, ◌==◌, cond, ◌⊎◌, inl, inr, List, [], ◌∷◌, ◌++◌, Option, Some, None, length, get_or, set, take, drop, map, replicate, refl, sym, ap, ◌∙◌, subst, arith, add-one, append_assoc}
 use Rattle.std.specs.List.{list_any, list_all}
-use Rattle.std.proofs.lemmas.Bool.{and_parts, and_from, eqb-true, eq-eqb, ne_eqb}
+use Rattle.std.proofs.lemmas.Bool.{and_parts, and_from, eqb-true, ne_eqb}
 use Rattle.plc_auto.specs.declared.event.Event.{Event}
 use Rattle.plc_auto.specs.declared.event.Event.TheVariants.{Call as Called, Done as Returned, Free as Freed}
 use Rattle.plc_auto.specs.declared.observer.Observer.{Observer}
@@ -139,25 +139,6 @@ has_more rows more a e = go (a == 0) e
     go : (x : Bool) → (x || list_any (λ r. r.address == a) rows) ≡ true → (x || list_any (λ r. r.address == a) (rows ++ more)) ≡ true
     go true e = refl
     go false e = any_more rows more a e
-
-or_yes : (x : Bool) → (x || true) ≡ true
-or_yes true = refl
-or_yes false = refl
-
-any_last : (rows : List Row) (a : ℕ) (ls : List (Option ℕ)) → list_any (λ r. r.address == a) (rows ++ record { address = a; at = ls } ∷ []) ≡ true
-any_last [] a ls = ap (λ x. x || false) (eq-eqb a a refl)
-any_last (r ∷ rows) a ls = ap (λ x. (r.address == a) || x) (any_last rows a ls) ∙ or_yes (r.address == a)
-
-pub has_last : (rows : List Row) (a : ℕ) (ls : List (Option ℕ)) → has_row (rows ++ record { address = a; at = ls } ∷ []) a ≡ true
-has_last rows a ls = ap (λ x. (a == 0) || x) (any_last rows a ls) ∙ or_yes (a == 0)
-
--- rows as they were
-pub adds_none : (others : List (Option ℕ)) (rows : List Row) → AddsRows others rows rows
-adds_none others rows = record { more = []; longer = sym (append_none rows); same = λ t a. refl; kept = λ a has. has }
-  where
-    append_none : (rows : List Row) → rows ++ [] ≡ rows
-    append_none [] = refl
-    append_none (r ∷ rows) = ap (λ xs. r ∷ xs) (append_none rows)
 
 -- a row more, that of the others
 pub adds_one : (rows : List Row) (others : List (Option ℕ)) (a : ℕ) → AddsRows others rows (rows ++ record { address = a; at = others } ∷ [])

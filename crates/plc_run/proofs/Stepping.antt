@@ -1,5 +1,5 @@
 -- What the code's parts of a move make together.
-use Rattle.std.proofs.Common.{Result, Ok, Err, IfOk, OnOk, OnErr, ◌≡◌, ℕ, zero, suc, ◌+◌, ◌<◌, Bool, true, false, cond, List, [], ◌∷◌, ◌++◌, Option, Some, None, length, get_or, set, slice_get, replicate, refl, sym, ap, ◌∙◌, subst, arith, append_assoc}
+use Rattle.std.proofs.Common.{Result, Ok, Err, IfOk, OnOk, OnErr, ◌≡◌, ℕ, zero, suc, ◌+◌, ◌<◌, Bool, true, false, cond, List, [], ◌∷◌, ◌++◌, Option, Some, None, length, get_or, set, replicate, refl, sym, ap, ◌∙◌, subst, arith, append_assoc}
 use Rattle.std.proofs.lemmas.List.{length-replicate}
 use Rattle.plc_base.specs.declared.ids.OpId.{OpId}
 use Rattle.plc_base.specs.declared.memory.NoMemory.{NoMemory}
@@ -9,6 +9,7 @@ use Rattle.plc_base.proofs.Tables.{put_is_set, length_put, put_put}
 use Rattle.plc_threads.proofs.Moves.{exit_so}
 use Rattle.plc_lang.specs.declared.syntax.Op.{Op}
 use Rattle.plc_lang.specs.declared.syntax.Primitive.{Primitive}
+use Rattle.plc_lang.specs.Shape.{Shape, PrimitiveIn}
 use Rattle.plc_auto.specs.declared.event.Event.{Event}
 use Rattle.plc_auto.specs.declared.observer.Observer.{Observer}
 use Rattle.plc_flow.specs.declared.flow.Step.{Step}
@@ -17,6 +18,7 @@ use Rattle.plc_flow.specs.declared.flow.Move.{Move}
 use Rattle.plc_flow.specs.declared.flow.Move.TheVariants.{Start, Step as Take, Return, Free}
 use Rattle.plc_mem.specs.declared.cell.RaceKind.{RaceKind}
 use Rattle.plc_mem.specs.State.{State, Locals, with_locals, starting}
+use Rattle.plc_mem.specs.Fit.{shape}
 use Rattle.plc_base.specs.Tables.{put_at}
 use Rattle.plc_mem.specs.Primitives.{race_of, goes, after, event_of}
 use Rattle.plc_mem.specs.declared.cell.Outcome.{Outcome}
@@ -190,6 +192,20 @@ went_with t a k p q l m e is to longer stood live = record {
 whole : (s lent : State) (t : ℕ) (l : Locals) → get_or s.locals t None ≡ Some l → lent ≡ record s { locals = set s.locals t None } → with_locals lent t (Some l) ≡ s
 whole s lent t l held rest = ap (λ (s : State). with_locals s t (Some l)) rest ∙ given_back s t l held
 
+some_same : {A : Type 0} (x y : A) → Some x ≡ Some y → x ≡ y
+some_same x y e = cc
+
+-- a thread that is busy has locals to lend
+pub has_locals : (s : State) (t : ℕ) (k : Primitive) (B : Type 0) → (l : Locals) × (get_or s.locals t None ≡ Some l) × PrimitiveIn (shape s l) k → None ≡ get_or s.locals t None → B
+has_locals s t k B busy none = let e : None ≡ Some busy.0 = none ∙ busy.1 in cc
+
+-- a primitive that fits the memory and the locals of a thread fits them while the locals are lent
+pub named_lent : (s lent : State) (t : ℕ) (me : Locals) (k : Primitive) → (l : Locals) × (get_or s.locals t None ≡ Some l) × PrimitiveIn (shape s l) k → get_or s.locals t None ≡ Some me → lent ≡ record s { locals = set s.locals t None }
+    → PrimitiveIn (shape lent me) k
+named_lent s lent t me k busy held rest =
+    let same = some_same busy.0 me (sym busy.1 ∙ held) in
+    subst (λ (x : Shape). PrimitiveIn x k) ((λ i. shape s (same i)) ∙ (λ i. shape (sym rest i) me)) busy.2
+
 -- what a primitive left, once the locals that it was lent were put back
 pub locals_back : (v q new : Position) (lent s : State) (t a : ℕ) (l m : Locals) (k : Primitive) (r : Result Outcome NoMemory) → get_or v.here.state.locals t None ≡ Some l → lent ≡ record v.here.state { locals = set v.here.state.locals t None } → q ≡ new
     → IfOk r (λ o. ActsWith t a k (record v { here = record v.here { state = lent } }) l o new m) → s ≡ with_locals q.here.state t (Some m) → IfOk r (λ o. Acts t a k v o (record q { here = record q.here { state = s } }))
@@ -259,6 +275,9 @@ returned flow c t s ps fits exit new points =
     let gone : with_locals c.state t None ≡ s = ap (λ xs. record c.state { locals = xs }) (put_is_set None c.state.locals t None (omega (arith, fits.standing.locals, small))) ∙ sym new in
     ap (λ b. cond b (Goes (record c { state = with_locals c.state t None; points = put_at None c.points t None })) Blocks) exit
     ∙ ap (λ s. Goes (record c { state = s; points = put_at None c.points t None })) gone ∙ ap (λ ps. Goes (record c { state = s; points = ps })) (sym points)
+
+pub not_returned : (flow : Flow) (c : Configuration) (t : ℕ) → at_exit flow (point_of c t) ≡ false → return_from flow c t (point_of c t) ≡ Blocks
+not_returned flow c t stays = ap (λ b. cond b (Goes (record c { state = with_locals c.state t None; points = put_at None c.points t None })) Blocks) stays
 
 pub started_so : (flow : Flow) (c : Configuration) (t op : ℕ) (args : List ℕ) (o : Op) (p : Point) (s : State) (ps : List (Option Point)) → begun flow c.points t op args ≡ Some (o, p)
     → s ≡ with_locals c.state t (Some (starting o args)) → ps ≡ put_at None c.points t (Some p) → start_from flow c t op args ≡ Goes (record c { state = s; points = ps })

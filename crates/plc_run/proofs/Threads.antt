@@ -1,5 +1,5 @@
 -- In every configuration of a run each busy thread holds the locals of its operation, and stands at one of its points.
-use Rattle.std.proofs.Common.{◌≡◌, ℕ, ◌+◌, ◌<◌, List, [], ◌++◌, Option, Some, None, length, get_or, slice_get, map, replicate, refl, sym, ap, ◌∙◌, subst, arith, inl, inr, length-append}
+use Rattle.std.proofs.Common.{◌≡◌, ℕ, ◌+◌, ◌<◌, List, [], ◌++◌, Option, Some, None, length, get_or, slice_get, map, replicate, sym, ap, ◌∙◌, subst, arith, length-append}
 use Rattle.std.proofs.lemmas.List.{length-map, length-replicate}
 use Rattle.plc_lang.specs.declared.syntax.Op.{Op}
 use Rattle.plc_lang.specs.Locals.{pointers_of, parameters_of, other_data_of}
@@ -21,7 +21,8 @@ use Rattle.plc_run.specs.Run.{Ending, Fine, Stuck, Raced, Configuration, point_o
 use Rattle.plc_flow.specs.Points.{steps_from}
 use Rattle.plc_threads.specs.Fit.{ThreadFits}
 use Rattle.plc_threads.proofs.Fit.{put_is_new, thread_came, all_idle, idle_again}
-use Rattle.plc_run.specs.Fit.{LocalsFit, IsBusyAt, ConfigurationFits}
+use Rattle.plc_run.specs.Fit.{LocalsFit, ConfigurationFits}
+use Rattle.plc_run.proofs.Busy.{IsBusyAt}
 use Rattle.plc_flow.proofs.Gates.{gate_from}
 use Rattle.plc_flow.proofs.Leaving.{stay_in_their_gate}
 use Rattle.plc_run.proofs.Shapes.{EndsKept, same_shape, execute_keeps}

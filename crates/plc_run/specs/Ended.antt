@@ -25,12 +25,12 @@ ending ends.Fine s h = Fine s h
 ending ends.Stuck s h = Stuck
 ending (ends.Raced kind k) s h = Raced kind k
 
--- how `init` ended from a state: in that state with some locals of the thread that took it, the threads' own as before
+-- thread 0 took `init` without locals of its own: so it ended, in the state `new` with the events g
 pub record InitEnds (s : State) (h : List Event) (init : List Primitive) (e : Ended) (new : State) (g : List Event)
     : Type 0 where
   pub left : Locals
   pub ends : ending e (with_locals new 0 (Some left)) g ≡ execute (with_locals s 0 (Some no_locals)) h 0 1 0 init
-  pub others : new.locals ≡ s.locals
+  pub kept : new.locals ≡ s.locals
 
 -- thread t stands at the point and holds locals to which the step's primitives fit
 pub record IsReady (c : Configuration) (t : ℕ) (p : Point) (step : Step) : Type 0 where

@@ -3,8 +3,7 @@ use Rattle.std.specs.Prelude.{◌≡◌, ℕ, length}
 use Rattle.plc_lang.specs.declared.syntax.Op.{Op}
 use Rattle.plc_lang.specs.Shape.{shape_of}
 use Rattle.plc_flow.specs.declared.flow.Flow.{Flow}
-use Rattle.plc_flow.specs.declared.points.Point.{Point}
-use Rattle.plc_threads.specs.Fit.{HoldsAt, ThreadsFit}
+use Rattle.plc_threads.specs.Fit.{ThreadsFit}
 use Rattle.plc_mem.specs.State.{State, Locals}
 use Rattle.plc_mem.specs.Fit.{shape}
 use Rattle.plc_run.specs.Run.{Configuration}
@@ -13,11 +12,7 @@ use Rattle.plc_run.specs.Run.{Configuration}
 abbrev pub LocalsFit : Flow → State → Op → Locals → Type 0
 LocalsFit flow s operation l = shape s l ≡ shape_of flow.file operation
 
--- a thread at this point holds the locals of the point's operation
-abbrev pub IsBusyAt : Flow → State → ℕ → Point → Type 0
-IsBusyAt flow s t p = HoldsAt flow (LocalsFit flow s) s.locals t p
-
--- so it is with every thread, and the memory is that of the flow
+-- each busy thread holds locals of its operation, and the memory is that of the flow
 pub record ConfigurationFits (flow : Flow) (threads : ℕ) (c : Configuration) : Type 0 where
   pub shared : length c.state.shared ≡ length flow.file.shared
   pub fields : length c.state.fields ≡ length flow.file.fields

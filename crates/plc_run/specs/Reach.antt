@@ -1,7 +1,7 @@
 -- What a move leads to, as a function: the code answers by it, and the law beside it says that it is what `Moves` and
 -- `Races` say.
 use Rattle.std.specs.Prelude.{◌≡◌, ℕ, zero, suc, Bool, true, false, ◌&&◌, ◌==◌, if◌then◌else◌, List, [], ◌∷◌, ◌++◌}
-use Rattle.std.specs.Prelude.{length, Option, Some, None, is_some}
+use Rattle.std.specs.Prelude.{length, Option, Some, None, is_some, Result, IfOk, OnOk, OnErr}
 use Rattle.plc_lang.specs.declared.syntax.Op.{Op}
 use Rattle.plc_lang.specs.declared.syntax.Primitive.{Primitive}
 use Rattle.plc_auto.specs.declared.event.Event.{Event}
@@ -18,13 +18,13 @@ use Rattle.plc_mem.specs.declared.cell.Outcome.TheVariants.{Next, Blocked, Race}
 use Rattle.plc_mem.specs.Outcomes.{outcome_of, next_of, Stays}
 use Rattle.plc_mem.specs.State.{State, Locals, with_locals, freed, starting}
 use Rattle.plc_base.specs.Tables.{put_at}
+use Rattle.plc_base.specs.declared.memory.NoMemory.{NoMemory}
 use Rattle.plc_flow.specs.declared.points.Point.{Point}
 use Rattle.plc_run.specs.declared.execute.Ended.{Ended}
-use Rattle.plc_run.specs.declared.execute.Ended.TheVariants as ends
 use Rattle.plc_run.specs.declared.moved.Moved.{Moved}
 use Rattle.plc_run.specs.declared.moved.Moved.TheVariants as moved
 use Rattle.plc_run.specs.Run.{Ending, Fine, Stuck, Raced, Configuration, point_of, taken, first_configuration}
-use Rattle.plc_run.specs.Ended.{heard}
+use Rattle.plc_run.specs.Ended.{heard, ending}
 use Rattle.plc_run.specs.Position.{Position, threads_of, Follows}
 use Rattle.plc_flow.specs.Points.{names_rightly}
 use Rattle.plc_threads.specs.Standing.{begun, step_of, at_exit}
@@ -64,11 +64,9 @@ abbrev pub arrived : Configuration → ℕ → Point → State → List Event �
 arrived c t to s events =
     record { state = s; history = c.history ++ events; points = put_at None c.points t (Some to) }
 
--- what a step to this point leads to, by how its primitives ended on a copy of the memory
+-- what a step to this point leads to, by how its primitives ended on a copy of the memory and the events that they gave
 abbrev pub settled : Configuration → ℕ → Point → Ended → State → List Event → Reached
-settled c t to ends.Fine s events = Goes (arrived c t to s events)
-settled c t to ends.Stuck s events = Blocks
-settled c t to (ends.Raced kind k) s events = Breaks kind k
+settled c t to e s events = ended_as c t to to.at (ending e s (c.history ++ events))
 
 -- what a step of one primitive to this point leads to, from the configuration that its primitive left
 abbrev pub concluded : Configuration → ℕ → Point → Outcome → Reached
@@ -127,6 +125,15 @@ Reaches Blocks p q = q ≡ p
 Reaches Forbids p q = q ≡ p
 Reaches (Breaks kind k) p q = q ≡ record p { ended = true }
 
+-- what the code answers where a step leads to this, and the position after it, whose table follows the observer; where
+-- memory runs out the position is as it was
+pub record Comes (o : Observer) (r : Reached) (p : Position) (result : Result Moved NoMemory) (q : Position)
+    : Type 0 where
+  pub says : IfOk result (λ m. m ≡ answer r)
+  pub after : OnOk result (Reaches r p q)
+  pub follows : Follows o q
+  pub err : OnErr result (q ≡ p)
+
 -- a move of which the observer hears nothing
 pub record IsUnheard (p q : Position) : Type 0 where
   pub threads : threads_of q ≡ threads_of p
@@ -143,7 +150,7 @@ pub record ActsWith (t a : ℕ) (k : Primitive) (p : Position) (l : Locals) (o :
   pub ended : q.ended ≡ p.ended
   pub unchanged : Stays o → (q ≡ p) × (m ≡ l)
 
--- the same with the locals that the position holds
+-- thread t took a primitive with the locals that the position holds for it: its outcome, and the position after it
 pub record Acts (t a : ℕ) (k : Primitive) (p : Position) (o : Outcome) (q : Position) : Type 0 where
   pub outcome : o ≡ outcome_of p.here.state t a k
   pub here : q.here ≡ record {

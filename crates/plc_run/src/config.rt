@@ -1,9 +1,9 @@
-// A configuration of a run in code, with the table by which frees are judged. A move takes its memory
-// first: nothing that is seen of the configuration is changed before the last call that may run out of
-// memory, so that a move that is blocked or forbidden, and running out of memory, leave it as it was.
-// A step of no or one primitive, as most are, works on the memory itself, since a primitive that fails
-// changes nothing. A step of several works on a copy, because its first primitives may succeed and a later
-// one not.
+// A configuration of a run in code, with the table by which frees are judged. A move asks for its memory
+// first: nothing that is seen of the configuration changes before the last call that may run out of memory.
+// So a move that is blocked or forbidden leaves the configuration as it was, and so does one that runs out
+// of memory. A step of at most one primitive, as most are, works on the memory itself, since a primitive
+// that fails changes nothing. A step of several works on a copy, because its first primitives may succeed
+// and a later one fail.
 ghost use Rattle.std.specs.Prelude.{◌≡◌, ℕ, ◌<◌, ◌++◌, ◌∷◌, [], Option, IfOk, OnOk, OnErr, Some, None};
 ghost use Rattle.std.specs.Prelude.{get_or, replicate, false};
 ghost use Rattle.plc_lang.specs.Shape.{PrimitiveIn};
@@ -17,7 +17,7 @@ ghost use Rattle.plc_run.specs.Ended.{IsReady};
 ghost use Rattle.plc_run.specs.Fit.{ConfigurationFits};
 ghost use Rattle.plc_run.specs.Reach.{Goes, Breaks, arrived, settled, concluded, Acts, ActsWith};
 ghost use Rattle.plc_run.specs.Reach.{start_from, step_from, step_leads, return_from, free_of, reach};
-ghost use Rattle.plc_run.specs.Reach.{answer, Reaches, IsUnheard, Begins};
+ghost use Rattle.plc_run.specs.Reach.{answer, Reaches, Comes, IsUnheard, Begins};
 ghost use Rattle.plc_run.specs.Position.{threads_of, Follows, IsOfRun, Answers, Starts};
 
 use crate::execute::{Ended, Tried, try_init, try_step};
@@ -81,7 +81,7 @@ impl Config {
         }
     }
 
-    /// What `init` leaves, or nothing where it is blocked.
+    /// The configuration that `init` leaves, or nothing where it is blocked.
     fn began(
         alloc: Global,
         flow: &Flow,
@@ -103,7 +103,7 @@ impl Config {
         }
     }
 
-    /// This memory and history, with every thread idle.
+    /// The configuration with this memory and history in which every thread is idle.
     fn idle(
         alloc: Global,
         observer: &Observer,
@@ -194,7 +194,7 @@ impl Config {
         Ok(Moved::Done)
     }
 
-    /// A step, if there is one and the move is of its shape.
+    /// A step, where there is such a step and the move has its shape.
     fn step_move(
         &mut self,
         flow: &Flow,
@@ -222,8 +222,7 @@ impl Config {
         self.take(observer, step, point, t, addr)
     }
 
-    /// A step is taken: of no or one primitive in place, of several on a copy of the memory, which then takes the
-    /// place of the memory.
+    /// Takes a step: one of at most one primitive in place, one of several on a copy of the memory.
     fn take(
         &mut self,
         observer: &Observer,
@@ -234,10 +233,7 @@ impl Config {
     ) -> Result<Moved, NoMemory>
         requires ready { IsReady self.old.here t point step.now }
         requires follows { Follows observer.now self.old }
-        ensures answer { IfOk result (λ r. r ≡ answer (step_leads self.old.here t point step.now addr)) }
-        ensures after { OnOk result (Reaches (step_leads self.old.here t point step.now addr) self.old self.new) }
-        ensures follows { Follows observer.now self.new }
-        ensures err { OnErr result (self.new ≡ self.old) }
+        ensures { Comes observer.now (step_leads self.old.here t point step.now addr) self.old result self.new }
     {
         match step.prims.as_slice() {
             [] => Ok(self.pass(step, point, t)),
@@ -246,7 +242,7 @@ impl Config {
         }
     }
 
-    /// A step of several primitives, which works on a copy of the memory.
+    /// Takes a step of several primitives on a copy of the memory.
     fn take_on_copy(
         &mut self,
         observer: &Observer,
@@ -257,16 +253,13 @@ impl Config {
     ) -> Result<Moved, NoMemory>
         requires ready { IsReady self.old.here t point step.now }
         requires follows { Follows observer.now self.old }
-        ensures answer { IfOk result (λ r. r ≡ answer (step_leads self.old.here t point step.now addr)) }
-        ensures after { OnOk result (Reaches (step_leads self.old.here t point step.now addr) self.old self.new) }
-        ensures follows { Follows observer.now self.new }
-        ensures err { OnErr result (self.new ≡ self.old) }
+        ensures { Comes observer.now (step_leads self.old.here t point step.now addr) self.old result self.new }
     {
         let tried = try_step(self.alloc, &self.memory, step, t, addr)?;
         self.settle(observer, tried, arrival(point, step), t)
     }
 
-    /// What was tried on a copy comes about: the copy takes the place of the memory.
+    /// Makes what was tried on a copy of the memory come about: where all went well the copy takes the memory's place.
     fn settle(
         &mut self,
         observer: &Observer,
@@ -290,7 +283,7 @@ impl Config {
         }
     }
 
-    /// The memory, the events and the point to which a step led its thread.
+    /// Takes over the memory, the events and the point to which a step led its thread.
     fn adopt(
         &mut self,
         observer: &Observer,
@@ -312,7 +305,7 @@ impl Config {
         Ok(Moved::Done)
     }
 
-    /// A step without primitives moves its thread alone.
+    /// Takes a step without primitives, which moves its thread and changes nothing else.
     fn pass(&mut self, step: &Step, point: Point, t: u32) -> Moved
         requires none { step.now.prims ≡ [] }
         requires ready { IsReady self.old.here t point step.now }
@@ -324,7 +317,7 @@ impl Config {
         Moved::Done
     }
 
-    /// A step of one primitive, which works on the memory itself.
+    /// Takes a step of one primitive on the memory itself.
     fn take_in_place(
         &mut self,
         observer: &Observer,
@@ -337,16 +330,13 @@ impl Config {
         requires one { step.now.prims ≡ prim.now ∷ [] }
         requires ready { IsReady self.old.here t point step.now }
         requires follows { Follows observer.now self.old }
-        ensures follows { Follows observer.now self.new }
-        ensures err { OnErr result (self.new ≡ self.old) }
-        ensures answer { IfOk result (λ r. r ≡ answer (step_leads self.old.here t point step.now addr)) }
-        ensures after { OnOk result (Reaches (step_leads self.old.here t point step.now addr) self.old self.new) }
+        ensures { Comes observer.now (step_leads self.old.here t point step.now addr) self.old result self.new }
     {
         let done = self.act(observer, prim, t, addr)?;
         Ok(self.conclude(done, arrival(point, step), t))
     }
 
-    /// What a step of one primitive comes to, once the primitive was taken.
+    /// Ends a step of one primitive by the outcome of that primitive.
     fn conclude(&mut self, done: Outcome, to: Point, t: u32) -> Moved
         requires { t < threads_of self.old }
         ensures answer { result ≡ answer (concluded self.old.here t to done) }
@@ -363,7 +353,7 @@ impl Config {
         }
     }
 
-    /// One primitive of a thread, which lends its locals.
+    /// Takes one primitive of a thread. Its locals stand outside the memory meanwhile.
     fn act(
         &mut self,
         observer: &Observer,
@@ -386,7 +376,7 @@ impl Config {
         done
     }
 
-    /// One primitive of a thread with these locals.
+    /// Takes one primitive of a thread with these locals.
     fn act_with(
         &mut self,
         observer: &Observer,
@@ -414,8 +404,8 @@ impl Config {
         }
     }
 
-    /// One primitive that observers hear, of a thread with these locals. The table's row and the history's place are
-    /// had before the primitive changes anything.
+    /// Takes one primitive that observers hear, of a thread with these locals. The table's row and the history's place
+    /// are made before the primitive changes anything.
     fn act_heard(
         &mut self,
         observer: &Observer,
@@ -452,7 +442,7 @@ impl Config {
         Moved::Race { kind, prim }
     }
 
-    /// Puts events after the history, and moves the table by them. The table's rows are had first.
+    /// Puts events after the history, and moves the table by them. The rows that the table lacks are made first.
     fn hear(&mut self, observer: &Observer, events: &[Event]) -> Result<(), NoMemory>
         requires follows { Follows observer.now self.old }
         ensures here { OnOk result (self.new.here
@@ -467,7 +457,7 @@ impl Config {
         Ok(())
     }
 
-    /// A return: the thread's locals are gone.
+    /// A return: the thread loses its locals.
     fn return_move(&mut self, flow: &Flow, t: u32) -> Moved
         requires { ConfigurationFits flow.now (threads_of self.old) self.old.here }
         ensures answer { result ≡ answer (return_from flow.now self.old.here t (point_of self.old.here t)) }

@@ -17,7 +17,7 @@ use plc_mem::{Locals, Memory, Outcome, RaceKind};
 use std::alloc::Global;
 
 /// How primitives in order ended.
-#[derive(Clone, Copy, Debug, PartialEq, Eq)]
+#[derive(Clone, Copy)]
 pub enum Ended {
     /// All succeeded.
     Fine,
@@ -35,7 +35,7 @@ pub struct Tried {
     pub ended: Ended,
 }
 
-/// One primitive, whose event joins the events.
+/// Takes one primitive, and puts its event after the events.
 fn one(
     memory: &mut Memory,
     me: &mut Locals,
@@ -63,8 +63,8 @@ fn one(
     }
 }
 
-/// Primitives in order, by a thread that lends its locals.
-pub fn execute(
+/// Takes primitives in order, for a thread with these locals.
+fn execute(
     memory: &mut Memory,
     me: &mut Locals,
     events: &mut Vec<Event>,
@@ -92,7 +92,7 @@ pub fn execute(
     Ok(Ended::Fine)
 }
 
-/// A step of a thread whose locals the memory holds.
+/// Takes a step of a thread whose locals the memory holds.
 fn run_step(
     memory: &mut Memory,
     events: &mut Vec<Event>,
@@ -114,7 +114,7 @@ fn run_step(
     Ok(ended)
 }
 
-/// A step of a thread on a copy of the memory, which holds the thread's locals, with its events beside the history.
+/// Tries a step of a thread on a copy of the memory, and gathers its events beside the history.
 pub fn try_step(
     alloc: Global,
     memory: &Memory,
@@ -138,7 +138,7 @@ pub fn try_step(
     })
 }
 
-/// The primitives of `init`, by thread 0 before it has locals. Its `new` takes the address 1.
+/// Takes the primitives of `init`, as thread 0 before it has locals. Its `new` takes the address 1.
 fn run_init(
     alloc: Global,
     flow: &Flow,
@@ -161,7 +161,7 @@ fn run_init(
     )
 }
 
-/// `init` on a new memory for so many threads.
+/// Tries `init` on a new memory for so many threads.
 pub fn try_init(alloc: Global, flow: &Flow, threads: u32) -> Result<Tried, NoMemory>
     requires { FlowFits flow.now }
     ensures { IfOk result (λ x.

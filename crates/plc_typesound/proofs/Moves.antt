@@ -33,7 +33,7 @@ use Rattle.plc_lang.specs.Skeleton.{Passage, locals_at}
 use Rattle.plc_xfer.proofs.Facts.{after_all_well_formed, well_formed_fits}
 use Rattle.plc_xfer.proofs.Order.{well_formed, same_shape, entry_is, led_is}
 use Rattle.plc_flow.specs.Skeleton.{skeleton_of, passage_of}
-use Rattle.plc_infer.proofs.Flows.{Ends, ends_of, points_length}
+use Rattle.plc_infer.proofs.Flows.{Ends, ends_of}
 use Rattle.plc_infer.proofs.Points.{locals_there}
 use Rattle.plc_typesound.specs.Meaning.{EnvMet}
 use Rattle.plc_typesound.specs.Claims.{MoveClaims}
@@ -43,6 +43,7 @@ use Rattle.plc_typesound.proofs.Step.{own_step, never_races}
 use Rattle.plc_typesound.proofs.Calm.{interfered_is_calm, interfered_env_met, entry_is_calm, entry_met}
 use Rattle.plc_typesound.proofs.Others.{foreign_step, free_met}
 use Rattle.plc_typesound.proofs.Given.{none_null, starting_null, given_null, given_met}
+use Rattle.plc_flow.proofs.Gates.{point_count}
 
 -- an operation's entry and a step, as typings have them
 entries_at : (gates : List Gate) (i : ℕ) (gate : Gate) → slice_get gates i ≡ Some gate → slice_get (map (λ (g : Gate). g.entry.0) gates) i ≡ Some gate.entry.0
@@ -95,7 +96,7 @@ module _ (flow : Flow) (o : Observer) (threads : ℕ) (envs : List Env) (fits : 
       let b = busy_at flow threads c t p (run_fits flow fits o threads (omega (arith, small)) n c run) busy in
       let inside = locals_there 0 flow.file.ops flow.gates flow.points p.op p.at b.gate (sym fits.well.gates)
       fits.well.ranges b.opens b.within in
-      let points = points_length flow fits.well in
+      let points = point_count flow fits.well in
       let facts = typed.pretyping.environments p.at (let h = inside.1 in omega (arith, points)) in
       let mine = all t p small busy in
       let n' = (skeleton_of flow).shared in

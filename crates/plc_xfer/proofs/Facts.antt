@@ -24,7 +24,9 @@ use Rattle.plc_xfer.specs.Calls.{on_this, on_other, on_either, other_type, argum
 use Rattle.plc_xfer.specs.Rules.{type_of, table, remade, env_after, env_after_all, effect, effect_anywhere, shared_type, new_type, equal_type, refreshed_type, placed_type, active_type, interfered, interfered_local, all_within, FitsObserver}
 use Rattle.plc_xfer.specs.Typings.{is_type, all_types, IsWellFormed}
 use Rattle.plc_xfer.proofs.Kept.{KeepsAnywhere, KeepsTypes, anywhere_kept, effect_kept}
-use Rattle.plc_xfer.proofs.Locations.{closure_keeps, closure_more, closure_in, step_keeps, either_keeps, either_in, step_unretired}
+use Rattle.plc_xfer.proofs.Locations.{closure_keeps, step_keeps, either_keeps, either_in, step_unretired}
+use Rattle.plc_auto.proofs.Growth.{closure_with_frees}
+use Rattle.plc_auto.proofs.Closures.{closure_live}
 
 and-false : (b : Bool) → (b && false) ≡ false
 and-false true = refl
@@ -133,7 +135,7 @@ bare_is_type o w = type_from o w (bare w) (record { guarantees = refl; inside = 
 new_is_type : (o : Observer) (e : Env) → is_type o e.w (new_type o e) ≡ true
 new_is_type o e = type_from o e.w (new_type o e) (record { guarantees = refl; inside = meet_within_left e.w (unretired o); active = λ h. meet_within_right e.w (unretired o) })
 
-active_without : (g : Guar) → is_active (without_local g) ≡ true → is_active g ≡ true
+pub active_without : (g : Guar) → is_active (without_local g) ≡ true → is_active g ≡ true
 active_without g h = grind (arith, leb-true 3 (min g.0 3) h)
 
 local_removed : (g : Guar) → is_guarantee_set g ≡ true → is_guarantee_set (without_local g) ≡ true
@@ -298,7 +300,7 @@ interfered_is_type o w t h = go (is_local t.g) (is_safe t.g && within (closure o
     freed = closure_keeps o true t.m w f.inside
 
     kept : within (closure o false t.m) (closure o true w) ≡ true
-    kept = within_trans _ _ _ (closure_more o t.m) freed
+    kept = within_trans _ _ _ (closure_with_frees o t.m) freed
 
     go : (l s : Bool) → is_type o (closure o true w) (if l then record { g = t.g; m = meet (closure o false t.m) (unretired o) } else if s then record { g = safe_only; m = closure o false t.m } else record { g = nothing; m = closure o true t.m }) ≡ true
     go true s = type_from o (closure o true w) (record { g = t.g; m = meet (closure o false t.m) (unretired o) }) (record {
@@ -316,7 +318,7 @@ interfered_types o w (t ∷ x) h = let p = and_parts _ _ h in and_from _ _ (inte
 pub interfered_well_formed : (o : Observer) (e : Env) → IsWellFormed o e → IsWellFormed o (interfered o e)
 unfolding interfered
 interfered_well_formed o e x = record {
-  anywhere = closure_in o true e.w x.anywhere;
+  anywhere = closure_live o true e.w x.anywhere;
   shared_types = rw (map_same (bare (closure o true e.w)) e.shared) (replicate_types o (closure o true e.w) (length e.shared) (bare (closure o true e.w)) (bare_is_type o (closure o true e.w)));
   local_types = interfered_types o e.w e.locals x.local_types;
 }
@@ -383,9 +385,9 @@ after_fits o e k x = let inside = effect_within o e k x in record {
 interfered_inside : (o : Observer) (t : PtrType) → within t.m (all_locations o) ≡ true → within (interfered_local o t).m (all_locations o) ≡ true
 interfered_inside o t h =
     let P : PtrType → Type 0 = λ u. within u.m (all_locations o) ≡ true in
-    let kept = closure_in o false t.m h in
+    let kept = closure_live o false t.m h in
     if_holds P (is_local t.g) _ _ (within_trans _ _ _ (meet_within_left (closure o false t.m) (unretired o)) kept)
-    (if_holds P (is_safe t.g && within (closure o false t.m) (safe o)) _ _ kept (closure_in o true t.m h))
+    (if_holds P (is_safe t.g && within (closure o false t.m) (safe o)) _ _ kept (closure_live o true t.m h))
 
 interfered_within : (o : Observer) (x : List PtrType) → all_within (all_locations o) x ≡ true → all_within (all_locations o) (map (interfered_local o) x) ≡ true
 interfered_within o [] h = refl
@@ -393,7 +395,7 @@ interfered_within o (t ∷ x) h = let p = and_parts _ _ h in and_from _ _ (inter
 
 pub interfered_fits : (o : Observer) (e : Env) → FitsObserver o e → FitsObserver o (interfered o e)
 unfolding interfered
-interfered_fits o e x = let inside = closure_in o true e.w x.anywhere in record {
+interfered_fits o e x = let inside = closure_live o true e.w x.anywhere in record {
   anywhere = inside;
   shared = rw (map_same (bare (closure o true e.w)) e.shared) (replicate_within (all_locations o) (length e.shared) (bare (closure o true e.w)) inside);
   locals = interfered_within o e.locals x.locals;

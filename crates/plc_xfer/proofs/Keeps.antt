@@ -28,8 +28,9 @@ use Rattle.plc_xfer.specs.Calls.{on_this, on_either, other_type, argument_type, 
 use Rattle.plc_xfer.specs.Rules.{type_of, table, remade, env_after, env_after_all, effect, shared_type, new_type, equal_type, refreshed_type, placed_type, active_type, access_fault, compare_fault, retire_fault, call_fault, fault_of, interfered, interfered_local}
 use Rattle.plc_xfer.specs.Typings.{fault_at}
 use Rattle.plc_xfer.proofs.Kept.{KeepsAnywhere, KeepsTypes, anywhere_kept, effect_kept}
-use Rattle.plc_xfer.proofs.Locations.{closure_keeps, closure_more, step_keeps, either_keeps}
+use Rattle.plc_xfer.proofs.Locations.{closure_keeps, step_keeps, either_keeps}
 use Rattle.plc_xfer.proofs.Facts.{table_length}
+use Rattle.plc_auto.proofs.Growth.{closure_with_frees}
 
 -- ---- types
 
@@ -128,7 +129,7 @@ map_below f g (t ∷ x) (u ∷ y) h k = let p = and_parts _ _ k in and_from _ _ 
 
 -- ---- a primitive
 
-variable_below : (a b : Env) → SameShape a b → env_below a b ≡ true → (v : Var) → type_below (type_of a v) (type_of b v) ≡ true
+pub variable_below : (a b : Env) → SameShape a b → env_below a b ≡ true → (v : Var) → type_below (type_of a v) (type_of b v) ≡ true
 unfolding type_of
 variable_below a b s h (Shared i) = let p = env_parts a b h in get_below a.shared b.shared i (bare a.w) (bare b.w) s.0 (bare_below a.w b.w p.0) p.1
 variable_below a b s h (Local i) = let p = env_parts a b h in get_below a.locals b.locals i (bare a.w) (bare b.w) s.1 (bare_below a.w b.w p.0) p.2
@@ -221,7 +222,7 @@ local_below o t u h = go (is_local u.g) (may_stay_safe o u) (is_local t.g) (may_
     freed = closure_keeps o true t.m u.m (inside t u h)
 
     more : within (closure o false t.m) (closure o true u.m) ≡ true
-    more = within_trans _ _ _ (closure_more o t.m) freed
+    more = within_trans _ _ _ (closure_with_frees o t.m) freed
 
     met : (c : ℕ) → within (closure o false t.m) c ≡ true → within (meet (closure o false t.m) (unretired o)) c ≡ true
     met c k = within_trans _ _ _ (meet_within_left (closure o false t.m) (unretired o)) k

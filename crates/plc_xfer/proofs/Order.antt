@@ -19,14 +19,14 @@ use Rattle.plc_type.proofs.Ordered.{by_parts, env_from, types_length}
 use Rattle.plc_xfer.specs.Rules.{env_after_all, interfered}
 use Rattle.plc_xfer.specs.Typings.{is_type, all_types, IsEnvironment, IsWellFormed, led}
 use Rattle.plc_xfer.specs.Laws.{RulesKeepOrder}
-use Rattle.plc_xfer.proofs.Locations.{closure_in}
 use Rattle.plc_xfer.proofs.Facts.{type_facts, type_from, guarantees_all, pairs_all, null_is_type, bare_is_type, replicate_types, map_same, after_all_well_formed, interfered_well_formed}
 use Rattle.plc_xfer.proofs.Rows.{map_length}
 use Rattle.plc_xfer.proofs.Keeps.{after_all_shape, after_all_below, interfered_below, at_sooner}
+use Rattle.plc_auto.proofs.Closures.{closure_live}
 
 -- ---- bottom and entry
 
-replicate_below : (n : ℕ) (t u : PtrType) → type_below t u ≡ true → types_below (replicate n t) (replicate n u) ≡ true
+pub replicate_below : (n : ℕ) (t u : PtrType) → type_below t u ≡ true → types_below (replicate n t) (replicate n u) ≡ true
 replicate_below zero t u h = refl
 replicate_below (suc n) t u h = and_from _ _ h (replicate_below n t u h)
 
@@ -129,7 +129,7 @@ led_is o n m e prims x =
     let s = after_all_shape o e prims in
     let w = closure o true after.w in
     record {
-      anywhere = closure_in o true after.w y.anywhere;
+      anywhere = closure_live o true after.w y.anywhere;
       shared_types = map_same (bare w) after.shared ∙ ap (λ (k : ℕ). replicate k (bare w)) (s.0 ∙ shared_count o n m e x);
       count = map_length _ after.locals ∙ s.1 ∙ x.count;
       types = (interfered_well_formed o after y).local_types;

@@ -14,8 +14,8 @@ ghost use Rattle.plc_xfer.specs.Writes.{with_type, with_each};
 use crate::types::{set_type, type_of};
 use plc_auto::{EvKind, Observer};
 use plc_base::{FuncId, Items, Mask};
-use plc_lang::{Arg, Var};
-use plc_type::{Env, Guar, PtrType};
+use plc_lang::Var;
+use plc_type::{Env, PtrType};
 
 /// The locations after a call on this address or on another.
 fn on_either(m: &Mask, func: FuncId, observer: &Observer) -> Mask

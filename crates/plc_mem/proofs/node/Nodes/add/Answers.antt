@@ -1,7 +1,7 @@
 use Rattle.std.proofs.Common.{◌≡◌, ◌==◌, List, false, refl, sym, subst, ap, ◌∙◌}
 use Rattle.std.specs.List.{list_any}
 use Rattle.plc_mem.specs.State.{Node, fresh_node}
-use Rattle.plc_mem.specs.Fit.{addresses_of}
+use Rattle.plc_mem.specs.Access.{addresses_of}
 use Rattle.plc_mem.proofs.Index.{index_with}
 use Rattle.plc_mem.proofs.node.Nodes.add.Goals as goal
 

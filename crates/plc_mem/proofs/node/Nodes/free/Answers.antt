@@ -1,6 +1,6 @@
 use Rattle.std.proofs.Common.{map, ap, sym, ◌∙◌}
 use Rattle.plc_mem.specs.State.{cut_node}
-use Rattle.plc_mem.specs.Fit.{addresses_of}
+use Rattle.plc_mem.specs.Access.{addresses_of}
 use Rattle.plc_mem.proofs.Places.{items_mapped}
 use Rattle.plc_mem.proofs.Index.{index_without}
 use Rattle.plc_mem.proofs.node.Nodes.free.Goals as goal

@@ -3,7 +3,7 @@ use Rattle.plc_mem.specs.Outcomes.{address_or_null}
 use Rattle.plc_run.specs.Position.{Position}
 use Rattle.plc_run.specs.contracts.config.Config.{the_view}
 use Rattle.plc_run.proofs.Executing.{place_there, place_empty}
-use Rattle.plc_run.proofs.Stepping.{locals_back, locals_back_err}
+use Rattle.plc_run.proofs.Stepping.{locals_back, locals_back_err, has_locals, named_lent}
 use Rattle.plc_run.proofs.config.Config.act.Goals as goal
 
 pub put-requires : goal.put-requires
@@ -26,3 +26,18 @@ returns-clause-err c =
     let v = the_view c.self.inside in
     let held = sym c.take.ensures.taken ∙ c.in-Some.is in
     rw (← c.self.view_is) (locals_back_err v (the_view c.self-2.inside) c.act_with-done.new.self c.take.new.self c.put.new.self c.args.t c.in-Some.me c.act_with-done.new.me c.act_with-done.result held c.take.ensures.rest c.self-2.view_is c.act_with-done.ensures.err c.put.ensures.given)
+
+pub returns-in_default-clause-acts : goal.returns-in_default-clause-acts
+returns-in_default-clause-acts c = has_locals (the_view c.self.inside).here.state c.args.t c.args.prim.now _ (rw (← c.self.view_is) at c.requires.busy) (sym c.in_default.is ∙ c.take.ensures.taken)
+
+pub returns-in_default-clause-follows : goal.returns-in_default-clause-follows
+returns-in_default-clause-follows c = rw (← c.self.view_is) at c.requires.follows
+
+pub act_with-done-requires-clause-named : goal.act_with-done-requires-clause-named
+act_with-done-requires-clause-named c = named_lent (the_view c.self.inside).here.state c.take.new.self c.args.t c.in-Some.me c.args.prim.now (rw (← c.self.view_is) at c.requires.busy) (sym c.take.ensures.taken ∙ c.in-Some.is) c.take.ensures.rest
+
+pub act_with-done-requires-clause-follows : goal.act_with-done-requires-clause-follows
+act_with-done-requires-clause-follows c = rw (← c.self.view_is) at c.requires.follows
+
+pub returns-clause-follows : goal.returns-clause-follows
+returns-clause-follows c = rw (← c.self-2.view_is) at c.act_with-done.ensures.follows

@@ -19,3 +19,27 @@ returns-in-Blocked-clause-acts c =
 pub returns-in-Race-clause-acts : goal.returns-in-Race-clause-acts
 returns-in-Race-clause-acts c =
     rw (← c.self.view_is) (nothing_done c.args.t (address_or_null c.args.addr) c.args.prim.now (the_view c.self.inside) c.args.me.now (Race c.in-Race.kind) tt (sym c.in-Race.is ∙ c.outcome.ensures))
+
+pub returns-in-Blocked-clause-kept : goal.returns-in-Blocked-clause-kept
+returns-in-Blocked-clause-kept c = rw (← c.self.view_is) (record { locals = refl; fields = refl; shape = refl })
+
+pub returns-in-Race-clause-kept : goal.returns-in-Race-clause-kept
+returns-in-Race-clause-kept c = rw (← c.self.view_is) (record { locals = refl; fields = refl; shape = refl })
+
+pub returns-in_err-apply-in-Next-None-clause-kept : goal.returns-in_err-apply-in-Next-None-clause-kept
+returns-in_err-apply-in-Next-None-clause-kept c = rw (← c.self.view_is) c.apply.ensures.kept
+
+pub returns-in-Blocked-clause-follows : goal.returns-in-Blocked-clause-follows
+returns-in-Blocked-clause-follows c = c.requires.follows
+
+pub returns-in-Race-clause-follows : goal.returns-in-Race-clause-follows
+returns-in-Race-clause-follows c = c.requires.follows
+
+pub returns-in_err-apply-in-Next-None-clause-follows : goal.returns-in_err-apply-in-Next-None-clause-follows
+returns-in_err-apply-in-Next-None-clause-follows c = rw (← c.self.view_is) at c.requires.follows
+
+pub returns-in_ok-apply-in-Next-None-clause-follows : goal.returns-in_ok-apply-in-Next-None-clause-follows
+returns-in_ok-apply-in-Next-None-clause-follows c = rw (← c.self.view_is) at c.requires.follows
+
+pub returns-in_ok-apply-in-Next-None-clause-kept : goal.returns-in_ok-apply-in-Next-None-clause-kept
+returns-in_ok-apply-in-Next-None-clause-kept c = rw (← c.self.view_is) c.apply.ensures.kept

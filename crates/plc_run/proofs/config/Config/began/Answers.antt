@@ -7,7 +7,7 @@ pub returns-in_ok-c-in-Fine : goal.returns-in_ok-c-in-Fine
 returns-in_ok-c-in-Fine c =
     let tried = c.in_ok-tried.tried in
     let ran = c.in_ok-tried.ensures in
-    let first = begun_with c.args.flow.now c.args.threads tried.memory ran.left tried.events.items (replicate c.args.threads None) c.requires.some ran.others refl (rw c.in-Fine.is at ran.ends) in
+    let first = begun_with c.args.flow.now c.args.threads tried.memory ran.left tried.events.items (replicate c.args.threads None) c.requires.some ran.kept refl (rw c.in-Fine.is at ran.ends) in
     (c.in_ok-c-in-Fine.ensures.live, first ∙ ap Some (sym c.in_ok-c-in-Fine.ensures.here), c.in_ok-c-in-Fine.ensures.follows)
 
 pub returns-in-Stuck : goal.returns-in-Stuck

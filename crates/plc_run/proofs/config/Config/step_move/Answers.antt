@@ -26,7 +26,7 @@ returns c =
     let stands = subst (λ (q : Position). step_of c.args.flow.now c.args.nth (point_of q.here c.args.t) ≡ Some (c.in-Some.point, c.in-Some.step.now)) c.self.view_is at in
     let to = sym (stepped c.args.flow.now c.args.self.now.here c.args.t c.args.nth c.args.addr c.in-Some.point c.in-Some.step.now stands shaped) in
     record {
-      answer = subst (λ (x : Reached). IfOk c.take.result (λ r. r ≡ answer x)) to c.take.ensures.answer;
+      answer = subst (λ (x : Reached). IfOk c.take.result (λ r. r ≡ answer x)) to c.take.ensures.says;
       after = subst (λ (x : Reached). OnOk c.take.result (Reaches x c.args.self.now c.take.new.self)) to c.take.ensures.after;
       follows = c.take.ensures.follows;
       err = c.take.ensures.err;

@@ -5,7 +5,7 @@ use Rattle.plc_lang.specs.declared.syntax.Var.TheVariants.{Shared}
 use Rattle.plc_gc.specs.Fit.{Frame, frame, FrameHas}
 use Rattle.plc_gc.proofs.Claims.{claims_went, claims_stopped}
 use Rattle.plc_gc.proofs.Executing.{has_at}
-use Rattle.plc_gc.proofs.execute.claims.Goals as goal
+use Rattle.plc_gc.proofs.execute.note_claims.Goals as goal
 
 pub apply-requires-clause-there : goal.apply-requires-clause-there
 apply-requires-clause-there c =
