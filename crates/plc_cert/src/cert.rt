@@ -18,7 +18,7 @@ pub struct Cert {
 }
 
 /// Why bytes are no certificate.
-#[derive(Clone, Copy, Debug, PartialEq, Eq)]
+#[derive(Clone, Copy, PartialEq, Eq)]
 pub enum CertFault {
     /// They are no JSON text.
     NotJson,
@@ -31,7 +31,7 @@ pub enum CertFault {
 }
 
 /// The part of a certificate that isn't of its form.
-#[derive(Clone, Copy, Debug, PartialEq, Eq)]
+#[derive(Clone, Copy, PartialEq, Eq)]
 pub enum CertField {
     /// The whole: no object, or one whose members aren't just `env`, `trees` and `version`.
     Root,

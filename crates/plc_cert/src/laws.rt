@@ -12,7 +12,7 @@ pub fn written_is_read()
     ensures { (c : Cert) → CertFits c → reading (text c) ≡ Ok (stored c) }
 {}
 
-/// So is the text with a line feed after it.
+/// The text of such a certificate with a line feed after it is read as that certificate too.
 pub fn line_is_read()
     ensures { (c : Cert) → CertFits c → reading (text c ++ 10 ∷ []) ≡ Ok (stored c) }
 {}

@@ -11,7 +11,7 @@ use plc_ground::{Node, Tree};
 use serde_json::Value;
 use std::alloc::Global;
 
-/// What two items are.
+/// The split that two items are, if they are one.
 fn split(kind: &Value, clause: &Value) -> Option<Node>
     ensures { result ≡ split_of (view kind.now) (view clause.now) }
 {
@@ -22,7 +22,7 @@ fn split(kind: &Value, clause: &Value) -> Option<Node>
     }
 }
 
-/// What three items are.
+/// The leaf that three items are, if they are one.
 fn leaf(kind: &Value, left: &Value, right: &Value) -> Option<Node>
     ensures { result ≡ leaf_of (view kind.now) (view left.now) (view right.now) }
 {

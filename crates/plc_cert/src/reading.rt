@@ -47,7 +47,7 @@ fn root(value: &Value) -> Option<(&Value, &Value, &Value)>
     values(&mut value.as_object()?.iter())
 }
 
-/// That it is version 1.
+/// Ok where the version is 1.
 fn version(value: &Value) -> Result<(), CertFault>
     ensures { result ≡ with_version (whole_of (view value.now)) (Ok tt) }
 {

@@ -22,7 +22,7 @@ pub enum Certified {
     No(Verdict),
 }
 
-/// What there is to show where there is a typing: the trees decide.
+/// What there is to show of a file that has a typing: a certificate where its outline holds, else the verdict.
 fn certify_outline(alloc: Global, judged: &Judged, typing: Typing) -> Result<Certified, NoMemory>
     requires fits { Fits judged.now.flow judged.now.unit_outline }
     requires typing { IsStrongestTyping judged.now typing }

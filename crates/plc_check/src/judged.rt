@@ -1,6 +1,5 @@
 // What is judged: the flow of a file with its outline, its observer and its schemes, and why bytes give none.
-// A fault that wraps a lower call's fault never is the lower call's running out of memory, which is `Memory`
-// here.
+// That memory ran out in a lower call is always told as `Memory`, and never wrapped in another fault.
 ghost use Rattle.plc_check.specs.declared.judged.LoadFault.TheVariants.{Memory};
 
 use plc_auto::Observer;

@@ -18,7 +18,7 @@ use plc_reclaim::{Scheme, schemes_of};
 use plc_scope::ParseFault;
 use std::alloc::Global;
 
-/// Where a lower call runs out of memory so does this one.
+/// The refusal that a fault of the lexer is; that memory ran out there is told as `Memory`.
 fn lex_refusal(fault: LexFault) -> LoadFault
     ensures { result ≡ lex_refusal fault }
 {
@@ -28,7 +28,7 @@ fn lex_refusal(fault: LexFault) -> LoadFault
     }
 }
 
-/// The line of the end.
+/// The line on which the bytes end.
 fn end_line(bytes: &[u8]) -> u32
     requires { length bytes.now ≤ largest_file }
     ensures { result ≡ 1 + line_feeds bytes.now }
@@ -77,7 +77,7 @@ fn unplaced(fault: ParseFault) -> LoadFault
     }
 }
 
-/// The refusal that a fault of the parser is; where the fault has a place its line is told with it.
+/// The refusal that a fault of the parser is, with its line where the fault has a place.
 fn parse_refusal(bytes: &[u8], tokens: &[Token], fault: ParseFault) -> LoadFault
     requires { length bytes.now ≤ largest_file }
     ensures { result ≡ parse_refusal bytes.now tokens.now fault }
@@ -91,7 +91,7 @@ fn parse_refusal(bytes: &[u8], tokens: &[Token], fault: ParseFault) -> LoadFault
     }
 }
 
-/// Where the flow has too many points a limit is passed.
+/// The refusal that a fault of the lowering is: too many points pass a limit.
 fn flow_refusal(fault: FlowFault) -> LoadFault
     ensures { result ≡ flow_refusal fault }
 {
@@ -104,7 +104,7 @@ fn flow_refusal(fault: FlowFault) -> LoadFault
     }
 }
 
-/// What is judged of a unit, with what the reclaimer is told.
+/// What is judged of a unit, with the schemes of its observer.
 fn lowered_with(alloc: Global, unit: Unit, schemes: Items<Scheme>) -> Result<Judged, LoadFault>
     requires { schemes ≡ schemes_of unit.observer }
     ensures { IsLowered unit result }

@@ -57,6 +57,7 @@ fn make_tree(
     }
 }
 
+/// A copy of the tree with this number.
 fn copy_of(alloc: Global, trees: &[Tree], at: usize) -> Result<Tree, NoMemory>
     requires { at < length trees.now }
     ensures { IfOk result (λ tree. slice_get trees.now at ≡ Some tree) }

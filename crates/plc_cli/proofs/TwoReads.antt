@@ -1,14 +1,11 @@
 -- One read, and two, one after the other: what is known before the first and after the last.
-use Rattle.std.proofs.Common.{◌≡◌, ◌≢◌, ◌≤◌, ◌<◌, inl, inr, ℕ, Bool, true, false, List, [], ◌∷◌, ◌++◌, Option, Some, None, length, refl, sym, ap, ◌∙◌, subst, arith, append_assoc, append-nil}
+use Rattle.std.proofs.Common.{◌≡◌, ◌<◌, inl, inr, ℕ, List, [], ◌∷◌, ◌++◌, Option, Some, None, length, ap, ◌∙◌, subst, arith, append_assoc, append-nil}
 use Rattle.std.specs.Prelude.{IfSome}
-use Rattle.std.specs.Str.{bytes_eq}
-use Rattle.std.proofs.lemmas.Bool.{false≢true}
-use Rattle.std.proofs.lemmas.Slice.Eq.{bytes_eq-Decides}
 use Rattle.plc_base.specs.Limits.{largest_file}
 use Rattle.plc_outside.specs.Known.{KnownFiles}
 use Rattle.plc_outside.specs.Reading.{Reading}
 use Rattle.plc_cli.specs.Reads.{FilesAreKept, NoFaultBut, Only, Either, reading}
-use Rattle.plc_cli.specs.Reads.{IsUnread, IsUnreadPair, IsGivenFile, IsSecondUnread, IsGivenPair}
+use Rattle.plc_cli.specs.Reads.{IsUnread, IsUnreadPair, IsSecondUnread, IsGivenPair}
 use Rattle.plc_cli.specs.Statuses.{unread}
 use Rattle.plc_cli.specs.Views.{IsFound}
 
@@ -28,22 +25,6 @@ module _ (status : ℕ) (text : List ℕ) where
       IsUnreadPair old new first second most status text → status ≡ unread
   unread_pair_status old new first second most (inl none) = unread_status _ _ _ _ _ _ none
   unread_pair_status old new first second most (inr none) = unread_status _ _ _ _ _ _ none.unread
-
--- a read lowers no count
-pub one_read_keeps : (old new : KnownFiles) (name : List ℕ) → ((other : List ℕ) → new.content other ≡ old.content other) → ((other : List ℕ) → other ≢ name → new.faults other ≡ old.faults other) → old.faults name ≤ new.faults name → FilesAreKept old new
-one_read_keeps old new name content others later = record { content = content; faults = λ other. go other (bytes_eq other name) refl }
-  where
-    go : (other : List ℕ) (b : Bool) → bytes_eq other name ≡ b → old.faults other ≤ new.faults other
-    go other true e = subst (λ (n : List ℕ). old.faults n ≤ new.faults n) (sym ((bytes_eq-Decides other name).0 e)) later
-    go other false e = omega (arith, others other (λ is. false≢true (sym e ∙ (bytes_eq-Decides other name).1 is)))
-
--- nothing was read
-pub none_read_keeps : (old : KnownFiles) → FilesAreKept old old
-none_read_keeps old = record { content = λ name. refl; faults = λ name. omega arith }
-
--- the file that a command with one file reads
-pub given_file : (old new : KnownFiles) (name bytes : List ℕ) → IsFound old new name largest_file bytes → IsGivenFile old new name bytes
-given_file old new name bytes found = record { others = found.others; read = found.read; gave = found.gave }
 
 module _ (old mid new : KnownFiles) (first second : List ℕ) (most : ℕ) (a : FilesAreKept old mid) where
   pub two_reads_keep : FilesAreKept mid new → FilesAreKept old new

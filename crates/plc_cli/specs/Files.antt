@@ -51,10 +51,6 @@ IsAnswerTo bytes status text = IsAnsweredFile (λ u. IsJudgedAs (judged_of u)) b
 
 -- ---- the file in canonical text
 
--- the unit that was loaded
-abbrev pub unit_of : Judged → FileUnit
-unit_of j = record { file = j.flow.file; observer = j.observer; outline = j.unit_outline }
-
 -- the canonical text of the unit
 pub record IsPrintedAs (unit : FileUnit) (status : ℕ) (text : List ℕ) : Type 0 where
   pub status_is : status ≡ holds

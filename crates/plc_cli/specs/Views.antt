@@ -1,7 +1,9 @@
--- What the program's requests and the contents that it read stand for.
+-- What the program's requests, the contents that it read and a file that was loaded stand for.
 use Rattle.std.specs.Prelude.{ℕ, ◌<◌, ◌≤◌, List, [], ◌∷◌}
 use Rattle.plc_outside.specs.Known.{KnownFiles}
 use Rattle.plc_base.specs.Limits.{most_copies}
+use Rattle.plc_parse.specs.declared.unit.Unit.{Unit as FileUnit}
+use Rattle.plc_check.specs.declared.judged.Judged.{Judged}
 use Rattle.plc_sample.specs.Numbers.{sample_lines}
 use Rattle.plc_cli.specs.declared.words.Request.{Request as Asked}
 use Rattle.plc_cli.specs.declared.words.Request.TheVariants as asked
@@ -48,3 +50,7 @@ AreContentsOf old new first second most (two.Read bytes more) =
     IsGivenPair old new first second most bytes.items more.items
 AreContentsOf old new first second most (two.Unread answer) =
     IsUnreadPair old new first second most answer.status answer.text.items
+
+-- the unit that was loaded
+abbrev pub unit_of : Judged → FileUnit
+unit_of j = record { file = j.flow.file; observer = j.observer; outline = j.unit_outline }

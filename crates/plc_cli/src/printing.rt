@@ -1,5 +1,6 @@
 // A file in canonical text.
-ghost use Rattle.plc_cli.specs.Files.{IsPrintedAs, unit_of};
+ghost use Rattle.plc_cli.specs.Files.{IsPrintedAs};
+ghost use Rattle.plc_cli.specs.Views.{unit_of};
 
 use crate::answer::Answer;
 use crate::asking::Question;

@@ -19,7 +19,7 @@ ghost use Rattle.plc_ground.specs.Model.{IsCongruent};
 ghost use Rattle.plc_ground.specs.declared.terms.Lit.{Lit};
 
 use crate::table::Applications;
-use crate::terms::{GroundSet, GroundTerm, Lit};
+use crate::terms::{GroundSet, GroundTerm, Lit, term_at};
 use plc_base::Items;
 use std::alloc::{AllocError, Global};
 
@@ -138,7 +138,7 @@ fn has_argument_in(set: &GroundSet, class: &[u32], i: usize, x: u32) -> bool
     ensures yes { IsTrue result → HasArgumentIn set.now.terms class.now x i }
     ensures no { HasArgumentIn set.now.terms class.now x i → IsTrue result }
 {
-    match set.terms.as_slice()[i] {
+    match term_at(set, i) {
         GroundTerm::App { arg, .. } => class[arg as usize] == x,
         GroundTerm::Const(_) => false,
     }

@@ -2,7 +2,6 @@
 use Rattle.std.proofs.Common.{◌≡◌, ℕ, ◌<◌, Bool, true, false, not, ◌||◌, ◌==◌, List, [], ◌∷◌, Option, Some, None, slice_get, refl, ap, ap₂, ◌∙◌, arith}
 use Rattle.std.specs.Prelude.{if◌then◌else◌}
 use Rattle.std.specs.List.{list_any}
-use Rattle.plc_base.proofs.Tables.{get-put_other}
 use Rattle.plc_lang.specs.declared.syntax.Local.{Local}
 use Rattle.plc_lang.specs.declared.syntax.Field.{Field}
 use Rattle.plc_lang.specs.Numbering.{pointer_number, data_number}
@@ -18,9 +17,9 @@ use Rattle.plc_logic.specs.Fit.{InReach, IsNode, HasSort, LiteralFits}
 use Rattle.plc_gc.specs.declared.slot.Slot.TheVariants.{Shared as in_shared, Local as in_local, Data as in_data}
 use Rattle.plc_gc.specs.declared.slot.Map.{Map}
 use Rattle.plc_gc.specs.declared.slot.Map.TheVariants.{Auxiliary as auxiliary_field, Retirement as retirement}
-use Rattle.plc_gc.specs.State.{GcState, Locals, value, entry, count, locals_or_none, locals_of, with_locals}
+use Rattle.plc_gc.specs.State.{GcState, Locals, value, entry, count, locals_of, with_locals}
 use Rattle.plc_gc.specs.Clauses.{declared_value, local_value, declared_map, field_map, base_node, term_value, literal_holds, Holds}
-use Rattle.plc_gc.proofs.Views.{gives}
+use Rattle.plc_gc.proofs.Views.{gives, locals-with_other}
 use Rattle.plc_flow.proofs.Each.{Each, each_so}
 
 -- ---- two states
@@ -73,10 +72,6 @@ each_same g h who same cs all = each_so (Holds g who) (Holds h who) (holds_same 
 
 -- ---- locals of another thread
 
-others_locals : (g : GcState) (t : ℕ) (l : Option Locals) (u : ℕ) → (u ≡ t → ⊥) → locals_of (with_locals g t l) u ≡ locals_of g u
-unfolding locals_of with_locals
-others_locals g t l u ne = ap locals_or_none (get-put_other None g.locals t l u ne)
-
 pub given_fields : (g : GcState) (t : ℕ) (l : Option Locals) → (with_locals g t l).fields ≡ g.fields
 unfolding with_locals
 given_fields g t l = refl
@@ -95,7 +90,7 @@ pub other_sees : (g : GcState) (t : ℕ) (l : Option Locals) (u : ℕ) → (u �
 other_sees g t l u ne = record {
   shared = (gives g t l).shared;
   locals = λ k. declared_same g t l u ne (locals_of (with_locals g t l) u).declared k (slice_get (locals_of (with_locals g t l) u).declared k)
-      ∙ ap (λ (m : Locals). declared_value g u m.declared k (slice_get m.declared k)) (others_locals g t l u ne);
+      ∙ ap (λ (m : Locals). declared_value g u m.declared k (slice_get m.declared k)) (locals-with_other g t l u ne);
   entries = (gives g t l).nodes.entries;
   count = (gives g t l).nodes.count;
   fields = given_fields g t l;

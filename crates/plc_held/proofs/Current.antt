@@ -6,7 +6,7 @@ use Rattle.plc_ground.specs.declared.terms.Symbol.{Symbol}
 use Rattle.plc_ground.specs.declared.terms.Map.{Map}
 use Rattle.plc_setting.specs.declared.acts.Act.{Act}
 use Rattle.plc_setting.specs.declared.acts.Act.TheVariants.{Assign, Make, Fetch, Update, Test, Skip}
-use Rattle.plc_setting.specs.Setting.{is_fetch}
+use Rattle.plc_held.proofs.Fetches.{is_fetch}
 use Rattle.plc_items.specs.declared.execution.Execution.{Execution}
 use Rattle.plc_items.specs.Execution.{version, after}
 use Rattle.plc_ground.specs.Symbols.{same_map}

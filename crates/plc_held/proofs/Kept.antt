@@ -17,7 +17,8 @@ use Rattle.plc_gc.specs.State.{GcState, Locals, locals_of, with_locals, starting
 use Rattle.plc_gc.specs.Clauses.{Holds}
 use Rattle.plc_gc.specs.Ranges.{IsInRange, ValuesAreInRange}
 use Rattle.plc_gc.specs.Run.{GcConfiguration, GcRun, begin, more, Moves, MayTake, point_of, execute}
-use Rattle.plc_gc.specs.Threads.{IsBusyAt, GcConfigurationFits}
+use Rattle.plc_gc.specs.Threads.{GcConfigurationFits}
+use Rattle.plc_gc.proofs.Busy.{IsBusyAt}
 use Rattle.plc_gc.proofs.Frames.{held_is}
 use Rattle.plc_gc.proofs.Ranges.{ranged_run}
 use Rattle.plc_gc.proofs.Threads.{busy_at, run_fits}

@@ -1,6 +1,7 @@
 pub mod Numbering
 pub mod Acts
 pub mod Meaning
+pub mod Fetches
 pub mod Current
 pub mod Future
 pub mod Executed

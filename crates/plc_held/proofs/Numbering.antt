@@ -19,7 +19,8 @@ use Rattle.plc_symbolic.specs.declared.symbolic.SymbolicLit.{SymbolicLit}
 use Rattle.plc_symbolic.specs.Terms.{Clauses, term_of}
 use Rattle.plc_symbolic.specs.Numbering.{place, IsListed, number, number_lit, blank, listed_all, written_all, numbered}
 use Rattle.plc_symbolic.specs.Drafts.{begun}
-use Rattle.plc_symbolic.specs.Tidy.{IsTidy, HasSides}
+use Rattle.plc_symbolic.specs.Tidy.{IsTidy}
+use Rattle.plc_symbolic.proofs.Sides.{HasSides}
 use Rattle.plc_flow.proofs.Each.{Each}
 use Rattle.plc_symbolic.proofs.Places.{place_read, listed_at, argument_listed}
 use Rattle.plc_symbolic.proofs.Drafts.{kept, lists_all, writes_all, written_all-clauses, listed_all-clauses}

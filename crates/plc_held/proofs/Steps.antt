@@ -4,7 +4,6 @@ use Rattle.std.proofs.lemmas.Bool.{eqb-true}
 use Rattle.std.proofs.lemmas.List.{length-map}
 use Rattle.std.proofs.lemmas.List.Sums.{sum_by-take-le}
 use Rattle.std.proofs.lemmas.Option.{slice_get_within}
-use Rattle.plc_lang.specs.declared.syntax.File.{File}
 use Rattle.plc_lang.specs.declared.syntax.Primitive.{Primitive}
 use Rattle.plc_lang.specs.declared.syntax.Primitive.TheVariants.{Active}
 use Rattle.plc_lang.specs.Allocation.{is_new}
@@ -33,7 +32,7 @@ use Rattle.plc_gc.specs.Claims.{claim_holds, ClaimsHold}
 use Rattle.plc_gc.specs.Primitives.{goes, after}
 use Rattle.plc_gc.specs.Ranges.{IsInRange, ValuesAreInRange}
 use Rattle.plc_gc.specs.Run.{turn, execute}
-use Rattle.plc_gc.specs.Threads.{IsBusyAt}
+use Rattle.plc_gc.proofs.Busy.{IsBusyAt}
 use Rattle.plc_gc.proofs.Frames.{held_is}
 use Rattle.plc_flow.proofs.Each.{Each, each_both, each_get}
 use Rattle.plc_oblig.proofs.Lists.{each_place, each_of_all}
@@ -44,13 +43,11 @@ use Rattle.plc_oblig.proofs.Standing.{Stands, point_clauses_fit, op_locals, loca
 use Rattle.plc_held.proofs.Obliged.{AreMet}
 use Rattle.plc_held.proofs.Concluding.{invariant_read, point_read, invariants_hold, point_hold, concludes, claims_truly}
 use Rattle.plc_held.proofs.Parameters.{shape_fits}
+use Rattle.plc_base.proofs.Lists.{slice_left}
+use Rattle.plc_setting.proofs.ActSorts.{front_in}
+use Rattle.plc_setting.proofs.Fitting.{sorted_front}
 
 -- ---- lists
-
-slice_left : {A : Type 0} (xs ys : List A) (i : ℕ) (x : A) → slice_get xs i ≡ Some x → slice_get (xs ++ ys) i ≡ Some x
-slice_left [] ys i x at = cc
-slice_left (y ∷ xs) ys zero x at = at
-slice_left (y ∷ xs) ys (suc i) x at = slice_left xs ys i x at
 
 slice_right : {A : Type 0} (xs ys : List A) (i : ℕ) (x : A) → slice_get ys i ≡ Some x → slice_get (xs ++ ys) (length xs + i) ≡ Some x
 slice_right [] ys i x at = ap (slice_get ys) (let same : 0 + i ≡ i = omega arith in same) ∙ at
@@ -60,16 +57,6 @@ names_at : (h : Shape) (ks : List Primitive) (j : ℕ) (k : Primitive) → Primi
 names_at h [] j k is at = cc
 names_at h (x ∷ ks) zero k is at = subst (PrimitiveIn h) (let same : x ≡ k = cc in same) is.0
 names_at h (x ∷ ks) (suc j) k is at = names_at h ks j k is.1 at
-
-names_take : (h : Shape) (j : ℕ) (ks : List Primitive) → PrimitivesIn h ks → PrimitivesIn h (take j ks)
-names_take h zero ks is = tt
-names_take h (suc j) [] is = tt
-names_take h (suc j) (k ∷ ks) is = (is.0, names_take h j ks is.1)
-
-sorted_take : (file : File) (j : ℕ) (ks : List Primitive) → AreWellSorted file ks → AreWellSorted file (take j ks)
-sorted_take file zero ks is = tt
-sorted_take file (suc j) [] is = tt
-sorted_take file (suc j) (k ∷ ks) is = (is.0, sorted_take file j ks is.1)
 
 pub clauses_counted : (flow : Flow) (outline : Outline) (p c : ℕ) (x : Clause) → slice_get (clauses_at flow outline p) c ≡ Some x → c < count_at flow outline p
 clauses_counted flow outline p c x at = (let less = slice_get_within (clauses_at flow outline p) c x at in let n = length-map (filter (stands_at flow p) outline.items) (λ i. i.clause) in omega arith)
@@ -190,7 +177,7 @@ module _ (flow : Flow) (outline : Outline) (fits : Fits flow outline) (met : Are
 
   claim_ready : (j : ℕ) (h : GcState) → execute g t (take j step.prims) ≡ Some h → IsReady flow outline (Claim (step_id of_flow.place) j) t (suc t) g h
   claim_ready j h e = ready (Claim (step_id of_flow.place) j) (take j step.prims) (suc t) h other_thread (ap (take j) prims) its_locals its_premises (λ b. tt) (λ b. tt)
-      (names_take (shape_of flow.file is.busy.operation) j step.prims names) (sorted_take flow.file j step.prims sorted_all) (let le = sum_by-take-le (λ x. cond (is_new x) 1 0) step.prims j in let n = one in omega arith) e
+      (front_in (shape_of flow.file is.busy.operation) j step.prims names) (sorted_front flow.file j step.prims sorted_all) (let le = sum_by-take-le (λ x. cond (is_new x) 1 0) step.prims j in let n = one in omega arith) e
 
   pub claims_true : ClaimsHold g t step.prims
   unfolding claim_ready ready

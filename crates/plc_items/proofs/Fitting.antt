@@ -23,7 +23,6 @@ use Rattle.plc_logic.specs.declared.clause.Sort.{Sort}
 use Rattle.plc_logic.specs.declared.clause.Term.{Term}
 use Rattle.plc_logic.specs.declared.clause.Term.TheVariants as terms
 use Rattle.plc_logic.specs.Fit.{InReach, HasSort, LiteralFits, ClauseFits, SiteFits, in_reach_of}
-use Rattle.plc_logic.specs.Negation.{negation}
 use Rattle.plc_setting.specs.declared.obligations.Obligation.{Obligation}
 use Rattle.plc_setting.specs.declared.obligations.Obligation.TheVariants.{Start, Enter, Own, Other, Claim}
 use Rattle.plc_setting.specs.declared.setting.Setting.{Setting}
@@ -56,11 +55,6 @@ value_in w terms.Nobody s few p = tt
 values_in_literal : (w : InReach) (l : Literal) → sum_by values_in w.file.ghosts < 65536 → LiteralFits w l → ValuesIn w.file.ghosts l
 values_in_literal w (literals.Same a b equal) few p = (value_in w a p.0 few p.1, value_in w b p.0 few p.2)
 values_in_literal w (literals.Retired b is_so) few p = tt
-
--- a literal's negation has the same values
-pub values_in_negation : (ghosts : List Ghost) (l : Literal) → ValuesIn ghosts l → ValuesIn ghosts (negation l)
-values_in_negation ghosts (literals.Same a b equal) p = p
-values_in_negation ghosts (literals.Retired b is_so) p = p
 
 -- ---- clauses
 

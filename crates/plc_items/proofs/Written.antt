@@ -14,15 +14,6 @@ use Rattle.plc_setting.specs.Setting.{below}
 pub written-append : (d : Drafted) (a b : Clauses) → written_all d (a ++ b) ≡ written_all (written_all d a) b
 written-append d a b = fold-append written d a b
 
--- a clause for each item
-pub written-map : {X : Type 0} (f : X → List SymbolicLit) (d : Drafted) (xs : List X) (i : ℕ) (x : X) → i < length xs
-    → written_all d (map f (drop i xs)) ≡ written_all (written d (f (get_or xs i x))) (map f (drop (i + 1) xs))
-written-map f d xs i x h = at_drop_more (λ ys. written_all d (map f ys)) xs i x h
-
-pub written-map_end : {X : Type 0} (f : X → List SymbolicLit) (d : Drafted) (xs : List X) (i : ℕ) → length xs ≤ i
-    → written_all d (map f (drop i xs)) ≡ d
-written-map_end f d xs i h = at_drop_all (λ ys. written_all d (map f ys)) xs i h
-
 -- clauses for each item
 pub written-flat_map : {X : Type 0} (f : X → Clauses) (d : Drafted) (xs : List X) (i : ℕ) (x : X) → i < length xs
     → written_all d (flat_map f (drop i xs))

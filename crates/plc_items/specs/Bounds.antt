@@ -1,6 +1,7 @@
 -- What private calls ask, so that numbers of 16 bits don't wrap.
 use Rattle.std.specs.Prelude.{◌≡◌, ◌<◌, ◌≤◌, ℕ, List, length, map, filter, All, Option, Some, None}
 use Rattle.std.specs.List.{sum_by}
+use Rattle.plc_base.specs.Limits.{most_bound}
 use Rattle.plc_lang.specs.declared.syntax.Ghost.{Ghost}
 use Rattle.plc_lang.specs.Numbering.{value_number, values_in}
 use Rattle.plc_flow.specs.declared.flow.Flow.{Flow}
@@ -37,9 +38,9 @@ abbrev pub ValuesIn : List Ghost → Literal → Type 0
 ValuesIn ghosts (literals.Same a b equal) = ValueIn ghosts a × ValueIn ghosts b
 ValuesIn ghosts (literals.Retired b is_so) = Unit {0}
 
--- the same of every literal of a clause, which has at most two names
+-- the same of every literal of a clause, which has no more names than it may
 pub record ClauseIn (ghosts : List Ghost) (c : Clause) : Type 0 where
-  pub names : length c.bound.names ≤ 2
+  pub names : length c.bound.names ≤ most_bound
   pub values : All (ValuesIn ghosts) c.literals
 
 abbrev pub ItemIn : List Ghost → Item → Type 0

@@ -16,14 +16,14 @@ use plc_lang::Local;
 use plc_setting::{Obligation, Setting, acting_locals};
 use plc_symbolic::{Draft, SymbolicTerm, is};
 
-/// Two constants are equal.
+/// Writes that two constants are equal.
 fn push_equal(left: Symbol, right: Symbol, out: &mut Draft) -> Result<(), NoMemory>
     ensures { OnOk result (out.new ≡ written out.old (equals left right)) }
 {
     out.push(&[is(SymbolicTerm::Constant(left), SymbolicTerm::Constant(right))])
 }
 
-/// The one node that there may be is the new one.
+/// Writes that a node is the new one, the only one there may be: an empty clause where none is made.
 fn push_only_new(makes: bool, c: Symbol, out: &mut Draft) -> Result<(), NoMemory>
     ensures { OnOk result (out.new ≡ written out.old (only_new makes c)) }
 {
@@ -33,7 +33,7 @@ fn push_only_new(makes: bool, c: Symbol, out: &mut Draft) -> Result<(), NoMemory
     out.push(&[])
 }
 
-/// The shared pointers are null.
+/// Writes that the shared pointers are null.
 fn push_shared_null(shared: u16, out: &mut Draft) -> Result<(), NoMemory>
     ensures { OnOk result (out.new
         ≡ written_all out.old (map (λ i. equals (symbols.Shared i) symbols.Null) (below shared))) }
@@ -44,7 +44,7 @@ fn push_shared_null(shared: u16, out: &mut Draft) -> Result<(), NoMemory>
     Ok(())
 }
 
-/// Each bound node is null or the new one.
+/// Writes that each bound node is the new one, the only one there may be.
 fn push_bound_new(makes: bool, bound: u16, out: &mut Draft) -> Result<(), NoMemory>
     ensures { OnOk result (out.new
         ≡ written_all out.old (map (λ i. only_new makes (symbols.Bound i)) (below bound))) }
@@ -55,7 +55,7 @@ fn push_bound_new(makes: bool, bound: u16, out: &mut Draft) -> Result<(), NoMemo
     Ok(())
 }
 
-/// What is known before `init`.
+/// Writes what is known before `init`.
 fn push_start(shared: u16, s: &Setting, out: &mut Draft) -> Result<(), NoMemory>
     ensures { OnOk result (out.new ≡ written_all out.old (start_clauses shared s.now)) }
 {
@@ -70,7 +70,7 @@ fn is_other_data(local: &Local) -> bool
     !local.pointer && !local.param
 }
 
-/// Data that are no parameters are 0.
+/// Writes that data locals which are no parameters are 0.
 fn push_zeros(locals: &[Local], out: &mut Draft) -> Result<(), NoMemory>
     requires { length locals.now < 65536 }
     ensures { OnOk result (out.new ≡ written_all out.old
@@ -84,7 +84,7 @@ fn push_zeros(locals: &[Local], out: &mut Draft) -> Result<(), NoMemory>
     Ok(())
 }
 
-/// These pointers are null.
+/// Writes that these pointers are null.
 fn push_nulls(pointers: &[Symbol], out: &mut Draft) -> Result<(), NoMemory>
     ensures { OnOk result (out.new ≡ written_all out.old (map (λ p. equals p symbols.Null) pointers.now)) }
 {
@@ -94,7 +94,7 @@ fn push_nulls(pointers: &[Symbol], out: &mut Draft) -> Result<(), NoMemory>
     Ok(())
 }
 
-/// What is known of locals when an operation begins.
+/// Writes what is known of locals when an operation begins.
 fn push_enter(locals: &[Local], s: &Setting, out: &mut Draft) -> Result<(), NoMemory>
     requires { length locals.now < 65536 }
     ensures { OnOk result (out.new ≡ written_all out.old (enter_clauses locals.now s.now)) }
@@ -103,7 +103,7 @@ fn push_enter(locals: &[Local], s: &Setting, out: &mut Draft) -> Result<(), NoMe
     push_zeros(locals, out)
 }
 
-/// What holds at first, by the kind of the obligation.
+/// Writes what holds at first, by the kind of the obligation.
 pub fn push_beginning(
     flow: &Flow,
     s: &Setting,

@@ -26,7 +26,7 @@ use plc_setting::{Setting, claim_made, conclusion, pointer_symbol};
 use plc_symbolic::{Draft, NodeTerm, SymbolicTerm, applied, is, is_not};
 use std::alloc::Global;
 
-/// Each bound node isn't null.
+/// Writes that no bound node is null.
 fn push_nodes(bound: u16, out: &mut Draft) -> Result<(), NoMemory>
     ensures { OnOk result (out.new
         ≡ written_all out.old (map (λ i. is_not (Constant (symbols.Bound i)) null ∷ []) (below bound))) }
@@ -51,7 +51,7 @@ fn bound_nodes(alloc: Global, bound: u16) -> Result<Items<NodeTerm>, NoMemory>
     Ok(nodes)
 }
 
-/// Each literal is false.
+/// Writes that each literal is false.
 fn push_denied(r: &Reading, literals: &[Literal], out: &mut Draft) -> Result<(), NoMemory>
     requires versions { length r.now.execution.now.written < 65536 }
     requires few { sum_by values_in r.now.ghosts.now < 65536 }
@@ -66,7 +66,7 @@ fn push_denied(r: &Reading, literals: &[Literal], out: &mut Draft) -> Result<(),
     Ok(())
 }
 
-/// The clause is false at the bound nodes.
+/// Writes that the clause is false at the bound nodes.
 fn push_denied_clause(
     alloc: Global,
     ghosts: &[Ghost],
@@ -96,7 +96,7 @@ fn push_denied_clause(
     push_denied(&r, clause.literals.as_slice(), out)
 }
 
-/// The claim on a pointer is false: it leads to a node that is retired.
+/// Writes that the claim on a pointer is false: it leads to a node that is retired.
 fn push_claim(x: &Execution, p: Symbol, out: &mut Draft) -> Result<(), NoMemory>
     requires { length x.now.written < 65536 }
     ensures { OnOk result (out.new ≡ written_all out.old
@@ -113,7 +113,7 @@ fn push_claim(x: &Execution, p: Symbol, out: &mut Draft) -> Result<(), NoMemory>
     out.push(&[is(retired, SymbolicTerm::Constant(Symbol::Yes))])
 }
 
-/// What is concluded is false after the step.
+/// Writes that the claim is false where it is made.
 fn push_denied_claim(
     s: &Setting,
     x: &Execution,
@@ -129,7 +129,7 @@ fn push_denied_claim(
     }
 }
 
-/// The conclusion is false.
+/// Writes that the conclusion is false.
 pub fn push_conclusion(w: &Subject, x: &Execution, out: &mut Draft) -> Result<(), NoMemory>
     requires fits { Fits w.now.flow.now w.now.outline.now }
     requires versions { length x.now.written < 65536 }

@@ -64,14 +64,14 @@ fn held(x: &Execution, symbol: Symbol) -> SymbolicTerm
     SymbolicTerm::Constant(current(x, symbol))
 }
 
-/// The pointer isn't null.
+/// Writes that the pointer isn't null.
 pub fn push_not_null(x: &Execution, p: Symbol, out: &mut Draft) -> Result<(), NoMemory>
     ensures { OnOk result (out.new ≡ written out.old (not_null x.now p)) }
 {
     out.push(&[is_not(held(x, p), SymbolicTerm::Constant(Symbol::Null))])
 }
 
-/// The variable holds this constant now.
+/// Gives a variable a constant, which it holds from now on.
 fn assign(x: &mut Execution, to: Symbol, value: Symbol) -> Result<(), NoMemory>
     ensures { OnOk result (x.new ≡ assigned x.old to value) }
 {
@@ -79,7 +79,7 @@ fn assign(x: &mut Execution, to: Symbol, value: Symbol) -> Result<(), NoMemory>
     Ok(())
 }
 
-/// The variable holds what the field has at the node, which is read.
+/// Gives a variable what the field has at the node, which is read.
 fn fetch(
     x: &mut Execution,
     to: Symbol,
@@ -101,7 +101,7 @@ fn fetch(
     Ok(())
 }
 
-/// The next version of a map, which differs from this one at most at the node that is written.
+/// Writes at one node that the next version of a map differs from this one at most at the node that is written.
 fn push_update_at(
     map: Map,
     version: u16,
@@ -119,7 +119,7 @@ fn push_update_at(
     out.push(&[is(term, at), is(next, applied(map, version, node))])
 }
 
-/// The next version of a map, node by node.
+/// Writes the next version of a map, node by node.
 fn push_updates(
     map: Map,
     version: u16,
@@ -137,7 +137,7 @@ fn push_updates(
     Ok(())
 }
 
-/// The map gets a value at a node.
+/// Gives a map a value at a node.
 fn update(
     x: &mut Execution,
     map: Map,
@@ -159,7 +159,7 @@ fn update(
     Ok(())
 }
 
-/// Two variables are equal, or are not.
+/// Writes that two variables are equal, or are not.
 fn test(
     x: &Execution,
     left: Symbol,
@@ -176,7 +176,7 @@ fn test(
     out.push(&[is_not(left, right)])
 }
 
-/// The pointer isn't null, where that is asked.
+/// Writes that the pointer isn't null, where that is asked.
 fn push_checked(x: &Execution, checked: bool, p: Symbol, out: &mut Draft) -> Result<(), NoMemory>
     ensures { OnOk result (out.new ≡ written_all out.old (if_checked checked (not_null x.now p))) }
 {
@@ -186,7 +186,7 @@ fn push_checked(x: &Execution, checked: bool, p: Symbol, out: &mut Draft) -> Res
     Ok(())
 }
 
-/// Takes one more act: the clauses that it writes, and what holds after it.
+/// Takes one more act: writes its clauses, and keeps what holds after it.
 fn act(x: &mut Execution, a: Act, nodes: &[NodeTerm], out: &mut Draft) -> Result<(), NoMemory>
     requires written { length x.old.written < 65535 }
     requires loads { x.old.loads < 65535 }
@@ -214,7 +214,7 @@ fn act(x: &mut Execution, a: Act, nodes: &[NodeTerm], out: &mut Draft) -> Result
     }
 }
 
-/// The clauses of what is executed, act by act. The answer is what was executed.
+/// Writes the clauses of what is executed, act by act. The answer is what was executed.
 pub fn push_executed(
     alloc: Global,
     acts: &[Act],

@@ -14,14 +14,14 @@ use plc_lang::{Field, File, Ghost};
 use plc_setting::Setting;
 use plc_symbolic::{Draft, NodeTerm, SymbolicTerm, applied, is, is_not};
 
-/// The term isn't the new node.
+/// Writes that the term isn't the new node.
 fn push_other(term: SymbolicTerm, out: &mut Draft) -> Result<(), NoMemory>
     ensures { OnOk result (out.new ≡ written out.old (is_other term)) }
 {
     out.push(&[is_not(SymbolicTerm::Constant(Symbol::New), term)])
 }
 
-/// No pointer leads to the new node.
+/// Writes that no pointer leads to the new node.
 fn push_no_variable(pointers: &[Symbol], out: &mut Draft) -> Result<(), NoMemory>
     ensures { OnOk result (out.new
         ≡ written_all out.old (map (λ p. is_other (Constant p)) pointers.now)) }
@@ -32,7 +32,7 @@ fn push_no_variable(pointers: &[Symbol], out: &mut Draft) -> Result<(), NoMemory
     Ok(())
 }
 
-/// No pointer field of a node leads to the new node.
+/// Writes that no pointer field of a node leads to the new node.
 fn push_no_field_of(node: NodeTerm, fields: &[FieldId], out: &mut Draft) -> Result<(), NoMemory>
     ensures { OnOk result (out.new ≡ written_all out.old (no_field_leads fields.now node)) }
 {
@@ -42,7 +42,7 @@ fn push_no_field_of(node: NodeTerm, fields: &[FieldId], out: &mut Draft) -> Resu
     Ok(())
 }
 
-/// No pointer field of the nodes leads to the new node.
+/// Writes that no pointer field of the nodes leads to the new node.
 fn push_no_field(nodes: &[NodeTerm], fields: &[FieldId], out: &mut Draft) -> Result<(), NoMemory>
     ensures { OnOk result (out.new ≡ written_all out.old (flat_map (no_field_leads fields.now) nodes.now)) }
 {
@@ -52,7 +52,7 @@ fn push_no_field(nodes: &[NodeTerm], fields: &[FieldId], out: &mut Draft) -> Res
     Ok(())
 }
 
-/// A map has its default at the new node.
+/// Writes that a map has its default at the new node.
 fn push_default(map: Map, default: Symbol, out: &mut Draft) -> Result<(), NoMemory>
     ensures { OnOk result (out.new ≡ written out.old (default_is map default)) }
 {
@@ -71,7 +71,7 @@ fn field_default(pointer: bool) -> Symbol
     }
 }
 
-/// Each field has its default at the new node.
+/// Writes that each field has its default at the new node.
 fn push_field_defaults(fields: &[Field], out: &mut Draft) -> Result<(), NoMemory>
     requires { length fields.now < 65536 }
     ensures { OnOk result (out.new ≡ written_all out.old (field_defaults_from 0 fields.now)) }
@@ -97,7 +97,7 @@ fn ghost_default(first: u16, count: usize) -> Symbol
     }
 }
 
-/// Each auxiliary field has its default at the new node.
+/// Writes that each auxiliary field has its default at the new node.
 fn push_ghost_defaults(ghosts: &[Ghost], out: &mut Draft) -> Result<(), NoMemory>
     requires fields { length ghosts.now < 65536 }
     requires values { sum_by values_in ghosts.now < 65536 }
@@ -112,7 +112,7 @@ fn push_ghost_defaults(ghosts: &[Ghost], out: &mut Draft) -> Result<(), NoMemory
     Ok(())
 }
 
-/// The new node isn't retired.
+/// Writes that the new node isn't retired.
 fn push_unretired(out: &mut Draft) -> Result<(), NoMemory>
     ensures { OnOk result (out.new ≡ written_all out.old unretired) }
 {
@@ -120,7 +120,7 @@ fn push_unretired(out: &mut Draft) -> Result<(), NoMemory>
     out.push(&[is_not(held, SymbolicTerm::Constant(Symbol::Yes))])
 }
 
-/// What is known of the new node, where one is made.
+/// Writes what is known of the new node, where one is made.
 pub fn push_freshness(file: &File, s: &Setting, out: &mut Draft) -> Result<(), NoMemory>
     requires fields { length file.now.fields < 65536 }
     requires ghosts { length file.now.ghosts < 65536 }

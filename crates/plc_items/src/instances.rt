@@ -19,7 +19,7 @@ use plc_setting::{Setting, stands_at};
 use plc_symbolic::{Draft, NodeTerm, SymbolicLit, SymbolicTerm, is, term_of};
 use std::alloc::Global;
 
-/// The cases in which an instance says nothing: its node is null, or isn't there yet.
+/// Lists the cases in which an instance says nothing of a node: it is null, or isn't there yet.
 fn push_escape(makes: bool, node: NodeTerm, lits: &mut Items<SymbolicLit>) -> Result<(), NoMemory>
     ensures { OnOk result (lits.new ≡ lits.old ++ escapes makes node) }
 {
@@ -31,7 +31,7 @@ fn push_escape(makes: bool, node: NodeTerm, lits: &mut Items<SymbolicLit>) -> Re
     Ok(())
 }
 
-/// The cases in which an instance at these nodes says nothing.
+/// Lists the cases in which an instance at these nodes says nothing.
 fn push_escapes(
     makes: bool,
     names: &[NodeTerm],
@@ -45,7 +45,7 @@ fn push_escapes(
     Ok(())
 }
 
-/// The literals of a clause, as they read at its nodes.
+/// Lists the literals of a clause, as they read at its nodes.
 fn push_read(
     r: &Reading,
     literals: &[Literal],
@@ -74,7 +74,7 @@ pub struct Premises<'a> {
     pub owner: bool,
 }
 
-/// The clause at a node for each of its names.
+/// Writes the clause at a node for each of its names.
 fn push_instance(
     w: &Premises,
     literals: &[Literal],
@@ -98,7 +98,7 @@ fn push_instance(
     out.push(lits.as_slice())
 }
 
-/// The instances of a clause under one name, one at each node.
+/// Writes the instances of a clause under one name, one at each node.
 fn push_singles(w: &Premises, literals: &[Literal], out: &mut Draft) -> Result<(), NoMemory>
     requires reads { ReadsBefore w.now.ghosts.now w.now.before.now }
     requires values { All (ValuesIn w.now.ghosts.now) literals.now }
@@ -112,7 +112,7 @@ fn push_singles(w: &Premises, literals: &[Literal], out: &mut Draft) -> Result<(
     Ok(())
 }
 
-/// The instances of a clause under two names whose first is this node, one at each node for the second.
+/// Writes the instances of a clause under two names whose first is this node, one at each node for the second.
 fn push_pairs_of(
     w: &Premises,
     literals: &[Literal],
@@ -131,7 +131,7 @@ fn push_pairs_of(
     Ok(())
 }
 
-/// The instances of a clause under two names.
+/// Writes the instances of a clause under two names.
 fn push_pairs(w: &Premises, literals: &[Literal], out: &mut Draft) -> Result<(), NoMemory>
     requires reads { ReadsBefore w.now.ghosts.now w.now.before.now }
     requires values { All (ValuesIn w.now.ghosts.now) literals.now }
@@ -147,7 +147,7 @@ fn push_pairs(w: &Premises, literals: &[Literal], out: &mut Draft) -> Result<(),
     Ok(())
 }
 
-/// The instances of a clause, at each node for each name.
+/// Writes the instances of a clause, at each node for each name.
 fn push_instances(w: &Premises, clause: &Clause, out: &mut Draft) -> Result<(), NoMemory>
     requires reads { ReadsBefore w.now.ghosts.now w.now.before.now }
     requires clause { ClauseIn w.now.ghosts.now clause.now }
@@ -162,7 +162,7 @@ fn push_instances(w: &Premises, clause: &Clause, out: &mut Draft) -> Result<(), 
     }
 }
 
-/// The instances of these clauses.
+/// Writes the instances of these clauses.
 pub fn push_invariants(w: &Premises, clauses: &[Clause], out: &mut Draft) -> Result<(), NoMemory>
     requires reads { ReadsBefore w.now.ghosts.now w.now.before.now }
     requires clauses { All (ClauseIn w.now.ghosts.now) clauses.now }
@@ -175,7 +175,7 @@ pub fn push_invariants(w: &Premises, clauses: &[Clause], out: &mut Draft) -> Res
     Ok(())
 }
 
-/// The instances of an item's clause, if it stands at the point.
+/// Writes the instances of an item's clause, if it stands at the point.
 fn push_item(
     w: &Premises,
     flow: &Flow,
@@ -195,7 +195,7 @@ fn push_item(
     Ok(())
 }
 
-/// The instances of the clauses that stand at the point.
+/// Writes the instances of the clauses that stand at the point.
 fn push_items_at(
     w: &Premises,
     flow: &Flow,
@@ -214,7 +214,7 @@ fn push_items_at(
     Ok(())
 }
 
-/// The instances of the clauses at a point, if there is one.
+/// Writes the instances of the clauses at a point, if there is one.
 pub fn push_point(
     w: &Premises,
     flow: &Flow,

@@ -17,7 +17,7 @@ use plc_base::NoMemory;
 use plc_setting::{acting_point, invariants_before, owner_point};
 use plc_symbolic::Draft;
 
-/// What is known before the step of all clauses that hold there.
+/// Writes the instances of all clauses that hold before the step.
 fn push_premises(w: &Subject, out: &mut Draft) -> Result<(), NoMemory>
     requires { Fits w.now.flow.now w.now.outline.now }
     ensures { OnOk result (out.new ≡ written_all out.old
@@ -41,7 +41,7 @@ fn push_premises(w: &Subject, out: &mut Draft) -> Result<(), NoMemory>
     push_point(&owner, w.flow, w.outline, owner_point(w.obligation), out)
 }
 
-/// What is known before the step.
+/// Writes what is known before the step.
 fn push_known(w: &Subject, out: &mut Draft) -> Result<(), NoMemory>
     requires { Fits w.now.flow.now w.now.outline.now }
     ensures { OnOk result (out.new ≡ written_all out.old
@@ -57,7 +57,7 @@ fn push_known(w: &Subject, out: &mut Draft) -> Result<(), NoMemory>
     push_premises(w, out)
 }
 
-/// What the step does, and that the conclusion is false after it.
+/// Writes what the step does, and that the conclusion is false after it.
 fn push_step(w: &Subject, out: &mut Draft) -> Result<(), NoMemory>
     requires fits { Fits w.now.flow.now w.now.outline.now }
     requires setting { w.now.setting.now ≡ setting_of w.now.flow.now w.now.outline.now w.now.obligation.now }

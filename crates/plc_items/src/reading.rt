@@ -95,7 +95,7 @@ fn read_term(r: &Reading, term: Term) -> SymbolicTerm
     }
 }
 
-/// A literal of a clause.
+/// A literal of a clause, as it reads now.
 pub fn read_literal(r: &Reading, literal: &Literal) -> SymbolicLit
     requires versions { length r.now.execution.now.written < 65536 }
     requires few { sum_by values_in r.now.ghosts.now < 65536 }

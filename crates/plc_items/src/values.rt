@@ -11,7 +11,7 @@ use plc_lang::Ghost;
 use plc_symbolic::{Draft, NodeTerm, SymbolicTerm, applied, is};
 use std::alloc::Global;
 
-/// The node has one of so many values of the field.
+/// Writes that the node has one of so many values of the field.
 fn push_one_of(
     alloc: Global,
     g: u16,
@@ -31,7 +31,7 @@ fn push_one_of(
     out.push(clause.as_slice())
 }
 
-/// Each node has one of the values of the field.
+/// Writes that each node has one of the values of the field.
 fn push_field_values(
     alloc: Global,
     g: u16,
@@ -52,7 +52,7 @@ fn push_field_values(
     Ok(())
 }
 
-/// For each auxiliary field that has values, and each node, that it is one of them.
+/// Writes, for each auxiliary field that has values and each node, that it is one of them.
 pub fn push_values(
     alloc: Global,
     ghosts: &[Ghost],

@@ -1,18 +1,14 @@
 -- How much there is at most of what a set is made of.
-use Rattle.std.proofs.Common.{◌≡◌, ℕ, ◌≤◌, List, filter, length, length-take, refl, subst, arith, slice_get, Option, Some, None}
-use Rattle.std.specs.List.{All, position}
+use Rattle.std.proofs.Common.{◌≡◌, ℕ, ◌≤◌, List, filter, length, refl, subst, arith, slice_get, Option, Some, None}
+use Rattle.std.specs.List.{All}
 use Rattle.std.proofs.lemmas.List.Elements.{All-nil, All-get_or, All-filter, All-map, All-append, All-weaker}
 use Rattle.std.proofs.lemmas.Option.{get_or_from_slice_get, slice_get_within, none-some}
 use Rattle.plc_base.specs.Limits.{most, most_bound}
 use Rattle.plc_base.specs.declared.limits.What1.TheVariants as limits
 use Rattle.plc_lang.specs.declared.syntax.File.{File}
-use Rattle.plc_lang.specs.declared.syntax.Op.{Op}
-use Rattle.plc_lang.specs.Fit.{FileFits}
-use Rattle.plc_lang.specs.Locals.{locals_of, locals_or_none}
 use Rattle.plc_flow.specs.declared.flow.Flow.{Flow}
 use Rattle.plc_flow.specs.declared.flow.Gate.{Gate}
 use Rattle.plc_flow.specs.declared.flow.Step.{Step}
-use Rattle.plc_flow.specs.WellFormed.{most_step_primitives}
 use Rattle.plc_logic.specs.declared.clause.Clause.{Clause}
 use Rattle.plc_logic.specs.declared.clause.Item.{Item}
 use Rattle.plc_logic.specs.declared.clause.Outline.{Outline}
@@ -21,9 +17,7 @@ use Rattle.plc_logic.specs.declared.clause.Site.TheVariants.{Over, At}
 use Rattle.plc_logic.specs.Fit.{OutlineFits, ItemFits, SiteFits, InvariantFits}
 use Rattle.plc_setting.specs.declared.obligations.Obligation.{Obligation}
 use Rattle.plc_setting.specs.declared.obligations.Obligation.TheVariants.{Start, Enter, Own, Other, Claim}
-use Rattle.plc_setting.specs.Fit.{Fits}
-use Rattle.plc_setting.specs.Parts.{acting_locals, owner_locals, locals_of_step, has_point, executed, prims_of, conclusion, entry_clauses, clauses_after, invariants_before}
-use Rattle.plc_setting.specs.Parts.{locals_or_none as locals_at}
+use Rattle.plc_setting.specs.Parts.{conclusion, entry_clauses, clauses_after, invariants_before}
 use Rattle.plc_setting.specs.Setting.{bound_of}
 use Rattle.plc_setting.specs.Points.{clauses_at, stands_at}
 
@@ -66,51 +60,7 @@ small_conclusion flow outline (Own s k) c f is = found_in Small _ k c is
 small_conclusion flow outline (Other s p k) c f is = found_in Small (clauses_at flow outline p.0) k c is (small_at_point flow outline p.0 f)
 small_conclusion flow outline (Claim s j) c f is = absurd (none-some c is)
 
--- ---- locals
-
-few_in : (file : File) (q : Option Op) (k : ℕ) → FileFits file → slice_get file.ops k ≡ q → length (locals_or_none q) ≤ most limits.Locals
-few_in file None k f is = omega arith
-few_in file (Some o) k f is = (f.each_op k o is).locals
-
-few_of : (file : File) (k : ℕ) → FileFits file → length (locals_of file.ops k) ≤ most limits.Locals
-few_of file k f = few_in file (slice_get file.ops k) k f refl
-
-few_of_step : (flow : Flow) (s : Option Step) → FileFits flow.file → length (locals_of_step flow s) ≤ most limits.Locals
-few_of_step flow None f = omega arith
-few_of_step flow (Some s) f = few_of flow.file s.op.0 f
-
-few_of_point : (flow : Flow) (q : Option ℕ) → FileFits flow.file → length (locals_at flow q) ≤ most limits.Locals
-few_of_point flow None f = omega arith
-few_of_point flow (Some o) f = few_of flow.file o f
-
-pub few_mine : (flow : Flow) (o : Obligation) → FileFits flow.file → length (acting_locals flow o) ≤ most limits.Locals
-few_mine flow (Start i) f = omega arith
-few_mine flow (Enter o c) f = few_of flow.file o.0 f
-few_mine flow (Own k c) f = few_of_step flow (slice_get flow.steps k.0) f
-few_mine flow (Other k p c) f = few_of_step flow (slice_get flow.steps k.0) f
-few_mine flow (Claim k j) f = few_of_step flow (slice_get flow.steps k.0) f
-
-pub few_theirs : (flow : Flow) (o : Obligation) → FileFits flow.file → length (owner_locals flow o) ≤ most limits.Locals
-few_theirs flow (Start i) f = omega arith
-few_theirs flow (Enter o c) f = omega arith
-few_theirs flow (Own k c) f = omega arith
-few_theirs flow (Other k p c) f = few_of_point flow (position (has_point p.0) flow.gates) f
-few_theirs flow (Claim k j) f = omega arith
-
 -- ---- primitives
-
-short_step : (flow : Flow) (outline : Outline) (s : Option Step) (k : ℕ) → Fits flow outline → slice_get flow.steps k ≡ s → length (prims_of s) ≤ most_step_primitives
-short_step flow outline None k f is = omega arith
-short_step flow outline (Some s) k f is = f.flow_fits.well.short k s is
-
-pub short_executed : (flow : Flow) (outline : Outline) (o : Obligation) → Fits flow outline → length (executed flow o) ≤ most_step_primitives
-short_executed flow outline (Start i) f = let short = f.flow_fits.short_init in omega arith
-short_executed flow outline (Enter o c) f = omega arith
-short_executed flow outline (Own k c) f = short_step flow outline (slice_get flow.steps k.0) k.0 f refl
-short_executed flow outline (Other k p c) f = short_step flow outline (slice_get flow.steps k.0) k.0 f refl
-short_executed flow outline (Claim k j) f =
-    let short = short_step flow outline (slice_get flow.steps k.0) k.0 f refl in
-    let taken = length-take j (prims_of (slice_get flow.steps k.0)) in omega (arith, short, taken)
 
 pub short_before : (outline : Outline) (o : Obligation) → length outline.invariants ≤ most limits.Invariants → length (invariants_before outline o) ≤ most limits.Invariants
 short_before outline (Start i) e = omega arith
@@ -118,13 +68,6 @@ short_before outline (Enter o c) e = omega arith
 short_before outline (Own k c) e = omega arith
 short_before outline (Other k p c) e = omega arith
 short_before outline (Claim k j) e = omega arith
-
-pub small_before : (flow : Flow) (outline : Outline) (o : Obligation) → OutlineFits flow.file outline → All Small (invariants_before outline o)
-small_before flow outline (Start i) f = All-nil Small
-small_before flow outline (Enter o c) f = small_invariants flow.file outline f
-small_before flow outline (Own k c) f = small_invariants flow.file outline f
-small_before flow outline (Other k p c) f = small_invariants flow.file outline f
-small_before flow outline (Claim k j) f = small_invariants flow.file outline f
 
 -- ---- names
 

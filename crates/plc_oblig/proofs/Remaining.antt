@@ -19,13 +19,9 @@ use Rattle.plc_setting.specs.Setting.{below}
 use Rattle.plc_oblig.specs.Obligations.{op_id, step_id, point_id, parts_from, enters_of, own_count, owns_of, others_at, others_of, claims_in, claims_of, enters, owns, others, claims, obligations}
 use Rattle.plc_oblig.specs.Left.{rest_at, parts_left, enter_rest, own_rest, point_rest, other_rest, claim_rest, counts_of, left_from, IsFirstOr}
 use Rattle.plc_oblig.proofs.Walking.{slice_below}
+use Rattle.plc_base.proofs.Lists.{drop_there}
 
 -- ---- lists
-
-drop_there : {A : Type 0} (xs : List A) (i : ℕ) (a : A) → slice_get xs i ≡ Some a → drop i xs ≡ a ∷ drop (i + 1) xs
-drop_there [] i a h = cc
-drop_there (x ∷ xs) zero a h = cc
-drop_there (x ∷ xs) (suc i) a h = drop_there xs i a h ∙ ap (λ n. a ∷ drop n (x ∷ xs)) (let e : suc (i + 1) ≡ suc i + 1 = omega arith in e)
 
 drop_past : {A : Type 0} (xs : List A) (i : ℕ) → length xs ≤ i → drop i xs ≡ []
 drop_past [] zero h = refl

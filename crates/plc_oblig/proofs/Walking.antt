@@ -12,6 +12,7 @@ use Rattle.plc_oblig.specs.Finding.{IsFoundIn}
 use Rattle.plc_setting.specs.Setting.{below}
 use Rattle.plc_oblig.specs.Obligations.{parts_from, others_at, others_of, starts, enters, owns, others, claims, obligations}
 use Rattle.plc_setting.specs.Points.{count_at}
+use Rattle.plc_base.proofs.Lists.{slice_left}
 
 -- ---- the rest of a list after i items
 
@@ -71,11 +72,6 @@ none_left part k zero (x ∷ xs) h = absurd (omega arith)
 none_left part k (suc i) (x ∷ xs) h = none_left part k i xs (omega arith)
 
 -- ---- items by their numbers
-
-slice_left : {X : Type 0} (xs ys : List X) (i : ℕ) (x : X) → slice_get xs i ≡ Some x → slice_get (xs ++ ys) i ≡ Some x
-slice_left [] ys i x h = cc
-slice_left (z ∷ zs) ys zero x h = h
-slice_left (z ∷ zs) ys (suc i) x h = slice_left zs ys i x h
 
 slice_right : {X : Type 0} (xs ys : List X) (i n : ℕ) → n ≡ length xs + i → slice_get (xs ++ ys) n ≡ slice_get ys i
 slice_right [] ys i n e = let f : n ≡ i = omega arith in ap (slice_get ys) f

@@ -12,7 +12,7 @@ use plc_flow::Flow;
 use plc_logic::Outline;
 use plc_setting::count_at;
 
-/// Those of entries.
+/// How many obligations there are on the entries of operations.
 fn count_enters(flow: &Flow, outline: &Outline) -> u64
     requires { HasFewParts flow.now outline.now }
     ensures count { result ≡ length (enters flow.now outline.now) }
@@ -25,7 +25,7 @@ fn count_enters(flow: &Flow, outline: &Outline) -> u64
     total
 }
 
-/// Those of own steps.
+/// How many obligations there are on what steps lead their own threads to.
 fn count_owns(flow: &Flow, outline: &Outline) -> u64
     requires { HasFewParts flow.now outline.now }
     ensures count { result ≡ length (owns flow.now outline.now) }
@@ -38,7 +38,7 @@ fn count_owns(flow: &Flow, outline: &Outline) -> u64
     total
 }
 
-/// Those of one step at the points of another thread: one for each clause of each point.
+/// How many obligations one step has at the points of another thread: one for each clause of each point.
 pub(crate) fn count_points(flow: &Flow, outline: &Outline) -> u64
     requires { HasFewParts flow.now outline.now }
     ensures count { result ≡ length (parts_from (others_at flow.now outline.now 0) 0 (below flow.now.points)) }
@@ -51,7 +51,7 @@ pub(crate) fn count_points(flow: &Flow, outline: &Outline) -> u64
     total
 }
 
-/// Those of claims.
+/// How many obligations there are on claims.
 fn count_all_claims(flow: &Flow, outline: &Outline) -> u64
     requires { HasFewParts flow.now outline.now }
     ensures count { result ≡ length (claims flow.now) }

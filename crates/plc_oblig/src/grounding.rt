@@ -145,7 +145,9 @@ impl Grounding {
         ensures set { IfOk result (λ set. set ≡ ground_set flow.now outline.now o.now) }
     {
         let s = setting_of(self.alloc, flow, outline, o)?;
-        assemble(self.alloc, flow, outline, &s, o, &mut self.draft)
+        let set = assemble(self.alloc, flow, outline, &s, o, &mut self.draft);
+        drop(s);
+        set
     }
 
     /// Takes the memory of a set that isn't needed any more, for those that are still to come.

@@ -67,7 +67,7 @@ fn count_pointer_fields(fields: &[Field]) -> u64
     fields.iter().filter(|f| f.pointer).count() as u64
 }
 
-/// Auxiliary fields that have values.
+/// How many auxiliary fields have values.
 fn count_enumerated(ghosts: &[Ghost]) -> u64
     ensures { result ≡ count_by has_values ghosts.now }
 {
@@ -108,7 +108,7 @@ fn prim_size(nodes: u64, prim: &Prim) -> u64
     }
 }
 
-/// The pointer fields of so many nodes, where premises are deep.
+/// How many pointer fields so many nodes have, where premises are deep.
 fn deep_nodes(deep: bool, nodes: u64, fields: u64) -> u64
     requires nodes { nodes ≤ most_constants }
     requires fields { fields ≤ most limits.Fields }
@@ -128,7 +128,7 @@ fn one_if(made: bool) -> u64
     if made { 1 } else { 0 }
 }
 
-/// The pointer locals of the acting thread.
+/// How many pointer locals the acting thread has.
 fn count_mine(flow: &Flow, o: &Obligation) -> u64
     requires { FileFits flow.now.file }
     ensures count { result ≡ count_by is_pointer (acting_locals flow.now o.now) }
@@ -137,7 +137,7 @@ fn count_mine(flow: &Flow, o: &Obligation) -> u64
     count_pointers(acting_locals(flow, o))
 }
 
-/// Those of the owner.
+/// How many pointer locals the thread has whose clause is looked at, where that is another.
 fn count_theirs(flow: &Flow, o: &Obligation) -> u64
     requires { FileFits flow.now.file }
     ensures count { result ≡ count_by is_pointer (owner_locals flow.now o.now) }
@@ -198,7 +198,7 @@ fn sizes_of(flow: &Flow, outline: &Outline, o: &Obligation) -> Sizes
     }
 }
 
-/// That each node has one of the values of each field.
+/// How many clauses say that each node has one of the values of each field.
 fn values_size(ghosts: &[Ghost], nodes: u64) -> u64
     requires few { length ghosts.now ≤ most limits.Ghosts }
     requires nodes { nodes ≤ most_nodes }
@@ -208,7 +208,7 @@ fn values_size(ghosts: &[Ghost], nodes: u64) -> u64
     count_enumerated(ghosts) * nodes
 }
 
-/// How things are at first.
+/// How many clauses say how things are at first.
 fn beginning_size(flow: &Flow, z: Sizes, o: &Obligation) -> u64
     requires few { AreFew z }
     requires shared { length flow.now.file.shared ≤ most limits.Shared }
@@ -223,7 +223,7 @@ fn beginning_size(flow: &Flow, z: Sizes, o: &Obligation) -> u64
     }
 }
 
-/// What is known of the new node.
+/// How many clauses say what is known of the new node.
 fn freshness_size(file: &File, z: Sizes) -> u64
     requires few { AreFew z }
     requires fields { length file.now.fields ≤ most limits.Fields }
@@ -242,7 +242,7 @@ fn freshness_size(file: &File, z: Sizes) -> u64
     0
 }
 
-/// The instances of a clause, where each name stands for so many nodes.
+/// How many instances a clause has, where each name stands for so many nodes.
 fn instances_size(places: u64, clause: &Clause) -> u64
     requires few { places ≤ most_nodes }
     requires bound { length clause.now.bound.names ≤ most_bound }
@@ -259,7 +259,7 @@ fn instances_size(places: u64, clause: &Clause) -> u64
     places * places
 }
 
-/// Those of clauses.
+/// How many instances clauses have, where each name stands for so many nodes.
 fn premises_size(places: u64, clauses: &[Clause]) -> u64
     requires few { places ≤ most_nodes }
     requires bound { All (λ c. length c.bound.names ≤ most_bound) clauses.now }
@@ -274,7 +274,7 @@ fn premises_size(places: u64, clauses: &[Clause]) -> u64
     total
 }
 
-/// Those of the clauses at a point.
+/// How many instances the clauses at a point have, where each name stands for so many nodes.
 fn point_size(places: u64, flow: &Flow, outline: &Outline, p: u16) -> u64
     requires few { places ≤ most_nodes }
     requires bound { All (λ i. length i.clause.bound.names ≤ most_bound) outline.now.items }
@@ -291,7 +291,7 @@ fn point_size(places: u64, flow: &Flow, outline: &Outline, p: u16) -> u64
     total
 }
 
-/// What is executed.
+/// How many clauses say what is executed, where there are so many nodes.
 fn executed_size(nodes: u64, prims: &[Prim]) -> u64
     requires few { nodes ≤ most_nodes }
     requires short { length prims.now ≤ most_step_primitives }
@@ -305,7 +305,7 @@ fn executed_size(nodes: u64, prims: &[Prim]) -> u64
     total
 }
 
-/// The clauses of a point, where a thread stands at one.
+/// How many instances the clauses of a point have, where a thread stands at one.
 fn standing_size(places: u64, flow: &Flow, outline: &Outline, point: Option<PointId>) -> u64
     requires few { places ≤ most_nodes }
     requires fits { Fits flow.now outline.now }
@@ -318,7 +318,7 @@ fn standing_size(places: u64, flow: &Flow, outline: &Outline, point: Option<Poin
     }
 }
 
-/// The negated conclusion.
+/// How many clauses say that the conclusion is false.
 pub(crate) fn denied_size(flow: &Flow, outline: &Outline, o: &Obligation) -> u64
     requires { Fits flow.now outline.now }
     ensures size { (s : Setting) (x : Execution) → result ≡ length (denied flow.now outline.now s x o.now) }

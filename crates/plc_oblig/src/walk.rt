@@ -30,6 +30,7 @@ struct Counted<'a> {
     ghost each: { counts.now ≡ counts_of flow.now outline.now },
 }
 
+/// How many clauses there are at each point of a flow.
 fn counts_of(alloc: Global, flow: &Flow, outline: &Outline) -> Result<Items<u16>, NoMemory>
     requires { Fits flow.now outline.now }
     ensures { IfOk result (λ counts. counts ≡ counts_of flow.now outline.now) }
@@ -53,6 +54,7 @@ fn count_of(o: Counted<'_>, p: PointId) -> u16
 
 // ---- the first obligation of a kind from a place on
 
+/// The first obligation on an invariant, from a number on.
 fn first_start(o: Counted<'_>, inv: u16) -> Option<Obligation>
     requires { Fits o.flow.now o.outline.now }
     ensures { IsFirstOrOn o.entry.flow.now o.entry.outline.now (places.Start inv) (places.Enter (op_id 0) 0) result }
@@ -64,6 +66,7 @@ fn first_start(o: Counted<'_>, inv: u16) -> Option<Obligation>
     }
 }
 
+/// The first obligation on the entry of an operation, from an operation and a clause on.
 fn first_enter(o: Counted<'_>, op: OpId, clause: u16) -> Option<Obligation>
     requires { Fits o.flow.now o.outline.now }
     ensures { IsFirstOrOn o.entry.flow.now o.entry.outline.now (places.Enter op clause)
@@ -83,6 +86,7 @@ fn first_enter(o: Counted<'_>, op: OpId, clause: u16) -> Option<Obligation>
     None
 }
 
+/// The first obligation on what a step leads its own thread to, from a step and a clause on.
 fn first_own(o: Counted<'_>, step: StepId, clause: u16) -> Option<Obligation>
     requires { Fits o.flow.now o.outline.now }
     ensures { IsFirstOrOn o.entry.flow.now o.entry.outline.now (places.Own step clause)
@@ -103,7 +107,7 @@ fn first_own(o: Counted<'_>, step: StepId, clause: u16) -> Option<Obligation>
     None
 }
 
-/// Of one step.
+/// The first obligation of one step on the clauses of another thread, from a point and a clause on.
 fn first_at_points(o: Counted<'_>, step: StepId, point: PointId, clause: u16) -> Option<Obligation>
     requires fits { Fits o.flow.now o.outline.now }
     requires step { step.0 < length o.flow.now.steps }
@@ -124,6 +128,7 @@ fn first_at_points(o: Counted<'_>, step: StepId, point: PointId, clause: u16) ->
     None
 }
 
+/// The first obligation on the clauses of another thread, from a step, a point and a clause on.
 fn first_other(o: Counted<'_>, step: StepId, point: PointId, clause: u16) -> Option<Obligation>
     requires { Fits o.flow.now o.outline.now }
     ensures { IsFirstOrOn o.entry.flow.now o.entry.outline.now (places.Other step point clause)
@@ -142,7 +147,7 @@ fn first_other(o: Counted<'_>, step: StepId, point: PointId, clause: u16) -> Opt
     None
 }
 
-/// Of one step.
+/// The first claim of one step, from a primitive on.
 fn first_claim_of(o: Counted<'_>, step: StepId, prim: u16) -> Option<Obligation>
     requires fits { Fits o.flow.now o.outline.now }
     requires step { step.0 < length o.flow.now.steps }
@@ -161,6 +166,7 @@ fn first_claim_of(o: Counted<'_>, step: StepId, prim: u16) -> Option<Obligation>
     None
 }
 
+/// The first obligation on a claim, from a step and a primitive on.
 fn first_claim(o: Counted<'_>, step: StepId, prim: u16) -> Option<Obligation>
     requires { Fits o.flow.now o.outline.now }
     ensures { IsFirstOrNone o.entry.flow.now o.entry.outline.now (places.Claim step prim) result }
@@ -178,6 +184,7 @@ fn first_claim(o: Counted<'_>, step: StepId, prim: u16) -> Option<Obligation>
 
 // ---- the first of all from a place on
 
+/// The first obligation from one on the clauses of another thread on: of that kind, or a claim.
 fn from_other(o: Counted<'_>, step: StepId, point: PointId, clause: u16) -> Option<Obligation>
     requires { Fits o.flow.now o.outline.now }
     ensures { IsFirstOrNone o.entry.flow.now o.entry.outline.now (places.Other step point clause) result }
@@ -188,6 +195,8 @@ fn from_other(o: Counted<'_>, step: StepId, point: PointId, clause: u16) -> Opti
     }
 }
 
+/// The first obligation from one on the clauses of a step's own thread on: of that kind or a later
+/// one.
 fn from_own(o: Counted<'_>, step: StepId, clause: u16) -> Option<Obligation>
     requires { Fits o.flow.now o.outline.now }
     ensures { IsFirstOrNone o.entry.flow.now o.entry.outline.now (places.Own step clause) result }
@@ -198,6 +207,7 @@ fn from_own(o: Counted<'_>, step: StepId, clause: u16) -> Option<Obligation>
     }
 }
 
+/// The first obligation from one on the entry of an operation on: of that kind or a later one.
 fn from_enter(o: Counted<'_>, op: OpId, clause: u16) -> Option<Obligation>
     requires { Fits o.flow.now o.outline.now }
     ensures { IsFirstOrNone o.entry.flow.now o.entry.outline.now (places.Enter op clause) result }
@@ -208,6 +218,7 @@ fn from_enter(o: Counted<'_>, op: OpId, clause: u16) -> Option<Obligation>
     }
 }
 
+/// The first obligation from one on an invariant on: of that kind or a later one.
 fn from_start(o: Counted<'_>, inv: u16) -> Option<Obligation>
     requires { Fits o.flow.now o.outline.now }
     ensures { IsFirstOrNone o.entry.flow.now o.entry.outline.now (places.Start inv) result }
@@ -218,6 +229,7 @@ fn from_start(o: Counted<'_>, inv: u16) -> Option<Obligation>
     }
 }
 
+/// The first obligation from a place on, of whatever kind.
 fn first_from(o: Counted<'_>, at: Obligation) -> Option<Obligation>
     requires { Fits o.flow.now o.outline.now }
     ensures { IsFirstOrNone o.entry.flow.now o.entry.outline.now at result }

@@ -111,7 +111,7 @@ pub record Executes (ls : List Local) (ks : List Primitive) : Type 0 where
   pub locals : IsOf shape ls
   pub names : PrimitivesIn shape ks
 
-front_in : (h : Shape) (j : ℕ) (ks : List Primitive) → PrimitivesIn h ks → PrimitivesIn h (take j ks)
+pub front_in : (h : Shape) (j : ℕ) (ks : List Primitive) → PrimitivesIn h ks → PrimitivesIn h (take j ks)
 front_in h zero ks i = tt
 front_in h (suc j) [] i = tt
 front_in h (suc j) (k ∷ ks) i = (i.0, front_in h j ks i.1)

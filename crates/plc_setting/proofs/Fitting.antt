@@ -32,7 +32,7 @@ sorted_at file [] i d sorted within = absurd (omega arith)
 sorted_at file (k ∷ ks) zero d sorted within = sorted.0
 sorted_at file (k ∷ ks) (suc i) d sorted within = sorted_at file ks i d sorted.1 (omega arith)
 
-sorted_front : (file : File) (j : ℕ) (ks : List Primitive) → AreWellSorted file ks → AreWellSorted file (take j ks)
+pub sorted_front : (file : File) (j : ℕ) (ks : List Primitive) → AreWellSorted file ks → AreWellSorted file (take j ks)
 sorted_front file zero ks sorted = tt
 sorted_front file (suc j) [] sorted = tt
 sorted_front file (suc j) (k ∷ ks) sorted = (sorted.0, sorted_front file j ks sorted.1)

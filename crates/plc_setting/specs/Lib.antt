@@ -7,3 +7,5 @@ pub mod Sorts
 pub mod Fit
 pub mod WellSorted
 pub mod Numbers
+-- words of private functions alone
+pub mod Kinds

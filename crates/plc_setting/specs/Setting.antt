@@ -46,11 +46,6 @@ abbrev pub local_symbol : Bool → ℕ → Symbol
 local_symbol false k = symbols.Mine k
 local_symbol true k = symbols.Theirs k
 
--- the pointer locals, or the data locals
-abbrev pub is_kind : Bool → Local → Bool
-is_kind true l = is_pointer l
-is_kind false l = is_data l
-
 -- the constants of the pointer locals and of the data locals of a thread
 abbrev pub variables_of : Bool → List Local → Variables
 variables_of owner ls = record {
@@ -59,15 +54,6 @@ variables_of owner ls = record {
 }
 
 -- ---- what is executed
-
--- how many fields are read
-abbrev pub is_fetch : Act → Bool
-is_fetch (Assign p e) = false
-is_fetch (Make p) = false
-is_fetch (Fetch p q f pointer) = true
-is_fetch (Update checked m p e) = false
-is_fetch (Test a b equal) = false
-is_fetch Skip = false
 
 -- the constants of what is read, where k reads stand before
 abbrev pub loads_from : ℕ → List Act → List Symbol

@@ -15,7 +15,7 @@ use plc_lang::{Arg, File, GhostVal, Num, Prim, Rel, Var, value_number};
 use std::alloc::Global;
 
 /// What a primitive does.
-#[derive(Clone, Copy, PartialEq, Eq)]
+#[derive(Clone, Copy)]
 pub enum Act {
     /// The variable's constant becomes that of the other.
     Assign {

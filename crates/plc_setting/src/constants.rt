@@ -32,7 +32,7 @@ fn count_values(ghosts: &[Ghost]) -> u16
     count
 }
 
-/// The numbers, as constants.
+/// Lists the numbers as constants.
 fn push_numbers(list: &mut Items<Symbol>, numbers: &BTreeSet<u32>) -> Result<(), NoMemory>
     ensures { OnOk result (list.new ≡ list.old ++ map symbols.Number numbers.now.keys) }
 {
@@ -42,7 +42,7 @@ fn push_numbers(list: &mut Items<Symbol>, numbers: &BTreeSet<u32>) -> Result<(),
     Ok(())
 }
 
-/// The locals of both threads.
+/// Lists the locals of both threads.
 fn push_variables(list: &mut Items<Symbol>, s: &Setting) -> Result<(), NoMemory>
     ensures { OnOk result (list.new ≡ list.old ++ (s.now.mine.pointers ++ (s.now.mine.values
         ++ (s.now.theirs.pointers ++ s.now.theirs.values)))) }
@@ -53,7 +53,7 @@ fn push_variables(list: &mut Items<Symbol>, s: &Setting) -> Result<(), NoMemory>
     push_all(list, s.theirs.values.as_slice())
 }
 
-/// What `retired` is for a retired node, and the threads.
+/// Lists what `retired` is for a retired node, and the threads.
 fn push_threads(list: &mut Items<Symbol>, owned: bool) -> Result<(), NoMemory>
     ensures { OnOk result (list.new
         ≡ list.old ++ (symbols.Yes ∷ symbols.Nobody ∷ symbols.Me ∷ if_owned owned)) }

@@ -45,7 +45,7 @@ pub fn plain_constants(
     Ok(list)
 }
 
-/// Constants, as nodes.
+/// Lists constants as nodes.
 fn push_constants(list: &mut Items<NodeTerm>, symbols: &[Symbol]) -> Result<(), NoMemory>
     ensures { OnOk result (list.new ≡ list.old ++ map nodes.At symbols.now) }
 {
@@ -55,7 +55,7 @@ fn push_constants(list: &mut Items<NodeTerm>, symbols: &[Symbol]) -> Result<(), 
     Ok(())
 }
 
-/// The pointer fields of a node.
+/// Lists the pointer fields of a node.
 fn push_fields_of(
     list: &mut Items<NodeTerm>,
     of: Symbol,
@@ -69,7 +69,7 @@ fn push_fields_of(
     Ok(())
 }
 
-/// The pointer fields of nodes, node by node.
+/// Lists the pointer fields of nodes, node by node.
 fn push_fields(
     list: &mut Items<NodeTerm>,
     symbols: &[Symbol],

@@ -4,7 +4,7 @@ ghost use Rattle.std.specs.Option.{option_to_list};
 ghost use Rattle.plc_setting.specs.Setting.{num_numbers, prim_numbers, term_numbers, literal_numbers, clause_numbers};
 ghost use Rattle.plc_setting.specs.Setting.{step_numbers, item_numbers, with_numbers, numbers_of};
 
-use plc_base::{Items, NoMemory};
+use plc_base::NoMemory;
 use plc_flow::{Flow, Step};
 use plc_lang::{Num, Prim};
 use plc_logic::{Clause, Item, Literal, Outline, Term};

@@ -2,7 +2,7 @@
 use plc_base::{OpId, PointId, StepId};
 
 /// One thing that has to be proved of an outline.
-#[derive(Clone, Copy, PartialEq, Eq)]
+#[derive(Clone, Copy)]
 pub enum Obligation {
     /// The invariant holds after `init`.
     Start {

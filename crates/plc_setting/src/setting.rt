@@ -8,7 +8,8 @@ ghost use Rattle.plc_lang.specs.Numbering.{places_from};
 ghost use Rattle.plc_flow.specs.WellFormed.{most_step_primitives};
 ghost use Rattle.plc_logic.specs.declared.clause.Outline.{Outline as AnOutline};
 ghost use Rattle.plc_setting.specs.Fit.{Fits};
-ghost use Rattle.plc_setting.specs.Setting.{local_symbol, is_kind, variables_of, pointer_fields_from, bound_of};
+ghost use Rattle.plc_setting.specs.Setting.{local_symbol, variables_of, pointer_fields_from, bound_of};
+ghost use Rattle.plc_setting.specs.Kinds.{is_kind};
 ghost use Rattle.plc_setting.specs.Setting.{pointer_variables, pointer_loads_from, setting_of};
 ghost use Rattle.plc_setting.specs.Setting.{node_constants, plain_constants, nodes_of};
 ghost use Rattle.plc_setting.specs.Parts.{executed, acting_locals, owner_locals};
@@ -37,9 +38,9 @@ pub struct Variables {
 /// What the items of a ground set rest on.
 #[derive(Drop)]
 pub struct Setting {
-    /// Those of the acting thread.
+    /// The locals of the acting thread.
     pub mine: Variables,
-    /// Those of the other thread, where its clause is looked at.
+    /// The locals of the other thread, where its clause is looked at.
     pub theirs: Variables,
     pub owned: bool,
     /// What is executed.
@@ -172,14 +173,14 @@ fn loaded_pointers(alloc: Global, acts: &[Act]) -> Result<Items<Symbol>, NoMemor
 
 /// What is executed, and the locals of the threads.
 #[derive(Drop)]
-struct Execution {
+struct Executed {
     mine: Variables,
     theirs: Variables,
     acts: Items<Act>,
 }
 
-/// What an obligation executes.
-fn execution_of(alloc: Global, flow: &Flow, o: &Obligation) -> Result<Execution, NoMemory>
+/// What an obligation executes, with the locals of its threads.
+fn executed_by(alloc: Global, flow: &Flow, o: &Obligation) -> Result<Executed, NoMemory>
     requires { (outline : AnOutline) × Fits flow.now outline }
     ensures mine { IfOk result (λ run. run.mine ≡ variables_of false (acting_locals flow.now o.now)) }
     ensures theirs { IfOk result (λ run. run.theirs ≡ variables_of true (owner_locals flow.now o.now)) }
@@ -188,7 +189,7 @@ fn execution_of(alloc: Global, flow: &Flow, o: &Obligation) -> Result<Execution,
     let mine = variables_of(alloc, acting_locals(flow, o), false)?;
     let theirs = variables_of(alloc, owner_locals(flow, o), true)?;
     let acts = acts_of(alloc, &flow.file, &mine, executed(flow, o))?;
-    Ok(Execution { mine, theirs, acts })
+    Ok(Executed { mine, theirs, acts })
 }
 
 /// The constants that are nodes, the nodes, and those at which premises are instantiated.
@@ -226,35 +227,35 @@ fn node_lists(
     })
 }
 
-/// The pointers through which the nodes of an execution are found, and these nodes.
+/// The nodes of a setting, with the pointer variables and pointer fields through which they are found.
 #[derive(Drop)]
-struct Surroundings {
+struct Nodes {
     pointers: Items<Symbol>,
     fields: Items<FieldId>,
     lists: NodeLists,
 }
 
-/// The nodes of an execution.
-fn surround(
+/// The nodes of a setting, from what is executed and from how many nodes the conclusion names.
+fn setting_nodes(
     alloc: Global,
     flow: &Flow,
     outline: &Outline,
-    run: &Execution,
+    run: &Executed,
     makes: bool,
     bound: u16,
-) -> Result<Surroundings, NoMemory>
+) -> Result<Nodes, NoMemory>
     requires fits { Fits flow.now outline.now }
     requires few { length run.now.acts ≤ most_step_primitives }
-    ensures pointers { IfOk result (λ around. around.pointers
+    ensures pointers { IfOk result (λ nodes. nodes.pointers
         ≡ pointer_variables (length flow.now.file.shared) run.now.mine run.now.theirs) }
-    ensures fields { IfOk result (λ around. around.fields ≡ pointer_fields_from 0 flow.now.file.fields) }
-    ensures constants { IfOk result (λ around. around.lists.constants
-        ≡ node_constants around.pointers makes bound (pointer_loads_from 0 run.now.acts)) }
-    ensures nodes { IfOk result (λ around. around.lists.nodes
-        ≡ nodes_of around.lists.constants (outline.now.depth == 1) around.lists.constants around.fields) }
-    ensures instances { IfOk result (λ around. around.lists.instances
-        ≡ nodes_of (plain_constants around.pointers bound (pointer_loads_from 0 run.now.acts))
-        (outline.now.depth == 1) around.lists.constants around.fields) }
+    ensures fields { IfOk result (λ nodes. nodes.fields ≡ pointer_fields_from 0 flow.now.file.fields) }
+    ensures constants { IfOk result (λ nodes. nodes.lists.constants
+        ≡ node_constants nodes.pointers makes bound (pointer_loads_from 0 run.now.acts)) }
+    ensures nodes { IfOk result (λ nodes. nodes.lists.nodes
+        ≡ nodes_of nodes.lists.constants (outline.now.depth == 1) nodes.lists.constants nodes.fields) }
+    ensures instances { IfOk result (λ nodes. nodes.lists.instances
+        ≡ nodes_of (plain_constants nodes.pointers bound (pointer_loads_from 0 run.now.acts))
+        (outline.now.depth == 1) nodes.lists.constants nodes.fields) }
 {
     let pointers = pointer_variables(alloc, flow.file.shared.len(), &run.mine, &run.theirs)?;
     let loaded = loaded_pointers(alloc, run.acts.as_slice())?;
@@ -268,7 +269,7 @@ fn surround(
         outline.depth == 1,
         fields.as_slice(),
     )?;
-    Ok(Surroundings {
+    Ok(Nodes {
         pointers,
         fields,
         lists,
@@ -276,7 +277,7 @@ fn surround(
 }
 
 /// The setting of which these are the parts.
-fn joined(run: Execution, owned: bool, makes: bool, bound: u16, around: Surroundings) -> Setting
+fn setting_from_parts(run: Executed, owned: bool, makes: bool, bound: u16, nodes: Nodes) -> Setting
     ensures { result ≡ record {
       mine = run.mine;
       theirs = run.theirs;
@@ -284,11 +285,11 @@ fn joined(run: Execution, owned: bool, makes: bool, bound: u16, around: Surround
       acts = run.acts;
       makes = makes;
       bound = bound;
-      pointers = around.pointers;
-      constants = around.lists.constants;
-      nodes = around.lists.nodes;
-      instances = around.lists.instances;
-      fields = around.fields;
+      pointers = nodes.pointers;
+      constants = nodes.lists.constants;
+      nodes = nodes.lists.nodes;
+      instances = nodes.lists.instances;
+      fields = nodes.fields;
     } }
 {
     Setting {
@@ -298,11 +299,11 @@ fn joined(run: Execution, owned: bool, makes: bool, bound: u16, around: Surround
         acts: run.acts,
         makes,
         bound,
-        pointers: around.pointers,
-        constants: around.lists.constants,
-        nodes: around.lists.nodes,
-        instances: around.lists.instances,
-        fields: around.fields,
+        pointers: nodes.pointers,
+        constants: nodes.lists.constants,
+        nodes: nodes.lists.nodes,
+        instances: nodes.lists.instances,
+        fields: nodes.fields,
     }
 }
 
@@ -317,9 +318,9 @@ pub fn setting_of(
     ensures setting { IfOk result (λ s. s ≡ setting_of flow.now outline.now o.now) }
     ensures few { IfOk result (λ s. length s.acts ≤ most_step_primitives) }
 {
-    let run = execution_of(alloc, flow, o)?;
+    let run = executed_by(alloc, flow, o)?;
     let makes = has_new(executed(flow, o));
     let bound = bound_of(conclusion(flow, outline, o));
-    let around = surround(alloc, flow, outline, &run, makes, bound)?;
-    Ok(joined(run, has_owner(o), makes, bound, around))
+    let nodes = setting_nodes(alloc, flow, outline, &run, makes, bound)?;
+    Ok(setting_from_parts(run, has_owner(o), makes, bound, nodes))
 }

@@ -10,7 +10,7 @@ use crate::acts::Act;
 use plc_base::{Items, NoMemory};
 use plc_ground::Symbol;
 
-/// Constants that are at hand.
+/// Lists constants that are at hand.
 pub fn push_all(list: &mut Items<Symbol>, more: &[Symbol]) -> Result<(), NoMemory>
     ensures { OnOk result (list.new ≡ list.old ++ more.now) }
 {
@@ -20,7 +20,7 @@ pub fn push_all(list: &mut Items<Symbol>, more: &[Symbol]) -> Result<(), NoMemor
     Ok(())
 }
 
-/// Those of the shared pointers.
+/// Lists the constants of the shared pointers.
 pub fn push_shared(list: &mut Items<Symbol>, count: usize) -> Result<(), NoMemory>
     requires { count ≤ most limits.Shared }
     ensures { OnOk result (list.new ≡ list.old ++ map symbols.Shared (below count)) }
@@ -31,7 +31,7 @@ pub fn push_shared(list: &mut Items<Symbol>, count: usize) -> Result<(), NoMemor
     Ok(())
 }
 
-/// Those of the nodes of which the conclusion speaks.
+/// Lists the constants of the nodes of which the conclusion speaks.
 pub fn push_bound(list: &mut Items<Symbol>, count: u16) -> Result<(), NoMemory>
     ensures { OnOk result (list.new ≡ list.old ++ map symbols.Bound (below count)) }
 {
@@ -41,7 +41,7 @@ pub fn push_bound(list: &mut Items<Symbol>, count: u16) -> Result<(), NoMemory>
     Ok(())
 }
 
-/// Those of the values of auxiliary fields.
+/// Lists the constants of the values of auxiliary fields.
 pub fn push_values(list: &mut Items<Symbol>, count: u16) -> Result<(), NoMemory>
     ensures { OnOk result (list.new ≡ list.old ++ map symbols.Value (below count)) }
 {
@@ -51,7 +51,7 @@ pub fn push_values(list: &mut Items<Symbol>, count: u16) -> Result<(), NoMemory>
     Ok(())
 }
 
-/// The new node, where one is made.
+/// Lists the new node, where one is made.
 pub fn push_made(list: &mut Items<Symbol>, makes: bool) -> Result<(), NoMemory>
     ensures { OnOk result (list.new ≡ list.old ++ if_made makes) }
 {
@@ -61,7 +61,7 @@ pub fn push_made(list: &mut Items<Symbol>, makes: bool) -> Result<(), NoMemory>
     Ok(())
 }
 
-/// The owner, where there is one.
+/// Lists the owner, where there is one.
 pub fn push_owner(list: &mut Items<Symbol>, owned: bool) -> Result<(), NoMemory>
     ensures { OnOk result (list.new ≡ list.old ++ if_owned owned) }
 {
@@ -71,7 +71,7 @@ pub fn push_owner(list: &mut Items<Symbol>, owned: bool) -> Result<(), NoMemory>
     Ok(())
 }
 
-/// What each read gives.
+/// Lists what each read gives.
 pub fn push_loads(list: &mut Items<Symbol>, acts: &[Act]) -> Result<(), NoMemory>
     requires { length acts.now < 65536 }
     ensures { OnOk result (list.new ≡ list.old ++ loads_from 0 acts.now) }
@@ -86,7 +86,7 @@ pub fn push_loads(list: &mut Items<Symbol>, acts: &[Act]) -> Result<(), NoMemory
     Ok(())
 }
 
-/// What is read into pointers, each by its number among all that is read.
+/// Lists what is read into pointers, each by its number among all that is read.
 pub fn push_pointer_loads(list: &mut Items<Symbol>, acts: &[Act]) -> Result<(), NoMemory>
     requires { length acts.now < 65536 }
     ensures { OnOk result (list.new ≡ list.old ++ pointer_loads_from 0 acts.now) }

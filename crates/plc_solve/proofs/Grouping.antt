@@ -80,9 +80,6 @@ pub record Passes (s : GroundSet) (group class last : List ℕ) (k : ℕ) : Type
   pub marked : (n : ℕ) → n < k → slice_index last (slice_index class (slice_index group n)) ≡ slice_index group n
   pub apart : (m n : ℕ) → m < k → n < k → AreApart s class (slice_index group m) (slice_index group n)
 
-pub passes_first : (s : GroundSet) (group class last : List ℕ) → Passes s group class last 0
-passes_first s group class last = record { marked = λ n lt. absurd (omega arith); apart = λ m n lt. absurd (omega arith) }
-
 in_place : (list : List ℕ) (n : ℕ) → n < length list → Contains list (slice_index list n)
 in_place list n lt = (n, lt, get_or_default list n (slice_index list n) 0 lt)
 

@@ -12,9 +12,9 @@ use Rattle.plc_ground.proofs.Changing.{extends_same, extends_back, extends_front
 use Rattle.plc_solve.specs.declared.frame.Frame.{Frame}
 use Rattle.plc_solve.specs.declared.frame.Step.TheVariants.{Closed, Deeper, Complete}
 use Rattle.plc_solve.specs.declared.place.Place.{Place}
-use Rattle.plc_solve.specs.Search.{OpenSplit, split_on, splits, AreNested, IsCutTo, IsSame, GoesOn, IsNew, IsStack, Stands, ClosesTop, TakesTree, StepGives}
+use Rattle.plc_solve.specs.Search.{OpenSplit, split_on, splits, AreNested, IsCutTo, IsSame, GoesOn, IsStack, Stands, ClosesTop, TakesTree, StepGives}
 use Rattle.plc_solve.specs.Measure.{left, left_below, base_of}
-use Rattle.plc_solve.proofs.Stacking.{leaf_taken, deeper_stacked, complete_closes, left_falls_complete, tree_taken, tree_left, needless_goes, first_stacked}
+use Rattle.plc_solve.proofs.Stacking.{leaf_taken, deeper_stacked, complete_closes, left_falls_complete, tree_taken, tree_left, needless_goes}
 
 -- splits look alike from two places that agree up to the newest of them
 splits_same : (old new : Place) (depth mark : ℕ) (fs : List Frame) → AreNested depth mark fs → ((n : ℕ) → n ≤ depth → take n new.branch.items ≡ take n old.branch.items) →
@@ -185,9 +185,3 @@ module _ (s : GroundSet) (old cut new : Place) (f g : Frame) (fs : List Frame) (
           (needless_goes s (split_on cut.branch.items cut.equal.class f) (splits cut fs) tree at_split.stack closes_cut close),
       λ base. let same = ap (left_below s base) below_same in let seen = ap (left_below s base) (cut_splits s f fs old cut h c) in omega (arith, same, seen),
     )
-
--- the first split stands at the first place
-pub first_stands : (s : GroundSet) (p : Place) (f : Frame) → p.branch.items ≡ [] → IsNew s p f → Stands s p (f ∷ [])
-first_stands s p f none new =
-    gone_stands p p (same_goes_on p p (record { branch = refl; class = refl; trail = refl })) f [] new.depth new.mark tt s
-    (first_stacked s (split_on p.branch.items p.equal.class f) new.sound none new.first new.none)

@@ -1,6 +1,6 @@
 -- A search for a tree that closes a set.
 use Rattle.std.proofs.Common.{◌≡◌, ◌≢◌, ◌<◌, ◌≤◌, ◌+◌, ℕ, zero, suc, true, false, List, [], ◌∷◌, ◌++◌, length, map, take, get_or, Option, Some, None, below_more, append_assoc, inl, inr, ◌⊎◌, refl, sym, ◌∙◌, ap, subst, arith}
-use Rattle.std.specs.Prelude.{All, Any, slice_get, slice_index, slice_index_or, IfSome, IfNone}
+use Rattle.std.specs.Prelude.{All, Any, slice_get, slice_index, IfSome, IfNone}
 use Rattle.std.proofs.lemmas.List.{take_more}
 use Rattle.std.proofs.lemmas.List.Elements.{Contains-append_right, All-append}
 use Rattle.std.proofs.lemmas.Option.{slice_get_within, get_or_from_slice_get, slice_get-get_or}
@@ -21,7 +21,7 @@ use Rattle.plc_ground.specs.Equality.{Same, given, itself, back, along, applied}
 use Rattle.plc_ground.specs.Trees.{IsRight, Close, below}
 use Rattle.plc_ground.proofs.Joining.{Same-longer}
 use Rattle.plc_solve.specs.declared.choice.Choice.{Choice}
-use Rattle.plc_solve.specs.Search.{AreInside, IsPlace, IsSound, Descends, Enters, StepGives, split_on}
+use Rattle.plc_solve.specs.Search.{IsPlace, IsSound, Descends, Enters, StepGives, split_on}
 
 -- what a branch makes equal is of one sort
 same_sort : (s : GroundSet) → IsWellFormed s → (branch : List Lit) → All (LitFits s) branch → (i j : ℕ) → Same s.terms branch i j →
@@ -53,10 +53,6 @@ found_is P best n r h pn (inr e) = rw e at h
 pub none_more : {A : Type 0} (Q : ℕ → Type 0) (best : Option A) (n : ℕ) → IfNone best ((c : ℕ) → c < n → Q c) → Q n → IfNone best ((c : ℕ) → c < n + 1 → Q c)
 none_more Q None n h q = below_more Q n h q
 none_more Q (Some r) n h q = tt
-
--- the literals of a clause speak of terms that have a class
-pub literals_inside : (s : GroundSet) (class : List ℕ) (ls : List Lit) → length class ≡ length s.terms → All (IsInRange s.terms) ls → All (AreInside class) ls
-literals_inside s class ls len range k d lt = let r : IsInRange s.terms (slice_index_or ls k d) = range k d lt in (omega (arith, r.0, len), omega (arith, r.1, len))
 
 -- trees of branches, one after another
 pub Close-append : (s : GroundSet) (bs cs : List (List Lit)) (ns ms : List Node) → Close s bs ns → Close s cs ms → Close s (bs ++ cs) (ns ++ ms)

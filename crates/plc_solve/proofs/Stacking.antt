@@ -1,7 +1,7 @@
 -- The splits of the present branch of a search.
-use Rattle.std.proofs.Common.{◌≡◌, ◌<◌, ◌≤◌, ◌+◌, ◌-◌, ◌*◌, ℕ, zero, suc, true, false, List, [], ◌∷◌, ◌++◌, length, map, take, get_or, Option, Some, None, sum, reverse, append_assoc, refl, sym, ◌∙◌, ap, subst, arith}
+use Rattle.std.proofs.Common.{◌≡◌, ◌<◌, ◌≤◌, ◌+◌, ◌-◌, ◌*◌, ℕ, zero, suc, true, false, List, [], ◌∷◌, ◌++◌, length, map, take, get_or, Option, Some, None, sum, append_assoc, refl, sym, ◌∙◌, ap, subst, arith}
 use Rattle.std.specs.Prelude.{is_some, Contains, slice_get, sum_by}
-use Rattle.std.proofs.lemmas.List.{take_more, take_all, reverse-append}
+use Rattle.std.proofs.lemmas.List.{take_more, take_all}
 use Rattle.std.proofs.lemmas.List.Elements.{Contains-append_left, Contains-append_right}
 use Rattle.std.proofs.lemmas.Option.{slice_get_within, get_or_from_slice_get, slice_get-get_or}
 use Rattle.std.proofs.lemmas.List.Sums.{get_or-le-sum_by}
@@ -135,10 +135,6 @@ tree_taken s b c p g fs tree h k t = (
 pub tree_left : (s : GroundSet) (b : List Lit) (c : List ℕ) (p g : Frame) (fs : List OpenSplit) (tree : List Node) → ClosesTop s (split_on b c p ∷ fs) tree → TakesTree p g tree →
     (base : ℕ) → left s base (split_on b c g ∷ fs) ≡ left_below s base (split_on b c p ∷ fs)
 tree_left s b c p g fs tree k t base = left_more s (split_on b c p) (split_on b c g) k.literal tree k.is t.clause refl refl t.next t.nodes base fs
-
--- the newest of a list that grows at its end
-pub reverse_pushed : {A : Type 0} (xs ys : List A) (x : A) → ys ≡ xs ++ x ∷ [] → reverse ys ≡ x ∷ reverse xs
-reverse_pushed xs ys x e = ap reverse e ∙ reverse-append xs (x ∷ [])
 
 pub verdict_closes : (s : GroundSet) (b : List Lit) (ns : List Node) (o : Option ℕ) → is_some o ≡ false → IsVerdict s b ns o → Close s (b ∷ []) ns
 verdict_closes s b ns None e h = h

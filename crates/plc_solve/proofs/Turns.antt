@@ -8,13 +8,13 @@ use Rattle.plc_solve.specs.declared.frame.Step.TheVariants.{Closed, Deeper, Comp
 use Rattle.plc_solve.specs.declared.place.Place.{Place}
 use Rattle.plc_solve.specs.Search.{splits, split_on, IsCutTo, GoesOn, IsSound, Stands, ClosesTop, StepGives}
 use Rattle.plc_solve.specs.Measure.{left, left_below, base_of}
-use Rattle.plc_solve.proofs.Stacking.{reverse_pushed}
 use Rattle.plc_solve.proofs.Places.{cut_stands, closed_step, deeper_step, complete_step}
+use Rattle.plc_base.proofs.Lists.{newest_first}
 
 -- the newest frame is taken off a list, and the place is cut back to it
 module _ (s : GroundSet) (old cut : Place) (f : Frame) (before rest : List Frame) (popped : before ≡ rest ++ f ∷ []) (h : Stands s old (reverse before)) (c : IsCutTo f old cut) where
   newest : reverse before ≡ f ∷ reverse rest
-  newest = reverse_pushed rest before f popped
+  newest = newest_first rest before f popped
 
   stood : Stands s old (f ∷ reverse rest)
   stood = subst (λ (fs : List Frame). Stands s old fs) newest h
@@ -33,7 +33,7 @@ module _ (s : GroundSet) (old cut : Place) (f : Frame) (before rest : List Frame
     pub closed_turn : (now : List Frame) → now ≡ rest ++ g ∷ [] → StepGives s cut f g new Closed → IsCloser now
     closed_turn now pushed st =
         let next = closed_step s old cut new f g (reverse rest) stood c go st in
-        let e = reverse_pushed rest now g pushed in
+        let e = newest_first rest now g pushed in
         let less = next.1 in
         let same = ap (λ (fs : List Frame). left s (base_of s) (splits new fs)) e in
         (subst (λ (fs : List Frame). Stands s new fs) (sym e) (next.0), omega (arith, less, same, was))
@@ -41,7 +41,7 @@ module _ (s : GroundSet) (old cut : Place) (f : Frame) (before rest : List Frame
     pub deeper_turn : (child : Frame) (between now : List Frame) → between ≡ rest ++ g ∷ [] → now ≡ between ++ child ∷ [] → StepGives s cut f g new (Deeper child) → IsCloser now
     deeper_turn child between now pushed last st =
         let next = deeper_step s old cut new f g (reverse rest) stood c go child st in
-        let e = reverse_pushed between now child last ∙ ap (λ (fs : List Frame). child ∷ fs) (reverse_pushed rest between g pushed) in
+        let e = newest_first between now child last ∙ ap (λ (fs : List Frame). child ∷ fs) (newest_first rest between g pushed) in
         let less = next.1 in
         let same = ap (λ (fs : List Frame). left s (base_of s) (splits new fs)) e in
         (subst (λ (fs : List Frame). Stands s new fs) (sym e) (next.0), omega (arith, less, same, was))

@@ -1,7 +1,7 @@
 -- The state of a search for a tree that closes a set.
 use Rattle.std.specs.Prelude.{◌≡◌, ◌≢◌, ◌≤◌, ◌<◌, ◌+◌, ◌⊎◌, ℕ, true, List, [], ◌∷◌}
 use Rattle.std.specs.Prelude.{◌++◌, length, map, take, drop, All, Any, Contains}
-use Rattle.std.specs.Prelude.{slice_get, slice_index, sum, Some}
+use Rattle.std.specs.Prelude.{slice_get, slice_index, sum, Option, Some, None, Vec}
 use Rattle.plc_ground.specs.declared.terms.Lit.{Lit}
 use Rattle.plc_ground.specs.declared.terms.Symbol.{Symbol}
 use Rattle.plc_ground.specs.declared.terms.Node.{Node}
@@ -213,3 +213,8 @@ pub record ClosesChild (s : GroundSet) (p : OpenSplit) (above : List ℕ) (tree 
 abbrev pub ClosesTop : GroundSet → List OpenSplit → List Node → Type 0
 ClosesTop s [] tree = Close s ([] ∷ []) tree × SplitsOnce s ([] ∷ []) tree
 ClosesTop s (p ∷ fs) tree = ClosesChild s p (clauses_of fs) tree
+
+-- what a search comes to at this place: its classes are a model, or these nodes close the set and split no clause twice
+abbrev pub Finds : {Z : Type 0} → GroundSet → Place → Option (Vec Node Z) → Type 0
+Finds s p None = IsModel s p.equal.class
+Finds s p (Some nodes) = ClosesTop s [] nodes.items

@@ -2,11 +2,10 @@
 // false under it and no two constants come together that must differ, it is a model. Else a false
 // clause is split. The stack of splits is a list, so no depth is too great. A split above the
 // present branch has a true equation on it, so a clause that is false wasn't split: none is twice.
-ghost use Rattle.std.specs.Prelude.{◌≡◌, ◌↔◌, ◌<◌, [], IfOk, IfSome, None, Ok, length, reverse, vec_len};
+ghost use Rattle.std.specs.Prelude.{◌≡◌, ◌↔◌, ◌<◌, [], IfOk, length, reverse, vec_len};
 ghost use Rattle.plc_ground.specs.Fit.{IsWellFormed};
-ghost use Rattle.plc_ground.specs.Model.{IsModel};
 ghost use Rattle.plc_ground.specs.Trees.{HasModel};
-ghost use Rattle.plc_solve.specs.Search.{IsSurvey, IsPlace, Stands, ClosesTop};
+ghost use Rattle.plc_solve.specs.Search.{IsSurvey, IsPlace, Stands, Finds};
 ghost use Rattle.plc_solve.specs.Answers.{IsOpen, CarriesModel, CarriesTree};
 
 use crate::frame::{Frame, Step, whole};
@@ -27,8 +26,8 @@ pub enum Answer {
     Open(GroundModel),
 }
 
-/// The nodes of a tree that closes the set, found from the splits of the place; or `None` where the
-/// classes of the place that it came to are a model.
+/// The nodes of a tree that closes the set, found from the splits of the place, or `None` where the
+/// classes of the place that the search comes to are a model.
 fn search(
     alloc: Global,
     set: &GroundSet,
@@ -44,8 +43,7 @@ fn search(
     requires last { length last.old ≡ length set.now.terms }
     requires stands { Stands set.now place.old (reverse frames.old.items) }
     requires nonempty { 0 < vec_len frames.old }
-    ensures open { result ≡ Ok None → IsModel set.now place.new.equal.class }
-    ensures closed { IfOk result (λ o. IfSome o (λ nodes. ClosesTop set.now [] nodes.items)) }
+    ensures { IfOk result (Finds set.now place.new) }
 {
     'search: while let Some(mut top) = frames.pop() {
         go_up(place, &top);
@@ -67,7 +65,8 @@ fn search(
     unreachable!()
 }
 
-/// What [`search`] finds from a place on which nothing is split yet.
+/// The nodes of a tree that closes the set, found from a branch on which nothing is split yet, or `None`
+/// where the classes of the place that the search comes to are a model.
 fn search_from(
     alloc: Global,
     set: &GroundSet,
@@ -82,8 +81,7 @@ fn search_from(
     requires last { length last.old ≡ length set.now.terms }
     requires place { IsPlace set.now place.old.branch.items place.old.equal.class }
     requires empty { place.old.branch.items ≡ [] }
-    ensures open { result ≡ Ok None → IsModel set.now place.new.equal.class }
-    ensures closed { IfOk result (λ o. IfSome o (λ nodes. ClosesTop set.now [] nodes.items)) }
+    ensures { IfOk result (Finds set.now place.new) }
 {
     match enter(alloc, set, survey, seen, place) {
         Step::Open => Ok(None),
@@ -96,18 +94,22 @@ fn search_from(
     }
 }
 
-/// What [`search_from`] finds, with what it asks of the set again and again.
+/// Surveys the set and searches it from an empty branch: the nodes of a tree that closes it, or `None`
+/// where the classes of the place that the search comes to are a model.
 fn find(alloc: Global, set: &GroundSet, place: &mut Place) -> Result<Option<Vec<Node>>, AllocError>
     requires well { IsWellFormed set.now }
     requires place { IsPlace set.now place.old.branch.items place.old.equal.class }
     requires empty { place.old.branch.items ≡ [] }
-    ensures open { result ≡ Ok None → IsModel set.now place.new.equal.class }
-    ensures closed { IfOk result (λ o. IfSome o (λ nodes. ClosesTop set.now [] nodes.items)) }
+    ensures { IfOk result (Finds set.now place.new) }
 {
     let survey = take_survey(alloc, set)?;
     let mut seen = vec![in alloc; 0usize; set.clauses.len()]?;
     let mut last = vec![in alloc; 0u32; set.terms.len()]?;
-    search_from(alloc, set, &survey, &mut seen, &mut last, place)
+    let found = search_from(alloc, set, &survey, &mut seen, &mut last, place);
+    drop(survey);
+    drop(seen);
+    drop(last);
+    found
 }
 
 /// The classes of a branch on which no clause is false, as a model.
@@ -119,22 +121,46 @@ fn open(place: Place) -> Answer
     })
 }
 
+/// The answer to a set that was searched: the tree that was found, or a model where none was. `place` is
+/// where the search came to.
+fn answered(
+    set: &GroundSet,
+    place: Place,
+    found: Result<Option<Vec<Node>>, AllocError>,
+) -> Result<Answer, AllocError>
+    requires { IfOk found (Finds set.now place) }
+    ensures open { IfOk result (CarriesModel set.now) }
+    ensures closed { IfOk result (CarriesTree set.now) }
+{
+    let _set = set; // of which the contract alone speaks
+    match found {
+        Ok(None) => Ok(open(place)),
+        Ok(Some(nodes)) => {
+            drop(place);
+            Ok(Answer::Closed(Tree {
+                nodes: Items::from_vec(nodes),
+            }))
+        }
+        Err(AllocError) => {
+            drop(place);
+            Err(AllocError)
+        }
+    }
+}
+
 /// The answer to a set: a tree that closes it, or a model.
 fn solve(alloc: Global, set: &GroundSet) -> Result<Answer, AllocError>
     requires { IsWellFormed set.now }
     ensures open { IfOk result (CarriesModel set.now) }
     ensures closed { IfOk result (CarriesTree set.now) }
 {
+    let equal = all_apart(alloc, set)?;
     let mut place = Place {
         branch: Vec::new(alloc),
-        equal: all_apart(alloc, set)?,
+        equal,
     };
-    match find(alloc, set, &mut place)? {
-        Some(nodes) => Ok(Answer::Closed(Tree {
-            nodes: Items::from_vec(nodes),
-        })),
-        None => Ok(open(place)),
-    }
+    let found = find(alloc, set, &mut place);
+    answered(set, place, found)
 }
 
 /// A model of the set, exactly where it has one, or else a tree that closes it. It doesn't recurse.

@@ -20,7 +20,9 @@ use Rattle.plc_symbolic.specs.declared.symbolic.SymbolicTerm.TheVariants.{Consta
 use Rattle.plc_symbolic.specs.declared.symbolic.SymbolicLit.{SymbolicLit}
 use Rattle.plc_symbolic.specs.Terms.{Clauses, term_of, null}
 use Rattle.plc_symbolic.specs.Numbering.{note, note_clause, place, number, number_lit, numbered, IsListed, Drafted, listed, written, listed_all, written_all}
-use Rattle.plc_symbolic.specs.Tidy.{IsTidy, HasArgument, HasSides, Grows}
+use Rattle.plc_symbolic.specs.Tidy.{IsTidy}
+use Rattle.plc_symbolic.proofs.Sides.{HasSides}
+use Rattle.plc_symbolic.specs.Growth.{HasArgument, Grows}
 use Rattle.plc_symbolic.specs.Drafts.{IsDraft, begun, lists, writes, DraftsAreWellFormed}
 use Rattle.plc_symbolic.proofs.Places.{grows_not, grows_twice, place_read, listed_at, tidy_none, argument_listed}
 use Rattle.plc_symbolic.proofs.Noting.{tidy_note, tidy_clause, grows_note, grows_clause, sides_clause, clause_grown}
@@ -55,11 +57,6 @@ lists_all (t ∷ ts) d h = lists_all ts (listed d t) (lists d t h)
 pub writes_all : (cs : Clauses) (d : Drafted) → IsDraft d → IsDraft (written_all d cs)
 writes_all [] d h = h
 writes_all (c ∷ cs) d h = writes_all cs (written d c) (writes d c h)
-
--- clauses in two parts
-pub written_all-append : (cs ds : Clauses) (d : Drafted) → written_all d (cs ++ ds) ≡ written_all (written_all d cs) ds
-written_all-append [] ds d = refl
-written_all-append (c ∷ cs) ds d = written_all-append cs ds (written d c)
 
 pub listed_all-append : (ts us : List SymbolicTerm) (d : Drafted) → listed_all d (ts ++ us) ≡ listed_all (listed_all d ts) us
 listed_all-append [] us d = refl

@@ -1,3 +1,4 @@
+pub mod Sides
 pub mod Places
 pub mod Noting
 pub mod Reading

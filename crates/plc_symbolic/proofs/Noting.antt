@@ -15,7 +15,9 @@ use Rattle.plc_symbolic.specs.declared.symbolic.SymbolicTerm.TheVariants.{Consta
 use Rattle.plc_symbolic.specs.declared.symbolic.SymbolicLit.{SymbolicLit}
 use Rattle.plc_symbolic.specs.Terms.{term_of}
 use Rattle.plc_symbolic.specs.Numbering.{put, note, note_literal, note_clause, number_lit, IsListed}
-use Rattle.plc_symbolic.specs.Tidy.{IsTidy, HasArgument, IsAppliedTo, HasSides, Grows}
+use Rattle.plc_symbolic.specs.Tidy.{IsTidy}
+use Rattle.plc_symbolic.proofs.Sides.{HasSides}
+use Rattle.plc_symbolic.specs.Growth.{HasArgument, IsAppliedTo, Grows}
 use Rattle.plc_symbolic.proofs.Places.{put_listed, put_lists, grows_not, grows_twice, grows_put, listed_grown, tidy_put, argument_listed}
 
 -- ---- a term
@@ -119,11 +121,6 @@ at_argument us n s t is e = subst (HasArgument us) (sym (e ∙ ap term_of is)) t
 pub applied_argument : (ts us : List SymbolicTerm) (n : NodeTerm) (t : SymbolicTerm) → IsAppliedTo n t → us ≡ note ts (term_of n) → HasArgument us t
 applied_argument ts us n t applied grown =
     subst (HasArgument us) (sym applied.2) (subst (λ vs. IsListed vs (term_of n)) (sym grown) (note_lists ts (term_of n)))
-
-pub applied_noted : (ts us vs : List SymbolicTerm) (n : NodeTerm) (t : SymbolicTerm) → IsAppliedTo n t → us ≡ note ts (term_of n) → vs ≡ put us t → vs ≡ note ts t
-applied_noted ts us vs n t applied node last =
-    last ∙ ap (λ ws. put ws t) node
-    ∙ subst (λ x. put (note ts (term_of n)) x ≡ note ts x) (sym applied.2) (sym (application_noted ts applied.0 applied.1 n))
 
 -- ---- a clause, literal by literal
 

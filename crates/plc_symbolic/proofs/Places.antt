@@ -12,7 +12,8 @@ use Rattle.plc_symbolic.specs.Terms.{term_of}
 use Rattle.plc_symbolic.specs.Equality.{same_term_true, same_term_refl}
 use Rattle.plc_symbolic.specs.Same.{same_term}
 use Rattle.plc_symbolic.specs.Numbering.{put, place, IsListed}
-use Rattle.plc_symbolic.specs.Tidy.{IsTidy, HasArgument, Grows}
+use Rattle.plc_symbolic.specs.Tidy.{IsTidy}
+use Rattle.plc_symbolic.specs.Growth.{HasArgument, Grows}
 
 -- ---- places
 

@@ -10,7 +10,9 @@ use Rattle.plc_symbolic.specs.declared.symbolic.SymbolicTerm.TheVariants.{Consta
 use Rattle.plc_symbolic.specs.declared.symbolic.SymbolicLit.{SymbolicLit}
 use Rattle.plc_symbolic.specs.Terms.{null}
 use Rattle.plc_symbolic.specs.Numbering.{note, note_clause, place, number_lit, listed, written}
-use Rattle.plc_symbolic.specs.Tidy.{IsTidy, HasArgument, HasSides, Grows, IsInside, read, read_draft}
+use Rattle.plc_symbolic.specs.Tidy.{IsTidy, IsInside, read, read_draft}
+use Rattle.plc_symbolic.proofs.Sides.{HasSides}
+use Rattle.plc_symbolic.specs.Growth.{HasArgument, Grows}
 use Rattle.plc_symbolic.proofs.Places.{place_read}
 use Rattle.plc_symbolic.proofs.Noting.{map_agree, grows_note, grows_clause, sides_clause}
 

@@ -5,5 +5,7 @@ pub mod Same
 pub mod Numbering
 pub mod Tidy
 pub mod Drafts
+-- words of private functions alone
+pub mod Growth
 -- lemmas that an impl of the code cites
 pub mod Equality

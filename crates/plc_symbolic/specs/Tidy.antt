@@ -1,38 +1,19 @@
--- Lists of terms that noting leads to, how they grow, and what stands in them.
-use Rattle.std.specs.Prelude.{◌≡◌, ℕ, ◌<◌, ◌≤◌, List, length, map, Some, slice_get, slice_index_or}
+-- Lists of terms that noting leads to, and places that are read back from them.
+use Rattle.std.specs.Prelude.{◌≡◌, ℕ, ◌<◌, List, length, map, Some, slice_get, slice_index_or}
 use Rattle.plc_ground.specs.declared.terms.Map.{Map}
 use Rattle.plc_ground.specs.declared.terms.Lit.{Lit}
 use Rattle.plc_symbolic.specs.declared.symbolic.NodeTerm.{NodeTerm}
 use Rattle.plc_symbolic.specs.declared.symbolic.SymbolicTerm.{SymbolicTerm}
-use Rattle.plc_symbolic.specs.declared.symbolic.SymbolicTerm.TheVariants.{Constant, Application}
+use Rattle.plc_symbolic.specs.declared.symbolic.SymbolicTerm.TheVariants.{Application}
 use Rattle.plc_symbolic.specs.declared.symbolic.SymbolicLit.{SymbolicLit}
 use Rattle.plc_symbolic.specs.Terms.{term_of, null}
-use Rattle.plc_symbolic.specs.Numbering.{Drafted, place, IsListed}
+use Rattle.plc_symbolic.specs.Numbering.{Drafted, place}
 
 -- no term stands twice, and each argument stands before what is applied to it
 pub record IsTidy (ts : List SymbolicTerm) : Type 0 where
   pub distinct : (k : ℕ) (t : SymbolicTerm) → slice_get ts k ≡ Some t → place ts t ≡ k
   pub arguments : (k : ℕ) (m : Map) (v : ℕ) (n : NodeTerm) → slice_get ts k ≡ Some (Application m v n)
       → place ts (term_of n) < k
-
--- the argument of a term is listed, and so are both sides of a literal
-abbrev pub HasArgument : List SymbolicTerm → SymbolicTerm → Type 0
-HasArgument ts (Constant s) = Unit {0}
-HasArgument ts (Application m v n) = IsListed ts (term_of n)
-
--- a term is an application to a node
-abbrev pub IsAppliedTo : NodeTerm → SymbolicTerm → Type 0
-IsAppliedTo node t = (m : Map) × (v : ℕ) × (t ≡ Application m v node)
-
-pub record HasSides (ts : List SymbolicTerm) (l : SymbolicLit) : Type 0 where
-  pub left : IsListed ts l.left
-  pub right : IsListed ts l.right
-
--- what stands in the first list stands at the same places in the second
-pub record Grows (ts us : List SymbolicTerm) : Type 0 where
-  pub reads : (k : ℕ) (t : SymbolicTerm) → slice_get ts k ≡ Some t → slice_get us k ≡ Some t
-  pub places : (t : SymbolicTerm) → IsListed ts t → place us t ≡ place ts t
-  pub longer : length ts ≤ length us
 
 -- ---- places read back
 

@@ -5,9 +5,10 @@
 // at the table of hashes.
 ghost use Rattle.std.specs.Prelude.{◌≡◌, ◌<◌, ◌^◌, [], length, slice_get, map, OnOk, IfOk, IfSome};
 ghost use Rattle.plc_symbolic.specs.Terms.{term_of};
+ghost use Rattle.plc_symbolic.specs.Growth.{HasArgument, IsAppliedTo, Grows};
 ghost use Rattle.plc_symbolic.specs.Numbering.{put, note, note_literal, note_clause};
 ghost use Rattle.plc_symbolic.specs.Numbering.{place, number, number_lit, IsListed};
-ghost use Rattle.plc_symbolic.specs.Tidy.{IsTidy, HasArgument, IsAppliedTo, Grows};
+ghost use Rattle.plc_symbolic.specs.Tidy.{IsTidy};
 
 use crate::recent::Recent;
 use crate::symbolic::{NodeTerm, SymbolicLit, SymbolicTerm, term_key};

@@ -30,7 +30,7 @@ pub enum SymbolicTerm {
 }
 
 /// An equation or an inequation of two terms.
-#[derive(Clone, Copy, PartialEq, Eq)]
+#[derive(Clone, Copy)]
 pub struct SymbolicLit {
     pub left: SymbolicTerm,
     pub right: SymbolicTerm,

@@ -1,10 +1,8 @@
 -- One name, and one label, after another.
-use Rattle.std.proofs.Common.{◌≡◌, ◌+◌, ◌≤◌, ℕ, Bool, true, false, suc, List, [], ◌∷◌, ◌++◌, length, drop, Some, refl, sym, ap, ◌∙◌, append_assoc, arith}
+use Rattle.std.proofs.Common.{◌≡◌, ◌+◌, ◌≤◌, ℕ, Bool, true, false, List, [], ◌∷◌, ◌++◌, length, drop, Some, refl, sym, ap, ◌∙◌, append_assoc}
 use Rattle.std.specs.Prelude.{if◌then◌else◌, slice_get, map}
 use Rattle.std.specs.Borrow.{Bor}
-use Rattle.std.proofs.Math.Seq.{drop-cons}
 use Rattle.std.proofs.lemmas.List.{drop_all}
-use Rattle.std.proofs.lemmas.Option.{slice_get_within, get_or_from_slice_get}
 use Rattle.plc_base.specs.Mask.{has}
 use Rattle.plc_base.specs.declared.ids.PointId.{PointId}
 use Rattle.plc_auto.specs.declared.observer.Observer.{Observer}
@@ -12,16 +10,11 @@ use Rattle.plc_type.specs.declared.env.Env.{Env}
 use Rattle.plc_flow.specs.declared.flow.Flow.{Flow}
 use Rattle.plc_texts.specs.Typings.{member_names, label_lines}
 use Rattle.plc_texts.specs.Unproved.{term_lines}
-
--- what is left of a list begins with the item at that place
-left_at : {A : Type 0} (xs : List A) (i : ℕ) (x : A) → slice_get xs i ≡ Some x → drop i xs ≡ x ∷ drop (i + 1) xs
-left_at xs i x e =
-    let next : suc i ≡ i + 1 = omega arith in
-    drop-cons xs i x (slice_get_within xs i x e) ∙ ap (λ y. y ∷ drop (suc i) xs) (get_or_from_slice_get xs i x x e) ∙ ap (λ (k : ℕ). x ∷ drop k xs) next
+use Rattle.plc_base.proofs.Lists.{drop_there}
 
 module _ (set l : ℕ) (all : List (List ℕ)) (n : List ℕ) (here : slice_get all l ≡ Some n) where
   chosen : (b : Bool) → has set l ≡ b → member_names set l (drop l all) ≡ (if b then n ∷ member_names set (l + 1) (drop (l + 1) all) else member_names set (l + 1) (drop (l + 1) all))
-  chosen b e = ap (member_names set l) (left_at all l n here) ∙ ap (λ c. if c then n ∷ member_names set (l + 1) (drop (l + 1) all) else member_names set (l + 1) (drop (l + 1) all)) e
+  chosen b e = ap (member_names set l) (drop_there all l n here) ∙ ap (λ c. if c then n ∷ member_names set (l + 1) (drop (l + 1) all) else member_names set (l + 1) (drop (l + 1) all)) e
 
   pub with_member : (xs : List (List ℕ)) → has set l ≡ true → (xs ++ n ∷ []) ++ member_names set (l + 1) (drop (l + 1) all) ≡ xs ++ member_names set l (drop l all)
   with_member xs e = append_assoc xs (n ∷ []) (member_names set (l + 1) (drop (l + 1) all)) ∙ ap (λ ys. xs ++ ys) (sym (chosen true e))

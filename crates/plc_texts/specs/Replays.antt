@@ -1,11 +1,13 @@
 -- What a schedule leads to, as texts. Each line ends with a line feed.
 use Rattle.std.specs.Prelude.{ℕ, List, [], ◌++◌, codes, decimal}
+use Rattle.plc_base.specs.declared.limits.What1.TheVariants as limits
 use Rattle.plc_mem.specs.declared.cell.RaceKind.{RaceKind}
 use Rattle.plc_mem.specs.declared.cell.RaceKind.TheVariants.{Deref, Compare, Pass, Double}
 use Rattle.plc_sched.specs.declared.fault.SchedFault.{SchedFault}
 use Rattle.plc_sched.specs.declared.fault.SchedFault.TheVariants.{Line, Limit, Memory}
 use Rattle.plc_replay.specs.declared.end.End.{End}
 use Rattle.plc_replay.specs.declared.end.End.TheVariants.{Ended, Race, Impossible, ForbiddenFree}
+use Rattle.plc_texts.specs.Refusals.{limit_text}
 
 -- the word of a race
 abbrev pub race_name : RaceKind → List ℕ
@@ -27,5 +29,5 @@ end_text (ForbiddenFree a line) = codes "forbidden free " ++ decimal a ++ codes 
 -- refused schedule line N; refused limit lines N; running out of memory has no text
 abbrev pub schedule_text : SchedFault → List ℕ
 schedule_text (Line n) = codes "refused schedule line " ++ decimal n ++ codes "\n"
-schedule_text (Limit count) = codes "refused limit lines " ++ decimal count ++ codes "\n"
+schedule_text (Limit count) = limit_text limits.Lines count
 schedule_text Memory = []

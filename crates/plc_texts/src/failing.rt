@@ -10,6 +10,7 @@ use plc_lang::Var;
 use plc_xfer::TypeFault;
 use std::alloc::{AllocError, Global};
 
+/// The word for the kind of condition that fails.
 fn fault_word(fault: TypeFault) -> &'static str
     ensures { result.now ≡ fault_word fault }
 {
@@ -20,6 +21,7 @@ fn fault_word(fault: TypeFault) -> &'static str
     }
 }
 
+/// The variable that lacks what a condition asks.
 fn fault_variable(fault: TypeFault) -> Var
     ensures { result ≡ fault_variable fault }
 {

@@ -3,7 +3,8 @@ ghost use Rattle.std.specs.Prelude.{◌≡◌, ◌++◌, IfOk, codes, decimal};
 ghost use Rattle.plc_texts.specs.Replays.{end_text, race_name, schedule_text};
 
 use crate::push::{push, push_numbered};
-use crate::refusals::{fixed, numbered};
+use crate::refusals::{fixed, limit, numbered};
+use plc_base::What1;
 use plc_mem::RaceKind;
 use plc_replay::End;
 use plc_sched::SchedFault;
@@ -81,7 +82,7 @@ pub fn unscheduled(alloc: Global, fault: SchedFault) -> Result<Vec<u8>, AllocErr
 {
     match fault {
         SchedFault::Line { n } => numbered(alloc, "refused schedule line ", n),
-        SchedFault::Limit { count } => numbered(alloc, "refused limit lines ", count),
+        SchedFault::Limit { count } => limit(alloc, What1::Lines, count),
         SchedFault::Memory => Ok(Vec::new(alloc)),
     }
 }

@@ -67,6 +67,7 @@ fn push_set(out: &mut Vec<u8>, observer: &Observer, set: Mask) -> Result<(), All
     push(out, "}")
 }
 
+/// The letters of the guarantees that hold, or "-" where none does.
 fn guarantees(g: Guar) -> &'static str
     ensures { result.now ≡ guarantees_text g }
 {

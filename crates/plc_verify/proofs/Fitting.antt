@@ -16,7 +16,8 @@ use Rattle.plc_flow.specs.Skeleton.{skeleton_of}
 use Rattle.plc_flow.specs.WellFormed.{IsWellFormed, IsPointOf}
 use Rattle.plc_verify.specs.Environments.{with_shared, completed, PointHolds, PointsHold, EntryHolds, EntriesHold, FailsAtPoint}
 use Rattle.plc_verify.specs.Tests.{env_fits, IsFirstUnfit, AllFit}
-use Rattle.plc_verify.proofs.Points.{no_gate, read_gate, read_item, there, extent, begins, begins_at, point_count}
+use Rattle.plc_verify.proofs.Points.{no_gate, read_gate, read_item, there, extent, begins, begins_at}
+use Rattle.plc_flow.proofs.Gates.{point_count}
 
 -- the test says whether an environment is one
 is_env : (o : Observer) (n m : ℕ) (e : Env) → env_fits o m e ≡ true → IsEnvironment o n m (with_shared n e)

@@ -1,5 +1,5 @@
 -- Steps of a flow over environments, part by part and together.
-use Rattle.std.proofs.Common.{◌≡◌, ℕ, zero, suc, ◌<◌, ◌≤◌, Bool, true, false, List, [], ◌∷◌, length, get_or, replicate, Some, None, refl, sym, ap, subst, ◌∙◌, arith, inl, inr}
+use Rattle.std.proofs.Common.{◌≡◌, ℕ, suc, ◌<◌, ◌≤◌, Bool, true, false, List, [], ◌∷◌, length, get_or, replicate, Some, None, refl, sym, ap, subst, ◌∙◌, arith, inl, inr}
 use Rattle.std.specs.Prelude.{slice_get, option_map, Result, Ok, Err, MatchResult}
 use Rattle.std.proofs.lemmas.Bool.{and_from, cases_lt}
 use Rattle.std.proofs.lemmas.List.{length-map, get_or_default, get_or_past}
@@ -23,7 +23,7 @@ use Rattle.plc_type.specs.Environments.{types_below, env_below, bottom, entry}
 use Rattle.plc_type.proofs.Ordered.{env_parts, env_from}
 use Rattle.plc_xfer.specs.Rules.{type_of, FitsObserver}
 use Rattle.plc_xfer.specs.Typings.{IsEnvironment, IsTyping, env_at, led, fault_at, fault_in, fault_under}
-use Rattle.plc_xfer.proofs.Order.{bottom_least, led_is, well_formed}
+use Rattle.plc_xfer.proofs.Order.{bottom_least, led_is, well_formed, replicate_below}
 use Rattle.plc_xfer.proofs.Facts.{well_formed_fits}
 use Rattle.plc_flow.specs.declared.flow.Gate.{Gate}
 use Rattle.plc_flow.specs.declared.flow.Step.{Step}
@@ -34,7 +34,8 @@ use Rattle.plc_verify.specs.declared.fault.Slot.{Slot}
 use Rattle.plc_verify.specs.Environments.{PointsHold, EntryHolds, EntriesHold, StepHolds, LocalBelow, IsFirstAbove, FailsInStep, FailsAfterStep}
 use Rattle.plc_verify.specs.declared.fault.VerifyFault.{VerifyFault}
 use Rattle.plc_verify.specs.Tests.{NoneAbove, IsRun, MayFail}
-use Rattle.plc_verify.proofs.Points.{no_gate, read_gate, there, point_count, entry_point}
+use Rattle.plc_verify.proofs.Points.{no_gate, read_gate, there, entry_point}
+use Rattle.plc_flow.proofs.Gates.{point_count}
 
 -- ---- two environments
 
@@ -75,10 +76,6 @@ types_from : (x y : List PtrType) (t u : PtrType) → length x ≡ length y → 
 types_from [] y t u same h = refl
 types_from (a ∷ x) [] t u same h = absurd (omega arith)
 types_from (a ∷ x) (b ∷ y) t u same h = and_from _ _ (h 0) (types_from x y t u (omega arith) (λ v. h (suc v)))
-
-replicate_below : (n : ℕ) (t u : PtrType) → type_below t u ≡ true → types_below (replicate n t) (replicate n u) ≡ true
-replicate_below zero t u h = refl
-replicate_below (suc n) t u h = and_from _ _ h (replicate_below n t u h)
 
 shared_below : (o : Observer) (n m : ℕ) (a b : Env) → IsEnvironment o n m a → IsEnvironment o n m b → within a.w b.w ≡ true → types_below a.shared b.shared ≡ true
 shared_below o n m a b x y h =

@@ -1,5 +1,5 @@
 -- The points of a flow, operation by operation.
-use Rattle.std.proofs.Common.{◌≡◌, ℕ, zero, suc, ◌+◌, ◌-◌, ◌<◌, ◌≤◌, List, [], ◌∷◌, length, get_or, drop, replicate, Some, sym, ap, subst, ◌∙◌, arith, length-append, refl}
+use Rattle.std.proofs.Common.{◌≡◌, ℕ, zero, suc, ◌+◌, ◌-◌, ◌<◌, ◌≤◌, List, [], ◌∷◌, length, get_or, drop, replicate, Some, sym, ap, subst, ◌∙◌, arith, refl}
 use Rattle.std.specs.Prelude.{slice_get}
 use Rattle.std.proofs.lemmas.Option.{slice_get-get_or, slice_get_read}
 use Rattle.std.proofs.lemmas.List.{get_or-append_right, get_or_append_left, get_or-replicate, length-replicate}
@@ -10,6 +10,7 @@ use Rattle.plc_flow.specs.declared.flow.Gate.{Gate}
 use Rattle.plc_flow.specs.declared.flow.Flow.{Flow}
 use Rattle.plc_flow.specs.WellFormed.{GatesFrom, IsPointOf, IsWellFormed}
 use Rattle.plc_flow.specs.Skeleton.{pointers_by_point, skeleton_of}
+use Rattle.plc_flow.proofs.Gates.{ends_after}
 
 -- what the code reads at a place
 pub read_item : {A : Type 0} (xs ys : List A) (k : ℕ) (x : A) → xs ≡ ys → k < length ys → x ≡ get_or xs k x → slice_get ys k ≡ Some x
@@ -23,22 +24,6 @@ no_gate = record { entry = record { 0 = 0 }; exit = record { 0 = 0 }; first = 0;
 pub read_gate : (gs hs : List Gate) (k : ℕ) → gs ≡ hs → k < length hs → slice_get hs k ≡ Some (get_or gs k no_gate)
 read_gate gs hs k same small =
     slice_get-get_or hs k no_gate small ∙ ap (λ (xs : List Gate). Some (get_or xs k no_gate)) (sym same)
-
-ends_after : (n : ℕ) (gs : List Gate) (end : ℕ) → GatesFrom n gs end → n ≤ end
-ends_after n [] end h = omega arith
-ends_after n (g ∷ gs) end (first, entry_is, exit_is, wide, rest) = let r = ends_after g.after gs end rest in omega arith
-
-counted : (n : ℕ) (os : List Op) (gs : List Gate) (end : ℕ) → length os ≡ length gs → GatesFrom n gs end
-    → n + length (pointers_by_point os gs) ≡ end
-counted n [] [] end same h = omega arith
-counted n (o ∷ os) [] end same h = absurd (omega arith)
-counted n [] (g ∷ gs) end same h = absurd (omega arith)
-counted n (o ∷ os) (g ∷ gs) end same (first, entry_is, exit_is, wide, rest) =
-    let r = counted g.after os gs end (omega arith) rest in
-    omega (arith, r, length-append (replicate (g.after - g.first) (pointers_of o)) (pointers_by_point os gs), length-replicate (g.after - g.first) (pointers_of o))
-
-pub point_count : (flow : Flow) → IsWellFormed flow → length (skeleton_of flow).locals ≡ flow.points
-point_count flow w = let e = counted 0 flow.file.ops flow.gates flow.points (sym w.gates) w.ranges in omega (arith, e)
 
 -- the points of gate k have the locals of operation k
 pointers_there : (n : ℕ) (os : List Op) (gs : List Gate) (end k p : ℕ) (g : Gate) (o : Op) → GatesFrom n gs end → slice_get gs k ≡ Some g

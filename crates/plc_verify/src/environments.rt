@@ -1,5 +1,5 @@
-// The environments of points: whether each is one of its point's operation, and the types of shared pointers
-// that a certificate leaves out.
+// The environments of points: whether each fits its point's operation, and the types of shared pointers that a
+// certificate leaves out.
 ghost use Rattle.std.specs.Prelude.{◌≡◌, ◌≤◌, ◌<◌, ℕ, IfOk, MatchOption, length};
 ghost use Rattle.plc_flow.specs.WellFormed.{IsWellFormed};
 ghost use Rattle.plc_flow.specs.Skeleton.{skeleton_of};
@@ -15,7 +15,7 @@ use plc_lang::count_pointers;
 use plc_type::{Env, Guar, PtrType};
 use std::alloc::Global;
 
-/// One of the four sets of guarantees.
+/// Whether this is one of the four sets of guarantees.
 fn is_guarantee_set(g: Guar) -> bool
     ensures { result ≡ is_guarantee_set g }
 {
@@ -25,7 +25,7 @@ fn is_guarantee_set(g: Guar) -> bool
         || g == Guar::active_local_safe()
 }
 
-/// Whether a type is one beside W.
+/// Whether a pointer may have this type in an environment with this W.
 fn is_type(t: &PtrType, w: Mask, observer: &Observer) -> bool
     ensures { result ≡ is_type observer.now w t.now }
 {
@@ -35,6 +35,7 @@ fn is_type(t: &PtrType, w: Mask, observer: &Observer) -> bool
     !t.g.is_active() || t.m.within(&observer.unretired())
 }
 
+/// Whether pointers may have all these types in an environment with this W.
 fn are_types(types: &[PtrType], w: Mask, observer: &Observer) -> bool
     ensures { result ≡ all_types observer.now w types.now }
 {
@@ -46,7 +47,7 @@ fn are_types(types: &[PtrType], w: Mask, observer: &Observer) -> bool
     true
 }
 
-/// Whether an environment is one for so many locals.
+/// Whether an environment fits an operation with so many pointer locals.
 fn env_fits(env: &Env, locals: usize, observer: &Observer) -> bool
     ensures { result ≡ env_fits observer.now locals env.now }
 {
@@ -55,7 +56,7 @@ fn env_fits(env: &Env, locals: usize, observer: &Observer) -> bool
         && are_types(env.locals.as_slice(), env.w, observer)
 }
 
-/// The first point of an operation whose environment isn't one.
+/// The first point of an operation, of so many pointer locals, whose environment doesn't fit.
 fn first_unfit(envs: &[Env], gate: Gate, locals: usize, observer: &Observer) -> Option<u16>
     requires { gate.after ≤ length envs.now }
     ensures { MatchOption result (AllFit observer.now locals envs.now gate.first gate.after)
@@ -69,7 +70,7 @@ fn first_unfit(envs: &[Env], gate: Gate, locals: usize, observer: &Observer) -> 
     None
 }
 
-/// The first point whose environment isn't one of its operation. The environments are those of a
+/// The first point whose environment doesn't fit its operation. The environments are those of a
 /// certificate, without types of shared pointers.
 pub(crate) fn first_bad_point(flow: &Flow, observer: &Observer, envs: &[Env]) -> Option<PointId>
     requires flow { IsWellFormed flow.now }

@@ -6,7 +6,7 @@ ghost use Rattle.plc_verify.specs.declared.fault.VerifyFault.TheVariants.{Memory
 use plc_base::{NoMemory, OpId, PointId, StepId};
 
 /// A part of an environment.
-#[derive(Clone, Copy, Debug, PartialEq, Eq)]
+#[derive(Clone, Copy)]
 pub enum Slot {
     /// Where any address may stand.
     W,
@@ -16,11 +16,11 @@ pub enum Slot {
 
 /// The first item of a certificate that fails, in the order of the variants; but the items of a step,
 /// `TypeAt` and then `FlowAt`, come before those of the next step.
-#[derive(Clone, Copy, Debug)]
+#[derive(Clone, Copy)]
 pub enum VerifyFault {
     /// There are `have` environments, and the flow has `want` points.
     EnvCount { have: u64, want: u32 },
-    /// The environment of the point is none: it has another number of locals than the point's operation has
+    /// The environment of the point doesn't fit it: it has another number of locals than the point's operation has
     /// pointer locals, guarantees other than the four sets, a location that the observer lacks, locations
     /// of a local that aren't within W, or retired ones beside A.
     EnvAt { point: PointId },

@@ -25,6 +25,7 @@ struct Evidence<'a> {
     trees: &'a [Tree],
 }
 
+/// Whether two trees have the same nodes.
 fn are_same(a: &[Node], b: &[Node]) -> bool
     ensures { IsTrue result → a.now ≡ b.now }
 {
@@ -64,7 +65,8 @@ fn first_bad_node(
     Ok(bad)
 }
 
-/// None where the tree with a number closes the ground set of the obligation, and is noted; else its first bad node.
+/// None where the tree with this number closes the ground set of the obligation, which is then noted; else the
+/// tree's first bad node.
 fn try_tree(
     alloc: Global,
     memory: &mut Grounding,

@@ -1,26 +1,19 @@
-use Rattle.std.proofs.Common.{◌≡◌, ◌∙◌, ◌<◌, ℕ, Some, List, inl, inr, ap, sym, length, get_or, arith}
-use Rattle.std.specs.Prelude.{slice_get}
-use Rattle.std.proofs.lemmas.Option.{slice_get-get_or}
+use Rattle.std.proofs.Common.{◌∙◌, Some, inl, inr, ap, sym, arith}
 use Rattle.std.proofs.lemmas.Bool.{eqb-true, eq-eqb, not-false, not-true, true≢false, false≢true}
-use Rattle.plc_ground.specs.declared.terms.GroundTerm.{GroundTerm}
 use Rattle.plc_ground.specs.Symbols.{same_map}
 use Rattle.plc_ground.proofs.Symbols.{same_map_true, same_map_refl}
 use Rattle.plc_ground.proofs.Excluding.{applications_agree, constant_agrees}
 use Rattle.plc_ground.proofs.model.is_clash.Goals as goal
 use Rattle.plc_ground.proofs.model.is_clash.Goals.{then-class-arg, else-class-arg, then-class-i, else-class-i}
 
--- the term that was read stands in the list
-here : (terms ys : List GroundTerm) (i : ℕ) (d t : GroundTerm) → ys ≡ terms → i < length terms → get_or ys i d ≡ t → slice_get terms i ≡ Some t
-here terms ys i d t same lt is = slice_get-get_or terms i d lt ∙ ap (λ zs. Some (get_or zs i d)) (sym same) ∙ ap Some is
-
 pub bounds-class-arg : goal.bounds-class-arg
 bounds-class-arg c =
-    let lt = c.requires.well.earlier _ _ _ c.args.i (here c.args.set.now.terms c.as_slice.result.now c.args.i _ _ c.as_slice.ensures c.requires.first c.in-App-App.is-0) in
+    let lt = c.requires.well.earlier _ _ _ c.args.i (c.term_at.ensures ∙ ap Some c.in-App-App.is-0) in
     omega (arith, lt, c.requires.first, c.requires.one_each)
 
 pub bounds-class-to : goal.bounds-class-to
 bounds-class-to c =
-    let lt = c.requires.well.earlier _ _ _ c.args.j (here c.args.set.now.terms c.as_slice-2.result.now c.args.j _ _ c.as_slice-2.ensures c.requires.second c.in-App-App.is-1) in
+    let lt = c.requires.well.earlier _ _ _ c.args.j (c.term_at-2.ensures ∙ ap Some c.in-App-App.is-1) in
     omega (arith, lt, c.requires.second, c.requires.one_each)
 
 pub returns-then-version-at-clause-yes : goal.returns-then-version-at-clause-yes
@@ -35,8 +28,8 @@ returns-then-version-at-clause-yes c = λ yes.
               version = c.in-App-App.version;
               first = c.in-App-App.arg;
               second = c.in-App-App.to;
-              first_is = here c.args.set.now.terms c.as_slice.result.now c.args.i _ _ c.as_slice.ensures c.requires.first c.in-App-App.is-0;
-              second_is = rw (map, version) (here c.args.set.now.terms c.as_slice-2.result.now c.args.j _ _ c.as_slice-2.ensures c.requires.second c.in-App-App.is-1);
+              first_is = c.term_at.ensures ∙ ap Some c.in-App-App.is-0;
+              second_is = rw (map, version) (c.term_at-2.ensures ∙ ap Some c.in-App-App.is-1);
               arguments = u.if-class-arg.true;
               differ = λ same. true≢false (sym (eq-eqb _ _ same) ∙ not-true _ (sym u.value-is ∙ w.if-class-i.true));
             }
@@ -48,8 +41,8 @@ returns-then-version-at-clause-yes c = λ yes.
 pub returns-then-version-at-clause-no : goal.returns-then-version-at-clause-no
 returns-then-version-at-clause-no c = λ no.
     applications_agree c.args.set.now.terms c.args.class.now c.args.i c.args.j _ _ _ _ _ _
-    (here c.args.set.now.terms c.as_slice.result.now c.args.i _ _ c.as_slice.ensures c.requires.first c.in-App-App.is-0)
-    (here c.args.set.now.terms c.as_slice-2.result.now c.args.j _ _ c.as_slice-2.ensures c.requires.second c.in-App-App.is-1)
+    (c.term_at.ensures ∙ ap Some c.in-App-App.is-0)
+    (c.term_at-2.ensures ∙ ap Some c.in-App-App.is-1)
     (λ same _ _. absurd (true≢false (sym (same_map_refl c.in-App-App.map) ∙ ap (same_map c.in-App-App.map) same ∙ sym c.eq.ensures ∙ no)))
 
 pub returns-else-version-at-clause-yes : goal.returns-else-version-at-clause-yes
@@ -58,8 +51,8 @@ returns-else-version-at-clause-yes c = λ yes. absurd (false≢true (sym c.if-ve
 pub returns-else-version-at-clause-no : goal.returns-else-version-at-clause-no
 returns-else-version-at-clause-no c = λ no.
     applications_agree c.args.set.now.terms c.args.class.now c.args.i c.args.j _ _ _ _ _ _
-    (here c.args.set.now.terms c.as_slice.result.now c.args.i _ _ c.as_slice.ensures c.requires.first c.in-App-App.is-0)
-    (here c.args.set.now.terms c.as_slice-2.result.now c.args.j _ _ c.as_slice-2.ensures c.requires.second c.in-App-App.is-1)
+    (c.term_at.ensures ∙ ap Some c.in-App-App.is-0)
+    (c.term_at-2.ensures ∙ ap Some c.in-App-App.is-1)
     (λ _ version arguments. elim c.if-class-i.branch [
       | then-class-i w ↦ absurd (true≢false (sym (eq-eqb _ _ version) ∙ sym w.value-is ∙ no))
       | else-class-i w ↦ elim c.if-class-arg.branch [
@@ -74,7 +67,7 @@ returns-in_default-clause-yes c = λ yes. absurd (false≢true yes)
 pub returns-in_default-clause-no : goal.returns-in_default-clause-no
 returns-in_default-clause-no c = λ _.
     constant_agrees c.args.set.now.terms c.args.class.now c.args.i c.args.j _
-    (inr (here c.args.set.now.terms c.as_slice-2.result.now c.args.j _ _ c.as_slice-2.ensures c.requires.second c.in_default.is-1))
+    (inr (c.term_at-2.ensures ∙ ap Some c.in_default.is-1))
 
 pub returns-in_default-2-clause-yes : goal.returns-in_default-2-clause-yes
 returns-in_default-2-clause-yes c = λ yes. absurd (false≢true yes)
@@ -82,4 +75,4 @@ returns-in_default-2-clause-yes c = λ yes. absurd (false≢true yes)
 pub returns-in_default-2-clause-no : goal.returns-in_default-2-clause-no
 returns-in_default-2-clause-no c = λ _.
     constant_agrees c.args.set.now.terms c.args.class.now c.args.i c.args.j _
-    (inl (here c.args.set.now.terms c.as_slice.result.now c.args.i _ _ c.as_slice.ensures c.requires.first c.in_default.is-0))
+    (inl (c.term_at.ensures ∙ ap Some c.in_default.is-0))

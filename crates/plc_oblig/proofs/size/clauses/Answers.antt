@@ -4,10 +4,11 @@ use Rattle.plc_setting.specs.Setting.{setting_of}
 use Rattle.plc_items.specs.Execution.{start, after_all}
 use Rattle.plc_items.specs.Items.{values_from}
 use Rattle.plc_oblig.specs.Size.{clause_size, prim_size}
-use Rattle.plc_oblig.proofs.Bounds.{short_before, short_executed}
+use Rattle.plc_oblig.proofs.Bounds.{short_before}
 use Rattle.plc_oblig.proofs.Executed.{executed_length}
 use Rattle.plc_oblig.proofs.Wholes.{whole_length, set_length}
 use Rattle.plc_oblig.proofs.size.clauses.Goals as goal
+use Rattle.plc_setting.proofs.Fitting.{executed_short}
 
 pub overflow_add-result : goal.overflow_add-result
 overflow_add-result c =
@@ -39,7 +40,7 @@ pub overflow_add-result-6 : goal.overflow_add-result-6
 overflow_add-result-6 c =
     let before = short_before c.args.outline.now c.args.o.now c.requires.outline_fits.invariants in
     let same = ap length c.invariants_before.ensures in
-    let run = short_executed c.args.flow.now c.args.outline.now c.args.o.now c.requires in
+    let run = executed_short c.args.flow.now c.args.outline.now c.args.o.now c.requires in
     let same_run = ap length c.executed.ensures in
     omega (arith, c.values_size.ensures.small, c.beginning_size.ensures.small, c.freshness_size.ensures.small, c.premises_size.ensures.small, c.standing_size.ensures.small, c.standing_size-2.ensures.small, c.executed_size.ensures.small, before, same, run, same_run)
 
@@ -47,7 +48,7 @@ pub overflow_add-result-7 : goal.overflow_add-result-7
 overflow_add-result-7 c =
     let before = short_before c.args.outline.now c.args.o.now c.requires.outline_fits.invariants in
     let same = ap length c.invariants_before.ensures in
-    let run = short_executed c.args.flow.now c.args.outline.now c.args.o.now c.requires in
+    let run = executed_short c.args.flow.now c.args.outline.now c.args.o.now c.requires in
     let same_run = ap length c.executed.ensures in
     omega (arith, c.values_size.ensures.small, c.beginning_size.ensures.small, c.freshness_size.ensures.small, c.premises_size.ensures.small, c.standing_size.ensures.small, c.standing_size-2.ensures.small, c.executed_size.ensures.small, c.denied_size.ensures.small, before, same, run, same_run)
 

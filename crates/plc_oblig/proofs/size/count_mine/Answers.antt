@@ -1,11 +1,11 @@
 use Rattle.std.proofs.Common.{length, ap, arith}
 use Rattle.std.proofs.lemmas.List.Sums.{count_by-le-length}
 use Rattle.plc_lang.specs.Locals.{is_pointer}
-use Rattle.plc_oblig.proofs.Bounds.{few_mine}
 use Rattle.plc_oblig.proofs.size.count_mine.Goals as goal
+use Rattle.plc_setting.proofs.Fitting.{acting_few}
 
 pub returns-clause-few : goal.returns-clause-few
 returns-clause-few c =
     let all = count_by-le-length is_pointer c.acting_locals.result.now in
-    let few = few_mine c.args.flow.now c.args.o.now c.requires in
+    let few = acting_few c.args.flow.now c.args.o.now c.requires in
     let same = ap length c.acting_locals.ensures in omega (arith, c.count_pointers.ensures, all, few, same)

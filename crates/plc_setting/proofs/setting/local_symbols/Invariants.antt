@@ -1,6 +1,7 @@
 use Rattle.std.proofs.Common.{◌≡◌, ◌++◌, drop, map}
 use Rattle.plc_lang.specs.Numbering.{places_from}
-use Rattle.plc_setting.specs.Setting.{local_symbol, is_kind}
+use Rattle.plc_setting.specs.Setting.{local_symbol}
+use Rattle.plc_setting.specs.Kinds.{is_kind}
 use Rattle.plc_setting.proofs.setting.local_symbols.Given as goal
 
 abbrev pub invariant-loop-place : goal.invariant-loop-place

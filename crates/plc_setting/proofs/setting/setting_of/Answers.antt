@@ -8,11 +8,11 @@ use Rattle.plc_setting.proofs.Fitting.{acts_short}
 use Rattle.plc_setting.proofs.Alike.{both, all_three, all_four, one_setting}
 use Rattle.plc_setting.proofs.setting.setting_of.Goals as goal
 
-pub execution_of-requires : goal.execution_of-requires
-execution_of-requires c = (c.args.outline.now, c.requires)
+pub executed_by-requires : goal.executed_by-requires
+executed_by-requires c = (c.args.outline.now, c.requires)
 
-pub surround-requires-clause-few : goal.surround-requires-clause-few
-surround-requires-clause-few c =
+pub setting_nodes-requires-clause-few : goal.setting_nodes-requires-clause-few
+setting_nodes-requires-clause-few c =
     acts_short c.args.flow.now c.args.outline.now c.args.o.now _ _ _ c.requires refl c.in_ok-run.ensures.acts
 
 -- each part of the result is that of the setting
@@ -20,14 +20,14 @@ pub returns-clause-setting : goal.returns-clause-setting
 returns-clause-setting c =
     let flow = c.args.flow.now in
     let run = c.in_ok-run.ensures in
-    let around = c.in_ok-around.ensures in
+    let found = c.in_ok-nodes.ensures in
     let acts = run.acts ∙ ap (λ v. acts_of flow.file.ghosts v (executed flow c.args.o.now)) run.mine in
     let makes = c.has_new-makes.ensures ∙ ap (list_any is_new) c.executed.ensures in
     let bound = c.bound_of-bound.ensures ∙ ap bound_of c.conclusion.ensures in
-    let pointers = around.pointers ∙ both (pointer_variables (length flow.file.shared)) run.mine run.theirs in
+    let pointers = found.pointers ∙ both (pointer_variables (length flow.file.shared)) run.mine run.theirs in
     let loads = ap (pointer_loads_from 0) acts in
-    let constants = around.constants ∙ all_four node_constants pointers makes bound loads in
-    c.joined.ensures ∙ one_setting _ _ (record {
+    let constants = found.constants ∙ all_four node_constants pointers makes bound loads in
+    c.setting_from_parts.ensures ∙ one_setting _ _ (record {
       mine = run.mine;
       theirs = run.theirs;
       owned = c.has_owner.ensures;
@@ -36,11 +36,11 @@ returns-clause-setting c =
       bound = bound;
       pointers = pointers;
       constants = constants;
-      nodes = around.nodes ∙ all_four nodes_of constants refl constants around.fields;
-      instances = around.instances ∙ all_four nodes_of (all_three plain_constants pointers bound loads) refl constants around.fields;
-      fields = around.fields;
+      nodes = found.nodes ∙ all_four nodes_of constants refl constants found.fields;
+      instances = found.instances ∙ all_four nodes_of (all_three plain_constants pointers bound loads) refl constants found.fields;
+      fields = found.fields;
     })
 
 pub returns-clause-few : goal.returns-clause-few
 returns-clause-few c =
-    rw c.joined.ensures (acts_short c.args.flow.now c.args.outline.now c.args.o.now _ _ _ c.requires refl c.in_ok-run.ensures.acts)
+    rw c.setting_from_parts.ensures (acts_short c.args.flow.now c.args.outline.now c.args.o.now _ _ _ c.requires refl c.in_ok-run.ensures.acts)

@@ -5,43 +5,43 @@ use Rattle.plc_ground.specs.Trees.{Close}
 use Rattle.plc_solve.specs.declared.frame.Frame.{Frame}
 use Rattle.plc_solve.specs.Search.{Stands, ClosesTop, TakesTree, splits}
 use Rattle.plc_solve.specs.Measure.{left, left_below}
-use Rattle.plc_solve.proofs.Stacking.{reverse_pushed}
 use Rattle.plc_solve.proofs.Places.{cut_stands, same_goes_on, taking_step, needless_step}
 use Rattle.plc_solve.proofs.needless.hand_up.Goals as goal
+use Rattle.plc_base.proofs.Lists.{newest_first}
 
 pub closes_here-requires-clause-place : goal.closes_here-requires-clause-place
 closes_here-requires-clause-place c =
-    let e : reverse c.loop-top.frames.items ≡ c.in-Some.top ∷ reverse c.pop.new.self.items = reverse_pushed c.pop.new.self.items _ c.in-Some.top c.in-Some.ensures.items in
+    let e : reverse c.loop-top.frames.items ≡ c.in-Some.top ∷ reverse c.pop.new.self.items = newest_first c.pop.new.self.items _ c.in-Some.top c.in-Some.ensures.items in
     let stands = subst (λ (fs : List Frame). Stands c.args.set.now c.loop-top.place fs) e c.loop-top.invariant.stands in
     let here = cut_stands c.args.set.now c.in-Some.top (reverse c.pop.new.self.items) c.loop-top.place c.go_up.new.place stands c.go_up.ensures in
     here.stack.0.place
 
 pub take_tree-requires-clause-known : goal.take_tree-requires-clause-known
 take_tree-requires-clause-known c =
-    let e : reverse c.loop-top.frames.items ≡ c.in-Some.top ∷ reverse c.pop.new.self.items = reverse_pushed c.pop.new.self.items _ c.in-Some.top c.in-Some.ensures.items in
+    let e : reverse c.loop-top.frames.items ≡ c.in-Some.top ∷ reverse c.pop.new.self.items = newest_first c.pop.new.self.items _ c.in-Some.top c.in-Some.ensures.items in
     let stands = subst (λ (fs : List Frame). Stands c.args.set.now c.loop-top.place fs) e c.loop-top.invariant.stands in
     stands.stack.0.clause
 
 pub take_tree-requires-clause-child : goal.take_tree-requires-clause-child
 take_tree-requires-clause-child c =
-    let e : reverse c.loop-top.frames.items ≡ c.in-Some.top ∷ reverse c.pop.new.self.items = reverse_pushed c.pop.new.self.items _ c.in-Some.top c.in-Some.ensures.items in
+    let e : reverse c.loop-top.frames.items ≡ c.in-Some.top ∷ reverse c.pop.new.self.items = newest_first c.pop.new.self.items _ c.in-Some.top c.in-Some.ensures.items in
     let closes = subst (λ (fs : List Frame). ClosesTop c.args.set.now (splits c.loop-top.place fs) c.args.tree.items) e c.loop-top.invariant.closes in
     slice_get_within _ _ _ closes.is
 
 pub returns-then-not-branch-clause-stands : goal.returns-then-not-branch-clause-stands
 returns-then-not-branch-clause-stands c = λ _.
-    let e : reverse c.loop-top.frames.items ≡ c.in-Some.top ∷ reverse c.pop.new.self.items = reverse_pushed c.pop.new.self.items _ c.in-Some.top c.in-Some.ensures.items in
+    let e : reverse c.loop-top.frames.items ≡ c.in-Some.top ∷ reverse c.pop.new.self.items = newest_first c.pop.new.self.items _ c.in-Some.top c.in-Some.ensures.items in
     let stands = subst (λ (fs : List Frame). Stands c.args.set.now c.loop-top.place fs) e c.loop-top.invariant.stands in
     let closes = subst (λ (fs : List Frame). ClosesTop c.args.set.now (splits c.loop-top.place fs) c.args.tree.items) e c.loop-top.invariant.closes in
     let t = subst (λ (ns : List Node). TakesTree c.in-Some.top c.take_tree.new.top ns) c.deref-then-not-branch.ensures.value c.in_ok-take_tree.ensures in
     let go = same_goes_on c.go_up.new.place c.closes_here.new.place c.in_ok-closes_here.ensures.same in
-    subst (λ (fs : List Frame). Stands c.args.set.now c.closes_here.new.place fs) (sym (reverse_pushed c.pop.new.self.items c.push.new.self.items c.take_tree.new.top c.in_ok-push.ensures.items))
+    subst (λ (fs : List Frame). Stands c.args.set.now c.closes_here.new.place fs) (sym (newest_first c.pop.new.self.items c.push.new.self.items c.take_tree.new.top c.in_ok-push.ensures.items))
     (taking_step c.args.set.now c.loop-top.place c.go_up.new.place c.closes_here.new.place c.in-Some.top c.take_tree.new.top (reverse c.pop.new.self.items) stands c.go_up.ensures go c.args.tree.items closes t).0
 
 pub returns-then-not-branch-clause-less : goal.returns-then-not-branch-clause-less
 returns-then-not-branch-clause-less c = λ _ base.
-    let e : reverse c.loop-top.frames.items ≡ c.in-Some.top ∷ reverse c.pop.new.self.items = reverse_pushed c.pop.new.self.items _ c.in-Some.top c.in-Some.ensures.items in
-    let e' : reverse c.push.new.self.items ≡ c.take_tree.new.top ∷ reverse c.pop.new.self.items = reverse_pushed c.pop.new.self.items c.push.new.self.items c.take_tree.new.top c.in_ok-push.ensures.items in
+    let e : reverse c.loop-top.frames.items ≡ c.in-Some.top ∷ reverse c.pop.new.self.items = newest_first c.pop.new.self.items _ c.in-Some.top c.in-Some.ensures.items in
+    let e' : reverse c.push.new.self.items ≡ c.take_tree.new.top ∷ reverse c.pop.new.self.items = newest_first c.pop.new.self.items c.push.new.self.items c.take_tree.new.top c.in_ok-push.ensures.items in
     let stands = subst (λ (fs : List Frame). Stands c.args.set.now c.loop-top.place fs) e c.loop-top.invariant.stands in
     let closes = subst (λ (fs : List Frame). ClosesTop c.args.set.now (splits c.loop-top.place fs) c.args.tree.items) e c.loop-top.invariant.closes in
     let t = subst (λ (ns : List Node). TakesTree c.in-Some.top c.take_tree.new.top ns) c.deref-then-not-branch.ensures.value c.in_ok-take_tree.ensures in
@@ -54,7 +54,7 @@ returns-then-not-branch-clause-less c = λ _ base.
 
 pub loop-top-preserved : goal.loop-top-preserved
 loop-top-preserved c =
-    let e : reverse c.loop-top.frames.items ≡ c.in-Some.top ∷ reverse c.pop.new.self.items = reverse_pushed c.pop.new.self.items _ c.in-Some.top c.in-Some.ensures.items in
+    let e : reverse c.loop-top.frames.items ≡ c.in-Some.top ∷ reverse c.pop.new.self.items = newest_first c.pop.new.self.items _ c.in-Some.top c.in-Some.ensures.items in
     let stands = subst (λ (fs : List Frame). Stands c.args.set.now c.loop-top.place fs) e c.loop-top.invariant.stands in
     let closes = subst (λ (fs : List Frame). ClosesTop c.args.set.now (splits c.loop-top.place fs) c.args.tree.items) e c.loop-top.invariant.closes in
     let close = subst (λ (ns : List Node). Close c.args.set.now (c.go_up.new.place.branch.items ∷ []) ns) c.deref.ensures.value (c.in_ok-closes_here.ensures.closed (grind arith)) in

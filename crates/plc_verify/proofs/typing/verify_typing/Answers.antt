@@ -2,10 +2,10 @@ use Rattle.std.proofs.Common.{List, refl, sym, subst, ◌∙◌}
 use Rattle.plc_type.specs.declared.env.Env.{Env}
 use Rattle.plc_flow.specs.Skeleton.{skeleton_of}
 use Rattle.plc_verify.specs.Environments.{completed, EntriesHold, IsFirstNarrow}
-use Rattle.plc_verify.proofs.Points.{point_count}
 use Rattle.plc_verify.proofs.Fitting.{completed_length, points_hold, entries_hold}
 use Rattle.plc_verify.proofs.Passages.{typed}
 use Rattle.plc_verify.proofs.typing.verify_typing.Goals as goal
+use Rattle.plc_flow.proofs.Gates.{point_count}
 
 pub returns-then-envs-flow : goal.returns-then-envs-flow
 returns-then-envs-flow c = record {

@@ -1,7 +1,8 @@
 use Rattle.std.proofs.Common.{◌≡◌, sym, ap, subst, ◌∙◌}
 use Rattle.std.proofs.lemmas.Result.{IfOk-weaker}
 use Rattle.plc_symbolic.specs.Numbering.{put, place}
-use Rattle.plc_symbolic.specs.Tidy.{IsTidy, Grows}
+use Rattle.plc_symbolic.specs.Tidy.{IsTidy}
+use Rattle.plc_symbolic.specs.Growth.{Grows}
 use Rattle.plc_symbolic.proofs.Places.{put_from, place_from, grows_put, tidy_put}
 use Rattle.plc_symbolic.proofs.listing.Listing.insert.Goals as goal
 

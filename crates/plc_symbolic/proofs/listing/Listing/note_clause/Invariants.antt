@@ -1,6 +1,6 @@
 use Rattle.std.proofs.Common.{◌≡◌, take, map}
 use Rattle.plc_symbolic.specs.Numbering.{note_clause, number_lit}
-use Rattle.plc_symbolic.specs.Tidy.{Grows}
+use Rattle.plc_symbolic.specs.Growth.{Grows}
 use Rattle.plc_symbolic.proofs.listing.Listing.note_clause.Given as goal
 
 abbrev pub invariant-loop-l : goal.invariant-loop-l

@@ -2,7 +2,7 @@ use Rattle.std.proofs.Common.{false, true, ◌∙◌, ap}
 use Rattle.plc_setting.specs.Acts.{acts_of}
 use Rattle.plc_setting.specs.Setting.{variables_of}
 use Rattle.plc_setting.proofs.Fitting.{executed_sorted}
-use Rattle.plc_setting.proofs.setting.execution_of.Goals as goal
+use Rattle.plc_setting.proofs.setting.executed_by.Goals as goal
 
 pub acts_of-requires-clause-sorted : goal.acts_of-requires-clause-sorted
 acts_of-requires-clause-sorted c =
