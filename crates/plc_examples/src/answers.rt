@@ -4,6 +4,10 @@ use plc_cli::{Files, MemFiles, RealFiles, VecSink, run_with_own};
 use std::alloc::{AllocError, Global};
 use std::io;
 
+/// Files in memory, each by its name.
+type Entries = Vec<(String, Vec<u8>)>;
+
+/// The words of a line, which blanks part.
 fn words_of(alloc: Global, line: &str) -> Result<Vec<String>, AllocError> {
     let mut words = Vec::new(alloc);
     for word in line.split(' ') {
@@ -12,7 +16,7 @@ fn words_of(alloc: Global, line: &str) -> Result<Vec<String>, AllocError> {
     Ok(words)
 }
 
-// The first line of an answer that doesn't tell the types at a label.
+/// The first line of an answer that doesn't tell the types at a label.
 fn told(text: &str) -> &str {
     for line in text.lines() {
         if !line.starts_with("at ") {
@@ -22,47 +26,123 @@ fn told(text: &str) -> &str {
     ""
 }
 
-// The status and what is written.
+/// The status that words end with, and what they write.
+fn written<F: Files>(
+    alloc: Global,
+    words: &[String],
+    files: &mut F,
+) -> Result<(u8, Vec<u8>), AllocError> {
+    let mut out = VecSink::new(alloc);
+    let status = run_with_own(alloc, words, files, &mut out);
+    let bytes = Vec::from_slice(alloc, out.written());
+    drop(out);
+    Ok((status, bytes?))
+}
+
+/// The status that a command ends with, and what it writes.
 fn answer<F: Files>(alloc: Global, line: &str, files: &mut F) -> Result<(u8, Vec<u8>), AllocError> {
     let words = words_of(alloc, line)?;
-    let mut out = VecSink::new(alloc);
-    let status = run_with_own(alloc, &words, files, &mut out);
-    Ok((status, Vec::from_slice(alloc, out.written())?))
+    let answer = written(alloc, &words, files);
+    drop(words);
+    answer
 }
 
-// A file and what `certify` writes of it, as `file` and `certificate`.
-fn certified(rt: &HostRuntime, name: &str) -> io::Result<MemFiles> {
-    let alloc = rt.alloc();
-    let mut files = RealFiles::new(alloc, rt.clone()?);
-    let command = format!(in alloc; "certify {name}")?;
-    let (_, certificate) = answer(alloc, command.as_str(), &mut files)?;
-    let mut both = Vec::new(alloc);
-    if let Ok(file) = files.read(name, LARGEST_FILE) {
-        both.push((String::from_str(alloc, "file")?, file))?;
+/// Adds a file under a name.
+fn put(alloc: Global, files: &mut Entries, name: &str, bytes: Vec<u8>) -> Result<(), AllocError> {
+    files.push((String::from_str(alloc, name)?, bytes))?;
+    Ok(())
+}
+
+/// Adds the file of a name as `file`, if it is read.
+fn put_file(
+    alloc: Global,
+    files: &mut RealFiles<HostRuntime>,
+    name: &str,
+    both: &mut Entries,
+) -> Result<(), AllocError> {
+    match files.read(name, LARGEST_FILE) {
+        Ok(bytes) => put(alloc, both, "file", bytes),
+        Err(_) => Ok(()),
     }
-    both.push((String::from_str(alloc, "certificate")?, certificate))?;
-    Ok(MemFiles::new(alloc, both, Vec::new(alloc)))
 }
 
-// The answer to a command; to `certify FILE, verify` that of `verify` to what `certify` writes.
-fn kept_answer(rt: &HostRuntime, line: &str) -> io::Result<(u8, Vec<u8>)> {
-    let alloc = rt.alloc();
+/// The answer to `certify` of a name.
+fn certified<F: Files>(
+    alloc: Global,
+    files: &mut F,
+    name: &str,
+) -> Result<(u8, Vec<u8>), AllocError> {
+    let command = format!(in alloc; "certify {name}")?;
+    let certified = answer(alloc, command.as_str(), files);
+    drop(command);
+    certified
+}
+
+/// The answer of `verify` to a file and its certificate.
+fn verified(alloc: Global, both: Entries) -> Result<(u8, Vec<u8>), AllocError> {
+    let mut files = MemFiles::new(alloc, both, Vec::new(alloc));
+    let answer = answer(alloc, "verify file certificate", &mut files);
+    drop(files);
+    answer
+}
+
+/// The answer of `verify` to the file of a name and what `certify` writes of it.
+fn certified_answer(
+    alloc: Global,
+    files: &mut RealFiles<HostRuntime>,
+    name: &str,
+) -> Result<(u8, Vec<u8>), AllocError> {
+    let mut both = Vec::new(alloc);
+    put(
+        alloc,
+        &mut both,
+        "certificate",
+        certified(alloc, files, name)?.1,
+    )?;
+    put_file(alloc, files, name, &mut both)?;
+    verified(alloc, both)
+}
+
+/// The answer to a command; to `certify FILE, verify` that of `verify` to what `certify` writes.
+fn kept_answer(
+    alloc: Global,
+    files: &mut RealFiles<HostRuntime>,
+    line: &str,
+) -> Result<(u8, Vec<u8>), AllocError> {
     match line.strip_suffix(", verify") {
         Some(certify) => {
             let name = certify.strip_prefix("certify ").unwrap_or("");
-            let mut files = certified(rt, name)?;
-            Ok(answer(alloc, "verify file certificate", &mut files)?)
+            certified_answer(alloc, files, name)
         }
-        None => Ok(answer(alloc, line, &mut RealFiles::new(alloc, rt.clone()?))?),
+        None => answer(alloc, line, files),
     }
 }
 
 /// The command with the line that tells its answer, and the status.
-pub(crate) fn answered(rt: &HostRuntime, line: &str) -> io::Result<String> {
-    let (status, written) = kept_answer(rt, line)?;
-    let text = match str::from_utf8(&written) {
+fn line_of(alloc: Global, line: &str, status: u8, written: &[u8]) -> Result<String, AllocError> {
+    let text = match str::from_utf8(written) {
         Ok(text) => told(text),
         Err(_) => "no text",
     };
-    Ok(format!(in rt.alloc(); "{line} => {text}, {status}")?)
+    format!(in alloc; "{line} => {text}, {status}")
+}
+
+/// A command with its answer, over files that are lent.
+fn answered_over(
+    alloc: Global,
+    files: &mut RealFiles<HostRuntime>,
+    line: &str,
+) -> Result<String, AllocError> {
+    let (status, written) = kept_answer(alloc, files, line)?;
+    let text = line_of(alloc, line, status, &written);
+    drop(written);
+    text
+}
+
+/// The command with the line that tells its answer, and the status.
+pub(crate) fn answered(rt: &HostRuntime, line: &str) -> io::Result<String> {
+    let mut files = RealFiles::new(rt.alloc(), rt.clone()?);
+    let text = answered_over(rt.alloc(), &mut files, line);
+    drop(files);
+    Ok(text?)
 }

@@ -7,10 +7,17 @@ mod answers;
 use answers::answered;
 use std::io;
 
+/// Prints a command with its answer.
+fn print_answer(rt: &HostRuntime, line: &str) -> io::Result<()> {
+    let text = answered(rt, line)?;
+    let printed = println!(rt; "{text}");
+    drop(text);
+    printed
+}
+
 fn main(rt: HostRuntime) -> io::Result<()> {
     for line in rt.lines(rt.alloc()) {
-        let text = answered(&rt, line?.as_str())?;
-        println!(rt; "{text}")?;
+        print_answer(&rt, line?.as_str())?;
     }
     Ok(())
 }

@@ -8,4 +8,5 @@ mod numbers;
 mod outlines;
 mod spellings;
 mod statements;
+mod tables;
 mod texts;

@@ -6,5 +6,6 @@ mod primitives;
 mod reclaimers;
 mod replays;
 mod schedules;
+mod texts;
 mod types;
 mod typings;

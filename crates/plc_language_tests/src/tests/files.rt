@@ -1,6 +1,15 @@
 // Whole files, each with its canonical text or its first fault.
-use crate::tests::texts::answer;
-use std::alloc::AllocError;
+use crate::tests::tables::{Answers, assert_rows};
+use crate::tests::texts::push_printed;
+use std::alloc::{AllocError, Global};
+
+struct PrintedFile;
+
+impl Answers for PrintedFile {
+    fn push(&self, alloc: Global, answer: &mut String, text: &str) -> Result<(), AllocError> {
+        push_printed(alloc, answer, text, 0)
+    }
+}
 
 const FILES: &str = "# struct N{ptr f;}
 struct N {
@@ -142,16 +151,5 @@ syntax 7
 
 #[test]
 fn files_are_printed_or_refused(rt: HostRuntime) -> Result<(), AllocError> {
-    let alloc = rt.alloc();
-    for row in FILES.split("# ") {
-        if !row.is_empty() {
-            let (file, want) = row.split_once("\n").unwrap_or((row, "?"));
-            assert_eq!(rt;
-                answer(alloc, file, 0)?.as_str().trim_end(),
-                want.trim_end(),
-                "{file}"
-            );
-        }
-    }
-    Ok(())
+    assert_rows(&rt, rt.alloc(), &PrintedFile, FILES, "# ", "\n")
 }

@@ -1,44 +1,49 @@
 // The flows of statements, by the written table: a line for each step.
-use crate::tests::texts::{BEFORE, read, repeated};
-use plc_flow::{Flow, FlowFault, Step, lower};
+use crate::tests::tables::{Answers, assert_lines, assert_rows};
+use crate::tests::texts::{BEFORE, number, push_repeated, read};
+use plc_base::What1;
+use plc_flow::{Flow, FlowFault, Gate, Step, lower};
 use std::alloc::{AllocError, Global};
 
 // A step: its operation, from where to where, its line, and its primitives.
-fn step_text(alloc: Global, step: &Step) -> Result<String, AllocError> {
+fn push_step(text: &mut String, step: &Step) -> Result<(), AllocError> {
     let op = step.op.0;
     let from = step.from.0;
     let to = step.to.0;
     let line = step.line;
     let prims = step.prims.as_slice();
-    format!(in alloc; "{op} {from} {to} {line} {prims:?}\n")
+    write!(text, "{op} {from} {to} {line} {prims:?}\n")
 }
 
-// How many points there are, then for each operation its entry, exit, first point and the first after them,
-// and the labelled points.
-fn head_text(alloc: Global, flow: &Flow) -> Result<String, AllocError> {
+// An operation: its entry, exit, first point and the first after them.
+fn push_gate(text: &mut String, gate: &Gate) -> Result<(), AllocError> {
+    let entry = gate.entry.0;
+    let exit = gate.exit.0;
+    let first = gate.first;
+    let after = gate.after;
+    write!(text, " gate {entry} {exit} {first} {after}")
+}
+
+// How many points there are, the operations, and the labelled points.
+fn push_head(text: &mut String, flow: &Flow) -> Result<(), AllocError> {
     let points = flow.points;
-    let mut text = format!(in alloc; "{points} points")?;
+    write!(text, "{points} points")?;
     for gate in flow.gates.as_slice() {
-        let entry = gate.entry.0;
-        let exit = gate.exit.0;
-        let first = gate.first;
-        let after = gate.after;
-        text.push_str(format!(in alloc; " gate {entry} {exit} {first} {after}")?.as_str())?;
+        push_gate(text, gate)?;
     }
     for label in flow.labels.as_slice() {
         let point = label.0;
-        text.push_str(format!(in alloc; " label {point}")?.as_str())?;
+        write!(text, " label {point}")?;
     }
-    text.push('\n')?;
-    Ok(text)
+    text.push('\n')
 }
 
-fn flow_text(alloc: Global, flow: &Flow) -> Result<String, AllocError> {
-    let mut text = head_text(alloc, flow)?;
+fn push_flow(text: &mut String, flow: &Flow) -> Result<(), AllocError> {
+    push_head(text, flow)?;
     for step in flow.steps.as_slice() {
-        text.push_str(step_text(alloc, step)?.as_str())?;
+        push_step(text, step)?;
     }
-    Ok(text)
+    Ok(())
 }
 
 // The one owner of a flow has one way out.
@@ -49,26 +54,38 @@ fn lowered(alloc: Global, text: &str) -> Result<Flow, FlowFault> {
     }
 }
 
-fn lowering(alloc: Global, text: &str) -> Result<String, AllocError> {
+fn push_lowering(alloc: Global, answer: &mut String, text: &str) -> Result<(), AllocError> {
     match lowered(alloc, text) {
         Ok(flow) => {
-            let text = flow_text(alloc, &flow);
+            let pushed = push_flow(answer, &flow);
             drop(flow);
-            text
+            pushed
         }
-        Err(fault) => format!(in alloc; "{fault:?}\n"),
+        Err(fault) => write!(answer, "{fault:?}\n"),
     }
 }
 
-// The flow of the statement's file; each `|` begins a line, the first is line 8.
-fn statement_flow(alloc: Global, statement: &str) -> Result<String, AllocError> {
-    let mut text = String::from_str(alloc, BEFORE)?;
+// The statement's file; each `|` begins a line, the first is line 8.
+fn push_file(text: &mut String, statement: &str) -> Result<(), AllocError> {
+    text.push_str(BEFORE)?;
     for line in statement.split("|") {
         text.push_str(line)?;
         text.push('\n')?;
     }
-    text.push('}')?;
-    lowering(alloc, text.as_str())
+    text.push('}')
+}
+
+// The flow of the statement's file.
+struct FlowOf;
+
+impl Answers for FlowOf {
+    fn push(&self, alloc: Global, answer: &mut String, statement: &str) -> Result<(), AllocError> {
+        let mut text = String::new(alloc);
+        match push_file(&mut text, statement) {
+            Ok(()) => push_lowering(alloc, answer, text.as_str()),
+            Err(fault) => Err(fault),
+        }
+    }
 }
 
 const FLOWS: &str = "n := new;
@@ -161,12 +178,7 @@ const FLOWS: &str = "n := new;
 
 #[test]
 fn flows_are_those_of_the_table(rt: HostRuntime) -> Result<(), AllocError> {
-    for section in FLOWS.split("# ") {
-        let (statement, want) = section.split_once("\n").unwrap_or((section, "?"));
-        let have = statement_flow(rt.alloc(), statement)?;
-        assert_eq!(rt; have.as_str(), want, "{statement}");
-    }
-    Ok(())
+    assert_rows(&rt, rt.alloc(), &FlowOf, FLOWS, "# ", "\n")
 }
 
 // Conditions, with the primitives of the step where each holds, and of the step where it doesn't.
@@ -186,48 +198,77 @@ cas(active Top, n, m) => Active { p: Shared(0) }, Eq { p: Shared(0), q: Local(0)
     Copy { p: Shared(0), q: Local(1) } => Active { p: Shared(0) }, Ne { p: Shared(0), q: Local(0) }
 ";
 
-// The flow of a test without statements.
-fn branches(alloc: Global, holds: &str, fails: &str) -> Result<String, AllocError> {
-    format!(in alloc;
-        "5 points gate 0 1 0 5\n0 0 2 8 [{holds}]\n0 0 3 8 [{fails}]\n0 2 4 8 []\n0 3 4 8 []\n0 4 1 6 []\n"
-    )
+// The primitives where a test holds and where it doesn't, of the flow of one without statements.
+fn branches(flow: &str) -> Option<(&str, &str)> {
+    let steps = flow.strip_prefix("5 points gate 0 1 0 5\n0 0 2 8 [")?;
+    let (holds, steps) = steps.split_once("]\n0 0 3 8 [")?;
+    let fails = steps.strip_suffix("]\n0 2 4 8 []\n0 3 4 8 []\n0 4 1 6 []\n")?;
+    Some((holds, fails))
 }
 
-// The flow of a row's condition where it isn't the row's.
-fn wrong_condition(alloc: Global, row: &str) -> Result<String, AllocError> {
-    let (condition, prims) = row.split_once(" => ").unwrap_or((row, ""));
-    let (holds, fails) = prims.split_once(" => ").unwrap_or((prims, ""));
-    let statement = format!(in alloc; "if ({condition}) {{ }}")?;
-    let have = statement_flow(alloc, statement.as_str())?;
-    if have.as_str() == branches(alloc, holds, fails)?.as_str() {
-        return Ok(String::new(alloc));
+// The primitives of a test, or a flow that is no test's.
+fn push_branches(answer: &mut String, flow: &str) -> Result<(), AllocError> {
+    match branches(flow) {
+        Some((holds, fails)) => write!(answer, "{holds} => {fails}"),
+        None => answer.push_str(flow),
     }
-    Ok(have)
+}
+
+fn push_condition_flow(
+    alloc: Global,
+    flow: &mut String,
+    condition: &str,
+) -> Result<(), AllocError> {
+    let statement = format!(in alloc; "if ({condition}) {{ }}")?;
+    FlowOf.push(alloc, flow, statement.as_str())
+}
+
+struct BranchesOf;
+
+impl Answers for BranchesOf {
+    fn push(&self, alloc: Global, answer: &mut String, condition: &str) -> Result<(), AllocError> {
+        let mut flow = String::new(alloc);
+        match push_condition_flow(alloc, &mut flow, condition) {
+            Ok(()) => push_branches(answer, flow.as_str()),
+            Err(fault) => Err(fault),
+        }
+    }
 }
 
 #[test]
 fn conditions_branch(rt: HostRuntime) -> Result<(), AllocError> {
-    for row in CONDITIONS.lines() {
-        assert_eq!(rt; wrong_condition(rt.alloc(), row)?.as_str(), "", "{row}");
-    }
-    Ok(())
+    assert_lines(&rt, rt.alloc(), &BranchesOf, CONDITIONS)
 }
 
-// The first line of the flow of so many statements, or the fault.
-fn head_of(alloc: Global, count: u32) -> Result<String, AllocError> {
-    let text = repeated(alloc, count, BEFORE, "skip;", "}")?;
-    let flow = lowering(alloc, text.as_str())?;
-    String::from_str(alloc, flow.as_str().lines().next().unwrap_or(""))
+fn push_flow_of_many(alloc: Global, flow: &mut String, count: u32) -> Result<(), AllocError> {
+    let mut text = String::new(alloc);
+    match push_repeated(&mut text, count, BEFORE, "skip;", "}") {
+        Ok(()) => push_lowering(alloc, flow, text.as_str()),
+        Err(fault) => Err(fault),
+    }
 }
+
+// The first line of the flow, or the fault, where this many statements are missing to the limit of points.
+struct HeadOfMany;
+
+impl Answers for HeadOfMany {
+    fn push(&self, alloc: Global, answer: &mut String, fewer: &str) -> Result<(), AllocError> {
+        let count = What1::Points.most().saturating_sub(number(fewer));
+        let mut flow = String::new(alloc);
+        match push_flow_of_many(alloc, &mut flow, count) {
+            Ok(()) => answer.push_str(flow.as_str().lines().next().unwrap_or("")),
+            Err(fault) => Err(fault),
+        }
+    }
+}
+
+// The operation's entry and exit are points too.
+const HEADS: &str = "\
+2 => 4096 points gate 0 1 0 4096
+1 => TooManyPoints { count: 4097 }
+";
 
 #[test]
 fn a_flow_has_at_most_4096_points(rt: HostRuntime) -> Result<(), AllocError> {
-    for row in &[
-        (4094, "4096 points gate 0 1 0 4096"),
-        (4095, "TooManyPoints { count: 4097 }"),
-    ] {
-        let (count, want) = *row;
-        assert_eq!(rt; head_of(rt.alloc(), count)?.as_str(), want);
-    }
-    Ok(())
+    assert_lines(&rt, rt.alloc(), &HeadOfMany, HEADS)
 }

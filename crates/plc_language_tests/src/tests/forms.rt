@@ -1,7 +1,8 @@
 // Syntax alone: each form of the grammar, and how deep blocks may stand, beside what the parser says of it.
-use crate::tests::texts::{fate, repeated};
-use plc_base::LARGEST_FILE;
-use plc_lex::tokens;
+use crate::tests::tables::{Answers, assert_answer, assert_lines};
+use crate::tests::texts::{ForTokens, Lexed, number, push_fate, push_repeated};
+use plc_base::What1;
+use plc_lex::Token;
 use plc_syntax::syntax;
 use std::alloc::{AllocError, Global};
 
@@ -24,50 +25,62 @@ outline { depth 1; inv Top == null or not retired(Top) or retired(Top);
 over f: all x, y: x.st != made or 7 == y.val; at l, k: all x: me == none; }";
 
 // What the test of syntax alone answers.
-fn syntax_answer(alloc: Global, text: &str) -> Result<String, AllocError> {
-    if text.len() > LARGEST_FILE {
-        return Err(AllocError);
-    }
-    match tokens(alloc, text.as_bytes()) {
-        Ok(tokens) => {
-            let answer = syntax(alloc, &tokens);
-            format!(in alloc; "{answer:?}")
-        }
-        Err(fault) => format!(in alloc; "{fault:?}"),
+struct SyntaxAlone;
+
+impl ForTokens for SyntaxAlone {
+    fn push_for(
+        &self,
+        alloc: Global,
+        answer: &mut String,
+        all: &[Token],
+    ) -> Result<(), AllocError> {
+        let fate = syntax(alloc, all);
+        write!(answer, "{fate:?}")
     }
 }
 
-// What syntax alone and the parser answer to loops within one another, and a text in the innermost.
-fn nested_answers(alloc: Global, depth: u32, inside: &str) -> Result<String, AllocError> {
-    let opened = repeated(alloc, depth, "struct N { } op f ( ) { ", "loop { ", inside)?;
-    let text = repeated(alloc, depth, opened.as_str(), " }", " }")?;
-    let mut answers = syntax_answer(alloc, text.as_str())?;
-    answers.push_str(" and ")?;
-    answers.push_str(fate(alloc, text.as_str(), 0)?.as_str())?;
-    Ok(answers)
+// Loops within one another, and a text in the innermost.
+fn push_nested(text: &mut String, depth: u32, inside: &str) -> Result<(), AllocError> {
+    push_repeated(text, depth, "struct N { } op f ( ) { ", "loop { ", inside)?;
+    push_repeated(text, depth, "", " }", " }")
 }
+
+fn push_both(alloc: Global, answer: &mut String, text: &str) -> Result<(), AllocError> {
+    Lexed(SyntaxAlone).push(alloc, answer, text)?;
+    answer.push_str(" and ")?;
+    push_fate(alloc, answer, text, 0)
+}
+
+// What syntax alone and the parser answer to loops that stand so many deeper than they may, and a text in the
+// innermost.
+struct NestedDeeper;
+
+impl Answers for NestedDeeper {
+    fn push(&self, alloc: Global, answer: &mut String, row: &str) -> Result<(), AllocError> {
+        let (deeper, inside) = row.split_once(" ").unwrap_or((row, ""));
+        let depth = What1::Nesting.most().saturating_add(number(deeper));
+        let mut text = String::new(alloc);
+        match push_nested(&mut text, depth, inside) {
+            Ok(()) => push_both(alloc, answer, text.as_str()),
+            Err(fault) => Err(fault),
+        }
+    }
+}
+
+const NESTED: &str = "\
+0 => Ok(()) and unit
+0 atomic { skip ; } init => Err(Syntax { at: 142 }) and syntax 142
+0 { => Err(Syntax { at: 137 }) and syntax 137
+1 => Err(Nesting { at: 138 }) and limit Nesting 65
+6 => Err(Nesting { at: 138 }) and limit Nesting 65
+";
 
 #[test]
 fn blocks_stand_in_blocks_at_most_64_deep(rt: HostRuntime) -> Result<(), AllocError> {
-    for row in &[
-        (64, "", "Ok(()) and unit"),
-        (
-            64,
-            "atomic { skip ; } init",
-            "Err(Syntax { at: 142 }) and syntax 142",
-        ),
-        (64, "{", "Err(Syntax { at: 137 }) and syntax 137"),
-        (65, "", "Err(Nesting { at: 138 }) and limit Nesting 65"),
-        (70, "", "Err(Nesting { at: 138 }) and limit Nesting 65"),
-    ] {
-        let (depth, inside, want) = *row;
-        assert_eq!(rt; nested_answers(rt.alloc(), depth, inside)?.as_str(), want);
-    }
-    Ok(())
+    assert_lines(&rt, rt.alloc(), &NestedDeeper, NESTED)
 }
 
 #[test]
 fn each_form_is_syntax(rt: HostRuntime) -> Result<(), AllocError> {
-    assert_eq!(rt; syntax_answer(rt.alloc(), EACH_FORM)?.as_str(), "Ok(())");
-    Ok(())
+    assert_answer(&rt, rt.alloc(), &Lexed(SyntaxAlone), EACH_FORM, "Ok(())")
 }

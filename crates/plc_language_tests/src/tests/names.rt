@@ -1,20 +1,27 @@
 // Lists of names, and the names of the limits.
-use plc_base::{NameFault, Names, What1};
+use crate::tests::tables::{Answers, assert_answer, assert_lines};
+use plc_base::{Names, What1};
 use std::alloc::{AllocError, Global};
 
-// What each name of a text comes to in a list of two, one after the other.
-fn names_text(alloc: Global, text: &str) -> Result<String, AllocError> {
-    let mut names = Names::new(alloc, 2);
-    let mut answers = String::new(alloc);
+// What each name of a text comes to, one after the other.
+fn push_names(answer: &mut String, names: &mut Names, text: &str) -> Result<(), AllocError> {
     for name in text.split(" ") {
-        let answer = match names.add(name.as_bytes()) {
-            Ok(number) => format!(in alloc; "{number} ")?,
-            Err(NameFault::Memory) => return Err(AllocError),
-            Err(fault) => format!(in alloc; "{fault:?} ")?,
-        };
-        answers.push_str(answer.as_str())?;
+        match names.add(name.as_bytes()) {
+            Ok(number) => write!(answer, "{number} ")?,
+            Err(fault) => write!(answer, "{fault:?} ")?,
+        }
     }
-    Ok(answers)
+    Ok(())
+}
+
+// What the names of a text come to in a list of two.
+struct ListOfTwo;
+
+impl Answers for ListOfTwo {
+    fn push(&self, alloc: Global, answer: &mut String, text: &str) -> Result<(), AllocError> {
+        let mut names = Names::new(alloc, 2);
+        push_names(answer, &mut names, text)
+    }
 }
 
 const NAMES: &str = "\
@@ -27,36 +34,48 @@ next next next value => 0 Duplicate { first: 0 } Duplicate { first: 0 } 1
 
 #[test]
 fn names_are_numbered_in_order(rt: HostRuntime) -> Result<(), AllocError> {
-    for row in NAMES.lines() {
-        let (names, want) = row.split_once(" => ").unwrap_or((row, "?"));
-        assert_eq!(rt; names_text(rt.alloc(), names)?.as_str().trim_end(), want);
+    assert_lines(&rt, rt.alloc(), &ListOfTwo, NAMES)
+}
+
+const LIMITS: &[What1] = &[
+    What1::Fields,
+    What1::Shared,
+    What1::Calls,
+    What1::Ghosts,
+    What1::Lines,
+    What1::Values,
+    What1::Ops,
+    What1::Locals,
+    What1::Labels,
+    What1::Prims,
+    What1::News,
+    What1::Nesting,
+    What1::Invariants,
+    What1::Items,
+    What1::Literals,
+    What1::Obligations,
+    What1::Clauses,
+    What1::Points,
+];
+
+// Each limit with its name.
+struct NamedLimits;
+
+impl Answers for NamedLimits {
+    fn push(&self, _alloc: Global, answer: &mut String, _text: &str) -> Result<(), AllocError> {
+        for limit in LIMITS {
+            let name = limit.name();
+            write!(answer, "{limit:?} {name}, ")?;
+        }
+        Ok(())
     }
-    Ok(())
 }
 
 #[test]
-fn limits_have_names(rt: HostRuntime) {
-    for row in &[
-        (What1::Fields, "fields"),
-        (What1::Shared, "shared"),
-        (What1::Calls, "calls"),
-        (What1::Ghosts, "ghosts"),
-        (What1::Lines, "lines"),
-        (What1::Values, "values"),
-        (What1::Ops, "ops"),
-        (What1::Locals, "locals"),
-        (What1::Labels, "labels"),
-        (What1::Prims, "prims"),
-        (What1::News, "news"),
-        (What1::Nesting, "nesting"),
-        (What1::Invariants, "invariants"),
-        (What1::Items, "items"),
-        (What1::Literals, "literals"),
-        (What1::Obligations, "obligations"),
-        (What1::Clauses, "clauses"),
-        (What1::Points, "points"),
-    ] {
-        let (limit, name) = *row;
-        assert_eq!(rt; limit.name(), name);
-    }
+fn limits_have_names(rt: HostRuntime) -> Result<(), AllocError> {
+    let want =
+        "Fields fields, Shared shared, Calls calls, Ghosts ghosts, Lines lines, Values values, Ops ops, \
+         Locals locals, Labels labels, Prims prims, News news, Nesting nesting, Invariants invariants, Items items, \
+         Literals literals, Obligations obligations, Clauses clauses, Points points, ";
+    assert_answer(&rt, rt.alloc(), &NamedLimits, "limits", want)
 }

@@ -1,88 +1,102 @@
 // A unit is its numbers: names in the order of their declaration, clauses by their literals, items by their places.
 use crate::tests::outlines::STACK;
+use crate::tests::tables::{Answers, assert_answer};
 use crate::tests::texts::read;
-use plc_base::NoMemory;
+use plc_base::Items;
 use plc_lang::{labels_by_op, op_of_label};
 use plc_logic::{Clause, Item, Outline, Site, op_of_site};
 use plc_parse::Unit;
 use std::alloc::{AllocError, Global};
 
 // Clauses, each by its literals, and the place of each item.
-fn push_clause(text: &mut String, clause: &Clause, alloc: Global) -> Result<(), AllocError> {
+fn push_clause(text: &mut String, clause: &Clause) -> Result<(), AllocError> {
     let literals = clause.literals.as_slice();
-    text.push_str(format!(in alloc; " {literals:?}\n")?.as_str())
+    write!(text, " {literals:?}\n")
 }
 
-fn push_item(text: &mut String, item: &Item, alloc: Global) -> Result<(), AllocError> {
-    let site = match &item.site {
-        Site::Over(op) => format!(in alloc; "over {op:?}")?,
+fn push_item(text: &mut String, item: &Item) -> Result<(), AllocError> {
+    match &item.site {
+        Site::Over(op) => write!(text, "over {op:?}")?,
         Site::At(labels) => {
             let labels = labels.as_slice();
-            format!(in alloc; "at {labels:?}")?
+            write!(text, "at {labels:?}")?
         }
-    };
-    text.push_str(site.as_str())?;
-    push_clause(text, &item.clause, alloc)
+    }
+    push_clause(text, &item.clause)
 }
 
-fn outline_text(alloc: Global, outline: &Outline) -> Result<String, AllocError> {
+fn push_outline(text: &mut String, outline: &Outline) -> Result<(), AllocError> {
     let depth = outline.depth;
-    let mut text = format!(in alloc; "depth {depth}\n")?;
+    write!(text, "depth {depth}\n")?;
     for clause in outline.invariants.as_slice() {
         text.push_str("inv")?;
-        push_clause(&mut text, clause, alloc)?;
+        push_clause(text, clause)?;
     }
     for item in outline.items.as_slice() {
-        push_item(&mut text, item, alloc)?;
-    }
-    Ok(text)
-}
-
-// The operation of each label, and that of each item.
-fn push_labels(text: &mut String, unit: &Unit, alloc: Global) -> Result<(), NoMemory> {
-    let by_op = labels_by_op(alloc, unit.file.ops.as_slice())?;
-    for label in 0..4 {
-        let op = op_of_label(by_op.as_slice(), label);
-        text.push_str(format!(in alloc; "{op:?} ")?.as_str())?;
-    }
-    for item in unit.outline.items.as_slice() {
-        let op = op_of_site(by_op.as_slice(), &item.site);
-        text.push_str(format!(in alloc; "{op:?} ")?.as_str())?;
+        push_item(text, item)?;
     }
     Ok(())
 }
 
+// The operation of each label, and that of each item.
+fn push_ops(text: &mut String, by_op: &[Items<u16>], items: &[Item]) -> Result<(), AllocError> {
+    for label in 0..4 {
+        let op = op_of_label(by_op, label);
+        write!(text, "{op:?} ")?;
+    }
+    for item in items {
+        let op = op_of_site(by_op, &item.site);
+        write!(text, "{op:?} ")?;
+    }
+    Ok(())
+}
+
+fn push_labels(alloc: Global, text: &mut String, unit: &Unit) -> Result<(), AllocError> {
+    match labels_by_op(alloc, unit.file.ops.as_slice()) {
+        Ok(by_op) => push_ops(text, by_op.as_slice(), unit.outline.items.as_slice()),
+        Err(_) => Err(AllocError),
+    }
+}
+
 // How many things of each kind a file has.
-fn counts_text(alloc: Global, unit: &Unit) -> Result<String, AllocError> {
+fn push_counts(text: &mut String, unit: &Unit) -> Result<(), AllocError> {
     let names = unit.file.names.len();
     let fields = unit.file.fields.len();
     let shared = unit.file.shared.len();
     let funcs = unit.file.funcs.len();
+    write!(text, "{names} {fields} {shared} {funcs} ")?;
     let ghosts = unit.file.ghosts.len();
     let init = unit.file.init.len();
     let ops = unit.file.ops.len();
     let labels = unit.file.labels.len();
     let observer = unit.observer;
-    format!(in alloc;
-        "{names} {fields} {shared} {funcs} {ghosts} {init} {ops} {labels} {observer:?}\n"
-    )
+    write!(text, "{ghosts} {init} {ops} {labels} {observer:?}\n")
 }
 
-fn numbers_text(alloc: Global, unit: &Unit) -> Result<String, NoMemory> {
-    let mut text = counts_text(alloc, unit)?;
-    text.push_str(outline_text(alloc, &unit.outline)?.as_str())?;
-    push_labels(&mut text, unit, alloc)?;
-    Ok(text)
+fn push_unit(alloc: Global, text: &mut String, unit: &Unit) -> Result<(), AllocError> {
+    push_counts(text, unit)?;
+    push_outline(text, &unit.outline)?;
+    push_labels(alloc, text, unit)
 }
 
-fn numbers_of(alloc: Global, text: &str) -> Result<String, NoMemory> {
+fn push_numbers(alloc: Global, answer: &mut String, text: &str) -> Result<(), AllocError> {
     match read(alloc, text) {
         Ok(unit) => {
-            let text = numbers_text(alloc, &unit);
+            let pushed = push_unit(alloc, answer, &unit);
             drop(unit);
-            text
+            pushed
         }
-        Err(_) => Err(NoMemory),
+        Err(_) => Err(AllocError),
+    }
+}
+
+// The numbers of the stack with an outline.
+struct NumbersOf;
+
+impl Answers for NumbersOf {
+    fn push(&self, alloc: Global, answer: &mut String, outline: &str) -> Result<(), AllocError> {
+        let text = format!(in alloc; "{STACK}{outline}")?;
+        push_numbers(alloc, answer, text.as_str())
     }
 }
 
@@ -104,9 +118,6 @@ over OpId(0) [Same { a: Local(0), b: Number(7), equal: true }]
 Some(0) Some(1) Some(1) None Some(1) Some(1) Some(0) ";
 
 #[test]
-fn an_outline_is_its_numbers(rt: HostRuntime) -> Result<(), NoMemory> {
-    let alloc = rt.alloc();
-    let text = format!(in alloc; "{STACK}{OUTLINE}")?;
-    assert_eq!(rt; numbers_of(alloc, text.as_str())?.as_str(), NUMBERS);
-    Ok(())
+fn an_outline_is_its_numbers(rt: HostRuntime) -> Result<(), AllocError> {
+    assert_answer(&rt, rt.alloc(), &NumbersOf, OUTLINE, NUMBERS)
 }

@@ -1,6 +1,8 @@
 // Outlines and their items over one file, each with its fate. Places count from the outline's or the item's first
 // token.
-use crate::tests::texts::{count_tokens, fate, repeated};
+use crate::tests::tables::{Answers, assert_lines};
+use crate::tests::texts::{count_tokens, push_fate, push_repeated};
+use plc_base::What1;
 use std::alloc::{AllocError, Global};
 
 // A stack's declarations and operations, before its outline.
@@ -14,16 +16,36 @@ op push(v) { ptr n; ptr t; label c; }
 op pop() { ptr t; ptr s; loop { label d; } choose { } or { retire(t) during e; } }
 ";
 
-// What items come to in an outline of the stack.
-fn items_answer(alloc: Global, items: &str) -> Result<String, AllocError> {
-    outline_answer(alloc, format!(in alloc; "outline {{ {items} }}")?.as_str())
+// What a file comes to that begins with the stack.
+fn push_fate_after(alloc: Global, answer: &mut String, text: &str) -> Result<(), AllocError> {
+    push_fate(alloc, answer, text, count_tokens(alloc, STACK))
 }
 
-// What an outline of the stack comes to.
-fn outline_answer(alloc: Global, outline: &str) -> Result<String, AllocError> {
-    let text = format!(in alloc; "{STACK}{outline}")?;
-    fate(alloc, text.as_str(), count_tokens(alloc, STACK))
+// What an outline of the stack comes to, of which a part stands between two texts.
+#[derive(Clone, Copy)]
+struct OutlineOf<'a> {
+    before: &'a str,
+    after: &'a str,
 }
+
+impl<'a> Answers for OutlineOf<'a> {
+    fn push(&self, alloc: Global, answer: &mut String, part: &str) -> Result<(), AllocError> {
+        let before = self.before;
+        let after = self.after;
+        let text = format!(in alloc; "{STACK}{before}{part}{after}")?;
+        push_fate_after(alloc, answer, text.as_str())
+    }
+}
+
+const WHOLE: OutlineOf<'static> = OutlineOf {
+    before: "",
+    after: "",
+};
+
+const ITEM: OutlineOf<'static> = OutlineOf {
+    before: "outline { ",
+    after: " }",
+};
 
 const OUTLINES: &str = "outline => syntax 1
 outline { inv z == null; => syntax 7
@@ -112,55 +134,53 @@ over push: retired(v); => sort 7
 
 #[test]
 fn outlines_are_read_or_refused(rt: HostRuntime) -> Result<(), AllocError> {
-    let alloc = rt.alloc();
-    for (rows, before, after) in [(OUTLINES, "", ""), (ITEMS, "outline { ", " }")] {
-        for row in rows.lines() {
-            let (part, want) = row.split_once(" => ").unwrap_or((row, "?"));
-            let outline = format!(in alloc; "{before}{part}{after}")?;
-            let have = outline_answer(alloc, outline.as_str())?;
-            assert_eq!(rt; have.as_str(), want, "{part}");
-        }
-    }
-    Ok(())
+    assert_lines(&rt, rt.alloc(), &WHOLE, OUTLINES)?;
+    assert_lines(&rt, rt.alloc(), &ITEM, ITEMS)
 }
 
-// So many times the same between two texts, and what these items come to: of a limit that is passed and a name that
-// isn't declared the one at the earlier token is told, at one token the name.
-const MANY_ITEMS: &[(u32, &str, &str, &str, &str)] = &[
-    (
-        15,
-        "inv Top == null",
-        " or Top == null",
-        " or z == null;",
-        "undeclared 67",
-    ),
-    (
-        15,
-        "inv Top == null",
-        " or Top == null",
-        " or Top == z;",
-        "limit Literals 17",
-    ),
-    (
-        256,
-        "",
-        "at c: n == null;",
-        "over z: z == null;",
-        "limit Items 257",
-    ),
-];
+// Items of the stack's outline: a text, so many times a second one, and a third, with `|` between them.
+fn push_items(text: &mut String, count: u32, items: &str) -> Result<(), AllocError> {
+    let (before, items) = items.split_once("|").unwrap_or((items, ""));
+    let (each, after) = items.split_once("|").unwrap_or((items, ""));
+    text.push_str(STACK)?;
+    text.push_str("outline { ")?;
+    push_repeated(text, count, before, each, after)?;
+    text.push_str(" }")
+}
+
+// What items come to, of which a part stands there so often.
+#[derive(Clone, Copy)]
+struct RepeatedItems {
+    count: u32,
+}
+
+impl Answers for RepeatedItems {
+    fn push(&self, alloc: Global, answer: &mut String, items: &str) -> Result<(), AllocError> {
+        let mut text = String::new(alloc);
+        match push_items(&mut text, self.count, items) {
+            Ok(()) => push_fate_after(alloc, answer, text.as_str()),
+            Err(fault) => Err(fault),
+        }
+    }
+}
+
+// Of a limit that is passed and a name that isn't declared the one at the earlier token is told, at one token the
+// name.
+const MANY_LITERALS: &str = "\
+inv Top == null| or Top == null| or z == null; => undeclared 67
+inv Top == null| or Top == null| or Top == z; => limit Literals 17
+";
+
+const MANY_ITEMS: &str = "|at c: n == null;|over z: z == null; => limit Items 257";
 
 #[test]
 fn limits_come_in_their_order(rt: HostRuntime) -> Result<(), AllocError> {
-    let alloc = rt.alloc();
-    for row in MANY_ITEMS {
-        let (count, before, each, after, want) = *row;
-        let items = repeated(alloc, count, before, each, after)?;
-        assert_eq!(rt;
-            items_answer(alloc, items.as_str())?.as_str(),
-            want,
-            "{count}"
-        );
-    }
-    Ok(())
+    let literals = RepeatedItems {
+        count: What1::Literals.most().saturating_sub(1),
+    };
+    assert_lines(&rt, rt.alloc(), &literals, MANY_LITERALS)?;
+    let items = RepeatedItems {
+        count: What1::Items.most(),
+    };
+    assert_lines(&rt, rt.alloc(), &items, MANY_ITEMS)
 }

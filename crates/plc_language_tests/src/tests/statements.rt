@@ -1,16 +1,29 @@
 // Statements, each with its canonical text or its first fault, in a file that has names of each kind. Places
 // count from the statement's first token.
-use crate::tests::texts::{BEFORE, answer, count_tokens, middle};
+use crate::tests::tables::{Answers, assert_rows};
+use crate::tests::texts::{BEFORE, count_tokens, middle, push_printed};
 use std::alloc::{AllocError, Global};
 
-// The canonical text of statements, or their fault.
-fn statement_answer(alloc: Global, statement: &str) -> Result<String, AllocError> {
+// The file of statements printed, or the fault, counted from the first of them.
+fn push_whole(alloc: Global, whole: &mut String, statement: &str) -> Result<(), AllocError> {
     let text = format!(in alloc; "{BEFORE}{statement} }} op g() {{ }}")?;
-    let whole = answer(alloc, text.as_str(), count_tokens(alloc, BEFORE))?;
-    String::from_str(alloc, middle(whole.as_str()).trim_end())
+    push_printed(alloc, whole, text.as_str(), count_tokens(alloc, BEFORE))
 }
 
-const STATEMENTS: &str = "# n:=null;n:=m;Top:=n;n:=new;n:=m.next;n.next:=m;n.next:=null;
+// The canonical text of statements, or their fault.
+struct StatementsAlone;
+
+impl Answers for StatementsAlone {
+    fn push(&self, alloc: Global, answer: &mut String, statement: &str) -> Result<(), AllocError> {
+        let mut whole = String::new(alloc);
+        match push_whole(alloc, &mut whole, statement) {
+            Ok(()) => answer.push_str(middle(whole.as_str())),
+            Err(fault) => Err(fault),
+        }
+    }
+}
+
+const STATEMENTS: &str = "# \n# n:=null;n:=m;Top:=n;n:=new;n:=m.next;n.next:=m;n.next:=null;
 n := null ;
 n := m ;
 Top := n ;
@@ -188,18 +201,7 @@ undeclared 7
 undeclared 10
 ";
 
-// A section whose answer is written anew.
-fn section_of(alloc: Global, section: &str) -> Result<String, AllocError> {
-    let (statement, _) = section.split_once("\n").unwrap_or((section, ""));
-    let answer = statement_answer(alloc, statement)?;
-    format!(in alloc; "{statement}\n{answer}")
-}
-
 #[test]
 fn statements_are_printed_or_refused(rt: HostRuntime) -> Result<(), AllocError> {
-    for section in STATEMENTS.split("# ") {
-        let have = section_of(rt.alloc(), section)?;
-        assert_eq!(rt; have.as_str().trim_end(), section.trim_end());
-    }
-    Ok(())
+    assert_rows(&rt, rt.alloc(), &StatementsAlone, STATEMENTS, "# ", "\n")
 }

@@ -1,7 +1,8 @@
 // What a text comes to: its canonical text, or the first fault with its place, which counts from the first token
 // of the part that is the row.
+use crate::tests::tables::Answers;
 use plc_base::{LARGEST_FILE, NoMemory};
-use plc_lex::tokens;
+use plc_lex::{Token, tokens};
 use plc_parse::{ParseFault, Unit, parse};
 use plc_print::print;
 use std::alloc::{AllocError, Global};
@@ -26,47 +27,88 @@ fn printed(alloc: Global, text: &str) -> Result<Vec<u8>, ParseFault> {
     }
 }
 
-// The canonical text, which is printed again from itself.
-fn canonical(alloc: Global, text: &str) -> Result<Vec<u8>, ParseFault> {
-    let once = printed(alloc, text)?;
-    let twice = printed(alloc, str::from_utf8(&once).unwrap_or(""))?;
-    if once.as_slice() == twice.as_slice() {
-        Ok(once)
+fn is_printed_again(alloc: Global, text: &[u8]) -> bool {
+    match printed(alloc, str::from_utf8(text).unwrap_or("")) {
+        Ok(again) => again.as_slice() == text,
+        Err(_) => false,
+    }
+}
+
+// A canonical text, which is printed again from itself.
+fn push_canonical(alloc: Global, answer: &mut String, text: &[u8]) -> Result<(), AllocError> {
+    if is_printed_again(alloc, text) {
+        answer.push_str(str::from_utf8(text).unwrap_or(""))
     } else {
-        Err(ParseFault::Memory)
+        answer.push_str("not printed again")
     }
 }
 
 // A fault, with its place counted after so many tokens.
-fn fault_text(alloc: Global, fault: ParseFault, before: u32) -> Result<String, AllocError> {
+fn push_fault(answer: &mut String, fault: &ParseFault, before: u32) -> Result<(), AllocError> {
     let (name, at) = match fault {
-        ParseFault::Syntax { at } => ("syntax", at),
-        ParseFault::Undeclared { at } => ("undeclared", at),
-        ParseFault::Duplicate { at } => ("duplicate", at),
-        ParseFault::WrongSort { at } => ("sort", at),
-        ParseFault::NoSuchCall { at } => ("call", at),
+        ParseFault::Syntax { at } => ("syntax", *at),
+        ParseFault::Undeclared { at } => ("undeclared", *at),
+        ParseFault::Duplicate { at } => ("duplicate", *at),
+        ParseFault::WrongSort { at } => ("sort", *at),
+        ParseFault::NoSuchCall { at } => ("call", *at),
         ParseFault::Limit { what, count } => {
-            return format!(in alloc; "limit {what:?} {count}");
+            return write!(answer, "limit {what:?} {count}");
         }
         ParseFault::Memory => return Err(AllocError),
     };
     let place = at.saturating_sub(before);
-    format!(in alloc; "{name} {place}")
+    write!(answer, "{name} {place}")
 }
 
-// The canonical text of a file, or its fault.
-pub(crate) fn answer(alloc: Global, text: &str, before: u32) -> Result<String, AllocError> {
-    match canonical(alloc, text) {
-        Ok(text) => String::from_str(alloc, str::from_utf8(&text).unwrap_or("")),
-        Err(fault) => fault_text(alloc, fault, before),
+// What the tokens of a text come to.
+pub(crate) trait ForTokens {
+    ghost use Rattle.std.specs.Prelude.{◌<◌, ◌^◌, length};
+
+    fn push_for(&self, alloc: Global, answer: &mut String, all: &[Token]) -> Result<(), AllocError>
+        requires { length all.now < 2 ^ 32 };
+}
+
+// What the tokens of a text come to, or why there are none.
+pub(crate) struct Lexed<T>(pub(crate) T);
+
+impl<T: ForTokens> Answers for Lexed<T> {
+    fn push(&self, alloc: Global, answer: &mut String, text: &str) -> Result<(), AllocError> {
+        if text.len() > LARGEST_FILE {
+            return Err(AllocError);
+        }
+        match tokens(alloc, text.as_bytes()) {
+            Ok(all) => self.0.push_for(alloc, answer, &all),
+            Err(fault) => write!(answer, "{fault:?}"),
+        }
     }
 }
 
-// The same, with one word for each file.
-pub(crate) fn fate(alloc: Global, text: &str, before: u32) -> Result<String, AllocError> {
+// The canonical text of a file, or its fault.
+pub(crate) fn push_printed(
+    alloc: Global,
+    answer: &mut String,
+    text: &str,
+    before: u32,
+) -> Result<(), AllocError> {
+    match printed(alloc, text) {
+        Ok(text) => push_canonical(alloc, answer, &text),
+        Err(fault) => push_fault(answer, &fault, before),
+    }
+}
+
+// One word for each file, or its fault.
+pub(crate) fn push_fate(
+    alloc: Global,
+    answer: &mut String,
+    text: &str,
+    before: u32,
+) -> Result<(), AllocError> {
     match read(alloc, text) {
-        Ok(_) => String::from_str(alloc, "unit"),
-        Err(fault) => fault_text(alloc, fault, before),
+        Ok(unit) => {
+            drop(unit);
+            answer.push_str("unit")
+        }
+        Err(fault) => push_fault(answer, &fault, before),
     }
 }
 
@@ -116,17 +158,21 @@ pub(crate) fn middle(whole: &str) -> &str {
 }
 
 // So many times the same, between two texts.
-pub(crate) fn repeated(
-    alloc: Global,
+pub(crate) fn push_repeated(
+    text: &mut String,
     count: u32,
     before: &str,
     each: &str,
     after: &str,
-) -> Result<String, AllocError> {
-    let mut text = String::from_str(alloc, before)?;
+) -> Result<(), AllocError> {
+    text.push_str(before)?;
     for _ in 0..count {
         text.push_str(each)?;
     }
-    text.push_str(after)?;
-    Ok(text)
+    text.push_str(after)
+}
+
+// The number that a word writes, 0 where it writes none.
+pub(crate) fn number(word: &str) -> u32 {
+    word.parse::<u32>().unwrap_or(0)
 }

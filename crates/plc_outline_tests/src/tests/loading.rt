@@ -8,6 +8,7 @@ ghost use Rattle.plc_setting.specs.Fit.{Fits};
 use plc_base::{LARGEST_FILE, NoMemory};
 use plc_check::{Judged, load};
 use std::alloc::Global;
+use std::process::Abort;
 
 // A file with its flow and its outline.
 fn loaded(alloc: Global, text: &str) -> Result<Judged, NoMemory>
@@ -52,4 +53,15 @@ pub(crate) fn answered<A: Asked>(
     question: &A,
 ) -> Result<String, NoMemory> {
     lent(alloc, loaded(alloc, text)?, question)
+}
+
+// Fails a test where a text isn't the one that is wanted. A test hands its texts on, and owns none at its own ends.
+pub(crate) fn text_is<E: Drop>(
+    rt: &impl Abort,
+    text: Result<String, E>,
+    want: &str,
+) -> Result<(), E> {
+    let text = text?;
+    assert_eq!(rt; text.as_str(), want);
+    Ok(())
 }

@@ -4,7 +4,7 @@
 ghost use Rattle.plc_setting.specs.Fit.{Fits};
 
 use crate::tests::deep::DEEP;
-use crate::tests::loading::{Asked, answered};
+use crate::tests::loading::{Asked, answered, text_is};
 use plc_base::NoMemory;
 use plc_check::Judged;
 use plc_flow::Flow;
@@ -92,21 +92,24 @@ fn obligations_are_those_of_the_lists(rt: HostRuntime) -> Result<(), NoMemory> {
     let of_hazards: [u64; 19] = [
         0, 5, 6, 9, 13, 14, 17, 60, 120, 200, 267, 300, 777, 1500, 2222, 2840, 2841, 2844, 2845,
     ];
-    assert_eq!(rt;
-        answer(alloc, HAZARDS.concat(alloc)?.as_str(), &of_hazards)?.as_str(),
+    text_is(
+        &rt,
+        answer(alloc, HAZARDS.concat(alloc)?.as_str(), &of_hazards),
         "2845: s0 e0.0 e0.1 o0.0 o0.4 o0.5 o1.0 o6.3 o15.1 o27.3 i0.0.0 i0.12.0 i7.26.0 i18.23.0 i29.19.0 i38.36.0 \
-         c23.1 c31.0 none"
-    );
-    assert_eq!(rt;
-        answer(alloc, EPOCHS.concat(alloc)?.as_str(), &[0, 2559])?.as_str(),
-        "2559: s0 none"
-    );
+         c23.1 c31.0 none",
+    )?;
+    text_is(
+        &rt,
+        answer(alloc, EPOCHS.concat(alloc)?.as_str(), &[0, 2559]),
+        "2559: s0 none",
+    )?;
     let deep: [u64; 16] = [
         2, 3, 4, 8, 17, 44, 98, 115, 231, 289, 376, 579, 674, 675, 676, 677,
     ];
-    assert_eq!(rt;
-        answer(alloc, DEEP, &deep)?.as_str(),
-        "677: s2 e0.0 e1.0 o0.3 o2.1 o9.1 o22.2 i0.14.0 i5.5.0 i7.13.1 i11.2.1 i19.3.2 c1.1 c11.1 c13.0 none"
-    );
+    text_is(
+        &rt,
+        answer(alloc, DEEP, &deep),
+        "677: s2 e0.0 e1.0 o0.3 o2.1 o9.1 o22.2 i0.14.0 i5.5.0 i7.13.1 i11.2.1 i19.3.2 c1.1 c11.1 c13.0 none",
+    )?;
     Ok(())
 }

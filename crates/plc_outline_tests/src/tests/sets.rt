@@ -5,9 +5,9 @@ ghost use Rattle.plc_setting.specs.Fit.{Fits};
 
 use crate::tests::checksums::{OF_DEEP, OF_HAZARDS};
 use crate::tests::deep::DEEP;
-use crate::tests::loading::{Asked, answered};
+use crate::tests::loading::{Asked, answered, text_is};
 use crate::tests::whole_sets::{CLAIM, DEEP_START, ENTER, OTHER, OWN, START};
-use plc_base::NoMemory;
+use plc_base::{NoMemory, What1};
 use plc_check::Judged;
 use plc_ground::{GroundSet, GroundTerm, Lit, Map, Sort, Symbol};
 use plc_oblig::{Obligation, clauses, ground, nth};
@@ -129,7 +129,7 @@ fn text_of(alloc: Global, judged: &Judged, o: &Obligation) -> Result<String, All
     let flow = &judged.flow;
     let outline = &judged.unit_outline;
     let count = clauses(flow, outline, o);
-    if count > 65536 {
+    if count > u64::from(What1::Clauses.most()) {
         return format!(in alloc; "too large");
     }
     match ground(alloc, flow, outline, o) {
@@ -177,9 +177,9 @@ fn sets_are_those_of_the_format(rt: HostRuntime) -> Result<(), NoMemory> {
         (2841, CLAIM),
     ] {
         let (i, text) = *row;
-        assert_eq!(rt; answer_of_hazards(rt.alloc(), i)?.as_str(), text);
+        text_is(&rt, answer_of_hazards(rt.alloc(), i), text)?;
     }
-    assert_eq!(rt; answer(rt.alloc(), DEEP, 0)?.as_str(), DEEP_START);
+    text_is(&rt, answer(rt.alloc(), DEEP, 0), DEEP_START)?;
     Ok(())
 }
 

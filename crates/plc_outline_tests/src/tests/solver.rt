@@ -1,5 +1,6 @@
 // Ground sets, trees, models and the solver, with verdicts that were found by hand from the definitions. Terms
 // are numbered by their places; `0=1 or 2!=3; -` are two clauses, the second without a literal.
+use crate::tests::loading::text_is;
 use plc_base::{FieldId, Items, NoMemory};
 use plc_ground::{
     GroundModel, GroundSet, GroundTerm, Lit, Map, Node, Sort, Symbol, Tree, closes, is_model,
@@ -351,7 +352,7 @@ fn answers_are_whole(rt: HostRuntime) -> Result<(), NoMemory> {
         ),
     ] {
         let (terms, rows, want) = *row;
-        assert_eq!(rt; solved(rt.alloc(), terms, rows)?.as_str(), want);
+        text_is(&rt, solved(rt.alloc(), terms, rows), want)?;
     }
     Ok(())
 }

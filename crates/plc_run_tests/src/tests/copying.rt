@@ -2,6 +2,7 @@
 ghost use Rattle.plc_flow.specs.WellFormed.{FlowFits};
 
 use crate::tests::moves::{config_of, loaded, places_text};
+use crate::tests::texts::text_is;
 use plc_base::NoMemory;
 use plc_check::Judged;
 use plc_flow::Flow;
@@ -97,6 +98,6 @@ Top=0 r=1 ";
 
 #[test]
 fn copies_are_equal_and_apart(rt: HostRuntime) -> Result<(), NoMemory> {
-    assert_eq!(rt; copies(rt.alloc())?.as_str(), COPIES);
+    text_is(&rt, copies(rt.alloc()), COPIES)?;
     Ok(())
 }

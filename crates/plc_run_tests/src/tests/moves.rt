@@ -4,6 +4,7 @@ ghost use Rattle.plc_lang.specs.Fit.{FileFits};
 ghost use Rattle.plc_flow.specs.WellFormed.{FlowFits};
 ghost use Rattle.plc_run.specs.Position.{IsOfRun};
 
+use crate::tests::texts::text_is;
 use plc_auto::{Event, Observer};
 use plc_base::{FieldId, Items, LARGEST_FILE, NoMemory, OpId};
 use plc_check::{Judged, load};
@@ -306,7 +307,7 @@ places => Top=0 p=1 r=1 1.next=0 used 1 retired 1
 fn moves_have_their_answers(rt: HostRuntime) -> Result<(), NoMemory> {
     for (before, rows) in [("", MOVES), ("", PROTECT), (PROTECT, PROTECTED)] {
         for row in rows.split("# ") {
-            assert_eq!(rt; ran(rt.alloc(), STACK, before, row)?.as_str(), row);
+            text_is(&rt, ran(rt.alloc(), STACK, before, row), row)?;
         }
     }
     Ok(())

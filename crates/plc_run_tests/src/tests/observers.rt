@@ -2,11 +2,10 @@
 ghost use Rattle.std.specs.Prelude.{◌<◌};
 ghost use Rattle.plc_auto.specs.Table.{count_of};
 
+use crate::tests::texts::text_is;
 use plc_auto::{EvKind, Observer};
 use plc_base::{FuncId, LocId, Mask};
 use std::alloc::{AllocError, Global};
-
-const RETIRE: FuncId = FuncId(0);
 
 const FIRST: FuncId = FuncId(1);
 
@@ -139,7 +138,7 @@ r.kept 3366
 
 #[test]
 fn each_edge_is_that_of_the_table(rt: HostRuntime) -> Result<(), AllocError> {
-    let retire = EvKind::Call(RETIRE);
+    let retire = EvKind::Call(FuncId::RETIRE);
     let first = EvKind::Call(FIRST);
     let second = EvKind::Call(SECOND);
     let other = EvKind::Call(OTHER);
@@ -158,7 +157,7 @@ fn each_edge_is_that_of_the_table(rt: HostRuntime) -> Result<(), AllocError> {
         (BOTH, both.as_slice(), BOTH_TABLE),
     ] {
         let (observer, kinds, want) = *row;
-        assert_eq!(rt; table_text(rt.alloc(), &observer, kinds)?.as_str(), want);
+        text_is(&rt, table_text(rt.alloc(), &observer, kinds), want)?;
     }
     Ok(())
 }
@@ -213,7 +212,7 @@ fn sets_are_those_of_the_tables(rt: HostRuntime) -> Result<(), AllocError> {
         (EPOCH, "0123456 012 0126 "),
     ] {
         let (observer, want) = *row;
-        assert_eq!(rt; sets_text(alloc, &observer)?.as_str(), want);
+        text_is(&rt, sets_text(alloc, &observer), want)?;
     }
     Ok(())
 }
@@ -245,12 +244,12 @@ fn closures_hold_what_happens_meanwhile(rt: HostRuntime) -> Result<(), AllocErro
 fn a_set_steps_member_by_member(rt: HostRuntime) -> Result<(), AllocError> {
     let alloc = rt.alloc();
     for row in &[
-        (EvKind::Call(RETIRE), false, true, "46"),
+        (EvKind::Call(FuncId::RETIRE), false, true, "46"),
         (EvKind::Call(FIRST), true, false, "0"),
         (EvKind::Free, false, true, ""),
     ] {
         let (kind, own, this, want) = *row;
-        assert_eq!(rt; step_text(alloc, "12", kind, own, this)?.as_str(), want);
+        text_is(&rt, step_text(alloc, "12", kind, own, this), want)?;
     }
     Ok(())
 }
@@ -278,7 +277,7 @@ fn masks_are_sets_of_locations(rt: HostRuntime) -> Result<(), AllocError> {
         (Mask::empty(), Mask::full(0), "  0 0 true"),
     ] {
         let (first, second, want) = *row;
-        assert_eq!(rt; masks_text(rt.alloc(), &first, &second)?.as_str(), want);
+        text_is(&rt, masks_text(rt.alloc(), &first, &second), want)?;
     }
     Ok(())
 }

@@ -3,6 +3,7 @@ ghost use Rattle.std.specs.Prelude.{drop, slice_get, codes, OnOk};
 ghost use Rattle.plc_reclaim.specs.Rows.{ActsAs, list_row};
 
 use crate::tests::moves::{number, numbers};
+use crate::tests::texts::text_is;
 use plc_auto::Event;
 use plc_base::{FuncId, NoMemory};
 use plc_reclaim::{ByList, Leak, Reclaimer, Scheme};
@@ -125,18 +126,17 @@ fn reclaimers_pick_what_they_say(rt: HostRuntime) -> Result<(), NoMemory> {
     let alloc = rt.alloc();
     let events =
         "call 1 3, call 0, call 0 0, call 0 2, call 0 1, call 0 2, done 0, free 3, free 2, call 0 2, free 1";
-    assert_eq!(rt;
-        list_picks(alloc, events)?.as_str(),
-        "list 0 0 0 0 0 0 2 2 2 2 2 2 2 2 2 2 1 1 1 1 2 2"
-    );
-    assert_eq!(rt;
-        leak_picks(alloc, "call 0 1, free 1")?.as_str(),
-        "leak 0 0 0 0"
-    );
-    assert_eq!(rt;
-        listed_picks(alloc, "7 5 6", "call 0 1, free 1")?.as_str(),
-        "listed 7 5 6 0"
-    );
+    text_is(
+        &rt,
+        list_picks(alloc, events),
+        "list 0 0 0 0 0 0 2 2 2 2 2 2 2 2 2 2 1 1 1 1 2 2",
+    )?;
+    text_is(&rt, leak_picks(alloc, "call 0 1, free 1"), "leak 0 0 0 0")?;
+    text_is(
+        &rt,
+        listed_picks(alloc, "7 5 6", "call 0 1, free 1"),
+        "listed 7 5 6 0",
+    )?;
     assert_eq!(rt; boxed_pick(alloc)?, Some(4));
     Ok(())
 }

@@ -4,7 +4,8 @@ ghost use Rattle.plc_flow.specs.WellFormed.{FlowFits};
 use crate::tests::moves::{loaded, numbers};
 use crate::tests::reclaimers::Listed;
 use crate::tests::schedules::read;
-use plc_base::NoMemory;
+use crate::tests::texts::{row_is, text_is};
+use plc_base::{MOST_THREADS, NoMemory, What1};
 use plc_check::Judged;
 use plc_reclaim::{ByList, Leak, Reclaimer};
 use plc_replay::replay;
@@ -20,10 +21,10 @@ fn end_text(
 ) -> Result<String, NoMemory>
     requires { FlowFits judged.now.flow }
 {
-    if schedule.threads == 0 || schedule.threads > 64 {
+    if schedule.threads == 0 || schedule.threads > MOST_THREADS {
         return Err(NoMemory);
     }
-    if schedule.entries.len() > 99_999 {
+    if schedule.entries.len() >= What1::Lines.most() as usize {
         return Err(NoMemory);
     }
     let end = replay(
@@ -88,14 +89,16 @@ const DROPPED: &str =
 #[test]
 fn the_reclaimer_decides(rt: HostRuntime) -> Result<(), NoMemory> {
     let alloc = rt.alloc();
-    assert_eq!(rt;
-        list_end(alloc, DROPPED)?.as_str(),
-        "Ended { lines: 8, events: 3, freed: 1 }"
-    );
-    assert_eq!(rt;
-        leak_end(alloc, DROPPED)?.as_str(),
-        "Ended { lines: 8, events: 2, freed: 0 }"
-    );
+    text_is(
+        &rt,
+        list_end(alloc, DROPPED),
+        "Ended { lines: 8, events: 3, freed: 1 }",
+    )?;
+    text_is(
+        &rt,
+        leak_end(alloc, DROPPED),
+        "Ended { lines: 8, events: 2, freed: 0 }",
+    )?;
     for row in &[
         ("1", "Ended { lines: 8, events: 3, freed: 1 }"),
         ("2", "ForbiddenFree { a: 2, line: 8 }"),
@@ -103,7 +106,7 @@ fn the_reclaimer_decides(rt: HostRuntime) -> Result<(), NoMemory> {
         ("", "Ended { lines: 8, events: 2, freed: 0 }"),
     ] {
         let (list, want) = *row;
-        assert_eq!(rt; listed_end(alloc, DROPPED, list)?.as_str(), want, "{list}");
+        row_is(&rt, list, listed_end(alloc, DROPPED, list), want)?;
     }
     Ok(())
 }
@@ -127,7 +130,7 @@ fn the_first_bad_line_is_named(rt: HostRuntime) -> Result<(), NoMemory> {
     ] {
         let (lines, want) = *row;
         let text = format!(in alloc; "{BOTH}{lines}")?;
-        assert_eq!(rt; list_end(alloc, text.as_str())?.as_str(), want, "{lines}");
+        row_is(&rt, lines, list_end(alloc, text.as_str()), want)?;
     }
     Ok(())
 }

@@ -1,4 +1,5 @@
 // Schedules with their entries, or the first line that is none.
+use crate::tests::texts::{row_is, text_is};
 use plc_base::LARGEST_SCHEDULE;
 use plc_sched::{Entry, SchedFault, Schedule, read_schedule};
 use std::alloc::{AllocError, Global};
@@ -134,7 +135,7 @@ fn schedules_are_read_as_they_are_written(rt: HostRuntime) -> Result<(), AllocEr
     let alloc = rt.alloc();
     for row in WRITTEN {
         let text = *row;
-        assert_eq!(rt; scheduled(alloc, text)?.as_str(), text);
+        text_is(&rt, scheduled(alloc, text), text)?;
     }
     Ok(())
 }
@@ -143,7 +144,7 @@ fn schedules_are_read_as_they_are_written(rt: HostRuntime) -> Result<(), AllocEr
 fn the_first_bad_line_of_a_schedule_is_named(rt: HostRuntime) -> Result<(), AllocError> {
     for row in SCHEDULES {
         let (text, want) = *row;
-        assert_eq!(rt; scheduled(rt.alloc(), text)?.as_str(), want, "{text}");
+        row_is(&rt, text, scheduled(rt.alloc(), text), want)?;
     }
     Ok(())
 }
@@ -151,10 +152,7 @@ fn the_first_bad_line_of_a_schedule_is_named(rt: HostRuntime) -> Result<(), Allo
 #[test]
 fn lines_are_counted_before_they_are_read(rt: HostRuntime) -> Result<(), AllocError> {
     let alloc = rt.alloc();
-    assert_eq!(rt; counted(alloc, "threads 1\n", 99_999)?.as_str(), "the same");
-    assert_eq!(rt;
-        counted(alloc, "threads 0\n", 100_000)?.as_str(),
-        "limit 100001"
-    );
+    text_is(&rt, counted(alloc, "threads 1\n", 99_999), "the same")?;
+    text_is(&rt, counted(alloc, "threads 0\n", 100_000), "limit 100001")?;
     Ok(())
 }

@@ -4,6 +4,7 @@ ghost use Rattle.std.specs.Prelude.{IfOk};
 ghost use Rattle.plc_xfer.specs.Rules.{FitsObserver};
 
 use crate::tests::observers::{push_set, set_of};
+use crate::tests::texts::text_is;
 use plc_auto::Observer;
 use plc_base::{FieldId, FuncId, Items, Mask, NoMemory};
 use plc_lang::{Arg, GhostVal, Num, Prim, Rel, Var};
@@ -104,10 +105,7 @@ fn guarantees_are_a_chain(rt: HostRuntime) -> Result<(), AllocError> {
         ("ALS", "-", "- ALS false S AS"),
     ] {
         let (g, h, want) = *row;
-        assert_eq!(rt;
-            chain_text(alloc, &type_of(g).g, &type_of(h).g)?.as_str(),
-            want
-        );
+        text_is(&rt, chain_text(alloc, &type_of(g).g, &type_of(h).g), want)?;
     }
     Ok(())
 }
@@ -175,12 +173,13 @@ fn both_joined(alloc: Global) -> Result<String, NoMemory> {
 #[test]
 fn environments_join_part_by_part(rt: HostRuntime) -> Result<(), NoMemory> {
     let alloc = rt.alloc();
-    assert_eq!(rt; bottom_text(alloc)?.as_str(), "- - / ALS ALS ALS / ");
-    assert_eq!(rt; entry_text(alloc)?.as_str(), "-01 -01 / ALS ALS ALS / 01");
-    assert_eq!(rt;
-        both_joined(alloc)?.as_str(),
-        "true false true false -01 -01 / ALS ALS ALS / 01"
-    );
+    text_is(&rt, bottom_text(alloc), "- - / ALS ALS ALS / ")?;
+    text_is(&rt, entry_text(alloc), "-01 -01 / ALS ALS ALS / 01")?;
+    text_is(
+        &rt,
+        both_joined(alloc),
+        "true false true false -01 -01 / ALS ALS ALS / 01",
+    )?;
     Ok(())
 }
 
@@ -232,8 +231,6 @@ const MISSING: Var = Var::Shared(1);
 const F: FieldId = FieldId(0);
 
 const E: Num = Num::Lit(7);
-
-const RETIRE: FuncId = FuncId(0);
 
 const PROTECT: FuncId = FuncId(1);
 
@@ -341,7 +338,7 @@ const CALLS: &[(Observer, Prim, &str)] = &[
     (
         HAZARD,
         Prim::Call {
-            func: RETIRE,
+            func: FuncId::RETIRE,
             arg: Arg::Var(P),
         },
         "-0123456 / S6 ALS0 / 0123456",
@@ -349,7 +346,7 @@ const CALLS: &[(Observer, Prim, &str)] = &[
     (
         HAZARD,
         Prim::Call {
-            func: RETIRE,
+            func: FuncId::RETIRE,
             arg: Arg::Var(Q),
         },
         "-0123456 / S26 S3 / 0123456",
@@ -357,7 +354,7 @@ const CALLS: &[(Observer, Prim, &str)] = &[
     (
         HAZARD,
         Prim::Call {
-            func: RETIRE,
+            func: FuncId::RETIRE,
             arg: Arg::Null,
         },
         "-0123456 / AS2 ALS0 / 0123456",
@@ -455,26 +452,31 @@ const CONDITIONS: &[(Prim, Option<TypeFault>)] = &[
     ),
     (
         Prim::Call {
-            func: RETIRE,
+            func: FuncId::RETIRE,
             arg: Arg::Var(S),
         },
         None,
     ),
     (
         Prim::Call {
-            func: RETIRE,
+            func: FuncId::RETIRE,
             arg: Arg::Var(P),
         },
         RETIRE_UNSAFE,
     ),
     (
         Prim::Call {
-            func: RETIRE,
+            func: FuncId::RETIRE,
             arg: Arg::Null,
         },
         None,
     ),
-    (Prim::Done { func: RETIRE }, None),
+    (
+        Prim::Done {
+            func: FuncId::RETIRE,
+        },
+        None,
+    ),
     (Prim::Active { p: Q }, None),
     (
         Prim::Ghost {

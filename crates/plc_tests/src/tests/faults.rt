@@ -22,12 +22,22 @@ const VERIFIED: &str = "# verify publish certificate: 0
 verified points 5 steps 4 obligations 0
 ";
 
+// Whether these words are one of the commands of a row.
+fn has_command(head: &str, words: &str) -> bool {
+    for command in head.split(", ") {
+        if command == words {
+            return true;
+        }
+    }
+    false
+}
+
 // The status and the text that are due to words.
 fn wanted(words: &str) -> &'static str {
     for rows in [CHECKED, VERIFIED, REPLAYED] {
         for row in rows.split("# ") {
             if let Some((head, answer)) = row.split_once(": ") {
-                if head == words {
+                if has_command(head, words) {
                     return answer;
                 }
             }

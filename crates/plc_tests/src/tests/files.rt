@@ -35,6 +35,8 @@ struct N { } op f() { loop { skip; } }
 struct N { } op f() { ptr n; active n; }
 # outline
 struct N { } outline { }
+# entered
+struct N { } shared T; op f() { } outline { over f: T == null; }
 # unknown-claim
 struct N { } op f() { ptr n; active m; }
 # unknown-outline

@@ -26,20 +26,17 @@ term 3 none class 3
 term 4 me class 4
 term 5 0 class 5
 term 6 retired.0(a:n) class 2
+# check entered, certify entered: 1
+unproved enter f clause 0
+term 0 null class 0
+term 1 s:T class 1
+term 2 yes class 2
+term 3 none class 3
+term 4 me class 4
+term 5 0 class 5
 # check outline: 0
 safe points 0 steps 0 locations 2 obligations 0
-# check outlined: 0
-at d W {u.idle u.held r.idle r.held r.kept}
-at d t S {u.held r.kept}
-at d s - {u.idle u.held r.idle r.held r.kept}
-at e W {u.idle u.held r.idle r.held r.kept}
-at e t S {u.held r.kept}
-at e s - {u.idle u.held r.idle r.held r.kept}
-at f W {u.idle u.held r.idle r.held r.kept}
-at f t S {u.held r.kept}
-at f s - {u.idle u.held r.idle r.held r.kept}
-safe points 37 steps 39 locations 7 obligations 2845
-# check hazards: 0
+# check outlined, check hazards: 0
 at d W {u.idle u.held r.idle r.held r.kept}
 at d t S {u.held r.kept}
 at d s - {u.idle u.held r.idle r.held r.kept}
