@@ -94,7 +94,7 @@ pub const HAZARDS: [&str; 9] = [
     OUTLINE,
 ];
 
-/// The same stack with epochs.
+/// The stack with epochs, whose outline holds.
 pub const EPOCHS: [&str; 9] = [
     NODES,
     EPOCH_OBSERVER,

@@ -1,5 +1,6 @@
-// What is asked of files that are judged. A file is owned and lent here alone: what a function has to show at each of
-// its ends while it owns one costs more than all else that a test says.
+// What is asked of files that are judged, and whether the answer is the one that is wanted. A file is owned and lent
+// here alone: what a function has to show at each of its ends while it owns one costs more than all else that a test
+// says.
 ghost use Rattle.std.specs.Prelude.{IfOk};
 ghost use Rattle.plc_flow.specs.WellFormed.{FlowFits};
 ghost use Rattle.plc_flow.specs.WellSorted.{FlowIsWellSorted};
