@@ -3,7 +3,8 @@ use Rattle.std.proofs.Common.{◌≡◌, ℕ, Bool, true, ◌==◌, List, [], Op
 use Rattle.std.proofs.lemmas.Bool.{cases_eq}
 use Rattle.plc_lang.specs.declared.syntax.Op.{Op}
 use Rattle.plc_flow.specs.declared.flow.Flow.{Flow}
-use Rattle.plc_mem.specs.State.{State, Place, at_shared, at_local, at_field, Locals, null_cell, at, value_at, is_used, with_locals, locals_or_none, locals_of, no_locals, starting, first_state, fresh_state, holds_pointer}
+use Rattle.plc_mem.specs.State.{State, Place, at_shared, at_local, at_field, Locals, null_cell, at, value_at, is_used, with_locals, locals_or_none, locals_of, no_locals, starting, first_state, fresh_state}
+use Rattle.plc_lang.specs.Fields.{is_pointer_field}
 use Rattle.plc_base.proofs.Tables.{get-replicate}
 use Rattle.plc_mem.proofs.Views.{gives, fresh_is_null, fresh_is_unused}
 use Rattle.plc_gc.specs.declared.slot.Slot.TheVariants.{Shared as in_shared, Local as in_local, Data as in_data}
@@ -65,7 +66,7 @@ fresh_value fields shared threads t x = ap (λ l. get_or (locals_or_none l).valu
 
 pub erased_first : (flow : Flow) (threads : ℕ) → IsErased no_trace (first_state flow threads) (gc_first_state flow threads)
 erased_first flow threads =
-    let fields = map holds_pointer flow.file.fields in
+    let fields = map is_pointer_field flow.file.fields in
     let k = first flow.file.fields (length flow.file.ghosts) (length flow.file.shared) threads in
     record {
       count = k.count;
@@ -78,7 +79,7 @@ erased_first flow threads =
     }
   where
     unused : {X : Type 0} (a : ℕ) → is_used (first_state flow threads) a ≡ true → X
-    unused a used = let e = fresh_is_unused (map holds_pointer flow.file.fields) (length flow.file.shared) threads a in cc
+    unused a used = let e = fresh_is_unused (map is_pointer_field flow.file.fields) (length flow.file.shared) threads a in cc
 
     nothing : (p : Place) → node_in (gc_first_state flow threads) [] p ≡ 0
     nothing (at_shared i) = (first flow.file.fields (length flow.file.ghosts) (length flow.file.shared) threads).values (in_shared i)

@@ -1,13 +1,11 @@
 // Where a busy thread stands, and the steps that leave there. Runs with a reclaimer and runs with a
 // garbage collector take the same steps, so both find them here.
 ghost use Rattle.std.specs.Prelude.{◌≡◌, slice_get};
-ghost use Rattle.std.specs.List.{list_any};
 ghost use Rattle.std.specs.Option.{option_copied};
-ghost use Rattle.plc_lang.specs.Allocation.{is_new};
 ghost use Rattle.plc_flow.specs.Points.{steps_from, names_rightly};
 
 use crate::flow::{Flow, Step};
-use plc_lang::{Prim, is_new};
+use plc_lang::has_new;
 
 /// The operation and the point of a thread.
 #[derive(Clone, Copy)]
@@ -30,13 +28,6 @@ pub fn nth_step(flow: &Flow, at: u16, nth: u16) -> Option<&Step>
         }
     }
     None
-}
-
-/// Whether one of these primitives allocates.
-fn has_new(prims: &[Prim]) -> bool
-    ensures { result ≡ list_any is_new prims.now }
-{
-    prims.iter().any(|p| is_new(p))
 }
 
 /// Whether an address is named exactly where the step has a `new`.

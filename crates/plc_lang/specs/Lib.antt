@@ -1,6 +1,7 @@
 -- what contracts of public calls say
 pub mod Allocation
 pub mod Comparison
+pub mod Fields
 pub mod Fit
 pub mod Labels
 pub mod Locals
@@ -11,7 +12,7 @@ pub mod Skeleton
 pub mod Statements
 pub mod Views
 pub mod WellSorted
--- words and lemmas that an impl of the code cites
+-- what an impl of the code cites
 pub mod Falls
 pub mod Postorder
 -- words of private functions alone

@@ -81,7 +81,7 @@ PrimitiveIn h (Done f) = Unit {0}
 PrimitiveIn h (Active p) = VarIn h p
 PrimitiveIn h (Ghost p g v) = VarIn h p
 
--- the same of each primitive
+-- all that several primitives name is there
 abbrev pub PrimitivesIn : Shape → List Primitive → Type 0
 PrimitivesIn h [] = Unit {0}
 PrimitivesIn h (k ∷ ks) = PrimitiveIn h k × PrimitivesIn h ks

@@ -10,7 +10,7 @@ mod names;
 mod numbering;
 mod syntax;
 
-pub use allocation::is_new;
+pub use allocation::{has_new, is_new};
 pub use block::Block;
 pub use comparison::compares;
 pub use labels::{labels_by_op, op_of_label};

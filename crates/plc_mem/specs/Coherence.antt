@@ -14,11 +14,11 @@ pub record CellCoherent (s : State) (c : Cell) : Type 0 where
   pub used : c.valid ≡ true → is_null c ≡ false → is_used s c.number ≡ true
   pub null : is_null c ≡ true → c.valid ≡ true
 
--- the same of each pointer local
+-- each pointer local is coherent
 abbrev pub LocalsCoherent : State → Locals → Type 0
 LocalsCoherent s l = (v : ℕ) → CellCoherent s (get_or l.pointers v null_cell)
 
--- the same of each place; an address that isn't used isn't retired; null is no used address
+-- each place is coherent; an address that isn't used isn't retired; null is no used address
 pub record IsCoherent (s : State) : Type 0 where
   pub cells : (p : Place) → CellCoherent s (at s p)
   pub unretired : (a : ℕ) → is_used s a ≡ false → is_retired s a ≡ false

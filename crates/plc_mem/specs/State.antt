@@ -8,7 +8,7 @@ use Rattle.plc_lang.specs.declared.syntax.Var.TheVariants.{Shared, Local}
 use Rattle.plc_lang.specs.declared.syntax.Num.{Num}
 use Rattle.plc_lang.specs.declared.syntax.Num.TheVariants.{Lit, Local as DataLocal}
 use Rattle.plc_lang.specs.declared.syntax.Op.{Op}
-use Rattle.plc_lang.specs.declared.syntax.Field.{Field}
+use Rattle.plc_lang.specs.Fields.{is_pointer_field}
 use Rattle.plc_lang.specs.Locals.{starting_pointers, starting_values}
 use Rattle.plc_flow.specs.declared.flow.Flow.{Flow}
 use Rattle.plc_flow.specs.declared.flow.Place.{Place as NamedPlace}
@@ -188,13 +188,9 @@ fresh_state fields shared threads = record {
   retired = [];
 }
 
--- the field is a pointer field
-abbrev pub holds_pointer : Field → Bool
-holds_pointer f = f.pointer
-
 -- the memory of a flow before its `init`
 abbrev pub first_state : Flow → ℕ → State
-first_state flow threads = fresh_state (map holds_pointer flow.file.fields) (length flow.file.shared) threads
+first_state flow threads = fresh_state (map is_pointer_field flow.file.fields) (length flow.file.shared) threads
 
 -- the locals with which a thread starts this operation
 abbrev pub starting : Op → List ℕ → Locals

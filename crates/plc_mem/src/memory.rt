@@ -3,9 +3,10 @@
 ghost use Rattle.std.specs.Prelude.{◌≡◌, ℕ, ◌<◌, ◌==◌, not, length, nat_lt, get_or, slice_set, filter, map, false};
 ghost use Rattle.std.specs.Prelude.{if◌then◌else◌, is_ok, IfOk, IfSome, Some, None};
 ghost use Rattle.plc_lang.specs.Shape.{VarIn};
+ghost use Rattle.plc_lang.specs.Fields.{is_pointer_field};
 ghost use Rattle.plc_mem.specs.State.{State, null_cell, at, put, at_field, place, field_value, put_field_value};
 ghost use Rattle.plc_mem.specs.State.{with_node, with_retired, with_locals, is_used, is_retired, freed, fresh_state};
-ghost use Rattle.plc_mem.specs.State.{first_state, holds_pointer, number_at, valid_at, place_of};
+ghost use Rattle.plc_mem.specs.State.{first_state, number_at, valid_at, place_of};
 ghost use Rattle.plc_mem.specs.Access.{cell_of};
 ghost use Rattle.plc_mem.specs.Primitives.{cell_at};
 ghost use Rattle.plc_mem.specs.Fit.{shape, Kept};
@@ -53,7 +54,7 @@ impl Model for Memory {
 
 /// Which of the fields are pointer fields.
 fn kinds(alloc: Global, fields: &[Field]) -> Result<Vec<bool>, NoMemory>
-    ensures { IfOk result (λ kinds. kinds.items ≡ map holds_pointer fields.now) }
+    ensures { IfOk result (λ kinds. kinds.items ≡ map is_pointer_field fields.now) }
 {
     let mut kinds = Vec::new(alloc);
     for f in fields {

@@ -9,7 +9,7 @@ use Rattle.plc_flow.specs.declared.flow.Flow.{Flow}
 use Rattle.plc_flow.specs.WellFormed.{most_step_primitives}
 use Rattle.plc_logic.specs.declared.clause.Outline.{Outline}
 use Rattle.plc_setting.specs.declared.obligations.Obligation.TheVariants.{Claim}
-use Rattle.plc_setting.specs.Fit.{HasFewParts}
+use Rattle.plc_oblig.specs.Finding.{HasFewParts}
 use Rattle.plc_oblig.specs.Obligations.{claims_in, step_id}
 
 pub claims_are : (k j : ℕ) (ps : List Primitive) → length (claims_in k j ps) ≡ count_by is_claim ps

@@ -22,7 +22,8 @@ use Rattle.plc_setting.specs.Parts.{acting_locals}
 use Rattle.plc_setting.specs.Setting.{variables_of, targets_of, pointer_fields_from}
 use Rattle.plc_symbolic.specs.Terms.{Clauses, null}
 use Rattle.plc_items.specs.Items.{values_from, field_values, one_of_values, start_clauses, enter_clauses, freshness, field_defaults_from, ghost_defaults_from, no_field_leads, if_fresh, is_other, beginning}
-use Rattle.plc_oblig.specs.Size.{is_pointer_field, has_values}
+use Rattle.plc_lang.specs.Fields.{is_pointer_field}
+use Rattle.plc_oblig.specs.Size.{has_values}
 
 -- ---- lists
 

@@ -31,7 +31,8 @@ use Rattle.plc_symbolic.specs.Numbering.{blank, listed_all, written_all}
 use Rattle.plc_symbolic.proofs.Drafts.{written_all-clauses, listed_all-clauses}
 use Rattle.plc_oblig.specs.GroundSets.{ground_set, listed_first}
 use Rattle.plc_oblig.specs.declared.size.Sizes.{Sizes}
-use Rattle.plc_oblig.specs.Size.{clause_size, is_pointer_field, is_pointer_load, AreSizesOf}
+use Rattle.plc_lang.specs.Fields.{is_pointer_field}
+use Rattle.plc_oblig.specs.Size.{clause_size, is_pointer_load, AreSizesOf}
 use Rattle.plc_oblig.proofs.Executed.{loads_length}
 use Rattle.plc_oblig.proofs.Lengths.{each_length, both, one_more, after_length, locals_length, fields_length}
 

@@ -6,7 +6,6 @@ use Rattle.plc_base.specs.declared.limits.What1.TheVariants as limits
 use Rattle.plc_base.specs.Functions.{is_retire}
 use Rattle.plc_lang.specs.declared.syntax.Arg.{Arg}
 use Rattle.plc_lang.specs.declared.syntax.Arg.TheVariants as args
-use Rattle.plc_lang.specs.declared.syntax.Field.{Field}
 use Rattle.plc_lang.specs.declared.syntax.Ghost.{Ghost as AuxiliaryField}
 use Rattle.plc_lang.specs.declared.syntax.Rel.{Rel}
 use Rattle.plc_lang.specs.declared.syntax.Rel.TheVariants as rels
@@ -18,10 +17,6 @@ use Rattle.plc_flow.specs.WellFormed.{most_step_primitives}
 use Rattle.plc_logic.specs.declared.clause.Clause.{Clause}
 use Rattle.plc_setting.specs.declared.setting.Setting.{Setting}
 use Rattle.plc_oblig.specs.declared.size.Sizes.{Sizes}
-
--- a field that holds nodes
-abbrev pub is_pointer_field : Field → Bool
-is_pointer_field f = f.pointer
 
 -- an auxiliary field that has values; the others hold threads
 abbrev pub has_values : AuxiliaryField → Bool

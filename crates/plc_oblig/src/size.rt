@@ -4,6 +4,7 @@ ghost use Rattle.std.specs.Prelude.{◌≡◌, ◌≤◌, ◌+◌, ◌*◌, cond
 ghost use Rattle.plc_base.specs.Limits.{most, most_bound};
 ghost use Rattle.plc_base.specs.declared.limits.What1.TheVariants as limits;
 ghost use Rattle.plc_lang.specs.Locals.{is_pointer, is_other_data};
+ghost use Rattle.plc_lang.specs.Fields.{is_pointer_field};
 ghost use Rattle.plc_lang.specs.Fit.{FileFits};
 ghost use Rattle.plc_flow.specs.WellFormed.{most_step_primitives};
 ghost use Rattle.plc_setting.specs.Fit.{Fits};
@@ -15,16 +16,16 @@ ghost use Rattle.plc_symbolic.specs.declared.symbolic.NodeTerm.{NodeTerm};
 ghost use Rattle.plc_items.specs.declared.execution.Execution.{Execution};
 ghost use Rattle.plc_items.specs.Items.{values_from, beginning, freshness, denied};
 ghost use Rattle.plc_oblig.specs.GroundSets.{ground_set};
-ghost use Rattle.plc_oblig.specs.Size.{has_values, is_pointer_field, is_pointer_load, prim_size, clause_size};
+ghost use Rattle.plc_oblig.specs.Size.{has_values, is_pointer_load, prim_size, clause_size};
 ghost use Rattle.plc_oblig.specs.Size.{AreSizesOf, AreFew, most_constants, most_pointers, most_deep_nodes, most_nodes};
 ghost use Rattle.plc_oblig.specs.Size.{most_of_primitive, most_instances};
 
 use plc_base::PointId;
 use plc_flow::Flow;
-use plc_lang::{Arg, Field, File, Ghost, Local, Prim, Rel};
+use plc_lang::{Arg, Field, File, Ghost, Local, Prim, Rel, has_new};
 use plc_logic::{Clause, Outline};
 use plc_setting::{
-    Obligation, acting_locals, acting_point, bound_of, claim_made, conclusion, executed, has_new,
+    Obligation, acting_locals, acting_point, bound_of, claim_made, conclusion, executed,
     invariants_before, owner_locals, owner_point, stands_at,
 };
 

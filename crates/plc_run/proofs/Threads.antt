@@ -4,6 +4,7 @@ use Rattle.std.proofs.lemmas.List.{length-map, length-replicate}
 use Rattle.plc_lang.specs.declared.syntax.Op.{Op}
 use Rattle.plc_lang.specs.Locals.{pointers_of, parameters_of, other_data_of}
 use Rattle.plc_lang.specs.Shape.{Shape, shape_of, init_shape, PrimitivesIn}
+use Rattle.plc_lang.specs.Fields.{is_pointer_field}
 use Rattle.plc_auto.specs.declared.observer.Observer.{Observer}
 use Rattle.plc_flow.specs.declared.flow.Step.{Step}
 use Rattle.plc_flow.specs.declared.flow.Gate.{Gate}
@@ -12,7 +13,7 @@ use Rattle.plc_flow.specs.declared.flow.Move.{Move}
 use Rattle.plc_flow.specs.declared.flow.Move.TheVariants.{Start, Step as Take, Return, Free}
 use Rattle.plc_flow.specs.WellFormed.{FlowFits, IsPointOf}
 use Rattle.plc_auto.specs.declared.event.Event.{Event}
-use Rattle.plc_mem.specs.State.{State, Locals, null_cell, holds_pointer, cut, cut_locals, freed, with_locals, first_state, no_locals, starting}
+use Rattle.plc_mem.specs.State.{State, Locals, null_cell, cut, cut_locals, freed, with_locals, first_state, no_locals, starting}
 use Rattle.plc_base.specs.Tables.{put_at}
 use Rattle.plc_mem.specs.Fit.{shape}
 use Rattle.plc_base.proofs.Tables.{get-put_same, get-map}
@@ -148,7 +149,7 @@ ready_held flow threads = get-put_same None (replicate threads None) 0 (Some no_
 
 ready_shape : (flow : Flow) (threads : ℕ) → shape (ready flow threads) no_locals ≡ init_shape flow.file
 unfolding with_locals ready
-ready_shape flow threads = (let a = length-replicate (length flow.file.shared) null_cell in let b = length-map flow.file.fields holds_pointer in cc)
+ready_shape flow threads = (let a = length-replicate (length flow.file.shared) null_cell in let b = length-map flow.file.fields is_pointer_field in cc)
 
 begun : (flow : Flow) (threads : ℕ) (s : State) (h : List Event) → 0 < threads → EndsKept 0 (ready flow threads) no_locals (Fine s h) → ConfigurationFits flow threads (record { state = with_locals s 0 None; history = h; points = replicate threads None })
 unfolding with_locals ready
@@ -156,7 +157,7 @@ begun flow threads s h some kept =
     let idle = idle_again threads no_locals s.locals some kept.1.table in
     record {
       shared = kept.1.shared ∙ length-replicate (length flow.file.shared) null_cell;
-      fields = ap length kept.1.fields ∙ length-map flow.file.fields holds_pointer;
+      fields = ap length kept.1.fields ∙ length-map flow.file.fields is_pointer_field;
       standing = all_idle flow (LocalsFit flow (with_locals s 0 None)) threads _ idle.0 idle.1;
     }
 

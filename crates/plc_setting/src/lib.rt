@@ -23,5 +23,5 @@ pub use parts::{
     invariants_before, owner_locals, owner_point,
 };
 pub use points::{clause_at, count_at, stands_at};
-pub use setting::{Setting, Variables, bound_of, has_new, local_symbol, setting_of};
+pub use setting::{Setting, Variables, bound_of, local_symbol, setting_of};
 pub use sorts::sort_of;

@@ -83,7 +83,7 @@ fn push_fields(
     Ok(())
 }
 
-/// These constants and, where the outline is deep, the pointer fields of all that are nodes.
+/// The constants and, where the outline is deep, the pointer fields of all that are nodes.
 pub fn nodes_of(
     alloc: Global,
     symbols: &[Symbol],

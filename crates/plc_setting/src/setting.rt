@@ -1,9 +1,7 @@
 // What every item of a ground set rests on: the variables of the threads, what is executed, and the nodes.
 ghost use Rattle.std.specs.Prelude.{◌≡◌, ◌≤◌, ◌==◌, true, false, length, map, IfOk, option_copied};
-ghost use Rattle.std.specs.List.{list_any};
 ghost use Rattle.plc_base.specs.Limits.{most};
 ghost use Rattle.plc_base.specs.declared.limits.What1.TheVariants as limits;
-ghost use Rattle.plc_lang.specs.Allocation.{is_new};
 ghost use Rattle.plc_lang.specs.Numbering.{places_from};
 ghost use Rattle.plc_flow.specs.WellFormed.{most_step_primitives};
 ghost use Rattle.plc_logic.specs.declared.clause.Outline.{Outline as AnOutline};
@@ -23,7 +21,7 @@ use crate::symbols::{push_all, push_pointer_loads, push_shared};
 use plc_base::{FieldId, Items, NoMemory};
 use plc_flow::Flow;
 use plc_ground::Symbol;
-use plc_lang::{Field, Local, Prim, is_new};
+use plc_lang::{Field, Local, Prim, has_new};
 use plc_logic::{Clause, Outline};
 use plc_symbolic::NodeTerm;
 use std::alloc::Global;
@@ -125,13 +123,6 @@ fn pointer_fields(alloc: Global, fields: &[Field]) -> Result<Items<FieldId>, NoM
         }
     }
     Ok(ids)
-}
-
-/// Whether a node is made.
-pub fn has_new(prims: &[Prim]) -> bool
-    ensures { result ≡ list_any is_new prims.now }
-{
-    prims.iter().any(|p| is_new(p))
 }
 
 /// How many names the conclusion has, if it is a clause.

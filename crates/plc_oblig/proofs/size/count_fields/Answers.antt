@@ -1,6 +1,6 @@
 use Rattle.std.proofs.Common.{count_by, ap, arith}
 use Rattle.std.proofs.lemmas.List.Sums.{count_by-le-length}
-use Rattle.plc_oblig.specs.Size.{is_pointer_field}
+use Rattle.plc_lang.specs.Fields.{is_pointer_field}
 use Rattle.plc_oblig.proofs.size.count_fields.Goals as goal
 
 pub returns-clause-few : goal.returns-clause-few
