@@ -1,9 +1,10 @@
 -- What the lowering promises of an answer makes it a flow that can be run.
-use Rattle.std.proofs.Common.{◌≤◌, Ok, sym, subst, arith}
+use Rattle.std.proofs.Common.{◌≤◌, Result, Ok, Err, IfOk, sym, subst, arith}
 use Rattle.plc_lang.specs.declared.syntax.File.{File}
 use Rattle.plc_lang.specs.Fit.{FileFits, NamesWhatIsThere}
 use Rattle.plc_lang.specs.WellSorted.{FileIsWellSorted}
 use Rattle.plc_flow.specs.declared.flow.Flow.{Flow}
+use Rattle.plc_flow.specs.declared.flow.FlowFault.{FlowFault}
 use Rattle.plc_flow.specs.Lowering.{made_of, flow_of, most_points, IsLowered}
 use Rattle.plc_flow.specs.WellFormed.{GatesFrom, IsWellFormed, FlowFits}
 use Rattle.plc_flow.specs.WellSorted.{FlowIsWellSorted, FlowsFit}
@@ -46,11 +47,15 @@ flow_is_sorted file sorted = record {
 pub all_flows_fit : FlowsFit
 all_flows_fit file fits named sorted few = record { fits = flow_fits file fits named few; sorted = flow_is_sorted file sorted }
 
-pub lowered_is_well_formed : (file : File) (flow : Flow) → FileFits file → IsLowered file (Ok flow) → IsWellFormed flow
-lowered_is_well_formed file flow fits l = subst IsWellFormed (sym l.0) (flow_is_well_formed file fits l.1)
+-- so it is with each answer of the lowering
+pub lowered_is_well_formed : (file : File) (r : Result Flow FlowFault) → FileFits file → IsLowered file r → IfOk r IsWellFormed
+lowered_is_well_formed file (Ok flow) fits l = subst IsWellFormed (sym l.0) (flow_is_well_formed file fits l.1)
+lowered_is_well_formed file (Err fault) fits l = tt
 
-pub lowered_fits : (file : File) (flow : Flow) → FileFits file → NamesWhatIsThere file → IsLowered file (Ok flow) → FlowFits flow
-lowered_fits file flow fits named l = subst FlowFits (sym l.0) (flow_fits file fits named l.1)
+pub lowered_fits : (file : File) (r : Result Flow FlowFault) → FileFits file → NamesWhatIsThere file → IsLowered file r → IfOk r FlowFits
+lowered_fits file (Ok flow) fits named l = subst FlowFits (sym l.0) (flow_fits file fits named l.1)
+lowered_fits file (Err fault) fits named l = tt
 
-pub lowered_is_sorted : (file : File) (flow : Flow) → FileIsWellSorted file → IsLowered file (Ok flow) → FlowIsWellSorted flow
-lowered_is_sorted file flow sorted l = subst FlowIsWellSorted (sym l.0) (flow_is_sorted file sorted)
+pub lowered_is_sorted : (file : File) (r : Result Flow FlowFault) → FileIsWellSorted file → IsLowered file r → IfOk r FlowIsWellSorted
+lowered_is_sorted file (Ok flow) sorted l = subst FlowIsWellSorted (sym l.0) (flow_is_sorted file sorted)
+lowered_is_sorted file (Err fault) sorted l = tt

@@ -3,7 +3,9 @@ use Rattle.std.specs.Prelude.{◌≡◌, ℕ, ◌+◌, ◌<◌, ◌≤◌, List}
 use Rattle.std.specs.Prelude.{[], ◌∷◌, ◌++◌, Option, Result, Ok, Err}
 use Rattle.plc_base.specs.declared.ids.PointId.{PointId}
 use Rattle.plc_lang.specs.declared.syntax.Primitive.{Primitive}
+use Rattle.plc_lang.specs.declared.syntax.File.{File}
 use Rattle.plc_flow.specs.declared.flow.Gate.{Gate}
+use Rattle.plc_flow.specs.declared.flow.Flow.{Flow}
 use Rattle.plc_flow.specs.declared.flow.FlowFault.{FlowFault}
 use Rattle.plc_flow.specs.declared.flow.FlowFault.TheVariants as faults
 use Rattle.plc_flow.specs.declared.builder.Builder.{Builder}
@@ -51,14 +53,20 @@ without_ends m = record { points = m.points; steps = m.steps; labels = m.labels;
 abbrev pub without_gates : MadeOps → Made
 without_gates m = record { points = m.points; steps = m.steps; labels = m.labels; last = 0 }
 
--- the same of blocks side by side, with their ends as the answer
+-- blocks side by side are made, with their ends as the answer
 abbrev pub MakesBranches : Builder → Builder → Result (List PointId) FlowFault → Branches → Type 0
 MakesBranches old new (Ok ends) m = Grown old new (without_ends m) × (ends ≡ m.ends)
 MakesBranches old new (Err (faults.TooManyPoints count)) m = Passes old m.points count
 MakesBranches old new (Err faults.Memory) m = Unit {0}
 
--- the same of all operations, with the gates as the answer
+-- all operations are made, with their gates as the answer
 abbrev pub MakesGates : Builder → Builder → Result (List Gate) FlowFault → MadeOps → Type 0
 MakesGates old new (Ok gates) m = Grown old new (without_gates m) × (gates ≡ m.gates)
 MakesGates old new (Err (faults.TooManyPoints count)) m = Passes old m.points count
 MakesGates old new (Err faults.Memory) m = Unit {0}
+
+-- the file with all that was made of it, or the fault that ended the making
+abbrev pub finished : File → Result (List Gate) FlowFault → Builder → Result Flow FlowFault
+finished file (Ok gates) out =
+    Ok (record { file = file; gates = gates; steps = out.steps; points = out.points; labels = out.labels })
+finished file (Err fault) out = Err fault

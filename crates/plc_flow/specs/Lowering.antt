@@ -30,7 +30,7 @@ pub record Made : Type 0 where
 abbrev pub Lowered : Type 0
 Lowered = Here → ℕ → ℕ → Made
 
--- the same of blocks side by side, with the end of each in place of one point
+-- what blocks side by side make, with the end of each in place of one point
 pub record Branches : Type 0 where
   pub points : ℕ
   pub steps : List Step

@@ -1,10 +1,10 @@
 // The operations of a file one after another, each with a run of points of its own, which begins
 // with its entry and its exit.
-ghost use Rattle.std.specs.Prelude.{◌≤◌, ◌+◌, IfOk};
+ghost use Rattle.std.specs.Prelude.{◌≡◌, ◌≤◌, ◌+◌, IfOk};
 ghost use Rattle.plc_lang.specs.Fit.{FileFits, NamesWhatIsThere};
 ghost use Rattle.plc_lang.specs.WellSorted.{FileIsWellSorted};
 ghost use Rattle.plc_flow.specs.Lowering.{IsLowered, most_points, op_made, ops_made};
-ghost use Rattle.plc_flow.specs.Builder.{Makes, MakesGates};
+ghost use Rattle.plc_flow.specs.Builder.{Makes, MakesGates, finished};
 ghost use Rattle.plc_flow.specs.WellFormed.{IsWellFormed, FlowFits};
 ghost use Rattle.plc_flow.specs.WellSorted.{FlowIsWellSorted};
 
@@ -54,6 +54,26 @@ fn lower_ops(alloc: Global, ops: &[Op], out: &mut Builder) -> Result<Items<Gate>
     Ok(gates)
 }
 
+/// The file with all that was made of it, or the fault that ended the making.
+fn finish(
+    file: File,
+    gates: Result<Items<Gate>, FlowFault>,
+    out: Builder,
+) -> Result<Flow, FlowFault>
+    ensures { result ≡ finished file gates out }
+{
+    match gates {
+        Ok(gates) => Ok(Flow {
+            file,
+            gates,
+            steps: out.steps,
+            points: out.points,
+            labels: out.labels,
+        }),
+        Err(fault) => Err(fault),
+    }
+}
+
 /// The control flow of a file: points and steps over the whole file in order of creation, for each
 /// operation its entry, its exit and the range of its points, and the labelled points in the order
 /// of the text. `TooManyPoints` comes exactly where the file makes more than 4,096 points.
@@ -68,12 +88,6 @@ pub fn lower(alloc: Global, file: File) -> Result<Flow, FlowFault>
         steps: Items::new(alloc),
         labels: Items::new(alloc),
     };
-    let gates = lower_ops(alloc, file.ops.as_slice(), &mut out)?;
-    Ok(Flow {
-        file,
-        gates,
-        steps: out.steps,
-        points: out.points,
-        labels: out.labels,
-    })
+    let gates = lower_ops(alloc, file.ops.as_slice(), &mut out);
+    finish(file, gates, out)
 }

@@ -1,27 +1,44 @@
-use Rattle.std.proofs.Common.{◌≡◌, List, ap, arith, rules}
+use Rattle.std.proofs.Common.{◌≡◌, [], List, Result, Ok, Err, arith}
+use Rattle.plc_base.specs.declared.ids.PointId.{PointId}
 use Rattle.plc_lang.specs.declared.syntax.File.{File}
+use Rattle.plc_lang.specs.declared.syntax.Op.{Op}
 use Rattle.plc_flow.specs.declared.builder.Builder.{Builder}
 use Rattle.plc_flow.specs.declared.flow.Flow.{Flow}
 use Rattle.plc_flow.specs.declared.flow.Gate.{Gate}
-use Rattle.plc_flow.specs.Lowering.{flow_of}
+use Rattle.plc_flow.specs.declared.flow.Step.{Step}
+use Rattle.plc_flow.specs.declared.flow.FlowFault.{FlowFault}
+use Rattle.plc_flow.specs.declared.flow.FlowFault.TheVariants as faults
+use Rattle.plc_flow.specs.Lowering.{made_of, ops_made, IsLowered}
+use Rattle.plc_flow.specs.Builder.{MakesGates, finished}
 use Rattle.plc_flow.proofs.Fitting.{lowered_is_well_formed, lowered_fits, lowered_is_sorted}
 use Rattle.plc_flow.proofs.lowering.lower.Goals as goal
 
--- the flow that is handed out
-abbrev flow_built : File → List Gate → Builder → Flow
-flow_built file gates out = record { file = file; gates = gates; steps = out.steps; points = out.points; labels = out.labels }
+-- where nothing was made before, what the operations make is the file's flow
+finished_is_lowered : (file : File) (gates : Result (List Gate) FlowFault) (steps : List Step) (labels : List PointId) (out : Builder) → steps ≡ [] → labels ≡ [] → MakesGates (record { points = 0; steps = steps; labels = labels }) out gates (made_of file) → IsLowered file (finished file gates out)
+finished_is_lowered file (Ok gates) steps labels out no_steps no_labels made =
+    let points : out.points ≡ (made_of file).points = omega (arith, made.0.points) in
+    let steps_made : out.steps ≡ (made_of file).steps = rw no_steps at made.0.steps in
+    let labels_made : out.labels ≡ (made_of file).labels = rw no_labels at made.0.labels in
+    let gates_made : gates ≡ (made_of file).gates = made.1 in
+    (cc, omega (arith, made.0.few, points))
+finished_is_lowered file (Err (faults.TooManyPoints count)) steps labels out no_steps no_labels made = (made.0, omega (arith, made.1))
+finished_is_lowered file (Err faults.Memory) steps labels out no_steps no_labels made = tt
+
+the_answer : (file : File) (ops : List Op) (gates : Result (List Gate) FlowFault) (steps : List Step) (labels : List PointId) (out : Builder) (r : Result Flow FlowFault) → ops ≡ file.ops → steps ≡ [] → labels ≡ [] → MakesGates (record { points = 0; steps = steps; labels = labels }) out gates (ops_made 0 ops 0) → r ≡ finished file gates out → IsLowered file r
+the_answer file ops gates steps labels out r all no_steps no_labels made is =
+    rw is (finished_is_lowered file gates steps labels out no_steps no_labels (rw all at made))
+
+lowered : (c : goal.After-finish) → IsLowered c.args.file c.finish.result
+lowered c = the_answer c.args.file c.as_slice.result.now c.lower_ops-gates.result c.new.result c.new-2.result c.lower_ops-gates.new.out c.finish.result c.as_slice.ensures c.new.ensures c.new-2.ensures c.lower_ops-gates.ensures c.finish.ensures
+
+pub returns-clause-lowered : goal.returns-clause-lowered
+returns-clause-lowered c = lowered c
 
 pub returns-clause-fits : goal.returns-clause-fits
-returns-clause-fits c fits =
-    let is : flow_built c.args.file c.in_ok-gates.gates c.lower_ops.new.out ≡ flow_of c.args.file = search rules in
-    lowered_is_well_formed c.args.file _ fits (is, omega (arith, c.in_ok-gates.ensures.0.few, ap (λ (f : Flow). f.points) is))
+returns-clause-fits c fits = lowered_is_well_formed c.args.file c.finish.result fits (lowered c)
 
 pub returns-clause-named : goal.returns-clause-named
-returns-clause-named c fits named =
-    let is : flow_built c.args.file c.in_ok-gates.gates c.lower_ops.new.out ≡ flow_of c.args.file = search rules in
-    lowered_fits c.args.file _ fits named (is, omega (arith, c.in_ok-gates.ensures.0.few, ap (λ (f : Flow). f.points) is))
+returns-clause-named c fits named = lowered_fits c.args.file c.finish.result fits named (lowered c)
 
 pub returns-clause-sorted : goal.returns-clause-sorted
-returns-clause-sorted c sorted =
-    let is : flow_built c.args.file c.in_ok-gates.gates c.lower_ops.new.out ≡ flow_of c.args.file = search rules in
-    lowered_is_sorted c.args.file _ sorted (is, omega (arith, c.in_ok-gates.ensures.0.few, ap (λ (f : Flow). f.points) is))
+returns-clause-sorted c sorted = lowered_is_sorted c.args.file c.finish.result sorted (lowered c)
