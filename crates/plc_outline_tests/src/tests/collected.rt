@@ -4,7 +4,7 @@ ghost use Rattle.plc_flow.specs.WellFormed.{FlowFits};
 ghost use Rattle.plc_flow.specs.WellSorted.{FlowIsWellSorted};
 ghost use Rattle.plc_gc.specs.Position.{IsOfRun};
 
-use crate::tests::loading::{Asked, answered};
+use crate::tests::loading::{Asked, answered, put, text_is};
 use plc_base::{FieldId, Items, NoMemory, OpId};
 use plc_check::Judged;
 use plc_flow::{Flow, Move, Place, StartFault};
@@ -85,7 +85,7 @@ fn places_text(alloc: Global, config: &GcConfig) -> Result<String, AllocError> {
     for row in PLACES {
         let (name, place) = *row;
         if let Some(node) = config.node(&place) {
-            text.push_str(format!(in alloc; " {name}={node}")?.as_str())?;
+            put(&mut text, format!(in alloc; " {name}={node}"))?;
         }
     }
     Ok(text)
@@ -202,7 +202,7 @@ fn answers(
     for line in lines.lines() {
         let (line, _) = line.split_once(" => ").unwrap_or((line, ""));
         let came = answer(alloc, judged, config, line)?;
-        text.push_str(format!(in alloc; "{line} => {came}\n")?.as_str())?;
+        put(&mut text, format!(in alloc; "{line} => {came}\n"))?;
     }
     Ok(text)
 }
@@ -309,21 +309,21 @@ invariants 0 1 2 => yyyyy
 
 #[test]
 fn runs_of_a_stack(rt: HostRuntime) -> Result<(), NoMemory> {
-    let text = ran(rt.alloc(), HAZARDS.concat(rt.alloc())?.as_str(), RUN)?;
-    assert_eq!(rt; text.as_str(), RUN);
-    Ok(())
+    let file = HAZARDS.concat(rt.alloc())?;
+    text_is(&rt, ran(rt.alloc(), file.as_str(), RUN), RUN)
 }
 
 // A blocked `init`, and one that writes an auxiliary field of null.
 #[test]
 fn runs_begin(rt: HostRuntime) -> Result<(), NoMemory> {
     let file = "struct N { ptr f; } shared T; init { T.f := null; }";
-    let text = ran(rt.alloc(), file, "places")?;
-    assert_eq!(rt; text.as_str(), "no start");
+    text_is(&rt, ran(rt.alloc(), file, "places"), "no start")?;
     let file =
         "struct N { ptr f; } shared T; ghost g { a, b }; init { ghost T.g := b; } outline { inv T.g == b; \
          inv T.g == a; }";
-    let text = ran(rt.alloc(), file, "places\ninvariants 0\n")?;
-    assert_eq!(rt; text.as_str(), "places =>  Top=0\ninvariants 0 => yn\n");
-    Ok(())
+    text_is(
+        &rt,
+        ran(rt.alloc(), file, "places\ninvariants 0\n"),
+        "places =>  Top=0\ninvariants 0 => yn\n",
+    )
 }

@@ -6,7 +6,7 @@ ghost use Rattle.plc_gc.specs.Position.{IsOfRun};
 ghost use Rattle.plc_run.specs.Position.{IsOfRun as IsOfMemoryRun};
 
 use crate::tests::collected::move_of;
-use crate::tests::loading::{Asked, answered};
+use crate::tests::loading::{Asked, answered, put, text_is};
 use plc_base::NoMemory;
 use plc_check::Judged;
 use plc_flow::Place;
@@ -30,7 +30,10 @@ fn places_text(alloc: Global, memory: &Memory, collected: &GcConfig) -> Result<S
         if let Some(number) = memory.number(&place) {
             let doubt = if memory.valid(&place) { "" } else { "?" };
             let node = collected.node(&place).unwrap_or(9);
-            text.push_str(format!(in alloc; " {name}={number}{doubt}/{node}")?.as_str())?;
+            put(
+                &mut text,
+                format!(in alloc; " {name}={number}{doubt}/{node}"),
+            )?;
         }
     }
     Ok(text)
@@ -80,7 +83,7 @@ fn answers(
     for line in lines.lines() {
         let line = line.split(" => ").next().unwrap_or("");
         let came = answer(alloc, judged, config, collected, line)?;
-        text.push_str(format!(in alloc; "{line} => {came}\n")?.as_str())?;
+        put(&mut text, format!(in alloc; "{line} => {came}\n"))?;
     }
     Ok(text)
 }
@@ -179,7 +182,5 @@ step 0 0 => Done Done
 
 #[test]
 fn a_used_address_has_its_last_node(rt: HostRuntime) -> Result<(), NoMemory> {
-    let text = ran(rt.alloc(), STACK, RUN)?;
-    assert_eq!(rt; text.as_str(), RUN);
-    Ok(())
+    text_is(&rt, ran(rt.alloc(), STACK, RUN), RUN)
 }

@@ -8,7 +8,7 @@ ghost use Rattle.plc_setting.specs.Fit.{Fits};
 
 use plc_base::{LARGEST_FILE, NoMemory};
 use plc_check::{Judged, load};
-use std::alloc::Global;
+use std::alloc::{AllocError, Global};
 use std::process::Abort;
 
 // A file with its flow and its outline.
@@ -54,6 +54,15 @@ pub(crate) fn answered<A: Asked>(
     question: &A,
 ) -> Result<String, NoMemory> {
     lent(alloc, loaded(alloc, text)?, question)
+}
+
+// Puts a piece at the end of a text. It takes the piece, so that who writes the text owns nothing beside it.
+pub(crate) fn put<E: Drop + From<AllocError>>(
+    text: &mut String,
+    piece: Result<String, E>,
+) -> Result<(), E> {
+    text.push_str(piece?.as_str())?;
+    Ok(())
 }
 
 // Fails a test where a text isn't the one that is wanted. A test hands its texts on, and owns none at its own ends.

@@ -4,7 +4,7 @@
 ghost use Rattle.plc_setting.specs.Fit.{Fits};
 
 use crate::tests::deep::DEEP;
-use crate::tests::loading::{Asked, answered, text_is};
+use crate::tests::loading::{Asked, answered, put, text_is};
 use plc_base::NoMemory;
 use plc_check::Judged;
 use plc_flow::Flow;
@@ -36,7 +36,7 @@ fn push_obligation(
         None => text.push_str(" none"),
         Some(o) => {
             text.push(' ')?;
-            text.push_str(obligation_text(alloc, o)?.as_str())
+            put(text, obligation_text(alloc, o))
         }
     }
 }

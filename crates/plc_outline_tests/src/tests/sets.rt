@@ -5,7 +5,7 @@ ghost use Rattle.plc_setting.specs.Fit.{Fits};
 
 use crate::tests::checksums::{OF_DEEP, OF_HAZARDS};
 use crate::tests::deep::DEEP;
-use crate::tests::loading::{Asked, answered, text_is};
+use crate::tests::loading::{Asked, answered, put, text_is};
 use crate::tests::whole_sets::{CLAIM, DEEP_START, ENTER, OTHER, OWN, START};
 use plc_base::{NoMemory, What1};
 use plc_check::Judged;
@@ -59,22 +59,22 @@ fn lit_text(alloc: Global, lit: Lit) -> Result<String, AllocError> {
 }
 
 // A part of a line, after a blank where it isn't the first.
-fn push_part(line: &mut String, part: &str) -> Result<(), AllocError> {
+fn push_part(line: &mut String, part: Result<String, AllocError>) -> Result<(), AllocError> {
     if !line.is_empty() {
         line.push(' ')?;
     }
-    line.push_str(part)
+    put(line, part)
 }
 
-fn push_line(text: &mut String, line: &str) -> Result<(), AllocError> {
-    text.push_str(line)?;
+fn push_line(text: &mut String, line: Result<String, AllocError>) -> Result<(), AllocError> {
+    put(text, line)?;
     text.push('\n')
 }
 
 fn terms_line(alloc: Global, terms: &[GroundTerm]) -> Result<String, AllocError> {
     let mut line = String::new(alloc);
     for term in terms {
-        push_part(&mut line, term_text(alloc, *term)?.as_str())?;
+        push_part(&mut line, term_text(alloc, *term))?;
     }
     Ok(line)
 }
@@ -82,7 +82,7 @@ fn terms_line(alloc: Global, terms: &[GroundTerm]) -> Result<String, AllocError>
 fn sorts_line(alloc: Global, sorts: &[Sort]) -> Result<String, AllocError> {
     let mut line = String::new(alloc);
     for sort in sorts {
-        push_part(&mut line, sort_text(alloc, *sort)?.as_str())?;
+        push_part(&mut line, sort_text(alloc, *sort))?;
     }
     Ok(line)
 }
@@ -90,7 +90,7 @@ fn sorts_line(alloc: Global, sorts: &[Sort]) -> Result<String, AllocError> {
 fn clause_line(alloc: Global, clause: &[Lit]) -> Result<String, AllocError> {
     let mut line = String::new(alloc);
     for lit in clause {
-        push_part(&mut line, lit_text(alloc, *lit)?.as_str())?;
+        push_part(&mut line, lit_text(alloc, *lit))?;
     }
     Ok(line)
 }
@@ -98,9 +98,9 @@ fn clause_line(alloc: Global, clause: &[Lit]) -> Result<String, AllocError> {
 fn set_text(alloc: Global, set: &GroundSet) -> Result<String, AllocError> {
     let mut text = terms_line(alloc, set.terms.as_slice())?;
     text.push('\n')?;
-    push_line(&mut text, sorts_line(alloc, set.sorts.as_slice())?.as_str())?;
+    push_line(&mut text, sorts_line(alloc, set.sorts.as_slice()))?;
     for clause in set.clauses.as_slice() {
-        push_line(&mut text, clause_line(alloc, clause.as_slice())?.as_str())?;
+        push_line(&mut text, clause_line(alloc, clause.as_slice()))?;
     }
     Ok(text)
 }

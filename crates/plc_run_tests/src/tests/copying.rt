@@ -2,12 +2,12 @@
 ghost use Rattle.plc_flow.specs.WellFormed.{FlowFits};
 
 use crate::tests::moves::{config_of, loaded, places_text};
-use crate::tests::texts::text_is;
+use crate::tests::texts::{put, text_is};
 use plc_base::NoMemory;
 use plc_check::Judged;
 use plc_flow::Flow;
 use plc_mem::{Locals, Memory};
-use std::alloc::Global;
+use std::alloc::{AllocError, Global};
 
 const LINKED: &str =
     "struct Node { ptr next; data val; } shared Top; op put() { ptr n; ptr s; atomic { n := new; n.next := n; \
@@ -16,26 +16,45 @@ const LINKED: &str =
 // Thread 0 has put the node 1 and retired it, and thread 1 holds it.
 const SHARED: &str = "start 0 0\nstep 0 0 1\nstart 1 1\nstep 1 0\nstep 0 0\n";
 
-// A copy of a memory, the copy after its node is freed, and the memory.
-fn copies_text(alloc: Global, memory: &Memory) -> Result<String, NoMemory> {
-    let mut copy = memory.copy()?;
-    let mut text = places_text(alloc, &copy)?;
+// Puts a piece on a line of its own at the end of a text.
+fn put_line<E: Drop + From<AllocError>>(
+    text: &mut String,
+    piece: Result<String, E>,
+) -> Result<(), E> {
+    text.push('\n')?;
+    put(text, piece)
+}
+
+// A copy, the copy after its node is freed, and the memory that was copied.
+fn both_text(alloc: Global, copy: &mut Memory, memory: &Memory) -> Result<String, AllocError> {
+    let mut text = places_text(alloc, copy)?;
     copy.free(1);
-    text.push('\n')?;
-    text.push_str(places_text(alloc, &copy)?.as_str())?;
-    text.push('\n')?;
-    text.push_str(places_text(alloc, memory)?.as_str())?;
+    put_line(&mut text, places_text(alloc, copy))?;
+    put_line(&mut text, places_text(alloc, memory))?;
     Ok(text)
 }
 
+fn copies_text(alloc: Global, memory: &Memory) -> Result<String, NoMemory> {
+    let mut copy = memory.copy()?;
+    let text = both_text(alloc, &mut copy, memory);
+    drop(copy);
+    Ok(text?)
+}
+
 // Whether the locals of thread 1 are taken at first, again, and of a thread past the last; and what is left.
+fn taken_text(alloc: Global, memory: &mut Memory) -> Result<String, AllocError> {
+    let first = memory.take(1).is_some();
+    let again = memory.take(1).is_some();
+    let past = memory.take(2).is_some();
+    let places = places_text(alloc, memory)?;
+    format!(in alloc; "{first} {again} {past} {places}")
+}
+
 fn takes_text(alloc: Global, memory: &Memory) -> Result<String, NoMemory> {
     let mut copy = memory.copy()?;
-    let first = copy.take(1).is_some();
-    let again = copy.take(1).is_some();
-    let past = copy.take(2).is_some();
-    let places = places_text(alloc, &copy)?;
-    Ok(format!(in alloc; "{first} {again} {past} {places}")?)
+    let text = taken_text(alloc, &mut copy);
+    drop(copy);
+    Ok(text?)
 }
 
 // A fresh memory in which thread 1 holds the locals, before or after the node is freed.
@@ -45,15 +64,16 @@ fn with_held(alloc: Global, flow: &Flow, locals: Locals, free: bool) -> Result<S
     if free {
         memory.free(1);
     }
-    Ok(places_text(alloc, &memory)?)
+    let places = places_text(alloc, &memory);
+    drop(memory);
+    Ok(places?)
 }
 
 // The locals of thread 1 where their node is freed, and a copy of them.
 fn locals_text(alloc: Global, flow: &Flow, locals: Locals) -> Result<String, NoMemory> {
     let copy = locals.copy()?;
     let mut text = with_held(alloc, flow, locals, true)?;
-    text.push('\n')?;
-    text.push_str(with_held(alloc, flow, copy, false)?.as_str())?;
+    put_line(&mut text, with_held(alloc, flow, copy, false))?;
     Ok(text)
 }
 
@@ -66,10 +86,8 @@ fn held_text(alloc: Global, flow: &Flow, memory: &Memory) -> Result<String, NoMe
 
 fn all_copies(alloc: Global, flow: &Flow, memory: &Memory) -> Result<String, NoMemory> {
     let mut text = copies_text(alloc, memory)?;
-    text.push('\n')?;
-    text.push_str(takes_text(alloc, memory)?.as_str())?;
-    text.push('\n')?;
-    text.push_str(held_text(alloc, flow, memory)?.as_str())?;
+    put_line(&mut text, takes_text(alloc, memory))?;
+    put_line(&mut text, held_text(alloc, flow, memory))?;
     Ok(text)
 }
 

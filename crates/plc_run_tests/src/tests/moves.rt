@@ -4,7 +4,7 @@ ghost use Rattle.plc_lang.specs.Fit.{FileFits};
 ghost use Rattle.plc_flow.specs.WellFormed.{FlowFits};
 ghost use Rattle.plc_run.specs.Position.{IsOfRun};
 
-use crate::tests::texts::text_is;
+use crate::tests::texts::{put, text_is};
 use plc_auto::{Event, Observer};
 use plc_base::{FieldId, Items, LARGEST_FILE, NoMemory, OpId};
 use plc_check::{Judged, load};
@@ -111,28 +111,32 @@ pub(crate) fn places_text(alloc: Global, memory: &Memory) -> Result<String, Allo
         let (name, place) = *row;
         if let Some(number) = memory.number(&place) {
             let doubt = if memory.valid(&place) { "" } else { "?" };
-            text.push_str(format!(in alloc; "{name}={number}{doubt} ")?.as_str())?;
+            put(&mut text, format!(in alloc; "{name}={number}{doubt} "))?;
         }
     }
     for address in [1, 2, 3] {
         if memory.used(address) {
-            text.push_str(format!(in alloc; "used {address} ")?.as_str())?;
+            put(&mut text, format!(in alloc; "used {address} "))?;
         }
         if memory.retired(address) {
-            text.push_str(format!(in alloc; "retired {address} ")?.as_str())?;
+            put(&mut text, format!(in alloc; "retired {address} "))?;
         }
     }
     Ok(text)
 }
 
+fn answer_text(alloc: Global, answer: &Moved) -> Result<String, AllocError> {
+    match answer {
+        Moved::Race { kind, prim } => format!(in alloc; "{kind:?} {prim}"),
+        other => format!(in alloc; "{other:?}"),
+    }
+}
+
 // An answer, and the events by which the history grew.
 fn moved_text(alloc: Global, answer: &Moved, events: &[Event]) -> Result<String, AllocError> {
-    let mut text = match answer {
-        Moved::Race { kind, prim } => format!(in alloc; "{kind:?} {prim}")?,
-        other => format!(in alloc; "{other:?}")?,
-    };
+    let mut text = answer_text(alloc, answer)?;
     for event in events {
-        text.push_str(event_text(alloc, event)?.as_str())?;
+        put(&mut text, event_text(alloc, event))?;
     }
     Ok(text)
 }
@@ -175,7 +179,7 @@ fn take_moves(
     for line in moves.lines() {
         let (line, _) = line.split_once(" => ").unwrap_or((line, ""));
         let answer = take_move(alloc, flow, observer, config, line)?;
-        text.push_str(format!(in alloc; "{line} => {answer}\n")?.as_str())?;
+        put(&mut text, format!(in alloc; "{line} => {answer}\n"))?;
     }
     Ok(text)
 }

@@ -2,7 +2,7 @@
 ghost use Rattle.std.specs.Prelude.{◌<◌};
 ghost use Rattle.plc_auto.specs.Table.{count_of};
 
-use crate::tests::texts::text_is;
+use crate::tests::texts::{put, row_is, text_is};
 use plc_auto::{EvKind, Observer};
 use plc_base::{FuncId, LocId, Mask};
 use std::alloc::{AllocError, Global};
@@ -231,11 +231,7 @@ fn closures_hold_what_happens_meanwhile(rt: HostRuntime) -> Result<(), AllocErro
         (EPOCH, "4", "4 14 "),
     ] {
         let (observer, set, want) = *row;
-        assert_eq!(rt;
-            closures_text(alloc, &observer, set)?.as_str(),
-            want,
-            "{set}"
-        );
+        row_is(&rt, set, closures_text(alloc, &observer, set), want)?;
     }
     Ok(())
 }
@@ -264,7 +260,7 @@ fn masks_text(alloc: Global, first: &Mask, second: &Mask) -> Result<String, Allo
     let bits = first.bits();
     let count = first.count();
     let within = first.within(second);
-    text.push_str(format!(in alloc; "{bits} {count} {within}")?.as_str())?;
+    put(&mut text, format!(in alloc; "{bits} {count} {within}"))?;
     Ok(text)
 }
 

@@ -1,8 +1,9 @@
 // What each primitive comes to and what it leaves, by the written table, where the shared pointer is null, valid,
 // and invalid.
 use crate::tests::moves::ran;
+use crate::tests::texts::{put, row_is, text_is};
 use plc_base::NoMemory;
-use std::alloc::Global;
+use std::alloc::{AllocError, Global};
 
 // A statement as the one step of operation 2, whose parameters are 3 and 5. A `new` of it takes the address 1.
 fn statement_text(alloc: Global, statement: &str, before: &str) -> Result<String, NoMemory> {
@@ -199,7 +200,7 @@ fn outcomes(alloc: Global, section: &str) -> Result<String, NoMemory> {
     let (statement, _) = section.split_once("\n").unwrap_or((section, ""));
     let mut text = format!(in alloc; "{statement}\n")?;
     for before in ["", VALID, INVALID] {
-        text.push_str(outcome(alloc, statement, before)?.as_str())?;
+        put(&mut text, outcome(alloc, statement, before))?;
         text.push('\n')?;
     }
     Ok(text)
@@ -214,22 +215,26 @@ fn returns(alloc: Global, statement: &str) -> Result<String, NoMemory> {
     let mut text = String::new(alloc);
     for before in ["", VALID, INVALID] {
         let before = format!(in alloc; "{before}start 0 2\nstep 0 0\n")?;
-        text.push_str(ran(alloc, file.as_str(), before.as_str(), "step 0 0")?.as_str())?;
+        put(
+            &mut text,
+            ran(alloc, file.as_str(), before.as_str(), "step 0 0"),
+        )?;
     }
     Ok(text)
+}
+
+// What the returns are to be: the same in each state.
+fn returns_of(alloc: Global, call: u32) -> Result<String, AllocError> {
+    let line = format!(in alloc; "step 0 0 => Done, 0 is back from {call}\n")?;
+    format!(in alloc; "{line}{line}{line}")
 }
 
 #[test]
 fn calls_return(rt: HostRuntime) -> Result<(), NoMemory> {
     let alloc = rt.alloc();
     for (statement, call) in [("protect(Top);", 1), ("protect(null);", 1), ("enter();", 2)] {
-        let want = format!(in alloc; "step 0 0 => Done, 0 is back from {call}\n")?;
-        let want = format!(in alloc; "{want}{want}{want}")?;
-        assert_eq!(rt;
-            returns(alloc, statement)?.as_str(),
-            want.as_str(),
-            "{statement}"
-        );
+        let want = returns_of(alloc, call)?;
+        row_is(&rt, statement, returns(alloc, statement), want.as_str())?;
     }
     Ok(())
 }
@@ -237,7 +242,7 @@ fn calls_return(rt: HostRuntime) -> Result<(), NoMemory> {
 #[test]
 fn primitives_have_their_outcomes(rt: HostRuntime) -> Result<(), NoMemory> {
     for section in OUTCOMES.split("# ") {
-        assert_eq!(rt; outcomes(rt.alloc(), section)?.as_str(), section);
+        text_is(&rt, outcomes(rt.alloc(), section), section)?;
     }
     Ok(())
 }
@@ -346,8 +351,12 @@ fn effects_are_seen(rt: HostRuntime) -> Result<(), NoMemory> {
         for row in rows.split("# ") {
             if !row.is_empty() {
                 let (statement, want) = row.split_once("\n").unwrap_or((row, "?"));
-                let have = statement_text(rt.alloc(), statement, before)?;
-                assert_eq!(rt; have.as_str(), want, "{statement}");
+                row_is(
+                    &rt,
+                    statement,
+                    statement_text(rt.alloc(), statement, before),
+                    want,
+                )?;
             }
         }
     }

@@ -3,7 +3,7 @@ ghost use Rattle.std.specs.Prelude.{drop, slice_get, codes, OnOk};
 ghost use Rattle.plc_reclaim.specs.Rows.{ActsAs, list_row};
 
 use crate::tests::moves::{number, numbers};
-use crate::tests::texts::text_is;
+use crate::tests::texts::{put, text_is};
 use plc_auto::Event;
 use plc_base::{FuncId, NoMemory};
 use plc_reclaim::{ByList, Leak, Reclaimer, Scheme};
@@ -80,7 +80,7 @@ fn picks(
         reclaimer.event(event_of(word))?;
         for _again in 0..2 {
             let address = reclaimer.pick().unwrap_or(0);
-            text.push_str(format!(in alloc; " {address}")?.as_str())?;
+            put(&mut text, format!(in alloc; " {address}"))?;
         }
     }
     Ok(text)

@@ -1,5 +1,5 @@
 // Schedules with their entries, or the first line that is none.
-use crate::tests::texts::{row_is, text_is};
+use crate::tests::texts::{put, row_is, text_is};
 use plc_base::LARGEST_SCHEDULE;
 use plc_sched::{Entry, SchedFault, Schedule, read_schedule};
 use std::alloc::{AllocError, Global};
@@ -11,7 +11,7 @@ fn entry_text(alloc: Global, entry: &Entry) -> Result<String, AllocError> {
             let op = str::from_utf8(op.as_slice()).unwrap_or("?");
             let mut text = format!(in alloc; "start {t} {op}")?;
             for arg in args.as_slice() {
-                text.push_str(format!(in alloc; " {arg}")?.as_str())?;
+                put(&mut text, format!(in alloc; " {arg}"))?;
             }
             Ok(text)
         }
@@ -30,7 +30,7 @@ fn schedule_text(alloc: Global, schedule: &Schedule) -> Result<String, AllocErro
     let threads = schedule.threads;
     let mut all = format!(in alloc; "threads {threads}\n")?;
     for entry in schedule.entries.as_slice() {
-        all.push_str(entry_text(alloc, entry)?.as_str())?;
+        put(&mut all, entry_text(alloc, entry))?;
         all.push('\n')?;
     }
     Ok(all)

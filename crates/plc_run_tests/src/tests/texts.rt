@@ -1,5 +1,15 @@
 // Texts that are wanted. A test hands its texts on, and owns none at its own ends.
+use std::alloc::AllocError;
 use std::process::Abort;
+
+// Puts a piece at the end of a text. It takes the piece, so that who writes the text owns nothing beside it.
+pub(crate) fn put<E: Drop + From<AllocError>>(
+    text: &mut String,
+    piece: Result<String, E>,
+) -> Result<(), E> {
+    text.push_str(piece?.as_str())?;
+    Ok(())
+}
 
 // Fails a test where a text isn't the one that is wanted.
 pub(crate) fn text_is<E: Drop>(

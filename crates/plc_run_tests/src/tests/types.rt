@@ -4,7 +4,7 @@ ghost use Rattle.std.specs.Prelude.{IfOk};
 ghost use Rattle.plc_xfer.specs.Rules.{FitsObserver};
 
 use crate::tests::observers::{push_set, set_of};
-use crate::tests::texts::text_is;
+use crate::tests::texts::{row_is, text_is};
 use plc_auto::Observer;
 use plc_base::{FieldId, FuncId, Items, Mask, NoMemory};
 use plc_lang::{Arg, GhostVal, Num, Prim, Rel, Var};
@@ -124,8 +124,12 @@ fn types_are_ordered(rt: HostRuntime) -> Result<(), AllocError> {
     for row in JOINS.lines() {
         let (types, want) = row.split_once(" => ").unwrap_or((row, "?"));
         let (a, b) = types.split_once(" ").unwrap_or((types, ""));
-        let have = join_text(rt.alloc(), &type_of(a), &type_of(b))?;
-        assert_eq!(rt; have.as_str(), want, "{types}");
+        row_is(
+            &rt,
+            types,
+            join_text(rt.alloc(), &type_of(a), &type_of(b)),
+            want,
+        )?;
     }
     Ok(())
 }
@@ -525,8 +529,12 @@ fn interference_leaves_what_no_other_thread_takes(rt: HostRuntime) -> Result<(),
         ("-2", HAZARD, "-0123456 / -26 ALS / 0123456"),
     ] {
         let (before, observer, after) = *row;
-        let have = interfered(rt.alloc(), &observer, before)?;
-        assert_eq!(rt; have.as_str(), after, "{before}");
+        row_is(
+            &rt,
+            before,
+            interfered(rt.alloc(), &observer, before),
+            after,
+        )?;
     }
     Ok(())
 }
