@@ -1,5 +1,5 @@
 -- what contracts of public calls say
 pub mod Sizes
 pub mod Views
--- what contracts say for the crates above alone, beside what a reader must believe
+-- what only the crates above cite
 pub mod Forms

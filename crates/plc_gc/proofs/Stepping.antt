@@ -15,8 +15,8 @@ use Rattle.plc_gc.specs.State.{GcState, Locals, first_state, no_locals, with_loc
 use Rattle.plc_gc.specs.Run.{GcConfiguration, point_of, turn, Moves, GcRun, begin, more, beginning, initialised, first_configuration}
 use Rattle.plc_gc.specs.Fit.{IsReady}
 use Rattle.plc_gc.specs.Threads.{GcConfigurationFits}
-use Rattle.plc_gc.specs.Reach.{start_from, step_from, return_from, reach, reached}
-use Rattle.plc_gc.specs.Position.{threads_of, IsOfRun, Answers, answer}
+use Rattle.plc_gc.specs.Reach.{start_from, step_from, return_from, reach, reached, answer}
+use Rattle.plc_gc.specs.Position.{threads_of, IsOfRun, Answers}
 use Rattle.plc_base.proofs.Tables.{length_put}
 use Rattle.plc_threads.proofs.Moves.{Takes}
 use Rattle.plc_gc.proofs.Ranges.{ranged_run, ranged_given, ranged_first}

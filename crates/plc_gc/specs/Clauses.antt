@@ -24,7 +24,7 @@ declared_value g t ls i None = 0
 declared_value g t ls i (Some l) =
     if l.pointer then value g (in_local t (pointer_number ls i)) else value g (in_data t (data_number ls i))
 
--- the same of the thread for which a clause is asked
+-- the value of a local of the thread for which a clause is asked, 0 where there is no thread
 abbrev pub local_value : GcState → Option ℕ → ℕ → ℕ
 local_value g None i = 0
 local_value g (Some t) i = declared_value g t (locals_of g t).declared i (slice_get (locals_of g t).declared i)

@@ -67,7 +67,7 @@ WriteIn ghosts k = Unit {0}
 abbrev pub FrameHas : Frame → Primitive → Type 0
 FrameHas fr k = PrimitiveIn fr.shape k × WriteIn fr.ghosts k
 
--- the same of each primitive
+-- all that several primitives name is there
 abbrev pub FrameHasAll : Frame → List Primitive → Type 0
 FrameHasAll fr [] = Unit {0}
 FrameHasAll fr (k ∷ ks) = FrameHas fr k × FrameHasAll fr ks

@@ -1,5 +1,5 @@
 -- What the answers of a configuration in code say.
-use Rattle.std.specs.Prelude.{◌≡◌, ℕ, List, length, Option, Some, None, Result, Ok, Err}
+use Rattle.std.specs.Prelude.{◌≡◌, ℕ, List, length, Some, None, Result, Ok, Err}
 use Rattle.plc_flow.specs.declared.flow.Flow.{Flow}
 use Rattle.plc_flow.specs.declared.flow.Move.{Move}
 use Rattle.plc_flow.specs.declared.flow.StartFault.{StartFault}
@@ -26,8 +26,3 @@ Starts flow threads (Err faults.Memory) = Unit {0}
 abbrev pub Answers : Flow → GcConfiguration → Move → GcMoved → GcConfiguration → Type 0
 Answers flow c move moved.Done d = Moves flow (threads_of c) c move d
 Answers flow c move moved.Blocked d = ((e : GcConfiguration) → Moves flow (threads_of c) c move e → ⊥) × (d ≡ c)
-
--- the answer by what the move leads to
-abbrev pub answer : Option GcConfiguration → GcMoved
-answer (Some d) = moved.Done
-answer None = moved.Blocked

@@ -9,6 +9,8 @@ use Rattle.plc_flow.specs.declared.flow.Move.{Move}
 use Rattle.plc_flow.specs.declared.flow.Move.TheVariants.{Start, Step as Take, Return, Free}
 use Rattle.plc_flow.specs.declared.points.Point.{Point}
 use Rattle.plc_threads.specs.Standing.{begun, step_of, at_exit}
+use Rattle.plc_gc.specs.declared.config.GcMoved.{GcMoved}
+use Rattle.plc_gc.specs.declared.config.GcMoved.TheVariants as moved
 use Rattle.plc_gc.specs.State.{GcState, with_locals, starting}
 use Rattle.plc_gc.specs.Run.{GcConfiguration, first_configuration, execute, point_of}
 
@@ -59,3 +61,8 @@ Begins flow threads c = first_configuration flow threads ≡ c
 abbrev pub reached : Option GcConfiguration → GcConfiguration → GcConfiguration
 reached (Some d) c = d
 reached None c = c
+
+-- the answer by what the move leads to
+abbrev pub answer : Option GcConfiguration → GcMoved
+answer (Some d) = moved.Done
+answer None = moved.Blocked

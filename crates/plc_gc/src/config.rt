@@ -10,8 +10,8 @@ ghost use Rattle.plc_gc.specs.State.{node_of};
 ghost use Rattle.plc_gc.specs.Run.{MayTake, point_of, execute, beginning};
 ghost use Rattle.plc_gc.specs.Claims.{claims};
 ghost use Rattle.plc_gc.specs.Fit.{IsReady};
-ghost use Rattle.plc_gc.specs.Reach.{start_from, step_from, ended_as, return_from, reach, Begins, reached};
-ghost use Rattle.plc_gc.specs.Position.{threads_of, IsOfRun, Starts, Answers, answer};
+ghost use Rattle.plc_gc.specs.Reach.{start_from, step_from, ended_as, return_from, reach, Begins, reached, answer};
+ghost use Rattle.plc_gc.specs.Position.{threads_of, IsOfRun, Starts, Answers};
 
 use crate::execute::{claims, try_init, try_step};
 use crate::locals::Locals;

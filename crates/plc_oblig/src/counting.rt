@@ -5,7 +5,8 @@ ghost use Rattle.plc_base.specs.declared.limits.What1.TheVariants as limits;
 ghost use Rattle.plc_flow.specs.WellFormed.{most_step_primitives};
 ghost use Rattle.plc_setting.specs.Setting.{below};
 ghost use Rattle.plc_oblig.specs.Obligations.{enters, owns, parts_from, others_at, claims, obligations};
-ghost use Rattle.plc_setting.specs.Fit.{HasFewParts, Fits};
+ghost use Rattle.plc_oblig.specs.Finding.{HasFewParts};
+ghost use Rattle.plc_setting.specs.Fit.{Fits};
 
 use crate::claims::count_claims;
 use plc_flow::Flow;

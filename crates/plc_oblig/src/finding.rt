@@ -5,8 +5,8 @@ ghost use Rattle.plc_flow.specs.WellFormed.{most_step_primitives};
 ghost use Rattle.plc_setting.specs.Setting.{below};
 ghost use Rattle.plc_oblig.specs.Obligations.{starts, enters, owns, parts_from, others_at, others, claims_in};
 ghost use Rattle.plc_oblig.specs.Obligations.{claims, obligations};
-ghost use Rattle.plc_setting.specs.Fit.{HasFewParts, Fits};
-ghost use Rattle.plc_oblig.specs.Finding.{IsFoundIn};
+ghost use Rattle.plc_setting.specs.Fit.{Fits};
+ghost use Rattle.plc_oblig.specs.Finding.{HasFewParts, IsFoundIn};
 
 use crate::claims::is_claim;
 use crate::counting::count_points;

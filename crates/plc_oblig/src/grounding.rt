@@ -125,7 +125,7 @@ pub struct Grounding {
 }
 
 impl Grounding {
-    /// It takes no memory yet.
+    /// A working memory that holds nothing and takes no memory yet.
     pub fn new(alloc: Global) -> Grounding {
         Grounding {
             alloc,

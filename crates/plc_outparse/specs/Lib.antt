@@ -5,7 +5,7 @@ pub mod Meaning
 pub mod Outlines
 pub mod Answers
 pub mod Fit
--- what contracts say for the crates above alone, beside what a reader must believe
+-- what only the crates above cite
 pub mod Forms
 pub mod Reading
 pub mod Views

@@ -4,5 +4,5 @@ pub mod Primitives
 pub mod Answers
 pub mod Limits
 pub mod Views
--- what contracts say for the crates above alone, beside what a reader must believe
+-- what only the crates above cite
 pub mod Read

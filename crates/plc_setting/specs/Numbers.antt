@@ -12,6 +12,6 @@ pub record NumbersFit (flow : Flow) (outline : Outline) : Type 0 where
   pub same : (n : ℕ) → list_any (λ k. k == n) (numbers_of flow outline)
       ≡ list_any (λ k. k == n) (all_numbers flow outline)
 
--- the same of every flow and outline
+-- the numbers of every flow and outline fit
 abbrev pub AllNumbersFit : Type 0
 AllNumbersFit = (flow : Flow) (outline : Outline) → NumbersFit flow outline

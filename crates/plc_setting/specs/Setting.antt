@@ -87,7 +87,7 @@ abbrev pub node_constants : List Symbol → Bool → ℕ → List Symbol → Lis
 node_constants pointers makes bound loads =
     symbols.Null ∷ (pointers ++ (if_made makes ++ (map symbols.Bound (below bound) ++ loads)))
 
--- the same without null and `new`
+-- the constants that are nodes, without null and `new`
 abbrev pub plain_constants : List Symbol → ℕ → List Symbol → List Symbol
 plain_constants pointers bound loads = pointers ++ (map symbols.Bound (below bound) ++ loads)
 

@@ -50,7 +50,7 @@ pub record NodesFit (flow : Flow) (o : Obligation) (s : Setting) : Type 0 where
   pub instances : All (λ n. sort_of flow o s.acts (term_of n) ≡ sorts.Node) s.instances
   pub fields : All (λ f. map_sort flow.file (maps.Field f) ≡ sorts.Node) s.fields
 
--- the same of every flow, outline and obligation
+-- the acts, and the setting, of every flow, outline and obligation are well-sorted
 abbrev pub AllActsFit : Type 0
 AllActsFit = (flow : Flow) (outline : Outline) (o : Obligation) → Fits flow outline → ActsFit flow outline o
 

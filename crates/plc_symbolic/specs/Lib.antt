@@ -7,5 +7,5 @@ pub mod Tidy
 pub mod Drafts
 -- words of private functions alone
 pub mod Growth
--- lemmas that an impl of the code cites
+-- what an impl of the code cites
 pub mod Equality

@@ -4,7 +4,7 @@ pub mod Faults
 pub mod Nesting
 pub mod Syntax
 pub mod Trees
--- what contracts say for the crates above alone, beside what a reader must believe
+-- what only the crates above cite
 pub mod Machine
 pub mod Table
 -- words of private functions alone

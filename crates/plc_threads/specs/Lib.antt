@@ -1,4 +1,4 @@
 -- what contracts of public calls say
 pub mod Standing
--- what contracts say for the crates above alone, beside what a reader must believe
+-- what only the crates above cite
 pub mod Fit

@@ -1,7 +1,6 @@
 use Rattle.std.proofs.Common.{◌≡◌, IfOk, OnOk, Option, subst, sym, ap, ◌∙◌}
 use Rattle.plc_gc.specs.Run.{GcConfiguration}
-use Rattle.plc_gc.specs.Reach.{reach, start_from, reached}
-use Rattle.plc_gc.specs.Position.{answer}
+use Rattle.plc_gc.specs.Reach.{reach, start_from, reached, answer}
 use Rattle.plc_gc.proofs.Stepping.{reach_start, reach_take, reach_return, reach_free}
 use Rattle.plc_gc.proofs.config.GcConfig.advance.Goals as goal
 
