@@ -64,7 +64,7 @@ hazard_names =
     codes "u.idle" ∷ codes "u.pend" ∷ codes "u.held"
     ∷ codes "r.idle" ∷ codes "r.pend" ∷ codes "r.held" ∷ codes "r.kept" ∷ []
 
--- the same of epoch
+-- the names of the locations of epoch
 abbrev pub epoch_names : List (List ℕ)
 epoch_names =
     codes "u.out" ∷ codes "u.coming" ∷ codes "u.in"

@@ -46,7 +46,7 @@ const EPOCH_NAMES: [&[u8]; 7] = [
     b"r.kept",
 ];
 
-/// names of `plain`
+/// The name of a location of `plain`.
 pub fn plain_name(at: LocId) -> &'static [u8]
     requires { at.0 < length plain_names }
     ensures { result.now ≡ get_or plain_names at.0 [] }
@@ -54,7 +54,7 @@ pub fn plain_name(at: LocId) -> &'static [u8]
     PLAIN_NAMES[at.0 as usize]
 }
 
-/// names of `hazard(f)`
+/// The name of a location of `hazard(f)`.
 pub fn hazard_name(at: LocId) -> &'static [u8]
     requires { at.0 < length hazard_names }
     ensures { result.now ≡ get_or hazard_names at.0 [] }
@@ -62,7 +62,7 @@ pub fn hazard_name(at: LocId) -> &'static [u8]
     HAZARD_NAMES[at.0 as usize]
 }
 
-/// names of `epoch(e, l)`
+/// The name of a location of `epoch(e, l)`.
 pub fn epoch_name(at: LocId) -> &'static [u8]
     requires { at.0 < length epoch_names }
     ensures { result.now ≡ get_or epoch_names at.0 [] }
@@ -70,7 +70,7 @@ pub fn epoch_name(at: LocId) -> &'static [u8]
     EPOCH_NAMES[at.0 as usize]
 }
 
-/// edges of `plain`
+/// Where an event leads from a location of `plain`; `None` where it is no event that the observer allows.
 pub fn plain_step(at: LocId, kind: EvKind, own: bool, this: bool) -> Option<LocId>
     ensures { target_of result ≡ along (bears Observer.Plain kind) own this at.0 plain_edges }
 {
@@ -82,7 +82,7 @@ pub fn plain_step(at: LocId, kind: EvKind, own: bool, this: bool) -> Option<LocI
     }
 }
 
-/// edges of `hazard(f)`
+/// Where an event leads from a location of `hazard(f)`; `None` where it is no event that the observer allows.
 pub fn hazard_step(f: FuncId, at: LocId, kind: EvKind, own: bool, this: bool) -> Option<LocId>
     ensures { target_of result ≡ along (bears (Observer.Hazard f) kind) own this at.0 hazard_edges }
 {
@@ -111,7 +111,7 @@ pub fn hazard_step(f: FuncId, at: LocId, kind: EvKind, own: bool, this: bool) ->
     }
 }
 
-/// edges of `epoch(e, l)`
+/// Where an event leads from a location of `epoch(e, l)`; `None` where it is no event that the observer allows.
 pub fn epoch_step(
     enter: FuncId,
     leave: FuncId,

@@ -30,7 +30,7 @@ EnvFits e = (e.w < 256) × AllByRecursion PointerFits e.locals
 abbrev pub CertFits : Cert → Type 0
 CertFits c = AllByRecursion EnvFits c.env × AllByRecursion TreeFits c.trees
 
--- the same without the types of shared pointers
+-- an environment without the types of shared pointers
 abbrev pub without_shared : Env → Env
 without_shared e = record { shared = []; locals = e.locals; w = e.w }
 

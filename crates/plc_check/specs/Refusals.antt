@@ -38,7 +38,7 @@ abbrev pub unplaced : ParseFault → LoadFault
 unplaced (parse.Limit what count) = faults.Limit what count
 unplaced other = faults.Memory
 
--- the same of the parser's faults, with the line of the place
+-- the refusal of a fault of the parser, with the line of its place
 abbrev pub parse_refusal : List ℕ → List Token → ParseFault → LoadFault
 parse_refusal bytes ts (parse.Syntax at) = faults.Parse (parse.Syntax at) (line_of bytes ts at)
 parse_refusal bytes ts (parse.Undeclared at) = faults.Parse (parse.Undeclared at) (line_of bytes ts at)

@@ -61,7 +61,7 @@ pub record IsInvalid (j : Judged) (cert : Cert) (status : ℕ) (text : List ℕ)
   pub status_is : status ≡ fails
   pub text_is : text ≡ invalid_text j.flow fault
 
--- either of these
+-- a certificate is told to be valid, or its first fault is told
 abbrev pub IsCertificateJudged : Judged → Cert → ℕ → List ℕ → Type 0
 IsCertificateJudged j cert status text = IsVerified j cert status text ⊎ IsInvalid j cert status text
 

@@ -46,7 +46,7 @@ pub record HasNoReclaimers (old new : KnownFiles) (sink sink_now : KnownSink) (r
   pub unread : new ≡ old
   pub unwritten : sink_now ≡ sink
 
--- either of these
+-- what the program does: it runs with its own reclaimers, unless memory runs out for them
 abbrev pub IsProgram : List (List ℕ) → KnownFiles → KnownFiles → KnownSink → KnownSink → ℕ → Type 0
 IsProgram words old new sink sink_now result =
     HasNoReclaimers old new sink sink_now result ⊎ RunsWithOwn words old new sink sink_now result

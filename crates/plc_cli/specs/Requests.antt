@@ -40,7 +40,7 @@ number_among least zero word = None
 number_among least (suc count) word =
     if bytes_eq (decimal least) word then Some least else number_among (least + 1) count word
 
--- the same among those from one to another
+-- the number that a word spells in decimal, without a sign or zeros in front, from a least to a greatest one
 unfoldable pub number_in : ℕ → ℕ → List ℕ → Option ℕ
 number_in least most word = number_among least (most - least + 1) word
 

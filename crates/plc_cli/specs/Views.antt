@@ -44,7 +44,7 @@ IsContentOf old new name most (one.Read bytes) = IsFound old new name most bytes
 IsContentOf old new name most (one.Unread answer) =
     IsUnread (Only name) old new [] name most answer.status answer.text.items
 
--- the same of two reads, one after the other
+-- what two reads came to, one after the other
 abbrev pub AreContentsOf : KnownFiles → KnownFiles → List ℕ → List ℕ → ℕ → Contents → Type 0
 AreContentsOf old new first second most (two.Read bytes more) =
     IsGivenPair old new first second most bytes.items more.items

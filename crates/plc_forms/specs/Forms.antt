@@ -355,7 +355,7 @@ primitive_line_of ts = line_of (primitive_of ts)
 abbrev pub initial_of : List TokenKind → Option (InitialTree × List TokenKind)
 initial_of ts = read_or (read_as InitialSet (set_of ts)) (read_as InitialGhost (ghost_set_of ts))
 
--- the same and its semicolon
+-- an assignment of `init` and its semicolon
 abbrev pub initial_line_of : List TokenKind → Option (InitialTree × List TokenKind)
 initial_line_of ts = line_of (initial_of ts)
 

@@ -33,12 +33,12 @@ ValueIn ghosts (terms.Value g v) = (g ≤ length ghosts) × (value_number ghosts
 ValueIn ghosts terms.Me = Unit {0}
 ValueIn ghosts terms.Nobody = Unit {0}
 
--- the same of both sides of a literal
+-- where sides of a literal are values, their numbers have 16 bits
 abbrev pub ValuesIn : List Ghost → Literal → Type 0
 ValuesIn ghosts (literals.Same a b equal) = ValueIn ghosts a × ValueIn ghosts b
 ValuesIn ghosts (literals.Retired b is_so) = Unit {0}
 
--- the same of every literal of a clause, which has no more names than it may
+-- the numbers of a clause's values have 16 bits, and it has no more names than it may
 pub record ClauseIn (ghosts : List Ghost) (c : Clause) : Type 0 where
   pub names : length c.bound.names ≤ most_bound
   pub values : All (ValuesIn ghosts) c.literals

@@ -28,7 +28,7 @@ current x s = fold (λ (now : Symbol) (a : Symbol × Symbol). if same_symbol a.0
 abbrev pub version : Execution → Map → ℕ
 version x m = count_by (same_map m) x.written
 
--- the same as a term
+-- the constant that a variable has now, as a term
 abbrev pub held : Execution → Symbol → SymbolicTerm
 held x s = Constant (current x s)
 

@@ -17,7 +17,7 @@ places_from is_kind before (l ∷ ls) =
 abbrev pub pointer_place : List Local → ℕ → Option ℕ
 pointer_place locals v = slice_get (places_from is_pointer 0 locals) v
 
--- the same of a data local
+-- the place among all locals of a data local, by its number among these
 abbrev pub data_place : List Local → ℕ → Option ℕ
 data_place locals x = slice_get (places_from is_data 0 locals) x
 
@@ -43,7 +43,7 @@ value_from before [] n = None
 value_from before (g ∷ gs) n =
     if nat_lt n (values_in g) then Some (before, n) else value_from (before + 1) gs (n - values_in g)
 
--- the same over the file
+-- the field and the number there of a value by its number over all fields
 abbrev pub value_at : List Ghost → ℕ → Option (ℕ × ℕ)
 value_at ghosts n = value_from 0 ghosts n
 

@@ -81,7 +81,7 @@ IsWellSorted file (Done f) = f.0 < length file.funcs
 IsWellSorted file (Active p) = Unit {0}
 IsWellSorted file (Ghost p g v) = WriteIsWellSorted file g v
 
--- the same of each primitive
+-- several primitives are well-sorted
 abbrev pub AreWellSorted : File → List Primitive → Type 0
 AreWellSorted file [] = Unit {0}
 AreWellSorted file (k ∷ ks) = IsWellSorted file k × AreWellSorted file ks

@@ -106,7 +106,7 @@ fn same_location(at: Option<LocId>, other: Option<LocId>) -> bool
 }
 
 impl Column {
-    /// That of a thread before every event.
+    /// The column of a thread before every event.
     pub fn fresh(alloc: Global) -> Column
         ensures { result ≡ fresh_column }
     {
@@ -186,7 +186,7 @@ fn location_in(cells: &[Cell], others: Option<LocId>, a: u32) -> Option<LocId>
     others
 }
 
-/// These cells and that of an address, unless it stands where the others do.
+/// The cells with the one of an address, unless it stands where the others do.
 fn with_cell(
     mut cells: Vec<Cell>,
     others: Option<LocId>,

@@ -43,7 +43,7 @@ impl Model for Table {
     ghost view = { λ t. record { observer = t.observer; unheard = t.unheard; heard = t.heard.items } };
 }
 
-/// Whether a location is that of an address retired too late.
+/// Whether a location is that of an address which was retired while this thread protected it.
 fn is_kept_at(at: Option<LocId>) -> bool
     ensures { result ≡ is_kept_at (target_of at) }
 {
@@ -142,7 +142,7 @@ fn others_after(
     Ok(after)
 }
 
-/// Those heard after an event, by its thread, if it has one.
+/// The columns of the threads that were heard, after an event by a thread, if it has one.
 fn heard_after(
     alloc: Global,
     observer: &Observer,

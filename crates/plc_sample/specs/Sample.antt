@@ -87,7 +87,7 @@ ending =
 abbrev pub numbered_byte : ℕ → ℕ → List ℕ
 numbered_byte number byte = if byte == 35 then decimal number else byte ∷ []
 
--- the same of each byte
+-- the bytes of a part, with the number of the copy
 abbrev pub numbered : ℕ → List ℕ → List ℕ
 numbered number [] = []
 numbered number (byte ∷ more) = numbered_byte number byte ++ numbered number more

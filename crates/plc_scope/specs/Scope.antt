@@ -214,7 +214,7 @@ as_function _ = None
 abbrev pub protecting : FuncId → Bool → Option FuncId
 protecting f p = if p && not (is_retire f) then Some f else None
 
--- the same of a name
+-- what a name is, where it is a function with a pointer that isn't `retire`
 abbrev pub as_protecting : Role → Option FuncId
 as_protecting (function f p) = protecting f p
 as_protecting _ = None
@@ -223,7 +223,7 @@ as_protecting _ = None
 abbrev pub without_pointer : FuncId → Bool → Option FuncId
 without_pointer f p = if p then None else Some f
 
--- the same of a name
+-- what a name is, where it is a function without a pointer
 abbrev pub as_without_pointer : Role → Option FuncId
 as_without_pointer (function f p) = without_pointer f p
 as_without_pointer _ = None
@@ -237,7 +237,7 @@ as_auxiliary _ = None
 abbrev pub value_of_field : ℕ → ℕ → ℕ → Option ℕ
 value_of_field h g v = if g == h then Some v else None
 
--- the same of a name
+-- what a name is, where it is a value of auxiliary field h
 abbrev pub as_value_of : ℕ → Role → Option ℕ
 as_value_of h (value g v) = value_of_field h g v
 as_value_of h _ = None

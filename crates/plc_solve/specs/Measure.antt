@@ -10,7 +10,7 @@ abbrev pub power : ℕ → ℕ → ℕ
 power base zero = 1
 power base (suc n) = base * power base n
 
--- the same of a child of this split, by the sum of the classes that the branch above it has
+-- how many steps a child of this split may take, by the sum of the classes that the branch above it has
 abbrev pub weight : ℕ → OpenSplit → ℕ
 weight base f = power base (sum f.class)
 

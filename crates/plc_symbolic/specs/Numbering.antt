@@ -55,7 +55,7 @@ listed d t = record { terms = note d.terms t; clauses = d.clauses }
 abbrev pub written : Drafted → List SymbolicLit → Drafted
 written d c = record { terms = note_clause d.terms c; clauses = d.clauses ++ c ∷ [] }
 
--- the same of several, in order
+-- several terms are listed, and several clauses are written, in order
 abbrev pub listed_all : Drafted → List SymbolicTerm → Drafted
 listed_all d ts = fold listed d ts
 

@@ -54,6 +54,6 @@ stuck_at ts [] place = None
 stuck_at [] (x ∷ s) place = cond (list_all may_be_empty (x ∷ s)) None (Some place)
 stuck_at (t ∷ ts) (x ∷ s) place = or_here place (after_token (x ∷ s) t) (λ next. stuck_at ts next (place + 1))
 
--- the same for an outline that has to stand at the front
+-- the place at which tokens get stuck, where an outline has to stand at the front
 abbrev pub outline_stuck_at : List TokenKind → Option ℕ
 outline_stuck_at ts = stuck_at ts (Part WholeOutline ∷ []) 0

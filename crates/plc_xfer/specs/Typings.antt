@@ -19,7 +19,7 @@ use Rattle.plc_xfer.specs.Rules.{fault_of, env_after_all, env_after, interfered}
 abbrev pub is_type : Observer → ℕ → PtrType → Bool
 is_type o w t = is_guarantee_set t.g && within t.m w && (if is_active t.g then within t.m (unretired o) else true)
 
--- the same of each type of a list
+-- each of a list is such a type
 abbrev pub all_types : Observer → ℕ → List PtrType → Bool
 all_types o w [] = true
 all_types o w (t ∷ ts) = is_type o w t && all_types o w ts

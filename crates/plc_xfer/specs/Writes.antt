@@ -11,6 +11,6 @@ unfoldable pub with_type : Env → Var → PtrType → Env
 with_type e (Shared i) t = record e { shared = slice_set e.shared i t }
 with_type e (Local i) t = record e { locals = slice_set e.locals i t }
 
--- the same done to each type, and another set of where any address may stand
+-- each type is changed, and where any address may stand
 unfoldable pub with_each : (PtrType → PtrType) → ℕ → Env → Env
 with_each f w e = record { shared = map f e.shared; locals = map f e.locals; w = w }

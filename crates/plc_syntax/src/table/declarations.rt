@@ -13,6 +13,7 @@ use plc_lex::Symbol::{
 };
 use plc_lex::{Keyword, TokenKind};
 
+/// What comes after a token with which [`crate::expected::Part::File`] begins.
 pub fn after_file(kind: &TokenKind) -> Option<&'static [Expected]>
     ensures { IsRow result (after_file kind.now) }
 {
@@ -23,6 +24,7 @@ pub fn after_file(kind: &TokenKind) -> Option<&'static [Expected]>
     }
 }
 
+/// What comes after a token with which [`crate::expected::Part::Fields`] begins.
 pub fn after_fields(kind: &TokenKind) -> Option<&'static [Expected]>
     ensures { IsRow result (after_fields kind.now) }
 {
@@ -31,12 +33,14 @@ pub fn after_fields(kind: &TokenKind) -> Option<&'static [Expected]>
     }
 }
 
+/// What comes after a token with which [`crate::expected::Part::Pointers`] begins.
 pub fn after_pointers(kind: &TokenKind) -> Option<&'static [Expected]>
     ensures { IsRow result (after_pointers kind.now) }
 {
     rows! { kind; TokenKind::Word(Keyword::Shared) => [Name, Symbol(Semicolon), Part(Pointers)] }
 }
 
+/// What comes after a token with which [`crate::expected::Part::Functions`] begins.
 pub fn after_functions(kind: &TokenKind) -> Option<&'static [Expected]>
     ensures { IsRow result (after_functions kind.now) }
 {
@@ -46,18 +50,21 @@ pub fn after_functions(kind: &TokenKind) -> Option<&'static [Expected]>
     }
 }
 
+/// What comes after a token with which [`crate::expected::Part::PointerWord`] begins.
 pub fn after_pointer_word(kind: &TokenKind) -> Option<&'static [Expected]>
     ensures { IsRow result (after_pointer_word kind.now) }
 {
     rows! { kind; TokenKind::Word(Keyword::Ptr) => [] }
 }
 
+/// What comes after a token with which [`crate::expected::Part::Use`] begins.
 pub fn after_use(kind: &TokenKind) -> Option<&'static [Expected]>
     ensures { IsRow result (after_use kind.now) }
 {
     rows! { kind; TokenKind::Word(Keyword::Use) => [Part(Scheme)] }
 }
 
+/// What comes after a token with which [`crate::expected::Part::Scheme`] begins.
 pub fn after_scheme(kind: &TokenKind) -> Option<&'static [Expected]>
     ensures { IsRow result (after_scheme kind.now) }
 {
@@ -69,6 +76,7 @@ pub fn after_scheme(kind: &TokenKind) -> Option<&'static [Expected]>
     }
 }
 
+/// What comes after a token with which [`crate::expected::Part::Ghosts`] begins.
 pub fn after_ghosts(kind: &TokenKind) -> Option<&'static [Expected]>
     ensures { IsRow result (after_ghosts kind.now) }
 {
@@ -77,6 +85,7 @@ pub fn after_ghosts(kind: &TokenKind) -> Option<&'static [Expected]>
     }
 }
 
+/// What comes after a token with which [`crate::expected::Part::GhostKind`] begins.
 pub fn after_ghost_kind(kind: &TokenKind) -> Option<&'static [Expected]>
     ensures { IsRow result (after_ghost_kind kind.now) }
 {
@@ -86,12 +95,14 @@ pub fn after_ghost_kind(kind: &TokenKind) -> Option<&'static [Expected]>
     }
 }
 
+/// What comes after a token with which [`crate::expected::Part::MoreNames`] begins.
 pub fn after_more_names(kind: &TokenKind) -> Option<&'static [Expected]>
     ensures { IsRow result (after_more_names kind.now) }
 {
     rows! { kind; TokenKind::Symbol(Comma) => [Name, Part(MoreNames)] }
 }
 
+/// What comes after a token with which [`crate::expected::Part::Init`] begins.
 pub fn after_init(kind: &TokenKind) -> Option<&'static [Expected]>
     ensures { IsRow result (after_init kind.now) }
 {
@@ -101,6 +112,7 @@ pub fn after_init(kind: &TokenKind) -> Option<&'static [Expected]>
     }
 }
 
+/// What comes after a token with which [`crate::expected::Part::InitialSets`] begins.
 pub fn after_initial_sets(kind: &TokenKind) -> Option<&'static [Expected]>
     ensures { IsRow result (after_initial_sets kind.now) }
 {
@@ -111,6 +123,7 @@ pub fn after_initial_sets(kind: &TokenKind) -> Option<&'static [Expected]>
     }
 }
 
+/// What comes after a token with which [`crate::expected::Part::Ops`] begins.
 pub fn after_ops(kind: &TokenKind) -> Option<&'static [Expected]>
     ensures { IsRow result (after_ops kind.now) }
 {
@@ -121,6 +134,7 @@ pub fn after_ops(kind: &TokenKind) -> Option<&'static [Expected]>
     }
 }
 
+/// What comes after a token with which [`crate::expected::Part::Parameters`] begins.
 pub fn after_parameters(kind: &TokenKind) -> Option<&'static [Expected]>
     ensures { IsRow result (after_parameters kind.now) }
 {

@@ -12,6 +12,7 @@ use plc_lex::Symbol::{
 };
 use plc_lex::{Keyword, TokenKind};
 
+/// What comes after a token with which [`crate::expected::Part::Outline`] begins.
 pub fn after_outline(kind: &TokenKind) -> Option<&'static [Expected]>
     ensures { IsRow result (after_outline kind.now) }
 {
@@ -21,12 +22,14 @@ pub fn after_outline(kind: &TokenKind) -> Option<&'static [Expected]>
     }
 }
 
+/// What comes after a token with which [`crate::expected::Part::Depth`] begins.
 pub fn after_depth(kind: &TokenKind) -> Option<&'static [Expected]>
     ensures { IsRow result (after_depth kind.now) }
 {
     rows! { kind; TokenKind::Word(Keyword::Depth) => [Number, Symbol(Semicolon)] }
 }
 
+/// What comes after a token with which [`crate::expected::Part::Items`] begins.
 pub fn after_items(kind: &TokenKind) -> Option<&'static [Expected]>
     ensures { IsRow result (after_items kind.now) }
 {
@@ -41,24 +44,28 @@ pub fn after_items(kind: &TokenKind) -> Option<&'static [Expected]>
     }
 }
 
+/// What comes after a token with which [`crate::expected::Part::Bound`] begins.
 pub fn after_bound(kind: &TokenKind) -> Option<&'static [Expected]>
     ensures { IsRow result (after_bound kind.now) }
 {
     rows! { kind; TokenKind::Word(Keyword::All) => [Name, Part(SecondName), Symbol(Colon)] }
 }
 
+/// What comes after a token with which [`crate::expected::Part::SecondName`] begins.
 pub fn after_second_name(kind: &TokenKind) -> Option<&'static [Expected]>
     ensures { IsRow result (after_second_name kind.now) }
 {
     rows! { kind; TokenKind::Symbol(Comma) => [Name] }
 }
 
+/// What comes after a token with which [`crate::expected::Part::OrLiterals`] begins.
 pub fn after_or_literals(kind: &TokenKind) -> Option<&'static [Expected]>
     ensures { IsRow result (after_or_literals kind.now) }
 {
     rows! { kind; TokenKind::Word(Keyword::Or) => [Part(Literal), Part(OrLiterals)] }
 }
 
+/// What comes after a token with which [`crate::expected::Part::Literal`] begins.
 pub fn after_literal(kind: &TokenKind) -> Option<&'static [Expected]>
     ensures { IsRow result (after_literal kind.now) }
 {
@@ -71,6 +78,7 @@ pub fn after_literal(kind: &TokenKind) -> Option<&'static [Expected]>
     }
 }
 
+/// What comes after a token with which [`crate::expected::Part::Flag`] begins.
 pub fn after_flag(kind: &TokenKind) -> Option<&'static [Expected]>
     ensures { IsRow result (after_flag kind.now) }
 {
@@ -79,12 +87,14 @@ pub fn after_flag(kind: &TokenKind) -> Option<&'static [Expected]>
     }
 }
 
+/// What comes after a token with which [`crate::expected::Part::Equality`] begins.
 pub fn after_equality(kind: &TokenKind) -> Option<&'static [Expected]>
     ensures { IsRow result (after_equality kind.now) }
 {
     rows! { kind; TokenKind::Symbol(Equal | Unequal) => [Part(Term)] }
 }
 
+/// What comes after a token with which [`crate::expected::Part::Term`] begins.
 pub fn after_term(kind: &TokenKind) -> Option<&'static [Expected]>
     ensures { IsRow result (after_term kind.now) }
 {

@@ -11,6 +11,7 @@ use crate::expected::Part::{
 use plc_lex::Symbol::{Assign, AtLeast, Dot, Equal, Less, Refresh, Semicolon, Unequal};
 use plc_lex::{Keyword, TokenKind};
 
+/// What comes after a token with which [`crate::expected::Part::Primitives`] begins.
 pub fn after_primitives(kind: &TokenKind) -> Option<&'static [Expected]>
     ensures { IsRow result (after_primitives kind.now) }
 {
@@ -24,6 +25,7 @@ pub fn after_primitives(kind: &TokenKind) -> Option<&'static [Expected]>
     }
 }
 
+/// What comes after a token with which [`crate::expected::Part::AssignmentTail`] begins.
 pub fn after_assignment_tail(kind: &TokenKind) -> Option<&'static [Expected]>
     ensures { IsRow result (after_assignment_tail kind.now) }
 {
@@ -34,6 +36,7 @@ pub fn after_assignment_tail(kind: &TokenKind) -> Option<&'static [Expected]>
     }
 }
 
+/// What comes after a token with which [`crate::expected::Part::SetTail`] begins.
 pub fn after_set_tail(kind: &TokenKind) -> Option<&'static [Expected]>
     ensures { IsRow result (after_set_tail kind.now) }
 {
@@ -43,6 +46,7 @@ pub fn after_set_tail(kind: &TokenKind) -> Option<&'static [Expected]>
     }
 }
 
+/// What comes after a token with which [`crate::expected::Part::FieldTail`] begins.
 pub fn after_field_tail(kind: &TokenKind) -> Option<&'static [Expected]>
     ensures { IsRow result (after_field_tail kind.now) }
 {
@@ -52,6 +56,7 @@ pub fn after_field_tail(kind: &TokenKind) -> Option<&'static [Expected]>
     }
 }
 
+/// What comes after a token with which [`crate::expected::Part::Value`] begins.
 pub fn after_value(kind: &TokenKind) -> Option<&'static [Expected]>
     ensures { IsRow result (after_value kind.now) }
 {
@@ -61,36 +66,42 @@ pub fn after_value(kind: &TokenKind) -> Option<&'static [Expected]>
     }
 }
 
+/// What comes after a token with which [`crate::expected::Part::Place`] begins.
 pub fn after_place(kind: &TokenKind) -> Option<&'static [Expected]>
     ensures { IsRow result (after_place kind.now) }
 {
     rows! { kind; TokenKind::Name(_) => [Part(DotName)] }
 }
 
+/// What comes after a token with which [`crate::expected::Part::DotName`] begins.
 pub fn after_dot_name(kind: &TokenKind) -> Option<&'static [Expected]>
     ensures { IsRow result (after_dot_name kind.now) }
 {
     rows! { kind; TokenKind::Symbol(Dot) => [Name] }
 }
 
+/// What comes after a token with which [`crate::expected::Part::Atom`] begins.
 pub fn after_atom(kind: &TokenKind) -> Option<&'static [Expected]>
     ensures { IsRow result (after_atom kind.now) }
 {
     rows! { kind; TokenKind::Word(Keyword::Null) | TokenKind::Number(_) | TokenKind::Name(_) => [] }
 }
 
+/// What comes after a token with which [`crate::expected::Part::GhostValue`] begins.
 pub fn after_ghost_value(kind: &TokenKind) -> Option<&'static [Expected]>
     ensures { IsRow result (after_ghost_value kind.now) }
 {
     rows! { kind; TokenKind::Name(_) | TokenKind::Word(Keyword::Me | Keyword::None) => [] }
 }
 
+/// What comes after a token with which [`crate::expected::Part::Test`] begins.
 pub fn after_test(kind: &TokenKind) -> Option<&'static [Expected]>
     ensures { IsRow result (after_test kind.now) }
 {
     rows! { kind; TokenKind::Name(_) => [Part(Comparison)] }
 }
 
+/// What comes after a token with which [`crate::expected::Part::Comparison`] begins.
 pub fn after_comparison(kind: &TokenKind) -> Option<&'static [Expected]>
     ensures { IsRow result (after_comparison kind.now) }
 {

@@ -15,6 +15,7 @@ use plc_lex::Symbol::{
 };
 use plc_lex::{Keyword, TokenKind};
 
+/// What comes after a token with which [`crate::expected::Part::Statements`] begins.
 pub fn after_statements(kind: &TokenKind) -> Option<&'static [Expected]>
     ensures { IsRow result (after_statements kind.now) }
 {
@@ -37,30 +38,35 @@ pub fn after_statements(kind: &TokenKind) -> Option<&'static [Expected]>
     }
 }
 
+/// What comes after a token with which [`crate::expected::Part::Block`] begins.
 pub fn after_block(kind: &TokenKind) -> Option<&'static [Expected]>
     ensures { IsRow result (after_block kind.now) }
 {
     rows! { kind; TokenKind::Symbol(OpenBrace) => [Part(Statements), Symbol(CloseBrace)] }
 }
 
+/// What comes after a token with which [`crate::expected::Part::Else`] begins.
 pub fn after_else(kind: &TokenKind) -> Option<&'static [Expected]>
     ensures { IsRow result (after_else kind.now) }
 {
     rows! { kind; TokenKind::Word(Keyword::Else) => [Part(Block)] }
 }
 
+/// What comes after a token with which [`crate::expected::Part::SecondBlock`] begins.
 pub fn after_second_block(kind: &TokenKind) -> Option<&'static [Expected]>
     ensures { IsRow result (after_second_block kind.now) }
 {
     rows! { kind; TokenKind::Word(Keyword::Or) => [Part(Block)] }
 }
 
+/// What comes after a token with which [`crate::expected::Part::FurtherBlocks`] begins.
 pub fn after_further_blocks(kind: &TokenKind) -> Option<&'static [Expected]>
     ensures { IsRow result (after_further_blocks kind.now) }
 {
     rows! { kind; TokenKind::Word(Keyword::Or) => [Part(Block), Part(FurtherBlocks)] }
 }
 
+/// What comes after a token with which [`crate::expected::Part::NamedTail`] begins.
 pub fn after_named_tail(kind: &TokenKind) -> Option<&'static [Expected]>
     ensures { IsRow result (after_named_tail kind.now) }
 {
@@ -70,6 +76,7 @@ pub fn after_named_tail(kind: &TokenKind) -> Option<&'static [Expected]>
     }
 }
 
+/// What comes after a token with which [`crate::expected::Part::Argument`] begins.
 pub fn after_argument(kind: &TokenKind) -> Option<&'static [Expected]>
     ensures { IsRow result (after_argument kind.now) }
 {
@@ -79,12 +86,14 @@ pub fn after_argument(kind: &TokenKind) -> Option<&'static [Expected]>
     }
 }
 
+/// What comes after a token with which [`crate::expected::Part::During`] begins.
 pub fn after_during(kind: &TokenKind) -> Option<&'static [Expected]>
     ensures { IsRow result (after_during kind.now) }
 {
     rows! { kind; TokenKind::Word(Keyword::During) => [Name] }
 }
 
+/// What comes after a token with which [`crate::expected::Part::Condition`] begins.
 pub fn after_condition(kind: &TokenKind) -> Option<&'static [Expected]>
     ensures { IsRow result (after_condition kind.now) }
 {
@@ -96,6 +105,7 @@ pub fn after_condition(kind: &TokenKind) -> Option<&'static [Expected]>
     }
 }
 
+/// What comes after a token with which [`crate::expected::Part::ConditionTail`] begins.
 pub fn after_condition_tail(kind: &TokenKind) -> Option<&'static [Expected]>
     ensures { IsRow result (after_condition_tail kind.now) }
 {
@@ -105,12 +115,14 @@ pub fn after_condition_tail(kind: &TokenKind) -> Option<&'static [Expected]>
     }
 }
 
+/// What comes after a token with which [`crate::expected::Part::ActiveWord`] begins.
 pub fn after_active_word(kind: &TokenKind) -> Option<&'static [Expected]>
     ensures { IsRow result (after_active_word kind.now) }
 {
     rows! { kind; TokenKind::Word(Keyword::Active) => [] }
 }
 
+/// What comes after a token with which [`crate::expected::Part::NameOrNull`] begins.
 pub fn after_name_or_null(kind: &TokenKind) -> Option<&'static [Expected]>
     ensures { IsRow result (after_name_or_null kind.now) }
 {
