@@ -121,13 +121,11 @@ fn answer(alloc: Global, file: &str, from: u64, most: u64) -> Result<String, NoM
 
 // How many clauses are counted for the obligation with a number.
 #[derive(Clone, Copy)]
-struct Counted {
-    i: u64,
-}
+struct Counted(u64);
 
 impl Asked for Counted {
     fn answer(&self, alloc: Global, judged: &Judged) -> Result<String, NoMemory> {
-        match nth(&judged.flow, &judged.unit_outline, self.i) {
+        match nth(&judged.flow, &judged.unit_outline, self.0) {
             None => Err(NoMemory),
             Some(o) => {
                 let count = clauses(&judged.flow, &judged.unit_outline, &o);
@@ -171,11 +169,7 @@ fn sets_are_as_large_as_the_format_says(rt: HostRuntime) -> Result<(), NoMemory>
         "677 sets, 81385 terms, 313503 clauses, 1759449 literals, at most 742 clauses",
     )?;
     let full = format!(in alloc; "{WIDE}{FULL}}}\n")?;
-    text_is(
-        &rt,
-        answered(alloc, full.as_str(), &Counted { i: 33 }),
-        "65536",
-    )?;
+    text_is(&rt, answered(alloc, full.as_str(), &Counted(33)), "65536")?;
     text_is(
         &rt,
         answer(alloc, full.as_str(), 33, 1),

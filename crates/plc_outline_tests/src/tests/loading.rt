@@ -57,12 +57,8 @@ pub(crate) fn answered<A: Asked>(
 }
 
 // Puts a piece at the end of a text. It takes the piece, so that who writes the text owns nothing beside it.
-pub(crate) fn put<E: Drop + From<AllocError>>(
-    text: &mut String,
-    piece: Result<String, E>,
-) -> Result<(), E> {
-    text.push_str(piece?.as_str())?;
-    Ok(())
+pub(crate) fn put(text: &mut String, piece: Result<String, AllocError>) -> Result<(), AllocError> {
+    text.push_str(piece?.as_str())
 }
 
 // Fails a test where a text isn't the one that is wanted. A test hands its texts on, and owns none at its own ends.
