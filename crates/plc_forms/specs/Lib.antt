@@ -1,5 +1,5 @@
 -- what contracts of public calls say
 pub mod Sizes
 pub mod Views
--- what only the crates above cite
+-- what contracts say for the crates above alone
 pub mod Forms

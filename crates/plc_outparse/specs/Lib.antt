@@ -5,7 +5,7 @@ pub mod Meaning
 pub mod Outlines
 pub mod Answers
 pub mod Fit
--- what only the crates above cite
+-- what contracts say for the crates above alone
 pub mod Forms
 pub mod Reading
 pub mod Views

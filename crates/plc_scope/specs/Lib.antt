@@ -4,5 +4,5 @@ pub mod Primitives
 pub mod Answers
 pub mod Limits
 pub mod Views
--- what only the crates above cite
+-- what contracts say for the crates above alone
 pub mod Read

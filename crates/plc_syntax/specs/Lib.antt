@@ -4,7 +4,7 @@ pub mod Faults
 pub mod Nesting
 pub mod Syntax
 pub mod Trees
--- what only the crates above cite
+-- what contracts say for the crates above alone
 pub mod Machine
 pub mod Table
 -- words of private functions alone

@@ -1,4 +1,3 @@
 -- what contracts of public calls say
 pub mod Standing
--- what only the crates above cite
 pub mod Fit

@@ -34,6 +34,7 @@ fn both_text(alloc: Global, copy: &mut Memory, memory: &Memory) -> Result<String
     Ok(text)
 }
 
+// The three texts of a memory that is copied.
 fn copies_text(alloc: Global, memory: &Memory) -> Result<String, NoMemory> {
     let mut copy = memory.copy()?;
     let text = both_text(alloc, &mut copy, memory);
@@ -50,6 +51,7 @@ fn taken_text(alloc: Global, memory: &mut Memory) -> Result<String, AllocError> 
     format!(in alloc; "{first} {again} {past} {places}")
 }
 
+// What is taken from a copy of a memory.
 fn takes_text(alloc: Global, memory: &Memory) -> Result<String, NoMemory> {
     let mut copy = memory.copy()?;
     let text = taken_text(alloc, &mut copy);

@@ -125,6 +125,7 @@ pub(crate) fn places_text(alloc: Global, memory: &Memory) -> Result<String, Allo
     Ok(text)
 }
 
+// An answer, a race with its kind and its primitive.
 fn answer_text(alloc: Global, answer: &Moved) -> Result<String, AllocError> {
     match answer {
         Moved::Race { kind, prim } => format!(in alloc; "{kind:?} {prim}"),
