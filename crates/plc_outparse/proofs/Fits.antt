@@ -1,10 +1,10 @@
 -- An outline that has a meaning fits its file.
-use Rattle.std.proofs.Common.{◌≡◌, ◌==◌, ℕ, suc, ◌+◌, ◌≤◌, ◌<◌, Bool, true, false, ◌||◌, if◌then◌else◌, Option, Some, None, Result, Ok, Err, List, [], ◌∷◌, ◌++◌, length, slice_get, All, refl, sym, ◌∙◌, ap, subst, arith}
+use Rattle.std.proofs.Common.{IfSome, ◌≡◌, ◌==◌, ℕ, suc, ◌+◌, ◌≤◌, ◌<◌, Bool, true, false, ◌||◌, if◌then◌else◌, Option, Some, None, Result, Ok, Err, List, [], ◌∷◌, ◌++◌, length, slice_get, All, refl, sym, ◌∙◌, ap, subst, arith}
 use Rattle.std.specs.List.{position_from}
 use Rattle.std.specs.Str.{bytes_eq}
 use Rattle.std.proofs.lemmas.Bool.{eqb-true}
 use Rattle.std.proofs.lemmas.List.{length-append}
-use Rattle.std.proofs.lemmas.Option.{slice_get_within}
+use Rattle.std.proofs.lemmas.Option.{slice_get_within, IfSome_then}
 use Rattle.std.proofs.lemmas.List.Elements.{All-nil, All-cons, All-append, All-push}
 use Rattle.std.proofs.lemmas.List.Quantifiers.{position-Some}
 use Rattle.plc_base.specs.Limits.{most}
@@ -20,6 +20,7 @@ use Rattle.plc_scope.specs.declared.scope.Scope.{Scope}
 use Rattle.plc_scope.specs.declared.binding.Binding.{Binding}
 use Rattle.plc_scope.specs.declared.binding.Binding.TheVariants.{Taken, Shared, PointerField, DataField, Function, Auxiliary, Value, LocalOnly}
 use Rattle.plc_scope.specs.Scope.{if_fits, if_new, with_last}
+use Rattle.plc_scope.proofs.Finds.{if_some, position_passes, made_is}
 use Rattle.plc_scope.proofs.Holds.{Has, next, any, has_along, below}
 use Rattle.plc_logic.specs.declared.clause.Base.{Base}
 use Rattle.plc_logic.specs.declared.clause.Base.TheVariants as bases
@@ -39,21 +40,13 @@ use Rattle.plc_lang.specs.Labels.{block_labels, labels_by_op, has_label, op_of_l
 use Rattle.plc_outparse.specs.declared.kind.Kind.{Kind}
 use Rattle.plc_outparse.specs.declared.kind.Kind.TheVariants as kinds
 use Rattle.plc_outparse.specs.Fit.{holds_threads, NamesOf, OutlinesFit}
-use Rattle.plc_outparse.specs.Reach.{Reach, auxiliary_sort, kind_outside, kind_of_local, kind_inside, kind_or, declared_at, declared_kind, kind_or_bound, kind_of, known, as_base, base_at, base_term, as_term, as_field}
+use Rattle.plc_outparse.specs.Reach.{Reach, auxiliary_sort, kind_outside, kind_of_local, kind_found, declared_kind, kind_or_bound, kind_of, known, as_base, base_at, base_term, as_term, as_field}
 use Rattle.plc_outparse.specs.Sizes.{term_size, literal_size, bound_size, depth_size}
 use Rattle.plc_scope.specs.Limits.{stands_at}
 use Rattle.plc_lang.specs.Locals.{locals_or_none, locals_of}
 use Rattle.plc_outparse.specs.Meaning.{in_turn, me_means, term_means, sort_place, second_means, literal_means, counted, Literals, literal_step, none_bound, if_free, bound_with, second_bound, bound_means, reach, clause_means, clause_line_means, op_named, op_at, label_named, with_op, label_at, if_same_op, Labels, label_step, labels_mean, Parts, with_invariant, with_item, item_step, depth_means, outline_means}
 
-abbrev HasSome : {A : Type 0} → (A → Type 0) → Option A → Type 0
-HasSome P (Some x) = P x
-HasSome P None = Unit {0}
-
-if_some : {A : Type 0} (P : A → Type 0) (b : Bool) (x : A) (o : Option A) → P x → HasSome P o → HasSome P (if b then Some x else o)
-if_some P true x o h g = h
-if_some P false x o h g = g
-
-fitting : {A : Type 0} (P : A → Type 0) (at : ℕ) (o : Option A) → HasSome P o → Has P (if_fits at o)
+fitting : {A : Type 0} (P : A → Type 0) (at : ℕ) (o : Option A) → IfSome o P → Has P (if_fits at o)
 fitting P at (Some x) h = h
 fitting P at None h = tt
 
@@ -84,14 +77,7 @@ local_fits : (w : InReach) (i : ℕ) (l : Local) (b : Bool) → l.pointer ≡ b 
 local_fits w i l true p e = (l, e, p)
 local_fits w i l false p e = (l, e, p)
 
-inside_fits : (w : InReach) (number i : ℕ) (ls : List Local) → ((j : ℕ) (l : Local) → slice_get ls j ≡ Some l → slice_get w.locals (i + j) ≡ Some l) → HasSome (KindFits w) (kind_inside i ls number)
-inside_fits w number i [] h = tt
-inside_fits w number i (l ∷ ls) h =
-    let here : i + 0 ≡ i = omega arith in
-    if_some (KindFits w) (l.name == number) (kind_of_local i l.pointer) (kind_inside (i + 1) ls number) (local_fits w i l l.pointer refl (ap (slice_get w.locals) (sym here) ∙ h 0 l refl))
-    (inside_fits w number (i + 1) ls (λ j k e. let there : i + 1 + j ≡ i + suc j = omega arith in ap (slice_get w.locals) there ∙ h (suc j) k e))
-
-outside_fits : (w : InReach) (s : Scope) → NamesOf s w.file → (i : ℕ) (b : Binding) → slice_get s.bindings i ≡ Some b → HasSome (KindFits w) (kind_outside b)
+outside_fits : (w : InReach) (s : Scope) → NamesOf s w.file → (i : ℕ) (b : Binding) → slice_get s.bindings i ≡ Some b → IfSome (kind_outside b) (KindFits w)
 outside_fits w s names i Taken e = tt
 outside_fits w s names i (Shared k) e = names.shared i k e
 outside_fits w s names i (PointerField f) e = let d = names.pointer_field i f e in (d.0, d.1, ap pointer_sort (sym d.2))
@@ -101,21 +87,16 @@ outside_fits w s names i (Auxiliary g t) e = let h = names.auxiliary i g t e in 
 outside_fits w s names i (Value g v) e = names.value i g v e
 outside_fits w s names i LocalOnly e = tt
 
-either_fits : (w : InReach) (a : Option Kind) (b : Option Binding) → HasSome (KindFits w) a → ((x : Binding) → b ≡ Some x → HasSome (KindFits w) (kind_outside x)) → HasSome (KindFits w) (kind_or a b)
-either_fits w (Some k) b h g = h
-either_fits w None (Some x) h g = g x refl
-either_fits w None None h g = tt
-
-number_fits : (w : InReach) (s : Scope) → NamesOf s w.file → (o : Option ℕ) → HasSome (KindFits w) (declared_at s w.locals o)
-number_fits w s names None = tt
-number_fits w s names (Some i) =
-    either_fits w (kind_inside 0 w.locals i) (slice_get s.bindings i) (inside_fits w i 0 w.locals (at_start w.locals)) (outside_fits w s names i)
+declared_fits : (w : InReach) (s : Scope) → NamesOf s w.file → (name : Text) → IfSome (declared_kind s w.locals name) (KindFits w)
+unfolding declared_kind
+declared_fits w s names name =
+    made_is kind_found (KindFits w) s w.locals name (λ n i l at there same. local_fits w i l l.pointer refl there) (λ n b at there. outside_fits w s names n b there)
 
 -- a place in a list is below its length
 place_below : (name : Text) (names : List Text) (i : ℕ) → place_of name names ≡ Some i → i < length names
 place_below name names i e = (position-Some (bytes_eq name) names i name e).0
 
-bound_fits : (w : InReach) (o : Option ℕ) (k : Option Kind) → ((i : ℕ) → o ≡ Some i → i < w.bound) → HasSome (KindFits w) k → HasSome (KindFits w) (kind_or_bound o k)
+bound_fits : (w : InReach) (o : Option ℕ) (k : Option Kind) → ((i : ℕ) → o ≡ Some i → i < w.bound) → IfSome k (KindFits w) → IfSome (kind_or_bound o k) (KindFits w)
 bound_fits w (Some i) k h g = h i refl
 bound_fits w None k h g = g
 
@@ -127,15 +108,15 @@ module _ (file : File) (r : Reach) (names : NamesOf r.scope file) where
   abbrev w : InReach
   w = words file r
 
-  kind_fits : (name : Text) → HasSome (KindFits w) (kind_of r name)
-  unfolding kind_of declared_kind
-  kind_fits name = bound_fits w (place_of name r.bound.names) (declared_kind r.scope r.locals name) (place_below name r.bound.names) (number_fits w r.scope names (place_of name r.scope.names.names))
+  kind_fits : (name : Text) → IfSome (kind_of r name) (KindFits w)
+  unfolding kind_of
+  kind_fits name = bound_fits w (place_of name r.bound.names) (declared_kind r.scope r.locals name) (place_below name r.bound.names) (declared_fits w r.scope names name)
 
-  known_fits : (at : ℕ) (o : Option Kind) → HasSome (KindFits w) o → Has (KindFits w) (known at o)
+  known_fits : (at : ℕ) (o : Option Kind) → IfSome o (KindFits w) → Has (KindFits w) (known at o)
   known_fits at (Some k) h = h
   known_fits at None h = tt
 
-  base_fits : (k : Kind) → KindFits w k → HasSome (IsNode w) (as_base k)
+  base_fits : (k : Kind) → KindFits w k → IfSome (as_base k) (IsNode w)
   base_fits (kinds.Node b) h = h
   base_fits (kinds.Data i) h = tt
   base_fits (kinds.Field f s) h = tt
@@ -158,7 +139,7 @@ module _ (file : File) (r : Reach) (names : NamesOf r.scope file) where
   node_sorted (bases.Local i) h = (h.0, h.1, ap pointer_sort (sym h.2))
   node_sorted (bases.Bound i) h = (h, refl)
 
-  alone_sorted : (k : Kind) → KindFits w k → HasSome Sorted (as_term k)
+  alone_sorted : (k : Kind) → KindFits w k → IfSome (as_term k) Sorted
   alone_sorted (kinds.Node b) h = node_sorted b h
   alone_sorted (kinds.Data i) h = (h.0, h.1, ap pointer_sort (sym h.2))
   alone_sorted (kinds.Field f s) h = tt
@@ -166,7 +147,7 @@ module _ (file : File) (r : Reach) (names : NamesOf r.scope file) where
   alone_sorted (kinds.Value g v) h = (h.0, h.1, h.2, refl)
   alone_sorted kinds.NoValue h = tt
 
-  field_sorted : (b : Base) (k : Kind) → IsNode w b → KindFits w k → HasSome Sorted (as_field b k)
+  field_sorted : (b : Base) (k : Kind) → IsNode w b → KindFits w k → IfSome (as_field b k) Sorted
   field_sorted b (kinds.Node c) n h = tt
   field_sorted b (kinds.Data i) n h = tt
   field_sorted b (kinds.Field f s) n h = (n, h.0, h.1, h.2)
@@ -279,32 +260,24 @@ module _ (file : File) (s : Scope) (names : NamesOf s file) where
 
   -- ---- sites
 
-  -- what is found in a list stands there
-  found : {A : Type 0} (p : A → Bool) (all : List A) (i : ℕ) (xs : List A) → ((j : ℕ) (x : A) → slice_get xs j ≡ Some x → slice_get all (i + j) ≡ Some x) → HasSome (λ k. (x : A) × (slice_get all k ≡ Some x)) (position_from p i xs)
-  found p all i [] h = tt
-  found p all i (x ∷ xs) h =
-      let here : i + 0 ≡ i = omega arith in
-      if_some (λ k. (y : _) × (slice_get all k ≡ Some y)) (p x) i (position_from p (i + 1) xs) (x, ap (slice_get all) (sym here) ∙ h 0 x refl)
-      (found p all (i + 1) xs (λ j y e. let there : i + 1 + j ≡ i + suc j = omega arith in ap (slice_get all) there ∙ h (suc j) y e))
-
   -- an operation that is there
   abbrev IsOp : ℕ → Type 0
   IsOp k = (op : Op) × (slice_get file.ops k ≡ Some op)
 
-  named_op : (o : Option ℕ) → HasSome IsOp (op_named file.ops o)
+  named_op : (o : Option ℕ) → IfSome (op_named file.ops o) IsOp
   named_op None = tt
-  named_op (Some i) = found (λ (o : Op). o.name == i) file.ops 0 file.ops (at_start file.ops)
+  named_op (Some i) = IfSome_then (position_from (λ (o : Op). o.name == i) 0 file.ops) (position_passes (λ (o : Op). o.name == i) file.ops) (λ k at. (at.0, at.1))
 
   op_is_there : (name : Text) (at : ℕ) → Has IsOp (op_at s file.ops name at)
   unfolding op_at
   op_is_there name at = any IsOp (known at (declared_kind s [] name)) _ (λ k. fitting IsOp at (op_named file.ops (place_of name s.names.names)) (named_op (place_of name s.names.names)))
 
   -- an operation whose statements have a label is there
-  home : (label i : ℕ) (os : List Op) → ((j : ℕ) (o : Op) → slice_get os j ≡ Some o → slice_get file.ops (i + j) ≡ Some o) → HasSome IsOp (position_from (has_label label) i (labels_by_op os))
+  home : (label i : ℕ) (os : List Op) → ((j : ℕ) (o : Op) → slice_get os j ≡ Some o → slice_get file.ops (i + j) ≡ Some o) → IfSome (position_from (has_label label) i (labels_by_op os)) IsOp
   home label i [] h = tt
   home label i (o ∷ os) h =
       let here : i + 0 ≡ i = omega arith in
-      if_some IsOp (has_label label (block_labels o.body)) i (position_from (has_label label) (i + 1) (labels_by_op os)) (o, ap (slice_get file.ops) (sym here) ∙ h 0 o refl)
+      if_some IsOp (has_label label (block_labels o.body)) i (position_from (has_label label) (i + 1) (labels_by_op os)) (λ is. (o, ap (slice_get file.ops) (sym here) ∙ h 0 o refl))
       (home label (i + 1) os (λ j x e. let there : i + 1 + j ≡ i + suc j = omega arith in ap (slice_get file.ops) there ∙ h (suc j) x e))
 
   -- a label of the file
@@ -320,7 +293,7 @@ module _ (file : File) (s : Scope) (names : NamesOf s file) where
     known : IsKnown label
     within : IsWithin k label
 
-  both : (P : ℕ → Type 0) (o : Option ℕ) → HasSome P o → HasSome (λ k. (o ≡ Some k) × P k) o
+  both : (P : ℕ → Type 0) (o : Option ℕ) → IfSome o P → IfSome o (λ k. (o ≡ Some k) × P k)
   both P (Some k) h = (refl, h)
   both P None h = tt
 
@@ -337,9 +310,9 @@ module _ (file : File) (s : Scope) (names : NamesOf s file) where
   abbrev Among : ℕ → Type 0
   Among label = (name : ℕ) × (slice_get s.labels label ≡ Some name)
 
-  named_label : (o : Option ℕ) → HasSome Among (label_named s.labels o)
+  named_label : (o : Option ℕ) → IfSome (label_named s.labels o) Among
   named_label None = tt
-  named_label (Some i) = found (λ (n : ℕ). n == i) s.labels 0 s.labels (at_start s.labels)
+  named_label (Some i) = IfSome_then (position_from (λ (n : ℕ). n == i) 0 s.labels) (position_passes (λ (n : ℕ). n == i) s.labels) (λ k at. (at.0, at.1))
 
   label_is_there : (name : Text) (at : ℕ) → Has IsLabel (label_at s (labels_by_op file.ops) name at)
   unfolding label_at

@@ -1,7 +1,6 @@
 -- What names are in the clauses of an outline. Locals of an operation have one numbering here; all names of the file
 -- keep what they stand for.
-use Rattle.std.specs.Prelude.{◌==◌, ◌+◌, ℕ, Bool, true, false, if◌then◌else◌, List, [], ◌∷◌, Option, Some, None}
-use Rattle.std.specs.Prelude.{slice_get, Result, Ok, Err}
+use Rattle.std.specs.Prelude.{ℕ, Bool, true, false, List, Option, Some, None, option_and_then, Result, Ok, Err}
 use Rattle.plc_base.specs.Names.{NameList, place_of}
 use Rattle.plc_lang.specs.declared.syntax.Local.{Local}
 use Rattle.plc_syntax.specs.Trees.{Text}
@@ -11,7 +10,9 @@ use Rattle.plc_scope.specs.declared.scope.Scope.{Scope}
 use Rattle.plc_scope.specs.declared.binding.Binding.{Binding}
 use Rattle.plc_scope.specs.declared.binding.Binding.TheVariants.{Taken, Shared, PointerField, DataField, Function}
 use Rattle.plc_scope.specs.declared.binding.Binding.TheVariants.{Auxiliary, Value, LocalOnly}
-use Rattle.plc_scope.specs.Scope.{◌>>=◌, if_fits}
+use Rattle.plc_scope.specs.declared.binding.Found.{Found}
+use Rattle.plc_scope.specs.declared.binding.Found.TheVariants.{Local as LocalAt, OfFile}
+use Rattle.plc_scope.specs.Scope.{◌>>=◌, if_fits, found}
 use Rattle.plc_logic.specs.declared.clause.Base.{Base}
 use Rattle.plc_logic.specs.declared.clause.Base.TheVariants as bases
 use Rattle.plc_logic.specs.declared.clause.Term.{Term}
@@ -49,26 +50,14 @@ abbrev pub kind_of_local : ℕ → Bool → Kind
 kind_of_local i true = kinds.Node (bases.Local i)
 kind_of_local i false = kinds.Data i
 
--- the local with a name's number, where so many locals stand before these
-abbrev pub kind_inside : ℕ → List Local → ℕ → Option Kind
-kind_inside i [] number = None
-kind_inside i (l ∷ ls) number =
-    if l.name == number then Some (kind_of_local i l.pointer) else kind_inside (i + 1) ls number
-
--- a local goes before what its name is outside, which is nothing
-abbrev pub kind_or : Option Kind → Option Binding → Option Kind
-kind_or (Some k) binding = Some k
-kind_or None (Some binding) = kind_outside binding
-kind_or None None = None
-
--- what the name with a number is
-abbrev pub declared_at : Scope → List Local → Option ℕ → Option Kind
-declared_at s ls None = None
-declared_at s ls (Some i) = kind_or (kind_inside 0 ls i) (slice_get s.bindings i)
+-- what is found, to a clause
+abbrev pub kind_found : Found → Option Kind
+kind_found (LocalAt i is_pointer) = Some (kind_of_local i is_pointer)
+kind_found (OfFile binding) = kind_outside binding
 
 -- what a name is that isn't quantified; None where it has no declaration in reach, as a local of another operation
 unfoldable pub declared_kind : Scope → List Local → Text → Option Kind
-declared_kind s ls name = declared_at s ls (place_of name s.names.names)
+declared_kind s ls name = option_and_then kind_found (found s ls name)
 
 -- a quantified name is a node
 abbrev pub kind_or_bound : Option ℕ → Option Kind → Option Kind

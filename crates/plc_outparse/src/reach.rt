@@ -1,17 +1,17 @@
 // What names are in the clauses of an outline: a quantified name, a local of the operation, or what
 // the name is in the file. A local of another operation has no declaration in reach.
-ghost use Rattle.std.specs.Prelude.{◌≡◌, ◌≤◌, ◌<◌, length};
+ghost use Rattle.std.specs.Prelude.{◌≡◌, ◌≤◌, length};
 ghost use Rattle.plc_scope.specs.Answers.{Gives};
 ghost use Rattle.plc_scope.specs.Scope.{most_locals};
-ghost use Rattle.plc_outparse.specs.Reach.{auxiliary_sort, kind_outside, kind_of_local, kind_inside, declared_at};
-ghost use Rattle.plc_outparse.specs.Reach.{declared_kind, kind_of, known, base_at};
+ghost use Rattle.plc_outparse.specs.Reach.{auxiliary_sort, kind_outside, kind_of_local, declared_kind, kind_of, known};
+ghost use Rattle.plc_outparse.specs.Reach.{base_at};
 ghost use Rattle.plc_outparse.specs.Views.{reach_of};
 
 use crate::kind::Kind;
 use plc_base::Names;
 use plc_lang::Local;
 use plc_logic::{Base, Sort};
-use plc_scope::{Binding, ParseFault, Scope};
+use plc_scope::{Binding, Found, ParseFault, Scope};
 
 /// What is in reach in a clause.
 #[derive(Clone, Copy)]
@@ -64,42 +64,15 @@ fn kind_of_local(number: u16, pointer: bool) -> Kind
     }
 }
 
-/// The local with a name's number, by its number among all locals.
-fn kind_inside(locals: &[Local], name: u16) -> Option<Kind>
-    requires { length locals.now ≤ most_locals }
-    ensures { result ≡ kind_inside 0 locals.now name }
-{
-    for (i, local) in locals.iter().enumerate() {
-        if local.name == name {
-            return Some(kind_of_local(i as u16, local.pointer));
-        }
-    }
-    None
-}
-
-/// What the name with a number is, without the quantified names.
-fn declared_at(scope: &Scope, locals: &[Local], number: u16) -> Option<Kind>
-    requires { length locals.now ≤ most_locals }
-    ensures { result ≡ declared_at scope.now locals.now (Some number) }
-{
-    if let Some(kind) = kind_inside(locals, number) {
-        return Some(kind);
-    }
-    match scope.bindings.get(number as usize) {
-        Some(binding) => kind_outside(*binding),
-        None => None,
-    }
-}
-
 /// What a name is that isn't quantified, or `None` where it has no declaration in reach.
 #[tactic(auto, unfolding(crate::specs::Reach::declared_kind))]
 pub fn declared_kind(scope: &Scope, locals: &[Local], name: &[u8]) -> Option<Kind>
     requires { length locals.now ≤ most_locals }
     ensures { result ≡ declared_kind scope.now locals.now name.now }
 {
-    match scope.names.find(name) {
-        Some(number) => declared_at(scope, locals, number),
-        None => None,
+    match scope.find(locals, name)? {
+        Found::Local(i, is_pointer) => Some(kind_of_local(i, is_pointer)),
+        Found::OfFile(binding) => kind_outside(binding),
     }
 }
 
@@ -108,10 +81,7 @@ pub fn known(scope: &Scope, locals: &[Local], name: &[u8], at: u32) -> Result<Ki
     requires { length locals.now ≤ most_locals }
     ensures { Gives (λ kind. kind) result (known at (declared_kind scope.now locals.now name.now)) }
 {
-    match declared_kind(scope, locals, name) {
-        Some(kind) => Ok(kind),
-        None => Err(ParseFault::Undeclared { at }),
-    }
+    declared_kind(scope, locals, name).ok_or(ParseFault::Undeclared { at })
 }
 
 /// What a name at a place of a clause is. `Undeclared` where it has no declaration in reach.

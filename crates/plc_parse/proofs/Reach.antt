@@ -1,6 +1,6 @@
 -- What is in reach is there: names stand for what was declared, so what is looked up is there too. Bindings number shared pointers and
 -- fields, of which no more are declared once an operation begins; locals number themselves by those before them, pointers and data apart.
-use Rattle.std.proofs.Common.{◌≡◌, ◌==◌, ◌&&◌, not, ℕ, ◌+◌, ◌≤◌, ◌<◌, Bool, true, false, cond, if◌then◌else◌, Option, Some, None, IfSome, Ok, List, [], ◌∷◌, All, length, count_by, slice_get, refl, subst, arith}
+use Rattle.std.proofs.Common.{ap, ◌≡◌, ◌==◌, ◌&&◌, not, ℕ, ◌+◌, ◌≤◌, ◌<◌, Bool, true, false, cond, if◌then◌else◌, Option, Some, None, IfSome, Ok, List, [], ◌∷◌, All, length, count_by, slice_get, refl, subst, arith}
 use Rattle.std.proofs.lemmas.Bool.{ne_eqb}
 use Rattle.std.proofs.lemmas.List.Elements.{All-get_or, All-push, All-weaker, All-nil, All-cons}
 use Rattle.std.proofs.lemmas.List.Sums.{sum_by-cons}
@@ -10,7 +10,7 @@ use Rattle.plc_base.specs.declared.ids.FuncId.{FuncId}
 use Rattle.plc_base.specs.Names.{place_of}
 use Rattle.plc_lang.specs.declared.syntax.Local.{Local}
 use Rattle.plc_lang.specs.declared.syntax.Var.TheVariants.{Shared as SharedVar, Local as LocalVar}
-use Rattle.plc_lang.specs.Locals.{is_pointer, is_parameter, is_other_data}
+use Rattle.plc_lang.specs.Locals.{is_pointer, is_data, is_parameter, is_other_data}
 use Rattle.plc_lang.specs.Shape.{Shape, VarIn}
 use Rattle.plc_base.specs.Functions.{is_retire}
 use Rattle.plc_syntax.specs.Trees.{Text}
@@ -20,8 +20,9 @@ use Rattle.plc_scope.specs.declared.binding.Binding.{Binding}
 use Rattle.plc_scope.specs.declared.binding.Binding.TheVariants.{Taken, Shared, PointerField, DataField, Function, Auxiliary, Value, LocalOnly}
 use Rattle.plc_scope.specs.declared.binding.Role.{Role}
 use Rattle.plc_scope.specs.declared.binding.Role.TheVariants.{PointerVariable as pointer_variable, DataLocal as data_local, PointerField as pointer_field, DataField as data_field, Function as function, Auxiliary as auxiliary, Value as value, NoValue as no_value}
-use Rattle.plc_scope.specs.Scope.{◌>>=◌, most_locals, first_scope, if_new, with_name, declared, declared_label, has_local, may_name_local, local_number, with_local, declared_local, declared_parameter, role_outside, role_inside, role_or, role_at, role_of, if_fits, needed, any_role, as_pointer, as_pointer_local, as_data, as_pointer_field, as_data_field, as_protecting, as_without_pointer, pointer_at, pointer_local_at, data_at, pointer_field_at, data_field_at, protecting_at, without_pointer_at}
+use Rattle.plc_scope.specs.Scope.{◌>>=◌, most_locals, first_scope, if_new, with_name, declared, declared_label, has_local, may_name_local, local_number, with_local, declared_local, declared_parameter, role_outside, local_role, role_found, role_of, if_fits, needed, any_role, as_pointer, as_pointer_local, as_data, as_pointer_field, as_data_field, as_protecting, as_without_pointer, pointer_at, pointer_local_at, data_at, pointer_field_at, data_field_at, protecting_at, without_pointer_at}
 use Rattle.plc_scope.proofs.Holds.{Has, next, unless, if_ok}
+use Rattle.plc_scope.proofs.Finds.{made_is, below_count}
 
 -- ---- what names stand for
 
@@ -119,6 +120,21 @@ module _ (P : Binding → Type 0) (of_local : P LocalOnly) where
 
 -- ---- what a name is
 
+-- each data local is a parameter or another one
+data_within : (ls : List Local) → count_by is_data ls ≤ count_by is_parameter ls + count_by is_other_data ls
+data_within [] = omega arith
+data_within (l ∷ ls) =
+    let counts = sum_by-cons (λ l. cond (is_data l) 1 0) l ls in
+    let parameters = sum_by-cons (λ l. cond (is_parameter l) 1 0) l ls in
+    let others = sum_by-cons (λ l. cond (is_other_data l) 1 0) l ls in
+    let rest = data_within ls in
+    omega (arith, counts, parameters, others, rest, one l.pointer l.param)
+  where
+    one : (pointer param : Bool) → cond (not pointer) 1 0 ≤ cond param 1 0 + cond (not pointer && not param) 1 0
+    one true param = omega arith
+    one false true = omega arith
+    one false false = omega arith
+
 module _ (h : Shape) where
   outside_in : (b : Binding) → BindingIn h.shared h.fields b → IfSome (role_outside b) (RoleIn h)
   outside_in Taken is = tt
@@ -127,49 +143,21 @@ module _ (h : Shape) where
   outside_in LocalOnly is = tt
   outside_in b is = is
 
-  -- a local, or one after it
-  local_in : (p v others_p others_v others_d : ℕ) (ls : List Local) (i : ℕ) (same pointer param : Bool)
-      → p + (cond pointer 1 0 + others_p) ≤ h.pointers → v + (cond param 1 0 + others_v + (cond (not pointer && not param) 1 0 + others_d)) ≤ h.values
-      → ((q w : ℕ) → q + others_p ≤ h.pointers → w + (others_v + others_d) ≤ h.values → IfSome (role_inside q w ls i) (RoleIn h))
-      → IfSome (if same then Some (if pointer then pointer_variable (LocalVar p) else data_local v) else (if pointer then role_inside (p + 1) v ls i else role_inside p (v + 1) ls i)) (RoleIn h)
-  local_in p v op ov od ls i true true param a b others = omega (arith, a)
-  local_in p v op ov od ls i true false true a b others = omega (arith, b)
-  local_in p v op ov od ls i true false false a b others = omega (arith, b)
-  local_in p v op ov od ls i false true param a b others = others (p + 1) v (omega (arith, a)) (omega (arith, b))
-  local_in p v op ov od ls i false false true a b others = others p (v + 1) (omega (arith, a)) (omega (arith, b))
-  local_in p v op ov od ls i false false false a b others = others p (v + 1) (omega (arith, a)) (omega (arith, b))
-
-  locals_in : (ls : List Local) (i p v : ℕ) → p + count_by is_pointer ls ≤ h.pointers → v + (count_by is_parameter ls + count_by is_other_data ls) ≤ h.values → IfSome (role_inside p v ls i) (RoleIn h)
-  locals_in [] i p v a b = tt
-  locals_in (l ∷ ls) i p v a b = local_in p v (count_by is_pointer ls) (count_by is_parameter ls) (count_by is_other_data ls) ls i (l.name == i) l.pointer l.param
-      (rw (← sum_by-cons (λ l. cond (is_pointer l) 1 0) l ls) a)
-      (rw (← sum_by-cons (λ l. cond (is_parameter l) 1 0) l ls, ← sum_by-cons (λ l. cond (is_other_data l) 1 0) l ls) b)
-      (λ q w. locals_in ls i q w)
+  -- a local with its number
+  local_in : (ls : List Local) → count_by is_pointer ls ≤ h.pointers → count_by is_parameter ls + count_by is_other_data ls ≤ h.values
+      → (i : ℕ) (l : Local) → slice_get ls i ≡ Some l → (pointer : Bool) → l.pointer ≡ pointer → RoleIn h (local_role ls i pointer)
+  local_in ls a b i l there true e = let below = below_count is_pointer ls i l there e in omega (arith, a, below)
+  local_in ls a b i l there false e = (let below = below_count is_data ls i l there (ap not e) in let all = data_within ls in omega (arith, b, below, all))
 
 -- what a name is, where this holds of what names stand for, and that of what they are
 module _ (B : Binding → Type 0) (R : Role → Type 0) (outside_is : (b : Binding) → B b → IfSome (role_outside b) R) where
-  either_is : (o : Option Role) (b : Option Binding) → IfSome o R → IfSome b B → IfSome (role_or o b) R
-  either_is (Some r) b is other = is
-  either_is None (Some b) is other = outside_is b other
-  either_is None None is other = tt
-
-  bound_is : (s : Scope) (i : ℕ) → Bound B s → IfSome (slice_get s.bindings i) B
-  bound_is s i each = at_place (slice_get s.bindings i) refl
-    where
-      at_place : (o : Option Binding) → slice_get s.bindings i ≡ o → IfSome o B
-      at_place None e = tt
-      at_place (Some b) e = bound_at B s each i b e
-
-  role_at_is : (s : Scope) (o : Option ℕ) → Bound B s → ((i : ℕ) → IfSome (role_inside 0 0 s.locals i) R) → IfSome (role_at s o) R
-  role_at_is s None b locals = tt
-  role_at_is s (Some i) b locals = either_is (role_inside 0 0 s.locals i) (slice_get s.bindings i) (locals i) (bound_is s i b)
-
-  pub role_is : (s : Scope) (name : Text) → Bound B s → ((i : ℕ) → IfSome (role_inside 0 0 s.locals i) R) → IfSome (role_of s name) R
+  pub role_is : (s : Scope) (name : Text) → Bound B s → ((i : ℕ) (l : Local) → slice_get s.locals i ≡ Some l → R (local_role s.locals i l.pointer)) → IfSome (role_of s name) R
   unfolding role_of
-  role_is s name b locals = role_at_is s (place_of name s.names.names) b locals
+  role_is s name each locals =
+      made_is (role_found s.locals) R s s.locals name (λ n i l at there same. locals i l there) (λ n b at there. outside_is b (bound_at B s each n b there))
 
 role_in : (h : Shape) (s : Scope) (name : Text) → Reaches h s → IfSome (role_of s name) (RoleIn h)
-role_in h s name r = role_is (BindingIn h.shared h.fields) (RoleIn h) (outside_in h) s name r.bound (λ i. locals_in h s.locals i 0 0 (omega (arith, r.pointers)) (omega (arith, r.values)))
+role_in h s name r = role_is (BindingIn h.shared h.fields) (RoleIn h) (outside_in h) s name r.bound (λ i l there. local_in h s.locals r.pointers r.values i l there l.pointer refl)
 
 -- ---- what is looked up
 

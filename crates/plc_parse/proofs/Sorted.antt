@@ -1,32 +1,21 @@
 -- Each thing of a file with a meaning stands where its kind may stand. What a name stands for is there and is what the name says (`There.antt`),
 -- and each form asks for the kind that its place wants.
-use Rattle.std.proofs.Common.{◌≡◌, ◌==◌, ◌&&◌, ◌||◌, not, cond, if◌then◌else◌, ℕ, ◌+◌, ◌≤◌, ◌<◌, Bool, true, false, Option, Some, None, IfSome, Result, Ok, Err, List, [], ◌∷◌, ◌++◌, length, count_by, filter, slice_get, refl, sym, ap, ◌∙◌, subst, append_assoc, arith}
-use Rattle.std.specs.List.{list_any}
+use Rattle.std.proofs.Common.{◌≡◌, ◌==◌, ◌&&◌, ◌||◌, not, if◌then◌else◌, ℕ, ◌+◌, ◌<◌, Bool, true, false, Option, Some, None, IfSome, Result, Ok, List, [], ◌∷◌, length, slice_get, refl, ap, subst}
 use Rattle.std.proofs.Math.Bool.{and-false}
 use Rattle.std.proofs.lemmas.Bool.{eqb-true}
-use Rattle.std.proofs.lemmas.List.Elements.{filter-append}
-use Rattle.std.proofs.lemmas.List.Folds.{list_any-append}
-use Rattle.std.proofs.lemmas.List.Sums.{sum_by-cons}
 use Rattle.plc_base.specs.declared.ids.FieldId.{FieldId}
 use Rattle.plc_base.specs.declared.ids.FuncId.{FuncId}
 use Rattle.plc_base.specs.Functions.{is_retire}
-use Rattle.plc_base.specs.Names.{place_of}
 use Rattle.plc_lang.specs.declared.syntax.Var.{Var}
-use Rattle.plc_lang.specs.declared.syntax.Var.TheVariants.{Local as LocalVar}
 use Rattle.plc_lang.specs.declared.syntax.Rel.{Rel}
-use Rattle.plc_lang.specs.declared.syntax.Cond.{Cond}
 use Rattle.plc_lang.specs.declared.syntax.GhostVal.{GhostVal}
 use Rattle.plc_lang.specs.declared.syntax.Primitive.{Primitive}
 use Rattle.plc_lang.specs.declared.syntax.Ghost.{Ghost}
 use Rattle.plc_lang.specs.declared.syntax.Local.{Local}
-use Rattle.plc_lang.specs.declared.syntax.Op.{Op}
 use Rattle.plc_lang.specs.declared.syntax.File.{File}
-use Rattle.plc_lang.specs.Allocation.{is_new}
-use Rattle.plc_lang.specs.Locals.{is_pointer, is_parameter}
-use Rattle.plc_lang.specs.Statements.{Statement, Statements, Blocks}
-use Rattle.plc_lang.specs.WellSorted.{IsWellSorted, AreWellSorted, is_call, is_test, is_refresh, is_initial, is_me, WriteIsWellSorted, CallIsWellSorted, ClaimFits, ConditionIsWellSorted, BlockIsWellSorted, StatementIsWellSorted, StatementsAreWellSorted, BlocksAreWellSorted, ParametersAreFirst, OpIsWellSorted}
-use Rattle.plc_syntax.specs.Trees.{Text, PlaceTree, PlaceOf, AtomTree, NullAtom, NumberAtom, NameAtom, ValueTree, NullValue, NewValue, NumberValue, PlaceValue, SetTree, SetName, SetField, RefreshTree, RefreshName, RefreshField, GhostValueTree, NameGhost, MeGhost, NoneGhost, GhostSetTree, SetGhost, InitialTree, InitialSet, InitialGhost, Comparison, SameAs, OtherThan, LessThan, NotLessThan, TestTree, Compares, ConditionTree, TestCondition, RefreshCondition, CasCondition, PrimitiveTree, SetPrimitive, RefreshPrimitive, GhostPrimitive, ActivePrimitive, AssumePrimitive, SkipPrimitive, ArgumentTree, NoArgument, NullArgument, NameArgument, ActiveArgument, FieldTree, PointerField as PointerFieldTree, DataField as DataFieldTree, StatementTree, PrimitiveStatement, AtomicStatement, CallStatement, IfStatement, ChooseStatement, LoopStatement, BreakStatement, ReturnStatement, LabelStatement, BlockTree, NoStatement, Then as ThenStatement, ElseTree, NoElse, ElseBlock, OrTree, NoOr, OrBlock, OpTree, Operates}
-use Rattle.plc_forms.specs.Sizes.{initial_size, primitive_size, condition_size, call_size, word_size}
+use Rattle.plc_lang.specs.WellSorted.{IsWellSorted, is_call, is_test, is_refresh, is_initial, is_me, WriteIsWellSorted, CallIsWellSorted, ClaimFits, ConditionIsWellSorted}
+use Rattle.plc_syntax.specs.Trees.{Text, PlaceTree, PlaceOf, AtomTree, NullAtom, NumberAtom, NameAtom, ValueTree, NullValue, NewValue, NumberValue, PlaceValue, SetTree, SetName, SetField, RefreshTree, RefreshName, RefreshField, GhostValueTree, NameGhost, MeGhost, NoneGhost, GhostSetTree, SetGhost, InitialTree, InitialSet, InitialGhost, Comparison, SameAs, OtherThan, LessThan, NotLessThan, TestTree, Compares, ConditionTree, TestCondition, RefreshCondition, CasCondition, PrimitiveTree, SetPrimitive, RefreshPrimitive, GhostPrimitive, ActivePrimitive, AssumePrimitive, SkipPrimitive, ArgumentTree, NoArgument, NullArgument, NameArgument, ActiveArgument}
+use Rattle.plc_forms.specs.Sizes.{word_size}
 use Rattle.plc_scope.specs.declared.fault.ParseFault.{ParseFault}
 use Rattle.plc_scope.specs.declared.fault.ParseFault.TheVariants as faults
 use Rattle.plc_scope.specs.declared.scope.Scope.{Scope}
@@ -34,14 +23,12 @@ use Rattle.plc_scope.specs.declared.binding.Binding.{Binding}
 use Rattle.plc_scope.specs.declared.binding.Binding.TheVariants.{Shared}
 use Rattle.plc_scope.specs.declared.binding.Role.{Role}
 use Rattle.plc_scope.specs.declared.binding.Role.TheVariants.{PointerVariable as pointer_variable, DataLocal as data_local, PointerField as pointer_field, DataField as data_field, Function as function, Auxiliary as auxiliary, Value as value}
-use Rattle.plc_scope.specs.Scope.{◌>>=◌, needed, any_role, role_of, role_inside, role_outside, value_of_field, as_pointer_field, as_data_field, as_function, as_protecting, as_without_pointer, as_auxiliary, as_value_of, as_thread, declared, pointer_at, pointer_local_at, data_at, pointer_field_at, data_field_at, function_at, protecting_at, without_pointer_at, auxiliary_at, value_at, thread_at}
-use Rattle.plc_scope.specs.Limits.{stands_at}
+use Rattle.plc_scope.specs.Scope.{◌>>=◌, needed, any_role, role_of, local_role, role_outside, as_pointer_field, as_data_field, as_function, as_protecting, as_without_pointer, as_auxiliary, as_value_of, as_thread, pointer_at, pointer_local_at, data_at, pointer_field_at, data_field_at, function_at, protecting_at, without_pointer_at, auxiliary_at, value_at, thread_at}
 use Rattle.plc_scope.specs.Primitives.{pointer_value, data_value, value_into, pointer_atom, data_atom, atom_into, set_means, refresh_from, refresh_name_means, refresh_means, ghost_value_means, ghost_set_means, pointer_equality, pointer_test, data_test, test_of, test_means, pointer_or_null, condition_means, primitive_means, initial_means, CallMeaning, argument_means, call_means}
-use Rattle.plc_scope.proofs.Holds.{Has, weaker, next, any, unless, both_err}
+use Rattle.plc_scope.proofs.Holds.{Has, weaker, next, any, unless}
 use Rattle.plc_outparse.specs.Fit.{holds_threads}
-use Rattle.plc_parse.specs.Meaning.{counted, before, allocates, count_of, forms_mean, atomic_means, one_or_skip, label_means, during_means, statement_means, statements_mean, else_means, or_means}
 use Rattle.plc_parse.proofs.Reach.{role_is, needed_in}
-use Rattle.plc_parse.proofs.There.{Lists, IsField, IsFunction, RoleThere, IsThere, AllThere, lists_of, Named, named}
+use Rattle.plc_parse.proofs.There.{Lists, IsField, IsFunction, RoleThere, IsThere, AllThere, lists_of}
 
 -- ---- what a name is
 
@@ -58,16 +45,9 @@ module _ (d : Lists) where
   outside_there (Shared k) is = tt
   outside_there b is = is
 
-  local_there : (same pointer : Bool) (p v : ℕ) (a b : Option Role) → IfSome a (RoleThere d) → IfSome b (RoleThere d)
-      → IfSome (if same then Some (if pointer then pointer_variable (LocalVar p) else data_local v) else (if pointer then a else b)) (RoleThere d)
-  local_there true true p v a b h k = tt
-  local_there true false p v a b h k = tt
-  local_there false true p v a b h k = h
-  local_there false false p v a b h k = k
-
-  locals_there : (ls : List Local) (i p v : ℕ) → IfSome (role_inside p v ls i) (RoleThere d)
-  locals_there [] i p v = tt
-  locals_there (l ∷ ls) i p v = local_there (l.name == i) l.pointer p v _ _ (locals_there ls i (p + 1) v) (locals_there ls i p (v + 1))
+  local_there : (ls : List Local) (i : ℕ) (pointer : Bool) → RoleThere d (local_role ls i pointer)
+  local_there ls i true = tt
+  local_there ls i false = tt
 
   pointer_fields : (k : Role) → RoleThere d k → IfSome (as_pointer_field k) (λ f. IsField d f.0 true)
   pointer_fields (pointer_field f) is = is
@@ -118,7 +98,7 @@ module _ (d : Lists) where
 
   module _ (s : Scope) (all : AllThere d s) (n : Text) (at : ℕ) where
     found : {A : Type 0} (P : A → Type 0) (wanted : Role → Option A) → ((k : Role) → RoleThere d k → IfSome (wanted k) P) → Has P (needed wanted at (role_of s n))
-    found P wanted each = needed_in (RoleThere d) P wanted each at (role_of s n) (role_is (IsThere d) (RoleThere d) outside_there s n all (λ i. locals_there s.locals i 0 0))
+    found P wanted each = needed_in (RoleThere d) P wanted each at (role_of s n) (role_is (IsThere d) (RoleThere d) outside_there s n all (λ i l there. local_there s.locals i l.pointer))
 
     any_there : Has (RoleThere d) (needed any_role at (role_of s n))
     any_there = found (RoleThere d) any_role (λ k is. is)

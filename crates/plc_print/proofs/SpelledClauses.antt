@@ -1,5 +1,5 @@
 -- Each clause of an outline that is read is spelled by the tree that it was read from, and comes again at every place.
-use Rattle.std.proofs.Common.{◌≡◌, ◌==◌, ℕ, suc, ◌+◌, Bool, true, false, if◌then◌else◌, Option, Some, None, IfSome, option_map, Result, Ok, Err, List, [], ◌∷◌, ◌++◌, map, length, slice_get, refl, sym, ap, ap₂, ◌∙◌, append_assoc, append-nil, eqb-true, arith}
+use Rattle.std.proofs.Common.{◌≡◌, ◌==◌, ℕ, ◌+◌, Bool, true, false, Option, Some, None, IfSome, option_map, Result, Ok, Err, List, [], ◌∷◌, ◌++◌, map, length, slice_get, refl, sym, ap, ap₂, ◌∙◌, append_assoc, append-nil}
 use Rattle.std.proofs.lemmas.Option.{get_or_from_slice_get}
 use Rattle.plc_base.specs.Limits.{most}
 use Rattle.plc_base.specs.Names.{NameList, place_of}
@@ -15,6 +15,7 @@ use Rattle.plc_scope.specs.declared.binding.Binding.{Binding}
 use Rattle.plc_scope.specs.declared.binding.Binding.TheVariants.{Taken, Shared, PointerField, DataField, Function, Auxiliary, Value, LocalOnly}
 use Rattle.plc_scope.specs.Limits.{stands_at}
 use Rattle.plc_scope.specs.Scope.{◌>>=◌, if_fits, if_new, with_last}
+use Rattle.plc_scope.proofs.Finds.{made_is}
 use Rattle.plc_scope.proofs.Holds.{Has, next, weaker, unless, both_err}
 use Rattle.plc_logic.specs.declared.clause.Base.{Base}
 use Rattle.plc_logic.specs.declared.clause.Base.TheVariants as bases
@@ -26,7 +27,7 @@ use Rattle.plc_logic.specs.declared.clause.Clause.{Clause}
 use Rattle.plc_outparse.specs.declared.kind.Kind.{Kind}
 use Rattle.plc_outparse.specs.declared.kind.Kind.TheVariants as kinds
 use Rattle.plc_outparse.specs.Sizes.{term_size, literal_size, bound_size}
-use Rattle.plc_outparse.specs.Reach.{Reach, kind_outside, kind_of_local, kind_inside, kind_or, declared_at, declared_kind, kind_or_bound, kind_of, known, as_base, base_at, as_term, as_field}
+use Rattle.plc_outparse.specs.Reach.{Reach, kind_outside, kind_of_local, kind_found, declared_kind, kind_or_bound, kind_of, known, as_base, base_at, as_term, as_field}
 use Rattle.plc_logic.specs.Sorts.{same_sort}
 use Rattle.plc_outparse.specs.Meaning.{in_turn, me_means, term_means, sort_place, if_same_sort, second_means, flag_means, literal_means, counted, literal_step, none_bound, if_free, bound_with, bound_means, reach, clause_means, clause_line_means}
 use Rattle.plc_print.specs.Outlines.{base_name, term_tree, flag_literal, literal_tree, bound_tree, claims_tree, clause_tree}
@@ -62,15 +63,6 @@ module _ {X Y : Type 0} (E : Type 0) (spell : Y → X) (step : List Y × ℕ →
 
 -- ---- names
 
-pub if_some : {A : Type 0} (P : A → Type 0) (b : Bool) (x : A) (o : Option A) → (b ≡ true → P x) → IfSome o P → IfSome (if b then Some x else o) P
-if_some P true x o h g = h refl
-if_some P false x o h g = g
-
-either_is : (P : Kind → Type 0) (k : Option Kind) (b : Option Binding) → IfSome k P → ((x : Binding) → b ≡ Some x → IfSome (kind_outside x) P) → IfSome (kind_or k b) P
-either_is P (Some k) b h g = h
-either_is P None (Some x) h g = g x refl
-either_is P None None h g = tt
-
 bound_or : (P : Kind → Type 0) (o : Option ℕ) (k : Option Kind) → ((i : ℕ) → o ≡ Some i → P (kinds.Node (bases.Bound i))) → IfSome k P → IfSome (kind_or_bound o k) P
 bound_or P (Some i) k h g = h i refl
 bound_or P None k h g = g
@@ -90,14 +82,6 @@ module _ (file : File) (s : Scope) (bound : Bound file s) where
     local_is n i l true there named = from_number file (option_map (λ (x : Local). x.name) (slice_get ls i)) l.name n (ap (option_map (λ (x : Local). x.name)) there) named
     local_is n i l false there named = from_number file (option_map (λ (x : Local). x.name) (slice_get ls i)) l.name n (ap (option_map (λ (x : Local). x.name)) there) named
 
-    inside_is : (n : Text) (number : ℕ) → name_at file number ≡ n → (i : ℕ) (rest : List Local) → ((j : ℕ) (l : Local) → slice_get rest j ≡ Some l → slice_get ls (i + j) ≡ Some l) → IfSome (kind_inside i rest number) (KindIs n)
-    inside_is n number named i [] h = tt
-    inside_is n number named i (l ∷ rest) h =
-        let here : i + 0 ≡ i = omega arith in
-        if_some (KindIs n) (l.name == number) (kind_of_local i l.pointer) (kind_inside (i + 1) rest number)
-        (λ same. local_is n i l l.pointer (ap (slice_get ls) (sym here) ∙ h 0 l refl) (ap (name_at file) (eqb-true l.name number same) ∙ named))
-        (inside_is n number named (i + 1) rest (λ j x e. let there : i + 1 + j ≡ i + suc j = omega arith in ap (slice_get ls) there ∙ h (suc j) x e))
-
     outside_is : (n : Text) (i : ℕ) (b : Binding) → name_at file i ≡ n → IsBound file i b → IfSome (kind_outside b) (KindIs n)
     outside_is n i Taken e h = tt
     outside_is n i (Shared k) e h = from_number file _ i n h e
@@ -108,15 +92,11 @@ module _ (file : File) (s : Scope) (bound : Bound file s) where
     outside_is n i (Value g v) e h = from_number file _ i n h e
     outside_is n i LocalOnly e h = tt
 
-    number_is : (n : Text) (o : Option ℕ) → Ends file s → place_of n s.names.names ≡ o → IfSome (declared_at s ls o) (KindIs n)
-    number_is n None ends e = tt
-    number_is n (Some i) ends e =
-        let named : name_at file i ≡ n = number_named file s i n ends (place_found n s.names.names i e) in
-        either_is (KindIs n) (kind_inside 0 ls i) (slice_get s.bindings i) (inside_is n i named 0 ls (λ j l there. let here : 0 + j ≡ j = omega arith in ap (slice_get ls) here ∙ there)) (λ b there. outside_is n i b named (bound.each i b there))
-
     declared_is : (n : Text) → Ends file s → IfSome (declared_kind s ls n) (KindIs n)
     unfolding declared_kind
-    declared_is n ends = number_is n (place_of n s.names.names) ends refl
+    declared_is n ends =
+        let named : (i : ℕ) → place_of n s.names.names ≡ Some i → name_at file i ≡ n = λ i e. number_named file s i n ends (place_found n s.names.names i e) in
+        made_is kind_found (KindIs n) s ls n (λ i j l at there same. local_is n j l l.pointer there (ap (name_at file) same ∙ named i at)) (λ i b at there. outside_is n i b (named i at) (bound.each i b there))
 
   module _ (ls : List Local) (in_operation : Bool) (quantified : NameList) where
     abbrev here : Reach

@@ -1,8 +1,8 @@
 -- Each name that is found in a scope is the name that the canonical text spells for what it stands for.
-use Rattle.std.proofs.Common.{◌≡◌, ◌==◌, ℕ, suc, ◌+◌, ◌<◌, Bool, true, false, cond, not, ◌&&◌, if◌then◌else◌, Option, Some, None, IfSome, option_map, List, [], ◌∷◌, length, filter, slice_get, refl, sym, ap, ◌∙◌, subst, bytes_eq, nat_lt, arith}
+use Rattle.std.proofs.Common.{◌≡◌, ◌==◌, ℕ, suc, ◌+◌, ◌<◌, Bool, true, false, cond, not, ◌&&◌, if◌then◌else◌, Option, Some, None, IfSome, option_map, List, [], ◌∷◌, length, slice_get, refl, sym, ap, ◌∙◌, subst, bytes_eq, nat_lt, arith}
 use Rattle.std.specs.List.{prefix_len}
 use Rattle.std.proofs.lemmas.Bool.{eqb-true, ltb-true}
-use Rattle.std.proofs.lemmas.Option.{IfSome_then, get_or_from_slice_get}
+use Rattle.std.proofs.lemmas.Option.{get_or_from_slice_get}
 use Rattle.std.proofs.lemmas.Slice.Eq.{bytes_eq-Decides}
 use Rattle.plc_base.specs.Names.{place_of}
 use Rattle.plc_lang.specs.Locals.{is_pointer}
@@ -18,8 +18,9 @@ use Rattle.plc_scope.specs.declared.binding.Binding.{Binding}
 use Rattle.plc_scope.specs.declared.binding.Binding.TheVariants.{Taken, Shared, PointerField, DataField, Function, Auxiliary, Value, LocalOnly}
 use Rattle.plc_scope.specs.declared.binding.Role.{Role}
 use Rattle.plc_scope.specs.declared.binding.Role.TheVariants.{PointerVariable as pointer_variable, DataLocal as data_local, PointerField as pointer_field, DataField as data_field, Function as function, Auxiliary as auxiliary, Value as value, NoValue as no_value}
-use Rattle.plc_scope.specs.Scope.{needed, if_fits, any_role, role_outside, role_inside, role_or, role_at, role_of, as_pointer, as_pointer_local, as_data, as_pointer_field, as_data_field, as_function, as_protecting, as_without_pointer, as_auxiliary, as_value_of, pointer_at, pointer_local_at, data_at, pointer_field_at, data_field_at, function_at, protecting_at, without_pointer_at, auxiliary_at, value_at}
+use Rattle.plc_scope.specs.Scope.{needed, if_fits, any_role, role_outside, local_role, role_found, role_of, as_pointer, as_pointer_local, as_data, as_pointer_field, as_data_field, as_function, as_protecting, as_without_pointer, as_auxiliary, as_value_of, pointer_at, pointer_local_at, data_at, pointer_field_at, data_field_at, function_at, protecting_at, without_pointer_at, auxiliary_at, value_at}
 use Rattle.plc_scope.proofs.Holds.{Has}
+use Rattle.plc_scope.proofs.Finds.{made_is, of_kind}
 use Rattle.plc_lang.specs.Names.{name_at, name_of, field_name, function_name, auxiliary_name, values_of, value_name, pointer_name, data_name, variable_name}
 use Rattle.plc_lang.specs.Locals.{is_data}
 use Rattle.plc_print.proofs.Steps.{Found, Within}
@@ -91,35 +92,10 @@ module _ (file : File) where
   pub from_number : (o : Option ℕ) (i : ℕ) (n : Text) → o ≡ Some i → name_at file i ≡ n → name_of file o ≡ n
   from_number o i n e f = ap (name_of file) e ∙ f
 
-  -- a local with this number, by its place among those of its kind
-  data Inside (pointers values : ℕ) (locals : List Local) (number : ℕ) : Role → Type 0 where
-    of_pointers : (k j : ℕ) → k ≡ pointers + j → option_map (λ (l : Local). l.name) (slice_get (filter is_pointer locals) j) ≡ Some number → Inside pointers values locals number (pointer_variable (LocalVar k))
-    of_data : (k j : ℕ) → k ≡ values + j → option_map (λ (l : Local). l.name) (slice_get (filter is_data locals) j) ≡ Some number → Inside pointers values locals number (data_local k)
-
-  after_pointer : (p v n : ℕ) (q : Bool) (ls : List Local) (number : ℕ) (r : Role) → Inside (p + 1) v ls number r → Inside p v (record { name = n; pointer = true; param = q } ∷ ls) number r
-  after_pointer p v n q ls number _ (of_pointers k j e f) = of_pointers k (suc j) (omega arith) f
-  after_pointer p v n q ls number _ (of_data k j e f) = of_data k j e f
-
-  after_data : (p v n : ℕ) (q : Bool) (ls : List Local) (number : ℕ) (r : Role) → Inside p (v + 1) ls number r → Inside p v (record { name = n; pointer = false; param = q } ∷ ls) number r
-  after_data p v n q ls number _ (of_pointers k j e f) = of_pointers k j e f
-  after_data p v n q ls number _ (of_data k j e f) = of_data k (suc j) (omega arith) f
-
-  inside : (p v : ℕ) (ls : List Local) (number : ℕ) → IfSome (role_inside p v ls number) (Inside p v ls number)
-  inside p v [] number = tt
-  inside p v (l ∷ ls) number = by l.name l.pointer l.param (l.name == number) refl (inside (p + 1) v ls number) (inside p (v + 1) ls number)
-    where
-      by : (n : ℕ) (b q same : Bool) → (n == number) ≡ same → IfSome (role_inside (p + 1) v ls number) (Inside (p + 1) v ls number) → IfSome (role_inside p (v + 1) ls number) (Inside p (v + 1) ls number)
-          → IfSome (if same then Some (if b then pointer_variable (LocalVar p) else data_local v) else (if b then role_inside (p + 1) v ls number else role_inside p (v + 1) ls number)) (Inside p v (record { name = n; pointer = b; param = q } ∷ ls) number)
-      by n true q true e h k = of_pointers p 0 (omega arith) (ap Some (eqb-true n number e))
-      by n false q true e h k = of_data v 0 (omega arith) (ap Some (eqb-true n number e))
-      by n true q false e h k = IfSome_then (role_inside (p + 1) v ls number) h (after_pointer p v n q ls number)
-      by n false q false e h k = IfSome_then (role_inside p (v + 1) ls number) k (after_data p v n q ls number)
-
-  named_inside : (locals : List Local) (i : ℕ) (n : Text) → name_at file i ≡ n → (r : Role) → Inside 0 0 locals i r → RoleIs locals n r
-  named_inside locals i n e _ (of_pointers k j same f) =
-      let at : k ≡ j = omega arith in ap (pointer_name file locals) at ∙ from_number (option_map (λ (l : Local). l.name) (slice_get (filter is_pointer locals) j)) i n f e
-  named_inside locals i n e _ (of_data k j same f) =
-      let at : k ≡ j = omega arith in ap (data_name file locals) at ∙ from_number (option_map (λ (l : Local). l.name) (slice_get (filter is_data locals) j)) i n f e
+  -- a local with its number among those of its kind
+  named_local : (locals : List Local) (i : ℕ) (l : Local) (n : Text) → slice_get locals i ≡ Some l → name_at file l.name ≡ n → (pointer : Bool) → l.pointer ≡ pointer → RoleIs locals n (local_role locals i pointer)
+  named_local locals i l n there named true e = from_number _ l.name n (ap (option_map (λ (x : Local). x.name)) (of_kind is_pointer locals i l there e)) named
+  named_local locals i l n there named false e = from_number _ l.name n (ap (option_map (λ (x : Local). x.name)) (of_kind is_data locals i l there (ap not e))) named
 
   named_outside : (locals : List Local) (i : ℕ) (n : Text) (b : Binding) → name_at file i ≡ n → IsBound i b → IfSome (role_outside b) (RoleIs locals n)
   named_outside locals i n Taken e h = tt
@@ -131,25 +107,16 @@ module _ (file : File) where
   named_outside locals i n (Auxiliary g t) e h = from_number _ i n h e
   named_outside locals i n (Value g v) e h = from_number _ i n h e
 
-  named_either : (P : Role → Type 0) (r : Option Role) (b : Option Binding) → IfSome r P → ((x : Binding) → b ≡ Some x → IfSome (role_outside x) P) → IfSome (role_or r b) P
-  named_either P (Some r) b h k = h
-  named_either P None (Some x) h k = k x refl
-  named_either P None None h k = tt
-
   -- a number of a scope keeps its name in the file
   pub number_named : (s : Scope) (i : ℕ) (n : Text) → Ends s → slice_get s.names.names i ≡ Some n → name_at file i ≡ n
   number_named s i n ends e = get_or_from_slice_get file.names.names i n [] (ends.names i n e)
 
   pub role_is : (s : Scope) (n : Text) → Bound s → Ends s → IfSome (role_of s n) (RoleIs s.locals n)
   unfolding role_of
-  role_is s n bound ends = by (place_of n s.names.names) refl
-    where
-      by : (o : Option ℕ) → place_of n s.names.names ≡ o → IfSome (role_at s o) (RoleIs s.locals n)
-      by None e = tt
-      by (Some i) e =
-          let named : name_at file i ≡ n = number_named s i n ends (place_found n s.names.names i e) in
-          named_either (RoleIs s.locals n) (role_inside 0 0 s.locals i) (slice_get s.bindings i) (IfSome_then (role_inside 0 0 s.locals i) (inside 0 0 s.locals i) (named_inside s.locals i n named))
-          (λ b there. named_outside s.locals i n b named (bound.each i b there))
+  role_is s n bound ends =
+      let named : (i : ℕ) → place_of n s.names.names ≡ Some i → name_at file i ≡ n = λ i e. number_named s i n ends (place_found n s.names.names i e) in
+      made_is (role_found s.locals) (RoleIs s.locals n) s s.locals n
+      (λ i j l at there same. named_local s.locals j l n there (ap (name_at file) same ∙ named i at) l.pointer refl) (λ i b at there. named_outside s.locals i n b (named i at) (bound.each i b there))
 
   -- ---- what is found by a name
 

@@ -1,5 +1,5 @@
 -- The outline that is read is spelled by the normal tree of its file's outline, which means the same outline at every place.
-use Rattle.std.proofs.Common.{◌≡◌, ◌==◌, ℕ, zero, suc, ◌+◌, Bool, true, false, cond, not, ◌||◌, Option, Some, None, IfSome, option_map, Result, Ok, Err, List, [], ◌∷◌, ◌++◌, map, filter, length, slice_get, refl, sym, ap, ap₂, ◌∙◌, append_assoc, append-nil, eqb-true, arith}
+use Rattle.std.proofs.Common.{◌≡◌, ◌==◌, ℕ, zero, suc, ◌+◌, Bool, true, false, cond, not, ◌||◌, Option, Some, None, IfSome, option_map, Result, Ok, Err, List, [], ◌∷◌, ◌++◌, map, filter, length, slice_get, refl, sym, ap, ap₂, ◌∙◌, append_assoc, append-nil, eqb-true}
 use Rattle.std.specs.List.{position_from}
 use Rattle.std.proofs.lemmas.Option.{IfSome_then}
 use Rattle.plc_base.specs.Limits.{most}
@@ -15,6 +15,7 @@ use Rattle.plc_scope.specs.declared.fault.ParseFault.TheVariants as faults
 use Rattle.plc_scope.specs.declared.scope.Scope.{Scope}
 use Rattle.plc_scope.specs.Scope.{◌>>=◌, if_fits}
 use Rattle.plc_scope.proofs.Holds.{Has, next, weaker, unless}
+use Rattle.plc_scope.proofs.Finds.{position_passes}
 use Rattle.plc_lang.specs.Labels.{labels_by_op, op_of_label}
 use Rattle.plc_logic.specs.Sites.{op_of_site}
 use Rattle.plc_logic.specs.declared.clause.Clause.{Clause}
@@ -30,18 +31,7 @@ use Rattle.plc_print.specs.Outlines.{clause_tree, invariant_tree, at_tree, local
 use Rattle.plc_print.proofs.NormalTrees.{is_invariant, normal_items, normal_depth, normal_outline}
 use Rattle.plc_print.proofs.Steps.{within, after, Found, then_found, if_found}
 use Rattle.plc_print.proofs.SpelledNames.{Bound, Ends, from_number, number_named, place_found, fits_found}
-use Rattle.plc_print.proofs.SpelledClauses.{if_some, OneMore, ManyMore, more_found, ClauseRead, line_found}
-
--- what is found in a list stands there
-placed : {A : Type 0} (p : A → Bool) (all : List A) (i : ℕ) (xs : List A) → ((j : ℕ) (x : A) → slice_get xs j ≡ Some x → slice_get all (i + j) ≡ Some x) → IfSome (position_from p i xs) (λ k. (x : A) × (slice_get all k ≡ Some x) × (p x ≡ true))
-placed p all i [] h = tt
-placed {A} p all i (x ∷ xs) h =
-    let here : i + 0 ≡ i = omega arith in
-    if_some (λ k. (y : A) × (slice_get all k ≡ Some y) × (p y ≡ true)) (p x) i (position_from p (i + 1) xs) (λ is. (x, ap (slice_get all) (sym here) ∙ h 0 x refl, is))
-    (placed p all (i + 1) xs (λ j y e. let there : i + 1 + j ≡ i + suc j = omega arith in ap (slice_get all) there ∙ h (suc j) y e))
-
-found_at : {A : Type 0} (p : A → Bool) (all : List A) → IfSome (position_from p 0 all) (λ k. (x : A) × (slice_get all k ≡ Some x) × (p x ≡ true))
-found_at p all = placed p all 0 all (λ j x e. let here : 0 + j ≡ j = omega arith in ap (slice_get all) here ∙ e)
+use Rattle.plc_print.proofs.SpelledClauses.{OneMore, ManyMore, more_found, ClauseRead, line_found}
 
 known_found : (at : ℕ) (o : Option Kind) → Has (Found (λ k. Unit {0}) (λ a. known a o)) (known at o)
 known_found at (Some k) = record { named = tt; again = λ a. refl }
@@ -71,7 +61,7 @@ module _ (file : File) (s : Scope) (bound : Bound file s) where
 
   named_op : (n : Text) (o : Option ℕ) → place_of n s.names.names ≡ o → Ends file s → IfSome (op_named file.ops o) (λ k. operation_name file (record { 0 = k }) ≡ n)
   named_op n None e ends = tt
-  named_op n (Some i) e ends = IfSome_then (position_from (λ (o : Op). o.name == i) 0 file.ops) (found_at (λ (o : Op). o.name == i) file.ops) (λ k h.
+  named_op n (Some i) e ends = IfSome_then (position_from (λ (o : Op). o.name == i) 0 file.ops) (position_passes (λ (o : Op). o.name == i) file.ops) (λ k h.
       from_number file (option_map (λ (x : Op). x.name) (slice_get file.ops k)) i n (ap (option_map (λ (x : Op). x.name)) h.1 ∙ ap Some (eqb-true h.0.name i h.2)) (number_named file s i n ends (place_found n s.names.names i e)))
 
   op_found : (n : Text) (at : ℕ) → Has (Found (IsOp n) (op_at s file.ops n)) (op_at s file.ops n at)
@@ -86,7 +76,7 @@ module _ (file : File) (s : Scope) (bound : Bound file s) where
 
   named_label : (n : Text) (o : Option ℕ) → place_of n s.names.names ≡ o → Ends file s → IfSome (label_named s.labels o) (λ l. label_name file l ≡ n)
   named_label n None e ends = tt
-  named_label n (Some i) e ends = IfSome_then (position_from (λ (k : ℕ). k == i) 0 s.labels) (found_at (λ (k : ℕ). k == i) s.labels) (λ l h.
+  named_label n (Some i) e ends = IfSome_then (position_from (λ (k : ℕ). k == i) 0 s.labels) (position_passes (λ (k : ℕ). k == i) s.labels) (λ l h.
       from_number file (slice_get file.labels l) i n (ends.labels l h.0 h.1 ∙ ap Some (eqb-true h.0 i h.2)) (number_named file s i n ends (place_found n s.names.names i e)))
 
   home_found : (n : Text) (l at : ℕ) → (Ends file s → label_name file l ≡ n) → Has (Found (IsLabel n) (λ a. with_op by_op a l)) (with_op by_op at l)

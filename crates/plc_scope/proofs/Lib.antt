@@ -1,3 +1,4 @@
 pub mod Sequence
 pub mod Holds
 pub mod Limits
+pub mod Finds

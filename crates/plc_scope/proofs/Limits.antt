@@ -1,5 +1,5 @@
 -- A limit and one more is a number of 32 bits.
-use Rattle.std.proofs.Common.{◌+◌, ◌<◌, ◌^◌, ℕ, arith}
+use Rattle.std.proofs.Common.{◌+◌, ◌<◌, ◌^◌, arith}
 use Rattle.plc_base.specs.declared.limits.What1.{What1}
 use Rattle.plc_base.specs.declared.limits.What1.TheVariants.{Fields, Shared, Calls, Ghosts, Lines, Values, Ops, Locals, Labels, Prims, News, Nesting, Invariants, Items, Literals, Obligations, Clauses, Points}
 use Rattle.plc_base.specs.Limits.{most}

@@ -1,7 +1,7 @@
 -- Which names are in reach, and what they stand for.
 use Rattle.std.specs.Prelude.{◌==◌, ◌&&◌, not, ◌+◌, ℕ, Bool, true, false, if◌then◌else◌, List, [], ◌∷◌, ◌++◌, length}
-use Rattle.std.specs.Prelude.{slice_get, codes, Option, Some, None, Result, Ok, Err}
-use Rattle.std.specs.List.{list_any}
+use Rattle.std.specs.Prelude.{slice_get, codes, Option, Some, None, option_map, option_and_then, Result, Ok, Err}
+use Rattle.std.specs.List.{list_any, position_from}
 use Rattle.plc_base.specs.Functions.{retire, is_retire}
 use Rattle.plc_base.specs.Limits.{most, most_names}
 use Rattle.plc_base.specs.Names.{NameList, place_of}
@@ -11,12 +11,15 @@ use Rattle.plc_base.specs.declared.limits.What1.TheVariants as limits
 use Rattle.plc_lang.specs.declared.syntax.Local.{Local}
 use Rattle.plc_lang.specs.declared.syntax.Var.{Var}
 use Rattle.plc_lang.specs.declared.syntax.Var.TheVariants.{Shared as SharedVar, Local as LocalVar}
+use Rattle.plc_lang.specs.Numbering.{pointer_number, data_number}
 use Rattle.plc_scope.specs.declared.fault.ParseFault.{ParseFault}
 use Rattle.plc_scope.specs.declared.fault.ParseFault.TheVariants as faults
 use Rattle.plc_scope.specs.declared.scope.Scope.{Scope}
 use Rattle.plc_scope.specs.declared.binding.Binding.{Binding}
 use Rattle.plc_scope.specs.declared.binding.Binding.TheVariants.{Taken, Shared, PointerField, DataField, Function}
 use Rattle.plc_scope.specs.declared.binding.Binding.TheVariants.{Auxiliary, Value, LocalOnly}
+use Rattle.plc_scope.specs.declared.binding.Found.{Found}
+use Rattle.plc_scope.specs.declared.binding.Found.TheVariants.{Local as LocalAt, OfFile}
 use Rattle.plc_scope.specs.declared.binding.Role.{Role}
 use Rattle.plc_scope.specs.declared.binding.Role.TheVariants.{PointerVariable as pointer_variable}
 use Rattle.plc_scope.specs.declared.binding.Role.TheVariants.{DataLocal as data_local, PointerField as pointer_field}
@@ -127,7 +130,27 @@ declared_parameter s name at =
 
 -- ---- uses
 
--- what a name is in an operation, by what it is outside
+-- the first local with a name's number
+abbrev pub local_named : List Local → ℕ → Option Found
+local_named ls number =
+    option_and_then (λ i. option_map (λ (l : Local). LocalAt i l.pointer) (slice_get ls i))
+    (position_from (λ (l : Local). l.name == number) 0 ls)
+
+-- a local goes before what its name stands for in the file, which is nothing
+abbrev pub local_or : Option Found → Option Binding → Option Found
+local_or (Some f) binding = Some f
+local_or None binding = option_map OfFile binding
+
+-- what the name with a number is found to be
+abbrev pub found_at : Scope → List Local → Option ℕ → Option Found
+found_at s ls None = None
+found_at s ls (Some i) = local_or (local_named ls i) (slice_get s.bindings i)
+
+-- what a name is found to be where these locals are in reach
+unfoldable pub found : Scope → List Local → List ℕ → Option Found
+found s ls name = found_at s ls (place_of name s.names.names)
+
+-- what a name is in an operation, by what it stands for in the file; a local of another operation is nothing
 abbrev pub role_outside : Binding → Option Role
 role_outside Taken = Some no_value
 role_outside (Shared k) = Some (pointer_variable (SharedVar k))
@@ -138,28 +161,19 @@ role_outside (Auxiliary g t) = Some (auxiliary g t)
 role_outside (Value g v) = Some (value g v)
 role_outside LocalOnly = None
 
--- the local with a name's number; pointers and data are counted apart
-abbrev pub role_inside : ℕ → ℕ → List Local → ℕ → Option Role
-role_inside pointers values [] number = None
-role_inside pointers values (l ∷ ls) number =
-    if l.name == number then Some (if l.pointer then pointer_variable (LocalVar pointers) else data_local values)
-    else (if l.pointer then role_inside (pointers + 1) values ls number
-    else role_inside pointers (values + 1) ls number)
+-- the local at a place; pointers and data are counted apart
+abbrev pub local_role : List Local → ℕ → Bool → Role
+local_role ls i true = pointer_variable (LocalVar (pointer_number ls i))
+local_role ls i false = data_local (data_number ls i)
 
--- a local goes before what its name is outside, which is nothing
-abbrev pub role_or : Option Role → Option Binding → Option Role
-role_or (Some r) binding = Some r
-role_or None (Some binding) = role_outside binding
-role_or None None = None
-
--- what the name with a number is
-abbrev pub role_at : Scope → Option ℕ → Option Role
-role_at s None = None
-role_at s (Some i) = role_or (role_inside 0 0 s.locals i) (slice_get s.bindings i)
+-- what is found, in the operation that has these locals
+abbrev pub role_found : List Local → Found → Option Role
+role_found ls (LocalAt i is_pointer) = Some (local_role ls i is_pointer)
+role_found ls (OfFile binding) = role_outside binding
 
 -- None where the name has no declaration in reach
 unfoldable pub role_of : Scope → List ℕ → Option Role
-role_of s name = role_at s (place_of name s.names.names)
+role_of s name = option_and_then (role_found s.locals) (found s s.locals name)
 
 -- a name at a place, of the wanted kind
 abbrev pub if_fits : {A : Type 0} → ℕ → Option A → Result A ParseFault

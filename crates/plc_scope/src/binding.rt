@@ -1,5 +1,5 @@
-// What names stand for. Outside operations a name has a binding; in an operation it has a role, which
-// is that of a local or else that of its binding.
+// What names stand for. A name of the file has a binding; where locals are in reach a name is found to
+// be one of them, or else what its binding says; in an operation it has a role by what it is found to be.
 use plc_base::{FieldId, FuncId};
 use plc_lang::Var;
 
@@ -19,6 +19,15 @@ pub enum Binding {
     Value(u16, u16),
     /// Locals of operations have the name, and nothing else.
     LocalOnly,
+}
+
+/// What a name is found to be where the locals of an operation are in reach.
+#[derive(Clone, Copy)]
+pub enum Found {
+    /// A local, by its number among all of these, and whether it is a pointer.
+    Local(u16, bool),
+    /// No local of these, but a name of the file.
+    OfFile(Binding),
 }
 
 /// What a name is in an operation.

@@ -14,7 +14,7 @@ mod primitives;
 mod refreshes;
 mod scope;
 
-pub use binding::{Binding, Role};
+pub use binding::{Binding, Found, Role};
 pub use calls::{Called, call};
 pub use conditions::condition;
 pub use fault::ParseFault;

@@ -1,17 +1,30 @@
-// What names mean in an operation: each is looked up among the present locals first, and then among
-// the names of the file; a name without a declaration is a fault before one of the wrong kind.
-ghost use Rattle.std.specs.Prelude.{◌≡◌, ◌<◌, ◌≤◌, ◌^◌, if◌then◌else◌, length};
+// What names mean: each is looked up among the locals in reach first, and then among the names of the
+// file. In an operation a name without a declaration is a fault before one of the wrong kind.
+ghost use Rattle.std.specs.Prelude.{◌≡◌, ◌<◌, ◌≤◌, length};
 ghost use Rattle.plc_scope.specs.Answers.{Gives};
-ghost use Rattle.plc_scope.specs.Scope.{most_locals, any_role, needed, role_of, role_at, role_outside};
-ghost use Rattle.plc_scope.specs.Scope.{role_inside, pointer_at, data_at, pointer_field_at, data_field_at};
+ghost use Rattle.plc_scope.specs.Scope.{most_locals, any_role, needed, local_named, found_at, found, role_of};
+ghost use Rattle.plc_scope.specs.Scope.{role_outside, local_role, pointer_at, data_at, pointer_field_at, data_field_at};
 ghost use Rattle.plc_scope.specs.Scope.{pointer_local_at, function_at, protecting_at, without_pointer_at};
 ghost use Rattle.plc_scope.specs.Scope.{auxiliary_at, value_at, thread_at};
 
-use crate::binding::{Binding, Role};
+use crate::binding::{Binding, Found, Role};
 use crate::fault::ParseFault;
 use crate::scope::Scope;
 use plc_base::{FieldId, FuncId};
-use plc_lang::{Local, Var};
+use plc_lang::{Local, Var, data_number, pointer_number};
+
+/// The first local with a name's number.
+fn local_named(locals: &[Local], number: u16) -> Option<Found>
+    requires { length locals.now ≤ most_locals }
+    ensures { result ≡ local_named locals.now number }
+{
+    for (place, local) in locals.iter().enumerate() {
+        if local.name == number {
+            return Some(Found::Local(place as u16, local.pointer));
+        }
+    }
+    None
+}
 
 /// What a name is outside operations; `None` where it only names locals.
 fn role_outside(binding: Binding) -> Option<Role>
@@ -29,34 +42,16 @@ fn role_outside(binding: Binding) -> Option<Role>
     }
 }
 
-/// The local with a name's number; pointers and data are counted apart.
-fn role_inside(locals: &[Local], number: u16) -> Option<Role>
-    requires { length locals.now < 2 ^ 16 }
-    ensures { result ≡ role_inside 0 0 locals.now number }
+/// The local at a place; pointers and data are counted apart.
+fn local_role(locals: &[Local], place: u16, is_pointer: bool) -> Role
+    requires few { length locals.now ≤ most_locals }
+    requires there { place < length locals.now }
+    ensures { result ≡ local_role locals.now place is_pointer }
 {
-    let mut pointers = 0;
-    let mut values = 0;
-    for local in locals {
-        if local.name == number {
-            return Some(local_role(*local, pointers, values));
-        }
-        if local.pointer {
-            pointers += 1;
-        } else {
-            values += 1;
-        }
-    }
-    None
-}
-
-/// What a local is, given how many pointers and how many data locals stand before it.
-fn local_role(local: Local, pointers: u16, values: u16) -> Role
-    ensures { result ≡ (if local.pointer then Role.PointerVariable (Var.Local pointers) else Role.DataLocal values) }
-{
-    if local.pointer {
-        Role::PointerVariable(Var::Local(pointers))
+    if is_pointer {
+        Role::PointerVariable(Var::Local(pointer_number(locals, place as usize) as u16))
     } else {
-        Role::DataLocal(values)
+        Role::DataLocal(data_number(locals, place as usize) as u16)
     }
 }
 
@@ -71,29 +66,43 @@ macro_rules! wanted {
 }
 
 impl Scope {
-    /// What the name with a number is in the present operation.
-    fn role_at(&self, number: u16) -> Option<Role>
-        requires { length self.now.locals ≤ most_locals }
-        ensures { result ≡ role_at self.now (Some number) }
+    /// What the name with a number is found to be.
+    fn found_at(&self, locals: &[Local], number: u16) -> Option<Found>
+        requires { length locals.now ≤ most_locals }
+        ensures { result ≡ found_at self.now locals.now (Some number) }
     {
-        if let Some(role) = role_inside(self.locals.as_slice(), number) {
-            return Some(role);
+        match local_named(locals, number) {
+            Some(local) => Some(local),
+            None => self
+                .bindings
+                .get(number as usize)
+                .map(|b| Found::OfFile(*b)),
         }
-        match self.bindings.get(number as usize) {
-            Some(binding) => role_outside(*binding),
+    }
+
+    /// What a name is found to be where these locals are in reach, or `None` where it is neither one of
+    /// them nor a name of the file.
+    #[tactic(auto, unfolding(crate::specs::Scope::found))]
+    pub fn find(&self, locals: &[Local], name: &[u8]) -> Option<Found>
+        requires { length locals.now ≤ most_locals }
+        ensures { result ≡ found self.now locals.now name.now }
+    {
+        match self.names.find(name) {
+            Some(number) => self.found_at(locals, number),
             None => None,
         }
     }
 
     /// What a name is in the present operation, or `None` where it has no declaration in reach.
-    #[tactic(auto, unfolding(crate::specs::Scope::role_of))]
+    #[tactic(auto, using(crate::proofs::Finds::place_within), unfolding(crate::specs::Scope::role_of))]
     pub fn role_of(&self, name: &[u8]) -> Option<Role>
         requires { length self.now.locals ≤ most_locals }
         ensures { result ≡ role_of self.now name.now }
     {
-        match self.names.find(name) {
-            Some(number) => self.role_at(number),
-            None => None,
+        let locals = self.locals.as_slice();
+        match self.find(locals, name)? {
+            Found::Local(place, is_pointer) => Some(local_role(locals, place, is_pointer)),
+            Found::OfFile(binding) => role_outside(binding),
         }
     }
 
@@ -102,10 +111,7 @@ impl Scope {
         requires { length self.now.locals ≤ most_locals }
         ensures { Gives (λ role. role) result (needed any_role at (role_of self.now name.now)) }
     {
-        match self.role_of(name) {
-            Some(role) => Ok(role),
-            None => Err(ParseFault::Undeclared { at }),
-        }
+        self.role_of(name).ok_or(ParseFault::Undeclared { at })
     }
 
     /// The pointer variable that a name at a place is; `Undeclared`, or `WrongSort` for another thing.
