@@ -14,7 +14,7 @@ use Rattle.plc_ground.specs.declared.terms.Tree.{Tree}
 use Rattle.plc_cert.specs.declared.cert.Cert.{Cert}
 use Rattle.plc_cert.specs.Shape as shape
 use Rattle.plc_cert.specs.Written as written
-use Rattle.plc_cert.specs.Written.{whole, items, members}
+use Rattle.plc_cert.specs.Written.{whole, items}
 use Rattle.plc_cert.specs.Fits.{NodeFits, TreeFits, PointerFits, EnvFits, CertFits, without_shared, stored}
 use Rattle.plc_cert.proofs.Shapes.{union_none, union_empty}
 

@@ -2,11 +2,9 @@
 -- is due to the contents, or a content is too long.
 use Rattle.std.proofs.Common.{◌≡◌, ◌≤◌, ◌<◌, inl, inr, ◌⊎◌, ℕ, List, length, Option, Some, None, refl, sym}
 use Rattle.std.proofs.Common.{◌∙◌, subst, arith}
-use Rattle.std.specs.Prelude.{◌≢◌, All, Contains, IfSome, IsSome, IsSomeAnd, slice_get}
+use Rattle.std.specs.Prelude.{◌≢◌, Contains, IfSome, IsSome, IsSomeAnd, slice_get}
 use Rattle.std.proofs.lemmas.List.Elements.{All-contains}
 use Rattle.plc_base.specs.Limits.{largest_file, largest_schedule, largest_certificate}
-use Rattle.plc_outside.specs.FixedBytes as fixed
-use Rattle.plc_outside.specs.HonestFiles as honest
 use Rattle.plc_outside.specs.Known.{KnownFiles, KnownSink}
 use Rattle.plc_outside.specs.Outside.{Rose, Appends}
 use Rattle.plc_outside.specs.Reading.{Reading}

@@ -1,6 +1,6 @@
 -- The labelled points of a file are as many as its labels, and each is a point of the operation whose statements have its label.
-use Rattle.std.proofs.Common.{◌≡◌, ℕ, zero, suc, ◌+◌, ◌<◌, ◌≤◌, ◌==◌, Bool, true, false, cond, ◌||◌, Option, Some, None, List, [], ◌∷◌, ◌++◌, length, slice_get, refl, sym, ap, ◌∙◌, subst, arith, inl, inr, ◌⊎◌, length-append}
-use Rattle.std.specs.List.{list_any, concat, range_with_len, position_from}
+use Rattle.std.proofs.Common.{◌≡◌, ℕ, zero, suc, ◌+◌, ◌<◌, ◌≤◌, ◌==◌, true, false, cond, Option, Some, None, List, [], ◌∷◌, ◌++◌, length, slice_get, refl, sym, ap, ◌∙◌, subst, arith, inl, inr, ◌⊎◌, length-append}
+use Rattle.std.specs.List.{concat, range_with_len, position_from}
 use Rattle.std.proofs.lemmas.List.FromFn.{length-range_with_len}
 use Rattle.std.proofs.lemmas.Bool.{cases_eq, eq-eqb, ne_eqb}
 use Rattle.plc_base.specs.declared.ids.PointId.{PointId}
@@ -12,10 +12,10 @@ use Rattle.plc_lang.specs.WellSorted.{LabelsAreNumbered}
 use Rattle.plc_flow.specs.declared.flow.Gate.{Gate}
 use Rattle.plc_flow.specs.declared.builder.Here.{Here}
 use Rattle.plc_flow.specs.Sides.{true_side, false_side}
-use Rattle.plc_flow.specs.Lowering.{during_made, point_of, side_made, statement_made, statements_made, blocks_made, op_made, ops_made, gate_made, made_of, flow_of}
+use Rattle.plc_flow.specs.Lowering.{during_made, point_of, side_made, statement_made, statements_made, blocks_made, op_made, ops_made, gate_made, flow_of}
 use Rattle.plc_flow.specs.WellFormed.{IsPointOf}
 use Rattle.plc_flow.specs.WellSorted.{IsPointOfLabel}
-use Rattle.plc_flow.proofs.Each.{Each, each_get}
+use Rattle.plc_flow.proofs.Each.{each_get}
 use Rattle.plc_flow.proofs.Within.{InRange, op_stays}
 
 -- ---- as many points as labels

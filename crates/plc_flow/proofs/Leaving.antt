@@ -1,7 +1,6 @@
 -- A step that leaves a point of an operation is of that operation.
-use Rattle.std.proofs.Common.{◌≡◌, ℕ, zero, suc, Bool, true, false, cond, Some, List, [], ◌∷◌, filter, slice_get, refl, sym, ap, ◌∙◌, subst}
+use Rattle.std.proofs.Common.{◌≡◌, ℕ, zero, suc, Bool, true, false, cond, Some, List, [], ◌∷◌, filter, slice_get, refl, sym, ◌∙◌, subst}
 use Rattle.std.proofs.lemmas.Bool.{eqb-true}
-use Rattle.plc_flow.specs.declared.flow.Step.{Step}
 use Rattle.plc_flow.specs.declared.flow.Gate.{Gate}
 use Rattle.plc_flow.specs.declared.flow.Flow.{Flow}
 use Rattle.plc_flow.specs.WellFormed.{IsPointOf, IsWellFormed}

@@ -1,5 +1,5 @@
 -- Where each thing stands in a file where its kind may stand, so it does in its flow.
-use Rattle.std.proofs.Common.{◌≡◌, ℕ, ◌≤◌, ◌<◌, Bool, true, false, not, cond, ◌+◌, Option, Some, None, List, [], ◌∷◌, ◌++◌, length, slice_get, count_by, refl, arith}
+use Rattle.std.proofs.Common.{◌≡◌, ℕ, ◌≤◌, ◌<◌, Bool, true, false, cond, ◌+◌, Option, Some, None, List, [], ◌∷◌, ◌++◌, length, slice_get, count_by, refl, arith}
 use Rattle.std.specs.List.{list_any}
 use Rattle.std.proofs.lemmas.Option.{slice_get_within}
 use Rattle.plc_base.specs.declared.ids.FuncId.{FuncId}
@@ -14,7 +14,7 @@ use Rattle.plc_lang.specs.declared.syntax.Cond.TheVariants as conds
 use Rattle.plc_lang.specs.declared.syntax.File.{File}
 use Rattle.plc_lang.specs.Allocation.{is_new}
 use Rattle.plc_lang.specs.Statements.{Statement, One, Atomic, Call, If, Choose, Loop, Break, Return, Skip, Label, Statements, Empty, Then, Blocks, NoBlock, And}
-use Rattle.plc_lang.specs.WellSorted.{IsWellSorted, AreWellSorted, CallIsWellSorted, ConditionIsWellSorted, is_call, is_claim, is_test, is_refresh, StepIsWellSorted, StatementIsWellSorted, StatementsAreWellSorted, BlocksAreWellSorted, FileIsWellSorted}
+use Rattle.plc_lang.specs.WellSorted.{IsWellSorted, AreWellSorted, CallIsWellSorted, ConditionIsWellSorted, is_call, is_test, is_refresh, StepIsWellSorted, StatementIsWellSorted, StatementsAreWellSorted, BlocksAreWellSorted, FileIsWellSorted}
 use Rattle.plc_flow.specs.declared.flow.Step.{Step}
 use Rattle.plc_flow.specs.Sides.{opposite, claim, equals, differs, becomes, true_side, false_side, call_side}
 use Rattle.plc_flow.specs.Lowering.{flow_of}

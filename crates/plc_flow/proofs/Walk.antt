@@ -1,5 +1,5 @@
 -- What holds of the primitives of each step that statements make, from what holds of the lists of primitives that statements put into steps.
-use Rattle.std.proofs.Common.{◌≡◌, ℕ, zero, suc, ◌+◌, Some, List, [], ◌∷◌, ◌++◌, slice_get, refl, sym, ap, ◌∙◌, subst, arith}
+use Rattle.std.proofs.Common.{◌≡◌, ℕ, suc, ◌+◌, Some, List, [], ◌∷◌, ◌++◌, slice_get, refl, ap, ◌∙◌, subst, arith}
 use Rattle.plc_base.specs.declared.ids.PointId.{PointId}
 use Rattle.plc_base.specs.declared.ids.OpId.{OpId}
 use Rattle.plc_lang.specs.declared.syntax.Primitive.{Primitive}

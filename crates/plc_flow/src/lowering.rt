@@ -62,16 +62,13 @@ fn finish(
 ) -> Result<Flow, FlowFault>
     ensures { result ≡ finished file gates out }
 {
-    match gates {
-        Ok(gates) => Ok(Flow {
-            file,
-            gates,
-            steps: out.steps,
-            points: out.points,
-            labels: out.labels,
-        }),
-        Err(fault) => Err(fault),
-    }
+    Ok(Flow {
+        file,
+        gates: gates?,
+        steps: out.steps,
+        points: out.points,
+        labels: out.labels,
+    })
 }
 
 /// The control flow of a file: points and steps over the whole file in order of creation, for each

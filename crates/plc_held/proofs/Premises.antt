@@ -18,7 +18,7 @@ use Rattle.plc_gc.specs.State.{GcState, count}
 use Rattle.plc_gc.specs.Clauses.{Holds}
 use Rattle.plc_flow.proofs.Each.{Each, each_so}
 use Rattle.plc_oblig.proofs.Lists.{each_flat, each_map}
-use Rattle.plc_held.proofs.Meaning.{Meaning, node_in, value_in, sort_in, IsTrueIn, node_value, equal_is_true, later_is_true, true_left, true_right}
+use Rattle.plc_held.proofs.Meaning.{Meaning, node_in, IsTrueIn, node_value, equal_is_true, later_is_true, true_left, true_right}
 use Rattle.plc_held.proofs.Scene.{Scene}
 use Rattle.plc_held.proofs.Reading.{IsReadFor, some_true}
 use Rattle.plc_held.proofs.Nodes.{IsBefore, IsTermBelow, new_is}

@@ -101,6 +101,7 @@ SiteFits file c (Over o) = (op : Op) × (slice_get file.ops o.0 ≡ Some op) × 
 SiteFits file c (At labels) = (k : ℕ) × (op : Op) × (slice_get file.ops k ≡ Some op) × LabelsFit file labels k
     × ClauseFits file op.locals true c
 
+-- an item, whose clause stands where it says
 abbrev pub ItemFits : File → Item → Type 0
 ItemFits file item = SiteFits file item.clause item.site
 

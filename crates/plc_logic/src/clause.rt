@@ -4,7 +4,7 @@
 use plc_base::{FieldId, Items, Names, OpId};
 
 /// What a field, or `retired`, is asked of: a node by its name.
-#[derive(Clone, Copy, Debug, PartialEq, Eq)]
+#[derive(Clone, Copy, Debug)]
 pub enum Base {
     /// A shared pointer.
     Shared(u16),
@@ -15,7 +15,7 @@ pub enum Base {
 }
 
 /// One side of an equation.
-#[derive(Clone, Copy, Debug, PartialEq, Eq)]
+#[derive(Clone, Copy, Debug)]
 pub enum Term {
     /// A shared pointer.
     Shared(u16),
@@ -40,7 +40,7 @@ pub enum Term {
 }
 
 /// What a term stands for, in a clause and in a ground set. The two sides of an equation have one sort.
-#[derive(Clone, Copy, Debug, PartialEq, Eq)]
+#[derive(Clone, Copy, PartialEq, Eq)]
 pub enum Sort {
     /// A node, or null.
     Node,
@@ -54,7 +54,7 @@ pub enum Sort {
 }
 
 /// A literal of a clause.
-#[derive(Clone, Copy, Debug, PartialEq, Eq)]
+#[derive(Clone, Copy, Debug)]
 pub enum Literal {
     /// Two terms of one sort are equal, or are not.
     Same { a: Term, b: Term, equal: bool },

@@ -19,9 +19,9 @@ use Rattle.plc_scope.specs.declared.fault.ParseFault.TheVariants as faults
 use Rattle.plc_scope.specs.declared.scope.Scope.{Scope}
 use Rattle.plc_scope.specs.declared.binding.Binding.{Binding}
 use Rattle.plc_scope.specs.declared.binding.Binding.TheVariants.{Taken, Shared, PointerField, DataField, Function, Auxiliary, Value, LocalOnly}
-use Rattle.plc_scope.specs.Scope.{if_fits, if_new, with_last}
+use Rattle.plc_scope.specs.Scope.{known, if_fits, if_new, with_last}
 use Rattle.plc_scope.proofs.Finds.{if_some, position_passes, made_is}
-use Rattle.plc_scope.proofs.Holds.{Has, next, any, has_along, below}
+use Rattle.plc_scope.proofs.Holds.{Has, next, any, has_along, below, known_has}
 use Rattle.plc_logic.specs.declared.clause.Base.{Base}
 use Rattle.plc_logic.specs.declared.clause.Base.TheVariants as bases
 use Rattle.plc_logic.specs.declared.clause.Term.{Term}
@@ -40,7 +40,7 @@ use Rattle.plc_lang.specs.Labels.{block_labels, labels_by_op, has_label, op_of_l
 use Rattle.plc_outparse.specs.declared.kind.Kind.{Kind}
 use Rattle.plc_outparse.specs.declared.kind.Kind.TheVariants as kinds
 use Rattle.plc_outparse.specs.Fit.{holds_threads, NamesOf, OutlinesFit}
-use Rattle.plc_outparse.specs.Reach.{Reach, auxiliary_sort, kind_outside, kind_of_local, kind_found, declared_kind, kind_or_bound, kind_of, known, as_base, base_at, base_term, as_term, as_field}
+use Rattle.plc_outparse.specs.Reach.{Reach, auxiliary_sort, binding_kind, local_kind, kind_found, declared_kind, kind_or_bound, kind_of, as_base, base_at, base_term, as_term, as_field}
 use Rattle.plc_outparse.specs.Sizes.{term_size, literal_size, bound_size, depth_size}
 use Rattle.plc_scope.specs.Limits.{stands_at}
 use Rattle.plc_lang.specs.Locals.{locals_or_none, locals_of}
@@ -73,24 +73,24 @@ ghost_sorts : (g : ℕ) (t : Bool) (vs : List ℕ) → t ≡ holds_threads vs �
 ghost_sorts g t [] e = ap (auxiliary_sort g) e
 ghost_sorts g t (v ∷ vs) e = ap (auxiliary_sort g) e
 
-local_fits : (w : InReach) (i : ℕ) (l : Local) (b : Bool) → l.pointer ≡ b → slice_get w.locals i ≡ Some l → KindFits w (kind_of_local i b)
+local_fits : (w : InReach) (i : ℕ) (l : Local) (b : Bool) → l.pointer ≡ b → slice_get w.locals i ≡ Some l → KindFits w (local_kind i b)
 local_fits w i l true p e = (l, e, p)
 local_fits w i l false p e = (l, e, p)
 
-outside_fits : (w : InReach) (s : Scope) → NamesOf s w.file → (i : ℕ) (b : Binding) → slice_get s.bindings i ≡ Some b → IfSome (kind_outside b) (KindFits w)
-outside_fits w s names i Taken e = tt
-outside_fits w s names i (Shared k) e = names.shared i k e
-outside_fits w s names i (PointerField f) e = let d = names.pointer_field i f e in (d.0, d.1, ap pointer_sort (sym d.2))
-outside_fits w s names i (DataField f) e = let d = names.data_field i f e in (d.0, d.1, ap pointer_sort (sym d.2))
-outside_fits w s names i (Function f p) e = tt
-outside_fits w s names i (Auxiliary g t) e = let h = names.auxiliary i g t e in (h.0, h.1, ghost_sorts g t h.0.values h.2)
-outside_fits w s names i (Value g v) e = names.value i g v e
-outside_fits w s names i LocalOnly e = tt
+binding_fits : (w : InReach) (s : Scope) → NamesOf s w.file → (i : ℕ) (b : Binding) → slice_get s.bindings i ≡ Some b → IfSome (binding_kind b) (KindFits w)
+binding_fits w s names i Taken e = tt
+binding_fits w s names i (Shared k) e = names.shared i k e
+binding_fits w s names i (PointerField f) e = let d = names.pointer_field i f e in (d.0, d.1, ap pointer_sort (sym d.2))
+binding_fits w s names i (DataField f) e = let d = names.data_field i f e in (d.0, d.1, ap pointer_sort (sym d.2))
+binding_fits w s names i (Function f p) e = tt
+binding_fits w s names i (Auxiliary g t) e = let h = names.auxiliary i g t e in (h.0, h.1, ghost_sorts g t h.0.values h.2)
+binding_fits w s names i (Value g v) e = names.value i g v e
+binding_fits w s names i LocalOnly e = tt
 
 declared_fits : (w : InReach) (s : Scope) → NamesOf s w.file → (name : Text) → IfSome (declared_kind s w.locals name) (KindFits w)
 unfolding declared_kind
 declared_fits w s names name =
-    made_is kind_found (KindFits w) s w.locals name (λ n i l at there same. local_fits w i l l.pointer refl there) (λ n b at there. outside_fits w s names n b there)
+    made_is kind_found (KindFits w) s w.locals name (λ n i l at there same. local_fits w i l l.pointer refl there) (λ n b at there. binding_fits w s names n b there)
 
 -- a place in a list is below its length
 place_below : (name : Text) (names : List Text) (i : ℕ) → place_of name names ≡ Some i → i < length names
@@ -112,10 +112,6 @@ module _ (file : File) (r : Reach) (names : NamesOf r.scope file) where
   unfolding kind_of
   kind_fits name = bound_fits w (place_of name r.bound.names) (declared_kind r.scope r.locals name) (place_below name r.bound.names) (declared_fits w r.scope names name)
 
-  known_fits : (at : ℕ) (o : Option Kind) → IfSome o (KindFits w) → Has (KindFits w) (known at o)
-  known_fits at (Some k) h = h
-  known_fits at None h = tt
-
   base_fits : (k : Kind) → KindFits w k → IfSome (as_base k) (IsNode w)
   base_fits (kinds.Node b) h = h
   base_fits (kinds.Data i) h = tt
@@ -126,7 +122,7 @@ module _ (file : File) (r : Reach) (names : NamesOf r.scope file) where
 
   base_is_node : (name : Text) (at : ℕ) → Has (IsNode w) (base_at r name at)
   unfolding base_at
-  base_is_node name at = next (KindFits w) (IsNode w) (known at (kind_of r name)) _ (known_fits at (kind_of r name) (kind_fits name)) (λ k h. fitting (IsNode w) at (as_base k) (base_fits k h))
+  base_is_node name at = next (KindFits w) (IsNode w) (known at (kind_of r name)) _ (known_has (KindFits w) at (kind_of r name) (kind_fits name)) (λ k h. fitting (IsNode w) at (as_base k) (base_fits k h))
 
   -- ---- terms
 
@@ -162,10 +158,10 @@ module _ (file : File) (r : Reach) (names : NamesOf r.scope file) where
   term_sorted : (at : ℕ) (t : TermTree) → Has Sorted (term_means r at t)
   unfolding term_means
   term_sorted at (PlaceTerm (PlaceOf n None)) =
-      next (KindFits w) Sorted (known at (kind_of r n)) _ (known_fits at (kind_of r n) (kind_fits n)) (λ k h. fitting Sorted at (as_term k) (alone_sorted k h))
+      next (KindFits w) Sorted (known at (kind_of r n)) _ (known_has (KindFits w) at (kind_of r n) (kind_fits n)) (λ k h. fitting Sorted at (as_term k) (alone_sorted k h))
   term_sorted at (PlaceTerm (PlaceOf n (Some f))) =
       next (IsNode w) Sorted (base_at r n at) _ (base_is_node n at) (λ b node.
-      next (KindFits w) Sorted (known (at + 2) (kind_of r f)) _ (known_fits (at + 2) (kind_of r f) (kind_fits f)) (λ k h. fitting Sorted (at + 2) (as_field b k) (field_sorted b k node h)))
+      next (KindFits w) Sorted (known (at + 2) (kind_of r f)) _ (known_has (KindFits w) (at + 2) (kind_of r f) (kind_fits f)) (λ k h. fitting Sorted (at + 2) (as_field b k) (field_sorted b k node h)))
   term_sorted at NullTerm = refl
   term_sorted at (NumberTerm n) = refl
   term_sorted at MeTerm = me_sorted r.in_operation at refl

@@ -83,6 +83,7 @@ head_size InvariantHead = 1
 head_size (OverHead name) = 3
 head_size (AtHead name) = 2
 
+-- the beginning of an item, and what is after it
 abbrev pub item_head_of : List TokenKind → Option (HeadTree × List TokenKind)
 item_head_of (Word Inv ∷ rest) = Some (InvariantHead, rest)
 item_head_of (Word Over ∷ rest) = read_as OverHead (name_symbol_of Colon rest)

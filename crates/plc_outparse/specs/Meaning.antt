@@ -18,7 +18,7 @@ use Rattle.plc_scope.specs.declared.fault.ParseFault.{ParseFault}
 use Rattle.plc_scope.specs.declared.fault.ParseFault.TheVariants as faults
 use Rattle.plc_scope.specs.declared.scope.Scope.{Scope}
 use Rattle.plc_scope.specs.Limits.{within_limit, stands_at}
-use Rattle.plc_scope.specs.Scope.{◌>>=◌, if_fits, if_new, with_last}
+use Rattle.plc_scope.specs.Scope.{◌>>=◌, known, if_fits, if_new, with_last}
 use Rattle.plc_logic.specs.declared.clause.Term.{Term}
 use Rattle.plc_logic.specs.declared.clause.Term.TheVariants as terms
 use Rattle.plc_logic.specs.declared.clause.Literal.{Literal}
@@ -33,7 +33,7 @@ use Rattle.plc_logic.specs.declared.clause.Sort.TheVariants as sorts
 use Rattle.plc_logic.specs.Sorts.{same_sort}
 use Rattle.plc_outparse.specs.declared.kind.Kind.{Kind}
 use Rattle.plc_outparse.specs.Sizes.{term_size, literal_size, bound_size, depth_size}
-use Rattle.plc_outparse.specs.Reach.{Reach, declared_kind, kind_of, known, base_at, as_term, as_field}
+use Rattle.plc_outparse.specs.Reach.{Reach, declared_kind, kind_of, base_at, as_term, as_field}
 use Rattle.plc_lang.specs.Labels.{labels_by_op, op_of_label}
 
 -- ---- parts

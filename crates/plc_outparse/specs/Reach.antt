@@ -1,18 +1,17 @@
 -- What names are in the clauses of an outline. Locals of an operation have one numbering here; all names of the file
 -- keep what they stand for.
-use Rattle.std.specs.Prelude.{ℕ, Bool, true, false, List, Option, Some, None, option_and_then, Result, Ok, Err}
+use Rattle.std.specs.Prelude.{ℕ, Bool, true, false, List, Option, Some, None, option_and_then, Result}
 use Rattle.plc_base.specs.Names.{NameList, place_of}
 use Rattle.plc_lang.specs.declared.syntax.Local.{Local}
 use Rattle.plc_syntax.specs.Trees.{Text}
 use Rattle.plc_scope.specs.declared.fault.ParseFault.{ParseFault}
-use Rattle.plc_scope.specs.declared.fault.ParseFault.TheVariants as faults
 use Rattle.plc_scope.specs.declared.scope.Scope.{Scope}
 use Rattle.plc_scope.specs.declared.binding.Binding.{Binding}
 use Rattle.plc_scope.specs.declared.binding.Binding.TheVariants.{Taken, Shared, PointerField, DataField, Function}
 use Rattle.plc_scope.specs.declared.binding.Binding.TheVariants.{Auxiliary, Value, LocalOnly}
 use Rattle.plc_scope.specs.declared.binding.Found.{Found}
 use Rattle.plc_scope.specs.declared.binding.Found.TheVariants.{Local as LocalAt, OfFile}
-use Rattle.plc_scope.specs.Scope.{◌>>=◌, if_fits, found}
+use Rattle.plc_scope.specs.Scope.{needed, found}
 use Rattle.plc_logic.specs.declared.clause.Base.{Base}
 use Rattle.plc_logic.specs.declared.clause.Base.TheVariants as bases
 use Rattle.plc_logic.specs.declared.clause.Term.{Term}
@@ -35,25 +34,25 @@ auxiliary_sort g true = sorts.Thread
 auxiliary_sort g false = sorts.Value g
 
 -- what a name of the file is; functions, operations, labels and the struct have no value
-abbrev pub kind_outside : Binding → Option Kind
-kind_outside Taken = Some kinds.NoValue
-kind_outside (Shared k) = Some (kinds.Node (bases.Shared k))
-kind_outside (PointerField f) = Some (kinds.Field f sorts.Node)
-kind_outside (DataField f) = Some (kinds.Field f sorts.Number)
-kind_outside (Function f p) = Some kinds.NoValue
-kind_outside (Auxiliary g t) = Some (kinds.Auxiliary g (auxiliary_sort g t))
-kind_outside (Value g v) = Some (kinds.Value g v)
-kind_outside LocalOnly = None
+abbrev pub binding_kind : Binding → Option Kind
+binding_kind Taken = Some kinds.NoValue
+binding_kind (Shared k) = Some (kinds.Node (bases.Shared k))
+binding_kind (PointerField f) = Some (kinds.Field f sorts.Node)
+binding_kind (DataField f) = Some (kinds.Field f sorts.Number)
+binding_kind (Function f p) = Some kinds.NoValue
+binding_kind (Auxiliary g t) = Some (kinds.Auxiliary g (auxiliary_sort g t))
+binding_kind (Value g v) = Some (kinds.Value g v)
+binding_kind LocalOnly = None
 
 -- what a local is, by its number
-abbrev pub kind_of_local : ℕ → Bool → Kind
-kind_of_local i true = kinds.Node (bases.Local i)
-kind_of_local i false = kinds.Data i
+abbrev pub local_kind : ℕ → Bool → Kind
+local_kind i true = kinds.Node (bases.Local i)
+local_kind i false = kinds.Data i
 
 -- what is found, to a clause
 abbrev pub kind_found : Found → Option Kind
-kind_found (LocalAt i is_pointer) = Some (kind_of_local i is_pointer)
-kind_found (OfFile binding) = kind_outside binding
+kind_found (LocalAt i is_pointer) = Some (local_kind i is_pointer)
+kind_found (OfFile binding) = binding_kind binding
 
 -- what a name is that isn't quantified; None where it has no declaration in reach, as a local of another operation
 unfoldable pub declared_kind : Scope → List Local → Text → Option Kind
@@ -68,11 +67,6 @@ kind_or_bound None k = k
 unfoldable pub kind_of : Reach → Text → Option Kind
 kind_of r name = kind_or_bound (place_of name r.bound.names) (declared_kind r.scope r.locals name)
 
--- a name at a place has to be declared
-abbrev pub known : ℕ → Option Kind → Result Kind ParseFault
-known at (Some k) = Ok k
-known at None = Err (faults.Undeclared at)
-
 -- what a field may be asked of: a shared pointer, a pointer local, a quantified name
 abbrev pub as_base : Kind → Option Base
 as_base (kinds.Node b) = Some b
@@ -84,9 +78,7 @@ as_base kinds.NoValue = None
 
 -- the base that is named at a place
 unfoldable pub base_at : Reach → Text → ℕ → Result Base ParseFault
-base_at r name at = do
-  k ← known at (kind_of r name)
-  if_fits at (as_base k)
+base_at r name at = needed as_base at (kind_of r name)
 
 -- a base alone is a term
 abbrev pub base_term : Base → Term

@@ -21,6 +21,7 @@ use Rattle.plc_outparse.specs.declared.item.Parts.{Parts as PartsSoFar}
 use Rattle.plc_outparse.specs.Meaning.{Parts}
 use Rattle.plc_outparse.specs.Reach.{Reach}
 
+-- a side of an equation
 abbrev pub side_tree : Side → TermTree
 side_tree (sides.Place p) = PlaceTerm (place_tree p)
 side_tree sides.Null = NullTerm
@@ -28,20 +29,24 @@ side_tree (sides.Number n) = NumberTerm n
 side_tree sides.Me = MeTerm
 side_tree sides.None = NoneTerm
 
+-- a literal
 abbrev pub literal_tree : LiteralForm → LiteralTree
 literal_tree (literals.Retired n) = FlagLiteral (RetiredFlag n.now)
 literal_tree (literals.NotRetired n) = NotLiteral (RetiredFlag n.now)
 literal_tree (literals.Equation a e b) = EqualityLiteral (side_tree a) e (side_tree b)
 
+-- the quantified names of a clause
 abbrev pub quantified_tree : Quantified → BoundTree
 quantified_tree quantified.None = NoBound
 quantified_tree (quantified.All n m) = AllOf n.now (text_or_none m)
 
+-- the beginning of an item
 abbrev pub head_tree : Head → HeadTree
 head_tree heads.Invariant = InvariantHead
 head_tree (heads.Over n) = OverHead n.now
 head_tree (heads.At n) = AtHead n.now
 
+-- what is in reach in a clause
 abbrev pub reach_of : InReach → Reach
 reach_of r = record { scope = r.scope.now; locals = r.locals.now; in_operation = r.in_operation; bound = r.bound.now }
 

@@ -10,8 +10,8 @@ ghost use Rattle.plc_outparse.specs.Views.{side_tree, literal_tree, quantified_t
 
 use crate::form::{LiteralForm, Quantified, Side};
 use plc_forms::{
-    Rest, comma_name_at, first, name_at, name_symbol_at, place_at, symbol_at, symbol_name_at,
-    word_at, word_symbol_at,
+    Rest, comma_name_at, first, name_at, name_symbol_at, place_at, symbol_at, word_at,
+    word_symbol_at,
 };
 use plc_lex::{Keyword, Symbol, TokenKind};
 

@@ -2,9 +2,8 @@
 // the name is in the file. A local of another operation has no declaration in reach.
 ghost use Rattle.std.specs.Prelude.{◌≡◌, ◌≤◌, length};
 ghost use Rattle.plc_scope.specs.Answers.{Gives};
-ghost use Rattle.plc_scope.specs.Scope.{most_locals};
-ghost use Rattle.plc_outparse.specs.Reach.{auxiliary_sort, kind_outside, kind_of_local, declared_kind, kind_of, known};
-ghost use Rattle.plc_outparse.specs.Reach.{base_at};
+ghost use Rattle.plc_scope.specs.Scope.{most_locals, known};
+ghost use Rattle.plc_outparse.specs.Reach.{auxiliary_sort, binding_kind, local_kind, declared_kind, kind_of, base_at};
 ghost use Rattle.plc_outparse.specs.Views.{reach_of};
 
 use crate::kind::Kind;
@@ -37,8 +36,8 @@ fn auxiliary_sort(g: u16, of_threads: bool) -> Sort
 }
 
 /// What a name of the file is to a clause.
-fn kind_outside(binding: Binding) -> Option<Kind>
-    ensures { result ≡ kind_outside binding }
+fn binding_kind(binding: Binding) -> Option<Kind>
+    ensures { result ≡ binding_kind binding }
 {
     match binding {
         Binding::Taken | Binding::Function(..) => Some(Kind::NoValue),
@@ -54,8 +53,8 @@ fn kind_outside(binding: Binding) -> Option<Kind>
 }
 
 /// What a local is to a clause.
-fn kind_of_local(number: u16, pointer: bool) -> Kind
-    ensures { result ≡ kind_of_local number pointer }
+fn local_kind(number: u16, pointer: bool) -> Kind
+    ensures { result ≡ local_kind number pointer }
 {
     if pointer {
         Kind::Node(Base::Local(number))
@@ -70,9 +69,10 @@ pub fn declared_kind(scope: &Scope, locals: &[Local], name: &[u8]) -> Option<Kin
     requires { length locals.now ≤ most_locals }
     ensures { result ≡ declared_kind scope.now locals.now name.now }
 {
-    match scope.find(locals, name)? {
-        Found::Local(i, is_pointer) => Some(kind_of_local(i, is_pointer)),
-        Found::OfFile(binding) => kind_outside(binding),
+    match scope.find(locals, name) {
+        Some(Found::Local(i, is_pointer)) => Some(local_kind(i, is_pointer)),
+        Some(Found::OfFile(binding)) => binding_kind(binding),
+        None => None,
     }
 }
 

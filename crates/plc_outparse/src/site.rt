@@ -48,11 +48,9 @@ pub fn op_at(context: &Context, name: &[u8], at: u32) -> Result<u16, ParseFault>
     requires { IsWithinLimits context.now }
     ensures { Gives (λ op. op) result (op_at context.now.scope.now context.now.ops.now name.now at) }
 {
+    // A name without a declaration is a fault before one of another thing.
     let _kind = known(context.scope, &[], name, at)?;
-    match op_named(context.scope, context.ops, name) {
-        Some(op) => Ok(op),
-        None => Err(ParseFault::WrongSort { at }),
-    }
+    op_named(context.scope, context.ops, name).ok_or(ParseFault::WrongSort { at })
 }
 
 /// The locals of an operation of a file, of which there are not too many.
@@ -91,6 +89,7 @@ fn label_at(context: &Context, name: &[u8], at: u32) -> Result<(u16, usize), Par
     requires limits { IsWithinLimits context.now }
     ensures { Gives (λ r. (r.0, r.1)) result (label_at context.now.scope.now context.now.by_op.now name.now at) }
 {
+    // A name without a declaration is a fault before one of another thing.
     let _kind = known(context.scope, &[], name, at)?;
     let Some(label) = label_named(context.scope, name) else {
         return Err(ParseFault::WrongSort { at });

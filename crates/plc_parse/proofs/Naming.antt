@@ -8,6 +8,7 @@ use Rattle.plc_lang.specs.declared.syntax.Op.{Op}
 use Rattle.plc_lang.specs.Allocation.{is_new}
 use Rattle.plc_lang.specs.Fit.{NamesWhatIsThere}
 use Rattle.plc_lang.specs.Shape.{Shape, VarIn, VarOrNullIn, ArgIn, PrimitiveIn, PrimitivesIn, CondIn, StatementIn, StatementsIn, BlocksIn}
+use Rattle.plc_base.specs.Functions.{is_retire}
 use Rattle.plc_base.specs.Limits.{most}
 use Rattle.plc_base.specs.declared.limits.What1.TheVariants as limits
 use Rattle.plc_base.specs.declared.ids.FieldId.{FieldId}
@@ -22,7 +23,7 @@ use Rattle.plc_scope.specs.declared.binding.Binding.{Binding}
 use Rattle.plc_scope.specs.declared.binding.Binding.TheVariants.{Taken, Shared, PointerField, DataField, Function, Auxiliary, Value, LocalOnly}
 use Rattle.plc_scope.specs.declared.binding.Role.{Role}
 use Rattle.plc_scope.specs.declared.binding.Role.TheVariants.{PointerVariable as pointer_variable, DataLocal as data_local, PointerField as pointer_field, DataField as data_field}
-use Rattle.plc_scope.specs.Scope.{◌>>=◌, first_scope, needed, any_role, role_of, declared, declared_label, declared_parameter, pointer_at, pointer_local_at, data_at, pointer_field_at, data_field_at, function_at, auxiliary_at, protecting_at, without_pointer_at}
+use Rattle.plc_scope.specs.Scope.{◌>>=◌, first_scope, known, role_of, declared, declared_label, declared_parameter, pointer_at, pointer_local_at, data_at, pointer_field_at, data_field_at, function_at, auxiliary_at, protecting_at, without_pointer_at}
 use Rattle.plc_scope.specs.Primitives.{pointer_value, data_value, value_into, pointer_atom, data_atom, atom_into, set_means, refresh_from, refresh_name_means, refresh_means, ghost_value_means, ghost_set_means, pointer_equality, pointer_test, data_test, test_of, test_means, pointer_or_null, condition_means, primitive_means, initial_means, CallMeaning, argument_means, call_means}
 use Rattle.plc_parse.specs.declared.unit.Unit.{Unit as FileUnit}
 use Rattle.plc_scope.specs.Limits.{stands_at}
@@ -77,9 +78,9 @@ module _ (h : Shape) (s : Scope) (r : Reaches h s) where
 
   set_in : (at : ℕ) (t : SetTree) → Has (PrimitiveIn h) (set_means s at t)
   unfolding set_means
-  set_in at (SetName n v) = next (RoleIn h) (PrimitiveIn h) (needed any_role at (role_of s n)) _ (any_in h s r n at) (λ left a. value_into_in (at + 2) v left at a)
+  set_in at (SetName n v) = next (RoleIn h) (PrimitiveIn h) (known at (role_of s n)) _ (any_in h s r n at) (λ left a. value_into_in (at + 2) v left at a)
   set_in at (SetField n f a) = next (VarIn h) (PrimitiveIn h) (pointer_at s n at) _ (pointer_in h s r n at) (λ p is.
-      next (RoleIn h) (PrimitiveIn h) (needed any_role (at + 2) (role_of s f)) _ (any_in h s r f (at + 2)) (λ field b. atom_into_in p (at + 4) a field (at + 2) is b))
+      next (RoleIn h) (PrimitiveIn h) (known (at + 2) (role_of s f)) _ (any_in h s r f (at + 2)) (λ field b. atom_into_in p (at + 4) a field (at + 2) is b))
 
   refresh_from_in : (p at : ℕ) (place : PlaceTree) → PointerIn h p → Has (PrimitiveIn h) (refresh_from s p at place)
   refresh_from_in p at (PlaceOf n None) is = next (VarIn h) (PrimitiveIn h) (pointer_at s n at) _ (pointer_in h s r n at) (λ q a. (is, a))
@@ -127,7 +128,7 @@ module _ (h : Shape) (s : Scope) (r : Reaches h s) where
 
   test_in : (at : ℕ) (t : TestTree) → Has (PrimitiveIn h) (test_means s at t)
   unfolding test_means
-  test_in at (Compares n c a) = next (RoleIn h) (PrimitiveIn h) (needed any_role at (role_of s n)) _ (any_in h s r n at) (λ left b. test_of_in at c a left b)
+  test_in at (Compares n c a) = next (RoleIn h) (PrimitiveIn h) (known at (role_of s n)) _ (any_in h s r n at) (λ left b. test_of_in at c a left b)
 
   or_null_in : (at : ℕ) (n : Option Text) → Has (VarOrNullIn h) (pointer_or_null s at n)
   or_null_in at None = tt
@@ -166,7 +167,7 @@ module _ (h : Shape) (s : Scope) (r : Reaches h s) where
   argument_in f false at NoArgument = tt
   argument_in f false at a = tt
   argument_in f true at NoArgument = tt
-  argument_in f true at NullArgument = unless CallIn (f.0 == 0) _ _ (λ other. tt)
+  argument_in f true at NullArgument = unless CallIn (is_retire f) _ _ (λ other. tt)
   argument_in f true at (NameArgument n) = next (VarIn h) CallIn (pointer_at s n (at + 2)) _ (pointer_in h s r n (at + 2)) (λ p a. a)
   argument_in f true at (ActiveArgument n) = next (VarIn h) CallIn (pointer_at s n (at + 3)) _ (pointer_in h s r n (at + 3)) (λ p a. a)
 

@@ -1,13 +1,13 @@
 -- Tokens have one fault: those of syntax and nesting are one by themselves, with either the tokens are no file without blocks too deep, and a
 -- file means one thing.
-use Rattle.std.proofs.Common.{◌≡◌, ◌≢◌, List, Result, Ok, Err, refl, ap, sym, ◌∙◌}
+use Rattle.std.proofs.Common.{◌≡◌, ◌≢◌, List, Result, Ok, Err, ap, sym, ◌∙◌}
 use Rattle.plc_lex.specs.declared.token.Token.{Token}
 use Rattle.plc_syntax.specs.Syntax.{kinds}
 use Rattle.plc_syntax.proofs.Places.{faults_one}
 use Rattle.plc_scope.specs.declared.fault.ParseFault.{ParseFault}
 use Rattle.plc_scope.specs.declared.fault.ParseFault.TheVariants as faults
 use Rattle.plc_parse.specs.declared.unit.Unit.{Unit as FileUnit}
-use Rattle.plc_parse.specs.Units.{AreRead, IsUnitOf, IsFaultOf, no_file, too_deep, no_unit, no_memory, FaultsAreOne}
+use Rattle.plc_parse.specs.Units.{AreRead, IsFaultOf, no_file, too_deep, no_unit, no_memory, FaultsAreOne}
 use Rattle.plc_parse.proofs.Answering.{one_meaning}
 
 module _ (ts : List Token) where

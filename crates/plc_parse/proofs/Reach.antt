@@ -20,8 +20,8 @@ use Rattle.plc_scope.specs.declared.binding.Binding.{Binding}
 use Rattle.plc_scope.specs.declared.binding.Binding.TheVariants.{Taken, Shared, PointerField, DataField, Function, Auxiliary, Value, LocalOnly}
 use Rattle.plc_scope.specs.declared.binding.Role.{Role}
 use Rattle.plc_scope.specs.declared.binding.Role.TheVariants.{PointerVariable as pointer_variable, DataLocal as data_local, PointerField as pointer_field, DataField as data_field, Function as function, Auxiliary as auxiliary, Value as value, NoValue as no_value}
-use Rattle.plc_scope.specs.Scope.{◌>>=◌, most_locals, first_scope, if_new, with_name, declared, declared_label, has_local, may_name_local, local_number, with_local, declared_local, declared_parameter, role_outside, local_role, role_found, role_of, if_fits, needed, any_role, as_pointer, as_pointer_local, as_data, as_pointer_field, as_data_field, as_protecting, as_without_pointer, pointer_at, pointer_local_at, data_at, pointer_field_at, data_field_at, protecting_at, without_pointer_at}
-use Rattle.plc_scope.proofs.Holds.{Has, next, unless, if_ok}
+use Rattle.plc_scope.specs.Scope.{◌>>=◌, most_locals, first_scope, if_new, with_name, declared, declared_label, has_local, may_name_local, local_number, with_local, declared_local, declared_parameter, binding_role, local_role, role_found, role_of, if_fits, known, needed, as_pointer, as_pointer_local, as_data, as_pointer_field, as_data_field, as_protecting, as_without_pointer, pointer_at, pointer_local_at, data_at, pointer_field_at, data_field_at, protecting_at, without_pointer_at}
+use Rattle.plc_scope.proofs.Holds.{Has, next, unless, if_ok, known_has}
 use Rattle.plc_scope.proofs.Finds.{made_is, below_count}
 
 -- ---- what names stand for
@@ -136,12 +136,12 @@ data_within (l ∷ ls) =
     one false false = omega arith
 
 module _ (h : Shape) where
-  outside_in : (b : Binding) → BindingIn h.shared h.fields b → IfSome (role_outside b) (RoleIn h)
-  outside_in Taken is = tt
-  outside_in (Auxiliary g t) is = tt
-  outside_in (Value g v) is = tt
-  outside_in LocalOnly is = tt
-  outside_in b is = is
+  binding_in : (b : Binding) → BindingIn h.shared h.fields b → IfSome (binding_role b) (RoleIn h)
+  binding_in Taken is = tt
+  binding_in (Auxiliary g t) is = tt
+  binding_in (Value g v) is = tt
+  binding_in LocalOnly is = tt
+  binding_in b is = is
 
   -- a local with its number
   local_in : (ls : List Local) → count_by is_pointer ls ≤ h.pointers → count_by is_parameter ls + count_by is_other_data ls ≤ h.values
@@ -150,14 +150,14 @@ module _ (h : Shape) where
   local_in ls a b i l there false e = (let below = below_count is_data ls i l there (ap not e) in let all = data_within ls in omega (arith, b, below, all))
 
 -- what a name is, where this holds of what names stand for, and that of what they are
-module _ (B : Binding → Type 0) (R : Role → Type 0) (outside_is : (b : Binding) → B b → IfSome (role_outside b) R) where
+module _ (B : Binding → Type 0) (R : Role → Type 0) (binding_is : (b : Binding) → B b → IfSome (binding_role b) R) where
   pub role_is : (s : Scope) (name : Text) → Bound B s → ((i : ℕ) (l : Local) → slice_get s.locals i ≡ Some l → R (local_role s.locals i l.pointer)) → IfSome (role_of s name) R
   unfolding role_of
   role_is s name each locals =
-      made_is (role_found s.locals) R s s.locals name (λ n i l at there same. locals i l there) (λ n b at there. outside_is b (bound_at B s each n b there))
+      made_is (role_found s.locals) R s s.locals name (λ n i l at there same. locals i l there) (λ n b at there. binding_is b (bound_at B s each n b there))
 
 role_in : (h : Shape) (s : Scope) (name : Text) → Reaches h s → IfSome (role_of s name) (RoleIn h)
-role_in h s name r = role_is (BindingIn h.shared h.fields) (RoleIn h) (outside_in h) s name r.bound (λ i l there. local_in h s.locals r.pointers r.values i l there l.pointer refl)
+role_in h s name r = role_is (BindingIn h.shared h.fields) (RoleIn h) (binding_in h) s name r.bound (λ i l there. local_in h s.locals r.pointers r.values i l there l.pointer refl)
 
 -- ---- what is looked up
 
@@ -208,13 +208,13 @@ data_fields_in : (h : Shape) (k : Role) → RoleIn h k → IfSome (as_data_field
 data_fields_in h (data_field f) is = is
 data_fields_in h k is = tt
 
-protects : (f : FuncId) (p zero : Bool) → (f.0 == 0) ≡ zero → IfSome (if p && not zero then Some f else None) NotRetire
-protects f false zero e = tt
+protects : (f : FuncId) (p retires : Bool) → is_retire f ≡ retires → IfSome (if p && not retires then Some f else None) NotRetire
+protects f false retires e = tt
 protects f true true e = tt
 protects f true false e = e
 
 protecting_in : (h : Shape) (k : Role) → RoleIn h k → IfSome (as_protecting k) NotRetire
-protecting_in h (function f p) is = protects f p (f.0 == 0) refl
+protecting_in h (function f p) is = protects f p (is_retire f) refl
 protecting_in h k is = tt
 
 without_pointer_in : (h : Shape) (k : Role) → RoleIn h k → IfSome (as_without_pointer k) NotRetire
@@ -223,8 +223,8 @@ without_pointer_in h (function f false) is = ne_eqb f.0 0 (λ e. omega (arith, e
 without_pointer_in h k is = tt
 
 module _ (h : Shape) (s : Scope) (r : Reaches h s) (n : Text) (at : ℕ) where
-  pub any_in : Has (RoleIn h) (needed any_role at (role_of s n))
-  any_in = needed_in (RoleIn h) (RoleIn h) any_role (λ k is. is) at (role_of s n) (role_in h s n r)
+  pub any_in : Has (RoleIn h) (known at (role_of s n))
+  any_in = known_has (RoleIn h) at (role_of s n) (role_in h s n r)
 
   pub pointer_in : Has (VarIn h) (pointer_at s n at)
   unfolding pointer_at

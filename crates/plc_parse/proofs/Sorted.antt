@@ -17,15 +17,14 @@ use Rattle.plc_lang.specs.WellSorted.{IsWellSorted, is_call, is_test, is_refresh
 use Rattle.plc_syntax.specs.Trees.{Text, PlaceTree, PlaceOf, AtomTree, NullAtom, NumberAtom, NameAtom, ValueTree, NullValue, NewValue, NumberValue, PlaceValue, SetTree, SetName, SetField, RefreshTree, RefreshName, RefreshField, GhostValueTree, NameGhost, MeGhost, NoneGhost, GhostSetTree, SetGhost, InitialTree, InitialSet, InitialGhost, Comparison, SameAs, OtherThan, LessThan, NotLessThan, TestTree, Compares, ConditionTree, TestCondition, RefreshCondition, CasCondition, PrimitiveTree, SetPrimitive, RefreshPrimitive, GhostPrimitive, ActivePrimitive, AssumePrimitive, SkipPrimitive, ArgumentTree, NoArgument, NullArgument, NameArgument, ActiveArgument}
 use Rattle.plc_forms.specs.Sizes.{word_size}
 use Rattle.plc_scope.specs.declared.fault.ParseFault.{ParseFault}
-use Rattle.plc_scope.specs.declared.fault.ParseFault.TheVariants as faults
 use Rattle.plc_scope.specs.declared.scope.Scope.{Scope}
 use Rattle.plc_scope.specs.declared.binding.Binding.{Binding}
 use Rattle.plc_scope.specs.declared.binding.Binding.TheVariants.{Shared}
 use Rattle.plc_scope.specs.declared.binding.Role.{Role}
 use Rattle.plc_scope.specs.declared.binding.Role.TheVariants.{PointerVariable as pointer_variable, DataLocal as data_local, PointerField as pointer_field, DataField as data_field, Function as function, Auxiliary as auxiliary, Value as value}
-use Rattle.plc_scope.specs.Scope.{◌>>=◌, needed, any_role, role_of, local_role, role_outside, as_pointer_field, as_data_field, as_function, as_protecting, as_without_pointer, as_auxiliary, as_value_of, as_thread, pointer_at, pointer_local_at, data_at, pointer_field_at, data_field_at, function_at, protecting_at, without_pointer_at, auxiliary_at, value_at, thread_at}
+use Rattle.plc_scope.specs.Scope.{◌>>=◌, known, needed, role_of, local_role, binding_role, as_pointer_field, as_data_field, as_function, as_protecting, as_without_pointer, as_auxiliary, as_value_of, as_thread, pointer_at, pointer_local_at, data_at, pointer_field_at, data_field_at, function_at, protecting_at, without_pointer_at, auxiliary_at, value_at, thread_at}
 use Rattle.plc_scope.specs.Primitives.{pointer_value, data_value, value_into, pointer_atom, data_atom, atom_into, set_means, refresh_from, refresh_name_means, refresh_means, ghost_value_means, ghost_set_means, pointer_equality, pointer_test, data_test, test_of, test_means, pointer_or_null, condition_means, primitive_means, initial_means, CallMeaning, argument_means, call_means}
-use Rattle.plc_scope.proofs.Holds.{Has, weaker, next, any, unless}
+use Rattle.plc_scope.proofs.Holds.{Has, weaker, next, any, unless, known_has}
 use Rattle.plc_outparse.specs.Fit.{holds_threads}
 use Rattle.plc_parse.proofs.Reach.{role_is, needed_in}
 use Rattle.plc_parse.proofs.There.{Lists, IsField, IsFunction, RoleThere, IsThere, AllThere, lists_of}
@@ -41,9 +40,9 @@ abbrev pub IsWithoutPointer : Lists → FuncId → Type 0
 IsWithoutPointer d f = IsFunction d f.0 false
 
 module _ (d : Lists) where
-  outside_there : (b : Binding) → IsThere d b → IfSome (role_outside b) (RoleThere d)
-  outside_there (Shared k) is = tt
-  outside_there b is = is
+  binding_there : (b : Binding) → IsThere d b → IfSome (binding_role b) (RoleThere d)
+  binding_there (Shared k) is = tt
+  binding_there b is = is
 
   local_there : (ls : List Local) (i : ℕ) (pointer : Bool) → RoleThere d (local_role ls i pointer)
   local_there ls i true = tt
@@ -97,11 +96,14 @@ module _ (d : Lists) where
   values h k is = tt
 
   module _ (s : Scope) (all : AllThere d s) (n : Text) (at : ℕ) where
-    found : {A : Type 0} (P : A → Type 0) (wanted : Role → Option A) → ((k : Role) → RoleThere d k → IfSome (wanted k) P) → Has P (needed wanted at (role_of s n))
-    found P wanted each = needed_in (RoleThere d) P wanted each at (role_of s n) (role_is (IsThere d) (RoleThere d) outside_there s n all (λ i l there. local_there s.locals i l.pointer))
+    role_there : IfSome (role_of s n) (RoleThere d)
+    role_there = role_is (IsThere d) (RoleThere d) binding_there s n all (λ i l there. local_there s.locals i l.pointer)
 
-    any_there : Has (RoleThere d) (needed any_role at (role_of s n))
-    any_there = found (RoleThere d) any_role (λ k is. is)
+    found : {A : Type 0} (P : A → Type 0) (wanted : Role → Option A) → ((k : Role) → RoleThere d k → IfSome (wanted k) P) → Has P (needed wanted at (role_of s n))
+    found P wanted each = needed_in (RoleThere d) P wanted each at (role_of s n) role_there
+
+    any_there : Has (RoleThere d) (known at (role_of s n))
+    any_there = known_has (RoleThere d) at (role_of s n) role_there
 
     pointer_field_there : Has (λ f. IsField d f.0 true) (pointer_field_at s n at)
     unfolding pointer_field_at
@@ -193,9 +195,9 @@ module _ (file : File) (s : Scope) (all : AllThere (lists_of file) s) where
 
   set_sorted : (at : ℕ) (t : SetTree) → Has IsSet (set_means s at t)
   unfolding set_means
-  set_sorted at (SetName n v) = any IsSet (needed any_role at (role_of s n)) _ (λ left. value_into_sorted (at + 2) v left at)
+  set_sorted at (SetName n v) = any IsSet (known at (role_of s n)) _ (λ left. value_into_sorted (at + 2) v left at)
   set_sorted at (SetField n f a) = any IsSet (pointer_at s n at) _ (λ p.
-      next (RoleThere (lists_of file)) IsSet (needed any_role (at + 2) (role_of s f)) _ (any_there (lists_of file) s all f (at + 2)) (λ field is. atom_into_sorted p (at + 4) a field (at + 2) is))
+      next (RoleThere (lists_of file)) IsSet (known (at + 2) (role_of s f)) _ (any_there (lists_of file) s all f (at + 2)) (λ field is. atom_into_sorted p (at + 4) a field (at + 2) is))
 
   abbrev IsRefresh : Primitive → Type 0
   IsRefresh = IsOf file is_refresh
@@ -279,7 +281,7 @@ module _ (file : File) (s : Scope) (all : AllThere (lists_of file) s) where
 
   test_sorted : (at : ℕ) (t : TestTree) → Has IsTest (test_means s at t)
   unfolding test_means
-  test_sorted at (Compares n c a) = any IsTest (needed any_role at (role_of s n)) _ (λ left. test_of_sorted at c a left)
+  test_sorted at (Compares n c a) = any IsTest (known at (role_of s n)) _ (λ left. test_of_sorted at c a left)
 
   pub condition_sorted : (at : ℕ) (c : ConditionTree) → Has (ConditionIsWellSorted file) (condition_means s at c)
   unfolding condition_means

@@ -1,5 +1,5 @@
 -- Steps, statements, operations and `init` are well sorted, since each primitive in them is (`Sorted.antt`).
-use Rattle.std.proofs.Common.{◌≡◌, ◌==◌, ◌&&◌, ◌||◌, not, cond, ℕ, ◌+◌, ◌≤◌, Bool, true, false, Option, Some, None, IfSome, Result, Ok, Err, List, [], ◌∷◌, ◌++◌, length, count_by, filter, slice_get, refl, sym, ap, ◌∙◌, subst, append_assoc, append-nil, arith}
+use Rattle.std.proofs.Common.{◌≡◌, ◌==◌, ◌&&◌, ◌||◌, not, cond, ℕ, ◌+◌, ◌≤◌, Bool, true, false, Option, Some, None, IfSome, Result, Ok, Err, List, [], ◌∷◌, ◌++◌, length, count_by, filter, refl, sym, ap, ◌∙◌, subst, append_assoc, append-nil, arith}
 use Rattle.std.specs.List.{list_any, concat}
 use Rattle.std.proofs.Math.Bool.{and-false}
 use Rattle.std.proofs.lemmas.List.Elements.{filter-append}
@@ -9,7 +9,6 @@ use Rattle.plc_base.specs.Limits.{most}
 use Rattle.plc_base.specs.declared.limits.What1.TheVariants as limits
 use Rattle.plc_base.specs.Names.{place_of}
 use Rattle.plc_lang.specs.declared.syntax.Primitive.{Primitive}
-use Rattle.plc_lang.specs.declared.syntax.Cond.{Cond}
 use Rattle.plc_lang.specs.declared.syntax.Local.{Local}
 use Rattle.plc_lang.specs.declared.syntax.Op.{Op}
 use Rattle.plc_lang.specs.declared.syntax.File.{File}
@@ -18,25 +17,24 @@ use Rattle.plc_lang.specs.Labels.{block_labels, labels_by_op}
 use Rattle.plc_lang.specs.Fit.{StatementsFit}
 use Rattle.plc_lang.specs.Locals.{is_pointer, is_parameter}
 use Rattle.plc_lang.specs.Statements.{Statement, Statements, Blocks}
-use Rattle.plc_lang.specs.WellSorted.{AreWellSorted, is_call, is_initial, ConditionIsWellSorted, StatementIsWellSorted, StatementsAreWellSorted, BlocksAreWellSorted, ParametersAreFirst, OpIsWellSorted}
-use Rattle.plc_syntax.specs.Trees.{Text, InitialTree, PrimitiveTree, FieldTree, PointerField as PointerFieldTree, DataField as DataFieldTree, StatementTree, PrimitiveStatement, AtomicStatement, CallStatement, IfStatement, ChooseStatement, LoopStatement, BreakStatement, ReturnStatement, LabelStatement, BlockTree, NoStatement, Then as ThenStatement, ElseTree, NoElse, ElseBlock, OrTree, NoOr, OrBlock, OpTree, Operates}
-use Rattle.plc_forms.specs.Sizes.{initial_size, primitive_size, condition_size, call_size}
+use Rattle.plc_lang.specs.WellSorted.{AreWellSorted, is_call, ConditionIsWellSorted, StatementIsWellSorted, StatementsAreWellSorted, BlocksAreWellSorted, ParametersAreFirst, OpIsWellSorted}
+use Rattle.plc_syntax.specs.Trees.{Text, FieldTree, PointerField as PointerFieldTree, DataField as DataFieldTree, StatementTree, PrimitiveStatement, AtomicStatement, CallStatement, IfStatement, ChooseStatement, LoopStatement, BreakStatement, ReturnStatement, LabelStatement, BlockTree, NoStatement, Then as ThenStatement, ElseTree, NoElse, ElseBlock, OrTree, NoOr, OrBlock, OpTree, Operates}
+use Rattle.plc_forms.specs.Sizes.{primitive_size, condition_size, call_size}
 use Rattle.plc_scope.specs.declared.fault.ParseFault.{ParseFault}
 use Rattle.plc_scope.specs.declared.scope.Scope.{Scope}
 use Rattle.plc_scope.specs.declared.binding.Binding.TheVariants.{Taken}
 use Rattle.plc_scope.specs.Scope.{◌>>=◌, most_locals, with_local, declared, declared_label, local_number, declared_local, declared_parameter}
 use Rattle.plc_scope.specs.Limits.{stands_at}
-use Rattle.plc_scope.specs.Primitives.{primitive_means, initial_means, condition_means, call_means}
-use Rattle.plc_scope.proofs.Holds.{Has, weaker, next, any, unless, both_err}
-use Rattle.plc_parse.specs.Growth.{KeepsLists}
+use Rattle.plc_scope.specs.Primitives.{primitive_means, condition_means, call_means}
+use Rattle.plc_scope.proofs.Holds.{Has, weaker, next, unless, both_err}
 use Rattle.plc_parse.specs.Meaning.{counted, before, allocates, count_of, forms_mean, atomic_means, one_or_skip, label_means, during_means, statement_means, statements_mean, else_means, or_means, others_mean, parameters_mean, local_means, locals_mean, op_means, line_at}
 use Rattle.plc_parse.proofs.Fits.{statements_fit, Kept, number_keeps}
 use Rattle.plc_parse.proofs.Upward.{LabelRead, Read as Fitting}
 use Rattle.plc_parse.proofs.Holds.{OneOn}
 use Rattle.plc_parse.proofs.Naming.{BoundAfter, parameters_bound, locals_bound}
 use Rattle.plc_parse.proofs.There.{Lists, IsThere, AllThere, lists_of, Named, named}
-use Rattle.plc_parse.proofs.Numbering.{Numbered, nothing, joined, LabelsRead, many_numbered, labels_push}
-use Rattle.plc_parse.proofs.Sorted.{IsOf, every_kind, MaybePlain, primitive_sorted, condition_sorted, MaybeInitial, initial_sorted, IsCall, call_sorted}
+use Rattle.plc_parse.proofs.Numbering.{Numbered, joined, LabelsRead, many_numbered, labels_push}
+use Rattle.plc_parse.proofs.Sorted.{IsOf, every_kind, MaybePlain, primitive_sorted, condition_sorted, IsCall, call_sorted}
 
 -- ---- primitives of one step
 

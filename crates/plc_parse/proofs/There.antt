@@ -1,6 +1,6 @@
 -- What names stand for is there: each declaration stands in the lists of the file at its number, so a name that is in reach stands for
 -- what the file has. Nothing is asked of the lists before they are whole: whatever lists have what was declared have what is in reach.
-use Rattle.std.proofs.Common.{◌≡◌, ◌==◌, ℕ, suc, ◌+◌, ◌≤◌, ◌<◌, Bool, true, false, Option, Some, None, IfSome, Result, Ok, Err, List, [], ◌∷◌, length, slice_get, refl, subst, ap, ◌∙◌, arith}
+use Rattle.std.proofs.Common.{◌≡◌, ◌==◌, ℕ, suc, ◌+◌, ◌≤◌, ◌<◌, Bool, true, false, Option, Some, None, IfSome, Result, Ok, List, [], ◌∷◌, length, slice_get, refl, subst, ap, ◌∙◌, arith}
 use Rattle.std.proofs.lemmas.Option.{slice_get_within}
 use Rattle.std.proofs.lemmas.List.Elements.{All-nil, All-cons, All-push}
 use Rattle.plc_base.specs.Names.{place_of}
@@ -18,7 +18,7 @@ use Rattle.plc_scope.specs.declared.binding.Binding.{Binding}
 use Rattle.plc_scope.specs.declared.binding.Binding.TheVariants.{Shared, Function, Auxiliary, Value}
 use Rattle.plc_scope.specs.declared.binding.Role.{Role}
 use Rattle.plc_scope.specs.declared.binding.Role.TheVariants.{PointerVariable as pointer_variable, DataLocal as data_local, PointerField as pointer_field, DataField as data_field, Function as function, Auxiliary as auxiliary, Value as value, NoValue as no_value}
-use Rattle.plc_scope.specs.Scope.{◌>>=◌, first_scope, if_new, with_name, declared, role_outside}
+use Rattle.plc_scope.specs.Scope.{◌>>=◌, first_scope, if_new, with_name, declared, binding_role}
 use Rattle.plc_scope.specs.Limits.{within_limit}
 use Rattle.plc_scope.proofs.Holds.{Has, next, unless}
 use Rattle.plc_outparse.specs.Fit.{holds_threads}
@@ -57,7 +57,7 @@ RoleThere d no_value = Unit {0}
 -- what a name stands for is there, and is what the name says
 abbrev pub IsThere : Lists → Binding → Type 0
 IsThere d (Shared k) = k < length d.shared
-IsThere d b = IfSome (role_outside b) (RoleThere d)
+IsThere d b = IfSome (binding_role b) (RoleThere d)
 
 -- the same of all names in reach
 abbrev pub AllThere : Lists → Scope → Type 0

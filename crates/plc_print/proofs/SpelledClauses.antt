@@ -14,7 +14,7 @@ use Rattle.plc_scope.specs.declared.scope.Scope.{Scope}
 use Rattle.plc_scope.specs.declared.binding.Binding.{Binding}
 use Rattle.plc_scope.specs.declared.binding.Binding.TheVariants.{Taken, Shared, PointerField, DataField, Function, Auxiliary, Value, LocalOnly}
 use Rattle.plc_scope.specs.Limits.{stands_at}
-use Rattle.plc_scope.specs.Scope.{◌>>=◌, if_fits, if_new, with_last}
+use Rattle.plc_scope.specs.Scope.{◌>>=◌, known, if_fits, if_new, with_last}
 use Rattle.plc_scope.proofs.Finds.{made_is}
 use Rattle.plc_scope.proofs.Holds.{Has, next, weaker, unless, both_err}
 use Rattle.plc_logic.specs.declared.clause.Base.{Base}
@@ -27,12 +27,12 @@ use Rattle.plc_logic.specs.declared.clause.Clause.{Clause}
 use Rattle.plc_outparse.specs.declared.kind.Kind.{Kind}
 use Rattle.plc_outparse.specs.declared.kind.Kind.TheVariants as kinds
 use Rattle.plc_outparse.specs.Sizes.{term_size, literal_size, bound_size}
-use Rattle.plc_outparse.specs.Reach.{Reach, kind_outside, kind_of_local, kind_found, declared_kind, kind_or_bound, kind_of, known, as_base, base_at, as_term, as_field}
+use Rattle.plc_outparse.specs.Reach.{Reach, binding_kind, local_kind, kind_found, declared_kind, kind_or_bound, kind_of, as_base, base_at, as_term, as_field}
 use Rattle.plc_logic.specs.Sorts.{same_sort}
 use Rattle.plc_outparse.specs.Meaning.{in_turn, me_means, term_means, sort_place, if_same_sort, second_means, flag_means, literal_means, counted, literal_step, none_bound, if_free, bound_with, bound_means, reach, clause_means, clause_line_means}
 use Rattle.plc_print.specs.Outlines.{base_name, term_tree, flag_literal, literal_tree, bound_tree, claims_tree, clause_tree}
 use Rattle.plc_print.proofs.Steps.{within, after, Found, then_found, moved, if_found}
-use Rattle.plc_print.proofs.SpelledNames.{IsBound, Bound, Ends, from_number, number_named, place_found, fits_found}
+use Rattle.plc_print.proofs.SpelledNames.{IsBound, Bound, Ends, from_number, number_named, place_found, fits_found, known_found}
 
 -- ---- parts that are added one by one
 
@@ -78,25 +78,25 @@ module _ (file : File) (s : Scope) (bound : Bound file s) where
     KindIs n (kinds.Value g v) = value_name file g v ≡ n
     KindIs n kinds.NoValue = Unit {0}
 
-    local_is : (n : Text) (i : ℕ) (l : Local) (is_pointer : Bool) → slice_get ls i ≡ Some l → name_at file l.name ≡ n → KindIs n (kind_of_local i is_pointer)
+    local_is : (n : Text) (i : ℕ) (l : Local) (is_pointer : Bool) → slice_get ls i ≡ Some l → name_at file l.name ≡ n → KindIs n (local_kind i is_pointer)
     local_is n i l true there named = from_number file (option_map (λ (x : Local). x.name) (slice_get ls i)) l.name n (ap (option_map (λ (x : Local). x.name)) there) named
     local_is n i l false there named = from_number file (option_map (λ (x : Local). x.name) (slice_get ls i)) l.name n (ap (option_map (λ (x : Local). x.name)) there) named
 
-    outside_is : (n : Text) (i : ℕ) (b : Binding) → name_at file i ≡ n → IsBound file i b → IfSome (kind_outside b) (KindIs n)
-    outside_is n i Taken e h = tt
-    outside_is n i (Shared k) e h = from_number file _ i n h e
-    outside_is n i (PointerField f) e h = from_number file _ i n h e
-    outside_is n i (DataField f) e h = from_number file _ i n h e
-    outside_is n i (Function f p) e h = tt
-    outside_is n i (Auxiliary g t) e h = from_number file _ i n h e
-    outside_is n i (Value g v) e h = from_number file _ i n h e
-    outside_is n i LocalOnly e h = tt
+    binding_is : (n : Text) (i : ℕ) (b : Binding) → name_at file i ≡ n → IsBound file i b → IfSome (binding_kind b) (KindIs n)
+    binding_is n i Taken e h = tt
+    binding_is n i (Shared k) e h = from_number file _ i n h e
+    binding_is n i (PointerField f) e h = from_number file _ i n h e
+    binding_is n i (DataField f) e h = from_number file _ i n h e
+    binding_is n i (Function f p) e h = tt
+    binding_is n i (Auxiliary g t) e h = from_number file _ i n h e
+    binding_is n i (Value g v) e h = from_number file _ i n h e
+    binding_is n i LocalOnly e h = tt
 
     declared_is : (n : Text) → Ends file s → IfSome (declared_kind s ls n) (KindIs n)
     unfolding declared_kind
     declared_is n ends =
         let named : (i : ℕ) → place_of n s.names.names ≡ Some i → name_at file i ≡ n = λ i e. number_named file s i n ends (place_found n s.names.names i e) in
-        made_is kind_found (KindIs n) s ls n (λ i j l at there same. local_is n j l l.pointer there (ap (name_at file) same ∙ named i at)) (λ i b at there. outside_is n i b (named i at) (bound.each i b there))
+        made_is kind_found (KindIs n) s ls n (λ i j l at there same. local_is n j l l.pointer there (ap (name_at file) same ∙ named i at)) (λ i b at there. binding_is n i b (named i at) (bound.each i b there))
 
   module _ (ls : List Local) (in_operation : Bool) (quantified : NameList) where
     abbrev here : Reach
@@ -110,8 +110,7 @@ module _ (file : File) (s : Scope) (bound : Bound file s) where
     kind_is n ends = bound_or (KindIs ls quantified.names n) (place_of n quantified.names) (declared_kind s ls n) (λ i e. get_or_from_slice_get quantified.names i n [] (place_found n quantified.names i e)) (declared_is ls quantified.names n ends)
 
     named_found : (n : Text) (at : ℕ) (o : Option Kind) → (Ends file s → IfSome o (KindIs ls quantified.names n)) → Has (Found (IsKind n) (λ a. known a o)) (known at o)
-    named_found n at (Some k) h = record { named = h; again = λ a. refl }
-    named_found n at None h = tt
+    named_found n at o h = known_found file (Ends file s) (KindIs ls quantified.names n) o at h
 
     -- ---- terms
 

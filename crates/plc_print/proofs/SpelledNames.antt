@@ -4,6 +4,7 @@ use Rattle.std.specs.List.{prefix_len}
 use Rattle.std.proofs.lemmas.Bool.{eqb-true, ltb-true}
 use Rattle.std.proofs.lemmas.Option.{get_or_from_slice_get}
 use Rattle.std.proofs.lemmas.Slice.Eq.{bytes_eq-Decides}
+use Rattle.plc_base.specs.Functions.{is_retire}
 use Rattle.plc_base.specs.Names.{place_of}
 use Rattle.plc_lang.specs.Locals.{is_pointer}
 use Rattle.plc_lang.specs.declared.syntax.Field.{Field}
@@ -18,7 +19,7 @@ use Rattle.plc_scope.specs.declared.binding.Binding.{Binding}
 use Rattle.plc_scope.specs.declared.binding.Binding.TheVariants.{Taken, Shared, PointerField, DataField, Function, Auxiliary, Value, LocalOnly}
 use Rattle.plc_scope.specs.declared.binding.Role.{Role}
 use Rattle.plc_scope.specs.declared.binding.Role.TheVariants.{PointerVariable as pointer_variable, DataLocal as data_local, PointerField as pointer_field, DataField as data_field, Function as function, Auxiliary as auxiliary, Value as value, NoValue as no_value}
-use Rattle.plc_scope.specs.Scope.{needed, if_fits, any_role, role_outside, local_role, role_found, role_of, as_pointer, as_pointer_local, as_data, as_pointer_field, as_data_field, as_function, as_protecting, as_without_pointer, as_auxiliary, as_value_of, pointer_at, pointer_local_at, data_at, pointer_field_at, data_field_at, function_at, protecting_at, without_pointer_at, auxiliary_at, value_at}
+use Rattle.plc_scope.specs.Scope.{known, needed, if_fits, binding_role, local_role, role_found, role_of, as_pointer, as_pointer_local, as_data, as_pointer_field, as_data_field, as_function, as_protecting, as_without_pointer, as_auxiliary, as_value_of, pointer_at, pointer_local_at, data_at, pointer_field_at, data_field_at, function_at, protecting_at, without_pointer_at, auxiliary_at, value_at}
 use Rattle.plc_scope.proofs.Holds.{Has}
 use Rattle.plc_scope.proofs.Finds.{made_is, of_kind}
 use Rattle.plc_lang.specs.Names.{name_at, name_of, field_name, function_name, auxiliary_name, values_of, value_name, pointer_name, data_name, variable_name}
@@ -97,15 +98,15 @@ module _ (file : File) where
   named_local locals i l n there named true e = from_number _ l.name n (ap (option_map (λ (x : Local). x.name)) (of_kind is_pointer locals i l there e)) named
   named_local locals i l n there named false e = from_number _ l.name n (ap (option_map (λ (x : Local). x.name)) (of_kind is_data locals i l there (ap not e))) named
 
-  named_outside : (locals : List Local) (i : ℕ) (n : Text) (b : Binding) → name_at file i ≡ n → IsBound i b → IfSome (role_outside b) (RoleIs locals n)
-  named_outside locals i n Taken e h = tt
-  named_outside locals i n LocalOnly e h = tt
-  named_outside locals i n (Shared k) e h = from_number _ i n h e
-  named_outside locals i n (PointerField f) e h = from_number _ i n h e
-  named_outside locals i n (DataField f) e h = from_number _ i n h e
-  named_outside locals i n (Function f p) e h = from_number _ i n h e
-  named_outside locals i n (Auxiliary g t) e h = from_number _ i n h e
-  named_outside locals i n (Value g v) e h = from_number _ i n h e
+  named_binding : (locals : List Local) (i : ℕ) (n : Text) (b : Binding) → name_at file i ≡ n → IsBound i b → IfSome (binding_role b) (RoleIs locals n)
+  named_binding locals i n Taken e h = tt
+  named_binding locals i n LocalOnly e h = tt
+  named_binding locals i n (Shared k) e h = from_number _ i n h e
+  named_binding locals i n (PointerField f) e h = from_number _ i n h e
+  named_binding locals i n (DataField f) e h = from_number _ i n h e
+  named_binding locals i n (Function f p) e h = from_number _ i n h e
+  named_binding locals i n (Auxiliary g t) e h = from_number _ i n h e
+  named_binding locals i n (Value g v) e h = from_number _ i n h e
 
   -- a number of a scope keeps its name in the file
   pub number_named : (s : Scope) (i : ℕ) (n : Text) → Ends s → slice_get s.names.names i ≡ Some n → name_at file i ≡ n
@@ -116,13 +117,17 @@ module _ (file : File) where
   role_is s n bound ends =
       let named : (i : ℕ) → place_of n s.names.names ≡ Some i → name_at file i ≡ n = λ i e. number_named s i n ends (place_found n s.names.names i e) in
       made_is (role_found s.locals) (RoleIs s.locals n) s s.locals n
-      (λ i j l at there same. named_local s.locals j l n there (ap (name_at file) same ∙ named i at) l.pointer refl) (λ i b at there. named_outside s.locals i n b (named i at) (bound.each i b there))
+      (λ i j l at there same. named_local s.locals j l n there (ap (name_at file) same ∙ named i at) l.pointer refl) (λ i b at there. named_binding s.locals i n b (named i at) (bound.each i b there))
 
   -- ---- what is found by a name
 
   pub fits_found : {A : Type 0} (E : Type 0) (Q : A → Type 0) (o : Option A) (at : ℕ) → (E → IfSome o Q) → Has (Found (λ x. E → Q x) (λ p. if_fits p o)) (if_fits at o)
   fits_found E Q (Some x) at h = record { named = h; again = λ p. refl }
   fits_found E Q None at h = tt
+
+  pub known_found : {K : Type 0} (E : Type 0) (R : K → Type 0) (o : Option K) (at : ℕ) → (E → IfSome o R) → Has (Found (λ k. E → R k) (λ p. known p o)) (known at o)
+  known_found E R (Some k) at h = record { named = h; again = λ p. refl }
+  known_found E R None at h = tt
 
   needed_found : {A : Type 0} (wanted : Role → Option A) (E : Type 0) (R : Role → Type 0) (Q : A → Type 0) (o : Option Role) (at : ℕ) → (E → IfSome o R) → ((r : Role) → R r → IfSome (wanted r) Q)
       → Has (Found (λ x. E → Q x) (λ p. needed wanted p o)) (needed wanted at o)
@@ -173,7 +178,7 @@ module _ (file : File) where
   if_none Q false x h = h
 
   as_protecting_is : (locals : List Local) (n : Text) (r : Role) → RoleIs locals n r → IfSome (as_protecting r) (λ f. function_name file f ≡ n)
-  as_protecting_is locals n (function f p) h = if_some (λ f. function_name file f ≡ n) (p && not (f.0 == 0)) f h
+  as_protecting_is locals n (function f p) h = if_some (λ f. function_name file f ≡ n) (p && not (is_retire f)) f h
   as_protecting_is locals n _ h = tt
 
   as_without_pointer_is : (locals : List Local) (n : Text) (r : Role) → RoleIs locals n r → IfSome (as_without_pointer r) (λ f. function_name file f ≡ n)
@@ -189,8 +194,8 @@ module _ (file : File) where
   as_value_is g locals n _ f = tt
 
   module _ (s : Scope) (n : Text) (at : ℕ) (bound : Bound s) where
-    pub any_found : Has (Found (λ r. Ends s → RoleIs s.locals n r) (λ p. needed any_role p (role_of s n))) (needed any_role at (role_of s n))
-    any_found = needed_found any_role (Ends s) (RoleIs s.locals n) (RoleIs s.locals n) (role_of s n) at (role_is s n bound) (λ r h. h)
+    pub any_found : Has (Found (λ r. Ends s → RoleIs s.locals n r) (λ p. known p (role_of s n))) (known at (role_of s n))
+    any_found = known_found (Ends s) (RoleIs s.locals n) (role_of s n) at (role_is s n bound)
 
     pub pointer_found : Has (Found (λ q. Ends s → variable_name file s.locals q ≡ n) (pointer_at s n)) (pointer_at s n at)
     unfolding pointer_at

@@ -13,7 +13,7 @@ use Rattle.plc_syntax.specs.Trees.{Text, ClauseTree, ItemTree, InvariantItem, Ov
 use Rattle.plc_scope.specs.declared.fault.ParseFault.{ParseFault}
 use Rattle.plc_scope.specs.declared.fault.ParseFault.TheVariants as faults
 use Rattle.plc_scope.specs.declared.scope.Scope.{Scope}
-use Rattle.plc_scope.specs.Scope.{◌>>=◌, if_fits}
+use Rattle.plc_scope.specs.Scope.{◌>>=◌, if_fits, known}
 use Rattle.plc_scope.proofs.Holds.{Has, next, weaker, unless}
 use Rattle.plc_scope.proofs.Finds.{position_passes}
 use Rattle.plc_lang.specs.Labels.{labels_by_op, op_of_label}
@@ -24,7 +24,7 @@ use Rattle.plc_logic.specs.declared.clause.Item.{Item}
 use Rattle.plc_logic.specs.declared.clause.Outline.{Outline}
 use Rattle.plc_outparse.specs.declared.kind.Kind.{Kind}
 use Rattle.plc_outparse.specs.Sizes.{depth_size}
-use Rattle.plc_outparse.specs.Reach.{declared_kind, known}
+use Rattle.plc_outparse.specs.Reach.{declared_kind}
 use Rattle.plc_outparse.specs.Meaning.{in_turn, clause_line_means, op_named, op_at, label_named, with_op, label_at, if_same_op, Labels, label_step, labels_mean, Parts, item_step, depth_means, outline_means}
 use Rattle.plc_parse.specs.Meaning.{empty_outline, outlined_means}
 use Rattle.plc_print.specs.Outlines.{clause_tree, invariant_tree, at_tree, locals_in_reach, site_locals, item_tree, depth_tree, unless_empty, outline_tree}

@@ -1,5 +1,6 @@
 -- Each primitive, condition and call that is read is spelled by the tree that it was read from, and comes again at every place.
-use Rattle.std.proofs.Common.{◌≡◌, ◌==◌, ℕ, ◌+◌, Bool, true, false, Option, Some, None, Result, List, [], refl, sym, ap, ◌∙◌}
+use Rattle.std.proofs.Common.{◌≡◌, ℕ, ◌+◌, Bool, true, false, Option, Some, None, Result, List, [], refl, sym, ap, ◌∙◌}
+use Rattle.plc_base.specs.Functions.{is_retire}
 use Rattle.plc_base.specs.declared.ids.FuncId.{FuncId}
 use Rattle.plc_base.specs.declared.ids.FieldId.{FieldId}
 use Rattle.plc_lang.specs.declared.syntax.File.{File}
@@ -18,7 +19,7 @@ use Rattle.plc_scope.specs.declared.fault.ParseFault.TheVariants as faults
 use Rattle.plc_scope.specs.declared.scope.Scope.{Scope}
 use Rattle.plc_scope.specs.declared.binding.Role.{Role}
 use Rattle.plc_scope.specs.declared.binding.Role.TheVariants.{PointerVariable as pointer_variable, DataLocal as data_local, PointerField as pointer_field, DataField as data_field}
-use Rattle.plc_scope.specs.Scope.{◌>>=◌, needed, any_role, role_of, pointer_at, pointer_local_at, data_at, pointer_field_at, data_field_at, function_at, auxiliary_at, value_at, thread_at, as_thread}
+use Rattle.plc_scope.specs.Scope.{◌>>=◌, known, needed, role_of, pointer_at, pointer_local_at, data_at, pointer_field_at, data_field_at, function_at, auxiliary_at, value_at, thread_at, as_thread}
 use Rattle.plc_scope.specs.Primitives.{pointer_value, data_value, value_into, pointer_atom, data_atom, atom_into, set_means, refresh_from, refresh_name_means, refresh_means, ghost_value_means, ghost_set_means, pointer_test, relation, data_test, test_of, test_means, pointer_or_null, condition_means, primitive_means, initial_means, CallMeaning, argument_means, call_means}
 use Rattle.plc_scope.proofs.Holds.{Has, next, weaker, unless}
 use Rattle.plc_print.specs.Canonical.{set_tree, number_tree, ghost_value_tree, test_tree, primitive_tree, name_or_null, refresh_condition, condition_tree, argument_tree, initial_tree}
@@ -106,11 +107,11 @@ module _ (file : File) (s : Scope) (bound : Bound file s) where
   set_found : (at : ℕ) (set : SetTree) → Has (Found (AsSet set) (λ a. set_means s a set)) (set_means s at set)
   unfolding set_means
   set_found at (SetName n v) =
-      next (Found (λ r. Ends file s → RoleIs file s.locals n r) (λ p. needed any_role p (role_of s n))) _ (needed any_role at (role_of s n)) _ (any_found file s n at bound) (λ r f.
+      next (Found (λ r. Ends file s → RoleIs file s.locals n r) (λ p. known p (role_of s n))) _ (known at (role_of s n)) _ (any_found file s n at bound) (λ r f.
       weaker (Found (AsSet (SetName n v)) (λ a. value_into s (a + 2) v r a)) _ (value_into s (at + 2) v r at) (λ k g. record { named = g.named; again = λ a. after _ _ _ _ (f.again a) (g.again a) }) (value_into_found n (at + 2) at v r f.named))
   set_found at (SetField n m a) =
       by_pointer n at _ _ (λ p h.
-      next (Found (λ r. Ends file s → RoleIs file s.locals m r) (λ p. needed any_role p (role_of s m))) _ (needed any_role (at + 2) (role_of s m)) _ (any_found file s m (at + 2) bound) (λ r f.
+      next (Found (λ r. Ends file s → RoleIs file s.locals m r) (λ p. known p (role_of s m))) _ (known (at + 2) (role_of s m)) _ (any_found file s m (at + 2) bound) (λ r f.
       weaker (Found (AsSet (SetField n m a)) (λ b. atom_into s p (b + 4) a r (b + 2))) _ (atom_into s p (at + 4) a r (at + 2)) (λ k g. record { named = g.named; again = λ b. after _ _ _ _ (h.again b) (after _ _ _ _ (f.again (b + 2)) (g.again b)) })
       (atom_into_found p n m (at + 4) (at + 2) a r h.named f.named)))
 
@@ -226,7 +227,7 @@ module _ (file : File) (s : Scope) (bound : Bound file s) where
   test_found : (at : ℕ) (t : TestTree) → Has (Found (AsTest t) (λ a. test_means s a t)) (test_means s at t)
   unfolding test_means
   test_found at (Compares n c a) =
-      next (Found (λ r. Ends file s → RoleIs file s.locals n r) (λ p. needed any_role p (role_of s n))) _ (needed any_role at (role_of s n)) _ (any_found file s n at bound) (λ r f.
+      next (Found (λ r. Ends file s → RoleIs file s.locals n r) (λ p. known p (role_of s n))) _ (known at (role_of s n)) _ (any_found file s n at bound) (λ r f.
       weaker (Found (AsTest (Compares n c a)) (λ b. test_of s b c a r)) _ (test_of s at c a r) (λ k g. record { named = g.named; again = λ b. after _ _ _ _ (f.again b) (g.again b) }) (test_of_found n at c a r f.named))
 
   -- ---- conditions
@@ -304,8 +305,8 @@ module _ (file : File) (s : Scope) (bound : Bound file s) where
   argument_found f n false at (ActiveArgument m) h = tt
   argument_found f n true at NoArgument h = tt
   argument_found f n true at NullArgument h =
-      unless (Found (IsCall n NullArgument) (λ b. argument_means s f true b NullArgument)) (f.0 == 0) (faults.NoSuchCall at) _ (λ not_first.
-      record { named = record { function = h; argument = λ e. refl }; again = λ b. within (f.0 == 0) (faults.NoSuchCall b) _ _ not_first refl })
+      unless (Found (IsCall n NullArgument) (λ b. argument_means s f true b NullArgument)) (is_retire f) (faults.NoSuchCall at) _ (λ not_first.
+      record { named = record { function = h; argument = λ e. refl }; again = λ b. within (is_retire f) (faults.NoSuchCall b) _ _ not_first refl })
   argument_found f n true at (NameArgument m) h = by_pointer m (at + 2) _ _ (λ p g. record { named = record { function = h; argument = λ e. ap NameArgument (g.named e) }; again = λ b. after _ _ _ _ (g.again (b + 2)) refl })
   argument_found f n true at (ActiveArgument m) h = by_pointer m (at + 3) _ _ (λ p g. record { named = record { function = h; argument = λ e. ap ActiveArgument (g.named e) }; again = λ b. after _ _ _ _ (g.again (b + 3)) refl })
 

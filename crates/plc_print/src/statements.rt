@@ -19,7 +19,7 @@ use crate::primitives::{condition, primitive_line, primitive_lines};
 use crate::tokens::{BEGIN, CLOSE, END, OPEN, Piece, Printed, Printer, SEMICOLON};
 use plc_base::FuncId;
 use plc_lang::{Arg, Block, Cond, Prim, Stmt, function_name, label_name};
-use plc_lex::{Keyword, Symbol};
+use plc_lex::Keyword;
 
 const OR: Piece<'static> = Piece::Word(Keyword::Or);
 

@@ -90,16 +90,16 @@ from_quiet o t a l (e ∷ h) live n quiet =
 
 quiet_is_free : (o : Observer) (q : Option ℕ) → is_quiet o q ≡ true → is_kept_at q ≡ false
 quiet_is_free o None e = refl
-quiet_is_free o (Some l) e = go (l == 6) refl
+quiet_is_free o (Some l) e = go (l == r_kept) refl
   where
-    small : (o : Observer) → ((6 == 0) || (6 == first_retired o)) ≡ false
+    small : (o : Observer) → ((r_kept == 0) || (r_kept == first_retired o)) ≡ false
     small Plain = refl
     small (Hazard f) = refl
     small (Epoch e l) = refl
 
-    go : (b : Bool) → (l == 6) ≡ b → b ≡ false
+    go : (b : Bool) → (l == r_kept) ≡ b → b ≡ false
     go false is = refl
-    go true is = absurd (both_ways _ (small o) (subst (λ k. is_quiet o (Some k) ≡ true) (eqb-true l 6 is) e))
+    go true is = absurd (both_ways _ (small o) (subst (λ k. is_quiet o (Some k) ≡ true) (eqb-true l r_kept is) e))
 
 unheard_is_free : (o : Observer) (h : List Event) (t a : ℕ) → is_in (threads_in h) t ≡ false → is_kept_at (location o h t a) ≡ false
 unfolding location
@@ -283,11 +283,11 @@ careful_kept os o there = record {
 -- `plain` has no `r.kept`
 plain_is_free : (q : Option ℕ) → ((l : ℕ) → q ≡ Some l → l < count_of Plain) → is_kept_at q ≡ false
 plain_is_free None live = refl
-plain_is_free (Some l) live = go (l == 6) refl
+plain_is_free (Some l) live = go (l == r_kept) refl
   where
-    go : (b : Bool) → (l == 6) ≡ b → b ≡ false
+    go : (b : Bool) → (l == r_kept) ≡ b → b ≡ false
     go false is = refl
-    go true is = absurd (let same : l ≡ 6 = eqb-true l 6 is in let small : l < 2 = live l refl in omega arith)
+    go true is = absurd (let same : l ≡ r_kept = eqb-true l r_kept is in let small : l < 2 = live l refl in omega arith)
 
 careful_plain : (os : List Observer) → IsCareful Plain (λ h. first_waiting (is_kept_by_none os h) h)
 careful_plain os = record {

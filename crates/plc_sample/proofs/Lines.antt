@@ -7,8 +7,8 @@ use Rattle.std.proofs.lemmas.List.Sums.{sum_by-cons, sum_by-append}
 use Rattle.plc_base.specs.Limits.{most_copies}
 use Rattle.plc_sample.specs.Numbers.{sample_lines}
 use Rattle.plc_sample.specs.Sample.{declarations, operations, invariants, clauses, ending, numbered_byte, numbered, copies}
-use Rattle.plc_lex.specs.Spelling.{line_feeds}
-use Rattle.plc_sample.specs.Sample.{whole_text, kept_byte, line_after, without_from, sample_text, lines_out}
+use Rattle.plc_lex.specs.Spelling.{next_line, line_feeds}
+use Rattle.plc_sample.specs.Sample.{whole_text, kept_byte, without_from, sample_text, lines_out}
 
 -- ---- line feeds one by one
 
@@ -33,10 +33,10 @@ ended_few byte = go (byte == 10)
     go true = omega arith
     go false = omega arith
 
-next_line : (line byte : ℕ) → line_after line byte ≡ line + ended byte
-next_line line byte = go (byte == 10) refl
+line_counted : (line byte : ℕ) → next_line line byte ≡ line + ended byte
+line_counted line byte = go (byte == 10) refl
   where
-    go : (b : Bool) → (byte == 10) ≡ b → line_after line byte ≡ line + ended byte
+    go : (b : Bool) → (byte == 10) ≡ b → next_line line byte ≡ line + ended byte
     go true e = rw e refl
     go false e = rw e (omega arith)
 
@@ -114,37 +114,37 @@ passed without line [] after = refl
 passed without line (byte ∷ more) after =
     omega (
       arith,
-      feeds_together (kept_byte without line byte) (without_from without (line_after line byte) more),
+      feeds_together (kept_byte without line byte) (without_from without (next_line line byte) more),
       kept_feeds without line byte false (ne_eqb line without (λ e. omega (arith, after, e))),
-      passed without (line_after line byte) more (omega (arith, after, next_line line byte)),
+      passed without (next_line line byte) more (omega (arith, after, line_counted line byte)),
       feeds_after byte more,
     )
 
 left_out : (without line : ℕ) (text : List ℕ) → line ≤ without → without < line + line_feeds text → line_feeds (without_from without line text) + 1 ≡ line_feeds text
 left_out without line [] before within = absurd (omega (arith, before, within))
 left_out without line (byte ∷ more) before within =
-    go (λ still. left_out without (line_after line byte) more still (omega (arith, within, next_line line byte, feeds_after byte more)))
+    go (λ still. left_out without (next_line line byte) more still (omega (arith, within, line_counted line byte, feeds_after byte more)))
     (line == without) (byte == 10) refl refl
   where
     rest : List ℕ
-    rest = without_from without (line_after line byte) more
+    rest = without_from without (next_line line byte) more
 
     both : line_feeds (without_from without line (byte ∷ more)) ≡ line_feeds (kept_byte without line byte) + line_feeds rest
     both = feeds_together (kept_byte without line byte) rest
 
-    go : (line_after line byte ≤ without → line_feeds rest + 1 ≡ line_feeds more) → (here ends : Bool) → (line == without) ≡ here → (byte == 10) ≡ ends → line_feeds (without_from without line (byte ∷ more)) + 1 ≡ line_feeds (byte ∷ more)
+    go : (next_line line byte ≤ without → line_feeds rest + 1 ≡ line_feeds more) → (here ends : Bool) → (line == without) ≡ here → (byte == 10) ≡ ends → line_feeds (without_from without line (byte ∷ more)) + 1 ≡ line_feeds (byte ∷ more)
     go later true true e f =
         let one : ended byte ≡ 1 = rw f refl in
-        let over = passed without (line_after line byte) more (omega (arith, eqb-true line without e, next_line line byte, one)) in
+        let over = passed without (next_line line byte) more (omega (arith, eqb-true line without e, line_counted line byte, one)) in
         omega (arith, both, kept_feeds without line byte true e, over, one, feeds_after byte more)
     go later true false e f =
         let none : ended byte ≡ 0 = rw f refl in
-        let still = later (omega (arith, before, next_line line byte, none)) in
+        let still = later (omega (arith, before, line_counted line byte, none)) in
         omega (arith, both, kept_feeds without line byte true e, still, none, feeds_after byte more)
     go later false ends e f =
         let few : ended byte ≤ 1 = ended_few byte in
         let apart = eqb-false line without e in
-        let still = later (omega (arith, before, apart, few, next_line line byte)) in
+        let still = later (omega (arith, before, apart, few, line_counted line byte)) in
         omega (arith, both, kept_feeds without line byte false e, still, feeds_after byte more)
 
 pub lines_kept : (k n : ℕ) (text : List ℕ) → k ≤ most_copies → n ≤ sample_lines k → text ≡ sample_text k n → line_feeds text + lines_out n ≡ sample_lines k

@@ -3,7 +3,8 @@ use Rattle.std.proofs.Common.{◌≡◌, ◌≤◌, ◌*◌, ◌==◌, ℕ, suc,
 use Rattle.std.proofs.lemmas.List.{length-append}
 use Rattle.std.proofs.lemmas.Fmt.{length-decimal-le_succ}
 use Rattle.plc_base.specs.Limits.{largest_file, most_copies}
-use Rattle.plc_sample.specs.Sample.{declarations, operations, invariants, clauses, ending, numbered_byte, numbered, copies, whole_text, kept_byte, line_after, without_from}
+use Rattle.plc_lex.specs.Spelling.{next_line}
+use Rattle.plc_sample.specs.Sample.{declarations, operations, invariants, clauses, ending, numbered_byte, numbered, copies, whole_text, kept_byte, without_from}
 
 -- ---- a copy
 
@@ -55,7 +56,7 @@ kept_short without line byte = go (line == without) refl
 without_short : (without line : ℕ) (text : List ℕ) → length (without_from without line text) ≤ length text
 without_short without line [] = omega arith
 without_short without line (byte ∷ more) =
-    omega (arith, length-append (kept_byte without line byte) (without_from without (line_after line byte) more), kept_short without line byte, without_short without (line_after line byte) more)
+    omega (arith, length-append (kept_byte without line byte) (without_from without (next_line line byte) more), kept_short without line byte, without_short without (next_line line byte) more)
 
 pub kept_is_short : (k n : ℕ) (whole kept : List ℕ) → k ≤ most_copies → whole ≡ whole_text k → kept ≡ without_from n 1 whole → length kept ≤ largest_file
 kept_is_short k n whole kept few whole_is kept_is =

@@ -1,6 +1,7 @@
 -- The text of a sample: a stack under hazard pointers, with as many copies of its operations as are asked for.
-use Rattle.std.specs.Prelude.{ℕ, suc, zero, ◌+◌, ◌==◌, if◌then◌else◌}
+use Rattle.std.specs.Prelude.{ℕ, suc, zero, ◌==◌, if◌then◌else◌}
 use Rattle.std.specs.Prelude.{List, [], ◌∷◌, ◌++◌, codes, decimal}
+use Rattle.plc_lex.specs.Spelling.{next_line}
 
 -- ---- its parts, in which `#` stands for the number of a copy
 
@@ -103,10 +104,6 @@ whole_text k = declarations ++ copies k operations ++ invariants ++ copies k cla
 
 -- ---- a line left out
 
--- the line after a byte: a line feed ends one
-abbrev pub line_after : ℕ → ℕ → ℕ
-line_after line byte = if byte == 10 then line + 1 else line
-
 -- a byte of a line, none where that is the line that is left out
 abbrev pub kept_byte : ℕ → ℕ → ℕ → List ℕ
 kept_byte without line byte = if line == without then [] else byte ∷ []
@@ -115,7 +112,7 @@ kept_byte without line byte = if line == without then [] else byte ∷ []
 abbrev pub without_from : ℕ → ℕ → List ℕ → List ℕ
 without_from without line [] = []
 without_from without line (byte ∷ more) =
-    kept_byte without line byte ++ without_from without (line_after line byte) more
+    kept_byte without line byte ++ without_from without (next_line line byte) more
 
 -- lines are counted from 1, so that 0 leaves out none
 abbrev pub sample_text : ℕ → ℕ → List ℕ

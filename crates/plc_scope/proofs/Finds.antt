@@ -1,11 +1,12 @@
 -- What a search in a list finds, where a name is found, and the number of a local among those of its kind.
-use Rattle.std.proofs.Common.{◌≡◌, ◌==◌, ℕ, suc, ◌+◌, ◌<◌, Bool, true, false, if◌then◌else◌, Option, Some, None, IfSome, List, [], ◌∷◌, length, take, filter, slice_get, count_by, refl, sym, subst, ap, ◌∙◌, arith}
+use Rattle.std.proofs.Common.{◌≡◌, ◌==◌, ℕ, suc, ◌+◌, ◌<◌, Bool, true, false, if◌then◌else◌, Option, Some, None, IfSome, List, [], ◌∷◌, length, take, drop, filter, slice_get, count_by, refl, sym, subst, ap, ◌∙◌, arith}
 use Rattle.std.specs.Prelude.{option_map, option_and_then}
 use Rattle.std.specs.List.{position_from}
 use Rattle.std.proofs.lemmas.Bool.{eqb-true}
 use Rattle.std.proofs.lemmas.List.Sums.{length-filter}
 use Rattle.std.proofs.lemmas.Option.{slice_get_within}
 use Rattle.plc_base.specs.Names.{place_of}
+use Rattle.plc_base.proofs.Lists.{drop_there}
 use Rattle.plc_lang.specs.declared.syntax.Local.{Local}
 use Rattle.plc_lang.specs.Lookup.{local_at}
 use Rattle.plc_lang.proofs.Numbers.{place_of_number, local_of_place}
@@ -34,6 +35,10 @@ placed p all i (x ∷ xs) h =
 
 pub position_passes : {A : Type 0} (p : A → Bool) (all : List A) → IfSome (position_from p 0 all) (Passes p all)
 position_passes p all = placed p all 0 all (λ j x e. let here : 0 + j ≡ j = omega arith in ap (slice_get all) here ∙ e)
+
+-- a search from a place on, where an element passes, finds it there
+pub found_here : {A : Type 0} (p : A → Bool) (all : List A) (i : ℕ) (x : A) → slice_get all i ≡ Some x → p x ≡ true → position_from p i (drop i all) ≡ Some i
+found_here p all i x there passes = ap (position_from p i) (drop_there all i x there) ∙ rw passes refl
 
 -- what holds of what a table makes of all that may be there holds of what it makes of what is there
 then_is : {A B : Type 0} (P : A → Type 0) (table : A → Option B) (Q : B → Type 0) (o : Option A) → IfSome o P → ((x : A) → P x → IfSome (table x) Q) → IfSome (option_and_then table o) Q

@@ -1,8 +1,8 @@
 -- What holds of an answer if there is one, step by step.
-use Rattle.std.proofs.Common.{◌≡◌, ◌==◌, ℕ, ◌≤◌, ◌<◌, Bool, true, false, if◌then◌else◌, Result, Ok, Err, subst, refl, arith}
+use Rattle.std.proofs.Common.{◌≡◌, ◌==◌, ℕ, ◌≤◌, ◌<◌, Bool, true, false, if◌then◌else◌, Option, Some, None, IfSome, Result, Ok, Err, subst, refl, arith}
 use Rattle.std.proofs.lemmas.Bool.{eqb-false}
 use Rattle.plc_scope.specs.declared.fault.ParseFault.{ParseFault}
-use Rattle.plc_scope.specs.Scope.{◌>>=◌}
+use Rattle.plc_scope.specs.Scope.{◌>>=◌, known}
 
 -- what holds of an answer, if there is one
 abbrev pub Has : {A : Type 0} → (A → Type 0) → Result A ParseFault → Type 0
@@ -42,3 +42,8 @@ both_err P false false e f g = tt
 -- within a limit fewer were declared before
 pub below : {A : Type 0} (P : A → Type 0) (n limit : ℕ) (e : ParseFault) (r : Result A ParseFault) → n ≤ limit → (n < limit → Has P r) → Has P (if n == limit then Err e else r)
 below P n limit e r le h = unless P (n == limit) e r (λ is. h (omega (arith, eqb-false n limit is)))
+
+-- what holds of what a name is found to be
+pub known_has : {K : Type 0} (P : K → Type 0) (at : ℕ) (o : Option K) → IfSome o P → Has P (known at o)
+known_has P at (Some k) h = h
+known_has P at None h = tt

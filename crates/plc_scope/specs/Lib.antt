@@ -6,3 +6,5 @@ pub mod Limits
 pub mod Views
 -- what contracts say for the crates above alone
 pub mod Read
+-- words of private functions alone
+pub mod Reused

@@ -36,7 +36,7 @@ use Rattle.plc_scope.specs.declared.binding.Role.{Role}
 use Rattle.plc_scope.specs.declared.binding.Role.TheVariants.{PointerVariable as pointer_variable}
 use Rattle.plc_scope.specs.declared.binding.Role.TheVariants.{DataLocal as data_local, PointerField as pointer_field}
 use Rattle.plc_scope.specs.declared.binding.Role.TheVariants.{DataField as data_field}
-use Rattle.plc_scope.specs.Scope.{◌>>=◌, needed, any_role, role_of, pointer_at, pointer_local_at, data_at}
+use Rattle.plc_scope.specs.Scope.{◌>>=◌, known, role_of, pointer_at, pointer_local_at, data_at}
 use Rattle.plc_scope.specs.Scope.{pointer_field_at, data_field_at, function_at, auxiliary_at, value_at, thread_at}
 
 -- ---- numbers
@@ -104,11 +104,11 @@ atom_into s p at a _ field = Err (faults.WrongSort field)
 -- the left side before the right
 unfoldable pub set_means : Scope → ℕ → SetTree → Result Primitive ParseFault
 set_means s at (SetName n v) = do
-  left ← needed any_role at (role_of s n)
+  left ← known at (role_of s n)
   value_into s (at + 2) v left at
 set_means s at (SetField n f a) = do
   p ← pointer_at s n at
-  field ← needed any_role (at + 2) (role_of s f)
+  field ← known (at + 2) (role_of s f)
   atom_into s p (at + 4) a field (at + 2)
 
 -- ---- refreshes
@@ -200,7 +200,7 @@ test_of s at c a _ = Err (faults.WrongSort at)
 -- the left side before the relation and the right
 unfoldable pub test_means : Scope → ℕ → TestTree → Result Primitive ParseFault
 test_means s at (Compares n c a) = do
-  left ← needed any_role at (role_of s n)
+  left ← known at (role_of s n)
   test_of s at c a left
 
 -- ---- conditions

@@ -48,7 +48,7 @@ first_scope = record {
 abbrev pub with_last : NameList → List ℕ → NameList
 with_last names name = record { names = names.names ++ name ∷ []; limit = names.limit }
 
--- one more name, with what it stands for outside operations
+-- one more name, with what it stands for in the file
 abbrev pub with_name : Scope → List ℕ → Binding → Scope
 with_name s name binding = record s { names = with_last s.names name; bindings = s.bindings ++ binding ∷ [] }
 
@@ -83,12 +83,6 @@ abbrev pub local_number : Option ℕ → Scope → List ℕ → ℕ → Result (
 local_number None s name at = Ok (length s.names.names, with_name s name LocalOnly)
 local_number (Some i) s name at =
     if may_name_local (slice_get s.bindings i) (has_local s.locals i) then Ok (i, s) else Err (faults.Duplicate at)
-
--- the number of a name that may name a local, or none where the name is new
-abbrev pub reused : Option ℕ → Scope → ℕ → Result (Option ℕ) ParseFault
-reused None s at = Ok None
-reused (Some i) s at =
-    if may_name_local (slice_get s.bindings i) (has_local s.locals i) then Ok (Some i) else Err (faults.Duplicate at)
 
 -- one more local
 abbrev pub with_local : Scope → ℕ → Bool → Bool → Scope
@@ -151,15 +145,15 @@ unfoldable pub found : Scope → List Local → List ℕ → Option Found
 found s ls name = found_at s ls (place_of name s.names.names)
 
 -- what a name is in an operation, by what it stands for in the file; a local of another operation is nothing
-abbrev pub role_outside : Binding → Option Role
-role_outside Taken = Some no_value
-role_outside (Shared k) = Some (pointer_variable (SharedVar k))
-role_outside (PointerField f) = Some (pointer_field f)
-role_outside (DataField f) = Some (data_field f)
-role_outside (Function f p) = Some (function f p)
-role_outside (Auxiliary g t) = Some (auxiliary g t)
-role_outside (Value g v) = Some (value g v)
-role_outside LocalOnly = None
+abbrev pub binding_role : Binding → Option Role
+binding_role Taken = Some no_value
+binding_role (Shared k) = Some (pointer_variable (SharedVar k))
+binding_role (PointerField f) = Some (pointer_field f)
+binding_role (DataField f) = Some (data_field f)
+binding_role (Function f p) = Some (function f p)
+binding_role (Auxiliary g t) = Some (auxiliary g t)
+binding_role (Value g v) = Some (value g v)
+binding_role LocalOnly = None
 
 -- the local at a place; pointers and data are counted apart
 abbrev pub local_role : List Local → ℕ → Bool → Role
@@ -169,25 +163,25 @@ local_role ls i false = data_local (data_number ls i)
 -- what is found, in the operation that has these locals
 abbrev pub role_found : List Local → Found → Option Role
 role_found ls (LocalAt i is_pointer) = Some (local_role ls i is_pointer)
-role_found ls (OfFile binding) = role_outside binding
+role_found ls (OfFile binding) = binding_role binding
 
 -- None where the name has no declaration in reach
 unfoldable pub role_of : Scope → List ℕ → Option Role
 role_of s name = option_and_then (role_found s.locals) (found s s.locals name)
 
--- a name at a place, of the wanted kind
+-- a name at a place has to have a declaration in reach
+abbrev pub known : {K : Type 0} → ℕ → Option K → Result K ParseFault
+known at (Some k) = Ok k
+known at None = Err (faults.Undeclared at)
+
+-- a name at a place has to be of the wanted kind
 abbrev pub if_fits : {A : Type 0} → ℕ → Option A → Result A ParseFault
 if_fits at (Some x) = Ok x
 if_fits at None = Err (faults.WrongSort at)
 
 -- a name without a declaration is a fault before one of the wrong kind
-abbrev pub needed : {A : Type 0} → (Role → Option A) → ℕ → Option Role → Result A ParseFault
-needed wanted at None = Err (faults.Undeclared at)
-needed wanted at (Some r) = if_fits at (wanted r)
-
--- any kind
-abbrev pub any_role : Role → Option Role
-any_role r = Some r
+abbrev pub needed : {K A : Type 0} → (K → Option A) → ℕ → Option K → Result A ParseFault
+needed wanted at o = known at o >>= λ k. if_fits at (wanted k)
 
 -- a pointer variable
 abbrev pub as_pointer : Role → Option Var
@@ -264,13 +258,29 @@ as_thread r = None
 unfoldable pub pointer_at : Scope → List ℕ → ℕ → Result Var ParseFault
 pointer_at s name at = needed as_pointer at (role_of s name)
 
+-- the function, and whether it takes a pointer
+unfoldable pub function_at : Scope → List ℕ → ℕ → Result (FuncId × Bool) ParseFault
+function_at s name at = needed as_function at (role_of s name)
+
+-- the auxiliary field, and whether it holds a thread
+unfoldable pub auxiliary_at : Scope → List ℕ → ℕ → Result (ℕ × Bool) ParseFault
+auxiliary_at s name at = needed as_auxiliary at (role_of s name)
+
 -- the data local
 unfoldable pub data_at : Scope → List ℕ → ℕ → Result ℕ ParseFault
 data_at s name at = needed as_data at (role_of s name)
 
+-- the function of a hazard pointer
+unfoldable pub protecting_at : Scope → List ℕ → ℕ → Result FuncId ParseFault
+protecting_at s name at = needed as_protecting at (role_of s name)
+
 -- the pointer field
 unfoldable pub pointer_field_at : Scope → List ℕ → ℕ → Result FieldId ParseFault
 pointer_field_at s name at = needed as_pointer_field at (role_of s name)
+
+-- a function of an epoch
+unfoldable pub without_pointer_at : Scope → List ℕ → ℕ → Result FuncId ParseFault
+without_pointer_at s name at = needed as_without_pointer at (role_of s name)
 
 -- the data field
 unfoldable pub data_field_at : Scope → List ℕ → ℕ → Result FieldId ParseFault
@@ -279,22 +289,6 @@ data_field_at s name at = needed as_data_field at (role_of s name)
 -- the pointer local
 unfoldable pub pointer_local_at : Scope → List ℕ → ℕ → Result ℕ ParseFault
 pointer_local_at s name at = needed as_pointer_local at (role_of s name)
-
--- the function, and whether it takes a pointer
-unfoldable pub function_at : Scope → List ℕ → ℕ → Result (FuncId × Bool) ParseFault
-function_at s name at = needed as_function at (role_of s name)
-
--- the function of a hazard pointer
-unfoldable pub protecting_at : Scope → List ℕ → ℕ → Result FuncId ParseFault
-protecting_at s name at = needed as_protecting at (role_of s name)
-
--- a function of an epoch
-unfoldable pub without_pointer_at : Scope → List ℕ → ℕ → Result FuncId ParseFault
-without_pointer_at s name at = needed as_without_pointer at (role_of s name)
-
--- the auxiliary field, and whether it holds a thread
-unfoldable pub auxiliary_at : Scope → List ℕ → ℕ → Result (ℕ × Bool) ParseFault
-auxiliary_at s name at = needed as_auxiliary at (role_of s name)
 
 -- the value of an auxiliary field
 unfoldable pub value_at : Scope → ℕ → List ℕ → ℕ → Result ℕ ParseFault

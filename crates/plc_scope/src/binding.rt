@@ -3,7 +3,7 @@
 use plc_base::{FieldId, FuncId};
 use plc_lang::Var;
 
-/// What a name stands for outside operations.
+/// What a name stands for in the file.
 #[derive(Clone, Copy)]
 pub enum Binding {
     /// The struct, an operation or a label, which stand for no value.
@@ -26,7 +26,7 @@ pub enum Binding {
 pub enum Found {
     /// A local, by its number among all of these, and whether it is a pointer.
     Local(u16, bool),
-    /// No local of these, but a name of the file.
+    /// No local of these, but a name that stands in the file.
     OfFile(Binding),
 }
 

@@ -2,8 +2,8 @@
 // file. In an operation a name without a declaration is a fault before one of the wrong kind.
 ghost use Rattle.std.specs.Prelude.{◌≡◌, ◌<◌, ◌≤◌, length};
 ghost use Rattle.plc_scope.specs.Answers.{Gives};
-ghost use Rattle.plc_scope.specs.Scope.{most_locals, any_role, needed, local_named, found_at, found, role_of};
-ghost use Rattle.plc_scope.specs.Scope.{role_outside, local_role, pointer_at, data_at, pointer_field_at, data_field_at};
+ghost use Rattle.plc_scope.specs.Scope.{most_locals, known, local_named, found_at, found, role_of};
+ghost use Rattle.plc_scope.specs.Scope.{binding_role, local_role, pointer_at, data_at, pointer_field_at, data_field_at};
 ghost use Rattle.plc_scope.specs.Scope.{pointer_local_at, function_at, protecting_at, without_pointer_at};
 ghost use Rattle.plc_scope.specs.Scope.{auxiliary_at, value_at, thread_at};
 
@@ -26,9 +26,9 @@ fn local_named(locals: &[Local], number: u16) -> Option<Found>
     None
 }
 
-/// What a name is outside operations; `None` where it only names locals.
-fn role_outside(binding: Binding) -> Option<Role>
-    ensures { result ≡ role_outside binding }
+/// The role of a name by what it stands for in the file; `None` where only locals of other operations have it.
+fn binding_role(binding: Binding) -> Option<Role>
+    ensures { result ≡ binding_role binding }
 {
     match binding {
         Binding::Taken => Some(Role::NoValue),
@@ -80,8 +80,8 @@ impl Scope {
         }
     }
 
-    /// What a name is found to be where these locals are in reach, or `None` where it is neither one of
-    /// them nor a name of the file.
+    /// What a name is found to be where these locals are in reach; `None` where nothing in the file has it.
+    /// A name that only locals of other operations have is found as `LocalOnly`.
     #[tactic(auto, unfolding(crate::specs::Scope::found))]
     pub fn find(&self, locals: &[Local], name: &[u8]) -> Option<Found>
         requires { length locals.now ≤ most_locals }
@@ -100,16 +100,17 @@ impl Scope {
         ensures { result ≡ role_of self.now name.now }
     {
         let locals = self.locals.as_slice();
-        match self.find(locals, name)? {
-            Found::Local(place, is_pointer) => Some(local_role(locals, place, is_pointer)),
-            Found::OfFile(binding) => role_outside(binding),
+        match self.find(locals, name) {
+            Some(Found::Local(place, is_pointer)) => Some(local_role(locals, place, is_pointer)),
+            Some(Found::OfFile(binding)) => binding_role(binding),
+            None => None,
         }
     }
 
     /// What a name at a place is. `Undeclared` where it has no declaration in reach.
     pub fn role(&self, name: &[u8], at: u32) -> Result<Role, ParseFault>
         requires { length self.now.locals ≤ most_locals }
-        ensures { Gives (λ role. role) result (needed any_role at (role_of self.now name.now)) }
+        ensures { Gives (λ role. role) result (known at (role_of self.now name.now)) }
     {
         self.role_of(name).ok_or(ParseFault::Undeclared { at })
     }
@@ -128,7 +129,7 @@ impl Scope {
     #[tactic(auto, unfolding(crate::specs::Scope::function_at))]
     pub fn function_at(&self, name: &[u8], at: u32) -> Result<(FuncId, bool), ParseFault>
         requires { length self.now.locals ≤ most_locals }
-        ensures { Gives (λ found. (found.0, found.1)) result (function_at self.now name.now at) }
+        ensures { Gives (λ x. (x.0, x.1)) result (function_at self.now name.now at) }
     {
         wanted! { self, name, at; Role::Function(function, takes_pointer) => (function, takes_pointer) }
     }
@@ -138,7 +139,7 @@ impl Scope {
     #[tactic(auto, unfolding(crate::specs::Scope::auxiliary_at))]
     pub fn auxiliary_at(&self, name: &[u8], at: u32) -> Result<(u16, bool), ParseFault>
         requires { length self.now.locals ≤ most_locals }
-        ensures { Gives (λ found. (found.0, found.1)) result (auxiliary_at self.now name.now at) }
+        ensures { Gives (λ x. (x.0, x.1)) result (auxiliary_at self.now name.now at) }
     {
         wanted! { self, name, at; Role::Auxiliary(field, of_threads) => (field, of_threads) }
     }
@@ -157,7 +158,7 @@ impl Scope {
     #[tactic(auto, unfolding(crate::specs::Scope::protecting_at))]
     pub fn protecting_at(&self, name: &[u8], at: u32) -> Result<FuncId, ParseFault>
         requires { length self.now.locals ≤ most_locals }
-        ensures { Gives (λ found. found) result (protecting_at self.now name.now at) }
+        ensures { Gives (λ x. x) result (protecting_at self.now name.now at) }
     {
         wanted! { self, name, at; Role::Function(function, true) if !function.is_retire() => function }
     }
@@ -176,7 +177,7 @@ impl Scope {
     #[tactic(auto, unfolding(crate::specs::Scope::without_pointer_at))]
     pub fn without_pointer_at(&self, name: &[u8], at: u32) -> Result<FuncId, ParseFault>
         requires { length self.now.locals ≤ most_locals }
-        ensures { Gives (λ found. found) result (without_pointer_at self.now name.now at) }
+        ensures { Gives (λ x. x) result (without_pointer_at self.now name.now at) }
     {
         wanted! { self, name, at; Role::Function(function, false) => function }
     }
@@ -194,7 +195,7 @@ impl Scope {
     #[tactic(auto, unfolding(crate::specs::Scope::pointer_local_at))]
     pub fn pointer_local_at(&self, name: &[u8], at: u32) -> Result<u16, ParseFault>
         requires { length self.now.locals ≤ most_locals }
-        ensures { Gives (λ found. found) result (pointer_local_at self.now name.now at) }
+        ensures { Gives (λ x. x) result (pointer_local_at self.now name.now at) }
     {
         wanted! { self, name, at; Role::PointerVariable(Var::Local(local)) => local }
     }
@@ -204,7 +205,7 @@ impl Scope {
     #[tactic(auto, unfolding(crate::specs::Scope::value_at))]
     pub fn value_at(&self, field: u16, name: &[u8], at: u32) -> Result<u16, ParseFault>
         requires { length self.now.locals ≤ most_locals }
-        ensures { Gives (λ found. found) result (value_at self.now field name.now at) }
+        ensures { Gives (λ x. x) result (value_at self.now field name.now at) }
     {
         wanted! { self, name, at; Role::Value(of, value) if of == field => value }
     }
@@ -213,8 +214,9 @@ impl Scope {
     #[tactic(auto, unfolding(crate::specs::Scope::thread_at))]
     pub fn thread_at(&self, name: &[u8], at: u32) -> Result<u16, ParseFault>
         requires { length self.now.locals ≤ most_locals }
-        ensures { Gives (λ found. found) result (thread_at self.now name.now at) }
+        ensures { Gives (λ x. x) result (thread_at self.now name.now at) }
     {
+        // Only its fault is wanted.
         let _role = self.role(name, at)?;
         Err(ParseFault::WrongSort { at })
     }

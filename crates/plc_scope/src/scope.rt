@@ -1,5 +1,5 @@
 // The names that are in reach. All names of a file, of every operation's locals too, have one
-// numbering, in order of first declaration; beside each name stands what it is outside operations.
+// numbering, in order of first declaration; beside each name stands what it is in the file.
 // Locals of the present operation are listed apart, so that those of two operations may share a name.
 //
 // A file's limits leave so few names that the list of names is never full: each declaration asks for
@@ -8,7 +8,8 @@ ghost use Rattle.std.specs.Prelude.{◌≡◌, ◌<◌, IfOk, IfErr, OnErr, None
 ghost use Rattle.plc_base.specs.Names.{place_of};
 ghost use Rattle.plc_scope.specs.Answers.{Gives, HasRoom, GrowsBy, HasRoomForLocals, GrowsByLocals};
 ghost use Rattle.plc_scope.specs.Scope.{first_scope, if_new, declared, declared_label, declared_local};
-ghost use Rattle.plc_scope.specs.Scope.{declared_parameter, with_last, with_name, reused, may_name_local};
+ghost use Rattle.plc_scope.specs.Reused.{reused};
+ghost use Rattle.plc_scope.specs.Scope.{declared_parameter, with_last, with_name, may_name_local};
 ghost use Rattle.plc_scope.specs.Scope.{has_local, with_local, without_locals};
 ghost use Rattle.plc_scope.specs.declared.binding.Binding.TheVariants.{LocalOnly};
 

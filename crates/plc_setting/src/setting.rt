@@ -21,7 +21,7 @@ use crate::symbols::{push_all, push_pointer_loads, push_shared};
 use plc_base::{FieldId, Items, NoMemory};
 use plc_flow::Flow;
 use plc_ground::Symbol;
-use plc_lang::{Field, Local, Prim, has_new};
+use plc_lang::{Field, Local, has_new};
 use plc_logic::{Clause, Outline};
 use plc_symbolic::NodeTerm;
 use std::alloc::Global;

@@ -1,10 +1,10 @@
 -- What an outline's tokens are followed by is joined to them.
-use Rattle.std.proofs.Common.{◌≡◌, ℕ, List, [], ◌∷◌, ◌++◌, Option, Some, None, refl, ap, ◌∙◌}
+use Rattle.std.proofs.Common.{◌≡◌, List, [], ◌∷◌, ◌++◌, Some, None, refl, ap, ◌∙◌}
 use Rattle.plc_lex.specs.declared.token.TokenKind.{TokenKind}
 use Rattle.plc_lex.specs.declared.token.TokenKind.TheVariants.{Word, Name, Number, Symbol}
-use Rattle.plc_lex.specs.declared.token.Keyword.TheVariants.{Outline, Depth, Inv, Over, At, Not, Or}
+use Rattle.plc_lex.specs.declared.token.Keyword.TheVariants.{Outline, Depth, Inv, Over, At, Or}
 use Rattle.plc_lex.specs.declared.token.Symbol.TheVariants.{OpenBrace, CloseBrace, Semicolon, Colon}
-use Rattle.plc_syntax.specs.Trees.{Text, each_then, maybe_then, comma_name_then, PlaceOf, TermTree, PlaceTerm, NullTerm, NumberTerm, MeTerm, NoneTerm, term_then, FlagTree, RetiredFlag, flag_then, equality_symbol, LiteralTree, FlagLiteral, NotLiteral, EqualityLiteral, literal_then, or_literal_then, BoundTree, NoBound, AllOf, bound_then, ClauseTree, Claims, clause_then, ItemTree, InvariantItem, OverItem, AtItem, item_then, depth_then, OutlineTree, Outlined, outline_then}
+use Rattle.plc_syntax.specs.Trees.{each_then, comma_name_then, PlaceOf, PlaceTerm, NullTerm, NumberTerm, MeTerm, NoneTerm, term_then, RetiredFlag, equality_symbol, FlagLiteral, NotLiteral, EqualityLiteral, literal_then, or_literal_then, NoBound, AllOf, bound_then, Claims, clause_then, InvariantItem, OverItem, AtItem, item_then, OutlineTree, Outlined, outline_then}
 
 -- the tokens of each tree are the same before any others
 abbrev Appends : {X : Type 0} → (X → List TokenKind → List TokenKind) → Type 0

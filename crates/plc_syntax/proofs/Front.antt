@@ -15,9 +15,9 @@ use Rattle.plc_syntax.specs.declared.expected.Expected.TheVariants as expected
 use Rattle.plc_syntax.specs.declared.expected.Part.TheVariants as parts
 use Rattle.plc_syntax.specs.Trees.{OutlineTree, outline_then}
 use Rattle.plc_syntax.specs.Table.{after_expected, may_be_empty, same_punctuation}
-use Rattle.plc_syntax.specs.Machine.{chosen, after, after_token, left_of, and_then, or_here, stuck_at, outline_stuck_at}
+use Rattle.plc_syntax.specs.Machine.{chosen, after_token, left_of, and_then, or_here, stuck_at, outline_stuck_at}
 use Rattle.plc_syntax.specs.Syntax.{kinds, Begin, StopAt, HasOutline, OutlineFaultAt}
-use Rattle.plc_syntax.proofs.Laws.{run_one, reads, goes_well}
+use Rattle.plc_syntax.proofs.Laws.{run_one, goes_well}
 use Rattle.plc_syntax.proofs.Exact.{from_left, begins_part, ends_part, begins_none, is_no_whole}
 use Rattle.plc_syntax.proofs.Again.{go, outline_read}
 use Rattle.plc_syntax.proofs.Steps.{kind_at, kinds_length, all_reversed}

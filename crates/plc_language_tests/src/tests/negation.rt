@@ -1,38 +1,50 @@
 // A literal and its opposite.
-use plc_base::FieldId;
 use plc_logic::{Base, Literal, Term, negated};
 
-const NEXT: Term = Term::FieldOf {
-    base: Base::Bound(0),
-    f: FieldId(1),
-};
+// `x == null`, or `x != null`.
+fn equation(equal: bool) -> Literal {
+    Literal::Same {
+        a: Term::Bound(0),
+        b: Term::Null,
+        equal,
+    }
+}
 
-const EQUAL: Literal = Literal::Same {
-    a: NEXT,
-    b: Term::Null,
-    equal: true,
-};
+// Whether a literal is this equation, and then whether it is the equal one.
+fn equation_in(literal: Literal) -> Option<bool> {
+    match literal {
+        Literal::Same {
+            a: Term::Bound(0),
+            b: Term::Null,
+            equal,
+        } => Some(equal),
+        _ => None,
+    }
+}
 
-const UNEQUAL: Literal = Literal::Same {
-    a: NEXT,
-    b: Term::Null,
-    equal: false,
-};
+// `retired(S2)`, or `not retired(S2)`.
+fn retired(yes: bool) -> Literal {
+    Literal::Retired {
+        x: Base::Shared(2),
+        yes,
+    }
+}
 
-const RETIRED: Literal = Literal::Retired {
-    x: Base::Shared(2),
-    yes: true,
-};
-
-const UNRETIRED: Literal = Literal::Retired {
-    x: Base::Shared(2),
-    yes: false,
-};
+// Whether a literal is this question, and then whether it says yes.
+fn retired_in(literal: Literal) -> Option<bool> {
+    match literal {
+        Literal::Retired {
+            x: Base::Shared(2),
+            yes,
+        } => Some(yes),
+        _ => None,
+    }
+}
 
 #[test]
 fn literals_are_negated(rt: HostRuntime) {
-    for (literal, opposite) in [(EQUAL, UNEQUAL), (RETIRED, UNRETIRED)] {
-        assert_eq!(rt; negated(&literal), opposite);
-        assert_eq!(rt; negated(&opposite), literal);
+    for yes in [true, false] {
+        assert_eq!(rt; equation_in(negated(&equation(yes))), Some(!yes));
+        assert_eq!(rt; retired_in(negated(&retired(yes))), Some(!yes));
     }
 }

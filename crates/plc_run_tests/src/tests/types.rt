@@ -187,7 +187,8 @@ fn environments_join_part_by_part(rt: HostRuntime) -> Result<(), NoMemory> {
     Ok(())
 }
 
-// An environment with a shared pointer and two locals, in which any address may stand anywhere.
+// An environment with a shared pointer and two locals, in which any address may stand anywhere. A row whose sets
+// have locations that the observer hasn't is answered as if memory ran out, which fails the test.
 fn with_types(
     alloc: Global,
     observer: &Observer,

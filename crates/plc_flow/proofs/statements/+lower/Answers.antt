@@ -1,8 +1,8 @@
 use Rattle.std.proofs.Common.{◌∙◌, arith}
 use Rattle.std.proofs.lemmas.Result.{err_from_is_err_and}
 use Rattle.plc_lang.proofs.Sizes.{line_falls, block_falls}
-use Rattle.plc_flow.specs.Lowering.{statements_made, blocks_made, side_made}
-use Rattle.plc_lang.specs.Views.{block_of, blocks_of}
+use Rattle.plc_flow.specs.Lowering.{statements_made, blocks_made}
+use Rattle.plc_lang.specs.Views.{blocks_of}
 use Rattle.plc_flow.proofs.Parts.{side_makes, if_makes, choose_makes, loop_makes, line_turn, line_stops, lines_end, block_turn, block_stops, blocks_end}
 use Rattle.plc_flow.proofs.statements.+lower.Goals as goal
 

@@ -1,4 +1,3 @@
-use Rattle.std.proofs.Common.{Ok, Err}
 use Rattle.plc_syntax.specs.Syntax.{kinds}
 use Rattle.plc_syntax.proofs.Front.{outline_answered}
 use Rattle.plc_syntax.proofs.recognizer.outline_fault.Goals as goal

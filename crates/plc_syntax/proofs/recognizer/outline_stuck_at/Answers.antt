@@ -1,7 +1,6 @@
 use Rattle.std.proofs.Common.{◌≡◌, ◌∙◌, length, sym, ap, eq-eqb, arith}
 use Rattle.std.proofs.lemmas.Bool.{false≢true}
 use Rattle.std.specs.List.{list_all}
-use Rattle.plc_syntax.specs.Syntax.{kinds}
 use Rattle.plc_syntax.specs.Table.{may_be_empty}
 use Rattle.plc_syntax.proofs.Front.{goes_more, goes_stuck, goes_end}
 use Rattle.plc_syntax.proofs.recognizer.outline_stuck_at.Goals as goal

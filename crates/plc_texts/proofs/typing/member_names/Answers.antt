@@ -1,4 +1,4 @@
-use Rattle.std.proofs.Common.{◌≡◌, ◌++◌, ◌∷◌, [], List, ℕ, true, false, ◌∙◌, ◌+◌, map, drop, ap}
+use Rattle.std.proofs.Common.{◌≡◌, ◌++◌, List, ℕ, true, false, ◌∙◌, ◌+◌, map, drop, ap}
 use Rattle.plc_base.specs.Mask.{has}
 use Rattle.plc_auto.specs.Table.{names_of}
 use Rattle.plc_texts.specs.Typings.{member_names}
