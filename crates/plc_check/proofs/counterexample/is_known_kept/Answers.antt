@@ -1,4 +1,5 @@
 use Rattle.std.proofs.Common.{sym, ◌∙◌}
+use Rattle.std.proofs.lemmas.Bool.{false≢true}
 use Rattle.plc_oblig.proofs.Opposites.{still_is_kept}
 use Rattle.plc_check.proofs.Noting.{alike_is_kept}
 use Rattle.plc_check.proofs.counterexample.is_known_kept.Goals as goal
@@ -11,3 +12,6 @@ returns-then-still c h =
 pub returns-in-Some : goal.returns-in-Some
 returns-in-Some c h =
     alike_is_kept c.args.judged.now.flow c.args.judged.now.unit_outline c.args.kept.now c.args.o.now c.in-Some.field-0 c.in-Some.ensures c.requires.kept
+
+pub returns-in-None : goal.returns-in-None
+returns-in-None c h = absurd (false≢true h)

@@ -1,4 +1,4 @@
-use Rattle.std.proofs.Common.{[], ◌∷◌}
+use Rattle.std.proofs.Common.{rules, [], ◌∷◌}
 use Rattle.plc_oblig.specs.GroundSets.{ground_set}
 use Rattle.plc_check.proofs.Readable.{nodes_fit}
 use Rattle.plc_check.proofs.tree.make_tree.Goals as goal
@@ -12,3 +12,6 @@ returns-in-Some c =
       once = tree.once;
       fits = nodes_fit set tree.well ([] ∷ []) c.in-Some.tree.nodes tree.closes;
     }
+
+pub returns-in-None : goal.returns-in-None
+returns-in-None c = search rules

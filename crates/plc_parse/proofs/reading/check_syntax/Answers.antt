@@ -12,3 +12,6 @@ pub returns-in-Err-Nesting-clause-fault : goal.returns-in-Err-Nesting-clause-fau
 returns-in-Err-Nesting-clause-fault c =
     let was : c.syntax.result ≡ Err (syntax.Nesting c.in-Err-Nesting.field-0-0) = c.in-Err-Nesting.is ∙ ap Err c.in-Err-Nesting.field-0-is in
     too_deep c.in-Err-Nesting.field-0-0 c.past.ensures ((c.syntax.ensures.nesting c.in-Err-Nesting.field-0-0).only was)
+
+pub returns-in-Err-Syntax-clause-ok : goal.returns-in-Err-Syntax-clause-ok
+returns-in-Err-Syntax-clause-ok c = tt

@@ -1,4 +1,5 @@
-use Rattle.std.proofs.Common.{◌≡◌, ◌≢◌, ◌++◌, ◌∷◌, [], zero, suc, false, eqb, ℕ, List, Option, Some, None, OnOk, length, map, refl, sym, subst, ◌∙◌}
+use Rattle.std.proofs.Common.{arith, ◌≡◌, ◌≢◌, ◌++◌, ◌∷◌, [], zero, suc, false, eqb, ℕ, List, Option, Some, None, OnOk, length, map, refl, sym, subst, ◌∙◌}
+use Rattle.std.proofs.lemmas.Grind.{common_steps}
 use Rattle.plc_syntax.specs.Trees.{ItemTree, OutlineTree, Outlined, maybe_then, outline_then}
 use Rattle.plc_print.specs.Outlines.{invariant_tree, item_tree, depth_tree, unless_empty, outline_tree, item_trees}
 use Rattle.plc_print.specs.Text.{text_of}
@@ -35,3 +36,6 @@ returns c =
       | else-outline-eq0-via-else-outline-eq0 w ↦ with_depth o.depth (item_trees file o) w.if-outline-eq0.false
     ] in
     subst (λ (t : Option OutlineTree). OnOk c.outlined.result (c.outlined.new.out.text.items ≡ c.args.out.now.text.items ++ text_of (maybe_then outline_then t []))) (sym stands) c.outlined.ensures
+
+pub returns-then-is_empty-2 : goal.returns-then-is_empty-2
+returns-then-is_empty-2 c = grind (arith, common_steps)
