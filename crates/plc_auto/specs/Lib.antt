@@ -2,5 +2,6 @@
 pub mod Table
 pub mod Location
 pub mod Events
+pub mod Schemes
 pub mod Sets
 pub mod Laws

@@ -1,11 +1,12 @@
-//! When a reclaimer may free what: events, the three observers with their tables of locations, and
-//! sets of locations, on ids and masks alone. `step` is the written table, and the sets are what
+//! When a reclaimer may free what: events, the three observers with their tables of locations, the schemes by which
+//! reclaimers know them, and sets of locations, on ids and masks alone. `step` is the written table, and the sets are what
 //! their definitions say.
 #![tactic(auto)]
 
 mod event;
 mod laws;
 mod observer;
+mod scheme;
 mod set_laws;
 mod sets;
 mod table;
@@ -16,5 +17,6 @@ pub use laws::{
     locations_follow_histories, null_is_other, retired_for_all_threads,
 };
 pub use observer::Observer;
+pub use scheme::{Scheme, schemes_of};
 pub use set_laws::{closures_are_least, sets_grow, sets_of_locations};
 pub use table::R_KEPT;

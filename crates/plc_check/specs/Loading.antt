@@ -16,7 +16,7 @@ use Rattle.plc_parse.specs.Units.{lines_of, IsUnitOf, IsFaultOf}
 use Rattle.plc_flow.specs.Lowering.{made_of, flow_of, most_points}
 use Rattle.plc_oblig.specs.Obligations.{obligations}
 use Rattle.plc_oblig.specs.Outlines.{HasFewObligations, HasSmallSets, HasLargeSet}
-use Rattle.plc_reclaim.specs.Schemes.{schemes_of}
+use Rattle.plc_auto.specs.Schemes.{schemes_of}
 use Rattle.plc_check.specs.declared.judged.Judged.{Judged}
 use Rattle.plc_check.specs.declared.judged.LoadFault.{LoadFault}
 use Rattle.plc_check.specs.declared.judged.LoadFault.TheVariants as faults

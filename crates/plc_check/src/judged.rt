@@ -2,12 +2,11 @@
 // That memory ran out in a lower call is always told as `Memory`, and never wrapped in another fault.
 ghost use Rattle.plc_check.specs.declared.judged.LoadFault.TheVariants.{Memory};
 
-use plc_auto::Observer;
+use plc_auto::{Observer, Scheme};
 use plc_base::{Items, What1};
 use plc_flow::Flow;
 use plc_lex::LexFault;
 use plc_logic::Outline;
-use plc_reclaim::Scheme;
 use plc_scope::ParseFault;
 
 /// A file that was read and lowered.

@@ -5,16 +5,16 @@ ghost use Rattle.plc_check.specs.Fit.{FilesFit, JudgedFits};
 ghost use Rattle.plc_check.specs.Loading.{IsLoaded, FilesAreUnique, line_of, place_of};
 ghost use Rattle.plc_lex.specs.Spelling.{line_feeds};
 ghost use Rattle.plc_parse.specs.Fit.{UnitFits};
-ghost use Rattle.plc_reclaim.specs.Schemes.{schemes_of};
+ghost use Rattle.plc_auto.specs.Schemes.{schemes_of};
 ghost use Rattle.plc_check.specs.Refusals.{lex_refusal, parse_refusal, flow_refusal, unplaced, IsLowered, IsJudgedOf};
 
 use crate::judged::{Judged, LoadFault};
 use crate::limits::limited;
+use plc_auto::{Scheme, schemes_of};
 use plc_base::{Items, What1};
 use plc_flow::{FlowFault, lower};
 use plc_lex::{LexFault, Token, tokens};
 use plc_parse::{Unit, parse};
-use plc_reclaim::{Scheme, schemes_of};
 use plc_scope::ParseFault;
 use std::alloc::Global;
 

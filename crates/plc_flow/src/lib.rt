@@ -10,7 +10,7 @@ mod points;
 mod sides;
 mod statements;
 
-pub use flow::{Flow, FlowFault, Gate, Move, Place, StartFault, Step};
+pub use flow::{Flow, FlowFault, Gate, Step};
 pub use laws::{flows_fit, steps_stay_in_their_gate};
 pub use lowering::lower;
 pub use points::{Point, names_rightly, nth_step};

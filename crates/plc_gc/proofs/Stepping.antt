@@ -5,8 +5,8 @@ use Rattle.plc_base.specs.declared.ids.OpId.{OpId}
 use Rattle.plc_base.specs.declared.memory.NoMemory.{NoMemory}
 use Rattle.plc_flow.specs.declared.flow.Step.{Step}
 use Rattle.plc_flow.specs.declared.flow.Flow.{Flow}
-use Rattle.plc_flow.specs.declared.flow.Move.{Move}
-use Rattle.plc_flow.specs.declared.flow.Move.TheVariants.{Start, Step as Take, Return, Free}
+use Rattle.plc_threads.specs.declared.words.Move.{Move}
+use Rattle.plc_threads.specs.declared.words.Move.TheVariants.{Start, Step as Take, Return, Free}
 use Rattle.plc_flow.specs.declared.points.Point.{Point}
 use Rattle.plc_flow.specs.WellFormed.{FlowFits}
 use Rattle.plc_flow.specs.WellSorted.{FlowIsWellSorted}

@@ -6,7 +6,7 @@ use Rattle.plc_lang.specs.declared.syntax.Ghost.{Ghost as AuxiliaryField}
 use Rattle.plc_lang.specs.declared.syntax.File.{File}
 use Rattle.plc_lang.specs.WellSorted.{IsWellSorted}
 use Rattle.plc_flow.specs.declared.flow.Flow.{Flow}
-use Rattle.plc_flow.specs.declared.flow.Move.{Move}
+use Rattle.plc_threads.specs.declared.words.Move.{Move}
 use Rattle.plc_gc.specs.declared.slot.Slot.TheVariants.{Shared as in_shared, Local as in_local}
 use Rattle.plc_gc.specs.declared.slot.Map.{Map}
 use Rattle.plc_gc.specs.declared.slot.Map.TheVariants.{Pointer as pointer_field, Number as data_field}

@@ -1,7 +1,7 @@
 // The laws stand over the definitions, so that proofs above never open them.
 ghost use Rattle.std.specs.Prelude.{ℕ, ◌<◌, List};
 ghost use Rattle.plc_flow.specs.declared.flow.Flow.{Flow};
-ghost use Rattle.plc_flow.specs.declared.flow.Move.{Move};
+ghost use Rattle.plc_threads.specs.declared.words.Move.{Move};
 ghost use Rattle.plc_flow.specs.WellFormed.{FlowFits};
 ghost use Rattle.plc_flow.specs.WellSorted.{FlowIsWellSorted};
 ghost use Rattle.plc_gc.specs.Laws.{GcStateLaws};

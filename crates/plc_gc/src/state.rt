@@ -11,9 +11,9 @@ use crate::locals::{Locals, local_of, put_pointer, put_value};
 use crate::row::{Row, copy_rows, find_number, number_at};
 use crate::slot::{Map, Slot};
 use plc_base::{FieldId, NoMemory};
-use plc_flow::{Flow, Place};
+use plc_flow::Flow;
 use plc_lang::Field;
-use plc_threads::{copy_held, held, none_held};
+use plc_threads::{Place, copy_held, held, none_held};
 use std::alloc::Global;
 use std::marker::Model;
 

@@ -7,8 +7,8 @@ use Rattle.plc_base.proofs.Tables.{get-put_same, get-put_other}
 use Rattle.plc_lang.specs.declared.syntax.Op.{Op}
 use Rattle.plc_flow.specs.declared.flow.Flow.{Flow}
 use Rattle.plc_flow.specs.declared.flow.Step.{Step}
-use Rattle.plc_flow.specs.declared.flow.Move.{Move}
-use Rattle.plc_flow.specs.declared.flow.Move.TheVariants.{Start, Step as Take, Return, Free}
+use Rattle.plc_threads.specs.declared.words.Move.{Move}
+use Rattle.plc_threads.specs.declared.words.Move.TheVariants.{Start, Step as Take, Return, Free}
 use Rattle.plc_flow.specs.declared.points.Point.{Point}
 use Rattle.plc_logic.specs.declared.clause.Outline.{Outline}
 use Rattle.plc_setting.specs.Fit.{Fits}

@@ -2,7 +2,7 @@
 use Rattle.std.specs.Prelude.{◌≡◌, ℕ, List, Some, None, All}
 use Rattle.plc_flow.specs.declared.flow.Step.{Step}
 use Rattle.plc_flow.specs.declared.flow.Flow.{Flow}
-use Rattle.plc_flow.specs.declared.flow.Move.{Move}
+use Rattle.plc_threads.specs.declared.words.Move.{Move}
 use Rattle.plc_flow.specs.declared.points.Point.{Point}
 use Rattle.plc_logic.specs.declared.clause.Outline.{Outline}
 use Rattle.plc_setting.specs.Points.{clauses_at}

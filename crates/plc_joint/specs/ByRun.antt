@@ -4,8 +4,8 @@ use Rattle.plc_auto.specs.declared.observer.Observer.{Observer}
 use Rattle.plc_auto.specs.Table.{is_well_formed}
 use Rattle.plc_flow.specs.declared.flow.Flow.{Flow}
 use Rattle.plc_flow.specs.declared.flow.Step.{Step}
-use Rattle.plc_flow.specs.declared.flow.Move.{Move}
-use Rattle.plc_flow.specs.declared.flow.Move.TheVariants.{Step as Take}
+use Rattle.plc_threads.specs.declared.words.Move.{Move}
+use Rattle.plc_threads.specs.declared.words.Move.TheVariants.{Step as Take}
 use Rattle.plc_flow.specs.declared.points.Point.{Point}
 use Rattle.plc_flow.specs.Skeleton.{skeleton_of}
 use Rattle.plc_flow.specs.WellFormed.{FlowFits}

@@ -17,9 +17,9 @@ use crate::cells::{cell_or_null, cut_cells, find_cell};
 use crate::locals::{Locals, cut_threads, local_of};
 use crate::node::Nodes;
 use plc_base::{FieldId, NoMemory};
-use plc_flow::{Flow, Place};
+use plc_flow::Flow;
 use plc_lang::{Field, Var};
-use plc_threads::{copy_held, none_held};
+use plc_threads::{Place, copy_held, none_held};
 use std::alloc::Global;
 use std::marker::Model;
 

@@ -12,7 +12,7 @@ use Rattle.plc_auto.specs.declared.observer.Observer.{Observer}
 use Rattle.plc_auto.specs.Table.{step}
 use Rattle.plc_auto.specs.Location.{is_this, advance, location_from, location}
 use Rattle.plc_auto.proofs.Histories.{is_own}
-use Rattle.plc_reclaim.specs.declared.scheme.Scheme.{Scheme}
+use Rattle.plc_auto.specs.declared.scheme.Scheme.{Scheme}
 use Rattle.plc_reclaim.specs.Waiting.{waiting_after}
 use Rattle.plc_reclaim.specs.Rows.{ActsAs, first_waiting, threads_in, is_kept_at, is_kept_by, is_kept_by_none}
 use Rattle.plc_auto.specs.Events.{kind_of, thread_of, address_of}

@@ -7,7 +7,7 @@ use Rattle.plc_auto.specs.declared.observer.Observer.TheVariants.{Plain}
 use Rattle.plc_auto.specs.Table.{is_well_formed}
 use Rattle.plc_auto.specs.Location.{Allowed}
 use Rattle.plc_auto.specs.Laws.{frees_one}
-use Rattle.plc_reclaim.specs.declared.scheme.Scheme.{Scheme}
+use Rattle.plc_auto.specs.declared.scheme.Scheme.{Scheme}
 use Rattle.plc_reclaim.specs.Meanings.{Meanings}
 
 -- a history, and what the reclaimer keeps after it: each event is handed to it, by any thread, and each free is

@@ -3,7 +3,6 @@ pub mod Histories
 pub mod Lookup
 pub mod Meanings
 pub mod Rows
-pub mod Schemes
 -- words of private functions alone
 pub mod Tables
 pub mod Waiting

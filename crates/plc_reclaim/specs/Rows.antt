@@ -9,8 +9,8 @@ use Rattle.plc_auto.specs.declared.observer.Observer.{Observer}
 use Rattle.plc_auto.specs.declared.observer.Observer.TheVariants as observers
 use Rattle.plc_auto.specs.Table.{r_kept}
 use Rattle.plc_auto.specs.Location.{location}
-use Rattle.plc_reclaim.specs.declared.scheme.Scheme.{Scheme}
-use Rattle.plc_reclaim.specs.declared.scheme.Scheme.TheVariants.{Hazard, Epoch}
+use Rattle.plc_auto.specs.declared.scheme.Scheme.{Scheme}
+use Rattle.plc_auto.specs.declared.scheme.Scheme.TheVariants.{Hazard, Epoch}
 use Rattle.plc_reclaim.specs.Meanings.{Meanings}
 
 -- the event frees the address

@@ -4,13 +4,12 @@
 ghost use Rattle.std.specs.Prelude.{◌≡◌, ℕ, List, [], Option, IfOk};
 ghost use Rattle.std.specs.List.{filter_map};
 ghost use Rattle.plc_auto.specs.declared.observer.Observer.{Observer};
-ghost use Rattle.plc_reclaim.specs.declared.scheme.Scheme.{Scheme};
+ghost use Rattle.plc_auto.specs.declared.scheme.Scheme.{Scheme};
 ghost use Rattle.plc_reclaim.specs.Watch.{fresh_watch, numbers_of, by_tables};
 
 use crate::reclaimer::Reclaimer;
-use crate::scheme::Scheme;
 use crate::watch::Watch;
-use plc_auto::{Event, Observer};
+use plc_auto::{Event, Observer, Scheme};
 use plc_base::NoMemory;
 use std::alloc::Global;
 use std::marker::PhantomData;

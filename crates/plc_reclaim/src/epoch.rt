@@ -6,8 +6,7 @@ ghost use Rattle.plc_reclaim.specs.Rows.{ActsAs, epoch_of, epoch_row};
 
 use crate::by_tables::{ByTables, Serves};
 use crate::reclaimer::Reclaimer;
-use crate::scheme::Scheme;
-use plc_auto::Observer;
+use plc_auto::{Observer, Scheme};
 use std::alloc::Global;
 
 /// The Epoch schemes.

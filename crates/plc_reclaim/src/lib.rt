@@ -14,7 +14,6 @@ mod laws;
 mod leak;
 mod lookup;
 mod reclaimer;
-mod scheme;
 mod table;
 mod waiting;
 mod watch;
@@ -28,4 +27,3 @@ pub use laws::{
 pub use leak::Leak;
 pub use lookup::find_named;
 pub use reclaimer::Reclaimer;
-pub use scheme::{Scheme, schemes_of};

@@ -10,11 +10,11 @@ use Rattle.plc_auto.specs.declared.observer.Observer.TheVariants.{Plain, Hazard,
 use Rattle.plc_auto.specs.Table.{is_well_formed}
 use Rattle.plc_auto.specs.Location.{Allowed}
 use Rattle.plc_flow.specs.declared.flow.Flow.{Flow}
-use Rattle.plc_flow.specs.declared.flow.Move.{Move}
+use Rattle.plc_threads.specs.declared.words.Move.{Move}
 use Rattle.plc_flow.specs.WellSorted.{FlowIsWellSorted}
-use Rattle.plc_reclaim.specs.declared.scheme.Scheme.{Scheme}
+use Rattle.plc_auto.specs.declared.scheme.Scheme.{Scheme}
 use Rattle.plc_reclaim.specs.Meanings.{Meanings}
-use Rattle.plc_reclaim.specs.Schemes.{schemes_of}
+use Rattle.plc_auto.specs.Schemes.{schemes_of}
 use Rattle.plc_reclaim.specs.Histories.{Happens, begins, hears, asks, frees}
 use Rattle.plc_reclaim.proofs.Allowing.{hazards_allowed, epochs_allowed}
 use Rattle.plc_run.specs.Run.{Configuration, first_configuration}

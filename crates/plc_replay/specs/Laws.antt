@@ -5,10 +5,10 @@ use Rattle.plc_auto.specs.declared.observer.Observer.TheVariants.{Plain, Hazard,
 use Rattle.plc_auto.specs.Table.{is_well_formed}
 use Rattle.plc_flow.specs.declared.flow.Flow.{Flow}
 use Rattle.plc_flow.specs.WellSorted.{FlowIsWellSorted}
-use Rattle.plc_reclaim.specs.declared.scheme.Scheme.{Scheme}
+use Rattle.plc_auto.specs.declared.scheme.Scheme.{Scheme}
 use Rattle.plc_reclaim.specs.Meanings.{Meanings}
 use Rattle.plc_reclaim.specs.Rows.{ActsAs, hazard_row, epoch_row}
-use Rattle.plc_reclaim.specs.Schemes.{schemes_of}
+use Rattle.plc_auto.specs.Schemes.{schemes_of}
 use Rattle.plc_sched.specs.declared.schedule.Schedule.{Schedule}
 use Rattle.plc_replay.specs.declared.end.End.{End}
 use Rattle.plc_replay.specs.declared.end.End.TheVariants.{ForbiddenFree}

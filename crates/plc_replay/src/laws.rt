@@ -3,7 +3,7 @@
 ghost use Rattle.std.specs.Prelude.{List};
 ghost use Rattle.plc_auto.specs.declared.observer.Observer.{Observer};
 ghost use Rattle.plc_flow.specs.declared.flow.Flow.{Flow};
-ghost use Rattle.plc_reclaim.specs.declared.scheme.Scheme.{Scheme};
+ghost use Rattle.plc_auto.specs.declared.scheme.Scheme.{Scheme};
 ghost use Rattle.plc_reclaim.specs.Meanings.{Meanings};
 ghost use Rattle.plc_sched.specs.declared.schedule.Schedule.{Schedule};
 ghost use Rattle.plc_replay.specs.Laws.{OneEnd, IsServed, NeverForbidden};

@@ -12,8 +12,8 @@ use Rattle.plc_auto.specs.Location.{location, Allowed}
 use Rattle.plc_base.specs.declared.ids.OpId.{OpId}
 use Rattle.plc_flow.specs.declared.flow.Step.{Step}
 use Rattle.plc_flow.specs.declared.flow.Flow.{Flow}
-use Rattle.plc_flow.specs.declared.flow.Move.{Move}
-use Rattle.plc_flow.specs.declared.flow.Move.TheVariants.{Start, Step as Take, Return, Free}
+use Rattle.plc_threads.specs.declared.words.Move.{Move}
+use Rattle.plc_threads.specs.declared.words.Move.TheVariants.{Start, Step as Take, Return, Free}
 use Rattle.plc_flow.specs.declared.points.Point.{Point}
 use Rattle.plc_lang.specs.Allocation.{is_new}
 use Rattle.plc_run.specs.Run.{Ending, Fine, Stuck, Raced, Configuration, point_of, MayTake, taken, Moves, Races}

@@ -9,8 +9,8 @@ use Rattle.plc_auto.specs.declared.observer.Observer.{Observer}
 use Rattle.plc_flow.specs.declared.flow.Step.{Step}
 use Rattle.plc_flow.specs.declared.flow.Gate.{Gate}
 use Rattle.plc_flow.specs.declared.flow.Flow.{Flow}
-use Rattle.plc_flow.specs.declared.flow.Move.{Move}
-use Rattle.plc_flow.specs.declared.flow.Move.TheVariants.{Start, Step as Take, Return, Free}
+use Rattle.plc_threads.specs.declared.words.Move.{Move}
+use Rattle.plc_threads.specs.declared.words.Move.TheVariants.{Start, Step as Take, Return, Free}
 use Rattle.plc_flow.specs.WellFormed.{FlowFits, IsPointOf}
 use Rattle.plc_auto.specs.declared.event.Event.{Event}
 use Rattle.plc_mem.specs.State.{State, Locals, null_cell, cut, cut_locals, freed, with_locals, first_state, no_locals, starting}

@@ -4,15 +4,15 @@ use Rattle.plc_auto.specs.declared.event.Event.TheVariants.{Free as Freed}
 use Rattle.plc_auto.specs.declared.observer.Observer.{Observer}
 use Rattle.plc_auto.specs.Location.{location, Allowed}
 use Rattle.plc_flow.specs.declared.flow.Flow.{Flow}
-use Rattle.plc_flow.specs.declared.flow.Move.{Move}
-use Rattle.plc_flow.specs.declared.flow.Move.TheVariants.{Start, Step as Take, Return, Free}
+use Rattle.plc_threads.specs.declared.words.Move.{Move}
+use Rattle.plc_threads.specs.declared.words.Move.TheVariants.{Start, Step as Take, Return, Free}
 use Rattle.plc_mem.specs.declared.cell.RaceKind.{RaceKind}
 use Rattle.plc_run.specs.declared.moved.Moved.{Moved}
 use Rattle.plc_run.specs.declared.moved.Moved.TheVariants as moved
 use Rattle.plc_run.specs.Run.{Configuration, Run, Moves, Races, first_configuration}
 use Rattle.plc_run.specs.Locations.{Locations, stands}
-use Rattle.plc_flow.specs.declared.flow.StartFault.{StartFault}
-use Rattle.plc_flow.specs.declared.flow.StartFault.TheVariants as faults
+use Rattle.plc_threads.specs.declared.words.StartFault.{StartFault}
+use Rattle.plc_threads.specs.declared.words.StartFault.TheVariants as faults
 
 -- the configuration of a run, whether a race has ended it, and where each thread stands for each address by the table
 pub record Position : Type 0 where

@@ -25,10 +25,10 @@ use crate::moved::Moved;
 use crate::table::Table;
 use plc_auto::{Event, Observer};
 use plc_base::{NoMemory, OpId};
-use plc_flow::{Flow, Move, Point, StartFault, Step, names_rightly};
+use plc_flow::{Flow, Point, Step, names_rightly};
 use plc_lang::Prim;
 use plc_mem::{Locals, Memory, Outcome, RaceKind};
-use plc_threads::{arrival, at_exit, begun, none_held, set_point, step_at};
+use plc_threads::{Move, StartFault, arrival, at_exit, begun, none_held, set_point, step_at};
 use std::alloc::Global;
 use std::marker::Model;
 

@@ -7,10 +7,11 @@ ghost use Rattle.plc_gc.specs.Position.{IsOfRun};
 use crate::tests::loading::{Asked, answered, put, text_is};
 use plc_base::{FieldId, Items, NoMemory, OpId};
 use plc_check::Judged;
-use plc_flow::{Flow, Move, Place, StartFault};
+use plc_flow::Flow;
 use plc_gc::{GcConfig, holds};
 use plc_logic::{Clause, Item, Outline};
 use plc_stacks::HAZARDS;
+use plc_threads::{Move, Place, StartFault};
 use std::alloc::{AllocError, Global};
 
 // The number of a word, 0 where it is none.

@@ -9,10 +9,10 @@ use crate::tests::collected::move_of;
 use crate::tests::loading::{Asked, answered, put, text_is};
 use plc_base::NoMemory;
 use plc_check::Judged;
-use plc_flow::Place;
 use plc_gc::GcConfig;
 use plc_mem::Memory;
 use plc_run::Config;
+use plc_threads::Place;
 use std::alloc::{AllocError, Global};
 
 // Places by short names: the shared pointer, and the first local of each thread.

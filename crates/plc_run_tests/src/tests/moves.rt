@@ -8,9 +8,10 @@ use crate::tests::texts::{put, text_is};
 use plc_auto::{Event, Observer};
 use plc_base::{FieldId, Items, LARGEST_FILE, NoMemory, OpId};
 use plc_check::{Judged, load};
-use plc_flow::{Flow, Move, Place};
+use plc_flow::Flow;
 use plc_mem::Memory;
 use plc_run::{Config, Moved};
+use plc_threads::{Move, Place};
 use std::alloc::{AllocError, Global};
 
 // A file with its flow.

@@ -4,10 +4,9 @@ ghost use Rattle.std.specs.Prelude.{codes};
 
 use crate::tests::files::{Entries, PUT, PUT_AND_TAKE, TAKE, put, put_pieces, put_sections};
 use crate::tests::program::{answered, words_of, wrong_rows};
-use plc_auto::Event;
+use plc_auto::{Event, Scheme};
 use plc_base::NoMemory;
 use plc_cli::{ByList, Leak, MemFiles, Reclaimer, VecSink, run};
-use plc_reclaim::Scheme;
 use std::alloc::{AllocError, Global};
 
 // `hold`: a hazard pointer, taken and given up again. `stay`: an epoch, entered and left.

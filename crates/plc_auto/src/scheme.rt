@@ -1,8 +1,8 @@
-// What a reclaimer is told of a file before its run: by which calls its threads say what they use.
+// By which calls the threads of a file say what they use: what a reclaimer is given before a run.
 ghost use Rattle.std.specs.Prelude.{◌≡◌, IfOk};
-ghost use Rattle.plc_reclaim.specs.Schemes.{schemes_of};
+ghost use Rattle.plc_auto.specs.Schemes.{schemes_of};
 
-use plc_auto::Observer;
+use crate::observer::Observer;
 use plc_base::{FuncId, Items, NoMemory};
 use std::alloc::Global;
 
