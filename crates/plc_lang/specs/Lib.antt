@@ -1,6 +1,7 @@
 -- what contracts of public calls say
 pub mod Allocation
 pub mod Comparison
+pub mod Facts
 pub mod Fields
 pub mod Fit
 pub mod Labels
