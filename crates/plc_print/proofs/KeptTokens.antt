@@ -1,48 +1,23 @@
 -- What is asked of each token, and of the braces that are open at each block, holds of the normal tree's tokens where it holds of a tree's.
-use Rattle.std.proofs.Common.{◌≡◌, ℕ, zero, suc, ◌-◌, Bool, true, false, not, cond, Option, Some, None, List, [], ◌∷◌, ◌++◌, map, filter, refl, ap, subst, arith}
+use Rattle.std.proofs.Common.{◌≡◌, ℕ, zero, suc, Bool, true, false, not, cond, Option, Some, None, List, [], ◌∷◌, ◌++◌, map, filter, refl, ap, subst}
 use Rattle.plc_lex.specs.declared.token.TokenKind.{TokenKind}
-use Rattle.plc_lex.specs.declared.token.TokenKind.TheVariants.{Word, Name, Number, Symbol}
-use Rattle.plc_lex.specs.declared.token.Keyword.{Keyword}
-use Rattle.plc_lex.specs.declared.token.Keyword.TheVariants.{Atomic}
+use Rattle.plc_lex.specs.declared.token.TokenKind.TheVariants.{Symbol}
 use Rattle.plc_lex.specs.declared.token.Symbol.TheVariants.{OpenBrace, CloseBrace}
 use Rattle.plc_syntax.specs.Trees.{Text, each_then, maybe_then, comma_name_then, names_then, FieldTree, PointerField, DataField, field_then, shared_then, FunctionTree, Declares, function_then, WatchTree, UseHazard, UseEpoch, watch_then, OneOf, OfThreads, GhostTree, Auxiliary, ghost_then, PlaceTree, PlaceOf, place_then, AtomTree, NullAtom, NumberAtom, NameAtom, atom_then, ValueTree, NullValue, NewValue, NumberValue, PlaceValue, value_then, SetTree, SetName, SetField, set_then, RefreshTree, RefreshName, RefreshField, refresh_then, GhostValueTree, NameGhost, MeGhost, NoneGhost, ghost_value_then, GhostSetTree, SetGhost, ghost_set_then, InitialTree, InitialSet, InitialGhost, initial_then, init_then, TestTree, Compares, SameAs, OtherThan, LessThan, NotLessThan, test_then, name_or_null_then, ConditionTree, TestCondition, RefreshCondition, CasCondition, condition_then, PrimitiveTree, SetPrimitive, RefreshPrimitive, GhostPrimitive, ActivePrimitive, AssumePrimitive, SkipPrimitive, primitive_then, primitive_line_then, ArgumentTree, NoArgument, NullArgument, NameArgument, ActiveArgument, argument_then, during_then, StatementTree, PrimitiveStatement, AtomicStatement, CallStatement, IfStatement, ChooseStatement, LoopStatement, BreakStatement, ReturnStatement, LabelStatement, BlockTree, NoStatement, Then, ElseTree, NoElse, ElseBlock, OrTree, NoOr, OrBlock, statement_then, statements_then, else_then, or_then, parameters_then, OpTree, Operates, op_then, TermTree, PlaceTerm, NullTerm, NumberTerm, MeTerm, NoneTerm, term_then, RetiredFlag, LiteralTree, FlagLiteral, NotLiteral, EqualityLiteral, literal_then, BoundTree, NoBound, AllOf, bound_then, or_literal_then, ClauseTree, Claims, clause_then, ItemTree, InvariantItem, OverItem, AtItem, item_then, depth_then, OutlineTree, Outlined, outline_then, FileTree, file_tokens}
+use Rattle.plc_syntax.proofs.Braced.{Fine as Braced, down as closed_down, up as closed_up}
 use Rattle.plc_print.specs.Outlines.{unless_empty}
 use Rattle.plc_print.proofs.NormalTrees.{stays, normal_statement, normal_block, normal_else, normal_or, normal_starts, normal_op, is_invariant, normal_items, normal_depth, normal_outline, normal_file}
 
--- the word after which a brace begins no block
-abbrev pub is_atomic : Keyword → Bool
-is_atomic Atomic = true
-is_atomic _ = false
-
 module _ (K : TokenKind → Type 0) (D : ℕ → Type 0) where
-  -- so many braces were opened and closed before, and the token before may be `atomic`: names and numbers are as K asks, and the open braces at each block as D asks
-  abbrev pub Fine : ℕ → ℕ → Bool → List TokenKind → Type 0
-  Fine o c a [] = Unit {0}
-  Fine o c a (Name n ∷ ts) = K (Name n) × Fine o c false ts
-  Fine o c a (Number n ∷ ts) = K (Number n) × Fine o c false ts
-  Fine o c a (Word w ∷ ts) = Fine o c (is_atomic w) ts
-  Fine o c a (Symbol OpenBrace ∷ ts) = (a ≡ false → D (o - c)) × Fine (suc o) c false ts
-  Fine o c a (Symbol CloseBrace ∷ ts) = Fine o (suc c) false ts
-  Fine o c a (Symbol _ ∷ ts) = Fine o c false ts
+  -- the braces of these tokens are fine
+  abbrev Fine : ℕ → ℕ → Bool → List TokenKind → Type 0
+  Fine o c a ts = Braced K D o c a ts
 
-  -- one brace more of each kind is none
   down : (o c : ℕ) (a : Bool) (ts : List TokenKind) → Fine (suc o) (suc c) a ts → Fine o c a ts
-  down o c a [] h = tt
-  down o c a (Name n ∷ ts) h = (h.0, down o c false ts h.1)
-  down o c a (Number n ∷ ts) h = (h.0, down o c false ts h.1)
-  down o c a (Word w ∷ ts) h = down o c (is_atomic w) ts h
-  down o c a (Symbol OpenBrace ∷ ts) h = let same : suc o - suc c ≡ o - c = omega arith in (λ e. subst D same (h.0 e), down (suc o) c false ts h.1)
-  down o c a (Symbol CloseBrace ∷ ts) h = down o (suc c) false ts h
-  down o c a (Symbol _ ∷ ts) h = down o c false ts h
+  down o c a ts h = closed_down K D o c a ts h
 
   up : (o c : ℕ) (a : Bool) (ts : List TokenKind) → Fine o c a ts → Fine (suc o) (suc c) a ts
-  up o c a [] h = tt
-  up o c a (Name n ∷ ts) h = (h.0, up o c false ts h.1)
-  up o c a (Number n ∷ ts) h = (h.0, up o c false ts h.1)
-  up o c a (Word w ∷ ts) h = up o c (is_atomic w) ts h
-  up o c a (Symbol OpenBrace ∷ ts) h = let same : o - c ≡ suc o - suc c = omega arith in (λ e. subst D same (h.0 e), up (suc o) c false ts h.1)
-  up o c a (Symbol CloseBrace ∷ ts) h = up o (suc c) false ts h
-  up o c a (Symbol _ ∷ ts) h = up o c false ts h
+  up o c a ts h = closed_up K D o c a ts h
 
   -- the second tree in place of the first, where what follows may be replaced
   abbrev Kept : {X : Type 0} → (X → List TokenKind → List TokenKind) → X → X → Type 0

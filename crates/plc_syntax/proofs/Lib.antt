@@ -9,3 +9,5 @@ pub mod Samples
 pub mod Tails
 pub mod Places
 pub mod Steps
+pub mod Braced
+pub mod Depths

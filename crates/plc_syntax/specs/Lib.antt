@@ -1,5 +1,6 @@
 -- what contracts of public calls say
 pub mod Answer
+pub mod Depth
 pub mod Faults
 pub mod Nesting
 pub mod Syntax

@@ -11,4 +11,4 @@ mod recognizer;
 mod table;
 
 pub use fault::SyntaxFault;
-pub use recognizer::{outline_fault, syntax, syntax_faults_are_one};
+pub use recognizer::{depth_is_that_of_braces, outline_fault, syntax, syntax_faults_are_one};

@@ -4,6 +4,7 @@
 // front of tokens, which holds no blocks; it stops after the closing brace.
 ghost use Rattle.std.specs.Prelude.{◌≡◌, ◌<◌, ◌^◌, ℕ, IfOk, MatchOption, length};
 ghost use Rattle.plc_syntax.specs.Answer.{IsExactly};
+ghost use Rattle.plc_syntax.specs.Depth.{DepthIsThatOfBraces};
 ghost use Rattle.plc_syntax.specs.Faults.{SyntaxFaultsAreOne};
 ghost use Rattle.plc_syntax.specs.Machine.{outline_stuck_at};
 ghost use Rattle.plc_syntax.specs.Nesting.{NoneTooDeep, SyntaxFaultAt, NestingFaultAt};
@@ -82,4 +83,10 @@ pub fn outline_fault(alloc: Global, tokens: &[Token]) -> Result<Option<u32>, All
 /// is no file whose blocks are within the limit; and that an outline is missing at one place.
 pub fn syntax_faults_are_one()
     ensures { SyntaxFaultsAreOne }
+{}
+
+/// The law that a file's braces say how deep its blocks stand: none stands too deep exactly where at most
+/// 64 stand within one another.
+pub fn depth_is_that_of_braces()
+    ensures { DepthIsThatOfBraces }
 {}
