@@ -1,7 +1,6 @@
 // Syntax alone: each form of the grammar, and how deep blocks may stand, beside what the parser says of it.
 use crate::tests::tables::{Answers, assert_answer, assert_lines};
 use crate::tests::texts::{ForTokens, Lexed, number, push_fate, push_repeated};
-use plc_base::What1;
 use plc_lex::Token;
 use plc_syntax::syntax;
 use std::alloc::{AllocError, Global};
@@ -51,14 +50,13 @@ fn push_both(alloc: Global, answer: &mut String, text: &str) -> Result<(), Alloc
     push_fate(alloc, answer, text, 0)
 }
 
-// What syntax alone and the parser answer to loops that stand so many deeper than they may, and a text in the
-// innermost.
-struct NestedDeeper;
+// What syntax alone and the parser answer to so many loops within one another, and a text in the innermost.
+struct NestedLoops;
 
-impl Answers for NestedDeeper {
+impl Answers for NestedLoops {
     fn push(&self, alloc: Global, answer: &mut String, row: &str) -> Result<(), AllocError> {
-        let (deeper, inside) = row.split_once(" ").unwrap_or((row, ""));
-        let depth = What1::Nesting.most().saturating_add(number(deeper));
+        let (loops, inside) = row.split_once(" ").unwrap_or((row, ""));
+        let depth = number(loops);
         let mut text = String::new(alloc);
         match push_nested(&mut text, depth, inside) {
             Ok(()) => push_both(alloc, answer, text.as_str()),
@@ -68,16 +66,23 @@ impl Answers for NestedDeeper {
 }
 
 const NESTED: &str = "\
-0 => Ok(()) and unit
-0 atomic { skip ; } init => Err(Syntax { at: 142 }) and syntax 142
-0 { => Err(Syntax { at: 137 }) and syntax 137
-1 => Err(Nesting { at: 138 }) and limit Nesting 65
-6 => Err(Nesting { at: 138 }) and limit Nesting 65
+64 => Ok(()) and unit
+64 atomic { skip ; } init => Err(Syntax { at: 142 }) and syntax 142
+64 { => Err(Syntax { at: 137 }) and syntax 137
+65 => Err(Nesting { at: 138 }) and limit Nesting 65
+70 => Err(Nesting { at: 138 }) and limit Nesting 65
+63 if ( n == null ) { } else { } => Ok(()) and undeclared 137
+64 if ( n == null ) { } => Err(Nesting { at: 143 }) and limit Nesting 65
+63 if ( n == null ) { } else { loop { } } => Err(Nesting { at: 146 }) and limit Nesting 65
+63 choose { } or { } or { } => Ok(()) and unit
+64 choose { } or { } => Err(Nesting { at: 138 }) and limit Nesting 65
+63 choose { } or { loop { } } => Err(Nesting { at: 141 }) and limit Nesting 65
+63 choose { } or { } or { loop { } } => Err(Nesting { at: 144 }) and limit Nesting 65
 ";
 
 #[test]
 fn blocks_stand_in_blocks_at_most_64_deep(rt: HostRuntime) -> Result<(), AllocError> {
-    assert_lines(&rt, rt.alloc(), &NestedDeeper, NESTED)
+    assert_lines(&rt, rt.alloc(), &NestedLoops, NESTED)
 }
 
 #[test]
