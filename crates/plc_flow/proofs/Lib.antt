@@ -8,5 +8,6 @@ pub mod Parts
 pub mod Remaining
 pub mod Short
 pub mod Sorted
+pub mod Indexed
 pub mod Walk
 pub mod Within

@@ -3,6 +3,7 @@ pub mod Lowering
 pub mod Points
 pub mod Sides
 pub mod Skeleton
+pub mod StepsByPoint
 pub mod WellFormed
 pub mod WellSorted
 -- words of private functions alone

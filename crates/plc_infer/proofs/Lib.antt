@@ -1,6 +1,6 @@
 pub mod Lists
 pub mod Climb
-pub mod StepsByPoint
+pub mod Leaving
 pub mod Listed
 pub mod Environments
 pub mod Skeletal

@@ -14,15 +14,6 @@ pub among_last : (xs : List ℕ) (y : ℕ) → Among (xs ++ y ∷ []) y
 among_last [] y = inl refl
 among_last (x ∷ xs) y = inr (among_last xs y)
 
-pub among_pushed : (xs : List ℕ) (y n : ℕ) → Among (xs ++ y ∷ []) n → Among xs n ⊎ (y ≡ n)
-among_pushed [] y n (inl e) = inr e
-among_pushed [] y n (inr h) = absurd h
-among_pushed (x ∷ xs) y n (inl e) = inl (inl e)
-among_pushed (x ∷ xs) y n (inr h) = elim (among_pushed xs y n h) [
-  | inl k ↦ inl (inr k)
-  | inr e ↦ inr e
-]
-
 pub table_length : {A : Type 0} (i n : ℕ) (f : ℕ → A) → length (table i n f) ≡ n
 table_length i zero f = refl
 table_length i (suc n) f = ap suc (table_length (i + 1) n f)

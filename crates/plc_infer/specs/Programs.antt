@@ -1,5 +1,5 @@
 -- A borrowed program as plain lists, and what inference asks of one.
-use Rattle.std.specs.Prelude.{◌≡◌, ℕ, ◌<◌, ◌≤◌, length, map, slice_get, get_or, Some, []}
+use Rattle.std.specs.Prelude.{◌≡◌, ℕ, ◌<◌, ◌≤◌, List, length, map, slice_get, get_or, Some, []}
 use Rattle.plc_base.specs.Limits.{most}
 use Rattle.plc_base.specs.declared.limits.What1.TheVariants as limits
 use Rattle.plc_base.specs.declared.ids.PointId.{PointId}
@@ -23,6 +23,10 @@ program_of p = record {
   entries = map number_of p.entries.now;
   passages = map edge_of p.steps.now;
 }
+
+-- the first points of a program's steps
+abbrev pub first_points : Program → List PointId
+first_points p = map (λ (e : Edge). e.from) p.steps.now
 
 -- a passage that stands in no program
 abbrev pub some_passage : Passage

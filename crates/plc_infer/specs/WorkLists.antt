@@ -2,10 +2,8 @@
 -- list, or is still to be looked at.
 use Rattle.std.specs.Prelude.{◌≡◌, ℕ, ◌+◌, ◌<◌, ◌≤◌, Bool, true, false, List, []}
 use Rattle.std.specs.Prelude.{◌∷◌, ◌++◌, length, get_or, slice_set, ◌⊎◌}
-use Rattle.plc_lang.specs.Skeleton.{Skeleton}
 use Rattle.plc_xfer.specs.Rules.{table}
 use Rattle.plc_infer.specs.Iteration.{Graph, Stays, Rising, Relaxed, total}
-use Rattle.plc_infer.specs.Programs.{passage_at}
 
 -- a number is in a list
 abbrev pub Among : List ℕ → ℕ → Type 0
@@ -25,12 +23,6 @@ abbrev pub Puts : ℕ → List ℕ → List ℕ → List Bool → List Bool → 
 Puts p queue queue' marks marks' =
     ((is_marked marks p ≡ true) × (queue' ≡ queue) × (marks' ≡ marks))
     ⊎ ((queue' ≡ queue ++ p ∷ []) × (marks' ≡ slice_set marks p true))
-
--- for each point, those of the first n steps that leave it
-pub record LeavingBelow (s : Skeleton) (n : ℕ) (index : List (List ℕ)) : Type 0 where
-  pub count : length index ≡ length s.locals
-  pub leave : (p k : ℕ) → p < length s.locals → Among (get_or index p []) k → (k < n) × ((passage_at s k).from ≡ p)
-  pub all : (p k : ℕ) → p < length s.locals → k < n → (passage_at s k).from ≡ p → Among (get_or index p []) k
 
 -- on the way to the strongest, with the points on the list and the steps that are still to be looked at
 pub record UnderWay {E : Type 0} (g : Graph E) (starts envs : List E) (queue : List ℕ) (marks : List Bool)

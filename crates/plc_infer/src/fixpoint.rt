@@ -11,8 +11,7 @@ ghost use Rattle.plc_infer.specs.Iteration.{Shaped, Relaxed, IsStrongest as IsLe
 ghost use Rattle.plc_infer.specs.WorkLists.{UnderWay, Looked, Gains};
 ghost use Rattle.plc_infer.specs.Starts.{starts_of};
 
-use crate::leaving::leaving;
-use crate::program::Program;
+use crate::program::{Program, steps_by_point};
 use crate::starts::starts;
 use crate::work_list::WorkList;
 use plc_auto::Observer;
@@ -32,11 +31,11 @@ pub(crate) fn strongest(
     ensures { let graph = graph_of observer.now (program_of program.now)
         in IfOk result (λ envs. IsLeast graph (starts_of observer.now (program_of program.now)) envs.items) }
 {
-    let leaving = leaving(alloc, program)?;
+    let index = steps_by_point(alloc, program)?;
     let mut envs = starts(alloc, program, observer)?;
     let mut list = WorkList::of_all(alloc, program.locals.len())?;
     while let Some(point) = list.take() {
-        let steps = leaving[point as usize].as_slice();
+        let steps = index.leaving(point);
         relax_all(alloc, program, observer, steps, &mut envs, &mut list)?;
     }
     Ok(envs)

@@ -4,7 +4,6 @@
 
 mod faults;
 mod fixpoint;
-mod leaving;
 mod program;
 mod starts;
 mod typing;

@@ -10,10 +10,11 @@ ghost use Rattle.plc_lang.specs.Locals.{pointers_of};
 ghost use Rattle.plc_flow.specs.declared.flow.Gate.{Gate};
 ghost use Rattle.plc_flow.specs.WellFormed.{IsWellFormed};
 ghost use Rattle.plc_flow.specs.Skeleton.{pointers_by_point, passage_of};
-ghost use Rattle.plc_infer.specs.Programs.{edge_of};
+ghost use Rattle.plc_flow.specs.StepsByPoint.{IsIndexOf};
+ghost use Rattle.plc_infer.specs.Programs.{IsProgram, edge_of, first_points, program_of};
 
 use plc_base::{NoMemory, PointId};
-use plc_flow::{Flow, Gate};
+use plc_flow::{Flow, Gate, StepsByPoint};
 use plc_lang::{Op, Prim, count_pointers};
 use std::alloc::Global;
 
@@ -52,6 +53,27 @@ pub fn edges<'a>(alloc: Global, flow: &'a Flow) -> Result<Vec<Edge<'a>>, NoMemor
         })?;
     }
     Ok(edges)
+}
+
+/// The first points of a program's steps, in order.
+fn first_points(alloc: Global, program: &Program) -> Result<Vec<PointId>, NoMemory>
+    ensures { IfOk result (λ firsts. firsts.items ≡ first_points program.now) }
+{
+    let steps = program.steps;
+    let mut firsts = Vec::new(alloc);
+    for step in steps {
+        firsts.push(step.from)?;
+    }
+    Ok(firsts)
+}
+
+/// The index of a program's steps by the points that they leave.
+pub(crate) fn steps_by_point(alloc: Global, program: &Program) -> Result<StepsByPoint, NoMemory>
+    requires { IsProgram (program_of program.now) }
+    ensures { IfOk result (λ index. IsIndexOf (first_points program.now) index) }
+{
+    let firsts = first_points(alloc, program)?;
+    StepsByPoint::new(alloc, program.locals.len(), firsts.as_slice())
 }
 
 /// The points where the operations of a flow begin. The one error is that memory runs out.

@@ -8,6 +8,6 @@ mod standing;
 mod table;
 mod words;
 
-pub use standing::{arrival, at_exit, begun, point_at, set_point, step_at};
+pub use standing::{arrival, at_exit, begun, indexed_step_at, point_at, set_point, step_at};
 pub use table::{TryCopy, copy_held, held, none_held};
 pub use words::{Move, Place, StartFault};

@@ -2,10 +2,11 @@
 // it, in the layers above.
 ghost use Rattle.std.specs.Prelude.{◌≡◌, ◌<◌, None, get_or, length, option_map};
 ghost use Rattle.plc_base.specs.Tables.{put_at};
+ghost use Rattle.plc_flow.specs.StepsByPoint.{IsIndexOf, first_points};
 ghost use Rattle.plc_threads.specs.Standing.{is_idle, begun, step_of, at_exit};
 
 use plc_base::OpId;
-use plc_flow::{Flow, Point, Step, nth_step};
+use plc_flow::{Flow, Point, Step, StepsByPoint, nth_step};
 use plc_lang::{Op, count_parameters};
 
 /// The point where a thread stands; `None` where it is idle, or there is no such thread.
@@ -81,6 +82,23 @@ pub fn step_at<'a>(
 {
     let point = point_at(points, t)?;
     let step = nth_step(flow, point.at, nth)?;
+    Some((point, step))
+}
+
+/// The point where a busy thread stands, and the nth of the steps that leave it, which the index of the flow's steps
+/// finds without a walk over all of them. `None` comes exactly where the thread is idle, and where fewer steps leave.
+pub fn indexed_step_at<'a>(
+    flow: &'a Flow,
+    index: &StepsByPoint,
+    points: &[Option<Point>],
+    t: u32,
+    nth: u16,
+) -> Option<(Point, &'a Step)>
+    requires { IsIndexOf (first_points flow.now) index.now }
+    ensures { option_map (λ r. (r.0, r.1.now)) result ≡ step_of flow.now nth (get_or points.now t None) }
+{
+    let point = point_at(points, t)?;
+    let step = index.nth_step(flow, point.at, nth)?;
     Some((point, step))
 }
 

@@ -1,13 +1,14 @@
 use Rattle.std.proofs.Common.{◌≡◌, ℕ, suc, ◌+◌, ◌<◌, ◌≤◌, Bool, List, [], ◌∷◌, length, get_or, refl, sym, ap, subst, ◌∙◌, inl, arith}
-use Rattle.std.proofs.lemmas.List.{get_or_read}
-use Rattle.plc_infer.specs.Programs.{program_of, passage_at}
+use Rattle.plc_flow.specs.StepsByPoint.{places_from}
+use Rattle.plc_infer.specs.Programs.{program_of, passage_at, first_points}
 use Rattle.plc_infer.specs.Graphs.{graph_of}
 use Rattle.plc_infer.specs.Iteration.{total}
 use Rattle.plc_infer.specs.Starts.{starts_of}
 use Rattle.plc_infer.specs.WorkLists.{Among, UnderWay}
 use Rattle.plc_infer.proofs.Climb.{total_most}
+use Rattle.plc_infer.proofs.Leaving.{leaving_all, leaving_known}
 use Rattle.plc_infer.proofs.Listed.{begun, taken}
-use Rattle.plc_infer.proofs.Programs.{steps_length, program_laws, program_starts}
+use Rattle.plc_infer.proofs.Programs.{program_laws, program_starts}
 use Rattle.plc_infer.proofs.fixpoint.strongest.Goals as goal
 
 pub loop-point-init : goal.loop-point-init
@@ -16,12 +17,6 @@ loop-point-init c =
     let s = program_of c.args.program.now in
     rw c.in_ok-envs.ensures
     (begun (graph_of o s) (program_laws o s c.requires) (starts_of o s) c.in_ok-list.list.queue.items c.in_ok-list.list.marks.items (program_starts o s c.requires) c.in_ok-list.ensures.0 c.in_ok-list.ensures.1)
-
-pub index-requires : goal.index-requires
-index-requires c =
-    let h = c.loop-point.invariant.points c.in-Some.point (subst (λ (xs : List ℕ). Among xs c.in-Some.point) (sym c.in-Some.ensures.0) (inl refl)) in
-    let count = c.in_ok-leaving.ensures.count in
-    omega (arith, h, count)
 
 pub relax_all-requires-clause-under_way : goal.relax_all-requires-clause-under_way
 relax_all-requires-clause-under_way c =
@@ -33,14 +28,11 @@ relax_all-requires-clause-under_way c =
     let envs = c.loop-point.envs.items in
     let queue = c.take.new.self.queue.items in
     let marks = c.loop-point.list.marks.items in
-    let steps = c.as_slice-steps.result.now in
-    let index = c.in_ok-leaving.ensures in
+    let steps = c.leaving-steps.result.now in
     let before : UnderWay graph starts envs (p ∷ queue) marks [] = subst (λ (xs : List ℕ). UnderWay graph starts envs xs marks []) c.in-Some.ensures.0 c.loop-point.invariant in
-    let within : p < length s.locals = before.points p (inl refl) in
-    let inside : p < length c.in_ok-leaving.leaving.items = subst (λ (n : ℕ). p < n) (sym index.count) within in
-    let row : steps ≡ get_or c.in_ok-leaving.leaving.items p [] = c.as_slice-steps.ensures ∙ get_or_read c.in_ok-leaving.leaving.items p c.index.result.now inside c.index.ensures [] in
-    let all : (k : ℕ) → k < length s.passages → (passage_at s k).from ≡ p → Among steps k = λ k small e. subst (λ (ks : List ℕ). Among ks k) (sym row) (index.all p k within (subst (λ (n : ℕ). k < n) (steps_length c.args.program.now) small) e) in
-    let known : (k : ℕ) → Among steps k → k < length s.passages = λ k a. subst (λ (n : ℕ). k < n) (sym (steps_length c.args.program.now)) (index.leave p k within (subst (λ (ks : List ℕ). Among ks k) row a)).0 in
+    let row : steps ≡ places_from 0 p (first_points c.args.program.now) = c.leaving-steps.ensures ∙ c.in_ok-index.ensures p in
+    let all : (k : ℕ) → k < length s.passages → (passage_at s k).from ≡ p → Among steps k = λ k small e. subst (λ (ks : List ℕ). Among ks k) (sym row) (leaving_all c.args.program.now p k small e) in
+    let known : (k : ℕ) → Among steps k → k < length s.passages = λ k a. leaving_known c.args.program.now p k (subst (λ (ks : List ℕ). Among ks k) row a) in
     subst (λ (ms : List Bool). UnderWay graph starts envs queue ms steps) (sym c.in-Some.ensures.1) (taken graph (program_laws o s c.requires) starts envs p queue marks steps before all known)
 
 pub loop-point-smaller : goal.loop-point-smaller
