@@ -11,6 +11,6 @@ mod sides;
 mod statements;
 
 pub use flow::{Flow, FlowFault, Gate, Step};
-pub use laws::{flows_fit, steps_stay_in_their_gate};
+pub use laws::{flows_fit, opposites_are_tests, steps_stay_in_their_gate};
 pub use lowering::lower;
 pub use points::{Point, names_rightly, nth_step};

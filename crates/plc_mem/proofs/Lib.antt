@@ -3,6 +3,7 @@ pub mod Index
 pub mod Joined
 pub mod Nodes
 pub mod Outcomes
+pub mod Opposites
 pub mod Places
 pub mod Views
 pub mod Validity
