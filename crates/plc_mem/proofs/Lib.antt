@@ -1,3 +1,4 @@
+pub mod Accesses
 pub mod Coherence
 pub mod Index
 pub mod Joined
