@@ -4,6 +4,7 @@ pub mod Gates
 pub mod Labelled
 pub mod Leaving
 pub mod Naming
+pub mod Opposites
 pub mod Parts
 pub mod Remaining
 pub mod Short

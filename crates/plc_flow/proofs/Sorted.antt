@@ -5,7 +5,6 @@ use Rattle.std.proofs.lemmas.Option.{slice_get_within}
 use Rattle.plc_base.specs.declared.ids.FuncId.{FuncId}
 use Rattle.plc_lang.specs.declared.syntax.Primitive.{Primitive}
 use Rattle.plc_lang.specs.declared.syntax.Primitive.TheVariants as prims
-use Rattle.plc_lang.specs.declared.syntax.Rel.TheVariants as rels
 use Rattle.plc_lang.specs.declared.syntax.Var.{Var}
 use Rattle.plc_lang.specs.declared.syntax.Arg.{Arg}
 use Rattle.plc_lang.specs.declared.syntax.Arg.TheVariants as args
@@ -18,6 +17,7 @@ use Rattle.plc_lang.specs.WellSorted.{IsWellSorted, AreWellSorted, CallIsWellSor
 use Rattle.plc_flow.specs.declared.flow.Step.{Step}
 use Rattle.plc_flow.specs.Sides.{opposite, claim, equals, differs, becomes, true_side, false_side, call_side}
 use Rattle.plc_flow.specs.Lowering.{flow_of}
+use Rattle.plc_flow.proofs.Opposites.{of_each_test, opposites_are_tests}
 use Rattle.plc_flow.proofs.Walk.{StatementHas, StatementsHave, BlocksHave, flow_steps_have}
 
 -- ---- steps without calls
@@ -41,23 +41,12 @@ alone_sorted : (file : File) (k : Primitive) → IsWellSorted file k → is_call
 alone_sorted file k i none = uncalled file (k ∷ []) (i, tt) (one_new_alone k) (rw none refl)
 
 test_sorted : (file : File) (k : Primitive) → is_test k ≡ true → StepIsWellSorted file (k ∷ [])
-test_sorted file (prims.Eq p q) e = alone_sorted file (prims.Eq p q) tt refl
-test_sorted file (prims.Ne p q) e = alone_sorted file (prims.Ne p q) tt refl
-test_sorted file (prims.IsNull p) e = alone_sorted file (prims.IsNull p) tt refl
-test_sorted file (prims.NotNull p) e = alone_sorted file (prims.NotNull p) tt refl
-test_sorted file (prims.DataTest r x n) e = alone_sorted file (prims.DataTest r x n) tt refl
-test_sorted file k e = cc
+test_sorted file = of_each_test (λ k. StepIsWellSorted file (k ∷ [])) (λ p q. alone_sorted file (prims.Eq p q) tt refl)
+    (λ p q. alone_sorted file (prims.Ne p q) tt refl) (λ p. alone_sorted file (prims.IsNull p) tt refl)
+    (λ p. alone_sorted file (prims.NotNull p) tt refl) (λ r x n. alone_sorted file (prims.DataTest r x n) tt refl)
 
 opposite_sorted : (file : File) (k : Primitive) → is_test k ≡ true → StepIsWellSorted file (opposite k ∷ [])
-opposite_sorted file (prims.Eq p q) e = alone_sorted file (prims.Ne p q) tt refl
-opposite_sorted file (prims.Ne p q) e = alone_sorted file (prims.Eq p q) tt refl
-opposite_sorted file (prims.IsNull p) e = alone_sorted file (prims.NotNull p) tt refl
-opposite_sorted file (prims.NotNull p) e = alone_sorted file (prims.IsNull p) tt refl
-opposite_sorted file (prims.DataTest rels.Eq x n) e = alone_sorted file (prims.DataTest rels.Ne x n) tt refl
-opposite_sorted file (prims.DataTest rels.Ne x n) e = alone_sorted file (prims.DataTest rels.Eq x n) tt refl
-opposite_sorted file (prims.DataTest rels.Lt x n) e = alone_sorted file (prims.DataTest rels.Ge x n) tt refl
-opposite_sorted file (prims.DataTest rels.Ge x n) e = alone_sorted file (prims.DataTest rels.Lt x n) tt refl
-opposite_sorted file k e = cc
+opposite_sorted file k e = test_sorted file (opposite k) (opposites_are_tests.tests k e)
 
 refresh_sorted : (file : File) (k : Primitive) → IsWellSorted file k → is_refresh k ≡ true → StepIsWellSorted file (k ∷ [])
 refresh_sorted file (prims.Refresh p q) i e = alone_sorted file (prims.Refresh p q) i refl

@@ -1,5 +1,6 @@
 // The laws stand over the definitions, so that proofs above never open them.
 ghost use Rattle.plc_flow.specs.declared.flow.Flow.{Flow};
+ghost use Rattle.plc_flow.specs.Opposites.{OppositesAreTests};
 ghost use Rattle.plc_flow.specs.Points.{StepsStayInTheirGate};
 ghost use Rattle.plc_flow.specs.WellFormed.{IsWellFormed};
 ghost use Rattle.plc_flow.specs.WellSorted.{FlowsFit};
@@ -14,4 +15,10 @@ pub fn flows_fit()
 /// A step that leaves a point of an operation is of that operation, and leads to a point of it.
 pub fn steps_stay_in_their_gate()
     ensures { (flow : Flow) → IsWellFormed flow → StepsStayInTheirGate flow }
+{}
+
+/// The opposite of a test is a test, whose opposite is the first; no test is a claim. That exactly one of the two goes
+/// in each state is a law of each meaning of memory.
+pub fn opposites_are_tests()
+    ensures { OppositesAreTests }
 {}

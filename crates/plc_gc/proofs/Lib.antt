@@ -4,6 +4,7 @@ pub mod Executing
 pub mod Frames
 pub mod Kept
 pub mod Moving
+pub mod Opposites
 pub mod Ranges
 pub mod Reaching
 pub mod Stepping

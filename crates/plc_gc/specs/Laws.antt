@@ -1,11 +1,15 @@
 -- What each change of a garbage-collected state leaves at each place and at each node.
-use Rattle.std.specs.Prelude.{◌≡◌, ℕ, suc, ◌<◌, ◌≤◌, List, Option, get_or}
+use Rattle.std.specs.Prelude.{◌≡◌, ℕ, suc, ◌<◌, ◌≤◌, true, not, List, Option, get_or}
 use Rattle.plc_lang.specs.declared.syntax.Field.{Field}
+use Rattle.plc_lang.specs.declared.syntax.Primitive.{Primitive}
+use Rattle.plc_lang.specs.WellSorted.{is_test}
+use Rattle.plc_flow.specs.Sides.{opposite}
 use Rattle.plc_gc.specs.declared.slot.Slot.{Slot}
 use Rattle.plc_gc.specs.declared.slot.Slot.TheVariants.{Shared as in_shared, Local as in_local, Data as in_data}
 use Rattle.plc_gc.specs.declared.slot.Map.{Map}
 use Rattle.plc_gc.specs.State.{GcState, Locals, value, entry, count, put, update, made, with_locals, locals_or_none}
 use Rattle.plc_gc.specs.State.{fresh_state}
+use Rattle.plc_gc.specs.Primitives.{goes, after}
 
 -- every map has at every node what it had, and there are as many nodes
 pub record SameNodes (g new : GcState) : Type 0 where
@@ -55,3 +59,12 @@ pub record GcStateLaws : Type 0 where
   pub gives : (g : GcState) (t : ℕ) (l : Option Locals) → HasLocals g t l (with_locals g t l)
   pub unmade : (g : GcState) (m : Map) (k : ℕ) → count g ≤ k → entry g m k ≡ 0
   pub first : (fields : List Field) (ghosts shared threads : ℕ) → IsFirst (fresh_state fields ghosts shared threads)
+
+-- of a test and its opposite exactly one goes, and a test changes nothing
+pub record TestHasAnOpposite (g : GcState) (t : ℕ) (k : Primitive) : Type 0 where
+  pub goes : goes g t (opposite k) ≡ not (goes g t k)
+  pub unchanged : after g t k ≡ g
+
+-- so it is with each test, in every state and whichever thread meets it
+abbrev pub CollectedTestsHaveOpposites : Type 0
+CollectedTestsHaveOpposites = (g : GcState) (t : ℕ) (k : Primitive) → is_test k ≡ true → TestHasAnOpposite g t k

@@ -4,7 +4,7 @@ ghost use Rattle.plc_flow.specs.declared.flow.Flow.{Flow};
 ghost use Rattle.plc_threads.specs.declared.words.Move.{Move};
 ghost use Rattle.plc_flow.specs.WellFormed.{FlowFits};
 ghost use Rattle.plc_flow.specs.WellSorted.{FlowIsWellSorted};
-ghost use Rattle.plc_gc.specs.Laws.{GcStateLaws};
+ghost use Rattle.plc_gc.specs.Laws.{CollectedTestsHaveOpposites, GcStateLaws};
 ghost use Rattle.plc_gc.specs.Ranges.{RunsStayInRange, RunsKeepValues};
 ghost use Rattle.plc_gc.specs.Reached.{ClaimsAreReached};
 ghost use Rattle.plc_gc.specs.Run.{GcConfiguration, GcRun};
@@ -49,4 +49,9 @@ pub fn collected_threads_hold_their_locals()
     ensures { (flow : Flow) (threads : ℕ) (moves : List Move) (c : GcConfiguration)
         → FlowFits flow → FlowIsWellSorted flow → 0 < threads → GcRun flow threads moves c
         → GcConfigurationFits flow threads c }
+{}
+
+/// Of a test and its opposite exactly one goes, in every garbage-collected state, and a test changes nothing.
+pub fn collected_tests_have_opposites()
+    ensures { CollectedTestsHaveOpposites }
 {}

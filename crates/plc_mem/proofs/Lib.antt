@@ -1,8 +1,10 @@
+pub mod Accesses
 pub mod Coherence
 pub mod Index
 pub mod Joined
 pub mod Nodes
 pub mod Outcomes
+pub mod Opposites
 pub mod Places
 pub mod Views
 pub mod Validity

@@ -281,12 +281,7 @@ pub cases_place : (p q : Place) → (p ≡ q) ⊎ (p ≡ q → ⊥)
 cases_place (at_shared i) (at_shared j) = elim (cases_eq i j) [ inl e ↦ inl (ap at_shared e) | inr ne ↦ inr (λ e. ne (cc)) ]
 cases_place (at_local t v) (at_local u w) = elim (cases_eq t u) [ inl e ↦ elim (cases_eq v w) [ inl f ↦ inl (cc) | inr ne ↦ inr (λ e. ne (cc)) ] | inr ne ↦ inr (λ e. ne (cc)) ]
 cases_place (at_field t v) (at_field u w) = elim (cases_eq t u) [ inl e ↦ elim (cases_eq v w) [ inl f ↦ inl (cc) | inr ne ↦ inr (λ e. ne (cc)) ] | inr ne ↦ inr (λ e. ne (cc)) ]
-cases_place (at_shared i) (at_local u w) = inr (λ e. cc)
-cases_place (at_shared i) (at_field u w) = inr (λ e. cc)
-cases_place (at_local t v) (at_shared j) = inr (λ e. cc)
-cases_place (at_local t v) (at_field u w) = inr (λ e. cc)
-cases_place (at_field t v) (at_shared j) = inr (λ e. cc)
-cases_place (at_field t v) (at_local u w) = inr (λ e. cc)
+cases_place p q = inr (λ e. cc)
 
 pub memory_laws : MemoryLaws
 memory_laws = record {

@@ -1,9 +1,15 @@
 -- What each change of memory leaves at each place, and which addresses stay used and retired.
-use Rattle.std.specs.Prelude.{◌≡◌, ℕ, Bool, true, false, not, ◌&&◌, ◌||◌, ◌==◌, ◌<◌, List, Option, get_or}
+use Rattle.std.specs.Prelude.{◌≡◌, ℕ, Bool, true, false, not, ◌&&◌, ◌||◌, ◌==◌, ◌<◌, List, Option, Some, None, get_or}
+use Rattle.plc_lang.specs.declared.syntax.Primitive.{Primitive}
+use Rattle.plc_lang.specs.declared.syntax.Var.{Var}
+use Rattle.plc_lang.specs.Facts.{accessed, compared}
+use Rattle.plc_lang.specs.WellSorted.{is_test, is_call}
+use Rattle.plc_flow.specs.Sides.{opposite}
 use Rattle.plc_mem.specs.declared.cell.Cell.{Cell}
-use Rattle.plc_mem.specs.State.{State, Place, at_shared, at_local, at_field, Locals, null_cell, cut, at, put, value_at}
-use Rattle.plc_mem.specs.State.{put_value, field_value, put_field_value, is_used, is_retired, with_node, with_retired}
+use Rattle.plc_mem.specs.State.{State, Place, at_shared, at_local, at_field, Locals, null_cell, is_null, cut, at, put}
+use Rattle.plc_mem.specs.State.{value_at, put_value, field_value, put_field_value, is_used, is_retired, with_node, with_retired}
 use Rattle.plc_mem.specs.State.{with_locals, locals_or_none, freed, fresh_state}
+use Rattle.plc_mem.specs.Primitives.{race_of, goes, after, event_of, access, comparison, cell_at}
 
 -- a field is there where its address is used; other places are always there
 abbrev pub is_there : State → Place → Bool
@@ -106,3 +112,29 @@ pub record MemoryLaws : Type 0 where
   pub frees : (s : State) (a : ℕ) → 0 < a → WasFreed s a (freed s a)
   pub gives : (s : State) (t : ℕ) (l : Option Locals) → HasLocals s t l (with_locals s t l)
   pub first : (fields : List Bool) (shared threads : ℕ) → IsFirst (fresh_state fields shared threads)
+
+-- of a test and its opposite exactly one goes, and both are a race or neither is; a test changes nothing, and no
+-- observer hears it
+pub record TestHasAnOpposite (s : State) (t a : ℕ) (k : Primitive) : Type 0 where
+  pub goes : goes s t a (opposite k) ≡ not (goes s t a k)
+  pub race : race_of s t (opposite k) ≡ race_of s t k
+  pub unchanged : after s t a k ≡ s
+  pub silent : event_of s t k ≡ None
+
+-- so it is with each test, in every state and whichever thread meets it
+abbrev pub TestsHaveOpposites : Type 0
+TestsHaveOpposites = (s : State) (t a : ℕ) (k : Primitive) → is_test k ≡ true → TestHasAnOpposite s t a k
+
+-- a primitive that goes through this pointer is a race where an access through it is one, and is blocked where it is
+-- null
+pub record GoesThrough (s : State) (t a : ℕ) (k : Primitive) (q : Var) : Type 0 where
+  pub race : race_of s t k ≡ access (cell_at s t q)
+  pub null : is_null (cell_at s t q) ≡ true → goes s t a k ≡ false
+
+-- a primitive is a race by the pointer that it goes through, or by those that it compares; else calls alone may be one
+pub record AccessesAgree : Type 0 where
+  pub through : (s : State) (t a : ℕ) (k : Primitive) (q : Var) → accessed k ≡ Some q → GoesThrough s t a k q
+  pub compares : (s : State) (t : ℕ) (k : Primitive) (p q : Var) → compared k ≡ Some (p, q)
+      → race_of s t k ≡ comparison (cell_at s t p) (cell_at s t q)
+  pub others : (s : State) (t : ℕ) (k : Primitive) → accessed k ≡ None → compared k ≡ None → is_call k ≡ false
+      → race_of s t k ≡ None

@@ -12,6 +12,6 @@ mod memory;
 mod node;
 
 pub use cell::{Cell, Outcome, RaceKind};
-pub use laws::{coherence_is_kept, memory_reads_back};
+pub use laws::{accesses_agree, coherence_is_kept, memory_reads_back, tests_have_opposites};
 pub use locals::Locals;
 pub use memory::Memory;
