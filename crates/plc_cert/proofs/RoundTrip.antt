@@ -1,14 +1,11 @@
--- The law: what is written is read as it was.
-use Rattle.std.proofs.Common.{◌++◌, Some, Ok, IsUtf8, ◌≡◌, ℕ, ◌<◌, ◌≤◌, ◌^◌, ◌==◌, Bool, true, false, if◌then◌else◌, List, [], ◌∷◌, filter, inl, inr, refl, sym, ap, ◌∙◌, arith, ne_eqb, true≢false}
+-- The laws: what is written is read as it was, or is refused.
+use Rattle.std.proofs.Common.{◌++◌, Some, Ok, IsUtf8, ◌≡◌, ℕ, ◌<◌, ◌≤◌, ◌^◌, Bool, true, false, if◌then◌else◌, List, [], ◌∷◌, filter, refl, ap, ◌∙◌, arith}
 use Rattle.std.specs.List.{AllByRecursion}
-use Rattle.std.proofs.lemmas.Bool.{cases_lt}
 use Rattle.json.specs.Tree as tree
 use Rattle.serde_json.specs.Data.{Data}
 use Rattle.serde_json.specs.Read.{max_depth, read}
 use Rattle.serde_json.specs.Written.{outline, items_outline}
 use Rattle.plc_base.specs.Mask.{has, numbers}
-use Rattle.plc_type.specs.Guarantees.{numbered, is_guarantee_set}
-use Rattle.plc_type.specs.declared.guarantee.Guar.{Guar}
 use Rattle.plc_type.specs.declared.env.PtrType.{PtrType}
 use Rattle.plc_type.specs.declared.env.Env.{Env}
 use Rattle.plc_ground.specs.declared.terms.Node.{Node}
@@ -18,9 +15,9 @@ use Rattle.plc_cert.specs.declared.cert.Cert.{Cert}
 use Rattle.plc_cert.specs.Shape.{with_json, reading}
 use Rattle.plc_cert.specs.Written.{whole, items, list, node, mask, members, pointer, env, cert, text}
 use Rattle.plc_cert.specs.Written as written
-use Rattle.plc_cert.specs.Fits.{NodeFits, TreeFits, PointerFits, EnvFits, CertFits, stored}
+use Rattle.plc_cert.specs.Fits.{NodeFits, TreeFits, CertFits, PointerIsInRange, EnvIsInRange, IsInRange, stored, read_back}
 use Rattle.plc_cert.proofs.Shapes.{json_of-utf8}
-use Rattle.plc_cert.proofs.Back.{cert_back}
+use Rattle.plc_cert.proofs.Back.{cert_back, in_range, read_whole}
 use Rattle.plc_cert.proofs.Text.{IsFlat, AreFlat, root_back, root_utf8}
 use Rattle.plc_cert.proofs.Line.{line_back}
 use Rattle.json.proofs.Printed.Utf8.{IsUtf8-are_ascii}
@@ -70,47 +67,45 @@ mask_flat m = list_flat whole Small (λ n h. h) (members m) (filter_small (has m
 mask_depth : (m : ℕ) → tree.depth (outline (mask m)) ≤ 1
 mask_depth m = omega (arith, list_depth whole 0 (λ n. omega arith) (members m))
 
-none_above : (n : ℕ) → 8 ≤ n → is_guarantee_set (numbered n) ≡ false
-none_above n h =
-    let other : (k : ℕ) → k < 8 → (n == k) ≡ false = λ k small. ne_eqb n k (λ e. omega arith) in
-    rw (other 0 (omega arith), other 1 (omega arith), other 3 (omega arith), other 7 (omega arith)) refl
-
-guarantee_small : (g : Guar) → is_guarantee_set g ≡ true → Small g.0
-guarantee_small g h = elim (cases_lt g.0 8) [ inl small ↦ omega arith | inr big ↦ absurd (true≢false (sym h ∙ none_above g.0 big)) ]
-
-pointer_flat : (t : PtrType) → PointerFits t → IsFlat (pointer t)
-pointer_flat t h = (guarantee_small t.g h.0, (mask_flat t.m, tt))
+pointer_flat : (t : PtrType) → PointerIsInRange t → IsFlat (pointer t)
+pointer_flat t h = (omega (arith, h.0), (mask_flat t.m, tt))
 
 pointer_depth : (t : PtrType) → tree.depth (outline (pointer t)) ≤ 2
 pointer_depth t = omega (arith, mask_depth t.m)
 
-env_flat : (e : Env) → EnvFits e → IsFlat (env e)
-env_flat e h = (mask_flat e.w, (list_flat pointer PointerFits pointer_flat e.locals h.1, tt))
+env_flat : (e : Env) → EnvIsInRange e → IsFlat (env e)
+env_flat e h = (mask_flat e.w, (list_flat pointer PointerIsInRange pointer_flat e.locals h.1, tt))
 
 env_depth : (e : Env) → tree.depth (outline (env e)) ≤ 4
 env_depth e = omega (arith, mask_depth e.w, list_depth pointer 2 pointer_depth e.locals)
 
-envs_flat : (c : Cert) → CertFits c → IsFlat (list env c.env)
-envs_flat c h = list_flat env EnvFits env_flat c.env h.0
+envs_flat : (c : Cert) → IsInRange c → IsFlat (list env c.env)
+envs_flat c h = list_flat env EnvIsInRange env_flat c.env h.0
 
-trees_flat : (c : Cert) → CertFits c → IsFlat (list written.tree c.trees)
+trees_flat : (c : Cert) → IsInRange c → IsFlat (list written.tree c.trees)
 trees_flat c h = list_flat written.tree TreeFits tree_flat c.trees h.1
 
 one_flat : IsFlat (whole 1)
 one_flat = omega arith
 
-text_back : (c : Cert) → CertFits c → read (text c) ≡ Some (cert c)
+text_back : (c : Cert) → IsInRange c → read (text c) ≡ Some (cert c)
 text_back c h =
     let shallow : tree.depth (outline (cert c)) ≤ max_depth = omega (arith, list_depth env 4 env_depth c.env, list_depth written.tree 2 tree_depth c.trees) in
     root_back (list env c.env) (list written.tree c.trees) (whole 1) (envs_flat c h) (trees_flat c h) one_flat shallow
 
-text_utf8 : (c : Cert) → CertFits c → IsUtf8 (text c)
+text_utf8 : (c : Cert) → IsInRange c → IsUtf8 (text c)
 text_utf8 c h = root_utf8 (list env c.env) (list written.tree c.trees) (whole 1) (envs_flat c h) (trees_flat c h) one_flat
 
-pub written_is_read : (c : Cert) → CertFits c → reading (text c) ≡ Ok (stored c)
-written_is_read c h = ap with_json (json_of-utf8 (text c) (text_utf8 c h) ∙ text_back c h) ∙ cert_back c h
+pub text_is_answered : (c : Cert) → IsInRange c → reading (text c) ≡ read_back c
+text_is_answered c h = ap with_json (json_of-utf8 (text c) (text_utf8 c h) ∙ text_back c h) ∙ cert_back c h
 
-pub line_is_read : (c : Cert) → CertFits c → reading (text c ++ 10 ∷ []) ≡ Ok (stored c)
-line_is_read c h =
+pub line_is_answered : (c : Cert) → IsInRange c → reading (text c ++ 10 ∷ []) ≡ read_back c
+line_is_answered c h =
     let same = line_back (list env c.env) (list written.tree c.trees) (whole 1) (envs_flat c h) (trees_flat c h) one_flat in
     ap with_json (json_of-utf8 (text c ++ 10 ∷ []) (IsUtf8-append _ _ (text_utf8 c h) (IsUtf8-are_ascii _ refl)) ∙ same ∙ text_back c h) ∙ cert_back c h
+
+pub written_is_read : (c : Cert) → CertFits c → reading (text c) ≡ Ok (stored c)
+written_is_read c h = text_is_answered c (in_range c h) ∙ read_whole c h
+
+pub line_is_read : (c : Cert) → CertFits c → reading (text c ++ 10 ∷ []) ≡ Ok (stored c)
+line_is_read c h = line_is_answered c (in_range c h) ∙ read_whole c h

@@ -1,6 +1,7 @@
--- Which certificates can be written so that they are read, and what is read of them.
-use Rattle.std.specs.Prelude.{◌≡◌, ◌<◌, ◌^◌, [], map, true}
-use Rattle.std.specs.List.{AllByRecursion}
+-- What is read of the text of a certificate: that certificate, where its guarantees are of the four sets, and else a
+-- refusal.
+use Rattle.std.specs.Prelude.{◌≡◌, ◌<◌, ◌^◌, [], map, Bool, true, if◌then◌else◌, Result, Ok, Err}
+use Rattle.std.specs.List.{AllByRecursion, list_all}
 use Rattle.plc_type.specs.Guarantees.{is_guarantee_set}
 use Rattle.plc_type.specs.declared.env.PtrType.{PtrType}
 use Rattle.plc_type.specs.declared.env.Env.{Env}
@@ -8,6 +9,9 @@ use Rattle.plc_ground.specs.declared.terms.Node.{Node}
 use Rattle.plc_ground.specs.declared.terms.Node.TheVariants.{Split, Leaf}
 use Rattle.plc_ground.specs.declared.terms.Tree.{Tree}
 use Rattle.plc_cert.specs.declared.cert.Cert.{Cert}
+use Rattle.plc_cert.specs.declared.cert.CertFault.{CertFault}
+use Rattle.plc_cert.specs.declared.cert.CertFault.TheVariants as fault
+use Rattle.plc_cert.specs.declared.cert.CertField.TheVariants as field
 
 -- numbers of 32 bits
 abbrev pub NodeFits : Node → Type 0
@@ -30,6 +34,22 @@ EnvFits e = (e.w < 256) × AllByRecursion PointerFits e.locals
 abbrev pub CertFits : Cert → Type 0
 CertFits c = AllByRecursion EnvFits c.env × AllByRecursion TreeFits c.trees
 
+-- the numbers of a type are those that a `PtrType` can hold: 8 bits for guarantees, and a set of numbers below 8
+abbrev pub PointerIsInRange : PtrType → Type 0
+PointerIsInRange t = (t.g.0 < 256) × (t.m < 256)
+
+-- those of an environment
+abbrev pub EnvIsInRange : Env → Type 0
+EnvIsInRange e = (e.w < 256) × AllByRecursion PointerIsInRange e.locals
+
+-- the numbers are those that a `Cert` can hold: so it is with every one that a program has
+abbrev pub IsInRange : Cert → Type 0
+IsInRange c = AllByRecursion EnvIsInRange c.env × AllByRecursion TreeFits c.trees
+
+-- the guarantees of each local are of the four sets
+abbrev pub are_guarantees : Env → Bool
+are_guarantees e = list_all (λ t. is_guarantee_set t.g) e.locals
+
 -- an environment without the types of shared pointers
 abbrev pub without_shared : Env → Env
 without_shared e = record { shared = []; locals = e.locals; w = e.w }
@@ -37,3 +57,8 @@ without_shared e = record { shared = []; locals = e.locals; w = e.w }
 -- what the text has of a certificate
 abbrev pub stored : Cert → Cert
 stored c = record { env = map without_shared c.env; trees = c.trees }
+
+-- what is read of a certificate's text: all that it has; or that `env` is no list of environments, where some local of
+-- some point has guarantees of no set
+abbrev pub read_back : Cert → Result Cert CertFault
+read_back c = if list_all are_guarantees c.env then Ok (stored c) else Err (fault.Shape field.Env)

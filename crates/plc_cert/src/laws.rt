@@ -4,7 +4,16 @@ ghost use Rattle.std.specs.Prelude.{◌≡◌, ◌++◌, ◌∷◌, [], ℕ, Lis
 ghost use Rattle.plc_cert.specs.declared.cert.Cert.{Cert};
 ghost use Rattle.plc_cert.specs.Shape.{json_of, reading};
 ghost use Rattle.plc_cert.specs.Written.{cert, text};
-ghost use Rattle.plc_cert.specs.Fits.{CertFits, stored};
+ghost use Rattle.plc_cert.specs.Fits.{CertFits, IsInRange, stored, read_back};
+
+/// What reading the text of any certificate answers, also with a line feed after it: that certificate, without the
+/// types of shared pointers, or that `env` isn't of its form, exactly where a local of some point has guarantees of
+/// none of the four sets. A law's numbers have no bound, so it asks that those of the certificate are such as a
+/// `Cert` can hold.
+pub fn each_text_has_its_answer()
+    ensures { (c : Cert) → IsInRange c
+        → (reading (text c) ≡ read_back c) × (reading (text c ++ 10 ∷ []) ≡ read_back c) }
+{}
 
 /// The text of a certificate whose guarantees are of the four sets is read as that certificate, without
 /// the types of shared pointers. That its other numbers are in range is so of every `Cert`.

@@ -19,6 +19,6 @@ mod reading;
 mod writing;
 
 pub use cert::{Cert, CertFault, CertField};
-pub use laws::{line_is_read, only_written_is_read, written_is_read};
+pub use laws::{each_text_has_its_answer, line_is_read, only_written_is_read, written_is_read};
 pub use reading::read;
 pub use writing::write;

@@ -1,7 +1,5 @@
-use Rattle.std.proofs.Common.{arith, ◌∷◌, [], List, Ok, IsTrue, reverse, get_or, ap, sym, subst}
-use Rattle.plc_ground.specs.declared.path.Turn.{Turn}
+use Rattle.std.proofs.Common.{arith, ◌∷◌, [], Ok, IsTrue, reverse, get_or, ap, subst}
 use Rattle.plc_ground.specs.declared.terms.Node.TheVariants.{Split}
-use Rattle.plc_ground.specs.Classes.{IsClosure}
 use Rattle.plc_ground.specs.Trees.{IsRight, FirstBad}
 use Rattle.plc_ground.specs.Paths.{branch_of}
 use Rattle.plc_ground.proofs.Walking.{bad_here, bad_missing, drop_at, walk_next}
@@ -10,26 +8,22 @@ use Rattle.plc_ground.proofs.closing.judge.Goals as goal
 
 pub is_right-requires-clause-closure : goal.is_right-requires-clause-closure
 is_right-requires-clause-closure c =
-    subst (λ (ts : List Turn). IsClosure c.args.set.now.terms (branch_of c.args.set.now c.args.above.now (reverse ts)) c.loop-k.equal.class) (sym c.deref.ensures.value)
-    (closure_along c.args.set.now c.args.above.now c.args.equal.now (reverse c.loop-k.path.items) c.loop-k.equal.trail c.loop-k.equal.class c.requires.closure c.loop-k.invariant.along)
+    closure_along c.args.set.now c.args.above.now c.args.equal.now (reverse c.loop-k.path.turns.items) c.loop-k.equal.trail c.loop-k.equal.class c.requires.closure c.loop-k.invariant.along
 
 pub returns-then-not-is_right-clause-verdict : goal.returns-then-not-is_right-clause-verdict
 returns-then-not-is_right-clause-verdict c =
-    bad_here c.args.set.now c.args.above.now c.args.nodes.now (branch_of c.args.set.now c.args.above.now (reverse c.loop-k.path.items)) _ c.loop-k.k (get_or c.args.nodes.now c.loop-k.k (Split 0)) c.loop-k.invariant.reaches
+    bad_here c.args.set.now c.args.above.now c.args.nodes.now (branch_of c.args.set.now c.args.above.now (reverse c.loop-k.path.turns.items)) _ c.loop-k.k (get_or c.args.nodes.now c.loop-k.k (Split 0)) c.loop-k.invariant.reaches
     (drop_at c.args.nodes.now c.loop-k.k (Split 0) c.loop-k-test.true)
-    (λ right.
-    let t : IsTrue c.is_right.result = c.is_right.ensures.no
-    (subst (λ (ts : List Turn). IsRight c.args.set.now (branch_of c.args.set.now c.args.above.now (reverse ts)) (get_or c.args.nodes.now c.loop-k.k (Split 0))) (sym c.deref.ensures.value) right) in
-    let f = c.if-not-is_right.true in grind arith)
+    (λ right. let t : IsTrue c.is_right.result = c.is_right.ensures.no right in let f = c.if-not-is_right.true in grind arith)
 
 pub loop-k-preserved : goal.loop-k-preserved
 loop-k-preserved c =
-    let right : IsRight c.args.set.now (branch_of c.args.set.now c.args.above.now (reverse c.deref.result.now)) (get_or c.args.nodes.now c.loop-k.k (Split 0)) = c.is_right.ensures.yes (grind arith) in
+    let right : IsRight c.args.set.now (branch_of c.args.set.now c.args.above.now (reverse c.loop-k.path.turns.items)) (get_or c.args.nodes.now c.loop-k.k (Split 0)) = c.is_right.ensures.yes (grind arith) in
     record {
-      reaches = walk_next c.args.set.now c.args.above.now c.args.nodes.now (branch_of c.args.set.now c.args.above.now (reverse c.loop-k.path.items)) _ _ c.loop-k.k (Split 0) c.loop-k.invariant.reaches c.loop-k-test.true
-          (subst (λ (ts : List Turn). IsRight c.args.set.now (branch_of c.args.set.now c.args.above.now (reverse ts)) (get_or c.args.nodes.now c.loop-k.k (Split 0))) c.deref.ensures.value right)
-          (c.in_ok-go_on.ensures.more (ap Ok c.if-not-branch.false) c.args.above.now);
+      reaches = walk_next c.args.set.now c.args.above.now c.args.nodes.now (branch_of c.args.set.now c.args.above.now (reverse c.loop-k.path.turns.items)) _ _ c.loop-k.k (Split 0) c.loop-k.invariant.reaches c.loop-k-test.true
+          right (c.in_ok-go_on.ensures.more (ap Ok c.if-not-branch.false) c.args.above.now);
       turns = c.in_ok-go_on.ensures.turns;
+      noted = c.in_ok-go_on.ensures.noted;
       along = c.in_ok-go_on.ensures.along c.args.above.now c.args.equal.now c.requires.closure c.loop-k.invariant.along;
     }
 

@@ -1,7 +1,9 @@
 use Rattle.std.proofs.Common.{◌++◌, ◌∷◌, [], subst}
 use Rattle.plc_ground.specs.declared.terms.Lit.{Lit}
 use Rattle.plc_ground.specs.Classes.{IsClosure}
+use Rattle.plc_ground.specs.Paths.{Notes}
 use Rattle.plc_ground.proofs.Along.{along_entered}
+use Rattle.plc_ground.proofs.Noting.{noted_entered}
 use Rattle.plc_ground.proofs.path.enter.Goals as goal
 
 pub put-requires-clause-one_each : goal.put-requires-clause-one_each
@@ -12,5 +14,10 @@ put-requires-clause-congruent c = c.requires.branch.1.congruent
 
 pub returns-clause-along : goal.returns-clause-along
 returns-clause-along c =
-    along_entered c.args.set.now c.args.path.now.items c.push.new.self.items _ c.args.equal.now c.put.new.equal c.mark.ensures c.in_ok-put.ensures.extends c.in_ok-push.ensures.items
-    (λ branch k. subst (λ (l : Lit). IsClosure c.args.set.now.terms (branch ++ l ∷ []) c.put.new.equal.class) c.literal.ensures (c.in_ok-put.ensures.closure branch k))
+    along_entered c.args.set.now c.args.path.now.turns.items c.push.new.self.items _ c.args.equal.now c.put.new.equal c.mark.ensures c.in_ok-put.ensures.extends c.in_ok-push.ensures.items
+    (λ branch k. subst (λ (l : Lit). IsClosure c.args.set.now.terms (branch ++ l ∷ []) c.put.new.equal.class) c.literal-l.ensures (c.in_ok-put.ensures.closure branch k))
+
+pub returns-clause-noted : goal.returns-clause-noted
+returns-clause-noted c =
+    noted_entered c.args.set.now c.args.path.now.turns.items c.push.new.self.items _ c.args.path.now.unequal.keys c.note.new.unequal.keys c.len.ensures.len
+    (subst (Notes c.args.path.now.unequal.keys c.note.new.unequal.keys) c.literal-l.ensures c.in_ok-note.ensures) c.in_ok-push.ensures.items c.requires.noted
