@@ -1,3 +1,4 @@
+pub mod Accesses
 pub mod Busy
 pub mod Claims
 pub mod Executing

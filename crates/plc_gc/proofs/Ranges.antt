@@ -28,12 +28,7 @@ pub cases_slot : (p q : Slot) → (p ≡ q) ⊎ (p ≡ q → ⊥)
 cases_slot (in_shared i) (in_shared j) = elim (cases_eq i j) [ inl e ↦ inl (ap in_shared e) | inr ne ↦ inr (λ e. ne (cc)) ]
 cases_slot (in_local t v) (in_local u w) = elim (cases_eq t u) [ inl e ↦ elim (cases_eq v w) [ inl f ↦ inl (cc) | inr ne ↦ inr (λ e. ne (cc)) ] | inr ne ↦ inr (λ e. ne (cc)) ]
 cases_slot (in_data t v) (in_data u w) = elim (cases_eq t u) [ inl e ↦ elim (cases_eq v w) [ inl f ↦ inl (cc) | inr ne ↦ inr (λ e. ne (cc)) ] | inr ne ↦ inr (λ e. ne (cc)) ]
-cases_slot (in_shared i) (in_local u w) = inr (λ e. cc)
-cases_slot (in_shared i) (in_data u w) = inr (λ e. cc)
-cases_slot (in_local t v) (in_shared j) = inr (λ e. cc)
-cases_slot (in_local t v) (in_data u w) = inr (λ e. cc)
-cases_slot (in_data t v) (in_shared j) = inr (λ e. cc)
-cases_slot (in_data t v) (in_local u w) = inr (λ e. cc)
+cases_slot p q = inr (λ e. cc)
 
 -- ---- changes
 

@@ -14,19 +14,15 @@ use Rattle.plc_gc.specs.Laws.{Put, Updated, WasMade, HasLocals, IsFirst, GcState
 
 -- ---- locals
 
-locals-with_same : (g : GcState) (t : ℕ) (l : Option Locals) → locals_of (with_locals g t l) t ≡ locals_or_none l
-unfolding locals_of with_locals
-locals-with_same g t l = ap locals_or_none (get-put_same None g.locals t l)
-
 pub locals-with_other : (g : GcState) (t : ℕ) (l : Option Locals) (u : ℕ) → (u ≡ t → ⊥) → locals_of (with_locals g t l) u ≡ locals_of g u
 unfolding locals_of with_locals
 locals-with_other g t l u ne = ap locals_or_none (get-put_other None g.locals t l u ne)
 
 pub gives : (g : GcState) (t : ℕ) (l : Option Locals) → HasLocals g t l (with_locals g t l)
-unfolding value entry count with_locals
+unfolding value entry count locals_of with_locals
 gives g t l = record {
-  pointers = λ v. ap (λ (m : Locals). get_or m.pointers v 0) (locals-with_same g t l);
-  values = λ x. ap (λ (m : Locals). get_or m.values x 0) (locals-with_same g t l);
+  pointers = λ v. ap (λ o. get_or (locals_or_none o).pointers v 0) (get-put_same None g.locals t l);
+  values = λ x. ap (λ o. get_or (locals_or_none o).values x 0) (get-put_same None g.locals t l);
   shared = λ i. refl;
   others = λ u v ne. ap (λ (m : Locals). get_or m.pointers v 0) (locals-with_other g t l u ne);
   other_values = λ u x ne. ap (λ (m : Locals). get_or m.values x 0) (locals-with_other g t l u ne);
@@ -47,48 +43,37 @@ shared_put g i n = record {
   nodes = record { entries = λ m k. refl; count = refl };
 }
 
+-- where one list of a thread's locals changes at one number, every other place has what it had
+own_kept : (g : GcState) (t : ℕ) (l : Locals) (q : Slot) → ((v : ℕ) → q ≡ in_local t v → get_or l.pointers v 0 ≡ get_or (locals_of g t).pointers v 0) → ((x : ℕ) → q ≡ in_data t x → get_or l.values x 0 ≡ get_or (locals_of g t).values x 0) → value (with_locals g t (Some l)) q ≡ value g q
+unfolding value
+own_kept g t l (in_shared j) pointers values = (gives g t (Some l)).shared j
+own_kept g t l (in_local u w) pointers values = elim (cases_eq u t) [
+  | inl e ↦ (let P : ℕ → Type 0 = λ u. value (with_locals g t (Some l)) (in_local u w) ≡ value g (in_local u w) in subst P (sym e) ((gives g t (Some l)).pointers w ∙ pointers w (ap (λ u. in_local u w) e)))
+  | inr other ↦ (gives g t (Some l)).others u w other
+]
+own_kept g t l (in_data u y) pointers values = elim (cases_eq u t) [
+  | inl e ↦ (let P : ℕ → Type 0 = λ u. value (with_locals g t (Some l)) (in_data u y) ≡ value g (in_data u y) in subst P (sym e) ((gives g t (Some l)).values y ∙ values y (ap (λ u. in_data u y) e)))
+  | inr other ↦ (gives g t (Some l)).other_values u y other
+]
+
 local_put : (g : GcState) (t v n : ℕ) → Put g (in_local t v) n (put g (in_local t v) n)
-unfolding value put
+unfolding put
 local_put g t v n =
     let l : Locals = record (locals_of g t) { pointers = put_at 0 (locals_of g t).pointers v n } in
-    let h = gives g t (Some l) in
     record {
-      here = h.pointers v ∙ get-put_same 0 (locals_of g t).pointers v n;
-      elsewhere = elim [
-        | in_shared j ↦ λ ne. h.shared j
-        | in_local u w ↦ λ ne. elim (cases_eq u t) [
-          | inl e ↦ subst (λ u. (in_local u w ≡ in_local t v → ⊥) → value (with_locals g t (Some l)) (in_local u w) ≡ value g (in_local u w)) (sym e)
-              (λ ne. h.pointers w ∙ get-put_other 0 (locals_of g t).pointers v n w (λ e. ne (ap (in_local t) e))) ne
-          | inr other ↦ h.others u w other
-        ]
-        | in_data u x ↦ λ ne. elim (cases_eq u t) [
-          | inl e ↦ subst (λ u. value (with_locals g t (Some l)) (in_data u x) ≡ value g (in_data u x)) (sym e) (h.values x)
-          | inr other ↦ h.other_values u x other
-        ]
-      ];
-      nodes = h.nodes;
+      here = (gives g t (Some l)).pointers v ∙ get-put_same 0 (locals_of g t).pointers v n;
+      elsewhere = λ q ne. own_kept g t l q (λ w e. get-put_other 0 (locals_of g t).pointers v n w (λ f. ne (e ∙ ap (in_local t) f))) (λ x e. refl);
+      nodes = (gives g t (Some l)).nodes;
     }
 
 data_put : (g : GcState) (t x n : ℕ) → Put g (in_data t x) n (put g (in_data t x) n)
-unfolding value put
+unfolding put
 data_put g t x n =
     let l : Locals = record (locals_of g t) { values = put_at 0 (locals_of g t).values x n } in
-    let h = gives g t (Some l) in
     record {
-      here = h.values x ∙ get-put_same 0 (locals_of g t).values x n;
-      elsewhere = elim [
-        | in_shared j ↦ λ ne. h.shared j
-        | in_local u w ↦ λ ne. elim (cases_eq u t) [
-          | inl e ↦ subst (λ u. value (with_locals g t (Some l)) (in_local u w) ≡ value g (in_local u w)) (sym e) (h.pointers w)
-          | inr other ↦ h.others u w other
-        ]
-        | in_data u y ↦ λ ne. elim (cases_eq u t) [
-          | inl e ↦ subst (λ u. (in_data u y ≡ in_data t x → ⊥) → value (with_locals g t (Some l)) (in_data u y) ≡ value g (in_data u y)) (sym e)
-              (λ ne. h.values y ∙ get-put_other 0 (locals_of g t).values x n y (λ e. ne (ap (in_data t) e))) ne
-          | inr other ↦ h.other_values u y other
-        ]
-      ];
-      nodes = h.nodes;
+      here = (gives g t (Some l)).values x ∙ get-put_same 0 (locals_of g t).values x n;
+      elsewhere = λ q ne. own_kept g t l q (λ v e. refl) (λ y e. get-put_other 0 (locals_of g t).values x n y (λ f. ne (e ∙ ap (in_data t) f)));
+      nodes = (gives g t (Some l)).nodes;
     }
 
 pub puts : (g : GcState) (p : Slot) (n : ℕ) → Put g p n (put g p n)
@@ -109,18 +94,7 @@ row_other r (pointer_field f) n (pointer_field e) ne = get-put_other 0 r.pointer
 row_other r (data_field f) n (data_field e) ne = get-put_other 0 r.values f n e (λ q. ne (ap data_field q))
 row_other r (auxiliary_field f) n (auxiliary_field e) ne = get-put_other 0 r.auxiliary f n e (λ q. ne (ap auxiliary_field q))
 row_other r retirement n retirement ne = absurd (ne refl)
-row_other r (pointer_field f) n (data_field e) ne = refl
-row_other r (pointer_field f) n (auxiliary_field e) ne = refl
-row_other r (pointer_field f) n retirement ne = refl
-row_other r (data_field f) n (pointer_field e) ne = refl
-row_other r (data_field f) n (auxiliary_field e) ne = refl
-row_other r (data_field f) n retirement ne = refl
-row_other r (auxiliary_field f) n (pointer_field e) ne = refl
-row_other r (auxiliary_field f) n (data_field e) ne = refl
-row_other r (auxiliary_field f) n retirement ne = refl
-row_other r retirement n (pointer_field e) ne = refl
-row_other r retirement n (data_field e) ne = refl
-row_other r retirement n (auxiliary_field e) ne = refl
+row_other r m n l ne = refl
 
 pub no_entry : (m : Map) → row_entry no_row m ≡ 0
 no_entry (pointer_field f) = refl

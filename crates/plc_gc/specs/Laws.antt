@@ -1,7 +1,9 @@
 -- What each change of a garbage-collected state leaves at each place and at each node.
-use Rattle.std.specs.Prelude.{◌≡◌, ℕ, suc, ◌<◌, ◌≤◌, true, not, List, Option, get_or}
+use Rattle.std.specs.Prelude.{◌≡◌, ℕ, suc, ◌<◌, ◌≤◌, true, not, List, Option, Some, get_or}
 use Rattle.plc_lang.specs.declared.syntax.Field.{Field}
 use Rattle.plc_lang.specs.declared.syntax.Primitive.{Primitive}
+use Rattle.plc_lang.specs.declared.syntax.Var.{Var}
+use Rattle.plc_lang.specs.Facts.{accessed}
 use Rattle.plc_lang.specs.WellSorted.{is_test}
 use Rattle.plc_flow.specs.Sides.{opposite}
 use Rattle.plc_gc.specs.declared.slot.Slot.{Slot}
@@ -9,7 +11,7 @@ use Rattle.plc_gc.specs.declared.slot.Slot.TheVariants.{Shared as in_shared, Loc
 use Rattle.plc_gc.specs.declared.slot.Map.{Map}
 use Rattle.plc_gc.specs.State.{GcState, Locals, value, entry, count, put, update, made, with_locals, locals_or_none}
 use Rattle.plc_gc.specs.State.{fresh_state}
-use Rattle.plc_gc.specs.Primitives.{goes, after}
+use Rattle.plc_gc.specs.Primitives.{some_node, goes, after}
 
 -- every map has at every node what it had, and there are as many nodes
 pub record SameNodes (g new : GcState) : Type 0 where
@@ -68,3 +70,8 @@ pub record TestHasAnOpposite (g : GcState) (t : ℕ) (k : Primitive) : Type 0 wh
 -- so it is with each test, in every state and whichever thread meets it
 abbrev pub CollectedTestsHaveOpposites : Type 0
 CollectedTestsHaveOpposites = (g : GcState) (t : ℕ) (k : Primitive) → is_test k ≡ true → TestHasAnOpposite g t k
+
+-- a primitive that goes through a pointer is blocked exactly where it is null
+abbrev pub CollectedAccessesAgree : Type 0
+CollectedAccessesAgree =
+    (g : GcState) (t : ℕ) (k : Primitive) (q : Var) → accessed k ≡ Some q → goes g t k ≡ some_node g t q

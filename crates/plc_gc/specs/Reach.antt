@@ -1,6 +1,6 @@
 -- What a garbage-collected move leads to, as a function: the code answers by it, and a proof says that it is what
 -- `Moves` says.
-use Rattle.std.specs.Prelude.{◌≡◌, ℕ, if◌then◌else◌, List, Option, Some, None}
+use Rattle.std.specs.Prelude.{ℕ, if◌then◌else◌, List, Option, Some, None}
 use Rattle.plc_base.specs.Tables.{put_at}
 use Rattle.plc_lang.specs.declared.syntax.Op.{Op}
 use Rattle.plc_flow.specs.declared.flow.Step.{Step}
@@ -12,7 +12,7 @@ use Rattle.plc_threads.specs.Standing.{begun, step_of, at_exit}
 use Rattle.plc_gc.specs.declared.config.GcMoved.{GcMoved}
 use Rattle.plc_gc.specs.declared.config.GcMoved.TheVariants as moved
 use Rattle.plc_gc.specs.State.{GcState, with_locals, starting}
-use Rattle.plc_gc.specs.Run.{GcConfiguration, first_configuration, execute, point_of}
+use Rattle.plc_gc.specs.Run.{GcConfiguration, execute, point_of}
 
 -- thread t begins an operation, if there is one that it may begin
 abbrev pub started : GcConfiguration → ℕ → List ℕ → Option (Op × Point) → Option GcConfiguration
@@ -52,10 +52,6 @@ reach flow c (Start t op args) = start_from flow c t op.0 args
 reach flow c (Take t nth addr) = step_from flow c t nth (point_of c t)
 reach flow c (Return t) = return_from flow c t (point_of c t)
 reach flow c (Free a) = Some c
-
--- where the runs begin, or nowhere
-abbrev pub Begins : Flow → ℕ → Option GcConfiguration → Type 0
-Begins flow threads c = first_configuration flow threads ≡ c
 
 -- the configuration after a move, by what the move leads to: a blocked one changes nothing
 abbrev pub reached : Option GcConfiguration → GcConfiguration → GcConfiguration

@@ -1,6 +1,6 @@
-// A garbage-collected configuration in code. What a move leads to is computed beside it: nothing of the
-// configuration is touched before the last call that may need memory, so that a move that is blocked, and
-// running out of memory, leave it as it was.
+// A garbage-collected configuration in code. What a move of several primitives leads to is computed beside it: nothing
+// of the configuration is touched before the last call that may need memory, so that a move that is blocked, and
+// running out of memory, leave it as it was. A step of one primitive needs no copy, and is taken in place.
 ghost use Rattle.std.specs.Prelude.{◌≡◌, ◌<◌, length, [], IfOk, OnOk, OnErr, Some, None};
 ghost use Rattle.plc_flow.specs.declared.flow.Step.{Step as AStep};
 ghost use Rattle.plc_flow.specs.declared.points.Point.{Point as APoint};
@@ -10,10 +10,10 @@ ghost use Rattle.plc_gc.specs.State.{node_of};
 ghost use Rattle.plc_gc.specs.Run.{MayTake, point_of, execute, beginning};
 ghost use Rattle.plc_gc.specs.Claims.{claims};
 ghost use Rattle.plc_gc.specs.Fit.{IsReady};
-ghost use Rattle.plc_gc.specs.Reach.{start_from, step_from, ended_as, return_from, reach, Begins, reached, answer};
+ghost use Rattle.plc_gc.specs.Reach.{start_from, step_from, ended_as, return_from, reach, reached, answer};
 ghost use Rattle.plc_gc.specs.Position.{threads_of, IsOfRun, Starts, Answers};
 
-use crate::execute::{claims, try_init, try_step};
+use crate::execute::{claims, take_step, try_init};
 use crate::locals::Locals;
 use crate::state::State;
 use plc_base::{NoMemory, OpId};
@@ -63,24 +63,10 @@ impl GcConfig {
         ensures starts { Starts flow.now threads result }
         ensures of_run { IfOk result (λ c. IsOfRun flow.now c × (threads_of c ≡ threads)) }
     {
-        match GcConfig::began(alloc, flow, threads) {
-            Ok(Some(c)) => Ok(c),
-            Ok(None) => Err(StartFault::NoStart),
-            Err(_) => Err(StartFault::Memory),
-        }
-    }
-
-    /// What `init` leaves, or nothing where it is blocked.
-    fn began(alloc: Global, flow: &Flow, threads: u32) -> Result<Option<GcConfig>, NoMemory>
-        requires fits { FlowFits flow.now }
-        requires sorted { FlowIsWellSorted flow.now }
-        requires some { 0 < threads }
-        ensures { IfOk result (λ c. Begins flow.now threads c) }
-    {
-        match try_init(alloc, flow, threads)? {
-            Some(state) => Ok(Some(GcConfig::idle(alloc, threads, state)?)),
-            None => Ok(None),
-        }
+        let Some(state) = try_init(alloc, flow, threads)? else {
+            return Err(StartFault::NoStart);
+        };
+        Ok(GcConfig::idle(alloc, threads, state)?)
     }
 
     /// These values, with every thread idle, thread 0 too.
@@ -185,7 +171,7 @@ impl GcConfig {
         self.take(step, point, t)
     }
 
-    /// A step is taken on a copy of the values, which then takes their place.
+    /// A step is taken, unless one of its primitives is blocked.
     fn take(&mut self, step: &Step, point: Point, t: u32) -> Result<GcMoved, NoMemory>
         requires stands { point_of self.old t ≡ Some point }
         requires ready { IsReady self.old.state t step.now.prims }
@@ -195,14 +181,11 @@ impl GcConfig {
             ≡ reached (ended_as self.old t point step.now.to.0 (execute self.old.state t step.now.prims)) self.old) }
         ensures err { OnErr result (self.new ≡ self.old) }
     {
-        match try_step(&self.state, t, step.prims.as_slice())? {
-            Some(state) => {
-                self.state = state;
-                set_point(&mut self.points, t, Some(arrival(point, step)));
-                Ok(GcMoved::Done)
-            }
-            None => Ok(GcMoved::Blocked),
+        if !take_step(&mut self.state, t, step.prims.as_slice())? {
+            return Ok(GcMoved::Blocked);
         }
+        set_point(&mut self.points, t, Some(arrival(point, step)));
+        Ok(GcMoved::Done)
     }
 
     /// A return: the thread's locals are gone.

@@ -1,6 +1,8 @@
 // The primitives of a step in order, those of `init`, and the claims that primitives reach. All run on a state
 // that may be thrown away, so that a step that is blocked, and running out of memory, have changed nothing.
-ghost use Rattle.std.specs.Prelude.{◌≡◌, ◌+◌, ◌<◌, ◌^◌, ◌++◌, ◌∷◌, [], if◌then◌else◌, length, IfOk, OnOk, Some};
+ghost use Rattle.std.specs.Prelude.{◌≡◌, ◌+◌, ◌<◌, ◌^◌, ◌++◌, ◌∷◌, [], if◌then◌else◌, length, IfOk, OnOk, OnErr, Some};
+ghost use Rattle.std.specs.Prelude.{is_some};
+ghost use Rattle.std.specs.Option.{unwrap_or};
 ghost use Rattle.plc_lang.specs.WellSorted.{is_claim};
 ghost use Rattle.plc_flow.specs.WellFormed.{FlowFits};
 ghost use Rattle.plc_flow.specs.WellSorted.{FlowIsWellSorted};
@@ -34,7 +36,7 @@ fn execute(state: &mut State, t: u32, prims: &[Prim]) -> Result<bool, NoMemory>
 }
 
 /// Primitives of thread `t` in order on a copy of these values, and nothing where one is blocked.
-pub fn try_step(state: &State, t: u32, prims: &[Prim]) -> Result<Option<State>, NoMemory>
+fn try_step(state: &State, t: u32, prims: &[Prim]) -> Result<Option<State>, NoMemory>
     requires { IsReady state.now t prims.now }
     ensures { IfOk result (λ s. s ≡ execute state.now t prims.now) }
 {
@@ -43,6 +45,26 @@ pub fn try_step(state: &State, t: u32, prims: &[Prim]) -> Result<Option<State>, 
         Ok(Some(state))
     } else {
         Ok(None)
+    }
+}
+
+/// Takes primitives of thread `t` in order unless one is blocked, and says whether they were taken: one alone in place,
+/// several on a copy, which then takes the place of these values.
+pub fn take_step(state: &mut State, t: u32, prims: &[Prim]) -> Result<bool, NoMemory>
+    requires { IsReady state.old t prims.now }
+    ensures went { IfOk result (λ went. went ≡ is_some (execute state.old t prims.now)) }
+    ensures after { OnOk result (state.new ≡ unwrap_or (execute state.old t prims.now) state.old) }
+    ensures err { OnErr result (state.new ≡ state.old) }
+{
+    if let [prim] = prims {
+        return state.apply(t, prim);
+    }
+    match try_step(state, t, prims)? {
+        Some(next) => {
+            *state = next;
+            Ok(true)
+        }
+        None => Ok(false),
     }
 }
 

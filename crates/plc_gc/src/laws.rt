@@ -4,7 +4,7 @@ ghost use Rattle.plc_flow.specs.declared.flow.Flow.{Flow};
 ghost use Rattle.plc_threads.specs.declared.words.Move.{Move};
 ghost use Rattle.plc_flow.specs.WellFormed.{FlowFits};
 ghost use Rattle.plc_flow.specs.WellSorted.{FlowIsWellSorted};
-ghost use Rattle.plc_gc.specs.Laws.{CollectedTestsHaveOpposites, GcStateLaws};
+ghost use Rattle.plc_gc.specs.Laws.{CollectedAccessesAgree, CollectedTestsHaveOpposites, GcStateLaws};
 ghost use Rattle.plc_gc.specs.Ranges.{RunsStayInRange, RunsKeepValues};
 ghost use Rattle.plc_gc.specs.Reached.{ClaimsAreReached};
 ghost use Rattle.plc_gc.specs.Run.{GcConfiguration, GcRun};
@@ -54,4 +54,10 @@ pub fn collected_threads_hold_their_locals()
 /// Of a test and its opposite exactly one goes, in every garbage-collected state, and a test changes nothing.
 pub fn collected_tests_have_opposites()
     ensures { CollectedTestsHaveOpposites }
+{}
+
+/// The table of garbage-collected states agrees with what a primitive goes through: it is blocked exactly where that
+/// pointer is null.
+pub fn collected_accesses_agree()
+    ensures { CollectedAccessesAgree }
 {}

@@ -16,7 +16,7 @@ mod state;
 pub use clauses::holds;
 pub use config::{GcConfig, GcMoved};
 pub use laws::{
-    claims_are_reached, collected_runs_go_on, collected_runs_keep_values,
+    claims_are_reached, collected_accesses_agree, collected_runs_go_on, collected_runs_keep_values,
     collected_runs_stay_in_range, collected_state_reads_back, collected_tests_have_opposites,
     collected_threads_hold_their_locals,
 };

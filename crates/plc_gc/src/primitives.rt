@@ -216,6 +216,7 @@ impl State {
         ensures held { OnOk result (IsHeld self.new t) }
         ensures frame { OnOk result (frame self.new t ≡ frame self.old t) }
         ensures ranges { OnOk result (IsInRange self.new) }
+        ensures err { OnErr result (self.new ≡ self.old) }
     {
         if !self.goes(t, prim) {
             return Ok(false);
