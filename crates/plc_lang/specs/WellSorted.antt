@@ -86,7 +86,8 @@ abbrev pub AreWellSorted : File → List Primitive → Type 0
 AreWellSorted file [] = Unit {0}
 AreWellSorted file (k ∷ ks) = IsWellSorted file k × AreWellSorted file ks
 
--- ---- kinds of primitives: where a new one has to be judged each has its row; calls and claims are these alone
+-- ---- kinds of primitives. A primitive without a row is of no kind; where it should be of one, what is read isn't
+-- well-sorted, and the proofs of the parser and of the flow refuse that
 
 -- calls and returns of reclaimer functions
 abbrev pub is_call : Primitive → Bool
@@ -101,51 +102,18 @@ is_claim k = false
 
 -- tests, of which each has an opposite
 abbrev pub is_test : Primitive → Bool
-is_test (Null p) = false
-is_test (Copy p q) = false
-is_test (New p) = false
-is_test (Load p q f) = false
-is_test (Store p f q) = false
-is_test (StoreNull p f) = false
-is_test (DataSet x e) = false
-is_test (DataLoad x q f) = false
-is_test (DataStore p f e) = false
 is_test (Eq p q) = true
 is_test (Ne p q) = true
 is_test (IsNull p) = true
 is_test (NotNull p) = true
 is_test (DataTest r x e) = true
-is_test (Refresh p q) = false
-is_test (RefreshLoad p q f) = false
-is_test (RefreshStore p f q) = false
-is_test (Call f a) = false
-is_test (Done f) = false
-is_test (Active p) = false
-is_test (Ghost p g v) = false
+is_test k = false
 
 -- refreshes of a variable
 abbrev pub is_refresh : Primitive → Bool
-is_refresh (Null p) = false
-is_refresh (Copy p q) = false
-is_refresh (New p) = false
-is_refresh (Load p q f) = false
-is_refresh (Store p f q) = false
-is_refresh (StoreNull p f) = false
-is_refresh (DataSet x e) = false
-is_refresh (DataLoad x q f) = false
-is_refresh (DataStore p f e) = false
-is_refresh (Eq p q) = false
-is_refresh (Ne p q) = false
-is_refresh (IsNull p) = false
-is_refresh (NotNull p) = false
-is_refresh (DataTest r x e) = false
 is_refresh (Refresh p q) = true
 is_refresh (RefreshLoad p q f) = true
-is_refresh (RefreshStore p f q) = false
-is_refresh (Call f a) = false
-is_refresh (Done f) = false
-is_refresh (Active p) = false
-is_refresh (Ghost p g v) = false
+is_refresh k = false
 
 -- whether the acting thread is put into an auxiliary field
 abbrev pub is_me : GhostVal → Bool
@@ -164,18 +132,8 @@ is_initial (StoreNull p f) = true
 is_initial (DataSet x e) = true
 is_initial (DataLoad x q f) = true
 is_initial (DataStore p f e) = true
-is_initial (Eq p q) = false
-is_initial (Ne p q) = false
-is_initial (IsNull p) = false
-is_initial (NotNull p) = false
-is_initial (DataTest r x e) = false
-is_initial (Refresh p q) = false
-is_initial (RefreshLoad p q f) = false
-is_initial (RefreshStore p f q) = false
-is_initial (Call f a) = false
-is_initial (Done f) = false
-is_initial (Active p) = false
 is_initial (Ghost p g v) = not (is_me v)
+is_initial k = false
 
 -- ---- steps, where claims may stand in front of what the text has
 
