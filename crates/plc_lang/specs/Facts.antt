@@ -1,9 +1,9 @@
 -- What a primitive does to what it names, whichever meaning memory has. The tables of the meanings stay tables with a row
 -- for each primitive; laws beside them say that they agree with these words.
 use Rattle.std.specs.Prelude.{Option, Some, None}
-use Rattle.plc_base.specs.declared.ids.FieldId.{FieldId}
+use Rattle.plc_base.specs.declared.ids.FuncId.{FuncId}
 use Rattle.plc_lang.specs.declared.syntax.Var.{Var}
-use Rattle.plc_lang.specs.declared.syntax.Var.TheVariants.{Local}
+use Rattle.plc_lang.specs.declared.syntax.Arg.{Arg}
 use Rattle.plc_lang.specs.declared.syntax.Primitive.{Primitive}
 use Rattle.plc_lang.specs.declared.syntax.Primitive.TheVariants.{Null, Copy, New, Load, Store, StoreNull}
 use Rattle.plc_lang.specs.declared.syntax.Primitive.TheVariants.{DataSet, DataLoad, DataStore}
@@ -59,50 +59,26 @@ compared (Done f) = None
 compared (Active p) = None
 compared (Ghost p g v) = None
 
--- the pointer variable that it gives a value
-abbrev pub assigned : Primitive → Option Var
-assigned (Null p) = Some p
-assigned (Copy p q) = Some p
-assigned (New p) = Some p
-assigned (Load p q f) = Some p
-assigned (Store p f q) = None
-assigned (StoreNull p f) = None
-assigned (DataSet x e) = None
-assigned (DataLoad x q f) = None
-assigned (DataStore p f e) = None
-assigned (Eq p q) = None
-assigned (Ne p q) = None
-assigned (IsNull p) = None
-assigned (NotNull p) = None
-assigned (DataTest r x e) = None
-assigned (Refresh p q) = Some (Local p)
-assigned (RefreshLoad p q f) = Some (Local p)
-assigned (RefreshStore p f q) = None
-assigned (Call f a) = None
-assigned (Done f) = None
-assigned (Active p) = None
-assigned (Ghost p g v) = None
-
--- the field that it writes, of the node to which the pointer leads that it goes through
-abbrev pub stored : Primitive → Option FieldId
-stored (Null p) = None
-stored (Copy p q) = None
-stored (New p) = None
-stored (Load p q f) = None
-stored (Store p f q) = Some f
-stored (StoreNull p f) = Some f
-stored (DataSet x e) = None
-stored (DataLoad x q f) = None
-stored (DataStore p f e) = Some f
-stored (Eq p q) = None
-stored (Ne p q) = None
-stored (IsNull p) = None
-stored (NotNull p) = None
-stored (DataTest r x e) = None
-stored (Refresh p q) = None
-stored (RefreshLoad p q f) = None
-stored (RefreshStore p f q) = Some f
-stored (Call f a) = None
-stored (Done f) = None
-stored (Active p) = None
-stored (Ghost p g v) = None
+-- the function that it calls, and the argument
+abbrev pub called : Primitive → Option (FuncId × Arg)
+called (Null p) = None
+called (Copy p q) = None
+called (New p) = None
+called (Load p q f) = None
+called (Store p f q) = None
+called (StoreNull p f) = None
+called (DataSet x e) = None
+called (DataLoad x q f) = None
+called (DataStore p f e) = None
+called (Eq p q) = None
+called (Ne p q) = None
+called (IsNull p) = None
+called (NotNull p) = None
+called (DataTest r x e) = None
+called (Refresh p q) = None
+called (RefreshLoad p q f) = None
+called (RefreshStore p f q) = None
+called (Call f a) = Some (f, a)
+called (Done f) = None
+called (Active p) = None
+called (Ghost p g v) = None
