@@ -1,6 +1,5 @@
 -- Numbers in lists, and tables.
 use Rattle.std.proofs.Common.{◌≡◌, ℕ, zero, suc, ◌+◌, ◌<◌, List, [], ◌∷◌, ◌++◌, length, get_or, drop, refl, sym, ap, subst, ◌∙◌, arith, inl, inr}
-use Rattle.std.specs.Prelude.{◌⊎◌}
 use Rattle.std.proofs.lemmas.List.{drop_more}
 use Rattle.plc_xfer.specs.Rules.{table}
 use Rattle.plc_infer.specs.WorkLists.{Among, numbers}

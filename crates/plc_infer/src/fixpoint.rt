@@ -2,7 +2,7 @@
 // leads too far raises the environment of its last point to the join, which puts that point on the
 // list. Every pre-typing stays above what is reached, so the end is the strongest. The list begins with
 // all points: also a step that nothing reaches has to lead to no more than its last point has.
-ghost use Rattle.std.specs.Prelude.{◌≡◌, ◌<◌, [], IfOk, length};
+ghost use Rattle.std.specs.Prelude.{◌≡◌, ◌<◌, [], IfOk, OnOk, length};
 ghost use Rattle.plc_xfer.specs.Rules.{FitsObserver};
 ghost use Rattle.plc_xfer.specs.Typings.{led};
 ghost use Rattle.plc_infer.specs.Programs.{IsProgram, program_of};
@@ -34,21 +34,22 @@ pub(crate) fn strongest(
     let index = steps_by_point(alloc, program)?;
     let mut envs = starts(alloc, program, observer)?;
     let mut list = WorkList::of_all(alloc, program.locals.len())?;
+    let mut reached = Env::bottom(alloc, program.shared, 0)?;
     while let Some(point) = list.take() {
         let steps = index.leaving(point);
-        relax_all(alloc, program, observer, steps, &mut envs, &mut list)?;
+        relax_all(program, observer, steps, &mut envs, &mut list, &mut reached)?;
     }
     Ok(envs)
 }
 
-/// Relaxes steps one after another.
+/// Relaxes steps one after another. In `reached` is worked out what each leads to, so that none needs memory of its own.
 fn relax_all(
-    alloc: Global,
     program: &Program,
     observer: &Observer,
     steps: &[u16],
     envs: &mut Vec<Env>,
     list: &mut WorkList,
+    reached: &mut Env,
 ) -> Result<(), NoMemory>
     requires program { IsProgram (program_of program.now) }
     requires under_way { let s = program_of program.now
@@ -61,19 +62,19 @@ fn relax_all(
         envs.old.items envs.new.items list.old.queue.items list.new.queue.items) }
 {
     for k in steps {
-        relax_listed(alloc, program, observer, *k as usize, envs, list)?;
+        relax_listed(program, observer, *k as usize, envs, list, reached)?;
     }
     Ok(())
 }
 
 /// Relaxes a step, and puts its last point on the list where that raises the environment there.
 fn relax_listed(
-    alloc: Global,
     program: &Program,
     observer: &Observer,
     k: usize,
     envs: &mut Vec<Env>,
     list: &mut WorkList,
+    reached: &mut Env,
 ) -> Result<(), NoMemory>
     requires program { IsProgram (program_of program.now) }
     requires known { k < length program.now.steps.now }
@@ -83,7 +84,7 @@ fn relax_listed(
         in IfOk result (λ _. Looked graph k envs.old.items envs.new.items
         list.old.queue.items list.new.queue.items list.old.marks.items list.new.marks.items) }
 {
-    if !relax(alloc, program, observer, k, envs)? {
+    if !relax(program, observer, k, envs, reached)? {
         return Ok(());
     }
     list.put(program.steps[k].to.0)
@@ -92,11 +93,11 @@ fn relax_listed(
 /// Raises the environment of a step's last point to hold what the step leads to, and answers whether
 /// it wasn't as large before.
 fn relax(
-    alloc: Global,
     program: &Program,
     observer: &Observer,
     k: usize,
     envs: &mut Vec<Env>,
+    reached: &mut Env,
 ) -> Result<bool, NoMemory>
     requires program { IsProgram (program_of program.now) }
     requires known { k < length program.now.steps.now }
@@ -107,23 +108,28 @@ fn relax(
     let step = &program.steps[k];
     let from = step.from.0 as usize;
     let to = step.to.0 as usize;
-    let reached = led_from(alloc, observer, step.prims, &envs[from])?;
-    if env_below(&reached, &envs[to]) {
+    led_from(observer, step.prims, &envs[from], reached)?;
+    if env_below(reached, &envs[to]) {
         return Ok(false);
     }
-    env_join(&mut envs[to], &reached);
+    env_join(&mut envs[to], reached);
     Ok(true)
 }
 
-/// What the primitives of a step, and then interference, make of an environment.
-fn led_from(alloc: Global, observer: &Observer, prims: &[Prim], env: &Env) -> Result<Env, NoMemory>
+/// Puts into `reached` what the primitives of a step, and then interference, make of an environment.
+fn led_from(
+    observer: &Observer,
+    prims: &[Prim],
+    env: &Env,
+    reached: &mut Env,
+) -> Result<(), NoMemory>
     requires { FitsObserver observer.now env.now }
-    ensures { IfOk result (λ reached. reached ≡ led observer.now env.now prims.now) }
+    ensures { OnOk result (reached.new ≡ led observer.now env.now prims.now) }
 {
-    let mut reached = env.copy(alloc)?;
+    reached.copy_from(env)?;
     for prim in prims {
-        apply(&mut reached, prim, observer);
+        apply(reached, prim, observer);
     }
-    interfere(&mut reached, observer);
-    Ok(reached)
+    interfere(reached, observer);
+    Ok(())
 }

@@ -2,14 +2,12 @@
 -- for each primitive; laws beside them say that they agree with these words, so a row that is missing here is refused by
 -- them.
 use Rattle.std.specs.Prelude.{Option, Some, None}
-use Rattle.plc_base.specs.declared.ids.FieldId.{FieldId}
+use Rattle.plc_base.specs.declared.ids.FuncId.{FuncId}
 use Rattle.plc_lang.specs.declared.syntax.Var.{Var}
-use Rattle.plc_lang.specs.declared.syntax.Var.TheVariants.{Local}
+use Rattle.plc_lang.specs.declared.syntax.Arg.{Arg}
 use Rattle.plc_lang.specs.declared.syntax.Primitive.{Primitive}
-use Rattle.plc_lang.specs.declared.syntax.Primitive.TheVariants.{Null, Copy, New, Load, Store, StoreNull}
-use Rattle.plc_lang.specs.declared.syntax.Primitive.TheVariants.{DataLoad, DataStore}
-use Rattle.plc_lang.specs.declared.syntax.Primitive.TheVariants.{Eq, Ne}
-use Rattle.plc_lang.specs.declared.syntax.Primitive.TheVariants.{Refresh, RefreshLoad, RefreshStore}
+use Rattle.plc_lang.specs.declared.syntax.Primitive.TheVariants.{Load, Store, StoreNull, DataLoad, DataStore, Eq, Ne}
+use Rattle.plc_lang.specs.declared.syntax.Primitive.TheVariants.{RefreshLoad, RefreshStore, Call}
 
 -- the pointer that it goes through, to a field of the node
 abbrev pub accessed : Primitive → Option Var
@@ -28,20 +26,7 @@ compared (Eq p q) = Some (p, q)
 compared (Ne p q) = Some (p, q)
 compared k = None
 
--- the pointer variable that it gives a value
-abbrev pub assigned : Primitive → Option Var
-assigned (Null p) = Some p
-assigned (Copy p q) = Some p
-assigned (New p) = Some p
-assigned (Load p q f) = Some p
-assigned (Refresh p q) = Some (Local p)
-assigned (RefreshLoad p q f) = Some (Local p)
-assigned k = None
-
--- the field that it writes, of the node to which the pointer leads that it goes through
-abbrev pub stored : Primitive → Option FieldId
-stored (Store p f q) = Some f
-stored (StoreNull p f) = Some f
-stored (DataStore p f e) = Some f
-stored (RefreshStore p f q) = Some f
-stored k = None
+-- the function that it calls, and the argument
+abbrev pub called : Primitive → Option (FuncId × Arg)
+called (Call f a) = Some (f, a)
+called k = None

@@ -1,12 +1,14 @@
 -- Soundness of types for the thread itself: each primitive, and a whole step.
-use Rattle.std.proofs.Common.{◌≡◌, ℕ, suc, ◌+◌, ◌<◌, Bool, true, false, ◌&&◌, ◌==◌, List, [], ◌∷◌, ◌++◌, Option, Some, None, refl, sym, subst, subst₂, inl, inr}
+use Rattle.std.proofs.Common.{◌≡◌, ℕ, suc, ◌+◌, ◌<◌, Bool, true, false, ◌&&◌, ◌==◌, List, [], ◌∷◌, ◌++◌, Option, Some, None, refl, sym, ◌∙◌, subst, subst₂, inl, inr}
 use Rattle.std.specs.Prelude.{if◌then◌else◌}
 use Rattle.std.proofs.lemmas.Bool.{cases_eq, eq-eqb, eqb-true, and_parts}
 use Rattle.plc_base.specs.declared.ids.FuncId.{FuncId}
 use Rattle.plc_lang.specs.declared.syntax.Var.{Var}
+use Rattle.plc_lang.specs.declared.syntax.Arg.{Arg}
 use Rattle.plc_lang.specs.declared.syntax.Arg.TheVariants as args
 use Rattle.plc_lang.specs.declared.syntax.Primitive.{Primitive}
-use Rattle.plc_lang.specs.declared.syntax.Primitive.TheVariants.{Null, Copy, New, Load, Store, StoreNull, DataSet, DataLoad, DataStore, Eq, Ne, IsNull, Refresh, RefreshLoad, RefreshStore, Call, Done, Active}
+use Rattle.plc_lang.specs.declared.syntax.Primitive.TheVariants.{Null, Copy, New, Load, Store, StoreNull, DataSet, DataLoad, DataStore, Eq, IsNull, Refresh, RefreshLoad, RefreshStore, Call, Done, Active}
+use Rattle.plc_lang.specs.Facts.{accessed, compared, called}
 use Rattle.plc_auto.specs.declared.event.Event.{Event}
 use Rattle.plc_auto.specs.declared.event.Event.TheVariants.{Call as Called, Done as Returned}
 use Rattle.plc_auto.specs.declared.event.EvKind.{EvKind}
@@ -27,8 +29,10 @@ use Rattle.plc_type.specs.declared.env.Env.{Env}
 use Rattle.plc_type.specs.Guarantees.{is_safe, is_active}
 use Rattle.plc_xfer.specs.declared.fault.TypeFault.{TypeFault}
 use Rattle.plc_xfer.specs.Calls.{on_other, other_type}
-use Rattle.plc_xfer.specs.Rules.{type_of, effect, effect_anywhere, env_after, env_after_all, remade, fault_of, access_fault, compare_fault, retire_fault}
+use Rattle.plc_xfer.specs.Rules.{type_of, effect, effect_anywhere, env_after, env_after_all, remade, fault_of, access_fault, compare_fault, retire_fault, call_fault}
 use Rattle.plc_xfer.specs.Typings.{fault_at}
+use Rattle.plc_xfer.specs.Laws.{asked}
+use Rattle.plc_xfer.proofs.ByFacts.{by_facts}
 use Rattle.plc_typesound.specs.Meaning.{EnvMet}
 use Rattle.plc_typesound.specs.Claims.{ClaimTrue, ClaimsTrue}
 use Rattle.plc_typesound.proofs.Sets.{Live}
@@ -54,6 +58,19 @@ pub and-false : (x : Bool) → (x && false) ≡ false
 and-false true = refl
 and-false false = refl
 
+-- ---- which race a primitive may be
+
+-- by the pointer that it goes through, else by the two that it compares, else by the function that it calls
+abbrev raced : State → ℕ → Option Var → Option (Var × Var) → Option (FuncId × Arg) → Option RaceKind
+raced s t (Some p) pair call = access (cell_at s t p)
+raced s t None (Some pair) call = comparison (cell_at s t pair.0) (cell_at s t pair.1)
+raced s t None None (Some call) = race_of_call s t (is_retire call.0) call.1
+raced s t None None None = None
+
+race_by_facts : (s : State) (t : ℕ) (k : Primitive) → race_of s t k ≡ raced s t (accessed k) (compared k) (called k)
+race_by_facts s t (Null p) = refl
+race_by_facts s t k = refl
+
 module _ {o : Observer} {threads : ℕ} {h : List Event} {t : ℕ} {s : State} {e : Env} (here : Here o threads h t s e) where
   -- a pointer with S is valid, with A its number isn't retired, null or not
   is_valid : (v : Var) → is_safe (type_of e v).g ≡ true → (at s (place t v)).valid ≡ true
@@ -68,37 +85,30 @@ module _ {o : Observer} {threads : ℕ} {h : List Event} {t : ℕ} {s : State} {
     | inr nonnull ↦ (here.met.pointers v nonnull).active g
   ]
 
-  accessed : (v : Var) → access_fault e v ≡ None → access (cell_at s t v) ≡ None
-  accessed v c = rw (is_valid v (safe_if _ _ c)) refl
+  safe_access : (v : Var) → access_fault e v ≡ None → access (cell_at s t v) ≡ None
+  safe_access v c = rw (is_valid v (safe_if _ _ c)) refl
 
-  compared : (p q : Var) → compare_fault e p q ≡ None → comparison (cell_at s t p) (cell_at s t q) ≡ None
-  compared p q c = let both = both_safe _ _ _ _ c in rw (is_valid p both.0, is_valid q both.1) refl
+  safe_comparison : (p q : Var) → compare_fault e p q ≡ None → comparison (cell_at s t p) (cell_at s t q) ≡ None
+  safe_comparison p q c = let both = both_safe _ _ _ _ c in rw (is_valid p both.0, is_valid q both.1) refl
 
-  called : (p : Var) (b : Bool) → (if b then retire_fault e p else None) ≡ None → race_of_call s t b (args.Var p) ≡ None
-  called p true c = let g = safe_if _ _ c in rw (is_valid p (active_safe (type_of e p).g g), isnt_retired p g) refl
-  called p false c = refl
+  safe_argument : (p : Var) (b : Bool) → (if b then retire_fault e p else None) ≡ None → race_of_call s t b (args.Var p) ≡ None
+  safe_argument p true c = let g = safe_if _ _ c in rw (is_valid p (active_safe (type_of e p).g g), isnt_retired p g) refl
+  safe_argument p false c = refl
 
-  called_none : (b : Bool) → race_of_call s t b args.None ≡ None
-  called_none = elim [ true ↦ refl | false ↦ refl ]
+  safe_call : (f : FuncId) (r : Arg) → call_fault e f r ≡ None → race_of_call s t (is_retire f) r ≡ None
+  safe_call f (args.Var p) c = safe_argument p (is_retire f) c
+  safe_call f args.None c = elim (is_retire f) as (λ b. race_of_call s t b args.None ≡ None) [ true ↦ refl | false ↦ refl ]
+  safe_call f args.Null c = elim (is_retire f) as (λ b. race_of_call s t b args.Null ≡ None) [ true ↦ refl | false ↦ refl ]
 
-  called_null : (b : Bool) → race_of_call s t b args.Null ≡ None
-  called_null = elim [ true ↦ refl | false ↦ refl ]
+  none_raced : (through : Option Var) (pair : Option (Var × Var)) (call : Option (FuncId × Arg)) → asked e through pair call ≡ None → raced s t through pair call ≡ None
+  none_raced (Some p) pair call c = safe_access p c
+  none_raced None (Some pair) call c = safe_comparison pair.0 pair.1 c
+  none_raced None None (Some call) c = safe_call call.0 call.1 c
+  none_raced None None None c = refl
 
   -- a primitive whose condition holds is no race
   pub no_race : (k : Primitive) → fault_of e k ≡ None → race_of s t k ≡ None
-  no_race (Load p q f) c = accessed q c
-  no_race (Store p f q) c = accessed p c
-  no_race (StoreNull p f) c = accessed p c
-  no_race (DataLoad x q f) c = accessed q c
-  no_race (DataStore p f n) c = accessed p c
-  no_race (Eq p q) c = compared p q c
-  no_race (Ne p q) c = compared p q c
-  no_race (RefreshLoad p q f) c = accessed q c
-  no_race (RefreshStore p f q) c = accessed p c
-  no_race (Call f (args.Var p)) c = called p (is_retire f) c
-  no_race (Call f args.None) c = called_none (is_retire f)
-  no_race (Call f args.Null) c = called_null (is_retire f)
-  no_race k c = refl
+  no_race k c = race_by_facts s t k ∙ none_raced (accessed k) (compared k) (called k) (sym (by_facts e k) ∙ c)
 
   -- ---- what it leaves meets the effect
 

@@ -1,5 +1,5 @@
 -- A smaller environment leads to a smaller one, and meets each condition that a larger one meets.
-use Rattle.std.proofs.Common.{◌≡◌, ℕ, zero, suc, ◌+◌, ◌≤◌, Bool, true, false, ◌&&◌, List, [], ◌∷◌, length, get_or, map, Some, None, refl, sym, ◌∙◌, subst, arith}
+use Rattle.std.proofs.Common.{◌≡◌, ℕ, zero, suc, ◌+◌, ◌≤◌, Bool, true, false, ◌&&◌, List, [], ◌∷◌, length, get_or, map, Option, Some, None, refl, sym, ◌∙◌, subst, arith}
 use Rattle.std.specs.Prelude.{if◌then◌else◌}
 use Rattle.std.proofs.lemmas.Bool.{and_parts, and_from, leb-true, both_ways, le-leb}
 use Rattle.plc_base.specs.declared.ids.FuncId.{FuncId}
@@ -10,7 +10,7 @@ use Rattle.plc_lang.specs.declared.syntax.Var.TheVariants.{Shared, Local}
 use Rattle.plc_lang.specs.declared.syntax.Arg.{Arg}
 use Rattle.plc_lang.specs.declared.syntax.Arg.TheVariants as args
 use Rattle.plc_lang.specs.declared.syntax.Primitive.{Primitive}
-use Rattle.plc_lang.specs.declared.syntax.Primitive.TheVariants.{Null, Copy, New, Load, Store, StoreNull, DataSet, DataLoad, DataStore, Eq, Ne, IsNull, NotNull, DataTest, Refresh, RefreshLoad, RefreshStore, Call, Done, Active, Ghost}
+use Rattle.plc_lang.specs.Facts.{accessed, compared, called}
 use Rattle.plc_auto.specs.declared.event.EvKind.{EvKind}
 use Rattle.plc_auto.specs.declared.event.EvKind.TheVariants as events
 use Rattle.plc_auto.specs.declared.observer.Observer.{Observer}
@@ -27,6 +27,8 @@ use Rattle.plc_xfer.specs.declared.fault.TypeFault.TheVariants.{DerefNotSafe, Co
 use Rattle.plc_xfer.specs.Calls.{on_this, on_either, other_type, argument_type, beside_retired, beside_type}
 use Rattle.plc_xfer.specs.Rules.{type_of, table, remade, env_after, env_after_all, effect, shared_type, new_type, equal_type, refreshed_type, placed_type, active_type, access_fault, compare_fault, retire_fault, call_fault, fault_of, interfered, interfered_local}
 use Rattle.plc_xfer.specs.Typings.{fault_at}
+use Rattle.plc_xfer.specs.Laws.{asked}
+use Rattle.plc_xfer.proofs.ByFacts.{by_facts}
 use Rattle.plc_xfer.proofs.Kept.{KeepsAnywhere, KeepsTypes, anywhere_kept, effect_kept}
 use Rattle.plc_xfer.proofs.Locations.{closure_keeps, step_keeps, either_keeps}
 use Rattle.plc_xfer.proofs.Facts.{table_length}
@@ -297,28 +299,14 @@ call_sooner a b f (args.Var p) s h e = go (is_retire f) e
     go true e = retire_sooner a b s h p e
     go false e = refl
 
+asked_sooner : (a b : Env) (through : Option Var) (pair : Option (Var × Var)) (call : Option (FuncId × Arg)) → SameShape a b → env_below a b ≡ true → asked b through pair call ≡ None → asked a through pair call ≡ None
+asked_sooner a b (Some p) pair call s h e = access_sooner a b s h p e
+asked_sooner a b None (Some pair) call s h e = compare_sooner a b s h pair.0 pair.1 e
+asked_sooner a b None None (Some call) s h e = call_sooner a b call.0 call.1 s h e
+asked_sooner a b None None None s h e = refl
+
 pub fault_sooner : (a b : Env) (k : Primitive) → SameShape a b → env_below a b ≡ true → fault_of b k ≡ None → fault_of a k ≡ None
-fault_sooner a b (Null p) s h e = refl
-fault_sooner a b (Copy p q) s h e = refl
-fault_sooner a b (New p) s h e = refl
-fault_sooner a b (Load p q f) s h e = access_sooner a b s h q e
-fault_sooner a b (Store p f q) s h e = access_sooner a b s h p e
-fault_sooner a b (StoreNull p f) s h e = access_sooner a b s h p e
-fault_sooner a b (DataSet x n) s h e = refl
-fault_sooner a b (DataLoad x q f) s h e = access_sooner a b s h q e
-fault_sooner a b (DataStore p f n) s h e = access_sooner a b s h p e
-fault_sooner a b (Eq p q) s h e = compare_sooner a b s h p q e
-fault_sooner a b (Ne p q) s h e = compare_sooner a b s h p q e
-fault_sooner a b (IsNull p) s h e = refl
-fault_sooner a b (NotNull p) s h e = refl
-fault_sooner a b (DataTest r x n) s h e = refl
-fault_sooner a b (Refresh p q) s h e = refl
-fault_sooner a b (RefreshLoad p q f) s h e = access_sooner a b s h q e
-fault_sooner a b (RefreshStore p f q) s h e = access_sooner a b s h p e
-fault_sooner a b (Call f arg) s h e = call_sooner a b f arg s h e
-fault_sooner a b (Done f) s h e = refl
-fault_sooner a b (Active p) s h e = refl
-fault_sooner a b (Ghost p g n) s h e = refl
+fault_sooner a b k s h e = by_facts a k ∙ asked_sooner a b (accessed k) (compared k) (called k) s h (sym (by_facts b k) ∙ e)
 
 pub at_sooner : (o : Observer) (a b : Env) (ks : List Primitive) (i : ℕ) → SameShape a b → env_below a b ≡ true → fault_at o b ks i ≡ None → fault_at o a ks i ≡ None
 at_sooner o a b [] i s h e = refl

@@ -15,4 +15,4 @@ pub use conditions::condition;
 pub use effects::apply;
 pub use fault::TypeFault;
 pub use interference::interfere;
-pub use laws::rules_keep_order;
+pub use laws::{conditions_go_by_facts, rules_keep_order};

@@ -1,4 +1,4 @@
-use Rattle.std.proofs.Common.{◌≡◌, ℕ, suc, ◌+◌, ◌<◌, ◌≤◌, Bool, List, [], ◌∷◌, length, get_or, refl, sym, ap, subst, ◌∙◌, inl, arith}
+use Rattle.std.proofs.Common.{◌≡◌, ℕ, suc, ◌+◌, ◌<◌, ◌≤◌, Bool, List, [], ◌∷◌, length, sym, ap, subst, ◌∙◌, arith}
 use Rattle.plc_flow.specs.StepsByPoint.{places_from}
 use Rattle.plc_infer.specs.Programs.{program_of, passage_at, first_points}
 use Rattle.plc_infer.specs.Graphs.{graph_of}
