@@ -1,3 +1,4 @@
+pub mod Needing
 pub mod Searching
 pub mod Stacking
 pub mod Grouping

@@ -1,18 +1,19 @@
 -- The splits of a place, where it is cut back and where it goes on.
-use Rattle.std.proofs.Common.{◌≡◌, ◌<◌, ◌≤◌, ℕ, List, [], ◌∷◌, length, take, drop, refl, sym, ◌∙◌, ap, subst, arith}
+use Rattle.std.proofs.Common.{◌≡◌, ◌<◌, ◌≤◌, ℕ, List, [], ◌∷◌, length, take, drop, Some, refl, sym, ◌∙◌, ap, subst, arith}
+use Rattle.std.specs.Prelude.{Contains, slice_get}
 use Rattle.std.proofs.lemmas.List.{length-append, length-take-le, take-take, take_all, take-append-le, append-nil}
 use Rattle.plc_ground.specs.declared.terms.Lit.{Lit}
 use Rattle.plc_ground.specs.declared.terms.Node.{Node}
 use Rattle.plc_ground.specs.declared.terms.Node.TheVariants.{Split}
 use Rattle.plc_ground.specs.declared.terms.GroundSet.{GroundSet}
 use Rattle.plc_ground.specs.declared.equalities.Change.{Change}
-use Rattle.plc_ground.specs.Trees.{Close}
+use Rattle.plc_ground.specs.Model.{literals}
 use Rattle.plc_ground.specs.Changes.{undone}
 use Rattle.plc_ground.proofs.Changing.{extends_same, extends_back, extends_front, undone_from}
 use Rattle.plc_solve.specs.declared.frame.Frame.{Frame}
 use Rattle.plc_solve.specs.declared.frame.Step.TheVariants.{Closed, Deeper, Complete}
 use Rattle.plc_solve.specs.declared.place.Place.{Place}
-use Rattle.plc_solve.specs.Search.{OpenSplit, split_on, splits, AreNested, IsCutTo, IsSame, GoesOn, IsStack, Stands, ClosesTop, TakesTree, StepGives}
+use Rattle.plc_solve.specs.Search.{OpenSplit, split_on, splits, AreNested, IsCutTo, IsSame, GoesOn, IsStack, Stands, ClosesTop, TakesTree, TakesCore, StepGives}
 use Rattle.plc_solve.specs.Measure.{left, left_below, base_of}
 use Rattle.plc_solve.proofs.Stacking.{leaf_taken, deeper_stacked, complete_closes, left_falls_complete, tree_taken, tree_left, needless_goes}
 
@@ -150,38 +151,40 @@ module _ (s : GroundSet) (old cut new : Place) (f g : Frame) (fs : List Frame) (
 
   -- every child is closed
   pub complete_step : StepGives s cut f g new Complete → (tree : List Node) → tree ≡ Split g.clause ∷ g.nodes.items →
-      Stands s new fs × ClosesTop s (splits new fs) tree × (left_below s (base_of s) (splits new fs) < left s (base_of s) (splits old (f ∷ fs)))
+      Stands s new fs × ClosesTop s (splits new fs) g.core.items tree × (left_below s (base_of s) (splits new fs) < left s (base_of s) (splits old (f ∷ fs)))
   complete_step st tree is =
       let closes = complete_closes s (split_on cut.branch.items cut.equal.class f) (splits cut fs) at_split.stack (st.1) in
       let whole : tree ≡ Split f.clause ∷ f.nodes.items = is ∙ ap (λ (x : Frame). Split x.clause ∷ x.nodes.items) (st.0) in
       let less = left_falls_complete s (base_of s) (split_on cut.branch.items cut.equal.class f) (splits cut fs) in
       let same = ap (left_below s (base_of s)) below_same in (
         above_stands,
-        subst (λ (t : List OpenSplit). ClosesTop s t tree) (sym below_same) (subst (ClosesTop s (splits cut fs)) (sym whole) closes),
+        subst (λ (t : List OpenSplit). ClosesTop s t g.core.items tree) (sym below_same)
+            (subst (λ (x : Frame). ClosesTop s (splits cut fs) x.core.items tree) (sym (st.0)) (subst (ClosesTop s (splits cut fs) f.core.items) (sym whole) closes)),
         omega (arith, less, same, same_left),
       )
 
-  module _ (tree : List Node) (closes : ClosesTop s (splits old (f ∷ fs)) tree) where
-    closes_cut : ClosesTop s (split_on cut.branch.items cut.equal.class f ∷ splits cut fs) tree
-    closes_cut = subst (λ (t : List OpenSplit). ClosesTop s t tree) (cut_splits s f fs old cut h c) closes
+  module _ (core : List Lit) (tree : List Node) (closes : ClosesTop s (splits old (f ∷ fs)) core tree) where
+    closes_cut : ClosesTop s (split_on cut.branch.items cut.equal.class f ∷ splits cut fs) core tree
+    closes_cut = subst (λ (t : List OpenSplit). ClosesTop s t core tree) (cut_splits s f fs old cut h c) closes
 
     -- the split takes the tree of its next child
-    pub taking_step : TakesTree f g tree → Stands s new (g ∷ fs) × ((base : ℕ) → left s base (splits new (g ∷ fs)) ≡ left_below s base (splits old (f ∷ fs)))
-    taking_step t =
+    pub taking_step : (own : Lit) → slice_get (literals s f.clause) f.next ≡ Some own → TakesCore f.core.items g.core.items own core → TakesTree f g tree →
+        Stands s new (g ∷ fs) × ((base : ℕ) → left s base (splits new (g ∷ fs)) ≡ left_below s base (splits old (f ∷ fs)))
+    taking_step own is tc t =
         let nested = subst (λ n. AreNested n g.mark fs) (sym t.depth) (subst (λ n. AreNested f.depth n fs) (sym t.mark) at_split.nested) in (
           gone_stands cut new go g fs (t.depth ∙ at_split.depth) (t.mark ∙ at_split.mark) nested s
-              (tree_taken s cut.branch.items cut.equal.class f g (splits cut fs) tree at_split.stack closes_cut t),
+              (tree_taken s cut.branch.items cut.equal.class f g (splits cut fs) core tree at_split.stack closes_cut own is tc t),
           λ base. ap (left s base) (gone_splits cut new go g fs (t.depth ∙ at_split.depth) (t.mark ∙ at_split.mark) nested)
-              ∙ tree_left s cut.branch.items cut.equal.class f g (splits cut fs) tree closes_cut t base
+              ∙ tree_left s cut.branch.items cut.equal.class f g (splits cut fs) core tree closes_cut t base
               ∙ ap (left_below s base) (sym (cut_splits s f fs old cut h c)),
         )
 
     -- the tree stands in place of the split
-    pub needless_step : Close s (cut.branch.items ∷ []) tree →
-        Stands s new fs × ClosesTop s (splits new fs) tree × ((base : ℕ) → left_below s base (splits new fs) ≤ left_below s base (splits old (f ∷ fs)))
-    needless_step close = (
+    pub needless_step : ((l : Lit) → slice_get (literals s f.clause) f.next ≡ Some l → Contains core l → ⊥) →
+        Stands s new fs × ClosesTop s (splits new fs) core tree × ((base : ℕ) → left_below s base (splits new fs) ≤ left_below s base (splits old (f ∷ fs)))
+    needless_step lacks = (
       above_stands,
-      subst (λ (t : List OpenSplit). ClosesTop s t tree) (sym below_same)
-          (needless_goes s (split_on cut.branch.items cut.equal.class f) (splits cut fs) tree at_split.stack closes_cut close),
+      subst (λ (t : List OpenSplit). ClosesTop s t core tree) (sym below_same)
+          (needless_goes s (split_on cut.branch.items cut.equal.class f) (splits cut fs) core tree at_split.stack closes_cut lacks),
       λ base. let same = ap (left_below s base) below_same in let seen = ap (left_below s base) (cut_splits s f fs old cut h c) in omega (arith, same, seen),
     )

@@ -14,14 +14,14 @@ use Rattle.plc_solve.specs.declared.place.Place.{Place}
 use Rattle.plc_solve.specs.declared.split.Descent.TheVariants.{Longer}
 use Rattle.plc_solve.specs.declared.frame.Step.{Step}
 use Rattle.plc_solve.specs.declared.frame.Step.TheVariants.{Open, Closed, Deeper, Complete}
-use Rattle.plc_ground.specs.Model.{equation, inequation, HoldsIn, FailsIn, IsModel, literals, MustDiffer}
+use Rattle.plc_ground.specs.Model.{equation, inequation, HoldsIn, FailsIn, IsModel, literals}
 use Rattle.plc_ground.specs.Fit.{IsWellFormed, IsInRange, LitFits}
 use Rattle.plc_ground.specs.Classes.{IsClosure, AreApart}
 use Rattle.plc_ground.specs.Equality.{Same, given, itself, back, along, applied}
-use Rattle.plc_ground.specs.Trees.{IsRight, Close, below}
+use Rattle.plc_ground.specs.Trees.{Close, below}
 use Rattle.plc_ground.proofs.Joining.{Same-longer}
 use Rattle.plc_solve.specs.declared.choice.Choice.{Choice}
-use Rattle.plc_solve.specs.Search.{IsPlace, IsSound, Descends, Enters, StepGives, split_on}
+use Rattle.plc_solve.specs.Search.{IsPlace, IsConflict, Collide, Explains, IsSound, Descends, Enters, StepGives, split_on}
 
 -- what a branch makes equal is of one sort
 same_sort : (s : GroundSet) → IsWellFormed s → (branch : List Lit) → All (LitFits s) branch → (i j : ℕ) → Same s.terms branch i j →
@@ -77,39 +77,55 @@ one_more_child s branch ls next l ns ms at h k =
     subst (λ (t : List (List Lit)). Close s t (ns ++ ms)) (sym (ap (map (λ m. branch ++ m ∷ [])) e ∙ map-snoc (λ m. branch ++ m ∷ []) (take next ls) l))
     (Close-append s (map (λ m. branch ++ m ∷ []) (take next ls)) ((branch ++ l ∷ []) ∷ []) ns ms h k)
 
--- a false inequation closes its child at once
-pub unequal_is_right : (s : GroundSet) → IsWellFormed s → (branch : List Lit) (class : List ℕ) → IsPlace s branch class → (l : Lit) → LitFits s l → l.equal ≡ false →
-    FailsIn (slice_index class) l → IsRight s (branch ++ l ∷ []) (Leaf l.left l.right)
-unequal_is_right s w branch class p l fit no' fails =
+-- the sides of a false inequation are equal on the branch
+pub unequal_is_same : (s : GroundSet) (branch : List Lit) (class : List ℕ) → IsPlace s branch class → (l : Lit) → LitFits s l → l.equal ≡ false →
+    FailsIn (slice_index class) l → Same s.terms branch l.left l.right
+unequal_is_same s branch class p l fit no' fails =
     let one : slice_index class l.left ≡ slice_index class l.right = (rw no' at fails) in
-    let len = p.closure.merged.one_each in (
-      fit.range.0,
-      fit.range.1,
-      Same-longer s.terms branch l l.left l.right (p.closure.merged.sound l.left l.right (omega (arith, fit.range.0, len)) (omega (arith, fit.range.1, len)) one),
-      inl (inl (Contains-append_right branch (l ∷ []) _ (zero, omega arith, sym (inequation_is l no')))),
-    )
+    let len = p.closure.merged.one_each in
+    p.closure.merged.sound l.left l.right (omega (arith, fit.range.0, len)) (omega (arith, fit.range.1, len)) one
+
+-- so its child is closed at once, by what makes them equal
+pub unequal_closes : (s : GroundSet) (branch core : List Lit) (l : Lit) → LitFits s l → l.equal ≡ false → Explains s branch l.left l.right core → Close s ((core ++ l ∷ []) ∷ []) (Leaf l.left l.right ∷ [])
+unequal_closes s branch core l fit no' h = (
+  (
+    fit.range.0,
+    fit.range.1,
+    Same-longer s.terms core l l.left l.right h.same,
+    inl (inl (Contains-append_right core (l ∷ []) _ (zero, omega arith, sym (inequation_is l no')))),
+  ),
+  tt,
+)
   where
     inequation_is : (l : Lit) → l.equal ≡ false → inequation l.left l.right ≡ l
     inequation_is l e = ap (λ b. let r : Lit = record { left = l.left; right = l.right; equal = b } in r) (sym e)
 
--- two terms that must differ, in one class of the longer branch
-pub conflict_is_right : (s : GroundSet) (branch : List Lit) (class : List ℕ) → IsClosure s.terms branch class → (a b : ℕ) → a < length s.terms → b < length s.terms →
-    MustDiffer s a b → slice_index class a ≡ slice_index class b → IsRight s branch (Leaf a b)
-conflict_is_right s branch class k a b al bl d e =
-    (al, bl, k.merged.sound a b (omega (arith, al, k.merged.one_each)) (omega (arith, bl, k.merged.one_each)) e, inr d)
+-- two terms that must differ close a child, by what makes them equal
+pub conflict_closes : (s : GroundSet) (branch core : List Lit) (l : Lit) (a b : ℕ) → Collide s branch a b → Explains s branch a b core → Close s ((core ++ l ∷ []) ∷ []) (Leaf a b ∷ [])
+conflict_closes s branch core l a b d h = ((d.first, d.second, Same-longer s.terms core l a b h.same, inr d.differ), tt)
 
--- the longer branch with its classes
-pub place_longer : (s : GroundSet) (branch : List Lit) (class : List ℕ) (l : Lit) → All (LitFits s) branch → LitFits s l → IsClosure s.terms (branch ++ l ∷ []) class →
-    ((i j : ℕ) → AreApart s class i j) → IsPlace s (branch ++ l ∷ []) class
-place_longer s branch class l fit one k apart = record {
-  closure = k;
-  fit = All-append (LitFits s) branch (l ∷ []) fit (only one);
-  apart = apart;
+-- two terms of one class that must differ, on a branch
+pub conflict_collides : (s : GroundSet) (branch : List Lit) (class : List ℕ) → IsClosure s.terms branch class → All (LitFits s) branch → (a b : ℕ) → IsConflict s class a b → Collide s branch a b
+conflict_collides s branch class k fit a b h = record {
+  first = h.first;
+  second = h.second;
+  same = k.merged.sound a b (omega (arith, h.first, k.merged.one_each)) (omega (arith, h.second, k.merged.one_each)) h.together;
+  differ = h.differ;
+  fit = fit;
 }
+
+-- one more literal that fits
+pub fit_longer : (s : GroundSet) (branch : List Lit) (l : Lit) → All (LitFits s) branch → LitFits s l → All (LitFits s) (branch ++ l ∷ [])
+fit_longer s branch l fit one = All-append (LitFits s) branch (l ∷ []) fit (only one)
   where
     only : LitFits s l → All (LitFits s) (l ∷ [])
     only h zero d lt = h
     only h (suc k) d lt = absurd (omega arith)
+
+-- the longer branch with its classes
+pub place_longer : (s : GroundSet) (branch : List Lit) (class : List ℕ) (l : Lit) → All (LitFits s) branch → LitFits s l → IsClosure s.terms (branch ++ l ∷ []) class →
+    ((i j : ℕ) → AreApart s class i j) → IsPlace s (branch ++ l ∷ []) class
+place_longer s branch class l fit one k apart = record { closure = k; fit = fit_longer s branch l fit one; apart = apart }
 
 -- a literal of a clause fits
 pub fit_of_literal : (s : GroundSet) → IsWellFormed s → (c k : ℕ) (l : Lit) → slice_get (literals s c) k ≡ Some l → LitFits s l

@@ -1,6 +1,6 @@
 -- The splits of the present branch of a search.
-use Rattle.std.proofs.Common.{◌≡◌, ◌<◌, ◌≤◌, ◌+◌, ◌-◌, ◌*◌, ℕ, zero, suc, true, false, List, [], ◌∷◌, ◌++◌, length, map, take, get_or, Option, Some, None, sum, append_assoc, refl, sym, ◌∙◌, ap, subst, arith}
-use Rattle.std.specs.Prelude.{is_some, Contains, slice_get, sum_by}
+use Rattle.std.proofs.Common.{◌≡◌, ◌<◌, ◌≤◌, ◌+◌, ◌-◌, ◌*◌, ℕ, zero, suc, true, List, [], ◌∷◌, ◌++◌, length, map, take, get_or, Some, sum, append_assoc, refl, sym, ◌∙◌, ap, subst, arith}
+use Rattle.std.specs.Prelude.{Contains, slice_get, sum_by}
 use Rattle.std.proofs.lemmas.List.{take_more, take_all}
 use Rattle.std.proofs.lemmas.List.Elements.{Contains-append_left, Contains-append_right}
 use Rattle.std.proofs.lemmas.Option.{slice_get_within, get_or_from_slice_get, slice_get-get_or}
@@ -15,11 +15,12 @@ use Rattle.plc_ground.specs.declared.terms.Node.TheVariants.{Split, Leaf}
 use Rattle.plc_ground.specs.declared.terms.GroundSet.{GroundSet}
 use Rattle.plc_ground.specs.Model.{equation, literals}
 use Rattle.plc_ground.specs.Fit.{IsInRange}
-use Rattle.plc_ground.specs.Trees.{Close, SplitsOnce, IsVerdict}
+use Rattle.plc_ground.specs.Trees.{Close, SplitsOnce}
 use Rattle.plc_ground.proofs.Joining.{literal_is}
-use Rattle.plc_solve.specs.Search.{OpenSplit, split_on, IsSound, IsOnce, IsNextChild, IsChildOf, IsStack, clauses_of, ClosesTop, TakesTree, StepGives}
+use Rattle.plc_solve.specs.Search.{OpenSplit, split_on, IsWithin, TakesCore, IsSound, IsOnce, IsNextChild, IsChildOf, IsStack, clauses_of, ClosesTop, TakesTree, StepGives}
 use Rattle.plc_solve.specs.Measure.{power, weight, left, left_below, base_of}
 use Rattle.plc_solve.proofs.Searching.{one_more_child}
+use Rattle.plc_solve.proofs.Needing.{close_longer, children_more, child_more_core, core_used, without}
 
 pub SplitsOnce-append : (s : GroundSet) (ds es : List (List ℕ)) (ns ms : List Node) → SplitsOnce s ds ns → SplitsOnce s es ms → SplitsOnce s (ds ++ es) (ns ++ ms)
 SplitsOnce-append s [] es [] ms h k = k
@@ -70,13 +71,15 @@ once_more_child s d ls next l ns ms at h k =
 -- a split with one more child closed
 module _ (s : GroundSet) (f g : OpenSplit) (l : Lit) (ms : List Node) (at : slice_get (literals s f.clause) f.next ≡ Some l) (clause : g.clause ≡ f.clause) (branch : g.branch ≡ f.branch)
     (class : g.class ≡ f.class) (next : g.next ≡ f.next + 1) (nodes : g.nodes ≡ f.nodes ++ ms) where
-  pub sound_more : IsSound s f → Close s ((f.branch ++ l ∷ []) ∷ []) ms → IsSound s g
-  sound_more h k = record {
+  pub sound_more : (core : List Lit) → TakesCore f.core g.core l core → IsWithin core (f.branch ++ l ∷ []) → Close s ((core ++ l ∷ []) ∷ []) ms → IsSound s f → IsSound s g
+  sound_more core t u k h = record {
     place = rw (branch, class) h.place;
     clause = rw clause h.clause;
     wrong = rw (class, clause) h.wrong;
     within = rw (next, clause) (omega (arith, slice_get_within (literals s f.clause) f.next l at));
-    closed = rw (branch, clause, next, nodes) (one_more_child s f.branch (literals s f.clause) f.next l f.nodes ms at h.closed k);
+    used = rw branch (core_used f.branch f.core g.core core l t h.used u);
+    closed = rw (clause, next, nodes) (one_more_child s g.core (literals s f.clause) f.next l f.nodes ms at
+        (children_more s f.core g.core (take f.next (literals s f.clause)) f.nodes t.kept h.closed) (child_more_core s f.core g.core core l ms t k));
   }
 
   pub once_more : (above : List ℕ) → IsOnce s above f → SplitsOnce s ((f.clause ∷ above) ∷ []) ms → IsOnce s above g
@@ -96,49 +99,52 @@ append-nil : {A : Type 0} (b : List A) → b ++ [] ≡ b
 append-nil [] = refl
 append-nil (x ∷ b) = ap (λ t. x ∷ t) (append-nil b)
 
--- a split whose children are all closed is a tree for its branch
-pub whole_closes : (s : GroundSet) (f : OpenSplit) → IsSound s f → f.next ≡ length (literals s f.clause) → Close s (f.branch ∷ []) (Split f.clause ∷ f.nodes)
+-- a split whose children are all closed is a tree for its core
+pub whole_closes : (s : GroundSet) (f : OpenSplit) → IsSound s f → f.next ≡ length (literals s f.clause) → Close s (f.core ∷ []) (Split f.clause ∷ f.nodes)
 whole_closes s f h e =
-    (h.clause, subst (λ (t : List (List Lit)). Close s t f.nodes) (ap (map (λ l. f.branch ++ l ∷ [])) (take_all f.next (literals s f.clause) (omega (arith, e))) ∙ sym (append-nil (map (λ l. f.branch ++ l ∷ []) (literals s f.clause)))) h.closed)
+    (h.clause, subst (λ (t : List (List Lit)). Close s t f.nodes) (ap (map (λ l. f.core ++ l ∷ [])) (take_all f.next (literals s f.clause) (omega (arith, e))) ∙ sym (append-nil (map (λ l. f.core ++ l ∷ []) (literals s f.clause)))) h.closed)
 
 pub whole_once : (s : GroundSet) (above : List ℕ) (f : OpenSplit) → IsOnce s above f → f.next ≡ length (literals s f.clause) → SplitsOnce s (above ∷ []) (Split f.clause ∷ f.nodes)
 whole_once s above f h e =
     (h.fresh, subst (λ (t : List (List ℕ)). SplitsOnce s t f.nodes) (ap (map (λ l. f.clause ∷ above)) (take_all f.next (literals s f.clause) (omega (arith, e))) ∙ sym (append-nil (map (λ l. f.clause ∷ above) (literals s f.clause)))) h.below)
 
--- what closes a frame's branch closes the next child of the split above
-pub closes_above : (s : GroundSet) (f : OpenSplit) (fs : List OpenSplit) (tree : List Node) → IsChildOf s f fs → Close s (f.branch ∷ []) tree → SplitsOnce s (clauses_of fs ∷ []) tree → ClosesTop s fs tree
-closes_above s f [] tree h k o = (subst (λ (b : List Lit). Close s (b ∷ []) tree) h k, o)
-closes_above s f (p ∷ fs) tree h k o = record { literal = h.literal; is = h.is; close = subst (λ (b : List Lit). Close s (b ∷ []) tree) h.longer k; once = o }
+-- what closes a frame's branch by a core closes the next child of the split above
+pub closes_above : (s : GroundSet) (f : OpenSplit) (fs : List OpenSplit) (core : List Lit) (tree : List Node) → IsChildOf s f fs → IsWithin core f.branch → Close s (core ∷ []) tree →
+    SplitsOnce s (clauses_of fs ∷ []) tree → ClosesTop s fs core tree
+closes_above s f [] core tree h u k o = (close_longer s core [] tree (subst (λ (b : List Lit). IsWithin core b) h u) k, o)
+closes_above s f (p ∷ fs) core tree h u k o = record { literal = h.literal; is = h.is; used = subst (λ (b : List Lit). IsWithin core b) h.longer u; close = k; once = o }
 
 -- a complete split hands on its tree
-pub complete_closes : (s : GroundSet) (f : OpenSplit) (fs : List OpenSplit) → IsStack s (f ∷ fs) → f.next ≡ length (literals s f.clause) → ClosesTop s fs (Split f.clause ∷ f.nodes)
-complete_closes s f fs h e = closes_above s f fs (Split f.clause ∷ f.nodes) (h.2) (whole_closes s f (h.0) e) (whole_once s (clauses_of fs) f (h.1) e)
+pub complete_closes : (s : GroundSet) (f : OpenSplit) (fs : List OpenSplit) → IsStack s (f ∷ fs) → f.next ≡ length (literals s f.clause) → ClosesTop s fs f.core (Split f.clause ∷ f.nodes)
+complete_closes s f fs h e = closes_above s f fs f.core (Split f.clause ∷ f.nodes) (h.2) h.0.used (whole_closes s f (h.0) e) (whole_once s (clauses_of fs) f (h.1) e)
 
 Contains-later : (x : ℕ) (d : List ℕ) (c : ℕ) → Contains d c → Contains (x ∷ d) c
 Contains-later x d c (k, lt, e) = (suc k, omega arith, e)
 
--- a tree that needs no literal of the split stands in its place
-pub needless_goes : (s : GroundSet) (p : OpenSplit) (fs : List OpenSplit) (tree : List Node) → IsStack s (p ∷ fs) → ClosesTop s (p ∷ fs) tree → Close s (p.branch ∷ []) tree → ClosesTop s fs tree
-needless_goes s p fs tree h k close =
-    closes_above s p fs tree (h.2) close (SplitsOnce-fewer s (clauses_of fs ∷ []) ((p.clause ∷ clauses_of fs) ∷ []) tree (Contains-later p.clause (clauses_of fs), tt) k.once)
+-- a tree whose core lacks the literal of the split's next child stands in place of the split
+pub needless_goes : (s : GroundSet) (p : OpenSplit) (fs : List OpenSplit) (core : List Lit) (tree : List Node) → IsStack s (p ∷ fs) → ClosesTop s (p ∷ fs) core tree →
+    ((l : Lit) → slice_get (literals s p.clause) p.next ≡ Some l → Contains core l → ⊥) → ClosesTop s fs core tree
+needless_goes s p fs core tree h k lacks =
+    closes_above s p fs core tree (h.2) (without p.branch core k.literal k.used (lacks k.literal k.is)) k.close
+    (SplitsOnce-fewer s (clauses_of fs ∷ []) ((p.clause ∷ clauses_of fs) ∷ []) tree (Contains-later p.clause (clauses_of fs), tt) k.once)
 
 -- the split takes the tree
-pub tree_taken : (s : GroundSet) (b : List Lit) (c : List ℕ) (p g : Frame) (fs : List OpenSplit) (tree : List Node) → IsStack s (split_on b c p ∷ fs) → ClosesTop s (split_on b c p ∷ fs) tree →
-    TakesTree p g tree → IsStack s (split_on b c g ∷ fs)
-tree_taken s b c p g fs tree h k t = (
-  sound_more s (split_on b c p) (split_on b c g) k.literal tree k.is t.clause refl refl t.next t.nodes (h.0) k.close,
-  once_more s (split_on b c p) (split_on b c g) k.literal tree k.is t.clause refl refl t.next t.nodes (clauses_of fs) (h.1) k.once,
-  child_more s (split_on b c p) (split_on b c g) k.literal tree k.is t.clause refl refl t.next t.nodes fs (h.2),
+pub tree_taken : (s : GroundSet) (b : List Lit) (c : List ℕ) (p g : Frame) (fs : List OpenSplit) (core : List Lit) (tree : List Node) → IsStack s (split_on b c p ∷ fs) → ClosesTop s (split_on b c p ∷ fs) core tree →
+    (own : Lit) → slice_get (literals s p.clause) p.next ≡ Some own → TakesCore p.core.items g.core.items own core → TakesTree p g tree → IsStack s (split_on b c g ∷ fs)
+tree_taken s b c p g fs core tree h k own is tc t = (
+  sound_more s (split_on b c p) (split_on b c g) own tree is t.clause refl refl t.next t.nodes core tc (subst (λ (l : Lit). IsWithin core (b ++ l ∷ [])) same k.used)
+      (close_longer s core (core ++ own ∷ []) tree (λ l m. Contains-append_left core (own ∷ []) l m) k.close) (h.0),
+  once_more s (split_on b c p) (split_on b c g) own tree is t.clause refl refl t.next t.nodes (clauses_of fs) (h.1) k.once,
+  child_more s (split_on b c p) (split_on b c g) own tree is t.clause refl refl t.next t.nodes fs (h.2),
   h.3,
 )
+  where
+    same : k.literal ≡ own
+    same = let x = k.is in cc
 
-pub tree_left : (s : GroundSet) (b : List Lit) (c : List ℕ) (p g : Frame) (fs : List OpenSplit) (tree : List Node) → ClosesTop s (split_on b c p ∷ fs) tree → TakesTree p g tree →
+pub tree_left : (s : GroundSet) (b : List Lit) (c : List ℕ) (p g : Frame) (fs : List OpenSplit) (core : List Lit) (tree : List Node) → ClosesTop s (split_on b c p ∷ fs) core tree → TakesTree p g tree →
     (base : ℕ) → left s base (split_on b c g ∷ fs) ≡ left_below s base (split_on b c p ∷ fs)
-tree_left s b c p g fs tree k t base = left_more s (split_on b c p) (split_on b c g) k.literal tree k.is t.clause refl refl t.next t.nodes base fs
-
-pub verdict_closes : (s : GroundSet) (b : List Lit) (ns : List Node) (o : Option ℕ) → is_some o ≡ false → IsVerdict s b ns o → Close s (b ∷ []) ns
-verdict_closes s b ns None e h = h
-verdict_closes s b ns (Some k) e h = absurd (let f : true ≡ false = e in cc)
+tree_left s b c p g fs core tree k t base = left_more s (split_on b c p) (split_on b c g) k.literal tree k.is t.clause refl refl t.next t.nodes base fs
 
 power_pos : (b n : ℕ) → 0 < b → 0 < power b n
 power_pos b zero h = omega arith

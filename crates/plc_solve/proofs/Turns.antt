@@ -47,7 +47,7 @@ module _ (s : GroundSet) (old cut : Place) (f : Frame) (before rest : List Frame
         (subst (λ (fs : List Frame). Stands s new fs) (sym e) (next.0), omega (arith, less, same, was))
 
     pub complete_turn : StepGives s cut f g new Complete → (tree nodes : List Node) → tree ≡ Split g.clause ∷ nodes → nodes ≡ g.nodes.items →
-        Stands s new (reverse rest) × ClosesTop s (splits new (reverse rest)) tree × (left_below s (base_of s) (splits new (reverse rest)) < left s (base_of s) (splits old (reverse before)))
+        Stands s new (reverse rest) × ClosesTop s (splits new (reverse rest)) g.core.items tree × (left_below s (base_of s) (splits new (reverse rest)) < left s (base_of s) (splits old (reverse before)))
     complete_turn st tree nodes is all =
         let next = complete_step s old cut new f g (reverse rest) stood c go st tree (is ∙ ap (λ (ns : List Node). Split g.clause ∷ ns) all) in
         let less = next.2 in

@@ -20,7 +20,8 @@ use Rattle.plc_ground.specs.Model.{symbol_family, FailsIn, MustDiffer, IsModel, 
 use Rattle.plc_ground.specs.Fit.{IsInRange, LitFits}
 use Rattle.plc_ground.specs.Classes.{IsClosure, IsTable, AreApart}
 use Rattle.plc_ground.specs.Changes.{Extends, undone}
-use Rattle.plc_ground.specs.Trees.{IsRight, Close, SplitsOnce}
+use Rattle.plc_ground.specs.Trees.{Close, SplitsOnce}
+use Rattle.plc_ground.specs.Equality.{Same}
 
 -- the term is a constant that differs from others by the rule alone
 abbrev pub IsDistinguishedAt : GroundSet → ℕ → Type 0
@@ -79,18 +80,43 @@ pub record IsPlace (s : GroundSet) (branch : List Lit) (class : List ℕ) : Type
   pub fit : All (LitFits s) branch
   pub apart : (i j : ℕ) → AreApart s class i j
 
+-- each literal of the one list is in the other
+abbrev pub IsWithin : List Lit → List Lit → Type 0
+IsWithin few many = (l : Lit) → Contains few l → Contains many l
+
+-- the classes are those of some branch
+abbrev pub IsOfSome : GroundSet → List ℕ → Type 0
+IsOfSome s class = (branch : List Lit) × IsClosure s.terms branch class
+
+-- literals of a branch that make two terms equal
+pub record Explains (s : GroundSet) (branch : List Lit) (a b : ℕ) (core : List Lit) : Type 0 where
+  pub within : IsWithin core branch
+  pub same : Same s.terms core a b
+
+-- the literals that were put into this table are on the branch
+pub record PutsSome (s : GroundSet) (branch core : List Lit) (class : List ℕ) : Type 0 where
+  pub within : IsWithin core branch
+  pub closure : IsClosure s.terms core class
+
+-- the core of a split after that of one more child, but for the child's own literal
+pub record TakesCore (old new : List Lit) (own : Lit) (more : List Lit) : Type 0 where
+  pub kept : IsWithin old new
+  pub covered : IsWithin more (new ++ own ∷ [])
+  pub within : (l : Lit) → Contains new l → Contains old l ⊎ (Contains more l × (l ≢ own))
+
 -- a split of the present branch: the branch above it and its classes are told, where the search keeps two lengths
 pub record OpenSplit : Type 0 where
   pub clause : ℕ
   pub next : ℕ
   pub nodes : List Node
+  pub core : List Lit
   pub branch : List Lit
   pub class : List ℕ
 
 -- the split on this branch, which has these classes
 abbrev pub split_on : List Lit → List ℕ → Frame → OpenSplit
 split_on branch class f =
-    record { clause = f.clause; next = f.next; nodes = f.nodes.items; branch = branch; class = class }
+    record { clause = f.clause; next = f.next; nodes = f.nodes.items; core = f.core.items; branch = branch; class = class }
 
 -- the splits of a place, the newest first: each on the branch and the classes that were there before what came later
 abbrev pub splits : Place → List Frame → List OpenSplit
@@ -121,13 +147,14 @@ pub record GoesOn (old new : Place) : Type 0 where
   pub branch : new.branch.items ≡ old.branch.items ++ more
   pub equal : Extends old.equal new.equal
 
--- a split on a false clause, whose first children are closed
+-- a split on a false clause, whose first children are closed: its nodes need no more of the branch than the core
 pub record IsSound (s : GroundSet) (f : OpenSplit) : Type 0 where
   pub place : IsPlace s f.branch f.class
   pub clause : f.clause < length s.clauses
   pub wrong : IsFalse s f.class f.clause
   pub within : f.next ≤ length (literals s f.clause)
-  pub closed : Close s (map (λ l. f.branch ++ l ∷ []) (take f.next (literals s f.clause))) f.nodes
+  pub used : IsWithin f.core f.branch
+  pub closed : Close s (map (λ l. f.core ++ l ∷ []) (take f.next (literals s f.clause))) f.nodes
 
 -- the split and the trees below it split no clause twice, nor one of those above
 pub record IsOnce (s : GroundSet) (above : List ℕ) (f : OpenSplit) : Type 0 where
@@ -146,6 +173,7 @@ pub record IsNew (s : GroundSet) (p : Place) (child : Frame) : Type 0 where
   pub sound : IsSound s (split_on p.branch.items p.equal.class child)
   pub first : child.next ≡ 0
   pub none : child.nodes.items ≡ []
+  pub unused : child.core.items ≡ []
   pub depth : child.depth ≡ length p.branch.items
   pub mark : child.mark ≡ length p.equal.trail
 
@@ -156,9 +184,18 @@ Enters s p Closed = ⊥
 Enters s p (Deeper child) = IsNew s p child
 Enters s p Complete = ⊥
 
+-- two terms that the longer branch makes equal and that must differ
+pub record Collide (s : GroundSet) (branch : List Lit) (a b : ℕ) : Type 0 where
+  pub first : a < length s.terms
+  pub second : b < length s.terms
+  pub same : Same s.terms branch a b
+  pub differ : MustDiffer s a b
+  pub fit : All (LitFits s) branch
+
 -- two terms of one class that must differ, or the longer branch with its classes
 abbrev pub Descends : GroundSet → Place → Lit → Place → Descent → Type 0
-Descends s old l new (Conflict a b) = IsRight s (old.branch.items ++ l ∷ []) (Leaf a b)
+Descends s old l new (Conflict a b) =
+    Collide s new.branch.items a b × (new.branch.items ≡ old.branch.items ++ l ∷ [])
 Descends s old l new Longer =
     IsPlace s new.branch.items new.equal.class × (new.branch.items ≡ old.branch.items ++ l ∷ [])
     × (slice_index old.equal.class l.left ≢ slice_index old.equal.class l.right
@@ -202,19 +239,24 @@ pub record Stands (s : GroundSet) (p : Place) (fs : List Frame) : Type 0 where
   pub nested : AreNested (length p.branch.items) (length p.equal.trail) fs
   pub stack : IsStack s (splits p fs)
 
--- the nodes close the next child of a split, and split no clause twice
-pub record ClosesChild (s : GroundSet) (p : OpenSplit) (above : List ℕ) (tree : List Node) : Type 0 where
+-- the nodes close the next child of a split by a core of its branch, and split no clause twice
+pub record ClosesChild (s : GroundSet) (p : OpenSplit) (above : List ℕ) (core : List Lit) (tree : List Node) : Type 0 where
   pub literal : Lit
   pub is : slice_get (literals s p.clause) p.next ≡ Some literal
-  pub close : Close s ((p.branch ++ literal ∷ []) ∷ []) tree
+  pub used : IsWithin core (p.branch ++ literal ∷ [])
+  pub close : Close s (core ∷ []) tree
   pub once : SplitsOnce s ((p.clause ∷ above) ∷ []) tree
 
--- the nodes close the branch that these splits lead to, and split no clause twice
-abbrev pub ClosesTop : GroundSet → List OpenSplit → List Node → Type 0
-ClosesTop s [] tree = Close s ([] ∷ []) tree × SplitsOnce s ([] ∷ []) tree
-ClosesTop s (p ∷ fs) tree = ClosesChild s p (clauses_of fs) tree
+-- the nodes close the set, and split no clause twice
+abbrev pub ClosesAll : GroundSet → List Node → Type 0
+ClosesAll s tree = Close s ([] ∷ []) tree × SplitsOnce s ([] ∷ []) tree
+
+-- the nodes close the branch that these splits lead to by a core of it, and split no clause twice
+abbrev pub ClosesTop : GroundSet → List OpenSplit → List Lit → List Node → Type 0
+ClosesTop s [] core tree = ClosesAll s tree
+ClosesTop s (p ∷ fs) core tree = ClosesChild s p (clauses_of fs) core tree
 
 -- what a search comes to at this place: its classes are a model, or these nodes close the set and split no clause twice
 abbrev pub Finds : {Z : Type 0} → GroundSet → Place → Option (Vec Node Z) → Type 0
 Finds s p None = IsModel s p.equal.class
-Finds s p (Some nodes) = ClosesTop s [] nodes.items
+Finds s p (Some nodes) = ClosesAll s nodes.items

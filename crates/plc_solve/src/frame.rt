@@ -6,9 +6,10 @@
 ghost use Rattle.std.specs.Prelude.{◌≡◌, ◌<◌, ◌+◌, ◌∷◌, [], IfOk, OnOk, length};
 ghost use Rattle.plc_ground.specs.Model.{literals};
 ghost use Rattle.plc_ground.specs.declared.terms.Node.{Node};
-ghost use Rattle.plc_solve.specs.Search.{TakesTree};
+ghost use Rattle.plc_solve.specs.Search.{TakesTree, TakesCore};
 
-use plc_ground::{GroundSet, Node, clause};
+use crate::cores::add_core;
+use plc_ground::{GroundSet, Lit, Node, clause};
 use std::alloc::{AllocError, Global};
 
 /// A split whose children before `next` are closed by `nodes`.
@@ -17,6 +18,8 @@ pub(crate) struct Frame {
     pub clause: u32,
     pub next: usize,
     pub nodes: Vec<Node>,
+    /// What of the branch above these nodes need.
+    pub core: Vec<Lit>,
     /// How long the branch above is.
     pub depth: usize,
     /// The mark of the table above.
@@ -47,24 +50,41 @@ fn next_child(set: &GroundSet, top: &mut Frame)
     }
 }
 
-/// Closes the next child by a leaf.
-pub(crate) fn take_leaf(set: &GroundSet, top: &mut Frame, a: u32, b: u32) -> Result<(), AllocError>
+/// Closes the next child, on its own literal, by a leaf that needs a core of the child's branch.
+pub(crate) fn take_leaf(
+    set: &GroundSet,
+    top: &mut Frame,
+    own: Lit,
+    a: u32,
+    b: u32,
+    core: &[Lit],
+) -> Result<(), AllocError>
     requires known { top.old.clause < length set.now.clauses }
     requires child { top.old.next < length (literals set.now top.old.clause) }
-    ensures { OnOk result (TakesTree top.old top.new (Node.Leaf a b ∷ [])) }
+    ensures tree { OnOk result (TakesTree top.old top.new (Node.Leaf a b ∷ [])) }
+    ensures core { OnOk result (TakesCore top.old.core.items top.new.core.items own core.now) }
 {
     top.nodes.push(Node::Leaf(a, b))?;
+    add_core(&mut top.core, own, core)?;
     next_child(set, top);
     Ok(())
 }
 
-/// Closes the next child by a tree.
-pub(crate) fn take_tree(set: &GroundSet, top: &mut Frame, tree: &[Node]) -> Result<(), AllocError>
+/// Closes the next child, on its own literal, by a tree that needs a core of the child's branch.
+pub(crate) fn take_tree(
+    set: &GroundSet,
+    top: &mut Frame,
+    own: Lit,
+    tree: &[Node],
+    core: &[Lit],
+) -> Result<(), AllocError>
     requires known { top.old.clause < length set.now.clauses }
     requires child { top.old.next < length (literals set.now top.old.clause) }
-    ensures { OnOk result (TakesTree top.old top.new tree.now) }
+    ensures tree { OnOk result (TakesTree top.old top.new tree.now) }
+    ensures core { OnOk result (TakesCore top.old.core.items top.new.core.items own core.now) }
 {
     top.nodes.extend_from_slice(tree)?;
+    add_core(&mut top.core, own, core)?;
     next_child(set, top);
     Ok(())
 }

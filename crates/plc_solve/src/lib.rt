@@ -7,6 +7,8 @@
 
 mod apart;
 mod choice;
+mod cores;
+mod explain;
 mod frame;
 mod needless;
 mod place;

@@ -56,7 +56,7 @@ fn search(
             }
             Step::Complete => {
                 let tree = whole(alloc, top.clause, &top.nodes)?;
-                if let Some(nodes) = hand_up(alloc, set, survey, frames, place, tree)? {
+                if let Some(nodes) = hand_up(set, frames, place, tree, &top.core)? {
                     return Ok(Some(nodes));
                 }
             }

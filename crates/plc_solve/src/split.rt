@@ -3,12 +3,18 @@
 // closed where two constants come together that must differ, else it is a longer branch. An
 // inequation is never needed below its own leaf, since a clause that it made true has it among its
 // literals and isn't split.
-ghost use Rattle.std.specs.Prelude.{◌≡◌, IfOk, OnOk, length, true};
+ghost use Rattle.std.specs.Prelude.{◌≡◌, ◌<◌, ◌∷◌, [], List, All, IfOk, OnOk, length, true};
+ghost use Rattle.plc_ground.specs.Model.{literals};
+ghost use Rattle.plc_ground.specs.Equality.{Same};
+ghost use Rattle.plc_ground.specs.declared.terms.Lit.{Lit};
+ghost use Rattle.plc_ground.specs.declared.terms.Node.{Node};
 ghost use Rattle.plc_ground.specs.Fit.{IsWellFormed, LitFits};
 ghost use Rattle.plc_solve.specs.Search.{IsSurvey, IsPlace, IsSound, Enters, Descends, GoesOn, StepGives, split_on};
+ghost use Rattle.plc_solve.specs.Search.{Explains, TakesTree, TakesCore};
 
 use crate::apart::conflict;
 use crate::choice::pick;
+use crate::explain::{Pair, explain};
 use crate::frame::{Frame, Step, take_leaf};
 use crate::place::Place;
 use crate::survey::Survey;
@@ -44,6 +50,7 @@ pub(crate) fn enter(
             clause: clause as u32,
             next: 0,
             nodes: Vec::new(alloc),
+            core: Vec::new(alloc),
             depth: place.branch.len(),
             mark: mark(&place.equal),
         }),
@@ -68,11 +75,39 @@ fn descend(
     ensures goes_on { OnOk result (GoesOn place.old place.new) }
 {
     put(set, &survey.table, &mut place.equal, l)?;
+    place.branch.push(l)?;
     if let Some((a, b)) = conflict(set, survey.groups.as_slice(), classes(&place.equal), last) {
         return Ok(Descent::Conflict(a as u32, b as u32));
     }
-    place.branch.push(l)?;
     Ok(Descent::Longer)
+}
+
+/// Closes the next child of a split, on its own literal, by two terms that the branch of the place makes
+/// equal.
+fn close_child(
+    alloc: Global,
+    set: &GroundSet,
+    survey: &Survey,
+    top: &mut Frame,
+    place: &Place,
+    own: Lit,
+    pair: Pair,
+) -> Result<(), AllocError>
+    requires well { IsWellFormed set.now }
+    requires survey { IsSurvey set.now survey.now }
+    requires known { top.old.clause < length set.now.clauses }
+    requires child { top.old.next < length (literals set.now top.old.clause) }
+    requires fit { All (LitFits set.now) place.now.branch.items }
+    requires first { pair.a < length set.now.terms }
+    requires second { pair.b < length set.now.terms }
+    requires same { Same set.now.terms place.now.branch.items pair.a pair.b }
+    ensures tree { OnOk result (TakesTree top.old top.new (Node.Leaf pair.a pair.b ∷ [])) }
+    ensures core { OnOk result ((core : List Lit) × Explains set.now place.now.branch.items pair.a pair.b core
+        × TakesCore top.old.core.items top.new.core.items own core) }
+{
+    let core = explain(alloc, set, &survey.table, &place.branch, pair)?;
+    take_leaf(set, top, own, pair.a, pair.b, &core)?;
+    Ok(())
 }
 
 /// Takes the next child of a split. The place is that of the split, and then that of the child.
@@ -99,12 +134,17 @@ pub(crate) fn take_child(
     }
     let l = literals[top.next];
     if !l.equal {
-        take_leaf(set, top, l.left, l.right)?;
+        let pair = Pair {
+            a: l.left,
+            b: l.right,
+        };
+        close_child(alloc, set, survey, top, place, l, pair)?;
         return Ok(Step::Closed);
     }
     match descend(set, survey, last, place, l)? {
         Descent::Conflict(a, b) => {
-            take_leaf(set, top, a, b)?;
+            let pair = Pair { a, b };
+            close_child(alloc, set, survey, top, place, l, pair)?;
             Ok(Step::Closed)
         }
         Descent::Longer => Ok(enter(alloc, set, survey, seen, place)),

@@ -6,7 +6,7 @@ use Rattle.plc_solve.proofs.needless.hand_up.Given as goal
 abbrev pub invariant-loop-top : goal.invariant-loop-top
 invariant-loop-top l = record {
   stands : Stands l.set l.place (reverse l.frames.items);
-  closes : ClosesTop l.set (splits l.place (reverse l.frames.items)) l.tree.items;
+  closes : ClosesTop l.set (splits l.place (reverse l.frames.items)) l.core l.tree.items;
   less : (base : ℕ) → left_below l.set base (splits l.place (reverse l.frames.items)) ≤ left_below l.set base (splits l.fn.place (reverse l.fn.frames.items));
 }
 

@@ -1,9 +1,8 @@
 use Rattle.std.proofs.Common.{◌∙◌, ◌∷◌, [], List, length, ap, subst, sym}
-use Rattle.std.proofs.lemmas.List.{append-nil}
 use Rattle.plc_ground.specs.declared.terms.Lit.{Lit}
 use Rattle.plc_ground.specs.Classes.{IsNoLater}
-use Rattle.plc_solve.specs.Search.{IsPlace, IsConflict}
-use Rattle.plc_solve.proofs.Searching.{conflict_is_right, place_longer}
+use Rattle.plc_solve.specs.Search.{IsPlace, IsConflict, Collide}
+use Rattle.plc_solve.proofs.Searching.{conflict_collides, fit_longer, place_longer}
 use Rattle.plc_solve.proofs.split.descend.Goals as goal
 
 pub conflict-requires-clause-one_each : goal.conflict-requires-clause-one_each
@@ -16,9 +15,12 @@ conflict-requires-clause-no_later c =
 
 pub returns-in-Some-clause-descends : goal.returns-in-Some-clause-descends
 returns-in-Some-clause-descends c =
-    let hit : IsConflict c.args.set.now c.put.new.equal.class c.in-Some.a c.in-Some.b = rw c.classes.ensures at c.in-Some.ensures.some in
-    conflict_is_right c.args.set.now _ c.put.new.equal.class (c.in_ok-put.ensures.closure c.args.place.now.branch.items c.requires.place.closure)
-    c.in-Some.a c.in-Some.b hit.first hit.second hit.differ hit.together
+    let hit : IsConflict c.args.set.now c.put.new.equal.class c.in-Some.a c.in-Some.b = rw c.classes.ensures at c.in-Some.ensures.some in (
+      subst (λ (xs : List Lit). Collide c.args.set.now xs c.in-Some.a c.in-Some.b) (sym c.in_ok-push.ensures.items)
+          (conflict_collides c.args.set.now _ c.put.new.equal.class (c.in_ok-put.ensures.closure c.args.place.now.branch.items c.requires.place.closure)
+          (fit_longer c.args.set.now c.args.place.now.branch.items c.args.l c.requires.place.fit c.requires.fit) c.in-Some.a c.in-Some.b hit),
+      c.in_ok-push.ensures.items,
+    )
 
 pub returns-clause-descends : goal.returns-clause-descends
 returns-clause-descends c = (
@@ -30,7 +32,7 @@ returns-clause-descends c = (
 )
 
 pub returns-in-Some-clause-goes_on : goal.returns-in-Some-clause-goes_on
-returns-in-Some-clause-goes_on c = record { more = []; branch = sym (append-nil c.args.place.now.branch.items); equal = c.in_ok-put.ensures.extends }
+returns-in-Some-clause-goes_on c = record { more = c.args.l ∷ []; branch = c.in_ok-push.ensures.items; equal = c.in_ok-put.ensures.extends }
 
 pub returns-clause-goes_on : goal.returns-clause-goes_on
 returns-clause-goes_on c = record { more = c.args.l ∷ []; branch = c.in_ok-push.ensures.items; equal = c.in_ok-put.ensures.extends }

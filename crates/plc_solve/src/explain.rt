@@ -1,0 +1,153 @@
+// Why two terms are equal: few literals of the branch that make them so. The literals are put into a table
+// that starts empty, the oldest first, until the two come together. The one at which they do is needed for
+// what was put before it. So it is put first in the next pass, which goes no further than to it; and so on,
+// until those that were needed are enough. The least list is not looked for, nor reasons kept with each
+// equality (as a proof forest would): sets have a hundred terms and branches a dozen literals.
+ghost use Rattle.std.specs.Prelude.{◌≡◌, ◌<◌, ◌≤◌, IsTrue, IfOk, OnOk, All, Ok, length, slice_index, true};
+ghost use Rattle.plc_ground.specs.Fit.{IsWellFormed, LitFits};
+ghost use Rattle.plc_ground.specs.Classes.{IsTable};
+ghost use Rattle.plc_ground.specs.Changes.{IsBack, Extends};
+ghost use Rattle.plc_ground.specs.Equality.{Same};
+ghost use Rattle.plc_solve.specs.Search.{Explains, PutsSome, IsOfSome};
+
+use plc_ground::{
+    Applications, Equalities, GroundSet, Lit, all_apart, classes, mark, put, take_back,
+};
+use std::alloc::{AllocError, Global};
+
+/// Two terms.
+#[derive(Clone, Copy)]
+pub(crate) struct Pair {
+    pub a: u32,
+    pub b: u32,
+}
+
+/// Whether the two share a class.
+fn are_together(class: &[u32], pair: Pair) -> bool
+    requires first { pair.a < length class.now }
+    requires second { pair.b < length class.now }
+    ensures { IsTrue result → slice_index class.now pair.a ≡ slice_index class.now pair.b }
+{
+    class[pair.a as usize] == class[pair.b as usize]
+}
+
+/// Puts the literals before `bound` until the two come together, and answers at which they did; 0 where
+/// they don't.
+fn put_until(
+    set: &GroundSet,
+    table: &Applications,
+    branch: &[Lit],
+    bound: usize,
+    equal: &mut Equalities,
+    pair: Pair,
+) -> Result<usize, AllocError>
+    requires well { IsWellFormed set.now }
+    requires table { IsTable set.now.terms table.now }
+    requires fit { All (LitFits set.now) branch.now }
+    requires some { 0 < bound }
+    requires bound { bound ≤ length branch.now }
+    requires first { pair.a < length set.now.terms }
+    requires second { pair.b < length set.now.terms }
+    requires closure { IsOfSome set.now equal.old.class }
+    ensures within { IfOk result (λ k. k < bound) }
+    ensures extends { OnOk result (Extends equal.old equal.new) }
+{
+    for k in 0..bound {
+        put(set, table, equal, branch[k])?;
+        if are_together(classes(equal), pair) {
+            return Ok(k);
+        }
+    }
+    Ok(0)
+}
+
+/// The place before `bound` of a literal that is needed, where those before `bound` and what the table has
+/// make the two equal.
+fn needed(
+    set: &GroundSet,
+    table: &Applications,
+    branch: &[Lit],
+    bound: usize,
+    equal: &mut Equalities,
+    pair: Pair,
+) -> Result<usize, AllocError>
+    requires well { IsWellFormed set.now }
+    requires table { IsTable set.now.terms table.now }
+    requires fit { All (LitFits set.now) branch.now }
+    requires some { 0 < bound }
+    requires bound { bound ≤ length branch.now }
+    requires first { pair.a < length set.now.terms }
+    requires second { pair.b < length set.now.terms }
+    requires closure { IsOfSome set.now equal.old.class }
+    ensures within { IfOk result (λ k. k < bound) }
+    ensures back { OnOk result (IsBack equal.old equal.new) }
+{
+    let start = mark(equal);
+    let k = put_until(set, table, branch, bound, equal, pair)?;
+    take_back(equal, start);
+    Ok(k)
+}
+
+/// Finds literals of the branch that are enough, and puts them. False where it found none.
+fn put_needed(
+    set: &GroundSet,
+    table: &Applications,
+    branch: &[Lit],
+    equal: &mut Equalities,
+    pair: Pair,
+    core: &mut Vec<Lit>,
+) -> Result<bool, AllocError>
+    requires well { IsWellFormed set.now }
+    requires table { IsTable set.now.terms table.now }
+    requires fit { All (LitFits set.now) branch.now }
+    requires first { pair.a < length set.now.terms }
+    requires second { pair.b < length set.now.terms }
+    requires closure { PutsSome set.now branch.now core.old.items equal.old.class }
+    ensures { result ≡ Ok true → Explains set.now branch.now pair.a pair.b core.new.items }
+{
+    let mut bound = branch.len();
+    'needed: while bound > 0 && !are_together(classes(equal), pair) {
+        let k = needed(set, table, branch, bound, equal, pair)?;
+        put(set, table, equal, branch[k])?;
+        core.push(branch[k])?;
+        bound = k;
+    }
+    Ok(are_together(classes(equal), pair))
+}
+
+/// The literals of a branch in a list of their own.
+fn copied(alloc: Global, branch: &[Lit]) -> Result<Vec<Lit>, AllocError>
+    ensures { IfOk result (λ list. list.items ≡ branch.now) }
+{
+    let mut list = Vec::new(alloc);
+    list.extend_from_slice(branch)?;
+    Ok(list)
+}
+
+/// Literals of the branch that make two terms equal which the branch makes equal. The one error is that
+/// memory runs out.
+pub(crate) fn explain(
+    alloc: Global,
+    set: &GroundSet,
+    table: &Applications,
+    branch: &[Lit],
+    pair: Pair,
+) -> Result<Vec<Lit>, AllocError>
+    requires well { IsWellFormed set.now }
+    requires table { IsTable set.now.terms table.now }
+    requires fit { All (LitFits set.now) branch.now }
+    requires first { pair.a < length set.now.terms }
+    requires second { pair.b < length set.now.terms }
+    requires same { Same set.now.terms branch.now pair.a pair.b }
+    ensures { IfOk result (λ core. Explains set.now branch.now pair.a pair.b core.items) }
+{
+    let mut equal = all_apart(alloc, set)?;
+    let mut core = Vec::new(alloc);
+    let found = put_needed(set, table, branch, &mut equal, pair, &mut core);
+    drop(equal);
+    if found? {
+        return Ok(core);
+    }
+    drop(core);
+    copied(alloc, branch)
+}
