@@ -1,6 +1,6 @@
 -- What is known in the middle of a walk over a list: what was handed out so far keeps a property.
 use Rattle.std.proofs.Common.{◌≡◌, List, [], ◌∷◌, ◌++◌, length, refl, sym, ap, ◌∙◌, subst, arith}
-use Rattle.std.specs.Prelude.{All, Any, Contains}
+use Rattle.std.specs.Prelude.{All, Contains}
 use Rattle.std.proofs.lemmas.List.{append_assoc, append-nil, length-append}
 use Rattle.std.proofs.Math.Seq.{get_or-append_seam}
 use Rattle.std.proofs.lemmas.List.Elements.{All-nil, All-push}
@@ -24,12 +24,6 @@ module _ {A : Type 0} (P : A → Type 0) (whole : List A) where
 
   pub ended : (left : List A) → SoFar P whole left → left ≡ [] → All P whole
   ended left s e = subst (All P) (sym (s.listed ∙ ap (λ (ys : List A). s.before ++ ys) e ∙ append-nil s.before)) s.kept
-
-  -- one that is handed out stands in the whole list
-  pub stands : (Q : A → Type 0) (left new : List A) (x : A) → SoFar P whole left → left ≡ x ∷ new → Q x → Any Q whole
-  stands Q left new x s e q =
-      let split : whole ≡ s.before ++ x ∷ new = s.listed ∙ ap (λ (ys : List A). s.before ++ ys) e in
-      subst (Any Q) (sym split) (length s.before, x, omega (arith, length-append s.before (x ∷ new)), get_or-append_seam s.before x new x, q)
 
   pub is_listed : (left new : List A) (x : A) → SoFar P whole left → left ≡ x ∷ new → Contains whole x
   is_listed left new x s e =

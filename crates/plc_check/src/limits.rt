@@ -1,59 +1,27 @@
 // The limits of an outline: how many obligations it has, and how many clauses the ground set of each. Both are
-// counted, and no set is made.
-ghost use Rattle.std.specs.Prelude.{◌≡◌, MatchBool, IfOk};
-ghost use Rattle.plc_oblig.specs.Obligations.{obligations};
-ghost use Rattle.plc_oblig.specs.Outlines.{HasSmallSets, HasLargeSet};
+// counted, no set is made, and no memory is taken.
+ghost use Rattle.std.specs.Prelude.{◌≡◌};
 ghost use Rattle.plc_setting.specs.Fit.{Fits};
 ghost use Rattle.plc_check.specs.Refusals.{IsPassedLimit, IsLimited};
 
 use crate::judged::{Judged, LoadFault};
-use plc_base::{NoMemory, What1};
-use plc_flow::Flow;
-use plc_logic::Outline;
-use plc_oblig::{Walk, clauses, count};
-use std::alloc::Global;
-
-/// Whether the ground set of any obligation that a walk hands out has more clauses than it may. The walk stands at its
-/// beginning.
-fn has_large_set_on(walk: &mut Walk<'_>, flow: &Flow, outline: &Outline) -> bool
-    requires fits { Fits flow.now outline.now }
-    requires begun { walk.old ≡ obligations flow.now outline.now }
-    ensures { MatchBool result (HasLargeSet flow.now outline.now) (HasSmallSets flow.now outline.now) }
-{
-    while let Some(obligation) = walk.next() {
-        if clauses(flow, outline, &obligation) > What1::Clauses.most() as u64 {
-            return true;
-        }
-    }
-    false
-}
-
-/// Whether the ground set of any obligation has more clauses than it may.
-fn has_large_set(alloc: Global, flow: &Flow, outline: &Outline) -> Result<bool, NoMemory>
-    requires { Fits flow.now outline.now }
-    ensures { IfOk result (λ large. MatchBool large (HasLargeSet flow.now outline.now)
-        (HasSmallSets flow.now outline.now)) }
-{
-    let mut walk = Walk::new(alloc, flow, outline)?;
-    let large = has_large_set_on(&mut walk, flow, outline);
-    drop(walk);
-    Ok(large)
-}
+use plc_base::What1;
+use plc_oblig::{count, has_large_set};
 
 /// The first limit that the outline passes, if it passes one.
-fn passed_limit(alloc: Global, judged: &Judged) -> Result<Option<What1>, NoMemory>
+fn passed_limit(judged: &Judged) -> Option<What1>
     requires { Fits judged.now.flow judged.now.unit_outline }
-    ensures { IfOk result (IsPassedLimit judged.now.flow judged.now.unit_outline) }
+    ensures { IsPassedLimit judged.now.flow judged.now.unit_outline result }
 {
     let flow = &judged.flow;
     let outline = &judged.unit_outline;
     if count(flow, outline) > What1::Obligations.most() as u64 {
-        return Ok(Some(What1::Obligations));
+        return Some(What1::Obligations);
     }
-    if has_large_set(alloc, flow, outline)? {
-        return Ok(Some(What1::Clauses));
+    if has_large_set(flow, outline) {
+        return Some(What1::Clauses);
     }
-    Ok(None)
+    None
 }
 
 /// A refusal of what is judged, which ends here.
@@ -65,28 +33,27 @@ fn refused(judged: Judged, fault: LoadFault) -> LoadFault
 }
 
 /// What is judged, handed on where no limit is passed.
-fn handed_on(judged: Judged, passed: Result<Option<What1>, NoMemory>) -> Result<Judged, LoadFault>
-    requires { IfOk passed (IsPassedLimit judged.flow judged.unit_outline) }
+fn handed_on(judged: Judged, passed: Option<What1>) -> Result<Judged, LoadFault>
+    requires { IsPassedLimit judged.flow judged.unit_outline passed }
     ensures { IsLimited judged result }
 {
     match passed {
-        Ok(None) => Ok(judged),
-        Ok(Some(what)) => Err(refused(
+        None => Ok(judged),
+        Some(what) => Err(refused(
             judged,
             LoadFault::Limit {
                 what,
                 count: what.most() + 1,
             },
         )),
-        Err(NoMemory) => Err(refused(judged, LoadFault::Memory)),
     }
 }
 
-/// What is judged, handed on where its outline is within its limits.
-pub(crate) fn limited(alloc: Global, judged: Judged) -> Result<Judged, LoadFault>
+/// What is judged, handed on where its outline is within its limits. It takes no memory.
+pub(crate) fn limited(judged: Judged) -> Result<Judged, LoadFault>
     requires { Fits judged.flow judged.unit_outline }
     ensures { IsLimited judged result }
 {
-    let passed = passed_limit(alloc, &judged);
+    let passed = passed_limit(&judged);
     handed_on(judged, passed)
 }

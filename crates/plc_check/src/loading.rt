@@ -145,7 +145,7 @@ fn judged_of(alloc: Global, unit: Unit) -> Result<Judged, LoadFault>
     ensures { IsJudgedOf unit result }
 {
     match lowered(alloc, unit) {
-        Ok(judged) => limited(alloc, judged),
+        Ok(judged) => limited(judged),
         Err(fault) => Err(fault),
     }
 }

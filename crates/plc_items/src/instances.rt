@@ -5,6 +5,7 @@ ghost use Rattle.std.specs.List.{sum_by};
 ghost use Rattle.plc_lang.specs.Numbering.{values_in};
 ghost use Rattle.plc_symbolic.specs.Numbering.{written, written_all};
 ghost use Rattle.plc_setting.specs.Parts.{clauses_of};
+ghost use Rattle.plc_setting.specs.Points.{is_labelled};
 ghost use Rattle.plc_items.specs.Bounds.{ValuesIn, ClauseIn, ItemIn, ReadsBefore, clauses_in};
 ghost use Rattle.plc_items.specs.Items.{read_literal, escapes, instance_at, instances};
 
@@ -15,7 +16,7 @@ use plc_flow::Flow;
 use plc_ground::Symbol;
 use plc_lang::Ghost;
 use plc_logic::{Clause, Item, Literal, Outline};
-use plc_setting::{Setting, stands_at};
+use plc_setting::{Setting, is_labelled, stands_at};
 use plc_symbolic::{Draft, NodeTerm, SymbolicLit, SymbolicTerm, is, term_of};
 use std::alloc::Global;
 
@@ -180,16 +181,18 @@ fn push_item(
     w: &Premises,
     flow: &Flow,
     point: u16,
+    labelled: bool,
     item: &Item,
     out: &mut Draft,
 ) -> Result<(), NoMemory>
+    requires labelled { labelled ≡ is_labelled flow.now point }
     requires reads { ReadsBefore w.now.ghosts.now w.now.before.now }
     requires clause { ClauseIn w.now.ghosts.now item.now.clause }
     ensures { OnOk result (out.new ≡ written_all out.old
         (flat_map (instances w.now.ghosts.now w.now.setting.now w.now.owner)
         (clauses_in flow.now point (item.now ∷ [])))) }
 {
-    if stands_at(flow, point, item) {
+    if stands_at(flow, point, labelled, item) {
         return push_instances(w, &item.clause, out);
     }
     Ok(())
@@ -208,8 +211,9 @@ fn push_items_at(
     ensures { OnOk result (out.new ≡ written_all out.old
         (flat_map (instances w.now.ghosts.now w.now.setting.now w.now.owner) (clauses_in flow.now point items.now))) }
 {
+    let labelled = is_labelled(flow, point);
     for item in items {
-        push_item(w, flow, point, item, out)?;
+        push_item(w, flow, point, labelled, item, out)?;
     }
     Ok(())
 }

@@ -12,6 +12,7 @@ pub mod Standing
 pub mod ValueSorts
 pub mod Sides
 mod Lengths
+mod AnyOf
 mod Executed
 mod Wholes
 mod Bounds

@@ -1,9 +1,8 @@
 -- Obligations that are alike have one ground set: of the other thread's point it has the locals of its operation and
 -- the clauses there, and nothing else.
-use Rattle.std.specs.Prelude.{◌≡◌, ◌==◌, Contains, ℕ, Bool, true, false, not, cond, List, [], ◌∷◌, map, filter, length, slice_get}
+use Rattle.std.specs.Prelude.{◌≡◌, ◌==◌, Contains, ℕ, Bool, true, false, not, cond, List, [], ◌∷◌, map, filter, slice_get}
 use Rattle.std.specs.List.{list_all, position_or_len}
-use Rattle.std.proofs.Common.{refl, sym, ap, ◌∙◌, subst, ◌+◌, ◌<◌, get_or, inl, inr, ◌⊎◌}
-use Rattle.std.proofs.lemmas.List.Elements.{Contains-get_or}
+use Rattle.std.proofs.Common.{refl, sym, ap, ◌∙◌, subst, ◌+◌, inl, inr, ◌⊎◌}
 use Rattle.std.proofs.lemmas.Bool.{eqb-true, and_parts, false≢true}
 use Rattle.plc_base.specs.declared.ids.PointId.{PointId}
 use Rattle.plc_base.specs.declared.ids.StepId.{StepId}
@@ -26,7 +25,7 @@ use Rattle.plc_setting.specs.Setting.{setting_of}
 use Rattle.plc_setting.specs.Sorts.{sort_of, local_sort}
 use Rattle.plc_items.specs.Items.{clauses_of}
 use Rattle.plc_oblig.specs.GroundSets.{ground_set, drafted, listed_first}
-use Rattle.plc_oblig.specs.Alike.{IsNotedAs, agree, share_gate, share_item, are_points_alike, are_alike}
+use Rattle.plc_oblig.specs.Alike.{agree, share_gate, share_item, are_points_alike, are_alike}
 
 agree_same : (a b : Bool) → agree a b ≡ true → a ≡ b
 agree_same true true h = refl
@@ -147,16 +146,6 @@ alike_sets flow outline (Own m d) b h = absurd (false≢true h)
 alike_sets flow outline (Claim m j) b h = absurd (false≢true h)
 
 -- ---- what is known of obligations that were noted
-
--- one that is alike is noted with its number
-pub noted_alike : (flow : Flow) (outline : Outline) (o : Obligation) (noted items : List (Obligation × ℕ)) (k : ℕ) (d : Obligation × ℕ)
-    → items ≡ noted → k < length items → are_alike flow outline o (get_or items k d).0 ≡ true
-    → IsNotedAs flow outline noted o (get_or items k d).1
-noted_alike flow outline o noted items k d same there alike = (
-  (get_or items k d).0,
-  subst (λ (xs : List (Obligation × ℕ)). Contains xs (get_or items k d)) same (Contains-get_or items k d there),
-  alike_sets flow outline o (get_or items k d).0 alike,
-)
 
 pub more_noted : (P : Obligation × ℕ → Type 0) (old new : List (Obligation × ℕ)) (x : Obligation × ℕ)
     → ((y : Obligation × ℕ) → Contains old y → P y) → P x

@@ -10,3 +10,4 @@ pub mod Alike
 pub mod Finding
 pub mod Size
 pub mod Left
+pub mod Excess

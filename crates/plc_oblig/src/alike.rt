@@ -5,19 +5,20 @@
 ghost use Rattle.std.specs.Prelude.{◌≡◌, ◌⊎◌, ℕ, [], Contains, OnOk, IfSome};
 ghost use Rattle.std.specs.List.{list_all};
 ghost use Rattle.plc_setting.specs.declared.obligations.Obligation.{Obligation as AnObligation};
+ghost use Rattle.plc_setting.specs.Points.{is_labelled};
 ghost use Rattle.plc_oblig.specs.Alike.{agree, share_gate, share_item, are_points_alike, are_alike};
 ghost use Rattle.plc_oblig.specs.Alike.{AlikeObligationsHaveOneSet, IsNotedAs};
 
-use plc_base::{NoMemory, StepId};
+use plc_base::{NoMemory, PointId, StepId};
 use plc_flow::{Flow, Gate};
 use plc_logic::{Item, Outline};
-use plc_setting::{Obligation, has_point, stands_at};
+use plc_setting::{Obligation, has_point, is_labelled, stands_at};
 use std::alloc::Global;
 use std::marker::Model;
 
-/// How many obligations are noted at most. An obligation is compared with all that are noted before its ground set is
-/// made, and with this many that costs less than making the set.
-const MOST_NOTED: usize = 64;
+/// With how many points an obligation is compared at most, those that were noted last, before its ground set is made.
+/// With this many that costs less than making the set.
+const MOST_COMPARED: usize = 32;
 
 /// Whether both are true or both false.
 fn agree(a: bool, b: bool) -> bool
@@ -33,11 +34,34 @@ fn share_gate(p: u16, q: u16, gate: &Gate) -> bool
     agree(has_point(gate, p), has_point(gate, q))
 }
 
-/// Whether the item stands at both points, or at neither.
-fn share_item(flow: &Flow, p: u16, q: u16, item: &Item) -> bool
-    ensures { result ≡ share_item flow.now p q item.now }
+/// A point, and whether any label names it.
+#[derive(Clone, Copy)]
+struct Place {
+    point: u16,
+    labelled: bool,
+}
+
+/// The point, looked for among the labels.
+fn place_of(flow: &Flow, point: u16) -> Place
+    ensures point { result.point ≡ point }
+    ensures labelled { result.labelled ≡ is_labelled flow.now point }
 {
-    agree(stands_at(flow, p, item), stands_at(flow, q, item))
+    Place {
+        point,
+        labelled: is_labelled(flow, point),
+    }
+}
+
+/// Whether the item stands at both points, or at neither.
+fn share_item(flow: &Flow, p: Place, q: Place, item: &Item) -> bool
+    requires first { p.labelled ≡ is_labelled flow.now p.point }
+    requires second { q.labelled ≡ is_labelled flow.now q.point }
+    ensures { result ≡ share_item flow.now p.point q.point item.now }
+{
+    agree(
+        stands_at(flow, p.point, p.labelled, item),
+        stands_at(flow, q.point, q.labelled, item),
+    )
 }
 
 /// Whether each operation has both points or neither.
@@ -51,7 +75,11 @@ fn share_gates(gates: &[Gate], p: u16, q: u16) -> bool
 fn share_items(flow: &Flow, items: &[Item], p: u16, q: u16) -> bool
     ensures { result ≡ list_all (share_item flow.now p q) items.now }
 {
-    items.iter().all(|item| share_item(flow, p, q, item))
+    let first = place_of(flow, p);
+    let second = place_of(flow, q);
+    items
+        .iter()
+        .all(|item| share_item(flow, first, second, item))
 }
 
 /// Whether the points belong to one operation, and the outline puts the same clauses there.
@@ -89,11 +117,15 @@ pub fn alike_obligations_have_one_set()
     ensures { AlikeObligationsHaveOneSet }
 {}
 
-/// Obligations that were looked at, each with a number that who notes it gives. At most 64 are kept, and of one
-/// step alone.
+/// Obligations that were looked at, each with a number that who notes it gives. Those of one step alone are kept, in
+/// the order in which they were noted. The clauses of a point are noted one after another, so what is said of a clause
+/// at a point stands as many entries after the point's first as the clause has before it: an obligation is compared
+/// with one entry of each point, however many clauses there are.
 #[derive(Drop)]
 pub struct Noted {
     entries: Vec<(Obligation, usize)>,
+    /// At which entry each point begins.
+    starts: Vec<usize>,
 }
 
 impl Model for Noted {
@@ -113,6 +145,30 @@ fn step_of(o: &Obligation) -> Option<StepId> {
     }
 }
 
+/// The point of another thread, and the number of its clause.
+fn clause_of(o: &Obligation) -> Option<(PointId, u16)> {
+    match *o {
+        Obligation::Other { point, clause, .. } => Some((point, clause)),
+        _ => None,
+    }
+}
+
+/// Whether both are of one point.
+fn share_point(a: &Obligation, b: &Obligation) -> bool {
+    match (clause_of(a), clause_of(b)) {
+        (Some((p, _)), Some((q, _))) => p.0 == q.0,
+        _ => false,
+    }
+}
+
+/// The last places, as many as an obligation is compared with.
+fn last_of(starts: &[usize]) -> &[usize] {
+    if starts.len() > MOST_COMPARED {
+        return &starts[starts.len() - MOST_COMPARED..];
+    }
+    starts
+}
+
 impl Noted {
     /// None. It takes no memory.
     pub fn new(alloc: Global) -> Noted
@@ -120,30 +176,83 @@ impl Noted {
     {
         Noted {
             entries: Vec::new(alloc),
+            starts: Vec::new(alloc),
         }
+    }
+
+    /// The entry so many after a place, if there are so many.
+    fn entry_after(&self, start: usize, number: u16) -> Option<(Obligation, usize)>
+        ensures { IfSome result (Contains self.now) }
+    {
+        let place = start.checked_add(number as usize)?;
+        self.entries.get(place).copied()
+    }
+
+    /// The number of the entry so many after a place, if it is alike.
+    fn alike_after(
+        &self,
+        start: usize,
+        number: u16,
+        flow: &Flow,
+        outline: &Outline,
+        o: &Obligation,
+    ) -> Option<usize>
+        ensures { IfSome result (IsNotedAs flow.now outline.now self.now o.now) }
+    {
+        let (noted, at) = self.entry_after(start, number)?;
+        if are_alike(flow, outline, o, &noted) {
+            return Some(at);
+        }
+        None
     }
 
     /// The number of an obligation that was noted and has the same ground set.
     pub fn find(&self, flow: &Flow, outline: &Outline, o: &Obligation) -> Option<usize>
         ensures { IfSome result (IsNotedAs flow.now outline.now self.now o.now) }
     {
-        for (noted, at) in self.entries.as_slice() {
-            if are_alike(flow, outline, o, noted) {
-                return Some(*at);
+        let (_, number) = clause_of(o)?;
+        for start in last_of(self.starts.as_slice()) {
+            let found = self.alike_after(*start, number, flow, outline, o);
+            if found.is_some() {
+                return found;
             }
         }
         None
     }
 
-    /// Whether no more can be noted beside those that are: there is no room, or they are of another step.
-    fn is_full(&self, step: StepId) -> bool {
-        match self.entries.first() {
-            None => false,
-            Some((first, _)) => self.entries.len() >= MOST_NOTED || step_of(first) != Some(step),
+    /// Forgets what is noted of another step.
+    fn keep_step(&mut self, step: StepId)
+        ensures { (x : AnObligation × ℕ) → Contains self.new x → Contains self.old x }
+    {
+        let Some((last, _)) = self.entries.last() else {
+            return;
+        };
+        if step_of(last) != Some(step) {
+            self.entries.clear();
+            self.starts.clear();
         }
     }
 
-    /// Notes an obligation, if others may be alike. Those noted before may be forgotten.
+    /// Whether the last entry is of the obligation's point.
+    fn goes_on(&self, o: &Obligation) -> bool {
+        match self.entries.last() {
+            None => false,
+            Some((last, _)) => share_point(last, o),
+        }
+    }
+
+    /// Notes where the entries of a point begin, if the obligation is the first of it.
+    fn begin(&mut self, o: &Obligation) -> Result<(), NoMemory>
+        ensures { OnOk result (self.new ≡ self.old) }
+    {
+        if self.goes_on(o) {
+            return Ok(());
+        }
+        self.starts.push(self.entries.len())?;
+        Ok(())
+    }
+
+    /// Notes an obligation, if others may be alike. Those of another step are forgotten.
     pub fn note(&mut self, o: &Obligation, at: usize) -> Result<(), NoMemory>
         ensures { OnOk result ((x : AnObligation × ℕ) → Contains self.new x
             → Contains self.old x ⊎ (x ≡ (o.now, at))) }
@@ -151,9 +260,8 @@ impl Noted {
         let Some(step) = step_of(o) else {
             return Ok(());
         };
-        if self.is_full(step) {
-            self.entries.clear();
-        }
+        self.keep_step(step);
+        self.begin(o)?;
         self.entries.push((*o, at))?;
         Ok(())
     }

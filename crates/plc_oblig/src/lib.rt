@@ -3,13 +3,14 @@
 //!
 //! An outline holds where each obligation is kept: after `init`, at the entry of each operation, after each
 //! step of the thread that takes it, at each point of another thread meanwhile, and at each claim.
-//! The layers above go over them by a walk, or by their numbers; no list of them is made. Still obligations need
-//! no ground set.
+//! The layers above go over them by a walk; no list of them is made. Still obligations need no ground set, and of
+//! obligations that are alike one set serves all.
 #![tactic(auto)]
 
 mod alike;
 mod claims;
 mod counting;
+mod excess;
 mod finding;
 mod grounding;
 mod refuted;
@@ -20,6 +21,7 @@ mod walk;
 
 pub use alike::{Noted, alike_obligations_have_one_set};
 pub use counting::count;
+pub use excess::has_large_set;
 pub use finding::nth;
 pub use grounding::{Grounding, ground};
 pub use plc_setting::Obligation;

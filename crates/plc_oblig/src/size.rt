@@ -26,7 +26,7 @@ use plc_lang::{Arg, Field, File, Ghost, Local, Prim, Rel, has_new};
 use plc_logic::{Clause, Outline};
 use plc_setting::{
     Obligation, acting_locals, acting_point, bound_of, claim_made, conclusion, executed,
-    invariants_before, owner_locals, owner_point, stands_at,
+    invariants_before, is_labelled, owner_locals, owner_point, stands_at,
 };
 
 /// How many there are of what a set rests on.
@@ -283,9 +283,10 @@ fn point_size(places: u64, flow: &Flow, outline: &Outline, p: u16) -> u64
     ensures size { result ≡ sum_by (clause_size places) (clauses_at flow.now outline.now p) }
     ensures small { result ≤ length outline.now.items * most_instances }
 {
+    let labelled = is_labelled(flow, p);
     let mut total = 0;
     for item in outline.items.as_slice() {
-        if stands_at(flow, p, item) {
+        if stands_at(flow, p, labelled, item) {
             total += instances_size(places, &item.clause);
         }
     }

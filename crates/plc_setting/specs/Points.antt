@@ -25,6 +25,10 @@ is_point p (Some q) = q.0 == p
 abbrev pub names_point : List PointId → ℕ → ℕ → Bool
 names_point labels p l = is_point p (slice_get labels l)
 
+-- a label names the point
+abbrev pub is_labelled : Flow → ℕ → Bool
+is_labelled flow p = list_any (λ (q : PointId). q.0 == p) flow.labels
+
 -- the item puts its clause at the point
 abbrev pub site_is_at : Flow → ℕ → Site → Bool
 site_is_at flow p (Over o) = is_over (slice_get flow.gates o.0) p

@@ -22,6 +22,6 @@ pub use parts::{
     acting_locals, acting_point, claim_made, conclusion, executed, has_owner, has_point,
     invariants_before, owner_locals, owner_point,
 };
-pub use points::{clause_at, count_at, stands_at};
+pub use points::{clause_at, count_at, is_labelled, stands_at};
 pub use setting::{Setting, Variables, bound_of, local_symbol, setting_of};
 pub use sorts::sort_of;

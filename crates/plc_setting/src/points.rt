@@ -1,6 +1,8 @@
-// Which clauses an outline puts at a point: those of the items that stand there, in their order.
+// Which clauses an outline puts at a point: those of the items that stand there, in their order. An `at` may name as
+// many labels as a file has, so before the items are gone over it is asked once whether any label names the point: where
+// none does, no item's labels are looked through.
 ghost use Rattle.std.specs.Prelude.{◌≡◌, ◌≤◌, length, slice_get, option_copied};
-ghost use Rattle.plc_setting.specs.Points.{is_over, names_point, stands_at, count_at, clauses_at};
+ghost use Rattle.plc_setting.specs.Points.{is_over, names_point, is_labelled, stands_at, count_at, clauses_at};
 ghost use Rattle.std.specs.List.{list_any};
 
 use plc_base::PointId;
@@ -34,13 +36,21 @@ fn is_named(labels: &[PointId], p: u16, named: &[u16]) -> bool
     named.iter().any(|l| names_point(labels, p, *l))
 }
 
-/// Whether the item puts its clause at the point.
-pub fn stands_at(flow: &Flow, p: u16, item: &Item) -> bool
+/// Whether any label of the flow names the point.
+pub fn is_labelled(flow: &Flow, p: u16) -> bool
+    ensures { result ≡ is_labelled flow.now p }
+{
+    flow.labels.as_slice().iter().any(|named| named.0 == p)
+}
+
+/// Whether the item puts its clause at the point, of which it is known whether a label names it.
+pub fn stands_at(flow: &Flow, p: u16, labelled: bool, item: &Item) -> bool
+    requires { labelled ≡ is_labelled flow.now p }
     ensures { result ≡ stands_at flow.now p item.now }
 {
     match &item.site {
         Site::Over(op) => is_over(flow.gates.get(op.0 as usize), p),
-        Site::At(named) => is_named(flow.labels.as_slice(), p, named.as_slice()),
+        Site::At(named) => labelled && is_named(flow.labels.as_slice(), p, named.as_slice()),
     }
 }
 
@@ -49,11 +59,12 @@ pub fn count_at(flow: &Flow, outline: &Outline, p: u16) -> usize
     ensures count { result ≡ count_at flow.now outline.now p }
     ensures few { result ≤ length outline.now.items }
 {
+    let labelled = is_labelled(flow, p);
     outline
         .items
         .as_slice()
         .iter()
-        .filter(|i| stands_at(flow, p, i))
+        .filter(|i| stands_at(flow, p, labelled, i))
         .count()
 }
 
@@ -61,9 +72,10 @@ pub fn count_at(flow: &Flow, outline: &Outline, p: u16) -> usize
 pub fn clause_at<'a>(flow: &Flow, outline: &'a Outline, p: u16, clause: u16) -> Option<&'a Clause>
     ensures { option_copied result ≡ slice_get (clauses_at flow.now outline.now p) clause }
 {
+    let labelled = is_labelled(flow, p);
     let mut left = clause;
     for item in outline.items.as_slice() {
-        if stands_at(flow, p, item) {
+        if stands_at(flow, p, labelled, item) {
             if left == 0 {
                 return Some(&item.clause);
             }

@@ -124,6 +124,15 @@ module _ (s : GroundSet) (w : IsWellFormed s) (group class last : List ℕ) (k :
       by_class n nk false t =
           get_or-set_other last (slice_index class (slice_index group k)) (slice_index class (slice_index group n)) (slice_index group k) 0 (λ e. grind (arith, common_steps)) ∙ p.marked n nk
 
+-- what is of the group of the first in a group stands in it
+pub joins_first : (s : GroundSet) → IsWellFormed s → (list : List ℕ) → IsGroup s list → 0 < length list → (i : ℕ) → IsOfGroup s (slice_index list 0) i → Contains list i
+joins_first s w list (first, within, group) lt i is = group.whole i (along (group.each 0 0 lt) is)
+  where
+    along : IsOfGroup s first (slice_index list 0) → IsOfGroup s (slice_index list 0) i → IsOfGroup s first i
+    along (inl p) q = subst (λ x. IsOfGroup s x i) (sym p) q
+    along (inr p) (inl e) = subst (IsOfGroup s first) e (inr p)
+    along (inr p) (inr q) = must_along s w first (slice_index list 0) i p q
+
 -- so all of a group are
 pub passes_all : (s : GroundSet) (group class last : List ℕ) (k : ℕ) → Passes s group class last k → length group ≤ k → (i j : ℕ) → Contains group i → Contains group j → AreApart s class i j
 passes_all s group class last k p le i j (m, ml, me) (n, nl, ne) =

@@ -2,7 +2,7 @@
 // the constants that differ from others, in groups, and the inequations that stand alone in a clause.
 // Any two constants of one group must differ, and of two groups never, so two that must differ are
 // looked for within a group.
-ghost use Rattle.std.specs.Prelude.{◌<◌, ◌↔◌, ℕ, IsTrue, IfOk, OnOk, All};
+ghost use Rattle.std.specs.Prelude.{◌<◌, ℕ, IsTrue, IfOk, OnOk, All};
 ghost use Rattle.std.specs.Prelude.{Contains, length};
 ghost use Rattle.plc_ground.specs.Fit.{IsWellFormed, IsInRange};
 ghost use Rattle.plc_solve.specs.Search.{IsDistinguishedAt, IsSurvey, IsOfGroup, IsGroupOf, IsGroup, IsGrouped};
@@ -63,19 +63,29 @@ fn group_of(alloc: Global, set: &GroundSet, first: usize) -> Result<Items<u32>, 
     Ok(group)
 }
 
-/// Whether a group has the term.
-fn contains(group: &[u32], i: u32) -> bool
-    ensures { IsTrue result ↔ Contains group.now i }
+/// Whether the group has the term. Any two of one group must differ, and of two groups never, so the term is compared
+/// with one of the group alone: a file may have thousands of numbers, which are one group.
+fn is_in(set: &GroundSet, group: &[u32], i: usize) -> bool
+    requires well { IsWellFormed set.now }
+    requires range { i < length set.now.terms }
+    requires group { IsGroup set.now group.now }
+    ensures { IsTrue result → Contains group.now i }
 {
-    group.contains(&i)
+    if group.is_empty() {
+        return false;
+    }
+    is_of_group(set, group[0] as usize, i)
 }
 
 /// Whether a group has a term.
-fn is_grouped(groups: &[Items<u32>], i: u32) -> bool
+fn is_grouped(set: &GroundSet, groups: &[Items<u32>], i: usize) -> bool
+    requires well { IsWellFormed set.now }
+    requires range { i < length set.now.terms }
+    requires each { All (IsGroup set.now) groups.now }
     ensures { IsTrue result → IsGrouped groups.now i }
 {
     for group in groups {
-        if contains(group.as_slice(), i) {
+        if is_in(set, group.as_slice(), i) {
             return true;
         }
     }
@@ -99,7 +109,7 @@ fn list_group(
     if !is_constant(set, i) {
         return Ok(());
     }
-    if !is_grouped(groups.as_slice(), i as u32) {
+    if !is_grouped(set, groups.as_slice(), i) {
         groups.push(group_of(alloc, set, i)?)?;
     }
     Ok(())

@@ -1,0 +1,11 @@
+use Rattle.std.proofs.Common.{◌++◌, sym}
+use Rattle.std.proofs.lemmas.List.Folds.{list_any-append}
+use Rattle.plc_oblig.specs.Obligations.{others, claims}
+use Rattle.plc_oblig.specs.Excess.{is_large}
+use Rattle.plc_oblig.proofs.excess.any_from_other.Goals as goal
+
+pub returns : goal.returns
+returns c =
+    let flow = c.args.flow.now in
+    let outline = c.args.outline.now in
+    rw (c.either.ensures, c.any_other.ensures, c.any_claim.ensures) (sym (list_any-append (is_large flow outline) (others flow outline) (claims flow)))
