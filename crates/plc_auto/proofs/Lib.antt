@@ -4,3 +4,5 @@ pub mod Closures
 pub mod Histories
 pub mod Letters
 pub mod Growth
+pub mod Stays
+pub mod Moving

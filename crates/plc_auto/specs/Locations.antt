@@ -75,11 +75,15 @@ with_first n at = at ++ take n at
 abbrev pub wider : ℕ → Row → Row
 wider n r = record { address = r.address; retired = r.retired; at = with_first n r.at }
 
+-- the watcher that a thread has of its own for one of every thread
+abbrev pub owned : ℕ → Watcher → Watcher
+owned t w = of_thread t w.observer
+
 -- a watcher more for each of every thread that wasn't heard; it stands where that one stands
 abbrev pub with_own : ℕ → Locations → Locations
 with_own t l = record {
   unheard = l.unheard;
-  watchers = l.watchers ++ map (λ w. of_thread t w.observer) (take l.unheard l.watchers);
+  watchers = l.watchers ++ map (owned t) (take l.unheard l.watchers);
   others = with_first l.unheard l.others;
   rows = map (wider l.unheard) l.rows;
 }

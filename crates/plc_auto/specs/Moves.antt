@@ -3,7 +3,7 @@
 use Rattle.std.specs.Prelude.{ℕ, Bool, false, if◌then◌else◌, List, ◌++◌, map, take, set, get_or, Option, None}
 use Rattle.plc_auto.specs.declared.event.Event.{Event}
 use Rattle.plc_auto.specs.declared.watcher.Watcher.{Watcher}
-use Rattle.plc_auto.specs.Locations.{Row, Locations, of_thread, with_first, wider, is_named, moved, all_moved, row_after}
+use Rattle.plc_auto.specs.Locations.{Row, Locations, owned, with_first, wider, is_named, moved, all_moved, row_after}
 
 -- where the event leads watcher number i, for one address
 abbrev pub one_moved : Event → Bool → ℕ → Watcher → List (Option ℕ) → List (Option ℕ)
@@ -33,7 +33,7 @@ all_elsewhere e ws r = if is_named e r.address then r else with_all e false ws r
 abbrev pub widened : ℕ → ℕ → Locations → Locations
 widened n t l = record {
   unheard = l.unheard;
-  watchers = l.watchers ++ map (λ w. of_thread t w.observer) (take n l.watchers);
+  watchers = l.watchers ++ map (owned t) (take n l.watchers);
   others = with_first n l.others;
   rows = map (wider n) l.rows;
 }

@@ -1,27 +1,35 @@
 // What an event does to the rows, step by step. Only the row that it may need takes memory, and that comes first.
-ghost use Rattle.std.specs.Prelude.{◌≡◌, ◌==◌, filter, map, IfOk, OnOk, OnErr};
+ghost use Rattle.std.specs.Prelude.{◌≡◌, ◌==◌, filter, map, IfOk, OnOk, OnErr, Some};
 ghost use Rattle.std.specs.List.{list_any, position};
 ghost use Rattle.plc_auto.specs.Locations.{is_known, is_needed, has_row, with_row, to_end, in_order, row_after, row_of, wider};
+ghost use Rattle.plc_auto.specs.Locations.{first_free_of};
 ghost use Rattle.plc_auto.specs.Moves.{named_after, one_elsewhere, all_elsewhere};
 
 use crate::event::{EvKind, Event};
 use crate::row::Row;
-use crate::watcher::{Watcher, is_by};
+use crate::watcher::{Watcher, is_by, is_own};
 use plc_base::NoMemory;
 use std::alloc::Global;
 
-/// Whether a thread has watchers of its own, or there is none.
-pub fn is_known(thread: Option<u32>, watchers: &[Watcher]) -> bool
-    ensures { result ≡ is_known thread watchers.now }
+/// Whether a thread has watchers of its own.
+pub fn is_known(t: u32, watchers: &[Watcher]) -> bool
+    ensures { result ≡ is_known (Some t) watchers.now }
 {
-    thread.is_none() || watchers.iter().any(|w| is_by(thread, w.thread))
+    watchers.iter().any(|w| is_by(Some(t), w.thread))
+}
+
+/// Whether an address has a row.
+fn holds_row(a: u32, rows: &[Row]) -> bool
+    ensures { result ≡ list_any (λ r. r.address == a) rows.now }
+{
+    rows.iter().any(|row| row.address() == a)
 }
 
 /// Whether an address has a row, or is null, which needs none.
 fn has_row(a: u32, rows: &[Row]) -> bool
     ensures { result ≡ has_row a rows.now }
 {
-    a == 0 || rows.iter().any(|row| row.address() == a)
+    a == 0 || holds_row(a, rows)
 }
 
 /// The row of an address, or that of the others.
@@ -34,6 +42,18 @@ pub fn row_of<'a>(rows: &'a [Row], others: &'a Row, a: u32) -> &'a Row
         }
     }
     others
+}
+
+/// The address of the first row that is retired and that no watcher keeps.
+pub fn first_free_of(rows: &[Row]) -> Option<u32>
+    ensures { result ≡ first_free_of rows.now }
+{
+    for row in rows {
+        if row.is_free() {
+            return Some(row.address());
+        }
+    }
+    None
 }
 
 /// These rows, each with its first `n` watchers once more.
@@ -113,7 +133,7 @@ fn move_own(rows: &mut [Row], e: &Event, watchers: &[Watcher])
     ensures { rows.new ≡ map (all_elsewhere e.now watchers.now) rows.old }
 {
     for i in 0..watchers.len() {
-        if is_by(e.thread(), watchers[i].thread) {
+        if is_own(e, &watchers[i]) {
             move_one(rows, e, i, &watchers[i]);
         }
     }

@@ -4,18 +4,18 @@
 // thread's watchers in every row and all watchers in the row that it names, since no event moves another thread's
 // watcher for another address.
 ghost use Rattle.std.specs.Prelude.{◌≡◌, ◌++◌, [], map, take, OnOk, OnErr, IfOk};
-ghost use Rattle.plc_auto.specs.Locations.{fresh, of_threads, of_unheard, of_thread, first_threads};
+ghost use Rattle.plc_auto.specs.Locations.{fresh, of_threads, of_unheard, owned, first_threads};
 ghost use Rattle.plc_auto.specs.Locations.{with_own, heard_by_known, locations_after, locations_after_all};
 ghost use Rattle.plc_auto.specs.Locations.{may_free, first_free};
 ghost use Rattle.plc_auto.specs.Moves.{widened};
 
 use crate::event::Event;
 use crate::hearing::{
-    add_row, drop_rows, is_known, move_rows, put_in_order, row_of, wider_rows,
+    add_row, drop_rows, first_free_of, is_known, move_rows, put_in_order, row_of, wider_rows,
 };
 use crate::observer::Observer;
 use crate::row::Row;
-use crate::watcher::Watcher;
+use crate::watcher::{Watcher, first};
 use plc_base::NoMemory;
 use std::alloc::Global;
 use std::marker::Model;
@@ -69,7 +69,7 @@ impl Locations {
         Ok(Locations {
             alloc,
             unheard: observers.len(),
-            others: Row::begun(alloc, observers.len())?,
+            others: Row::begun(alloc, watchers.len())?,
             watchers,
             rows: Vec::new(alloc),
         })
@@ -88,7 +88,7 @@ impl Locations {
         Ok(Locations {
             alloc,
             unheard: 0,
-            others: Row::begun(alloc, threads as usize)?,
+            others: Row::begun(alloc, watchers.len())?,
             watchers,
             rows: Vec::new(alloc),
         })
@@ -106,7 +106,7 @@ impl Locations {
     {
         match e.thread() {
             Some(t) => {
-                if is_known(Some(t), &self.watchers) {
+                if is_known(t, &self.watchers) {
                     self.hear_known(e)
                 } else {
                     self.hear_new(e, t)
@@ -199,12 +199,7 @@ impl Locations {
     pub fn first_free(&self) -> Option<u32>
         ensures { result ≡ first_free self.now }
     {
-        for row in &self.rows {
-            if row.is_free() {
-                return Some(row.address());
-            }
-        }
-        None
+        first_free_of(&self.rows)
     }
 }
 
@@ -248,11 +243,10 @@ fn with_own_watchers(
     n: usize,
     t: u32,
 ) -> Result<Vec<Watcher>, NoMemory>
-    ensures { IfOk result (λ ws. ws.items
-        ≡ watchers.now ++ map (λ w. of_thread t w.observer) (take n watchers.now)) }
+    ensures { IfOk result (λ ws. ws.items ≡ watchers.now ++ map (owned t) (take n watchers.now)) }
 {
     let mut more = Vec::from_slice(alloc, watchers)?;
-    for w in watchers.iter().take(n) {
+    for w in first(watchers, n) {
         more.push(Watcher {
             observer: w.observer,
             thread: Some(t),

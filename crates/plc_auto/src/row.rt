@@ -12,7 +12,7 @@ ghost use Rattle.plc_auto.specs.Locations.{all_bear_free, moved};
 ghost use Rattle.plc_auto.specs.Moves.{with_one, with_all, named_after, one_elsewhere};
 
 use crate::event::{EvKind, Event};
-use crate::watcher::{Watcher, is_by, is_kept_at, moved, same_location};
+use crate::watcher::{Watcher, first, is_kept_at, is_own, moved, same_location};
 use plc_base::{LocId, NoMemory};
 use std::alloc::Global;
 use std::marker::Model;
@@ -78,6 +78,13 @@ fn recounted(keepers: usize, before: Option<LocId>, after: Option<LocId>) -> usi
     if is_kept_at(after) { others + 1 } else { others }
 }
 
+/// So many watchers in their first locations.
+fn first_locations(alloc: Global, watchers: usize) -> Result<Vec<Option<LocId>>, NoMemory>
+    ensures { IfOk result (λ at. at.items ≡ replicate watchers (Some (record { 0 = 0 }))) }
+{
+    Ok(vec![in alloc; Some(LocId(0)); watchers]?)
+}
+
 /// These locations, and the first `n` of them once more.
 fn with_first(
     alloc: Global,
@@ -87,9 +94,7 @@ fn with_first(
     ensures { IfOk result (λ more. map target_of more.items ≡ with_first n (map target_of at.now)) }
 {
     let mut more = Vec::from_slice(alloc, at)?;
-    for l in at.iter().take(n) {
-        more.push(*l)?;
-    }
+    more.extend_from_slice(first(at, n))?;
     Ok(more)
 }
 
@@ -105,7 +110,7 @@ impl Row {
     pub fn begun(alloc: Global, watchers: usize) -> Result<Row, NoMemory>
         ensures { IfOk result (λ r. r.at ≡ replicate watchers (Some 0)) }
     {
-        let at = vec![in alloc; Some(LocId(0)); watchers]?;
+        let at = first_locations(alloc, watchers)?;
         Ok(Row::with_locations(0, false, at))
     }
 
@@ -192,7 +197,7 @@ impl Row {
         ensures { self.new ≡ with_all e.now false watchers.now self.old }
     {
         for i in 0..watchers.len() {
-            if is_by(e.thread(), watchers[i].thread) {
+            if is_own(e, &watchers[i]) {
                 self.move_one(e, false, i, &watchers[i]);
             }
         }
@@ -221,12 +226,7 @@ impl Row {
     pub fn all_bear_free(&self, a: u32, watchers: &[Watcher]) -> bool
         ensures { result ≡ all_bear_free a watchers.now self.now.at }
     {
-        for i in 0..watchers.len() {
-            if !bears_free(a, &watchers[i], location_at(&self.at, i)) {
-                return false;
-            }
-        }
-        true
+        all_bear_free(a, watchers, &self.at)
     }
 }
 
@@ -243,6 +243,18 @@ fn bears_free(a: u32, watcher: &Watcher, at: Option<LocId>) -> bool
 {
     let free = Event::Free { a };
     moved(&free, is_named(&free, a), watcher, at).is_some()
+}
+
+/// Whether a free of an address leads none of these watchers to `bad` from where they stand.
+fn all_bear_free(a: u32, watchers: &[Watcher], at: &[Option<LocId>]) -> bool
+    ensures { result ≡ all_bear_free a watchers.now (map target_of at.now) }
+{
+    for i in 0..watchers.len() {
+        if !bears_free(a, &watchers[i], location_at(at, i)) {
+            return false;
+        }
+    }
+    true
 }
 
 /// Whether these rows are one location by location.

@@ -1,6 +1,6 @@
 // What one watcher reads: the events of its thread, or of every thread that wasn't heard, by the table of its
 // observer.
-ghost use Rattle.std.specs.Prelude.{◌≡◌, is_some};
+ghost use Rattle.std.specs.Prelude.{◌≡◌, take};
 ghost use Rattle.plc_auto.specs.Table.{step, target_of};
 ghost use Rattle.plc_auto.specs.Location.{is_kept_at};
 ghost use Rattle.plc_auto.specs.Events.{kind_of, thread_of};
@@ -19,6 +19,13 @@ pub struct Watcher {
     pub thread: Option<u32>,
 }
 
+/// The first `n` of these, or all where there are fewer.
+pub fn first<T>(items: &[T], n: usize) -> &[T]
+    ensures { result.now ≡ take n items.now }
+{
+    if n < items.len() { &items[..n] } else { items }
+}
+
 /// Whether a thread is that of a call or a return, if there is one.
 pub fn is_by(by: Option<u32>, thread: Option<u32>) -> bool
     ensures { result ≡ is_by by thread }
@@ -27,6 +34,13 @@ pub fn is_by(by: Option<u32>, thread: Option<u32>) -> bool
         (Some(u), Some(t)) => u == t,
         _ => false,
     }
+}
+
+/// Whether an event is a call or a return of the watcher's own thread.
+pub fn is_own(e: &Event, watcher: &Watcher) -> bool
+    ensures { result ≡ is_by (thread_of e.now) watcher.now.thread }
+{
+    is_by(e.thread(), watcher.thread)
 }
 
 /// Where an event leads from a location; a number that is none is never left.
@@ -55,7 +69,7 @@ pub fn moved(e: &Event, on_this: bool, watcher: &Watcher, at: Option<LocId>) -> 
         Some(l) => moved_from(
             &watcher.observer,
             e.kind(),
-            is_by(e.thread(), watcher.thread),
+            is_own(e, watcher),
             on_this,
             l,
         ),
