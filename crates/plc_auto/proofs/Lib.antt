@@ -6,3 +6,5 @@ pub mod Letters
 pub mod Growth
 pub mod Stays
 pub mod Moving
+pub mod Ends
+pub mod Ordered

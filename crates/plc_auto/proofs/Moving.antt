@@ -248,7 +248,7 @@ last_there a (r ∷ rows) (suc i) d small before here =
     go true = refl
     go false = refl
 
-not_there : (a : ℕ) (rows : List Row) → list_any (λ r. r.address == a) rows ≡ false → to_end a rows ≡ rows
+pub not_there : (a : ℕ) (rows : List Row) → list_any (λ r. r.address == a) rows ≡ false → to_end a rows ≡ rows
 not_there a [] none = refl
 not_there a (r ∷ rows) none =
     let parts = or_parts _ _ none in
