@@ -1,6 +1,6 @@
 -- Where each watcher comes to by a whole history, and that locations which heard the history have it so: a row for its
 -- address, and the others for every address without a row.
-use Rattle.std.proofs.Common.{◌≡◌, ℕ, zero, suc, Bool, true, false, not, ◌&&◌, ◌||◌, ◌==◌, cond, if◌then◌else◌, List, [], ◌∷◌, ◌++◌, map, take, Option, Some, None, refl, sym, ap, ◌∙◌, subst}
+use Rattle.std.proofs.Common.{◌≡◌, ℕ, Bool, true, false, not, ◌&&◌, ◌||◌, ◌==◌, cond, if◌then◌else◌, List, [], ◌∷◌, ◌++◌, map, take, Option, Some, None, refl, sym, ap, ◌∙◌}
 use Rattle.std.specs.Prelude.{fold, filter}
 use Rattle.std.specs.List.{list_any}
 use Rattle.std.proofs.lemmas.Bool.{eqb-true, eq-eqb, and_parts, or_parts, both_ways}
@@ -14,9 +14,9 @@ use Rattle.plc_auto.specs.declared.observer.Observer.{Observer}
 use Rattle.plc_auto.specs.declared.watcher.Watcher.{Watcher}
 use Rattle.plc_auto.specs.Events.{kind_of, thread_of, address_of}
 use Rattle.plc_auto.specs.Table.{step}
-use Rattle.plc_auto.specs.Location.{is_this, advance, location_from, location}
+use Rattle.plc_auto.specs.Location.{advance, location_from, location}
 use Rattle.plc_auto.specs.Laws.{is_retirement}
-use Rattle.plc_auto.specs.Locations.{Row, Locations, of_thread, of_unheard, owned, is_by, with_first, wider, with_own, has_row, with_row, to_end, in_order, is_named, moved, all_moved, row_after, same_location, same_locations, is_needed, rows_moved, heard_by_known, row_of}
+use Rattle.plc_auto.specs.Locations.{Row, Locations, of_thread, of_unheard, owned, is_by, with_first, wider, with_own, has_row, with_row, to_end, in_order, is_named, moved, all_moved, row_after, same_location, same_locations, is_needed, heard_by_known, row_of}
 use Rattle.plc_auto.proofs.Histories.{is_own, is_on, step_by_is}
 use Rattle.plc_base.proofs.Booleans.{and_false, or_true}
 
@@ -48,7 +48,7 @@ is_named_is (Called t f (Some b)) a = refl
 is_named_is (Returned t f) a = and_false (0 == a)
 is_named_is (Freed b) a = refl
 
-by_thread : (e : Event) (t : ℕ) → is_by (thread_of e) (Some t) ≡ is_own t e
+pub by_thread : (e : Event) (t : ℕ) → is_by (thread_of e) (Some t) ≡ is_own t e
 by_thread (Called u f b) t = refl
 by_thread (Returned u f) t = refl
 by_thread (Freed b) t = refl

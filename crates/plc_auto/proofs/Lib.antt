@@ -8,3 +8,5 @@ pub mod Stays
 pub mod Moving
 pub mod Ends
 pub mod Ordered
+pub mod Watched
+pub mod Unheard

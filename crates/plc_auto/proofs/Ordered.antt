@@ -1,5 +1,5 @@
 -- The retired rows have the addresses that wait, in their order. Each address has one row, and null has none.
-use Rattle.std.proofs.Common.{◌≡◌, ℕ, Bool, true, false, not, ◌&&◌, ◌||◌, ◌==◌, cond, if◌then◌else◌, List, [], ◌∷◌, ◌++◌, map, Option, Some, None, refl, sym, ap, ◌∙◌, subst}
+use Rattle.std.proofs.Common.{◌≡◌, ℕ, Bool, true, false, not, ◌&&◌, ◌||◌, ◌==◌, cond, if◌then◌else◌, List, [], ◌∷◌, ◌++◌, map, Option, Some, None, refl, sym, ap, ◌∙◌}
 use Rattle.std.specs.Prelude.{filter, find}
 use Rattle.std.specs.List.{list_any}
 use Rattle.std.proofs.lemmas.Bool.{eqb-true, eq-eqb, or_parts, both_ways}
@@ -14,7 +14,7 @@ use Rattle.plc_auto.specs.Events.{kind_of, address_of}
 use Rattle.plc_auto.specs.Location.{is_kept_at}
 use Rattle.plc_auto.specs.Laws.{is_retirement, retired_by}
 use Rattle.plc_auto.specs.Waiting.{waiting_after}
-use Rattle.plc_auto.specs.Locations.{Row, Locations, with_first, wider, has_row, with_row, to_end, in_order, is_named, all_moved, row_after, is_needed, rows_moved, heard_by_known, row_of, is_free_row, first_free_of}
+use Rattle.plc_auto.specs.Locations.{Row, Locations, with_first, wider, has_row, with_row, to_end, in_order, is_named, all_moved, row_after, is_needed, heard_by_known, row_of, first_free_of}
 use Rattle.plc_base.proofs.Booleans.{and_false}
 use Rattle.plc_auto.proofs.Moving.{not_there}
 use Rattle.plc_auto.proofs.Ends.{is_row_of, any_to_end, has_one}

@@ -219,11 +219,7 @@ fn of_every_thread(alloc: Global, observers: &[Observer]) -> Result<Vec<Watcher>
 }
 
 /// A watcher of each of so many threads.
-fn of_each_thread(
-    alloc: Global,
-    observer: Observer,
-    threads: u32,
-) -> Result<Vec<Watcher>, NoMemory>
+fn of_each_thread(alloc: Global, observer: Observer, threads: u32) -> Result<Vec<Watcher>, NoMemory>
     ensures { IfOk result (λ ws. ws.items ≡ first_threads observer threads) }
 {
     let mut watchers = Vec::new(alloc);

@@ -74,8 +74,16 @@ fn recounted(keepers: usize, before: Option<LocId>, after: Option<LocId>) -> usi
     requires fits { keepers + 1 < 2 ^ 64 }
     ensures { result + cond (is_kept_at (target_of before)) 1 0 ≡ keepers + cond (is_kept_at (target_of after)) 1 0 }
 {
-    let others = if is_kept_at(before) { keepers - 1 } else { keepers };
-    if is_kept_at(after) { others + 1 } else { others }
+    let others = if is_kept_at(before) {
+        keepers - 1
+    } else {
+        keepers
+    };
+    if is_kept_at(after) {
+        others + 1
+    } else {
+        others
+    }
 }
 
 /// So many watchers in their first locations.
@@ -86,11 +94,7 @@ fn first_locations(alloc: Global, watchers: usize) -> Result<Vec<Option<LocId>>,
 }
 
 /// These locations, and the first `n` of them once more.
-fn with_first(
-    alloc: Global,
-    n: usize,
-    at: &[Option<LocId>],
-) -> Result<Vec<Option<LocId>>, NoMemory>
+fn with_first(alloc: Global, n: usize, at: &[Option<LocId>]) -> Result<Vec<Option<LocId>>, NoMemory>
     ensures { IfOk result (λ more. map target_of more.items ≡ with_first n (map target_of at.now)) }
 {
     let mut more = Vec::from_slice(alloc, at)?;

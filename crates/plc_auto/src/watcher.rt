@@ -66,13 +66,7 @@ pub fn moved(e: &Event, on_this: bool, watcher: &Watcher, at: Option<LocId>) -> 
 {
     match at {
         None => None,
-        Some(l) => moved_from(
-            &watcher.observer,
-            e.kind(),
-            is_own(e, watcher),
-            on_this,
-            l,
-        ),
+        Some(l) => moved_from(&watcher.observer, e.kind(), is_own(e, watcher), on_this, l),
     }
 }
 

@@ -1,4 +1,4 @@
-use Rattle.std.proofs.Common.{rules, add-one, ap, ◌∙◌, ◌++◌, ◌∷◌, []}
+use Rattle.std.proofs.Common.{add-one, ap, ◌∙◌, ◌++◌, ◌∷◌, []}
 use Rattle.plc_auto.specs.Locations.{of_thread}
 use Rattle.plc_auto.proofs.locations.of_each_thread.Goals as goal
 

@@ -1,4 +1,4 @@
-use Rattle.std.proofs.Common.{true, not, ◌&&◌, map, ap, sym, ◌∙◌}
+use Rattle.std.proofs.Common.{not, ◌&&◌, map, ap, sym, ◌∙◌}
 use Rattle.std.specs.Prelude.{nat_eq}
 use Rattle.std.specs.List.{list_any}
 use Rattle.plc_auto.specs.Table.{target_of}
