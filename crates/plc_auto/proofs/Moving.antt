@@ -3,7 +3,7 @@ use Rattle.std.proofs.Common.{◌≡◌, ℕ, zero, suc, ◌+◌, ◌<◌, ◌�
 use Rattle.std.specs.Prelude.{nat_eq, filter}
 use Rattle.std.specs.List.{count_by, list_any, remove, position, position_from}
 use Rattle.std.proofs.Math.Seq.{drop-nil}
-use Rattle.std.proofs.lemmas.Bool.{ne_eqb, or_parts}
+use Rattle.std.proofs.lemmas.Bool.{eqb-true, ne_eqb, or_parts}
 use Rattle.std.proofs.lemmas.List.{map-set, map-append, take-map, length-map, get_or-map}
 use Rattle.std.proofs.Math.ListN.{drop_of_length-le}
 use Rattle.std.proofs.lemmas.Iterator.Adapters.{position_from-zero}
@@ -299,6 +299,10 @@ first_mapped n ats = map-append target_of ats (take n ats) ∙ ap (λ at. map ta
 
 -- ---- an event of a thread that is known, or isn't
 
+-- where no watcher is of every thread
+pub none_own : (t : ℕ) (l : Locations) → l.unheard ≡ 0 → with_own t l ≡ l
+none_own t l none = ap (λ n. widened n t l) none ∙ copied t l
+
 pub known_after : (e : Event) (t : ℕ) (l : Locations) → thread_of e ≡ Some t → is_known (Some t) l.watchers ≡ true → heard_by_known e l ≡ locations_after e l
 unfolding locations_after
 known_after e t l by known =
@@ -308,6 +312,14 @@ pub new_after : (e : Event) (t : ℕ) (l : Locations) → thread_of e ≡ Some t
 unfolding locations_after
 new_after e t l by known =
     ap (λ b. heard_by_known e (if b then l else with_own t l)) (sym known) ∙ ap (λ q. heard_by_known e (with_thread q l)) (sym by)
+
+pub not_new_after : (e : Event) (t : ℕ) (l : Locations) → thread_of e ≡ Some t → (not (l.unheard == 0) && not (is_known (Some t) l.watchers)) ≡ false → heard_by_known e l ≡ locations_after e l
+not_new_after e t l by old = go (l.unheard == 0) (is_known (Some t) l.watchers) refl refl old
+  where
+    go : (z k : Bool) → (l.unheard == 0) ≡ z → is_known (Some t) l.watchers ≡ k → (not z && not k) ≡ false → heard_by_known e l ≡ locations_after e l
+    go z true none known old = known_after e t l by known
+    go true false none known old = ap (heard_by_known e) (sym (none_own t l (eqb-true l.unheard 0 none))) ∙ new_after e t l by known
+    go false false none known old = cc
 
 pub no_thread_after : (e : Event) (l : Locations) → thread_of e ≡ None → heard_by_known e l ≡ locations_after e l
 unfolding locations_after

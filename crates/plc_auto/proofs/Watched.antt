@@ -19,7 +19,7 @@ use Rattle.plc_auto.specs.Location.{advance, location}
 use Rattle.plc_auto.specs.Locations.{Locations, of_thread, first_threads, begun, of_threads, is_known, with_own, with_thread, heard_by_known, locations_after, locations_after_all, is_named, moved, row_of, stands, all_bear_free, may_free}
 use Rattle.plc_auto.specs.Moves.{widened}
 use Rattle.plc_auto.specs.Following.{FollowsThreads}
-use Rattle.plc_auto.proofs.Moving.{copied}
+use Rattle.plc_auto.proofs.Moving.{none_own}
 use Rattle.plc_auto.proofs.Ends.{end_of, ends, own_moves, own_end, Located, row_is, located_longer}
 
 -- ---- before every event
@@ -43,16 +43,13 @@ record Known (o : Observer) (n : ℕ) (h : List Event) (l : Locations) : Type 0 
   none : l.unheard ≡ 0
   located : Located h l
 
-none_more : (t : ℕ) (l : Locations) → l.unheard ≡ 0 → with_own t l ≡ l
-none_more t l none = ap (λ n. widened n t l) none ∙ copied t l
-
 same_threads : (q : Option ℕ) (l : Locations) → l.unheard ≡ 0 → with_thread q l ≡ l
 same_threads None l none = refl
 same_threads (Some t) l none = go (is_known (Some t) l.watchers)
   where
     go : (b : Bool) → (if b then l else with_own t l) ≡ l
     go true = refl
-    go false = none_more t l none
+    go false = none_own t l none
 
 known_next : (o : Observer) (n : ℕ) (h : List Event) (e : Event) (l : Locations) → Known o n h l → Known o n (h ++ e ∷ []) (locations_after e l)
 unfolding locations_after

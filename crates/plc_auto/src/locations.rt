@@ -3,9 +3,10 @@
 // are as many rows as addresses are retired or asked for, and what was freed costs nothing. An event moves its own
 // thread's watchers in every row and all watchers in the row that it names, since no event moves another thread's
 // watcher for another address.
-ghost use Rattle.std.specs.Prelude.{◌≡◌, ◌++◌, [], map, take, OnOk, OnErr, IfOk};
+ghost use Rattle.std.specs.Prelude.{◌≡◌, ◌==◌, ◌&&◌, ◌++◌, [], not, map, take, Some, OnOk, OnErr, IfOk};
 ghost use Rattle.plc_auto.specs.Locations.{fresh, of_threads, of_unheard, owned, first_threads};
-ghost use Rattle.plc_auto.specs.Locations.{with_own, heard_by_known, locations_after, locations_after_all};
+ghost use Rattle.plc_auto.specs.Locations.{is_known, with_own, heard_by_known, locations_after};
+ghost use Rattle.plc_auto.specs.Locations.{locations_after_all};
 ghost use Rattle.plc_auto.specs.Locations.{may_free, first_free};
 ghost use Rattle.plc_auto.specs.Moves.{widened};
 
@@ -106,17 +107,25 @@ impl Locations {
     {
         match e.thread() {
             Some(t) => {
-                if is_known(t, &self.watchers) {
-                    self.hear_known(e)
-                } else {
+                if self.is_new(t) {
                     self.hear_new(e, t)
+                } else {
+                    self.hear_known(e)
                 }
             }
             None => self.hear_known(e),
         }
     }
 
-    /// Hears an event of a thread that has watchers, or of none. Where memory runs out it is as it was.
+    /// Whether a thread has no watchers and is to have some. Where none watches every thread that wasn't
+    /// heard, none is ever to have some.
+    fn is_new(&self, t: u32) -> bool
+        ensures { result ≡ (not (self.now.unheard == 0) && not (is_known (Some t) self.now.watchers)) }
+    {
+        self.unheard != 0 && !is_known(t, &self.watchers)
+    }
+
+    /// Hears an event of a thread that has watchers or is to have none, or of no thread. Where memory runs out it is as it was.
     fn hear_known(&mut self, e: &Event) -> Result<(), NoMemory>
         ensures ok { OnOk result (self.new ≡ heard_by_known e.now self.old) }
         ensures err { OnErr result (self.new ≡ self.old) }
