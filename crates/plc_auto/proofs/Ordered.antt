@@ -2,6 +2,7 @@
 use Rattle.std.proofs.Common.{◌≡◌, ℕ, Bool, true, false, not, ◌&&◌, ◌||◌, ◌==◌, cond, if◌then◌else◌, List, [], ◌∷◌, ◌++◌, map, Option, Some, None, refl, sym, ap, ◌∙◌}
 use Rattle.std.specs.Prelude.{filter, find}
 use Rattle.std.specs.List.{list_any}
+use Rattle.std.specs.Option.{option_map}
 use Rattle.std.proofs.lemmas.Bool.{eqb-true, eq-eqb, or_parts, both_ways}
 use Rattle.std.proofs.lemmas.List.{map-append, append-nil}
 use Rattle.std.proofs.lemmas.List.Folds.{list_any-append}
@@ -14,7 +15,7 @@ use Rattle.plc_auto.specs.Events.{kind_of, address_of}
 use Rattle.plc_auto.specs.Location.{is_kept_at}
 use Rattle.plc_auto.specs.Laws.{is_retirement, retired_by}
 use Rattle.plc_auto.specs.Waiting.{waiting_after}
-use Rattle.plc_auto.specs.Locations.{Row, Locations, with_first, wider, has_row, with_row, to_end, in_order, is_named, all_moved, row_after, is_needed, heard_by_known, row_of, first_free_of}
+use Rattle.plc_auto.specs.Locations.{Row, Locations, with_first, wider, has_row, with_row, to_end, in_order, is_named, all_moved, row_after, is_needed, heard_by_known, row_of, is_free_row, first_free_of}
 use Rattle.plc_base.proofs.Booleans.{and_false}
 use Rattle.plc_auto.proofs.Moving.{not_there}
 use Rattle.plc_auto.proofs.Ends.{is_row_of, any_to_end, has_one}
@@ -356,16 +357,16 @@ looks_are others (r ∷ rows) d =
 
 first_found : (look : ℕ → List (Option ℕ)) (rows : List Row) → Looks look rows → first_free_of rows ≡ find (λ a. not (list_any is_kept_at (look a))) (waiting rows)
 first_found look [] so = refl
-first_found look (r ∷ rows) so =
-    (λ i. if r.retired && not (list_any is_kept_at r.at) then Some r.address else first_found look rows so.1 i)
-    ∙ go r.retired ∙ ap (find (λ a. not (list_any is_kept_at (look a)))) (sym (waiting_cons r rows))
+first_found look (r ∷ rows) so = go r.retired (list_any is_kept_at r.at) refl (first_found look rows so.1) ∙ ap (find (λ a. not (list_any is_kept_at (look a)))) (sym (waiting_cons r rows))
   where
     rest : Option ℕ
     rest = find (λ a. not (list_any is_kept_at (look a))) (waiting rows)
 
-    go : (c : Bool) → (if c && not (list_any is_kept_at r.at) then Some r.address else rest) ≡ find (λ a. not (list_any is_kept_at (look a))) (put c r.address (waiting rows))
-    go true = ap (λ at. cond (not (list_any is_kept_at at)) (Some r.address) rest) (sym so.0)
-    go false = refl
+    go : (c k : Bool) → list_any is_kept_at r.at ≡ k → first_free_of rows ≡ rest
+        → option_map (λ (r : Row). r.address) (cond (c && not k) (Some r) (find is_free_row rows)) ≡ find (λ a. not (list_any is_kept_at (look a))) (put c r.address (waiting rows))
+    go true true is later = later ∙ sym (ap (λ k. cond (not k) (Some r.address) rest) (ap (list_any is_kept_at) so.0 ∙ is))
+    go true false is later = sym (ap (λ k. cond (not k) (Some r.address) rest) (ap (list_any is_kept_at) so.0 ∙ is))
+    go false k is later = later
 
 pub first_is : (others : List (Option ℕ)) (rows : List Row) → AreDistinct rows → first_free_of rows ≡ find (λ a. not (list_any is_kept_at (row_of rows others a))) (waiting rows)
 first_is others rows d = first_found (row_of rows others) rows (looks_are others rows d)

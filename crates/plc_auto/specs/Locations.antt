@@ -2,8 +2,9 @@
 -- of its observer; some read what every thread does that wasn't heard, until it is heard and has watchers of its own.
 -- Addresses that stand where an address does that was never named have no row, unless they are retired.
 use Rattle.std.specs.Prelude.{ℕ, zero, suc, ◌==◌, ◌&&◌, ◌||◌, Bool, true, false, not, if◌then◌else◌, List, [], ◌∷◌, ◌++◌, map, filter}
-use Rattle.std.specs.Prelude.{take, length, get_or, replicate, fold, Option, Some, None, is_some}
+use Rattle.std.specs.Prelude.{take, length, get_or, replicate, fold, find, Option, Some, None, is_some}
 use Rattle.std.specs.List.{list_any}
+use Rattle.std.specs.Option.{option_map}
 use Rattle.plc_auto.specs.declared.event.Event.{Event}
 use Rattle.plc_auto.specs.declared.event.Event.TheVariants.{Free as Freed}
 use Rattle.plc_auto.specs.declared.observer.Observer.{Observer}
@@ -213,8 +214,7 @@ is_free_row r = r.retired && not (list_any is_kept_at r.at)
 
 -- the address of the first such row
 abbrev pub first_free_of : List Row → Option ℕ
-first_free_of [] = None
-first_free_of (r ∷ rows) = if is_free_row r then Some r.address else first_free_of rows
+first_free_of rows = option_map (λ r. r.address) (find is_free_row rows)
 
 -- the first retired address that no watcher keeps
 unfoldable pub first_free : Locations → Option ℕ

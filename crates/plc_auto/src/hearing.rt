@@ -48,12 +48,9 @@ pub fn row_of<'a>(rows: &'a [Row], others: &'a Row, a: u32) -> &'a Row
 pub fn first_free_of(rows: &[Row]) -> Option<u32>
     ensures { result ≡ first_free_of rows.now }
 {
-    for row in rows {
-        if row.is_free() {
-            return Some(row.address());
-        }
-    }
-    None
+    rows.iter()
+        .find(|row| row.is_free())
+        .map(|row| row.address())
 }
 
 /// These rows, each with its first `n` watchers once more.
