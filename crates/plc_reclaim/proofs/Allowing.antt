@@ -14,15 +14,15 @@ use Rattle.plc_auto.specs.declared.event.EvKind.TheVariants.{Free}
 use Rattle.plc_auto.specs.declared.observer.Observer.{Observer}
 use Rattle.plc_auto.specs.declared.observer.Observer.TheVariants.{Plain, Hazard, Epoch}
 use Rattle.plc_auto.specs.Table.{count_of, step, is_well_formed, r_kept}
-use Rattle.plc_auto.specs.Location.{is_this, advance, location_from, location, Allowed, is_retired_location, stands_retired, is_retired_after}
+use Rattle.plc_auto.specs.Location.{is_this, advance, location_from, location, Allowed, is_kept_at, is_retired_location, stands_retired, is_retired_after}
 use Rattle.plc_auto.specs.Laws.{retired_by}
 use Rattle.plc_auto.proofs.Tables.{implies, implied, each, each_at}
 use Rattle.plc_auto.specs.Events.{kind_of}
 use Rattle.plc_auto.proofs.Histories.{is_own, is_on, step_by_is, from_bad, location_longer, location_live, allowed_empty, allowed_last, allowed_spoken, allowed_free, step_by_live, initial_live, location_empty}
 use Rattle.plc_auto.proofs.Letters.{retired_longer, initial_unretired}
 use Rattle.plc_auto.specs.declared.scheme.Scheme.{Scheme}
-use Rattle.plc_reclaim.specs.Waiting.{waiting_after}
-use Rattle.plc_reclaim.specs.Rows.{ActsAs, first_waiting, threads_in, is_kept_at, is_kept_by, is_kept_by_none, hazards, epochs, hazard_row, epoch_row}
+use Rattle.plc_auto.specs.Waiting.{waiting_after}
+use Rattle.plc_reclaim.specs.Rows.{ActsAs, first_waiting, threads_in, is_kept_by, is_kept_by_none, hazards, epochs, hazard_row, epoch_row}
 use Rattle.plc_reclaim.specs.Meanings.{Meanings}
 use Rattle.plc_reclaim.specs.Histories.{Happens, begins, hears, asks, frees, MakesAllowed}
 use Rattle.plc_base.proofs.Booleans.{or_false, or_true}
@@ -115,8 +115,8 @@ none_at p (x ∷ xs) t e n = go (x == t) refl e (λ later. none_at p xs t later 
     go true is later rest = ap p (sym (eqb-true x t is)) ∙ (or_parts _ _ n).0
     go false is later rest = rest later
 
-none_of : (os : List Observer) (o : Observer) → Contains os o → (p : Observer → Bool) → list_any p os ≡ false → p o ≡ false
-none_of os o (k, small, is) p n = go (p o) refl
+pub kept_of_none : (os : List Observer) (o : Observer) → Contains os o → (p : Observer → Bool) → list_any p os ≡ false → p o ≡ false
+kept_of_none os o (k, small, is) p n = go (p o) refl
   where
     go : (b : Bool) → p o ≡ b → b ≡ false
     go false e = refl
@@ -277,7 +277,7 @@ happens_stands o w row schemes careful m acts threads _ _ (frees h held a e befo
 careful_kept : (os : List Observer) (o : Observer) → Contains os o → IsCareful o (λ h. first_waiting (is_kept_by_none os h) h)
 careful_kept os o there = record {
   waits = λ h a e. (found (is_kept_by_none os h) (fold waiting_after [] h) a (may_be_picked (is_kept_by_none os h) h ∙ e)).1;
-  free = λ h t a e. kept_by_none o h a t (none_of os o there (is_kept_by h a) (not-true _ (found (is_kept_by_none os h) (fold waiting_after [] h) a (may_be_picked (is_kept_by_none os h) h ∙ e)).0));
+  free = λ h t a e. kept_by_none o h a t (kept_of_none os o there (is_kept_by h a) (not-true _ (found (is_kept_by_none os h) (fold waiting_after [] h) a (may_be_picked (is_kept_by_none os h) h ∙ e)).0));
 }
 
 -- `plain` has no `r.kept`

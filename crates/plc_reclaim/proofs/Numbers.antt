@@ -1,10 +1,11 @@
 -- What a reclaimer keeps comes back from its numbers.
-use Rattle.std.proofs.Common.{◌≡◌, ℕ, List, [], ◌∷◌, map, Option, Some, None, refl, ap, ◌∙◌, add-one}
+use Rattle.std.proofs.Common.{◌≡◌, ℕ, Bool, true, false, List, [], ◌∷◌, map, Option, Some, None, refl, ap, ◌∙◌, add-one}
 use Rattle.plc_auto.specs.declared.event.Event.{Event}
 use Rattle.plc_auto.specs.declared.observer.Observer.{Observer}
 use Rattle.plc_auto.specs.declared.observer.Observer.TheVariants.{Plain, Hazard, Epoch}
-use Rattle.plc_reclaim.specs.Tables.{Cell, Column, Heard, Table}
-use Rattle.plc_reclaim.specs.Watch.{Watch, fresh_watch, watch_after, first_free, row, rows, rows_of, into_first, location_number, location_at, cell_numbers, cells_of, column_numbers, column_at, observer_numbers, observer_at, heard_numbers, heard_at, table_numbers, table_at, numbers_of, watch_at, watch_of, begun_with, held_after, free_of}
+use Rattle.plc_auto.specs.declared.watcher.Watcher.{Watcher}
+use Rattle.plc_auto.specs.Locations.{Row, Locations, fresh, locations_after, first_free}
+use Rattle.plc_reclaim.specs.Numbers.{row, rows, rows_of, into_first, option_number, option_at, mark_number, mark_at, observer_numbers, observer_at, watcher_numbers, watcher_at, row_numbers, row_at, numbers_of, locations_at, locations_of, begun_with, held_after, free_of}
 
 -- a row comes back
 row_back : (ns later : List ℕ) → rows_of (row ns later) ≡ ns ∷ rows_of later
@@ -15,49 +16,58 @@ rows_back : (nss : List (List ℕ)) → rows_of (rows nss) ≡ nss
 rows_back [] = refl
 rows_back (ns ∷ nss) = row_back ns (rows nss) ∙ ap (λ nss. ns ∷ nss) (rows_back nss)
 
-location_back : (at : Option ℕ) → location_at (location_number at) ≡ at
-location_back None = refl
-location_back (Some l) = ap location_at (add-one l)
+-- so does what each stands for
+all_back : {A : Type 0} (numbers : A → List ℕ) (at : List ℕ → A) → ((x : A) → at (numbers x) ≡ x) → (xs : List A) → map at (rows_of (rows (map numbers xs))) ≡ xs
+all_back numbers at back xs = ap (map at) (rows_back (map numbers xs)) ∙ each xs
+  where
+    each : (xs : List _) → map at (map numbers xs) ≡ xs
+    each [] = refl
+    each (x ∷ xs) = λ i. back x i ∷ each xs i
 
-cells_back : (cells : List Cell) → cells_of (cell_numbers cells) ≡ cells
-cells_back [] = refl
-cells_back (c ∷ cells) = λ i. record { address = c.address; at = location_back c.at i } ∷ cells_back cells i
+option_back : (q : Option ℕ) → option_at (option_number q) ≡ q
+option_back None = refl
+option_back (Some n) = ap option_at (add-one n)
 
-column_back : (c : Column) → column_at (column_numbers c) ≡ c
-column_back c = λ i. record { others = location_back c.others i; cells = cells_back c.cells i }
+options_back : (qs : List (Option ℕ)) → map option_at (map option_number qs) ≡ qs
+options_back [] = refl
+options_back (q ∷ qs) = λ i. option_back q i ∷ options_back qs i
+
+mark_back : (m : Bool) → mark_at (mark_number m) ≡ m
+mark_back true = refl
+mark_back false = refl
 
 observer_back : (o : Observer) → observer_at (observer_numbers o) ≡ o
 observer_back Plain = refl
 observer_back (Hazard f) = refl
 observer_back (Epoch e l) = refl
 
-heard_back : (hs : List Heard) → map heard_at (map heard_numbers hs) ≡ hs
-heard_back [] = refl
-heard_back (h ∷ hs) = λ i. record { thread = h.thread; column = column_back h.column i } ∷ heard_back hs i
+watcher_back : (w : Watcher) → watcher_at (watcher_numbers w) ≡ w
+watcher_back w = λ i. record { observer = observer_back w.observer i; thread = option_back w.thread i }
 
-table_back : (t : Table) → table_at (rows_of (table_numbers t)) ≡ t
-table_back t =
-    ap table_at (rows_back (observer_numbers t.observer ∷ column_numbers t.unheard ∷ map heard_numbers t.heard))
-    ∙ (λ i. record { observer = observer_back t.observer i; unheard = column_back t.unheard i; heard = heard_back t.heard i })
+row_of_back : (r : Row) → row_at (row_numbers r) ≡ r
+row_of_back r = λ i. record { address = r.address; retired = mark_back r.retired i; at = options_back r.at i }
 
-tables_back : (ts : List Table) → map (λ ns. table_at (rows_of ns)) (map table_numbers ts) ≡ ts
-tables_back [] = refl
-tables_back (t ∷ ts) = λ i. table_back t i ∷ tables_back ts i
-
-pub watch_back : (w : Watch) → watch_of (numbers_of w) ≡ w
-unfolding numbers_of watch_of
-watch_back w = ap watch_at (rows_back (w.waiting ∷ map table_numbers w.tables)) ∙ (λ i. record { waiting = w.waiting; tables = tables_back w.tables i })
+pub locations_back : (l : Locations) → locations_of (numbers_of l) ≡ l
+unfolding numbers_of locations_of
+locations_back l =
+    ap locations_at (rows_back ((l.unheard ∷ []) ∷ map option_number l.others ∷ rows (map watcher_numbers l.watchers) ∷ rows (map row_numbers l.rows) ∷ []))
+    ∙ (λ i. record {
+      unheard = l.unheard;
+      watchers = all_back watcher_numbers watcher_at watcher_back l.watchers i;
+      others = options_back l.others i;
+      rows = all_back row_numbers row_at row_of_back l.rows i;
+    })
 
 -- ---- the meanings of a reclaimer, at the numbers of what it keeps
 
-pub begun_with_is : (os : List Observer) → begun_with os ≡ numbers_of (fresh_watch os)
+pub begun_with_is : (os : List Observer) → begun_with os ≡ numbers_of (fresh os)
 unfolding begun_with
 begun_with_is os = refl
 
-pub held_after_is : (w : Watch) (e : Event) → held_after (numbers_of w) e ≡ numbers_of (watch_after w e)
+pub held_after_is : (l : Locations) (e : Event) → held_after (numbers_of l) e ≡ numbers_of (locations_after e l)
 unfolding held_after
-held_after_is w e = ap (λ w. numbers_of (watch_after w e)) (watch_back w)
+held_after_is l e = ap (λ l. numbers_of (locations_after e l)) (locations_back l)
 
-pub free_of_is : (w : Watch) → free_of (numbers_of w) ≡ first_free w
+pub free_of_is : (l : Locations) → free_of (numbers_of l) ≡ first_free l
 unfolding free_of
-free_of_is w = ap first_free (watch_back w)
+free_of_is l = ap first_free (locations_back l)

@@ -4,6 +4,4 @@ pub mod Lookup
 pub mod Meanings
 pub mod Rows
 -- words of private functions alone
-pub mod Tables
-pub mod Waiting
-pub mod Watch
+pub mod Numbers

@@ -7,8 +7,7 @@ use Rattle.plc_auto.specs.declared.event.Event.{Event}
 use Rattle.plc_auto.specs.declared.event.Event.TheVariants.{Call as Called, Done as Returned, Free as Freed}
 use Rattle.plc_auto.specs.declared.observer.Observer.{Observer}
 use Rattle.plc_auto.specs.declared.observer.Observer.TheVariants as observers
-use Rattle.plc_auto.specs.Table.{r_kept}
-use Rattle.plc_auto.specs.Location.{location}
+use Rattle.plc_auto.specs.Location.{location, is_kept_at}
 use Rattle.plc_auto.specs.declared.scheme.Scheme.{Scheme}
 use Rattle.plc_auto.specs.declared.scheme.Scheme.TheVariants.{Hazard, Epoch}
 use Rattle.plc_reclaim.specs.Meanings.{Meanings}
@@ -59,11 +58,6 @@ threads_in (Called t f b ∷ events) = t ∷ threads_in events
 threads_in (Returned t f ∷ events) = t ∷ threads_in events
 threads_in (Freed a ∷ events) = threads_in events
 
--- the location is `r.kept`, which has one number in both tables; `bad` isn't
-abbrev pub is_kept_at : Option ℕ → Bool
-is_kept_at None = false
-is_kept_at (Some l) = l == r_kept
-
 -- some thread stands in `r.kept` for the address
 abbrev pub is_kept_by : List Event → ℕ → Observer → Bool
 is_kept_by events a o = list_any (λ t. is_kept_at (location o events t a)) (threads_in events)
@@ -71,6 +65,10 @@ is_kept_by events a o = list_any (λ t. is_kept_at (location o events t a)) (thr
 -- no thread stands there for the address, by the table of any of these observers
 abbrev pub is_kept_by_none : List Observer → List Event → ℕ → Bool
 is_kept_by_none os events a = not (list_any (is_kept_by events a) os)
+
+-- no scheme's
+abbrev pub none_of : Scheme → Option Observer
+none_of scheme = None
 
 -- the observer of a Hazard scheme
 abbrev pub hazard_of : Scheme → Option Observer

@@ -1,20 +1,20 @@
-// The reclaimers that watch threads: each frees in the order of retirement what no thread keeps by the
-// tables of the observers that it serves. Which schemes have such an observer, and the name, is all in
-// which they differ.
+// The reclaimers that free: each frees in the order of retirement what no thread keeps by the tables of
+// the observers that it serves, and keeps where the threads stand by these. Which schemes have such an
+// observer, and the name, is all in which they differ.
 ghost use Rattle.std.specs.Prelude.{◌≡◌, ℕ, List, [], Option, IfOk};
 ghost use Rattle.std.specs.List.{filter_map};
 ghost use Rattle.plc_auto.specs.declared.observer.Observer.{Observer};
 ghost use Rattle.plc_auto.specs.declared.scheme.Scheme.{Scheme};
-ghost use Rattle.plc_reclaim.specs.Watch.{fresh_watch, numbers_of, by_tables};
+ghost use Rattle.plc_auto.specs.Locations.{fresh};
+ghost use Rattle.plc_reclaim.specs.Numbers.{numbers_of, by_tables};
 
 use crate::reclaimer::Reclaimer;
-use crate::watch::Watch;
-use plc_auto::{Event, Observer, Scheme};
+use plc_auto::{Event, Locations, Observer, Scheme};
 use plc_base::NoMemory;
 use std::alloc::Global;
 use std::marker::PhantomData;
 
-/// What a reclaimer serves that watches threads.
+/// What a reclaimer serves that frees.
 pub trait Serves: Drop {
     /// The observer of a scheme that is served.
     ghost observer: { Scheme → Option Observer };
@@ -34,24 +34,24 @@ pub trait Serves: Drop {
 /// A reclaimer that frees in the order of retirement what no thread keeps by the tables of these schemes.
 #[derive(Drop)]
 pub struct ByTables<S: Serves> {
-    watch: Watch,
+    locations: Locations,
     serves: PhantomData<S>,
 }
 
 impl<S: Serves> ByTables<S> {
     /// A reclaimer that was given no scheme and handed nothing yet. It takes no memory.
     pub fn new_serving(alloc: Global) -> ByTables<S>
-        ensures { result.watch ≡ fresh_watch [] }
+        ensures { result.locations ≡ fresh [] }
     {
         ByTables {
-            watch: Watch::new(alloc),
+            locations: Locations::new(alloc),
             serves: PhantomData,
         }
     }
 }
 
 impl<S: Serves> Reclaimer for ByTables<S> {
-    ghost held = { λ r. numbers_of r.watch };
+    ghost held = { λ r. numbers_of r.locations };
 
     ghost meanings = { λ _. by_tables (filter_map S.observer) };
 
@@ -63,18 +63,19 @@ impl<S: Serves> Reclaimer for ByTables<S> {
 
     #[tactic(auto, using(crate::proofs::Numbers::begun_with_is))]
     fn begin(&mut self, schemes: &[Scheme]) -> Result<(), NoMemory> {
-        let observers = observers::<S>(self.watch.alloc(), schemes)?;
-        self.watch.begin(&observers)
+        let observers = observers::<S>(self.locations.alloc(), schemes)?;
+        self.locations = Locations::fresh(self.locations.alloc(), &observers)?;
+        Ok(())
     }
 
     #[tactic(auto, using(crate::proofs::Numbers::held_after_is))]
     fn event(&mut self, e: Event) -> Result<(), NoMemory> {
-        self.watch.hear(&e)
+        self.locations.hear(&e)
     }
 
     #[tactic(auto, using(crate::proofs::Numbers::free_of_is))]
     fn pick(&mut self) -> Option<u32> {
-        self.watch.first_free()
+        self.locations.first_free()
     }
 }
 

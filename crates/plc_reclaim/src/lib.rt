@@ -7,16 +7,12 @@
 
 mod by_list;
 mod by_tables;
-mod column;
 mod epoch;
 mod hazard;
 mod laws;
 mod leak;
 mod lookup;
 mod reclaimer;
-mod table;
-mod waiting;
-mod watch;
 
 pub use by_list::ByList;
 pub use epoch::Epoch;
