@@ -4,5 +4,6 @@ pub mod Joined
 pub mod Nodes
 pub mod Outcomes
 pub mod Places
+pub mod Undone
 pub mod Views
 pub mod Validity
