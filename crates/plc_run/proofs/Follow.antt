@@ -33,18 +33,18 @@ judged o p a follows = may_free_same o (λ t. stands p.located t a) (λ t. locat
 
 -- ---- frees in code
 
-pub free_forbidden : (o : Observer) (p : Position) (a : ℕ) → Follows o p → (a ≡ 0 → ⊥) → may_free o (λ t. stands p.located t a) a (threads_of p) ≡ false → Forbids ≡ free_of o p.here a
+pub free_forbidden : (o : Observer) (p : Position) (a : ℕ) → Follows o p → (a ≡ 0 → ⊥) → may_free o (λ t. stands p.located t a) a (threads_of p) ≡ false → Forbids a ≡ free_of o p.here a
 free_forbidden o p a follows pos keeps =
     let d = Goes (record p.here { state = freed p.here.state a; history = p.here.history ++ Freed a ∷ [] }) in
     let may = may_free o (λ t. location o p.here.history t a) a (threads_of p) in
-    sym (ap (λ b. cond b Blocks (cond may d Forbids)) (ne_eqb a 0 pos) ∙ ap (λ b. cond b d Forbids) (sym (judged o p a follows) ∙ keeps))
+    sym (ap (λ b. cond b Blocks (cond may d (Forbids a))) (ne_eqb a 0 pos) ∙ ap (λ b. cond b d (Forbids a)) (sym (judged o p a follows) ∙ keeps))
 
 pub free_goes : (o : Observer) (p : Position) (a : ℕ) → Follows o p → (a ≡ 0 → ⊥) → may_free o (λ t. stands p.located t a) a (threads_of p) ≡ true
     → Goes (record p.here { state = freed p.here.state a; history = p.here.history ++ Freed a ∷ [] }) ≡ free_of o p.here a
 free_goes o p a follows pos frees =
     let d = Goes (record p.here { state = freed p.here.state a; history = p.here.history ++ Freed a ∷ [] }) in
     let may = may_free o (λ t. location o p.here.history t a) a (threads_of p) in
-    sym (ap (λ b. cond b Blocks (cond may d Forbids)) (ne_eqb a 0 pos) ∙ ap (λ b. cond b d Forbids) (sym (judged o p a follows) ∙ frees))
+    sym (ap (λ b. cond b Blocks (cond may d (Forbids a))) (ne_eqb a 0 pos) ∙ ap (λ b. cond b d (Forbids a)) (sym (judged o p a follows) ∙ frees))
 
 pub free_done : (o : Observer) (p q : Position) (a : ℕ) → Follows o p → (a ≡ 0 → ⊥) → may_free o (λ t. stands p.located t a) a (threads_of p) ≡ true
     → q.here.state ≡ freed p.here.state a → q.here.history ≡ p.here.history ++ Freed a ∷ [] → q.here.points ≡ p.here.points → q.ended ≡ p.ended → Reaches (free_of o p.here a) p q

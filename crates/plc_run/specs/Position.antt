@@ -59,5 +59,6 @@ Answers flow o p move moved.Done q =
     (p.ended ≡ false) × (q.ended ≡ false) × Moves flow o (threads_of p) p.here move q.here
 Answers flow o p move (moved.Race kind k) q =
     (p.ended ≡ false) × Races flow (threads_of p) p.here move kind k × (q ≡ record p { ended = true })
-Answers flow o p move moved.Forbidden q = (p.ended ≡ false) × IsForbidden o (threads_of p) p.here move × (q ≡ p)
+Answers flow o p move (moved.Forbidden a) q =
+    (p.ended ≡ false) × (move ≡ Free a) × IsForbidden o (threads_of p) p.here move × (q ≡ p)
 Answers flow o p move moved.Blocked q = (p.ended ≡ false → HasNone flow o (threads_of p) p.here move) × (q ≡ p)

@@ -1,6 +1,9 @@
 // The words of a run, whichever meaning memory has: its moves, the places of memory that hold a number, and why a run may
 // have no beginning.
-use plc_base::{FieldId, Items, OpId};
+ghost use Rattle.std.specs.Prelude.{◌≡◌};
+ghost use Rattle.plc_threads.specs.declared.words.StartFault.TheVariants.{Memory};
+
+use plc_base::{FieldId, Items, NoMemory, OpId};
 
 /// A move of a run.
 #[derive(Drop)]
@@ -22,6 +25,14 @@ pub enum StartFault {
     NoStart,
     /// Memory ran out.
     Memory,
+}
+
+impl From<NoMemory> for StartFault {
+    ghost from_gives = { λ _ fault. fault ≡ Memory };
+
+    fn from(_fault: NoMemory) -> Self {
+        Self::Memory
+    }
 }
 
 /// A place of the memory that holds a number.
