@@ -4,3 +4,9 @@ pub mod Closures
 pub mod Histories
 pub mod Letters
 pub mod Growth
+pub mod Stays
+pub mod Moving
+pub mod Ends
+pub mod Ordered
+pub mod Watched
+pub mod Unheard

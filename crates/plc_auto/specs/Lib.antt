@@ -5,3 +5,8 @@ pub mod Events
 pub mod Schemes
 pub mod Sets
 pub mod Laws
+pub mod Waiting
+pub mod Locations
+pub mod Following
+-- words of private functions alone
+pub mod Moves

@@ -4,18 +4,25 @@
 #![tactic(auto)]
 
 mod event;
+mod hearing;
 mod laws;
+mod location_laws;
+mod locations;
 mod observer;
+mod row;
 mod scheme;
 mod set_laws;
 mod sets;
 mod table;
+mod watcher;
 
 pub use event::{EvKind, Event};
 pub use laws::{
     frees_follow_retirements, histories_are_judged_by_the_last, letters_turn,
     locations_follow_histories, null_is_other, retired_for_all_threads,
 };
+pub use location_laws::{locations_follow_observers, locations_of_threads_follow};
+pub use locations::Locations;
 pub use observer::Observer;
 pub use scheme::{Scheme, schemes_of};
 pub use set_laws::{closures_are_least, sets_grow, sets_of_locations};

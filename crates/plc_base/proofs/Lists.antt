@@ -1,7 +1,8 @@
--- What stands at a place of a list, and what is left of it from a place on.
-use Rattle.std.proofs.Common.{◌≡◌, ℕ, zero, suc, ◌+◌, ◌<◌, ◌⊎◌, inl, inr, List, [], ◌∷◌, ◌++◌, Option, Some, None, length, get_or, drop, reverse, slice_get, ap, ◌∙◌, arith}
+-- What stands at a place of a list, what is left of it from a place on, and lists that are written place by place.
+use Rattle.std.proofs.Common.{◌≡◌, ℕ, zero, suc, ◌+◌, ◌<◌, ◌⊎◌, inl, inr, List, [], ◌∷◌, ◌++◌, Option, Some, None, Vec, length, set, get_or, take, drop, map, reverse, slice_get, refl, sym, ap, ◌∙◌, arith, add-one}
+use Rattle.std.specs.Vec.{with_items}
 use Rattle.std.proofs.lemmas.Bool.{cases_lt}
-use Rattle.std.proofs.lemmas.List.{reverse-append}
+use Rattle.std.proofs.lemmas.List.{reverse-append, length-map, with_items_is}
 
 -- a number below a successor
 pub below_or_last : (j k : ℕ) → j < k + 1 → (j < k) ⊎ (j ≡ k)
@@ -38,3 +39,19 @@ held_below (y ∷ xs) (suc i) x e = let h = held_below xs i x e in omega arith
 -- the newest of a list that grows at its end comes first in its reverse
 pub newest_first : {A : Type 0} (xs ys : List A) (x : A) → ys ≡ xs ++ x ∷ [] → reverse ys ≡ x ∷ reverse xs
 newest_first xs ys x e = ap reverse e ∙ reverse-append xs (x ∷ [])
+
+-- a loop that writes each item in place
+pub mapped_more : {A : Type 0} (f : A → A) (xs ys zs : List A) (i : ℕ) (d : A) → i < length xs → ys ≡ map f (take i xs) ++ drop i xs → zs ≡ set ys i (f (get_or ys i d)) → zs ≡ map f (take (i + 1) xs) ++ drop (i + 1) xs
+mapped_more {A = A} f xs ys zs i d h e k = k ∙ ap (λ us. set us i (f (get_or us i d))) e ∙ rw add-one (go xs i h)
+  where
+    go : (xs : List A) (i : ℕ) → i < length xs → set (map f (take i xs) ++ drop i xs) i (f (get_or (map f (take i xs) ++ drop i xs) i d)) ≡ map f (take (suc i) xs) ++ drop (suc i) xs
+    go [] i h = absurd (omega arith)
+    go (x ∷ xs) zero h = refl
+    go (x ∷ xs) (suc i) h = ap (λ zs. f x ∷ zs) (go xs i (omega arith))
+
+-- a list that was lent as a slice
+pub items_kept : {X Z : Type 0} (v : Vec X Z) (ws : List X) → length ws ≡ length v.items → (with_items v ws).items ≡ ws
+items_kept v ws h = with_items_is v ws (h ∙ sym v.ok.0)
+
+pub items_mapped : {X Z : Type 0} (v : Vec X Z) (ws : List X) (f : X → X) → ws ≡ map f v.items → (with_items v ws).items ≡ map f v.items
+items_mapped v ws f e = items_kept v ws (ap length e ∙ length-map v.items f) ∙ e

@@ -18,22 +18,6 @@ set_past [] i v h = refl
 set_past (x ∷ xs) zero v h = absurd (omega arith)
 set_past (x ∷ xs) (suc i) v h = ap (λ zs. x ∷ zs) (set_past xs i v (omega arith))
 
--- a loop that writes each item in place
-pub mapped_more : {A : Type 0} (f : A → A) (xs ys zs : List A) (i : ℕ) (d : A) → i < length xs → ys ≡ map f (take i xs) ++ drop i xs → zs ≡ set ys i (f (get_or ys i d)) → zs ≡ map f (take (i + 1) xs) ++ drop (i + 1) xs
-mapped_more {A = A} f xs ys zs i d h e k = k ∙ ap (λ us. set us i (f (get_or us i d))) e ∙ rw add-one (go xs i h)
-  where
-    go : (xs : List A) (i : ℕ) → i < length xs → set (map f (take i xs) ++ drop i xs) i (f (get_or (map f (take i xs) ++ drop i xs) i d)) ≡ map f (take (suc i) xs) ++ drop (suc i) xs
-    go [] i h = absurd (omega arith)
-    go (x ∷ xs) zero h = refl
-    go (x ∷ xs) (suc i) h = ap (λ zs. f x ∷ zs) (go xs i (omega arith))
-
--- a list that was lent as a slice
-pub items_kept : {X Z : Type 0} (v : Vec X Z) (ws : List X) → length ws ≡ length v.items → (with_items v ws).items ≡ ws
-items_kept v ws h = with_items_is v ws (h ∙ sym v.ok.0)
-
-pub items_mapped : {X Z : Type 0} (v : Vec X Z) (ws : List X) (f : X → X) → ws ≡ map f v.items → (with_items v ws).items ≡ map f v.items
-items_mapped v ws f e = items_kept v ws (ap length e ∙ length-map v.items f) ∙ e
-
 -- ---- a cell that a free passes by
 
 pub cut_keeps : (a : ℕ) (c : Cell) → (c.number ≡ a → ⊥) → cut a c ≡ c

@@ -1,7 +1,8 @@
 use Rattle.std.proofs.Common.{sym, ◌∙◌, ap, set, get_or, false}
 use Rattle.plc_mem.specs.declared.cell.Cell.{Cell}
 use Rattle.plc_mem.specs.State.{cut}
-use Rattle.plc_mem.proofs.Places.{mapped_more, cut_keeps, cut_clears}
+use Rattle.plc_base.proofs.Lists.{mapped_more}
+use Rattle.plc_mem.proofs.Places.{cut_keeps, cut_clears}
 use Rattle.plc_mem.proofs.cells.cut_cells.Goals.{then-cell-a, else-cell-a}
 use Rattle.plc_mem.proofs.cells.cut_cells.Goals as goal
 

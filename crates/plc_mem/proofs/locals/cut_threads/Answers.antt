@@ -1,6 +1,6 @@
 use Rattle.std.proofs.Common.{ap, set}
 use Rattle.plc_mem.specs.State.{cut_locals}
-use Rattle.plc_mem.proofs.Places.{mapped_more}
+use Rattle.plc_base.proofs.Lists.{mapped_more}
 use Rattle.plc_mem.proofs.locals.cut_threads.Goals as goal
 
 pub loop-held-preserved : goal.loop-held-preserved

@@ -1,6 +1,6 @@
 use Rattle.std.proofs.Common.{◌∙◌, ap, set, map}
 use Rattle.plc_mem.specs.State.{cut, cut_node}
-use Rattle.plc_mem.proofs.Places.{mapped_more, items_mapped}
+use Rattle.plc_base.proofs.Lists.{mapped_more, items_mapped}
 use Rattle.plc_mem.proofs.node.cut_nodes.Goals as goal
 
 pub loop-node-preserved : goal.loop-node-preserved

@@ -1,5 +1,5 @@
 use Rattle.std.proofs.Common.{ap, set}
-use Rattle.plc_mem.proofs.Places.{mapped_more}
+use Rattle.plc_base.proofs.Lists.{mapped_more}
 use Rattle.plc_run.specs.Table.{row_after}
 use Rattle.plc_run.proofs.table.move_rows.Goals as goal
 

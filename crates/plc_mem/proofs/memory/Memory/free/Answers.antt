@@ -1,6 +1,7 @@
 use Rattle.std.proofs.Common.{subst, sym, refl, ap, ◌∙◌, map, length}
 use Rattle.plc_mem.specs.State.{freed, cut, cut_locals}
-use Rattle.plc_mem.proofs.Places.{nodes_fit_cut, nodes_fit_filter, items_mapped}
+use Rattle.plc_base.proofs.Lists.{items_mapped}
+use Rattle.plc_mem.proofs.Places.{nodes_fit_cut, nodes_fit_filter}
 use Rattle.plc_mem.specs.Coherence.{IsCoherent}
 use Rattle.plc_mem.proofs.Coherence.{coherence}
 use Rattle.plc_mem.proofs.memory.Memory.free.Goals as goal

@@ -1,7 +1,7 @@
 use Rattle.std.proofs.Common.{map, ap, sym, ◌∙◌}
 use Rattle.plc_mem.specs.State.{cut_node}
 use Rattle.plc_mem.specs.Access.{addresses_of}
-use Rattle.plc_mem.proofs.Places.{items_mapped}
+use Rattle.plc_base.proofs.Lists.{items_mapped}
 use Rattle.plc_mem.proofs.Index.{index_without}
 use Rattle.plc_mem.proofs.node.Nodes.free.Goals as goal
 

@@ -1,0 +1,17 @@
+use Rattle.std.proofs.Common.{map, ap, sym, ◌∙◌}
+use Rattle.plc_auto.specs.Moves.{one_elsewhere}
+use Rattle.plc_auto.proofs.Moving.{column_more, column_stays, none_moved}
+use Rattle.plc_auto.proofs.hearing.move_own.Goals.{then-is_own, else-is_own}
+use Rattle.plc_auto.proofs.hearing.move_own.Goals as goal
+
+pub loop-i-init : goal.loop-i-init
+loop-i-init c = sym (none_moved c.args.e.now c.args.rows.now)
+
+pub loop-i-preserved : goal.loop-i-preserved
+loop-i-preserved c =
+    let e = c.args.e.now in
+    let ws = c.args.watchers.now in
+    elim c.if-is_own.branch [
+      | then-is_own w ↦ w.rows-is ∙ w.move_one.ensures ∙ ap (map (one_elsewhere e c.loop-i.i _)) c.loop-i.invariant ∙ column_more e ws c.loop-i.i _ c.args.rows.now c.loop-i-test.true
+      | else-is_own w ↦ w.rows-is ∙ c.loop-i.invariant ∙ column_stays e ws c.loop-i.i _ c.args.rows.now c.loop-i-test.true (sym c.is_own.ensures ∙ w.if-is_own.false)
+    ]

@@ -1,0 +1,92 @@
+// What one watcher reads: the events of its thread, or of every thread that wasn't heard, by the table of its
+// observer.
+ghost use Rattle.std.specs.Prelude.{◌≡◌, take};
+ghost use Rattle.plc_auto.specs.Table.{step, target_of};
+ghost use Rattle.plc_auto.specs.Location.{is_kept_at};
+ghost use Rattle.plc_auto.specs.Events.{kind_of, thread_of};
+ghost use Rattle.plc_auto.specs.Locations.{is_by, moved, same_location};
+
+use crate::event::{EvKind, Event};
+use crate::observer::Observer;
+use crate::table::R_KEPT;
+use plc_base::LocId;
+
+/// An observer of one thread, or of every thread that wasn't heard.
+#[derive(Clone, Copy)]
+pub struct Watcher {
+    pub observer: Observer,
+    /// The thread; `None` stands for all that weren't heard.
+    pub thread: Option<u32>,
+}
+
+/// The first `n` of these, or all where there are fewer.
+pub fn first<T>(items: &[T], n: usize) -> &[T]
+    ensures { result.now ≡ take n items.now }
+{
+    if n < items.len() { &items[..n] } else { items }
+}
+
+/// Whether a thread is that of a call or a return, if there is one.
+pub fn is_by(by: Option<u32>, thread: Option<u32>) -> bool
+    ensures { result ≡ is_by by thread }
+{
+    match (by, thread) {
+        (Some(u), Some(t)) => u == t,
+        _ => false,
+    }
+}
+
+/// Whether an event is a call or a return of the watcher's own thread.
+pub fn is_own(e: &Event, watcher: &Watcher) -> bool
+    ensures { result ≡ is_by (thread_of e.now) watcher.now.thread }
+{
+    is_by(e.thread(), watcher.thread)
+}
+
+/// Where an event leads from a location; a number that is none is never left.
+fn moved_from(
+    observer: &Observer,
+    kind: EvKind,
+    by_own: bool,
+    on_this: bool,
+    l: LocId,
+) -> Option<LocId>
+    ensures { target_of result ≡ step observer.now l.0 kind by_own on_this }
+{
+    if l.0 < observer.count() {
+        observer.step(l, kind, by_own, on_this)
+    } else {
+        Some(l)
+    }
+}
+
+/// Where an event leads a watcher; `bad` is never left. `on_this` says whether it names the address.
+pub fn moved(e: &Event, on_this: bool, watcher: &Watcher, at: Option<LocId>) -> Option<LocId>
+    ensures { target_of result ≡ moved e.now on_this watcher.now (target_of at) }
+{
+    match at {
+        None => None,
+        Some(l) => moved_from(&watcher.observer, e.kind(), is_own(e, watcher), on_this, l),
+    }
+}
+
+/// Whether two locations are the same.
+pub fn same_location(at: Option<LocId>, other: Option<LocId>) -> bool
+    ensures { result ≡ same_location (target_of at) (target_of other) }
+{
+    match (at, other) {
+        (None, None) => true,
+        (Some(l), Some(k)) => l.0 == k.0,
+        _ => false,
+    }
+}
+
+/// Whether a location is that of an address which was retired while its thread protected it.
+pub fn is_kept_at(at: Option<LocId>) -> bool
+    ensures { result ≡ is_kept_at (target_of at) }
+{
+    match at {
+        None => false,
+        Some(l) => l.0 == R_KEPT,
+    }
+}
