@@ -31,7 +31,7 @@ use Rattle.plc_run.proofs.Executing.{given_back}
 use Rattle.plc_flow.specs.declared.points.Point.{Point}
 use Rattle.plc_run.specs.Run.{Ending, Fine, Stuck, Raced, turn, recorded, execute, Configuration, point_of, taken, Moves, Run, begin, more, beginning, initialised, first_configuration}
 use Rattle.plc_flow.specs.Points.{names_rightly}
-use Rattle.plc_run.specs.Reach.{Reached, Goes, Blocks, Forbids, Breaks, started, start_from, return_from, ended_as, concluded, step_leads, is_fine, came_about, Tries, Acts, ActsWith, take_step, step_from, free_of, reach, answer, Reaches}
+use Rattle.plc_run.specs.Reach.{Reached, Goes, Blocks, Forbids, Breaks, started, start_from, return_from, ended_as, concluded, step_leads, is_fine, Tries, Acts, ActsWith, take_step, step_from, free_of, reach, answer, Reaches}
 use Rattle.plc_run.specs.declared.moved.Moved.{Moved}
 use Rattle.plc_run.specs.Position.{Position, threads_of, Follows, IsOfRun, Answers}
 use Rattle.plc_run.proofs.Reaching.{LeadsTo, reach_leads}
@@ -183,11 +183,7 @@ pub locals_back_err : (v q new : Position) (lent s : State) (t : ℕ) (l m : Loc
 locals_back_err v q new lent s t l m (Ok e) held rest same err given = tt
 locals_back_err v q new lent s t l m (Err x) held rest same err given = restored v q lent s t l m held rest (same ∙ err.0) err.1 given
 
--- ---- primitives that are taken back
-
--- the position with the memory of before is that of before, where the observer heard nothing
-pub as_before : (p q : Position) (s : State) → s ≡ p.here.state → q.here.history ≡ p.here.history → q.here.points ≡ p.here.points → q.ended ≡ p.ended → q.located ≡ p.located → record q { here = record q.here { state = s } } ≡ p
-as_before p q s state history points ended located = λ i. record { here = record { state = state i; history = history i; points = points i }; ended = ended i; located = located i }
+-- ---- primitives that were tried
 
 -- they left the memory and the locals so, and nothing else is new
 pub tried_unheard : (t a : ℕ) (ps : List Primitive) (v : Position) (s : State) (l m : Locals) (r : Result Ended NoMemory) (us : List Undo) → TakesBack t v.here.state l us s m
@@ -204,29 +200,6 @@ tried_heard t a ps v q s g l m us takes ran here ended = record {
   ended = ended;
   unheard = λ halts. cc;
 }
-
--- all of them came about
-pub came : (t a : ℕ) (ps : List Primitive) (p q : Position) (l m : Locals) (r : Result Ended NoMemory) (us : List Undo) → came_about r ≡ true → Tries t a ps p l r q m us → IfOk r (λ e. ActsWith t a ps p l e q m)
-came t a ps p q l m (Ok e) us fine tries = record { ends = tries.ends; points = tries.points; ended = tries.ended; unchanged = λ halts. absurd (let x : is_fine e ≡ true = fine in cc) }
-came t a ps p q l m (Err x) us fine tries = tt
-
--- they didn't, and were taken back
-pub halted : (t a : ℕ) (ps : List Primitive) (p q new : Position) (l m : Locals) (r : Result Ended NoMemory) (us : List Undo) → came_about r ≡ false → Tries t a ps p l r q m us → new ≡ p → IfOk r (λ e. ActsWith t a ps p l e new l)
-halted t a ps p q new l m (Ok e) us halts tries same =
-    let ends = go e halts tries.ends in
-    record {
-      ends = ends;
-      points = ap (λ (q : Position). q.here.points) same;
-      ended = ap (λ (q : Position). q.ended) same;
-      unchanged = λ h. (same, refl);
-    }
-  where
-    go : (e : Ended) → is_fine e ≡ false → ending e (with_locals q.here.state t (Some m)) q.here.history ≡ execute (with_locals p.here.state t (Some l)) p.here.history t a 0 ps
-        → ending e (with_locals new.here.state t (Some l)) new.here.history ≡ execute (with_locals p.here.state t (Some l)) p.here.history t a 0 ps
-    go ends.Fine h ran = cc
-    go ends.Stuck h ran = ran
-    go (ends.Raced kind k) h ran = ran
-halted t a ps p q new l m (Err x) us halts tries same = tt
 
 -- ---- where a step leads
 

@@ -109,14 +109,14 @@ answer Blocks = moved.Blocked
 answer (Forbids a) = moved.Forbidden a
 answer (Breaks kind k) = moved.Race kind k
 
--- the position after it; where a move goes on so does the table, which `Follows` says
+-- the position after it; where a move goes on so do the locations, which `Follows` says
 abbrev pub Reaches : Reached → Position → Position → Type 0
 Reaches (Goes d) p q = (q.here ≡ d) × (q.ended ≡ p.ended)
 Reaches Blocks p q = q ≡ p
 Reaches (Forbids a) p q = q ≡ p
 Reaches (Breaks kind k) p q = q ≡ record p { ended = true }
 
--- what the code answers where a step leads to this, and the position after it, whose table follows the observer; where
+-- what the code answers where a step leads to this, and the position after it, whose locations follow the observer; where
 -- memory runs out the position is as it was
 pub record Comes (o : Observer) (r : Reached) (p : Position) (result : Result Moved NoMemory) (q : Position)
     : Type 0 where

@@ -1,10 +1,11 @@
-// A configuration of a run in code, with the table by which frees are judged. A step's primitives are taken on the memory
-// itself, and what takes them back is noted beside them: where one is blocked, is a race, or memory runs out, also for
+// A configuration of a run in code, with the locations by which frees are judged. A step's primitives are taken on the
+// memory itself, and what takes them back is noted beside them: where one is blocked, is a race, or memory runs out, also for
 // what the observer hears of the step, they are taken back, and the configuration is as it was. The other moves ask for
 // their memory before they change anything.
 ghost use Rattle.std.specs.Prelude.{◌≡◌, ℕ, ◌<◌, ◌++◌, ◌∷◌, [], Option, IfOk, OnOk, OnErr, Some, None};
 ghost use Rattle.std.specs.Prelude.{get_or, length, replicate, false};
 ghost use Rattle.plc_lang.specs.Shape.{PrimitivesIn};
+ghost use Rattle.plc_auto.specs.declared.observer.Observer.{Observer};
 ghost use Rattle.plc_flow.specs.WellFormed.{FlowFits};
 ghost use Rattle.plc_mem.specs.State.{Locals};
 ghost use Rattle.plc_mem.specs.Outcomes.{address_or_null};
@@ -19,8 +20,7 @@ ghost use Rattle.plc_run.specs.Position.{threads_of, Follows, IsOfRun, Answers, 
 
 use crate::execute::{Ended, execute, try_init};
 use crate::moved::Moved;
-use crate::table::Table;
-use plc_auto::{Event, Observer};
+use plc_auto::{Event, Locations, Observer};
 use plc_base::{NoMemory, OpId};
 use plc_flow::{Flow, Point, Step, names_rightly};
 use plc_lang::Prim;
@@ -43,7 +43,7 @@ pub struct Config {
     alloc: Global,
     memory: Memory,
     history: Vec<Event>,
-    table: Table,
+    located: Locations,
     points: Vec<Option<Point>>,
     ended: bool,
 }
@@ -57,7 +57,7 @@ impl Model for Config {
     ghost view = { λ c. record {
       here = record { state = c.memory; history = c.history.items; points = c.points.items };
       ended = c.ended;
-      located = c.table.locations;
+      located = c.located;
     } };
 
     ghost invariant = { λ c. (0 < length c.points.items) × (length c.points.items < 2 ^ 32) };
@@ -104,11 +104,12 @@ impl Config {
         ensures follows { IfOk result (λ c. Follows observer.now c) }
     {
         let points = none_held(alloc, threads as usize)?;
-        let table = Table::after(alloc, observer, threads, &history)?;
+        let mut located = Locations::of_threads(alloc, *observer, threads)?;
+        located.hear_all(&history)?;
         Ok(Config {
             alloc,
             memory,
-            table,
+            located,
             history,
             points,
             ended: false,
@@ -315,7 +316,7 @@ impl Config {
         let ended = execute(&mut self.memory, me, &mut events, undos, prims, t, addr)?;
         match ended {
             Ended::Fine => {
-                self.hear(observer, &events)?;
+                self.hear(&events)?;
                 Ok(Ended::Fine)
             }
             Ended::Stuck => Ok(Ended::Stuck),
@@ -332,18 +333,17 @@ impl Config {
         Moved::Race { kind, prim }
     }
 
-    /// Puts events after the history, and moves the table by them. The rows that the table lacks are made first.
-    fn hear(&mut self, observer: &Observer, events: &[Event]) -> Result<(), NoMemory>
-        requires follows { Follows observer.now self.old }
+    /// Puts events after the history, and moves the locations by them. The history's places are made first.
+    fn hear(&mut self, events: &[Event]) -> Result<(), NoMemory>
         ensures here { OnOk result (self.new.here
             ≡ record self.old.here { history = self.old.here.history ++ events.now }) }
         ensures ended { self.new.ended ≡ self.old.ended }
-        ensures follows { Follows observer.now self.new }
+        ensures follows { (o : Observer) → Follows o self.old → Follows o self.new }
         ensures err { OnErr result (self.new ≡ self.old) }
     {
-        self.table.admit(events)?;
+        self.history.reserve(events.len())?;
+        self.located.hear_all(events)?;
         self.history.extend_from_slice(events)?;
-        self.table.hear(observer, events);
         Ok(())
     }
 
@@ -362,7 +362,7 @@ impl Config {
         Moved::Done
     }
 
-    /// A free, judged by the table for each thread.
+    /// A free, judged for each thread by where it stands.
     fn free_move(&mut self, observer: &Observer, a: u32) -> Result<Moved, NoMemory>
         requires follows { Follows observer.now self.old }
         ensures answer { IfOk result (λ r. r ≡ answer (free_of observer.now self.old.here a)) }
@@ -373,11 +373,10 @@ impl Config {
         if a == 0 {
             return Ok(Moved::Blocked);
         }
-        let threads = self.points.len() as u32;
-        if !self.table.may_free(observer, threads, a) {
+        if !self.located.may_free(a) {
             return Ok(Moved::Forbidden { a });
         }
-        self.hear(observer, &[Event::Free { a }])?;
+        self.hear(&[Event::Free { a }])?;
         self.memory.free(a);
         Ok(Moved::Done)
     }
