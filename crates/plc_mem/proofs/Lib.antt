@@ -6,5 +6,6 @@ pub mod Nodes
 pub mod Outcomes
 pub mod Opposites
 pub mod Places
+pub mod Undone
 pub mod Views
 pub mod Validity

@@ -5,5 +5,6 @@ pub mod Laws
 pub mod Outcomes
 pub mod Primitives
 pub mod State
+pub mod Undoing
 -- words of private functions alone
 pub mod Access

@@ -10,8 +10,10 @@ mod laws;
 mod locals;
 mod memory;
 mod node;
+mod undo;
 
 pub use cell::{Cell, Outcome, RaceKind};
 pub use laws::{accesses_agree, coherence_is_kept, memory_reads_back, tests_have_opposites};
 pub use locals::Locals;
 pub use memory::Memory;
+pub use undo::Undo;

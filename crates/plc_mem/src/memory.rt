@@ -9,8 +9,9 @@ ghost use Rattle.plc_mem.specs.State.{with_node, with_retired, with_locals, is_u
 ghost use Rattle.plc_mem.specs.State.{first_state, number_at, valid_at, place_of};
 ghost use Rattle.plc_mem.specs.Access.{cell_of};
 ghost use Rattle.plc_mem.specs.Primitives.{cell_at};
-ghost use Rattle.plc_mem.specs.Fit.{shape, Kept};
+ghost use Rattle.plc_mem.specs.Fit.{shape, NodesFit, Kept};
 ghost use Rattle.plc_mem.specs.Coherence.{IsCoherent, LocalsCoherent};
+ghost use Rattle.plc_mem.specs.Undoing.{without_last_node, without_last_retired};
 
 use crate::cell::Cell;
 use crate::cells::{cell_or_null, cut_cells};
@@ -287,5 +288,26 @@ impl Memory {
     {
         self.retired.push(a)?;
         Ok(())
+    }
+
+    /// Each node has a cell and a number for each field.
+    pub(crate) fn nodes_fit(&self)
+        ensures { NodesFit (length self.now.fields) self.now.nodes }
+    {
+        let _ = &self.nodes;
+    }
+
+    /// The node that was added last goes.
+    pub(crate) fn remove_last_node(&mut self)
+        ensures { self.new ≡ without_last_node self.old }
+    {
+        self.nodes.remove_last();
+    }
+
+    /// The address that was retired last is so no more.
+    pub(crate) fn remove_last_retired(&mut self)
+        ensures { self.new ≡ without_last_retired self.old }
+    {
+        let _last = self.retired.pop();
     }
 }

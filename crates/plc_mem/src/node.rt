@@ -2,7 +2,7 @@
 // them, so that no look-up searches the nodes. A table indexed by address would be as long as the
 // largest address that a schedule names.
 ghost use Rattle.std.specs.Prelude.{◌≡◌, ℕ, ◌==◌, ◌<◌, ◌++◌, ◌∷◌, [], false, not, get_or, set, map, filter, is_ok};
-ghost use Rattle.std.specs.Prelude.{if◌then◌else◌, length, IfOk};
+ghost use Rattle.std.specs.Prelude.{◌-◌, if◌then◌else◌, length, take, IfOk};
 ghost use Rattle.std.specs.List.{list_any, position};
 ghost use Rattle.plc_mem.specs.State.{Node, null_cell, node_of, put_node, fresh_node, cut_node};
 ghost use Rattle.plc_base.specs.Tables.{put_at};
@@ -226,6 +226,15 @@ impl Nodes {
         self.addresses.insert(a)?;
         self.nodes.push(node)?;
         Ok(())
+    }
+
+    /// Takes the node out that was added last, if there is one.
+    pub fn remove_last(&mut self)
+        ensures { self.new ≡ take (length self.old - 1) self.old }
+    {
+        let left = self.nodes.len().saturating_sub(1);
+        self.addresses.truncate(left);
+        self.nodes.truncate(left);
     }
 
     /// Takes the node of an address out, and makes the fields invalid that hold the address.

@@ -1,5 +1,5 @@
 -- A step taken primitive by primitive, as the code does.
-use Rattle.std.proofs.Common.{Result, Ok, Err, IfOk, OnOk, set, ◌≡◌, ℕ, zero, suc, ◌+◌, ◌<◌, Bool, true, false, List, [], ◌∷◌, Option, Some, None, drop, length, get_or, refl, sym, ap, ◌∙◌, arith, length-set}
+use Rattle.std.proofs.Common.{Result, Ok, Err, IfOk, set, ◌≡◌, ℕ, zero, suc, ◌+◌, ◌<◌, Bool, true, false, List, [], ◌∷◌, Option, Some, None, drop, length, get_or, refl, sym, ap, ◌∙◌, arith, length-set}
 use Rattle.std.proofs.lemmas.List.{at_drop_more}
 use Rattle.plc_lang.specs.declared.syntax.Primitive.{Primitive}
 use Rattle.plc_lang.specs.Shape.{Shape, PrimitiveIn, PrimitivesIn}
@@ -87,7 +87,7 @@ place_empty s lent new t rest same =
 -- ---- `init`
 
 pub init_ends : (s new : State) (h g : List Event) (init ps : List Primitive) (me left : Locals) (r : Result Ended NoMemory) → me ≡ no_locals → ps ≡ init
-    → IfOk r (λ e. ending e (with_locals new 0 (Some left)) g ≡ execute (with_locals s 0 (Some me)) h 0 1 0 ps) → OnOk r (Kept s me new left) → IfOk r (λ e. InitEnds s h init e new g)
+    → IfOk r (λ e. ending e (with_locals new 0 (Some left)) g ≡ execute (with_locals s 0 (Some me)) h 0 1 0 ps) → Kept s me new left → IfOk r (λ e. InitEnds s h init e new g)
 init_ends s new h g init ps me left (Ok e) none same ends kept =
     record { left = left; ends = ends ∙ (λ i. execute (with_locals s 0 (Some (none i))) h 0 1 0 (same i)); kept = kept.locals }
 init_ends s new h g init ps me left (Err e) none same ends kept = tt

@@ -19,15 +19,15 @@ use Rattle.plc_run.proofs.Observed.{recorded_allowed}
 
 -- ---- a free
 
-is_some_of : {A : Type 0} (q : Option A) → is_some q ≡ true → q ≡ None → ⊥
+pub is_some_of : {A : Type 0} (q : Option A) → is_some q ≡ true → q ≡ None → ⊥
 is_some_of None e n = cc
 is_some_of (Some x) e n = cc
 
-some_if : {A : Type 0} (q : Option A) → (q ≡ None → ⊥) → is_some q ≡ true
+pub some_if : {A : Type 0} (q : Option A) → (q ≡ None → ⊥) → is_some q ≡ true
 some_if None f = absurd (f refl)
 some_if (Some x) f = refl
 
-free_at : (o : Observer) (at : ℕ → Option ℕ) (a n t : ℕ) → may_free o at a n ≡ true → t < n → advance o t a (Freed a) (at t) ≡ None → ⊥
+pub free_at : (o : Observer) (at : ℕ → Option ℕ) (a n t : ℕ) → may_free o at a n ≡ true → t < n → advance o t a (Freed a) (at t) ≡ None → ⊥
 free_at o at a zero t may l bad = absurd (omega arith)
 free_at o at a (suc n) t may l bad =
     let parts = and_parts (may_free o at a n) (is_some (advance o n a (Freed a) (at n))) may in
@@ -36,7 +36,7 @@ free_at o at a (suc n) t may l bad =
       | inr ne ↦ free_at o at a n t parts.0 (omega arith) bad
     ]
 
-free_from : (o : Observer) (at : ℕ → Option ℕ) (a n : ℕ) → ((t : ℕ) → t < n → advance o t a (Freed a) (at t) ≡ None → ⊥) → may_free o at a n ≡ true
+pub free_from : (o : Observer) (at : ℕ → Option ℕ) (a n : ℕ) → ((t : ℕ) → t < n → advance o t a (Freed a) (at t) ≡ None → ⊥) → may_free o at a n ≡ true
 free_from o at a zero f = refl
 free_from o at a (suc n) f =
     and_from (may_free o at a n) (is_some (advance o n a (Freed a) (at n))) (free_from o at a n (λ t l. f t (omega arith))) (some_if _ (f n (omega arith)))

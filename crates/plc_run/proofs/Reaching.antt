@@ -30,7 +30,7 @@ use Rattle.plc_run.proofs.Runs.{one_step}
 abbrev pub LeadsTo : Flow → Observer → ℕ → Configuration → Move → Reached → Type 0
 LeadsTo flow o threads c move (Goes d) = Moves flow o threads c move d
 LeadsTo flow o threads c move Blocks = HasNone flow o threads c move
-LeadsTo flow o threads c move Forbids = IsForbidden o threads c move
+LeadsTo flow o threads c move (Forbids a) = (move ≡ Free a) × IsForbidden o threads c move
 LeadsTo flow o threads c move (Breaks kind k) = Races flow threads c move kind k
 
 -- ---- starts
@@ -109,11 +109,11 @@ positive a e = grind (arith, nat_tests)
 free_leads : (flow : Flow) (o : Observer) (c : Configuration) (a : ℕ) → Allowed o (length c.points) c.history → LeadsTo flow o (length c.points) c (Free a) (free_of o c a)
 free_leads flow o c a fine = go (a == 0) refl
   where
-    judged : (b : Bool) → may_free o (λ t. location o c.history t a) a (length c.points) ≡ b → 0 < a → LeadsTo flow o (length c.points) c (Free a) (cond b (Goes (record c { state = freed c.state a; history = c.history ++ Freed a ∷ [] })) Forbids)
+    judged : (b : Bool) → may_free o (λ t. location o c.history t a) a (length c.points) ≡ b → 0 < a → LeadsTo flow o (length c.points) c (Free a) (cond b (Goes (record c { state = freed c.state a; history = c.history ++ Freed a ∷ [] })) (Forbids a))
     judged true e pos = (pos, judged_allowed o (length c.points) c.history a fine e, refl)
-    judged false e pos = (pos, judged_forbidden o (length c.points) c.history a pos e)
+    judged false e pos = (refl, (pos, judged_forbidden o (length c.points) c.history a pos e))
 
-    go : (b : Bool) → (a == 0) ≡ b → LeadsTo flow o (length c.points) c (Free a) (cond b Blocks (cond (may_free o (λ t. location o c.history t a) a (length c.points)) (Goes (record c { state = freed c.state a; history = c.history ++ Freed a ∷ [] })) Forbids))
+    go : (b : Bool) → (a == 0) ≡ b → LeadsTo flow o (length c.points) c (Free a) (cond b Blocks (cond (may_free o (λ t. location o c.history t a) a (length c.points)) (Goes (record c { state = freed c.state a; history = c.history ++ Freed a ∷ [] })) (Forbids a)))
     go true e = let zero : a ≡ 0 = eqb-true a 0 e in record { no_move = λ d m. absurd (omega (arith, m.0)); no_race = λ kind k r. r; not_forbidden = λ r. absurd (omega (arith, r.0)) }
     go false e = judged (may_free o (λ t. location o c.history t a) a (length c.points)) refl (positive a e)
 

@@ -9,7 +9,7 @@ use Rattle.plc_base.proofs.Tables.{put_is_set, length_put, put_put}
 use Rattle.plc_threads.proofs.Moves.{exit_so}
 use Rattle.plc_lang.specs.declared.syntax.Op.{Op}
 use Rattle.plc_lang.specs.declared.syntax.Primitive.{Primitive}
-use Rattle.plc_lang.specs.Shape.{Shape, PrimitiveIn}
+use Rattle.plc_lang.specs.Shape.{Shape, PrimitivesIn}
 use Rattle.plc_auto.specs.declared.event.Event.{Event}
 use Rattle.plc_auto.specs.declared.observer.Observer.{Observer}
 use Rattle.plc_flow.specs.declared.flow.Step.{Step}
@@ -21,18 +21,17 @@ use Rattle.plc_mem.specs.State.{State, Locals, with_locals, starting}
 use Rattle.plc_mem.specs.Fit.{shape}
 use Rattle.plc_base.specs.Tables.{put_at}
 use Rattle.plc_mem.specs.Primitives.{race_of, goes, after, event_of}
-use Rattle.plc_mem.specs.declared.cell.Outcome.{Outcome}
-use Rattle.plc_mem.specs.declared.cell.Outcome.TheVariants.{Next, Blocked, Race}
-use Rattle.plc_mem.specs.Outcomes.{outcome_of, next_of, address_or_null, Stays}
+use Rattle.plc_mem.specs.declared.undo.Undo.{Undo}
+use Rattle.plc_mem.specs.Undoing.{TakesBack}
+use Rattle.plc_mem.specs.Outcomes.{address_or_null}
 use Rattle.plc_run.specs.declared.execute.Ended.{Ended}
 use Rattle.plc_run.specs.declared.execute.Ended.TheVariants as ends
-use Rattle.plc_run.specs.Ended.{heard, ending}
-use Rattle.plc_mem.proofs.Outcomes.{has_stayed}
-use Rattle.plc_run.proofs.Executing.{turned, execute_first, given_back}
+use Rattle.plc_run.specs.Ended.{ending}
+use Rattle.plc_run.proofs.Executing.{given_back}
 use Rattle.plc_flow.specs.declared.points.Point.{Point}
 use Rattle.plc_run.specs.Run.{Ending, Fine, Stuck, Raced, turn, recorded, execute, Configuration, point_of, taken, Moves, Run, begin, more, beginning, initialised, first_configuration}
 use Rattle.plc_flow.specs.Points.{names_rightly}
-use Rattle.plc_run.specs.Reach.{Reached, Goes, Blocks, Forbids, Breaks, started, start_from, return_from, ended_as, arrived, settled, concluded, step_leads, Acts, ActsWith, take_step, step_from, free_of, reach, answer, Reaches}
+use Rattle.plc_run.specs.Reach.{Reached, Goes, Blocks, Forbids, Breaks, started, start_from, return_from, ended_as, concluded, step_leads, is_fine, Tries, Acts, ActsWith, take_step, step_from, free_of, reach, answer, Reaches}
 use Rattle.plc_run.specs.declared.moved.Moved.{Moved}
 use Rattle.plc_run.specs.Position.{Position, threads_of, Follows, IsOfRun, Answers}
 use Rattle.plc_run.proofs.Reaching.{LeadsTo, reach_leads}
@@ -71,19 +70,23 @@ pub stepped : (flow : Flow) (c : Configuration) (t nth : ℕ) (addr : Option ℕ
     → step_from flow c t nth addr (point_of c t) ≡ ended_as c t p step.to.0 (taken c t addr step)
 stepped flow c t nth addr p step at shaped = ap (take_step c t addr) at ∙ ap (λ b. cond b (ended_as c t p step.to.0 (taken c t addr step)) Blocks) shaped
 
--- what it comes to, where its events were gathered beside the history
-pub taken_so : (c : Configuration) (t : ℕ) (addr : Option ℕ) (step : Step) (end : Ending) → end ≡ execute c.state [] t (address_or_null addr) 0 step.prims → with_history c.history end ≡ taken c t addr step
-taken_so c t addr step end ran =
-    ap (with_history c.history) ran ∙ sym (execute_with_history c.state c.history [] t (address_or_null addr) 0 step.prims)
-    ∙ ap (λ h. execute c.state h t (address_or_null addr) 0 step.prims) (append_none c.history)
+-- how primitives ended, where their events were gathered beside the history and then put after it
+pub heard_end : (w new : State) (h g : List Event) (t a : ℕ) (ps : List Primitive) (e : Ended) → ending e new g ≡ execute w [] t a 0 ps → ending e new (h ++ g) ≡ execute w h t a 0 ps
+heard_end w new h g t a ps e ran = go e ∙ ap (with_history h) ran ∙ sym (execute_with_history w h [] t a 0 ps) ∙ ap (λ h. execute w h t a 0 ps) (append_none h)
+  where
+    go : (e : Ended) → ending e new (h ++ g) ≡ with_history h (ending e new g)
+    go ends.Fine = refl
+    go ends.Stuck = refl
+    go (ends.Raced kind k) = refl
 
--- what it leads to, where its primitives were taken on a copy of the memory
-pub settled_so : (c : Configuration) (t : ℕ) (addr : Option ℕ) (p to : Point) (step : Step) (e : Ended) (s : State) (g : List Event)
-    → ending e s g ≡ execute c.state [] t (address_or_null addr) 0 step.prims → to ≡ record p { at = step.to.0 } → settled c t to e s g ≡ step_leads c t p step addr
-settled_so c t addr p to step ends.Fine s g ran there =
-    (λ i. Goes (arrived c t (there i) s g)) ∙ ap (ended_as c t p step.to.0) (taken_so c t addr step (Fine s g) ran)
-settled_so c t addr p to step ends.Stuck s g ran there = ap (ended_as c t p step.to.0) (taken_so c t addr step Stuck ran)
-settled_so c t addr p to step (ends.Raced kind k) s g ran there = ap (ended_as c t p step.to.0) (taken_so c t addr step (Raced kind k) ran)
+-- where they didn't succeed, nothing is put after it
+pub halted_end : (w new : State) (h g : List Event) (t a : ℕ) (ps : List Primitive) (e : Ended) → is_fine e ≡ false → ending e new g ≡ execute w [] t a 0 ps → ending e new h ≡ execute w h t a 0 ps
+halted_end w new h g t a ps e halts ran = go e halts ∙ heard_end w new h g t a ps e ran
+  where
+    go : (e : Ended) → is_fine e ≡ false → ending e new h ≡ ending e new (h ++ g)
+    go ends.Fine halts = cc
+    go ends.Stuck halts = refl
+    go (ends.Raced kind k) halts = refl
 
 -- ---- where runs begin
 
@@ -112,7 +115,7 @@ run_more flow o c d move n run m = subst (λ k. Run flow o k (suc n) d) (sym (mo
 answers_so : (flow : Flow) (o : Observer) (p q : Position) (move : Move) (r : Reached) → p.ended ≡ false → LeadsTo flow o (threads_of p) p.here move r → Reaches r p q → Answers flow o p move (answer r) q
 answers_so flow o p q move (Goes d) live leads to = (live, to.1 ∙ live, subst (Moves flow o (threads_of p) p.here move) (sym to.0) leads)
 answers_so flow o p q move Blocks live leads to = (λ e. leads, to)
-answers_so flow o p q move Forbids live leads to = (live, leads, to)
+answers_so flow o p q move (Forbids a) live leads to = (live, leads.0, leads.1, to)
 answers_so flow o p q move (Breaks kind k) live leads to = (live, leads, to)
 
 run_so : (flow : Flow) (o : Observer) (p q : Position) (move : Move) (r : Reached) → IsOfRun flow o p → LeadsTo flow o (threads_of p) p.here move r → Reaches r p q → Follows o q → IsOfRun flow o q
@@ -122,7 +125,7 @@ run_so flow o p q move (Goes d) run leads to follows = record {
   follows = follows;
 }
 run_so flow o p q move Blocks run leads to follows = subst (IsOfRun flow o) (sym to) run
-run_so flow o p q move Forbids run leads to follows = subst (IsOfRun flow o) (sym to) run
+run_so flow o p q move (Forbids a) run leads to follows = subst (IsOfRun flow o) (sym to) run
 run_so flow o p q move (Breaks kind k) run leads to follows = subst (IsOfRun flow o) (sym to) (record { moves = run.moves; run = run.run; follows = run.follows })
 
 pub answered : (flow : Flow) (o : Observer) (p q : Position) (move : Move) (r : Moved) → p.ended ≡ false → IsOfRun flow o p → r ≡ answer (reach flow o p.here move) → Reaches (reach flow o p.here move) p q → Answers flow o p move r q
@@ -133,20 +136,7 @@ pub run_answered : (flow : Flow) (o : Observer) (p q : Position) (move : Move) �
 run_answered flow o p q move run to follows =
     run_so flow o p q move (reach flow o p.here move) run (reach_leads flow o p.here move (run_allowed flow o (threads_of p) run.moves p.here run.run)) to follows
 
--- ---- a step of no or one primitive
-
--- without primitives
-pub none_taken : (c : Configuration) (t : ℕ) (addr : Option ℕ) (p : Point) (step : Step) (ps : List (Option Point))
-    → step.prims ≡ [] → ps ≡ put_at None c.points t (Some (record p { at = step.to.0 })) → Goes (record c { points = ps }) ≡ ended_as c t p step.to.0 (taken c t addr step)
-none_taken c t addr p step ps none points =
-    (λ i. Goes (record c { points = points i })) ∙ ap (λ ks. ended_as c t p step.to.0 (execute c.state c.history t (address_or_null addr) 0 ks)) (sym none)
-
--- what it comes to, by the primitive's outcome
-pub one_taken : (c : Configuration) (t : ℕ) (addr : Option ℕ) (step : Step) (k : Primitive) (o : Outcome) → step.prims ≡ k ∷ [] → o ≡ outcome_of c.state t (address_or_null addr) k
-    → turned o 0 (Fine (next_of c.state t (address_or_null addr) k) (heard c.history o)) ≡ taken c t addr step
-one_taken c t addr step k o one is =
-    let a = address_or_null addr in
-    ap (λ o. turned o 0 (Fine (next_of c.state t a k) (heard c.history o))) is ∙ sym (execute_first c.state c.history t a 0 k []) ∙ ap (execute c.state c.history t a 0) (sym one)
+-- ---- the primitives of a step
 
 -- it stayed, and its locals were put back
 pub restored : (v q : Position) (mid s : State) (t : ℕ) (l m : Locals) → get_or v.here.state.locals t None ≡ Some l → mid ≡ record v.here.state { locals = set v.here.state.locals t None }
@@ -156,38 +146,6 @@ restored v q mid s t l m held rest same as_lent given =
     let state : s ≡ v.here.state = given ∙ (λ i. with_locals (same i).here.state t (Some (as_lent i))) ∙ back in
     λ i. record { here = record { state = state i; history = (same i).here.history; points = (same i).here.points }; ended = (same i).ended; located = (same i).located }
 
--- a primitive that was blocked or is a race
-pub nothing_done : (t a : ℕ) (k : Primitive) (p : Position) (l : Locals) (o : Outcome) → Stays o → o ≡ outcome_of (with_locals p.here.state t (Some l)) t a k → ActsWith t a k p l o p l
-nothing_done t a k p l (Next e) stays is = absurd stays
-nothing_done t a k p l Blocked stays is = record {
-  outcome = is;
-  state = has_stayed (with_locals p.here.state t (Some l)) t a k Blocked stays is;
-  history = refl;
-  points = refl;
-  ended = refl;
-  unchanged = λ s. (refl, refl);
-}
-nothing_done t a k p l (Race kind) stays is = record {
-  outcome = is;
-  state = has_stayed (with_locals p.here.state t (Some l)) t a k (Race kind) stays is;
-  history = refl;
-  points = refl;
-  ended = refl;
-  unchanged = λ s. (refl, refl);
-}
-
--- a primitive that went, of which this is heard
-pub went_with : (t a : ℕ) (k : Primitive) (p q : Position) (l m : Locals) (e : Option Event) → outcome_of (with_locals p.here.state t (Some l)) t a k ≡ Next e → with_locals q.here.state t (Some m) ≡ next_of (with_locals p.here.state t (Some l)) t a k
-    → q.here.history ≡ heard p.here.history (Next e) → q.here.points ≡ p.here.points → q.ended ≡ p.ended → ActsWith t a k p l (Next e) q m
-went_with t a k p q l m e is to longer stood live = record {
-  outcome = sym is;
-  state = to;
-  history = longer;
-  points = stood;
-  ended = live;
-  unchanged = λ stays. absurd stays;
-}
-
 -- the memory is whole with the locals that were lent
 whole : (s lent : State) (t : ℕ) (l : Locals) → get_or s.locals t None ≡ Some l → lent ≡ record s { locals = set s.locals t None } → with_locals lent t (Some l) ≡ s
 whole s lent t l held rest = ap (λ (s : State). with_locals s t (Some l)) rest ∙ given_back s t l held
@@ -196,64 +154,77 @@ some_same : {A : Type 0} (x y : A) → Some x ≡ Some y → x ≡ y
 some_same x y e = cc
 
 -- a thread that is busy has locals to lend
-pub has_locals : (s : State) (t : ℕ) (k : Primitive) (B : Type 0) → (l : Locals) × (get_or s.locals t None ≡ Some l) × PrimitiveIn (shape s l) k → None ≡ get_or s.locals t None → B
-has_locals s t k B busy none = let e : None ≡ Some busy.0 = none ∙ busy.1 in cc
+pub has_locals : (s : State) (t : ℕ) (ps : List Primitive) (B : Type 0) → (l : Locals) × (get_or s.locals t None ≡ Some l) × PrimitivesIn (shape s l) ps → None ≡ get_or s.locals t None → B
+has_locals s t ps B busy none = let e : None ≡ Some busy.0 = none ∙ busy.1 in cc
 
--- a primitive that fits the memory and the locals of a thread fits them while the locals are lent
-pub named_lent : (s lent : State) (t : ℕ) (me : Locals) (k : Primitive) → (l : Locals) × (get_or s.locals t None ≡ Some l) × PrimitiveIn (shape s l) k → get_or s.locals t None ≡ Some me → lent ≡ record s { locals = set s.locals t None }
-    → PrimitiveIn (shape lent me) k
-named_lent s lent t me k busy held rest =
+-- primitives that fit the memory and the locals of a thread fit them while the locals are lent
+pub named_lent : (s lent : State) (t : ℕ) (me : Locals) (ps : List Primitive) → (l : Locals) × (get_or s.locals t None ≡ Some l) × PrimitivesIn (shape s l) ps → get_or s.locals t None ≡ Some me → lent ≡ record s { locals = set s.locals t None }
+    → PrimitivesIn (shape lent me) ps
+named_lent s lent t me ps busy held rest =
     let same = some_same busy.0 me (sym busy.1 ∙ held) in
-    subst (λ (x : Shape). PrimitiveIn x k) ((λ i. shape s (same i)) ∙ (λ i. shape (sym rest i) me)) busy.2
+    subst (λ (x : Shape). PrimitivesIn x ps) ((λ i. shape s (same i)) ∙ (λ i. shape (sym rest i) me)) busy.2
 
--- what a primitive left, once the locals that it was lent were put back
-pub locals_back : (v q new : Position) (lent s : State) (t a : ℕ) (l m : Locals) (k : Primitive) (r : Result Outcome NoMemory) → get_or v.here.state.locals t None ≡ Some l → lent ≡ record v.here.state { locals = set v.here.state.locals t None } → q ≡ new
-    → IfOk r (λ o. ActsWith t a k (record v { here = record v.here { state = lent } }) l o new m) → s ≡ with_locals q.here.state t (Some m) → IfOk r (λ o. Acts t a k v o (record q { here = record q.here { state = s } }))
-locals_back v q new lent s t a l m k (Err e) held rest same acts given = tt
-locals_back v q new lent s t a l m k (Ok o) held rest same acts given =
+-- what primitives left, once the locals that they were lent were put back
+pub locals_back : (v q new : Position) (lent s : State) (t a : ℕ) (l m : Locals) (ps : List Primitive) (r : Result Ended NoMemory) → get_or v.here.state.locals t None ≡ Some l → lent ≡ record v.here.state { locals = set v.here.state.locals t None } → q ≡ new
+    → IfOk r (λ e. ActsWith t a ps (record v { here = record v.here { state = lent } }) l e new m) → s ≡ with_locals q.here.state t (Some m) → IfOk r (λ e. Acts t a ps v e (record q { here = record q.here { state = s } }))
+locals_back v q new lent s t a l m ps (Err x) held rest same acts given = tt
+locals_back v q new lent s t a l m ps (Ok e) held rest same acts given =
     let back = whole v.here.state lent t l held rest in
-    let w = subst (λ (q : Position). ActsWith t a k (record v { here = record v.here { state = lent } }) l o q m) (sym same) acts in
-    let state : s ≡ next_of v.here.state t a k = given ∙ w.state ∙ ap (λ (s : State). next_of s t a k) back in
+    let w = subst (λ (q : Position). ActsWith t a ps (record v { here = record v.here { state = lent } }) l e q m) (sym same) acts in
     record {
-      outcome = w.outcome ∙ ap (λ (s : State). outcome_of s t a k) back;
-      here = λ i. record { state = state i; history = w.history i; points = w.points i };
+      ends = ap (λ s. ending e s q.here.history) given ∙ w.ends ∙ ap (λ s. execute s v.here.history t a 0 ps) back;
+      points = w.points;
       ended = w.ended;
-      unchanged = λ stays. restored v q lent s t l m held rest (w.unchanged stays).0 (w.unchanged stays).1 given;
+      unchanged = λ halts. restored v q lent s t l m held rest (w.unchanged halts).0 (w.unchanged halts).1 given;
     }
 
-pub locals_back_err : (v q new : Position) (lent s : State) (t : ℕ) (l m : Locals) (r : Result Outcome NoMemory) → get_or v.here.state.locals t None ≡ Some l → lent ≡ record v.here.state { locals = set v.here.state.locals t None } → q ≡ new
+pub locals_back_err : (v q new : Position) (lent s : State) (t : ℕ) (l m : Locals) (r : Result Ended NoMemory) → get_or v.here.state.locals t None ≡ Some l → lent ≡ record v.here.state { locals = set v.here.state.locals t None } → q ≡ new
     → OnErr r ((new ≡ record v { here = record v.here { state = lent } }) × (m ≡ l)) → s ≡ with_locals q.here.state t (Some m) → OnErr r (record q { here = record q.here { state = s } } ≡ v)
-locals_back_err v q new lent s t l m (Ok o) held rest same err given = tt
-locals_back_err v q new lent s t l m (Err e) held rest same err given = restored v q lent s t l m held rest (same ∙ err.0) err.1 given
+locals_back_err v q new lent s t l m (Ok e) held rest same err given = tt
+locals_back_err v q new lent s t l m (Err x) held rest same err given = restored v q lent s t l m held rest (same ∙ err.0) err.1 given
 
--- what a step of one primitive leads to, by what the primitive left
-concluded_leads : (p q : Position) (t : ℕ) (addr : Option ℕ) (at to : Point) (step : Step) (k : Primitive) (o : Outcome) → step.prims ≡ k ∷ [] → Acts t (address_or_null addr) k p o q → to ≡ record at { at = step.to.0 }
-    → concluded q.here t to o ≡ step_leads p.here t at step addr
-concluded_leads p q t addr at to step k o one acts there =
-    let a = address_or_null addr in
-    let same : concluded q.here t to o ≡ concluded (record p.here { state = next_of p.here.state t a k; history = heard p.here.history o }) t (record at { at = step.to.0 }) o = (λ i. concluded (acts.here i) t (there i) o) in
-    same ∙ go o ∙ ap (ended_as p.here t at step.to.0) (one_taken p.here t addr step k o one acts.outcome)
+-- ---- primitives that were tried
+
+-- they left the memory and the locals so, and nothing else is new
+pub tried_unheard : (t a : ℕ) (ps : List Primitive) (v : Position) (s : State) (l m : Locals) (r : Result Ended NoMemory) (us : List Undo) → TakesBack t v.here.state l us s m
+    → IfOk r (λ e. ending e (with_locals s t (Some m)) v.here.history ≡ execute (with_locals v.here.state t (Some l)) v.here.history t a 0 ps) → Tries t a ps v l r (record v { here = record v.here { state = s } }) m us
+tried_unheard t a ps v s l m r us takes ends = record { takes = takes; ends = ends; points = refl; ended = refl; unheard = λ e. (refl, refl) }
+
+-- all of them succeeded, and their events were put after the history
+pub tried_heard : (t a : ℕ) (ps : List Primitive) (v q : Position) (s : State) (g : List Event) (l m : Locals) (us : List Undo) → TakesBack t v.here.state l us s m → ending ends.Fine (with_locals s t (Some m)) g ≡ execute (with_locals v.here.state t (Some l)) [] t a 0 ps
+    → q.here ≡ record v.here { state = s; history = v.here.history ++ g } → q.ended ≡ v.ended → Tries t a ps v l (Ok ends.Fine) q m us
+tried_heard t a ps v q s g l m us takes ran here ended = record {
+  takes = subst (λ (c : Configuration). TakesBack t v.here.state l us c.state m) (sym here) takes;
+  ends = (λ i. Fine (with_locals (here i).state t (Some m)) (here i).history) ∙ heard_end (with_locals v.here.state t (Some l)) (with_locals s t (Some m)) v.here.history g t a ps ends.Fine ran;
+  points = ap (λ (c : Configuration). c.points) here;
+  ended = ended;
+  unheard = λ halts. cc;
+}
+
+-- ---- where a step leads
+
+concluded_leads : (p q : Position) (t : ℕ) (addr : Option ℕ) (at to : Point) (step : Step) (e : Ended) → Acts t (address_or_null addr) step.prims p e q → to ≡ record at { at = step.to.0 } → concluded q.here t to e ≡ step_leads p.here t at step addr
+concluded_leads p q t addr at to step e acts there = go e ∙ ap (ended_as p.here t at step.to.0) acts.ends
   where
-    go : (o : Outcome) → concluded (record p.here { state = next_of p.here.state t (address_or_null addr) k; history = heard p.here.history o }) t (record at { at = step.to.0 }) o
-        ≡ ended_as p.here t at step.to.0 (turned o 0 (Fine (next_of p.here.state t (address_or_null addr) k) (heard p.here.history o)))
-    go (Next e) = refl
-    go Blocked = refl
-    go (Race kind) = refl
+    go : (e : Ended) → concluded q.here t to e ≡ ended_as p.here t at step.to.0 (ending e q.here.state q.here.history)
+    go ends.Fine = λ i. Goes (record q.here { points = put_at None (acts.points i) t (Some (there i)) })
+    go ends.Stuck = refl
+    go (ends.Raced kind k) = refl
 
-pub concluded_answer : (p q : Position) (t : ℕ) (addr : Option ℕ) (at to : Point) (step : Step) (k : Primitive) (o : Outcome) (r : Moved) → step.prims ≡ k ∷ [] → Acts t (address_or_null addr) k p o q → to ≡ record at { at = step.to.0 }
-    → r ≡ answer (concluded q.here t to o) → r ≡ answer (step_leads p.here t at step addr)
-concluded_answer p q t addr at to step k o r one acts there is = is ∙ ap answer (concluded_leads p q t addr at to step k o one acts there)
+pub concluded_answer : (p q : Position) (t : ℕ) (addr : Option ℕ) (at to : Point) (step : Step) (e : Ended) (r : Moved) → Acts t (address_or_null addr) step.prims p e q → to ≡ record at { at = step.to.0 }
+    → r ≡ answer (concluded q.here t to e) → r ≡ answer (step_leads p.here t at step addr)
+concluded_answer p q t addr at to step e r acts there is = is ∙ ap answer (concluded_leads p q t addr at to step e acts there)
 
 -- and from where the step began
-from_before : (p q new : Position) (t : ℕ) (to : Point) (o : Outcome) → q.ended ≡ p.ended → (Stays o → q ≡ p) → Reaches (concluded q.here t to o) q new → Reaches (concluded q.here t to o) p new
-from_before p q new t to (Next e) live stayed reaches = (reaches.0, reaches.1 ∙ live)
-from_before p q new t to Blocked live stayed reaches = reaches ∙ stayed tt
-from_before p q new t to (Race kind) live stayed reaches = reaches ∙ ap (λ (p : Position). record p { ended = true }) (stayed tt)
+from_before : (p q new : Position) (t : ℕ) (to : Point) (e : Ended) → q.ended ≡ p.ended → (is_fine e ≡ false → q ≡ p) → Reaches (concluded q.here t to e) q new → Reaches (concluded q.here t to e) p new
+from_before p q new t to ends.Fine live stayed reaches = (reaches.0, reaches.1 ∙ live)
+from_before p q new t to ends.Stuck live stayed reaches = reaches ∙ stayed refl
+from_before p q new t to (ends.Raced kind k) live stayed reaches = reaches ∙ ap (λ (p : Position). record p { ended = true }) (stayed refl)
 
-pub concluded_so : (p q new : Position) (t : ℕ) (addr : Option ℕ) (at to : Point) (step : Step) (k : Primitive) (o : Outcome) → step.prims ≡ k ∷ [] → Acts t (address_or_null addr) k p o q → to ≡ record at { at = step.to.0 }
-    → Reaches (concluded q.here t to o) q new → Reaches (step_leads p.here t at step addr) p new
-concluded_so p q new t addr at to step k o one acts there reaches =
-    subst (λ (r : Reached). Reaches r p new) (concluded_leads p q t addr at to step k o one acts there) (from_before p q new t to o acts.ended acts.unchanged reaches)
+pub concluded_so : (p q new : Position) (t : ℕ) (addr : Option ℕ) (at to : Point) (step : Step) (e : Ended) → Acts t (address_or_null addr) step.prims p e q → to ≡ record at { at = step.to.0 }
+    → Reaches (concluded q.here t to e) q new → Reaches (step_leads p.here t at step addr) p new
+concluded_so p q new t addr at to step e acts there reaches =
+    subst (λ (r : Reached). Reaches r p new) (concluded_leads p q t addr at to step e acts there) (from_before p q new t to e acts.ended acts.unchanged reaches)
 
 -- ---- starts and returns in code
 

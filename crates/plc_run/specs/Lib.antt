@@ -1,7 +1,6 @@
 -- what contracts of public calls say
 pub mod Fit
 pub mod Laws
-pub mod Locations
 pub mod Observed
 pub mod Position
 pub mod Quiet
@@ -9,4 +8,3 @@ pub mod Run
 -- words of private functions alone
 pub mod Ended
 pub mod Reach
-pub mod Table

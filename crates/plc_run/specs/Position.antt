@@ -3,6 +3,7 @@ use Rattle.std.specs.Prelude.{◌≡◌, ℕ, ◌<◌, Bool, true, false, [], �
 use Rattle.plc_auto.specs.declared.event.Event.TheVariants.{Free as Freed}
 use Rattle.plc_auto.specs.declared.observer.Observer.{Observer}
 use Rattle.plc_auto.specs.Location.{location, Allowed}
+use Rattle.plc_auto.specs.Locations.{Locations, of_threads, locations_after_all, stands}
 use Rattle.plc_flow.specs.declared.flow.Flow.{Flow}
 use Rattle.plc_threads.specs.declared.words.Move.{Move}
 use Rattle.plc_threads.specs.declared.words.Move.TheVariants.{Start, Step as Take, Return, Free}
@@ -10,11 +11,10 @@ use Rattle.plc_mem.specs.declared.cell.RaceKind.{RaceKind}
 use Rattle.plc_run.specs.declared.moved.Moved.{Moved}
 use Rattle.plc_run.specs.declared.moved.Moved.TheVariants as moved
 use Rattle.plc_run.specs.Run.{Configuration, Run, Moves, Races, first_configuration}
-use Rattle.plc_run.specs.Locations.{Locations, stands}
 use Rattle.plc_threads.specs.declared.words.StartFault.{StartFault}
 use Rattle.plc_threads.specs.declared.words.StartFault.TheVariants as faults
 
--- the configuration of a run, whether a race has ended it, and where each thread stands for each address by the table
+-- the configuration of a run, whether a race has ended it, and where each thread stands for each address
 pub record Position : Type 0 where
   pub here : Configuration
   pub ended : Bool
@@ -24,11 +24,14 @@ pub record Position : Type 0 where
 abbrev pub threads_of : Position → ℕ
 threads_of p = length p.here.points
 
--- each thread stands for each address where this observer comes to by the history
+-- each thread stands for each address where this observer comes to by the history: the locations are those of a watcher
+-- for each thread, which heard the whole history
 abbrev pub Follows : Observer → Position → Type 0
-Follows o p = (t a : ℕ) → t < threads_of p → stands p.located t a ≡ location o p.here.history t a
+Follows o p =
+    ((t a : ℕ) → t < threads_of p → stands p.located t a ≡ location o p.here.history t a)
+    × (p.located ≡ locations_after_all (of_threads o (threads_of p)) p.here.history)
 
--- so many moves of a run of this flow and observer lead there, and the table follows the history
+-- so many moves of a run of this flow and observer lead there, and the locations follow the history
 pub record IsOfRun (flow : Flow) (o : Observer) (p : Position) : Type 0 where
   pub moves : ℕ
   pub run : Run flow o (threads_of p) moves p.here
@@ -59,5 +62,6 @@ Answers flow o p move moved.Done q =
     (p.ended ≡ false) × (q.ended ≡ false) × Moves flow o (threads_of p) p.here move q.here
 Answers flow o p move (moved.Race kind k) q =
     (p.ended ≡ false) × Races flow (threads_of p) p.here move kind k × (q ≡ record p { ended = true })
-Answers flow o p move moved.Forbidden q = (p.ended ≡ false) × IsForbidden o (threads_of p) p.here move × (q ≡ p)
+Answers flow o p move (moved.Forbidden a) q =
+    (p.ended ≡ false) × (move ≡ Free a) × IsForbidden o (threads_of p) p.here move × (q ≡ p)
 Answers flow o p move moved.Blocked q = (p.ended ≡ false → HasNone flow o (threads_of p) p.here move) × (q ≡ p)

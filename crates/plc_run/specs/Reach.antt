@@ -1,7 +1,7 @@
 -- What a move leads to, as a function: the code answers by it, and the law beside it says that it is what `Moves` and
 -- `Races` say.
 use Rattle.std.specs.Prelude.{◌≡◌, ℕ, zero, suc, Bool, true, false, ◌&&◌, ◌==◌, if◌then◌else◌, List, [], ◌∷◌, ◌++◌}
-use Rattle.std.specs.Prelude.{length, Option, Some, None, is_some, Result, IfOk, OnOk, OnErr}
+use Rattle.std.specs.Prelude.{length, Option, Some, None, is_some, Result, Ok, Err, IfOk, OnOk, OnErr}
 use Rattle.plc_lang.specs.declared.syntax.Op.{Op}
 use Rattle.plc_lang.specs.declared.syntax.Primitive.{Primitive}
 use Rattle.plc_auto.specs.declared.event.Event.{Event}
@@ -13,18 +13,18 @@ use Rattle.plc_flow.specs.declared.flow.Flow.{Flow}
 use Rattle.plc_threads.specs.declared.words.Move.{Move}
 use Rattle.plc_threads.specs.declared.words.Move.TheVariants.{Start, Step as Take, Return, Free}
 use Rattle.plc_mem.specs.declared.cell.RaceKind.{RaceKind}
-use Rattle.plc_mem.specs.declared.cell.Outcome.{Outcome}
-use Rattle.plc_mem.specs.declared.cell.Outcome.TheVariants.{Next, Blocked, Race}
-use Rattle.plc_mem.specs.Outcomes.{outcome_of, next_of, Stays}
+use Rattle.plc_mem.specs.declared.undo.Undo.{Undo}
+use Rattle.plc_mem.specs.Undoing.{TakesBack}
 use Rattle.plc_mem.specs.State.{State, Locals, with_locals, freed, starting}
 use Rattle.plc_base.specs.Tables.{put_at}
 use Rattle.plc_base.specs.declared.memory.NoMemory.{NoMemory}
 use Rattle.plc_flow.specs.declared.points.Point.{Point}
 use Rattle.plc_run.specs.declared.execute.Ended.{Ended}
+use Rattle.plc_run.specs.declared.execute.Ended.TheVariants as ends
 use Rattle.plc_run.specs.declared.moved.Moved.{Moved}
 use Rattle.plc_run.specs.declared.moved.Moved.TheVariants as moved
-use Rattle.plc_run.specs.Run.{Ending, Fine, Stuck, Raced, Configuration, point_of, taken, first_configuration}
-use Rattle.plc_run.specs.Ended.{heard, ending}
+use Rattle.plc_run.specs.Run.{Ending, Fine, Stuck, Raced, Configuration, execute, point_of, taken}
+use Rattle.plc_run.specs.Ended.{ending}
 use Rattle.plc_run.specs.Position.{Position, threads_of, Follows}
 use Rattle.plc_flow.specs.Points.{names_rightly}
 use Rattle.plc_threads.specs.Standing.{begun, step_of, at_exit}
@@ -33,7 +33,7 @@ use Rattle.plc_threads.specs.Standing.{begun, step_of, at_exit}
 pub data Reached : Type 0 where
   Goes : Configuration → Reached
   Blocks : Reached
-  Forbids : Reached
+  Forbids : ℕ → Reached
   Breaks : RaceKind → ℕ → Reached
 
 -- thread t begins an operation, if there is one that it may begin
@@ -59,20 +59,11 @@ ended_as c t p to (Raced kind k) = Breaks kind k
 abbrev pub step_leads : Configuration → ℕ → Point → Step → Option ℕ → Reached
 step_leads c t p step addr = ended_as c t p step.to.0 (taken c t addr step)
 
--- thread t came to this point, with this state and these events after the history
-abbrev pub arrived : Configuration → ℕ → Point → State → List Event → Configuration
-arrived c t to s events =
-    record { state = s; history = c.history ++ events; points = put_at None c.points t (Some to) }
-
--- what a step to this point leads to, by how its primitives ended on a copy of the memory and the events that they gave
-abbrev pub settled : Configuration → ℕ → Point → Ended → State → List Event → Reached
-settled c t to e s events = ended_as c t to to.at (ending e s (c.history ++ events))
-
--- what a step of one primitive to this point leads to, from the configuration that its primitive left
-abbrev pub concluded : Configuration → ℕ → Point → Outcome → Reached
-concluded c t to (Next e) = Goes (record c { points = put_at None c.points t (Some to) })
-concluded c t to Blocked = Blocks
-concluded c t to (Race kind) = Breaks kind 0
+-- what a step to this point leads to, from the configuration that its primitives left
+abbrev pub concluded : Configuration → ℕ → Point → Ended → Reached
+concluded c t to ends.Fine = Goes (record c { points = put_at None c.points t (Some to) })
+concluded c t to ends.Stuck = Blocks
+concluded c t to (ends.Raced kind k) = Breaks kind k
 
 -- thread t takes a step, if there is one that it may take, by a move that names an address or none
 abbrev pub take_step : Configuration → ℕ → Option ℕ → Option (Point × Step) → Reached
@@ -102,7 +93,7 @@ free_of o c a =
     if a == 0 then Blocks else
     if may_free o (λ t. location o c.history t a) a (length c.points)
     then Goes (record c { state = freed c.state a; history = c.history ++ Freed a ∷ [] })
-    else Forbids
+    else Forbids a
 
 -- each kind of move
 unfoldable pub reach : Flow → Observer → Configuration → Move → Reached
@@ -115,17 +106,17 @@ reach flow o c (Free a) = free_of o c a
 abbrev pub answer : Reached → Moved
 answer (Goes d) = moved.Done
 answer Blocks = moved.Blocked
-answer Forbids = moved.Forbidden
+answer (Forbids a) = moved.Forbidden a
 answer (Breaks kind k) = moved.Race kind k
 
--- the position after it; where a move goes on so does the table, which `Follows` says
+-- the position after it; where a move goes on so do the locations, which `Follows` says
 abbrev pub Reaches : Reached → Position → Position → Type 0
 Reaches (Goes d) p q = (q.here ≡ d) × (q.ended ≡ p.ended)
 Reaches Blocks p q = q ≡ p
-Reaches Forbids p q = q ≡ p
+Reaches (Forbids a) p q = q ≡ p
 Reaches (Breaks kind k) p q = q ≡ record p { ended = true }
 
--- what the code answers where a step leads to this, and the position after it, whose table follows the observer; where
+-- what the code answers where a step leads to this, and the position after it, whose locations follow the observer; where
 -- memory runs out the position is as it was
 pub record Comes (o : Observer) (r : Reached) (p : Position) (result : Result Moved NoMemory) (q : Position)
     : Type 0 where
@@ -140,28 +131,43 @@ pub record IsUnheard (p q : Position) : Type 0 where
   pub history : q.here.history ≡ p.here.history
   pub located : q.located ≡ p.located
 
--- thread t took a primitive with these locals: its outcome, and the position and the locals after it
-pub record ActsWith (t a : ℕ) (k : Primitive) (p : Position) (l : Locals) (o : Outcome) (q : Position) (m : Locals)
-    : Type 0 where
-  pub outcome : o ≡ outcome_of (with_locals p.here.state t (Some l)) t a k
-  pub state : with_locals q.here.state t (Some m) ≡ next_of (with_locals p.here.state t (Some l)) t a k
-  pub history : q.here.history ≡ heard p.here.history o
+-- ---- the primitives of a step in code
+
+-- all primitives succeeded
+abbrev pub is_fine : Ended → Bool
+is_fine ends.Fine = true
+is_fine ends.Stuck = false
+is_fine (ends.Raced kind k) = false
+
+-- all primitives succeeded, and memory didn't run out
+abbrev pub came_about : Result Ended NoMemory → Bool
+came_about (Ok e) = is_fine e
+came_about (Err x) = false
+
+-- thread t tried primitives with these locals: how they ended, the position and the locals that they left, and what
+-- leads back from there; unless all of them come about the observer hears nothing
+pub record Tries (t a : ℕ) (ps : List Primitive) (p : Position) (l : Locals) (r : Result Ended NoMemory) (q : Position)
+    (m : Locals) (undos : List Undo) : Type 0 where
+  pub takes : TakesBack t p.here.state l undos q.here.state m
+  pub ends : IfOk r (λ e. ending e (with_locals q.here.state t (Some m)) q.here.history
+      ≡ execute (with_locals p.here.state t (Some l)) p.here.history t a 0 ps)
   pub points : q.here.points ≡ p.here.points
   pub ended : q.ended ≡ p.ended
-  pub unchanged : Stays o → (q ≡ p) × (m ≡ l)
+  pub unheard : came_about r ≡ false → (q.here.history ≡ p.here.history) × (q.located ≡ p.located)
 
--- thread t took a primitive with the locals that the position holds for it: its outcome, and the position after it
-pub record Acts (t a : ℕ) (k : Primitive) (p : Position) (o : Outcome) (q : Position) : Type 0 where
-  pub outcome : o ≡ outcome_of p.here.state t a k
-  pub here : q.here ≡ record {
-    state = next_of p.here.state t a k;
-    history = heard p.here.history o;
-    points = p.here.points;
-  }
+-- thread t took primitives with these locals: how they ended, and the position and the locals after it, which are
+-- those of before unless all of them succeeded
+pub record ActsWith (t a : ℕ) (ps : List Primitive) (p : Position) (l : Locals) (e : Ended) (q : Position) (m : Locals)
+    : Type 0 where
+  pub ends : ending e (with_locals q.here.state t (Some m)) q.here.history
+      ≡ execute (with_locals p.here.state t (Some l)) p.here.history t a 0 ps
+  pub points : q.here.points ≡ p.here.points
   pub ended : q.ended ≡ p.ended
-  pub unchanged : Stays o → q ≡ p
+  pub unchanged : is_fine e ≡ false → (q ≡ p) × (m ≡ l)
 
--- where the runs begin, or nowhere
-abbrev pub Begins : Flow → Observer → ℕ → Option Position → Type 0
-Begins flow o threads (Some p) = (p.ended ≡ false) × (first_configuration flow threads ≡ Some p.here) × Follows o p
-Begins flow o threads None = first_configuration flow threads ≡ None
+-- thread t took primitives with the locals that the position holds for it: how they ended, and the position after it
+pub record Acts (t a : ℕ) (ps : List Primitive) (p : Position) (e : Ended) (q : Position) : Type 0 where
+  pub ends : ending e q.here.state q.here.history ≡ execute p.here.state p.here.history t a 0 ps
+  pub points : q.here.points ≡ p.here.points
+  pub ended : q.ended ≡ p.ended
+  pub unchanged : is_fine e ≡ false → q ≡ p

@@ -1,36 +1,40 @@
-// A configuration of a run in code, with the table by which frees are judged. A move asks for its memory
-// first: nothing that is seen of the configuration changes before the last call that may run out of memory.
-// So a move that is blocked or forbidden leaves the configuration as it was, and so does one that runs out
-// of memory. A step of at most one primitive, as most are, works on the memory itself, since a primitive
-// that fails changes nothing. A step of several works on a copy, because its first primitives may succeed
-// and a later one fail.
+// A configuration of a run in code, with the locations by which frees are judged. A step's primitives are taken on the
+// memory itself, and what takes them back is noted beside them: where one is blocked, is a race, or memory runs out, also for
+// what the observer hears of the step, they are taken back, and the configuration is as it was. The other moves ask for
+// their memory before they change anything.
 ghost use Rattle.std.specs.Prelude.{◌≡◌, ℕ, ◌<◌, ◌++◌, ◌∷◌, [], Option, IfOk, OnOk, OnErr, Some, None};
-ghost use Rattle.std.specs.Prelude.{get_or, replicate, false};
-ghost use Rattle.plc_lang.specs.Shape.{PrimitiveIn};
+ghost use Rattle.std.specs.Prelude.{get_or, length, replicate, false};
+ghost use Rattle.plc_lang.specs.Shape.{PrimitivesIn};
+ghost use Rattle.plc_auto.specs.declared.observer.Observer.{Observer};
 ghost use Rattle.plc_flow.specs.WellFormed.{FlowFits};
-ghost use Rattle.plc_mem.specs.State.{Locals, with_locals};
-ghost use Rattle.plc_mem.specs.declared.cell.Outcome.TheVariants.{Next};
-ghost use Rattle.plc_mem.specs.Outcomes.{outcome_of, address_or_null};
+ghost use Rattle.plc_mem.specs.State.{Locals};
+ghost use Rattle.plc_mem.specs.Outcomes.{address_or_null};
 ghost use Rattle.plc_mem.specs.Fit.{shape, Kept};
 ghost use Rattle.plc_run.specs.Run.{point_of};
 ghost use Rattle.plc_run.specs.Ended.{IsReady};
 ghost use Rattle.plc_run.specs.Fit.{ConfigurationFits};
-ghost use Rattle.plc_run.specs.Reach.{Goes, Breaks, arrived, settled, concluded, Acts, ActsWith};
+ghost use Rattle.plc_run.specs.Reach.{Breaks, concluded, came_about, Acts, ActsWith, Tries};
 ghost use Rattle.plc_run.specs.Reach.{start_from, step_from, step_leads, return_from, free_of, reach};
-ghost use Rattle.plc_run.specs.Reach.{answer, Reaches, Comes, IsUnheard, Begins};
+ghost use Rattle.plc_run.specs.Reach.{answer, Reaches, Comes, IsUnheard};
 ghost use Rattle.plc_run.specs.Position.{threads_of, Follows, IsOfRun, Answers, Starts};
 
-use crate::execute::{Ended, Tried, try_init, try_step};
+use crate::execute::{Ended, execute, try_init};
 use crate::moved::Moved;
-use crate::table::Table;
-use plc_auto::{Event, Observer};
+use plc_auto::{Event, Locations, Observer};
 use plc_base::{NoMemory, OpId};
 use plc_flow::{Flow, Point, Step, names_rightly};
 use plc_lang::Prim;
-use plc_mem::{Locals, Memory, Outcome, RaceKind};
+use plc_mem::{Locals, Memory, RaceKind, Undo};
 use plc_threads::{Move, StartFault, arrival, at_exit, begun, none_held, set_point, step_at};
 use std::alloc::Global;
 use std::marker::Model;
+
+/// Whether primitives succeeded, and what the observer hears of them stands in the history.
+fn came_about(ended: &Result<Ended, NoMemory>) -> bool
+    ensures { result ≡ came_about ended.now }
+{
+    matches!(ended, Ok(Ended::Fine))
+}
 
 /// The configuration of a run: memory, history, where the observer stands for each thread and each
 /// address, and where each thread stands.
@@ -39,7 +43,7 @@ pub struct Config {
     alloc: Global,
     memory: Memory,
     history: Vec<Event>,
-    table: Table,
+    located: Locations,
     points: Vec<Option<Point>>,
     ended: bool,
 }
@@ -53,7 +57,7 @@ impl Model for Config {
     ghost view = { λ c. record {
       here = record { state = c.memory; history = c.history.items; points = c.points.items };
       ended = c.ended;
-      located = c.table.locations;
+      located = c.located;
     } };
 
     ghost invariant = { λ c. (0 < length c.points.items) × (length c.points.items < 2 ^ 32) };
@@ -74,32 +78,14 @@ impl Config {
         ensures starts { Starts flow.now threads result }
         ensures of_run { IfOk result (λ c. IsOfRun flow.now observer.now c × (threads_of c ≡ threads)) }
     {
-        match Config::began(alloc, flow, observer, threads) {
-            Ok(Some(c)) => Ok(c),
-            Ok(None) => Err(StartFault::NoStart),
-            Err(_) => Err(StartFault::Memory),
-        }
-    }
-
-    /// The configuration that `init` leaves, or nothing where it is blocked.
-    fn began(
-        alloc: Global,
-        flow: &Flow,
-        observer: &Observer,
-        threads: u32,
-    ) -> Result<Option<Config>, NoMemory>
-        requires some { 0 < threads }
-        requires fits { FlowFits flow.now }
-        ensures { IfOk result (λ c. Begins flow.now observer.now threads c) }
-    {
         let tried = try_init(alloc, flow, threads)?;
         match tried.ended {
             Ended::Fine => {
                 let c = Config::idle(alloc, observer, threads, tried.memory, tried.events)?;
-                Ok(Some(c))
+                Ok(c)
             }
-            Ended::Stuck => Ok(None),
-            Ended::Raced { .. } => Ok(None),
+            Ended::Stuck => Err(StartFault::NoStart),
+            Ended::Raced { .. } => Err(StartFault::NoStart),
         }
     }
 
@@ -118,11 +104,12 @@ impl Config {
         ensures follows { IfOk result (λ c. Follows observer.now c) }
     {
         let points = none_held(alloc, threads as usize)?;
-        let table = Table::after(alloc, observer, threads, &history)?;
+        let mut located = Locations::of_threads(alloc, *observer, threads)?;
+        located.hear_all(&history)?;
         Ok(Config {
             alloc,
             memory,
-            table,
+            located,
             history,
             points,
             ended: false,
@@ -222,7 +209,7 @@ impl Config {
         self.take(observer, step, point, t, addr)
     }
 
-    /// Takes a step: one of at most one primitive in place, one of several on a copy of the memory.
+    /// Takes a step: its primitives in order, and then its thread stands where it leads.
     fn take(
         &mut self,
         observer: &Observer,
@@ -235,202 +222,106 @@ impl Config {
         requires follows { Follows observer.now self.old }
         ensures { Comes observer.now (step_leads self.old.here t point step.now addr) self.old result self.new }
     {
-        match step.prims.as_slice() {
-            [] => Ok(self.pass(step, point, t)),
-            [prim] => self.take_in_place(observer, step, prim, point, t, addr),
-            _ => self.take_on_copy(observer, step, point, t, addr),
-        }
+        let ended = self.act(observer, step.prims.as_slice(), t, addr)?;
+        Ok(self.conclude(ended, arrival(point, step), t))
     }
 
-    /// Takes a step of several primitives on a copy of the memory.
-    fn take_on_copy(
-        &mut self,
-        observer: &Observer,
-        step: &Step,
-        point: Point,
-        t: u32,
-        addr: Option<u32>,
-    ) -> Result<Moved, NoMemory>
-        requires ready { IsReady self.old.here t point step.now }
-        requires follows { Follows observer.now self.old }
-        ensures { Comes observer.now (step_leads self.old.here t point step.now addr) self.old result self.new }
-    {
-        let tried = try_step(self.alloc, &self.memory, step, t, addr)?;
-        self.settle(observer, tried, arrival(point, step), t)
-    }
-
-    /// Makes what was tried on a copy of the memory come about: where all went well the copy takes the memory's place.
-    fn settle(
-        &mut self,
-        observer: &Observer,
-        tried: Tried,
-        to: Point,
-        t: u32,
-    ) -> Result<Moved, NoMemory>
-        requires known { t < threads_of self.old }
-        requires follows { Follows observer.now self.old }
-        ensures answer { let come = settled self.old.here t to tried.ended tried.memory tried.events.items
-            in IfOk result (λ r. r ≡ answer come) }
-        ensures after { let come = settled self.old.here t to tried.ended tried.memory tried.events.items
-            in OnOk result (Reaches come self.old self.new) }
-        ensures follows { Follows observer.now self.new }
-        ensures err { OnErr result (self.new ≡ self.old) }
-    {
-        match tried.ended {
-            Ended::Stuck => Ok(Moved::Blocked),
-            Ended::Raced { kind, prim } => Ok(self.race(kind, prim)),
-            Ended::Fine => self.adopt(observer, tried.memory, &tried.events, to, t),
-        }
-    }
-
-    /// Takes over the memory, the events and the point to which a step led its thread.
-    fn adopt(
-        &mut self,
-        observer: &Observer,
-        memory: Memory,
-        events: &[Event],
-        to: Point,
-        t: u32,
-    ) -> Result<Moved, NoMemory>
-        requires known { t < threads_of self.old }
-        requires follows { Follows observer.now self.old }
-        ensures answer { IfOk result (λ r. r ≡ answer (Goes (arrived self.old.here t to memory events.now))) }
-        ensures after { OnOk result (Reaches (Goes (arrived self.old.here t to memory events.now)) self.old self.new) }
-        ensures follows { Follows observer.now self.new }
-        ensures err { OnErr result (self.new ≡ self.old) }
-    {
-        self.hear(observer, events)?;
-        self.memory = memory;
-        set_point(&mut self.points, t, Some(to));
-        Ok(Moved::Done)
-    }
-
-    /// Takes a step without primitives, which moves its thread and changes nothing else.
-    fn pass(&mut self, step: &Step, point: Point, t: u32) -> Moved
-        requires none { step.now.prims ≡ [] }
-        requires ready { IsReady self.old.here t point step.now }
-        ensures answer { (addr : Option ℕ) → result ≡ answer (step_leads self.old.here t point step.now addr) }
-        ensures after { (addr : Option ℕ) → Reaches (step_leads self.old.here t point step.now addr) self.old self.new }
-        ensures unheard { IsUnheard self.old self.new }
-    {
-        set_point(&mut self.points, t, Some(arrival(point, step)));
-        Moved::Done
-    }
-
-    /// Takes a step of one primitive on the memory itself.
-    fn take_in_place(
-        &mut self,
-        observer: &Observer,
-        step: &Step,
-        prim: &Prim,
-        point: Point,
-        t: u32,
-        addr: Option<u32>,
-    ) -> Result<Moved, NoMemory>
-        requires one { step.now.prims ≡ prim.now ∷ [] }
-        requires ready { IsReady self.old.here t point step.now }
-        requires follows { Follows observer.now self.old }
-        ensures { Comes observer.now (step_leads self.old.here t point step.now addr) self.old result self.new }
-    {
-        let done = self.act(observer, prim, t, addr)?;
-        Ok(self.conclude(done, arrival(point, step), t))
-    }
-
-    /// Ends a step of one primitive by the outcome of that primitive.
-    fn conclude(&mut self, done: Outcome, to: Point, t: u32) -> Moved
+    /// Ends a step by how its primitives ended.
+    fn conclude(&mut self, ended: Ended, to: Point, t: u32) -> Moved
         requires { t < threads_of self.old }
-        ensures answer { result ≡ answer (concluded self.old.here t to done) }
-        ensures after { Reaches (concluded self.old.here t to done) self.old self.new }
+        ensures answer { result ≡ answer (concluded self.old.here t to ended) }
+        ensures after { Reaches (concluded self.old.here t to ended) self.old self.new }
         ensures unheard { IsUnheard self.old self.new }
     {
-        match done {
-            Outcome::Next(_) => {
+        match ended {
+            Ended::Fine => {
                 set_point(&mut self.points, t, Some(to));
                 Moved::Done
             }
-            Outcome::Blocked => Moved::Blocked,
-            Outcome::Race(kind) => self.race(kind, 0),
+            Ended::Stuck => Moved::Blocked,
+            Ended::Raced { kind, prim } => self.race(kind, prim),
         }
     }
 
-    /// Takes one primitive of a thread. Its locals stand outside the memory meanwhile.
+    /// Takes primitives of a thread in order. Its locals stand outside the memory meanwhile.
     fn act(
         &mut self,
         observer: &Observer,
-        prim: &Prim,
+        prims: &[Prim],
         t: u32,
         addr: Option<u32>,
-    ) -> Result<Outcome, NoMemory>
+    ) -> Result<Ended, NoMemory>
         requires busy { (l : Locals) × (get_or self.old.here.state.locals t None ≡ Some l)
-            × PrimitiveIn (shape self.old.here.state l) prim.now }
+            × PrimitivesIn (shape self.old.here.state l) prims.now }
+        requires few { length prims.now < 65536 }
         requires follows { Follows observer.now self.old }
-        ensures acts { IfOk result (λ o. Acts t (address_or_null addr) prim.now self.old o self.new) }
+        ensures acts { IfOk result (λ e. Acts t (address_or_null addr) prims.now self.old e self.new) }
         ensures follows { Follows observer.now self.new }
         ensures err { OnErr result (self.new ≡ self.old) }
     {
         let Some(mut me) = self.memory.take(t) else {
-            return Ok(Outcome::Blocked);
+            return Ok(Ended::Stuck);
         };
-        let done = self.act_with(observer, prim, &mut me, t, addr);
+        let ended = self.act_with(observer, prims, &mut me, t, addr);
         self.memory.put(t, me);
-        done
+        ended
     }
 
-    /// Takes one primitive of a thread with these locals.
+    /// Takes primitives of a thread with these locals, and takes them back unless all of them come about.
     fn act_with(
         &mut self,
         observer: &Observer,
-        prim: &Prim,
+        prims: &[Prim],
         me: &mut Locals,
         t: u32,
         addr: Option<u32>,
-    ) -> Result<Outcome, NoMemory>
-        requires named { PrimitiveIn (shape self.old.here.state me.old) prim.now }
+    ) -> Result<Ended, NoMemory>
+        requires named { PrimitivesIn (shape self.old.here.state me.old) prims.now }
+        requires few { length prims.now < 65536 }
         requires follows { Follows observer.now self.old }
-        ensures acts { IfOk result (λ o.
-            ActsWith t (address_or_null addr) prim.now self.old me.old o self.new me.new) }
+        ensures acts { IfOk result (λ e.
+            ActsWith t (address_or_null addr) prims.now self.old me.old e self.new me.new) }
         ensures kept { Kept self.old.here.state me.old self.new.here.state me.new }
         ensures follows { Follows observer.now self.new }
         ensures err { OnErr result ((self.new ≡ self.old) × (me.new ≡ me.old)) }
     {
-        match self.memory.outcome(prim, me, t, addr) {
-            Outcome::Next(Some(event)) => self.act_heard(observer, prim, me, t, addr, event),
-            Outcome::Next(None) => {
-                self.memory.apply(prim, me, t, addr)?;
-                Ok(Outcome::Next(None))
-            }
-            Outcome::Blocked => Ok(Outcome::Blocked),
-            Outcome::Race(kind) => Ok(Outcome::Race(kind)),
+        let mut undos = Vec::new(self.alloc);
+        let ended = self.try_with(observer, prims, me, &mut undos, t, addr);
+        if came_about(&ended) {
+            return ended;
         }
+        self.memory.undo_all(me, &mut undos);
+        ended
     }
 
-    /// Takes one primitive that observers hear, of a thread with these locals. The table's row and the history's place
-    /// are made before the primitive changes anything.
-    fn act_heard(
+    /// Takes primitives of a thread with these locals, and notes what takes them back. What the observer hears of them
+    /// is put after the history where all of them succeeded.
+    fn try_with(
         &mut self,
         observer: &Observer,
-        prim: &Prim,
+        prims: &[Prim],
         me: &mut Locals,
+        undos: &mut Vec<Undo>,
         t: u32,
         addr: Option<u32>,
-        event: Event,
-    ) -> Result<Outcome, NoMemory>
-        requires named { PrimitiveIn (shape self.old.here.state me.old) prim.now }
+    ) -> Result<Ended, NoMemory>
+        requires named { PrimitivesIn (shape self.old.here.state me.old) prims.now }
+        requires few { length prims.now < 65536 }
+        requires none { undos.old.items ≡ [] }
         requires follows { Follows observer.now self.old }
-        requires heard { outcome_of (with_locals self.old.here.state t (Some me.old)) t (address_or_null addr) prim.now
-            ≡ Next (Some event) }
-        ensures acts { IfOk result (λ o.
-            ActsWith t (address_or_null addr) prim.now self.old me.old o self.new me.new) }
-        ensures kept { Kept self.old.here.state me.old self.new.here.state me.new }
+        ensures tries { Tries t (address_or_null addr) prims.now self.old me.old result self.new me.new undos.new.items }
         ensures follows { Follows observer.now self.new }
-        ensures err { OnErr result ((self.new ≡ self.old) × (me.new ≡ me.old)) }
     {
-        self.table.admit(&[event])?;
-        self.history.reserve(1)?;
-        self.memory.apply(prim, me, t, addr)?;
-        self.history.push(event)?;
-        self.table.hear(observer, &[event]);
-        Ok(Outcome::Next(Some(event)))
+        let mut events = Vec::new(self.alloc);
+        let ended = execute(&mut self.memory, me, &mut events, undos, prims, t, addr)?;
+        match ended {
+            Ended::Fine => {
+                self.hear(&events)?;
+                Ok(Ended::Fine)
+            }
+            Ended::Stuck => Ok(Ended::Stuck),
+            Ended::Raced { kind, prim } => Ok(Ended::Raced { kind, prim }),
+        }
     }
 
     /// A race ends the run.
@@ -442,18 +333,17 @@ impl Config {
         Moved::Race { kind, prim }
     }
 
-    /// Puts events after the history, and moves the table by them. The rows that the table lacks are made first.
-    fn hear(&mut self, observer: &Observer, events: &[Event]) -> Result<(), NoMemory>
-        requires follows { Follows observer.now self.old }
+    /// Puts events after the history, and moves the locations by them. The history's places are made first.
+    fn hear(&mut self, events: &[Event]) -> Result<(), NoMemory>
         ensures here { OnOk result (self.new.here
             ≡ record self.old.here { history = self.old.here.history ++ events.now }) }
         ensures ended { self.new.ended ≡ self.old.ended }
-        ensures follows { Follows observer.now self.new }
+        ensures follows { (o : Observer) → Follows o self.old → Follows o self.new }
         ensures err { OnErr result (self.new ≡ self.old) }
     {
-        self.table.admit(events)?;
+        self.history.reserve(events.len())?;
+        self.located.hear_all(events)?;
         self.history.extend_from_slice(events)?;
-        self.table.hear(observer, events);
         Ok(())
     }
 
@@ -472,7 +362,7 @@ impl Config {
         Moved::Done
     }
 
-    /// A free, judged by the table for each thread.
+    /// A free, judged for each thread by where it stands.
     fn free_move(&mut self, observer: &Observer, a: u32) -> Result<Moved, NoMemory>
         requires follows { Follows observer.now self.old }
         ensures answer { IfOk result (λ r. r ≡ answer (free_of observer.now self.old.here a)) }
@@ -483,11 +373,10 @@ impl Config {
         if a == 0 {
             return Ok(Moved::Blocked);
         }
-        let threads = self.points.len() as u32;
-        if !self.table.may_free(observer, threads, a) {
-            return Ok(Moved::Forbidden);
+        if !self.located.may_free(a) {
+            return Ok(Moved::Forbidden { a });
         }
-        self.hear(observer, &[Event::Free { a }])?;
+        self.hear(&[Event::Free { a }])?;
         self.memory.free(a);
         Ok(Moved::Done)
     }

@@ -10,6 +10,6 @@ pub enum Moved {
     Race { kind: RaceKind, prim: u16 },
     /// There is no such move here, or a race has ended the run.
     Blocked,
-    /// The reclaimer may not free the address yet.
-    Forbidden,
+    /// The reclaimer may not free this address yet, which is the one that the move names.
+    Forbidden { a: u32 },
 }

@@ -254,10 +254,10 @@ return 0 => Done
 return 0 => Blocked
 places => Top=2 2.next=0 used 2 
 # free 0 => Blocked
-free 1 => Forbidden
+free 1 => Forbidden { a: 1 }
 start 0 0 7 => Done
 step 0 0 1 => Done
-free 1 => Forbidden
+free 1 => Forbidden { a: 1 }
 places => Top=0 p=1 1.next=0 used 1 
 # start 0 0 7 => Done
 step 0 0 1 => Done
@@ -305,7 +305,7 @@ start 0 1 => Done
 step 0 0 => Done
 step 0 0 => Done
 step 0 0 => Done, 0 calls 0 with 1
-free 1 => Forbidden
+free 1 => Forbidden { a: 1 }
 places => Top=0 p=1 r=1 1.next=0 used 1 retired 1 
 ";
 

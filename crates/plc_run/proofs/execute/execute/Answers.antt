@@ -18,5 +18,6 @@ pub loop-k-preserved : goal.loop-k-preserved
 loop-k-preserved c = record {
   same = execute_went (with_locals c.loop-k.memory c.args.t (Some c.loop-k.me)) (with_locals c.one.new.memory c.args.t (Some c.one.new.me)) c.loop-k.events.items c.one.new.events.items c.args.t _ c.loop-k.k c.args.prims.now _ c.in-Next.field-0 _ c.loop-k-test.true
       (sym c.in-Next.is ∙ c.in_ok-one.ensures.outcome) c.in_ok-one.ensures.next (c.in_ok-one.ensures.events ∙ ap (heard c.loop-k.events.items) c.in-Next.is) c.loop-k.invariant.same;
-  kept = kept-then c.loop-k.invariant.kept c.in_ok-one.ensures.kept;
+  kept = kept-then c.loop-k.invariant.kept c.one.ensures.kept;
+  undoable = λ s m takes. c.one.ensures.undoable s m (c.loop-k.invariant.undoable s m takes);
 }
