@@ -43,38 +43,33 @@ shared_put g i n = record {
   nodes = record { entries = λ m k. refl; count = refl };
 }
 
--- where one list of a thread's locals changes at one number, every other place has what it had
-own_kept : (g : GcState) (t : ℕ) (l : Locals) (q : Slot) → ((v : ℕ) → q ≡ in_local t v → get_or l.pointers v 0 ≡ get_or (locals_of g t).pointers v 0) → ((x : ℕ) → q ≡ in_data t x → get_or l.values x 0 ≡ get_or (locals_of g t).values x 0) → value (with_locals g t (Some l)) q ≡ value g q
+-- where a thread's locals change at one place alone, all else has what it had
+own_put : (g : GcState) (t : ℕ) (l : Locals) (p : Slot) (n : ℕ) → value (with_locals g t (Some l)) p ≡ n → ((v : ℕ) → (in_local t v ≡ p → ⊥) → get_or l.pointers v 0 ≡ get_or (locals_of g t).pointers v 0) → ((x : ℕ) → (in_data t x ≡ p → ⊥) → get_or l.values x 0 ≡ get_or (locals_of g t).values x 0) → Put g p n (with_locals g t (Some l))
 unfolding value
-own_kept g t l (in_shared j) pointers values = (gives g t (Some l)).shared j
-own_kept g t l (in_local u w) pointers values = elim (cases_eq u t) [
-  | inl e ↦ (let P : ℕ → Type 0 = λ u. value (with_locals g t (Some l)) (in_local u w) ≡ value g (in_local u w) in subst P (sym e) ((gives g t (Some l)).pointers w ∙ pointers w (ap (λ u. in_local u w) e)))
-  | inr other ↦ (gives g t (Some l)).others u w other
-]
-own_kept g t l (in_data u y) pointers values = elim (cases_eq u t) [
-  | inl e ↦ (let P : ℕ → Type 0 = λ u. value (with_locals g t (Some l)) (in_data u y) ≡ value g (in_data u y) in subst P (sym e) ((gives g t (Some l)).values y ∙ values y (ap (λ u. in_data u y) e)))
-  | inr other ↦ (gives g t (Some l)).other_values u y other
-]
+own_put g t l p n here pointers values = record { here = here; elsewhere = kept; nodes = (gives g t (Some l)).nodes }
+  where
+    kept : (q : Slot) → (q ≡ p → ⊥) → value (with_locals g t (Some l)) q ≡ value g q
+    kept (in_shared j) ne = (gives g t (Some l)).shared j
+    kept (in_local u w) ne = elim (cases_eq u t) [
+      | inl e ↦ (let P : ℕ → Type 0 = λ u. value (with_locals g t (Some l)) (in_local u w) ≡ value g (in_local u w) in subst P (sym e) ((gives g t (Some l)).pointers w ∙ pointers w (λ same. ne (ap (λ u. in_local u w) e ∙ same))))
+      | inr other ↦ (gives g t (Some l)).others u w other
+    ]
+    kept (in_data u y) ne = elim (cases_eq u t) [
+      | inl e ↦ (let P : ℕ → Type 0 = λ u. value (with_locals g t (Some l)) (in_data u y) ≡ value g (in_data u y) in subst P (sym e) ((gives g t (Some l)).values y ∙ values y (λ same. ne (ap (λ u. in_data u y) e ∙ same))))
+      | inr other ↦ (gives g t (Some l)).other_values u y other
+    ]
 
 local_put : (g : GcState) (t v n : ℕ) → Put g (in_local t v) n (put g (in_local t v) n)
 unfolding put
 local_put g t v n =
     let l : Locals = record (locals_of g t) { pointers = put_at 0 (locals_of g t).pointers v n } in
-    record {
-      here = (gives g t (Some l)).pointers v ∙ get-put_same 0 (locals_of g t).pointers v n;
-      elsewhere = λ q ne. own_kept g t l q (λ w e. get-put_other 0 (locals_of g t).pointers v n w (λ f. ne (e ∙ ap (in_local t) f))) (λ x e. refl);
-      nodes = (gives g t (Some l)).nodes;
-    }
+    own_put g t l (in_local t v) n ((gives g t (Some l)).pointers v ∙ get-put_same 0 (locals_of g t).pointers v n) (λ w ne. get-put_other 0 (locals_of g t).pointers v n w (λ e. ne (ap (in_local t) e))) (λ x ne. refl)
 
 data_put : (g : GcState) (t x n : ℕ) → Put g (in_data t x) n (put g (in_data t x) n)
 unfolding put
 data_put g t x n =
     let l : Locals = record (locals_of g t) { values = put_at 0 (locals_of g t).values x n } in
-    record {
-      here = (gives g t (Some l)).values x ∙ get-put_same 0 (locals_of g t).values x n;
-      elsewhere = λ q ne. own_kept g t l q (λ v e. refl) (λ y e. get-put_other 0 (locals_of g t).values x n y (λ f. ne (e ∙ ap (in_data t) f)));
-      nodes = (gives g t (Some l)).nodes;
-    }
+    own_put g t l (in_data t x) n ((gives g t (Some l)).values x ∙ get-put_same 0 (locals_of g t).values x n) (λ v ne. refl) (λ y ne. get-put_other 0 (locals_of g t).values x n y (λ e. ne (ap (in_data t) e)))
 
 pub puts : (g : GcState) (p : Slot) (n : ℕ) → Put g p n (put g p n)
 puts g (in_shared i) n = shared_put g i n

@@ -6,10 +6,9 @@ ghost use Rattle.plc_base.specs.Tables.{put_at};
 ghost use Rattle.plc_gc.specs.State.{GcState, Locals, locals_of, locals_or_none, no_locals, starting};
 ghost use Rattle.plc_gc.specs.Clauses.{declared_value};
 
-use crate::row::{find_number, number_at};
 use plc_base::NoMemory;
 use plc_lang::{Local, Op, count_other_data, count_pointers, data_number, pointer_number};
-use plc_threads::{TryCopy, held};
+use plc_threads::{TryCopy, entry_or, find_entry, held};
 use std::alloc::Global;
 use std::marker::Model;
 
@@ -69,14 +68,14 @@ impl Locals {
     pub fn pointer(&self, v: u16) -> u32
         ensures { result ≡ get_or self.now.pointers v 0 }
     {
-        number_at(&self.pointers, v as usize)
+        entry_or(&self.pointers, v as usize, 0)
     }
 
     /// The data local, 0 past the last.
     pub fn value(&self, x: u16) -> u32
         ensures { result ≡ get_or self.now.values x 0 }
     {
-        number_at(&self.values, x as usize)
+        entry_or(&self.values, x as usize, 0)
     }
 
     /// The pointer local, if there is one of this number.
@@ -84,7 +83,7 @@ impl Locals {
         ensures { result
             ≡ (if nat_lt v (length self.now.pointers) then Some (get_or self.now.pointers v 0) else None) }
     {
-        find_number(&self.pointers, v as usize)
+        find_entry(&self.pointers, v as usize)
     }
 
     /// The local by its number among all that are declared, 0 past the last.
@@ -97,9 +96,9 @@ impl Locals {
             None => 0,
             Some(l) => {
                 if l.pointer {
-                    number_at(&self.pointers, pointer_number(&self.declared, i))
+                    entry_or(&self.pointers, pointer_number(&self.declared, i), 0)
                 } else {
-                    number_at(&self.values, data_number(&self.declared, i))
+                    entry_or(&self.values, data_number(&self.declared, i), 0)
                 }
             }
         }

@@ -1,11 +1,12 @@
 // The row of a node: a number for each field, of which a pointer field has the node in `pointers` and a
 // data field the number in `values`, one for each auxiliary field, and the retirement.
-ghost use Rattle.std.specs.Prelude.{◌≡◌, get_or, length, nat_lt, if◌then◌else◌, IfOk, Some, None};
+ghost use Rattle.std.specs.Prelude.{◌≡◌, IfOk};
 ghost use Rattle.plc_gc.specs.State.{row_entry, row_with, fresh_row};
 ghost use Rattle.plc_gc.specs.Fit.{EntryIn};
 
 use crate::slot::Map;
 use plc_base::NoMemory;
+use plc_threads::entry_or;
 use std::alloc::Global;
 use std::marker::Model;
 
@@ -29,24 +30,6 @@ impl Model for Row {
       auxiliary = r.auxiliary.items;
       retired = r.retired;
     } };
-}
-
-/// The number at a place of a table, 0 past its end.
-pub fn number_at(numbers: &[u32], i: usize) -> u32
-    ensures { result ≡ get_or numbers.now i 0 }
-{
-    if i < numbers.len() { numbers[i] } else { 0 }
-}
-
-/// The number at a place of a table, if there is such a place.
-pub fn find_number(numbers: &[u32], i: usize) -> Option<u32>
-    ensures { result ≡ (if nat_lt i (length numbers.now) then Some (get_or numbers.now i 0) else None) }
-{
-    if i < numbers.len() {
-        Some(numbers[i])
-    } else {
-        None
-    }
 }
 
 impl Row {
@@ -79,9 +62,9 @@ impl Row {
         ensures { result ≡ row_entry self.now map }
     {
         match map {
-            Map::Pointer(f) => number_at(&self.pointers, f as usize),
-            Map::Number(f) => number_at(&self.values, f as usize),
-            Map::Auxiliary(h) => number_at(&self.auxiliary, h as usize),
+            Map::Pointer(f) => entry_or(&self.pointers, f as usize, 0),
+            Map::Number(f) => entry_or(&self.values, f as usize, 0),
+            Map::Auxiliary(h) => entry_or(&self.auxiliary, h as usize, 0),
             Map::Retirement => self.retired,
         }
     }

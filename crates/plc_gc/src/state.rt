@@ -8,12 +8,12 @@ ghost use Rattle.plc_gc.specs.Clauses.{local_value, field_map};
 ghost use Rattle.plc_gc.specs.Fit.{SlotIn, MapIn};
 
 use crate::locals::{Locals, local_of, put_pointer, put_value};
-use crate::row::{Row, copy_rows, find_number, number_at};
+use crate::row::{Row, copy_rows};
 use crate::slot::{Map, Slot};
 use plc_base::{FieldId, NoMemory};
 use plc_flow::Flow;
 use plc_lang::Field;
-use plc_threads::{Place, copy_held, held, none_held};
+use plc_threads::{Place, copy_held, entry_or, find_entry, held, none_held};
 use std::alloc::Global;
 use std::marker::Model;
 
@@ -93,7 +93,7 @@ impl State {
         ensures { result ≡ value self.now slot }
     {
         match slot {
-            Slot::Shared(i) => number_at(&self.shared, i as usize),
+            Slot::Shared(i) => entry_or(&self.shared, i as usize, 0),
             Slot::Local { t, v } => match held(&self.locals, t) {
                 Some(l) => l.pointer(v),
                 None => 0,
@@ -180,7 +180,7 @@ impl State {
         ensures { result
             ≡ (if nat_lt i (length self.now.shared) then Some (get_or self.now.shared i 0) else None) }
     {
-        find_number(&self.shared, i as usize)
+        find_entry(&self.shared, i as usize)
     }
 
     /// Whether a node was made and isn't null.

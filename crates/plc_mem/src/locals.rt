@@ -7,10 +7,10 @@ ghost use Rattle.plc_mem.specs.State.{State, Locals, null_cell, no_locals, local
 ghost use Rattle.plc_mem.specs.State.{value_at, number_of, cut_locals};
 
 use crate::cell::Cell;
-use crate::cells::{cell_or_null, cut_cells, find_cell, value_or_0};
+use crate::cells::{cell_or_null, cut_cells};
 use plc_base::NoMemory;
 use plc_lang::{Num, Op, count_other_data, count_pointers};
-use plc_threads::{TryCopy, held};
+use plc_threads::{TryCopy, entry_or, find_entry, held};
 use std::alloc::Global;
 use std::marker::Model;
 
@@ -77,7 +77,7 @@ impl Locals {
         ensures { result
             ≡ (if nat_lt v (length self.now.pointers) then Some (get_or self.now.pointers v null_cell) else None) }
     {
-        find_cell(&self.pointers, v as usize)
+        find_entry(&self.pointers, v as usize)
     }
 
     /// The pointer local, or null.
@@ -99,7 +99,7 @@ impl Locals {
     pub(crate) fn value(&self, x: u16) -> u32
         ensures { (s : State) (t : ℕ) → result ≡ value_at (with_locals s t (Some self.now)) t x }
     {
-        value_or_0(&self.values, x as usize)
+        entry_or(&self.values, x as usize, 0)
     }
 
     /// Puts a number into a data local.

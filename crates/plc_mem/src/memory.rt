@@ -13,13 +13,13 @@ ghost use Rattle.plc_mem.specs.Fit.{shape, Kept};
 ghost use Rattle.plc_mem.specs.Coherence.{IsCoherent, LocalsCoherent};
 
 use crate::cell::Cell;
-use crate::cells::{cell_or_null, cut_cells, find_cell};
+use crate::cells::{cell_or_null, cut_cells};
 use crate::locals::{Locals, cut_threads, local_of};
 use crate::node::Nodes;
 use plc_base::{FieldId, NoMemory};
 use plc_flow::Flow;
 use plc_lang::{Field, Var};
-use plc_threads::{Place, copy_held, none_held};
+use plc_threads::{Place, copy_held, entry_or, find_entry, none_held};
 use std::alloc::Global;
 use std::marker::Model;
 
@@ -210,19 +210,14 @@ impl Memory {
         ensures { result
             ≡ (if nat_lt i (length self.now.shared) then Some (get_or self.now.shared i null_cell) else None) }
     {
-        find_cell(&self.shared, i as usize)
+        find_entry(&self.shared, i as usize)
     }
 
     /// Whether a field is a pointer field.
     fn is_pointer(&self, f: FieldId) -> bool
         ensures { result ≡ get_or self.now.fields f.0 false }
     {
-        let f = f.0 as usize;
-        if f < self.fields.len() {
-            self.fields[f]
-        } else {
-            false
-        }
+        entry_or(&self.fields, f.0 as usize, false)
     }
 
     /// What a variable of the acting thread holds.

@@ -9,9 +9,10 @@ ghost use Rattle.plc_base.specs.Tables.{put_at};
 ghost use Rattle.plc_mem.specs.Fit.{NodesFit};
 
 use crate::cell::Cell;
-use crate::cells::{cell_or_null, cut_cells, value_or_0};
+use crate::cells::{cell_or_null, cut_cells};
 use indexmap::IndexSet;
 use plc_base::NoMemory;
+use plc_threads::entry_or;
 use std::alloc::Global;
 use std::marker::Model;
 
@@ -198,7 +199,7 @@ impl Nodes {
         match self.find(a) {
             Some(i) => {
                 let node = &self.nodes[i];
-                value_or_0(&node.values, f)
+                entry_or(&node.values, f, 0)
             }
             None => 0,
         }

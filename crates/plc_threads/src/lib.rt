@@ -4,10 +4,12 @@
 //! operation's exit.
 #![tactic(auto)]
 
+mod entries;
 mod standing;
 mod table;
 mod words;
 
+pub use entries::{entry_or, find_entry};
 pub use standing::{arrival, at_exit, begun, indexed_step_at, point_at, set_point, step_at};
 pub use table::{TryCopy, copy_held, held, none_held};
 pub use words::{Move, Place, StartFault};

@@ -5,6 +5,7 @@ ghost use Rattle.plc_base.specs.Tables.{put_at};
 ghost use Rattle.plc_flow.specs.StepsByPoint.{IsIndexOf, first_points};
 ghost use Rattle.plc_threads.specs.Standing.{is_idle, begun, step_of, at_exit};
 
+use crate::entries::entry_or;
 use plc_base::OpId;
 use plc_flow::{Flow, Point, Step, StepsByPoint, nth_step};
 use plc_lang::{Op, count_parameters};
@@ -13,8 +14,7 @@ use plc_lang::{Op, count_parameters};
 pub fn point_at(points: &[Option<Point>], t: u32) -> Option<Point>
     ensures { result ≡ get_or points.now t None }
 {
-    let t = t as usize;
-    if t < points.len() { points[t] } else { None }
+    entry_or(points, t as usize, None)
 }
 
 /// Whether there is such a thread, and it is idle.

@@ -7,7 +7,7 @@ use Rattle.plc_gc.proofs.state.State.value.Goals as goal
 
 pub returns-in-Shared : goal.returns-in-Shared
 unfolding value
-returns-in-Shared c = rw (c.in-Shared.is, c.number_at.ensures, c.deref.ensures.value, ← c.self.view_is) refl
+returns-in-Shared c = rw (c.in-Shared.is, c.entry_or.ensures, c.deref.ensures.value, ← c.self.view_is) refl
 
 pub returns-in-Some : goal.returns-in-Some
 returns-in-Some c =

@@ -8,7 +8,7 @@ pub returns-in-Some : goal.returns-in-Some
 returns-in-Some c =
     let found : position (λ (n : Node). n.address == c.args.a) c.self.inside.nodes.items ≡ Some c.in-Some.i = ap (position (λ (n : Node). n.address == c.args.a)) c.self.view_is ∙ sym c.find.ensures ∙ c.in-Some.is in
     let r = node_at c.self.inside.nodes.items c.args.a c.in-Some.i c.index-node.result.now found in
-    c.value_or_0.ensures ∙ ap (λ xs. get_or xs c.args.f 0) c.deref.ensures.value
+    c.entry_or.ensures ∙ ap (λ xs. get_or xs c.args.f 0) c.deref.ensures.value
     ∙ ap (λ (n : Node). get_or n.values c.args.f 0) (c.node.view_is ∙ c.index-node.ensures ∙ r.1 ∙ ap (λ (ns : List Node). node_of ns c.args.a) c.self.view_is)
 
 pub returns-in-None : goal.returns-in-None
