@@ -1,5 +1,5 @@
 -- Cores: a longer branch makes more equal, so nodes that close a core close each branch that holds it.
-use Rattle.std.proofs.Common.{◌≡◌, ◌≢◌, ◌<◌, ◌⊎◌, ℕ, zero, suc, List, [], ◌∷◌, ◌++◌, length, map, get_or, Some, Result, Ok, Err, inl, inr, refl, sym, ◌∙◌, subst, arith}
+use Rattle.std.proofs.Common.{◌≡◌, ◌≢◌, ◌<◌, ◌⊎◌, ℕ, zero, suc, true, List, [], ◌∷◌, ◌++◌, length, map, get_or, Some, Result, Ok, Err, inl, inr, refl, sym, ◌∙◌, subst, arith}
 use Rattle.std.specs.Prelude.{Contains, slice_get, IfOk, Vec}
 use Rattle.std.proofs.lemmas.List.Elements.{Contains-append_left, Contains-append_right, Contains-append_cases, Contains-get_or}
 use Rattle.plc_ground.specs.declared.terms.Lit.{Lit}
@@ -11,7 +11,9 @@ use Rattle.plc_ground.specs.Model.{literals}
 use Rattle.plc_ground.specs.Equality.{Same, HoldsUnequal, given, itself, back, along, applied}
 use Rattle.plc_ground.specs.Trees.{IsRight, Close}
 use Rattle.plc_ground.specs.Classes.{IsClosure}
-use Rattle.plc_solve.specs.Search.{IsWithin, TakesCore, PutsSome, Explains}
+use Rattle.plc_ground.specs.Fit.{LitFits}
+use Rattle.plc_ground.proofs.Joining.{literal_is}
+use Rattle.plc_solve.specs.Search.{IsWithin, TakesCore, PutsSome, Explains, Leads}
 
 -- what a branch makes equal every longer one does
 Same-more : (terms : List GroundTerm) (few many : List Lit) → IsWithin few many → (i j : ℕ) → Same terms few i j → Same terms many i j
@@ -202,3 +204,38 @@ explained_by_all s branch a b h (Ok list) e = record {
   same = subst (λ (t : List Lit). Same s.terms t a b) (sym e) h;
 }
 explained_by_all s branch a b h (Err e) k = tt
+
+-- an equation leads from its left side to its right, and back
+pub leads_right : (l : Lit) (at : ℕ) → l.equal ≡ true → l.left ≡ at → Leads l at l.right
+leads_right l at e is = (
+  (λ terms branch h. subst (λ n. Same terms branch n l.right) is (given l.left l.right (subst (λ (m : Lit). Contains branch m) (sym (literal_is l e)) h))),
+  inr refl,
+)
+
+pub leads_left : (l : Lit) (at : ℕ) → l.equal ≡ true → l.right ≡ at → Leads l at l.left
+leads_left l at e is = (
+  (λ terms branch h. subst (λ n. Same terms branch n l.left) is (back l.left l.right (given l.left l.right (subst (λ (m : Lit). Contains branch m) (sym (literal_is l e)) h)))),
+  inl refl,
+)
+
+-- what a literal leads to is a term
+pub led_within : (s : GroundSet) (l : Lit) (at next : ℕ) → LitFits s l → Leads l at next → next < length s.terms
+led_within s l at next fit (_, inl e) = subst (λ n. n < length s.terms) e (fit.range.0)
+led_within s l at next fit (_, inr e) = subst (λ n. n < length s.terms) e (fit.range.1)
+
+-- one step back along a chain
+pub chain_more : (s : GroundSet) (branch core new : List Lit) (at next b k : ℕ) (d : Lit) → k < length branch → Explains s branch at b core → Leads (get_or branch k d) at next →
+    new ≡ core ++ get_or branch k d ∷ [] → Explains s branch next b new
+chain_more s branch core new at next b k d lt h leads e = subst (λ (t : List Lit). Explains s branch next b t) (sym e) (record {
+  within = λ l m. either l (Contains-append_cases core (get_or branch k d ∷ []) l m);
+  same = along next at b (back at next (leads.0 s.terms (core ++ get_or branch k d ∷ []) (Contains-append_right core (get_or branch k d ∷ []) (get_or branch k d) (zero, omega arith, refl))))
+      (Same-more s.terms core (core ++ get_or branch k d ∷ []) (λ l m. Contains-append_left core (get_or branch k d ∷ []) l m) at b h.same);
+})
+  where
+    either : (l : Lit) → Contains core l ⊎ Contains (get_or branch k d ∷ []) l → Contains branch l
+    either l (inl m) = h.within l m
+    either l (inr m) = subst (λ (t : Lit). Contains branch t) (only_that (get_or branch k d) l m) (Contains-get_or branch k d lt)
+
+-- a term is equal to itself whatever was found
+pub chain_first : (s : GroundSet) (branch core : List Lit) (b : ℕ) → IsWithin core branch → Explains s branch b b core
+chain_first s branch core b w = record { within = w; same = itself b }

@@ -6,6 +6,7 @@ use Rattle.plc_ground.specs.declared.terms.Lit.{Lit}
 use Rattle.plc_ground.specs.declared.terms.Symbol.{Symbol}
 use Rattle.plc_ground.specs.declared.terms.Node.{Node}
 use Rattle.plc_ground.specs.declared.terms.Node.TheVariants.{Leaf}
+use Rattle.plc_ground.specs.declared.terms.GroundTerm.{GroundTerm}
 use Rattle.plc_ground.specs.declared.terms.GroundTerm.TheVariants.{Const}
 use Rattle.plc_ground.specs.declared.terms.GroundSet.{GroundSet}
 use Rattle.plc_ground.specs.declared.apart.Family.TheVariants.{Free}
@@ -92,6 +93,11 @@ IsOfSome s class = (branch : List Lit) × IsClosure s.terms branch class
 pub record Explains (s : GroundSet) (branch : List Lit) (a b : ℕ) (core : List Lit) : Type 0 where
   pub within : IsWithin core branch
   pub same : Same s.terms core a b
+
+-- where this literal is on a branch, it makes the one term equal to the other
+abbrev pub Leads : Lit → ℕ → ℕ → Type 0
+Leads l at next = ((terms : List GroundTerm) (branch : List Lit) → Contains branch l → Same terms branch at next)
+    × ((l.left ≡ next) ⊎ (l.right ≡ next))
 
 -- the literals that were put into this table are on the branch
 pub record PutsSome (s : GroundSet) (branch core : List Lit) (class : List ℕ) : Type 0 where

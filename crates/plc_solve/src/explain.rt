@@ -10,17 +10,11 @@ ghost use Rattle.plc_ground.specs.Changes.{IsBack, Extends};
 ghost use Rattle.plc_ground.specs.Equality.{Same};
 ghost use Rattle.plc_solve.specs.Search.{Explains, PutsSome, IsOfSome};
 
+use crate::chain::{Pair, chain};
 use plc_ground::{
     Applications, Equalities, GroundSet, Lit, all_apart, classes, mark, put, take_back,
 };
 use std::alloc::{AllocError, Global};
-
-/// Two terms.
-#[derive(Clone, Copy)]
-pub(crate) struct Pair {
-    pub a: u32,
-    pub b: u32,
-}
 
 /// Whether the two share a class.
 fn are_together(class: &[u32], pair: Pair) -> bool
@@ -124,9 +118,8 @@ fn copied(alloc: Global, branch: &[Lit]) -> Result<Vec<Lit>, AllocError>
     Ok(list)
 }
 
-/// Literals of the branch that make two terms equal which the branch makes equal. The one error is that
-/// memory runs out.
-pub(crate) fn explain(
+/// Literals of the branch that make two terms equal which the branch makes equal, found by puts.
+fn explain_by_puts(
     alloc: Global,
     set: &GroundSet,
     table: &Applications,
@@ -150,4 +143,29 @@ pub(crate) fn explain(
     }
     drop(core);
     copied(alloc, branch)
+}
+
+/// Literals of the branch that make two terms equal which the branch makes equal. The one error is that
+/// memory runs out.
+pub(crate) fn explain(
+    alloc: Global,
+    set: &GroundSet,
+    table: &Applications,
+    branch: &[Lit],
+    pair: Pair,
+) -> Result<Vec<Lit>, AllocError>
+    requires well { IsWellFormed set.now }
+    requires table { IsTable set.now.terms table.now }
+    requires fit { All (LitFits set.now) branch.now }
+    requires first { pair.a < length set.now.terms }
+    requires second { pair.b < length set.now.terms }
+    requires same { Same set.now.terms branch.now pair.a pair.b }
+    ensures { IfOk result (λ core. Explains set.now branch.now pair.a pair.b core.items) }
+{
+    let mut core = Vec::new(alloc);
+    if chain(alloc, set, branch, pair, &mut core)? {
+        return Ok(core);
+    }
+    drop(core);
+    explain_by_puts(alloc, set, table, branch, pair)
 }

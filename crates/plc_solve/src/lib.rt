@@ -6,6 +6,7 @@
 #![tactic(auto)]
 
 mod apart;
+mod chain;
 mod choice;
 mod cores;
 mod explain;

@@ -13,8 +13,9 @@ ghost use Rattle.plc_solve.specs.Search.{IsSurvey, IsPlace, IsSound, Enters, Des
 ghost use Rattle.plc_solve.specs.Search.{Explains, TakesTree, TakesCore};
 
 use crate::apart::conflict;
+use crate::chain::Pair;
 use crate::choice::pick;
-use crate::explain::{Pair, explain};
+use crate::explain::explain;
 use crate::frame::{Frame, Step, take_leaf};
 use crate::place::Place;
 use crate::survey::Survey;
