@@ -1,5 +1,5 @@
--- What a primitive does to what it names, whichever meaning memory has. The tables of the meanings stay tables with a row
--- for each primitive; laws beside them say that they agree with these words.
+-- What a primitive does to what it names, whichever meaning memory has. The tables of the meanings stay tables with a
+-- row for each primitive; laws beside them say that they agree with these words.
 use Rattle.std.specs.Prelude.{Option, Some, None}
 use Rattle.plc_base.specs.declared.ids.FuncId.{FuncId}
 use Rattle.plc_lang.specs.declared.syntax.Var.{Var}
