@@ -10,8 +10,8 @@ use Rattle.plc_lang.specs.declared.syntax.Arg.TheVariants as args
 use Rattle.plc_lang.specs.declared.syntax.Cond.{Cond}
 use Rattle.plc_lang.specs.declared.syntax.Cond.TheVariants as conds
 
--- the opposite of a test; what is no test has none and stays. So would a test without a row here, its own opposite then:
--- the law that of a test and its opposite exactly one goes, in every state, refuses that
+-- the opposite of a test; what is no test has none and stays. A test without a row here would be its own opposite,
+-- which the law refuses that of a test and its opposite exactly one goes
 abbrev pub opposite : Primitive → Primitive
 opposite (prims.Eq p q) = prims.Ne p q
 opposite (prims.Ne p q) = prims.Eq p q

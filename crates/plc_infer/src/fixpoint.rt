@@ -42,7 +42,8 @@ pub(crate) fn strongest(
     Ok(envs)
 }
 
-/// Relaxes steps one after another. In `reached` is worked out what each leads to, so that none needs memory of its own.
+/// Relaxes steps one after another. What each leads to is worked out in `reached`, so that none needs memory of its
+/// own.
 fn relax_all(
     program: &Program,
     observer: &Observer,

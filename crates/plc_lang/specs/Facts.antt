@@ -1,6 +1,6 @@
--- What a primitive does to what it names, whichever meaning memory has. The tables of the meanings stay tables with a row
--- for each primitive; laws beside them say that they agree with these words, so a row that is missing here is refused by
--- them.
+-- What a primitive does to what it names, whichever meaning memory has. The tables of the meanings stay tables with a
+-- row for each primitive; laws beside them say that they agree with these words, so that a row which is missing here is
+-- refused.
 use Rattle.std.specs.Prelude.{Option, Some, None}
 use Rattle.plc_base.specs.declared.ids.FuncId.{FuncId}
 use Rattle.plc_lang.specs.declared.syntax.Var.{Var}

@@ -1,5 +1,5 @@
 // The laws for which the rules are made as they are: inference needs that a larger environment never
-// does better than a smaller one.
+// does better than a smaller one. And the law by which whoever judges conditions needs no row for each primitive.
 ghost use Rattle.plc_xfer.specs.Laws.{ConditionsGoByFacts, RulesKeepOrder};
 
 /// The rules and interference keep the order of environments and the facts on them, and a condition
