@@ -18,7 +18,8 @@ use Rattle.plc_auto.specs.declared.observer.Observer.{Observer}
 use Rattle.plc_auto.specs.declared.watcher.Watcher.{Watcher}
 use Rattle.plc_auto.specs.Events.{kind_of, thread_of, address_of}
 use Rattle.plc_auto.specs.Table.{step, target_of}
-use Rattle.plc_auto.specs.Location.{is_this, is_kept_at}
+use Rattle.plc_auto.specs.Location.{is_this}
+use Rattle.plc_auto.specs.Waiting.{is_kept_at}
 use Rattle.plc_auto.specs.Laws.{retired_by}
 use Rattle.plc_base.specs.Functions.{is_retire}
 use Rattle.plc_auto.specs.Locations.{Row, Locations, is_by, is_known, with_own, with_thread, heard_by_known, locations_after, with_first, wider, to_end, is_named, moved_by, moved, all_moved, row_after, same_location, same_locations, all_bear_free}

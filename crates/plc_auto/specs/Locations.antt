@@ -1,7 +1,8 @@
--- Where each of some watchers stands for each address, event by event. A watcher reads what one thread does by the table
--- of its observer; some read what every thread does that wasn't heard, until it is heard and has watchers of its own.
--- Addresses that stand where an address does that was never named have no row, unless they are retired.
-use Rattle.std.specs.Prelude.{ℕ, zero, suc, ◌==◌, ◌&&◌, ◌||◌, Bool, true, false, not, if◌then◌else◌, List, [], ◌∷◌, ◌++◌, map, filter}
+-- Where each of some watchers stands for each address, event by event. A watcher reads what one thread does by the
+-- table of its observer; some read what every thread does that wasn't heard, until it is heard and has watchers of its
+-- own. Addresses that stand where an address does that was never named have no row, unless they are retired.
+use Rattle.std.specs.Prelude.{ℕ, zero, suc, ◌==◌, ◌&&◌, ◌||◌, Bool, true, false, not}
+use Rattle.std.specs.Prelude.{if◌then◌else◌, List, [], ◌∷◌, ◌++◌, map, filter}
 use Rattle.std.specs.Prelude.{take, length, get_or, replicate, fold, find, Option, Some, None, is_some}
 use Rattle.std.specs.List.{list_any}
 use Rattle.std.specs.Option.{option_map}
@@ -12,7 +13,8 @@ use Rattle.plc_auto.specs.declared.observer.Observer.{Observer}
 use Rattle.plc_auto.specs.declared.watcher.Watcher.{Watcher}
 use Rattle.plc_auto.specs.Events.{kind_of, thread_of, address_of}
 use Rattle.plc_auto.specs.Table.{step}
-use Rattle.plc_auto.specs.Location.{is_this, is_kept_at}
+use Rattle.plc_auto.specs.Location.{is_this}
+use Rattle.plc_auto.specs.Waiting.{is_kept_at}
 use Rattle.plc_auto.specs.Laws.{is_retirement, retired_by}
 
 -- an address, whether it was retired and not freed since, and where each watcher stands for it; None is `bad`

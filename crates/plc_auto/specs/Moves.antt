@@ -1,6 +1,7 @@
 -- What each function of the code does to locations that hears an event: the row that the event names moves first, then
 -- the watchers of the event's thread in every other row, each in all rows before the next.
-use Rattle.std.specs.Prelude.{ℕ, Bool, true, false, if◌then◌else◌, List, ◌++◌, map, take, set, get_or, Option, Some, None}
+use Rattle.std.specs.Prelude.{ℕ, Bool, true, false, if◌then◌else◌}
+use Rattle.std.specs.Prelude.{List, ◌++◌, map, take, set, get_or, Option, Some, None}
 use Rattle.plc_auto.specs.declared.event.Event.{Event}
 use Rattle.plc_auto.specs.declared.event.EvKind.{EvKind}
 use Rattle.plc_auto.specs.declared.observer.Observer.{Observer}

@@ -1,8 +1,8 @@
 // What an event does to the rows, step by step. Only the row that it may need takes memory, and that comes first.
 ghost use Rattle.std.specs.Prelude.{◌≡◌, ◌==◌, filter, map, IfOk, OnOk, OnErr, Some};
 ghost use Rattle.std.specs.List.{list_any, position};
-ghost use Rattle.plc_auto.specs.Locations.{is_known, is_needed, has_row, with_row, to_end, in_order, row_after, row_of, wider};
-ghost use Rattle.plc_auto.specs.Locations.{first_free_of};
+ghost use Rattle.plc_auto.specs.Locations.{is_known, is_needed, has_row, with_row, to_end, in_order};
+ghost use Rattle.plc_auto.specs.Locations.{row_after, row_of, first_free_of, wider};
 ghost use Rattle.plc_auto.specs.Moves.{named_after, one_elsewhere, all_elsewhere};
 
 use crate::event::{EvKind, Event};

@@ -1,13 +1,14 @@
 // Where each watcher stands for one address. A row counts its keepers as it moves, so that a pick reads
 // one number of each.
-ghost use Rattle.std.specs.Prelude.{◌≡◌, ◌+◌, ◌<◌, ◌^◌, cond, true, false, [], map, replicate, get_or, IfOk, Some, None};
-ghost use Rattle.std.specs.Prelude.{is_some};
+ghost use Rattle.std.specs.Prelude.{◌≡◌, ◌+◌, ◌<◌, ◌^◌, cond, true, false, [], map, replicate, get_or};
+ghost use Rattle.std.specs.Prelude.{IfOk, Some, None, is_some};
 ghost use Rattle.plc_auto.specs.declared.event.Event.TheVariants.{Free as Freed};
 ghost use Rattle.std.specs.List.{count_by};
 ghost use Rattle.plc_auto.specs.Table.{target_of};
 ghost use Rattle.plc_auto.specs.Laws.{retired_by};
-ghost use Rattle.plc_auto.specs.Location.{is_this, is_kept_at};
-ghost use Rattle.plc_auto.specs.Locations.{with_first, wider, is_free_row, is_named, row_after, same_locations, is_needed};
+ghost use Rattle.plc_auto.specs.Location.{is_this};
+ghost use Rattle.plc_auto.specs.Waiting.{is_kept_at};
+ghost use Rattle.plc_auto.specs.Locations.{with_first, wider, is_free_row, is_named, same_locations, is_needed};
 ghost use Rattle.plc_auto.specs.Locations.{all_bear_free, moved};
 ghost use Rattle.plc_auto.specs.Moves.{with_one, with_all, named_after, one_elsewhere};
 
@@ -33,7 +34,7 @@ impl Model for Row {
     ghost use Rattle.std.specs.Prelude.{◌≡◌, map};
     ghost use Rattle.std.specs.List.{count_by};
     ghost use Rattle.plc_auto.specs.Table.{target_of};
-    ghost use Rattle.plc_auto.specs.Location.{is_kept_at};
+    ghost use Rattle.plc_auto.specs.Waiting.{is_kept_at};
     ghost use Rattle.plc_auto.specs.Locations.{Row};
 
     ghost Value = { Row };

@@ -2,7 +2,7 @@
 // observer.
 ghost use Rattle.std.specs.Prelude.{◌≡◌, take};
 ghost use Rattle.plc_auto.specs.Table.{step, target_of};
-ghost use Rattle.plc_auto.specs.Location.{is_kept_at};
+ghost use Rattle.plc_auto.specs.Waiting.{is_kept_at};
 ghost use Rattle.plc_auto.specs.Events.{thread_of};
 ghost use Rattle.plc_auto.specs.Locations.{is_by, moved_by, same_location};
 
