@@ -7,29 +7,37 @@ use Rattle.std.proofs.lemmas.Bool.{eqb-true, ne_eqb, or_parts}
 use Rattle.std.proofs.lemmas.List.{map-set, map-append, take-map, length-map, get_or-map}
 use Rattle.std.proofs.Math.ListN.{drop_of_length-le}
 use Rattle.std.proofs.lemmas.Iterator.Adapters.{position_from-zero}
+use Rattle.plc_base.proofs.Booleans.{and_false}
 use Rattle.plc_base.proofs.Tables.{get-map}
 use Rattle.std.proofs.lemmas.List.Sums.{sum_by-set, length-filter}
 use Rattle.plc_base.specs.declared.ids.LocId.{LocId}
 use Rattle.plc_auto.specs.declared.event.Event.{Event}
 use Rattle.plc_auto.specs.declared.event.Event.TheVariants.{Call as Called, Done as Returned, Free as Freed}
+use Rattle.plc_auto.specs.declared.event.EvKind.{EvKind}
+use Rattle.plc_auto.specs.declared.observer.Observer.{Observer}
 use Rattle.plc_auto.specs.declared.watcher.Watcher.{Watcher}
-use Rattle.plc_auto.specs.Events.{kind_of, thread_of}
+use Rattle.plc_auto.specs.Events.{kind_of, thread_of, address_of}
 use Rattle.plc_auto.specs.Table.{step, target_of}
-use Rattle.plc_auto.specs.Location.{is_kept_at}
+use Rattle.plc_auto.specs.Location.{is_this}
+use Rattle.plc_auto.specs.Waiting.{is_kept_at}
 use Rattle.plc_auto.specs.Laws.{retired_by}
 use Rattle.plc_base.specs.Functions.{is_retire}
-use Rattle.plc_auto.specs.Locations.{Row, Locations, is_by, is_known, with_own, with_thread, heard_by_known, locations_after, with_first, wider, to_end, is_named, moved, all_moved, row_after, same_location, same_locations, all_bear_free}
+use Rattle.plc_auto.specs.Locations.{Row, Locations, is_by, is_known, with_own, with_thread, heard_by_known, locations_after, with_first, wider, to_end, is_named, moved_by, moved, all_moved, row_after, same_location, same_locations, all_bear_free}
 use Rattle.plc_auto.specs.Moves.{one_moved, with_one, with_all, named_after, one_elsewhere, all_elsewhere, widened}
 use Rattle.plc_auto.proofs.Stays.{far_stays}
 
 -- ---- watchers one after the other
 
-pub all_more : (e : Event) (on_this : Bool) (ws : List Watcher) (at : List (Option ℕ)) (i : ℕ) (d : Watcher) → i < length ws
-    → one_moved e on_this i (get_or ws i d) (all_moved e on_this (take i ws) at) ≡ all_moved e on_this (take (i + 1) ws) at
+-- the move of one
+abbrev turn : Event → Bool → ℕ → Watcher → List (Option ℕ) → List (Option ℕ)
+turn e on_this i w at = one_moved w.observer (kind_of e) (is_by (thread_of e) w.thread) on_this i at
+
+all_more : (e : Event) (on_this : Bool) (ws : List Watcher) (at : List (Option ℕ)) (i : ℕ) (d : Watcher) → i < length ws
+    → turn e on_this i (get_or ws i d) (all_moved e on_this (take i ws) at) ≡ all_moved e on_this (take (i + 1) ws) at
 all_more e on_this ws at i d small = rw add-one (go ws at i small)
   where
     go : (ws : List Watcher) (at : List (Option ℕ)) (i : ℕ) → i < length ws
-        → one_moved e on_this i (get_or ws i d) (all_moved e on_this (take i ws) at) ≡ all_moved e on_this (take (suc i) ws) at
+        → turn e on_this i (get_or ws i d) (all_moved e on_this (take i ws) at) ≡ all_moved e on_this (take (suc i) ws) at
     go [] at i small = absurd (omega arith)
     go (w ∷ ws) [] zero small = refl
     go (w ∷ ws) [] (suc i) small = refl
@@ -54,10 +62,12 @@ other_stays e ws at i d small other = rw add-one (go ws at i small other)
     go (w ∷ ws) (l ∷ at) zero small other = ap (λ l. l ∷ at) (sym (moved_stays e w l other))
     go (w ∷ ws) (l ∷ at) (suc i) small other = ap (λ at. moved e false w l ∷ at) (go ws at i (omega arith) other)
 
--- so in a row
-pub row_more : (e : Event) (on_this : Bool) (ws : List Watcher) (r : Row) (i : ℕ) (d : Watcher) → i < length ws
-    → with_one e on_this i (get_or ws i d) (with_all e on_this (take i ws) r) ≡ with_all e on_this (take (i + 1) ws) r
-row_more e on_this ws r i d small = λ j. record { address = r.address; retired = r.retired; at = all_more e on_this ws r.at i d small j }
+-- so in a row, with what the code knows of the event
+pub row_more : (e : Event) (on_this : Bool) (ws : List Watcher) (r : Row) (i : ℕ) (d : Watcher) (kind : EvKind) (own : Bool) → i < length ws → kind ≡ kind_of e → own ≡ is_by (thread_of e) (get_or ws i d).thread
+    → with_one (get_or ws i d).observer kind own on_this i (with_all e on_this (take i ws) r) ≡ with_all e on_this (take (i + 1) ws) r
+row_more e on_this ws r i d kind own small is by =
+    (λ j. with_one (get_or ws i d).observer (is j) (by j) on_this i (with_all e on_this (take i ws) r))
+    ∙ (λ j. record { address = r.address; retired = r.retired; at = all_more e on_this ws r.at i d small j })
 
 pub row_stays : (e : Event) (ws : List Watcher) (r : Row) (i : ℕ) (d : Watcher) → i < length ws → is_by (thread_of e) (get_or ws i d).thread ≡ false
     → with_all e false (take i ws) r ≡ with_all e false (take (i + 1) ws) r
@@ -65,12 +75,12 @@ row_stays e ws r i d small other = λ j. record { address = r.address; retired =
 
 -- ---- one watcher of a row in code
 
-pub placed : (e : Event) (on_this : Bool) (w : Watcher) (ats : List (Option LocId)) (i : ℕ) (x r : Option LocId) → x ≡ get_or ats i x → target_of r ≡ moved e on_this w (target_of x)
-    → map target_of (set ats i r) ≡ one_moved e on_this i w (map target_of ats)
-placed e on_this w [] zero x r at is = refl
-placed e on_this w [] (suc i) x r at is = refl
-placed e on_this w (y ∷ ats) zero x r at is = ap (λ q. q ∷ map target_of ats) (is ∙ ap (λ q. moved e on_this w (target_of q)) at)
-placed e on_this w (y ∷ ats) (suc i) x r at is = ap (λ qs. target_of y ∷ qs) (placed e on_this w ats i x r at is)
+pub placed : (o : Observer) (kind : EvKind) (own on_this : Bool) (ats : List (Option LocId)) (i : ℕ) (x r : Option LocId) → x ≡ get_or ats i x → target_of r ≡ moved_by o kind own on_this (target_of x)
+    → map target_of (set ats i r) ≡ one_moved o kind own on_this i (map target_of ats)
+placed o kind own on_this [] zero x r at is = refl
+placed o kind own on_this [] (suc i) x r at is = refl
+placed o kind own on_this (y ∷ ats) zero x r at is = ap (λ q. q ∷ map target_of ats) (is ∙ ap (λ q. moved_by o kind own on_this (target_of q)) at)
+placed o kind own on_this (y ∷ ats) (suc i) x r at is = ap (λ qs. target_of y ∷ qs) (placed o kind own on_this ats i x r at is)
 
 -- one that is kept counts
 abbrev keeps : Option ℕ → ℕ
@@ -167,11 +177,17 @@ named_moved e ws r turned is so =
 pub named_stays : (e : Event) (ws : List Watcher) (r : Row) → is_named e r.address ≡ false → r ≡ named_after e ws r
 named_stays e ws r is = sym (ap (λ b. if b then row_after e ws r else r) is)
 
-pub elsewhere_moved : (e : Event) (i : ℕ) (w : Watcher) (r : Row) → is_named e r.address ≡ false → with_one e false i w r ≡ one_elsewhere e i w r
-elsewhere_moved e i w r is = sym (ap (λ b. if b then r else with_one e false i w r) is)
+-- an event of null names none
+pub none_named : (e : Event) (ws : List Watcher) (rows : List Row) → address_of e ≡ 0 → rows ≡ map (named_after e ws) rows
+none_named e ws [] null = refl
+none_named e ws (r ∷ rows) null =
+    λ i. named_stays e ws r ((λ j. (null j == r.address) && not (null j == 0)) ∙ and_false (0 == r.address)) i ∷ none_named e ws rows null i
 
-pub elsewhere_stays : (e : Event) (i : ℕ) (w : Watcher) (r : Row) → is_named e r.address ≡ true → r ≡ one_elsewhere e i w r
-elsewhere_stays e i w r is = sym (ap (λ b. if b then r else with_one e false i w r) is)
+pub elsewhere_moved : (o : Observer) (kind : EvKind) (a i : ℕ) (r : Row) → is_this (Some a) r.address ≡ false → with_one o kind true false i r ≡ one_elsewhere o kind a i r
+elsewhere_moved o kind a i r is = sym (ap (λ b. if b then r else with_one o kind true false i r) is)
+
+pub elsewhere_stays : (o : Observer) (kind : EvKind) (a i : ℕ) (r : Row) → is_this (Some a) r.address ≡ true → r ≡ one_elsewhere o kind a i r
+elsewhere_stays o kind a i r is = sym (ap (λ b. if b then r else with_one o kind true false i r) is)
 
 -- an event turns only what it names
 not_turned : (e : Event) (a : ℕ) (b : Bool) → is_named e a ≡ false → retired_by e a b ≡ b
@@ -202,21 +218,28 @@ rows_moved e ws [] = refl
 rows_moved e ws (r ∷ rows) = λ i. row_moved e ws r i ∷ rows_moved e ws rows i
 
 -- one watcher more in all other rows
-elsewhere_more : (e : Event) (ws vs : List Watcher) (i : ℕ) (w : Watcher) → ((at : List (Option ℕ)) → one_moved e false i w (all_moved e false ws at) ≡ all_moved e false vs at)
-    → (r : Row) → one_elsewhere e i w (all_elsewhere e ws r) ≡ all_elsewhere e vs r
-elsewhere_more e ws vs i w more r = go (is_named e r.address) refl
+elsewhere_more : (e : Event) (ws vs : List Watcher) (i : ℕ) (o : Observer) → ((at : List (Option ℕ)) → one_moved o (kind_of e) true false i (all_moved e false ws at) ≡ all_moved e false vs at)
+    → (r : Row) → one_elsewhere o (kind_of e) (address_of e) i (all_elsewhere e ws r) ≡ all_elsewhere e vs r
+elsewhere_more e ws vs i o more r = go (is_named e r.address) refl
   where
-    go : (b : Bool) → is_named e r.address ≡ b → one_elsewhere e i w (if b then r else with_all e false ws r) ≡ (if b then r else with_all e false vs r)
-    go true is = ap (λ b. if b then r else with_one e false i w r) is
+    go : (b : Bool) → is_named e r.address ≡ b → one_elsewhere o (kind_of e) (address_of e) i (if b then r else with_all e false ws r) ≡ (if b then r else with_all e false vs r)
+    go true is = ap (λ b. if b then r else with_one o (kind_of e) true false i r) is
     go false is =
-        ap (λ b. if b then with_all e false ws r else with_one e false i w (with_all e false ws r)) is
+        ap (λ b. if b then with_all e false ws r else with_one o (kind_of e) true false i (with_all e false ws r)) is
         ∙ (λ j. record { address = r.address; retired = r.retired; at = more r.at j })
 
-pub column_more : (e : Event) (ws : List Watcher) (i : ℕ) (d : Watcher) (rows : List Row) → i < length ws
-    → map (one_elsewhere e i (get_or ws i d)) (map (all_elsewhere e (take i ws)) rows) ≡ map (all_elsewhere e (take (i + 1) ws)) rows
-column_more e ws i d [] small = refl
-column_more e ws i d (r ∷ rows) small =
-    λ j. elsewhere_more e (take i ws) (take (i + 1) ws) i (get_or ws i d) (λ at. all_more e false ws at i d small) r j ∷ column_more e ws i d rows small j
+column_moved : (e : Event) (ws : List Watcher) (i : ℕ) (d : Watcher) (rows : List Row) → i < length ws → is_by (thread_of e) (get_or ws i d).thread ≡ true
+    → map (one_elsewhere (get_or ws i d).observer (kind_of e) (address_of e) i) (map (all_elsewhere e (take i ws)) rows) ≡ map (all_elsewhere e (take (i + 1) ws)) rows
+column_moved e ws i d [] small own = refl
+column_moved e ws i d (r ∷ rows) small own =
+    λ j. elsewhere_more e (take i ws) (take (i + 1) ws) i (get_or ws i d).observer
+    (λ at. (λ k. one_moved (get_or ws i d).observer (kind_of e) (sym own k) false i (all_moved e false (take i ws) at)) ∙ all_more e false ws at i d small) r j
+    ∷ column_moved e ws i d rows small own j
+
+pub column_more : (e : Event) (ws : List Watcher) (i : ℕ) (d : Watcher) (rows : List Row) (kind : EvKind) (named : ℕ) → i < length ws → is_by (thread_of e) (get_or ws i d).thread ≡ true → kind ≡ kind_of e → named ≡ address_of e
+    → map (one_elsewhere (get_or ws i d).observer kind named i) (map (all_elsewhere e (take i ws)) rows) ≡ map (all_elsewhere e (take (i + 1) ws)) rows
+column_more e ws i d rows kind named small own is so =
+    (λ j. map (one_elsewhere (get_or ws i d).observer (is j) (so j) i) (map (all_elsewhere e (take i ws)) rows)) ∙ column_moved e ws i d rows small own
 
 pub column_stays : (e : Event) (ws : List Watcher) (i : ℕ) (d : Watcher) (rows : List Row) → i < length ws → is_by (thread_of e) (get_or ws i d).thread ≡ false
     → map (all_elsewhere e (take i ws)) rows ≡ map (all_elsewhere e (take (i + 1) ws)) rows

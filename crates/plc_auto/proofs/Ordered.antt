@@ -12,9 +12,8 @@ use Rattle.plc_auto.specs.declared.event.Event.{Event}
 use Rattle.plc_auto.specs.declared.event.Event.TheVariants.{Call as Called, Done as Returned, Free as Freed}
 use Rattle.plc_auto.specs.declared.watcher.Watcher.{Watcher}
 use Rattle.plc_auto.specs.Events.{kind_of, address_of}
-use Rattle.plc_auto.specs.Location.{is_kept_at}
+use Rattle.plc_auto.specs.Waiting.{is_kept_at, waiting_after}
 use Rattle.plc_auto.specs.Laws.{is_retirement, retired_by}
-use Rattle.plc_auto.specs.Waiting.{waiting_after}
 use Rattle.plc_auto.specs.Locations.{Row, Locations, with_first, wider, has_row, with_row, to_end, in_order, is_named, all_moved, row_after, is_needed, heard_by_known, row_of, is_free_row, first_free_of}
 use Rattle.plc_base.proofs.Booleans.{and_false}
 use Rattle.plc_auto.proofs.Moving.{not_there}

@@ -16,8 +16,8 @@ use Rattle.plc_auto.specs.declared.event.Event.TheVariants.{Call as Called, Done
 use Rattle.plc_auto.specs.declared.observer.Observer.{Observer}
 use Rattle.plc_auto.specs.declared.watcher.Watcher.{Watcher}
 use Rattle.plc_auto.specs.Events.{thread_of}
-use Rattle.plc_auto.specs.Location.{location, is_kept_at}
-use Rattle.plc_auto.specs.Waiting.{waiting_after}
+use Rattle.plc_auto.specs.Location.{location}
+use Rattle.plc_auto.specs.Waiting.{is_kept_at, waiting_after}
 use Rattle.plc_auto.specs.Locations.{Locations, of_thread, of_unheard, owned, fresh, is_by, is_known, with_own, heard_by_known, locations_after, locations_after_all, row_of, stands, retired_addresses, is_kept, first_free}
 use Rattle.plc_auto.specs.Following.{Watches, FollowsObservers}
 use Rattle.plc_auto.proofs.Histories.{is_own}

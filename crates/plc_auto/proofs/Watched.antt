@@ -17,7 +17,6 @@ use Rattle.plc_auto.specs.declared.watcher.Watcher.{Watcher}
 use Rattle.plc_auto.specs.Events.{thread_of}
 use Rattle.plc_auto.specs.Location.{advance, location}
 use Rattle.plc_auto.specs.Locations.{Locations, of_thread, first_threads, begun, of_threads, is_known, with_own, with_thread, heard_by_known, locations_after, locations_after_all, is_named, moved, row_of, stands, all_bear_free, may_free}
-use Rattle.plc_auto.specs.Moves.{widened}
 use Rattle.plc_auto.specs.Following.{FollowsThreads}
 use Rattle.plc_auto.proofs.Moving.{none_own}
 use Rattle.plc_auto.proofs.Ends.{end_of, ends, own_moves, own_end, Located, row_is, located_longer}

@@ -7,8 +7,8 @@ use Rattle.plc_auto.specs.declared.event.Event.{Event}
 use Rattle.plc_auto.specs.declared.event.Event.TheVariants.{Free as Freed}
 use Rattle.plc_auto.specs.declared.observer.Observer.{Observer}
 use Rattle.plc_auto.specs.declared.watcher.Watcher.{Watcher}
-use Rattle.plc_auto.specs.Location.{location, advance, is_kept_at}
-use Rattle.plc_auto.specs.Waiting.{waiting_after}
+use Rattle.plc_auto.specs.Location.{location, advance}
+use Rattle.plc_auto.specs.Waiting.{is_kept_at, waiting_after}
 use Rattle.plc_auto.specs.Locations.{Locations, of_threads, is_known, locations_after_all, stands, retired_addresses}
 use Rattle.plc_auto.specs.Locations.{is_kept, may_free, first_free}
 

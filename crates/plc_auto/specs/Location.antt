@@ -5,7 +5,7 @@ use Rattle.plc_auto.specs.declared.event.Event.{Event}
 use Rattle.plc_auto.specs.declared.event.Event.TheVariants.{Call as Called, Done as Returned, Free as Freed}
 use Rattle.plc_auto.specs.declared.event.EvKind.TheVariants.{Call, Done, Free}
 use Rattle.plc_auto.specs.declared.observer.Observer.{Observer}
-use Rattle.plc_auto.specs.Table.{step, names_of, r_kept}
+use Rattle.plc_auto.specs.Table.{step, names_of}
 
 -- null and an absent address are other
 abbrev pub is_this : Option ℕ → ℕ → Bool
@@ -53,8 +53,3 @@ stands_retired o (Some l) = is_retired_location o l
 -- an address is retired after a history: thread t stands for every thread
 abbrev pub is_retired_after : Observer → List Event → ℕ → ℕ → Bool
 is_retired_after o h t a = stands_retired o (location o h t a)
-
--- the location is `r.kept`, which has one number in both tables; `bad` isn't
-abbrev pub is_kept_at : Option ℕ → Bool
-is_kept_at None = false
-is_kept_at (Some l) = l == r_kept

@@ -1,17 +1,20 @@
--- Where each of some watchers stands for each address, event by event. A watcher reads what one thread does by the table
--- of its observer; some read what every thread does that wasn't heard, until it is heard and has watchers of its own.
--- Addresses that stand where an address does that was never named have no row, unless they are retired.
-use Rattle.std.specs.Prelude.{ℕ, zero, suc, ◌==◌, ◌&&◌, ◌||◌, Bool, true, false, not, if◌then◌else◌, List, [], ◌∷◌, ◌++◌, map, filter}
+-- Where each of some watchers stands for each address, event by event. A watcher reads what one thread does by the
+-- table of its observer; some read what every thread does that wasn't heard, until it is heard and has watchers of its
+-- own. Addresses that stand where an address does that was never named have no row, unless they are retired.
+use Rattle.std.specs.Prelude.{ℕ, zero, suc, ◌==◌, ◌&&◌, ◌||◌, Bool, true, false, not}
+use Rattle.std.specs.Prelude.{if◌then◌else◌, List, [], ◌∷◌, ◌++◌, map, filter}
 use Rattle.std.specs.Prelude.{take, length, get_or, replicate, fold, find, Option, Some, None, is_some}
 use Rattle.std.specs.List.{list_any}
 use Rattle.std.specs.Option.{option_map}
 use Rattle.plc_auto.specs.declared.event.Event.{Event}
 use Rattle.plc_auto.specs.declared.event.Event.TheVariants.{Free as Freed}
+use Rattle.plc_auto.specs.declared.event.EvKind.{EvKind}
 use Rattle.plc_auto.specs.declared.observer.Observer.{Observer}
 use Rattle.plc_auto.specs.declared.watcher.Watcher.{Watcher}
 use Rattle.plc_auto.specs.Events.{kind_of, thread_of, address_of}
 use Rattle.plc_auto.specs.Table.{step}
-use Rattle.plc_auto.specs.Location.{is_this, is_kept_at}
+use Rattle.plc_auto.specs.Location.{is_this}
+use Rattle.plc_auto.specs.Waiting.{is_kept_at}
 use Rattle.plc_auto.specs.Laws.{is_retirement, retired_by}
 
 -- an address, whether it was retired and not freed since, and where each watcher stands for it; None is `bad`
@@ -121,10 +124,14 @@ in_order e rows = if is_retirement (kind_of e) then to_end (address_of e) rows e
 abbrev pub is_named : Event → ℕ → Bool
 is_named e a = is_this (Some (address_of e)) a
 
--- where an event leads a watcher; `bad` is never left
+-- where a kind of event leads from a location; `bad` is never left
+abbrev pub moved_by : Observer → EvKind → Bool → Bool → Option ℕ → Option ℕ
+moved_by o kind by_own on_this None = None
+moved_by o kind by_own on_this (Some l) = step o l kind by_own on_this
+
+-- where an event leads a watcher
 abbrev pub moved : Event → Bool → Watcher → Option ℕ → Option ℕ
-moved e on_this w None = None
-moved e on_this w (Some l) = step w.observer l (kind_of e) (is_by (thread_of e) w.thread) on_this
+moved e on_this w l = moved_by w.observer (kind_of e) (is_by (thread_of e) w.thread) on_this l
 
 -- where it leads each of these watchers, for one address
 abbrev pub all_moved : Event → Bool → List Watcher → List (Option ℕ) → List (Option ℕ)

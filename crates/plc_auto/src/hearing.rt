@@ -1,11 +1,12 @@
 // What an event does to the rows, step by step. Only the row that it may need takes memory, and that comes first.
 ghost use Rattle.std.specs.Prelude.{◌≡◌, ◌==◌, filter, map, IfOk, OnOk, OnErr, Some};
 ghost use Rattle.std.specs.List.{list_any, position};
-ghost use Rattle.plc_auto.specs.Locations.{is_known, is_needed, has_row, with_row, to_end, in_order, row_after, row_of, wider};
-ghost use Rattle.plc_auto.specs.Locations.{first_free_of};
+ghost use Rattle.plc_auto.specs.Locations.{is_known, is_needed, has_row, with_row, to_end, in_order};
+ghost use Rattle.plc_auto.specs.Locations.{row_after, row_of, first_free_of, wider};
 ghost use Rattle.plc_auto.specs.Moves.{named_after, one_elsewhere, all_elsewhere};
 
 use crate::event::{EvKind, Event};
+use crate::observer::Observer;
 use crate::row::Row;
 use crate::watcher::{Watcher, is_by, is_own};
 use plc_base::NoMemory;
@@ -111,27 +112,34 @@ pub fn put_in_order(rows: &mut Vec<Row>, e: &Event)
 fn move_named(rows: &mut [Row], e: &Event, watchers: &[Watcher])
     ensures { rows.new ≡ map (named_after e.now watchers.now) rows.old }
 {
+    if e.address() == 0 {
+        return;
+    }
     for row in rows.iter_mut() {
         row.hear_named(e, watchers);
     }
 }
 
-/// Moves one watcher in every row that an event doesn't name.
-fn move_one(rows: &mut [Row], e: &Event, i: usize, watcher: &Watcher)
-    ensures { rows.new ≡ map (one_elsewhere e.now i watcher.now) rows.old }
+/// Moves one watcher by a kind of event of its thread, in every row but that of the address that the
+/// event names.
+fn move_one(rows: &mut [Row], observer: &Observer, kind: EvKind, named: u32, i: usize)
+    ensures { rows.new ≡ map (one_elsewhere observer.now kind named i) rows.old }
 {
     for row in rows.iter_mut() {
-        row.hear_elsewhere(e, i, watcher);
+        row.hear_elsewhere(observer, kind, named, i);
     }
 }
 
-/// Moves the watchers of an event's thread in every row that the event doesn't name. No other watcher moves there.
+/// Moves the watchers of an event's thread in every row that the event doesn't name. No other watcher
+/// moves there.
 fn move_own(rows: &mut [Row], e: &Event, watchers: &[Watcher])
     ensures { rows.new ≡ map (all_elsewhere e.now watchers.now) rows.old }
 {
+    let kind = e.kind();
+    let named = e.address();
     for i in 0..watchers.len() {
         if is_own(e, &watchers[i]) {
-            move_one(rows, e, i, &watchers[i]);
+            move_one(rows, &watchers[i].observer, kind, named, i);
         }
     }
 }

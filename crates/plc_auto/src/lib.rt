@@ -1,6 +1,6 @@
 //! When a reclaimer may free what: events, the three observers with their tables of locations, the schemes by which
-//! reclaimers know them, and sets of locations, on ids and masks alone. `step` is the written table, and the sets are what
-//! their definitions say.
+//! reclaimers know them, where watchers stand for each address, and sets of locations. `step` is the written table,
+//! `Locations` is its fold over the events that were heard, and the sets are what their definitions say.
 #![tactic(auto)]
 
 mod event;

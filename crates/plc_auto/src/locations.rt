@@ -125,7 +125,8 @@ impl Locations {
         self.unheard != 0 && !is_known(t, &self.watchers)
     }
 
-    /// Hears an event of a thread that has watchers or is to have none, or of no thread. Where memory runs out it is as it was.
+    /// Hears an event of a thread that has watchers or is to have none, or of no thread. Where memory runs
+    /// out it is as it was.
     fn hear_known(&mut self, e: &Event) -> Result<(), NoMemory>
         ensures ok { OnOk result (self.new ≡ heard_by_known e.now self.old) }
         ensures err { OnErr result (self.new ≡ self.old) }

@@ -1,17 +1,19 @@
 // Where each watcher stands for one address. A row counts its keepers as it moves, so that a pick reads
 // one number of each.
-ghost use Rattle.std.specs.Prelude.{◌≡◌, ◌+◌, ◌<◌, ◌^◌, cond, true, false, [], map, replicate, get_or, IfOk, Some, None};
-ghost use Rattle.std.specs.Prelude.{is_some};
+ghost use Rattle.std.specs.Prelude.{◌≡◌, ◌+◌, ◌<◌, ◌^◌, cond, true, false, [], map, replicate, get_or};
+ghost use Rattle.std.specs.Prelude.{IfOk, Some, None, is_some};
 ghost use Rattle.plc_auto.specs.declared.event.Event.TheVariants.{Free as Freed};
 ghost use Rattle.std.specs.List.{count_by};
 ghost use Rattle.plc_auto.specs.Table.{target_of};
 ghost use Rattle.plc_auto.specs.Laws.{retired_by};
-ghost use Rattle.plc_auto.specs.Location.{is_kept_at};
-ghost use Rattle.plc_auto.specs.Locations.{with_first, wider, is_free_row, is_named, row_after, same_locations, is_needed};
+ghost use Rattle.plc_auto.specs.Location.{is_this};
+ghost use Rattle.plc_auto.specs.Waiting.{is_kept_at};
+ghost use Rattle.plc_auto.specs.Locations.{with_first, wider, is_free_row, is_named, same_locations, is_needed};
 ghost use Rattle.plc_auto.specs.Locations.{all_bear_free, moved};
 ghost use Rattle.plc_auto.specs.Moves.{with_one, with_all, named_after, one_elsewhere};
 
 use crate::event::{EvKind, Event};
+use crate::observer::Observer;
 use crate::watcher::{Watcher, first, is_kept_at, is_own, moved, same_location};
 use plc_base::{LocId, NoMemory};
 use std::alloc::Global;
@@ -32,7 +34,7 @@ impl Model for Row {
     ghost use Rattle.std.specs.Prelude.{◌≡◌, map};
     ghost use Rattle.std.specs.List.{count_by};
     ghost use Rattle.plc_auto.specs.Table.{target_of};
-    ghost use Rattle.plc_auto.specs.Location.{is_kept_at};
+    ghost use Rattle.plc_auto.specs.Waiting.{is_kept_at};
     ghost use Rattle.plc_auto.specs.Locations.{Row};
 
     ghost Value = { Row };
@@ -42,11 +44,11 @@ impl Model for Row {
     ghost invariant = { λ r. r.keepers ≡ count_by is_kept_at (map target_of r.at.items) };
 }
 
-/// Whether an event names an address; none names null.
-pub fn is_named(e: &Event, a: u32) -> bool
-    ensures { result ≡ is_named e.now a }
+/// Whether the address that an event names is this one; none names null.
+fn is_this(named: u32, a: u32) -> bool
+    ensures { result ≡ is_this (Some named) a }
 {
-    e.address() == a && a != 0
+    named == a && named != 0
 }
 
 /// Whether an address is retired after an event that names it.
@@ -175,24 +177,27 @@ impl Row {
         self.retired || !same_locations(&self.at, &others.at)
     }
 
-    /// Moves watcher number `i`, if there is one, by an event that names the address or doesn't.
-    pub fn move_one(&mut self, e: &Event, on_this: bool, i: usize, watcher: &Watcher)
-        ensures { self.new ≡ with_one e.now on_this i watcher.now self.old }
+    /// Moves watcher number `i`, if there is one, by a kind of event. `by_own` and `on_this` are those of
+    /// `Observer::step`.
+    fn move_one(&mut self, observer: &Observer, kind: EvKind, by_own: bool, on_this: bool, i: usize)
+        ensures { self.new ≡ with_one observer.now kind by_own on_this i self.old }
     {
         if i < self.at.len() {
             let before = self.at[i];
-            let after = moved(e, on_this, watcher, before);
+            let after = moved(observer, kind, by_own, on_this, before);
             self.keepers = recounted(self.keepers, before, after);
             self.at[i] = after;
         }
     }
 
-    /// Moves all watchers.
-    fn move_all(&mut self, e: &Event, on_this: bool, watchers: &[Watcher])
-        ensures { self.new ≡ with_all e.now on_this watchers.now self.old }
+    /// Moves all watchers by an event that names the address.
+    fn move_all(&mut self, e: &Event, watchers: &[Watcher])
+        ensures { self.new ≡ with_all e.now true watchers.now self.old }
     {
+        let kind = e.kind();
         for i in 0..watchers.len() {
-            self.move_one(e, on_this, i, &watchers[i]);
+            let own = is_own(e, &watchers[i]);
+            self.move_one(&watchers[i].observer, kind, own, true, i);
         }
     }
 
@@ -200,9 +205,10 @@ impl Row {
     pub fn move_own(&mut self, e: &Event, watchers: &[Watcher])
         ensures { self.new ≡ with_all e.now false watchers.now self.old }
     {
+        let kind = e.kind();
         for i in 0..watchers.len() {
             if is_own(e, &watchers[i]) {
-                self.move_one(e, false, i, &watchers[i]);
+                self.move_one(&watchers[i].observer, kind, true, false, i);
             }
         }
     }
@@ -211,18 +217,19 @@ impl Row {
     pub fn hear_named(&mut self, e: &Event, watchers: &[Watcher])
         ensures { self.new ≡ named_after e.now watchers.now self.old }
     {
-        if is_named(e, self.address) {
+        if is_this(e.address(), self.address) {
             self.retired = retired_by(e, self.address, self.retired);
-            self.move_all(e, true, watchers);
+            self.move_all(e, watchers);
         }
     }
 
-    /// Moves watcher number `i` where the event doesn't name the address.
-    pub fn hear_elsewhere(&mut self, e: &Event, i: usize, watcher: &Watcher)
-        ensures { self.new ≡ one_elsewhere e.now i watcher.now self.old }
+    /// Moves watcher number `i` by a kind of event of its thread, which names an address, where that isn't
+    /// this one.
+    pub fn hear_elsewhere(&mut self, observer: &Observer, kind: EvKind, named: u32, i: usize)
+        ensures { self.new ≡ one_elsewhere observer.now kind named i self.old }
     {
-        if !is_named(e, self.address) {
-            self.move_one(e, false, i, watcher);
+        if !is_this(named, self.address) {
+            self.move_one(observer, kind, true, false, i);
         }
     }
 
@@ -246,7 +253,8 @@ fn bears_free(a: u32, watcher: &Watcher, at: Option<LocId>) -> bool
     ensures { result ≡ is_some (moved (Freed a) (is_named (Freed a) a) watcher.now (target_of at)) }
 {
     let free = Event::Free { a };
-    moved(&free, is_named(&free, a), watcher, at).is_some()
+    let own = is_own(&free, watcher);
+    moved(&watcher.observer, free.kind(), own, is_this(a, a), at).is_some()
 }
 
 /// Whether a free of an address leads none of these watchers to `bad` from where they stand.

@@ -2,9 +2,9 @@
 // observer.
 ghost use Rattle.std.specs.Prelude.{◌≡◌, take};
 ghost use Rattle.plc_auto.specs.Table.{step, target_of};
-ghost use Rattle.plc_auto.specs.Location.{is_kept_at};
-ghost use Rattle.plc_auto.specs.Events.{kind_of, thread_of};
-ghost use Rattle.plc_auto.specs.Locations.{is_by, moved, same_location};
+ghost use Rattle.plc_auto.specs.Waiting.{is_kept_at};
+ghost use Rattle.plc_auto.specs.Events.{thread_of};
+ghost use Rattle.plc_auto.specs.Locations.{is_by, moved_by, same_location};
 
 use crate::event::{EvKind, Event};
 use crate::observer::Observer;
@@ -60,13 +60,20 @@ fn moved_from(
     }
 }
 
-/// Where an event leads a watcher; `bad` is never left. `on_this` says whether it names the address.
-pub fn moved(e: &Event, on_this: bool, watcher: &Watcher, at: Option<LocId>) -> Option<LocId>
-    ensures { target_of result ≡ moved e.now on_this watcher.now (target_of at) }
+/// Where a kind of event leads from a location; `bad` is never left. `by_own` and `on_this` are those of
+/// `Observer::step`.
+pub fn moved(
+    observer: &Observer,
+    kind: EvKind,
+    by_own: bool,
+    on_this: bool,
+    at: Option<LocId>,
+) -> Option<LocId>
+    ensures { target_of result ≡ moved_by observer.now kind by_own on_this (target_of at) }
 {
     match at {
         None => None,
-        Some(l) => moved_from(&watcher.observer, e.kind(), is_own(e, watcher), on_this, l),
+        Some(l) => moved_from(observer, kind, by_own, on_this, l),
     }
 }
 

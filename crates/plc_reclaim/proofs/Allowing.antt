@@ -14,14 +14,14 @@ use Rattle.plc_auto.specs.declared.event.EvKind.TheVariants.{Free}
 use Rattle.plc_auto.specs.declared.observer.Observer.{Observer}
 use Rattle.plc_auto.specs.declared.observer.Observer.TheVariants.{Plain, Hazard, Epoch}
 use Rattle.plc_auto.specs.Table.{count_of, step, is_well_formed, r_kept}
-use Rattle.plc_auto.specs.Location.{is_this, advance, location_from, location, Allowed, is_kept_at, is_retired_location, stands_retired, is_retired_after}
+use Rattle.plc_auto.specs.Location.{is_this, advance, location_from, location, Allowed, is_retired_location, stands_retired, is_retired_after}
+use Rattle.plc_auto.specs.Waiting.{is_kept_at, waiting_after}
 use Rattle.plc_auto.specs.Laws.{retired_by}
 use Rattle.plc_auto.proofs.Tables.{implies, implied, each, each_at}
 use Rattle.plc_auto.specs.Events.{kind_of}
 use Rattle.plc_auto.proofs.Histories.{is_own, is_on, step_by_is, from_bad, location_longer, location_live, allowed_empty, allowed_last, allowed_spoken, allowed_free, step_by_live, initial_live, location_empty}
 use Rattle.plc_auto.proofs.Letters.{retired_longer, initial_unretired}
 use Rattle.plc_auto.specs.declared.scheme.Scheme.{Scheme}
-use Rattle.plc_auto.specs.Waiting.{waiting_after}
 use Rattle.plc_reclaim.specs.Rows.{ActsAs, first_waiting, threads_in, is_kept_by, is_kept_by_none, hazards, epochs, hazard_row, epoch_row}
 use Rattle.plc_reclaim.specs.Meanings.{Meanings}
 use Rattle.plc_reclaim.specs.Histories.{Happens, begins, hears, asks, frees, MakesAllowed}

@@ -1,11 +1,10 @@
 -- The reclaimers that keep locations act as their rows: what they pick is the first that waits and that no thread keeps.
-use Rattle.std.proofs.Common.{◌≡◌, ℕ, suc, ◌<◌, Bool, true, false, not, ◌||◌, List, [], ◌∷◌, Option, refl, sym, ap, ◌∙◌, arith}
+use Rattle.std.proofs.Common.{◌≡◌, ℕ, suc, Bool, true, false, not, ◌||◌, List, [], ◌∷◌, refl, sym, ap, ◌∙◌, arith}
 use Rattle.std.specs.Prelude.{fold, find, Contains}
 use Rattle.std.specs.List.{list_any, filter_map}
 use Rattle.plc_auto.specs.declared.event.Event.{Event}
 use Rattle.plc_auto.specs.declared.observer.Observer.{Observer}
 use Rattle.plc_auto.specs.declared.scheme.Scheme.{Scheme}
-use Rattle.plc_auto.specs.Waiting.{waiting_after}
 use Rattle.plc_auto.specs.Locations.{Locations, fresh, locations_after, locations_after_all, is_kept, first_free}
 use Rattle.plc_auto.proofs.Unheard.{observers_follow}
 use Rattle.plc_reclaim.specs.Rows.{ActsAs, first_waiting, is_kept_by, is_kept_by_none, list_row, none_of}

@@ -96,7 +96,7 @@ unfoldable pub numbers_of : Locations → List ℕ
 numbers_of l = rows (
     (l.unheard ∷ []) ∷ map option_number l.others ∷ rows (map watcher_numbers l.watchers)
     ∷ rows (map row_numbers l.rows) ∷ []
-)
+    )
 
 -- what rows say
 abbrev pub locations_at : List (List ℕ) → Locations

@@ -7,7 +7,8 @@ use Rattle.plc_auto.specs.declared.event.Event.{Event}
 use Rattle.plc_auto.specs.declared.event.Event.TheVariants.{Call as Called, Done as Returned, Free as Freed}
 use Rattle.plc_auto.specs.declared.observer.Observer.{Observer}
 use Rattle.plc_auto.specs.declared.observer.Observer.TheVariants as observers
-use Rattle.plc_auto.specs.Location.{location, is_kept_at}
+use Rattle.plc_auto.specs.Location.{location}
+use Rattle.plc_auto.specs.Waiting.{is_kept_at}
 use Rattle.plc_auto.specs.declared.scheme.Scheme.{Scheme}
 use Rattle.plc_auto.specs.declared.scheme.Scheme.TheVariants.{Hazard, Epoch}
 use Rattle.plc_reclaim.specs.Meanings.{Meanings}

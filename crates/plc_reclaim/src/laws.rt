@@ -3,7 +3,8 @@
 ghost use Rattle.std.specs.Prelude.{◌≡◌, ◌↔◌, ℕ, false, List};
 ghost use Rattle.plc_auto.specs.declared.event.Event.{Event};
 ghost use Rattle.plc_auto.specs.declared.observer.Observer.{Observer};
-ghost use Rattle.plc_auto.specs.Location.{location, is_kept_at};
+ghost use Rattle.plc_auto.specs.Location.{location};
+ghost use Rattle.plc_auto.specs.Waiting.{is_kept_at};
 ghost use Rattle.plc_auto.specs.declared.scheme.Scheme.{Scheme};
 ghost use Rattle.plc_reclaim.specs.Meanings.{Meanings};
 ghost use Rattle.plc_reclaim.specs.Rows.{ActsAs, is_kept_by, hazards, epochs, hazard_row, epoch_row};

@@ -12,6 +12,8 @@ loop-i-preserved c =
     let e = c.args.e.now in
     let ws = c.args.watchers.now in
     elim c.if-is_own.branch [
-      | then-is_own w ↦ w.rows-is ∙ w.move_one.ensures ∙ ap (map (one_elsewhere e c.loop-i.i _)) c.loop-i.invariant ∙ column_more e ws c.loop-i.i _ c.args.rows.now c.loop-i-test.true
+      | then-is_own w ↦
+          w.rows-is ∙ w.move_one.ensures ∙ ap (map (one_elsewhere _ c.kind-kind.result c.address-named.result c.loop-i.i)) c.loop-i.invariant
+          ∙ column_more e ws c.loop-i.i _ c.args.rows.now c.kind-kind.result c.address-named.result c.loop-i-test.true (sym c.is_own.ensures ∙ w.if-is_own.true) c.kind-kind.ensures c.address-named.ensures
       | else-is_own w ↦ w.rows-is ∙ c.loop-i.invariant ∙ column_stays e ws c.loop-i.i _ c.args.rows.now c.loop-i-test.true (sym c.is_own.ensures ∙ w.if-is_own.false)
     ]

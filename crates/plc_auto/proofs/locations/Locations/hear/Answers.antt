@@ -1,6 +1,6 @@
-use Rattle.std.proofs.Common.{◌≡◌, ◌==◌, ◌&&◌, not, Some, OnOk, true, false, sym, ◌∙◌, subst}
+use Rattle.std.proofs.Common.{◌≡◌, OnOk, sym, ◌∙◌, subst}
 use Rattle.std.proofs.lemmas.Bool.{and_parts, not-true}
-use Rattle.plc_auto.specs.Locations.{Locations, is_known}
+use Rattle.plc_auto.specs.Locations.{Locations}
 use Rattle.plc_auto.proofs.Moving.{new_after, not_new_after, no_thread_after}
 use Rattle.plc_auto.proofs.locations.Locations.hear.Goals as goal
 

@@ -2,7 +2,7 @@ use Rattle.std.proofs.Common.{not, ◌&&◌, map, ap, sym, ◌∙◌}
 use Rattle.std.specs.Prelude.{nat_eq}
 use Rattle.std.specs.List.{list_any}
 use Rattle.plc_auto.specs.Table.{target_of}
-use Rattle.plc_auto.specs.Location.{is_kept_at}
+use Rattle.plc_auto.specs.Waiting.{is_kept_at}
 use Rattle.plc_auto.specs.Locations.{is_free_row}
 use Rattle.plc_auto.proofs.Moving.{none_kept}
 use Rattle.plc_auto.proofs.row.Row.is_free.Goals as goal

@@ -17,5 +17,5 @@ returns-then-i-len c =
     rw (← c.self.view_is) (λ j. record {
       address = c.self.inside.address;
       retired = c.self.inside.retired;
-      at = placed c.args.e.now c.args.on_this c.args.watcher.now c.self.inside.at.items c.args.i c.index-before.result.now c.moved-after.result c.index-before.ensures c.moved-after.ensures j;
+      at = placed c.args.observer.now c.args.kind c.args.by_own c.args.on_this c.self.inside.at.items c.args.i c.index-before.result.now c.moved-after.result c.index-before.ensures c.moved-after.ensures j;
     })
