@@ -116,13 +116,13 @@ Reaches Blocks p q = q ≡ p
 Reaches (Forbids a) p q = q ≡ p
 Reaches (Breaks kind k) p q = q ≡ record p { ended = true }
 
--- what the code answers where a step leads to this, and the position after it, whose locations follow the observer; where
+-- what the code answers where a step leads to this, and the position after it, whose locations follow as before; where
 -- memory runs out the position is as it was
-pub record Comes (o : Observer) (r : Reached) (p : Position) (result : Result Moved NoMemory) (q : Position)
+pub record Comes (r : Reached) (p : Position) (result : Result Moved NoMemory) (q : Position)
     : Type 0 where
   pub says : IfOk result (λ m. m ≡ answer r)
   pub after : OnOk result (Reaches r p q)
-  pub follows : Follows o q
+  pub follows : (o : Observer) → Follows o p → Follows o q
   pub err : OnErr result (q ≡ p)
 
 -- a move of which the observer hears nothing

@@ -158,7 +158,7 @@ impl Config {
     {
         match m {
             Move::Start { t, op, args } => self.start_move(flow, *t, *op, args.as_slice()),
-            Move::Step { t, nth, addr } => self.step_move(flow, observer, *t, *nth, *addr),
+            Move::Step { t, nth, addr } => self.step_move(flow, *t, *nth, *addr),
             Move::Return { t } => Ok(self.return_move(flow, *t)),
             Move::Free { a } => self.free_move(observer, *a),
         }
@@ -185,19 +185,17 @@ impl Config {
     fn step_move(
         &mut self,
         flow: &Flow,
-        observer: &Observer,
         t: u32,
         nth: u16,
         addr: Option<u32>,
     ) -> Result<Moved, NoMemory>
         requires flow { FlowFits flow.now }
         requires fits { ConfigurationFits flow.now (threads_of self.old) self.old.here }
-        requires follows { Follows observer.now self.old }
         ensures answer { let to = step_from flow.now self.old.here t nth addr (point_of self.old.here t)
             in IfOk result (λ r. r ≡ answer to) }
         ensures after { let to = step_from flow.now self.old.here t nth addr (point_of self.old.here t)
             in OnOk result (Reaches to self.old self.new) }
-        ensures follows { Follows observer.now self.new }
+        ensures follows { (o : Observer) → Follows o self.old → Follows o self.new }
         ensures err { OnErr result (self.new ≡ self.old) }
     {
         let Some((point, step)) = step_at(flow, &self.points, t, nth) else {
@@ -206,23 +204,21 @@ impl Config {
         if !names_rightly(step, addr) {
             return Ok(Moved::Blocked);
         }
-        self.take(observer, step, point, t, addr)
+        self.take(step, point, t, addr)
     }
 
     /// Takes a step: its primitives in order, and then its thread stands where it leads.
     fn take(
         &mut self,
-        observer: &Observer,
         step: &Step,
         point: Point,
         t: u32,
         addr: Option<u32>,
     ) -> Result<Moved, NoMemory>
-        requires ready { IsReady self.old.here t point step.now }
-        requires follows { Follows observer.now self.old }
-        ensures { Comes observer.now (step_leads self.old.here t point step.now addr) self.old result self.new }
+        requires { IsReady self.old.here t point step.now }
+        ensures { Comes (step_leads self.old.here t point step.now addr) self.old result self.new }
     {
-        let ended = self.act(observer, step.prims.as_slice(), t, addr)?;
+        let ended = self.act(step.prims.as_slice(), t, addr)?;
         Ok(self.conclude(ended, arrival(point, step), t))
     }
 
@@ -244,25 +240,18 @@ impl Config {
     }
 
     /// Takes primitives of a thread in order. Its locals stand outside the memory meanwhile.
-    fn act(
-        &mut self,
-        observer: &Observer,
-        prims: &[Prim],
-        t: u32,
-        addr: Option<u32>,
-    ) -> Result<Ended, NoMemory>
+    fn act(&mut self, prims: &[Prim], t: u32, addr: Option<u32>) -> Result<Ended, NoMemory>
         requires busy { (l : Locals) × (get_or self.old.here.state.locals t None ≡ Some l)
             × PrimitivesIn (shape self.old.here.state l) prims.now }
         requires few { length prims.now < 65536 }
-        requires follows { Follows observer.now self.old }
         ensures acts { IfOk result (λ e. Acts t (address_or_null addr) prims.now self.old e self.new) }
-        ensures follows { Follows observer.now self.new }
+        ensures follows { (o : Observer) → Follows o self.old → Follows o self.new }
         ensures err { OnErr result (self.new ≡ self.old) }
     {
         let Some(mut me) = self.memory.take(t) else {
             return Ok(Ended::Stuck);
         };
-        let ended = self.act_with(observer, prims, &mut me, t, addr);
+        let ended = self.act_with(prims, &mut me, t, addr);
         self.memory.put(t, me);
         ended
     }
@@ -270,7 +259,6 @@ impl Config {
     /// Takes primitives of a thread with these locals, and takes them back unless all of them come about.
     fn act_with(
         &mut self,
-        observer: &Observer,
         prims: &[Prim],
         me: &mut Locals,
         t: u32,
@@ -278,15 +266,14 @@ impl Config {
     ) -> Result<Ended, NoMemory>
         requires named { PrimitivesIn (shape self.old.here.state me.old) prims.now }
         requires few { length prims.now < 65536 }
-        requires follows { Follows observer.now self.old }
         ensures acts { IfOk result (λ e.
             ActsWith t (address_or_null addr) prims.now self.old me.old e self.new me.new) }
         ensures kept { Kept self.old.here.state me.old self.new.here.state me.new }
-        ensures follows { Follows observer.now self.new }
+        ensures follows { (o : Observer) → Follows o self.old → Follows o self.new }
         ensures err { OnErr result ((self.new ≡ self.old) × (me.new ≡ me.old)) }
     {
         let mut undos = Vec::new(self.alloc);
-        let ended = self.try_with(observer, prims, me, &mut undos, t, addr);
+        let ended = self.try_with(prims, me, &mut undos, t, addr);
         if came_about(&ended) {
             return ended;
         }
@@ -298,7 +285,6 @@ impl Config {
     /// is put after the history where all of them succeeded.
     fn try_with(
         &mut self,
-        observer: &Observer,
         prims: &[Prim],
         me: &mut Locals,
         undos: &mut Vec<Undo>,
@@ -308,9 +294,8 @@ impl Config {
         requires named { PrimitivesIn (shape self.old.here.state me.old) prims.now }
         requires few { length prims.now < 65536 }
         requires none { undos.old.items ≡ [] }
-        requires follows { Follows observer.now self.old }
         ensures tries { Tries t (address_or_null addr) prims.now self.old me.old result self.new me.new undos.new.items }
-        ensures follows { Follows observer.now self.new }
+        ensures follows { (o : Observer) → Follows o self.old → Follows o self.new }
     {
         let mut events = Vec::new(self.alloc);
         let ended = execute(&mut self.memory, me, &mut events, undos, prims, t, addr)?;

@@ -31,13 +31,10 @@ pub returns-in_default-clause-acts : goal.returns-in_default-clause-acts
 returns-in_default-clause-acts c = has_locals (the_view c.self.inside).here.state c.args.t c.args.prims.now _ (rw (← c.self.view_is) at c.requires.busy) (sym c.in_default.is ∙ c.take.ensures.taken)
 
 pub returns-in_default-clause-follows : goal.returns-in_default-clause-follows
-returns-in_default-clause-follows c = rw (← c.self.view_is) at c.requires.follows
+returns-in_default-clause-follows c = λ o before. rw (← c.self.view_is) at before
 
 pub act_with-ended-requires-clause-named : goal.act_with-ended-requires-clause-named
 act_with-ended-requires-clause-named c = named_lent (the_view c.self.inside).here.state c.take.new.self c.args.t c.in-Some.me c.args.prims.now (rw (← c.self.view_is) at c.requires.busy) (sym c.take.ensures.taken ∙ c.in-Some.is) c.take.ensures.rest
 
-pub act_with-ended-requires-clause-follows : goal.act_with-ended-requires-clause-follows
-act_with-ended-requires-clause-follows c = rw (← c.self.view_is) at c.requires.follows
-
 pub returns-clause-follows : goal.returns-clause-follows
-returns-clause-follows c = rw (← c.self-2.view_is) at c.act_with-ended.ensures.follows
+returns-clause-follows c = λ o before. rw (← c.self-2.view_is) at (c.act_with-ended.ensures.follows o (rw (← c.self.view_is) at before))

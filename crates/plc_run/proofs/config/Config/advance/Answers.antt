@@ -33,3 +33,6 @@ returns-in-Start-clause-follows c = unheard c.args.observer.now c.args.self.now 
 
 pub returns-in-Return-clause-follows : goal.returns-in-Return-clause-follows
 returns-in-Return-clause-follows c = unheard c.args.observer.now c.args.self.now c.return_move.new.self c.return_move.ensures.unheard c.requires.follows
+
+pub returns-in-Step-clause-follows : goal.returns-in-Step-clause-follows
+returns-in-Step-clause-follows c = c.step_move.ensures.follows c.args.observer.now c.requires.follows

@@ -9,8 +9,8 @@ use Rattle.plc_run.proofs.Threads.{busy_at, step_fits}
 use Rattle.plc_run.proofs.Stepping.{stepped}
 use Rattle.plc_run.proofs.config.Config.step_move.Goals as goal
 
-pub take-requires-clause-ready : goal.take-requires-clause-ready
-take-requires-clause-ready c =
+pub take-requires : goal.take-requires
+take-requires c =
     let v = the_view c.self.inside in
     let fits = rw (← c.self.view_is) at c.requires.fits in
     let at = sym (c.step_at.ensures ∙ ap (λ ps. step_of c.args.flow.now c.args.nth (get_or ps c.args.t None)) c.deref.ensures.value) ∙ ap (option_map (λ r. (r.0, r.1.now))) c.in-Some.is in

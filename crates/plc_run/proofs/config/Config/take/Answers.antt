@@ -11,14 +11,14 @@ use Rattle.plc_run.proofs.config.Config.take.Goals as goal
 
 pub act-requires-clause-busy : goal.act-requires-clause-busy
 act-requires-clause-busy c =
-    let r = c.requires.ready in
+    let r = c.requires in
     (r.locals, r.held, subst (PrimitivesIn (shape c.args.self.now.here.state r.locals)) (sym c.as_slice.ensures) r.fit)
 
 pub act-requires-clause-few : goal.act-requires-clause-few
-act-requires-clause-few c = omega (arith, c.requires.ready.short, ap length c.as_slice.ensures)
+act-requires-clause-few c = omega (arith, c.requires.short, ap length c.as_slice.ensures)
 
 pub conclude-requires : goal.conclude-requires
-conclude-requires c = omega (arith, held_below c.args.self.now.here.points c.args.t c.args.point c.requires.ready.stands, ap length c.in_ok-ended.ensures.acts.points)
+conclude-requires c = omega (arith, held_below c.args.self.now.here.points c.args.t c.args.point c.requires.stands, ap length c.in_ok-ended.ensures.acts.points)
 
 pub returns : goal.returns
 returns c =
@@ -27,6 +27,6 @@ returns c =
     record {
       says = concluded_answer p c.act.new.self c.args.t c.args.addr c.args.point c.arrival.result c.args.step.now c.in_ok-ended.ended c.conclude.result acts c.arrival.ensures c.conclude.ensures.answer;
       after = concluded_so p c.act.new.self c.conclude.new.self c.args.t c.args.addr c.args.point c.arrival.result c.args.step.now c.in_ok-ended.ended acts c.arrival.ensures c.conclude.ensures.after;
-      follows = unheard c.args.observer.now c.act.new.self c.conclude.new.self c.conclude.ensures.unheard c.act.ensures.follows;
+      follows = λ o before. unheard o c.act.new.self c.conclude.new.self c.conclude.ensures.unheard (c.act.ensures.follows o before);
       err = tt;
     }

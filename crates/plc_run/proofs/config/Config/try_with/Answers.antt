@@ -63,3 +63,18 @@ returns-clause-tries c =
     let ran = rw c.in-Raced.is at (c.in_ok-ended.ensures.ends ∙ ap (λ g. execute (with_locals v.here.state c.args.t (Some c.args.me.now)) g c.args.t a 0 c.args.prims.now) c.new-events.ensures.items) in
     rw (← c.self.view_is) (tried_unheard c.args.t a c.args.prims.now v c.execute.new.memory c.args.me.now c.execute.new.me (Ok end) c.execute.new.undos.items takes
     (halted_end (with_locals v.here.state c.args.t (Some c.args.me.now)) (with_locals c.execute.new.memory c.args.t (Some c.execute.new.me)) v.here.history c.execute.new.events.items c.args.t a c.args.prims.now end refl ran))
+
+pub returns-in_err-ended-clause-follows : goal.returns-in_err-ended-clause-follows
+returns-in_err-ended-clause-follows c = λ o before. rw (← c.self.view_is) at before
+
+pub returns-in-Fine-clause-follows : goal.returns-in-Fine-clause-follows
+returns-in-Fine-clause-follows c = λ o before. c.hear.ensures.follows o (rw (← c.self.view_is) at before)
+
+pub returns-in_err-hear-in-Fine-clause-follows : goal.returns-in_err-hear-in-Fine-clause-follows
+returns-in_err-hear-in-Fine-clause-follows c = λ o before. c.hear.ensures.follows o (rw (← c.self.view_is) at before)
+
+pub returns-in-Stuck-clause-follows : goal.returns-in-Stuck-clause-follows
+returns-in-Stuck-clause-follows c = λ o before. rw (← c.self.view_is) at before
+
+pub returns-clause-follows : goal.returns-clause-follows
+returns-clause-follows c = λ o before. rw (← c.self.view_is) at before
