@@ -93,6 +93,15 @@ name_symbol_of symbol ts = do
 abbrev pub word_name_of : Keyword → Punctuation → List TokenKind → Option (Text × List TokenKind)
 word_name_of word symbol ts = word_of word ts >>= name_symbol_of symbol
 
+-- a keyword that stands there or not, with what comes after
+abbrev pub word_or_none : Option (List TokenKind) → List TokenKind → Bool × List TokenKind
+word_or_none (Some rest) ts = (true, rest)
+word_or_none None ts = (false, ts)
+
+-- a keyword, which may be left out, as "ptr" in the declaration of a function and "active" in a cas
+abbrev pub optional_word_of : Keyword → List TokenKind → Bool × List TokenKind
+optional_word_of word ts = word_or_none (word_of word ts) ts
+
 -- ---- declarations
 
 -- "struct", the struct's name and "{"
@@ -121,11 +130,6 @@ comma_name_of ts = symbol_name_of Comma ts
 abbrev pub opening_of : List TokenKind → Option (List TokenKind)
 opening_of ts = symbol_of CloseParen ts >>= symbol_of OpenBrace
 
--- "ptr", which may be left out, between the parentheses of a function's declaration
-abbrev pub pointer_word_of : List TokenKind → Bool × List TokenKind
-pointer_word_of (Word Ptr ∷ rest) = (true, rest)
-pointer_word_of ts = (false, ts)
-
 -- a closing parenthesis and a semicolon
 abbrev pub end_of : List TokenKind → Option (List TokenKind)
 end_of ts = symbol_of CloseParen ts >>= symbol_of Semicolon
@@ -134,8 +138,8 @@ end_of ts = symbol_of CloseParen ts >>= symbol_of Semicolon
 abbrev pub function_of : List TokenKind → Option (FunctionTree × List TokenKind)
 function_of ts = do
   n ← word_name_of Call OpenParen ts
-  rest ← end_of (pointer_word_of n.1).1
-  Some (Declares n.0 (pointer_word_of n.1).0, rest)
+  rest ← end_of (optional_word_of Ptr n.1).1
+  Some (Declares n.0 (optional_word_of Ptr n.1).0, rest)
 
 -- the use of a hazard pointer, from after "use"
 abbrev pub hazard_of : List TokenKind → Option (WatchTree × List TokenKind)
@@ -295,11 +299,6 @@ name_or_null_of ts = None
 abbrev pub comma_name_or_null_of : List TokenKind → Option (Option Text × List TokenKind)
 comma_name_or_null_of ts = symbol_of Comma ts >>= name_or_null_of
 
--- "active", which may be left out
-abbrev pub active_word_of : List TokenKind → Bool × List TokenKind
-active_word_of (Word Active ∷ rest) = (true, rest)
-active_word_of ts = (false, ts)
-
 -- the three pointers of a cas and the parenthesis after them, where it is known whether the first is claimed to
 -- be active
 abbrev pub cas_of : Bool → List TokenKind → Option (ConditionTree × List TokenKind)
@@ -319,7 +318,7 @@ named_condition_of ts =
 abbrev pub cas_condition_of : List TokenKind → Option (ConditionTree × List TokenKind)
 cas_condition_of ts = do
   us ← symbol_of OpenParen ts
-  cas_of (active_word_of us).0 (active_word_of us).1
+  cas_of (optional_word_of Active us).0 (optional_word_of Active us).1
 
 -- the condition of an `if`
 abbrev pub condition_of : List TokenKind → Option (ConditionTree × List TokenKind)

@@ -3,7 +3,7 @@ ghost use Rattle.std.specs.Prelude.{◌≡◌, ◌+◌, ◌-◌, Some, None};
 ghost use Rattle.plc_syntax.specs.Syntax.{kinds};
 ghost use Rattle.plc_forms.specs.Forms.{dot_name_of, place_of_name, place_of, value_of, atom_of};
 ghost use Rattle.plc_forms.specs.Forms.{set_name_of, field_symbol_of, set_field_of, set_of, refresh_name_of};
-ghost use Rattle.plc_forms.specs.Forms.{refresh_field_of, refresh_of, ghost_value_of, ghost_set_of};
+ghost use Rattle.plc_forms.specs.Forms.{refresh_of, ghost_value_of, ghost_set_of};
 ghost use Rattle.plc_forms.specs.Sizes.{place_size, value_size, set_size, refresh_size, ghost_set_size};
 ghost use Rattle.plc_forms.specs.Views.{After, place_tree, value_tree, atom_tree, set_tree, refresh_tree};
 ghost use Rattle.plc_forms.specs.Views.{ghost_value_tree, ghost_set_tree, Reads, text_of};
@@ -113,23 +113,16 @@ pub fn refresh_name_at<'a>(rest: Rest<'a>) -> Option<((&'a [u8], Place<'a>), Res
     Some(((name, place), after))
 }
 
-/// A refresh into a field.
-fn refresh_field_at<'a>(rest: Rest<'a>) -> Option<(Refresh<'a>, Rest<'a>)>
-    ensures { Reads refresh_field_of refresh_tree refresh_size rest.entry result }
-{
-    let ((name, field), after) = field_symbol_at(rest, Symbol::Refresh)?;
-    let (from, after) = name_at(after)?;
-    Some((Refresh::Field(name, field, from), after))
-}
-
-/// A refresh, without its semicolon.
+/// A refresh, without its semicolon: into a name, else into a field.
 pub fn refresh_at<'a>(rest: Rest<'a>) -> Option<(Refresh<'a>, Rest<'a>)>
     ensures { Reads refresh_of refresh_tree refresh_size rest.entry result }
 {
-    match refresh_name_at(rest) {
-        Some(((name, place), after)) => Some((Refresh::Name(name, place), after)),
-        None => refresh_field_at(rest),
+    if let Some(((name, place), after)) = refresh_name_at(rest) {
+        return Some((Refresh::Name(name, place), after));
     }
+    let ((name, field), after) = field_symbol_at(rest, Symbol::Refresh)?;
+    let (from, after) = name_at(after)?;
+    Some((Refresh::Field(name, field, from), after))
 }
 
 /// What is put into an auxiliary field.

@@ -1,7 +1,7 @@
 // Tests and the conditions of `if`.
 ghost use Rattle.std.specs.Prelude.{◌≡◌, ◌-◌, IfSome, Some, None};
 ghost use Rattle.plc_syntax.specs.Syntax.{kinds};
-ghost use Rattle.plc_forms.specs.Forms.{comparison_of, test_of, name_or_null_of, comma_name_or_null_of, active_word_of};
+ghost use Rattle.plc_forms.specs.Forms.{comparison_of, test_of, name_or_null_of, comma_name_or_null_of};
 ghost use Rattle.plc_forms.specs.Forms.{cas_of, cas_condition_of, named_condition_of, condition_of};
 ghost use Rattle.plc_forms.specs.Sizes.{word_size, test_size, condition_size};
 ghost use Rattle.plc_forms.specs.Views.{After, text_or_none, relation_tree, test_tree};
@@ -9,7 +9,7 @@ ghost use Rattle.plc_forms.specs.Views.{cas_tree, condition_tree, Reads};
 
 use crate::assignment::{atom_at, refresh_name_at};
 use crate::form::{Cas, Condition, Relation, Test};
-use crate::front::{first, name_at, symbol_at, word_at};
+use crate::front::{first, name_at, optional_word_at, symbol_at, word_at};
 use crate::rest::Rest;
 use plc_lex::{Keyword, Symbol, TokenKind};
 
@@ -59,17 +59,6 @@ fn comma_name_or_null_at<'a>(rest: Rest<'a>) -> Option<(Option<&'a [u8]>, Rest<'
     name_or_null_at(symbol_at(rest, Symbol::Comma)?)
 }
 
-/// "active", which may be left out.
-fn active_word_at<'a>(rest: Rest<'a>) -> (bool, Rest<'a>)
-    ensures read { active_word_of (kinds rest.entry.tokens.now) ≡ (result.0, kinds result.1.tokens.now) }
-    ensures after { After rest.entry (word_size result.0) result.1 }
-{
-    match word_at(rest, Keyword::Active) {
-        Some(after) => (true, after),
-        None => (false, rest),
-    }
-}
-
 /// The three pointers of a cas and the parenthesis after them.
 fn cas_at<'a>(is_active: bool, rest: Rest<'a>) -> Option<(Cas<'a>, Rest<'a>)>
     ensures form { Reads (cas_of is_active) cas_tree (λ _. 6) rest.entry result }
@@ -93,7 +82,7 @@ fn cas_condition_at<'a>(rest: Rest<'a>) -> Option<(Condition<'a>, Rest<'a>)>
     ensures { Reads cas_condition_of condition_tree (λ t. condition_size t - 1) rest.entry result }
 {
     let after = symbol_at(rest, Symbol::OpenParen)?;
-    let (is_active, after) = active_word_at(after);
+    let (is_active, after) = optional_word_at(after, Keyword::Active);
     let (cas, after) = cas_at(is_active, after)?;
     Some((Condition::Cas(cas), after))
 }

@@ -2,7 +2,7 @@
 ghost use Rattle.std.specs.Prelude.{◌≡◌, Some, None};
 ghost use Rattle.plc_syntax.specs.Syntax.{kinds};
 ghost use Rattle.plc_forms.specs.Forms.{struct_of, field_of, shared_of, head_of, comma_name_of, opening_of};
-ghost use Rattle.plc_forms.specs.Forms.{closing_of, semicolon_of, parenthesis_of, end_of, pointer_word_of};
+ghost use Rattle.plc_forms.specs.Forms.{closing_of, semicolon_of, parenthesis_of, end_of};
 ghost use Rattle.plc_forms.specs.Forms.{function_of, hazard_of, epoch_of, watch_of, ghost_of, thread_of};
 ghost use Rattle.plc_forms.specs.Forms.{first_value_of, values_end_of, init_of};
 ghost use Rattle.plc_forms.specs.Sizes.{word_size, function_size, watch_size};
@@ -10,7 +10,7 @@ ghost use Rattle.plc_forms.specs.Views.{After, field_tree, function_tree, watch_
 
 use crate::form::{Declaration, Function, Watch};
 use crate::front::{
-    first, name_at, name_symbol_at, symbol_at, symbol_name_at, word_at, word_name_at,
+    first, name_at, name_symbol_at, optional_word_at, symbol_at, symbol_name_at, word_at, word_name_at,
     word_symbol_at,
 };
 use crate::rest::Rest;
@@ -96,23 +96,12 @@ fn end_at<'a>(rest: Rest<'a>) -> Option<Rest<'a>>
     symbol_at(symbol_at(rest, Symbol::CloseParen)?, Symbol::Semicolon)
 }
 
-/// "ptr", which may be left out.
-fn pointer_word_at<'a>(rest: Rest<'a>) -> (bool, Rest<'a>)
-    ensures read { pointer_word_of (kinds rest.entry.tokens.now) ≡ (result.0, kinds result.1.tokens.now) }
-    ensures after { After rest.entry (word_size result.0) result.1 }
-{
-    match word_at(rest, Keyword::Ptr) {
-        Some(after) => (true, after),
-        None => (false, rest),
-    }
-}
-
 /// The declaration of a reclaimer function.
 pub fn function_at<'a>(rest: Rest<'a>) -> Option<(Function<'a>, Rest<'a>)>
     ensures { Reads function_of function_tree function_size rest.entry result }
 {
     let (name, after) = word_name_at(rest, Keyword::Call, Symbol::OpenParen)?;
-    let (takes_pointer, after) = pointer_word_at(after);
+    let (takes_pointer, after) = optional_word_at(after, Keyword::Ptr);
     let after = end_at(after)?;
     Some((
         Function {

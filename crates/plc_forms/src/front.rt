@@ -3,7 +3,8 @@
 ghost use Rattle.std.specs.Prelude.{◌≡◌, ◌+◌, IfSome, MatchOption, Some, None, [], ◌∷◌};
 ghost use Rattle.plc_syntax.specs.Syntax.{kinds};
 ghost use Rattle.plc_forms.specs.Forms.{word_of, symbol_of, name_of, word_symbol_of};
-ghost use Rattle.plc_forms.specs.Forms.{symbol_name_of, name_symbol_of, word_name_of};
+ghost use Rattle.plc_forms.specs.Forms.{symbol_name_of, name_symbol_of, word_name_of, optional_word_of};
+ghost use Rattle.plc_forms.specs.Sizes.{word_size};
 ghost use Rattle.plc_forms.specs.Views.{After, Passes, Reads, text_of};
 
 use crate::rest::Rest;
@@ -85,4 +86,15 @@ pub fn word_name_at<'a>(
     ensures { Reads (word_name_of word symbol) text_of (λ _. 3) rest.entry result }
 {
     name_symbol_at(word_at(rest, word)?, symbol)
+}
+
+/// A keyword, which may be left out, and whether it stands there.
+pub fn optional_word_at<'a>(rest: Rest<'a>, word: Keyword) -> (bool, Rest<'a>)
+    ensures read { optional_word_of word (kinds rest.entry.tokens.now) ≡ (result.0, kinds result.1.tokens.now) }
+    ensures after { After rest.entry (word_size result.0) result.1 }
+{
+    match word_at(rest, word) {
+        Some(after) => (true, after),
+        None => (false, rest),
+    }
 }

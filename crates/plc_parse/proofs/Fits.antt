@@ -141,12 +141,8 @@ limits_go_up = record {
   of_if = λ k a b free yes no. (yes, no);
   of_choice = λ bs h. h;
   of_loop = λ b h. h;
-  of_break = tt;
-  of_return = tt;
-  of_label = λ l. tt;
-  of_empty = tt;
+  leaves = record { of_break = tt; of_return = tt; of_label = λ l. tt; of_empty = tt; of_none = tt };
   of_more = λ line st b h others. (h, others);
-  of_none = tt;
   of_further = λ b bs h others. (h, others);
 }
 

@@ -217,12 +217,8 @@ module _ (h : Shape) where
     of_if = λ k a b is yes no. (is, yes, no);
     of_choice = λ bs is. is;
     of_loop = λ b is. is;
-    of_break = tt;
-    of_return = tt;
-    of_label = λ l. tt;
-    of_empty = tt;
+    leaves = record { of_break = tt; of_return = tt; of_label = λ l. tt; of_empty = tt; of_none = tt };
     of_more = λ line st b is others. (is, others);
-    of_none = tt;
     of_further = λ b bs is others. (is, others);
   }
 

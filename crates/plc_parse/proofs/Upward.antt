@@ -19,17 +19,21 @@ pub record Facts : Type 1 where
   pub Many : Statements → Type 0
   pub Several : Blocks → Type 0
 
+-- what has no parts has it
+pub record Leaves (f : Facts) : Type 0 where
+  pub of_break : f.One Break
+  pub of_return : f.One Return
+  pub of_label : (l : ℕ) → f.One (Label l)
+  pub of_empty : f.Many Empty
+  pub of_none : f.Several NoBlock
+
 -- the whole has it where its parts do
 pub record GoesUp (f : Facts) : Type 0 where
   pub of_if : (k : Cond) (a b : Statements) → f.Condition k → f.Many a → f.Many b → f.One (If k a b)
   pub of_choice : (bs : Blocks) → f.Several bs → f.One (Choose bs)
   pub of_loop : (b : Statements) → f.Many b → f.One (Loop b)
-  pub of_break : f.One Break
-  pub of_return : f.One Return
-  pub of_label : (l : ℕ) → f.One (Label l)
-  pub of_empty : f.Many Empty
+  pub leaves : Leaves f
   pub of_more : (line : ℕ) (st : Statement) (b : Statements) → f.One st → f.Many b → f.Many (Then line st b)
-  pub of_none : f.Several NoBlock
   pub of_further : (b : Statements) (bs : Blocks) → f.Many b → f.Several bs → f.Several (And b bs)
 
 -- a primitive, the primitives of a step, and a call with whatever label
@@ -94,23 +98,23 @@ module _ (State : Scope → Type 0) (f : Facts) (up : GoesUp f) (parts : PartsHa
         next SeveralRead OneRead (or_means lines y.1 in_loop (y.2 + 1) os) _ (ors_read y.1 in_loop (y.2 + 1) os second.state) (λ z others.
         record { is = up.of_choice (And x.0 (And y.0 z.0)) (up.of_further x.0 (And y.0 z.0) first.is (up.of_further y.0 z.0 second.is others.is)); state = others.state })))
     statement_read s in_loop at (LoopStatement b) h = next ManyRead OneRead (statements_mean lines s true (at + 2) b) _ (statements_read s true (at + 2) b h) (λ x body. record { is = up.of_loop x.0 body.is; state = body.state })
-    statement_read s true at BreakStatement h = record { is = up.of_break; state = h }
+    statement_read s true at BreakStatement h = record { is = up.leaves.of_break; state = h }
     statement_read s false at BreakStatement h = tt
-    statement_read s in_loop at ReturnStatement h = record { is = up.of_return; state = h }
-    statement_read s in_loop at (LabelStatement n) h = next (LabelRead State) OneRead (label_means s at n) _ (parts.label s at n h) (λ l k. record { is = up.of_label l.0; state = k })
+    statement_read s in_loop at ReturnStatement h = record { is = up.leaves.of_return; state = h }
+    statement_read s in_loop at (LabelStatement n) h = next (LabelRead State) OneRead (label_means s at n) _ (parts.label s at n h) (λ l k. record { is = up.leaves.of_label l.0; state = k })
 
     pub statements_read : (s : Scope) (in_loop : Bool) (at : ℕ) (b : BlockTree) → State s → Has ManyRead (statements_mean lines s in_loop at b)
-    statements_read s in_loop at NoStatement h = record { is = up.of_empty; state = h }
+    statements_read s in_loop at NoStatement h = record { is = up.leaves.of_empty; state = h }
     statements_read s in_loop at (ThenStatement st b) h = next OneRead ManyRead (statement_means lines s in_loop at st) _ (statement_read s in_loop at st h) (λ first a.
         next ManyRead ManyRead (statements_mean lines first.1 in_loop first.2 b) _ (statements_read first.1 in_loop first.2 b a.state) (λ others c.
         record { is = up.of_more _ first.0 others.0 a.is c.is; state = c.state }))
 
     else_read : (s : Scope) (in_loop : Bool) (at : ℕ) (e : ElseTree) → State s → Has ManyRead (else_means lines s in_loop at e)
-    else_read s in_loop at NoElse h = record { is = up.of_empty; state = h }
+    else_read s in_loop at NoElse h = record { is = up.leaves.of_empty; state = h }
     else_read s in_loop at (ElseBlock b) h = next ManyRead ManyRead (statements_mean lines s in_loop (at + 2) b) _ (statements_read s in_loop (at + 2) b h) (λ x a. record { is = a.is; state = a.state })
 
     ors_read : (s : Scope) (in_loop : Bool) (at : ℕ) (os : OrTree) → State s → Has SeveralRead (or_means lines s in_loop at os)
-    ors_read s in_loop at NoOr h = record { is = up.of_none; state = h }
+    ors_read s in_loop at NoOr h = record { is = up.leaves.of_none; state = h }
     ors_read s in_loop at (OrBlock b os) h = next ManyRead SeveralRead (statements_mean lines s in_loop (at + 2) b) _ (statements_read s in_loop (at + 2) b h) (λ x a.
         next SeveralRead SeveralRead (or_means lines x.1 in_loop (x.2 + 1) os) _ (ors_read x.1 in_loop (x.2 + 1) os a.state) (λ y c.
         record { is = up.of_further x.0 y.0 a.is c.is; state = c.state }))

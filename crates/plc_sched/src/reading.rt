@@ -47,6 +47,7 @@ fn read_head<'a>(bytes: &'a [u8]) -> Option<(u32, &'a [u8])>
 
 /// The entries that all lines spell, or the number of the first line that spells none. The head
 /// stands before them.
+#[tactic(auto, using(std::proofs::lemmas::Grind::common_steps))]
 fn read_entries(alloc: Global, threads: u32, bytes: &[u8]) -> Result<Items<Entry>, SchedFault>
     requires threads { ThreadsFit threads }
     requires count { length (lines_of bytes.now) < line_limit }
