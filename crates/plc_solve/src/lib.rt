@@ -2,7 +2,7 @@
 //! else Closed with a tree that closes the set.
 //!
 //! It stands on the definitions of `plc_ground` and on its table of classes, and knows nothing of how
-//! a tree is judged but the walk that it asks which splits are needless.
+//! a tree is judged.
 #![tactic(auto)]
 
 mod apart;
