@@ -1,6 +1,6 @@
 // Which clauses an outline puts at a point: those of the items that stand there, in their order. An `at` may name as
-// many labels as a file has, so before the items are gone over it is asked once whether any label names the point: where
-// none does, no item's labels are looked through.
+// many labels as a file has, so before the items are gone over it is asked once whether any label names the point:
+// where none does, no item's labels are looked through.
 ghost use Rattle.std.specs.Prelude.{◌≡◌, ◌≤◌, length, slice_get, option_copied};
 ghost use Rattle.plc_setting.specs.Points.{is_over, names_point, is_labelled, stands_at, count_at, clauses_at};
 ghost use Rattle.std.specs.List.{list_any};

@@ -121,8 +121,14 @@ pub record OpenSplit : Type 0 where
 
 -- the split on this branch, which has these classes
 abbrev pub split_on : List Lit → List ℕ → Frame → OpenSplit
-split_on branch class f =
-    record { clause = f.clause; next = f.next; nodes = f.nodes.items; core = f.core.items; branch = branch; class = class }
+split_on branch class f = record {
+  clause = f.clause;
+  next = f.next;
+  nodes = f.nodes.items;
+  core = f.core.items;
+  branch = branch;
+  class = class;
+}
 
 -- the splits of a place, the newest first: each on the branch and the classes that were there before what came later
 abbrev pub splits : Place → List Frame → List OpenSplit
@@ -246,7 +252,8 @@ pub record Stands (s : GroundSet) (p : Place) (fs : List Frame) : Type 0 where
   pub stack : IsStack s (splits p fs)
 
 -- the nodes close the next child of a split by a core of its branch, and split no clause twice
-pub record ClosesChild (s : GroundSet) (p : OpenSplit) (above : List ℕ) (core : List Lit) (tree : List Node) : Type 0 where
+pub record ClosesChild (s : GroundSet) (p : OpenSplit) (above : List ℕ) (core : List Lit) (tree : List Node)
+    : Type 0 where
   pub literal : Lit
   pub is : slice_get (literals s p.clause) p.next ≡ Some literal
   pub used : IsWithin core (p.branch ++ literal ∷ [])

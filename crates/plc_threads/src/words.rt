@@ -1,5 +1,5 @@
-// The words of a run, whichever meaning memory has: its moves, the places of memory that hold a number, and why a run may
-// have no beginning.
+// The words of a run, whichever meaning memory has: its moves, the places of memory that hold a number, and why a run
+// may have no beginning.
 ghost use Rattle.std.specs.Prelude.{◌≡◌};
 ghost use Rattle.plc_threads.specs.declared.words.StartFault.TheVariants.{Memory};
 
