@@ -93,15 +93,6 @@ name_symbol_of symbol ts = do
 abbrev pub word_name_of : Keyword → Punctuation → List TokenKind → Option (Text × List TokenKind)
 word_name_of word symbol ts = word_of word ts >>= name_symbol_of symbol
 
--- a keyword that stands there or not, with what comes after
-abbrev pub word_or_none : Option (List TokenKind) → List TokenKind → Bool × List TokenKind
-word_or_none (Some rest) ts = (true, rest)
-word_or_none None ts = (false, ts)
-
--- a keyword, which may be left out, as "ptr" in the declaration of a function and "active" in a cas
-abbrev pub optional_word_of : Keyword → List TokenKind → Bool × List TokenKind
-optional_word_of word ts = word_or_none (word_of word ts) ts
-
 -- ---- declarations
 
 -- "struct", the struct's name and "{"
@@ -129,6 +120,15 @@ comma_name_of ts = symbol_name_of Comma ts
 -- what stands between parameters and locals
 abbrev pub opening_of : List TokenKind → Option (List TokenKind)
 opening_of ts = symbol_of CloseParen ts >>= symbol_of OpenBrace
+
+-- a keyword that stands there or not, with what comes after
+abbrev pub word_or_none : Option (List TokenKind) → List TokenKind → Bool × List TokenKind
+word_or_none (Some rest) ts = (true, rest)
+word_or_none None ts = (false, ts)
+
+-- a keyword, which may be left out, as "ptr" in the declaration of a function and "active" in a cas
+abbrev pub optional_word_of : Keyword → List TokenKind → Bool × List TokenKind
+optional_word_of word ts = word_or_none (word_of word ts) ts
 
 -- a closing parenthesis and a semicolon
 abbrev pub end_of : List TokenKind → Option (List TokenKind)

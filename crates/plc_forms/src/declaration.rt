@@ -10,8 +10,8 @@ ghost use Rattle.plc_forms.specs.Views.{After, field_tree, function_tree, watch_
 
 use crate::form::{Declaration, Function, Watch};
 use crate::front::{
-    first, name_at, name_symbol_at, optional_word_at, symbol_at, symbol_name_at, word_at, word_name_at,
-    word_symbol_at,
+    first, name_at, name_symbol_at, optional_word_at, symbol_at, symbol_name_at, word_at,
+    word_name_at, word_symbol_at,
 };
 use crate::rest::Rest;
 use plc_lex::{Keyword, Symbol, TokenKind};
