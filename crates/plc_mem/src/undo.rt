@@ -1,6 +1,7 @@
-// Taking primitives back, so that a step of several works on the memory itself, by the work of its primitives alone: each
-// notes what stood where it writes, and where a later one is blocked, is a race, or memory runs out, the notes are read
-// from the last to the first. A copy of the memory for each step, tried before, took a time by the nodes that there are.
+// Taking primitives back, so that a step of several works on the memory itself, by the work of its primitives
+// alone: each notes what stood where it writes, and where a later one is blocked, is a race, or memory runs
+// out, the notes are read from the last to the first. A copy of the memory for each step, tried before, took a
+// time by the nodes that there are.
 ghost use Rattle.std.specs.Prelude.{◌≡◌, ℕ, IfOk, OnOk, Some};
 ghost use Rattle.plc_lang.specs.Shape.{PrimitiveIn};
 ghost use Rattle.plc_base.specs.Functions.{is_retire};
