@@ -1,5 +1,5 @@
 -- The table follows the history: what a move leaves of both.
-use Rattle.std.proofs.Common.{◌≡◌, ℕ, ◌<◌, Bool, true, false, cond, List, [], ◌∷◌, ◌++◌, refl, sym, ap, ◌∙◌, subst}
+use Rattle.std.proofs.Common.{◌≡◌, ℕ, Bool, true, false, cond, List, [], ◌∷◌, ◌++◌, refl, sym, ap, ◌∙◌, subst}
 use Rattle.std.proofs.lemmas.Bool.{ne_eqb}
 use Rattle.plc_auto.specs.declared.event.Event.{Event}
 use Rattle.plc_auto.specs.declared.event.Event.TheVariants.{Free as Freed}
@@ -59,6 +59,6 @@ free_goes o p a follows pos frees =
     sym (ap (λ b. cond b Blocks (cond may d (Forbids a))) (ne_eqb a 0 pos) ∙ ap (λ b. cond b d (Forbids a)) (sym (judged o p a follows) ∙ frees))
 
 pub free_done : (o : Observer) (p q : Position) (a : ℕ) → Follows o p → (a ≡ 0 → ⊥) → bears p.located a ≡ true
-    → q.here.state ≡ freed p.here.state a → q.here.history ≡ p.here.history ++ Freed a ∷ [] → q.here.points ≡ p.here.points → q.ended ≡ p.ended → Reaches (free_of o p.here a) p q
-free_done o p q a follows pos frees state history points ended =
-    subst (λ r. Reaches r p q) (free_goes o p a follows pos frees) ((λ i. record { state = state i; history = history i; points = points i }), ended)
+    → q.here.state ≡ freed p.here.state a → q.here.history ≡ p.here.history ++ Freed a ∷ [] → q.here.points ≡ p.here.points → q.ended ≡ p.ended → q.steps ≡ p.steps → Reaches (free_of o p.here a) p q
+free_done o p q a follows pos frees state history points ended steps =
+    subst (λ r. Reaches r p q) (free_goes o p a follows pos frees) ((λ i. record { state = state i; history = history i; points = points i }), ended, steps)

@@ -14,6 +14,7 @@ use Rattle.plc_auto.specs.declared.event.Event.{Event}
 use Rattle.plc_auto.specs.declared.observer.Observer.{Observer}
 use Rattle.plc_flow.specs.declared.flow.Step.{Step}
 use Rattle.plc_flow.specs.declared.flow.Flow.{Flow}
+use Rattle.plc_flow.specs.StepsByPoint.{IsIndexOf, first_points}
 use Rattle.plc_threads.specs.declared.words.Move.{Move}
 use Rattle.plc_threads.specs.declared.words.Move.TheVariants.{Start, Step as Take, Return, Free}
 use Rattle.plc_mem.specs.declared.cell.RaceKind.{RaceKind}
@@ -123,10 +124,11 @@ run_so flow o p q move (Goes d) run leads to follows = record {
   moves = suc run.moves;
   run = subst (λ (c : Configuration). Run flow o (length c.points) (suc run.moves) c) (sym to.0) (run_more flow o p.here d move run.moves run.run leads);
   follows = follows;
+  indexed = subst (IsIndexOf (first_points flow)) (sym to.2) run.indexed;
 }
 run_so flow o p q move Blocks run leads to follows = subst (IsOfRun flow o) (sym to) run
 run_so flow o p q move (Forbids a) run leads to follows = subst (IsOfRun flow o) (sym to) run
-run_so flow o p q move (Breaks kind k) run leads to follows = subst (IsOfRun flow o) (sym to) (record { moves = run.moves; run = run.run; follows = run.follows })
+run_so flow o p q move (Breaks kind k) run leads to follows = subst (IsOfRun flow o) (sym to) (record { moves = run.moves; run = run.run; follows = run.follows; indexed = run.indexed })
 
 pub answered : (flow : Flow) (o : Observer) (p q : Position) (move : Move) (r : Moved) → p.ended ≡ false → IsOfRun flow o p → r ≡ answer (reach flow o p.here move) → Reaches (reach flow o p.here move) p q → Answers flow o p move r q
 answered flow o p q move r live run e to =
@@ -144,7 +146,7 @@ pub restored : (v q : Position) (mid s : State) (t : ℕ) (l m : Locals) → get
 restored v q mid s t l m held rest same as_lent given =
     let back : with_locals mid t (Some l) ≡ v.here.state = ap (λ s. with_locals s t (Some l)) rest ∙ given_back v.here.state t l held in
     let state : s ≡ v.here.state = given ∙ (λ i. with_locals (same i).here.state t (Some (as_lent i))) ∙ back in
-    λ i. record { here = record { state = state i; history = (same i).here.history; points = (same i).here.points }; ended = (same i).ended; located = (same i).located }
+    λ i. record { here = record { state = state i; history = (same i).here.history; points = (same i).here.points }; ended = (same i).ended; located = (same i).located; steps = (same i).steps }
 
 -- the memory is whole with the locals that were lent
 whole : (s lent : State) (t : ℕ) (l : Locals) → get_or s.locals t None ≡ Some l → lent ≡ record s { locals = set s.locals t None } → with_locals lent t (Some l) ≡ s
@@ -175,6 +177,7 @@ locals_back v q new lent s t a l m ps (Ok e) held rest same acts given =
       ends = ap (λ s. ending e s q.here.history) given ∙ w.ends ∙ ap (λ s. execute s v.here.history t a 0 ps) back;
       points = w.points;
       ended = w.ended;
+      steps = w.steps;
       unchanged = λ halts. restored v q lent s t l m held rest (w.unchanged halts).0 (w.unchanged halts).1 given;
     }
 
@@ -188,16 +191,17 @@ locals_back_err v q new lent s t l m (Err x) held rest same err given = restored
 -- they left the memory and the locals so, and nothing else is new
 pub tried_unheard : (t a : ℕ) (ps : List Primitive) (v : Position) (s : State) (l m : Locals) (r : Result Ended NoMemory) (us : List Undo) → TakesBack t v.here.state l us s m
     → IfOk r (λ e. ending e (with_locals s t (Some m)) v.here.history ≡ execute (with_locals v.here.state t (Some l)) v.here.history t a 0 ps) → Tries t a ps v l r (record v { here = record v.here { state = s } }) m us
-tried_unheard t a ps v s l m r us takes ends = record { takes = takes; ends = ends; points = refl; ended = refl; unheard = λ e. (refl, refl) }
+tried_unheard t a ps v s l m r us takes ends = record { takes = takes; ends = ends; points = refl; ended = refl; steps = refl; unheard = λ e. (refl, refl) }
 
 -- all of them succeeded, and their events were put after the history
 pub tried_heard : (t a : ℕ) (ps : List Primitive) (v q : Position) (s : State) (g : List Event) (l m : Locals) (us : List Undo) → TakesBack t v.here.state l us s m → ending ends.Fine (with_locals s t (Some m)) g ≡ execute (with_locals v.here.state t (Some l)) [] t a 0 ps
-    → q.here ≡ record v.here { state = s; history = v.here.history ++ g } → q.ended ≡ v.ended → Tries t a ps v l (Ok ends.Fine) q m us
-tried_heard t a ps v q s g l m us takes ran here ended = record {
+    → q.here ≡ record v.here { state = s; history = v.here.history ++ g } → q.ended ≡ v.ended → q.steps ≡ v.steps → Tries t a ps v l (Ok ends.Fine) q m us
+tried_heard t a ps v q s g l m us takes ran here ended steps = record {
   takes = subst (λ (c : Configuration). TakesBack t v.here.state l us c.state m) (sym here) takes;
   ends = (λ i. Fine (with_locals (here i).state t (Some m)) (here i).history) ∙ heard_end (with_locals v.here.state t (Some l)) (with_locals s t (Some m)) v.here.history g t a ps ends.Fine ran;
   points = ap (λ (c : Configuration). c.points) here;
   ended = ended;
+  steps = steps;
   unheard = λ halts. cc;
 }
 
@@ -216,15 +220,15 @@ pub concluded_answer : (p q : Position) (t : ℕ) (addr : Option ℕ) (at to : P
 concluded_answer p q t addr at to step e r acts there is = is ∙ ap answer (concluded_leads p q t addr at to step e acts there)
 
 -- and from where the step began
-from_before : (p q new : Position) (t : ℕ) (to : Point) (e : Ended) → q.ended ≡ p.ended → (is_fine e ≡ false → q ≡ p) → Reaches (concluded q.here t to e) q new → Reaches (concluded q.here t to e) p new
-from_before p q new t to ends.Fine live stayed reaches = (reaches.0, reaches.1 ∙ live)
-from_before p q new t to ends.Stuck live stayed reaches = reaches ∙ stayed refl
-from_before p q new t to (ends.Raced kind k) live stayed reaches = reaches ∙ ap (λ (p : Position). record p { ended = true }) (stayed refl)
+from_before : (p q new : Position) (t : ℕ) (to : Point) (e : Ended) → q.ended ≡ p.ended → q.steps ≡ p.steps → (is_fine e ≡ false → q ≡ p) → Reaches (concluded q.here t to e) q new → Reaches (concluded q.here t to e) p new
+from_before p q new t to ends.Fine live same stayed reaches = (reaches.0, reaches.1 ∙ live, reaches.2 ∙ same)
+from_before p q new t to ends.Stuck live same stayed reaches = reaches ∙ stayed refl
+from_before p q new t to (ends.Raced kind k) live same stayed reaches = reaches ∙ ap (λ (p : Position). record p { ended = true }) (stayed refl)
 
 pub concluded_so : (p q new : Position) (t : ℕ) (addr : Option ℕ) (at to : Point) (step : Step) (e : Ended) → Acts t (address_or_null addr) step.prims p e q → to ≡ record at { at = step.to.0 }
     → Reaches (concluded q.here t to e) q new → Reaches (step_leads p.here t at step addr) p new
 concluded_so p q new t addr at to step e acts there reaches =
-    subst (λ (r : Reached). Reaches r p new) (concluded_leads p q t addr at to step e acts there) (from_before p q new t to e acts.ended acts.unchanged reaches)
+    subst (λ (r : Reached). Reaches r p new) (concluded_leads p q t addr at to step e acts there) (from_before p q new t to e acts.ended acts.steps acts.unchanged reaches)
 
 -- ---- starts and returns in code
 
@@ -233,10 +237,10 @@ begun_threads threads (Fine s h) c e = (let same : replicate threads None ≡ c.
 begun_threads threads Stuck c e = cc
 begun_threads threads (Raced kind k) c e = cc
 
-pub begun_run : (flow : Flow) (o : Observer) (threads : ℕ) (p : Position) → first_configuration flow threads ≡ Some p.here → Follows o p → IsOfRun flow o p × (threads_of p ≡ threads)
-begun_run flow o threads p e follows =
+pub begun_run : (flow : Flow) (o : Observer) (threads : ℕ) (p : Position) → first_configuration flow threads ≡ Some p.here → Follows o p → IsIndexOf (first_points flow) p.steps → IsOfRun flow o p × (threads_of p ≡ threads)
+begun_run flow o threads p e follows indexed =
     let many = begun_threads threads (initialised flow threads) p.here e in
-    (record { moves = 0; run = subst (λ n. Run flow o n 0 p.here) (sym many) (begin e); follows = follows }, many)
+    (record { moves = 0; run = subst (λ n. Run flow o n 0 p.here) (sym many) (begin e); follows = follows; indexed = indexed }, many)
 
 pub returned : (flow : Flow) (c : Configuration) (t : ℕ) (s : State) (ps : List (Option Point)) → ConfigurationFits flow (length c.points) c → at_exit flow (point_of c t) ≡ true
     → s ≡ record c.state { locals = set c.state.locals t None } → ps ≡ put_at None c.points t None → return_from flow c t (point_of c t) ≡ Goes (record c { state = s; points = ps })

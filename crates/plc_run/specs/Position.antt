@@ -5,6 +5,8 @@ use Rattle.plc_auto.specs.declared.observer.Observer.{Observer}
 use Rattle.plc_auto.specs.Location.{location, Allowed}
 use Rattle.plc_auto.specs.Locations.{Locations, of_threads, locations_after_all, stands}
 use Rattle.plc_flow.specs.declared.flow.Flow.{Flow}
+use Rattle.plc_flow.specs.declared.steps_by_point.StepsByPoint.{StepsByPoint}
+use Rattle.plc_flow.specs.StepsByPoint.{IsIndexOf, first_points}
 use Rattle.plc_threads.specs.declared.words.Move.{Move}
 use Rattle.plc_threads.specs.declared.words.Move.TheVariants.{Start, Step as Take, Return, Free}
 use Rattle.plc_mem.specs.declared.cell.RaceKind.{RaceKind}
@@ -14,11 +16,13 @@ use Rattle.plc_run.specs.Run.{Configuration, Run, Moves, Races, first_configurat
 use Rattle.plc_threads.specs.declared.words.StartFault.{StartFault}
 use Rattle.plc_threads.specs.declared.words.StartFault.TheVariants as faults
 
--- the configuration of a run, whether a race has ended it, and where each thread stands for each address
+-- the configuration of a run, whether a race has ended it, where each thread stands for each address, and the index by
+-- which the steps of a point are found
 pub record Position : Type 0 where
   pub here : Configuration
   pub ended : Bool
   pub located : Locations
+  pub steps : StepsByPoint
 
 -- how many threads it has
 abbrev pub threads_of : Position → ℕ
@@ -31,11 +35,13 @@ Follows o p =
     ((t a : ℕ) → t < threads_of p → stands p.located t a ≡ location o p.here.history t a)
     × (p.located ≡ locations_after_all (of_threads o (threads_of p)) p.here.history)
 
--- so many moves of a run of this flow and observer lead there, and the locations follow the history
+-- so many moves of a run of this flow and observer lead there, the locations follow the history, and the index is that
+-- of the flow's steps
 pub record IsOfRun (flow : Flow) (o : Observer) (p : Position) : Type 0 where
   pub moves : ℕ
   pub run : Run flow o (threads_of p) moves p.here
   pub follows : Follows o p
+  pub indexed : IsIndexOf (first_points flow) p.steps
 
 -- an address is freed that the observer keeps
 abbrev pub IsForbidden : Observer → ℕ → Configuration → Move → Type 0

@@ -4,7 +4,6 @@ use Rattle.std.specs.Prelude.{◌≡◌, ℕ, zero, suc, Bool, true, false, ◌&
 use Rattle.std.specs.Prelude.{length, Option, Some, None, is_some, Result, Ok, Err, IfOk, OnOk, OnErr}
 use Rattle.plc_lang.specs.declared.syntax.Op.{Op}
 use Rattle.plc_lang.specs.declared.syntax.Primitive.{Primitive}
-use Rattle.plc_auto.specs.declared.event.Event.{Event}
 use Rattle.plc_auto.specs.declared.event.Event.TheVariants.{Free as Freed}
 use Rattle.plc_auto.specs.declared.observer.Observer.{Observer}
 use Rattle.plc_auto.specs.Location.{location, advance}
@@ -15,7 +14,7 @@ use Rattle.plc_threads.specs.declared.words.Move.TheVariants.{Start, Step as Tak
 use Rattle.plc_mem.specs.declared.cell.RaceKind.{RaceKind}
 use Rattle.plc_mem.specs.declared.undo.Undo.{Undo}
 use Rattle.plc_mem.specs.Undoing.{TakesBack}
-use Rattle.plc_mem.specs.State.{State, Locals, with_locals, freed, starting}
+use Rattle.plc_mem.specs.State.{Locals, with_locals, freed, starting}
 use Rattle.plc_base.specs.Tables.{put_at}
 use Rattle.plc_base.specs.declared.memory.NoMemory.{NoMemory}
 use Rattle.plc_flow.specs.declared.points.Point.{Point}
@@ -109,9 +108,9 @@ answer Blocks = moved.Blocked
 answer (Forbids a) = moved.Forbidden a
 answer (Breaks kind k) = moved.Race kind k
 
--- the position after it; where a move goes on so do the locations, which `Follows` says
+-- the position after it, with the same index; where a move goes on so do the locations, which `Follows` says
 abbrev pub Reaches : Reached → Position → Position → Type 0
-Reaches (Goes d) p q = (q.here ≡ d) × (q.ended ≡ p.ended)
+Reaches (Goes d) p q = (q.here ≡ d) × (q.ended ≡ p.ended) × (q.steps ≡ p.steps)
 Reaches Blocks p q = q ≡ p
 Reaches (Forbids a) p q = q ≡ p
 Reaches (Breaks kind k) p q = q ≡ record p { ended = true }
@@ -153,6 +152,7 @@ pub record Tries (t a : ℕ) (ps : List Primitive) (p : Position) (l : Locals) (
       ≡ execute (with_locals p.here.state t (Some l)) p.here.history t a 0 ps)
   pub points : q.here.points ≡ p.here.points
   pub ended : q.ended ≡ p.ended
+  pub steps : q.steps ≡ p.steps
   pub unheard : came_about r ≡ false → (q.here.history ≡ p.here.history) × (q.located ≡ p.located)
 
 -- thread t took primitives with these locals: how they ended, and the position and the locals after it, which are
@@ -163,6 +163,7 @@ pub record ActsWith (t a : ℕ) (ps : List Primitive) (p : Position) (l : Locals
       ≡ execute (with_locals p.here.state t (Some l)) p.here.history t a 0 ps
   pub points : q.here.points ≡ p.here.points
   pub ended : q.ended ≡ p.ended
+  pub steps : q.steps ≡ p.steps
   pub unchanged : is_fine e ≡ false → (q ≡ p) × (m ≡ l)
 
 -- thread t took primitives with the locals that the position holds for it: how they ended, and the position after it
@@ -170,4 +171,5 @@ pub record Acts (t a : ℕ) (ps : List Primitive) (p : Position) (e : Ended) (q 
   pub ends : ending e q.here.state q.here.history ≡ execute p.here.state p.here.history t a 0 ps
   pub points : q.here.points ≡ p.here.points
   pub ended : q.ended ≡ p.ended
+  pub steps : q.steps ≡ p.steps
   pub unchanged : is_fine e ≡ false → q ≡ p

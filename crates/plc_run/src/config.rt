@@ -6,7 +6,8 @@ ghost use Rattle.std.specs.Prelude.{◌≡◌, ℕ, ◌<◌, ◌++◌, ◌∷◌
 ghost use Rattle.std.specs.Prelude.{get_or, length, replicate, false};
 ghost use Rattle.plc_lang.specs.Shape.{PrimitivesIn};
 ghost use Rattle.plc_auto.specs.declared.observer.Observer.{Observer};
-ghost use Rattle.plc_flow.specs.WellFormed.{FlowFits};
+ghost use Rattle.plc_flow.specs.StepsByPoint.{IsIndexOf, first_points};
+ghost use Rattle.plc_flow.specs.WellFormed.{FlowFits, IsWellFormed};
 ghost use Rattle.plc_mem.specs.State.{Locals};
 ghost use Rattle.plc_mem.specs.Outcomes.{address_or_null};
 ghost use Rattle.plc_mem.specs.Fit.{shape, Kept};
@@ -22,10 +23,12 @@ use crate::execute::{Ended, execute, try_init};
 use crate::moved::Moved;
 use plc_auto::{Event, Locations, Observer};
 use plc_base::{NoMemory, OpId};
-use plc_flow::{Flow, Point, Step, names_rightly};
+use plc_flow::{Flow, Point, Step, StepsByPoint, names_rightly};
 use plc_lang::Prim;
 use plc_mem::{Locals, Memory, RaceKind, Undo};
-use plc_threads::{Move, StartFault, arrival, at_exit, begun, none_held, set_point, step_at};
+use plc_threads::{
+    Move, StartFault, arrival, at_exit, begun, indexed_step_at, none_held, set_point,
+};
 use std::alloc::Global;
 use std::marker::Model;
 
@@ -37,7 +40,7 @@ fn came_about(ended: &Result<Ended, NoMemory>) -> bool
 }
 
 /// The configuration of a run: memory, history, where the observer stands for each thread and each
-/// address, and where each thread stands.
+/// address, where each thread stands, and the index by which the steps of a point are found.
 #[derive(Drop)]
 pub struct Config {
     alloc: Global,
@@ -46,6 +49,7 @@ pub struct Config {
     located: Locations,
     points: Vec<Option<Point>>,
     ended: bool,
+    steps: StepsByPoint,
 }
 
 impl Model for Config {
@@ -58,6 +62,7 @@ impl Model for Config {
       here = record { state = c.memory; history = c.history.items; points = c.points.items };
       ended = c.ended;
       located = c.located;
+      steps = c.steps;
     } };
 
     ghost invariant = { λ c. (0 < length c.points.items) × (length c.points.items < 2 ^ 32) };
@@ -81,7 +86,7 @@ impl Config {
         let tried = try_init(alloc, flow, threads)?;
         match tried.ended {
             Ended::Fine => {
-                let c = Config::idle(alloc, observer, threads, tried.memory, tried.events)?;
+                let c = Config::idle(alloc, flow, observer, threads, tried.memory, tried.events)?;
                 Ok(c)
             }
             Ended::Stuck => Err(StartFault::NoStart),
@@ -89,23 +94,28 @@ impl Config {
         }
     }
 
-    /// The configuration with this memory and history in which every thread is idle.
+    /// The configuration with this memory and history in which every thread is idle, with the index of the flow's
+    /// steps.
     fn idle(
         alloc: Global,
+        flow: &Flow,
         observer: &Observer,
         threads: u32,
         memory: Memory,
         history: Vec<Event>,
     ) -> Result<Config, NoMemory>
-        requires { 0 < threads }
+        requires some { 0 < threads }
+        requires well { IsWellFormed flow.now }
         ensures here { IfOk result (λ c. c.here
             ≡ record { state = memory; history = history.items; points = replicate threads None }) }
         ensures live { IfOk result (λ c. c.ended ≡ false) }
         ensures follows { IfOk result (λ c. Follows observer.now c) }
+        ensures indexed { IfOk result (λ c. IsIndexOf (first_points flow.now) c.steps) }
     {
         let points = none_held(alloc, threads as usize)?;
         let mut located = Locations::of_threads(alloc, *observer, threads)?;
         located.hear_all(&history)?;
+        let steps = StepsByPoint::of_flow(alloc, flow)?;
         Ok(Config {
             alloc,
             memory,
@@ -113,6 +123,7 @@ impl Config {
             history,
             points,
             ended: false,
+            steps,
         })
     }
 
@@ -151,6 +162,7 @@ impl Config {
         requires flow { FlowFits flow.now }
         requires fits { ConfigurationFits flow.now (threads_of self.old) self.old.here }
         requires follows { Follows observer.now self.old }
+        requires indexed { IsIndexOf (first_points flow.now) self.old.steps }
         ensures answer { IfOk result (λ r. r ≡ answer (reach flow.now observer.now self.old.here m.now)) }
         ensures after { OnOk result (Reaches (reach flow.now observer.now self.old.here m.now) self.old self.new) }
         ensures follows { Follows observer.now self.new }
@@ -191,6 +203,7 @@ impl Config {
     ) -> Result<Moved, NoMemory>
         requires flow { FlowFits flow.now }
         requires fits { ConfigurationFits flow.now (threads_of self.old) self.old.here }
+        requires indexed { IsIndexOf (first_points flow.now) self.old.steps }
         ensures answer { let to = step_from flow.now self.old.here t nth addr (point_of self.old.here t)
             in IfOk result (λ r. r ≡ answer to) }
         ensures after { let to = step_from flow.now self.old.here t nth addr (point_of self.old.here t)
@@ -198,7 +211,7 @@ impl Config {
         ensures follows { (o : Observer) → Follows o self.old → Follows o self.new }
         ensures err { OnErr result (self.new ≡ self.old) }
     {
-        let Some((point, step)) = step_at(flow, &self.points, t, nth) else {
+        let Some((point, step)) = indexed_step_at(flow, &self.steps, &self.points, t, nth) else {
             return Ok(Moved::Blocked);
         };
         if !names_rightly(step, addr) {
@@ -324,6 +337,7 @@ impl Config {
         ensures here { OnOk result (self.new.here
             ≡ record self.old.here { history = self.old.here.history ++ events.now }) }
         ensures ended { self.new.ended ≡ self.old.ended }
+        ensures steps { self.new.steps ≡ self.old.steps }
         ensures follows { (o : Observer) → Follows o self.old → Follows o self.new }
         ensures err { OnErr result (self.new ≡ self.old) }
     {

@@ -1,5 +1,4 @@
-use Rattle.std.proofs.Common.{◌≡◌, ℕ, Bool, length, true, false, refl, sym, ap, ◌∙◌, subst}
-use Rattle.plc_auto.specs.declared.observer.Observer.{Observer}
+use Rattle.std.proofs.Common.{◌≡◌, true, refl, sym, ap, ◌∙◌, subst}
 use Rattle.plc_mem.specs.State.{freed}
 use Rattle.plc_run.specs.Run.{Configuration}
 use Rattle.plc_run.specs.Reach.{Reached, answer, Reaches}
@@ -41,4 +40,4 @@ returns-clause-after c =
     let here = ap (λ (q : Position). q.here) c.self-2.view_is ∙ c.in_ok-hear.ensures.here in
     let q : Position = record (the_view c.self-2.inside) { here = record (the_view c.self-2.inside).here { state = c.free.new.self } } in
     let state = c.free.ensures.freed ∙ ap (λ (x : Configuration). freed x.state a) here in
-    free_done o p q a c.requires.follows c.if-a-eq0.false may state (ap (λ (x : Configuration). x.history) here) (ap (λ (x : Configuration). x.points) here) (ap (λ (q : Position). q.ended) c.self-2.view_is ∙ c.hear.ensures.ended)
+    free_done o p q a c.requires.follows c.if-a-eq0.false may state (ap (λ (x : Configuration). x.history) here) (ap (λ (x : Configuration). x.points) here) (ap (λ (q : Position). q.ended) c.self-2.view_is ∙ c.hear.ensures.ended) (ap (λ (q : Position). q.steps) c.self-2.view_is ∙ c.hear.ensures.steps)

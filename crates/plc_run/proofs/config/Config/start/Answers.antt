@@ -1,5 +1,5 @@
-use Rattle.std.proofs.Common.{◌≡◌, Some, None, replicate, refl, sym, ap, ◌∙◌}
-use Rattle.plc_run.specs.Run.{beginning, first_configuration}
+use Rattle.std.proofs.Common.{Some, None, replicate, refl, sym, ap, ◌∙◌}
+use Rattle.plc_run.specs.Run.{beginning}
 use Rattle.plc_run.proofs.Stepping.{begun_with, begun_run}
 use Rattle.plc_run.proofs.config.Config.start.Goals as goal
 
@@ -12,7 +12,7 @@ returns-in_ok-c-in-Fine-clause-starts c =
 
 pub returns-in_ok-c-in-Fine-clause-of_run : goal.returns-in_ok-c-in-Fine-clause-of_run
 returns-in_ok-c-in-Fine-clause-of_run c =
-    begun_run c.args.flow.now c.args.observer.now c.args.threads c.in_ok-c-in-Fine.c (returns-in_ok-c-in-Fine-clause-starts c).1 c.in_ok-c-in-Fine.ensures.follows
+    begun_run c.args.flow.now c.args.observer.now c.args.threads c.in_ok-c-in-Fine.c (returns-in_ok-c-in-Fine-clause-starts c).1 c.in_ok-c-in-Fine.ensures.follows c.in_ok-c-in-Fine.ensures.indexed
 
 pub returns-in-Stuck-clause-starts : goal.returns-in-Stuck-clause-starts
 returns-in-Stuck-clause-starts c = sym (ap (beginning c.args.threads) (rw c.in-Stuck.is at c.in_ok-tried.ensures.ends))

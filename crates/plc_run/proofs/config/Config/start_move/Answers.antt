@@ -26,4 +26,4 @@ returns-clause-after c =
     let begins = sym (c.begun.ensures ∙ ap (λ ps. begun c.args.flow.now ps c.args.t c.args.op.0 c.args.args.now) c.deref.ensures.value) ∙ ap (option_map (λ r. (r.0.now, r.1))) c.in-Some.is in
     let given = c.put.ensures.given ∙ ap (λ l. with_locals c.self.inside.memory c.args.t (Some l)) c.in_ok-l.ensures in
     let to = started_so c.args.flow.now v.here c.args.t c.args.op.0 c.args.args.now c.in-Some.operation.now c.in-Some.entry c.put.new.self c.set_point.new.points.items begins given c.set_point.ensures.put in
-    rw (← c.self.view_is) (subst (λ (r : Reached). Reaches r v (record { here = record { state = c.put.new.self; history = v.here.history; points = c.set_point.new.points.items }; ended = v.ended; located = v.located })) (sym to) (refl, refl))
+    rw (← c.self.view_is) (subst (λ (r : Reached). Reaches r v (record { here = record { state = c.put.new.self; history = v.here.history; points = c.set_point.new.points.items }; ended = v.ended; located = v.located; steps = v.steps })) (sym to) (refl, refl, refl))

@@ -1,4 +1,4 @@
-use Rattle.std.proofs.Common.{◌≡◌, List, length, sym, ap, arith, subst}
+use Rattle.std.proofs.Common.{List, length, sym, ap, arith, subst}
 use Rattle.plc_base.proofs.Lists.{held_below}
 use Rattle.plc_lang.specs.declared.syntax.Primitive.{Primitive}
 use Rattle.plc_lang.specs.Shape.{PrimitivesIn}

@@ -1,13 +1,12 @@
-use Rattle.std.proofs.Common.{◌≡◌, ℕ, ◌++◌, List, Err, Ok, Some, [], refl, sym, ap, ◌∙◌, subst, rules}
+use Rattle.std.proofs.Common.{◌≡◌, ℕ, ◌++◌, List, Ok, Some, [], refl, sym, ap, ◌∙◌, subst, rules}
 use Rattle.plc_auto.specs.declared.event.Event.{Event}
 use Rattle.plc_mem.proofs.Undone.{takes_nothing_back}
 use Rattle.plc_mem.specs.State.{State, Locals, with_locals}
 use Rattle.plc_mem.specs.Outcomes.{address_or_null}
 use Rattle.plc_mem.specs.declared.undo.Undo.{Undo}
 use Rattle.plc_mem.specs.Undoing.{TakesBack}
-use Rattle.plc_run.specs.declared.execute.Ended.{Ended}
 use Rattle.plc_run.specs.declared.execute.Ended.TheVariants.{Fine, Stuck, Raced}
-use Rattle.plc_run.specs.Run.{Configuration, execute}
+use Rattle.plc_run.specs.Run.{execute}
 use Rattle.plc_run.specs.Ended.{ending}
 use Rattle.plc_run.specs.Position.{Position}
 use Rattle.plc_run.specs.Reach.{Tries}
@@ -33,7 +32,7 @@ returns-in-Fine-clause-tries c =
     let ran : ending Fine (with_locals c.execute.new.memory c.args.t (Some c.execute.new.me)) events ≡ execute (with_locals v.here.state c.args.t (Some c.args.me.now)) [] c.args.t a 0 c.args.prims.now =
     ap (λ e. ending e (with_locals c.execute.new.memory c.args.t (Some c.execute.new.me)) events) (sym c.in-Fine.is) ∙ c.in_ok-ended.ensures.ends ∙ ap (λ g. execute (with_locals v.here.state c.args.t (Some c.args.me.now)) g c.args.t a 0 c.args.prims.now) c.new-events.ensures.items in
     let here = c.in_ok-hear-in-Fine.ensures.here ∙ (let longer : (x : List Event) → x ≡ events → (record v.here { state = c.execute.new.memory; history = v.here.history ++ x }) ≡ (record v.here { state = c.execute.new.memory; history = v.here.history ++ events }) = λ x e. ap (λ x. record v.here { state = c.execute.new.memory; history = v.here.history ++ x }) e in longer c.deref.result.now c.deref.ensures.value) in
-    rw (← c.self.view_is) (tried_heard c.args.t a c.args.prims.now v c.hear.new.self c.execute.new.memory events c.args.me.now c.execute.new.me c.execute.new.undos.items takes ran here c.hear.ensures.ended)
+    rw (← c.self.view_is) (tried_heard c.args.t a c.args.prims.now v c.hear.new.self c.execute.new.memory events c.args.me.now c.execute.new.me c.execute.new.undos.items takes ran here c.hear.ensures.ended c.hear.ensures.steps)
 
 pub returns-in_err-hear-in-Fine-clause-tries : goal.returns-in_err-hear-in-Fine-clause-tries
 returns-in_err-hear-in-Fine-clause-tries c =
