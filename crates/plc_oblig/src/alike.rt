@@ -117,10 +117,11 @@ pub fn alike_obligations_have_one_set()
     ensures { AlikeObligationsHaveOneSet }
 {}
 
-/// Obligations that were looked at, each with a number that who notes it gives. Those of one step alone are kept, in
-/// the order in which they were noted. The clauses of a point are noted one after another, so what is said of a clause
-/// at a point stands as many entries after the point's first as the clause has before it: an obligation is compared
-/// with one entry of each point, however many clauses there are.
+/// Obligations that were looked at, each with a number that whoever notes it gives. Those of one step alone are kept,
+/// in the order in which they were noted. However many clauses a point has, an obligation is compared with one entry of
+/// it: the one as many entries after the point's first as the obligation's clause has clauses before it. Where all
+/// clauses of the point were noted in their order, that is the entry of this clause. Where one was left out, as a still
+/// one may be, those after it stand nearer to the first, and may not be found.
 #[derive(Drop)]
 pub struct Noted {
     entries: Vec<(Obligation, usize)>,
@@ -206,7 +207,8 @@ impl Noted {
         None
     }
 
-    /// The number of an obligation that was noted and has the same ground set.
+    /// The number of an obligation that was noted and has the same ground set. None says only that none was found: such
+    /// an obligation may be forgotten, stand elsewhere, or be of a point before the last ones that are compared.
     pub fn find(&self, flow: &Flow, outline: &Outline, o: &Obligation) -> Option<usize>
         ensures { IfSome result (IsNotedAs flow.now outline.now self.now o.now) }
     {
@@ -252,7 +254,8 @@ impl Noted {
         Ok(())
     }
 
-    /// Notes an obligation, if others may be alike. Those of another step are forgotten.
+    /// Notes an obligation, if others may be alike. Those of another step are forgotten. It fails only where memory
+    /// runs out.
     pub fn note(&mut self, o: &Obligation, at: usize) -> Result<(), NoMemory>
         ensures { OnOk result ((x : AnObligation × ℕ) → Contains self.new x
             → Contains self.old x ⊎ (x ≡ (o.now, at))) }

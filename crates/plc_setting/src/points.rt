@@ -43,10 +43,10 @@ pub fn is_labelled(flow: &Flow, p: u16) -> bool
     flow.labels.as_slice().iter().any(|named| named.0 == p)
 }
 
-/// Whether the item puts its clause at the point, of which it is known whether a label names it.
+/// Whether the item puts its clause at the point. The caller says whether any label names the point, as `is_labelled`
+/// finds out once for all items; where that isn't so, the answer means nothing.
 pub fn stands_at(flow: &Flow, p: u16, labelled: bool, item: &Item) -> bool
-    requires { labelled ≡ is_labelled flow.now p }
-    ensures { result ≡ stands_at flow.now p item.now }
+    ensures { labelled ≡ is_labelled flow.now p → result ≡ stands_at flow.now p item.now }
 {
     match &item.site {
         Site::Over(op) => is_over(flow.gates.get(op.0 as usize), p),
