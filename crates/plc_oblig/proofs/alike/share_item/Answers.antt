@@ -1,4 +1,7 @@
 use Rattle.plc_oblig.proofs.alike.share_item.Goals as goal
 
 pub returns : goal.returns
-returns c = rw (c.agree.ensures, c.stands_at.ensures c.requires.first, c.stands_at-2.ensures c.requires.second)
+returns c =
+    let first = c.requires.first in
+    let second = c.requires.second in
+    rw (c.agree.ensures, c.stands_at.ensures, c.stands_at-2.ensures)
