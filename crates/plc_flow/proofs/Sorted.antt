@@ -44,6 +44,7 @@ test_sorted : (file : File) (k : Primitive) → is_test k ≡ true → StepIsWel
 test_sorted file = of_each_test (λ k. StepIsWellSorted file (k ∷ [])) (λ p q. alone_sorted file (prims.Eq p q) tt refl)
     (λ p q. alone_sorted file (prims.Ne p q) tt refl) (λ p. alone_sorted file (prims.IsNull p) tt refl)
     (λ p. alone_sorted file (prims.NotNull p) tt refl) (λ r x n. alone_sorted file (prims.DataTest r x n) tt refl)
+    (λ p m. alone_sorted file (prims.MarkTest p m) tt refl)
 
 opposite_sorted : (file : File) (k : Primitive) → is_test k ≡ true → StepIsWellSorted file (opposite k ∷ [])
 opposite_sorted file k e = test_sorted file (opposite k) (opposites_are_tests.tests k e)

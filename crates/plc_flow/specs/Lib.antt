@@ -1,5 +1,6 @@
 -- what contracts of public calls say
 pub mod Lowering
+pub mod Marks
 pub mod Opposites
 pub mod Points
 pub mod Sides

@@ -1,5 +1,5 @@
 -- The primitives of the two sides of a condition, and of a call.
-use Rattle.std.specs.Prelude.{Bool, true, false, List, [], ◌∷◌, ◌++◌, Option, Some, None}
+use Rattle.std.specs.Prelude.{Bool, true, false, not, List, [], ◌∷◌, ◌++◌, Option, Some, None}
 use Rattle.plc_base.specs.declared.ids.FuncId.{FuncId}
 use Rattle.plc_lang.specs.declared.syntax.Primitive.{Primitive}
 use Rattle.plc_lang.specs.declared.syntax.Primitive.TheVariants as prims
@@ -21,6 +21,7 @@ opposite (prims.DataTest rels.Eq x e) = prims.DataTest rels.Ne x e
 opposite (prims.DataTest rels.Ne x e) = prims.DataTest rels.Eq x e
 opposite (prims.DataTest rels.Lt x e) = prims.DataTest rels.Ge x e
 opposite (prims.DataTest rels.Ge x e) = prims.DataTest rels.Lt x e
+opposite (prims.MarkTest p m) = prims.MarkTest p (not m)
 opposite k = k
 
 -- p == e, where nothing stands for null

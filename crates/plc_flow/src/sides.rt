@@ -20,6 +20,7 @@ fn opposite_of(test: Prim) -> Prim
         Prim::DataTest { rel: Rel::Ne, x, e } => Prim::DataTest { rel: Rel::Eq, x, e },
         Prim::DataTest { rel: Rel::Lt, x, e } => Prim::DataTest { rel: Rel::Ge, x, e },
         Prim::DataTest { rel: Rel::Ge, x, e } => Prim::DataTest { rel: Rel::Lt, x, e },
+        Prim::MarkTest { p, yes } => Prim::MarkTest { p, yes: !yes },
         other => other,
     }
 }

@@ -6,6 +6,7 @@ pub mod Fields
 pub mod Fit
 pub mod Labels
 pub mod Locals
+pub mod Marks
 pub mod Names
 pub mod Numbering
 pub mod Shape

@@ -13,7 +13,7 @@ use Rattle.plc_lang.specs.declared.syntax.Primitive.TheVariants.{Null, Copy, New
 use Rattle.plc_lang.specs.declared.syntax.Primitive.TheVariants.{DataSet, DataLoad, DataStore}
 use Rattle.plc_lang.specs.declared.syntax.Primitive.TheVariants.{Eq, Ne, IsNull, NotNull, DataTest}
 use Rattle.plc_lang.specs.declared.syntax.Primitive.TheVariants.{Refresh, RefreshLoad, RefreshStore, Call}
-use Rattle.plc_lang.specs.declared.syntax.Primitive.TheVariants.{Done, Active, Ghost}
+use Rattle.plc_lang.specs.declared.syntax.Primitive.TheVariants.{Done, Active, Ghost, Mark, Unmark, MarkTest}
 use Rattle.plc_lang.specs.declared.syntax.Op.{Op}
 use Rattle.plc_lang.specs.declared.syntax.File.{File}
 use Rattle.plc_lang.specs.Statements.{Statement, One, Atomic, Call as CallStatement}
@@ -76,6 +76,9 @@ PrimitiveIn h (DataTest r x e) = (x < h.values) × NumIn h e
 PrimitiveIn h (Refresh p q) = (p < h.pointers) × VarIn h q
 PrimitiveIn h (RefreshLoad p q f) = (p < h.pointers) × VarIn h q × (f.0 < h.fields)
 PrimitiveIn h (RefreshStore p f q) = VarIn h p × (f.0 < h.fields) × VarIn h q
+PrimitiveIn h (Mark p q) = VarIn h p × VarIn h q
+PrimitiveIn h (Unmark p q) = VarIn h p × VarIn h q
+PrimitiveIn h (MarkTest p m) = VarIn h p
 PrimitiveIn h (Call f a) = ArgIn h a
 PrimitiveIn h (Done f) = Unit {0}
 PrimitiveIn h (Active p) = VarIn h p

@@ -23,7 +23,7 @@ use Rattle.plc_lang.specs.declared.syntax.Primitive.TheVariants.{Null, Copy, New
 use Rattle.plc_lang.specs.declared.syntax.Primitive.TheVariants.{DataSet, DataLoad, DataStore}
 use Rattle.plc_lang.specs.declared.syntax.Primitive.TheVariants.{Eq, Ne, IsNull, NotNull, DataTest}
 use Rattle.plc_lang.specs.declared.syntax.Primitive.TheVariants.{Refresh, RefreshLoad, RefreshStore, Call}
-use Rattle.plc_lang.specs.declared.syntax.Primitive.TheVariants.{Done, Active, Ghost}
+use Rattle.plc_lang.specs.declared.syntax.Primitive.TheVariants.{Done, Active, Ghost, Mark, Unmark, MarkTest}
 use Rattle.plc_lang.specs.Allocation.{is_new}
 use Rattle.plc_lang.specs.Labels.{labels_by_op}
 use Rattle.plc_lang.specs.Locals.{is_pointer, is_parameter}
@@ -76,6 +76,9 @@ IsWellSorted file (DataTest r x e) = Unit {0}
 IsWellSorted file (Refresh p q) = Unit {0}
 IsWellSorted file (RefreshLoad p q f) = FieldIs file true f
 IsWellSorted file (RefreshStore p f q) = FieldIs file true f
+IsWellSorted file (Mark p q) = Unit {0}
+IsWellSorted file (Unmark p q) = Unit {0}
+IsWellSorted file (MarkTest p m) = Unit {0}
 IsWellSorted file (Call f a) = CallIsWellSorted file f a
 IsWellSorted file (Done f) = f.0 < length file.funcs
 IsWellSorted file (Active p) = Unit {0}
@@ -86,8 +89,9 @@ abbrev pub AreWellSorted : File → List Primitive → Type 0
 AreWellSorted file [] = Unit {0}
 AreWellSorted file (k ∷ ks) = IsWellSorted file k × AreWellSorted file ks
 
--- ---- kinds of primitives. A primitive without a row is of no kind; where it should be of one, what is read isn't
--- well-sorted, and the proofs of the parser and of the flow refuse that
+-- ---- kinds of primitives. A primitive without a row is of no kind. Where it should be a claim, a test, a refresh or
+-- one that `init` may have, what is read isn't well-sorted, and the proofs of the parser and of the flow refuse that; a
+-- call without a row is refused by nothing
 
 -- calls and returns of reclaimer functions
 abbrev pub is_call : Primitive → Bool
@@ -107,6 +111,7 @@ is_test (Ne p q) = true
 is_test (IsNull p) = true
 is_test (NotNull p) = true
 is_test (DataTest r x e) = true
+is_test (MarkTest p m) = true
 is_test k = false
 
 -- refreshes of a variable
@@ -132,6 +137,8 @@ is_initial (StoreNull p f) = true
 is_initial (DataSet x e) = true
 is_initial (DataLoad x q f) = true
 is_initial (DataStore p f e) = true
+is_initial (Mark p q) = true
+is_initial (Unmark p q) = true
 is_initial (Ghost p g v) = not (is_me v)
 is_initial k = false
 

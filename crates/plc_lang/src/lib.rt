@@ -6,6 +6,7 @@ mod block;
 mod comparison;
 mod labels;
 mod locals;
+mod marks;
 mod names;
 mod numbering;
 mod syntax;
@@ -15,6 +16,7 @@ pub use block::Block;
 pub use comparison::compares;
 pub use labels::{labels_by_op, op_of_label};
 pub use locals::{count_other_data, count_parameters, count_pointers, locals_of};
+pub use marks::speak_of_marks;
 pub use names::{
     auxiliary_name, data_name, field_name, function_name, label_name, local_name, name_at,
     operation_name, pointer_name, shared_name, value_name, variable_name,

@@ -95,6 +95,12 @@ pub enum Primitive {
     RefreshLoad { p: u16, q: Var, f: FieldId },
     /// `p.f ?= q`
     RefreshStore { p: Var, f: FieldId, q: Var },
+    /// `p := mark q`
+    Mark { p: Var, q: Var },
+    /// `p := unmark q`
+    Unmark { p: Var, q: Var },
+    /// `marked p` where `yes`, else `unmarked p`
+    MarkTest { p: Var, yes: bool },
     /// A call of a reclaimer function.
     Call { func: FuncId, arg: Arg },
     /// The return of a reclaimer function.
@@ -108,7 +114,7 @@ pub enum Primitive {
 /// The condition of an `if`.
 #[derive(Clone, Copy)]
 pub enum Cond {
-    /// A test, one of `Eq`, `Ne`, `IsNull`, `NotNull` and `DataTest`.
+    /// A test, one of `Eq`, `Ne`, `IsNull`, `NotNull`, `DataTest` and `MarkTest`.
     Test(Primitive),
     /// A refresh into a variable, `Refresh` or `RefreshLoad`.
     Refresh(Primitive),

@@ -47,7 +47,8 @@ keywords =
     ∷ (codes "cas", words.Cas) ∷ (codes "outline", words.Outline) ∷ (codes "depth", words.Depth)
     ∷ (codes "inv", words.Inv) ∷ (codes "over", words.Over) ∷ (codes "at", words.At)
     ∷ (codes "all", words.All) ∷ (codes "not", words.Not) ∷ (codes "retired", words.Retired)
-    ∷ (codes "me", words.Me) ∷ (codes "none", words.None) ∷ []
+    ∷ (codes "me", words.Me) ∷ (codes "none", words.None) ∷ (codes "mark", words.Mark)
+    ∷ (codes "unmark", words.Unmark) ∷ (codes "marked", words.Marked) ∷ (codes "unmarked", words.Unmarked) ∷ []
 
 -- the word of a table that a run of bytes spells
 abbrev pub keyword_in : List (List ℕ × Keyword) → List ℕ → Option Keyword

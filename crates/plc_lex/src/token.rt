@@ -43,6 +43,10 @@ pub enum Keyword {
     Retired,
     Me,
     None,
+    Mark,
+    Unmark,
+    Marked,
+    Unmarked,
 }
 
 /// A symbol of one or two bytes, one variant for each.

@@ -4,7 +4,7 @@ ghost use Rattle.plc_lex.specs.Characters.{keyword_in, keyword_of, symbol_in, sy
 
 use crate::token::{Keyword, Symbol};
 
-const KEYWORDS: [(&[u8], Keyword); 38] = [
+const KEYWORDS: [(&[u8], Keyword); 42] = [
     (b"struct", Keyword::Struct),
     (b"ptr", Keyword::Ptr),
     (b"data", Keyword::Data),
@@ -43,6 +43,10 @@ const KEYWORDS: [(&[u8], Keyword); 38] = [
     (b"retired", Keyword::Retired),
     (b"me", Keyword::Me),
     (b"none", Keyword::None),
+    (b"mark", Keyword::Mark),
+    (b"unmark", Keyword::Unmark),
+    (b"marked", Keyword::Marked),
+    (b"unmarked", Keyword::Unmarked),
 ];
 
 const SYMBOLS: [(&[u8], Symbol); 14] = [
