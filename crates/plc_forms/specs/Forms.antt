@@ -8,13 +8,14 @@ use Rattle.plc_lex.specs.declared.token.TokenKind.TheVariants.{Word, Name, Numbe
 use Rattle.plc_lex.specs.declared.token.Keyword.{Keyword}
 use Rattle.plc_lex.specs.declared.token.Keyword.TheVariants.{Struct, Ptr, Data, Shared, Call, Use, Hazard, Epoch, Ghost}
 use Rattle.plc_lex.specs.declared.token.Keyword.TheVariants.{Thread, Init, Op, Skip, Label, During, Active, Assume, New}
-use Rattle.plc_lex.specs.declared.token.Keyword.TheVariants.{Null, Cas, Me, None as NoneWord}
+use Rattle.plc_lex.specs.declared.token.Keyword.TheVariants.{Null, Cas, Me, None as NoneWord, Mark, Unmark, Marked, Unmarked}
 use Rattle.plc_lex.specs.declared.token.Symbol.{Symbol as Punctuation}
 use Rattle.plc_lex.specs.declared.token.Symbol.TheVariants.{Assign, Refresh, Equal, Unequal, AtLeast, Less, OpenBrace}
 use Rattle.plc_lex.specs.declared.token.Symbol.TheVariants.{CloseBrace, OpenParen, CloseParen, Semicolon, Comma, Dot}
 use Rattle.plc_syntax.specs.Table.{same_punctuation}
 use Rattle.plc_syntax.specs.Trees.{Text, FieldTree, PointerField, DataField, PlaceTree, PlaceOf, AtomTree, NullAtom}
 use Rattle.plc_syntax.specs.Trees.{NumberAtom, NameAtom, ValueTree, NullValue, NewValue, NumberValue, PlaceValue}
+use Rattle.plc_syntax.specs.Trees.{MarkValue, UnmarkValue, MarkedTest, UnmarkedTest}
 use Rattle.plc_syntax.specs.Trees.{SetTree, SetName, SetField, RefreshTree, RefreshName, RefreshField, GhostValueTree}
 use Rattle.plc_syntax.specs.Trees.{NameGhost, MeGhost, NoneGhost, GhostSetTree, SetGhost, InitialTree, InitialSet}
 use Rattle.plc_syntax.specs.Trees.{InitialGhost, Comparison, SameAs, OtherThan, LessThan, NotLessThan, TestTree}
@@ -210,6 +211,8 @@ abbrev pub value_of : List TokenKind → Option (ValueTree × List TokenKind)
 value_of (Word Null ∷ rest) = Some (NullValue, rest)
 value_of (Word New ∷ rest) = Some (NewValue, rest)
 value_of (Number n ∷ rest) = Some (NumberValue n, rest)
+value_of (Word Mark ∷ rest) = read_as MarkValue (name_of rest)
+value_of (Word Unmark ∷ rest) = read_as UnmarkValue (name_of rest)
 value_of ts = read_as PlaceValue (place_of ts)
 
 -- what is put into a field
@@ -281,13 +284,19 @@ comparison_of (Symbol Less ∷ rest) = Some (LessThan, rest)
 comparison_of (Symbol AtLeast ∷ rest) = Some (NotLessThan, rest)
 comparison_of ts = None
 
--- a test
-abbrev pub test_of : List TokenKind → Option (TestTree × List TokenKind)
-test_of ts = do
+-- a name, and what it is compared with
+abbrev pub compared_of : List TokenKind → Option (TestTree × List TokenKind)
+compared_of ts = do
   n ← name_of ts
   c ← comparison_of n.1
   a ← atom_of c.1
   Some (Compares n.0 c.0 a.0, a.1)
+
+-- a test
+abbrev pub test_of : List TokenKind → Option (TestTree × List TokenKind)
+test_of (Word Marked ∷ rest) = read_as MarkedTest (name_of rest)
+test_of (Word Unmarked ∷ rest) = read_as UnmarkedTest (name_of rest)
+test_of ts = compared_of ts
 
 -- a name, or null
 abbrev pub name_or_null_of : List TokenKind → Option (Option Text × List TokenKind)
@@ -309,7 +318,7 @@ cas_of is_active ts = do
   rest ← symbol_of CloseParen new.1
   Some (CasCondition is_active n.0 old.0 new.0, rest)
 
--- a condition that begins with a name: a refresh, else a test
+-- a condition that is no cas: a refresh, else a test
 abbrev pub named_condition_of : List TokenKind → Option (ConditionTree × List TokenKind)
 named_condition_of ts =
     read_or (read_as (λ r. RefreshCondition r.0 r.1) (refresh_name_of ts)) (read_as TestCondition (test_of ts))

@@ -1,6 +1,7 @@
 -- How many tokens the forms have, so that a place after a form is the place before it and its size.
 use Rattle.std.specs.Prelude.{ℕ, ◌+◌, Bool, true, false, Option, Some, None}
 use Rattle.plc_syntax.specs.Trees.{Text, PlaceTree, PlaceOf, ValueTree, NullValue, NewValue, NumberValue, PlaceValue}
+use Rattle.plc_syntax.specs.Trees.{MarkValue, UnmarkValue, TestTree, MarkedTest, UnmarkedTest, Compares}
 use Rattle.plc_syntax.specs.Trees.{SetTree, SetName, SetField, RefreshTree, RefreshName, RefreshField, InitialTree}
 use Rattle.plc_syntax.specs.Trees.{InitialSet, InitialGhost, ConditionTree, TestCondition, RefreshCondition}
 use Rattle.plc_syntax.specs.Trees.{CasCondition, PrimitiveTree, SetPrimitive, RefreshPrimitive, GhostPrimitive}
@@ -18,6 +19,8 @@ abbrev pub value_size : ValueTree → ℕ
 value_size NullValue = 1
 value_size NewValue = 1
 value_size (NumberValue n) = 1
+value_size (MarkValue n) = 2
+value_size (UnmarkValue n) = 2
 value_size (PlaceValue p) = place_size p
 
 -- the left side and `:=` before the value
@@ -39,9 +42,11 @@ abbrev pub initial_size : InitialTree → ℕ
 initial_size (InitialSet s) = set_size s
 initial_size (InitialGhost g) = ghost_set_size
 
--- two sides and what stands between
-abbrev pub test_size : ℕ
-test_size = 3
+-- a word and a name, or two sides and what stands between
+abbrev pub test_size : TestTree → ℕ
+test_size (MarkedTest n) = 2
+test_size (UnmarkedTest n) = 2
+test_size (Compares n c a) = 3
 
 -- a word that may be left out
 abbrev pub word_size : Bool → ℕ
@@ -50,7 +55,7 @@ word_size true = 1
 
 -- between the parentheses of an `if`; cas has a parenthesis of its own, three names and two commas
 abbrev pub condition_size : ConditionTree → ℕ
-condition_size (TestCondition t) = test_size
+condition_size (TestCondition t) = test_size t
 condition_size (RefreshCondition n p) = 2 + place_size p
 condition_size (CasCondition is_active n old new) = word_size is_active + 8
 
@@ -60,7 +65,7 @@ primitive_size (SetPrimitive s) = set_size s
 primitive_size (RefreshPrimitive r) = refresh_size r
 primitive_size (GhostPrimitive g) = ghost_set_size
 primitive_size (ActivePrimitive n) = 2
-primitive_size (AssumePrimitive t) = 1 + test_size
+primitive_size (AssumePrimitive t) = 1 + test_size t
 primitive_size SkipPrimitive = 1
 
 -- between the parentheses of a call

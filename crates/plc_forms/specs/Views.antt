@@ -9,7 +9,8 @@ use Rattle.plc_syntax.specs.Trees.{NumberAtom, NameAtom, ValueTree, NullValue, N
 use Rattle.plc_syntax.specs.Trees.{SetTree, SetName, SetField, RefreshTree, RefreshName, RefreshField, GhostValueTree}
 use Rattle.plc_syntax.specs.Trees.{NameGhost, MeGhost, NoneGhost, GhostSetTree, SetGhost, InitialTree, InitialSet}
 use Rattle.plc_syntax.specs.Trees.{InitialGhost, Comparison, SameAs, OtherThan, LessThan, NotLessThan, TestTree}
-use Rattle.plc_syntax.specs.Trees.{Compares, ConditionTree, TestCondition, RefreshCondition, CasCondition}
+use Rattle.plc_syntax.specs.Trees.{Compares, MarkedTest, UnmarkedTest, MarkValue, UnmarkValue}
+use Rattle.plc_syntax.specs.Trees.{ConditionTree, TestCondition, RefreshCondition, CasCondition}
 use Rattle.plc_syntax.specs.Trees.{PrimitiveTree, SetPrimitive, RefreshPrimitive, GhostPrimitive, ActivePrimitive}
 use Rattle.plc_syntax.specs.Trees.{AssumePrimitive, SkipPrimitive, ArgumentTree, NoArgument, NullArgument, NameArgument}
 use Rattle.plc_syntax.specs.Trees.{ActiveArgument, FunctionTree, Declares, WatchTree, UseHazard, UseEpoch}
@@ -34,6 +35,7 @@ use Rattle.plc_forms.specs.declared.form.GhostSet.{GhostSet}
 use Rattle.plc_forms.specs.declared.form.Relation.{Relation}
 use Rattle.plc_forms.specs.declared.form.Relation.TheVariants as relations
 use Rattle.plc_forms.specs.declared.form.Test.{Test}
+use Rattle.plc_forms.specs.declared.form.Test.TheVariants as tests
 use Rattle.plc_forms.specs.declared.form.Condition.{Condition}
 use Rattle.plc_forms.specs.declared.form.Condition.TheVariants as conditions
 use Rattle.plc_forms.specs.declared.form.Cas.{Cas}
@@ -104,6 +106,8 @@ abbrev pub value_tree : Value → ValueTree
 value_tree values.Null = NullValue
 value_tree values.New = NewValue
 value_tree (values.Number n) = NumberValue n
+value_tree (values.Mark n) = MarkValue n.now
+value_tree (values.Unmark n) = UnmarkValue n.now
 value_tree (values.Place p) = PlaceValue (place_tree p)
 
 abbrev pub atom_tree : Atom → AtomTree
@@ -134,7 +138,9 @@ relation_tree relations.Less = LessThan
 relation_tree relations.NotLess = NotLessThan
 
 abbrev pub test_tree : Test → TestTree
-test_tree t = Compares t.name.now (relation_tree t.relation) (atom_tree t.atom)
+test_tree (tests.Marked n) = MarkedTest n.now
+test_tree (tests.Unmarked n) = UnmarkedTest n.now
+test_tree (tests.Compares n r a) = Compares n.now (relation_tree r) (atom_tree a)
 
 abbrev pub cas_tree : Cas → ConditionTree
 cas_tree c = CasCondition c.is_active c.name.now (text_or_none c.old) (text_or_none c.new)

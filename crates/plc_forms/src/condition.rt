@@ -1,7 +1,7 @@
 // Tests and the conditions of `if`.
 ghost use Rattle.std.specs.Prelude.{◌≡◌, ◌-◌, IfSome, Some, None};
 ghost use Rattle.plc_syntax.specs.Syntax.{kinds};
-ghost use Rattle.plc_forms.specs.Forms.{comparison_of, test_of, name_or_null_of, comma_name_or_null_of};
+ghost use Rattle.plc_forms.specs.Forms.{comparison_of, compared_of, test_of, name_or_null_of, comma_name_or_null_of};
 ghost use Rattle.plc_forms.specs.Forms.{cas_of, cas_condition_of, named_condition_of, condition_of};
 ghost use Rattle.plc_forms.specs.Sizes.{word_size, test_size, condition_size};
 ghost use Rattle.plc_forms.specs.Views.{After, text_or_none, relation_tree, test_tree};
@@ -26,19 +26,36 @@ fn relation_at<'a>(rest: Rest<'a>) -> Option<(Relation, Rest<'a>)>
     }
 }
 
-/// A test.
-pub fn test_at<'a>(rest: Rest<'a>) -> Option<(Test<'a>, Rest<'a>)>
-    ensures { Reads test_of test_tree (λ _. test_size) rest.entry result }
+/// A name, and what it is compared with.
+fn compared_at<'a>(rest: Rest<'a>) -> Option<(Test<'a>, Rest<'a>)>
+    ensures { Reads compared_of test_tree test_size rest.entry result }
 {
     let (name, after) = name_at(rest)?;
     let (relation, after) = relation_at(after)?;
     let (atom, after) = atom_at(after)?;
-    let test = Test {
+    let test = Test::Compares {
         name,
         relation,
         atom,
     };
     Some((test, after))
+}
+
+/// A test.
+pub fn test_at<'a>(rest: Rest<'a>) -> Option<(Test<'a>, Rest<'a>)>
+    ensures { Reads test_of test_tree test_size rest.entry result }
+{
+    match first(rest) {
+        Some((TokenKind::Word(Keyword::Marked), after)) => {
+            let (name, after) = name_at(after)?;
+            Some((Test::Marked(name), after))
+        }
+        Some((TokenKind::Word(Keyword::Unmarked), after)) => {
+            let (name, after) = name_at(after)?;
+            Some((Test::Unmarked(name), after))
+        }
+        _ => compared_at(rest),
+    }
 }
 
 /// A name, or `null`.
@@ -87,7 +104,7 @@ fn cas_condition_at<'a>(rest: Rest<'a>) -> Option<(Condition<'a>, Rest<'a>)>
     Some((Condition::Cas(cas), after))
 }
 
-/// A condition that begins with a name.
+/// A condition that is no cas.
 fn named_condition_at<'a>(rest: Rest<'a>) -> Option<(Condition<'a>, Rest<'a>)>
     ensures { Reads named_condition_of condition_tree condition_size rest.entry result }
 {

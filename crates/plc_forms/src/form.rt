@@ -37,6 +37,10 @@ pub enum Value<'a> {
     Null,
     New,
     Number(u32),
+    /// The value of a name, with its mark set.
+    Mark(&'a [u8]),
+    /// The value of a name, with its mark cleared.
+    Unmark(&'a [u8]),
     Place(Place<'a>),
 }
 
@@ -87,12 +91,16 @@ pub enum Relation {
     NotLess,
 }
 
-/// A test: a name, a relation, and what the name is compared with.
+/// A test of a name: its mark is set, or isn't; or it stands in a relation to what it is compared with.
 #[derive(Clone, Copy)]
-pub struct Test<'a> {
-    pub name: &'a [u8],
-    pub relation: Relation,
-    pub atom: Atom<'a>,
+pub enum Test<'a> {
+    Marked(&'a [u8]),
+    Unmarked(&'a [u8]),
+    Compares {
+        name: &'a [u8],
+        relation: Relation,
+        atom: Atom<'a>,
+    },
 }
 
 /// The condition of an `if`.

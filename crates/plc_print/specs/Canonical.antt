@@ -41,7 +41,8 @@ use Rattle.plc_syntax.specs.Trees.{NoArgument, NullArgument, NameArgument, Activ
 use Rattle.plc_syntax.specs.Trees.{PrimitiveStatement, AtomicStatement, CallStatement, IfStatement, ChooseStatement}
 use Rattle.plc_syntax.specs.Trees.{LoopStatement, BreakStatement, ReturnStatement, LabelStatement, BlockTree}
 use Rattle.plc_syntax.specs.Trees.{NoStatement, Then as ThenStatement, ElseTree, NoElse, ElseBlock, OrTree, NoOr}
-use Rattle.plc_syntax.specs.Trees.{OrBlock, OpTree, Operates, FileTree}
+use Rattle.plc_syntax.specs.Trees.{OrBlock, OpTree, Operates, FileTree, MarkValue, UnmarkValue, MarkedTest}
+use Rattle.plc_syntax.specs.Trees.{UnmarkedTest}
 use Rattle.plc_parse.specs.declared.unit.Unit.{Unit as FileUnit}
 use Rattle.plc_print.specs.Outlines.{outline_tree}
 
@@ -95,6 +96,8 @@ module _ (file : File) (locals : List Local) where
   set_tree (prims.Null p) = SetName (variable_name file locals p) NullValue
   set_tree (prims.Copy p q) = SetName (variable_name file locals p) (from_variable q)
   set_tree (prims.New p) = SetName (variable_name file locals p) NewValue
+  set_tree (prims.Mark p q) = SetName (variable_name file locals p) (MarkValue (variable_name file locals q))
+  set_tree (prims.Unmark p q) = SetName (variable_name file locals p) (UnmarkValue (variable_name file locals q))
   set_tree (prims.Load p q f) = SetName (variable_name file locals p) (from_field q f)
   set_tree (prims.Store p f q) = SetField (variable_name file locals p) (field_name file f) (pointer_tree q)
   set_tree (prims.StoreNull p f) = SetField (variable_name file locals p) (field_name file f) NullAtom
@@ -119,6 +122,8 @@ module _ (file : File) (locals : List Local) where
   test_tree (prims.Ne p q) = Compares (variable_name file locals p) OtherThan (pointer_tree q)
   test_tree (prims.IsNull p) = Compares (variable_name file locals p) SameAs NullAtom
   test_tree (prims.NotNull p) = Compares (variable_name file locals p) OtherThan NullAtom
+  test_tree (prims.MarkTest p true) = MarkedTest (variable_name file locals p)
+  test_tree (prims.MarkTest p false) = UnmarkedTest (variable_name file locals p)
   test_tree (prims.DataTest r x e) = Compares (data_name file locals x) (comparison r) (number_tree e)
   test_tree k = Compares [] SameAs NullAtom
 
@@ -129,6 +134,7 @@ module _ (file : File) (locals : List Local) where
   primitive_tree (prims.IsNull p) = AssumePrimitive (test_tree (prims.IsNull p))
   primitive_tree (prims.NotNull p) = AssumePrimitive (test_tree (prims.NotNull p))
   primitive_tree (prims.DataTest r x e) = AssumePrimitive (test_tree (prims.DataTest r x e))
+  primitive_tree (prims.MarkTest p m) = AssumePrimitive (test_tree (prims.MarkTest p m))
   primitive_tree (prims.Refresh p q) =
       RefreshPrimitive (RefreshName (pointer_name file locals p) (PlaceOf (variable_name file locals q) None))
   primitive_tree (prims.RefreshLoad p q f) =

@@ -1,6 +1,6 @@
 -- What primitives, conditions and calls mean. A form stands at a place, the number of tokens before it. Each name is
 -- looked up where it stands, from left to right, so the first fault is the one at the least token; `null`, `new`,
--- numbers and relations are judged by the left side and are themselves the place.
+-- `mark`, `unmark`, numbers and relations are judged by the left side and are themselves the place.
 use Rattle.std.specs.Prelude.{◌+◌, ℕ, Bool, true, false, if◌then◌else◌, Option, Some, None, Result, Ok, Err}
 use Rattle.plc_base.specs.Functions.{is_retire}
 use Rattle.plc_base.specs.declared.ids.FieldId.{FieldId}
@@ -18,6 +18,7 @@ use Rattle.plc_lang.specs.declared.syntax.Primitive.{Primitive}
 use Rattle.plc_lang.specs.declared.syntax.Primitive.TheVariants.{Null, Copy, New, Load, Store, StoreNull, DataSet}
 use Rattle.plc_lang.specs.declared.syntax.Primitive.TheVariants.{DataLoad, DataStore, Eq, Ne, IsNull, NotNull, DataTest}
 use Rattle.plc_lang.specs.declared.syntax.Primitive.TheVariants.{Refresh, RefreshLoad, RefreshStore, Active, Ghost}
+use Rattle.plc_lang.specs.declared.syntax.Primitive.TheVariants.{Mark, Unmark, MarkTest}
 use Rattle.plc_lang.specs.declared.syntax.Cond.{Cond}
 use Rattle.plc_lang.specs.declared.syntax.Cond.TheVariants as conditions
 use Rattle.plc_syntax.specs.Trees.{Text, PlaceTree, PlaceOf, AtomTree, NullAtom, NumberAtom, NameAtom, ValueTree}
@@ -28,6 +29,7 @@ use Rattle.plc_syntax.specs.Trees.{SameAs, OtherThan, LessThan, NotLessThan, Tes
 use Rattle.plc_syntax.specs.Trees.{TestCondition, RefreshCondition, CasCondition, PrimitiveTree, SetPrimitive}
 use Rattle.plc_syntax.specs.Trees.{RefreshPrimitive, GhostPrimitive, ActivePrimitive, AssumePrimitive, SkipPrimitive}
 use Rattle.plc_syntax.specs.Trees.{ArgumentTree, NoArgument, NullArgument, NameArgument, ActiveArgument}
+use Rattle.plc_syntax.specs.Trees.{MarkValue, UnmarkValue, MarkedTest, UnmarkedTest}
 use Rattle.plc_forms.specs.Sizes.{word_size}
 use Rattle.plc_scope.specs.declared.fault.ParseFault.{ParseFault}
 use Rattle.plc_scope.specs.declared.fault.ParseFault.TheVariants as faults
@@ -56,6 +58,12 @@ abbrev pub pointer_value : Scope → Var → ℕ → ValueTree → Result Primit
 pointer_value s p at NullValue = Ok (Null p)
 pointer_value s p at NewValue = Ok (New p)
 pointer_value s p at (NumberValue n) = Err (faults.WrongSort at)
+pointer_value s p at (MarkValue n) = do
+  q ← pointer_at s n (at + 1)
+  Ok (Mark p q)
+pointer_value s p at (UnmarkValue n) = do
+  q ← pointer_at s n (at + 1)
+  Ok (Unmark p q)
 pointer_value s p at (PlaceValue (PlaceOf n None)) = do
   q ← pointer_at s n at
   Ok (Copy p q)
@@ -69,6 +77,8 @@ abbrev pub data_value : Scope → ℕ → ℕ → ValueTree → Result Primitive
 data_value s x at NullValue = Err (faults.WrongSort at)
 data_value s x at NewValue = Err (faults.WrongSort at)
 data_value s x at (NumberValue n) = Ok (DataSet x (Lit n))
+data_value s x at (MarkValue n) = Err (faults.WrongSort at)
+data_value s x at (UnmarkValue n) = Err (faults.WrongSort at)
 data_value s x at (PlaceValue (PlaceOf n None)) = do
   y ← data_at s n at
   Ok (DataSet x (DataLocal y))
@@ -197,8 +207,16 @@ test_of s at c a (pointer_variable p) = pointer_test s p (at + 1) c a
 test_of s at c a (data_local x) = data_test s x (relation c) (at + 2) a
 test_of s at c a _ = Err (faults.WrongSort at)
 
--- the left side before the relation and the right
+-- whether the mark of a pointer variable is set, or isn't
+abbrev pub mark_test : Scope → Text → Bool → ℕ → Result Primitive ParseFault
+mark_test s n is_set at = do
+  p ← pointer_at s n at
+  Ok (MarkTest p is_set)
+
+-- the name after the word; or the left side before the relation and the right
 unfoldable pub test_means : Scope → ℕ → TestTree → Result Primitive ParseFault
+test_means s at (MarkedTest n) = mark_test s n true (at + 1)
+test_means s at (UnmarkedTest n) = mark_test s n false (at + 1)
 test_means s at (Compares n c a) = do
   left ← known at (role_of s n)
   test_of s at c a left

@@ -1,6 +1,6 @@
 // What an assignment means. The left side is judged before the right one, and each name where it
-// stands, so that the first fault is the one at the least token; `null`, `new` and numbers are judged
-// by the left side and are themselves the place.
+// stands, so that the first fault is the one at the least token; `null`, `new`, `mark`, `unmark` and
+// numbers are judged by the left side and are themselves the place.
 ghost use Rattle.std.specs.Prelude.{◌+◌, ◌<◌, ◌≤◌, ◌^◌, length};
 ghost use Rattle.plc_forms.specs.Sizes.{value_size, set_size};
 ghost use Rattle.plc_forms.specs.Views.{value_tree, atom_tree, set_tree};
@@ -27,6 +27,14 @@ fn pointer_value(scope: &Scope, p: Var, at: u32, value: Value) -> Result<Prim, P
         Value::Null => Ok(Prim::Null { p }),
         Value::New => Ok(Prim::New { p }),
         Value::Number(_) => Err(ParseFault::WrongSort { at }),
+        Value::Mark(name) => {
+            let q = scope.pointer_at(name, at + 1)?;
+            Ok(Prim::Mark { p, q })
+        }
+        Value::Unmark(name) => {
+            let q = scope.pointer_at(name, at + 1)?;
+            Ok(Prim::Unmark { p, q })
+        }
         Value::Place(place) => {
             let q = scope.pointer_at(place.name, at)?;
             match place.field {
@@ -47,7 +55,9 @@ fn data_value(scope: &Scope, x: u16, at: u32, value: Value) -> Result<Prim, Pars
     ensures { Gives (λ k. k) result (data_value scope.now x at (value_tree value.entry)) }
 {
     match value {
-        Value::Null | Value::New => Err(ParseFault::WrongSort { at }),
+        Value::Null | Value::New | Value::Mark(_) | Value::Unmark(_) => {
+            Err(ParseFault::WrongSort { at })
+        }
         Value::Number(n) => Ok(Prim::DataSet { x, e: Num::Lit(n) }),
         Value::Place(Place { name, field: None }) => {
             let y = scope.data_at(name, at)?;

@@ -4,7 +4,7 @@ ghost use Rattle.std.specs.Prelude.{◌+◌, ◌<◌, ◌≤◌, ◌^◌, length
 ghost use Rattle.plc_forms.specs.Sizes.{test_size, condition_size};
 ghost use Rattle.plc_forms.specs.Views.{text_or_none, atom_tree, relation_tree, test_tree, condition_tree};
 ghost use Rattle.plc_scope.specs.Answers.{Gives};
-ghost use Rattle.plc_scope.specs.Primitives.{pointer_equality, pointer_test, relation, data_test};
+ghost use Rattle.plc_scope.specs.Primitives.{pointer_equality, pointer_test, relation, data_test, mark_test};
 ghost use Rattle.plc_scope.specs.Primitives.{test_means, pointer_or_null, cas_means, condition_means};
 ghost use Rattle.plc_scope.specs.Scope.{most_locals};
 
@@ -82,18 +82,35 @@ fn data_test(scope: &Scope, x: u16, rel: Rel, at: u32, atom: Atom) -> Result<Pri
     Ok(Prim::DataTest { rel, x, e })
 }
 
+/// A test of the mark of the pointer variable that stands at the place.
+fn mark_test(scope: &Scope, name: &[u8], yes: bool, at: u32) -> Result<Prim, ParseFault>
+    requires { length scope.now.locals ≤ most_locals }
+    ensures { Gives (λ k. k) result (mark_test scope.now name.now yes at) }
+{
+    let p = scope.pointer_at(name, at)?;
+    Ok(Prim::MarkTest { p, yes })
+}
+
 /// The primitive of a test at a place: `Undeclared` or `WrongSort` at the least token that can't
 /// stand there.
 #[tactic(auto, unfolding(crate::specs::Primitives::test_means))]
 pub fn test(scope: &Scope, at: u32, test: Test) -> Result<Prim, ParseFault>
     requires locals { length scope.now.locals ≤ most_locals }
-    requires place { at + test_size < 2 ^ 32 }
+    requires place { at + test_size (test_tree test) < 2 ^ 32 }
     ensures { Gives (λ k. k) result (test_means scope.now at (test_tree test.entry)) }
 {
-    match scope.role(test.name, at)? {
-        Role::PointerVariable(p) => pointer_test(scope, p, at + 1, test.relation, test.atom),
-        Role::DataLocal(x) => data_test(scope, x, data_relation(test.relation), at + 2, test.atom),
-        _ => Err(ParseFault::WrongSort { at }),
+    match test {
+        Test::Marked(name) => mark_test(scope, name, true, at + 1),
+        Test::Unmarked(name) => mark_test(scope, name, false, at + 1),
+        Test::Compares {
+            name,
+            relation,
+            atom,
+        } => match scope.role(name, at)? {
+            Role::PointerVariable(p) => pointer_test(scope, p, at + 1, relation, atom),
+            Role::DataLocal(x) => data_test(scope, x, data_relation(relation), at + 2, atom),
+            _ => Err(ParseFault::WrongSort { at }),
+        },
     }
 }
 

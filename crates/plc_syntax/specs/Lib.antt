@@ -2,6 +2,7 @@
 pub mod Answer
 pub mod Depth
 pub mod Faults
+pub mod Marks
 pub mod Nesting
 pub mod Syntax
 pub mod Trees

@@ -10,7 +10,7 @@ use Rattle.plc_lex.specs.declared.token.Keyword.TheVariants.{Struct, Ptr, Data, 
 use Rattle.plc_lex.specs.declared.token.Keyword.TheVariants.{Thread, Init, Op, Atomic, If, Else, Loop, Break, Return}
 use Rattle.plc_lex.specs.declared.token.Keyword.TheVariants.{Skip, Choose, Or, Label, During, Active, Assume, New, Null}
 use Rattle.plc_lex.specs.declared.token.Keyword.TheVariants.{Cas, Outline, Depth, Inv, Over, At, All, Not, Retired, Me}
-use Rattle.plc_lex.specs.declared.token.Keyword.TheVariants.{None as NoneWord}
+use Rattle.plc_lex.specs.declared.token.Keyword.TheVariants.{None as NoneWord, Mark, Unmark, Marked, Unmarked}
 use Rattle.plc_lex.specs.declared.token.Symbol.{Symbol as Punctuation}
 use Rattle.plc_lex.specs.declared.token.Symbol.TheVariants.{Assign, Refresh, Equal, Unequal, AtLeast, OpenBrace}
 use Rattle.plc_lex.specs.declared.token.Symbol.TheVariants.{CloseBrace, OpenParen, CloseParen, Semicolon, Comma, Dot}
@@ -118,20 +118,25 @@ atom_then NullAtom rest = Word Null ∷ rest
 atom_then (NumberAtom n) rest = Number n ∷ rest
 atom_then (NameAtom n) rest = Name n ∷ rest
 
--- "null" | "new" | NUMBER | NAME [ "." NAME ], what is put into a name
+-- "null" | "new" | NUMBER | ( "mark" | "unmark" ) NAME | NAME [ "." NAME ], what is put into a name
 pub data ValueTree : Type 0 where
   NullValue : ValueTree
   NewValue : ValueTree
   NumberValue : ℕ → ValueTree
+  MarkValue : Text → ValueTree
+  UnmarkValue : Text → ValueTree
   PlaceValue : PlaceTree → ValueTree
 
 abbrev pub value_then : ValueTree → List TokenKind → List TokenKind
 value_then NullValue rest = Word Null ∷ rest
 value_then NewValue rest = Word New ∷ rest
 value_then (NumberValue n) rest = Number n ∷ rest
+value_then (MarkValue n) rest = Word Mark ∷ Name n ∷ rest
+value_then (UnmarkValue n) rest = Word Unmark ∷ Name n ∷ rest
 value_then (PlaceValue p) rest = place_then p rest
 
--- set := NAME ":=" ( "null" | "new" | NUMBER | NAME [ "." NAME ] ) | NAME "." NAME ":=" ( "null" | NUMBER | NAME )
+-- set := NAME ":=" ( "null" | "new" | NUMBER | ( "mark" | "unmark" ) NAME | NAME [ "." NAME ] )
+--    | NAME "." NAME ":=" ( "null" | NUMBER | NAME )
 pub data SetTree : Type 0 where
   SetName : Text → ValueTree → SetTree
   SetField : Text → Text → AtomTree → SetTree
@@ -179,7 +184,7 @@ initial_then (InitialGhost g) rest = ghost_set_then g (Symbol Semicolon ∷ rest
 abbrev pub init_then : List InitialTree → List TokenKind → List TokenKind
 init_then sets rest = Word Init ∷ Symbol OpenBrace ∷ each_then initial_then sets (Symbol CloseBrace ∷ rest)
 
--- test := NAME ( "==" | "!=" | "<" | ">=" ) ( NAME | NUMBER | "null" )
+-- test := ( "marked" | "unmarked" ) NAME | NAME ( "==" | "!=" | "<" | ">=" ) ( NAME | NUMBER | "null" )
 pub data Comparison : Type 0 where
   SameAs : Comparison
   OtherThan : Comparison
@@ -193,9 +198,13 @@ comparison_symbol LessThan = Less
 comparison_symbol NotLessThan = AtLeast
 
 pub data TestTree : Type 0 where
+  MarkedTest : Text → TestTree
+  UnmarkedTest : Text → TestTree
   Compares : Text → Comparison → AtomTree → TestTree
 
 abbrev pub test_then : TestTree → List TokenKind → List TokenKind
+test_then (MarkedTest n) rest = Word Marked ∷ Name n ∷ rest
+test_then (UnmarkedTest n) rest = Word Unmarked ∷ Name n ∷ rest
 test_then (Compares n c a) rest = Name n ∷ Symbol (comparison_symbol c) ∷ atom_then a rest
 
 -- cond := test | NAME "?=" NAME [ "." NAME ] | "cas" "(" [ "active" ] NAME "," ( NAME | "null" ) "," ( NAME

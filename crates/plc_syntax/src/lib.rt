@@ -6,9 +6,11 @@
 mod expected;
 mod fault;
 mod machine;
+mod marks;
 mod nesting;
 mod recognizer;
 mod table;
 
 pub use fault::SyntaxFault;
+pub use marks::use_marks;
 pub use recognizer::{depth_is_that_of_braces, outline_fault, syntax, syntax_faults_are_one};
