@@ -10,5 +10,6 @@ pub mod Ranges
 pub mod Reaching
 pub mod Stepping
 pub mod Threads
+pub mod Unmarked
 pub mod Values
 pub mod Views

@@ -22,7 +22,8 @@ use Rattle.plc_flow.specs.WellFormed.{FlowFits, IsPointOf}
 use Rattle.plc_flow.specs.WellSorted.{FlowIsWellSorted}
 use Rattle.plc_flow.proofs.Gates.{gate_from}
 use Rattle.plc_flow.proofs.Leaving.{stay_in_their_gate}
-use Rattle.plc_gc.specs.State.{GcState, Locals, with_locals, first_state, no_locals, starting}
+use Rattle.plc_gc.specs.State.{GcState, Locals, null_pointer, with_locals, first_state, no_locals, starting}
+use Rattle.plc_gc.specs.declared.slot.Pointer.{Pointer}
 use Rattle.plc_gc.specs.Run.{GcConfiguration, point_of, Moves, GcRun, begin, more, beginning, initialised, first_configuration}
 use Rattle.plc_gc.specs.Fit.{Frame, frame, WriteIn, FrameHasAll}
 use Rattle.plc_threads.specs.Fit.{ThreadFits}
@@ -96,7 +97,7 @@ start_fits flow fits threads c t op o g args small named opens counted k =
       held = get-put_same None c.state.locals t (Some (starting o args));
       fits = record {
         declared = refl;
-        pointers = length-replicate {A = ℕ} (pointers_of o) 0;
+        pointers = length-replicate {A = Pointer} (pointers_of o) null_pointer;
         values = omega (arith, length-append args (replicate (other_data_of o) 0), length-replicate {A = ℕ} (other_data_of o) 0, counted);
       };
     })
@@ -143,7 +144,7 @@ pub init_names : (flow : Flow) → FlowFits flow → FlowIsWellSorted flow → (
 unfolding with_locals ready
 init_names flow fits sorted threads =
     let own = frame_held (with_locals (first_state flow threads) 0 (Some no_locals)) 0 no_locals (get-put_same None (replicate threads None) 0 (Some no_locals)) in
-    let many = length-replicate {A = ℕ} (length flow.file.shared) 0 in
+    let many = length-replicate {A = Pointer} (length flow.file.shared) null_pointer in
     let same : frame (with_locals (first_state flow threads) 0 (Some no_locals)) 0 ≡ frame_of flow.file (init_shape flow.file) = own ∙ cc in
     subst (λ f. FrameHasAll f flow.file.init) (sym same) (has_all flow.file (init_shape flow.file) flow.file.init fits.init sorted.file.init.each)
 
@@ -152,7 +153,7 @@ unfolding with_locals ready
 begun flow threads g some kept =
     let idle = idle_again threads no_locals g.locals some (record { many = kept.1.threads; others = kept.1.others }) in
     record {
-      shared = kept.1.shared ∙ length-replicate {A = ℕ} (length flow.file.shared) 0;
+      shared = kept.1.shared ∙ length-replicate {A = Pointer} (length flow.file.shared) null_pointer;
       fields = kept.1.fields;
       ghosts = kept.1.ghosts;
       standing = all_idle flow LocalsFit threads _ idle.0 idle.1;

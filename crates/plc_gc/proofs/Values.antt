@@ -2,6 +2,8 @@
 use Rattle.std.proofs.Common.{◌≡◌, ℕ, ◌<◌, Bool, true, false, List, [], ◌∷◌, Option, Some, None, length, slice_get, replicate, refl, sym, ap, ◌∙◌, subst, arith, inl, inr}
 use Rattle.std.proofs.lemmas.Bool.{cases_eq}
 use Rattle.plc_base.specs.Functions.{is_retire}
+use Rattle.plc_lang.specs.declared.syntax.Var.{Var}
+use Rattle.plc_lang.specs.declared.syntax.Var.TheVariants.{Local}
 use Rattle.plc_lang.specs.declared.syntax.Arg.{Arg}
 use Rattle.plc_lang.specs.declared.syntax.Arg.TheVariants as args
 use Rattle.plc_lang.specs.declared.syntax.GhostVal.{GhostVal}
@@ -9,7 +11,7 @@ use Rattle.plc_lang.specs.declared.syntax.GhostVal.TheVariants as ghosts
 use Rattle.plc_lang.specs.declared.syntax.Ghost.{Ghost as AuxiliaryField}
 use Rattle.plc_lang.specs.declared.syntax.File.{File}
 use Rattle.plc_lang.specs.declared.syntax.Primitive.{Primitive}
-use Rattle.plc_lang.specs.declared.syntax.Primitive.TheVariants.{Null, Copy, New, Load, Store, StoreNull, DataSet, DataLoad, DataStore, Eq, Ne, IsNull, NotNull, DataTest, Refresh, RefreshLoad, RefreshStore, Call, Done, Active, Ghost}
+use Rattle.plc_lang.specs.declared.syntax.Primitive.TheVariants.{Null, Copy, New, Load, Store, StoreNull, DataSet, DataLoad, DataStore, Eq, Ne, IsNull, NotNull, DataTest, Refresh, RefreshLoad, RefreshStore, Mark, Unmark, MarkTest, Call, Done, Active, Ghost}
 use Rattle.plc_lang.specs.WellSorted.{IsWellSorted, AreWellSorted, ValueFits}
 use Rattle.plc_flow.specs.declared.flow.Flow.{Flow}
 use Rattle.plc_threads.specs.declared.words.Move.{Move}
@@ -20,12 +22,12 @@ use Rattle.plc_flow.specs.WellSorted.{FlowIsWellSorted}
 use Rattle.plc_flow.proofs.Leaving.{filter_member}
 use Rattle.plc_gc.specs.declared.slot.Slot.{Slot}
 use Rattle.plc_gc.specs.declared.slot.Map.{Map}
-use Rattle.plc_gc.specs.declared.slot.Map.TheVariants.{Pointer as pointer_field, Number as data_field, Auxiliary as auxiliary_field, Retirement as retirement}
-use Rattle.plc_gc.specs.State.{GcState, Locals, entry, put, update, made, slot, with_locals, no_locals, first_state, starting}
-use Rattle.plc_gc.specs.Primitives.{node_at, ghost_number, after_call, goes, after}
+use Rattle.plc_gc.specs.declared.slot.Map.TheVariants.{Number as data_field, Auxiliary as auxiliary_field, Retirement as retirement}
+use Rattle.plc_gc.specs.State.{GcState, Locals, entry, put, put_pointer, update, update_pointer, made, with_locals, no_locals, first_state, starting}
+use Rattle.plc_gc.specs.Primitives.{node_at, mark_at, field_at, field_mark_at, ghost_number, after_call, goes, after}
 use Rattle.plc_gc.specs.Run.{GcConfiguration, GcRun, begin, more, turn, execute, beginning, initialised, first_configuration, Moves}
 use Rattle.plc_gc.specs.Ranges.{ValuesAreInRange, RunsKeepValues}
-use Rattle.plc_gc.proofs.Views.{puts, updates, makes, gives, first}
+use Rattle.plc_gc.proofs.Views.{puts, updates, puts_pointer, updates_pointer, makes, gives, first}
 
 -- ---- changes
 
@@ -36,8 +38,14 @@ SameAuxiliary g new = (h k : ℕ) → entry new (auxiliary_field h) k ≡ entry 
 same_put : (g : GcState) (p : Slot) (n : ℕ) → SameAuxiliary g (put g p n)
 same_put g p n h k = (puts g p n).nodes.entries (auxiliary_field h) k
 
+same_pointer_put : (g : GcState) (t : ℕ) (p : Var) (n m : ℕ) → SameAuxiliary g (put_pointer g t p n m)
+same_pointer_put g t p n m h k = (puts_pointer g t p n m).nodes.entries (auxiliary_field h) k
+
 same_update : (g : GcState) (m : Map) (i n : ℕ) → ((h : ℕ) → auxiliary_field h ≡ m → ⊥) → SameAuxiliary g (update g m i n)
 same_update g m i n other h k = (updates g m i n).other_map (auxiliary_field h) k (other h)
+
+same_pointer_update : (g : GcState) (f i n m : ℕ) → SameAuxiliary g (update_pointer g f i n m)
+same_pointer_update g f i n m h k = (updates_pointer g f i n m).other_map (auxiliary_field h) k (λ e. cc) (λ e. cc)
 
 same_given : (g : GcState) (t : ℕ) (l : Option Locals) → SameAuxiliary g (with_locals g t l)
 same_given g t l h k = (gives g t l).nodes.entries (auxiliary_field h) k
@@ -77,12 +85,12 @@ written file g t i h v d named fits old e x here some k =
 -- ---- primitives
 
 keeps_values : (flow : Flow) (g : GcState) (t : ℕ) (k : Primitive) → IsWellSorted flow.file k → ValuesAreInRange flow.file g → ValuesAreInRange flow.file (after g t k)
-keeps_values flow g t (Null p) sorted v = same_values flow.file g _ (same_put g (slot t p) _) v
-keeps_values flow g t (Copy p q) sorted v = same_values flow.file g _ (same_put g (slot t p) _) v
-keeps_values flow g t (New p) sorted v = same_values flow.file g _ (λ h k. same_put (made g) (slot t p) _ h k ∙ (makes g).entries (auxiliary_field h) k) v
-keeps_values flow g t (Load p q f) sorted v = same_values flow.file g _ (same_put g (slot t p) _) v
-keeps_values flow g t (Store p f q) sorted v = same_values flow.file g _ (same_update g (pointer_field f.0) _ _ (λ h e. cc)) v
-keeps_values flow g t (StoreNull p f) sorted v = same_values flow.file g _ (same_update g (pointer_field f.0) _ _ (λ h e. cc)) v
+keeps_values flow g t (Null p) sorted v = same_values flow.file g _ (same_pointer_put g t _ _ _) v
+keeps_values flow g t (Copy p q) sorted v = same_values flow.file g _ (same_pointer_put g t _ _ _) v
+keeps_values flow g t (New p) sorted v = same_values flow.file g _ (λ h k. same_pointer_put (made g) t p _ _ h k ∙ (makes g).entries (auxiliary_field h) k) v
+keeps_values flow g t (Load p q f) sorted v = same_values flow.file g _ (same_pointer_put g t _ _ _) v
+keeps_values flow g t (Store p f q) sorted v = same_values flow.file g _ (same_pointer_update g f.0 _ _ _) v
+keeps_values flow g t (StoreNull p f) sorted v = same_values flow.file g _ (same_pointer_update g f.0 _ _ _) v
 keeps_values flow g t (DataSet x e) sorted v = same_values flow.file g _ (same_put g _ _) v
 keeps_values flow g t (DataLoad x q f) sorted v = same_values flow.file g _ (same_put g _ _) v
 keeps_values flow g t (DataStore p f e) sorted v = same_values flow.file g _ (same_update g (data_field f.0) _ _ (λ h e. cc)) v
@@ -91,9 +99,12 @@ keeps_values flow g t (Ne p q) sorted v = v
 keeps_values flow g t (IsNull p) sorted v = v
 keeps_values flow g t (NotNull p) sorted v = v
 keeps_values flow g t (DataTest r x e) sorted v = v
-keeps_values flow g t (Refresh p q) sorted v = same_values flow.file g _ (same_put g _ _) v
-keeps_values flow g t (RefreshLoad p q f) sorted v = same_values flow.file g _ (same_put g _ _) v
-keeps_values flow g t (RefreshStore p f q) sorted v = same_values flow.file g _ (same_update g (pointer_field f.0) _ _ (λ h e. cc)) v
+keeps_values flow g t (Refresh p q) sorted v = same_values flow.file g _ (same_pointer_put g t (Local p) (node_at g t q) (mark_at g t q)) v
+keeps_values flow g t (RefreshLoad p q f) sorted v = same_values flow.file g _ (same_pointer_put g t (Local p) (field_at g t q f.0) (field_mark_at g t q f.0)) v
+keeps_values flow g t (RefreshStore p f q) sorted v = same_values flow.file g _ (same_pointer_update g f.0 _ _ _) v
+keeps_values flow g t (Mark p q) sorted v = same_values flow.file g _ (same_pointer_put g t _ _ _) v
+keeps_values flow g t (Unmark p q) sorted v = same_values flow.file g _ (same_pointer_put g t _ _ _) v
+keeps_values flow g t (MarkTest p m) sorted v = v
 keeps_values flow g t (Call f r) sorted v = same_values flow.file g _ (same_call g t (is_retire f) r) v
 keeps_values flow g t (Done f) sorted v = v
 keeps_values flow g t (Active p) sorted v = v

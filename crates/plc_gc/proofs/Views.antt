@@ -1,104 +1,187 @@
 -- What each change leaves: the only file that opens `value`, `entry`, `put` and `update`.
-use Rattle.std.proofs.Common.{◌≡◌, ℕ, zero, suc, ◌≤◌, List, [], ◌∷◌, ◌++◌, Option, Some, None, length, get_or, refl, sym, ap, ◌∙◌, subst, arith, inl, inr, length-append}
+use Rattle.std.proofs.Common.{◌≡◌, ℕ, zero, suc, ◌<◌, ◌≤◌, List, [], ◌∷◌, ◌++◌, Option, Some, None, length, get_or, refl, sym, ap, ◌∙◌, subst, arith, inl, inr, length-append}
 use Rattle.std.proofs.lemmas.Bool.{cases_eq}
 use Rattle.std.proofs.lemmas.List.{get_or_past}
 use Rattle.plc_base.specs.Tables.{put_at}
 use Rattle.plc_base.proofs.Tables.{get-put_same, get-put_other, get-replicate, length_put}
 use Rattle.plc_lang.specs.declared.syntax.Field.{Field}
+use Rattle.plc_lang.specs.declared.syntax.Var.{Var}
+use Rattle.plc_lang.specs.declared.syntax.Var.TheVariants.{Shared, Local}
 use Rattle.plc_gc.specs.declared.slot.Slot.{Slot}
-use Rattle.plc_gc.specs.declared.slot.Slot.TheVariants.{Shared as in_shared, Local as in_local, Data as in_data}
+use Rattle.plc_gc.specs.declared.slot.Slot.TheVariants.{Shared as in_shared, Local as in_local, SharedMark as shared_mark, LocalMark as local_mark, Data as in_data}
 use Rattle.plc_gc.specs.declared.slot.Map.{Map}
-use Rattle.plc_gc.specs.declared.slot.Map.TheVariants.{Pointer as pointer_field, Number as data_field, Auxiliary as auxiliary_field, Retirement as retirement}
-use Rattle.plc_gc.specs.State.{GcState, Row, Locals, no_row, fresh_row, row_entry, row_with, locals_or_none, locals_of, with_locals, value, entry, count, put, update, made, fresh_state}
-use Rattle.plc_gc.specs.Laws.{Put, Updated, WasMade, HasLocals, IsFirst, GcStateLaws}
+use Rattle.plc_gc.specs.declared.slot.Pointer.{Pointer}
+use Rattle.plc_gc.specs.declared.slot.Map.TheVariants.{Pointer as pointer_field, Mark as mark_field, Number as data_field, Auxiliary as auxiliary_field, Retirement as retirement}
+use Rattle.plc_gc.specs.State.{GcState, Row, Locals, null_pointer, with_node, with_mark, node_put, mark_put, no_row, fresh_row, row_entry, row_with, locals_or_none, locals_of, with_locals, value, entry, count, put, update, made, fresh_state, slot, mark_slot, put_pointer, update_pointer}
+use Rattle.plc_gc.specs.Laws.{Put, Updated, PointerPut, PointerUpdated, WasMade, HasLocals, IsFirst, GcStateLaws}
 
 -- ---- locals
+
+pub locals-with_same : (g : GcState) (t : ℕ) (l : Option Locals) → locals_of (with_locals g t l) t ≡ locals_or_none l
+unfolding locals_of with_locals
+locals-with_same g t l = ap locals_or_none (get-put_same None g.locals t l)
 
 pub locals-with_other : (g : GcState) (t : ℕ) (l : Option Locals) (u : ℕ) → (u ≡ t → ⊥) → locals_of (with_locals g t l) u ≡ locals_of g u
 unfolding locals_of with_locals
 locals-with_other g t l u ne = ap locals_or_none (get-put_other None g.locals t l u ne)
 
 pub gives : (g : GcState) (t : ℕ) (l : Option Locals) → HasLocals g t l (with_locals g t l)
-unfolding value entry count locals_of with_locals
+unfolding value entry count with_locals
 gives g t l = record {
-  pointers = λ v. ap (λ o. get_or (locals_or_none o).pointers v 0) (get-put_same None g.locals t l);
-  values = λ x. ap (λ o. get_or (locals_or_none o).values x 0) (get-put_same None g.locals t l);
+  pointers = λ v. ap (λ (m : Locals). (get_or m.pointers v null_pointer).node) (locals-with_same g t l);
+  marks = λ v. ap (λ (m : Locals). (get_or m.pointers v null_pointer).mark) (locals-with_same g t l);
+  values = λ x. ap (λ (m : Locals). get_or m.values x 0) (locals-with_same g t l);
   shared = λ i. refl;
-  others = λ u v ne. ap (λ (m : Locals). get_or m.pointers v 0) (locals-with_other g t l u ne);
+  shared_marks = λ i. refl;
+  others = λ u v ne. ap (λ (m : Locals). (get_or m.pointers v null_pointer).node) (locals-with_other g t l u ne);
+  other_marks = λ u v ne. ap (λ (m : Locals). (get_or m.pointers v null_pointer).mark) (locals-with_other g t l u ne);
   other_values = λ u x ne. ap (λ (m : Locals). get_or m.values x 0) (locals-with_other g t l u ne);
   nodes = record { entries = λ m k. refl; count = refl };
 }
+
+-- ---- tables of pointers: a node that is written leaves the marks, a mark leaves the nodes
+
+node_here : (ps : List Pointer) (i n : ℕ) → (get_or (node_put ps i n) i null_pointer).node ≡ n
+node_here ps i n = ap (λ (p : Pointer). p.node) (get-put_same null_pointer ps i (with_node (get_or ps i null_pointer) n))
+
+mark_here : (ps : List Pointer) (i n : ℕ) → (get_or (mark_put ps i n) i null_pointer).mark ≡ n
+mark_here ps i n = ap (λ (p : Pointer). p.mark) (get-put_same null_pointer ps i (with_mark (get_or ps i null_pointer) n))
+
+node_there : (ps : List Pointer) (i n j : ℕ) → (j ≡ i → ⊥) → (get_or (node_put ps i n) j null_pointer).node ≡ (get_or ps j null_pointer).node
+node_there ps i n j ne = ap (λ (p : Pointer). p.node) (get-put_other null_pointer ps i (with_node (get_or ps i null_pointer) n) j ne)
+
+mark_there : (ps : List Pointer) (i n j : ℕ) → (j ≡ i → ⊥) → (get_or (mark_put ps i n) j null_pointer).mark ≡ (get_or ps j null_pointer).mark
+mark_there ps i n j ne = ap (λ (p : Pointer). p.mark) (get-put_other null_pointer ps i (with_mark (get_or ps i null_pointer) n) j ne)
+
+mark_stays : (ps : List Pointer) (i n j : ℕ) → (get_or (node_put ps i n) j null_pointer).mark ≡ (get_or ps j null_pointer).mark
+mark_stays ps i n j = elim (cases_eq j i) [
+  | inl e ↦ subst (λ j. (get_or (node_put ps i n) j null_pointer).mark ≡ (get_or ps j null_pointer).mark) (sym e)
+      (ap (λ (p : Pointer). p.mark) (get-put_same null_pointer ps i (with_node (get_or ps i null_pointer) n)))
+  | inr ne ↦ ap (λ (p : Pointer). p.mark) (get-put_other null_pointer ps i (with_node (get_or ps i null_pointer) n) j ne)
+]
+
+node_stays : (ps : List Pointer) (i n j : ℕ) → (get_or (mark_put ps i n) j null_pointer).node ≡ (get_or ps j null_pointer).node
+node_stays ps i n j = elim (cases_eq j i) [
+  | inl e ↦ subst (λ j. (get_or (mark_put ps i n) j null_pointer).node ≡ (get_or ps j null_pointer).node) (sym e)
+      (ap (λ (p : Pointer). p.node) (get-put_same null_pointer ps i (with_mark (get_or ps i null_pointer) n)))
+  | inr ne ↦ ap (λ (p : Pointer). p.node) (get-put_other null_pointer ps i (with_mark (get_or ps i null_pointer) n) j ne)
+]
 
 -- ---- values
 
 shared_put : (g : GcState) (i n : ℕ) → Put g (in_shared i) n (put g (in_shared i) n)
 unfolding value entry count put
 shared_put g i n = record {
-  here = get-put_same 0 g.shared i n;
+  here = node_here g.shared i n;
   elsewhere = elim [
-    | in_shared j ↦ λ ne. get-put_other 0 g.shared i n j (λ e. ne (ap in_shared e))
+    | in_shared j ↦ λ ne. node_there g.shared i n j (λ e. ne (ap in_shared e))
     | in_local t v ↦ λ ne. refl
+    | shared_mark j ↦ λ ne. mark_stays g.shared i n j
+    | local_mark t v ↦ λ ne. refl
+    | in_data t x ↦ λ ne. refl
+  ];
+  nodes = record { entries = λ m k. refl; count = refl };
+}
+
+shared_mark_put : (g : GcState) (i n : ℕ) → Put g (shared_mark i) n (put g (shared_mark i) n)
+unfolding value entry count put
+shared_mark_put g i n = record {
+  here = mark_here g.shared i n;
+  elsewhere = elim [
+    | in_shared j ↦ λ ne. node_stays g.shared i n j
+    | in_local t v ↦ λ ne. refl
+    | shared_mark j ↦ λ ne. mark_there g.shared i n j (λ e. ne (ap shared_mark e))
+    | local_mark t v ↦ λ ne. refl
     | in_data t x ↦ λ ne. refl
   ];
   nodes = record { entries = λ m k. refl; count = refl };
 }
 
 -- where a thread's locals change at one place alone, all else has what it had
-own_put : (g : GcState) (t : ℕ) (l : Locals) (p : Slot) (n : ℕ) → value (with_locals g t (Some l)) p ≡ n → ((v : ℕ) → (in_local t v ≡ p → ⊥) → get_or l.pointers v 0 ≡ get_or (locals_of g t).pointers v 0) → ((x : ℕ) → (in_data t x ≡ p → ⊥) → get_or l.values x 0 ≡ get_or (locals_of g t).values x 0) → Put g p n (with_locals g t (Some l))
+own_put : (g : GcState) (t : ℕ) (l : Locals) (p : Slot) (n : ℕ) → value (with_locals g t (Some l)) p ≡ n
+    → ((v : ℕ) → (in_local t v ≡ p → ⊥) → (get_or l.pointers v null_pointer).node ≡ (get_or (locals_of g t).pointers v null_pointer).node)
+    → ((v : ℕ) → (local_mark t v ≡ p → ⊥) → (get_or l.pointers v null_pointer).mark ≡ (get_or (locals_of g t).pointers v null_pointer).mark)
+    → ((x : ℕ) → (in_data t x ≡ p → ⊥) → get_or l.values x 0 ≡ get_or (locals_of g t).values x 0) → Put g p n (with_locals g t (Some l))
 unfolding value
-own_put g t l p n here pointers values = record { here = here; elsewhere = kept; nodes = (gives g t (Some l)).nodes }
+own_put g t l p n here pointers marks values = record { here = here; elsewhere = kept; nodes = (gives g t (Some l)).nodes }
   where
+    h : HasLocals g t (Some l) (with_locals g t (Some l))
+    h = gives g t (Some l)
+
+    -- a place of thread u, which may be t
+    place : (s : ℕ → Slot) (u : ℕ) → (s u ≡ p → ⊥) → ((s t ≡ p → ⊥) → value (with_locals g t (Some l)) (s t) ≡ value g (s t))
+        → ((u ≡ t → ⊥) → value (with_locals g t (Some l)) (s u) ≡ value g (s u)) → value (with_locals g t (Some l)) (s u) ≡ value g (s u)
+    place s u ne own others = elim (cases_eq u t) [
+      | inl e ↦ (let P : ℕ → Type 0 = λ u. value (with_locals g t (Some l)) (s u) ≡ value g (s u) in subst P (sym e) (own (λ same. ne (ap s e ∙ same))))
+      | inr other ↦ others other
+    ]
+
     kept : (q : Slot) → (q ≡ p → ⊥) → value (with_locals g t (Some l)) q ≡ value g q
-    kept (in_shared j) ne = (gives g t (Some l)).shared j
-    kept (in_local u w) ne = elim (cases_eq u t) [
-      | inl e ↦ (let P : ℕ → Type 0 = λ u. value (with_locals g t (Some l)) (in_local u w) ≡ value g (in_local u w) in subst P (sym e) ((gives g t (Some l)).pointers w ∙ pointers w (λ same. ne (ap (λ u. in_local u w) e ∙ same))))
-      | inr other ↦ (gives g t (Some l)).others u w other
-    ]
-    kept (in_data u y) ne = elim (cases_eq u t) [
-      | inl e ↦ (let P : ℕ → Type 0 = λ u. value (with_locals g t (Some l)) (in_data u y) ≡ value g (in_data u y) in subst P (sym e) ((gives g t (Some l)).values y ∙ values y (λ same. ne (ap (λ u. in_data u y) e ∙ same))))
-      | inr other ↦ (gives g t (Some l)).other_values u y other
-    ]
+    kept (in_shared j) ne = h.shared j
+    kept (in_local u v) ne = place (λ u. in_local u v) u ne (λ own. h.pointers v ∙ pointers v own) (h.others u v)
+    kept (shared_mark j) ne = h.shared_marks j
+    kept (local_mark u v) ne = place (λ u. local_mark u v) u ne (λ own. h.marks v ∙ marks v own) (h.other_marks u v)
+    kept (in_data u x) ne = place (λ u. in_data u x) u ne (λ own. h.values x ∙ values x own) (h.other_values u x)
 
 local_put : (g : GcState) (t v n : ℕ) → Put g (in_local t v) n (put g (in_local t v) n)
 unfolding put
 local_put g t v n =
-    let l : Locals = record (locals_of g t) { pointers = put_at 0 (locals_of g t).pointers v n } in
-    own_put g t l (in_local t v) n ((gives g t (Some l)).pointers v ∙ get-put_same 0 (locals_of g t).pointers v n) (λ w ne. get-put_other 0 (locals_of g t).pointers v n w (λ e. ne (ap (in_local t) e))) (λ x ne. refl)
+    let ps = (locals_of g t).pointers in
+    let l : Locals = record (locals_of g t) { pointers = node_put ps v n } in
+    own_put g t l (in_local t v) n ((gives g t (Some l)).pointers v ∙ node_here ps v n)
+    (λ w ne. node_there ps v n w (λ e. ne (ap (in_local t) e))) (λ w ne. mark_stays ps v n w) (λ x ne. refl)
+
+local_mark_put : (g : GcState) (t v n : ℕ) → Put g (local_mark t v) n (put g (local_mark t v) n)
+unfolding put
+local_mark_put g t v n =
+    let ps = (locals_of g t).pointers in
+    let l : Locals = record (locals_of g t) { pointers = mark_put ps v n } in
+    own_put g t l (local_mark t v) n ((gives g t (Some l)).marks v ∙ mark_here ps v n)
+    (λ w ne. node_stays ps v n w) (λ w ne. mark_there ps v n w (λ e. ne (ap (local_mark t) e))) (λ x ne. refl)
 
 data_put : (g : GcState) (t x n : ℕ) → Put g (in_data t x) n (put g (in_data t x) n)
 unfolding put
 data_put g t x n =
     let l : Locals = record (locals_of g t) { values = put_at 0 (locals_of g t).values x n } in
-    own_put g t l (in_data t x) n ((gives g t (Some l)).values x ∙ get-put_same 0 (locals_of g t).values x n) (λ v ne. refl) (λ y ne. get-put_other 0 (locals_of g t).values x n y (λ e. ne (ap (in_data t) e)))
+    own_put g t l (in_data t x) n ((gives g t (Some l)).values x ∙ get-put_same 0 (locals_of g t).values x n)
+    (λ v ne. refl) (λ v ne. refl) (λ y ne. get-put_other 0 (locals_of g t).values x n y (λ e. ne (ap (in_data t) e)))
 
 pub puts : (g : GcState) (p : Slot) (n : ℕ) → Put g p n (put g p n)
 puts g (in_shared i) n = shared_put g i n
 puts g (in_local t v) n = local_put g t v n
+puts g (shared_mark i) n = shared_mark_put g i n
+puts g (local_mark t v) n = local_mark_put g t v n
 puts g (in_data t x) n = data_put g t x n
 
 -- ---- rows
 
 row_same : (r : Row) (m : Map) (n : ℕ) → row_entry (row_with r m n) m ≡ n
-row_same r (pointer_field f) n = get-put_same 0 r.pointers f n
+row_same r (pointer_field f) n = node_here r.pointers f n
+row_same r (mark_field f) n = mark_here r.pointers f n
 row_same r (data_field f) n = get-put_same 0 r.values f n
 row_same r (auxiliary_field h) n = get-put_same 0 r.auxiliary h n
 row_same r retirement n = refl
 
 row_other : (r : Row) (m : Map) (n : ℕ) (l : Map) → (l ≡ m → ⊥) → row_entry (row_with r m n) l ≡ row_entry r l
-row_other r (pointer_field f) n (pointer_field e) ne = get-put_other 0 r.pointers f n e (λ q. ne (ap pointer_field q))
+row_other r (pointer_field f) n (pointer_field e) ne = node_there r.pointers f n e (λ q. ne (ap pointer_field q))
+row_other r (mark_field f) n (mark_field e) ne = mark_there r.pointers f n e (λ q. ne (ap mark_field q))
 row_other r (data_field f) n (data_field e) ne = get-put_other 0 r.values f n e (λ q. ne (ap data_field q))
 row_other r (auxiliary_field f) n (auxiliary_field e) ne = get-put_other 0 r.auxiliary f n e (λ q. ne (ap auxiliary_field q))
 row_other r retirement n retirement ne = absurd (ne refl)
+row_other r (pointer_field f) n (mark_field e) ne = mark_stays r.pointers f n e
+row_other r (mark_field f) n (pointer_field e) ne = node_stays r.pointers f n e
 row_other r m n l ne = refl
 
 pub no_entry : (m : Map) → row_entry no_row m ≡ 0
 no_entry (pointer_field f) = refl
+no_entry (mark_field f) = refl
 no_entry (data_field f) = refl
 no_entry (auxiliary_field h) = refl
 no_entry retirement = refl
 
 fresh_entry : (fields ghosts : ℕ) (m : Map) → row_entry (fresh_row fields ghosts) m ≡ 0
-fresh_entry fields ghosts (pointer_field f) = get-replicate 0 fields f
+fresh_entry fields ghosts (pointer_field f) = ap (λ (p : Pointer). p.node) (get-replicate null_pointer fields f)
+fresh_entry fields ghosts (mark_field f) = ap (λ (p : Pointer). p.mark) (get-replicate null_pointer fields f)
 fresh_entry fields ghosts (data_field f) = get-replicate 0 fields f
 fresh_entry fields ghosts (auxiliary_field h) = get-replicate 0 ghosts h
 fresh_entry fields ghosts retirement = refl
@@ -115,8 +198,38 @@ updates g m k n =
             (ap (λ r. row_entry r l) (get-put_same no_row g.rows k r) ∙ row_other (get_or g.rows k no_row) m n l ne)
         | inr other ↦ ap (λ r. row_entry r l) (get-put_other no_row g.rows k r j other)
       ];
-      values = elim [ in_shared i ↦ refl | in_local t v ↦ refl | in_data t x ↦ refl ];
+      values = elim [ in_shared i ↦ refl | in_local t v ↦ refl | shared_mark i ↦ refl | local_mark t v ↦ refl | in_data t x ↦ refl ];
       count = λ small. length_put no_row g.rows k r small;
+    }
+
+-- ---- pointers: the node and the mark of one place are two numbers
+
+node_and_mark : (t : ℕ) (v : Var) → mark_slot t v ≡ slot t v → ⊥
+node_and_mark t (Shared i) e = cc
+node_and_mark t (Local v) e = cc
+
+pub puts_pointer : (g : GcState) (t : ℕ) (v : Var) (n m : ℕ) → PointerPut g t v n m (put_pointer g t v n m)
+puts_pointer g t v n m =
+    let one = puts g (mark_slot t v) m in
+    let two = puts (put g (mark_slot t v) m) (slot t v) n in
+    record {
+      node = two.here;
+      mark = two.elsewhere (mark_slot t v) (node_and_mark t v) ∙ one.here;
+      elsewhere = λ q a b. two.elsewhere q a ∙ one.elsewhere q b;
+      nodes = record { entries = λ l k. two.nodes.entries l k ∙ one.nodes.entries l k; count = two.nodes.count ∙ one.nodes.count };
+    }
+
+pub updates_pointer : (g : GcState) (f k n m : ℕ) → PointerUpdated g f k n m (update_pointer g f k n m)
+updates_pointer g f k n m =
+    let one = updates g (mark_field f) k m in
+    let two = updates (update g (mark_field f) k m) (pointer_field f) k n in
+    record {
+      node = two.here;
+      mark = two.other_map (mark_field f) k (λ e. cc) ∙ one.here;
+      other_node = λ l j ne. two.other_node l j ne ∙ one.other_node l j ne;
+      other_map = λ l j a b. two.other_map l j a ∙ one.other_map l j b;
+      values = λ q. two.values q ∙ one.values q;
+      count = λ small. two.count (subst (λ c. k < c) (sym (one.count small)) small) ∙ one.count small;
     }
 
 -- a row after the others reads as the default
@@ -130,7 +243,7 @@ pub makes : (g : GcState) → WasMade g (made g)
 unfolding value entry count made
 makes g = record {
   entries = λ m k. pushed g.rows (fresh_row (length g.fields) g.ghosts) m k (fresh_entry (length g.fields) g.ghosts m);
-  values = elim [ in_shared i ↦ refl | in_local t v ↦ refl | in_data t x ↦ refl ];
+  values = elim [ in_shared i ↦ refl | in_local t v ↦ refl | shared_mark i ↦ refl | local_mark t v ↦ refl | in_data t x ↦ refl ];
   count = (let e = length-append g.rows (fresh_row (length g.fields) g.ghosts ∷ []) in omega (arith, e));
 }
 
@@ -142,8 +255,10 @@ unmade g m k past = ap (λ r. row_entry r m) (get_or_past g.rows k no_row past) 
 
 first_value : (fields : List Field) (ghosts shared threads : ℕ) (q : Slot) → value (fresh_state fields ghosts shared threads) q ≡ 0
 unfolding value locals_of
-first_value fields ghosts shared threads (in_shared i) = get-replicate 0 shared i
-first_value fields ghosts shared threads (in_local t v) = ap (λ l. get_or (locals_or_none l).pointers v 0) (get-replicate None threads t)
+first_value fields ghosts shared threads (in_shared i) = ap (λ (p : Pointer). p.node) (get-replicate null_pointer shared i)
+first_value fields ghosts shared threads (in_local t v) = ap (λ l. (get_or (locals_or_none l).pointers v null_pointer).node) (get-replicate None threads t)
+first_value fields ghosts shared threads (shared_mark i) = ap (λ (p : Pointer). p.mark) (get-replicate null_pointer shared i)
+first_value fields ghosts shared threads (local_mark t v) = ap (λ l. (get_or (locals_or_none l).pointers v null_pointer).mark) (get-replicate None threads t)
 first_value fields ghosts shared threads (in_data t x) = ap (λ l. get_or (locals_or_none l).values x 0) (get-replicate None threads t)
 
 first_entry : (fields : List Field) (ghosts shared threads : ℕ) (m : Map) (k : ℕ) → entry (fresh_state fields ghosts shared threads) m k ≡ 0
@@ -160,4 +275,4 @@ first fields ghosts shared threads = record {
 }
 
 pub state_laws : GcStateLaws
-state_laws = record { puts = puts; updates = updates; makes = makes; gives = gives; unmade = unmade; first = first }
+state_laws = record { puts = puts; updates = updates; puts_pointer = puts_pointer; updates_pointer = updates_pointer; makes = makes; gives = gives; unmade = unmade; first = first }

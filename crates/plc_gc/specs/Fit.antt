@@ -5,9 +5,11 @@ use Rattle.plc_lang.specs.declared.syntax.Primitive.TheVariants.{Ghost}
 use Rattle.plc_lang.specs.Shape.{Shape, PrimitiveIn}
 use Rattle.plc_gc.specs.declared.slot.Slot.{Slot}
 use Rattle.plc_gc.specs.declared.slot.Slot.TheVariants.{Shared as in_shared, Local as in_local, Data as in_data}
+use Rattle.plc_gc.specs.declared.slot.Slot.TheVariants.{SharedMark as shared_mark, LocalMark as local_mark}
 use Rattle.plc_gc.specs.declared.slot.Map.{Map}
-use Rattle.plc_gc.specs.declared.slot.Map.TheVariants.{Pointer as pointer_field, Number as data_field}
-use Rattle.plc_gc.specs.declared.slot.Map.TheVariants.{Auxiliary as auxiliary_field, Retirement as retirement}
+use Rattle.plc_gc.specs.declared.slot.Map.TheVariants.{Pointer as pointer_field, Mark as mark_field}
+use Rattle.plc_gc.specs.declared.slot.Map.TheVariants.{Number as data_field, Auxiliary as auxiliary_field}
+use Rattle.plc_gc.specs.declared.slot.Map.TheVariants.{Retirement as retirement}
 use Rattle.plc_gc.specs.State.{GcState, Row, Locals, locals_of}
 use Rattle.plc_gc.specs.Ranges.{IsInRange}
 
@@ -20,6 +22,7 @@ RowsFit fields ghosts (r ∷ rs) =
 -- a row has an entry of this map
 abbrev pub EntryIn : Row → Map → Type 0
 EntryIn r (pointer_field f) = f < length r.pointers
+EntryIn r (mark_field f) = f < length r.pointers
 EntryIn r (data_field f) = f < length r.values
 EntryIn r (auxiliary_field h) = h < length r.auxiliary
 EntryIn r retirement = Unit {0}
@@ -27,6 +30,7 @@ EntryIn r retirement = Unit {0}
 -- there are such fields
 abbrev pub MapIn : GcState → Map → Type 0
 MapIn g (pointer_field f) = f < length g.fields
+MapIn g (mark_field f) = f < length g.fields
 MapIn g (data_field f) = f < length g.fields
 MapIn g (auxiliary_field h) = h < g.ghosts
 MapIn g retirement = Unit {0}
@@ -35,6 +39,8 @@ MapIn g retirement = Unit {0}
 abbrev pub SlotIn : GcState → Slot → Type 0
 SlotIn g (in_shared i) = i < length g.shared
 SlotIn g (in_local t v) = v < length (locals_of g t).pointers
+SlotIn g (shared_mark i) = i < length g.shared
+SlotIn g (local_mark t v) = v < length (locals_of g t).pointers
 SlotIn g (in_data t x) = x < length (locals_of g t).values
 
 -- a thread has locals

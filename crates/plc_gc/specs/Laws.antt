@@ -8,9 +8,11 @@ use Rattle.plc_lang.specs.WellSorted.{is_test}
 use Rattle.plc_flow.specs.Sides.{opposite}
 use Rattle.plc_gc.specs.declared.slot.Slot.{Slot}
 use Rattle.plc_gc.specs.declared.slot.Slot.TheVariants.{Shared as in_shared, Local as in_local, Data as in_data}
+use Rattle.plc_gc.specs.declared.slot.Slot.TheVariants.{SharedMark as shared_mark, LocalMark as local_mark}
 use Rattle.plc_gc.specs.declared.slot.Map.{Map}
+use Rattle.plc_gc.specs.declared.slot.Map.TheVariants.{Pointer as pointer_field, Mark as mark_field}
 use Rattle.plc_gc.specs.State.{GcState, Locals, value, entry, count, put, update, made, with_locals, locals_or_none}
-use Rattle.plc_gc.specs.State.{fresh_state}
+use Rattle.plc_gc.specs.State.{fresh_state, null_pointer, slot, mark_slot, put_pointer, update_pointer}
 use Rattle.plc_gc.specs.Primitives.{some_node, goes, after}
 
 -- every map has at every node what it had, and there are as many nodes
@@ -32,6 +34,22 @@ pub record Updated (g : GcState) (m : Map) (k n : ℕ) (new : GcState) : Type 0 
   pub values : (q : Slot) → value new q ≡ value g q
   pub count : k < count g → count new ≡ count g
 
+-- a node and a mark were put into this variable of thread t
+pub record PointerPut (g : GcState) (t : ℕ) (v : Var) (n m : ℕ) (new : GcState) : Type 0 where
+  pub node : value new (slot t v) ≡ n
+  pub mark : value new (mark_slot t v) ≡ m
+  pub elsewhere : (q : Slot) → (q ≡ slot t v → ⊥) → (q ≡ mark_slot t v → ⊥) → value new q ≡ value g q
+  pub nodes : SameNodes g new
+
+-- a node and a mark were put into this pointer field of a node
+pub record PointerUpdated (g : GcState) (f k n m : ℕ) (new : GcState) : Type 0 where
+  pub node : entry new (pointer_field f) k ≡ n
+  pub mark : entry new (mark_field f) k ≡ m
+  pub other_node : (l : Map) (j : ℕ) → (j ≡ k → ⊥) → entry new l j ≡ entry g l j
+  pub other_map : (l : Map) (j : ℕ) → (l ≡ pointer_field f → ⊥) → (l ≡ mark_field f → ⊥) → entry new l j ≡ entry g l j
+  pub values : (q : Slot) → value new q ≡ value g q
+  pub count : k < count g → count new ≡ count g
+
 -- there is one node more, which reads as it read before
 pub record WasMade (g new : GcState) : Type 0 where
   pub entries : (m : Map) (k : ℕ) → entry new m k ≡ entry g m k
@@ -40,10 +58,13 @@ pub record WasMade (g new : GcState) : Type 0 where
 
 -- thread t has these locals now, or none; all else stays
 pub record HasLocals (g : GcState) (t : ℕ) (l : Option Locals) (new : GcState) : Type 0 where
-  pub pointers : (v : ℕ) → value new (in_local t v) ≡ get_or (locals_or_none l).pointers v 0
+  pub pointers : (v : ℕ) → value new (in_local t v) ≡ (get_or (locals_or_none l).pointers v null_pointer).node
+  pub marks : (v : ℕ) → value new (local_mark t v) ≡ (get_or (locals_or_none l).pointers v null_pointer).mark
   pub values : (x : ℕ) → value new (in_data t x) ≡ get_or (locals_or_none l).values x 0
   pub shared : (i : ℕ) → value new (in_shared i) ≡ value g (in_shared i)
+  pub shared_marks : (i : ℕ) → value new (shared_mark i) ≡ value g (shared_mark i)
   pub others : (u v : ℕ) → (u ≡ t → ⊥) → value new (in_local u v) ≡ value g (in_local u v)
+  pub other_marks : (u v : ℕ) → (u ≡ t → ⊥) → value new (local_mark u v) ≡ value g (local_mark u v)
   pub other_values : (u x : ℕ) → (u ≡ t → ⊥) → value new (in_data u x) ≡ value g (in_data u x)
   pub nodes : SameNodes g new
 
@@ -57,6 +78,8 @@ pub record IsFirst (g : GcState) : Type 0 where
 pub record GcStateLaws : Type 0 where
   pub puts : (g : GcState) (p : Slot) (n : ℕ) → Put g p n (put g p n)
   pub updates : (g : GcState) (m : Map) (k n : ℕ) → Updated g m k n (update g m k n)
+  pub puts_pointer : (g : GcState) (t : ℕ) (v : Var) (n m : ℕ) → PointerPut g t v n m (put_pointer g t v n m)
+  pub updates_pointer : (g : GcState) (f k n m : ℕ) → PointerUpdated g f k n m (update_pointer g f k n m)
   pub makes : (g : GcState) → WasMade g (made g)
   pub gives : (g : GcState) (t : ℕ) (l : Option Locals) → HasLocals g t l (with_locals g t l)
   pub unmade : (g : GcState) (m : Map) (k : ℕ) → count g ≤ k → entry g m k ≡ 0

@@ -10,6 +10,7 @@ pub mod Run
 pub mod RunLaws
 pub mod State
 pub mod Threads
+pub mod Unmarked
 -- words of private functions alone
 pub mod Fit
 pub mod Reach

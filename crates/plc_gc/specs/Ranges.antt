@@ -8,15 +8,17 @@ use Rattle.plc_lang.specs.WellSorted.{IsWellSorted}
 use Rattle.plc_flow.specs.declared.flow.Flow.{Flow}
 use Rattle.plc_threads.specs.declared.words.Move.{Move}
 use Rattle.plc_gc.specs.declared.slot.Slot.TheVariants.{Shared as in_shared, Local as in_local}
+use Rattle.plc_gc.specs.declared.slot.Slot.TheVariants.{SharedMark as shared_mark, LocalMark as local_mark}
 use Rattle.plc_gc.specs.declared.slot.Map.{Map}
-use Rattle.plc_gc.specs.declared.slot.Map.TheVariants.{Pointer as pointer_field, Number as data_field}
-use Rattle.plc_gc.specs.declared.slot.Map.TheVariants.{Auxiliary as auxiliary_field, Retirement as retirement}
+use Rattle.plc_gc.specs.declared.slot.Map.TheVariants.{Pointer as pointer_field, Mark as mark_field}
+use Rattle.plc_gc.specs.declared.slot.Map.TheVariants.{Number as data_field, Auxiliary as auxiliary_field}
+use Rattle.plc_gc.specs.declared.slot.Map.TheVariants.{Retirement as retirement}
 use Rattle.plc_gc.specs.State.{GcState, value, entry, count}
 use Rattle.plc_gc.specs.Primitives.{goes, after}
 use Rattle.plc_gc.specs.Run.{GcConfiguration, GcRun, Moves, first_configuration}
 
--- null and each node to which a pointer leads are made; null's pointer fields are null and its data fields 0, and it
--- isn't retired; retirement is 0 or 1
+-- null and each node to which a pointer leads are made; null's pointer fields are null and unmarked, its data fields
+-- 0, and it isn't retired; a mark is 0 or 1, and so is retirement
 pub record IsInRange (g : GcState) : Type 0 where
   pub null_made : 0 < count g
   pub shared : (i : ℕ) → value g (in_shared i) < count g
@@ -26,6 +28,10 @@ pub record IsInRange (g : GcState) : Type 0 where
   pub null_pointers : (f : ℕ) → entry g (pointer_field f) 0 ≡ 0
   pub null_data : (f : ℕ) → entry g (data_field f) 0 ≡ 0
   pub null_kept : entry g retirement 0 ≡ 0
+  pub shared_marks : (i : ℕ) → value g (shared_mark i) ≤ 1
+  pub local_marks : (t v : ℕ) → value g (local_mark t v) ≤ 1
+  pub field_marks : (f k : ℕ) → entry g (mark_field f) k ≤ 1
+  pub null_marks : (f : ℕ) → entry g (mark_field f) 0 ≡ 0
   pub bit : (k : ℕ) → entry g retirement k ≤ 1
 
 -- it holds where a run begins, and each primitive that isn't blocked and each move keeps it

@@ -1,5 +1,6 @@
-// The primitives of a step in order, those of `init`, and the claims that primitives reach. All run on a state
-// that may be thrown away, so that a step that is blocked, and running out of memory, have changed nothing.
+// The primitives of a step in order, those of `init`, and the claims that primitives reach. Several primitives run on
+// a state that may be thrown away, so that a step that is blocked, and running out of memory, have changed nothing. A
+// step of one primitive runs in place: where it is blocked or memory runs out, it hasn't changed anything yet.
 ghost use Rattle.std.specs.Prelude.{◌≡◌, ◌+◌, ◌<◌, ◌^◌, ◌++◌, ◌∷◌, [], if◌then◌else◌, length, IfOk, OnOk, OnErr};
 ghost use Rattle.std.specs.Prelude.{Some, is_some};
 ghost use Rattle.std.specs.Option.{unwrap_or};

@@ -1,11 +1,13 @@
 // The laws stand over the definitions, so that proofs above never open them.
-ghost use Rattle.std.specs.Prelude.{ℕ, ◌<◌, List};
+ghost use Rattle.std.specs.Prelude.{ℕ, ◌≡◌, ◌<◌, false, List};
 ghost use Rattle.plc_flow.specs.declared.flow.Flow.{Flow};
 ghost use Rattle.plc_threads.specs.declared.words.Move.{Move};
+ghost use Rattle.plc_flow.specs.Marks.{flow_uses_marks};
 ghost use Rattle.plc_flow.specs.WellFormed.{FlowFits};
 ghost use Rattle.plc_flow.specs.WellSorted.{FlowIsWellSorted};
 ghost use Rattle.plc_gc.specs.Laws.{CollectedAccessesAgree, CollectedTestsHaveOpposites, GcStateLaws};
 ghost use Rattle.plc_gc.specs.Ranges.{RunsStayInRange, RunsKeepValues};
+ghost use Rattle.plc_gc.specs.Unmarked.{RunsStayUnmarked};
 ghost use Rattle.plc_gc.specs.Reached.{ClaimsAreReached};
 ghost use Rattle.plc_gc.specs.Run.{GcConfiguration, GcRun};
 ghost use Rattle.plc_gc.specs.RunLaws.{GcRunLaws};
@@ -25,8 +27,8 @@ pub fn collected_runs_go_on()
 {}
 
 /// In every state of every garbage-collected run, and between the primitives of a step, each pointer
-/// leads to null or to a node that was made, null has null and 0 in its fields and isn't retired, and
-/// what isn't made has 0 in every map.
+/// leads to null or to a node that was made, a mark is 0 or 1, null has null, unmarked, and 0 in its
+/// fields and isn't retired, and what isn't made has 0 in every map.
 pub fn collected_runs_stay_in_range()
     ensures { (flow : Flow) (threads : ℕ) → RunsStayInRange flow threads }
 {}
@@ -35,6 +37,12 @@ pub fn collected_runs_stay_in_range()
 /// primitives of a step, an enumerated auxiliary field has one of its values at every node.
 pub fn collected_runs_keep_values()
     ensures { (flow : Flow) (threads : ℕ) → FlowIsWellSorted flow → RunsKeepValues flow threads }
+{}
+
+/// In no state of a garbage-collected run of a flow that doesn't use marks, and nowhere between the primitives of
+/// a step, is a pointer marked; so a comparison of two pointers is there one of their nodes.
+pub fn collected_runs_stay_unmarked()
+    ensures { (flow : Flow) (threads : ℕ) → flow_uses_marks flow ≡ false → RunsStayUnmarked flow threads }
 {}
 
 /// Where all claims that a step reaches are true, each is true in the state in which it is reached, and

@@ -4,8 +4,11 @@ ghost use Rattle.std.specs.Prelude.{◌≡◌, ℕ, ◌<◌, get_or, slice_get, 
 ghost use Rattle.std.specs.Prelude.{IfOk, Some, None};
 ghost use Rattle.plc_base.specs.Tables.{put_at};
 ghost use Rattle.plc_gc.specs.State.{GcState, Locals, locals_of, locals_or_none, no_locals, starting};
+ghost use Rattle.plc_gc.specs.State.{null_pointer, node_put, mark_put};
 ghost use Rattle.plc_gc.specs.Clauses.{declared_value};
 
+use crate::row::{find_node, pointer_at, set_mark, set_node};
+use crate::slot::Pointer;
 use plc_base::NoMemory;
 use plc_lang::{Local, Op, count_other_data, count_pointers, data_number, pointer_number};
 use plc_threads::{TryCopy, entry_or, find_entry, held};
@@ -16,7 +19,7 @@ use std::marker::Model;
 #[derive(Drop)]
 pub struct Locals {
     declared: Vec<Local>,
-    pointers: Vec<u32>,
+    pointers: Vec<Pointer>,
     values: Vec<u32>,
 }
 
@@ -48,7 +51,7 @@ impl Locals {
         values.extend_from_slice(&zeros)?;
         Ok(Locals {
             declared: Vec::from_slice(alloc, op.locals.as_slice())?,
-            pointers: vec![in alloc; 0; count_pointers(op)]?,
+            pointers: vec![in alloc; Pointer::null(); count_pointers(op)]?,
             values,
         })
     }
@@ -64,11 +67,11 @@ impl Locals {
         }
     }
 
-    /// The pointer local, 0 past the last.
-    pub fn pointer(&self, v: u16) -> u32
-        ensures { result ≡ get_or self.now.pointers v 0 }
+    /// The pointer local, null past the last.
+    pub fn pointer(&self, v: u16) -> Pointer
+        ensures { result ≡ get_or self.now.pointers v null_pointer }
     {
-        entry_or(&self.pointers, v as usize, 0)
+        pointer_at(&self.pointers, v as usize)
     }
 
     /// The data local, 0 past the last.
@@ -81,9 +84,10 @@ impl Locals {
     /// The pointer local, if there is one of this number.
     pub fn find(&self, v: u16) -> Option<u32>
         ensures { result
-            ≡ (if nat_lt v (length self.now.pointers) then Some (get_or self.now.pointers v 0) else None) }
+            ≡ (if nat_lt v (length self.now.pointers) then Some (get_or self.now.pointers v null_pointer).node
+            else None) }
     {
-        find_entry(&self.pointers, v as usize)
+        find_node(&self.pointers, v as usize)
     }
 
     /// The local by its number among all that are declared, 0 past the last.
@@ -96,7 +100,7 @@ impl Locals {
             None => 0,
             Some(l) => {
                 if l.pointer {
-                    entry_or(&self.pointers, pointer_number(&self.declared, i), 0)
+                    pointer_at(&self.pointers, pointer_number(&self.declared, i)).node
                 } else {
                     entry_or(&self.values, data_number(&self.declared, i), 0)
                 }
@@ -104,12 +108,20 @@ impl Locals {
         }
     }
 
-    /// Puts a number into a pointer local.
-    pub fn set_pointer(&mut self, v: u16, n: u32)
+    /// Puts a node into a pointer local.
+    pub fn set_node(&mut self, v: u16, n: u32)
         requires { v < length self.old.pointers }
-        ensures { self.new ≡ record self.old { pointers = put_at 0 self.old.pointers v n } }
+        ensures { self.new ≡ record self.old { pointers = node_put self.old.pointers v n } }
     {
-        self.pointers[v as usize] = n;
+        set_node(&mut self.pointers, v as usize, n);
+    }
+
+    /// Marks a pointer local, or unmarks it.
+    pub fn set_mark(&mut self, v: u16, n: u32)
+        requires { v < length self.old.pointers }
+        ensures { self.new ≡ record self.old { pointers = mark_put self.old.pointers v n } }
+    {
+        set_mark(&mut self.pointers, v as usize, n);
     }
 
     /// Puts a number into a data local.
@@ -124,19 +136,30 @@ impl Locals {
 /// A pointer local of a thread, if there is one of this number.
 pub fn local_of(locals: &[Option<Locals>], t: u32, v: u16) -> Option<u32>
     ensures { let l = locals_or_none (get_or locals.now t None)
-        in result ≡ (if nat_lt v (length l.pointers) then Some (get_or l.pointers v 0) else None) }
+        in result ≡ (if nat_lt v (length l.pointers) then Some (get_or l.pointers v null_pointer).node else None) }
 {
     held(locals, t)?.find(v)
 }
 
-/// Puts a number into a pointer local of a thread.
-pub fn put_pointer(locals: &mut Vec<Option<Locals>>, t: u32, v: u16, n: u32)
+/// Puts a node into a pointer local of a thread.
+pub fn put_node(locals: &mut Vec<Option<Locals>>, t: u32, v: u16, n: u32)
     requires { v < length (locals_or_none (get_or locals.old.items t None)).pointers }
     ensures { let l = locals_or_none (get_or locals.old.items t None)
-        in locals.new.items ≡ put_at None locals.old.items t (Some (record l { pointers = put_at 0 l.pointers v n })) }
+        in locals.new.items ≡ put_at None locals.old.items t (Some (record l { pointers = node_put l.pointers v n })) }
 {
     if let Some(l) = &mut locals[t as usize] {
-        l.set_pointer(v, n);
+        l.set_node(v, n);
+    }
+}
+
+/// Puts a mark into a pointer local of a thread.
+pub fn put_mark(locals: &mut Vec<Option<Locals>>, t: u32, v: u16, n: u32)
+    requires { v < length (locals_or_none (get_or locals.old.items t None)).pointers }
+    ensures { let l = locals_or_none (get_or locals.old.items t None)
+        in locals.new.items ≡ put_at None locals.old.items t (Some (record l { pointers = mark_put l.pointers v n })) }
+{
+    if let Some(l) = &mut locals[t as usize] {
+        l.set_mark(v, n);
     }
 }
 

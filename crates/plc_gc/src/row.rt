@@ -1,10 +1,10 @@
-// The row of a node: a number for each field, of which a pointer field has the node in `pointers` and a
-// data field the number in `values`, one for each auxiliary field, and the retirement.
-ghost use Rattle.std.specs.Prelude.{◌≡◌, IfOk};
-ghost use Rattle.plc_gc.specs.State.{row_entry, row_with, fresh_row};
+// The row of a node: a pointer for each field in `pointers` and a number for each in `values`, of which a
+// pointer field has the first and a data field the second, a number for each auxiliary field, and the retirement.
+ghost use Rattle.std.specs.Prelude.{◌≡◌, ◌<◌, get_or, length, nat_lt, if◌then◌else◌, IfOk, Some, None};
+ghost use Rattle.plc_gc.specs.State.{null_pointer, node_put, mark_put, row_entry, row_with, fresh_row};
 ghost use Rattle.plc_gc.specs.Fit.{EntryIn};
 
-use crate::slot::Map;
+use crate::slot::{Map, Pointer};
 use plc_base::NoMemory;
 use plc_threads::entry_or;
 use std::alloc::Global;
@@ -13,7 +13,7 @@ use std::marker::Model;
 /// What is known of a node.
 #[derive(Drop)]
 pub struct Row {
-    pointers: Vec<u32>,
+    pointers: Vec<Pointer>,
     values: Vec<u32>,
     auxiliary: Vec<u32>,
     retired: u32,
@@ -32,13 +32,48 @@ impl Model for Row {
     } };
 }
 
+/// The pointer at a place of a table, null past its end.
+pub fn pointer_at(pointers: &[Pointer], i: usize) -> Pointer
+    ensures { result ≡ get_or pointers.now i null_pointer }
+{
+    entry_or(pointers, i, Pointer::null())
+}
+
+/// The node at a place of a table, if there is such a place.
+pub fn find_node(pointers: &[Pointer], i: usize) -> Option<u32>
+    ensures { result
+        ≡ (if nat_lt i (length pointers.now) then Some (get_or pointers.now i null_pointer).node else None) }
+{
+    if i < pointers.len() {
+        Some(pointers[i].node)
+    } else {
+        None
+    }
+}
+
+/// Puts another node at a place of a table.
+pub fn set_node(pointers: &mut Vec<Pointer>, i: usize, n: u32)
+    requires { i < length pointers.old.items }
+    ensures { pointers.new.items ≡ node_put pointers.old.items i n }
+{
+    pointers[i] = pointers[i].with_node(n);
+}
+
+/// Puts another mark at a place of a table.
+pub fn set_mark(pointers: &mut Vec<Pointer>, i: usize, n: u32)
+    requires { i < length pointers.old.items }
+    ensures { pointers.new.items ≡ mark_put pointers.old.items i n }
+{
+    pointers[i] = pointers[i].with_mark(n);
+}
+
 impl Row {
     /// A node that was just allocated, and null.
     pub fn fresh(alloc: Global, fields: usize, ghosts: usize) -> Result<Row, NoMemory>
         ensures { IfOk result (λ r. r ≡ fresh_row fields ghosts) }
     {
         Ok(Row {
-            pointers: vec![in alloc; 0; fields]?,
+            pointers: vec![in alloc; Pointer::null(); fields]?,
             values: vec![in alloc; 0; fields]?,
             auxiliary: vec![in alloc; 0; ghosts]?,
             retired: 0,
@@ -62,7 +97,8 @@ impl Row {
         ensures { result ≡ row_entry self.now map }
     {
         match map {
-            Map::Pointer(f) => entry_or(&self.pointers, f as usize, 0),
+            Map::Pointer(f) => pointer_at(&self.pointers, f as usize).node,
+            Map::Mark(f) => pointer_at(&self.pointers, f as usize).mark,
             Map::Number(f) => entry_or(&self.values, f as usize, 0),
             Map::Auxiliary(h) => entry_or(&self.auxiliary, h as usize, 0),
             Map::Retirement => self.retired,
@@ -75,7 +111,8 @@ impl Row {
         ensures { self.new ≡ row_with self.old map n }
     {
         match map {
-            Map::Pointer(f) => self.pointers[f as usize] = n,
+            Map::Pointer(f) => set_node(&mut self.pointers, f as usize, n),
+            Map::Mark(f) => set_mark(&mut self.pointers, f as usize, n),
             Map::Number(f) => self.values[f as usize] = n,
             Map::Auxiliary(h) => self.auxiliary[h as usize] = n,
             Map::Retirement => self.retired = n,

@@ -2,14 +2,15 @@
 // back, so that a look-up is an index. What it is seen as is the state of the definitions; reads are total.
 ghost use Rattle.std.specs.Prelude.{◌≡◌, ◌<◌, nat_lt, if◌then◌else◌, get_or, slice_get, length, IfOk, OnOk, OnErr};
 ghost use Rattle.std.specs.Prelude.{Some, None};
-ghost use Rattle.plc_gc.specs.State.{GcState, first_state, with_locals, value, entry, count, put, update, made};
-ghost use Rattle.plc_gc.specs.State.{is_retired, is_made, is_pointer_field, node_of};
+ghost use Rattle.plc_gc.specs.State.{GcState, first_state, locals_of, with_locals, value, entry, count, put};
+ghost use Rattle.plc_gc.specs.State.{update, made};
+ghost use Rattle.plc_gc.specs.State.{is_retired, is_made, is_pointer_field, node_of, null_pointer};
 ghost use Rattle.plc_gc.specs.Clauses.{local_value, field_map};
 ghost use Rattle.plc_gc.specs.Fit.{SlotIn, MapIn};
 
-use crate::locals::{Locals, local_of, put_pointer, put_value};
-use crate::row::{Row, copy_rows};
-use crate::slot::{Map, Slot};
+use crate::locals::{Locals, local_of, put_mark, put_node, put_value};
+use crate::row::{Row, copy_rows, find_node, pointer_at, set_mark, set_node};
+use crate::slot::{Map, Pointer, Slot};
 use plc_base::{FieldId, NoMemory};
 use plc_flow::Flow;
 use plc_lang::Field;
@@ -23,7 +24,7 @@ pub struct State {
     alloc: Global,
     fields: Vec<Field>,
     ghosts: usize,
-    shared: Vec<u32>,
+    shared: Vec<Pointer>,
     locals: Vec<Option<Locals>>,
     rows: Vec<Row>,
 }
@@ -60,7 +61,7 @@ impl State {
             alloc,
             fields,
             ghosts,
-            shared: vec![in alloc; 0; flow.file.shared.len()]?,
+            shared: vec![in alloc; Pointer::null(); flow.file.shared.len()]?,
             locals: none_held(alloc, threads as usize)?,
             rows,
         })
@@ -88,16 +89,25 @@ impl State {
         self.locals[t as usize] = l;
     }
 
+    /// A pointer local of a thread, null where there is none.
+    fn pointer(&self, t: u32, v: u16) -> Pointer
+        ensures { result ≡ get_or (locals_of self.now t).pointers v null_pointer }
+    {
+        match held(&self.locals, t) {
+            Some(l) => l.pointer(v),
+            None => Pointer::null(),
+        }
+    }
+
     /// The value of a place.
     pub fn value(&self, slot: Slot) -> u32
         ensures { result ≡ value self.now slot }
     {
         match slot {
-            Slot::Shared(i) => entry_or(&self.shared, i as usize, 0),
-            Slot::Local { t, v } => match held(&self.locals, t) {
-                Some(l) => l.pointer(v),
-                None => 0,
-            },
+            Slot::Shared(i) => pointer_at(&self.shared, i as usize).node,
+            Slot::Local { t, v } => self.pointer(t, v).node,
+            Slot::SharedMark(i) => pointer_at(&self.shared, i as usize).mark,
+            Slot::LocalMark { t, v } => self.pointer(t, v).mark,
             Slot::Data { t, x } => match held(&self.locals, t) {
                 Some(l) => l.value(x),
                 None => 0,
@@ -128,8 +138,10 @@ impl State {
         ensures { self.new ≡ put self.old slot n }
     {
         match slot {
-            Slot::Shared(i) => self.shared[i as usize] = n,
-            Slot::Local { t, v } => put_pointer(&mut self.locals, t, v, n),
+            Slot::Shared(i) => set_node(&mut self.shared, i as usize, n),
+            Slot::Local { t, v } => put_node(&mut self.locals, t, v, n),
+            Slot::SharedMark(i) => set_mark(&mut self.shared, i as usize, n),
+            Slot::LocalMark { t, v } => put_mark(&mut self.locals, t, v, n),
             Slot::Data { t, x } => put_value(&mut self.locals, t, x, n),
         }
     }
@@ -178,9 +190,9 @@ impl State {
     /// The shared pointer, if there is one of this number.
     fn shared_pointer(&self, i: u16) -> Option<u32>
         ensures { result
-            ≡ (if nat_lt i (length self.now.shared) then Some (get_or self.now.shared i 0) else None) }
+            ≡ (if nat_lt i (length self.now.shared) then Some (get_or self.now.shared i null_pointer).node else None) }
     {
-        find_entry(&self.shared, i as usize)
+        find_node(&self.shared, i as usize)
     }
 
     /// Whether a node was made and isn't null.
