@@ -11,12 +11,12 @@ call enter(); call protect(ptr); use epoch(enter, protect);
 ghost st { made, cut }; ghost owner thread;
 init { Top := new; Top.next := null; ghost Top.owner := none; }
 op f(v, w) { ptr n; data x;
-n := null; n := 7; n := m; n := m.next; n.val := 7; n.next := m; n.next := null;
+n := null; n := 7; n := m; n := mark m; n := unmark Top; n := m.next; n.val := 7; n.next := m; n.next := null;
 n ?= Top; n ?= Top.next; n.next ?= Top; ghost n.st := cut; ghost n.owner := me;
-active n; assume n == null; assume x != 7; assume x < 7; assume x >= w; skip;
+active n; assume n == null; assume x != 7; assume x < 7; assume x >= w; assume marked n; assume unmarked Top; skip;
 atomic { n := Top; n.next ?= Top; ghost n.st := made; active n; assume n == m; skip; }
 enter(); protect(null); protect(n) during l; protect(active n);
-if (n == null) { } if (x < 7) { skip; } else { return; }
+if (n == null) { } if (marked n) { } else { } if (x < 7) { skip; } else { return; }
 if (n ?= Top.next) { } if (cas(Top, n, null)) { } if (cas(active Top, null, n)) { }
 choose { } or { break; } or { label l; } loop { } }
 op g() { }
