@@ -69,6 +69,10 @@ word_read words.Not rest = (refl, refl, refl, refl)
 word_read words.Retired rest = (refl, refl, refl, refl)
 word_read words.Me rest = (refl, refl, refl, refl)
 word_read words.None rest = (refl, refl, refl, refl)
+word_read words.Mark rest = (refl, refl, refl, refl)
+word_read words.Unmark rest = (refl, refl, refl, refl)
+word_read words.Marked rest = (refl, refl, refl, refl)
+word_read words.Unmarked rest = (refl, refl, refl, refl)
 
 symbol_read : (s : Punctuation) (rest : List ℕ) → IsRead (Symbol s) (before_bytes (Symbol s) rest)
 unfolding symbol_at symbol_of symbols_longest_first

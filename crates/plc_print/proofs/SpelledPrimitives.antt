@@ -12,7 +12,7 @@ use Rattle.plc_lang.specs.declared.syntax.Num.TheVariants as nums
 use Rattle.plc_lang.specs.declared.syntax.Primitive.{Primitive}
 use Rattle.plc_lang.specs.declared.syntax.Primitive.TheVariants as prims
 use Rattle.plc_lang.specs.declared.syntax.Cond.{Cond}
-use Rattle.plc_syntax.specs.Trees.{Text, PlaceTree, PlaceOf, AtomTree, NullAtom, NumberAtom, NameAtom, ValueTree, NullValue, NewValue, NumberValue, PlaceValue, SetTree, SetName, SetField, RefreshTree, RefreshName, RefreshField, GhostValueTree, NameGhost, MeGhost, NoneGhost, GhostSetTree, SetGhost, InitialTree, InitialSet, InitialGhost, Comparison, SameAs, OtherThan, LessThan, NotLessThan, TestTree, Compares, ConditionTree, TestCondition, RefreshCondition, CasCondition, PrimitiveTree, SetPrimitive, RefreshPrimitive, GhostPrimitive, ActivePrimitive, AssumePrimitive, SkipPrimitive, ArgumentTree, NoArgument, NullArgument, NameArgument, ActiveArgument}
+use Rattle.plc_syntax.specs.Trees.{Text, PlaceTree, PlaceOf, AtomTree, NullAtom, NumberAtom, NameAtom, ValueTree, NullValue, NewValue, NumberValue, MarkValue, UnmarkValue, PlaceValue, SetTree, SetName, SetField, RefreshTree, RefreshName, RefreshField, GhostValueTree, NameGhost, MeGhost, NoneGhost, GhostSetTree, SetGhost, InitialTree, InitialSet, InitialGhost, Comparison, SameAs, OtherThan, LessThan, NotLessThan, TestTree, MarkedTest, UnmarkedTest, Compares, ConditionTree, TestCondition, RefreshCondition, CasCondition, PrimitiveTree, SetPrimitive, RefreshPrimitive, GhostPrimitive, ActivePrimitive, AssumePrimitive, SkipPrimitive, ArgumentTree, NoArgument, NullArgument, NameArgument, ActiveArgument}
 use Rattle.plc_forms.specs.Sizes.{word_size}
 use Rattle.plc_scope.specs.declared.fault.ParseFault.{ParseFault}
 use Rattle.plc_scope.specs.declared.fault.ParseFault.TheVariants as faults
@@ -20,7 +20,7 @@ use Rattle.plc_scope.specs.declared.scope.Scope.{Scope}
 use Rattle.plc_scope.specs.declared.binding.Role.{Role}
 use Rattle.plc_scope.specs.declared.binding.Role.TheVariants.{PointerVariable as pointer_variable, DataLocal as data_local, PointerField as pointer_field, DataField as data_field}
 use Rattle.plc_scope.specs.Scope.{◌>>=◌, known, needed, role_of, pointer_at, pointer_local_at, data_at, pointer_field_at, data_field_at, function_at, auxiliary_at, value_at, thread_at, as_thread}
-use Rattle.plc_scope.specs.Primitives.{pointer_value, data_value, value_into, pointer_atom, data_atom, atom_into, set_means, refresh_from, refresh_name_means, refresh_means, ghost_value_means, ghost_set_means, pointer_test, relation, data_test, test_of, test_means, pointer_or_null, condition_means, primitive_means, initial_means, CallMeaning, argument_means, call_means}
+use Rattle.plc_scope.specs.Primitives.{pointer_value, data_value, value_into, pointer_atom, data_atom, atom_into, set_means, refresh_from, refresh_name_means, refresh_means, ghost_value_means, ghost_set_means, pointer_test, relation, data_test, test_of, mark_test, test_means, pointer_or_null, condition_means, primitive_means, initial_means, CallMeaning, argument_means, call_means}
 use Rattle.plc_scope.proofs.Holds.{Has, next, weaker, unless}
 use Rattle.plc_print.specs.Canonical.{set_tree, number_tree, ghost_value_tree, test_tree, primitive_tree, name_or_null, refresh_condition, condition_tree, argument_tree, initial_tree}
 use Rattle.plc_lang.specs.Names.{field_name, function_name, auxiliary_name, value_name, pointer_name, data_name, variable_name}
@@ -64,6 +64,10 @@ module _ (file : File) (s : Scope) (bound : Bound file s) where
   pointer_value_found p n at NullValue h = record { named = record { tree = λ e. rw (h e) refl; stands = refl; begins = refl }; again = λ a. refl }
   pointer_value_found p n at NewValue h = record { named = record { tree = λ e. rw (h e) refl; stands = refl; begins = refl }; again = λ a. refl }
   pointer_value_found p n at (NumberValue m) h = tt
+  pointer_value_found p n at (MarkValue m) h = by_pointer m (at + 1) _ _ (λ q f.
+      record { named = record { tree = λ e. rw (h e, f.named e) refl; stands = refl; begins = refl }; again = λ a. after _ _ _ _ (f.again (a + 1)) refl })
+  pointer_value_found p n at (UnmarkValue m) h = by_pointer m (at + 1) _ _ (λ q f.
+      record { named = record { tree = λ e. rw (h e, f.named e) refl; stands = refl; begins = refl }; again = λ a. after _ _ _ _ (f.again (a + 1)) refl })
   pointer_value_found p n at (PlaceValue (PlaceOf m None)) h = by_pointer m at _ _ (λ q f.
       record { named = record { tree = λ e. rw (h e, f.named e) refl; stands = refl; begins = refl }; again = λ a. after _ _ _ _ (f.again a) refl })
   pointer_value_found p n at (PlaceValue (PlaceOf m (Some g))) h = by_pointer m at _ _ (λ q f. by_pointer_field g (at + 2) _ _ (λ x k.
@@ -72,6 +76,8 @@ module _ (file : File) (s : Scope) (bound : Bound file s) where
   data_value_found : (x : ℕ) (n : Text) (at : ℕ) (v : ValueTree) → IsData n x → Has (Found (AsSet (SetName n v)) (λ a. data_value s x a v)) (data_value s x at v)
   data_value_found x n at NullValue h = tt
   data_value_found x n at NewValue h = tt
+  data_value_found x n at (MarkValue m) h = tt
+  data_value_found x n at (UnmarkValue m) h = tt
   data_value_found x n at (NumberValue m) h = record { named = record { tree = λ e. rw (h e) refl; stands = refl; begins = refl }; again = λ a. refl }
   data_value_found x n at (PlaceValue (PlaceOf m None)) h = by_data m at _ _ (λ y f.
       record { named = record { tree = λ e. rw (h e, f.named e) refl; stands = refl; begins = refl }; again = λ a. after _ _ _ _ (f.again a) refl })
@@ -226,6 +232,10 @@ module _ (file : File) (s : Scope) (bound : Bound file s) where
 
   test_found : (at : ℕ) (t : TestTree) → Has (Found (AsTest t) (λ a. test_means s a t)) (test_means s at t)
   unfolding test_means
+  test_found at (MarkedTest n) = by_pointer n (at + 1) _ _ (λ p h.
+      record { named = record { tree = λ e. rw (h.named e) refl; stands = refl }; again = λ b. after _ _ _ _ (h.again (b + 1)) refl })
+  test_found at (UnmarkedTest n) = by_pointer n (at + 1) _ _ (λ p h.
+      record { named = record { tree = λ e. rw (h.named e) refl; stands = refl }; again = λ b. after _ _ _ _ (h.again (b + 1)) refl })
   test_found at (Compares n c a) =
       next (Found (λ r. Ends file s → RoleIs file s.locals n r) (λ p. known p (role_of s n))) _ (known at (role_of s n)) _ (any_found file s n at bound) (λ r f.
       weaker (Found (AsTest (Compares n c a)) (λ b. test_of s b c a r)) _ (test_of s at c a r) (λ k g. record { named = g.named; again = λ b. after _ _ _ _ (f.again b) (g.again b) }) (test_of_found n at c a r f.named))

@@ -54,6 +54,10 @@ word_text words.Null = codes "null"
 word_text words.Cas = codes "cas"
 word_text words.Me = codes "me"
 word_text words.None = codes "none"
+word_text words.Mark = codes "mark"
+word_text words.Unmark = codes "unmark"
+word_text words.Marked = codes "marked"
+word_text words.Unmarked = codes "unmarked"
 word_text w = outline_word w
 
 -- the characters of a symbol

@@ -41,6 +41,20 @@ fn set_name<'x>(out: &mut Printer, name: &'x [u8], value: Piece<'x>) -> Printed
     out.tokens(&[Piece::Name(name), ASSIGN, value])
 }
 
+/// A pointer that is put into a name with another mark, after one of the two words.
+fn set_mark<'x>(out: &mut Printer, name: &'x [u8], word: Keyword, from: &'x [u8]) -> Printed
+    ensures { OnOk result
+        (Prints out.old out.new
+        (NameToken name.now ∷ SymbolToken symbols.Assign ∷ WordToken word ∷ NameToken from.now ∷ [])) }
+{
+    out.tokens(&[
+        Piece::Name(name),
+        ASSIGN,
+        Piece::Word(word),
+        Piece::Name(from),
+    ])
+}
+
 /// A field that is put into a name.
 fn load<'x>(out: &mut Printer, name: &'x [u8], from: &'x [u8], field: &'x [u8]) -> Printed
     ensures { OnOk result
@@ -69,6 +83,10 @@ fn set(out: &mut Printer, reach: Reach, prim: Prim) -> Printed
         Prim::Null { p } => set_name(out, reach.variable(p), NULL),
         Prim::Copy { p, q } => set_name(out, reach.variable(p), Piece::Name(reach.variable(q))),
         Prim::New { p } => set_name(out, reach.variable(p), Piece::Word(Keyword::New)),
+        Prim::Mark { p, q } => set_mark(out, reach.variable(p), Keyword::Mark, reach.variable(q)),
+        Prim::Unmark { p, q } => {
+            set_mark(out, reach.variable(p), Keyword::Unmark, reach.variable(q))
+        }
         Prim::Load { p, q, f } => load(out, reach.variable(p), reach.variable(q), reach.field(f)),
         Prim::Store { p, f, q } => {
             let from = Piece::Name(reach.variable(q));
@@ -151,6 +169,13 @@ fn compare<'x>(out: &mut Printer, name: &'x [u8], symbol: Symbol, atom: Piece<'x
     out.tokens(&[Piece::Name(name), Piece::Sign(symbol), atom])
 }
 
+/// A word and a name.
+fn word_name<'x>(out: &mut Printer, word: Keyword, name: &'x [u8]) -> Printed
+    ensures { OnOk result (Prints out.old out.new (WordToken word ∷ NameToken name.now ∷ [])) }
+{
+    out.tokens(&[Piece::Word(word), Piece::Name(name)])
+}
+
 /// A test.
 fn test(out: &mut Printer, reach: Reach, prim: Prim) -> Printed
     ensures { OnOk result
@@ -170,6 +195,8 @@ fn test(out: &mut Printer, reach: Reach, prim: Prim) -> Printed
         Prim::DataTest { rel, x, e } => {
             compare(out, reach.data(x), relation(rel), number(reach, e))
         }
+        Prim::MarkTest { p, yes: true } => word_name(out, Keyword::Marked, reach.variable(p)),
+        Prim::MarkTest { p, yes: false } => word_name(out, Keyword::Unmarked, reach.variable(p)),
         _ => compare(out, &[], Symbol::Equal, NULL),
     }
 }
@@ -194,7 +221,8 @@ fn primitive(out: &mut Printer, reach: Reach, prim: Prim) -> Printed
         | Prim::Ne { .. }
         | Prim::IsNull { .. }
         | Prim::NotNull { .. }
-        | Prim::DataTest { .. } => assume(out, reach, prim),
+        | Prim::DataTest { .. }
+        | Prim::MarkTest { .. } => assume(out, reach, prim),
         Prim::Refresh { p, q } => refresh_name(out, reach.pointer(p), reach.variable(q)),
         Prim::RefreshLoad { p, q, f } => {
             refresh_load(out, reach.pointer(p), reach.variable(q), reach.field(f))
@@ -203,9 +231,7 @@ fn primitive(out: &mut Printer, reach: Reach, prim: Prim) -> Printed
             refresh_store(out, reach.variable(p), reach.field(f), reach.variable(q))
         }
         Prim::Call { .. } | Prim::Done { .. } => out.token(Piece::Word(Keyword::Skip)),
-        Prim::Active { p } => {
-            out.tokens(&[Piece::Word(Keyword::Active), Piece::Name(reach.variable(p))])
-        }
+        Prim::Active { p } => word_name(out, Keyword::Active, reach.variable(p)),
         Prim::Ghost { p, g, v } => ghost_set(out, reach, p, g, v),
         _ => set(out, reach, prim),
     }

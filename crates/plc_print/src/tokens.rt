@@ -111,6 +111,10 @@ fn word_text(word: Keyword) -> &'static [u8]
         Keyword::Cas => b"cas",
         Keyword::Me => b"me",
         Keyword::None => b"none",
+        Keyword::Mark => b"mark",
+        Keyword::Unmark => b"unmark",
+        Keyword::Marked => b"marked",
+        Keyword::Unmarked => b"unmarked",
         _ => outline_word(word),
     }
 }

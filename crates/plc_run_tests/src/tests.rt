@@ -1,5 +1,6 @@
 // From types, and from one primitive over moves and schedules, to whole replays.
 mod copying;
+mod marks;
 mod moves;
 mod observers;
 mod primitives;

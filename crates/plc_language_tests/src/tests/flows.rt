@@ -191,6 +191,8 @@ x == v => DataTest { rel: Eq, x: 2, e: Local(0) } => DataTest { rel: Ne, x: 2, e
 x != v => DataTest { rel: Ne, x: 2, e: Local(0) } => DataTest { rel: Eq, x: 2, e: Local(0) }
 x < 3 => DataTest { rel: Lt, x: 2, e: Lit(3) } => DataTest { rel: Ge, x: 2, e: Lit(3) }
 x >= 3 => DataTest { rel: Ge, x: 2, e: Lit(3) } => DataTest { rel: Lt, x: 2, e: Lit(3) }
+marked n => MarkTest { p: Local(0), yes: true } => MarkTest { p: Local(0), yes: false }
+unmarked Top => MarkTest { p: Shared(0), yes: false } => MarkTest { p: Shared(0), yes: true }
 n ?= Top => Refresh { p: 0, q: Shared(0) } => 
 m ?= Top.next => RefreshLoad { p: 1, q: Shared(0), f: FieldId(0) } => 
 cas(Top, null, null) => IsNull { p: Shared(0) }, Null { p: Shared(0) } => NotNull { p: Shared(0) }

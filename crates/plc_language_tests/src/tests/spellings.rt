@@ -43,6 +43,7 @@ const SPELLINGS: &str = "\
 #  \t\r\n// none\n// => 
 # struct N => Struct 0..6 line 1;'N' 7..8 line 1;
 # structs => 'structs' 0..7 line 1;
+# mark marks unmarked => Mark 0..4 line 1;'marks' 5..10 line 1;Unmarked 11..19 line 1;
 # _ None none => '_' 0..1 line 1;'None' 2..6 line 1;None 7..11 line 1;
 # a\nb\r\n\nc => 'a' 0..1 line 1;'b' 2..3 line 2;'c' 6..7 line 4;
 # a//b\nc => 'a' 0..1 line 1;'c' 5..6 line 2;
@@ -76,13 +77,13 @@ const SPELLINGS: &str = "\
 
 const KEYWORDS: &str =
     "struct ptr data shared call use hazard epoch ghost thread init op atomic if else loop break return skip choose \
-     or label during active assume new null cas outline depth inv over at all not retired me none \
-     mark unmark marked unmarked";
+     or label during active assume new null cas outline depth inv over at all not retired me none mark unmark marked \
+     unmarked";
 
 const WORDS: &str =
     "Struct Ptr Data Shared Call Use Hazard Epoch Ghost Thread Init Op Atomic If Else Loop Break Return Skip Choose \
-     Or Label During Active Assume New Null Cas Outline Depth Inv Over At All Not Retired Me None \
-     Mark Unmark Marked Unmarked ";
+     Or Label During Active Assume New Null Cas Outline Depth Inv Over At All Not Retired Me None Mark Unmark Marked \
+     Unmarked ";
 
 // The words of a text without what is no keyword.
 fn push_keywords(text: &mut String, tokens: &[Token]) -> Result<(), AllocError> {

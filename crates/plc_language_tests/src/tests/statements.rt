@@ -31,6 +31,22 @@ n := new ;
 n := m . next ;
 n . next := m ;
 n . next := null ;
+# n:=mark m;Top:=unmark n;assume marked n;assume unmarked Top;
+n := mark m ;
+Top := unmark n ;
+assume marked n ;
+assume unmarked Top ;
+# if(marked n){n:=mark n;}else{Top:=unmark Top;}atomic{m:=mark Top;assume unmarked n;}
+if ( marked n ) {
+n := mark n ;
+}
+else {
+Top := unmark Top ;
+}
+atomic {
+m := mark Top ;
+assume unmarked n ;
+}
 # x:=7;x:=w;x:=n.val;n.val:=x;n.val:=4294967295;Top.val:=v;v:=x;
 x := 7 ;
 x := w ;
@@ -127,6 +143,36 @@ break ;
 sort 2
 # n := 5;
 sort 2
+# x := mark n;
+sort 2
+# x := unmark y;
+sort 2
+# n := mark x;
+sort 3
+# n := unmark y;
+undeclared 3
+# st := mark n;
+sort 0
+# assume marked x;
+sort 2
+# assume unmarked st;
+sort 2
+# if (marked y) { }
+undeclared 3
+# n := mark null;
+syntax 3
+# n := mark;
+syntax 3
+# n := mark m.next;
+syntax 4
+# n.next := mark m;
+syntax 4
+# assume marked n == null;
+syntax 3
+# mark := n;
+syntax 0
+# assume unmarked;
+syntax 2
 # x := n.next;
 sort 4
 # n.x := n;

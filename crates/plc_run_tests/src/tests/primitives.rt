@@ -109,6 +109,90 @@ Blocked
 Blocked
 Done
 Done
+# Other := mark Top;
+Done
+Done
+Done
+# Top := unmark Top;
+Done
+Done
+Done
+# assume marked Top;
+Blocked
+Blocked
+Blocked
+# assume unmarked Top;
+Done
+Done
+Done
+# atomic { Other := mark Top; assume marked Other; assume unmarked Top; }
+Done
+Done
+Done
+# atomic { Other := mark Top; assume Other == Top; }
+Blocked
+Blocked
+Compare 1
+# atomic { Other := mark Top; assume Other != Top; }
+Done
+Done
+Compare 1
+# atomic { Other := mark Top; Other := unmark Other; assume Other == Top; }
+Done
+Done
+Compare 2
+# atomic { Other := mark Top; p := mark Top; assume p == Other; }
+Done
+Done
+Compare 2
+# atomic { Other := mark Top; assume Other == null; }
+Done
+Blocked
+Blocked
+# atomic { Other := mark Top; assume Other != null; }
+Blocked
+Done
+Done
+# atomic { Other := mark Top; p := Other; assume marked p; }
+Done
+Done
+Done
+# atomic { Other := mark Top; Other := null; assume unmarked Other; }
+Done
+Done
+Done
+# atomic { Other := mark Other; Other := new; p := Other.next; assume unmarked Other; assume unmarked p; }
+Done
+Blocked
+Done
+# atomic { p := mark Top; p ?= Top; }
+Blocked
+Blocked
+Blocked
+# atomic { p := mark Top; Other := mark Top; p ?= Other; assume marked p; }
+Done
+Done
+Done
+# atomic { Other := mark Top; Top.next := Other; p := Top.next; assume marked p; }
+Blocked
+Done
+Deref 1
+# atomic { Other := mark Top; Top.next := Other; Top.next := null; p := Top.next; assume unmarked p; }
+Blocked
+Done
+Deref 1
+# atomic { Other := mark Top; Top.next := Other; p := Top; p := p.next; assume marked p; p := p.next; assume marked p; }
+Blocked
+Done
+Deref 1
+# atomic { Other := mark Top; Top.next ?= Other; }
+Blocked
+Blocked
+Deref 1
+# atomic { Other := mark Other; Top.next := Other; Top.next ?= Other; p := mark p; p ?= Top.next; }
+Blocked
+Done
+Deref 1
 # assume x == 3;
 Done
 Done
