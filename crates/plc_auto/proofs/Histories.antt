@@ -3,16 +3,17 @@
 use Rattle.std.proofs.Common.{◌≡◌, ℕ, ◌<◌, Bool, true, false, ◌&&◌, ◌==◌, List, [], ◌∷◌, ◌++◌, length, take, drop, Option, Some, None, refl, sym, ap, ◌∙◌, subst, arith}
 use Rattle.std.proofs.lemmas.List.{take-append-drop}
 use Rattle.std.proofs.Math.Seq.{take-length}
-use Rattle.std.proofs.lemmas.Bool.{and_parts, eqb-true}
+use Rattle.std.proofs.lemmas.Bool.{and_parts, eqb-true, ne_eqb}
 use Rattle.plc_auto.specs.declared.event.Event.{Event}
 use Rattle.plc_auto.specs.declared.event.Event.TheVariants.{Call as Called, Done as Returned, Free as Freed}
 use Rattle.plc_auto.specs.declared.observer.Observer.{Observer}
 use Rattle.plc_auto.specs.declared.observer.Observer.TheVariants.{Plain, Hazard, Epoch}
 use Rattle.plc_auto.specs.Table.{count_of, step}
 use Rattle.plc_auto.specs.Location.{is_this, step_by, advance, location_from, location, Allowed}
-use Rattle.plc_auto.specs.Laws.{is_free, frees_one, LocationsFollowHistories, AllowedByTheLast}
+use Rattle.plc_auto.specs.Laws.{is_free, frees_one, LocationsFollowHistories, AllowedByTheLast, FarEventsMoveNothing}
 use Rattle.plc_auto.proofs.Tables.{step_live, bad_by_free}
-use Rattle.plc_auto.specs.Events.{kind_of}
+use Rattle.plc_auto.specs.Events.{kind_of, thread_of, address_of}
+use Rattle.plc_auto.proofs.Stays.{far_stays}
 
 -- ---- an event as a table hears it
 
@@ -54,6 +55,29 @@ from_bad o t a (e ∷ h) = from_bad o t a h
 
 pub bad_stays : (o : Observer) (h more : List Event) (t a : ℕ) → location o h t a ≡ None → location o (h ++ more) t a ≡ None
 bad_stays o h more t a e = location_append o h more t a ∙ ap (λ q. location_from o t a q more) e ∙ from_bad o t a more
+
+-- ---- events of another thread on another address
+
+not_own : (t : ℕ) (e : Event) → (thread_of e ≡ Some t → ⊥) → is_own t e ≡ false
+not_own t (Called u f b) other = ne_eqb u t (λ same. other (ap (λ n. Some n) same))
+not_own t (Returned u f) other = ne_eqb u t (λ same. other (ap (λ n. Some n) same))
+not_own t (Freed b) other = refl
+
+not_on : (a : ℕ) (e : Event) → is_this (Some (address_of e)) a ≡ false → is_on a e ≡ false
+not_on a (Called u f None) other = refl
+not_on a (Called u f (Some b)) other = other
+not_on a (Returned u f) other = refl
+not_on a (Freed b) other = other
+
+pub far_moves_nothing : (o : Observer) → FarEventsMoveNothing o
+far_moves_nothing o h e t a other_thread other_address = location_longer o h e t a ∙ stays (location o h t a)
+  where
+    stays : (q : Option ℕ) → advance o t a e q ≡ q
+    stays None = refl
+    stays (Some l) =
+        step_by_is o t a e l
+        ∙ (λ i. step o l (kind_of e) (not_own t e other_thread i) (not_on a e other_address i))
+        ∙ far_stays o l (kind_of e)
 
 -- ---- locations are live
 

@@ -1,14 +1,15 @@
 -- What the functions of the code do to locations, against the whole lists of the definitions.
-use Rattle.std.proofs.Common.{◌≡◌, ℕ, zero, suc, ◌+◌, ◌<◌, ◌≤◌, Bool, true, false, not, ◌&&◌, ◌||◌, ◌==◌, cond, if◌then◌else◌, List, [], ◌∷◌, ◌++◌, length, set, get_or, take, drop, map, replicate, Option, Some, None, is_some, refl, sym, ap, ◌∙◌, arith, add-one}
+use Rattle.std.proofs.Common.{◌≡◌, ℕ, zero, suc, ◌+◌, ◌<◌, Bool, true, false, not, ◌&&◌, ◌||◌, ◌==◌, cond, if◌then◌else◌, List, [], ◌∷◌, ◌++◌, length, set, get_or, take, drop, map, replicate, Option, Some, None, is_some, refl, sym, ap, ◌∙◌, arith, add-one}
 use Rattle.std.specs.Prelude.{nat_eq, filter}
 use Rattle.std.specs.List.{count_by, list_any, remove, position, position_from}
 use Rattle.std.proofs.Math.Seq.{drop-nil}
 use Rattle.std.proofs.lemmas.Bool.{eqb-true, ne_eqb, or_parts}
 use Rattle.std.proofs.lemmas.List.{map-set, map-append, take-map, length-map, get_or-map}
-use Rattle.std.proofs.Math.ListN.{drop_of_length-le}
+use Rattle.std.specs.Cmp.Lexicographic.{pointwise}
+use Rattle.std.specs.Option.{option_eq}
 use Rattle.std.proofs.lemmas.Iterator.Adapters.{position_from-zero}
+use Rattle.std.proofs.lemmas.List.Quantifiers.{position-Some}
 use Rattle.plc_base.proofs.Booleans.{and_false}
-use Rattle.plc_base.proofs.Tables.{get-map}
 use Rattle.std.proofs.lemmas.List.Sums.{sum_by-set, length-filter}
 use Rattle.plc_base.specs.declared.ids.LocId.{LocId}
 use Rattle.plc_auto.specs.declared.event.Event.{Event}
@@ -22,7 +23,7 @@ use Rattle.plc_auto.specs.Location.{is_this}
 use Rattle.plc_auto.specs.Waiting.{is_kept_at}
 use Rattle.plc_auto.specs.Laws.{retired_by}
 use Rattle.plc_base.specs.Functions.{is_retire}
-use Rattle.plc_auto.specs.Locations.{Row, Locations, is_by, is_known, with_own, with_thread, heard_by_known, locations_after, with_first, wider, to_end, is_named, moved_by, moved, all_moved, row_after, same_location, same_locations, all_bear_free}
+use Rattle.plc_auto.specs.Locations.{Row, Locations, is_by, is_known, with_own, with_thread, heard_by_known, locations_after, with_first, wider, to_end, is_named, moved_by, moved, all_moved, row_after, same_locations, all_bear_free}
 use Rattle.plc_auto.specs.Moves.{one_moved, with_one, with_all, named_after, one_elsewhere, all_elsewhere, widened}
 use Rattle.plc_auto.proofs.Stays.{far_stays}
 
@@ -113,37 +114,15 @@ none_kept p xs = ap (λ n. nat_eq n 0) (sym (length-filter p xs)) ∙ none_left 
 
 -- ---- two rows
 
-pub more_same : (at others : List (Option ℕ)) (i : ℕ) → i < length at → i < length others
-    → same_locations (drop i at) (drop i others) ≡ (same_location (get_or at i None) (get_or others i None) && same_locations (drop (i + 1) at) (drop (i + 1) others))
-more_same at others i small also = rw add-one (go at others i small also)
-  where
-    go : (at others : List (Option ℕ)) (i : ℕ) → i < length at → i < length others
-        → same_locations (drop i at) (drop i others) ≡ (same_location (get_or at i None) (get_or others i None) && same_locations (drop (suc i) at) (drop (suc i) others))
-    go [] others i small also = absurd (omega arith)
-    go (l ∷ at) [] i small also = absurd (omega arith)
-    go (l ∷ at) (k ∷ others) zero small also = refl
-    go (l ∷ at) (k ∷ others) (suc i) small also = go at others i (omega arith) (omega arith)
-
-pub none_same : (at others : List (Option ℕ)) → (length at ≡ length others → ⊥) → same_locations at others ≡ false
-none_same [] [] differ = absurd (differ refl)
-none_same [] (k ∷ others) differ = refl
-none_same (l ∷ at) [] differ = refl
-none_same (l ∷ at) (k ∷ others) differ = go (same_location l k) (none_same at others (λ e. differ (ap suc e)))
-  where
-    go : (b : Bool) → same_locations at others ≡ false → (b && same_locations at others) ≡ false
-    go true e = e
-    go false e = refl
-
--- a place more at which two rows were compared
-pub compared : (ats bts : List (Option LocId)) (i : ℕ) (b end : Bool) → i < length ats → length ats ≡ length bts → same_location (target_of (get_or ats i None)) (target_of (get_or bts i None)) ≡ b
-    → same_locations (drop i (map target_of ats)) (drop i (map target_of bts)) ≡ end
-    → (b && same_locations (drop (i + 1) (map target_of ats)) (drop (i + 1) (map target_of bts))) ≡ end
-compared ats bts i b end small same is so =
-    let one : i < length (map target_of ats) = simp length-map small in
-    let other : i < length (map target_of bts) = simp length-map (omega arith) in
-    let rest = same_locations (drop (i + 1) (map target_of ats)) (drop (i + 1) (map target_of bts)) in
-    sym (ap (λ v. v && rest) ((λ j. same_location (get-map target_of ats i None j) (get-map target_of bts i None j)) ∙ is))
-    ∙ sym (more_same (map target_of ats) (map target_of bts) i one other) ∙ so
+-- place by place, as `==` compares them
+pub same_by_place : (ats bts : List (Option LocId)) → pointwise (option_eq (λ (l k : LocId). l.0 == k.0)) ats bts ≡ same_locations (map target_of ats) (map target_of bts)
+same_by_place [] [] = refl
+same_by_place [] (k ∷ bts) = refl
+same_by_place (l ∷ ats) [] = refl
+same_by_place (None ∷ ats) (None ∷ bts) = same_by_place ats bts
+same_by_place (None ∷ ats) (Some k ∷ bts) = refl
+same_by_place (Some l ∷ ats) (None ∷ bts) = refl
+same_by_place (Some l ∷ ats) (Some k ∷ bts) = ap (λ s. (l.0 == k.0) && s) (same_by_place ats bts)
 
 -- ---- frees
 
@@ -228,24 +207,24 @@ elsewhere_more e ws vs i o more r = go (is_named e r.address) refl
         ap (λ b. if b then with_all e false ws r else with_one o (kind_of e) true false i (with_all e false ws r)) is
         ∙ (λ j. record { address = r.address; retired = r.retired; at = more r.at j })
 
-column_moved : (e : Event) (ws : List Watcher) (i : ℕ) (d : Watcher) (rows : List Row) → i < length ws → is_by (thread_of e) (get_or ws i d).thread ≡ true
+watcher_moved : (e : Event) (ws : List Watcher) (i : ℕ) (d : Watcher) (rows : List Row) → i < length ws → is_by (thread_of e) (get_or ws i d).thread ≡ true
     → map (one_elsewhere (get_or ws i d).observer (kind_of e) (address_of e) i) (map (all_elsewhere e (take i ws)) rows) ≡ map (all_elsewhere e (take (i + 1) ws)) rows
-column_moved e ws i d [] small own = refl
-column_moved e ws i d (r ∷ rows) small own =
+watcher_moved e ws i d [] small own = refl
+watcher_moved e ws i d (r ∷ rows) small own =
     λ j. elsewhere_more e (take i ws) (take (i + 1) ws) i (get_or ws i d).observer
     (λ at. (λ k. one_moved (get_or ws i d).observer (kind_of e) (sym own k) false i (all_moved e false (take i ws) at)) ∙ all_more e false ws at i d small) r j
-    ∷ column_moved e ws i d rows small own j
+    ∷ watcher_moved e ws i d rows small own j
 
-pub column_more : (e : Event) (ws : List Watcher) (i : ℕ) (d : Watcher) (rows : List Row) (kind : EvKind) (named : ℕ) → i < length ws → is_by (thread_of e) (get_or ws i d).thread ≡ true → kind ≡ kind_of e → named ≡ address_of e
+pub watcher_more : (e : Event) (ws : List Watcher) (i : ℕ) (d : Watcher) (rows : List Row) (kind : EvKind) (named : ℕ) → i < length ws → is_by (thread_of e) (get_or ws i d).thread ≡ true → kind ≡ kind_of e → named ≡ address_of e
     → map (one_elsewhere (get_or ws i d).observer kind named i) (map (all_elsewhere e (take i ws)) rows) ≡ map (all_elsewhere e (take (i + 1) ws)) rows
-column_more e ws i d rows kind named small own is so =
-    (λ j. map (one_elsewhere (get_or ws i d).observer (is j) (so j) i) (map (all_elsewhere e (take i ws)) rows)) ∙ column_moved e ws i d rows small own
+watcher_more e ws i d rows kind named small own is so =
+    (λ j. map (one_elsewhere (get_or ws i d).observer (is j) (so j) i) (map (all_elsewhere e (take i ws)) rows)) ∙ watcher_moved e ws i d rows small own
 
-pub column_stays : (e : Event) (ws : List Watcher) (i : ℕ) (d : Watcher) (rows : List Row) → i < length ws → is_by (thread_of e) (get_or ws i d).thread ≡ false
+pub watcher_stays : (e : Event) (ws : List Watcher) (i : ℕ) (d : Watcher) (rows : List Row) → i < length ws → is_by (thread_of e) (get_or ws i d).thread ≡ false
     → map (all_elsewhere e (take i ws)) rows ≡ map (all_elsewhere e (take (i + 1) ws)) rows
-column_stays e ws i d [] small other = refl
-column_stays e ws i d (r ∷ rows) small other =
-    λ j. (if is_named e r.address then r else record { address = r.address; retired = r.retired; at = other_stays e ws r.at i d small other j }) ∷ column_stays e ws i d rows small other j
+watcher_stays e ws i d [] small other = refl
+watcher_stays e ws i d (r ∷ rows) small other =
+    λ j. (if is_named e r.address then r else record { address = r.address; retired = r.retired; at = other_stays e ws r.at i d small other j }) ∷ watcher_stays e ws i d rows small other j
 
 -- no watcher has moved yet
 pub none_moved : (e : Event) (rows : List Row) → map (all_elsewhere e []) rows ≡ rows
@@ -258,7 +237,7 @@ none_moved e (r ∷ rows) = λ i. go (is_named e r.address) i ∷ none_moved e r
 
 -- ---- the row of an address put last
 
-pub last_there : (a : ℕ) (rows : List Row) (i : ℕ) (d : Row) → i < length rows → ((k : ℕ) → k < i → ((get_or rows k d).address == a) ≡ false) → ((get_or rows i d).address == a) ≡ true
+last_there : (a : ℕ) (rows : List Row) (i : ℕ) (d : Row) → i < length rows → ((k : ℕ) → k < i → ((get_or rows k d).address == a) ≡ false) → ((get_or rows i d).address == a) ≡ true
     → to_end a rows ≡ (if (get_or rows i d).retired then rows else remove rows i ++ get_or rows i d ∷ [])
 last_there a [] i d small before here = absurd (omega arith)
 last_there a (r ∷ rows) zero d small before here = ap (λ b. if b then (if r.retired then r ∷ rows else rows ++ r ∷ []) else r ∷ to_end a rows) here
@@ -270,6 +249,13 @@ last_there a (r ∷ rows) (suc i) d small before here =
     go : (b : Bool) → r ∷ (if b then rows else remove rows i ++ get_or rows i d ∷ []) ≡ (if b then r ∷ rows else remove (r ∷ rows) (suc i) ++ get_or rows i d ∷ [])
     go true = refl
     go false = refl
+
+-- so where the row was found, by whether it is retired
+pub placed_last : (a : ℕ) (rows : List Row) (i : ℕ) (d : Row) (b : Bool) → position (λ (r : Row). r.address == a) rows ≡ Some i → (get_or rows i d).retired ≡ b
+    → (if b then rows else remove rows i ++ get_or rows i d ∷ []) ≡ to_end a rows
+placed_last a rows i d b found is =
+    let there = position-Some (λ (r : Row). r.address == a) rows i d found in
+    sym (ap (λ b. if b then rows else remove rows i ++ get_or rows i d ∷ []) is) ∙ sym (last_there a rows i d there.0 there.2 there.1)
 
 pub not_there : (a : ℕ) (rows : List Row) → list_any (λ r. r.address == a) rows ≡ false → to_end a rows ≡ rows
 not_there a [] none = refl
@@ -310,10 +296,6 @@ copied t l = λ i. record { unheard = l.unheard; watchers = no_watcher_more l.wa
 pub all_first : (n : ℕ) → map target_of (replicate n (Some (record { 0 = 0 }))) ≡ replicate n (Some 0)
 all_first zero = refl
 all_first (suc n) = ap (λ at. Some 0 ∷ at) (all_first n)
-
--- nothing is left to compare
-pub none_differs : (at others : List (Option ℕ)) (i : ℕ) → length at ≤ i → length others ≤ i → same_locations (drop i at) (drop i others) ≡ true
-none_differs at others i short also = λ j. same_locations (drop_of_length-le at short j) (drop_of_length-le others also j)
 
 -- ---- wider rows
 

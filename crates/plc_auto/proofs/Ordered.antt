@@ -34,7 +34,8 @@ pub record AreOrdered (held : List ℕ) (rows : List Row) : Type 0 where
   pub no_null : list_any (is_row_of 0) rows ≡ false
   pub waits : waiting rows ≡ held
 
-apart : (a b : ℕ) → (a == b) ≡ false → (b == a) ≡ false
+-- the same either way round
+pub apart : (a b : ℕ) → (a == b) ≡ false → (b == a) ≡ false
 apart a b n = go (b == a) refl
   where
     go : (s : Bool) → (b == a) ≡ s → s ≡ false

@@ -8,6 +8,7 @@ use Rattle.plc_auto.specs.declared.event.Event.TheVariants.{Call as Called, Done
 use Rattle.plc_auto.specs.declared.event.EvKind.{EvKind}
 use Rattle.plc_auto.specs.declared.event.EvKind.TheVariants.{Call, Done, Free}
 use Rattle.plc_auto.specs.declared.observer.Observer.{Observer}
+use Rattle.plc_auto.specs.Events.{thread_of, address_of}
 use Rattle.plc_auto.specs.Table.{step, count_of}
 use Rattle.plc_base.specs.Functions.{is_retire}
 use Rattle.plc_auto.specs.Location.{location, advance, Allowed, is_this, is_retired_location, is_retired_after}
@@ -34,6 +35,11 @@ pub record LocationsFollowHistories (o : Observer) : Type 0 where
       → location o (h ++ e ∷ []) t a ≡ advance o t a e (location o h t a)
   pub live : (h : List Event) (t a l : ℕ) → location o h t a ≡ Some l → l < count_of o
   pub bad_stays : (h more : List Event) (t a : ℕ) → location o h t a ≡ None → location o (h ++ more) t a ≡ None
+
+-- an event neither by the thread nor on the address leaves the thread's location of the address
+abbrev pub FarEventsMoveNothing : Observer → Type 0
+FarEventsMoveNothing o = (h : List Event) (e : Event) (t a : ℕ) → (thread_of e ≡ Some t → ⊥)
+    → is_this (Some (address_of e)) a ≡ false → location o (h ++ e ∷ []) t a ≡ location o h t a
 
 -- only a free takes an address back
 abbrev pub frees_one : Event → Bool

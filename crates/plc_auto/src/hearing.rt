@@ -1,4 +1,5 @@
-// What an event does to the rows, step by step. Only the row that it may need takes memory, and that comes first.
+// What an event does to the rows, step by step. What takes memory comes first: wider rows, where a thread is heard for
+// the first time, and the row that the event may need.
 ghost use Rattle.std.specs.Prelude.{◌≡◌, ◌==◌, filter, map, IfOk, OnOk, OnErr, Some};
 ghost use Rattle.std.specs.List.{list_any, position};
 ghost use Rattle.plc_auto.specs.Locations.{is_known, is_needed, has_row, with_row, to_end, in_order};

@@ -4,12 +4,17 @@ ghost use Rattle.std.specs.Prelude.{◌≡◌, ℕ, true, false, Some};
 ghost use Rattle.plc_auto.specs.Table.{is_well_formed};
 ghost use Rattle.plc_auto.specs.Location.{is_this};
 ghost use Rattle.plc_auto.specs.Laws.{LocationsFollowHistories, AllowedByTheLast, LettersTurn};
-ghost use Rattle.plc_auto.specs.Laws.{RetiredForAllThreads, FreesFollowRetirements};
+ghost use Rattle.plc_auto.specs.Laws.{RetiredForAllThreads, FreesFollowRetirements, FarEventsMoveNothing};
 ghost use Rattle.plc_auto.specs.declared.observer.Observer.{Observer};
 
 /// The location after one event more, that it is live, and that `bad` is never left.
 pub fn locations_follow_histories()
     ensures { (o : Observer) → LocationsFollowHistories o }
+{}
+
+/// An event neither by a thread nor on an address leaves the location of that thread for that address.
+pub fn far_events_move_nothing()
+    ensures { (o : Observer) → FarEventsMoveNothing o }
 {}
 
 /// Which histories are allowed, by their prefixes and by their last event.

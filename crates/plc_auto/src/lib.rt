@@ -18,8 +18,8 @@ mod watcher;
 
 pub use event::{EvKind, Event};
 pub use laws::{
-    frees_follow_retirements, histories_are_judged_by_the_last, letters_turn,
-    locations_follow_histories, null_is_other, retired_for_all_threads,
+    far_events_move_nothing, frees_follow_retirements, histories_are_judged_by_the_last,
+    letters_turn, locations_follow_histories, null_is_other, retired_for_all_threads,
 };
 pub use location_laws::{locations_follow_observers, locations_of_threads_follow};
 pub use locations::Locations;

@@ -14,7 +14,7 @@ ghost use Rattle.plc_auto.specs.Moves.{with_one, with_all, named_after, one_else
 
 use crate::event::{EvKind, Event};
 use crate::observer::Observer;
-use crate::watcher::{Watcher, first, is_kept_at, is_own, moved, same_location};
+use crate::watcher::{Watcher, first, is_kept_at, is_own, moved};
 use plc_base::{LocId, NoMemory};
 use std::alloc::Global;
 use std::marker::Model;
@@ -273,13 +273,5 @@ fn all_bear_free(a: u32, watchers: &[Watcher], at: &[Option<LocId>]) -> bool
 fn same_locations(at: &[Option<LocId>], others: &[Option<LocId>]) -> bool
     ensures { result ≡ same_locations (map target_of at.now) (map target_of others.now) }
 {
-    if at.len() != others.len() {
-        return false;
-    }
-    for i in 0..at.len() {
-        if !same_location(at[i], others[i]) {
-            return false;
-        }
-    }
-    true
+    at == others
 }

@@ -4,7 +4,7 @@ ghost use Rattle.std.specs.Prelude.{◌≡◌, take};
 ghost use Rattle.plc_auto.specs.Table.{step, target_of};
 ghost use Rattle.plc_auto.specs.Waiting.{is_kept_at};
 ghost use Rattle.plc_auto.specs.Events.{thread_of};
-ghost use Rattle.plc_auto.specs.Locations.{is_by, moved_by, same_location};
+ghost use Rattle.plc_auto.specs.Locations.{is_by, moved_by};
 
 use crate::event::{EvKind, Event};
 use crate::observer::Observer;
@@ -74,17 +74,6 @@ pub fn moved(
     match at {
         None => None,
         Some(l) => moved_from(observer, kind, by_own, on_this, l),
-    }
-}
-
-/// Whether two locations are the same.
-pub fn same_location(at: Option<LocId>, other: Option<LocId>) -> bool
-    ensures { result ≡ same_location (target_of at) (target_of other) }
-{
-    match (at, other) {
-        (None, None) => true,
-        (Some(l), Some(k)) => l.0 == k.0,
-        _ => false,
     }
 }
 

@@ -20,6 +20,7 @@ use Rattle.plc_auto.specs.Laws.{retired_by}
 use Rattle.plc_auto.proofs.Tables.{implies, implied, each, each_at}
 use Rattle.plc_auto.specs.Events.{kind_of}
 use Rattle.plc_auto.proofs.Histories.{is_own, is_on, step_by_is, from_bad, location_longer, location_live, allowed_empty, allowed_last, allowed_spoken, allowed_free, step_by_live, initial_live, location_empty}
+use Rattle.plc_auto.proofs.Ordered.{apart}
 use Rattle.plc_auto.proofs.Letters.{retired_longer, initial_unretired}
 use Rattle.plc_auto.specs.declared.scheme.Scheme.{Scheme}
 use Rattle.plc_reclaim.specs.Rows.{ActsAs, first_waiting, threads_in, is_kept_by, is_kept_by_none, hazards, epochs, hazard_row, epoch_row}
@@ -138,13 +139,6 @@ every_thread o h a = (λ n t. kept_by_none o h a t n, λ free. all_free (λ t. i
 
 -- ---- retired is waiting
 
-apart : (a b : ℕ) → (b == a) ≡ false → (a == b) ≡ false
-apart a b n = go (a == b) refl
-  where
-    go : (s : Bool) → (a == b) ≡ s → s ≡ false
-    go false e = refl
-    go true e = absurd (both_ways _ n (eq-eqb b a (sym (eqb-true a b e))))
-
 waits_turn : (held : List ℕ) (e : Event) (a : ℕ) → 0 < a → is_in (waiting_after held e) a ≡ retired_by e a (is_in held a)
 waits_turn held (Called t f None) a one = sym (no_turn (is_retire f))
   where
@@ -176,7 +170,7 @@ waits_turn held (Freed b) a one = go (b == a) (b == 0) refl refl
     go : (s z : Bool) → (b == a) ≡ s → (b == 0) ≡ z → is_in (filter (λ c. not (c == b)) held) a ≡ (if s && not z then false else is_in held a)
     go true true is_a is_0 = absurd (let same : b ≡ a = eqb-true b a is_a in let null : b ≡ 0 = eqb-true b 0 is_0 in omega arith)
     go true false is_a is_0 = taken ∙ ap (λ s. not s && is_in held a) (eq-eqb a b (sym (eqb-true b a is_a)))
-    go false z is_a is_0 = taken ∙ ap (λ s. not s && is_in held a) (apart a b is_a)
+    go false z is_a is_0 = taken ∙ ap (λ s. not s && is_in held a) (apart b a is_a)
 
 -- null never waits
 fewer : (p : ℕ → Bool) (held : List ℕ) (a : ℕ) → is_in held a ≡ false → is_in (filter p held) a ≡ false

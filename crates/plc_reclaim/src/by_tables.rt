@@ -1,12 +1,14 @@
 // The reclaimers that free: each frees in the order of retirement what no thread keeps by the tables of
 // the observers that it serves, and keeps where the threads stand by these. Which schemes have such an
-// observer, and the name, is all in which they differ.
+// observer, the name, and the row that is promised, is all in which they differ.
 ghost use Rattle.std.specs.Prelude.{◌≡◌, ℕ, List, [], Option, IfOk};
 ghost use Rattle.std.specs.List.{filter_map};
 ghost use Rattle.plc_auto.specs.declared.observer.Observer.{Observer};
 ghost use Rattle.plc_auto.specs.declared.scheme.Scheme.{Scheme};
 ghost use Rattle.plc_auto.specs.Locations.{fresh};
 ghost use Rattle.plc_reclaim.specs.Numbers.{numbers_of, by_tables};
+ghost use Rattle.plc_reclaim.specs.Rows.{ActsAs};
+ghost use Rattle.plc_auto.specs.declared.event.Event.{Event};
 
 use crate::reclaimer::Reclaimer;
 use plc_auto::{Event, Locations, Observer, Scheme};
@@ -22,6 +24,9 @@ pub trait Serves: Drop {
     /// The reclaimer's name, in bytes.
     ghost named: { List ℕ };
 
+    /// The reclaimer's row: what it picks, by the schemes and all events.
+    ghost picks: { List Scheme → List Event → Option ℕ };
+
     /// The observer of a scheme, or `None` where it isn't served.
     fn observer(scheme: &Scheme) -> Option<Observer>
         ensures { result ≡ observer scheme.now };
@@ -29,6 +34,10 @@ pub trait Serves: Drop {
     /// The name by which the reclaimer is asked for.
     fn name() -> &'static str
         ensures { result.now ≡ named };
+
+    /// What the tables of these observers pick is the row. It carries this law, and does nothing.
+    fn acts_as_row()
+        ensures { ActsAs picks (by_tables (filter_map observer)) };
 }
 
 /// A reclaimer that frees in the order of retirement what no thread keeps by the tables of these schemes.
@@ -39,10 +48,15 @@ pub struct ByTables<S: Serves> {
 }
 
 impl<S: Serves> ByTables<S> {
-    /// A reclaimer that was given no scheme and handed nothing yet. It takes no memory.
-    pub fn new_serving(alloc: Global) -> ByTables<S>
-        ensures { result.locations ≡ fresh [] }
+    /// A reclaimer that was given no scheme and handed nothing yet. It acts as its row, and takes no memory.
+    #[tactic(auto, using(crate::proofs::Numbers::begun_with_is))]
+    pub fn new(alloc: Global) -> ByTables<S>
+        ensures acts { ActsAs S.picks (⟦<ByTables<S> as Reclaimer>⟧.meanings result) }
+        ensures named { ⟦<ByTables<S> as Reclaimer>⟧.named result ≡ S.named }
+        ensures fresh { ⟦<ByTables<S> as Reclaimer>⟧.held result
+            ≡ (⟦<ByTables<S> as Reclaimer>⟧.meanings result).begun [] }
     {
+        S::acts_as_row();
         ByTables {
             locations: Locations::new(alloc),
             serves: PhantomData,

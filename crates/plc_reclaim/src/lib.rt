@@ -5,21 +5,17 @@
 //! law on their rows. The crate stands on the events and observers of `plc_auto`.
 #![tactic(auto)]
 
-mod by_list;
 mod by_tables;
-mod epoch;
-mod hazard;
 mod laws;
 mod leak;
 mod lookup;
 mod reclaimer;
+mod serving;
 
-pub use by_list::ByList;
-pub use epoch::Epoch;
-pub use hazard::Hazard;
 pub use laws::{
     epoch_makes_allowed_histories, hazard_makes_allowed_histories, rows_ask_every_thread,
 };
 pub use leak::Leak;
 pub use lookup::find_named;
 pub use reclaimer::Reclaimer;
+pub use serving::{ByList, Epoch, Hazard};
