@@ -8,7 +8,7 @@ use Rattle.plc_syntax.specs.declared.expected.Expected.{Expected}
 use Rattle.plc_syntax.specs.declared.expected.Expected.TheVariants as expected
 use Rattle.plc_syntax.specs.declared.expected.Part.{Part as PartName}
 use Rattle.plc_syntax.specs.declared.expected.Part.TheVariants as parts
-use Rattle.plc_syntax.specs.Trees.{Text, each_then, maybe_then, word_if_then, comma_name_then, FieldTree, field_then, shared_then, FunctionTree, function_then, WatchTree, watch_then, GhostKindTree, ghost_kind_then, GhostTree, ghost_then, dot_name_then, PlaceTree, place_then, AtomTree, atom_then, ValueTree, value_then, GhostValueTree, ghost_value_then, InitialTree, initial_then, init_then, Comparison, comparison_symbol, TestTree, test_then, name_or_null_then, ConditionTree, condition_then, PrimitiveTree, primitive_then, primitive_line_then, ArgumentTree, argument_then, during_then, StatementTree, BlockTree, ElseTree, OrTree, statement_then, statements_then, else_then, or_then, parameters_then, OpTree, op_then, TermTree, term_then, FlagTree, flag_then, equality_symbol, LiteralTree, literal_then, BoundTree, bound_then, or_literal_then, ClauseTree, clause_then, ItemTree, item_then, depth_then, OutlineTree, outline_then, FileTree, file_tokens, PointerField, DataField, Declares, UseHazard, UseEpoch, OneOf, OfThreads, Auxiliary, PlaceOf, NullAtom, NumberAtom, NameAtom, NullValue, NewValue, NumberValue, PlaceValue, SetName, SetField, RefreshName, RefreshField, NameGhost, MeGhost, NoneGhost, SetGhost, InitialSet, InitialGhost, SameAs, OtherThan, LessThan, NotLessThan, Compares, TestCondition, RefreshCondition, CasCondition, SetPrimitive, RefreshPrimitive, GhostPrimitive, ActivePrimitive, AssumePrimitive, SkipPrimitive, NoArgument, NullArgument, NameArgument, ActiveArgument, PrimitiveStatement, AtomicStatement, CallStatement, IfStatement, ChooseStatement, LoopStatement, BreakStatement, ReturnStatement, LabelStatement, NoStatement, Then, NoElse, ElseBlock, NoOr, OrBlock, Operates, PlaceTerm, NullTerm, NumberTerm, MeTerm, NoneTerm, RetiredFlag, FlagLiteral, NotLiteral, EqualityLiteral, NoBound, AllOf, Claims, InvariantItem, OverItem, AtItem, Outlined}
+use Rattle.plc_syntax.specs.Trees.{Text, each_then, maybe_then, word_if_then, comma_name_then, FieldTree, field_then, shared_then, FunctionTree, function_then, WatchTree, watch_then, GhostKindTree, ghost_kind_then, GhostTree, ghost_then, dot_name_then, PlaceTree, place_then, AtomTree, atom_then, ValueTree, value_then, GhostValueTree, ghost_value_then, InitialTree, initial_then, init_then, Comparison, comparison_symbol, TestTree, test_then, name_or_null_then, ConditionTree, condition_then, PrimitiveTree, primitive_then, primitive_line_then, ArgumentTree, argument_then, during_then, StatementTree, BlockTree, ElseTree, OrTree, statement_then, statements_then, else_then, or_then, parameters_then, OpTree, op_then, TermTree, term_then, FlagTree, flag_then, equality_symbol, LiteralTree, literal_then, BoundTree, bound_then, or_literal_then, ClauseTree, clause_then, ItemTree, item_then, depth_then, OutlineTree, outline_then, FileTree, file_tokens, PointerField, DataField, Declares, UseHazard, UseEpoch, OneOf, OfThreads, Auxiliary, PlaceOf, NullAtom, NumberAtom, NameAtom, NullValue, NewValue, NumberValue, MarkValue, UnmarkValue, PlaceValue, SetName, SetField, RefreshName, RefreshField, NameGhost, MeGhost, NoneGhost, SetGhost, InitialSet, InitialGhost, SameAs, OtherThan, LessThan, NotLessThan, MarkedTest, UnmarkedTest, Compares, TestCondition, RefreshCondition, CasCondition, SetPrimitive, RefreshPrimitive, GhostPrimitive, ActivePrimitive, AssumePrimitive, SkipPrimitive, NoArgument, NullArgument, NameArgument, ActiveArgument, PrimitiveStatement, AtomicStatement, CallStatement, IfStatement, ChooseStatement, LoopStatement, BreakStatement, ReturnStatement, LabelStatement, NoStatement, Then, NoElse, ElseBlock, NoOr, OrBlock, Operates, PlaceTerm, NullTerm, NumberTerm, MeTerm, NoneTerm, RetiredFlag, FlagLiteral, NotLiteral, EqualityLiteral, NoBound, AllOf, Claims, InvariantItem, OverItem, AtItem, Outlined}
 use Rattle.plc_syntax.specs.Table.{after_expected, may_be_empty}
 use Rattle.plc_syntax.proofs.Laws.{reads}
 
@@ -32,6 +32,8 @@ again_value (PlaceValue (PlaceOf n f)) s rest h = again_dot f s rest h
 again_value NullValue s rest h = refl
 again_value NewValue s rest h = refl
 again_value (NumberValue n) s rest h = refl
+again_value (MarkValue n) s rest h = refl
+again_value (UnmarkValue n) s rest h = refl
 
 again_atom : (a : AtomTree) (s : List Expected) (rest : List TokenKind) → go (expected.Part parts.Atom ∷ s) (atom_then a rest) ≡ go s rest
 again_atom NullAtom s rest = refl
@@ -79,6 +81,8 @@ again_cond_compare LessThan a s rest = again_atom a s rest
 again_cond_compare NotLessThan a s rest = again_atom a s rest
 
 again_test : (t : TestTree) (s : List Expected) (rest : List TokenKind) → go (expected.Part parts.Test ∷ s) (test_then t rest) ≡ go s rest
+again_test (MarkedTest n) s rest = refl
+again_test (UnmarkedTest n) s rest = refl
 again_test (Compares n c a) s rest = again_compare c a s rest
 
 again_cell : (c : Option Text) (s : List Expected) (rest : List TokenKind) → go (expected.Part parts.NameOrNull ∷ s) (name_or_null_then c rest) ≡ go s rest
@@ -90,6 +94,8 @@ again_cas false n s rest = refl
 again_cas true n s rest = refl
 
 again_cond : (c : ConditionTree) (s : List Expected) (rest : List TokenKind) → go (expected.Part parts.Condition ∷ expected.Symbol CloseParen ∷ s) (condition_then c (Symbol CloseParen ∷ rest)) ≡ go s rest
+again_cond (TestCondition (MarkedTest n)) s rest = refl
+again_cond (TestCondition (UnmarkedTest n)) s rest = refl
 again_cond (TestCondition (Compares n c a)) s rest = again_cond_compare c a (expected.Symbol CloseParen ∷ s) (Symbol CloseParen ∷ rest)
 again_cond (RefreshCondition n p) s rest = again_place p (expected.Symbol CloseParen ∷ s) (Symbol CloseParen ∷ rest) (λ s. refl)
 again_cond (CasCondition a n old new) s rest =

@@ -3,6 +3,7 @@ pub mod Appends
 pub mod Exact
 pub mod Front
 pub mod Laws
+pub mod Marked
 pub mod Meaning
 pub mod Rows
 pub mod Samples

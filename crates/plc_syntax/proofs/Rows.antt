@@ -8,7 +8,7 @@ use Rattle.plc_syntax.specs.declared.expected.Expected.{Expected}
 use Rattle.plc_syntax.specs.declared.expected.Expected.TheVariants as expected
 use Rattle.plc_syntax.specs.declared.expected.Part.{Part as PartName}
 use Rattle.plc_syntax.specs.declared.expected.Part.TheVariants as parts
-use Rattle.plc_syntax.specs.Trees.{each_then, initial_then, primitive_line_then, statements_then, PointerField, DataField, Declares, UseHazard, UseEpoch, OneOf, OfThreads, Auxiliary, PlaceOf, NullAtom, NumberAtom, NameAtom, NullValue, NewValue, NumberValue, PlaceValue, NameGhost, MeGhost, NoneGhost, SetGhost, InitialSet, InitialGhost, SameAs, OtherThan, LessThan, NotLessThan, Compares, CasCondition, GhostPrimitive, ActivePrimitive, AssumePrimitive, SkipPrimitive, NullArgument, NameArgument, ActiveArgument, PrimitiveStatement, AtomicStatement, IfStatement, ChooseStatement, LoopStatement, BreakStatement, ReturnStatement, LabelStatement, Then, ElseBlock, OrBlock, Operates, PlaceTerm, NullTerm, NumberTerm, MeTerm, NoneTerm, RetiredFlag, FlagLiteral, NotLiteral, EqualityLiteral, AllOf, Claims, InvariantItem, OverItem, AtItem, Outlined}
+use Rattle.plc_syntax.specs.Trees.{each_then, initial_then, primitive_line_then, statements_then, PointerField, DataField, Declares, UseHazard, UseEpoch, OneOf, OfThreads, Auxiliary, PlaceOf, NullAtom, NumberAtom, NameAtom, NullValue, NewValue, NumberValue, MarkValue, UnmarkValue, PlaceValue, NameGhost, MeGhost, NoneGhost, SetGhost, InitialSet, InitialGhost, SameAs, OtherThan, LessThan, NotLessThan, MarkedTest, UnmarkedTest, Compares, TestCondition, CasCondition, GhostPrimitive, ActivePrimitive, AssumePrimitive, SkipPrimitive, NullArgument, NameArgument, ActiveArgument, PrimitiveStatement, AtomicStatement, IfStatement, ChooseStatement, LoopStatement, BreakStatement, ReturnStatement, LabelStatement, Then, ElseBlock, OrBlock, Operates, PlaceTerm, NullTerm, NumberTerm, MeTerm, NoneTerm, RetiredFlag, FlagLiteral, NotLiteral, EqualityLiteral, AllOf, Claims, InvariantItem, OverItem, AtItem, Outlined}
 use Rattle.plc_syntax.specs.Table.{after_expected, may_be_empty, after_part}
 use Rattle.plc_syntax.proofs.Laws.{RowIs}
 use Rattle.plc_syntax.proofs.Meaning.{Tree, spell}
@@ -79,6 +79,8 @@ row_value : (t : TokenKind) → PartRow parts.Value t
 row_value (Word words.Null) = λ p. (NullValue, λ rest. refl)
 row_value (Word words.New) = λ p. (NewValue, λ rest. refl)
 row_value (Number x) = λ p. (NumberValue x, λ rest. refl)
+row_value (Word words.Mark) = λ p. (MarkValue p.0, λ rest. refl)
+row_value (Word words.Unmark) = λ p. (UnmarkValue p.0, λ rest. refl)
 row_value (Name x) = λ p. (PlaceValue (PlaceOf x p.0), λ rest. refl)
 row_value _ = tt
 
@@ -178,6 +180,8 @@ row_place (Name x) = λ p. (PlaceOf x p.0, λ rest. refl)
 row_place _ = tt
 
 row_test : (t : TokenKind) → PartRow parts.Test t
+row_test (Word words.Marked) = λ p. (MarkedTest p.0, λ rest. refl)
+row_test (Word words.Unmarked) = λ p. (UnmarkedTest p.0, λ rest. refl)
 row_test (Name x) = λ p. (Compares x p.0.0 p.0.1, λ rest. refl)
 row_test _ = tt
 
@@ -189,6 +193,8 @@ row_comparison (Symbol AtLeast) = λ p. ((NotLessThan, p.0), λ rest. refl)
 row_comparison _ = tt
 
 row_condition : (t : TokenKind) → PartRow parts.Condition t
+row_condition (Word words.Marked) = λ p. (TestCondition (MarkedTest p.0), λ rest. refl)
+row_condition (Word words.Unmarked) = λ p. (TestCondition (UnmarkedTest p.0), λ rest. refl)
 row_condition (Name x) = λ p. (join_condition x p.0, λ rest. join_condition_tokens x p.0 rest)
 row_condition (Word words.Cas) = λ p. (CasCondition p.1.0 p.1.1.0 p.1.1.1.1.0 p.1.1.1.1.1.1.0, λ rest. refl)
 row_condition _ = tt

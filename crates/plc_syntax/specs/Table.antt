@@ -143,6 +143,8 @@ abbrev pub after_value : TokenKind → Option (List Expected)
 after_value (kinds.Word words.Null) = Some []
 after_value (kinds.Word words.New) = Some []
 after_value (kinds.Number n) = Some []
+after_value (kinds.Word words.Mark) = Some (Name ∷ [])
+after_value (kinds.Word words.Unmark) = Some (Name ∷ [])
 after_value (kinds.Name n) = Some (Part DotName ∷ [])
 after_value _ = None
 
@@ -170,8 +172,10 @@ after_ghost_value (kinds.Word words.Me) = Some []
 after_ghost_value (kinds.Word words.None) = Some []
 after_ghost_value _ = None
 
--- a comparison
+-- a test
 abbrev pub after_test : TokenKind → Option (List Expected)
+after_test (kinds.Word words.Marked) = Some (Name ∷ [])
+after_test (kinds.Word words.Unmarked) = Some (Name ∷ [])
 after_test (kinds.Name n) = Some (Part Comparison ∷ [])
 after_test _ = None
 
@@ -242,6 +246,8 @@ after_during _ = None
 
 -- the condition of an `if`
 abbrev pub after_condition : TokenKind → Option (List Expected)
+after_condition (kinds.Word words.Marked) = Some (Name ∷ [])
+after_condition (kinds.Word words.Unmarked) = Some (Name ∷ [])
 after_condition (kinds.Name n) = Some (Part ConditionTail ∷ [])
 after_condition (kinds.Word words.Cas) = Some (Symbol OpenParen ∷ Part ActiveWord ∷ Name ∷ Symbol Comma ∷
     Part NameOrNull ∷ Symbol Comma ∷ Part NameOrNull ∷ Symbol CloseParen ∷ [])

@@ -76,7 +76,7 @@ pub enum Part {
     Atom,
     /// What is put into an auxiliary field.
     GhostValue,
-    /// A comparison.
+    /// A test.
     Test,
     /// What follows the name that begins a comparison.
     Comparison,

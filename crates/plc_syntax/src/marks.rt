@@ -1,5 +1,6 @@
 // Whether a file uses marks, as its tokens say: one of the four words stands among them.
 ghost use Rattle.std.specs.Prelude.{◌≡◌};
+ghost use Rattle.std.specs.List.{list_any};
 ghost use Rattle.plc_syntax.specs.Marks.{is_mark_word, tokens_use_marks};
 ghost use Rattle.plc_syntax.specs.Syntax.{kinds};
 
@@ -15,9 +16,17 @@ fn is_mark_word(kind: &TokenKind) -> bool
     )
 }
 
+/// Whether one of the tokens is.
+fn has_mark_word(tokens: &[Token]) -> bool
+    ensures { result ≡ list_any (λ token. is_mark_word token.kind) tokens.now }
+{
+    tokens.iter().any(|token| is_mark_word(&token.kind))
+}
+
 /// Whether `mark`, `unmark`, `marked` or `unmarked` stands among these tokens.
+#[tactic(auto, using(crate::proofs::Marked::any_of_kinds))]
 pub fn use_marks(tokens: &[Token]) -> bool
     ensures { result ≡ tokens_use_marks (kinds tokens.now) }
 {
-    tokens.iter().any(|token| is_mark_word(&token.kind))
+    has_mark_word(tokens)
 }

@@ -62,6 +62,7 @@ pub fn after_value(kind: &TokenKind) -> Option<&'static [Expected]>
 {
     rows! { kind;
         TokenKind::Word(Keyword::Null | Keyword::New) | TokenKind::Number(_) => [],
+        TokenKind::Word(Keyword::Mark | Keyword::Unmark) => [Name],
         TokenKind::Name(_) => [Part(DotName)]
     }
 }
@@ -98,7 +99,10 @@ pub fn after_ghost_value(kind: &TokenKind) -> Option<&'static [Expected]>
 pub fn after_test(kind: &TokenKind) -> Option<&'static [Expected]>
     ensures { IsRow result (after_test kind.now) }
 {
-    rows! { kind; TokenKind::Name(_) => [Part(Comparison)] }
+    rows! { kind;
+        TokenKind::Word(Keyword::Marked | Keyword::Unmarked) => [Name],
+        TokenKind::Name(_) => [Part(Comparison)]
+    }
 }
 
 /// What comes after a token with which [`crate::expected::Part::Comparison`] begins.

@@ -98,6 +98,7 @@ pub fn after_condition(kind: &TokenKind) -> Option<&'static [Expected]>
     ensures { IsRow result (after_condition kind.now) }
 {
     rows! { kind;
+        TokenKind::Word(Keyword::Marked | Keyword::Unmarked) => [Name],
         TokenKind::Name(_) => [Part(ConditionTail)],
         TokenKind::Word(Keyword::Cas) =>
             [Symbol(OpenParen), Part(ActiveWord), Name, Symbol(Comma), Part(NameOrNull), Symbol(Comma),
