@@ -16,7 +16,7 @@ syntax keyword plcGhost ghost
 syntax keyword plcStatement atomic loop break return skip choose during assume
 syntax keyword plcConditional if else
 syntax keyword plcLabel label
-syntax keyword plcOperator new cas or all not
+syntax keyword plcOperator new cas or all not mark unmark marked unmarked
 syntax keyword plcConstant null me none
 syntax keyword plcOutline inv over at depth
 syntax keyword plcClaim active

@@ -1,11 +1,260 @@
--- Which tokens use marks, from their kinds and form by form: each form's tokens before any others.
-use Rattle.std.proofs.Common.{◌≡◌, List, [], ◌∷◌, ◌||◌, refl, ap}
+-- Which tokens use marks: form by form, each form's tokens before any others.
+use Rattle.std.proofs.Common.{◌≡◌, Bool, true, false, Some, None, List, [], ◌∷◌, ◌||◌, refl, ap, ◌∙◌}
 use Rattle.std.specs.List.{list_any}
 use Rattle.plc_lex.specs.declared.token.Token.{Token}
+use Rattle.plc_lex.specs.declared.token.TokenKind.{TokenKind}
+use Rattle.plc_lex.specs.declared.token.TokenKind.TheVariants.{Symbol}
+use Rattle.plc_lex.specs.declared.token.Symbol.TheVariants.{CloseBrace, Semicolon}
+use Rattle.plc_syntax.specs.Trees.{Text, each_then, maybe_then, comma_name_then, names_then}
+use Rattle.plc_syntax.specs.Trees.{PointerField, DataField, field_then, shared_then}
+use Rattle.plc_syntax.specs.Trees.{Declares, function_then, UseHazard, UseEpoch, watch_then}
+use Rattle.plc_syntax.specs.Trees.{OneOf, OfThreads, Auxiliary, ghost_then}
+use Rattle.plc_syntax.specs.Trees.{PlaceOf, place_then, NullAtom, NumberAtom, NameAtom, atom_then}
+use Rattle.plc_syntax.specs.Trees.{NullValue, NewValue, NumberValue, MarkValue, UnmarkValue, PlaceValue}
+use Rattle.plc_syntax.specs.Trees.{value_then, SetName, SetField, set_then}
+use Rattle.plc_syntax.specs.Trees.{RefreshName, RefreshField, refresh_then}
+use Rattle.plc_syntax.specs.Trees.{NameGhost, MeGhost, NoneGhost, ghost_value_then}
+use Rattle.plc_syntax.specs.Trees.{SetGhost, ghost_set_then}
+use Rattle.plc_syntax.specs.Trees.{InitialSet, InitialGhost, initial_then, init_then}
+use Rattle.plc_syntax.specs.Trees.{MarkedTest, UnmarkedTest, Compares, test_then, name_or_null_then}
+use Rattle.plc_syntax.specs.Trees.{TestCondition, RefreshCondition, CasCondition, condition_then}
+use Rattle.plc_syntax.specs.Trees.{SetPrimitive, RefreshPrimitive, GhostPrimitive, ActivePrimitive}
+use Rattle.plc_syntax.specs.Trees.{AssumePrimitive, SkipPrimitive, primitive_then, primitive_line_then}
+use Rattle.plc_syntax.specs.Trees.{NoArgument, NullArgument, NameArgument, ActiveArgument, argument_then}
+use Rattle.plc_syntax.specs.Trees.{during_then, PrimitiveStatement, AtomicStatement, CallStatement}
+use Rattle.plc_syntax.specs.Trees.{IfStatement, ChooseStatement, LoopStatement, BreakStatement, ReturnStatement}
+use Rattle.plc_syntax.specs.Trees.{LabelStatement, NoStatement, Then, NoElse, ElseBlock}
+use Rattle.plc_syntax.specs.Trees.{NoOr, OrBlock, statement_then, statements_then, else_then, or_then}
+use Rattle.plc_syntax.specs.Trees.{parameters_then, Operates, op_then}
+use Rattle.plc_syntax.specs.Trees.{PlaceTerm, NullTerm, NumberTerm, MeTerm, NoneTerm, term_then}
+use Rattle.plc_syntax.specs.Trees.{RetiredFlag, FlagLiteral, NotLiteral, EqualityLiteral, literal_then}
+use Rattle.plc_syntax.specs.Trees.{NoBound, AllOf, bound_then, or_literal_then, Claims}
+use Rattle.plc_syntax.specs.Trees.{clause_then, InvariantItem, OverItem, AtItem, item_then, depth_then}
+use Rattle.plc_syntax.specs.Trees.{Outlined, outline_then}
 use Rattle.plc_syntax.specs.Syntax.{kinds}
-use Rattle.plc_syntax.specs.Marks.{is_mark_word, tokens_use_marks}
+use Rattle.plc_syntax.specs.Marks.{is_mark_word, tokens_use_marks, value_uses_marks, set_uses_marks}
+use Rattle.plc_syntax.specs.Marks.{initial_uses_marks, init_uses_marks, test_uses_marks, condition_tree_uses_marks}
+use Rattle.plc_syntax.specs.Marks.{primitive_uses_marks, statement_tree_uses_marks, block_uses_marks}
+use Rattle.plc_syntax.specs.Marks.{else_uses_marks, or_uses_marks, op_uses_marks, TreesSpellTheirMarks}
 
 -- a test of tokens by their kinds
 pub any_of_kinds : (ts : List Token) → list_any (λ t. is_mark_word t.kind) ts ≡ tokens_use_marks (kinds ts)
 any_of_kinds [] = refl
 any_of_kinds (t ∷ ts) = ap (λ b. is_mark_word t.kind || b) (any_of_kinds ts)
+
+-- ---- forms that never use marks
+
+-- the tokens of a tree use none
+abbrev Plain : {X : Type 0} → (X → List TokenKind → List TokenKind) → Type 0
+Plain {X} x_then = (x : X) (rest : List TokenKind) → tokens_use_marks (x_then x rest) ≡ tokens_use_marks rest
+
+each_plain : {X : Type 0} (x_then : X → List TokenKind → List TokenKind) → Plain x_then → Plain (each_then x_then)
+each_plain x_then one [] r = refl
+each_plain x_then one (x ∷ xs) r = one x (each_then x_then xs r) ∙ each_plain x_then one xs r
+
+maybe_plain : {X : Type 0} (x_then : X → List TokenKind → List TokenKind) → Plain x_then → Plain (maybe_then x_then)
+maybe_plain x_then one None r = refl
+maybe_plain x_then one (Some x) r = one x r
+
+names_plain : (n : Text) → Plain (names_then n)
+names_plain n ns r = each_plain comma_name_then (λ m rest. refl) ns r
+
+place_plain : Plain place_then
+place_plain (PlaceOf n None) r = refl
+place_plain (PlaceOf n (Some f)) r = refl
+
+field_plain : Plain field_then
+field_plain (PointerField n) r = refl
+field_plain (DataField n) r = refl
+
+function_plain : Plain function_then
+function_plain (Declares n true) r = refl
+function_plain (Declares n false) r = refl
+
+watch_plain : Plain watch_then
+watch_plain (UseHazard f) r = refl
+watch_plain (UseEpoch e l) r = refl
+
+ghost_plain : Plain ghost_then
+ghost_plain (Auxiliary n (OneOf v vs)) r = names_plain v vs (Symbol CloseBrace ∷ Symbol Semicolon ∷ r)
+ghost_plain (Auxiliary n OfThreads) r = refl
+
+atom_plain : Plain atom_then
+atom_plain NullAtom r = refl
+atom_plain (NumberAtom n) r = refl
+atom_plain (NameAtom n) r = refl
+
+refresh_plain : Plain refresh_then
+refresh_plain (RefreshName n p) r = place_plain p r
+refresh_plain (RefreshField n f q) r = refl
+
+ghost_value_plain : Plain ghost_value_then
+ghost_value_plain (NameGhost n) r = refl
+ghost_value_plain MeGhost r = refl
+ghost_value_plain NoneGhost r = refl
+
+ghost_set_plain : Plain ghost_set_then
+ghost_set_plain (SetGhost n g v) r = ghost_value_plain v r
+
+name_or_null_plain : Plain name_or_null_then
+name_or_null_plain None r = refl
+name_or_null_plain (Some n) r = refl
+
+argument_plain : Plain argument_then
+argument_plain NoArgument r = refl
+argument_plain NullArgument r = refl
+argument_plain (NameArgument n) r = refl
+argument_plain (ActiveArgument n) r = refl
+
+parameters_plain : Plain parameters_then
+parameters_plain [] r = refl
+parameters_plain (n ∷ ns) r = names_plain n ns r
+
+term_plain : Plain term_then
+term_plain (PlaceTerm p) r = place_plain p r
+term_plain NullTerm r = refl
+term_plain (NumberTerm n) r = refl
+term_plain MeTerm r = refl
+term_plain NoneTerm r = refl
+
+literal_plain : Plain literal_then
+literal_plain (FlagLiteral (RetiredFlag n)) r = refl
+literal_plain (NotLiteral (RetiredFlag n)) r = refl
+literal_plain (EqualityLiteral a true b) r = term_plain a _ ∙ term_plain b r
+literal_plain (EqualityLiteral a false b) r = term_plain a _ ∙ term_plain b r
+
+or_literal_plain : Plain or_literal_then
+or_literal_plain l r = literal_plain l r
+
+bound_plain : Plain bound_then
+bound_plain NoBound r = refl
+bound_plain (AllOf n None) r = refl
+bound_plain (AllOf n (Some m)) r = refl
+
+clause_plain : Plain clause_then
+clause_plain (Claims b l ls) r =
+    bound_plain b _ ∙ (literal_plain l _ ∙ each_plain or_literal_then or_literal_plain ls r)
+
+item_plain : Plain item_then
+item_plain (InvariantItem c) r = clause_plain c (Symbol Semicolon ∷ r)
+item_plain (OverItem n c) r = clause_plain c (Symbol Semicolon ∷ r)
+item_plain (AtItem n ns c) r = names_plain n ns _ ∙ clause_plain c (Symbol Semicolon ∷ r)
+
+outline_plain : Plain outline_then
+outline_plain (Outlined d items) r =
+    maybe_plain depth_then (λ n rest. refl) d _ ∙ each_plain item_then item_plain items (Symbol CloseBrace ∷ r)
+
+-- ---- forms that may use them
+
+-- the tokens of a tree use marks where this says so
+abbrev Spells : {X : Type 0} → (X → List TokenKind → List TokenKind) → (X → Bool) → Type 0
+Spells {X} x_then uses = (x : X) (r : List TokenKind) →
+    tokens_use_marks (x_then x r) ≡ (uses x || tokens_use_marks r)
+
+-- two trees, one after the other
+joined : (a b c d e : Bool) → c ≡ (a || d) → d ≡ (b || e) → c ≡ (a || b || e)
+joined true b c d e p q = p
+joined false b c d e p q = p ∙ q
+
+each_spells : {X : Type 0} (x_then : X → List TokenKind → List TokenKind) (uses : X → Bool) → Spells x_then uses
+    → Spells (each_then x_then) (list_any uses)
+each_spells x_then uses one [] r = refl
+each_spells x_then uses one (x ∷ xs) r =
+    joined (uses x) (list_any uses xs) _ _ _ (one x (each_then x_then xs r)) (each_spells x_then uses one xs r)
+
+value_spells : Spells value_then value_uses_marks
+value_spells NullValue r = refl
+value_spells NewValue r = refl
+value_spells (NumberValue n) r = refl
+value_spells (MarkValue n) r = refl
+value_spells (UnmarkValue n) r = refl
+value_spells (PlaceValue p) r = place_plain p r
+
+set_spells : Spells set_then set_uses_marks
+set_spells (SetName n v) r = value_spells v r
+set_spells (SetField n f a) r = atom_plain a r
+
+initial_spells : Spells initial_then initial_uses_marks
+initial_spells (InitialSet s) r = set_spells s (Symbol Semicolon ∷ r)
+initial_spells (InitialGhost g) r = ghost_set_plain g (Symbol Semicolon ∷ r)
+
+init_spells : Spells (maybe_then init_then) init_uses_marks
+init_spells None r = refl
+init_spells (Some sets) r = each_spells initial_then initial_uses_marks initial_spells sets (Symbol CloseBrace ∷ r)
+
+test_spells : Spells test_then test_uses_marks
+test_spells (MarkedTest n) r = refl
+test_spells (UnmarkedTest n) r = refl
+test_spells (Compares n c a) r = atom_plain a r
+
+condition_spells : Spells condition_then condition_tree_uses_marks
+condition_spells (TestCondition t) r = test_spells t r
+condition_spells (RefreshCondition n p) r = place_plain p r
+condition_spells (CasCondition true n old new) r = name_or_null_plain old _ ∙ name_or_null_plain new _
+condition_spells (CasCondition false n old new) r = name_or_null_plain old _ ∙ name_or_null_plain new _
+
+primitive_spells : Spells primitive_then primitive_uses_marks
+primitive_spells (SetPrimitive s) r = set_spells s r
+primitive_spells (RefreshPrimitive x) r = refresh_plain x r
+primitive_spells (GhostPrimitive g) r = ghost_set_plain g r
+primitive_spells (ActivePrimitive n) r = refl
+primitive_spells (AssumePrimitive t) r = test_spells t r
+primitive_spells SkipPrimitive r = refl
+
+primitive_line_spells : Spells primitive_line_then primitive_uses_marks
+primitive_line_spells p r = primitive_spells p (Symbol Semicolon ∷ r)
+
+mutual
+  statement_spells : Spells statement_then statement_tree_uses_marks
+  statement_spells (PrimitiveStatement p) r = primitive_spells p (Symbol Semicolon ∷ r)
+  statement_spells (AtomicStatement ps) r =
+      each_spells primitive_line_then primitive_uses_marks primitive_line_spells ps (Symbol CloseBrace ∷ r)
+  statement_spells (CallStatement f a d) r =
+      argument_plain a _ ∙ maybe_plain during_then (λ n rest. refl) d (Symbol Semicolon ∷ r)
+  statement_spells (IfStatement c b e) r =
+      joined (condition_tree_uses_marks c || block_uses_marks b) (else_uses_marks e) _ _ _
+      (joined (condition_tree_uses_marks c) (block_uses_marks b) _ _ _ (condition_spells c _) (block_spells b _))
+      (else_spells e r)
+  statement_spells (ChooseStatement a b os) r =
+      joined (block_uses_marks a) (block_uses_marks b || or_uses_marks os) _ _ _ (block_spells a _)
+      (joined (block_uses_marks b) (or_uses_marks os) _ _ _ (block_spells b _) (or_spells os r))
+  statement_spells (LoopStatement b) r = block_spells b (Symbol CloseBrace ∷ r)
+  statement_spells BreakStatement r = refl
+  statement_spells ReturnStatement r = refl
+  statement_spells (LabelStatement n) r = refl
+
+  block_spells : Spells statements_then block_uses_marks
+  block_spells NoStatement r = refl
+  block_spells (Then s b) r =
+      joined (statement_tree_uses_marks s) (block_uses_marks b) _ _ _ (statement_spells s _) (block_spells b r)
+
+  else_spells : Spells else_then else_uses_marks
+  else_spells NoElse r = refl
+  else_spells (ElseBlock b) r = block_spells b (Symbol CloseBrace ∷ r)
+
+  or_spells : Spells or_then or_uses_marks
+  or_spells NoOr r = refl
+  or_spells (OrBlock b os) r =
+      joined (block_uses_marks b) (or_uses_marks os) _ _ _ (block_spells b _) (or_spells os r)
+
+op_spells : Spells op_then op_uses_marks
+op_spells (Operates n ps locals b) r =
+    parameters_plain ps _ ∙ (each_plain field_then field_plain locals _ ∙ block_spells b (Symbol CloseBrace ∷ r))
+
+-- nothing comes after a file
+ends : (b : Bool) → (b || false) ≡ b
+ends true = refl
+ends false = refl
+
+pub marks_spelled : TreesSpellTheirMarks
+marks_spelled f =
+    each_plain field_then field_plain f.fields _
+    ∙ (each_plain shared_then (λ n rest. refl) f.pointers _
+    ∙ (each_plain function_then function_plain f.functions _
+    ∙ (maybe_plain watch_then watch_plain f.watched _
+    ∙ (each_plain ghost_then ghost_plain f.ghosts _
+    ∙ (joined (init_uses_marks f.starts) (list_any op_uses_marks f.ops) _ _ _ (init_spells f.starts _)
+    (each_spells op_then op_uses_marks op_spells f.ops _)
+    ∙ (ap (λ k. init_uses_marks f.starts || list_any op_uses_marks f.ops || k)
+    (maybe_plain outline_then outline_plain f.outlined [])
+    ∙ ends (init_uses_marks f.starts || list_any op_uses_marks f.ops)))))))

@@ -1,9 +1,20 @@
--- Which tokens use marks: those among which one of the four words of marks stands.
-use Rattle.std.specs.Prelude.{Bool, true, false, List}
+-- Which tokens use marks: those among which one of the four words of marks stands. Which trees do, form by form, and
+-- that a file's tokens do exactly where its tree does.
+use Rattle.std.specs.Prelude.{◌≡◌, Bool, true, false, ◌||◌, Option, Some, None, List}
 use Rattle.std.specs.List.{list_any}
 use Rattle.plc_lex.specs.declared.token.TokenKind.{TokenKind}
 use Rattle.plc_lex.specs.declared.token.TokenKind.TheVariants.{Word}
 use Rattle.plc_lex.specs.declared.token.Keyword.TheVariants.{Mark, Unmark, Marked, Unmarked}
+use Rattle.plc_syntax.specs.Trees.{ValueTree, NullValue, NewValue, NumberValue, MarkValue, UnmarkValue, PlaceValue}
+use Rattle.plc_syntax.specs.Trees.{SetTree, SetName, SetField, InitialTree, InitialSet, InitialGhost}
+use Rattle.plc_syntax.specs.Trees.{TestTree, MarkedTest, UnmarkedTest, Compares}
+use Rattle.plc_syntax.specs.Trees.{ConditionTree, TestCondition, RefreshCondition, CasCondition}
+use Rattle.plc_syntax.specs.Trees.{PrimitiveTree, SetPrimitive, RefreshPrimitive, GhostPrimitive, ActivePrimitive}
+use Rattle.plc_syntax.specs.Trees.{AssumePrimitive, SkipPrimitive}
+use Rattle.plc_syntax.specs.Trees.{StatementTree, PrimitiveStatement, AtomicStatement, CallStatement, IfStatement}
+use Rattle.plc_syntax.specs.Trees.{ChooseStatement, LoopStatement, BreakStatement, ReturnStatement, LabelStatement}
+use Rattle.plc_syntax.specs.Trees.{BlockTree, NoStatement, Then, ElseTree, NoElse, ElseBlock, OrTree, NoOr, OrBlock}
+use Rattle.plc_syntax.specs.Trees.{OpTree, Operates, FileTree, file_tokens}
 
 -- the token is one of the four words
 abbrev pub is_mark_word : TokenKind → Bool
@@ -16,3 +27,87 @@ is_mark_word k = false
 -- one of the tokens is
 abbrev pub tokens_use_marks : List TokenKind → Bool
 tokens_use_marks ts = list_any is_mark_word ts
+
+-- what is put into a name is `mark` or `unmark` of one
+abbrev pub value_uses_marks : ValueTree → Bool
+value_uses_marks NullValue = false
+value_uses_marks NewValue = false
+value_uses_marks (NumberValue n) = false
+value_uses_marks (MarkValue n) = true
+value_uses_marks (UnmarkValue n) = true
+value_uses_marks (PlaceValue p) = false
+
+-- an assignment puts such a value into a name
+abbrev pub set_uses_marks : SetTree → Bool
+set_uses_marks (SetName n v) = value_uses_marks v
+set_uses_marks (SetField n f a) = false
+
+-- an assignment of the init block does
+abbrev pub initial_uses_marks : InitialTree → Bool
+initial_uses_marks (InitialSet s) = set_uses_marks s
+initial_uses_marks (InitialGhost g) = false
+
+-- one of the init block's does, where there is one
+abbrev pub init_uses_marks : Option (List InitialTree) → Bool
+init_uses_marks None = false
+init_uses_marks (Some sets) = list_any initial_uses_marks sets
+
+-- the test is `marked` or `unmarked`
+abbrev pub test_uses_marks : TestTree → Bool
+test_uses_marks (MarkedTest n) = true
+test_uses_marks (UnmarkedTest n) = true
+test_uses_marks (Compares n c a) = false
+
+-- the condition of an `if` is such a test
+abbrev pub condition_tree_uses_marks : ConditionTree → Bool
+condition_tree_uses_marks (TestCondition t) = test_uses_marks t
+condition_tree_uses_marks (RefreshCondition n p) = false
+condition_tree_uses_marks (CasCondition a n old new) = false
+
+-- a primitive is such an assignment or assumes such a test
+abbrev pub primitive_uses_marks : PrimitiveTree → Bool
+primitive_uses_marks (SetPrimitive s) = set_uses_marks s
+primitive_uses_marks (RefreshPrimitive r) = false
+primitive_uses_marks (GhostPrimitive g) = false
+primitive_uses_marks (ActivePrimitive n) = false
+primitive_uses_marks (AssumePrimitive t) = test_uses_marks t
+primitive_uses_marks SkipPrimitive = false
+
+-- something in a statement, in the statements of a block, in an `else` or in the further blocks of a choice does
+abbrev mutual
+  pub statement_tree_uses_marks : StatementTree → Bool
+  statement_tree_uses_marks (PrimitiveStatement p) = primitive_uses_marks p
+  statement_tree_uses_marks (AtomicStatement ps) = list_any primitive_uses_marks ps
+  statement_tree_uses_marks (CallStatement f a d) = false
+  statement_tree_uses_marks (IfStatement c b e) =
+      condition_tree_uses_marks c || block_uses_marks b || else_uses_marks e
+  statement_tree_uses_marks (ChooseStatement a b os) =
+      block_uses_marks a || (block_uses_marks b || or_uses_marks os)
+  statement_tree_uses_marks (LoopStatement b) = block_uses_marks b
+  statement_tree_uses_marks BreakStatement = false
+  statement_tree_uses_marks ReturnStatement = false
+  statement_tree_uses_marks (LabelStatement n) = false
+
+  pub block_uses_marks : BlockTree → Bool
+  block_uses_marks NoStatement = false
+  block_uses_marks (Then s b) = statement_tree_uses_marks s || block_uses_marks b
+
+  pub else_uses_marks : ElseTree → Bool
+  else_uses_marks NoElse = false
+  else_uses_marks (ElseBlock b) = block_uses_marks b
+
+  pub or_uses_marks : OrTree → Bool
+  or_uses_marks NoOr = false
+  or_uses_marks (OrBlock b os) = block_uses_marks b || or_uses_marks os
+
+-- an operation does where its body does
+abbrev pub op_uses_marks : OpTree → Bool
+op_uses_marks (Operates n ps locals b) = block_uses_marks b
+
+-- a file does where its init block or an operation does; no outline can
+abbrev pub file_tree_uses_marks : FileTree → Bool
+file_tree_uses_marks f = init_uses_marks f.starts || list_any op_uses_marks f.ops
+
+-- the tokens of a file use marks exactly where its tree does
+abbrev pub TreesSpellTheirMarks : Type 0
+TreesSpellTheirMarks = (f : FileTree) → tokens_use_marks (file_tokens f) ≡ file_tree_uses_marks f

@@ -1,7 +1,8 @@
-// Whether a file uses marks, as its tokens say: one of the four words stands among them.
+// Whether a file uses marks, as its tokens say: one of the four words stands among them. The law that
+// its tree says the same stands beside it, so that what is said of tokens can be said of a file's meaning.
 ghost use Rattle.std.specs.Prelude.{◌≡◌};
 ghost use Rattle.std.specs.List.{list_any};
-ghost use Rattle.plc_syntax.specs.Marks.{is_mark_word, tokens_use_marks};
+ghost use Rattle.plc_syntax.specs.Marks.{is_mark_word, tokens_use_marks, TreesSpellTheirMarks};
 ghost use Rattle.plc_syntax.specs.Syntax.{kinds};
 
 use plc_lex::{Keyword, Token, TokenKind};
@@ -30,3 +31,9 @@ pub fn use_marks(tokens: &[Token]) -> bool
 {
     has_mark_word(tokens)
 }
+
+/// The law that the tokens of a file use marks exactly where its tree does: where its init block or an
+/// operation assigns `mark p` or `unmark p`, or tests `marked p` or `unmarked p`.
+pub fn trees_spell_their_marks()
+    ensures { TreesSpellTheirMarks }
+{}

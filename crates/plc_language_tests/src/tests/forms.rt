@@ -9,14 +9,15 @@ use std::alloc::{AllocError, Global};
 const EACH_FORM: &str = "struct N { ptr next; data val; } shared Top; shared End;
 call enter(); call protect(ptr); use epoch(enter, protect);
 ghost st { made, cut }; ghost owner thread;
-init { Top := new; Top.next := null; ghost Top.owner := none; }
+init { Top := new; Top.next := null; End := mark Top; ghost Top.owner := none; }
 op f(v, w) { ptr n; data x;
 n := null; n := 7; n := m; n := m.next; n.val := 7; n.next := m; n.next := null;
+n := mark m; n := unmark Top; assume marked n; assume unmarked Top;
 n ?= Top; n ?= Top.next; n.next ?= Top; ghost n.st := cut; ghost n.owner := me;
 active n; assume n == null; assume x != 7; assume x < 7; assume x >= w; skip;
-atomic { n := Top; n.next ?= Top; ghost n.st := made; active n; assume n == m; skip; }
+atomic { n := Top; n.next ?= Top; ghost n.st := made; active n; assume n == m; n := mark n; assume marked n; skip; }
 enter(); protect(null); protect(n) during l; protect(active n);
-if (n == null) { } if (x < 7) { skip; } else { return; }
+if (n == null) { } if (marked n) { } if (unmarked n) { } if (x < 7) { skip; } else { return; }
 if (n ?= Top.next) { } if (cas(Top, n, null)) { } if (cas(active Top, null, n)) { }
 choose { } or { break; } or { label l; } loop { } }
 op g() { }

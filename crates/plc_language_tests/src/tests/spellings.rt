@@ -76,11 +76,13 @@ const SPELLINGS: &str = "\
 
 const KEYWORDS: &str =
     "struct ptr data shared call use hazard epoch ghost thread init op atomic if else loop break return skip choose \
-     or label during active assume new null cas outline depth inv over at all not retired me none";
+     or label during active assume new null cas outline depth inv over at all not retired me none \
+     mark unmark marked unmarked";
 
 const WORDS: &str =
     "Struct Ptr Data Shared Call Use Hazard Epoch Ghost Thread Init Op Atomic If Else Loop Break Return Skip Choose \
-     Or Label During Active Assume New Null Cas Outline Depth Inv Over At All Not Retired Me None ";
+     Or Label During Active Assume New Null Cas Outline Depth Inv Over At All Not Retired Me None \
+     Mark Unmark Marked Unmarked ";
 
 // The words of a text without what is no keyword.
 fn push_keywords(text: &mut String, tokens: &[Token]) -> Result<(), AllocError> {
