@@ -3,7 +3,7 @@ use Rattle.std.proofs.Common.{◌≡◌, List, ◌∷◌, Option, Some, None, tr
 use Rattle.plc_lex.specs.declared.token.TokenKind.{TokenKind}
 use Rattle.plc_lex.specs.declared.token.TokenKind.TheVariants.{Name, Symbol}
 use Rattle.plc_lex.specs.declared.token.Symbol.TheVariants.{Semicolon, CloseParen, OpenParen, Comma}
-use Rattle.plc_syntax.specs.Trees.{Text, comma_name_then, name_or_null_then, FieldTree, PointerField, DataField, field_then, shared_then, FunctionTree, Declares, function_then, WatchTree, UseHazard, UseEpoch, watch_then, PlaceOf, AtomTree, NullAtom, NumberAtom, NameAtom, atom_then, NullValue, NewValue, NumberValue, PlaceValue, SetTree, SetName, SetField, set_then, RefreshName, RefreshField, GhostValueTree, NameGhost, MeGhost, NoneGhost, ghost_value_then, SetGhost, InitialTree, InitialSet, InitialGhost, initial_then, SameAs, OtherThan, LessThan, NotLessThan, TestTree, Compares, test_then, ConditionTree, TestCondition, RefreshCondition, CasCondition, condition_then, PrimitiveTree, SetPrimitive, RefreshPrimitive, GhostPrimitive, ActivePrimitive, AssumePrimitive, SkipPrimitive, primitive_then, ArgumentTree, NoArgument, NullArgument, NameArgument, ActiveArgument, argument_then}
+use Rattle.plc_syntax.specs.Trees.{Text, comma_name_then, name_or_null_then, FieldTree, PointerField, DataField, field_then, shared_then, FunctionTree, Declares, function_then, WatchTree, UseHazard, UseEpoch, watch_then, PlaceOf, AtomTree, NullAtom, NumberAtom, NameAtom, atom_then, NullValue, NewValue, NumberValue, MarkValue, UnmarkValue, PlaceValue, SetTree, SetName, SetField, set_then, RefreshName, RefreshField, GhostValueTree, NameGhost, MeGhost, NoneGhost, ghost_value_then, SetGhost, InitialTree, InitialSet, InitialGhost, initial_then, SameAs, OtherThan, LessThan, NotLessThan, TestTree, MarkedTest, UnmarkedTest, Compares, test_then, ConditionTree, TestCondition, RefreshCondition, CasCondition, condition_then, PrimitiveTree, SetPrimitive, RefreshPrimitive, GhostPrimitive, ActivePrimitive, AssumePrimitive, SkipPrimitive, primitive_then, ArgumentTree, NoArgument, NullArgument, NameArgument, ActiveArgument, argument_then}
 use Rattle.plc_forms.specs.Forms.{field_of, shared_of, comma_name_of, function_of, watch_of, atom_of, set_of, ghost_value_of, test_of, name_or_null_of, condition_of, primitive_of, primitive_line_of, initial_line_of, call_of}
 
 -- ---- declarations
@@ -37,6 +37,8 @@ pub set_reads : (s : SetTree) (rest : List TokenKind) → set_of (set_then s (Sy
 set_reads (SetName n NullValue) rest = refl
 set_reads (SetName n NewValue) rest = refl
 set_reads (SetName n (NumberValue m)) rest = refl
+set_reads (SetName n (MarkValue m)) rest = refl
+set_reads (SetName n (UnmarkValue m)) rest = refl
 set_reads (SetName n (PlaceValue (PlaceOf m None))) rest = refl
 set_reads (SetName n (PlaceValue (PlaceOf m (Some f)))) rest = refl
 set_reads (SetField n f a) rest = rw (atom_reads a (Symbol Semicolon ∷ rest)) refl
@@ -49,6 +51,8 @@ ghost_value_reads NoneGhost rest = refl
 -- ---- tests and conditions
 
 pub test_reads : (t : TestTree) (rest : List TokenKind) → test_of (test_then t rest) ≡ Some (t, rest)
+test_reads (MarkedTest n) rest = refl
+test_reads (UnmarkedTest n) rest = refl
 test_reads (Compares n SameAs a) rest = rw (atom_reads a rest) refl
 test_reads (Compares n OtherThan a) rest = rw (atom_reads a rest) refl
 test_reads (Compares n LessThan a) rest = rw (atom_reads a rest) refl
@@ -59,6 +63,8 @@ name_or_null_reads (Some n) rest = refl
 name_or_null_reads None rest = refl
 
 pub condition_reads : (c : ConditionTree) (rest : List TokenKind) → condition_of (condition_then c (Symbol CloseParen ∷ rest)) ≡ Some (c, Symbol CloseParen ∷ rest)
+condition_reads (TestCondition (MarkedTest n)) rest = refl
+condition_reads (TestCondition (UnmarkedTest n)) rest = refl
 condition_reads (TestCondition (Compares n SameAs a)) rest = rw (atom_reads a (Symbol CloseParen ∷ rest)) refl
 condition_reads (TestCondition (Compares n OtherThan a)) rest = rw (atom_reads a (Symbol CloseParen ∷ rest)) refl
 condition_reads (TestCondition (Compares n LessThan a)) rest = rw (atom_reads a (Symbol CloseParen ∷ rest)) refl

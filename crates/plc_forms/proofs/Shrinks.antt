@@ -3,12 +3,12 @@ use Rattle.std.proofs.Common.{◌≡◌, ◌<◌, ◌≤◌, ◌+◌, ℕ, List,
 use Rattle.plc_lex.specs.declared.token.TokenKind.{TokenKind}
 use Rattle.plc_lex.specs.declared.token.TokenKind.TheVariants.{Word, Name, Number, Symbol}
 use Rattle.plc_lex.specs.declared.token.Keyword.{Keyword}
-use Rattle.plc_lex.specs.declared.token.Keyword.TheVariants.{Ptr, Data, Ghost, Skip, Active, Assume, New, Null, Me, None as NoneWord}
+use Rattle.plc_lex.specs.declared.token.Keyword.TheVariants.{Ptr, Data, Ghost, Skip, Active, Assume, New, Null, Me, None as NoneWord, Mark, Unmark, Marked, Unmarked}
 use Rattle.plc_lex.specs.declared.token.Symbol.{Symbol as Punctuation}
 use Rattle.plc_lex.specs.declared.token.Symbol.TheVariants.{Assign, Refresh, Equal, Unequal, AtLeast, Less, Semicolon, Comma, Dot}
 use Rattle.plc_syntax.specs.Table.{same_punctuation}
-use Rattle.plc_syntax.specs.Trees.{Text, FieldTree, PointerField, DataField, PlaceTree, PlaceValue, SetName, SetField, RefreshName, RefreshField, SetGhost, InitialTree, InitialSet, InitialGhost, Compares, PrimitiveTree, SetPrimitive, RefreshPrimitive, GhostPrimitive, ActivePrimitive, AssumePrimitive}
-use Rattle.plc_forms.specs.Forms.{◌>>=◌, read_or, read_as, same_word, word_of, symbol_of, name_of, semicolon_of, name_symbol_of, symbol_name_of, word_name_of, field_of, comma_name_of, dot_name_of, place_with, place_of, value_of, atom_of, set_name_of, field_symbol_of, set_field_of, set_of, refresh_name_of, refresh_field_of, refresh_of, ghost_value_of, ghost_set_of, comparison_of, test_of, named_of, primitive_of, line_of, primitive_line_of, initial_of, initial_line_of}
+use Rattle.plc_syntax.specs.Trees.{Text, FieldTree, PointerField, DataField, PlaceTree, PlaceValue, MarkValue, UnmarkValue, SetName, SetField, RefreshName, RefreshField, SetGhost, InitialTree, InitialSet, InitialGhost, MarkedTest, UnmarkedTest, Compares, PrimitiveTree, SetPrimitive, RefreshPrimitive, GhostPrimitive, ActivePrimitive, AssumePrimitive}
+use Rattle.plc_forms.specs.Forms.{◌>>=◌, read_or, read_as, same_word, word_of, symbol_of, name_of, semicolon_of, name_symbol_of, symbol_name_of, word_name_of, field_of, comma_name_of, dot_name_of, place_with, place_of, value_of, atom_of, set_name_of, field_symbol_of, set_field_of, set_of, refresh_name_of, refresh_field_of, refresh_of, ghost_value_of, ghost_set_of, comparison_of, compared_of, test_of, named_of, primitive_of, line_of, primitive_line_of, initial_of, initial_line_of}
 
 -- at least so many of n tokens are taken; what is left is seen in the answer
 abbrev Takes : {A : Type 0} → (A → List TokenKind) → ℕ → ℕ → Option A → Type 0
@@ -42,6 +42,12 @@ either left n (Some x) b h k = h
 made : {X Y : Type 0} (f : X → Y) (n : ℕ) (o : Option (X × List TokenKind)) → Takes after 1 n o → Takes after 1 n (read_as f o)
 made f n None h = tt
 made f n (Some x) h = h
+
+-- what stands after a word, made into something else
+after_word : {X Y : Type 0} (f : X → Y) (rest : List TokenKind) (n : ℕ) (o : Option (X × List TokenKind))
+    → length rest + 1 ≤ n → Takes after 1 (length rest) o → Takes after 1 n (read_as f o)
+after_word f rest n None le h = tt
+after_word f rest n (Some x) le h = omega arith
 
 -- what was read before goes with the last token's rest
 last : {X : Type 0} (x : X) (n : ℕ) (o : Option (List TokenKind)) → Takes whole 1 n o → Takes after 0 n (o >>= λ rest. Some (x, rest))
@@ -101,6 +107,9 @@ value : (ts : List TokenKind) → Takes after 1 (length ts) (value_of ts)
 value (Word Null ∷ rest) = omega arith
 value (Word New ∷ rest) = omega arith
 value (Number n ∷ rest) = omega arith
+value (Word Mark ∷ rest) = after_word MarkValue rest (length (Word Mark ∷ rest)) (name_of rest) (omega arith) (name rest)
+value (Word Unmark ∷ rest) =
+    after_word UnmarkValue rest (length (Word Unmark ∷ rest)) (name_of rest) (omega arith) (name rest)
 value ts = made PlaceValue (length ts) (place_of ts) (place ts)
 
 atom : (ts : List TokenKind) → Takes after 1 (length ts) (atom_of ts)
@@ -146,16 +155,19 @@ comparison (Symbol Less ∷ rest) = omega arith
 comparison (Symbol AtLeast ∷ rest) = omega arith
 comparison ts = tt
 
-test : (ts : List TokenKind) → Takes after 1 (length ts) (test_of ts)
-test ts = next after after 1 (length ts) (name_of ts) _ (name ts) (λ n.
+compared : (ts : List TokenKind) → Takes after 1 (length ts) (compared_of ts)
+compared ts = next after after 1 (length ts) (name_of ts) _ (name ts) (λ n.
     next after after 0 (length n.1) (comparison_of n.1) _ (lax after (length n.1) (comparison_of n.1) (comparison n.1)) (λ c. then_form (Compares n.0 c.0) (length c.1) (atom_of c.1) (atom c.1)))
+
+test : (ts : List TokenKind) → Takes after 1 (length ts) (test_of ts)
+test (Word Marked ∷ rest) =
+    after_word MarkedTest rest (length (Word Marked ∷ rest)) (name_of rest) (omega arith) (name rest)
+test (Word Unmarked ∷ rest) =
+    after_word UnmarkedTest rest (length (Word Unmarked ∷ rest)) (name_of rest) (omega arith) (name rest)
+test ts = compared ts
 
 named : (ts : List TokenKind) → Takes after 1 (length ts) (named_of ts)
 named ts = either after (length ts) (read_as SetPrimitive (set_of ts)) (read_as RefreshPrimitive (refresh_of ts)) (made SetPrimitive (length ts) (set_of ts) (set ts)) (made RefreshPrimitive (length ts) (refresh_of ts) (refresh ts))
-
-after_word : {X Y : Type 0} (f : X → Y) (rest : List TokenKind) (n : ℕ) (o : Option (X × List TokenKind)) → length rest + 1 ≤ n → Takes after 1 (length rest) o → Takes after 1 n (read_as f o)
-after_word f rest n None le h = tt
-after_word f rest n (Some x) le h = omega arith
 
 primitive : (ts : List TokenKind) → Takes after 1 (length ts) (primitive_of ts)
 primitive (Word Skip ∷ rest) = omega arith

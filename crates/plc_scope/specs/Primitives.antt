@@ -251,25 +251,26 @@ condition_means s at (CasCondition is_active n old new) = cas_means s is_active 
 -- ---- primitives
 
 -- one primitive, where there is none for `skip`
-abbrev pub one : Result Primitive ParseFault → Result (Option Primitive) ParseFault
-one r = do
+abbrev pub some_primitive : Result Primitive ParseFault → Result (Option Primitive) ParseFault
+some_primitive r = do
   k ← r
   Ok (Some k)
 
+-- the primitive of a form in an operation; a claim's pointer stands after its word, and so does what is assumed
 unfoldable pub primitive_means : Scope → ℕ → PrimitiveTree → Result (Option Primitive) ParseFault
-primitive_means s at (SetPrimitive set) = one (set_means s at set)
-primitive_means s at (RefreshPrimitive refresh) = one (refresh_means s at refresh)
-primitive_means s at (GhostPrimitive set) = one (ghost_set_means s false at set)
+primitive_means s at (SetPrimitive set) = some_primitive (set_means s at set)
+primitive_means s at (RefreshPrimitive refresh) = some_primitive (refresh_means s at refresh)
+primitive_means s at (GhostPrimitive set) = some_primitive (ghost_set_means s false at set)
 primitive_means s at (ActivePrimitive n) = do
   p ← pointer_at s n (at + 1)
   Ok (Some (Active p))
-primitive_means s at (AssumePrimitive t) = one (test_means s (at + 1) t)
+primitive_means s at (AssumePrimitive t) = some_primitive (test_means s (at + 1) t)
 primitive_means s at SkipPrimitive = Ok None
 
 -- what stands in `init`
 unfoldable pub initial_means : Scope → ℕ → InitialTree → Result (Option Primitive) ParseFault
-initial_means s at (InitialSet set) = one (set_means s at set)
-initial_means s at (InitialGhost set) = one (ghost_set_means s true at set)
+initial_means s at (InitialSet set) = some_primitive (set_means s at set)
+initial_means s at (InitialGhost set) = some_primitive (ghost_set_means s true at set)
 
 -- ---- calls
 
