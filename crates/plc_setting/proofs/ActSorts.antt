@@ -19,7 +19,10 @@ use Rattle.plc_lang.specs.declared.syntax.Var.TheVariants as vars
 use Rattle.plc_lang.specs.declared.syntax.Local.{Local}
 use Rattle.plc_lang.specs.declared.syntax.Op.{Op}
 use Rattle.plc_lang.specs.declared.syntax.Primitive.{Primitive}
-use Rattle.plc_lang.specs.declared.syntax.Primitive.TheVariants.{Null, Copy, New, Load, Store, StoreNull, DataSet, DataLoad, DataStore, Eq, Ne, IsNull, NotNull, DataTest, Refresh, RefreshLoad, RefreshStore, Call, Done, Active, Ghost}
+use Rattle.plc_lang.specs.declared.syntax.Primitive.TheVariants.{Null, Copy, New, Load, Store, StoreNull, DataSet}
+use Rattle.plc_lang.specs.declared.syntax.Primitive.TheVariants.{DataLoad, DataStore, Eq, Ne, IsNull, NotNull, DataTest}
+use Rattle.plc_lang.specs.declared.syntax.Primitive.TheVariants.{Refresh, RefreshLoad, RefreshStore, Mark, Unmark}
+use Rattle.plc_lang.specs.declared.syntax.Primitive.TheVariants.{MarkTest, Call, Done, Active, Ghost}
 use Rattle.plc_lang.specs.Locals.{is_pointer, is_data, is_parameter, is_other_data, locals_or_none as locals_of_op}
 use Rattle.plc_lang.specs.Numbering.{places_from}
 use Rattle.plc_lang.specs.Shape.{Shape, VarIn, NumIn, ArgIn, PrimitiveIn, PrimitivesIn, init_shape, shape_of}
@@ -38,7 +41,9 @@ use Rattle.plc_setting.specs.declared.acts.Act.{Act}
 use Rattle.plc_setting.specs.declared.obligations.Obligation.{Obligation}
 use Rattle.plc_setting.specs.declared.obligations.Obligation.TheVariants.{Start, Enter, Own, Other, Claim}
 use Rattle.plc_setting.specs.declared.setting.Variables.{Variables}
-use Rattle.plc_setting.specs.Acts.{symbol_at, pointer_symbol, number_symbol, ghost_symbol, data_test, call_act, act_of, acts_of}
+use Rattle.plc_setting.specs.Acts.{symbol_at, pointer_symbol, number_symbol, ghost_symbol, data_test, pointers_differ}
+use Rattle.plc_setting.specs.Acts.{call_act, act_of, acts_of}
+use Rattle.plc_setting.specs.Marks.{program_uses_marks}
 use Rattle.plc_setting.specs.Fit.{Fits}
 use Rattle.plc_setting.specs.Parts.{prims_of, executed, acting_locals, locals_of_step}
 use Rattle.plc_setting.specs.Setting.{local_symbol, variables_of}
@@ -212,44 +217,52 @@ module _ (flow : Flow) (o : Obligation) (acts : List Act) (h : Shape) (of : IsOf
   test_fits rels.Lt a b e = tt
   test_fits rels.Ge a b e = tt
 
+  differ_fits : (marked : Bool) (a b : Symbol) → sort a ≡ sort b → ActFits flow.file sort (pointers_differ marked a b)
+  differ_fits true a b e = tt
+  differ_fits false a b e = e
+
   call_fits : (b : Bool) (a : Arg) → ArgIn h a → ActFits flow.file sort (call_act mine b a)
   call_fits true (args.Var p) there = (of_variable p there, refl)
   call_fits true args.Null there = tt
   call_fits true args.None there = tt
   call_fits false a there = tt
 
-  pub act_fits : (k : Primitive) → PrimitiveIn h k → IsWellSorted flow.file k → ActFits flow.file sort (act_of flow.file.ghosts mine k)
-  act_fits (Null p) n s = of_variable p n
-  act_fits (Copy p q) n s = of_variable p n.0 ∙ sym (of_variable q n.1)
-  act_fits (New p) n s = of_variable p n
-  act_fits (Load p q f) n s = (of_variable q n.1, of_variable p n.0, of_field true f s)
-  act_fits (Store p f q) n s = (of_variable p n.0, of_variable q n.2 ∙ sym (of_field true f s))
-  act_fits (StoreNull p f) n s = (of_variable p n.0, sym (of_field true f s))
-  act_fits (DataSet x e) n s = of_data x n.0 ∙ sym (of_number e n.1)
-  act_fits (DataLoad x q f) n s = (of_variable q n.1, of_data x n.0, of_field false f s)
-  act_fits (DataStore p f e) n s = (of_variable p n.0, of_number e n.2 ∙ sym (of_field false f s))
-  act_fits (Eq p q) n s = of_variable p n.0 ∙ sym (of_variable q n.1)
-  act_fits (Ne p q) n s = of_variable p n.0 ∙ sym (of_variable q n.1)
-  act_fits (IsNull p) n s = of_variable p n
-  act_fits (NotNull p) n s = of_variable p n
-  act_fits (DataTest r x e) n s = test_fits r _ _ (of_data x n.0 ∙ sym (of_number e n.1))
-  act_fits (Refresh p q) n s = of_pointer p n.0 ∙ sym (of_variable q n.1)
-  act_fits (RefreshLoad p q f) n s = (of_variable q n.1, of_pointer p n.0, of_field true f s)
-  act_fits (RefreshStore p f q) n s = (of_variable p n.0, of_variable q n.2 ∙ sym (of_field true f s))
-  act_fits (Call f a) n s = call_fits (is_retire f) a n
-  act_fits (Done f) n s = tt
-  act_fits (Active p) n s = tt
-  act_fits (Ghost p g v) n s = (of_variable p n, of_ghost g v s)
+  pub act_fits : (marked : Bool) (k : Primitive) → PrimitiveIn h k → IsWellSorted flow.file k → ActFits flow.file sort (act_of marked flow.file.ghosts mine k)
+  act_fits marked (Null p) n s = of_variable p n
+  act_fits marked (Copy p q) n s = of_variable p n.0 ∙ sym (of_variable q n.1)
+  act_fits marked (New p) n s = of_variable p n
+  act_fits marked (Load p q f) n s = (of_variable q n.1, of_variable p n.0, of_field true f s)
+  act_fits marked (Store p f q) n s = (of_variable p n.0, of_variable q n.2 ∙ sym (of_field true f s))
+  act_fits marked (StoreNull p f) n s = (of_variable p n.0, sym (of_field true f s))
+  act_fits marked (DataSet x e) n s = of_data x n.0 ∙ sym (of_number e n.1)
+  act_fits marked (DataLoad x q f) n s = (of_variable q n.1, of_data x n.0, of_field false f s)
+  act_fits marked (DataStore p f e) n s = (of_variable p n.0, of_number e n.2 ∙ sym (of_field false f s))
+  act_fits marked (Eq p q) n s = of_variable p n.0 ∙ sym (of_variable q n.1)
+  act_fits marked (Ne p q) n s = differ_fits marked _ _ (of_variable p n.0 ∙ sym (of_variable q n.1))
+  act_fits marked (IsNull p) n s = of_variable p n
+  act_fits marked (NotNull p) n s = of_variable p n
+  act_fits marked (DataTest r x e) n s = test_fits r _ _ (of_data x n.0 ∙ sym (of_number e n.1))
+  act_fits marked (Refresh p q) n s = of_pointer p n.0 ∙ sym (of_variable q n.1)
+  act_fits marked (RefreshLoad p q f) n s = (of_variable q n.1, of_pointer p n.0, of_field true f s)
+  act_fits marked (RefreshStore p f q) n s = (of_variable p n.0, of_variable q n.2 ∙ sym (of_field true f s))
+  act_fits marked (Mark p q) n s = of_variable p n.0 ∙ sym (of_variable q n.1)
+  act_fits marked (Unmark p q) n s = of_variable p n.0 ∙ sym (of_variable q n.1)
+  act_fits marked (MarkTest p m) n s = tt
+  act_fits marked (Call f a) n s = call_fits (is_retire f) a n
+  act_fits marked (Done f) n s = tt
+  act_fits marked (Active p) n s = tt
+  act_fits marked (Ghost p g v) n s = (of_variable p n, of_ghost g v s)
 
-  pub each_fits : (ks : List Primitive) → PrimitivesIn h ks → AreWellSorted flow.file ks → All (ActFits flow.file sort) (acts_of flow.file.ghosts mine ks)
-  each_fits ks there sorted = λ i d within.
-      let size : length (acts_of flow.file.ghosts mine ks) ≡ length ks = length-map ks (act_of flow.file.ghosts mine) in
+  pub each_fits : (marked : Bool) (ks : List Primitive) → PrimitivesIn h ks → AreWellSorted flow.file ks → All (ActFits flow.file sort) (acts_of marked flow.file.ghosts mine ks)
+  each_fits marked ks there sorted = λ i d within.
+      let size : length (acts_of marked flow.file.ghosts mine ks) ≡ length ks = length-map ks (act_of marked flow.file.ghosts mine) in
       let less : i < length ks = omega (arith, size) in
       let k = slice_index_or ks i (Null (vars.Shared 0)) in
-      subst (ActFits flow.file sort) (sym (get_or-map (act_of flow.file.ghosts mine) ks i (Null (vars.Shared 0)) d less)) (act_fits k (in_at h ks i _ there less) (sorted_at flow.file ks i _ sorted less))
+      subst (ActFits flow.file sort) (sym (get_or-map (act_of marked flow.file.ghosts mine) ks i (Null (vars.Shared 0)) d less)) (act_fits marked k (in_at h ks i _ there less) (sorted_at flow.file ks i _ sorted less))
 
 pub acts_fit : (flow : Flow) (outline : Outline) (o : Obligation) → Fits flow outline → ActsFit flow outline o
 acts_fit flow outline o fits =
     let e = executes flow outline o fits in
-    let acts = acts_of flow.file.ghosts (variables_of false (acting_locals flow o)) (executed flow o) in
-    each_fits flow o acts e.shape e.locals (executed flow o) e.names (executed_sorted flow outline o fits)
+    let marked = program_uses_marks flow outline in
+    let acts = acts_of marked flow.file.ghosts (variables_of false (acting_locals flow o)) (executed flow o) in
+    each_fits flow o acts e.shape e.locals marked (executed flow o) e.names (executed_sorted flow outline o fits)

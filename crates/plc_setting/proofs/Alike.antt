@@ -13,6 +13,7 @@ all_four f {a = a} {p = p} {b = b} {c = c} {d = d} e h k m = ap (λ x. f x b c d
 
 -- the parts of a setting
 pub record AreAlike (s t : Setting) : Type 0 where
+  pub marked : s.marked ≡ t.marked
   pub mine : s.mine ≡ t.mine
   pub theirs : s.theirs ≡ t.theirs
   pub owned : s.owned ≡ t.owned
@@ -27,6 +28,7 @@ pub record AreAlike (s t : Setting) : Type 0 where
 
 pub one_setting : (s t : Setting) → AreAlike s t → s ≡ t
 one_setting s t e = λ i. record {
+  marked = e.marked i;
   mine = e.mine i;
   theirs = e.theirs i;
   owned = e.owned i;

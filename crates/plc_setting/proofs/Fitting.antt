@@ -68,11 +68,11 @@ executed_short flow outline (Claim k j) fits =
     omega arith
 
 -- as many acts as primitives
-pub acts_short : (flow : Flow) (outline : Outline) (o : Obligation) (v : Variables) (ks : List Primitive) (acts : List Act) → Fits flow outline → ks ≡ executed flow o → acts ≡ acts_of flow.file.ghosts v ks → length acts ≤ most_step_primitives
-acts_short flow outline o v ks acts fits parts made =
+pub acts_short : (flow : Flow) (outline : Outline) (o : Obligation) (marked : Bool) (v : Variables) (ks : List Primitive) (acts : List Act) → Fits flow outline → ks ≡ executed flow o → acts ≡ acts_of marked flow.file.ghosts v ks → length acts ≤ most_step_primitives
+acts_short flow outline o marked v ks acts fits parts made =
     let h : length (executed flow o) ≤ most_step_primitives = executed_short flow outline o fits in
     let p : length ks ≡ length (executed flow o) = ap length parts in
-    let a : length acts ≡ length ks = ap length made ∙ length-map ks (act_of flow.file.ghosts v) in
+    let a : length acts ≡ length ks = ap length made ∙ length-map ks (act_of marked flow.file.ghosts v) in
     omega arith
 
 -- ---- locals

@@ -1,9 +1,9 @@
 -- Where no label names a point, no list of labels does.
-use Rattle.std.proofs.Common.{◌≡◌, ℕ, zero, suc, ◌==◌, ◌||◌, Bool, true, false, List, [], ◌∷◌, Some, None, slice_get, refl, sym, ap, ◌∙◌}
+use Rattle.std.proofs.Common.{◌≡◌, ℕ, zero, suc, ◌==◌, ◌||◌, Bool, true, false, List, [], ◌∷◌, refl, sym, ap, ◌∙◌}
 use Rattle.std.specs.List.{list_any}
 use Rattle.std.proofs.lemmas.Bool.{false≢true}
 use Rattle.plc_base.specs.declared.ids.PointId.{PointId}
-use Rattle.plc_setting.specs.Points.{is_point, names_point}
+use Rattle.plc_setting.specs.Points.{names_point}
 
 abbrev named_at : List PointId → ℕ → Bool
 named_at labels p = list_any (λ (q : PointId). q.0 == p) labels

@@ -17,7 +17,7 @@ use Rattle.plc_lang.specs.declared.syntax.Primitive.{Primitive}
 use Rattle.plc_lang.specs.declared.syntax.Primitive.TheVariants.{Null, Copy, New, Load, Store, StoreNull, DataSet}
 use Rattle.plc_lang.specs.declared.syntax.Primitive.TheVariants.{DataLoad, DataStore, Eq, Ne, IsNull, NotNull, DataTest}
 use Rattle.plc_lang.specs.declared.syntax.Primitive.TheVariants.{Refresh, RefreshLoad, RefreshStore, Call, Done, Active}
-use Rattle.plc_lang.specs.declared.syntax.Primitive.TheVariants.{Ghost}
+use Rattle.plc_lang.specs.declared.syntax.Primitive.TheVariants.{Ghost, Mark, Unmark, MarkTest}
 use Rattle.plc_lang.specs.Numbering.{value_number}
 use Rattle.plc_ground.specs.declared.terms.Symbol.{Symbol}
 use Rattle.plc_ground.specs.declared.terms.Symbol.TheVariants as symbols
@@ -53,6 +53,12 @@ data_test rels.Ne a b = Test a b false
 data_test rels.Lt a b = Skip
 data_test rels.Ge a b = Skip
 
+-- two pointer variables differ: in a program that uses marks their nodes may be one and their marks differ, so it says
+-- nothing of the nodes
+abbrev pub pointers_differ : Bool → Symbol → Symbol → Act
+pointers_differ true a b = Skip
+pointers_differ false a b = Test a b false
+
 -- a call: one of `retire` retires its argument, every other does nothing
 abbrev pub call_act : Variables → Bool → Arg → Act
 call_act v true (args.Var p) = Update true maps.Retired (pointer_symbol v p) symbols.Yes
@@ -60,30 +66,33 @@ call_act v true args.Null = Skip
 call_act v true args.None = Skip
 call_act v false a = Skip
 
--- the table
-abbrev pub act_of : List AuxiliaryField → Variables → Primitive → Act
-act_of ghosts v (Null p) = Assign (pointer_symbol v p) symbols.Null
-act_of ghosts v (Copy p q) = Assign (pointer_symbol v p) (pointer_symbol v q)
-act_of ghosts v (New p) = Make (pointer_symbol v p)
-act_of ghosts v (Load p q f) = Fetch (pointer_symbol v p) (pointer_symbol v q) f true
-act_of ghosts v (Store p f q) = Update true (maps.Field f) (pointer_symbol v p) (pointer_symbol v q)
-act_of ghosts v (StoreNull p f) = Update true (maps.Field f) (pointer_symbol v p) symbols.Null
-act_of ghosts v (DataSet x e) = Assign (symbol_at v.values x) (number_symbol v e)
-act_of ghosts v (DataLoad x q f) = Fetch (symbol_at v.values x) (pointer_symbol v q) f false
-act_of ghosts v (DataStore p f e) = Update true (maps.Field f) (pointer_symbol v p) (number_symbol v e)
-act_of ghosts v (Eq p q) = Test (pointer_symbol v p) (pointer_symbol v q) true
-act_of ghosts v (Ne p q) = Test (pointer_symbol v p) (pointer_symbol v q) false
-act_of ghosts v (IsNull p) = Test (pointer_symbol v p) symbols.Null true
-act_of ghosts v (NotNull p) = Test (pointer_symbol v p) symbols.Null false
-act_of ghosts v (DataTest r x e) = data_test r (symbol_at v.values x) (number_symbol v e)
-act_of ghosts v (Refresh p q) = Assign (symbol_at v.pointers p) (pointer_symbol v q)
-act_of ghosts v (RefreshLoad p q f) = Fetch (symbol_at v.pointers p) (pointer_symbol v q) f true
-act_of ghosts v (RefreshStore p f q) = Update true (maps.Field f) (pointer_symbol v p) (pointer_symbol v q)
-act_of ghosts v (Call f a) = call_act v (is_retire f) a
-act_of ghosts v (Done f) = Skip
-act_of ghosts v (Active p) = Skip
-act_of ghosts v (Ghost p g e) = Update false (maps.Ghost g) (pointer_symbol v p) (ghost_symbol ghosts g e)
+-- the table, where it is known whether the program uses marks: a mark that is set or cleared leaves the node as it is
+abbrev pub act_of : Bool → List AuxiliaryField → Variables → Primitive → Act
+act_of marked ghosts v (Null p) = Assign (pointer_symbol v p) symbols.Null
+act_of marked ghosts v (Copy p q) = Assign (pointer_symbol v p) (pointer_symbol v q)
+act_of marked ghosts v (New p) = Make (pointer_symbol v p)
+act_of marked ghosts v (Load p q f) = Fetch (pointer_symbol v p) (pointer_symbol v q) f true
+act_of marked ghosts v (Store p f q) = Update true (maps.Field f) (pointer_symbol v p) (pointer_symbol v q)
+act_of marked ghosts v (StoreNull p f) = Update true (maps.Field f) (pointer_symbol v p) symbols.Null
+act_of marked ghosts v (DataSet x e) = Assign (symbol_at v.values x) (number_symbol v e)
+act_of marked ghosts v (DataLoad x q f) = Fetch (symbol_at v.values x) (pointer_symbol v q) f false
+act_of marked ghosts v (DataStore p f e) = Update true (maps.Field f) (pointer_symbol v p) (number_symbol v e)
+act_of marked ghosts v (Eq p q) = Test (pointer_symbol v p) (pointer_symbol v q) true
+act_of marked ghosts v (Ne p q) = pointers_differ marked (pointer_symbol v p) (pointer_symbol v q)
+act_of marked ghosts v (IsNull p) = Test (pointer_symbol v p) symbols.Null true
+act_of marked ghosts v (NotNull p) = Test (pointer_symbol v p) symbols.Null false
+act_of marked ghosts v (DataTest r x e) = data_test r (symbol_at v.values x) (number_symbol v e)
+act_of marked ghosts v (Refresh p q) = Assign (symbol_at v.pointers p) (pointer_symbol v q)
+act_of marked ghosts v (RefreshLoad p q f) = Fetch (symbol_at v.pointers p) (pointer_symbol v q) f true
+act_of marked ghosts v (RefreshStore p f q) = Update true (maps.Field f) (pointer_symbol v p) (pointer_symbol v q)
+act_of marked ghosts v (Mark p q) = Assign (pointer_symbol v p) (pointer_symbol v q)
+act_of marked ghosts v (Unmark p q) = Assign (pointer_symbol v p) (pointer_symbol v q)
+act_of marked ghosts v (MarkTest p m) = Skip
+act_of marked ghosts v (Call f a) = call_act v (is_retire f) a
+act_of marked ghosts v (Done f) = Skip
+act_of marked ghosts v (Active p) = Skip
+act_of marked ghosts v (Ghost p g e) = Update false (maps.Ghost g) (pointer_symbol v p) (ghost_symbol ghosts g e)
 
 -- primitives in order
-abbrev pub acts_of : List AuxiliaryField → Variables → List Primitive → List Act
-acts_of ghosts v ks = map (act_of ghosts v) ks
+abbrev pub acts_of : Bool → List AuxiliaryField → Variables → List Primitive → List Act
+acts_of marked ghosts v ks = map (act_of marked ghosts v) ks

@@ -1,6 +1,7 @@
 -- what contracts of public calls say
 pub mod Points
 pub mod Parts
+pub mod Marks
 pub mod Acts
 pub mod Setting
 pub mod Sorts

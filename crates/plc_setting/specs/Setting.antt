@@ -33,6 +33,7 @@ use Rattle.plc_setting.specs.declared.setting.Variables.{Variables}
 use Rattle.plc_symbolic.specs.declared.symbolic.NodeTerm.{NodeTerm}
 use Rattle.plc_symbolic.specs.declared.symbolic.NodeTerm.TheVariants.{At, Target}
 use Rattle.plc_setting.specs.Acts.{acts_of}
+use Rattle.plc_setting.specs.Marks.{program_uses_marks}
 use Rattle.plc_setting.specs.Parts.{executed, acting_locals, owner_locals, has_owner, conclusion}
 
 -- the numbers below n
@@ -124,9 +125,10 @@ pointer_variables shared mine theirs = map symbols.Shared (below shared) ++ (min
 
 abbrev pub setting_of : Flow → Outline → Obligation → Setting
 setting_of flow outline o =
+    let marked = program_uses_marks flow outline in
     let mine = variables_of false (acting_locals flow o) in
     let theirs = variables_of true (owner_locals flow o) in
-    let acts = acts_of flow.file.ghosts mine (executed flow o) in
+    let acts = acts_of marked flow.file.ghosts mine (executed flow o) in
     let makes = list_any is_new (executed flow o) in
     let bound = bound_of (conclusion flow outline o) in
     let pointers = pointer_variables (length flow.file.shared) mine theirs in
@@ -135,6 +137,7 @@ setting_of flow outline o =
     let fields = pointer_fields_from 0 flow.file.fields in
     let deep = outline.depth == 1 in
     record {
+      marked = marked;
       mine = mine;
       theirs = theirs;
       owned = has_owner o;

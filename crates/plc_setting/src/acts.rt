@@ -6,6 +6,7 @@ ghost use Rattle.plc_lang.specs.Fit.{FileFits};
 ghost use Rattle.plc_lang.specs.WellSorted.{WriteIsWellSorted, IsWellSorted, AreWellSorted};
 ghost use Rattle.plc_setting.specs.declared.acts.Act.TheVariants.{Assign, Fetch, Update, Test};
 ghost use Rattle.plc_setting.specs.Acts.{symbol_at, pointer_symbol, number_symbol, ghost_symbol, data_test, call_act};
+ghost use Rattle.plc_setting.specs.Acts.{pointers_differ};
 ghost use Rattle.plc_setting.specs.Acts.{act_of, acts_of};
 
 use crate::setting::Variables;
@@ -151,6 +152,16 @@ fn data_test(rel: Rel, left: Symbol, right: Symbol) -> Act
     }
 }
 
+/// Two pointers differ: where marks are used, that says nothing of the nodes.
+fn pointers_differ(marked: bool, left: Symbol, right: Symbol) -> Act
+    ensures { result ≡ pointers_differ marked left right }
+{
+    if marked {
+        return Act::Skip;
+    }
+    test(left, right, false)
+}
+
 /// A call retires its argument, where it is one of `retire`.
 fn call(variables: &Variables, retires: bool, arg: Arg) -> Act
     ensures { result ≡ call_act variables.now retires arg }
@@ -167,10 +178,10 @@ fn call(variables: &Variables, retires: bool, arg: Arg) -> Act
 }
 
 /// What a primitive of a thread with these variables does.
-pub fn act_of(file: &File, v: &Variables, prim: &Prim) -> Act
+pub fn act_of(marked: bool, file: &File, v: &Variables, prim: &Prim) -> Act
     requires fits { FileFits file.now }
     requires sorted { IsWellSorted file.now prim.now }
-    ensures { result ≡ act_of file.now.ghosts v.now prim.now }
+    ensures { result ≡ act_of marked file.now.ghosts v.now prim.now }
 {
     match *prim {
         Prim::Null { p } => assign(pointer_symbol(v, p), Symbol::Null),
@@ -185,7 +196,7 @@ pub fn act_of(file: &File, v: &Variables, prim: &Prim) -> Act
         Prim::DataLoad { x, q, f } => fetch(data_symbol(v, x), pointer_symbol(v, q), f, false),
         Prim::DataStore { p, f, e } => store(f, pointer_symbol(v, p), number_symbol(v, e)),
         Prim::Eq { p, q } => test(pointer_symbol(v, p), pointer_symbol(v, q), true),
-        Prim::Ne { p, q } => test(pointer_symbol(v, p), pointer_symbol(v, q), false),
+        Prim::Ne { p, q } => pointers_differ(marked, pointer_symbol(v, p), pointer_symbol(v, q)),
         Prim::IsNull { p } => test(pointer_symbol(v, p), Symbol::Null, true),
         Prim::NotNull { p } => test(pointer_symbol(v, p), Symbol::Null, false),
         Prim::DataTest { rel, x, e } => data_test(rel, data_symbol(v, x), number_symbol(v, e)),
@@ -194,6 +205,9 @@ pub fn act_of(file: &File, v: &Variables, prim: &Prim) -> Act
             fetch(symbol_at(&v.pointers, p), pointer_symbol(v, q), f, true)
         }
         Prim::RefreshStore { p, f, q } => store(f, pointer_symbol(v, p), pointer_symbol(v, q)),
+        Prim::Mark { p, q } => assign(pointer_symbol(v, p), pointer_symbol(v, q)),
+        Prim::Unmark { p, q } => assign(pointer_symbol(v, p), pointer_symbol(v, q)),
+        Prim::MarkTest { .. } => Act::Skip,
         Prim::Call { func, arg } => call(v, func.is_retire(), arg),
         Prim::Done { .. } => Act::Skip,
         Prim::Active { .. } => Act::Skip,
@@ -209,17 +223,18 @@ pub fn act_of(file: &File, v: &Variables, prim: &Prim) -> Act
 /// What primitives do, in their order.
 pub fn acts_of(
     alloc: Global,
+    marked: bool,
     file: &File,
     variables: &Variables,
     prims: &[Prim],
 ) -> Result<Items<Act>, NoMemory>
     requires fits { FileFits file.now }
     requires sorted { AreWellSorted file.now prims.now }
-    ensures { IfOk result (λ acts. acts ≡ acts_of file.now.ghosts variables.now prims.now) }
+    ensures { IfOk result (λ acts. acts ≡ acts_of marked file.now.ghosts variables.now prims.now) }
 {
     let mut acts = Items::new(alloc);
     for prim in prims {
-        acts.push(act_of(file, variables, prim))?;
+        acts.push(act_of(marked, file, variables, prim))?;
     }
     Ok(acts)
 }

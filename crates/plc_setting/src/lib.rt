@@ -5,6 +5,7 @@
 mod acts;
 mod constants;
 mod laws;
+mod marks;
 mod nodes;
 mod numbers;
 mod obligations;
@@ -17,6 +18,7 @@ mod symbols;
 pub use acts::{Act, pointer_symbol};
 pub use constants::constants_of;
 pub use laws::{acts_fit, nodes_fit, numbers_fit};
+pub use marks::program_uses_marks;
 pub use obligations::Obligation;
 pub use parts::{
     acting_locals, acting_point, claim_made, conclusion, executed, has_owner, has_point,

@@ -12,6 +12,7 @@ ghost use Rattle.plc_setting.specs.Setting.{pointer_variables, pointer_loads_fro
 ghost use Rattle.plc_setting.specs.Setting.{node_constants, plain_constants, nodes_of};
 ghost use Rattle.plc_setting.specs.Parts.{executed, acting_locals, owner_locals};
 ghost use Rattle.plc_setting.specs.Acts.{acts_of};
+ghost use Rattle.plc_setting.specs.Marks.{program_uses_marks};
 
 use crate::acts::{Act, acts_of};
 use crate::nodes::{node_constants, nodes_of, plain_constants};
@@ -36,6 +37,8 @@ pub struct Variables {
 /// What the items of a ground set rest on.
 #[derive(Drop)]
 pub struct Setting {
+    /// Whether the program uses marks.
+    pub marked: bool,
     /// The locals of the acting thread.
     pub mine: Variables,
     /// The locals of the other thread, where its clause is looked at.
@@ -171,15 +174,21 @@ struct Executed {
 }
 
 /// What an obligation executes, with the locals of its threads.
-fn executed_by(alloc: Global, flow: &Flow, o: &Obligation) -> Result<Executed, NoMemory>
+fn executed_by(
+    alloc: Global,
+    marked: bool,
+    flow: &Flow,
+    o: &Obligation,
+) -> Result<Executed, NoMemory>
     requires { (outline : AnOutline) × Fits flow.now outline }
     ensures mine { IfOk result (λ run. run.mine ≡ variables_of false (acting_locals flow.now o.now)) }
     ensures theirs { IfOk result (λ run. run.theirs ≡ variables_of true (owner_locals flow.now o.now)) }
-    ensures acts { IfOk result (λ run. run.acts ≡ acts_of flow.now.file.ghosts run.mine (executed flow.now o.now)) }
+    ensures acts { IfOk result (λ run. run.acts
+        ≡ acts_of marked flow.now.file.ghosts run.mine (executed flow.now o.now)) }
 {
     let mine = variables_of(alloc, acting_locals(flow, o), false)?;
     let theirs = variables_of(alloc, owner_locals(flow, o), true)?;
-    let acts = acts_of(alloc, &flow.file, &mine, executed(flow, o))?;
+    let acts = acts_of(alloc, marked, &flow.file, &mine, executed(flow, o))?;
     Ok(Executed { mine, theirs, acts })
 }
 
@@ -268,8 +277,16 @@ fn setting_nodes(
 }
 
 /// The setting of which these are the parts.
-fn setting_from_parts(run: Executed, owned: bool, makes: bool, bound: u16, nodes: Nodes) -> Setting
+fn setting_from_parts(
+    marked: bool,
+    run: Executed,
+    owned: bool,
+    makes: bool,
+    bound: u16,
+    nodes: Nodes,
+) -> Setting
     ensures { result ≡ record {
+      marked = marked;
       mine = run.mine;
       theirs = run.theirs;
       owned = owned;
@@ -284,6 +301,7 @@ fn setting_from_parts(run: Executed, owned: bool, makes: bool, bound: u16, nodes
     } }
 {
     Setting {
+        marked,
         mine: run.mine,
         theirs: run.theirs,
         owned,
@@ -298,20 +316,22 @@ fn setting_from_parts(run: Executed, owned: bool, makes: bool, bound: u16, nodes
     }
 }
 
-/// The setting of an obligation.
+/// The setting of an obligation, where it is known whether the program uses marks.
 pub fn setting_of(
     alloc: Global,
+    marked: bool,
     flow: &Flow,
     outline: &Outline,
     o: &Obligation,
 ) -> Result<Setting, NoMemory>
-    requires { Fits flow.now outline.now }
+    requires fits { Fits flow.now outline.now }
+    requires marked { marked ≡ program_uses_marks flow.now outline.now }
     ensures setting { IfOk result (λ s. s ≡ setting_of flow.now outline.now o.now) }
     ensures few { IfOk result (λ s. length s.acts ≤ most_step_primitives) }
 {
-    let run = executed_by(alloc, flow, o)?;
+    let run = executed_by(alloc, marked, flow, o)?;
     let makes = has_new(executed(flow, o));
     let bound = bound_of(conclusion(flow, outline, o));
     let nodes = setting_nodes(alloc, flow, outline, &run, makes, bound)?;
-    Ok(setting_from_parts(run, has_owner(o), makes, bound, nodes))
+    Ok(setting_from_parts(marked, run, has_owner(o), makes, bound, nodes))
 }

@@ -15,4 +15,4 @@ pub returns-clause-theirs : goal.returns-clause-theirs
 returns-clause-theirs c = c.in_ok-theirs.ensures ∙ ap (variables_of true) c.owner_locals.ensures
 
 pub returns-clause-acts : goal.returns-clause-acts
-returns-clause-acts c = c.in_ok-acts.ensures ∙ ap (acts_of c.args.flow.now.file.ghosts c.in_ok-mine.mine) c.executed.ensures
+returns-clause-acts c = c.in_ok-acts.ensures ∙ ap (acts_of c.args.marked c.args.flow.now.file.ghosts c.in_ok-mine.mine) c.executed.ensures

@@ -1,0 +1,15 @@
+// Whether the ground sets of a program speak of marks. To answer, the whole flow is walked over: whoever goes over many
+// obligations asks once and hands the answer on.
+ghost use Rattle.std.specs.Prelude.{◌≡◌};
+ghost use Rattle.plc_setting.specs.Marks.{program_uses_marks};
+
+use plc_flow::{Flow, uses_marks};
+use plc_logic::Outline;
+
+/// Whether a program uses marks.
+#[tactic(auto, unfolding(crate::specs::Marks::program_uses_marks))]
+pub fn program_uses_marks(flow: &Flow, outline: &Outline) -> bool
+    ensures { result ≡ program_uses_marks flow.now outline.now }
+{
+    uses_marks(flow)
+}
