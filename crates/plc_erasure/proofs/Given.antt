@@ -1,5 +1,6 @@
 -- Erasure where locals come and go, and before anything happened.
-use Rattle.std.proofs.Common.{◌≡◌, ℕ, Bool, true, ◌==◌, List, [], Option, Some, None, get_or, length, map, refl, sym, ap, ◌∙◌, subst₂, inl, inr}
+use Rattle.std.proofs.Common.{◌≡◌, ℕ, Bool, true, ◌==◌, List, [], Option, Some, None, get_or, length, map, refl, sym}
+use Rattle.std.proofs.Common.{ap, ◌∙◌, inl, inr}
 use Rattle.std.proofs.lemmas.Bool.{cases_eq}
 use Rattle.plc_lang.specs.declared.syntax.Op.{Op}
 use Rattle.plc_flow.specs.declared.flow.Flow.{Flow}
@@ -13,7 +14,9 @@ use Rattle.plc_gc.specs.declared.slot.Slot.TheVariants.{SharedMark as shared_mar
 use Rattle.plc_gc.specs.declared.slot.Map.TheVariants.{Pointer as pointer_field, Mark as mark_field}
 use Rattle.plc_gc.specs.declared.slot.Map.TheVariants.{Number as data_field, Retirement as retirement}
 use Rattle.plc_gc.specs.declared.slot.Pointer.{Pointer}
-use Rattle.plc_gc.specs.State.{GcState, value, null_pointer, with_locals as gc_with_locals, locals_or_none as gc_locals_or_none, Locals as GcLocals, no_locals as gc_no_locals, starting as gc_starting, first_state as gc_first_state}
+use Rattle.plc_gc.specs.State.{GcState, value, null_pointer, with_locals as gc_with_locals}
+use Rattle.plc_gc.specs.State.{locals_or_none as gc_locals_or_none, Locals as GcLocals, no_locals as gc_no_locals}
+use Rattle.plc_gc.specs.State.{starting as gc_starting, first_state as gc_first_state}
 use Rattle.plc_gc.specs.Laws.{IsFirst}
 use Rattle.plc_gc.proofs.Views.{gives as gc_gives, first}
 use Rattle.plc_erasure.specs.Trace.{Trace, last_node, no_trace}
@@ -23,7 +26,8 @@ use Rattle.plc_erasure.proofs.Changes.{Alike, null_alike, alike, AlikeAt, alike_
 -- the locals that a thread gets in both
 pub record SameLocals (trace : Trace) (l : Option Locals) (m : Option GcLocals) : Type 0 where
   pub pointers : (v : ℕ) → Alike trace (get_or (locals_or_none l).pointers v null_cell)
-      (get_or (gc_locals_or_none m).pointers v null_pointer).node (get_or (gc_locals_or_none m).pointers v null_pointer).mark
+      (get_or (gc_locals_or_none m).pointers v null_pointer).node
+      (get_or (gc_locals_or_none m).pointers v null_pointer).mark
   pub values : (x : ℕ) → get_or (gc_locals_or_none m).values x 0 ≡ get_or (locals_or_none l).values x 0
 
 pub erased_given : (trace : Trace) (s : State) (g : GcState) (t : ℕ) (l : Option Locals) (m : Option GcLocals) → IsErased trace s g → SameLocals trace l m → IsErased trace (with_locals s t l) (gc_with_locals g t m)
@@ -35,12 +39,14 @@ erased_given trace s g t l m er same =
     let places : (q : Place) → is_there new q ≡ true → AlikeAt trace new after q = elim [
       | at_shared i ↦ λ there. alike (w.shared i) (u.shared i) (u.shared_marks i) (alike_at er (at_shared i) refl)
       | at_local x v ↦ λ there. elim (cases_eq x t) [
-        | inl e ↦ alike (ap (λ x. at new (at_local x v)) e ∙ w.pointers v) (ap (λ x. value after (in_local x v)) e ∙ u.pointers v)
+        | inl e ↦ alike (ap (λ x. at new (at_local x v)) e ∙ w.pointers v)
+            (ap (λ x. value after (in_local x v)) e ∙ u.pointers v)
             (ap (λ x. value after (local_mark x v)) e ∙ u.marks v) (same.pointers v)
         | inr ne ↦ alike (w.others x v ne) (u.others x v ne) (u.other_marks x v ne) (alike_at er (at_local x v) refl)
       ]
       | at_field b f ↦ λ there. alike (w.fields b f) (u.nodes.entries (pointer_field f) (last_node trace.log b))
-          (u.nodes.entries (mark_field f) (last_node trace.log b)) (alike_at er (at_field b f) (sym (w.addresses.used b) ∙ there))
+          (u.nodes.entries (mark_field f) (last_node trace.log b))
+          (alike_at er (at_field b f) (sym (w.addresses.used b) ∙ there))
     ] in
     record {
       count = u.nodes.count ∙ er.count;
@@ -66,7 +72,8 @@ pub same_starting : (trace : Trace) (o : Op) (args : List ℕ) → SameLocals tr
 same_starting trace o args = record {
   pointers = λ v. (
       let null = get-replicate null_pointer _ v in
-      alike (get-replicate null_cell _ v) (ap (λ (p : Pointer). p.node) null) (ap (λ (p : Pointer). p.mark) null) (null_alike trace)
+      alike (get-replicate null_cell _ v) (ap (λ (p : Pointer). p.node) null) (ap (λ (p : Pointer). p.mark) null)
+      (null_alike trace)
       );
   values = λ x. refl;
 }
@@ -109,5 +116,6 @@ erased_first flow threads =
 
     places : (p : Place) → AlikeAt no_trace (first_state flow threads) (gc_first_state flow threads) p
     places p =
-        alike (fresh_is_null (map is_pointer_field flow.file.fields) (length flow.file.shared) threads p) (no_node p) (no_mark p)
+        alike (fresh_is_null (map is_pointer_field flow.file.fields) (length flow.file.shared) threads p) (no_node p)
+        (no_mark p)
         (null_alike no_trace)

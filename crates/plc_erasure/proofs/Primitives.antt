@@ -9,24 +9,30 @@ use Rattle.plc_lang.specs.declared.syntax.Num.TheVariants.{Lit, Local as DataLoc
 use Rattle.plc_lang.specs.declared.syntax.Arg.{Arg}
 use Rattle.plc_lang.specs.declared.syntax.Arg.TheVariants as args
 use Rattle.plc_lang.specs.declared.syntax.Primitive.{Primitive}
-use Rattle.plc_lang.specs.declared.syntax.Primitive.TheVariants.{Null, Copy, New, Load, Store, StoreNull, DataSet, DataLoad, DataStore, Eq, Ne, IsNull, NotNull, DataTest, Refresh, RefreshLoad, RefreshStore, Mark, Unmark, MarkTest, Call, Done, Active, Ghost}
+use Rattle.plc_lang.specs.declared.syntax.Primitive.TheVariants.{Null, Copy, New, Load, Store, StoreNull, DataSet}
+use Rattle.plc_lang.specs.declared.syntax.Primitive.TheVariants.{DataLoad, DataStore, Eq, Ne, IsNull, NotNull, DataTest}
+use Rattle.plc_lang.specs.declared.syntax.Primitive.TheVariants.{Refresh, RefreshLoad, RefreshStore, Mark, Unmark}
+use Rattle.plc_lang.specs.declared.syntax.Primitive.TheVariants.{MarkTest, Call, Done, Active, Ghost}
 use Rattle.plc_base.specs.Functions.{is_retire}
 use Rattle.plc_lang.specs.Comparison.{compares}
 use Rattle.plc_mem.specs.declared.cell.Cell.{Cell}
 use Rattle.plc_flow.specs.Points.{same_bool}
-use Rattle.plc_mem.specs.State.{State, at_field, null_cell, fresh_cell, marked_cell, is_null, same_pointer, put, put_value, field_value, put_field_value, number_of, is_used, with_node, with_retired}
+use Rattle.plc_mem.specs.State.{State, at_field, null_cell, fresh_cell, marked_cell, is_null, same_pointer, put}
+use Rattle.plc_mem.specs.State.{put_value, field_value, put_field_value, number_of, is_used, with_node, with_retired}
 use Rattle.plc_mem.specs.Primitives.{cell_at, field_at, comparison, race_of_call, goes_call, after_call, race_of, goes, after}
 use Rattle.plc_mem.specs.Coherence.{CellCoherent, IsCoherent}
 use Rattle.plc_gc.specs.declared.slot.Slot.TheVariants.{Data as in_data}
 use Rattle.plc_gc.specs.declared.slot.Map.TheVariants.{Pointer as pointer_field, Mark as mark_field}
 use Rattle.plc_gc.specs.declared.slot.Map.TheVariants.{Number as data_field, Retirement as retirement}
-use Rattle.plc_gc.specs.State.{GcState, entry, count, put as gc_put, update, update_pointer, made, number_of as gc_number_of}
-use Rattle.plc_gc.specs.Primitives.{mark_at, field_mark_at, same_pointer as gc_same_pointer}
+use Rattle.plc_gc.specs.State.{GcState, entry, count, put as gc_put, update, update_pointer, made}
+use Rattle.plc_gc.specs.State.{number_of as gc_number_of}
+use Rattle.plc_gc.specs.Primitives.{field_mark_at, same_pointer as gc_same_pointer}
 use Rattle.plc_gc.specs.Primitives.{node_at, field_at as gc_field_at, some_node, ghost_number, goes_call as gc_goes_call, after_call as gc_after_call, goes as gc_goes, after as gc_after}
 use Rattle.plc_erasure.specs.Trace.{Trace, last_node, noted}
 use Rattle.plc_erasure.specs.Erasure.{mark_number, Shows, IsErased}
 use Rattle.plc_erasure.proofs.Nodes.{node_apart}
-use Rattle.plc_erasure.proofs.Changes.{Alike, null_alike, alike_at, seen, shown, node_made, erased_variable, erased_field, erased_data, erased_data_field, erased_auxiliary, erased_retire}
+use Rattle.plc_erasure.proofs.Changes.{Alike, null_alike, alike_at, seen, shown, node_made, erased_variable}
+use Rattle.plc_erasure.proofs.Changes.{erased_field, erased_data, erased_data_field, erased_auxiliary, erased_retire}
 use Rattle.plc_erasure.proofs.Allocation.{longer, erased_made, fresh_alike}
 use Rattle.plc_mem.proofs.Coherence.{valid_if, retired_if}
 
@@ -71,7 +77,8 @@ stored trace s g t p f c n m er l al =
 -- ---- marks
 
 -- another mark in the place of a pointer's own
-marked : (trace : Trace) (c : Cell) (n m : ℕ) (b : Bool) → Alike trace c n m → Alike trace (marked_cell b c) n (mark_number b)
+marked : (trace : Trace) (c : Cell) (n m : ℕ) (b : Bool) → Alike trace c n m
+    → Alike trace (marked_cell b c) n (mark_number b)
 marked trace c n m b al = record {
   shows = record { null = al.shows.null; valid = al.shows.valid; invalid = al.shows.invalid };
   mark = refl;
@@ -110,7 +117,8 @@ same_nodes : (trace : Trace) (s : State) (g : GcState) (c d : Cell) (n m : ℕ) 
     → (n == m) ≡ (c.number == d.number)
 same_nodes trace s g c d n m er kc kd shc shd vc vd = go (cases_eq c.number d.number) (cases_Bool (is_null c)) (cases_Bool (is_null d))
   where
-    go : ((c.number ≡ d.number) ⊎ (c.number ≡ d.number → ⊥)) → ((is_null c ≡ true) ⊎ (is_null c ≡ false)) → ((is_null d ≡ true) ⊎ (is_null d ≡ false)) → (n == m) ≡ (c.number == d.number)
+    go : ((c.number ≡ d.number) ⊎ (c.number ≡ d.number → ⊥)) → ((is_null c ≡ true) ⊎ (is_null c ≡ false))
+        → ((is_null d ≡ true) ⊎ (is_null d ≡ false)) → (n == m) ≡ (c.number == d.number)
     go (inl e) (inl zc) zd = eq-eqb n m (eqb-true n 0 (sym shc.null ∙ zc) ∙ sym (eqb-true m 0 (sym shd.null ∙ ap (λ x. x == 0) (sym e) ∙ zc))) ∙ sym (eq-eqb c.number d.number e)
     go (inl e) (inr sc) zd = eq-eqb n m (shc.valid vc sc ∙ ap (last_node trace.log) e ∙ sym (shd.valid vd (ap (λ x. x == 0) (sym e) ∙ sc))) ∙ sym (eq-eqb c.number d.number e)
     go (inr ne) (inl zc) (inl zd) = absurd (ne (eqb-true c.number 0 zc ∙ sym (eqb-true d.number 0 zd)))
@@ -126,7 +134,8 @@ same_pointers trace s g t p q k er fine =
     let a = seen trace s g er t p in
     let b = seen trace s g er t q in
     ap₂ (λ x y. x && y)
-    (same_nodes trace s g (cell_at s t p) (cell_at s t q) _ _ er (k.cells _) (k.cells _) a.shows b.shows valid.0 valid.1)
+    (same_nodes trace s g (cell_at s t p) (cell_at s t q) _ _ er (k.cells _)
+    (k.cells _) a.shows b.shows valid.0 valid.1)
     (marks_compared (cell_at s t p).mark (cell_at s t q).mark _ _ a.mark b.mark)
 
 -- ---- primitives
@@ -145,12 +154,16 @@ call_erased trace s g t true args.None fine may k er = (refl, er)
 call_erased trace s g t false r fine may k er = (refl, er)
 
 pub erased_primitive : (trace : Trace) (s : State) (g : GcState) (t a : ℕ) (k : Primitive) → race_of s t k ≡ None → goes s t a k ≡ true → IsCoherent s → IsErased trace s g → Keeps trace s g t a k
-erased_primitive trace s g t a (Null p) fine may k er = (refl, erased_variable trace s g t p null_cell 0 0 er (null_alike trace))
-erased_primitive trace s g t a (Copy p q) fine may k er = (refl, erased_variable trace s g t p (cell_at s t q) _ _ er (seen trace s g er t q))
+erased_primitive trace s g t a (Null p) fine may k er =
+    (refl, erased_variable trace s g t p null_cell 0 0 er (null_alike trace))
+erased_primitive trace s g t a (Copy p q) fine may k er =
+    (refl, erased_variable trace s g t p (cell_at s t q) _ _ er (seen trace s g er t q))
 erased_primitive trace s g t a (New p) fine may k er =
-    let parts = and_parts (not (a == 0)) (not (is_used s a)) may in
-    (refl, erased_variable (longer trace a) (with_node s a) (made g) t p (fresh_cell a) (count g) 0
-      (erased_made trace s g a k er (not-true _ parts.1)) (fresh_alike trace s g a er (not-true _ parts.0)))
+    let parts = and_parts (not (a == 0)) (not (is_used s a)) may in (
+      refl,
+      erased_variable (longer trace a) (with_node s a) (made g) t p (fresh_cell a) (count g) 0
+          (erased_made trace s g a k er (not-true _ parts.1)) (fresh_alike trace s g a er (not-true _ parts.0)),
+    )
 erased_primitive trace s g t a (Load p q f) fine may k er =
     let l = leads trace s g t q k er (valid_if (cell_at s t q) fine) may in
     (l.some, erased_variable trace s g t p (field_at s t q f.0) _ _ er (loaded trace s g t q f.0 er l))
@@ -179,7 +192,8 @@ erased_primitive trace s g t a (Ne p q) fine may k er = (ap not (same_pointers t
 erased_primitive trace s g t a (IsNull p) fine may k er = (sym (shown trace s g er t p).null ∙ may, er)
 erased_primitive trace s g t a (NotNull p) fine may k er = (ap not (sym (shown trace s g er t p).null) ∙ may, er)
 erased_primitive trace s g t a (DataTest r x e) fine may k er = (ap₂ (compares r) (er.locals t x) (number_same trace s g t e er) ∙ may, er)
-erased_primitive trace s g t a (Refresh p q) fine may k er = (refl, erased_variable trace s g t (Local p) (cell_at s t q) _ _ er (seen trace s g er t q))
+erased_primitive trace s g t a (Refresh p q) fine may k er =
+    (refl, erased_variable trace s g t (Local p) (cell_at s t q) _ _ er (seen trace s g er t q))
 erased_primitive trace s g t a (RefreshLoad p q f) fine may k er =
     let parts = and_parts _ _ may in
     let l = leads trace s g t q k er (valid_if (cell_at s t q) fine) parts.0 in
@@ -188,10 +202,16 @@ erased_primitive trace s g t a (RefreshStore p f q) fine may k er =
     let parts = and_parts _ _ may in
     let l = leads trace s g t p k er (valid_if (cell_at s t p) fine) parts.0 in
     (l.some, stored trace s g t p f.0 (cell_at s t q) _ _ er l (seen trace s g er t q))
-erased_primitive trace s g t a (Mark p q) fine may k er =
-    (refl, erased_variable trace s g t p (marked_cell true (cell_at s t q)) _ 1 er (marked trace _ _ _ true (seen trace s g er t q)))
-erased_primitive trace s g t a (Unmark p q) fine may k er =
-    (refl, erased_variable trace s g t p (marked_cell false (cell_at s t q)) _ 0 er (marked trace _ _ _ false (seen trace s g er t q)))
+erased_primitive trace s g t a (Mark p q) fine may k er = (
+  refl,
+  erased_variable trace s g t p (marked_cell true (cell_at s t q)) _ 1 er
+      (marked trace _ _ _ true (seen trace s g er t q)),
+)
+erased_primitive trace s g t a (Unmark p q) fine may k er = (
+  refl,
+  erased_variable trace s g t p (marked_cell false (cell_at s t q)) _ 0 er
+      (marked trace _ _ _ false (seen trace s g er t q)),
+)
 erased_primitive trace s g t a (MarkTest p m) fine may k er =
     (mark_tested (cell_at s t p).mark m _ (seen trace s g er t p).mark ∙ may, er)
 erased_primitive trace s g t a (Call f r) fine may k er = call_erased trace s g t (is_retire f) r fine may k er
