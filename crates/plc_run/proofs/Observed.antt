@@ -6,6 +6,7 @@ use Rattle.plc_lang.specs.declared.syntax.Arg.{Arg}
 use Rattle.plc_lang.specs.declared.syntax.Arg.TheVariants as args
 use Rattle.plc_lang.specs.declared.syntax.Primitive.{Primitive}
 use Rattle.plc_lang.specs.declared.syntax.Primitive.TheVariants.{Null, Copy, New, Load, Store, StoreNull, DataSet, DataLoad, DataStore, Refresh, RefreshLoad, RefreshStore, Call, Done}
+use Rattle.plc_lang.specs.declared.syntax.Primitive.TheVariants.{Mark, Unmark}
 use Rattle.plc_auto.specs.declared.event.Event.{Event}
 use Rattle.plc_auto.specs.declared.event.Event.TheVariants.{Call as Called, Done as Returned, Free as Freed}
 use Rattle.plc_auto.specs.declared.observer.Observer.{Observer}
@@ -83,6 +84,8 @@ after_retired s t a b (DataStore p f e) may = field_retired s _ _ _ b
 after_retired s t a b (Refresh p q) may = put_retired s _ _ b
 after_retired s t a b (RefreshLoad p q f) may = put_retired s _ _ b
 after_retired s t a b (RefreshStore p f q) may = put_retired s _ _ b
+after_retired s t a b (Mark p q) may = put_retired s (place t p) _ b
+after_retired s t a b (Unmark p q) may = put_retired s (place t p) _ b
 after_retired s t a b (Call f r) may = call_retired s t b (is_retire f) r may
 after_retired s t a b k may = refl
 

@@ -4,6 +4,7 @@ use Rattle.std.specs.List.{list_any}
 use Rattle.std.proofs.lemmas.Bool.{or_parts, not-false}
 use Rattle.plc_lang.specs.declared.syntax.Primitive.{Primitive}
 use Rattle.plc_lang.specs.declared.syntax.Primitive.TheVariants.{Null, Copy, New, Load, Store, StoreNull, DataSet, DataLoad, DataStore, Call, Done, Ghost}
+use Rattle.plc_lang.specs.declared.syntax.Primitive.TheVariants.{Mark, Unmark}
 use Rattle.plc_lang.specs.WellSorted.{is_initial}
 use Rattle.plc_flow.specs.declared.flow.Flow.{Flow}
 use Rattle.plc_flow.specs.WellSorted.{FlowIsWellSorted}
@@ -23,6 +24,8 @@ initial_no_race s t (StoreNull p f) all is = rw (all (place t p)) refl
 initial_no_race s t (DataSet x e) all is = refl
 initial_no_race s t (DataLoad x q f) all is = rw (all (place t q)) refl
 initial_no_race s t (DataStore p f e) all is = rw (all (place t p)) refl
+initial_no_race s t (Mark p q) all is = refl
+initial_no_race s t (Unmark p q) all is = refl
 initial_no_race s t (Ghost p g v) all is = refl
 initial_no_race s t k all is = cc
 

@@ -6,6 +6,7 @@ use Rattle.plc_lang.specs.declared.syntax.Arg.{Arg}
 use Rattle.plc_lang.specs.declared.syntax.Arg.TheVariants as args
 use Rattle.plc_lang.specs.declared.syntax.Primitive.{Primitive}
 use Rattle.plc_lang.specs.declared.syntax.Primitive.TheVariants.{Null, Copy, New, Load, Store, StoreNull, DataSet, DataLoad, DataStore, Eq, Ne, IsNull, NotNull, DataTest, Refresh, RefreshLoad, RefreshStore, Call, Done, Active, Ghost}
+use Rattle.plc_lang.specs.declared.syntax.Primitive.TheVariants.{Mark, Unmark, MarkTest}
 use Rattle.plc_lang.specs.Shape.{VarIn, PrimitiveIn, PrimitivesIn}
 use Rattle.plc_auto.specs.declared.event.Event.{Event}
 use Rattle.plc_base.specs.Functions.{is_retire}
@@ -104,6 +105,9 @@ after_keeps t s l a (DataTest r x e) held h = (l, itself t s l held)
 after_keeps t s l a (Refresh p q) held h = var_keeps t s l (vars.Local p) _ held h.0
 after_keeps t s l a (RefreshLoad p q f) held h = var_keeps t s l (vars.Local p) _ held h.0
 after_keeps t s l a (RefreshStore p f q) held h = field_keeps t s l _ _ _ held
+after_keeps t s l a (Mark p q) held h = var_keeps t s l p _ held h.0
+after_keeps t s l a (Unmark p q) held h = var_keeps t s l p _ held h.0
+after_keeps t s l a (MarkTest p m) held h = (l, itself t s l held)
 after_keeps t s l a (Call f r) held h = call_keeps t s l (is_retire f) r held
 after_keeps t s l a (Done f) held h = (l, itself t s l held)
 after_keeps t s l a (Active p) held h = (l, itself t s l held)

@@ -9,6 +9,7 @@ use Rattle.plc_lang.specs.declared.syntax.Arg.{Arg}
 use Rattle.plc_lang.specs.declared.syntax.Arg.TheVariants as args
 use Rattle.plc_lang.specs.declared.syntax.Primitive.{Primitive}
 use Rattle.plc_lang.specs.declared.syntax.Primitive.TheVariants.{Null, Copy, New, Load, Store, StoreNull, DataSet, DataLoad, DataStore, Refresh, RefreshLoad, RefreshStore, Call, Done}
+use Rattle.plc_lang.specs.declared.syntax.Primitive.TheVariants.{Mark, Unmark}
 use Rattle.plc_auto.specs.declared.event.Event.{Event}
 use Rattle.plc_auto.specs.declared.event.Event.TheVariants.{Call as Called, Done as Returned, Free as Freed}
 use Rattle.plc_auto.specs.declared.event.EvKind.{EvKind}
@@ -24,6 +25,7 @@ use Rattle.plc_auto.proofs.Letters.{safe_is_kept}
 use Rattle.plc_mem.specs.declared.cell.Cell.{Cell}
 use Rattle.plc_mem.specs.declared.cell.RaceKind.TheVariants.{Deref}
 use Rattle.plc_mem.specs.State.{State, Place, at_shared, at_local, at_field, null_cell, fresh_cell, at, place, is_used, is_retired, with_node, with_retired, freed}
+use Rattle.plc_mem.specs.State.{marked_cell}
 use Rattle.plc_mem.specs.Primitives.{race_of_call, goes_call, after_call, address_of, race_of, goes, after, event_of}
 use Rattle.plc_mem.specs.Laws.{WasFreed}
 use Rattle.plc_mem.proofs.Views.{writes_local, writes_field, retires, frees}
@@ -63,9 +65,11 @@ pub record IsQuiet (o : Observer) (t : ℕ) (e : Event) : Type 0 where
   pub happens_so : (b with_free : Bool) → happens with_free kind b ≡ true
   pub no_retirement : (a : ℕ) → (is_retirement kind && on_it a) ≡ false
 
--- each kind of change: a cell copied to a place, null put there, a fresh node, nothing, an event that retires no address, a retirement
+-- each kind of change: a cell copied to a place, with a mark of its own, null put there, a fresh node, nothing, an
+-- event that retires no address, a retirement
 pub data Did (o : Observer) (t : ℕ) (s s' : State) (ev : Option Event) : Type 0 where
-  wrote : (p r : Place) → Mine t p → Mine t r → Writes s p (at s r) s' → ev ≡ None → Did o t s s' ev
+  wrote : (p r : Place) (m : Bool) → Mine t p → Mine t r → Writes s p (marked_cell m (at s r)) s' → ev ≡ None
+      → Did o t s s' ev
   nulled : (p : Place) → Mine t p → Writes s p null_cell s' → ev ≡ None → Did o t s s' ev
   made : (p : Place) (a : ℕ) → Mine t p → is_used s a ≡ false → Writes s p (fresh_cell a) s' → ev ≡ None → Did o t s s' ev
   kept_all : ((q : Place) → at s' q ≡ at s q) → ((a : ℕ) → is_retired s' a ≡ is_retired s a) → ev ≡ None → Did o t s s' ev
@@ -99,29 +103,35 @@ module _ (o : Observer) (threads : ℕ) (h : List Event) (t : ℕ) (s : State) (
 
   did : (a : ℕ) (k : Primitive) → race_of s t k ≡ None → goes s t a k ≡ true → Did o t s (after s t a k) (event_of s t k)
   did a (Null p) fine may = nulled (place t p) (mine t p) (put_writes s (place t p) null_cell (variable_there s t p)) refl
-  did a (Copy p q) fine may = wrote (place t p) (place t q) (mine t p) (mine t q) (put_writes s (place t p) (at s (place t q)) (variable_there s t p)) refl
+  did a (Copy p q) fine may = wrote (place t p) (place t q) _ (mine t p) (mine t q) (put_writes s (place t p) (at s (place t q)) (variable_there s t p)) refl
   did a (New p) fine may =
       let unused = not-true (is_used s a) (and_parts (not (a == 0)) (not (is_used s a)) may).1 in
       made (place t p) a (mine t p) unused (new_writes s a (place t p) unused (variable_there (with_node s a) t p)) refl
   did a (Load p q f) fine may =
       let r = at_field (at s (place t q)).number f.0 in
-      wrote (place t p) r (mine t p) tt (put_writes s (place t p) (at s r) (variable_there s t p)) refl
+      wrote (place t p) r _ (mine t p) tt (put_writes s (place t p) (at s r) (variable_there s t p)) refl
   did a (Store p f q) fine may =
       let x = at_field (at s (place t p)).number f.0 in
-      wrote x (place t q) tt (mine t q) (put_writes s x (at s (place t q)) (field_there seen (place t p) f.0 (valid_if _ Deref fine) may)) refl
+      wrote x (place t q) _ tt (mine t q) (put_writes s x (at s (place t q)) (field_there seen (place t p) f.0 (valid_if _ Deref fine) may)) refl
   did a (StoreNull p f) fine may =
       let x = at_field (at s (place t p)).number f.0 in
       nulled x tt (put_writes s x null_cell (field_there seen (place t p) f.0 (valid_if _ Deref fine) may)) refl
   did a (DataSet x n) fine may = let w = writes_local s t x _ in kept_all w.pointers w.addresses.retired refl
   did a (DataLoad x q f) fine may = let w = writes_local s t x _ in kept_all w.pointers w.addresses.retired refl
   did a (DataStore p f n) fine may = let w = writes_field s (at s (place t p)).number f.0 _ (field_there seen (place t p) f.0 (valid_if _ Deref fine) may) in kept_all w.pointers w.addresses.retired refl
-  did a (Refresh p q) fine may = wrote (at_local t p) (place t q) refl (mine t q) (put_writes s (at_local t p) (at s (place t q)) refl) refl
+  did a (Refresh p q) fine may = wrote (at_local t p) (place t q) _ refl (mine t q) (put_writes s (at_local t p) (at s (place t q)) refl) refl
   did a (RefreshLoad p q f) fine may =
       let r = at_field (at s (place t q)).number f.0 in
-      wrote (at_local t p) r refl tt (put_writes s (at_local t p) (at s r) refl) refl
+      wrote (at_local t p) r _ refl tt (put_writes s (at_local t p) (at s r) refl) refl
   did a (RefreshStore p f q) fine may =
       let x = at_field (at s (place t p)).number f.0 in
-      wrote x (place t q) tt (mine t q) (put_writes s x (at s (place t q)) (field_there seen (place t p) f.0 (valid_if _ Deref fine) (and_parts _ _ may).0)) refl
+      wrote x (place t q) _ tt (mine t q) (put_writes s x (at s (place t q)) (field_there seen (place t p) f.0 (valid_if _ Deref fine) (and_parts _ _ may).0)) refl
+  did a (Mark p q) fine may =
+      wrote (place t p) (place t q) true (mine t p) (mine t q)
+      (put_writes s (place t p) (marked_cell true (at s (place t q))) (variable_there s t p)) refl
+  did a (Unmark p q) fine may =
+      wrote (place t p) (place t q) false (mine t p) (mine t q)
+      (put_writes s (place t p) (marked_cell false (at s (place t q))) (variable_there s t p)) refl
   did a (Call f r) fine may = did_call f r (is_retire f) refl fine may
   did a (Done f) fine may = spoke (Returned t f) (quiet_return o t f) refl refl
   did a k fine may = kept_all (λ q. refl) (λ a. refl) refl
@@ -194,7 +204,7 @@ module _ (o : Observer) (threads : ℕ) (h : List Event) (t u : ℕ) (apart : t 
       }))
 
   pub foreign_did : (ev : Option Event) → Did o t s s' ev → ((a : ℕ) → 0 < a → Live o (location o (recorded h ev) u a)) → EnvMet o (recorded h ev) u s' e
-  foreign_did ev (wrote p r mp mr w is) live = rw is (from_locals h s' here.met.addresses (λ v. kept w (at_local u v) (type_of e (Local v)) (not_mine p v mp) (here.met.pointers (Local v))
+  foreign_did ev (wrote p r m mp mr w is) live = rw is (from_locals h s' here.met.addresses (λ v. kept w (at_local u v) (type_of e (Local v)) (not_mine p v mp) (here.met.pointers (Local v))
       (λ g nonnull valid same. (here.met.pointers (Local v) nonnull).alone g r (λ x. not_mine r v mr (sym x)) valid same)))
   foreign_did ev (nulled p mp w is) live = rw is (from_locals h s' here.met.addresses (λ v. kept w (at_local u v) (type_of e (Local v)) (not_mine p v mp) (here.met.pointers (Local v)) (λ g nonnull valid same. nonnull (sym same))))
   foreign_did ev (made p a mp unused w is) live = rw is (from_locals h s' here.met.addresses (λ v. kept w (at_local u v) (type_of e (Local v)) (not_mine p v mp) (here.met.pointers (Local v))

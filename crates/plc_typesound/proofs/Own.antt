@@ -22,6 +22,7 @@ use Rattle.plc_mem.specs.declared.cell.Cell.{Cell}
 use Rattle.plc_mem.specs.declared.cell.RaceKind.{RaceKind}
 use Rattle.plc_mem.specs.declared.cell.RaceKind.TheVariants.{Compare}
 use Rattle.plc_mem.specs.State.{State, Place, at_local, at_field, null_cell, fresh_cell, is_null, at, put, place, is_used, is_retired, with_node, with_retired}
+use Rattle.plc_mem.specs.State.{marked_cell, same_pointer}
 use Rattle.plc_mem.specs.Primitives.{cell_at, field_at, race_of, goes}
 use Rattle.plc_mem.specs.Laws.{is_there}
 use Rattle.plc_mem.proofs.Views.{cases_place, writes, makes, retires}
@@ -86,6 +87,10 @@ valid_if false k e = cc
 pub not_zero : (n : ℕ) → not (n == 0) ≡ true → n ≡ 0 → ⊥
 not_zero n e z = both_ways (n == 0) (not-true (n == 0) e) (eq-eqb n 0 z)
 
+-- one pointer has one number
+pub same_number : (c d : Cell) → same_pointer c d ≡ true → c.number ≡ d.number
+same_number c d e = eqb-true c.number d.number (and_parts _ _ e).0
+
 pub is_not_null : (n : ℕ) → (n ≡ 0 → ⊥) → 0 < n
 is_not_null n e = omega arith
 
@@ -110,8 +115,14 @@ module _ {o : Observer} {threads : ℕ} {h : List Event} {t : ℕ} {s : State} {
   pub stands_where : (a : ℕ) → 0 < a → Live o (location o h t a)
   stands_where a pos = here.seen.live t a here.small pos
 
-  pub marked : (a : ℕ) → 0 < a → is_retired s a ≡ false → stands (unretired o) (location o h t a) ≡ true
-  marked a pos r = stands_unretired o (location o h t a) (stands_where a pos) (sym (here.seen.retired t a here.small pos) ∙ r)
+  pub reads_unretired : (a : ℕ) → 0 < a → is_retired s a ≡ false → stands (unretired o) (location o h t a) ≡ true
+  reads_unretired a pos r =
+      stands_unretired o (location o h t a) (stands_where a pos) (sym (here.seen.retired t a here.small pos) ∙ r)
+
+  -- what a type says of a cell it says whatever its mark
+  any_mark : {p : Place} {c : Cell} {ty : PtrType} (m : Bool) → Fits o h t s p c ty
+      → Fits o h t s p (marked_cell m c) ty
+  any_mark m f = record { somewhere = f.somewhere; safe = f.safe; active = f.active; alone = f.alone }
 
   -- a variable other than those that were written: the new cell is that of a place r
   apart_from : (r : Place) (v : Var) → (r ≡ place t v → ⊥) → is_local (type_of e v).g ≡ true → ((at s (place t v)).number ≡ 0 → ⊥) → (at s r).valid ≡ true → (at s r).number ≡ (at s (place t v)).number → ⊥
@@ -125,19 +136,26 @@ module _ {o : Observer} {threads : ℕ} {h : List Event} {t : ℕ} {s : State} {
       (got w null_type (λ nonnull. absurd (nonnull refl)))
       (λ ne. kept w (place t v) (type_of e v) ne (here.met.pointers v) (λ g nonnull valid same. nonnull (sym same)))
 
-  -- p := q
-  pub own_copy : (p q v : Var) → Meets o h t (put s (place t p) (at s (place t q))) (place t v) (effect o e (Copy p q) v)
-  own_copy p q v =
-      let w = put_writes s (place t p) (at s (place t q)) (variable_there s t p) in
+  -- p := mark q and p := unmark q, which have the row of a copy
+  pub own_mark : (m : Bool) (p q v : Var)
+      → Meets o h t (put s (place t p) (marked_cell m (at s (place t q)))) (place t v) (effect o e (Copy p q) v)
+  own_mark m p q v =
+      let c = marked_cell m (at s (place t q)) in
+      let w = put_writes s (place t p) c (variable_there s t p) in
       let ty = shared_type (type_of e q) in
-      let at_p = got w ty (λ nonnull. copied (type_of e q) (here.met.pointers q nonnull)) in
-      pick_two t v p q (λ v ty. Meets o h t (put s (place t p) (at s (place t q))) (place t v) ty) ty (type_of e v)
+      let at_p = got w ty (λ nonnull. any_mark m (copied (type_of e q) (here.met.pointers q nonnull))) in
+      pick_two t v p q (λ v ty. Meets o h t (put s (place t p) c) (place t v) ty) ty (type_of e v)
       at_p
       (elim (variable_cases t q p) [
-        | inl same ↦ subst (λ v. Meets o h t (put s (place t p) (at s (place t q))) (place t v) ty) (sym same) at_p
+        | inl same ↦ subst (λ v. Meets o h t (put s (place t p) c) (place t v) ty) (sym same) at_p
         | inr ne ↦ kept w (place t q) ty ne.1 (λ nonnull. copied (type_of e q) (here.met.pointers q nonnull)) (λ g. absurd (without_not (type_of e q).g g))
       ])
       (λ ne ne'. kept w (place t v) (type_of e v) ne (here.met.pointers v) (apart_from (place t q) v (λ same. ne' (sym same))))
+
+  -- p := q
+  pub own_copy : (p q v : Var)
+      → Meets o h t (put s (place t p) (at s (place t q))) (place t v) (effect o e (Copy p q) v)
+  own_copy p q = own_mark (at s (place t q)).mark p q
 
   -- p := q.f
   pub own_load : (p q : Var) (f : FieldId) (v : Var) → Meets o h t (put s (place t p) (field_at s t q f.0)) (place t v) (effect o e (Load p q f) v)
@@ -160,7 +178,7 @@ module _ {o : Observer} {threads : ℕ} {h : List Event} {t : ℕ} {s : State} {
       both_ways (is_used s a) unused (subst (λ n. is_used s n ≡ true) is ((here.seen.coherent.cells q).used valid some)) in
       pick t v p (λ v ty. Meets o h t (put (with_node s a) (place t p) (fresh_cell a)) (place t v) ty) (new_type o e) (type_of e v)
       (got w (new_type o e) (λ nonnull. record {
-        somewhere = stands_meet e.w (unretired o) (location o h t a) (here.met.addresses a pos) (marked a pos (here.seen.coherent.unretired a unused));
+        somewhere = stands_meet e.w (unretired o) (location o h t a) (here.met.addresses a pos) (reads_unretired a pos (here.seen.coherent.unretired a unused));
         safe = λ g. refl;
         active = λ g. here.seen.coherent.unretired a unused;
         alone = λ g q ne valid is. none_has q valid is;
@@ -242,7 +260,7 @@ module _ {o : Observer} {threads : ℕ} {h : List Event} {t : ℕ} {s : State} {
 
   pub own_eq : (p q v : Var) (a : ℕ) → race_of s t (Eq p q) ≡ None → goes s t a (Eq p q) ≡ true → Meets o h t s (place t v) (effect o e (Eq p q) v)
   own_eq p q v a fine may =
-      let same = eqb-true (at s (place t p)).number (at s (place t q)).number may in
+      let same = same_number (at s (place t p)) (at s (place t q)) may in
       let valid = and_parts (at s (place t p)).valid (at s (place t q)).valid (valid_if ((at s (place t p)).valid && (at s (place t q)).valid) Compare fine) in
       let ty = equal_type (type_of e p) (type_of e q) in
       pick_two t v p q (λ v ty. Meets o h t s (place t v) ty) ty (type_of e v)
@@ -262,7 +280,7 @@ module _ {o : Observer} {threads : ℕ} {h : List Event} {t : ℕ} {s : State} {
   own_active p v claim =
       pick t v p (λ v ty. Meets o h t s (place t v) ty) (active_type o (type_of e p)) (type_of e v)
       (λ nonnull. let f = here.met.pointers p nonnull in let n = (at s (place t p)).number in record {
-        somewhere = stands_meet (type_of e p).m (unretired o) (location o h t n) f.somewhere (marked n (is_not_null n nonnull) (claim nonnull).1);
+        somewhere = stands_meet (type_of e p).m (unretired o) (location o h t n) f.somewhere (reads_unretired n (is_not_null n nonnull) (claim nonnull).1);
         safe = λ g. (claim nonnull).0;
         active = λ g. (claim nonnull).1;
         alone = λ g. f.alone (claimed_local (type_of e p).g g);

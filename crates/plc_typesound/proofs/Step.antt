@@ -1,13 +1,14 @@
 -- Soundness of types for the thread itself: each primitive, and a whole step.
 use Rattle.std.proofs.Common.{◌≡◌, ℕ, suc, ◌+◌, ◌<◌, Bool, true, false, ◌&&◌, ◌==◌, List, [], ◌∷◌, ◌++◌, Option, Some, None, refl, sym, ◌∙◌, subst, subst₂, inl, inr}
 use Rattle.std.specs.Prelude.{if◌then◌else◌}
-use Rattle.std.proofs.lemmas.Bool.{cases_eq, eq-eqb, eqb-true, and_parts}
+use Rattle.std.proofs.lemmas.Bool.{cases_eq, eq-eqb, and_parts}
 use Rattle.plc_base.specs.declared.ids.FuncId.{FuncId}
 use Rattle.plc_lang.specs.declared.syntax.Var.{Var}
 use Rattle.plc_lang.specs.declared.syntax.Arg.{Arg}
 use Rattle.plc_lang.specs.declared.syntax.Arg.TheVariants as args
 use Rattle.plc_lang.specs.declared.syntax.Primitive.{Primitive}
 use Rattle.plc_lang.specs.declared.syntax.Primitive.TheVariants.{Null, Copy, New, Load, Store, StoreNull, DataSet, DataLoad, DataStore, Eq, IsNull, Refresh, RefreshLoad, RefreshStore, Call, Done, Active}
+use Rattle.plc_lang.specs.declared.syntax.Primitive.TheVariants.{Mark, Unmark}
 use Rattle.plc_lang.specs.Facts.{accessed, compared, called}
 use Rattle.plc_auto.specs.declared.event.Event.{Event}
 use Rattle.plc_auto.specs.declared.event.Event.TheVariants.{Call as Called, Done as Returned}
@@ -19,7 +20,7 @@ use Rattle.plc_base.specs.Functions.{is_retire}
 use Rattle.plc_auto.specs.Location.{location, step_by}
 use Rattle.plc_mem.specs.declared.cell.RaceKind.{RaceKind}
 use Rattle.plc_mem.specs.declared.cell.RaceKind.TheVariants.{Deref, Pass, Double}
-use Rattle.plc_mem.specs.State.{State, Place, at, place, is_retired, with_retired}
+use Rattle.plc_mem.specs.State.{State, Place, at_local, at_field, at, place, is_retired, with_retired}
 use Rattle.plc_mem.specs.Primitives.{cell_at, access, comparison, race_of_call, goes_call, after_call, race_of, goes, after, event_of}
 use Rattle.plc_mem.proofs.Views.{writes_local, writes_field}
 use Rattle.plc_run.specs.Run.{Ending, Fine, Raced, turn, recorded, execute}
@@ -38,6 +39,7 @@ use Rattle.plc_typesound.specs.Claims.{ClaimTrue, ClaimsTrue}
 use Rattle.plc_typesound.proofs.Sets.{Live}
 use Rattle.plc_typesound.proofs.Kept.{env_met, stayed, active_safe}
 use Rattle.plc_typesound.proofs.Own.{Here, own_null, own_copy, own_load, own_new, own_store, own_store_null, own_refresh, own_refresh_load, own_eq, own_is_null, own_active, own_other, own_other_anywhere, own_call, own_call_anywhere, own_retire, reads_call, reads_return, valid_if, not_zero, field_there}
+use Rattle.plc_typesound.proofs.Own.{own_mark, same_number}
 
 -- ---- conditions that hold
 
@@ -156,9 +158,21 @@ module _ {o : Observer} {threads : ℕ} {h : List Event} {t : ℕ} {s : State} {
   own_primitive a (DataStore p f n) fine may claim seen' = let w = writes_field s (at s (place t p)).number f.0 _ (field_there here.seen (place t p) f.0 (valid_if _ Deref fine) may) in unchanged (after s t a (DataStore p f n)) w.pointers w.addresses.retired
   own_primitive a (Eq p q) fine may claim seen' = env_met o h t s e (effect o e (Eq p q)) e.w (λ v. own_eq here p q v a fine may) here.met.addresses
   own_primitive a (IsNull p) fine may claim seen' = env_met o h t s e (effect o e (IsNull p)) e.w (λ v. own_is_null here p v a may) here.met.addresses
-  own_primitive a (Refresh p q) fine may claim seen' = env_met o h t (after s t a (Refresh p q)) e (effect o e (Refresh p q)) e.w (λ v. own_refresh here p q v (eqb-true _ _ may)) here.met.addresses
-  own_primitive a (RefreshLoad p q f) fine may claim seen' = env_met o h t (after s t a (RefreshLoad p q f)) e (effect o e (RefreshLoad p q f)) e.w (λ v. own_refresh_load here p (at s (place t q)).number f.0 v (eqb-true _ _ (and_parts _ _ may).1)) here.met.addresses
+  own_primitive a (Refresh p q) fine may claim seen' =
+      let same = same_number (at s (at_local t p)) (at s (place t q)) may in
+      env_met o h t (after s t a (Refresh p q)) e (effect o e (Refresh p q)) e.w (λ v. own_refresh here p q v same)
+      here.met.addresses
+  own_primitive a (RefreshLoad p q f) fine may claim seen' =
+      let n = (at s (place t q)).number in
+      let same = same_number (at s (at_local t p)) (at s (at_field n f.0)) (and_parts _ _ may).1 in
+      env_met o h t (after s t a (RefreshLoad p q f)) e (effect o e (RefreshLoad p q f)) e.w
+      (λ v. own_refresh_load here p n f.0 v same) here.met.addresses
   own_primitive a (RefreshStore p f q) fine may claim seen' = env_met o h t (after s t a (RefreshStore p f q)) e (effect o e (RefreshStore p f q)) e.w (λ v. own_store here (at s (place t p)).number f.0 q v (field_there here.seen (place t p) f.0 (valid_if _ Deref fine) (and_parts _ _ may).0)) here.met.addresses
+  own_primitive a (Mark p q) fine may claim seen' =
+      env_met o h t (after s t a (Mark p q)) e (effect o e (Mark p q)) e.w (own_mark here true p q) here.met.addresses
+  own_primitive a (Unmark p q) fine may claim seen' =
+      env_met o h t (after s t a (Unmark p q)) e (effect o e (Unmark p q)) e.w (own_mark here false p q)
+      here.met.addresses
   own_primitive a (Call f args.None) fine may claim seen' = own_spoken (Called t f None) (events.Call f) _ (no_change (is_retire f)) (λ a. reads_call here f None a false refl) seen'
   own_primitive a (Call f args.Null) fine may claim seen' = own_spoken (Called t f (Some 0)) (events.Call f) _ (null_changes_nothing (is_retire f)) (λ a. reads_call here f (Some 0) a false (and-false (0 == a))) seen'
   own_primitive a (Call f (args.Var p)) fine may claim seen' = own_call_of f p (is_retire f) refl fine may seen'

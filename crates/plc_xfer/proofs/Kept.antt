@@ -8,6 +8,7 @@ use Rattle.plc_lang.specs.declared.syntax.Arg.{Arg}
 use Rattle.plc_lang.specs.declared.syntax.Arg.TheVariants as args
 use Rattle.plc_lang.specs.declared.syntax.Primitive.{Primitive}
 use Rattle.plc_lang.specs.declared.syntax.Primitive.TheVariants.{Null, Copy, New, Load, Store, StoreNull, DataSet, DataLoad, DataStore, Eq, Ne, IsNull, NotNull, DataTest, Refresh, RefreshLoad, RefreshStore, Call, Done, Active, Ghost}
+use Rattle.plc_lang.specs.declared.syntax.Primitive.TheVariants.{Mark, Unmark, MarkTest}
 use Rattle.plc_auto.specs.declared.event.EvKind.{EvKind}
 use Rattle.plc_auto.specs.declared.event.EvKind.TheVariants as events
 use Rattle.plc_auto.specs.declared.observer.Observer.{Observer}
@@ -76,6 +77,13 @@ effect_kept o Q R keeps a b (DataTest r x n) w held v = held v
 effect_kept o Q R keeps a b (Refresh p q) w held v = if_kept (λ t u. R a.w t b.w u) (is_variable v (Local p) || is_variable v q) _ _ _ _ (keeps.refreshed a.w b.w _ _ _ _ (held (Local p)) (held q)) (held v)
 effect_kept o Q R keeps a b (RefreshLoad p q f) w held v = if_kept (λ t u. R a.w t b.w u) (is_variable v (Local p)) _ _ _ _ (keeps.placed a.w b.w _ _ (held (Local p))) (held v)
 effect_kept o Q R keeps a b (RefreshStore p f q) w held v = if_kept (λ t u. R a.w t b.w u) (is_variable v q) _ _ _ _ (keeps.shared a.w b.w _ _ (held q)) (held v)
+effect_kept o Q R keeps a b (Mark p q) w held v =
+    if_kept (λ t u. R a.w t b.w u) (is_variable v p || is_variable v q) _ _ _ _
+    (keeps.shared a.w b.w _ _ (held q)) (held v)
+effect_kept o Q R keeps a b (Unmark p q) w held v =
+    if_kept (λ t u. R a.w t b.w u) (is_variable v p || is_variable v q) _ _ _ _
+    (keeps.shared a.w b.w _ _ (held q)) (held v)
+effect_kept o Q R keeps a b (MarkTest p m) w held v = held v
 effect_kept o Q R keeps a b (Call f arg) w held v = call_kept o Q R keeps a b f arg held v
 effect_kept o Q R keeps a b (Done f) w held v = keeps.other (events.Done f) a.w b.w _ _ (held v)
 effect_kept o Q R keeps a b (Active p) w held v = if_kept (λ t u. R a.w t b.w u) (is_variable v p) _ _ _ _ (keeps.active a.w b.w _ _ (held p)) (held v)

@@ -11,6 +11,7 @@ use Rattle.plc_lang.specs.declared.syntax.Rel.{Rel}
 use Rattle.plc_lang.specs.declared.syntax.GhostVal.{GhostVal}
 use Rattle.plc_lang.specs.declared.syntax.Arg.TheVariants as args
 use Rattle.plc_lang.specs.declared.syntax.Primitive.TheVariants.{Null, Copy, New, Load, Store, StoreNull, DataSet, DataLoad, DataStore, Eq, Ne, IsNull, NotNull, DataTest, Refresh, RefreshLoad, RefreshStore, Call, Done, Active, Ghost}
+use Rattle.plc_lang.specs.declared.syntax.Primitive.TheVariants.{Mark, Unmark, MarkTest}
 use Rattle.plc_auto.specs.declared.event.EvKind.TheVariants as events
 use Rattle.plc_auto.specs.declared.observer.Observer.{Observer}
 use Rattle.plc_type.specs.declared.env.PtrType.{PtrType}
@@ -210,6 +211,20 @@ pub after_refresh_store : (o : Observer) (e : Env) (p : Var) (f : FieldId) (q : 
 unfolding env_after
 after_refresh_store o e p f q = written e q (shared_type (type_of e q))
 
+pub after_mark : (o : Observer) (e : Env) (p q : Var)
+    → with_type (with_type e p (shared_type (type_of e q))) q (shared_type (type_of e q)) ≡ env_after o e (Mark p q)
+unfolding env_after
+after_mark o e p q = written_both e p q (shared_type (type_of e q))
+
+pub after_unmark : (o : Observer) (e : Env) (p q : Var)
+    → with_type (with_type e p (shared_type (type_of e q))) q (shared_type (type_of e q)) ≡ env_after o e (Unmark p q)
+unfolding env_after
+after_unmark o e p q = written_both e p q (shared_type (type_of e q))
+
+pub after_mark_test : (o : Observer) (e : Env) (p : Var) (m : Bool) → e ≡ env_after o e (MarkTest p m)
+unfolding env_after
+after_mark_test o e p m = unchanged e
+
 pub after_call_of_none : (o : Observer) (e : Env) (f : FuncId) → with_each (other_type o (events.Call f)) (on_other o (events.Call f) e.w) e ≡ env_after o e (Call f args.None)
 unfolding env_after
 after_call_of_none o e f = changed (other_type o (events.Call f)) (on_other o (events.Call f) e.w) e
@@ -236,4 +251,28 @@ after_ghost o e p g n = unchanged e
 
 pub ruleset calls = (after_call_of_none, after_call_of_null, after_call_of)
 
-pub ruleset rows = (after_null, after_copy, after_new, after_load, after_store, after_store_null, after_data_set, after_data_load, after_data_store, after_eq, after_ne, after_is_null, after_not_null, after_data_test, after_refresh, after_refresh_load, after_refresh_store, after_done, after_active, after_ghost)
+pub ruleset rows = (
+  after_null,
+  after_copy,
+  after_new,
+  after_load,
+  after_store,
+  after_store_null,
+  after_data_set,
+  after_data_load,
+  after_data_store,
+  after_eq,
+  after_ne,
+  after_is_null,
+  after_not_null,
+  after_data_test,
+  after_refresh,
+  after_refresh_load,
+  after_refresh_store,
+  after_mark,
+  after_unmark,
+  after_mark_test,
+  after_done,
+  after_active,
+  after_ghost,
+)

@@ -11,6 +11,7 @@ use Rattle.plc_lang.specs.declared.syntax.Primitive.{Primitive}
 use Rattle.plc_lang.specs.declared.syntax.Primitive.TheVariants.{Null, Copy, New, Load, Store, StoreNull, DataSet}
 use Rattle.plc_lang.specs.declared.syntax.Primitive.TheVariants.{DataLoad, DataStore, Eq, Ne, IsNull, NotNull}
 use Rattle.plc_lang.specs.declared.syntax.Primitive.TheVariants.{DataTest, Refresh, RefreshLoad, RefreshStore}
+use Rattle.plc_lang.specs.declared.syntax.Primitive.TheVariants.{Mark, Unmark, MarkTest}
 use Rattle.plc_lang.specs.declared.syntax.Primitive.TheVariants.{Call, Done, Active, Ghost}
 use Rattle.plc_auto.specs.declared.event.EvKind.TheVariants as events
 use Rattle.plc_auto.specs.declared.observer.Observer.{Observer}
@@ -76,6 +77,9 @@ fault_of e (DataTest r x n) = None
 fault_of e (Refresh p q) = None
 fault_of e (RefreshLoad p q f) = access_fault e q
 fault_of e (RefreshStore p f q) = access_fault e p
+fault_of e (Mark p q) = None
+fault_of e (Unmark p q) = None
+fault_of e (MarkTest p m) = None
 fault_of e (Call f a) = call_fault e f a
 fault_of e (Done f) = None
 fault_of e (Active p) = None
@@ -134,6 +138,10 @@ effect o e (Refresh p q) v =
     else type_of e v
 effect o e (RefreshLoad p q f) v = if is_variable v (Local p) then placed_type (type_of e (Local p)) else type_of e v
 effect o e (RefreshStore p f q) v = if is_variable v q then shared_type (type_of e q) else type_of e v
+effect o e (Mark p q) v = if is_variable v p || is_variable v q then shared_type (type_of e q) else type_of e v
+effect o e (Unmark p q) v =
+    if is_variable v p || is_variable v q then shared_type (type_of e q) else type_of e v
+effect o e (MarkTest p m) v = type_of e v
 effect o e (Call f a) v = call_effect o e f a v
 effect o e (Done f) v = other_type o (events.Done f) (type_of e v)
 effect o e (Active p) v = if is_variable v p then active_type o (type_of e p) else type_of e v
@@ -164,6 +172,9 @@ effect_anywhere o e (DataTest r x n) = e.w
 effect_anywhere o e (Refresh p q) = e.w
 effect_anywhere o e (RefreshLoad p q f) = e.w
 effect_anywhere o e (RefreshStore p f q) = e.w
+effect_anywhere o e (Mark p q) = e.w
+effect_anywhere o e (Unmark p q) = e.w
+effect_anywhere o e (MarkTest p m) = e.w
 effect_anywhere o e (Call f a) = call_anywhere o e f a
 effect_anywhere o e (Done f) = on_other o (events.Done f) e.w
 effect_anywhere o e (Active p) = e.w

@@ -124,6 +124,9 @@ fn write_effect(env: &mut Env, prim: &Prim, observer: &Observer)
             set_type(&placed_type(env, p), env, p)
         }
         Prim::RefreshStore { q, .. } => set_type(&shared_type(env, q), env, q),
+        Prim::Mark { p, q } => set_both(&shared_type(env, q), env, p, q),
+        Prim::Unmark { p, q } => set_both(&shared_type(env, q), env, p, q),
+        Prim::MarkTest { .. } => {}
         Prim::Call { func, arg } => write_call(env, func, arg, observer),
         Prim::Done { func } => on_other(env, EvKind::Done(func), observer),
         Prim::Active { p } => set_type(&active_type(env, p, observer), env, p),
