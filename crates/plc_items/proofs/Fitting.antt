@@ -136,5 +136,6 @@ pub few_acts : (flow : Flow) (outline : Outline) (s : Setting) (o : Obligation) 
     → s ≡ setting_of flow outline o → length s.acts < 65536
 few_acts flow outline s o h e =
     let few : length s.acts ≤ most_step_primitives =
-    acts_short flow outline o (setting_of flow outline o).mine (executed flow o) s.acts h refl (ap (λ (t : Setting). t.acts) e) in
+    acts_short flow outline o (setting_of flow outline o).marked (setting_of flow outline o).mine (executed flow o) s.acts
+    h refl (ap (λ (t : Setting). t.acts) e) in
     omega arith
