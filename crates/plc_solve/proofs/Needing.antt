@@ -1,6 +1,6 @@
 -- Cores: a longer branch makes more equal, so nodes that close a core close each branch that holds it.
-use Rattle.std.proofs.Common.{◌≡◌, ◌≢◌, ◌<◌, ◌⊎◌, ℕ, zero, suc, true, List, [], ◌∷◌, ◌++◌, length, map, get_or, Some, Result, Ok, Err, inl, inr, refl, sym, ◌∙◌, subst, arith}
-use Rattle.std.specs.Prelude.{Contains, slice_get, IfOk, Vec}
+use Rattle.std.proofs.Common.{◌≡◌, ◌≢◌, ◌<◌, ◌⊎◌, ℕ, zero, suc, true, List, [], ◌∷◌, ◌++◌, length, map, get_or, Some, inl, inr, refl, sym, ◌∙◌, subst, arith}
+use Rattle.std.specs.Prelude.{Contains, slice_get}
 use Rattle.std.proofs.lemmas.List.Elements.{Contains-append_left, Contains-append_right, Contains-append_cases, Contains-get_or}
 use Rattle.plc_ground.specs.declared.terms.Lit.{Lit}
 use Rattle.plc_ground.specs.declared.terms.Node.{Node}
@@ -11,7 +11,6 @@ use Rattle.plc_ground.specs.Model.{literals}
 use Rattle.plc_ground.specs.Equality.{Same, HoldsUnequal, given, itself, back, along, applied}
 use Rattle.plc_ground.specs.Trees.{IsRight, Close}
 use Rattle.plc_ground.specs.Classes.{IsClosure}
-use Rattle.plc_ground.specs.Fit.{LitFits}
 use Rattle.plc_ground.proofs.Joining.{literal_is}
 use Rattle.plc_solve.specs.Search.{IsWithin, TakesCore, PutsSome, Explains, Leads}
 
@@ -197,7 +196,8 @@ puts_more s branch core new class k d lt w e h = record {
     either l (inr m) = subst (λ (t : Lit). Contains branch t) (only_that (get_or branch k d) l m) here
 
 -- the whole branch explains what it makes equal
-pub explained_by_all : (s : GroundSet) (branch list : List Lit) (a b : ℕ) → Same s.terms branch a b → list ≡ branch → Explains s branch a b list
+pub explained_by_all : (s : GroundSet) (branch list : List Lit) (a b : ℕ) → Same s.terms branch a b → list ≡ branch →
+    Explains s branch a b list
 explained_by_all s branch list a b h e = record {
   within = λ l m. subst (λ (t : List Lit). Contains t l) e m;
   same = subst (λ (t : List Lit). Same s.terms t a b) (sym e) h;

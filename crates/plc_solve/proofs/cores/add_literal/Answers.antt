@@ -9,7 +9,8 @@ returns-then-is_one c = takes_own c.args.core.now.items c.args.own c.args.l (c.i
 
 pub returns-in-Some : goal.returns-in-Some
 returns-in-Some c =
-    takes_known c.args.core.now.items c.args.own c.args.l (subst (λ (t : List Lit). Contains t c.args.l) c.deref.ensures.value (c.in-Some.ensures.1))
+    takes_known c.args.core.now.items c.args.own c.args.l (subst (λ (t : List Lit). Contains t c.args.l)
+    c.deref.ensures.value (c.in-Some.ensures.1))
 
 pub returns : goal.returns
 returns c = takes_new c.args.core.now.items c.push.new.self.items c.args.own c.args.l (c.is_one.ensures.no c.if-is_one.false) c.in_ok-push.ensures.items
