@@ -1,6 +1,6 @@
 -- Cores: a longer branch makes more equal, so nodes that close a core close each branch that holds it.
-use Rattle.std.proofs.Common.{◌≡◌, ◌≢◌, ◌<◌, ◌⊎◌, ℕ, zero, suc, true, List, [], ◌∷◌, ◌++◌, length, map, get_or, Some, Result, Ok, Err, inl, inr, refl, sym, ◌∙◌, subst, arith}
-use Rattle.std.specs.Prelude.{Contains, slice_get, IfOk, Vec}
+use Rattle.std.proofs.Common.{◌≡◌, ◌≢◌, ◌<◌, ◌⊎◌, ℕ, zero, suc, true, List, [], ◌∷◌, ◌++◌, length, map, get_or, Some, inl, inr, refl, sym, ◌∙◌, subst, arith}
+use Rattle.std.specs.Prelude.{Contains, slice_get}
 use Rattle.std.proofs.lemmas.List.Elements.{Contains-append_left, Contains-append_right, Contains-append_cases, Contains-get_or}
 use Rattle.plc_ground.specs.declared.terms.Lit.{Lit}
 use Rattle.plc_ground.specs.declared.terms.Node.{Node}
@@ -11,7 +11,6 @@ use Rattle.plc_ground.specs.Model.{literals}
 use Rattle.plc_ground.specs.Equality.{Same, HoldsUnequal, given, itself, back, along, applied}
 use Rattle.plc_ground.specs.Trees.{IsRight, Close}
 use Rattle.plc_ground.specs.Classes.{IsClosure}
-use Rattle.plc_ground.specs.Fit.{LitFits}
 use Rattle.plc_ground.proofs.Joining.{literal_is}
 use Rattle.plc_solve.specs.Search.{IsWithin, TakesCore, PutsSome, Explains, Leads}
 
@@ -197,13 +196,12 @@ puts_more s branch core new class k d lt w e h = record {
     either l (inr m) = subst (λ (t : Lit). Contains branch t) (only_that (get_or branch k d) l m) here
 
 -- the whole branch explains what it makes equal
-pub explained_by_all : (s : GroundSet) (branch : List Lit) (a b : ℕ) → Same s.terms branch a b → {E Z : Type 0} (r : Result (Vec Lit Z) E) → IfOk r (λ list. list.items ≡ branch) →
-    IfOk r (λ core. Explains s branch a b core.items)
-explained_by_all s branch a b h (Ok list) e = record {
+pub explained_by_all : (s : GroundSet) (branch list : List Lit) (a b : ℕ) → Same s.terms branch a b → list ≡ branch →
+    Explains s branch a b list
+explained_by_all s branch list a b h e = record {
   within = λ l m. subst (λ (t : List Lit). Contains t l) e m;
   same = subst (λ (t : List Lit). Same s.terms t a b) (sym e) h;
 }
-explained_by_all s branch a b h (Err e) k = tt
 
 -- an equation leads from its left side to its right, and back
 pub leads_right : (l : Lit) (at : ℕ) → l.equal ≡ true → l.left ≡ at → Leads l at l.right
@@ -217,11 +215,6 @@ leads_left l at e is = (
   (λ terms branch h. subst (λ n. Same terms branch n l.left) is (back l.left l.right (given l.left l.right (subst (λ (m : Lit). Contains branch m) (sym (literal_is l e)) h)))),
   inl refl,
 )
-
--- what a literal leads to is a term
-pub led_within : (s : GroundSet) (l : Lit) (at next : ℕ) → LitFits s l → Leads l at next → next < length s.terms
-led_within s l at next fit (_, inl e) = subst (λ n. n < length s.terms) e (fit.range.0)
-led_within s l at next fit (_, inr e) = subst (λ n. n < length s.terms) e (fit.range.1)
 
 -- one step back along a chain
 pub chain_more : (s : GroundSet) (branch core new : List Lit) (at next b k : ℕ) (d : Lit) → k < length branch → Explains s branch at b core → Leads (get_or branch k d) at next →

@@ -1,6 +1,5 @@
 -- One turn of the search, over the list of frames as the code has it: its newest is last.
-use Rattle.std.proofs.Common.{◌≡◌, ◌<◌, List, [], ◌∷◌, ◌++◌, reverse, sym, ◌∙◌, ap, subst, arith}
-use Rattle.plc_ground.specs.declared.terms.Node.{Node}
+use Rattle.std.proofs.Common.{◌≡◌, ◌<◌, List, [], ◌∷◌, ◌++◌, reverse, refl, sym, ◌∙◌, ap, subst, arith}
 use Rattle.plc_ground.specs.declared.terms.Node.TheVariants.{Split}
 use Rattle.plc_ground.specs.declared.terms.GroundSet.{GroundSet}
 use Rattle.plc_solve.specs.declared.frame.Frame.{Frame}
@@ -46,9 +45,11 @@ module _ (s : GroundSet) (old cut : Place) (f : Frame) (before rest : List Frame
         let same = ap (λ (fs : List Frame). left s (base_of s) (splits new fs)) e in
         (subst (λ (fs : List Frame). Stands s new fs) (sym e) (next.0), omega (arith, less, same, was))
 
-    pub complete_turn : StepGives s cut f g new Complete → (tree nodes : List Node) → tree ≡ Split g.clause ∷ nodes → nodes ≡ g.nodes.items →
-        Stands s new (reverse rest) × ClosesTop s (splits new (reverse rest)) g.core.items tree × (left_below s (base_of s) (splits new (reverse rest)) < left s (base_of s) (splits old (reverse before)))
-    complete_turn st tree nodes is all =
-        let next = complete_step s old cut new f g (reverse rest) stood c go st tree (is ∙ ap (λ (ns : List Node). Split g.clause ∷ ns) all) in
+    pub complete_turn : StepGives s cut f g new Complete →
+        Stands s new (reverse rest)
+        × ClosesTop s (splits new (reverse rest)) g.core.items (Split g.clause ∷ g.nodes.items)
+        × (left_below s (base_of s) (splits new (reverse rest)) < left s (base_of s) (splits old (reverse before)))
+    complete_turn st =
+        let next = complete_step s old cut new f g (reverse rest) stood c go st (Split g.clause ∷ g.nodes.items) refl in
         let less = next.2 in
         (next.0, next.1, omega (arith, less, was))

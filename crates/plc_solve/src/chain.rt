@@ -1,8 +1,8 @@
 // Why two terms are equal, where equations of the branch lead from the one to the other with no help of a map.
 // Each equation of a branch joined two classes, so as edges between terms they are a forest: there is one way at
-// most, and it has no literal to spare. `reached` finds it, and is trusted in nothing: `walk_back` goes along
-// it and looks at each literal.
-ghost use Rattle.std.specs.Prelude.{◌≡◌, ◌<◌, IfOk, IfSome, All, Ok, length, true};
+// most, and it has no literal to spare. The forest grows and is cut with the branch. It is trusted in nothing:
+// `walk_back` goes along it and looks at each literal.
+ghost use Rattle.std.specs.Prelude.{◌≡◌, IfSome, All, Ok, true};
 ghost use Rattle.plc_ground.specs.Fit.{LitFits};
 ghost use Rattle.plc_solve.specs.Search.{Explains, IsWithin, Leads};
 
@@ -16,50 +16,39 @@ pub(crate) struct Pair {
     pub b: u32,
 }
 
-/// What `reached` has for a term that it didn't come to.
+/// What a root has in place of an equation.
 const NOWHERE: usize = usize::MAX;
 
-/// Goes over an equation from a side that is reached to one that isn't.
-fn spread(set: &GroundSet, via: &mut [usize], l: Lit, k: usize) -> bool
-    requires one_each { length via.old ≡ length set.now.terms }
-    requires fit { LitFits set.now l }
-{
-    let (a, b) = (l.left as usize, l.right as usize);
-    let from = via[a] != NOWHERE;
-    let to = via[b] != NOWHERE;
-    if from == to {
-        return false;
-    }
-    let end = if from { b } else { a };
-    via[end] = k;
-    true
+/// The equations of the branch, as a forest between terms.
+#[derive(Drop)]
+pub(crate) struct Forest {
+    /// For each term the place of the equation that leads on to its root.
+    on: Vec<usize>,
+    /// Literals that explain why two terms are equal: those that were found last.
+    pub way: Vec<Lit>,
 }
 
-/// Goes over each equation of the branch once. False where nothing more was reached.
-fn spread_all(set: &GroundSet, branch: &[Lit], via: &mut [usize]) -> bool
-    requires one_each { length via.old ≡ length set.now.terms }
-    requires fit { All (LitFits set.now) branch.now }
-{
-    let mut more = false;
-    for k in 0..branch.len() {
-        if branch[k].equal && spread(set, via, branch[k], k) {
-            more = true;
-        }
+impl Forest {
+    /// The forest of a branch without literals.
+    pub(crate) fn new(alloc: Global, set: &GroundSet) -> Result<Forest, AllocError> {
+        Ok(Forest {
+            on: vec![in alloc; NOWHERE; set.terms.len()]?,
+            way: Vec::new(alloc),
+        })
     }
-    more
 }
 
-/// For each term the place of the equation by which it is reached from a first one.
-fn reached(set: &GroundSet, branch: &[Lit], first: u32, via: &mut [usize])
-    requires one_each { length via.old ≡ length set.now.terms }
-    requires first { first < length set.now.terms }
-    requires fit { All (LitFits set.now) branch.now }
-{
-    via[first as usize] = branch.len();
-    for _ in 0..branch.len() {
-        if !spread_all(set, branch, via) {
-            return;
-        }
+/// The place of the equation that leads on from a term.
+fn step_at(on: &[usize], at: u32) -> usize {
+    let at = at as usize;
+    if at < on.len() { on[at] } else { NOWHERE }
+}
+
+/// Writes the place of the equation that leads on from a term.
+fn set_step(on: &mut [usize], at: u32, k: usize) {
+    let at = at as usize;
+    if at < on.len() {
+        on[at] = k;
     }
 }
 
@@ -79,31 +68,77 @@ fn other_side(l: Lit, at: u32) -> Option<u32>
     None
 }
 
-/// Goes from the second term back to the first, and notes the equations on the way. False where it
-/// doesn't come there.
+/// Where the equation at a place of the branch leads from a term.
+fn led_to(branch: &[Lit], k: usize, at: u32) -> Option<u32> {
+    if k < branch.len() {
+        return other_side(branch[k], at);
+    }
+    None
+}
+
+/// Lets the equation at a place lead on from a term, and turns the way from there to its root round.
+fn turn(branch: &[Lit], on: &mut [usize], first: u32, place: usize) {
+    let (mut at, mut new) = (first, place);
+    for _ in 0..branch.len() {
+        let old = step_at(on, at);
+        set_step(on, at, new);
+        let Some(next) = led_to(branch, old, at) else {
+            return;
+        };
+        at = next;
+        new = old;
+    }
+    set_step(on, at, new);
+}
+
+/// The forest after the branch's last literal, which is new.
+pub(crate) fn grow(forest: &mut Forest, branch: &[Lit]) {
+    if branch.is_empty() {
+        return;
+    }
+    let last = branch.len() - 1;
+    turn(branch, &mut forest.on, branch[last].left, last);
+}
+
+/// Makes a root of a term that the equation at a place leads on from.
+fn cut_at(on: &mut [usize], at: u32, k: usize) {
+    if step_at(on, at) == k {
+        set_step(on, at, NOWHERE);
+    }
+}
+
+/// The forest of the first literals of the branch, so many as stay.
+pub(crate) fn cut(forest: &mut Forest, branch: &[Lit], stay: usize) {
+    for k in stay..branch.len() {
+        cut_at(&mut forest.on, branch[k].left, k);
+        cut_at(&mut forest.on, branch[k].right, k);
+    }
+}
+
+/// Goes from the second term back to the first, the root, and notes the equations on the way. False where
+/// it doesn't come there.
 fn walk_back(
     set: &GroundSet,
     branch: &[Lit],
-    via: &[usize],
+    on: &[usize],
     pair: Pair,
-    core: &mut Vec<Lit>,
+    way: &mut Vec<Lit>,
 ) -> Result<bool, AllocError>
-    requires one_each { length via.now ≡ length set.now.terms }
     requires fit { All (LitFits set.now) branch.now }
-    requires second { pair.b < length set.now.terms }
-    requires none { IsWithin core.old.items branch.now }
-    ensures { result ≡ Ok true → Explains set.now branch.now pair.a pair.b core.new.items }
+    requires none { IsWithin way.old.items branch.now }
+    ensures { result ≡ Ok true → Explains set.now branch.now pair.a pair.b way.new.items }
 {
+    let _set = set; // of which the contract alone speaks
     let mut at = pair.b;
     for _ in 0..branch.len() {
-        let k = via[at as usize];
+        let k = step_at(on, at);
         if at == pair.a || k >= branch.len() {
             return Ok(at == pair.a);
         }
         let Some(next) = other_side(branch[k], at) else {
             return Ok(false);
         };
-        core.push(branch[k])?;
+        way.push(branch[k])?;
         at = next;
     }
     Ok(at == pair.a)
@@ -111,21 +146,15 @@ fn walk_back(
 
 /// Finds the equations that lead from the one term to the other. False where none do.
 pub(crate) fn chain(
-    alloc: Global,
     set: &GroundSet,
     branch: &[Lit],
+    forest: &mut Forest,
     pair: Pair,
-    core: &mut Vec<Lit>,
 ) -> Result<bool, AllocError>
     requires fit { All (LitFits set.now) branch.now }
-    requires first { pair.a < length set.now.terms }
-    requires second { pair.b < length set.now.terms }
-    requires none { IsWithin core.old.items branch.now }
-    ensures { result ≡ Ok true → Explains set.now branch.now pair.a pair.b core.new.items }
+    ensures { result ≡ Ok true → Explains set.now branch.now pair.a pair.b forest.new.way.items }
 {
-    let mut via = vec![in alloc; NOWHERE; set.terms.len()]?;
-    reached(set, branch, pair.a, &mut via);
-    let found = walk_back(set, branch, &via, pair, core);
-    drop(via);
-    found
+    turn(branch, &mut forest.on, pair.a, NOWHERE);
+    forest.way.truncate(0);
+    walk_back(set, branch, &forest.on, pair, &mut forest.way)
 }

@@ -6,11 +6,11 @@
 ghost use Rattle.std.specs.Prelude.{◌≡◌, ◌<◌, ◌≤◌, IsTrue, IfOk, OnOk, All, Ok, length, slice_index, true};
 ghost use Rattle.plc_ground.specs.Fit.{IsWellFormed, LitFits};
 ghost use Rattle.plc_ground.specs.Classes.{IsTable};
-ghost use Rattle.plc_ground.specs.Changes.{IsBack, Extends};
+ghost use Rattle.plc_ground.specs.Changes.{IsBack};
 ghost use Rattle.plc_ground.specs.Equality.{Same};
 ghost use Rattle.plc_solve.specs.Search.{Explains, PutsSome, IsOfSome};
 
-use crate::chain::{Pair, chain};
+use crate::chain::{Forest, Pair, chain};
 use plc_ground::{
     Applications, Equalities, GroundSet, Lit, all_apart, classes, mark, put, take_back,
 };
@@ -25,38 +25,8 @@ fn are_together(class: &[u32], pair: Pair) -> bool
     class[pair.a as usize] == class[pair.b as usize]
 }
 
-/// Puts the literals before `bound` until the two come together, and answers at which they did; 0 where
-/// they don't.
-fn put_until(
-    set: &GroundSet,
-    table: &Applications,
-    branch: &[Lit],
-    bound: usize,
-    equal: &mut Equalities,
-    pair: Pair,
-) -> Result<usize, AllocError>
-    requires well { IsWellFormed set.now }
-    requires table { IsTable set.now.terms table.now }
-    requires fit { All (LitFits set.now) branch.now }
-    requires some { 0 < bound }
-    requires bound { bound ≤ length branch.now }
-    requires first { pair.a < length set.now.terms }
-    requires second { pair.b < length set.now.terms }
-    requires closure { IsOfSome set.now equal.old.class }
-    ensures within { IfOk result (λ k. k < bound) }
-    ensures extends { OnOk result (Extends equal.old equal.new) }
-{
-    for k in 0..bound {
-        put(set, table, equal, branch[k])?;
-        if are_together(classes(equal), pair) {
-            return Ok(k);
-        }
-    }
-    Ok(0)
-}
-
 /// The place before `bound` of a literal that is needed, where those before `bound` and what the table has
-/// make the two equal.
+/// make the two equal: that at which they come together, where all before it are put, the oldest first.
 fn needed(
     set: &GroundSet,
     table: &Applications,
@@ -77,9 +47,13 @@ fn needed(
     ensures back { OnOk result (IsBack equal.old equal.new) }
 {
     let start = mark(equal);
-    let k = put_until(set, table, branch, bound, equal, pair)?;
+    let mut k = 0;
+    'put: while k < bound && !are_together(classes(equal), pair) {
+        put(set, table, equal, branch[k])?;
+        k += 1;
+    }
     take_back(equal, start);
-    Ok(k)
+    Ok(k.saturating_sub(1))
 }
 
 /// Finds literals of the branch that are enough, and puts them. False where it found none.
@@ -109,15 +83,6 @@ fn put_needed(
     Ok(are_together(classes(equal), pair))
 }
 
-/// The literals of a branch in a list of their own.
-fn copied(alloc: Global, branch: &[Lit]) -> Result<Vec<Lit>, AllocError>
-    ensures { IfOk result (λ list. list.items ≡ branch.now) }
-{
-    let mut list = Vec::new(alloc);
-    list.extend_from_slice(branch)?;
-    Ok(list)
-}
-
 /// Literals of the branch that make two terms equal which the branch makes equal, found by puts.
 fn explain_by_puts(
     alloc: Global,
@@ -125,47 +90,48 @@ fn explain_by_puts(
     table: &Applications,
     branch: &[Lit],
     pair: Pair,
-) -> Result<Vec<Lit>, AllocError>
+    way: &mut Vec<Lit>,
+) -> Result<(), AllocError>
     requires well { IsWellFormed set.now }
     requires table { IsTable set.now.terms table.now }
     requires fit { All (LitFits set.now) branch.now }
     requires first { pair.a < length set.now.terms }
     requires second { pair.b < length set.now.terms }
     requires same { Same set.now.terms branch.now pair.a pair.b }
-    ensures { IfOk result (λ core. Explains set.now branch.now pair.a pair.b core.items) }
+    ensures { OnOk result (Explains set.now branch.now pair.a pair.b way.new.items) }
 {
     let mut equal = all_apart(alloc, set)?;
-    let mut core = Vec::new(alloc);
-    let found = put_needed(set, table, branch, &mut equal, pair, &mut core);
+    way.truncate(0);
+    let found = put_needed(set, table, branch, &mut equal, pair, way);
     drop(equal);
     if found? {
-        return Ok(core);
+        return Ok(());
     }
-    drop(core);
-    copied(alloc, branch)
+    way.truncate(0);
+    way.extend_from_slice(branch)?;
+    Ok(())
 }
 
-/// Literals of the branch that make two terms equal which the branch makes equal. The one error is that
-/// memory runs out.
+/// Finds literals of the branch that make two terms equal which the branch makes equal, none of them twice: the
+/// forest's way. The one error is that memory runs out.
 pub(crate) fn explain(
     alloc: Global,
     set: &GroundSet,
     table: &Applications,
     branch: &[Lit],
+    forest: &mut Forest,
     pair: Pair,
-) -> Result<Vec<Lit>, AllocError>
+) -> Result<(), AllocError>
     requires well { IsWellFormed set.now }
     requires table { IsTable set.now.terms table.now }
     requires fit { All (LitFits set.now) branch.now }
     requires first { pair.a < length set.now.terms }
     requires second { pair.b < length set.now.terms }
     requires same { Same set.now.terms branch.now pair.a pair.b }
-    ensures { IfOk result (λ core. Explains set.now branch.now pair.a pair.b core.items) }
+    ensures { OnOk result (Explains set.now branch.now pair.a pair.b forest.new.way.items) }
 {
-    let mut core = Vec::new(alloc);
-    if chain(alloc, set, branch, pair, &mut core)? {
-        return Ok(core);
+    if chain(set, branch, forest, pair)? {
+        return Ok(());
     }
-    drop(core);
-    explain_by_puts(alloc, set, table, branch, pair)
+    explain_by_puts(alloc, set, table, branch, pair, &mut forest.way)
 }

@@ -70,31 +70,31 @@ pub(crate) fn take_leaf(
     Ok(())
 }
 
-/// Closes the next child, on its own literal, by a tree that needs a core of the child's branch.
+/// Closes the next child, on its own literal, by the tree of a split whose children are all closed.
 pub(crate) fn take_tree(
     set: &GroundSet,
     top: &mut Frame,
     own: Lit,
-    tree: &[Node],
-    core: &[Lit],
+    done: &Frame,
 ) -> Result<(), AllocError>
     requires known { top.old.clause < length set.now.clauses }
     requires child { top.old.next < length (literals set.now top.old.clause) }
-    ensures tree { OnOk result (TakesTree top.old top.new tree.now) }
-    ensures core { OnOk result (TakesCore top.old.core.items top.new.core.items own core.now) }
+    ensures tree { OnOk result (TakesTree top.old top.new (Node.Split done.now.clause ∷ done.now.nodes.items)) }
+    ensures core { OnOk result (TakesCore top.old.core.items top.new.core.items own done.now.core.items) }
 {
-    top.nodes.extend_from_slice(tree)?;
-    add_core(&mut top.core, own, core)?;
+    top.nodes.push(Node::Split(done.clause))?;
+    top.nodes.extend_from_slice(&done.nodes)?;
+    add_core(&mut top.core, own, &done.core)?;
     next_child(set, top);
     Ok(())
 }
 
 /// The tree of a split whose children are all closed.
-pub(crate) fn whole(alloc: Global, clause: u32, nodes: &[Node]) -> Result<Vec<Node>, AllocError>
-    ensures { IfOk result (λ tree. tree.items ≡ Node.Split clause ∷ nodes.now) }
+pub(crate) fn whole(alloc: Global, done: &Frame) -> Result<Vec<Node>, AllocError>
+    ensures { IfOk result (λ tree. tree.items ≡ Node.Split done.now.clause ∷ done.now.nodes.items) }
 {
     let mut tree = Vec::new(alloc);
-    tree.push(Node::Split(clause))?;
-    tree.extend_from_slice(nodes)?;
+    tree.push(Node::Split(done.clause))?;
+    tree.extend_from_slice(&done.nodes)?;
     Ok(tree)
 }

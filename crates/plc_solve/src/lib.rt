@@ -16,5 +16,6 @@ mod place;
 mod search;
 mod split;
 mod survey;
+mod workspace;
 
 pub use search::{Answer, refute};

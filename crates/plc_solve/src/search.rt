@@ -8,11 +8,13 @@ ghost use Rattle.plc_ground.specs.Trees.{HasModel};
 ghost use Rattle.plc_solve.specs.Search.{IsSurvey, IsPlace, Stands, Finds};
 ghost use Rattle.plc_solve.specs.Answers.{IsOpen, CarriesModel, CarriesTree};
 
-use crate::frame::{Frame, Step, whole};
+use crate::chain::cut;
+use crate::frame::{Frame, Step};
 use crate::needless::hand_up;
 use crate::place::{Place, go_up};
 use crate::split::{enter, take_child};
 use crate::survey::{Survey, take_survey};
+use crate::workspace::{Workspace, keep_lists};
 use plc_base::{Items, NoMemory};
 use plc_ground::{GroundModel, GroundSet, Node, Tree, all_apart, into_classes};
 use std::alloc::{AllocError, Global};
@@ -34,6 +36,7 @@ fn search(
     survey: &Survey,
     seen: &mut [usize],
     last: &mut [u32],
+    work: &mut Workspace,
     frames: &mut Vec<Frame>,
     place: &mut Place,
 ) -> Result<Option<Vec<Node>>, AllocError>
@@ -46,8 +49,9 @@ fn search(
     ensures { IfOk result (Finds set.now place.new) }
 {
     'search: while let Some(mut top) = frames.pop() {
+        cut(&mut work.forest, &place.branch, top.depth);
         go_up(place, &top);
-        match take_child(alloc, set, survey, seen, last, &mut top, place)? {
+        match take_child(alloc, set, survey, seen, last, work, &mut top, place)? {
             Step::Open => return Ok(None),
             Step::Closed => frames.push(top)?,
             Step::Deeper(child) => {
@@ -55,10 +59,10 @@ fn search(
                 frames.push(child)?;
             }
             Step::Complete => {
-                let tree = whole(alloc, top.clause, &top.nodes)?;
-                if let Some(nodes) = hand_up(set, frames, place, tree, &top.core)? {
+                if let Some(nodes) = hand_up(alloc, set, frames, place, &mut work.forest, &top)? {
                     return Ok(Some(nodes));
                 }
+                keep_lists(work, top)?;
             }
         }
     }
@@ -73,6 +77,7 @@ fn search_from(
     survey: &Survey,
     seen: &mut [usize],
     last: &mut [u32],
+    work: &mut Workspace,
     place: &mut Place,
 ) -> Result<Option<Vec<Node>>, AllocError>
     requires well { IsWellFormed set.now }
@@ -83,12 +88,12 @@ fn search_from(
     requires empty { place.old.branch.items ≡ [] }
     ensures { IfOk result (Finds set.now place.new) }
 {
-    match enter(alloc, set, survey, seen, place) {
+    match enter(alloc, set, survey, seen, work, place) {
         Step::Open => Ok(None),
         Step::Deeper(first) => {
             let mut frames = Vec::new(alloc);
             frames.push(first)?;
-            search(alloc, set, survey, seen, last, &mut frames, place)
+            search(alloc, set, survey, seen, last, work, &mut frames, place)
         }
         _ => unreachable!(),
     }
@@ -105,10 +110,12 @@ fn find(alloc: Global, set: &GroundSet, place: &mut Place) -> Result<Option<Vec<
     let survey = take_survey(alloc, set)?;
     let mut seen = vec![in alloc; 0usize; set.clauses.len()]?;
     let mut last = vec![in alloc; 0u32; set.terms.len()]?;
-    let found = search_from(alloc, set, &survey, &mut seen, &mut last, place);
+    let mut work = Workspace::new(alloc, set)?;
+    let found = search_from(alloc, set, &survey, &mut seen, &mut last, &mut work, place);
     drop(survey);
     drop(seen);
     drop(last);
+    drop(work);
     found
 }
 

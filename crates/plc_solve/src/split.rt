@@ -13,12 +13,13 @@ ghost use Rattle.plc_solve.specs.Search.{IsSurvey, IsPlace, IsSound, Enters, Des
 ghost use Rattle.plc_solve.specs.Search.{Explains, TakesTree, TakesCore};
 
 use crate::apart::conflict;
-use crate::chain::Pair;
+use crate::chain::{Forest, Pair, grow};
 use crate::choice::pick;
 use crate::explain::explain;
 use crate::frame::{Frame, Step, take_leaf};
 use crate::place::Place;
 use crate::survey::Survey;
+use crate::workspace::{Workspace, empty_lists};
 use plc_ground::{GroundSet, Lit, classes, clause, mark, put};
 use std::alloc::{AllocError, Global};
 
@@ -31,12 +32,33 @@ pub(crate) enum Descent {
     Longer,
 }
 
+/// A split on a clause, of which no child is closed yet.
+fn begun(alloc: Global, work: &mut Workspace, clause: u32, place: &Place) -> Frame
+    ensures clause { result.clause ≡ clause }
+    ensures first { result.next ≡ 0 }
+    ensures none { result.nodes.items ≡ [] }
+    ensures unused { result.core.items ≡ [] }
+    ensures depth { result.depth ≡ length place.now.branch.items }
+    ensures mark { result.mark ≡ length place.now.equal.trail }
+{
+    let (nodes, core) = empty_lists(alloc, work);
+    Frame {
+        clause,
+        next: 0,
+        nodes,
+        core,
+        depth: place.branch.len(),
+        mark: mark(&place.equal),
+    }
+}
+
 /// A branch on which nothing is split yet: its classes are a model, or a false clause is to be split.
 pub(crate) fn enter(
     alloc: Global,
     set: &GroundSet,
     survey: &Survey,
     seen: &mut [usize],
+    work: &mut Workspace,
     place: &Place,
 ) -> Step
     requires well { IsWellFormed set.now }
@@ -47,14 +69,7 @@ pub(crate) fn enter(
 {
     match pick(set, survey, classes(&place.equal), seen) {
         None => Step::Open,
-        Some(clause) => Step::Deeper(Frame {
-            clause: clause as u32,
-            next: 0,
-            nodes: Vec::new(alloc),
-            core: Vec::new(alloc),
-            depth: place.branch.len(),
-            mark: mark(&place.equal),
-        }),
+        Some(clause) => Step::Deeper(begun(alloc, work, clause as u32, place)),
     }
 }
 
@@ -63,6 +78,7 @@ fn descend(
     set: &GroundSet,
     survey: &Survey,
     last: &mut [u32],
+    forest: &mut Forest,
     place: &mut Place,
     l: Lit,
 ) -> Result<Descent, AllocError>
@@ -77,6 +93,7 @@ fn descend(
 {
     put(set, &survey.table, &mut place.equal, l)?;
     place.branch.push(l)?;
+    grow(forest, &place.branch);
     if let Some((a, b)) = conflict(set, survey.groups.as_slice(), classes(&place.equal), last) {
         return Ok(Descent::Conflict(a as u32, b as u32));
     }
@@ -89,6 +106,7 @@ fn close_child(
     alloc: Global,
     set: &GroundSet,
     survey: &Survey,
+    forest: &mut Forest,
     top: &mut Frame,
     place: &Place,
     own: Lit,
@@ -106,8 +124,8 @@ fn close_child(
     ensures core { OnOk result ((core : List Lit) × Explains set.now place.now.branch.items pair.a pair.b core
         × TakesCore top.old.core.items top.new.core.items own core) }
 {
-    let core = explain(alloc, set, &survey.table, &place.branch, pair)?;
-    take_leaf(set, top, own, pair.a, pair.b, &core)?;
+    explain(alloc, set, &survey.table, &place.branch, forest, pair)?;
+    take_leaf(set, top, own, pair.a, pair.b, &forest.way)?;
     Ok(())
 }
 
@@ -118,6 +136,7 @@ pub(crate) fn take_child(
     survey: &Survey,
     seen: &mut [usize],
     last: &mut [u32],
+    work: &mut Workspace,
     top: &mut Frame,
     place: &mut Place,
 ) -> Result<Step, AllocError>
@@ -139,15 +158,15 @@ pub(crate) fn take_child(
             a: l.left,
             b: l.right,
         };
-        close_child(alloc, set, survey, top, place, l, pair)?;
+        close_child(alloc, set, survey, &mut work.forest, top, place, l, pair)?;
         return Ok(Step::Closed);
     }
-    match descend(set, survey, last, place, l)? {
+    match descend(set, survey, last, &mut work.forest, place, l)? {
         Descent::Conflict(a, b) => {
             let pair = Pair { a, b };
-            close_child(alloc, set, survey, top, place, l, pair)?;
+            close_child(alloc, set, survey, &mut work.forest, top, place, l, pair)?;
             Ok(Step::Closed)
         }
-        Descent::Longer => Ok(enter(alloc, set, survey, seen, place)),
+        Descent::Longer => Ok(enter(alloc, set, survey, seen, work, place)),
     }
 }

@@ -1,21 +1,26 @@
-use Rattle.std.proofs.Common.{◌++◌, ◌∷◌, [], subst}
+use Rattle.std.proofs.Common.{◌++◌, ◌∷◌, [], reverse, subst}
 use Rattle.plc_ground.specs.declared.terms.Lit.{Lit}
 use Rattle.plc_ground.specs.Classes.{IsClosure}
 use Rattle.plc_ground.specs.Paths.{Notes}
-use Rattle.plc_ground.proofs.Along.{along_entered}
+use Rattle.plc_ground.proofs.Along.{closure_along, along_entered}
 use Rattle.plc_ground.proofs.Noting.{noted_entered}
 use Rattle.plc_ground.proofs.path.enter.Goals as goal
 
 pub put-requires-clause-one_each : goal.put-requires-clause-one_each
-put-requires-clause-one_each c = c.requires.branch.1.merged.one_each
+put-requires-clause-one_each c =
+    (closure_along c.args.set.now (reverse c.args.path.now.turns.items) c.args.equal.now.trail c.args.equal.now.class
+    c.requires.along).merged.one_each
 
 pub put-requires-clause-congruent : goal.put-requires-clause-congruent
-put-requires-clause-congruent c = c.requires.branch.1.congruent
+put-requires-clause-congruent c =
+    (closure_along c.args.set.now (reverse c.args.path.now.turns.items) c.args.equal.now.trail c.args.equal.now.class
+    c.requires.along).congruent
 
 pub returns-clause-along : goal.returns-clause-along
 returns-clause-along c =
     along_entered c.args.set.now c.args.path.now.turns.items c.push.new.self.items _ c.args.equal.now c.put.new.equal c.mark.ensures c.in_ok-put.ensures.extends c.in_ok-push.ensures.items
-    (λ branch k. subst (λ (l : Lit). IsClosure c.args.set.now.terms (branch ++ l ∷ []) c.put.new.equal.class) c.literal-l.ensures (c.in_ok-put.ensures.closure branch k))
+    (λ branch k. subst (λ (l : Lit). IsClosure c.args.set.now.terms (branch ++ l ∷ []) c.put.new.equal.class)
+    c.literal-l.ensures (c.in_ok-put.ensures.closure branch k)) c.requires.along
 
 pub returns-clause-noted : goal.returns-clause-noted
 returns-clause-noted c =

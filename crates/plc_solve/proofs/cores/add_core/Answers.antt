@@ -8,4 +8,5 @@ use Rattle.plc_solve.proofs.cores.add_core.Goals as goal
 pub loop-l-preserved : goal.loop-l-preserved
 loop-l-preserved c =
     subst (λ (t : List Lit). TakesCore c.args.core.now.items c.add_literal.new.core.items c.args.own t) (sym (take_more c.args.more.now c.loop-l.l-index _ c.loop-l-test.true))
-    (takes_more c.args.core.now.items c.loop-l.core.items c.add_literal.new.core.items c.args.own _ _ c.loop-l.invariant c.in_ok-add_literal.ensures)
+    (takes_more c.args.core.now.items c.loop-l.core.items c.add_literal.new.core.items c.args.own _ _
+    c.loop-l.invariant c.in_ok-start.ensures)

@@ -1,6 +1,4 @@
-use Rattle.std.proofs.Common.{arith, List, Ok, ap, reverse, sym, subst}
-use Rattle.plc_ground.specs.declared.terms.Lit.{Lit}
-use Rattle.plc_solve.specs.Search.{ClosesTop, splits}
+use Rattle.std.proofs.Common.{arith, Ok, ap}
 use Rattle.plc_solve.specs.Measure.{base_of}
 use Rattle.plc_solve.proofs.Turns.{cut_is_sound, closed_turn, deeper_turn, complete_turn}
 use Rattle.plc_solve.proofs.search.search.Goals as goal
@@ -42,20 +40,19 @@ pub hand_up-requires-clause-stands : goal.hand_up-requires-clause-stands
 hand_up-requires-clause-stands c =
     (complete_turn c.args.set.now c.search.place c.go_up.new.place c.in-Some.top c.search.frames.items c.pop.new.self.items
     c.in-Some.ensures.items c.search.invariant.stands c.go_up.ensures c.take_child.new.place c.take_child.new.top c.in_ok-take_child.ensures.goes_on
-    (rw c.in-Complete.is at c.in_ok-take_child.ensures.gives) c.in_ok-tree-in-Complete.tree.items c.deref.result.now c.in_ok-tree-in-Complete.ensures c.deref.ensures.value).0
+    (rw c.in-Complete.is at c.in_ok-take_child.ensures.gives)).0
 
 pub hand_up-requires-clause-closes : goal.hand_up-requires-clause-closes
 hand_up-requires-clause-closes c =
-    subst (λ (core : List Lit). ClosesTop c.args.set.now (splits c.take_child.new.place (reverse c.pop.new.self.items)) core c.in_ok-tree-in-Complete.tree.items) (sym c.deref-in-Complete.ensures.value)
     (complete_turn c.args.set.now c.search.place c.go_up.new.place c.in-Some.top c.search.frames.items c.pop.new.self.items
     c.in-Some.ensures.items c.search.invariant.stands c.go_up.ensures c.take_child.new.place c.take_child.new.top c.in_ok-take_child.ensures.goes_on
-    (rw c.in-Complete.is at c.in_ok-take_child.ensures.gives) c.in_ok-tree-in-Complete.tree.items c.deref.result.now c.in_ok-tree-in-Complete.ensures c.deref.ensures.value).1
+    (rw c.in-Complete.is at c.in_ok-take_child.ensures.gives)).1
 
 pub search-smaller : goal.search-smaller
 search-smaller c =
     let turn = complete_turn c.args.set.now c.search.place c.go_up.new.place c.in-Some.top c.search.frames.items c.pop.new.self.items
     c.in-Some.ensures.items c.search.invariant.stands c.go_up.ensures c.take_child.new.place c.take_child.new.top c.in_ok-take_child.ensures.goes_on
-    (rw c.in-Complete.is at c.in_ok-take_child.ensures.gives) c.in_ok-tree-in-Complete.tree.items c.deref.result.now c.in_ok-tree-in-Complete.ensures c.deref.ensures.value in
+    (rw c.in-Complete.is at c.in_ok-take_child.ensures.gives) in
     let fewer = turn.2 in
     let less = c.in_ok-nodes-in-Complete.ensures.less (ap Ok c.in_default-2.is) (base_of c.args.set.now) in
     omega (arith, fewer, less)
