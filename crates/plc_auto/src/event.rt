@@ -1,7 +1,10 @@
 // What an observer hears: calls and returns of reclaimer functions, and frees. A history is a list
 // of events in the order in which they happened.
-ghost use Rattle.std.specs.Prelude.{◌≡◌};
+ghost use Rattle.std.specs.Prelude.{◌≡◌, Some, true};
 ghost use Rattle.plc_auto.specs.Events.{kind_of, thread_of, address_of};
+ghost use Rattle.plc_auto.specs.Laws.{retired_by};
+ghost use Rattle.plc_auto.specs.Location.{is_this};
+ghost use Rattle.plc_auto.specs.Locations.{is_named};
 
 use plc_base::FuncId;
 
@@ -59,5 +62,24 @@ impl Event {
             Event::Done { t: _, f: _ } => 0,
             Event::Free { a } => a,
         }
+    }
+}
+
+/// Whether the address that an event names is this one; none names null.
+pub fn is_this(named: u32, a: u32) -> bool
+    ensures { result ≡ is_this (Some named) a }
+{
+    named == a && named != 0
+}
+
+/// Whether an address is retired after an event that names it.
+pub fn retired_by(e: &Event, a: u32, before: bool) -> bool
+    requires { is_named e.now a ≡ true }
+    ensures { result ≡ retired_by e.now a before }
+{
+    match e.kind() {
+        EvKind::Call(f) => f.is_retire() || before,
+        EvKind::Done(_) => before,
+        EvKind::Free => false,
     }
 }

@@ -12,11 +12,6 @@ pub fn locations_follow_histories()
     ensures { (o : Observer) → LocationsFollowHistories o }
 {}
 
-/// An event neither by a thread nor on an address leaves the location of that thread for that address.
-pub fn far_events_move_nothing()
-    ensures { (o : Observer) → FarEventsMoveNothing o }
-{}
-
 /// Which histories are allowed, by their prefixes and by their last event.
 pub fn histories_are_judged_by_the_last()
     ensures { (o : Observer) (threads : ℕ) → AllowedByTheLast o threads }
@@ -41,4 +36,9 @@ pub fn frees_follow_retirements()
 /// Null is never the address that is watched.
 pub fn null_is_other()
     ensures { (a : ℕ) → is_this (Some 0) a ≡ false }
+{}
+
+/// An event neither by a thread nor on an address leaves the location of that thread for that address.
+pub fn far_events_move_nothing()
+    ensures { (o : Observer) → FarEventsMoveNothing o }
 {}

@@ -5,14 +5,12 @@ ghost use Rattle.std.specs.Prelude.{IfOk, Some, None, is_some};
 ghost use Rattle.plc_auto.specs.declared.event.Event.TheVariants.{Free as Freed};
 ghost use Rattle.std.specs.List.{count_by};
 ghost use Rattle.plc_auto.specs.Table.{target_of};
-ghost use Rattle.plc_auto.specs.Laws.{retired_by};
-ghost use Rattle.plc_auto.specs.Location.{is_this};
 ghost use Rattle.plc_auto.specs.Waiting.{is_kept_at};
 ghost use Rattle.plc_auto.specs.Locations.{with_first, wider, is_free_row, is_named, same_locations, is_needed};
 ghost use Rattle.plc_auto.specs.Locations.{all_bear_free, moved};
 ghost use Rattle.plc_auto.specs.Moves.{with_one, with_all, named_after, one_elsewhere};
 
-use crate::event::{EvKind, Event};
+use crate::event::{EvKind, Event, is_this, retired_by};
 use crate::observer::Observer;
 use crate::watcher::{Watcher, first, is_kept_at, is_own, moved};
 use plc_base::{LocId, NoMemory};
@@ -42,25 +40,6 @@ impl Model for Row {
     ghost view = { λ r. record { address = r.address; retired = r.retired; at = map target_of r.at.items } };
 
     ghost invariant = { λ r. r.keepers ≡ count_by is_kept_at (map target_of r.at.items) };
-}
-
-/// Whether the address that an event names is this one; none names null.
-fn is_this(named: u32, a: u32) -> bool
-    ensures { result ≡ is_this (Some named) a }
-{
-    named == a && named != 0
-}
-
-/// Whether an address is retired after an event that names it.
-fn retired_by(e: &Event, a: u32, before: bool) -> bool
-    requires { is_named e.now a ≡ true }
-    ensures { result ≡ retired_by e.now a before }
-{
-    match e.kind() {
-        EvKind::Call(f) => f.is_retire() || before,
-        EvKind::Done(_) => before,
-        EvKind::Free => false,
-    }
 }
 
 /// How many of these are `r.kept`.

@@ -1,5 +1,5 @@
-use Rattle.std.proofs.Common.{◌≡◌, take}
+use Rattle.std.proofs.Common.{◌≡◌, length, take}
 use Rattle.plc_type.proofs.env.overwrite.Given as goal
 
-abbrev pub invariant-loop-t : goal.invariant-loop-t
-invariant-loop-t l = l.types ≡ take l.t-index l.by
+abbrev pub invariant-loop-k : goal.invariant-loop-k
+invariant-loop-k l = (length l.types ≡ length l.by) × (take l.k l.types ≡ take l.k l.by)
