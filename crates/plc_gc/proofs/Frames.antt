@@ -19,7 +19,7 @@ use Rattle.plc_gc.specs.declared.slot.Slot.TheVariants.{SharedMark as shared_mar
 use Rattle.plc_gc.specs.declared.slot.Slot.TheVariants.{Data as in_data}
 use Rattle.plc_gc.specs.declared.slot.Map.{Map}
 use Rattle.plc_gc.specs.declared.slot.Pointer.{Pointer}
-use Rattle.plc_gc.specs.State.{GcState, Locals, null_pointer, with_node, with_mark, node_put, mark_put, locals_or_none}
+use Rattle.plc_gc.specs.State.{GcState, Locals, null_pointer, with_node, with_mark, mark_put, locals_or_none}
 use Rattle.plc_gc.specs.State.{locals_of, with_locals, put, put_pointer, update, update_pointer, made, slot, mark_slot}
 use Rattle.plc_gc.proofs.Views.{locals-with_same}
 use Rattle.plc_gc.specs.Primitives.{after_call, goes, after}
@@ -122,16 +122,25 @@ IsOwn t (shared_mark i) = Unit {0}
 IsOwn t (local_mark u v) = u ≡ t
 IsOwn t (in_data u x) = u ≡ t
 
--- pointers put in the place of as many
-pointers_keep : (t : ℕ) (g : GcState) (l : Locals) (ps : List Pointer) → get_or g.locals t None ≡ Some l
-    → length ps ≡ length (locals_of g t).pointers
-    → Keeps t g l (with_locals g t (Some (record (locals_of g t) { pointers = ps })))
-pointers_keep t g l ps held many =
-    let e = held_is g t l held in (
+-- the locals with a pointer changed
+abbrev changed : Locals → ℕ → (Pointer → Pointer) → Locals
+changed l v f = record l { pointers = put_at null_pointer l.pointers v (f (get_or l.pointers v null_pointer)) }
+
+-- a pointer local that is changed
+pointer_keeps : (t : ℕ) (g : GcState) (l : Locals) (u v : ℕ) (f : Pointer → Pointer) → get_or g.locals t None ≡ Some l
+    → u ≡ t → v < length (locals_of g u).pointers
+    → Keeps t g l (with_locals g u (Some (changed (locals_of g u) v f)))
+pointer_keeps t g l u v f held own =
+    let e = held_is g t l held in
+    let ps = (locals_of g t).pointers in
+    subst (λ u. v < length (locals_of g u).pointers → Keeps t g l (with_locals g u (Some (changed (locals_of g u) v f))))
+    (sym own)
+    (λ small. (
       _,
-      given t g l (record (locals_of g t) { pointers = ps }) held (rw e refl)
-          (many ∙ ap (λ (m : Locals). length m.pointers) e) (rw e refl),
-    )
+      given t g l (changed (locals_of g t) v f) held (ap (λ (m : Locals). m.declared) e)
+          (length_put null_pointer ps v (f (get_or ps v null_pointer)) small ∙ ap (λ (m : Locals). length m.pointers) e)
+          (ap (λ (m : Locals). length m.values) e),
+    ))
 
 -- a value that is put where thread t may put it
 slot_keeps : (t : ℕ) (g : GcState) (l : Locals) (p : Slot) (n : ℕ) → get_or g.locals t None ≡ Some l → SlotIn g p
@@ -143,20 +152,8 @@ slot_keeps t g l (in_shared i) n held h own =
 slot_keeps t g l (shared_mark i) n held h own =
     same_locals t g _ l held refl refl
     (length_put null_pointer g.shared i (with_mark (get_or g.shared i null_pointer) n) h) refl
-slot_keeps t g l (in_local u v) n held h own =
-    subst (λ u. v < length (locals_of g u).pointers
-    → Keeps t g l (with_locals g u
-    (Some (record (locals_of g u) { pointers = node_put (locals_of g u).pointers v n })))) (sym own)
-    (λ small. pointers_keep t g l (node_put (locals_of g t).pointers v n) held
-    (length_put null_pointer (locals_of g t).pointers v
-    (with_node (get_or (locals_of g t).pointers v null_pointer) n) small)) h
-slot_keeps t g l (local_mark u v) n held h own =
-    subst (λ u. v < length (locals_of g u).pointers
-    → Keeps t g l (with_locals g u
-    (Some (record (locals_of g u) { pointers = mark_put (locals_of g u).pointers v n })))) (sym own)
-    (λ small. pointers_keep t g l (mark_put (locals_of g t).pointers v n) held
-    (length_put null_pointer (locals_of g t).pointers v
-    (with_mark (get_or (locals_of g t).pointers v null_pointer) n) small)) h
+slot_keeps t g l (in_local u v) n held h own = pointer_keeps t g l u v (λ p. with_node p n) held own h
+slot_keeps t g l (local_mark u v) n held h own = pointer_keeps t g l u v (λ p. with_mark p n) held own h
 slot_keeps t g l (in_data u x) n held h own =
     let e = held_is g t l held in
     subst (λ u. x < length (locals_of g u).values → Keeps t g l (with_locals g u (Some (record (locals_of g u) { values = put_at 0 (locals_of g u).values x n })))) (sym own)

@@ -46,43 +46,45 @@ gives g t l = record {
   nodes = record { entries = λ m k. refl; count = refl };
 }
 
--- ---- tables of pointers: a node that is written leaves the marks, a mark leaves the nodes
+-- ---- tables of pointers, by what is read of a pointer: a node that is written leaves the marks, a mark leaves the nodes
+
+read_here : (read : Pointer → ℕ) (ps : List Pointer) (i : ℕ) (p : Pointer)
+    → read (get_or (put_at null_pointer ps i p) i null_pointer) ≡ read p
+read_here read ps i p = ap read (get-put_same null_pointer ps i p)
+
+read_there : (read : Pointer → ℕ) (ps : List Pointer) (i : ℕ) (p : Pointer) (j : ℕ) → (j ≡ i → ⊥)
+    → read (get_or (put_at null_pointer ps i p) j null_pointer) ≡ read (get_or ps j null_pointer)
+read_there read ps i p j ne = ap read (get-put_other null_pointer ps i p j ne)
+
+read_stays : (read : Pointer → ℕ) (ps : List Pointer) (i : ℕ) (p : Pointer) → read p ≡ read (get_or ps i null_pointer)
+    → (j : ℕ) → read (get_or (put_at null_pointer ps i p) j null_pointer) ≡ read (get_or ps j null_pointer)
+read_stays read ps i p same j = elim (cases_eq j i) [
+  | inl e ↦ subst (λ j. read (get_or (put_at null_pointer ps i p) j null_pointer) ≡ read (get_or ps j null_pointer))
+      (sym e) (read_here read ps i p ∙ same)
+  | inr ne ↦ read_there read ps i p j ne
+]
 
 node_here : (ps : List Pointer) (i n : ℕ) → (get_or (node_put ps i n) i null_pointer).node ≡ n
-node_here ps i n =
-    ap (λ (p : Pointer). p.node) (get-put_same null_pointer ps i (with_node (get_or ps i null_pointer) n))
+node_here ps i n = read_here (λ p. p.node) ps i (with_node (get_or ps i null_pointer) n)
 
 mark_here : (ps : List Pointer) (i n : ℕ) → (get_or (mark_put ps i n) i null_pointer).mark ≡ n
-mark_here ps i n =
-    ap (λ (p : Pointer). p.mark) (get-put_same null_pointer ps i (with_mark (get_or ps i null_pointer) n))
+mark_here ps i n = read_here (λ p. p.mark) ps i (with_mark (get_or ps i null_pointer) n)
 
 node_there : (ps : List Pointer) (i n j : ℕ) → (j ≡ i → ⊥)
     → (get_or (node_put ps i n) j null_pointer).node ≡ (get_or ps j null_pointer).node
-node_there ps i n j ne =
-    ap (λ (p : Pointer). p.node) (get-put_other null_pointer ps i (with_node (get_or ps i null_pointer) n) j ne)
+node_there ps i n = read_there (λ p. p.node) ps i (with_node (get_or ps i null_pointer) n)
 
 mark_there : (ps : List Pointer) (i n j : ℕ) → (j ≡ i → ⊥)
     → (get_or (mark_put ps i n) j null_pointer).mark ≡ (get_or ps j null_pointer).mark
-mark_there ps i n j ne =
-    ap (λ (p : Pointer). p.mark) (get-put_other null_pointer ps i (with_mark (get_or ps i null_pointer) n) j ne)
+mark_there ps i n = read_there (λ p. p.mark) ps i (with_mark (get_or ps i null_pointer) n)
 
 mark_stays : (ps : List Pointer) (i n j : ℕ)
     → (get_or (node_put ps i n) j null_pointer).mark ≡ (get_or ps j null_pointer).mark
-mark_stays ps i n j = elim (cases_eq j i) [
-  | inl e ↦ subst (λ j. (get_or (node_put ps i n) j null_pointer).mark ≡ (get_or ps j null_pointer).mark) (sym e)
-      (ap (λ (p : Pointer). p.mark) (get-put_same null_pointer ps i (with_node (get_or ps i null_pointer) n)))
-  | inr ne ↦ ap (λ (p : Pointer). p.mark)
-      (get-put_other null_pointer ps i (with_node (get_or ps i null_pointer) n) j ne)
-]
+mark_stays ps i n = read_stays (λ p. p.mark) ps i (with_node (get_or ps i null_pointer) n) refl
 
 node_stays : (ps : List Pointer) (i n j : ℕ)
     → (get_or (mark_put ps i n) j null_pointer).node ≡ (get_or ps j null_pointer).node
-node_stays ps i n j = elim (cases_eq j i) [
-  | inl e ↦ subst (λ j. (get_or (mark_put ps i n) j null_pointer).node ≡ (get_or ps j null_pointer).node) (sym e)
-      (ap (λ (p : Pointer). p.node) (get-put_same null_pointer ps i (with_mark (get_or ps i null_pointer) n)))
-  | inr ne ↦ ap (λ (p : Pointer). p.node)
-      (get-put_other null_pointer ps i (with_mark (get_or ps i null_pointer) n) j ne)
-]
+node_stays ps i n = read_stays (λ p. p.node) ps i (with_mark (get_or ps i null_pointer) n) refl
 
 -- ---- values
 

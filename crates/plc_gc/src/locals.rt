@@ -4,10 +4,10 @@ ghost use Rattle.std.specs.Prelude.{◌≡◌, ℕ, ◌<◌, get_or, slice_get, 
 ghost use Rattle.std.specs.Prelude.{IfOk, Some, None};
 ghost use Rattle.plc_base.specs.Tables.{put_at};
 ghost use Rattle.plc_gc.specs.State.{GcState, Locals, locals_of, locals_or_none, no_locals, starting};
-ghost use Rattle.plc_gc.specs.State.{null_pointer, node_put, mark_put};
+ghost use Rattle.plc_gc.specs.State.{null_pointer};
 ghost use Rattle.plc_gc.specs.Clauses.{declared_value};
 
-use crate::row::{find_node, pointer_at, set_mark, set_node};
+use crate::row::{find_node, pointer_at};
 use crate::slot::Pointer;
 use plc_base::NoMemory;
 use plc_lang::{Local, Op, count_other_data, count_pointers, data_number, pointer_number};
@@ -108,20 +108,12 @@ impl Locals {
         }
     }
 
-    /// Puts a node into a pointer local.
-    pub fn set_node(&mut self, v: u16, n: u32)
+    /// Puts a pointer into a pointer local.
+    pub fn set_pointer(&mut self, v: u16, p: Pointer)
         requires { v < length self.old.pointers }
-        ensures { self.new ≡ record self.old { pointers = node_put self.old.pointers v n } }
+        ensures { self.new ≡ record self.old { pointers = put_at null_pointer self.old.pointers v p } }
     {
-        set_node(&mut self.pointers, v as usize, n);
-    }
-
-    /// Marks a pointer local, or unmarks it.
-    pub fn set_mark(&mut self, v: u16, n: u32)
-        requires { v < length self.old.pointers }
-        ensures { self.new ≡ record self.old { pointers = mark_put self.old.pointers v n } }
-    {
-        set_mark(&mut self.pointers, v as usize, n);
+        self.pointers[v as usize] = p;
     }
 
     /// Puts a number into a data local.
@@ -141,25 +133,15 @@ pub fn local_of(locals: &[Option<Locals>], t: u32, v: u16) -> Option<u32>
     held(locals, t)?.find(v)
 }
 
-/// Puts a node into a pointer local of a thread.
-pub fn put_node(locals: &mut Vec<Option<Locals>>, t: u32, v: u16, n: u32)
+/// Puts a pointer into a pointer local of a thread.
+pub fn put_pointer(locals: &mut Vec<Option<Locals>>, t: u32, v: u16, p: Pointer)
     requires { v < length (locals_or_none (get_or locals.old.items t None)).pointers }
     ensures { let l = locals_or_none (get_or locals.old.items t None)
-        in locals.new.items ≡ put_at None locals.old.items t (Some (record l { pointers = node_put l.pointers v n })) }
+        in locals.new.items
+        ≡ put_at None locals.old.items t (Some (record l { pointers = put_at null_pointer l.pointers v p })) }
 {
     if let Some(l) = &mut locals[t as usize] {
-        l.set_node(v, n);
-    }
-}
-
-/// Puts a mark into a pointer local of a thread.
-pub fn put_mark(locals: &mut Vec<Option<Locals>>, t: u32, v: u16, n: u32)
-    requires { v < length (locals_or_none (get_or locals.old.items t None)).pointers }
-    ensures { let l = locals_or_none (get_or locals.old.items t None)
-        in locals.new.items ≡ put_at None locals.old.items t (Some (record l { pointers = mark_put l.pointers v n })) }
-{
-    if let Some(l) = &mut locals[t as usize] {
-        l.set_mark(v, n);
+        l.set_pointer(v, p);
     }
 }
 

@@ -1,7 +1,7 @@
 // The row of a node: a pointer for each field in `pointers` and a number for each in `values`, of which a
 // pointer field has the first and a data field the second, a number for each auxiliary field, and the retirement.
-ghost use Rattle.std.specs.Prelude.{◌≡◌, ◌<◌, get_or, length, nat_lt, if◌then◌else◌, IfOk, Some, None};
-ghost use Rattle.plc_gc.specs.State.{null_pointer, node_put, mark_put, row_entry, row_with, fresh_row};
+ghost use Rattle.std.specs.Prelude.{◌≡◌, get_or, length, nat_lt, if◌then◌else◌, IfOk, Some, None};
+ghost use Rattle.plc_gc.specs.State.{null_pointer, row_entry, row_with, fresh_row};
 ghost use Rattle.plc_gc.specs.Fit.{EntryIn};
 
 use crate::slot::{Map, Pointer};
@@ -51,22 +51,6 @@ pub fn find_node(pointers: &[Pointer], i: usize) -> Option<u32>
     }
 }
 
-/// Puts another node at a place of a table.
-pub fn set_node(pointers: &mut Vec<Pointer>, i: usize, n: u32)
-    requires { i < length pointers.old.items }
-    ensures { pointers.new.items ≡ node_put pointers.old.items i n }
-{
-    pointers[i] = pointers[i].with_node(n);
-}
-
-/// Puts another mark at a place of a table.
-pub fn set_mark(pointers: &mut Vec<Pointer>, i: usize, n: u32)
-    requires { i < length pointers.old.items }
-    ensures { pointers.new.items ≡ mark_put pointers.old.items i n }
-{
-    pointers[i] = pointers[i].with_mark(n);
-}
-
 impl Row {
     /// A node that was just allocated, and null.
     pub fn fresh(alloc: Global, fields: usize, ghosts: usize) -> Result<Row, NoMemory>
@@ -111,8 +95,12 @@ impl Row {
         ensures { self.new ≡ row_with self.old map n }
     {
         match map {
-            Map::Pointer(f) => set_node(&mut self.pointers, f as usize, n),
-            Map::Mark(f) => set_mark(&mut self.pointers, f as usize, n),
+            Map::Pointer(f) => {
+                self.pointers[f as usize] = pointer_at(&self.pointers, f as usize).with_node(n);
+            }
+            Map::Mark(f) => {
+                self.pointers[f as usize] = pointer_at(&self.pointers, f as usize).with_mark(n);
+            }
             Map::Number(f) => self.values[f as usize] = n,
             Map::Auxiliary(h) => self.auxiliary[h as usize] = n,
             Map::Retirement => self.retired = n,

@@ -8,8 +8,8 @@ ghost use Rattle.plc_gc.specs.State.{is_retired, is_made, is_pointer_field, node
 ghost use Rattle.plc_gc.specs.Clauses.{local_value, field_map};
 ghost use Rattle.plc_gc.specs.Fit.{SlotIn, MapIn};
 
-use crate::locals::{Locals, local_of, put_mark, put_node, put_value};
-use crate::row::{Row, copy_rows, find_node, pointer_at, set_mark, set_node};
+use crate::locals::{Locals, local_of, put_pointer, put_value};
+use crate::row::{Row, copy_rows, find_node, pointer_at};
 use crate::slot::{Map, Pointer, Slot};
 use plc_base::{FieldId, NoMemory};
 use plc_flow::Flow;
@@ -138,10 +138,20 @@ impl State {
         ensures { self.new ≡ put self.old slot n }
     {
         match slot {
-            Slot::Shared(i) => set_node(&mut self.shared, i as usize, n),
-            Slot::Local { t, v } => put_node(&mut self.locals, t, v, n),
-            Slot::SharedMark(i) => set_mark(&mut self.shared, i as usize, n),
-            Slot::LocalMark { t, v } => put_mark(&mut self.locals, t, v, n),
+            Slot::Shared(i) => {
+                self.shared[i as usize] = pointer_at(&self.shared, i as usize).with_node(n);
+            }
+            Slot::Local { t, v } => {
+                let p = self.pointer(t, v).with_node(n);
+                put_pointer(&mut self.locals, t, v, p);
+            }
+            Slot::SharedMark(i) => {
+                self.shared[i as usize] = pointer_at(&self.shared, i as usize).with_mark(n);
+            }
+            Slot::LocalMark { t, v } => {
+                let p = self.pointer(t, v).with_mark(n);
+                put_pointer(&mut self.locals, t, v, p);
+            }
             Slot::Data { t, x } => put_value(&mut self.locals, t, x, n),
         }
     }

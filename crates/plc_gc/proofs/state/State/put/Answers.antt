@@ -1,21 +1,16 @@
-use Rattle.std.proofs.Common.{ap, refl}
-use Rattle.plc_gc.specs.State.{put, with_locals, locals_of}
+use Rattle.std.proofs.Common.{sym, ap, refl}
+use Rattle.plc_gc.specs.State.{put, with_locals, locals_of, null_pointer}
+use Rattle.plc_base.proofs.Tables.{put_is_set}
 use Rattle.plc_gc.specs.contracts.state.State.{the_view}
 use Rattle.plc_gc.proofs.state.State.put.Goals as goal
 
-pub set_node-requires : goal.set_node-requires
-set_node-requires c = rw (c.in-Shared.is, ← c.self.view_is) at c.requires
-
-pub set_mark-requires : goal.set_mark-requires
-set_mark-requires c = rw (c.in-SharedMark.is, ← c.self.view_is) at c.requires
-
-pub put_node-requires : goal.put_node-requires
+pub put_pointer-requires : goal.put_pointer-requires
 unfolding locals_of
-put_node-requires c = rw (c.in-Local.is, ← c.self.view_is) at c.requires
+put_pointer-requires c = rw (c.in-Local.is, ← c.self.view_is) at c.requires
 
-pub put_mark-requires : goal.put_mark-requires
+pub put_pointer-requires-in-LocalMark : goal.put_pointer-requires-in-LocalMark
 unfolding locals_of
-put_mark-requires c = rw (c.in-LocalMark.is, ← c.self.view_is) at c.requires
+put_pointer-requires-in-LocalMark c = rw (c.in-LocalMark.is, ← c.self.view_is) at c.requires
 
 pub put_value-requires : goal.put_value-requires
 unfolding locals_of
@@ -24,22 +19,40 @@ put_value-requires c = rw (c.in-Data.is, ← c.self.view_is) at c.requires
 pub returns-in-Shared : goal.returns-in-Shared
 unfolding put
 returns-in-Shared c =
-    rw (c.in-Shared.is, ← c.self.view_is)
-    (ap (λ xs. record (the_view c.self.inside) { shared = xs }) c.set_node.ensures)
+    let h = rw (c.in-Shared.is, ← c.self.view_is) at c.requires in
+    rw (c.in-Shared.is, c.with_node.ensures, c.pointer_at.ensures, c.deref.ensures.value, ← c.self.view_is)
+    (ap (λ xs. record (the_view c.self.inside) { shared = xs })
+    (sym (put_is_set null_pointer c.self.inside.shared.items c.in-Shared.i _ h)))
 
 pub returns-in-SharedMark : goal.returns-in-SharedMark
 unfolding put
 returns-in-SharedMark c =
-    rw (c.in-SharedMark.is, ← c.self.view_is)
-    (ap (λ xs. record (the_view c.self.inside) { shared = xs }) c.set_mark.ensures)
+    let h = rw (c.in-SharedMark.is, ← c.self.view_is) at c.requires in
+    rw (
+      c.in-SharedMark.is,
+      c.with_mark.ensures,
+      c.pointer_at-in-SharedMark.ensures,
+      c.deref-in-SharedMark.ensures.value,
+      ← c.self.view_is,
+    )
+    (ap (λ xs. record (the_view c.self.inside) { shared = xs })
+    (sym (put_is_set null_pointer c.self.inside.shared.items c.in-SharedMark.i _ h)))
 
 pub returns-in-Local : goal.returns-in-Local
 unfolding put with_locals locals_of
-returns-in-Local c = rw (c.in-Local.is, c.put_node.ensures, ← c.self.view_is) refl
+returns-in-Local c =
+    rw (c.in-Local.is, c.put_pointer.ensures, c.with_node-p.ensures, c.pointer.ensures, ← c.self.view_is) refl
 
 pub returns-in-LocalMark : goal.returns-in-LocalMark
 unfolding put with_locals locals_of
-returns-in-LocalMark c = rw (c.in-LocalMark.is, c.put_mark.ensures, ← c.self.view_is) refl
+returns-in-LocalMark c =
+    rw (
+      c.in-LocalMark.is,
+      c.put_pointer-in-LocalMark.ensures,
+      c.with_mark-p.ensures,
+      c.pointer-in-LocalMark.ensures,
+      ← c.self.view_is,
+    ) refl
 
 pub returns-in-Data : goal.returns-in-Data
 unfolding put with_locals locals_of
