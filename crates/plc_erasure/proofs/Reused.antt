@@ -8,7 +8,9 @@ use Rattle.plc_mem.specs.State.{State, Locals, null_cell, at_local, at, put, wit
 use Rattle.plc_mem.specs.Primitives.{after}
 use Rattle.plc_gc.specs.declared.slot.Slot.TheVariants.{Local as in_local}
 use Rattle.plc_gc.specs.declared.slot.Map.TheVariants.{Retirement as retirement}
-use Rattle.plc_gc.specs.State.{GcState, Locals as GcLocals, value, entry, count, put as gc_put, update, made, with_locals as gc_with_locals, locals_of as gc_locals_of, fresh_state as gc_fresh_state}
+use Rattle.plc_gc.specs.State.{GcState, Locals as GcLocals, null_pointer, value, entry, count, put as gc_put, update}
+use Rattle.plc_gc.specs.State.{made, with_locals as gc_with_locals, locals_of as gc_locals_of}
+use Rattle.plc_gc.specs.State.{fresh_state as gc_fresh_state}
 use Rattle.plc_gc.specs.Primitives.{after as gc_after}
 use Rattle.plc_erasure.specs.Trace.{last_node}
 
@@ -16,7 +18,12 @@ one_local : Locals
 one_local = record { pointers = null_cell ∷ []; values = [] }
 
 one_gc_local : GcLocals
-one_gc_local = record { declared = record { name = 0; pointer = true; param = false } ∷ []; pointers = 0 ∷ []; values = [] }
+one_gc_local =
+    record {
+      declared = record { name = 0; pointer = true; param = false } ∷ [];
+      pointers = null_pointer ∷ [];
+      values = [];
+    }
 
 reused : State
 unfolding one_local
@@ -32,11 +39,11 @@ never_reused =
     let handed_over = gc_after (gc_after busy 0 (New (Local 0))) 0 (Call retire (args.Var (Local 0))) in
     gc_after handed_over 1 (New (Local 0))
 
-stale : at reused (at_local 0 0) ≡ record { number = 1; valid = false }
+stale : at reused (at_local 0 0) ≡ record { number = 1; mark = false; valid = false }
 unfolding one_local reused at put with_node with_retired with_locals locals_of freed
 stale = refl
 
-fresh : at reused (at_local 1 0) ≡ record { number = 1; valid = true }
+fresh : at reused (at_local 1 0) ≡ record { number = 1; mark = false; valid = true }
 unfolding one_local reused at put with_node with_retired with_locals locals_of freed
 fresh = refl
 

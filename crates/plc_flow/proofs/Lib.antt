@@ -10,5 +10,6 @@ pub mod Remaining
 pub mod Short
 pub mod Sorted
 pub mod Indexed
+pub mod KeptMarks
 pub mod Walk
 pub mod Within

@@ -1,5 +1,6 @@
 // The laws stand over the definitions, so that proofs above never open them.
 ghost use Rattle.plc_flow.specs.declared.flow.Flow.{Flow};
+ghost use Rattle.plc_flow.specs.Marks.{LoweringKeepsMarks};
 ghost use Rattle.plc_flow.specs.Opposites.{OppositesAreTests};
 ghost use Rattle.plc_flow.specs.Points.{StepsStayInTheirGate};
 ghost use Rattle.plc_flow.specs.WellFormed.{IsWellFormed};
@@ -21,4 +22,10 @@ pub fn steps_stay_in_their_gate()
 /// in each state is a law of each meaning of memory.
 pub fn opposites_are_tests()
     ensures { OppositesAreTests }
+{}
+
+/// A flow uses marks exactly where its file does, each file alike: lowering keeps each primitive that speaks of marks,
+/// and puts no other one beside it but the opposite of a mark test, on the other side of its `if`.
+pub fn lowering_keeps_marks()
+    ensures { LoweringKeepsMarks }
 {}

@@ -13,7 +13,7 @@ mod statements;
 mod steps_by_point;
 
 pub use flow::{Flow, FlowFault, Gate, Step};
-pub use laws::{flows_fit, opposites_are_tests, steps_stay_in_their_gate};
+pub use laws::{flows_fit, lowering_keeps_marks, opposites_are_tests, steps_stay_in_their_gate};
 pub use lowering::lower;
 pub use marks::uses_marks;
 pub use points::{Point, names_rightly, nth_step};

@@ -8,13 +8,19 @@ use Rattle.plc_lang.specs.declared.syntax.Var.TheVariants as vars
 use Rattle.plc_lang.specs.declared.syntax.Arg.{Arg}
 use Rattle.plc_lang.specs.declared.syntax.Arg.TheVariants as args
 use Rattle.plc_lang.specs.declared.syntax.Primitive.{Primitive}
-use Rattle.plc_lang.specs.declared.syntax.Primitive.TheVariants.{Null, Copy, New, Load, Store, StoreNull, DataSet, DataLoad, DataStore, Eq, Ne, IsNull, NotNull, DataTest, Refresh, RefreshLoad, RefreshStore, Mark, Unmark, MarkTest, Call, Done, Active, Ghost}
+use Rattle.plc_lang.specs.declared.syntax.Primitive.TheVariants.{Null, Copy, New, Load, Store, StoreNull, DataSet}
+use Rattle.plc_lang.specs.declared.syntax.Primitive.TheVariants.{DataLoad, DataStore, Eq, Ne, IsNull, NotNull, DataTest}
+use Rattle.plc_lang.specs.declared.syntax.Primitive.TheVariants.{Refresh, RefreshLoad, RefreshStore, Mark, Unmark}
+use Rattle.plc_lang.specs.declared.syntax.Primitive.TheVariants.{MarkTest, Call, Done, Active, Ghost}
 use Rattle.plc_lang.specs.Shape.{VarIn, PrimitiveIn}
 use Rattle.plc_gc.specs.declared.slot.Slot.{Slot}
-use Rattle.plc_gc.specs.declared.slot.Slot.TheVariants.{Shared as in_shared, Local as in_local, SharedMark as shared_mark, LocalMark as local_mark, Data as in_data}
+use Rattle.plc_gc.specs.declared.slot.Slot.TheVariants.{Shared as in_shared, Local as in_local}
+use Rattle.plc_gc.specs.declared.slot.Slot.TheVariants.{SharedMark as shared_mark, LocalMark as local_mark}
+use Rattle.plc_gc.specs.declared.slot.Slot.TheVariants.{Data as in_data}
 use Rattle.plc_gc.specs.declared.slot.Map.{Map}
 use Rattle.plc_gc.specs.declared.slot.Pointer.{Pointer}
-use Rattle.plc_gc.specs.State.{GcState, Locals, null_pointer, with_node, with_mark, node_put, mark_put, locals_or_none, locals_of, with_locals, put, put_pointer, update, update_pointer, made, slot, mark_slot}
+use Rattle.plc_gc.specs.State.{GcState, Locals, null_pointer, with_node, with_mark, node_put, mark_put, locals_or_none}
+use Rattle.plc_gc.specs.State.{locals_of, with_locals, put, put_pointer, update, update_pointer, made, slot, mark_slot}
 use Rattle.plc_gc.proofs.Views.{locals-with_same}
 use Rattle.plc_gc.specs.Primitives.{after_call, goes, after}
 use Rattle.plc_gc.specs.Run.{turn, execute}
@@ -53,13 +59,34 @@ frame_held g t l held = ap (frame_by g) (held_is g t l held)
 pub same_frame : {t : ℕ} {g new : GcState} {l m : Locals} → KeepsFrame t g l new m → frame_by new m ≡ frame_by g l
 same_frame k = (let a = k.shared in let b = k.pointers in let c = k.values in let d = ap length k.fields in let e = k.ghosts in cc)
 
-itself : (t : ℕ) (g : GcState) (l : Locals) → get_or g.locals t None ≡ Some l → KeepsFrame t g l g l
-itself t g l held = record { fields = refl; ghosts = refl; shared = refl; threads = refl; others = λ u ne. refl; held = held; declared = refl; pointers = refl; values = refl }
+-- what changes no local, no field and no number of shared pointers
+same_locals : (t : ℕ) (g new : GcState) (l : Locals) → get_or g.locals t None ≡ Some l → new.fields ≡ g.fields
+    → new.ghosts ≡ g.ghosts → length new.shared ≡ length g.shared → new.locals ≡ g.locals → Keeps t g l new
+same_locals t g new l held fields ghosts shared locals = (
+  l,
+  record {
+    fields = fields;
+    ghosts = ghosts;
+    shared = shared;
+    threads = ap length locals;
+    others = λ u ne. ap (λ ls. get_or ls u None) locals;
+    held = ap (λ ls. get_or ls t None) locals ∙ held;
+    declared = refl;
+    pointers = refl;
+    values = refl;
+  },
+)
 
-pub frame_kept : {t : ℕ} {g : GcState} {l : Locals} {new : GcState} → get_or g.locals t None ≡ Some l → Keeps t g l new → frame new t ≡ frame g t
-frame_kept {t = t} {g = g} {l = l} {new = new} held k = frame_held new t k.0 k.1.held ∙ same_frame k.1 ∙ sym (frame_held g t l held)
+itself : (t : ℕ) (g : GcState) (l : Locals) → get_or g.locals t None ≡ Some l → Keeps t g l g
+itself t g l held = same_locals t g g l held refl refl refl refl
 
-keeps_then : {t : ℕ} {g new last : GcState} {l m n : Locals} → KeepsFrame t g l new m → KeepsFrame t new m last n → KeepsFrame t g l last n
+pub frame_kept : {t : ℕ} {g : GcState} {l : Locals} {new : GcState} → get_or g.locals t None ≡ Some l → Keeps t g l new
+    → frame new t ≡ frame g t
+frame_kept {t = t} {g = g} {l = l} {new = new} held k =
+    frame_held new t k.0 k.1.held ∙ same_frame k.1 ∙ sym (frame_held g t l held)
+
+keeps_then : {t : ℕ} {g new last : GcState} {l m n : Locals} → KeepsFrame t g l new m → KeepsFrame t new m last n
+    → KeepsFrame t g l last n
 keeps_then k j = record {
   fields = j.fields ∙ k.fields;
   ghosts = j.ghosts ∙ k.ghosts;
@@ -96,75 +123,105 @@ IsOwn t (local_mark u v) = u ≡ t
 IsOwn t (in_data u x) = u ≡ t
 
 -- pointers put in the place of as many
-pointers_keep : (t : ℕ) (g : GcState) (l : Locals) (ps : List Pointer) → get_or g.locals t None ≡ Some l → length ps ≡ length (locals_of g t).pointers → Keeps t g l (with_locals g t (Some (record (locals_of g t) { pointers = ps })))
+pointers_keep : (t : ℕ) (g : GcState) (l : Locals) (ps : List Pointer) → get_or g.locals t None ≡ Some l
+    → length ps ≡ length (locals_of g t).pointers
+    → Keeps t g l (with_locals g t (Some (record (locals_of g t) { pointers = ps })))
 pointers_keep t g l ps held many =
-    let e = held_is g t l held in
-    (_, given t g l (record (locals_of g t) { pointers = ps }) held (rw e refl) (many ∙ ap (λ (m : Locals). length m.pointers) e) (rw e refl))
+    let e = held_is g t l held in (
+      _,
+      given t g l (record (locals_of g t) { pointers = ps }) held (rw e refl)
+          (many ∙ ap (λ (m : Locals). length m.pointers) e) (rw e refl),
+    )
 
 -- a value that is put where thread t may put it
-slot_keeps : (t : ℕ) (g : GcState) (l : Locals) (p : Slot) (n : ℕ) → get_or g.locals t None ≡ Some l → SlotIn g p → IsOwn t p → Keeps t g l (put g p n)
+slot_keeps : (t : ℕ) (g : GcState) (l : Locals) (p : Slot) (n : ℕ) → get_or g.locals t None ≡ Some l → SlotIn g p
+    → IsOwn t p → Keeps t g l (put g p n)
 unfolding put
-slot_keeps t g l (in_shared i) n held h own = (l, record { fields = refl; ghosts = refl; shared = length_put null_pointer g.shared i (with_node (get_or g.shared i null_pointer) n) h; threads = refl; others = λ u ne. refl; held = held; declared = refl; pointers = refl; values = refl })
-slot_keeps t g l (shared_mark i) n held h own = (l, record { fields = refl; ghosts = refl; shared = length_put null_pointer g.shared i (with_mark (get_or g.shared i null_pointer) n) h; threads = refl; others = λ u ne. refl; held = held; declared = refl; pointers = refl; values = refl })
+slot_keeps t g l (in_shared i) n held h own =
+    same_locals t g _ l held refl refl
+    (length_put null_pointer g.shared i (with_node (get_or g.shared i null_pointer) n) h) refl
+slot_keeps t g l (shared_mark i) n held h own =
+    same_locals t g _ l held refl refl
+    (length_put null_pointer g.shared i (with_mark (get_or g.shared i null_pointer) n) h) refl
 slot_keeps t g l (in_local u v) n held h own =
-    subst (λ u. v < length (locals_of g u).pointers → Keeps t g l (with_locals g u (Some (record (locals_of g u) { pointers = node_put (locals_of g u).pointers v n })))) (sym own)
-    (λ small. pointers_keep t g l (node_put (locals_of g t).pointers v n) held (length_put null_pointer (locals_of g t).pointers v (with_node (get_or (locals_of g t).pointers v null_pointer) n) small)) h
+    subst (λ u. v < length (locals_of g u).pointers
+    → Keeps t g l (with_locals g u
+    (Some (record (locals_of g u) { pointers = node_put (locals_of g u).pointers v n })))) (sym own)
+    (λ small. pointers_keep t g l (node_put (locals_of g t).pointers v n) held
+    (length_put null_pointer (locals_of g t).pointers v
+    (with_node (get_or (locals_of g t).pointers v null_pointer) n) small)) h
 slot_keeps t g l (local_mark u v) n held h own =
-    subst (λ u. v < length (locals_of g u).pointers → Keeps t g l (with_locals g u (Some (record (locals_of g u) { pointers = mark_put (locals_of g u).pointers v n })))) (sym own)
-    (λ small. pointers_keep t g l (mark_put (locals_of g t).pointers v n) held (length_put null_pointer (locals_of g t).pointers v (with_mark (get_or (locals_of g t).pointers v null_pointer) n) small)) h
+    subst (λ u. v < length (locals_of g u).pointers
+    → Keeps t g l (with_locals g u
+    (Some (record (locals_of g u) { pointers = mark_put (locals_of g u).pointers v n })))) (sym own)
+    (λ small. pointers_keep t g l (mark_put (locals_of g t).pointers v n) held
+    (length_put null_pointer (locals_of g t).pointers v
+    (with_mark (get_or (locals_of g t).pointers v null_pointer) n) small)) h
 slot_keeps t g l (in_data u x) n held h own =
     let e = held_is g t l held in
     subst (λ u. x < length (locals_of g u).values → Keeps t g l (with_locals g u (Some (record (locals_of g u) { values = put_at 0 (locals_of g u).values x n })))) (sym own)
     (λ small. (_, given t g l (record (locals_of g t) { values = put_at 0 (locals_of g t).values x n }) held (rw e refl) (rw e refl) (length_put 0 (locals_of g t).values x n small ∙ ap (λ (m : Locals). length m.values) e))) h
 
-node_keeps : (t : ℕ) (g : GcState) (l : Locals) (p : Var) (n : ℕ) → get_or g.locals t None ≡ Some l → VarIn (frame g t).shape p → Keeps t g l (put g (slot t p) n)
+node_keeps : (t : ℕ) (g : GcState) (l : Locals) (p : Var) (n : ℕ) → get_or g.locals t None ≡ Some l
+    → VarIn (frame g t).shape p → Keeps t g l (put g (slot t p) n)
 node_keeps t g l (vars.Shared i) n held h = slot_keeps t g l (in_shared i) n held h tt
 node_keeps t g l (vars.Local v) n held h = slot_keeps t g l (in_local t v) n held h refl
 
-mark_keeps : (t : ℕ) (g : GcState) (l : Locals) (p : Var) (n : ℕ) → get_or g.locals t None ≡ Some l → VarIn (frame g t).shape p → Keeps t g l (put g (mark_slot t p) n)
+mark_keeps : (t : ℕ) (g : GcState) (l : Locals) (p : Var) (n : ℕ) → get_or g.locals t None ≡ Some l
+    → VarIn (frame g t).shape p → Keeps t g l (put g (mark_slot t p) n)
 mark_keeps t g l (vars.Shared i) n held h = slot_keeps t g l (shared_mark i) n held h tt
 mark_keeps t g l (vars.Local v) n held h = slot_keeps t g l (local_mark t v) n held h refl
 
-var_keeps : (t : ℕ) (g : GcState) (l : Locals) (p : Var) (n m : ℕ) → get_or g.locals t None ≡ Some l → VarIn (frame g t).shape p → Keeps t g l (put_pointer g t p n m)
+var_keeps : (t : ℕ) (g : GcState) (l : Locals) (p : Var) (n m : ℕ) → get_or g.locals t None ≡ Some l
+    → VarIn (frame g t).shape p → Keeps t g l (put_pointer g t p n m)
 var_keeps t g l p n m held h =
     let one = mark_keeps t g l p m held h in
-    let two = node_keeps t (put g (mark_slot t p) m) one.0 p n one.1.held (subst (λ (f : Frame). VarIn f.shape p) (sym (frame_kept held one)) h) in
+    let two = node_keeps t (put g (mark_slot t p) m) one.0 p n one.1.held
+    (subst (λ (f : Frame). VarIn f.shape p) (sym (frame_kept held one)) h) in
     (two.0, keeps_then one.1 two.1)
 
 -- a mark that is put leaves the place of the node
-pub slot_stays : (g : GcState) (t : ℕ) (p : Var) (m : ℕ) → VarIn (frame g t).shape p → SlotIn (put g (mark_slot t p) m) (slot t p)
+pub slot_stays : (g : GcState) (t : ℕ) (p : Var) (m : ℕ) → VarIn (frame g t).shape p
+    → SlotIn (put g (mark_slot t p) m) (slot t p)
 unfolding put
-slot_stays g t (vars.Shared i) m h = subst (λ n. i < n) (sym (length_put null_pointer g.shared i (with_mark (get_or g.shared i null_pointer) m) h)) h
+slot_stays g t (vars.Shared i) m h =
+    subst (λ n. i < n) (sym (length_put null_pointer g.shared i (with_mark (get_or g.shared i null_pointer) m) h)) h
 slot_stays g t (vars.Local v) m h =
-    subst (λ (l : Locals). v < length l.pointers) (sym (locals-with_same g t (Some (record (locals_of g t) { pointers = mark_put (locals_of g t).pointers v m }))))
-    (subst (λ n. v < n) (sym (length_put null_pointer (locals_of g t).pointers v (with_mark (get_or (locals_of g t).pointers v null_pointer) m) h)) h)
+    subst (λ (l : Locals). v < length l.pointers)
+    (sym (locals-with_same g t
+    (Some (record (locals_of g t) { pointers = mark_put (locals_of g t).pointers v m }))))
+    (subst (λ n. v < n) (sym (length_put null_pointer (locals_of g t).pointers v
+    (with_mark (get_or (locals_of g t).pointers v null_pointer) m) h)) h)
 
 data_keeps : (t : ℕ) (g : GcState) (l : Locals) (x n : ℕ) → get_or g.locals t None ≡ Some l → x < (frame g t).shape.values → Keeps t g l (put g (in_data t x) n)
 data_keeps t g l x n held h = slot_keeps t g l (in_data t x) n held h refl
 
 update_keeps : (t : ℕ) (g : GcState) (l : Locals) (m : Map) (k n : ℕ) → get_or g.locals t None ≡ Some l → Keeps t g l (update g m k n)
 unfolding update
-update_keeps t g l m k n held = (l, record { fields = refl; ghosts = refl; shared = refl; threads = refl; others = λ u ne. refl; held = held; declared = refl; pointers = refl; values = refl })
+update_keeps t g l m k n held = same_locals t g _ l held refl refl refl refl
 
-field_keeps : (t : ℕ) (g : GcState) (l : Locals) (f k n m : ℕ) → get_or g.locals t None ≡ Some l → Keeps t g l (update_pointer g f k n m)
+field_keeps : (t : ℕ) (g : GcState) (l : Locals) (f k n m : ℕ) → get_or g.locals t None ≡ Some l
+    → Keeps t g l (update_pointer g f k n m)
 unfolding update
-field_keeps t g l f k n m held = (l, record { fields = refl; ghosts = refl; shared = refl; threads = refl; others = λ u ne. refl; held = held; declared = refl; pointers = refl; values = refl })
+field_keeps t g l f k n m held = same_locals t g _ l held refl refl refl refl
 
 made_keeps : (t : ℕ) (g : GcState) (l : Locals) → get_or g.locals t None ≡ Some l → Keeps t g l (made g)
 unfolding made
-made_keeps t g l held = (l, record { fields = refl; ghosts = refl; shared = refl; threads = refl; others = λ u ne. refl; held = held; declared = refl; pointers = refl; values = refl })
+made_keeps t g l held = same_locals t g _ l held refl refl refl refl
 
-new_keeps : (t : ℕ) (g : GcState) (l : Locals) (p : Var) (n m : ℕ) → get_or g.locals t None ≡ Some l → VarIn (frame g t).shape p → Keeps t g l (put_pointer (made g) t p n m)
+new_keeps : (t : ℕ) (g : GcState) (l : Locals) (p : Var) (n m : ℕ) → get_or g.locals t None ≡ Some l
+    → VarIn (frame g t).shape p → Keeps t g l (put_pointer (made g) t p n m)
 new_keeps t g l p n m held h =
     let one = made_keeps t g l held in
-    let two = var_keeps t (made g) one.0 p n m one.1.held (subst (λ (f : Frame). VarIn f.shape p) (sym (frame_kept held one)) h) in
+    let two = var_keeps t (made g) one.0 p n m one.1.held
+    (subst (λ (f : Frame). VarIn f.shape p) (sym (frame_kept held one)) h) in
     (two.0, keeps_then one.1 two.1)
 
 call_keeps : (t : ℕ) (g : GcState) (l : Locals) (b : Bool) (r : Arg) → get_or g.locals t None ≡ Some l → Keeps t g l (after_call g t b r)
 call_keeps t g l true (args.Var p) held = update_keeps t g l _ _ _ held
-call_keeps t g l true args.Null held = (l, itself t g l held)
-call_keeps t g l true args.None held = (l, itself t g l held)
-call_keeps t g l false r held = (l, itself t g l held)
+call_keeps t g l true args.Null held = itself t g l held
+call_keeps t g l true args.None held = itself t g l held
+call_keeps t g l false r held = itself t g l held
 
 pub after_keeps : (t : ℕ) (g : GcState) (l : Locals) (k : Primitive) → get_or g.locals t None ≡ Some l → PrimitiveIn (frame g t).shape k → Keeps t g l (after g t k)
 after_keeps t g l (Null p) held h = var_keeps t g l p _ _ held h
@@ -176,26 +233,26 @@ after_keeps t g l (StoreNull p f) held h = field_keeps t g l _ _ _ _ held
 after_keeps t g l (DataSet x e) held h = data_keeps t g l x _ held h.0
 after_keeps t g l (DataLoad x q f) held h = data_keeps t g l x _ held h.0
 after_keeps t g l (DataStore p f e) held h = update_keeps t g l _ _ _ held
-after_keeps t g l (Eq p q) held h = (l, itself t g l held)
-after_keeps t g l (Ne p q) held h = (l, itself t g l held)
-after_keeps t g l (IsNull p) held h = (l, itself t g l held)
-after_keeps t g l (NotNull p) held h = (l, itself t g l held)
-after_keeps t g l (DataTest r x e) held h = (l, itself t g l held)
+after_keeps t g l (Eq p q) held h = itself t g l held
+after_keeps t g l (Ne p q) held h = itself t g l held
+after_keeps t g l (IsNull p) held h = itself t g l held
+after_keeps t g l (NotNull p) held h = itself t g l held
+after_keeps t g l (DataTest r x e) held h = itself t g l held
 after_keeps t g l (Refresh p q) held h = var_keeps t g l (vars.Local p) _ _ held h.0
 after_keeps t g l (RefreshLoad p q f) held h = var_keeps t g l (vars.Local p) _ _ held h.0
 after_keeps t g l (RefreshStore p f q) held h = field_keeps t g l _ _ _ _ held
 after_keeps t g l (Mark p q) held h = var_keeps t g l p _ _ held h.0
 after_keeps t g l (Unmark p q) held h = var_keeps t g l p _ _ held h.0
-after_keeps t g l (MarkTest p m) held h = (l, itself t g l held)
+after_keeps t g l (MarkTest p m) held h = itself t g l held
 after_keeps t g l (Call f r) held h = call_keeps t g l (is_retire f) r held
-after_keeps t g l (Done f) held h = (l, itself t g l held)
-after_keeps t g l (Active p) held h = (l, itself t g l held)
+after_keeps t g l (Done f) held h = itself t g l held
+after_keeps t g l (Active p) held h = itself t g l held
 after_keeps t g l (Ghost p x v) held h = update_keeps t g l _ _ _ held
 
 -- ---- primitives in order
 
 pub execute_keeps : (t : ℕ) (g new : GcState) (l : Locals) (ps : List Primitive) → get_or g.locals t None ≡ Some l → FrameHasAll (frame g t) ps → execute g t ps ≡ Some new → Keeps t g l new
-execute_keeps t g new l [] held fit e = let same : g ≡ new = cc in subst (Keeps t g l) same (l, itself t g l held)
+execute_keeps t g new l [] held fit e = let same : g ≡ new = cc in subst (Keeps t g l) same (itself t g l held)
 execute_keeps t g new l (p ∷ ps) held fit e =
     let one = after_keeps t g l p held fit.0.0 in
     go (goes g t p) e (λ rest. (

@@ -10,8 +10,11 @@ use Rattle.plc_lang.specs.Numbering.{pointer_number, data_number}
 use Rattle.plc_gc.specs.declared.slot.Slot.TheVariants.{Data as in_data}
 use Rattle.plc_gc.specs.declared.slot.Map.{Map}
 use Rattle.plc_gc.specs.declared.slot.Pointer.{Pointer}
-use Rattle.plc_gc.specs.declared.slot.Map.TheVariants.{Pointer as pointer_field, Mark as mark_field, Number as data_field, Auxiliary as auxiliary_field, Retirement as retirement}
-use Rattle.plc_gc.specs.State.{GcState, Row, Locals, null_pointer, with_node, with_mark, no_row, fresh_row, row_entry, row_with, locals_or_none, locals_of, value, entry}
+use Rattle.plc_gc.specs.declared.slot.Map.TheVariants.{Pointer as pointer_field, Mark as mark_field}
+use Rattle.plc_gc.specs.declared.slot.Map.TheVariants.{Number as data_field, Auxiliary as auxiliary_field}
+use Rattle.plc_gc.specs.declared.slot.Map.TheVariants.{Retirement as retirement}
+use Rattle.plc_gc.specs.State.{GcState, Row, Locals, null_pointer, with_node, with_mark, no_row, fresh_row, row_entry}
+use Rattle.plc_gc.specs.State.{row_with, locals_or_none, locals_of, value, entry}
 use Rattle.plc_gc.specs.Clauses.{declared_value, local_value}
 use Rattle.plc_gc.specs.Fit.{RowsFit, EntryIn, MapIn}
 use Rattle.plc_base.proofs.Tables.{put_is_set, length_put}
@@ -28,7 +31,8 @@ pub locals_held : (g : GcState) (t : ℕ) (q : Option Locals) → q ≡ get_or g
 unfolding locals_of
 locals_held g t q e = sym (ap locals_or_none e)
 
-pub pointer_held : (g : GcState) (t v : ℕ) (q : Option Locals) → q ≡ get_or g.locals t None → get_or (locals_or_none q).pointers v null_pointer ≡ get_or (locals_of g t).pointers v null_pointer
+pub pointer_held : (g : GcState) (t v : ℕ) (q : Option Locals) → q ≡ get_or g.locals t None
+    → get_or (locals_or_none q).pointers v null_pointer ≡ get_or (locals_of g t).pointers v null_pointer
 pointer_held g t v q e = sym (ap (λ (m : Locals). get_or m.pointers v null_pointer) (locals_held g t q e))
 
 pub data_held : (g : GcState) (t x : ℕ) (q : Option Locals) → q ≡ get_or g.locals t None → get_or (locals_or_none q).values x 0 ≡ value g (in_data t x)
@@ -36,9 +40,13 @@ unfolding value
 data_held g t x q e = sym (ap (λ (m : Locals). get_or m.values x 0) (locals_held g t q e))
 
 -- a local by its number among all that are declared
-pub named_pointer : (g : GcState) (t i : ℕ) (l : Locals) (d : ALocal) → locals_of g t ≡ l → slice_get l.declared i ≡ Some d → d.pointer ≡ true → (get_or l.pointers (pointer_number l.declared i) null_pointer).node ≡ declared_value g t l.declared i (slice_get l.declared i)
+pub named_pointer : (g : GcState) (t i : ℕ) (l : Locals) (d : ALocal) → locals_of g t ≡ l
+    → slice_get l.declared i ≡ Some d → d.pointer ≡ true
+    → (get_or l.pointers (pointer_number l.declared i) null_pointer).node ≡ declared_value g t l.declared i
+    (slice_get l.declared i)
 unfolding value
-named_pointer g t i l d e there is = rw (there, is) (sym (ap (λ (m : Locals). (get_or m.pointers (pointer_number l.declared i) null_pointer).node) e))
+named_pointer g t i l d e there is =
+    rw (there, is) (sym (ap (λ (m : Locals). (get_or m.pointers (pointer_number l.declared i) null_pointer).node) e))
 
 pub named_data : (g : GcState) (t i : ℕ) (l : Locals) (d : ALocal) → locals_of g t ≡ l → slice_get l.declared i ≡ Some d → d.pointer ≡ false → get_or l.values (data_number l.declared i) 0 ≡ declared_value g t l.declared i (slice_get l.declared i)
 unfolding value
@@ -97,8 +105,18 @@ record SameSizes (r s : Row) : Type 0 where
   auxiliary : length s.auxiliary ≡ length r.auxiliary
 
 same_sizes : (r : Row) (m : Map) (n : ℕ) → EntryIn r m → SameSizes r (row_with r m n)
-same_sizes r (pointer_field f) n h = record { pointers = length_put null_pointer r.pointers f (with_node (get_or r.pointers f null_pointer) n) h; values = refl; auxiliary = refl }
-same_sizes r (mark_field f) n h = record { pointers = length_put null_pointer r.pointers f (with_mark (get_or r.pointers f null_pointer) n) h; values = refl; auxiliary = refl }
+same_sizes r (pointer_field f) n h =
+    record {
+      pointers = length_put null_pointer r.pointers f (with_node (get_or r.pointers f null_pointer) n) h;
+      values = refl;
+      auxiliary = refl;
+    }
+same_sizes r (mark_field f) n h =
+    record {
+      pointers = length_put null_pointer r.pointers f (with_mark (get_or r.pointers f null_pointer) n) h;
+      values = refl;
+      auxiliary = refl;
+    }
 same_sizes r (data_field f) n h = record { pointers = refl; values = length_put 0 r.values f n h; auxiliary = refl }
 same_sizes r (auxiliary_field x) n h = record { pointers = refl; values = refl; auxiliary = length_put 0 r.auxiliary x n h }
 same_sizes r retirement n h = record { pointers = refl; values = refl; auxiliary = refl }
@@ -109,5 +127,10 @@ rows_fit_set fields ghosts (r ∷ rs) zero d m n fit h e = let s = same_sizes r 
 rows_fit_set fields ghosts (r ∷ rs) (suc k) d m n fit h e = (fit.0, fit.1, fit.2, rows_fit_set fields ghosts rs k d m n fit.3 (omega arith) e)
 
 pub rows_fit_push : (fields ghosts : ℕ) (rs : List Row) → RowsFit fields ghosts rs → RowsFit fields ghosts (rs ++ fresh_row fields ghosts ∷ [])
-rows_fit_push fields ghosts [] fit = (length-replicate {A = Pointer} fields null_pointer, length-replicate {A = ℕ} fields 0, length-replicate {A = ℕ} ghosts 0, tt)
+rows_fit_push fields ghosts [] fit = (
+  length-replicate {A = Pointer} fields null_pointer,
+  length-replicate {A = ℕ} fields 0,
+  length-replicate {A = ℕ} ghosts 0,
+  tt,
+)
 rows_fit_push fields ghosts (r ∷ rs) fit = (fit.0, fit.1, fit.2, rows_fit_push fields ghosts rs fit.3)

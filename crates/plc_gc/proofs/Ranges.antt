@@ -6,18 +6,27 @@ use Rattle.plc_lang.specs.declared.syntax.Var.TheVariants.{Shared, Local}
 use Rattle.plc_lang.specs.declared.syntax.Arg.{Arg}
 use Rattle.plc_lang.specs.declared.syntax.Arg.TheVariants as args
 use Rattle.plc_lang.specs.declared.syntax.Primitive.{Primitive}
-use Rattle.plc_lang.specs.declared.syntax.Primitive.TheVariants.{Null, Copy, New, Load, Store, StoreNull, DataSet, DataLoad, DataStore, Eq, Ne, IsNull, NotNull, DataTest, Refresh, RefreshLoad, RefreshStore, Mark, Unmark, MarkTest, Call, Done, Active, Ghost}
+use Rattle.plc_lang.specs.declared.syntax.Primitive.TheVariants.{Null, Copy, New, Load, Store, StoreNull, DataSet}
+use Rattle.plc_lang.specs.declared.syntax.Primitive.TheVariants.{DataLoad, DataStore, Eq, Ne, IsNull, NotNull, DataTest}
+use Rattle.plc_lang.specs.declared.syntax.Primitive.TheVariants.{Refresh, RefreshLoad, RefreshStore, Mark, Unmark}
+use Rattle.plc_lang.specs.declared.syntax.Primitive.TheVariants.{MarkTest, Call, Done, Active, Ghost}
 use Rattle.plc_base.specs.Functions.{is_retire}
 use Rattle.plc_flow.specs.declared.flow.Flow.{Flow}
 use Rattle.plc_threads.specs.declared.words.Move.{Move}
 use Rattle.plc_threads.specs.declared.words.Move.TheVariants.{Start, Step as Take, Return, Free}
 use Rattle.plc_base.proofs.Tables.{get-replicate}
 use Rattle.plc_gc.specs.declared.slot.Slot.{Slot}
-use Rattle.plc_gc.specs.declared.slot.Slot.TheVariants.{Shared as in_shared, Local as in_local, SharedMark as shared_mark, LocalMark as local_mark, Data as in_data}
+use Rattle.plc_gc.specs.declared.slot.Slot.TheVariants.{Shared as in_shared, Local as in_local}
+use Rattle.plc_gc.specs.declared.slot.Slot.TheVariants.{SharedMark as shared_mark, LocalMark as local_mark}
+use Rattle.plc_gc.specs.declared.slot.Slot.TheVariants.{Data as in_data}
 use Rattle.plc_gc.specs.declared.slot.Map.{Map}
 use Rattle.plc_gc.specs.declared.slot.Pointer.{Pointer}
-use Rattle.plc_gc.specs.declared.slot.Map.TheVariants.{Pointer as pointer_field, Mark as mark_field, Number as data_field, Auxiliary as auxiliary_field, Retirement as retirement}
-use Rattle.plc_gc.specs.State.{GcState, Locals, null_pointer, value, entry, count, put, put_pointer, update, update_pointer, made, slot, mark_slot, with_locals, locals_or_none, no_locals, starting, first_state}
+use Rattle.plc_gc.specs.declared.slot.Map.TheVariants.{Pointer as pointer_field, Mark as mark_field}
+use Rattle.plc_gc.specs.declared.slot.Map.TheVariants.{Number as data_field, Auxiliary as auxiliary_field}
+use Rattle.plc_gc.specs.declared.slot.Map.TheVariants.{Retirement as retirement}
+use Rattle.plc_gc.specs.State.{GcState, Locals, null_pointer, value, entry, count, put, put_pointer, update}
+use Rattle.plc_gc.specs.State.{update_pointer, made, slot, mark_slot, with_locals, locals_or_none, no_locals, starting}
+use Rattle.plc_gc.specs.State.{first_state}
 use Rattle.plc_gc.specs.Primitives.{node_at, mark_at, some_node, goes_call, after_call, goes, after}
 use Rattle.plc_gc.specs.Run.{GcConfiguration, GcRun, begin, more, turn, execute, beginning, initialised, first_configuration, Moves}
 use Rattle.plc_gc.specs.Ranges.{IsInRange, RunsStayInRange}
@@ -29,8 +38,12 @@ pub cases_slot : (p q : Slot) → (p ≡ q) ⊎ (p ≡ q → ⊥)
 cases_slot (in_shared i) (in_shared j) = elim (cases_eq i j) [ inl e ↦ inl (ap in_shared e) | inr ne ↦ inr (λ e. ne (cc)) ]
 cases_slot (in_local t v) (in_local u w) = elim (cases_eq t u) [ inl e ↦ elim (cases_eq v w) [ inl f ↦ inl (cc) | inr ne ↦ inr (λ e. ne (cc)) ] | inr ne ↦ inr (λ e. ne (cc)) ]
 cases_slot (in_data t v) (in_data u w) = elim (cases_eq t u) [ inl e ↦ elim (cases_eq v w) [ inl f ↦ inl (cc) | inr ne ↦ inr (λ e. ne (cc)) ] | inr ne ↦ inr (λ e. ne (cc)) ]
-cases_slot (shared_mark i) (shared_mark j) = elim (cases_eq i j) [ inl e ↦ inl (ap shared_mark e) | inr ne ↦ inr (λ e. ne (cc)) ]
-cases_slot (local_mark t v) (local_mark u w) = elim (cases_eq t u) [ inl e ↦ elim (cases_eq v w) [ inl f ↦ inl (cc) | inr ne ↦ inr (λ e. ne (cc)) ] | inr ne ↦ inr (λ e. ne (cc)) ]
+cases_slot (shared_mark i) (shared_mark j) =
+    elim (cases_eq i j) [ inl e ↦ inl (ap shared_mark e) | inr ne ↦ inr (λ e. ne (cc)) ]
+cases_slot (local_mark t v) (local_mark u w) = elim (cases_eq t u) [
+  | inl e ↦ elim (cases_eq v w) [ inl f ↦ inl (cc) | inr ne ↦ inr (λ e. ne (cc)) ]
+  | inr ne ↦ inr (λ e. ne (cc))
+]
 cases_slot p q = inr (λ e. cc)
 
 -- ---- changes
@@ -43,9 +56,11 @@ InRange g (shared_mark i) n = n ≤ 1
 InRange g (local_mark t v) n = n ≤ 1
 InRange g (in_data t x) n = Unit {0}
 
-put_in_range : (g : GcState) (p : Slot) (n : ℕ) (q : Slot) → InRange g p n → InRange g q (value g q) → InRange g q (value (put g p n) q)
+put_in_range : (g : GcState) (p : Slot) (n : ℕ) (q : Slot) → InRange g p n → InRange g q (value g q)
+    → InRange g q (value (put g p n) q)
 put_in_range g p n q small before = elim (cases_slot q p) [
-  | inl e ↦ subst (InRange g q) (sym (ap (value (put g p n)) e ∙ (puts g p n).here)) (subst (λ q. InRange g q n) (sym e) small)
+  | inl e ↦ subst (InRange g q) (sym (ap (value (put g p n)) e ∙ (puts g p n).here))
+      (subst (λ q. InRange g q n) (sym e) small)
   | inr ne ↦ subst (InRange g q) (sym ((puts g p n).elsewhere q ne)) before
 ]
 
@@ -81,8 +96,10 @@ ranged_put g p n small k =
     ranged_nodes g (put g p n) (record {
       entries = u.nodes.entries;
       size = u.nodes.count;
-      shared = λ i. (let x = put_in_range g p n (in_shared i) small (k.shared i) in let c = u.nodes.count in omega arith);
-      locals = λ t v. (let x = put_in_range g p n (in_local t v) small (k.locals t v) in let c = u.nodes.count in omega arith);
+      shared = λ i. (let x = put_in_range g p n (in_shared i) small (k.shared i) in let c = u.nodes.count in
+          omega arith);
+      locals = λ t v. (let x = put_in_range g p n (in_local t v) small (k.locals t v) in let c = u.nodes.count in
+          omega arith);
       shared_marks = λ i. put_in_range g p n (shared_mark i) small (k.shared_marks i);
       local_marks = λ t v. put_in_range g p n (local_mark t v) small (k.local_marks t v);
     }) k
@@ -98,10 +115,12 @@ mark_in_range : (g : GcState) (t : ℕ) (p : Var) (m : ℕ) → m ≤ 1 → InRa
 mark_in_range g t (Shared i) m small = small
 mark_in_range g t (Local v) m small = small
 
-ranged_pointer : (g : GcState) (t : ℕ) (p : Var) (n m : ℕ) → n < count g → m ≤ 1 → IsInRange g → IsInRange (put_pointer g t p n m)
+ranged_pointer : (g : GcState) (t : ℕ) (p : Var) (n m : ℕ) → n < count g → m ≤ 1 → IsInRange g
+    → IsInRange (put_pointer g t p n m)
 ranged_pointer g t p n m small bit k =
     let c = (puts g (mark_slot t p) m).nodes.count in
-    ranged_put (put g (mark_slot t p) m) (slot t p) n (node_in_range _ t p n (omega (arith, c, small))) (ranged_put g (mark_slot t p) m (mark_in_range g t p m bit) k)
+    ranged_put (put g (mark_slot t p) m) (slot t p) n (node_in_range _ t p n (omega (arith, c, small)))
+    (ranged_put g (mark_slot t p) m (mark_in_range g t p m bit) k)
 
 ranged_made : (g : GcState) → IsInRange g → IsInRange (made g)
 ranged_made g k =
@@ -142,27 +161,42 @@ new_pointer g (pointer_field e) k n fits s f j = elim (cases_eq f e) [
   ]
   | inr other ↦ (let q = (updates g (pointer_field e) k n).other_map (pointer_field f) j (λ same. other (cc)) in let small = s.fields f j in omega arith)
 ]
-new_pointer g (mark_field e) k n fits s f j = let q = (updates g (mark_field e) k n).other_map (pointer_field f) j (λ same. cc) in let small = s.fields f j in omega arith
+new_pointer g (mark_field e) k n fits s f j =
+    let q = (updates g (mark_field e) k n).other_map (pointer_field f) j (λ same. cc) in let small = s.fields f j in
+    omega arith
 new_pointer g (data_field e) k n fits s f j = let q = (updates g (data_field e) k n).other_map (pointer_field f) j (λ same. cc) in let small = s.fields f j in omega arith
 new_pointer g (auxiliary_field e) k n fits s f j = let q = (updates g (auxiliary_field e) k n).other_map (pointer_field f) j (λ same. cc) in let small = s.fields f j in omega arith
 new_pointer g retirement k n fits s f j = let q = (updates g retirement k n).other_map (pointer_field f) j (λ same. cc) in let small = s.fields f j in omega arith
 
-new_mark : (g : GcState) (m : Map) (k n : ℕ) → UpdateFits g m k n → IsInRange g → (f j : ℕ) → entry (update g m k n) (mark_field f) j ≤ 1
+new_mark : (g : GcState) (m : Map) (k n : ℕ) → UpdateFits g m k n → IsInRange g → (f j : ℕ)
+    → entry (update g m k n) (mark_field f) j ≤ 1
 new_mark g (mark_field e) k n fits s f j = elim (cases_eq f e) [
   | inl same ↦ elim (cases_eq j k) [
     | inl there ↦ (
-        let here : entry (update g (mark_field e) k n) (mark_field f) j ≡ n = ap (λ f. entry (update g (mark_field e) k n) (mark_field f) j) same ∙ ap (entry (update g (mark_field e) k n) (mark_field e)) there ∙ (updates g (mark_field e) k n).here in
+        let here : entry (update g (mark_field e) k n)
+        (mark_field f) j ≡ n = ap (λ f. entry (update g (mark_field e) k n) (mark_field f) j) same
+        ∙ ap (entry (update g (mark_field e) k n) (mark_field e)) there ∙ (updates g (mark_field e) k n).here in
         let small = fits.1 in
         omega arith
         )
-    | inr other ↦ (let q = (updates g (mark_field e) k n).other_node (mark_field f) j other in let small = s.field_marks f j in omega arith)
+    | inr other ↦ (let q = (updates g (mark_field e) k n).other_node (mark_field f) j other in
+        let small = s.field_marks f j in omega arith)
   ]
-  | inr other ↦ (let q = (updates g (mark_field e) k n).other_map (mark_field f) j (λ same. other (cc)) in let small = s.field_marks f j in omega arith)
+  | inr other ↦ (let q = (updates g (mark_field e) k n).other_map (mark_field f) j (λ same. other (cc)) in
+      let small = s.field_marks f j in omega arith)
 ]
-new_mark g (pointer_field e) k n fits s f j = let q = (updates g (pointer_field e) k n).other_map (mark_field f) j (λ same. cc) in let small = s.field_marks f j in omega arith
-new_mark g (data_field e) k n fits s f j = let q = (updates g (data_field e) k n).other_map (mark_field f) j (λ same. cc) in let small = s.field_marks f j in omega arith
-new_mark g (auxiliary_field e) k n fits s f j = let q = (updates g (auxiliary_field e) k n).other_map (mark_field f) j (λ same. cc) in let small = s.field_marks f j in omega arith
-new_mark g retirement k n fits s f j = let q = (updates g retirement k n).other_map (mark_field f) j (λ same. cc) in let small = s.field_marks f j in omega arith
+new_mark g (pointer_field e) k n fits s f j =
+    let q = (updates g (pointer_field e) k n).other_map (mark_field f) j (λ same. cc) in
+    let small = s.field_marks f j in omega arith
+new_mark g (data_field e) k n fits s f j =
+    let q = (updates g (data_field e) k n).other_map (mark_field f) j (λ same. cc) in let small = s.field_marks f j in
+    omega arith
+new_mark g (auxiliary_field e) k n fits s f j =
+    let q = (updates g (auxiliary_field e) k n).other_map (mark_field f) j (λ same. cc) in
+    let small = s.field_marks f j in omega arith
+new_mark g retirement k n fits s f j =
+    let q = (updates g retirement k n).other_map (mark_field f) j (λ same. cc) in let small = s.field_marks f j in
+    omega arith
 
 new_bit : (g : GcState) (m : Map) (k n : ℕ) → UpdateFits g m k n → IsInRange g → (j : ℕ) → entry (update g m k n) retirement j ≤ 1
 new_bit g retirement k n fits s j = elim (cases_eq j k) [
@@ -170,7 +204,8 @@ new_bit g retirement k n fits s j = elim (cases_eq j k) [
   | inr other ↦ (let q = (updates g retirement k n).other_node retirement j other in let small = s.bit j in omega arith)
 ]
 new_bit g (pointer_field e) k n fits s j = let q = (updates g (pointer_field e) k n).other_map retirement j (λ same. cc) in let small = s.bit j in omega arith
-new_bit g (mark_field e) k n fits s j = let q = (updates g (mark_field e) k n).other_map retirement j (λ same. cc) in let small = s.bit j in omega arith
+new_bit g (mark_field e) k n fits s j =
+    let q = (updates g (mark_field e) k n).other_map retirement j (λ same. cc) in let small = s.bit j in omega arith
 new_bit g (data_field e) k n fits s j = let q = (updates g (data_field e) k n).other_map retirement j (λ same. cc) in let small = s.bit j in omega arith
 new_bit g (auxiliary_field e) k n fits s j = let q = (updates g (auxiliary_field e) k n).other_map retirement j (λ same. cc) in let small = s.bit j in omega arith
 
@@ -201,12 +236,16 @@ ranged_update g m k n small fits s =
       bit = new_bit g m k n fits s;
     }
 
-ranged_field : (g : GcState) (f k n m : ℕ) → k < count g → (k ≡ 0 → ⊥) → n < count g → m ≤ 1 → IsInRange g → IsInRange (update_pointer g f k n m)
+ranged_field : (g : GcState) (f k n m : ℕ) → k < count g → (k ≡ 0 → ⊥) → n < count g → m ≤ 1 → IsInRange g
+    → IsInRange (update_pointer g f k n m)
 ranged_field g f k n m made some small bit s =
     let c = (updates g (mark_field f) k m).count made in
-    ranged_update (update g (mark_field f) k m) (pointer_field f) k n (omega (arith, c, made)) (some, omega (arith, c, small)) (ranged_update g (mark_field f) k m made (some, bit) s)
+    ranged_update (update g (mark_field f) k m) (pointer_field f) k n (omega (arith, c, made))
+    (some, omega (arith, c, small)) (ranged_update g (mark_field f) k m made (some, bit) s)
 
-pub ranged_given : (g : GcState) (t : ℕ) (l : Option Locals) → ((v : ℕ) → get_or (locals_or_none l).pointers v null_pointer ≡ null_pointer) → IsInRange g → IsInRange (with_locals g t l)
+pub ranged_given : (g : GcState) (t : ℕ) (l : Option Locals)
+    → ((v : ℕ) → get_or (locals_or_none l).pointers v null_pointer ≡ null_pointer) → IsInRange g
+    → IsInRange (with_locals g t l)
 ranged_given g t l null k =
     let u = gives g t l in
     ranged_nodes g (with_locals g t l) (record {
@@ -214,12 +253,16 @@ ranged_given g t l null k =
       size = u.nodes.count;
       shared = λ i. (let e = u.shared i in let s = k.shared i in let c = u.nodes.count in omega arith);
       locals = λ y v. elim (cases_eq y t) [
-        | inl e ↦ (let z : value (with_locals g t l) (in_local y v) ≡ 0 = ap (λ y. value (with_locals g t l) (in_local y v)) e ∙ u.pointers v ∙ ap (λ (p : Pointer). p.node) (null v) in let s = k.null_made in let c = u.nodes.count in omega arith)
+        | inl e ↦ (let z : value (with_locals g t l)
+            (in_local y v) ≡ 0 = ap (λ y. value (with_locals g t l) (in_local y v)) e ∙ u.pointers v
+            ∙ ap (λ (p : Pointer). p.node) (null v) in let s = k.null_made in let c = u.nodes.count in omega arith)
         | inr ne ↦ (let z = u.others y v ne in let s = k.locals y v in let c = u.nodes.count in omega arith)
       ];
       shared_marks = λ i. (let e = u.shared_marks i in let s = k.shared_marks i in omega arith);
       local_marks = λ y v. elim (cases_eq y t) [
-        | inl e ↦ (let z : value (with_locals g t l) (local_mark y v) ≡ 0 = ap (λ y. value (with_locals g t l) (local_mark y v)) e ∙ u.marks v ∙ ap (λ (p : Pointer). p.mark) (null v) in omega arith)
+        | inl e ↦ (let z : value (with_locals g t l)
+            (local_mark y v) ≡ 0 = ap (λ y. value (with_locals g t l) (local_mark y v)) e ∙ u.marks v
+            ∙ ap (λ (p : Pointer). p.mark) (null v) in omega arith)
         | inr ne ↦ (let z = u.other_marks y v ne in let s = k.local_marks y v in omega arith)
       ];
     }) k
@@ -246,10 +289,15 @@ ranged_call g t false r may k = k
 pub ranged_primitive : (g : GcState) (t : ℕ) (p : Primitive) → goes g t p ≡ true → IsInRange g → IsInRange (after g t p)
 ranged_primitive g t (Null p) may k = ranged_pointer g t p 0 0 k.null_made (omega arith) k
 ranged_primitive g t (Copy p q) may k = ranged_pointer g t p _ _ (small_at g t q k) (bit_at g t q k) k
-ranged_primitive g t (New p) may k = ranged_pointer (made g) t p (count g) 0 (let c = (makes g).count in omega arith) (omega arith) (ranged_made g k)
-ranged_primitive g t (Load p q f) may k = ranged_pointer g t p _ _ (k.fields f.0 (node_at g t q)) (k.field_marks f.0 (node_at g t q)) k
-ranged_primitive g t (Store p f q) may k = ranged_field g f.0 (node_at g t p) _ _ (small_at g t p k) (isnt_null g t p may) (small_at g t q k) (bit_at g t q k) k
-ranged_primitive g t (StoreNull p f) may k = ranged_field g f.0 (node_at g t p) 0 0 (small_at g t p k) (isnt_null g t p may) k.null_made (omega arith) k
+ranged_primitive g t (New p) may k =
+    ranged_pointer (made g) t p (count g) 0 (let c = (makes g).count in omega arith) (omega arith) (ranged_made g k)
+ranged_primitive g t (Load p q f) may k =
+    ranged_pointer g t p _ _ (k.fields f.0 (node_at g t q)) (k.field_marks f.0 (node_at g t q)) k
+ranged_primitive g t (Store p f q) may k =
+    ranged_field g f.0 (node_at g t p) _ _ (small_at g t p k) (isnt_null g t p may) (small_at g t q k)
+    (bit_at g t q k) k
+ranged_primitive g t (StoreNull p f) may k =
+    ranged_field g f.0 (node_at g t p) 0 0 (small_at g t p k) (isnt_null g t p may) k.null_made (omega arith) k
 ranged_primitive g t (DataSet x e) may k = ranged_data g t x _ k
 ranged_primitive g t (DataLoad x q f) may k = ranged_data g t x _ k
 ranged_primitive g t (DataStore p f e) may k = ranged_update g (data_field f.0) (node_at g t p) _ (small_at g t p k) (isnt_null g t p may) k
@@ -259,8 +307,11 @@ ranged_primitive g t (IsNull p) may k = k
 ranged_primitive g t (NotNull p) may k = k
 ranged_primitive g t (DataTest r x e) may k = k
 ranged_primitive g t (Refresh p q) may k = ranged_pointer g t (Local p) _ _ (small_at g t q k) (bit_at g t q k) k
-ranged_primitive g t (RefreshLoad p q f) may k = ranged_pointer g t (Local p) _ _ (k.fields f.0 (node_at g t q)) (k.field_marks f.0 (node_at g t q)) k
-ranged_primitive g t (RefreshStore p f q) may k = ranged_field g f.0 (node_at g t p) _ _ (small_at g t p k) (isnt_null g t p may) (small_at g t q k) (bit_at g t q k) k
+ranged_primitive g t (RefreshLoad p q f) may k =
+    ranged_pointer g t (Local p) _ _ (k.fields f.0 (node_at g t q)) (k.field_marks f.0 (node_at g t q)) k
+ranged_primitive g t (RefreshStore p f q) may k =
+    ranged_field g f.0 (node_at g t p) _ _ (small_at g t p k) (isnt_null g t p may) (small_at g t q k)
+    (bit_at g t q k) k
 ranged_primitive g t (Mark p q) may k = ranged_pointer g t p _ 1 (small_at g t q k) (omega arith) k
 ranged_primitive g t (Unmark p q) may k = ranged_pointer g t p _ 0 (small_at g t q k) (omega arith) k
 ranged_primitive g t (MarkTest p m) may k = k
@@ -280,7 +331,9 @@ ranged_primitives g new t (p ∷ ps) e k = go (goes g t p) refl e (λ may rest. 
 -- ---- moves and runs
 
 ranged_move : (flow : Flow) (threads : ℕ) (c d : GcConfiguration) (move : Move) → Moves flow threads c move d → IsInRange c.state → IsInRange d.state
-ranged_move flow threads c d (Start t op args) m k = subst (λ (d : GcConfiguration). IsInRange d.state) (sym m.7) (ranged_given c.state t (Some (starting m.0 args)) (λ v. get-replicate null_pointer _ v) k)
+ranged_move flow threads c d (Start t op args) m k =
+    subst (λ (d : GcConfiguration). IsInRange d.state) (sym m.7)
+    (ranged_given c.state t (Some (starting m.0 args)) (λ v. get-replicate null_pointer _ v) k)
 ranged_move flow threads c d (Take t nth addr) m k = subst (λ (d : GcConfiguration). IsInRange d.state) (sym m.5) (ranged_primitives c.state m.2 t m.1.prims m.4 k)
 ranged_move flow threads c d (Return t) m k = subst (λ (d : GcConfiguration). IsInRange d.state) (sym m.6) (ranged_given c.state t None (λ v. refl) k)
 ranged_move flow threads c d (Free a) m k = subst (λ (d : GcConfiguration). IsInRange d.state) (sym m) k

@@ -11,7 +11,10 @@ use Rattle.plc_lang.specs.declared.syntax.GhostVal.TheVariants as ghosts
 use Rattle.plc_lang.specs.declared.syntax.Ghost.{Ghost as AuxiliaryField}
 use Rattle.plc_lang.specs.declared.syntax.File.{File}
 use Rattle.plc_lang.specs.declared.syntax.Primitive.{Primitive}
-use Rattle.plc_lang.specs.declared.syntax.Primitive.TheVariants.{Null, Copy, New, Load, Store, StoreNull, DataSet, DataLoad, DataStore, Eq, Ne, IsNull, NotNull, DataTest, Refresh, RefreshLoad, RefreshStore, Mark, Unmark, MarkTest, Call, Done, Active, Ghost}
+use Rattle.plc_lang.specs.declared.syntax.Primitive.TheVariants.{Null, Copy, New, Load, Store, StoreNull, DataSet}
+use Rattle.plc_lang.specs.declared.syntax.Primitive.TheVariants.{DataLoad, DataStore, Eq, Ne, IsNull, NotNull, DataTest}
+use Rattle.plc_lang.specs.declared.syntax.Primitive.TheVariants.{Refresh, RefreshLoad, RefreshStore, Mark, Unmark}
+use Rattle.plc_lang.specs.declared.syntax.Primitive.TheVariants.{MarkTest, Call, Done, Active, Ghost}
 use Rattle.plc_lang.specs.WellSorted.{IsWellSorted, AreWellSorted, ValueFits}
 use Rattle.plc_flow.specs.declared.flow.Flow.{Flow}
 use Rattle.plc_threads.specs.declared.words.Move.{Move}
@@ -22,8 +25,10 @@ use Rattle.plc_flow.specs.WellSorted.{FlowIsWellSorted}
 use Rattle.plc_flow.proofs.Leaving.{filter_member}
 use Rattle.plc_gc.specs.declared.slot.Slot.{Slot}
 use Rattle.plc_gc.specs.declared.slot.Map.{Map}
-use Rattle.plc_gc.specs.declared.slot.Map.TheVariants.{Number as data_field, Auxiliary as auxiliary_field, Retirement as retirement}
-use Rattle.plc_gc.specs.State.{GcState, Locals, entry, put, put_pointer, update, update_pointer, made, with_locals, no_locals, first_state, starting}
+use Rattle.plc_gc.specs.declared.slot.Map.TheVariants.{Number as data_field, Auxiliary as auxiliary_field}
+use Rattle.plc_gc.specs.declared.slot.Map.TheVariants.{Retirement as retirement}
+use Rattle.plc_gc.specs.State.{GcState, Locals, entry, put, put_pointer, update, update_pointer, made, with_locals}
+use Rattle.plc_gc.specs.State.{no_locals, first_state, starting}
 use Rattle.plc_gc.specs.Primitives.{node_at, mark_at, field_at, field_mark_at, ghost_number, after_call, goes, after}
 use Rattle.plc_gc.specs.Run.{GcConfiguration, GcRun, begin, more, turn, execute, beginning, initialised, first_configuration, Moves}
 use Rattle.plc_gc.specs.Ranges.{ValuesAreInRange, RunsKeepValues}
@@ -87,7 +92,8 @@ written file g t i h v d named fits old e x here some k =
 keeps_values : (flow : Flow) (g : GcState) (t : ℕ) (k : Primitive) → IsWellSorted flow.file k → ValuesAreInRange flow.file g → ValuesAreInRange flow.file (after g t k)
 keeps_values flow g t (Null p) sorted v = same_values flow.file g _ (same_pointer_put g t _ _ _) v
 keeps_values flow g t (Copy p q) sorted v = same_values flow.file g _ (same_pointer_put g t _ _ _) v
-keeps_values flow g t (New p) sorted v = same_values flow.file g _ (λ h k. same_pointer_put (made g) t p _ _ h k ∙ (makes g).entries (auxiliary_field h) k) v
+keeps_values flow g t (New p) sorted v =
+    same_values flow.file g _ (λ h k. same_pointer_put (made g) t p _ _ h k ∙ (makes g).entries (auxiliary_field h) k) v
 keeps_values flow g t (Load p q f) sorted v = same_values flow.file g _ (same_pointer_put g t _ _ _) v
 keeps_values flow g t (Store p f q) sorted v = same_values flow.file g _ (same_pointer_update g f.0 _ _ _) v
 keeps_values flow g t (StoreNull p f) sorted v = same_values flow.file g _ (same_pointer_update g f.0 _ _ _) v
@@ -99,8 +105,10 @@ keeps_values flow g t (Ne p q) sorted v = v
 keeps_values flow g t (IsNull p) sorted v = v
 keeps_values flow g t (NotNull p) sorted v = v
 keeps_values flow g t (DataTest r x e) sorted v = v
-keeps_values flow g t (Refresh p q) sorted v = same_values flow.file g _ (same_pointer_put g t (Local p) (node_at g t q) (mark_at g t q)) v
-keeps_values flow g t (RefreshLoad p q f) sorted v = same_values flow.file g _ (same_pointer_put g t (Local p) (field_at g t q f.0) (field_mark_at g t q f.0)) v
+keeps_values flow g t (Refresh p q) sorted v =
+    same_values flow.file g _ (same_pointer_put g t (Local p) (node_at g t q) (mark_at g t q)) v
+keeps_values flow g t (RefreshLoad p q f) sorted v =
+    same_values flow.file g _ (same_pointer_put g t (Local p) (field_at g t q f.0) (field_mark_at g t q f.0)) v
 keeps_values flow g t (RefreshStore p f q) sorted v = same_values flow.file g _ (same_pointer_update g f.0 _ _ _) v
 keeps_values flow g t (Mark p q) sorted v = same_values flow.file g _ (same_pointer_put g t _ _ _) v
 keeps_values flow g t (Unmark p q) sorted v = same_values flow.file g _ (same_pointer_put g t _ _ _) v

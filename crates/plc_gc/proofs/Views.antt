@@ -1,5 +1,6 @@
 -- What each change leaves: the only file that opens `value`, `entry`, `put` and `update`.
-use Rattle.std.proofs.Common.{◌≡◌, ℕ, zero, suc, ◌<◌, ◌≤◌, List, [], ◌∷◌, ◌++◌, Option, Some, None, length, get_or, refl, sym, ap, ◌∙◌, subst, arith, inl, inr, length-append}
+use Rattle.std.proofs.Common.{◌≡◌, ℕ, zero, suc, ◌<◌, ◌≤◌, List, [], ◌∷◌, ◌++◌, Option, Some, None, length, get_or}
+use Rattle.std.proofs.Common.{refl, sym, ap, ◌∙◌, subst, arith, inl, inr, length-append}
 use Rattle.std.proofs.lemmas.Bool.{cases_eq}
 use Rattle.std.proofs.lemmas.List.{get_or_past}
 use Rattle.plc_base.specs.Tables.{put_at}
@@ -8,11 +9,17 @@ use Rattle.plc_lang.specs.declared.syntax.Field.{Field}
 use Rattle.plc_lang.specs.declared.syntax.Var.{Var}
 use Rattle.plc_lang.specs.declared.syntax.Var.TheVariants.{Shared, Local}
 use Rattle.plc_gc.specs.declared.slot.Slot.{Slot}
-use Rattle.plc_gc.specs.declared.slot.Slot.TheVariants.{Shared as in_shared, Local as in_local, SharedMark as shared_mark, LocalMark as local_mark, Data as in_data}
+use Rattle.plc_gc.specs.declared.slot.Slot.TheVariants.{Shared as in_shared, Local as in_local}
+use Rattle.plc_gc.specs.declared.slot.Slot.TheVariants.{SharedMark as shared_mark, LocalMark as local_mark}
+use Rattle.plc_gc.specs.declared.slot.Slot.TheVariants.{Data as in_data}
 use Rattle.plc_gc.specs.declared.slot.Map.{Map}
 use Rattle.plc_gc.specs.declared.slot.Pointer.{Pointer}
-use Rattle.plc_gc.specs.declared.slot.Map.TheVariants.{Pointer as pointer_field, Mark as mark_field, Number as data_field, Auxiliary as auxiliary_field, Retirement as retirement}
-use Rattle.plc_gc.specs.State.{GcState, Row, Locals, null_pointer, with_node, with_mark, node_put, mark_put, no_row, fresh_row, row_entry, row_with, locals_or_none, locals_of, with_locals, value, entry, count, put, update, made, fresh_state, slot, mark_slot, put_pointer, update_pointer}
+use Rattle.plc_gc.specs.declared.slot.Map.TheVariants.{Pointer as pointer_field, Mark as mark_field}
+use Rattle.plc_gc.specs.declared.slot.Map.TheVariants.{Number as data_field, Auxiliary as auxiliary_field}
+use Rattle.plc_gc.specs.declared.slot.Map.TheVariants.{Retirement as retirement}
+use Rattle.plc_gc.specs.State.{GcState, Row, Locals, null_pointer, with_node, with_mark, node_put, mark_put, no_row}
+use Rattle.plc_gc.specs.State.{fresh_row, row_entry, row_with, locals_or_none, locals_of, with_locals, value, entry}
+use Rattle.plc_gc.specs.State.{count, put, update, made, fresh_state, slot, mark_slot, put_pointer, update_pointer}
 use Rattle.plc_gc.specs.Laws.{Put, Updated, PointerPut, PointerUpdated, WasMade, HasLocals, IsFirst, GcStateLaws}
 
 -- ---- locals
@@ -42,29 +49,39 @@ gives g t l = record {
 -- ---- tables of pointers: a node that is written leaves the marks, a mark leaves the nodes
 
 node_here : (ps : List Pointer) (i n : ℕ) → (get_or (node_put ps i n) i null_pointer).node ≡ n
-node_here ps i n = ap (λ (p : Pointer). p.node) (get-put_same null_pointer ps i (with_node (get_or ps i null_pointer) n))
+node_here ps i n =
+    ap (λ (p : Pointer). p.node) (get-put_same null_pointer ps i (with_node (get_or ps i null_pointer) n))
 
 mark_here : (ps : List Pointer) (i n : ℕ) → (get_or (mark_put ps i n) i null_pointer).mark ≡ n
-mark_here ps i n = ap (λ (p : Pointer). p.mark) (get-put_same null_pointer ps i (with_mark (get_or ps i null_pointer) n))
+mark_here ps i n =
+    ap (λ (p : Pointer). p.mark) (get-put_same null_pointer ps i (with_mark (get_or ps i null_pointer) n))
 
-node_there : (ps : List Pointer) (i n j : ℕ) → (j ≡ i → ⊥) → (get_or (node_put ps i n) j null_pointer).node ≡ (get_or ps j null_pointer).node
-node_there ps i n j ne = ap (λ (p : Pointer). p.node) (get-put_other null_pointer ps i (with_node (get_or ps i null_pointer) n) j ne)
+node_there : (ps : List Pointer) (i n j : ℕ) → (j ≡ i → ⊥)
+    → (get_or (node_put ps i n) j null_pointer).node ≡ (get_or ps j null_pointer).node
+node_there ps i n j ne =
+    ap (λ (p : Pointer). p.node) (get-put_other null_pointer ps i (with_node (get_or ps i null_pointer) n) j ne)
 
-mark_there : (ps : List Pointer) (i n j : ℕ) → (j ≡ i → ⊥) → (get_or (mark_put ps i n) j null_pointer).mark ≡ (get_or ps j null_pointer).mark
-mark_there ps i n j ne = ap (λ (p : Pointer). p.mark) (get-put_other null_pointer ps i (with_mark (get_or ps i null_pointer) n) j ne)
+mark_there : (ps : List Pointer) (i n j : ℕ) → (j ≡ i → ⊥)
+    → (get_or (mark_put ps i n) j null_pointer).mark ≡ (get_or ps j null_pointer).mark
+mark_there ps i n j ne =
+    ap (λ (p : Pointer). p.mark) (get-put_other null_pointer ps i (with_mark (get_or ps i null_pointer) n) j ne)
 
-mark_stays : (ps : List Pointer) (i n j : ℕ) → (get_or (node_put ps i n) j null_pointer).mark ≡ (get_or ps j null_pointer).mark
+mark_stays : (ps : List Pointer) (i n j : ℕ)
+    → (get_or (node_put ps i n) j null_pointer).mark ≡ (get_or ps j null_pointer).mark
 mark_stays ps i n j = elim (cases_eq j i) [
   | inl e ↦ subst (λ j. (get_or (node_put ps i n) j null_pointer).mark ≡ (get_or ps j null_pointer).mark) (sym e)
       (ap (λ (p : Pointer). p.mark) (get-put_same null_pointer ps i (with_node (get_or ps i null_pointer) n)))
-  | inr ne ↦ ap (λ (p : Pointer). p.mark) (get-put_other null_pointer ps i (with_node (get_or ps i null_pointer) n) j ne)
+  | inr ne ↦ ap (λ (p : Pointer). p.mark)
+      (get-put_other null_pointer ps i (with_node (get_or ps i null_pointer) n) j ne)
 ]
 
-node_stays : (ps : List Pointer) (i n j : ℕ) → (get_or (mark_put ps i n) j null_pointer).node ≡ (get_or ps j null_pointer).node
+node_stays : (ps : List Pointer) (i n j : ℕ)
+    → (get_or (mark_put ps i n) j null_pointer).node ≡ (get_or ps j null_pointer).node
 node_stays ps i n j = elim (cases_eq j i) [
   | inl e ↦ subst (λ j. (get_or (mark_put ps i n) j null_pointer).node ≡ (get_or ps j null_pointer).node) (sym e)
       (ap (λ (p : Pointer). p.node) (get-put_same null_pointer ps i (with_mark (get_or ps i null_pointer) n)))
-  | inr ne ↦ ap (λ (p : Pointer). p.node) (get-put_other null_pointer ps i (with_mark (get_or ps i null_pointer) n) j ne)
+  | inr ne ↦ ap (λ (p : Pointer). p.node)
+      (get-put_other null_pointer ps i (with_mark (get_or ps i null_pointer) n) j ne)
 ]
 
 -- ---- values
@@ -99,20 +116,27 @@ shared_mark_put g i n = record {
 
 -- where a thread's locals change at one place alone, all else has what it had
 own_put : (g : GcState) (t : ℕ) (l : Locals) (p : Slot) (n : ℕ) → value (with_locals g t (Some l)) p ≡ n
-    → ((v : ℕ) → (in_local t v ≡ p → ⊥) → (get_or l.pointers v null_pointer).node ≡ (get_or (locals_of g t).pointers v null_pointer).node)
-    → ((v : ℕ) → (local_mark t v ≡ p → ⊥) → (get_or l.pointers v null_pointer).mark ≡ (get_or (locals_of g t).pointers v null_pointer).mark)
-    → ((x : ℕ) → (in_data t x ≡ p → ⊥) → get_or l.values x 0 ≡ get_or (locals_of g t).values x 0) → Put g p n (with_locals g t (Some l))
+    → ((v : ℕ) → (in_local t v ≡ p → ⊥)
+    → (get_or l.pointers v null_pointer).node ≡ (get_or (locals_of g t).pointers v null_pointer).node)
+    → ((v : ℕ) → (local_mark t v ≡ p → ⊥)
+    → (get_or l.pointers v null_pointer).mark ≡ (get_or (locals_of g t).pointers v null_pointer).mark)
+    → ((x : ℕ) → (in_data t x ≡ p → ⊥) → get_or l.values x 0 ≡ get_or (locals_of g t).values x 0)
+    → Put g p n (with_locals g t (Some l))
 unfolding value
-own_put g t l p n here pointers marks values = record { here = here; elsewhere = kept; nodes = (gives g t (Some l)).nodes }
+own_put g t l p n here pointers marks values =
+    record { here = here; elsewhere = kept; nodes = (gives g t (Some l)).nodes }
   where
     h : HasLocals g t (Some l) (with_locals g t (Some l))
     h = gives g t (Some l)
 
     -- a place of thread u, which may be t
-    place : (s : ℕ → Slot) (u : ℕ) → (s u ≡ p → ⊥) → ((s t ≡ p → ⊥) → value (with_locals g t (Some l)) (s t) ≡ value g (s t))
-        → ((u ≡ t → ⊥) → value (with_locals g t (Some l)) (s u) ≡ value g (s u)) → value (with_locals g t (Some l)) (s u) ≡ value g (s u)
+    place : (s : ℕ → Slot) (u : ℕ) → (s u ≡ p → ⊥)
+        → ((s t ≡ p → ⊥) → value (with_locals g t (Some l)) (s t) ≡ value g (s t))
+        → ((u ≡ t → ⊥) → value (with_locals g t (Some l)) (s u) ≡ value g (s u))
+        → value (with_locals g t (Some l)) (s u) ≡ value g (s u)
     place s u ne own others = elim (cases_eq u t) [
-      | inl e ↦ (let P : ℕ → Type 0 = λ u. value (with_locals g t (Some l)) (s u) ≡ value g (s u) in subst P (sym e) (own (λ same. ne (ap s e ∙ same))))
+      | inl e ↦ (let P : ℕ → Type 0 = λ u. value (with_locals g t (Some l)) (s u) ≡ value g (s u) in
+          subst P (sym e) (own (λ same. ne (ap s e ∙ same))))
       | inr other ↦ others other
     ]
 
@@ -198,7 +222,13 @@ updates g m k n =
             (ap (λ r. row_entry r l) (get-put_same no_row g.rows k r) ∙ row_other (get_or g.rows k no_row) m n l ne)
         | inr other ↦ ap (λ r. row_entry r l) (get-put_other no_row g.rows k r j other)
       ];
-      values = elim [ in_shared i ↦ refl | in_local t v ↦ refl | shared_mark i ↦ refl | local_mark t v ↦ refl | in_data t x ↦ refl ];
+      values = elim [
+        | in_shared i ↦ refl
+        | in_local t v ↦ refl
+        | shared_mark i ↦ refl
+        | local_mark t v ↦ refl
+        | in_data t x ↦ refl
+      ];
       count = λ small. length_put no_row g.rows k r small;
     }
 
@@ -216,7 +246,10 @@ puts_pointer g t v n m =
       node = two.here;
       mark = two.elsewhere (mark_slot t v) (node_and_mark t v) ∙ one.here;
       elsewhere = λ q a b. two.elsewhere q a ∙ one.elsewhere q b;
-      nodes = record { entries = λ l k. two.nodes.entries l k ∙ one.nodes.entries l k; count = two.nodes.count ∙ one.nodes.count };
+      nodes = record {
+        entries = λ l k. two.nodes.entries l k ∙ one.nodes.entries l k;
+        count = two.nodes.count ∙ one.nodes.count;
+      };
     }
 
 pub updates_pointer : (g : GcState) (f k n m : ℕ) → PointerUpdated g f k n m (update_pointer g f k n m)
@@ -243,7 +276,13 @@ pub makes : (g : GcState) → WasMade g (made g)
 unfolding value entry count made
 makes g = record {
   entries = λ m k. pushed g.rows (fresh_row (length g.fields) g.ghosts) m k (fresh_entry (length g.fields) g.ghosts m);
-  values = elim [ in_shared i ↦ refl | in_local t v ↦ refl | shared_mark i ↦ refl | local_mark t v ↦ refl | in_data t x ↦ refl ];
+  values = elim [
+    | in_shared i ↦ refl
+    | in_local t v ↦ refl
+    | shared_mark i ↦ refl
+    | local_mark t v ↦ refl
+    | in_data t x ↦ refl
+  ];
   count = (let e = length-append g.rows (fresh_row (length g.fields) g.ghosts ∷ []) in omega (arith, e));
 }
 
@@ -255,10 +294,14 @@ unmade g m k past = ap (λ r. row_entry r m) (get_or_past g.rows k no_row past) 
 
 first_value : (fields : List Field) (ghosts shared threads : ℕ) (q : Slot) → value (fresh_state fields ghosts shared threads) q ≡ 0
 unfolding value locals_of
-first_value fields ghosts shared threads (in_shared i) = ap (λ (p : Pointer). p.node) (get-replicate null_pointer shared i)
-first_value fields ghosts shared threads (in_local t v) = ap (λ l. (get_or (locals_or_none l).pointers v null_pointer).node) (get-replicate None threads t)
-first_value fields ghosts shared threads (shared_mark i) = ap (λ (p : Pointer). p.mark) (get-replicate null_pointer shared i)
-first_value fields ghosts shared threads (local_mark t v) = ap (λ l. (get_or (locals_or_none l).pointers v null_pointer).mark) (get-replicate None threads t)
+first_value fields ghosts shared threads (in_shared i) =
+    ap (λ (p : Pointer). p.node) (get-replicate null_pointer shared i)
+first_value fields ghosts shared threads (in_local t v) =
+    ap (λ l. (get_or (locals_or_none l).pointers v null_pointer).node) (get-replicate None threads t)
+first_value fields ghosts shared threads (shared_mark i) =
+    ap (λ (p : Pointer). p.mark) (get-replicate null_pointer shared i)
+first_value fields ghosts shared threads (local_mark t v) =
+    ap (λ l. (get_or (locals_or_none l).pointers v null_pointer).mark) (get-replicate None threads t)
 first_value fields ghosts shared threads (in_data t x) = ap (λ l. get_or (locals_or_none l).values x 0) (get-replicate None threads t)
 
 first_entry : (fields : List Field) (ghosts shared threads : ℕ) (m : Map) (k : ℕ) → entry (fresh_state fields ghosts shared threads) m k ≡ 0
@@ -275,4 +318,14 @@ first fields ghosts shared threads = record {
 }
 
 pub state_laws : GcStateLaws
-state_laws = record { puts = puts; updates = updates; puts_pointer = puts_pointer; updates_pointer = updates_pointer; makes = makes; gives = gives; unmade = unmade; first = first }
+state_laws =
+    record {
+      puts = puts;
+      updates = updates;
+      puts_pointer = puts_pointer;
+      updates_pointer = updates_pointer;
+      makes = makes;
+      gives = gives;
+      unmade = unmade;
+      first = first;
+    }

@@ -7,10 +7,12 @@ use Rattle.plc_lang.specs.declared.syntax.Arg.TheVariants as args
 use Rattle.plc_lang.specs.declared.syntax.Op.{Op}
 use Rattle.plc_lang.specs.declared.syntax.Primitive.{Primitive}
 use Rattle.plc_lang.specs.declared.syntax.Primitive.TheVariants.{Null, Copy, New, Load, Store, StoreNull, DataSet, DataLoad, DataStore, Eq, Ne, IsNull, NotNull, DataTest, Refresh, RefreshLoad, RefreshStore, Call, Done, Active, Ghost}
+use Rattle.plc_lang.specs.declared.syntax.Primitive.TheVariants.{Mark, Unmark, MarkTest}
 use Rattle.plc_base.specs.Functions.{is_retire}
 use Rattle.plc_mem.specs.declared.cell.Cell.{Cell}
 use Rattle.plc_mem.specs.declared.cell.RaceKind.{RaceKind}
 use Rattle.plc_mem.specs.State.{State, Place, at_shared, at_local, at_field, Locals, null_cell, fresh_cell, is_null, at, put, put_value, put_field_value, place, is_used, is_retired, with_node, with_retired, with_locals, locals_or_none, locals_of, cut, freed, fresh_state, no_locals, starting}
+use Rattle.plc_mem.specs.State.{marked_cell}
 use Rattle.plc_mem.specs.Primitives.{cell_at, field_at, access, retirement, race_of_call, goes_call, after_call, race_of, goes, after}
 use Rattle.plc_mem.specs.Outcomes.{moved, next_of}
 use Rattle.plc_mem.specs.Laws.{is_there, SamePointers, SameAddresses}
@@ -186,6 +188,10 @@ call_coherent s t true args.Null fine may k = k
 call_coherent s t true args.None fine may k = k
 call_coherent s t false r fine may k = k
 
+-- the mark says nothing of validity
+marked_coherent : (s : State) (c : Cell) (m : Bool) → CellCoherent s c → CellCoherent s (marked_cell m c)
+marked_coherent s c m k = record { used = k.used; null = k.null }
+
 after_coherent : (s : State) (t a : ℕ) (k : Primitive) → race_of s t k ≡ None → goes s t a k ≡ true → IsCoherent s → IsCoherent (after s t a k)
 after_coherent s t a (Null p) fine may k = put_coherent s (place t p) null_cell (null_coherent s) k
 after_coherent s t a (Copy p q) fine may k = put_coherent s (place t p) (cell_at s t q) (k.cells (place t q)) k
@@ -207,6 +213,11 @@ after_coherent s t a (DataTest r x e) fine may k = k
 after_coherent s t a (Refresh p q) fine may k = put_coherent s (at_local t p) (cell_at s t q) (k.cells (place t q)) k
 after_coherent s t a (RefreshLoad p q f) fine may k = put_coherent s (at_local t p) (field_at s t q f.0) (k.cells (at_field (cell_at s t q).number f.0)) k
 after_coherent s t a (RefreshStore p f q) fine may k = put_coherent s (at_field (cell_at s t p).number f.0) (cell_at s t q) (k.cells (place t q)) k
+after_coherent s t a (Mark p q) fine may k =
+    put_coherent s (place t p) _ (marked_coherent s (cell_at s t q) true (k.cells (place t q))) k
+after_coherent s t a (Unmark p q) fine may k =
+    put_coherent s (place t p) _ (marked_coherent s (cell_at s t q) false (k.cells (place t q))) k
+after_coherent s t a (MarkTest p m) fine may k = k
 after_coherent s t a (Call f r) fine may k = call_coherent s t (is_retire f) r fine may k
 after_coherent s t a (Done f) fine may k = k
 after_coherent s t a (Active p) fine may k = k

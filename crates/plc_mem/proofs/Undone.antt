@@ -1,5 +1,5 @@
 -- What takes a primitive back leads to the state in which it was taken, and so do several, the last first.
-use Rattle.std.proofs.Common.{◌≡◌, ℕ, zero, suc, ◌+◌, ◌-◌, ◌<◌, Bool, true, false, ◌==◌, cond, List, [], ◌∷◌, ◌++◌, Option, Some, None, length, take, get_or, refl, sym, ap, ◌∙◌, subst, arith, inl, inr, length-append}
+use Rattle.std.proofs.Common.{◌≡◌, ℕ, zero, suc, ◌-◌, ◌<◌, Bool, true, false, ◌==◌, cond, List, [], ◌∷◌, ◌++◌, Option, Some, None, length, take, get_or, refl, sym, ap, ◌∙◌, subst, arith, inl, inr, length-append}
 use Rattle.std.proofs.lemmas.Bool.{cases_Bool, eq-eqb}
 use Rattle.plc_base.specs.declared.ids.FieldId.{FieldId}
 use Rattle.plc_base.specs.Functions.{is_retire}
@@ -12,17 +12,16 @@ use Rattle.plc_lang.specs.declared.syntax.Arg.{Arg}
 use Rattle.plc_lang.specs.declared.syntax.Arg.TheVariants as args
 use Rattle.plc_lang.specs.declared.syntax.Primitive.{Primitive}
 use Rattle.plc_lang.specs.declared.syntax.Primitive.TheVariants.{Null, Copy, New, Load, Store, StoreNull, DataSet, DataLoad, DataStore, Eq, Ne, IsNull, NotNull, DataTest, Refresh, RefreshLoad, RefreshStore, Call, Done, Active, Ghost}
+use Rattle.plc_lang.specs.declared.syntax.Primitive.TheVariants.{Mark, Unmark, MarkTest}
 use Rattle.plc_lang.specs.Shape.{Shape, VarIn, PrimitiveIn}
 use Rattle.plc_mem.specs.declared.cell.Cell.{Cell}
-use Rattle.plc_mem.specs.declared.cell.Outcome.{Outcome}
 use Rattle.plc_mem.specs.declared.cell.Outcome.TheVariants.{Next}
 use Rattle.plc_mem.specs.declared.undo.Undo.{Undo}
-use Rattle.plc_mem.specs.declared.undo.Undo.TheVariants.{Nothing, Pointer, Field, Value, FieldValue, Made, Retired}
 use Rattle.plc_mem.specs.State.{State, Node, Locals, at_shared, at_local, at_field, null_cell, fresh_cell, node_of, put_node, locals_of, with_locals, at, put, value_at, put_value, field_value, put_field_value, place, with_node, with_retired, fresh_node}
 use Rattle.plc_mem.specs.Primitives.{cell_at, after, after_call}
 use Rattle.plc_mem.specs.Outcomes.{outcome_of, next_of}
 use Rattle.plc_mem.specs.Fit.{NodesFit, shape, Kept}
-use Rattle.plc_mem.specs.Undoing.{undo_of, undo_of_write, undo_of_store, undo_of_set, undo_of_data_store, undo_of_call, without_last_node, without_last_retired, undone, all_undone, UndoFits, UndosFit, TakesBack}
+use Rattle.plc_mem.specs.Undoing.{undo_of, undo_of_store, undo_of_call, without_last_node, without_last_retired, undone, all_undone, UndoFits, UndosFit, TakesBack}
 use Rattle.plc_mem.proofs.Nodes.{has_node, address-node_of, node-put_same, put-absent}
 use Rattle.plc_mem.proofs.Views.{locals-with_same}
 use Rattle.plc_mem.proofs.Joined.{with_with, join_node, kept-then}
@@ -215,6 +214,9 @@ taken_back s t a l (DataTest r x e) fit h = refl
 taken_back s t a l (Refresh p q) fit h = local_back s t l p _ h.0
 taken_back s t a l (RefreshLoad p q f) fit h = local_back s t l p _ h.0
 taken_back s t a l (RefreshStore p f q) fit h = store_back s t l p f _ fit h.1
+taken_back s t a l (Mark p q) fit h = var_back s t l p _ h.0
+taken_back s t a l (Unmark p q) fit h = var_back s t l p _ h.0
+taken_back s t a l (MarkTest p m) fit h = refl
 taken_back s t a l (Call f r) fit h = call_back (with_locals s t (Some l)) t (is_retire f) r
 taken_back s t a l (Done f) fit h = refl
 taken_back s t a l (Active p) fit h = refl
@@ -244,6 +246,9 @@ undo_fits h s t (DataTest r x e) fit = tt
 undo_fits h s t (Refresh p q) fit = fit.0
 undo_fits h s t (RefreshLoad p q f) fit = fit.0
 undo_fits h s t (RefreshStore p f q) fit = fit.1
+undo_fits h s t (Mark p q) fit = fit.0
+undo_fits h s t (Unmark p q) fit = fit.0
+undo_fits h s t (MarkTest p m) fit = tt
 undo_fits h s t (Call f r) fit = call_fits h (is_retire f) r
 undo_fits h s t (Done f) fit = tt
 undo_fits h s t (Active p) fit = tt

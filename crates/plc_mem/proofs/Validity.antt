@@ -5,9 +5,11 @@ use Rattle.plc_lang.specs.declared.syntax.Arg.{Arg}
 use Rattle.plc_lang.specs.declared.syntax.Arg.TheVariants as args
 use Rattle.plc_lang.specs.declared.syntax.Primitive.{Primitive}
 use Rattle.plc_lang.specs.declared.syntax.Primitive.TheVariants.{Null, Copy, New, Load, Store, StoreNull, DataSet, DataLoad, DataStore, Eq, Ne, IsNull, NotNull, DataTest, Refresh, RefreshLoad, RefreshStore, Call, Done, Active, Ghost}
+use Rattle.plc_lang.specs.declared.syntax.Primitive.TheVariants.{Mark, Unmark, MarkTest}
 use Rattle.plc_base.specs.Functions.{is_retire}
 use Rattle.plc_mem.specs.declared.cell.Cell.{Cell}
 use Rattle.plc_mem.specs.State.{State, Place, at_shared, at_local, at_field, Locals, null_cell, fresh_cell, locals_or_none, at, put, place, is_used, with_node, with_locals, put_value, put_field_value, fresh_state}
+use Rattle.plc_mem.specs.State.{marked_cell}
 use Rattle.plc_mem.specs.Primitives.{cell_at, field_at, after_call, goes, after}
 use Rattle.plc_mem.specs.Laws.{is_there}
 use Rattle.plc_mem.proofs.Views.{cases_place, writes, writes_nothing, writes_local, writes_field, writes_no_field, makes, retires, gives, fresh_is_null}
@@ -69,6 +71,11 @@ after_valid s t a (DataTest r x e) all may = all
 after_valid s t a (Refresh p q) all may = put_valid s (at_local t p) (cell_at s t q) all (all (place t q))
 after_valid s t a (RefreshLoad p q f) all may = put_valid s (at_local t p) (field_at s t q f.0) all (all (at_field (cell_at s t q).number f.0))
 after_valid s t a (RefreshStore p f q) all may = put_valid s (at_field (cell_at s t p).number f.0) (cell_at s t q) all (all (place t q))
+after_valid s t a (Mark p q) all may =
+    put_valid s (place t p) (marked_cell true (cell_at s t q)) all (all (place t q))
+after_valid s t a (Unmark p q) all may =
+    put_valid s (place t p) (marked_cell false (cell_at s t q)) all (all (place t q))
+after_valid s t a (MarkTest p m) all may = all
 after_valid s t a (Call f r) all may = call_valid s t (is_retire f) r all
 after_valid s t a (Done f) all may = all
 after_valid s t a (Active p) all may = all

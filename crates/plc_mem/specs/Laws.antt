@@ -7,8 +7,8 @@ use Rattle.plc_lang.specs.WellSorted.{is_test, is_call}
 use Rattle.plc_flow.specs.Sides.{opposite}
 use Rattle.plc_mem.specs.declared.cell.Cell.{Cell}
 use Rattle.plc_mem.specs.State.{State, Place, at_shared, at_local, at_field, Locals, null_cell, is_null, cut, at, put}
-use Rattle.plc_mem.specs.State.{value_at, put_value, field_value, put_field_value, is_used, is_retired, with_node, with_retired}
-use Rattle.plc_mem.specs.State.{with_locals, locals_or_none, freed, fresh_state}
+use Rattle.plc_mem.specs.State.{value_at, put_value, field_value, put_field_value, is_used, is_retired, with_node}
+use Rattle.plc_mem.specs.State.{with_retired, with_locals, locals_or_none, freed, fresh_state}
 use Rattle.plc_mem.specs.Primitives.{race_of, goes, after, event_of, access, comparison, cell_at}
 
 -- a field is there where its address is used; other places are always there

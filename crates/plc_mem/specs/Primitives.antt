@@ -8,7 +8,7 @@ use Rattle.plc_lang.specs.declared.syntax.Primitive.{Primitive}
 use Rattle.plc_lang.specs.declared.syntax.Primitive.TheVariants.{Null, Copy, New, Load, Store, StoreNull, DataSet}
 use Rattle.plc_lang.specs.declared.syntax.Primitive.TheVariants.{DataLoad, DataStore, Eq, Ne, IsNull, NotNull, DataTest}
 use Rattle.plc_lang.specs.declared.syntax.Primitive.TheVariants.{Refresh, RefreshLoad, RefreshStore, Call, Done, Active}
-use Rattle.plc_lang.specs.declared.syntax.Primitive.TheVariants.{Ghost}
+use Rattle.plc_lang.specs.declared.syntax.Primitive.TheVariants.{Mark, Unmark, MarkTest, Ghost}
 use Rattle.plc_auto.specs.declared.event.Event.{Event}
 use Rattle.plc_auto.specs.declared.event.Event.TheVariants.{Call as Called, Done as Returned}
 use Rattle.plc_base.specs.Functions.{is_retire}
@@ -16,8 +16,9 @@ use Rattle.plc_lang.specs.Comparison.{compares}
 use Rattle.plc_mem.specs.declared.cell.Cell.{Cell}
 use Rattle.plc_mem.specs.declared.cell.RaceKind.{RaceKind}
 use Rattle.plc_mem.specs.declared.cell.RaceKind.TheVariants.{Deref, Compare, Pass, Double}
-use Rattle.plc_mem.specs.State.{State, at_local, at_field, null_cell, fresh_cell, is_null, same_pointer, at, put}
-use Rattle.plc_mem.specs.State.{value_at, put_value, field_value, put_field_value, place, number_of, with_node}
+use Rattle.plc_flow.specs.Points.{same_bool}
+use Rattle.plc_mem.specs.State.{State, at_local, at_field, null_cell, fresh_cell, marked_cell, is_null, same_pointer}
+use Rattle.plc_mem.specs.State.{at, put, value_at, put_value, field_value, put_field_value, place, number_of, with_node}
 use Rattle.plc_mem.specs.State.{with_retired, is_used, is_retired}
 
 -- what the variable of thread t holds
@@ -66,6 +67,9 @@ race_of s t (DataTest r x e) = None
 race_of s t (Refresh p q) = None
 race_of s t (RefreshLoad p q f) = access (cell_at s t q)
 race_of s t (RefreshStore p f q) = access (cell_at s t p)
+race_of s t (Mark p q) = None
+race_of s t (Unmark p q) = None
+race_of s t (MarkTest p m) = None
 race_of s t (Call f r) = race_of_call s t (is_retire f) r
 race_of s t (Done f) = None
 race_of s t (Active p) = None
@@ -98,6 +102,9 @@ goes s t a (Refresh p q) = same_pointer (at s (at_local t p)) (cell_at s t q)
 goes s t a (RefreshLoad p q f) =
     not (is_null (cell_at s t q)) && same_pointer (at s (at_local t p)) (field_at s t q f.0)
 goes s t a (RefreshStore p f q) = not (is_null (cell_at s t p)) && same_pointer (field_at s t p f.0) (cell_at s t q)
+goes s t a (Mark p q) = true
+goes s t a (Unmark p q) = true
+goes s t a (MarkTest p m) = same_bool (cell_at s t p).mark m
 goes s t a (Call f r) = goes_call s t (is_retire f) r
 goes s t a (Done f) = true
 goes s t a (Active p) = true
@@ -129,6 +136,9 @@ after s t a (DataTest r x e) = s
 after s t a (Refresh p q) = put s (at_local t p) (cell_at s t q)
 after s t a (RefreshLoad p q f) = put s (at_local t p) (field_at s t q f.0)
 after s t a (RefreshStore p f q) = put s (at_field (cell_at s t p).number f.0) (cell_at s t q)
+after s t a (Mark p q) = put s (place t p) (marked_cell true (cell_at s t q))
+after s t a (Unmark p q) = put s (place t p) (marked_cell false (cell_at s t q))
+after s t a (MarkTest p m) = s
 after s t a (Call f r) = after_call s t (is_retire f) r
 after s t a (Done f) = s
 after s t a (Active p) = s

@@ -11,6 +11,7 @@ use Rattle.plc_lang.specs.declared.syntax.Op.{Op}
 use Rattle.plc_lang.specs.Fields.{is_pointer_field}
 use Rattle.plc_lang.specs.Locals.{starting_pointers, starting_values}
 use Rattle.plc_flow.specs.declared.flow.Flow.{Flow}
+use Rattle.plc_flow.specs.Points.{same_bool}
 use Rattle.plc_threads.specs.declared.words.Place.{Place as NamedPlace}
 use Rattle.plc_threads.specs.declared.words.Place.TheVariants as named
 use Rattle.plc_mem.specs.declared.cell.Cell.{Cell}
@@ -42,21 +43,25 @@ pub data Place : Type 0 where
   at_local : ℕ → ℕ → Place
   at_field : ℕ → ℕ → Place
 
--- null is always valid
+-- null as a primitive gives it: valid, as null always is, and unmarked
 abbrev pub null_cell : Cell
-null_cell = record { number = 0; valid = true }
+null_cell = record { number = 0; mark = false; valid = true }
 
--- a pointer to an address that was just allocated
+-- a pointer to an address that was just allocated, unmarked
 abbrev pub fresh_cell : ℕ → Cell
-fresh_cell a = record { number = a; valid = true }
+fresh_cell a = record { number = a; mark = false; valid = true }
+
+-- the same pointer with this mark
+abbrev pub marked_cell : Bool → Cell → Cell
+marked_cell m c = record c { mark = m }
 
 -- the cell holds null
 abbrev pub is_null : Cell → Bool
 is_null c = c.number == 0
 
--- two cells hold the same pointer
+-- two cells hold the same number and the same mark
 abbrev pub same_pointer : Cell → Cell → Bool
-same_pointer c d = c.number == d.number
+same_pointer c d = (c.number == d.number) && same_bool c.mark d.mark
 
 -- what an idle thread has
 abbrev pub no_locals : Locals

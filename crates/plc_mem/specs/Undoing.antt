@@ -10,7 +10,7 @@ use Rattle.plc_lang.specs.declared.syntax.Primitive.{Primitive}
 use Rattle.plc_lang.specs.declared.syntax.Primitive.TheVariants.{Null, Copy, New, Load, Store, StoreNull, DataSet}
 use Rattle.plc_lang.specs.declared.syntax.Primitive.TheVariants.{DataLoad, DataStore, Eq, Ne, IsNull, NotNull, DataTest}
 use Rattle.plc_lang.specs.declared.syntax.Primitive.TheVariants.{Refresh, RefreshLoad, RefreshStore, Call, Done, Active}
-use Rattle.plc_lang.specs.declared.syntax.Primitive.TheVariants.{Ghost}
+use Rattle.plc_lang.specs.declared.syntax.Primitive.TheVariants.{Mark, Unmark, MarkTest, Ghost}
 use Rattle.plc_lang.specs.Shape.{Shape, VarIn}
 use Rattle.plc_mem.specs.declared.undo.Undo.{Undo}
 use Rattle.plc_mem.specs.declared.undo.Undo.TheVariants.{Nothing, Pointer, Field, Value, FieldValue, Made, Retired}
@@ -63,6 +63,9 @@ undo_of s t (DataTest r x e) = Nothing
 undo_of s t (Refresh p q) = undo_of_write s t (Local p)
 undo_of s t (RefreshLoad p q f) = undo_of_write s t (Local p)
 undo_of s t (RefreshStore p f q) = undo_of_store s t p f
+undo_of s t (Mark p q) = undo_of_write s t p
+undo_of s t (Unmark p q) = undo_of_write s t p
+undo_of s t (MarkTest p m) = Nothing
 undo_of s t (Call f r) = undo_of_call (is_retire f) r
 undo_of s t (Done f) = Nothing
 undo_of s t (Active p) = Nothing

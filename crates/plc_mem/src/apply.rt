@@ -4,7 +4,7 @@
 ghost use Rattle.std.specs.Prelude.{◌≡◌, ℕ, ◌<◌, true, false, length, IfOk, OnOk, OnErr, Some};
 ghost use Rattle.plc_lang.specs.Shape.{PrimitiveIn, VarIn};
 ghost use Rattle.plc_base.specs.Functions.{is_retire};
-ghost use Rattle.plc_mem.specs.State.{with_locals, put, place, at_field};
+ghost use Rattle.plc_mem.specs.State.{with_locals, put, place, at_field, marked_cell};
 ghost use Rattle.plc_mem.specs.Primitives.{race_of, race_of_call, retirement, goes, goes_call, after, after_call};
 ghost use Rattle.plc_mem.specs.Primitives.{address_of, event_of, cell_at, field_at};
 ghost use Rattle.plc_mem.specs.Access.{takes_memory};
@@ -12,7 +12,7 @@ ghost use Rattle.plc_mem.specs.Outcomes.{outcome_of, next_of, address_or_null, S
 ghost use Rattle.plc_mem.specs.Fit.{shape, Kept};
 ghost use Rattle.plc_mem.specs.Coherence.{IsCoherent};
 
-use crate::cell::{Cell, Outcome, RaceKind};
+use crate::cell::{Cell, Outcome, RaceKind, same_bool};
 use crate::locals::Locals;
 use crate::memory::Memory;
 use plc_auto::Event;
@@ -85,6 +85,9 @@ impl Memory {
             Prim::Refresh { .. } => None,
             Prim::RefreshLoad { q, .. } => self.read(me, q).access(),
             Prim::RefreshStore { p, .. } => self.read(me, p).access(),
+            Prim::Mark { .. } => None,
+            Prim::Unmark { .. } => None,
+            Prim::MarkTest { .. } => None,
             Prim::Call { func, arg } => self.race_of_call(me, func, arg),
             Prim::Done { .. } => None,
             Prim::Active { .. } => None,
@@ -154,6 +157,9 @@ impl Memory {
                 let same = cell.same_pointer(self.read(me, q));
                 !to.is_null() && same
             }
+            Prim::Mark { .. } => true,
+            Prim::Unmark { .. } => true,
+            Prim::MarkTest { p, yes } => same_bool(self.read(me, p).mark, yes),
             Prim::Call { func, arg } => self.goes_call(me, func, arg),
             Prim::Done { .. } => true,
             Prim::Active { .. } => true,
@@ -249,6 +255,8 @@ impl Memory {
             Prim::Refresh { p, q } => self.copy_pointer(me, Var::Local(p), q),
             Prim::RefreshLoad { p, q, f } => self.load(me, Var::Local(p), q, f),
             Prim::RefreshStore { p, f, q } => self.store(me, p, f, self.read(me, q)),
+            Prim::Mark { p, q } => self.mark_pointer(me, p, q, true),
+            Prim::Unmark { p, q } => self.mark_pointer(me, p, q, false),
             _ => {}
         }
     }
@@ -262,6 +270,17 @@ impl Memory {
     {
         let c = self.read(me, q);
         self.write(me, p, c);
+    }
+
+    /// A variable comes to hold what another one holds, with this mark.
+    fn mark_pointer(&mut self, me: &mut Locals, p: Var, q: Var, mark: bool)
+        requires { VarIn (shape self.old me.old) p }
+        ensures after { (t : ℕ) → with_locals self.new t (Some me.new)
+            ≡ (let s = with_locals self.old t (Some me.old) in put s (place t p) (marked_cell mark (cell_at s t q))) }
+        ensures kept { Kept self.old me.old self.new me.new }
+    {
+        let c = self.read(me, q);
+        self.write(me, p, c.marked(mark));
     }
 
     /// A variable comes to hold what a field holds of the node that another one leads to.

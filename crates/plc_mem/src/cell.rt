@@ -2,15 +2,18 @@
 // place that was made invalid by a free stays so when its address is allocated again. No generation
 // of an address is counted.
 ghost use Rattle.std.specs.Prelude.{◌≡◌};
-ghost use Rattle.plc_mem.specs.State.{null_cell, fresh_cell, is_null, same_pointer};
+ghost use Rattle.plc_mem.specs.State.{null_cell, fresh_cell, marked_cell, is_null, same_pointer};
+ghost use Rattle.plc_flow.specs.Points.{same_bool};
 ghost use Rattle.plc_mem.specs.Primitives.{access, comparison};
 
 use plc_auto::Event;
 
-/// A pointer with its validity; the number 0 is null, and null is valid.
+/// A pointer value, that is a number with a mark, and its validity; the number 0 is null, and null is
+/// valid, marked or not.
 #[derive(Clone, Copy)]
 pub struct Cell {
     pub number: u32,
+    pub mark: bool,
     pub valid: bool,
 }
 
@@ -38,6 +41,13 @@ pub enum Outcome {
     Race(RaceKind),
 }
 
+/// Whether both are so, or neither is.
+pub(crate) fn same_bool(a: bool, b: bool) -> bool
+    ensures { result ≡ same_bool a b }
+{
+    if a { b } else { !b }
+}
+
 impl Cell {
     /// Null.
     pub fn null() -> Cell
@@ -45,6 +55,7 @@ impl Cell {
     {
         Cell {
             number: 0,
+            mark: false,
             valid: true,
         }
     }
@@ -55,8 +66,16 @@ impl Cell {
     {
         Cell {
             number: a,
+            mark: false,
             valid: true,
         }
+    }
+
+    /// The same pointer, valid or not, with this mark.
+    pub(crate) fn marked(self, mark: bool) -> Cell
+        ensures { result ≡ marked_cell mark self }
+    {
+        Cell { mark, ..self }
     }
 
     /// Whether it is null.
@@ -66,11 +85,11 @@ impl Cell {
         self.number == 0
     }
 
-    /// Whether both hold the same pointer, valid or not.
+    /// Whether both hold the same number and the same mark, valid or not.
     pub fn same_pointer(self, other: Cell) -> bool
         ensures { result ≡ same_pointer self other }
     {
-        self.number == other.number
+        self.number == other.number && same_bool(self.mark, other.mark)
     }
 
     /// The race of an access through it.

@@ -1,6 +1,6 @@
-//! Memory in which addresses are used again, with the validity of each pointer: what each primitive
-//! does to it, over the syntax and the observers' events. A primitive is a race, is blocked, or leads
-//! to a next state exactly as the table of the primitives says.
+//! Memory in which addresses are used again, with the mark and the validity of each pointer: what each
+//! primitive does to it, over the syntax and the observers' events. A primitive is a race, is blocked,
+//! or leads to a next state exactly as the table of the primitives says.
 #![tactic(auto)]
 
 mod apply;

@@ -1,12 +1,12 @@
 // Taking primitives back, so that a step of several works on the memory itself, by the work of its primitives alone:
-// each notes what stood where it writes, and where a later one is blocked, is a race, or memory runs out, the notes are
-// read from the last to the first. A copy of the memory for each step, tried before, took a time by the nodes that there
-// are.
-ghost use Rattle.std.specs.Prelude.{◌≡◌, ℕ, IfOk, OnOk, Some};
+// each notes what stood where it writes, its mark and validity too, and where a later one is blocked, is a race, or
+// memory runs out, the notes are read from the last to the first. A copy of the memory for each step, tried before,
+// took a time by the nodes that there are.
+ghost use Rattle.std.specs.Prelude.{◌≡◌, ℕ, IfOk, OnOk, OnErr, Some};
 ghost use Rattle.plc_lang.specs.Shape.{PrimitiveIn};
 ghost use Rattle.plc_base.specs.Functions.{is_retire};
 ghost use Rattle.plc_mem.specs.State.{State, Locals, with_locals};
-ghost use Rattle.plc_mem.specs.Outcomes.{outcome_of, next_of, address_or_null};
+ghost use Rattle.plc_mem.specs.Outcomes.{outcome_of, next_of, address_or_null, Stays};
 ghost use Rattle.plc_mem.specs.Fit.{shape, Kept};
 ghost use Rattle.plc_mem.specs.Undoing.{undo_of, undo_of_write, undo_of_store, undo_of_data_store};
 ghost use Rattle.plc_mem.specs.Undoing.{undo_of_set, undo_of_call, undone, UndoFits, UndosFit, TakesBack};
@@ -37,7 +37,8 @@ pub enum Undo {
 }
 
 impl Memory {
-    /// One primitive of thread `t`, as `apply` takes it. Where it succeeds, what takes it back is put after `undos`.
+    /// One primitive of thread `t`, as `apply` takes it. Where it succeeds, what takes it back is put after `undos`;
+    /// after `Blocked`, `Race`, and where memory runs out, all three are as they were.
     pub fn apply_undoably(
         &mut self,
         prim: &Prim,
@@ -54,6 +55,9 @@ impl Memory {
         ensures kept { Kept self.old me.old self.new me.new }
         ensures undoable { (s : State) (l : Locals) → TakesBack t s l undos.old.items self.old me.old
             → TakesBack t s l undos.new.items self.new me.new }
+        ensures unchanged { IfOk result (λ o. Stays o
+            → (self.new ≡ self.old) × (me.new ≡ me.old) × (undos.new.items ≡ undos.old.items)) }
+        ensures err { OnErr result ((self.new ≡ self.old) × (me.new ≡ me.old) × (undos.new.items ≡ undos.old.items)) }
     {
         self.nodes_fit();
         let undo = self.undo_of(prim, me);
@@ -126,6 +130,9 @@ impl Memory {
             Prim::Refresh { p, .. } => self.undo_of_write(me, Var::Local(p)),
             Prim::RefreshLoad { p, .. } => self.undo_of_write(me, Var::Local(p)),
             Prim::RefreshStore { p, f, .. } => self.undo_of_store(me, p, f),
+            Prim::Mark { p, .. } => self.undo_of_write(me, p),
+            Prim::Unmark { p, .. } => self.undo_of_write(me, p),
+            Prim::MarkTest { .. } => Undo::Nothing,
             Prim::Call { func, arg } => undo_of_call(func, arg),
             Prim::Done { .. } => Undo::Nothing,
             Prim::Active { .. } => Undo::Nothing,

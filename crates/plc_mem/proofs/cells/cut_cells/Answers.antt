@@ -8,7 +8,7 @@ use Rattle.plc_mem.proofs.cells.cut_cells.Goals as goal
 
 pub loop-cell-preserved : goal.loop-cell-preserved
 loop-cell-preserved c =
-    let d : Cell = record { number = 0; valid = false } in
+    let d : Cell = record { number = 0; mark = false; valid = false } in
     let x : Cell = get_or c.loop-cell.cells c.loop-cell.cell-index d in
     mapped_more (cut c.args.a) c.args.cells.now c.loop-cell.cells c.if-cell-a.cells c.loop-cell.cell-index d c.loop-cell-test.true c.loop-cell.invariant
     (elim c.if-cell-a.branch [

@@ -10,10 +10,14 @@ pub set_mark-requires : goal.set_mark-requires
 set_mark-requires c = rw (c.in-Mark.is, ← c.self.view_is) at c.requires
 
 pub returns-in-Pointer : goal.returns-in-Pointer
-returns-in-Pointer c = rw (c.in-Pointer.is, ← c.self.view_is) (ap (λ xs. record (the_view c.self.inside) { pointers = xs }) c.set_node.ensures)
+returns-in-Pointer c =
+    rw (c.in-Pointer.is, ← c.self.view_is)
+    (ap (λ xs. record (the_view c.self.inside) { pointers = xs }) c.set_node.ensures)
 
 pub returns-in-Mark : goal.returns-in-Mark
-returns-in-Mark c = rw (c.in-Mark.is, ← c.self.view_is) (ap (λ xs. record (the_view c.self.inside) { pointers = xs }) c.set_mark.ensures)
+returns-in-Mark c =
+    rw (c.in-Mark.is, ← c.self.view_is)
+    (ap (λ xs. record (the_view c.self.inside) { pointers = xs }) c.set_mark.ensures)
 
 pub returns-in-Number : goal.returns-in-Number
 returns-in-Number c = let h = rw (c.in-Number.is, ← c.self.view_is) at c.requires in rw (c.in-Number.is, ← c.self.view_is) (ap (λ xs. record (the_view c.self.inside) { values = xs }) (sym (put_is_set 0 c.self.inside.values.items c.in-Number.f c.args.n h)))

@@ -23,11 +23,15 @@ put_value-requires c = rw (c.in-Data.is, ← c.self.view_is) at c.requires
 
 pub returns-in-Shared : goal.returns-in-Shared
 unfolding put
-returns-in-Shared c = rw (c.in-Shared.is, ← c.self.view_is) (ap (λ xs. record (the_view c.self.inside) { shared = xs }) c.set_node.ensures)
+returns-in-Shared c =
+    rw (c.in-Shared.is, ← c.self.view_is)
+    (ap (λ xs. record (the_view c.self.inside) { shared = xs }) c.set_node.ensures)
 
 pub returns-in-SharedMark : goal.returns-in-SharedMark
 unfolding put
-returns-in-SharedMark c = rw (c.in-SharedMark.is, ← c.self.view_is) (ap (λ xs. record (the_view c.self.inside) { shared = xs }) c.set_mark.ensures)
+returns-in-SharedMark c =
+    rw (c.in-SharedMark.is, ← c.self.view_is)
+    (ap (λ xs. record (the_view c.self.inside) { shared = xs }) c.set_mark.ensures)
 
 pub returns-in-Local : goal.returns-in-Local
 unfolding put with_locals locals_of

@@ -1,4 +1,4 @@
-use Rattle.std.proofs.Common.{◌≡◌, ◌++◌, ◌∷◌, [], List, Some, sym, ap, ◌∙◌, subst}
+use Rattle.std.proofs.Common.{◌≡◌, ◌++◌, ◌∷◌, [], List, sym, ap, ◌∙◌, subst}
 use Rattle.plc_mem.specs.declared.undo.Undo.{Undo}
 use Rattle.plc_mem.specs.Outcomes.{address_or_null}
 use Rattle.plc_mem.specs.Undoing.{TakesBack}

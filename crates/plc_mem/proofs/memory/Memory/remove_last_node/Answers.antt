@@ -1,5 +1,4 @@
 use Rattle.std.proofs.Common.{refl, length}
-use Rattle.plc_mem.specs.State.{State}
 use Rattle.plc_mem.specs.Undoing.{without_last_node}
 use Rattle.plc_mem.proofs.Undone.{nodes_fit_take}
 use Rattle.plc_mem.proofs.memory.Memory.remove_last_node.Goals as goal
