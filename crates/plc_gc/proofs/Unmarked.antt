@@ -115,7 +115,7 @@ unmarked_made g k = record {
   fields = λ f j. (makes g).entries (mark_field f) j ∙ k.fields f j;
 }
 
-unmarked_given : (g : GcState) (t : ℕ) (l : Option Locals)
+pub unmarked_given : (g : GcState) (t : ℕ) (l : Option Locals)
     → ((v : ℕ) → get_or (locals_or_none l).pointers v null_pointer ≡ null_pointer) → AllUnmarked g
     → AllUnmarked (with_locals g t l)
 unmarked_given g t l null k =
@@ -141,7 +141,7 @@ and_true true = refl
 and_true false = refl
 
 -- where nothing is marked a comparison is one of nodes
-unmarked_compared : (g : GcState) (t : ℕ) (p q : Var) → AllUnmarked g
+pub unmarked_compared : (g : GcState) (t : ℕ) (p q : Var) → AllUnmarked g
     → same_pointer g t p q ≡ (node_at g t p == node_at g t q)
 unmarked_compared g t p q k =
     ap (λ m. (node_at g t p == node_at g t q) && (m == mark_at g t q)) (clear_at g t p k)
@@ -154,7 +154,7 @@ unmarked_call g t true args.Null k = k
 unmarked_call g t true args.None k = k
 unmarked_call g t false r k = k
 
-unmarked_primitive : (g : GcState) (t : ℕ) (p : Primitive) → speaks_of_marks p ≡ false → AllUnmarked g
+pub unmarked_primitive : (g : GcState) (t : ℕ) (p : Primitive) → speaks_of_marks p ≡ false → AllUnmarked g
     → AllUnmarked (after g t p)
 unmarked_primitive g t (Null p) clean k = unmarked_pointer g t p 0 0 refl k
 unmarked_primitive g t (Copy p q) clean k = unmarked_pointer g t p _ _ (clear_at g t q k) k
@@ -197,7 +197,7 @@ unmarked_primitives g new t (p ∷ ps) clean e k =
 -- ---- moves and runs
 
 -- where no step of several speaks of marks, none does that is found among them
-quiet_at : (steps : List Step) → list_any (λ (s : Step). speak_of_marks s.prims) steps ≡ false → (k : ℕ) (s : Step)
+pub quiet_at : (steps : List Step) → list_any (λ (s : Step). speak_of_marks s.prims) steps ≡ false → (k : ℕ) (s : Step)
     → slice_get steps k ≡ Some s → speak_of_marks s.prims ≡ false
 quiet_at [] clean k s e = cc
 quiet_at (r ∷ steps) clean zero s e =
@@ -224,7 +224,7 @@ unmarked_move flow threads clean c d (Return t) m k =
     subst (λ (d : GcConfiguration). AllUnmarked d.state) (sym m.6) (unmarked_given c.state t None (λ v. refl) k)
 unmarked_move flow threads clean c d (Free a) m k = subst (λ (d : GcConfiguration). AllUnmarked d.state) (sym m) k
 
-unmarked_first : (flow : Flow) (threads : ℕ) → AllUnmarked (first_state flow threads)
+pub unmarked_first : (flow : Flow) (threads : ℕ) → AllUnmarked (first_state flow threads)
 unmarked_first flow threads =
     let k = first flow.file.fields (length flow.file.ghosts) (length flow.file.shared) threads in
     record {

@@ -8,17 +8,20 @@ use Rattle.plc_lang.specs.declared.syntax.Ghost.{Ghost as AuxiliaryField}
 use Rattle.plc_lang.specs.declared.syntax.Rel.{Rel}
 use Rattle.plc_lang.specs.declared.syntax.Rel.TheVariants as rels
 use Rattle.plc_lang.specs.declared.syntax.Primitive.{Primitive}
-use Rattle.plc_lang.specs.declared.syntax.Primitive.TheVariants.{Null, Copy, New, Load, Store, StoreNull, DataSet, DataLoad, DataStore, Eq, Ne, IsNull, NotNull, DataTest, Refresh, RefreshLoad, RefreshStore, Call, Done, Active, Ghost}
+use Rattle.plc_lang.specs.declared.syntax.Primitive.TheVariants.{Null, Copy, New, Load, Store, StoreNull, DataSet}
+use Rattle.plc_lang.specs.declared.syntax.Primitive.TheVariants.{DataLoad, DataStore, Eq, Ne, IsNull, NotNull, DataTest}
+use Rattle.plc_lang.specs.declared.syntax.Primitive.TheVariants.{Refresh, RefreshLoad, RefreshStore, Mark, Unmark}
+use Rattle.plc_lang.specs.declared.syntax.Primitive.TheVariants.{MarkTest, Call, Done, Active, Ghost}
 use Rattle.plc_ground.specs.declared.terms.Symbol.{Symbol}
 use Rattle.plc_symbolic.specs.declared.symbolic.NodeTerm.{NodeTerm}
 use Rattle.plc_setting.specs.declared.acts.Act.{Act}
 use Rattle.plc_setting.specs.declared.acts.Act.TheVariants.{Assign, Make, Fetch, Update, Test, Skip}
 use Rattle.plc_setting.specs.declared.setting.Variables.{Variables}
-use Rattle.plc_setting.specs.Acts.{act_of, acts_of, call_act, data_test}
+use Rattle.plc_setting.specs.Acts.{act_of, acts_of, call_act, data_test, pointers_differ}
 use Rattle.plc_setting.specs.Setting.{pointer_loads_from}
 use Rattle.plc_items.specs.declared.execution.Execution.{Execution}
 use Rattle.plc_items.specs.Execution.{act_clauses, executed_clauses, after, update_at, if_checked, not_null, version, held}
-use Rattle.plc_oblig.specs.Size.{is_pointer_load, prim_size, call_size, test_size}
+use Rattle.plc_oblig.specs.Size.{is_pointer_load, prim_size, call_size, differ_size, test_size}
 use Rattle.plc_oblig.proofs.Lengths.{tally, tallied, each_length, both}
 
 -- ---- reads of pointers
@@ -53,37 +56,44 @@ call_reads v true args.Null = refl
 call_reads v true args.None = refl
 call_reads v false a = refl
 
-reads_by : (ghosts : List AuxiliaryField) (v : Variables) (k : Primitive) → reads_pointer (act_of ghosts v k) ≡ is_pointer_load k
-reads_by ghosts v (Null p) = refl
-reads_by ghosts v (Copy p q) = refl
-reads_by ghosts v (New p) = refl
-reads_by ghosts v (Load p q f) = refl
-reads_by ghosts v (Store p f q) = refl
-reads_by ghosts v (StoreNull p f) = refl
-reads_by ghosts v (DataSet x e) = refl
-reads_by ghosts v (DataLoad x q f) = refl
-reads_by ghosts v (DataStore p f e) = refl
-reads_by ghosts v (Eq p q) = refl
-reads_by ghosts v (Ne p q) = refl
-reads_by ghosts v (IsNull p) = refl
-reads_by ghosts v (NotNull p) = refl
-reads_by ghosts v (DataTest r x e) = test_reads r _ _
-reads_by ghosts v (Refresh p q) = refl
-reads_by ghosts v (RefreshLoad p q f) = refl
-reads_by ghosts v (RefreshStore p f q) = refl
-reads_by ghosts v (Call f a) = call_reads v (is_retire f) a
-reads_by ghosts v (Done f) = refl
-reads_by ghosts v (Active p) = refl
-reads_by ghosts v (Ghost p g e) = refl
+differ_reads : (marked : Bool) (a b : Symbol) → reads_pointer (pointers_differ marked a b) ≡ false
+differ_reads true a b = refl
+differ_reads false a b = refl
 
-reads_tally : (ghosts : List AuxiliaryField) (v : Variables) (ks : List Primitive) → tally reads_pointer (acts_of ghosts v ks) ≡ tally is_pointer_load ks
-reads_tally ghosts v [] = refl
-reads_tally ghosts v (k ∷ ks) =
-    ap (λ b. cond b (1 + tally reads_pointer (acts_of ghosts v ks)) (tally reads_pointer (acts_of ghosts v ks))) (reads_by ghosts v k)
-    ∙ ap (λ n. cond (is_pointer_load k) (1 + n) n) (reads_tally ghosts v ks)
+reads_by : (marked : Bool) (ghosts : List AuxiliaryField) (v : Variables) (k : Primitive) → reads_pointer (act_of marked ghosts v k) ≡ is_pointer_load k
+reads_by marked ghosts v (Null p) = refl
+reads_by marked ghosts v (Copy p q) = refl
+reads_by marked ghosts v (New p) = refl
+reads_by marked ghosts v (Load p q f) = refl
+reads_by marked ghosts v (Store p f q) = refl
+reads_by marked ghosts v (StoreNull p f) = refl
+reads_by marked ghosts v (DataSet x e) = refl
+reads_by marked ghosts v (DataLoad x q f) = refl
+reads_by marked ghosts v (DataStore p f e) = refl
+reads_by marked ghosts v (Eq p q) = refl
+reads_by marked ghosts v (Ne p q) = differ_reads marked _ _
+reads_by marked ghosts v (IsNull p) = refl
+reads_by marked ghosts v (NotNull p) = refl
+reads_by marked ghosts v (DataTest r x e) = test_reads r _ _
+reads_by marked ghosts v (Refresh p q) = refl
+reads_by marked ghosts v (RefreshLoad p q f) = refl
+reads_by marked ghosts v (RefreshStore p f q) = refl
+reads_by marked ghosts v (Mark p q) = refl
+reads_by marked ghosts v (Unmark p q) = refl
+reads_by marked ghosts v (MarkTest p m) = refl
+reads_by marked ghosts v (Call f a) = call_reads v (is_retire f) a
+reads_by marked ghosts v (Done f) = refl
+reads_by marked ghosts v (Active p) = refl
+reads_by marked ghosts v (Ghost p g e) = refl
 
-pub loads_length : (ghosts : List AuxiliaryField) (v : Variables) (ks : List Primitive) → length (pointer_loads_from 0 (acts_of ghosts v ks)) ≡ count_by is_pointer_load ks
-loads_length ghosts v ks = acts_read 0 (acts_of ghosts v ks) ∙ reads_tally ghosts v ks ∙ tallied is_pointer_load ks
+reads_tally : (marked : Bool) (ghosts : List AuxiliaryField) (v : Variables) (ks : List Primitive) → tally reads_pointer (acts_of marked ghosts v ks) ≡ tally is_pointer_load ks
+reads_tally marked ghosts v [] = refl
+reads_tally marked ghosts v (k ∷ ks) =
+    ap (λ b. cond b (1 + tally reads_pointer (acts_of marked ghosts v ks)) (tally reads_pointer (acts_of marked ghosts v ks))) (reads_by marked ghosts v k)
+    ∙ ap (λ n. cond (is_pointer_load k) (1 + n) n) (reads_tally marked ghosts v ks)
+
+pub loads_length : (marked : Bool) (ghosts : List AuxiliaryField) (v : Variables) (ks : List Primitive) → length (pointer_loads_from 0 (acts_of marked ghosts v ks)) ≡ count_by is_pointer_load ks
+loads_length marked ghosts v ks = acts_read 0 (acts_of marked ghosts v ks) ∙ reads_tally marked ghosts v ks ∙ tallied is_pointer_load ks
 
 -- ---- clauses
 
@@ -127,34 +137,41 @@ call_size_is nodes v true args.Null = refl
 call_size_is nodes v true args.None = refl
 call_size_is nodes v false a = refl
 
-size_by : (nodes : ℕ) (ghosts : List AuxiliaryField) (v : Variables) (k : Primitive) → act_size nodes (act_of ghosts v k) ≡ prim_size nodes k
-size_by nodes ghosts v (Null p) = refl
-size_by nodes ghosts v (Copy p q) = refl
-size_by nodes ghosts v (New p) = refl
-size_by nodes ghosts v (Load p q f) = refl
-size_by nodes ghosts v (Store p f q) = refl
-size_by nodes ghosts v (StoreNull p f) = refl
-size_by nodes ghosts v (DataSet x e) = refl
-size_by nodes ghosts v (DataLoad x q f) = refl
-size_by nodes ghosts v (DataStore p f e) = refl
-size_by nodes ghosts v (Eq p q) = refl
-size_by nodes ghosts v (Ne p q) = refl
-size_by nodes ghosts v (IsNull p) = refl
-size_by nodes ghosts v (NotNull p) = refl
-size_by nodes ghosts v (DataTest r x e) = test_size_is nodes r _ _
-size_by nodes ghosts v (Refresh p q) = refl
-size_by nodes ghosts v (RefreshLoad p q f) = refl
-size_by nodes ghosts v (RefreshStore p f q) = refl
-size_by nodes ghosts v (Call f a) = call_size_is nodes v (is_retire f) a
-size_by nodes ghosts v (Done f) = refl
-size_by nodes ghosts v (Active p) = refl
-size_by nodes ghosts v (Ghost p g e) = let z : 0 + 2 * nodes ≡ 2 * nodes = omega arith in z
+differ_size_is : (nodes : ℕ) (marked : Bool) (a b : Symbol) → act_size nodes (pointers_differ marked a b) ≡ differ_size marked
+differ_size_is nodes true a b = refl
+differ_size_is nodes false a b = refl
 
-pub executed_length : (ghosts : List AuxiliaryField) (v : Variables) (ts : List NodeTerm) (x : Execution) (ks : List Primitive) →
-    length (executed_clauses ts x (acts_of ghosts v ks)) ≡ sum_by (prim_size (length ts)) ks
-executed_length ghosts v ts x [] = refl
-executed_length ghosts v ts x (k ∷ ks) =
-    both (act_clauses ts x (act_of ghosts v k)) (executed_clauses ts (after x (act_of ghosts v k)) (acts_of ghosts v ks)) (prim_size (length ts) k) (sum_by (prim_size (length ts)) ks)
-    (act_length ts x (act_of ghosts v k) ∙ size_by (length ts) ghosts v k)
-    (executed_length ghosts v ts (after x (act_of ghosts v k)) ks)
-    ∙ sym (sum_by-cons (prim_size (length ts)) k ks)
+size_by : (marked : Bool) (nodes : ℕ) (ghosts : List AuxiliaryField) (v : Variables) (k : Primitive) → act_size nodes (act_of marked ghosts v k) ≡ prim_size marked nodes k
+size_by marked nodes ghosts v (Null p) = refl
+size_by marked nodes ghosts v (Copy p q) = refl
+size_by marked nodes ghosts v (New p) = refl
+size_by marked nodes ghosts v (Load p q f) = refl
+size_by marked nodes ghosts v (Store p f q) = refl
+size_by marked nodes ghosts v (StoreNull p f) = refl
+size_by marked nodes ghosts v (DataSet x e) = refl
+size_by marked nodes ghosts v (DataLoad x q f) = refl
+size_by marked nodes ghosts v (DataStore p f e) = refl
+size_by marked nodes ghosts v (Eq p q) = refl
+size_by marked nodes ghosts v (Ne p q) = differ_size_is nodes marked _ _
+size_by marked nodes ghosts v (IsNull p) = refl
+size_by marked nodes ghosts v (NotNull p) = refl
+size_by marked nodes ghosts v (DataTest r x e) = test_size_is nodes r _ _
+size_by marked nodes ghosts v (Refresh p q) = refl
+size_by marked nodes ghosts v (RefreshLoad p q f) = refl
+size_by marked nodes ghosts v (RefreshStore p f q) = refl
+size_by marked nodes ghosts v (Mark p q) = refl
+size_by marked nodes ghosts v (Unmark p q) = refl
+size_by marked nodes ghosts v (MarkTest p m) = refl
+size_by marked nodes ghosts v (Call f a) = call_size_is nodes v (is_retire f) a
+size_by marked nodes ghosts v (Done f) = refl
+size_by marked nodes ghosts v (Active p) = refl
+size_by marked nodes ghosts v (Ghost p g e) = let z : 0 + 2 * nodes ≡ 2 * nodes = omega arith in z
+
+pub executed_length : (marked : Bool) (ghosts : List AuxiliaryField) (v : Variables) (ts : List NodeTerm) (x : Execution) (ks : List Primitive) →
+    length (executed_clauses ts x (acts_of marked ghosts v ks)) ≡ sum_by (prim_size marked (length ts)) ks
+executed_length marked ghosts v ts x [] = refl
+executed_length marked ghosts v ts x (k ∷ ks) =
+    both (act_clauses ts x (act_of marked ghosts v k)) (executed_clauses ts (after x (act_of marked ghosts v k)) (acts_of marked ghosts v ks)) (prim_size marked (length ts) k) (sum_by (prim_size marked (length ts)) ks)
+    (act_length ts x (act_of marked ghosts v k) ∙ size_by marked (length ts) ghosts v k)
+    (executed_length marked ghosts v ts (after x (act_of marked ghosts v k)) ks)
+    ∙ sym (sum_by-cons (prim_size marked (length ts)) k ks)

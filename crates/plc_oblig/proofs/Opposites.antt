@@ -34,6 +34,7 @@ use Rattle.plc_setting.specs.declared.setting.Setting.{Setting}
 use Rattle.plc_setting.specs.Fit.{Fits}
 use Rattle.plc_setting.specs.Parts.{executed, has_owner, conclusion, acting_locals, acting_premises, claim_made, step_prims}
 use Rattle.plc_setting.specs.Points.{clauses_at, count_at, stands_at}
+use Rattle.plc_setting.specs.Marks.{program_uses_marks}
 use Rattle.plc_setting.specs.Setting.{below, setting_of, bound_of, pointer_loads_from}
 use Rattle.plc_items.specs.declared.execution.Execution.{Execution}
 use Rattle.plc_items.specs.Execution.{start, after_all, executed_clauses}
@@ -232,7 +233,7 @@ module _ (flow : Flow) (outline : Outline) (o : Obligation) where
       let s = setting_of flow outline o in
       let d = drafted flow outline s o in
       let x = after_all start s.acts in
-      let stays = stays_after_all flow.file.ghosts (acting_locals flow o) start (executed flow o) quiet start_stays in
+      let stays = stays_after_all (program_uses_marks flow outline) flow.file.ghosts (acting_locals flow o) start (executed flow o) quiet start_stays in
       let at : Bool → List SymbolicLit = λ b. instance_at flow.file.ghosts b (has_owner o) c.literals (bound_nodes (length c.bound.names)) in
       let i = instance_at flow.file.ghosts false (has_owner o) c.literals (bound_nodes (length c.bound.names)) in
       let made = none_new (executed flow o) quiet in

@@ -13,7 +13,10 @@ use Rattle.plc_lang.specs.declared.syntax.Var.{Var}
 use Rattle.plc_lang.specs.declared.syntax.Var.TheVariants as vars
 use Rattle.plc_lang.specs.declared.syntax.Local.{Local}
 use Rattle.plc_lang.specs.declared.syntax.Primitive.{Primitive}
-use Rattle.plc_lang.specs.declared.syntax.Primitive.TheVariants.{Null, Copy, New, Load, Store, StoreNull, DataSet, DataLoad, DataStore, Eq, Ne, IsNull, NotNull, DataTest, Refresh, RefreshLoad, RefreshStore, Call, Done, Active, Ghost}
+use Rattle.plc_lang.specs.declared.syntax.Primitive.TheVariants.{Null, Copy, New, Load, Store, StoreNull, DataSet}
+use Rattle.plc_lang.specs.declared.syntax.Primitive.TheVariants.{DataLoad, DataStore, Eq, Ne, IsNull, NotNull, DataTest}
+use Rattle.plc_lang.specs.declared.syntax.Primitive.TheVariants.{Refresh, RefreshLoad, RefreshStore, Mark, Unmark}
+use Rattle.plc_lang.specs.declared.syntax.Primitive.TheVariants.{MarkTest, Call, Done, Active, Ghost}
 use Rattle.plc_lang.specs.Allocation.{is_new}
 use Rattle.plc_lang.specs.Numbering.{places_from}
 use Rattle.plc_lang.specs.Locals.{is_pointer, is_data}
@@ -26,7 +29,7 @@ use Rattle.plc_logic.specs.declared.clause.Literal.TheVariants as literals
 use Rattle.plc_ground.specs.declared.terms.Symbol.{Symbol}
 use Rattle.plc_ground.specs.declared.terms.Symbol.TheVariants as symbols
 use Rattle.plc_ground.specs.declared.terms.Map.{Map}
-use Rattle.plc_setting.specs.Acts.{symbol_at, pointer_symbol, data_test, call_act, act_of, acts_of}
+use Rattle.plc_setting.specs.Acts.{symbol_at, pointer_symbol, data_test, pointers_differ, call_act, act_of, acts_of}
 use Rattle.plc_setting.specs.Setting.{local_symbol, variables_of}
 use Rattle.plc_items.specs.declared.execution.Execution.{Execution}
 use Rattle.plc_items.specs.Execution.{start, current, version, map_now, after, after_all}
@@ -84,7 +87,7 @@ stays_given x p c loads own h = record {
   versions = h.versions;
 }
 
-module _ (ghosts : List AuxiliaryField) (ls : List Local) where
+module _ (marked : Bool) (ghosts : List AuxiliaryField) (ls : List Local) where
   pointer_private : (p : Var) → is_shared p ≡ false → IsPrivate (pointer_symbol (variables_of false ls) p)
   pointer_private (vars.Shared i) h = cc
   pointer_private (vars.Local k) h = mine_private (places_from is_pointer 0 ls) k
@@ -107,7 +110,11 @@ module _ (ghosts : List AuxiliaryField) (ls : List Local) where
   tested x rels.Lt a b h = h
   tested x rels.Ge a b h = h
 
-  stays_after : (x : Execution) (q : Primitive) → changes q ≡ false → Stays x → Stays (after x (act_of ghosts (variables_of false ls) q))
+  told_apart : (x : Execution) (b : Bool) (l r : Symbol) → Stays x → Stays (after x (pointers_differ b l r))
+  told_apart x true l r h = h
+  told_apart x false l r h = h
+
+  stays_after : (x : Execution) (q : Primitive) → changes q ≡ false → Stays x → Stays (after x (act_of marked ghosts (variables_of false ls) q))
   stays_after x (Null p) e h = stays_given x (pointer_symbol (variables_of false ls) p) _ _ (pointer_private p e) h
   stays_after x (Copy p q) e h = stays_given x (pointer_symbol (variables_of false ls) p) _ _ (pointer_private p e) h
   stays_after x (New p) e h = cc
@@ -118,23 +125,26 @@ module _ (ghosts : List AuxiliaryField) (ls : List Local) where
   stays_after x (DataLoad k q f) e h = stays_given x (symbol_at (variables_of false ls).values k) _ _ (value_private k) h
   stays_after x (DataStore p f n) e h = cc
   stays_after x (Eq p q) e h = h
-  stays_after x (Ne p q) e h = h
+  stays_after x (Ne p q) e h = told_apart x marked _ _ h
   stays_after x (IsNull p) e h = h
   stays_after x (NotNull p) e h = h
   stays_after x (DataTest r k n) e h = tested x r _ _ h
   stays_after x (Refresh k q) e h = stays_given x (symbol_at (variables_of false ls).pointers k) _ _ (local_private k) h
   stays_after x (RefreshLoad k q f) e h = stays_given x (symbol_at (variables_of false ls).pointers k) _ _ (local_private k) h
   stays_after x (RefreshStore p f q) e h = cc
+  stays_after x (Mark p q) e h = stays_given x (pointer_symbol (variables_of false ls) p) _ _ (pointer_private p e) h
+  stays_after x (Unmark p q) e h = stays_given x (pointer_symbol (variables_of false ls) p) _ _ (pointer_private p e) h
+  stays_after x (MarkTest p m) e h = h
   stays_after x (Call f a) e h = called x (is_retire f) a e h
   stays_after x (Done f) e h = h
   stays_after x (Active p) e h = h
   stays_after x (Ghost p g v) e h = cc
 
-  pub stays_after_all : (x : Execution) (qs : List Primitive) → list_any changes qs ≡ false → Stays x → Stays (after_all x (acts_of ghosts (variables_of false ls) qs))
+  pub stays_after_all : (x : Execution) (qs : List Primitive) → list_any changes qs ≡ false → Stays x → Stays (after_all x (acts_of marked ghosts (variables_of false ls) qs))
   stays_after_all x [] e h = h
   stays_after_all x (q ∷ qs) e h =
       let n = neither (changes q) (list_any changes qs) e in
-      stays_after_all (after x (act_of ghosts (variables_of false ls) q)) qs n.1 (stays_after x q n.0 h)
+      stays_after_all (after x (act_of marked ghosts (variables_of false ls) q)) qs n.1 (stays_after x q n.0 h)
 
 -- nothing is made
 new_changes : (q : Primitive) → changes q ≡ false → is_new q ≡ false
@@ -155,6 +165,9 @@ new_changes (DataTest r k n) e = refl
 new_changes (Refresh k q) e = refl
 new_changes (RefreshLoad k q f) e = refl
 new_changes (RefreshStore p f q) e = refl
+new_changes (Mark p q) e = refl
+new_changes (Unmark p q) e = refl
+new_changes (MarkTest p m) e = refl
 new_changes (Call f a) e = refl
 new_changes (Done f) e = refl
 new_changes (Active p) e = refl

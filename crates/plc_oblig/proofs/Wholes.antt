@@ -22,6 +22,7 @@ use Rattle.plc_setting.specs.declared.setting.Setting.{Setting}
 use Rattle.plc_setting.specs.Parts.{conclusion, claim_made, acting_locals, owner_locals, executed, acting_premises, owner_premises, invariants_before}
 use Rattle.plc_setting.specs.Parts.{clauses_of as point_clauses}
 use Rattle.plc_base.specs.declared.ids.PointId.{PointId}
+use Rattle.plc_setting.specs.Marks.{program_uses_marks}
 use Rattle.plc_setting.specs.Setting.{nodes_of, targets_of, if_deep, if_made, node_constants, plain_constants, pointer_loads_from, setting_of, bound_of, below}
 use Rattle.plc_items.specs.declared.execution.Execution.{Execution}
 use Rattle.plc_items.specs.Execution.{start, after_all, executed_clauses}
@@ -133,7 +134,7 @@ setting_sizes flow outline o z theirs loads plain constants mine_is theirs_is po
     fields = fields_is ∙ sym (fields_length flow.file.fields)
 
     loaded : loads ≡ length ls
-    loaded = loads_is ∙ sym (loads_length flow.file.ghosts s.mine (executed flow o))
+    loaded = loads_is ∙ sym (loads_length (program_uses_marks flow outline) flow.file.ghosts s.mine (executed flow o))
 
     plain_so : plain ≡ length (plain_constants s.pointers s.bound ls)
     plain_so =

@@ -10,9 +10,10 @@ use Rattle.plc_lang.specs.declared.syntax.Ghost.{Ghost as AuxiliaryField}
 use Rattle.plc_lang.specs.declared.syntax.Rel.{Rel}
 use Rattle.plc_lang.specs.declared.syntax.Rel.TheVariants as rels
 use Rattle.plc_lang.specs.declared.syntax.Primitive.{Primitive}
-use Rattle.plc_lang.specs.declared.syntax.Primitive.TheVariants.{Load, Store, StoreNull, DataLoad, DataStore, Eq, Ne}
-use Rattle.plc_lang.specs.declared.syntax.Primitive.TheVariants.{IsNull, NotNull, DataTest, RefreshLoad, RefreshStore}
-use Rattle.plc_lang.specs.declared.syntax.Primitive.TheVariants.{Call, Ghost}
+use Rattle.plc_lang.specs.declared.syntax.Primitive.TheVariants.{Null, Copy, New, Load, Store, StoreNull, DataSet}
+use Rattle.plc_lang.specs.declared.syntax.Primitive.TheVariants.{DataLoad, DataStore, Eq, Ne, IsNull, NotNull, DataTest}
+use Rattle.plc_lang.specs.declared.syntax.Primitive.TheVariants.{Refresh, RefreshLoad, RefreshStore, Mark, Unmark}
+use Rattle.plc_lang.specs.declared.syntax.Primitive.TheVariants.{MarkTest, Call, Done, Active, Ghost}
 use Rattle.plc_flow.specs.WellFormed.{most_step_primitives}
 use Rattle.plc_logic.specs.declared.clause.Clause.{Clause}
 use Rattle.plc_setting.specs.declared.setting.Setting.{Setting}
@@ -24,9 +25,30 @@ has_values g = not (length g.values == 0)
 
 -- a primitive that reads a node from a field
 abbrev pub is_pointer_load : Primitive → Bool
+is_pointer_load (Null p) = false
+is_pointer_load (Copy p q) = false
+is_pointer_load (New p) = false
 is_pointer_load (Load p q f) = true
+is_pointer_load (Store p f q) = false
+is_pointer_load (StoreNull p f) = false
+is_pointer_load (DataSet x e) = false
+is_pointer_load (DataLoad x q f) = false
+is_pointer_load (DataStore p f e) = false
+is_pointer_load (Eq p q) = false
+is_pointer_load (Ne p q) = false
+is_pointer_load (IsNull p) = false
+is_pointer_load (NotNull p) = false
+is_pointer_load (DataTest r x e) = false
+is_pointer_load (Refresh p q) = false
 is_pointer_load (RefreshLoad p q f) = true
-is_pointer_load k = false
+is_pointer_load (RefreshStore p f q) = false
+is_pointer_load (Mark p q) = false
+is_pointer_load (Unmark p q) = false
+is_pointer_load (MarkTest p m) = false
+is_pointer_load (Call f a) = false
+is_pointer_load (Done f) = false
+is_pointer_load (Active p) = false
+is_pointer_load (Ghost p g e) = false
 
 -- ---- what a set rests on
 
@@ -81,23 +103,37 @@ call_size nodes true args.Null = 0
 call_size nodes true args.None = 0
 call_size nodes false a = 0
 
--- of a primitive, where there are so many nodes
-abbrev pub prim_size : ℕ → Primitive → ℕ
-prim_size nodes (Load p q f) = 2
-prim_size nodes (DataLoad x q f) = 2
-prim_size nodes (RefreshLoad p q f) = 2
-prim_size nodes (Store p f q) = 1 + 2 * nodes
-prim_size nodes (StoreNull p f) = 1 + 2 * nodes
-prim_size nodes (DataStore p f e) = 1 + 2 * nodes
-prim_size nodes (RefreshStore p f q) = 1 + 2 * nodes
-prim_size nodes (Eq p q) = 1
-prim_size nodes (Ne p q) = 1
-prim_size nodes (IsNull p) = 1
-prim_size nodes (NotNull p) = 1
-prim_size nodes (DataTest r x e) = test_size r
-prim_size nodes (Call f a) = call_size nodes (is_retire f) a
-prim_size nodes (Ghost p g e) = 2 * nodes
-prim_size nodes k = 0
+-- of a test that two pointers differ: none where marks are used
+abbrev pub differ_size : Bool → ℕ
+differ_size true = 0
+differ_size false = 1
+
+-- of a primitive, where it is known whether marks are used and how many nodes there are
+abbrev pub prim_size : Bool → ℕ → Primitive → ℕ
+prim_size marked nodes (Null p) = 0
+prim_size marked nodes (Copy p q) = 0
+prim_size marked nodes (New p) = 0
+prim_size marked nodes (Load p q f) = 2
+prim_size marked nodes (Store p f q) = 1 + 2 * nodes
+prim_size marked nodes (StoreNull p f) = 1 + 2 * nodes
+prim_size marked nodes (DataSet x e) = 0
+prim_size marked nodes (DataLoad x q f) = 2
+prim_size marked nodes (DataStore p f e) = 1 + 2 * nodes
+prim_size marked nodes (Eq p q) = 1
+prim_size marked nodes (Ne p q) = differ_size marked
+prim_size marked nodes (IsNull p) = 1
+prim_size marked nodes (NotNull p) = 1
+prim_size marked nodes (DataTest r x e) = test_size r
+prim_size marked nodes (Refresh p q) = 0
+prim_size marked nodes (RefreshLoad p q f) = 2
+prim_size marked nodes (RefreshStore p f q) = 1 + 2 * nodes
+prim_size marked nodes (Mark p q) = 0
+prim_size marked nodes (Unmark p q) = 0
+prim_size marked nodes (MarkTest p m) = 0
+prim_size marked nodes (Call f a) = call_size nodes (is_retire f) a
+prim_size marked nodes (Done f) = 0
+prim_size marked nodes (Active p) = 0
+prim_size marked nodes (Ghost p g e) = 2 * nodes
 
 -- no primitive gives more
 abbrev pub most_of_primitive : ℕ

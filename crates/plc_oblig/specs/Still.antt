@@ -8,7 +8,7 @@ use Rattle.plc_lang.specs.declared.syntax.Primitive.{Primitive}
 use Rattle.plc_lang.specs.declared.syntax.Primitive.TheVariants.{Null, Copy, New, Load, Store, StoreNull, DataSet}
 use Rattle.plc_lang.specs.declared.syntax.Primitive.TheVariants.{DataLoad, DataStore, Eq, Ne, IsNull, NotNull, DataTest}
 use Rattle.plc_lang.specs.declared.syntax.Primitive.TheVariants.{Refresh, RefreshLoad, RefreshStore, Call, Done, Active}
-use Rattle.plc_lang.specs.declared.syntax.Primitive.TheVariants.{Ghost}
+use Rattle.plc_lang.specs.declared.syntax.Primitive.TheVariants.{Ghost, Mark, Unmark, MarkTest}
 use Rattle.plc_flow.specs.declared.flow.Flow.{Flow}
 use Rattle.plc_logic.specs.declared.clause.Outline.{Outline}
 use Rattle.plc_setting.specs.declared.obligations.Obligation.{Obligation}
@@ -23,7 +23,7 @@ abbrev pub is_shared : Var → Bool
 is_shared (vars.Shared i) = true
 is_shared (vars.Local k) = false
 
--- the primitive makes a node, writes a field or an auxiliary field, retires, or gives a shared pointer a value
+-- the primitive makes a node, writes a field or an auxiliary field, retires, or gives a shared pointer a value or mark
 abbrev pub changes : Primitive → Bool
 changes (Null p) = is_shared p
 changes (Copy p q) = is_shared p
@@ -42,6 +42,9 @@ changes (DataTest r x e) = false
 changes (Refresh p q) = false
 changes (RefreshLoad p q f) = false
 changes (RefreshStore p f q) = true
+changes (Mark p q) = is_shared p
+changes (Unmark p q) = is_shared p
+changes (MarkTest p m) = false
 changes (Call f a) = is_retire f
 changes (Done f) = false
 changes (Active p) = false

@@ -9,6 +9,7 @@ ghost use Rattle.plc_symbolic.specs.declared.symbolic.SymbolicTerm.TheVariants.{
 ghost use Rattle.plc_symbolic.specs.Numbering.{blank, listed_all};
 ghost use Rattle.plc_symbolic.specs.Terms.{term_of};
 ghost use Rattle.plc_setting.specs.Fit.{Fits};
+ghost use Rattle.plc_setting.specs.Marks.{program_uses_marks};
 ghost use Rattle.plc_setting.specs.Sorts.{sort_of};
 ghost use Rattle.plc_setting.specs.Setting.{setting_of};
 ghost use Rattle.plc_oblig.specs.GroundSets.{drafted, ground_set};
@@ -18,7 +19,9 @@ use plc_flow::Flow;
 use plc_ground::{GroundSet, Sort, Symbol};
 use plc_items::{Subject, push_items};
 use plc_logic::Outline;
-use plc_setting::{Act, Obligation, Setting, constants_of, setting_of, sort_of};
+use plc_setting::{
+    Act, Obligation, Setting, constants_of, program_uses_marks, setting_of, sort_of,
+};
 use plc_symbolic::{Draft, NodeTerm, SymbolicTerm, term_of};
 use std::alloc::Global;
 
@@ -133,18 +136,21 @@ impl Grounding {
         }
     }
 
-    /// The ground set of an obligation, as [`ground`] makes it.
+    /// The ground set of an obligation, as [`ground`] makes it. Whether marks are used is asked once for all of them,
+    /// by [`program_uses_marks`].
     pub fn ground(
         &mut self,
+        marked: bool,
         flow: &Flow,
         outline: &Outline,
         o: &Obligation,
     ) -> Result<GroundSet, NoMemory>
-        requires { Fits flow.now outline.now }
+        requires fits { Fits flow.now outline.now }
+        requires marked { marked ≡ program_uses_marks flow.now outline.now }
         ensures well { IfOk result (λ set. IsWellFormed set) }
         ensures set { IfOk result (λ set. set ≡ ground_set flow.now outline.now o.now) }
     {
-        let s = setting_of(self.alloc, flow, outline, o)?;
+        let s = setting_of(self.alloc, marked, flow, outline, o)?;
         let set = assemble(self.alloc, flow, outline, &s, o, &mut self.draft);
         drop(s);
         set
@@ -168,5 +174,5 @@ pub fn ground(
     ensures set { IfOk result (λ set. set ≡ ground_set flow.now outline.now o.now) }
     ensures well { IfOk result (λ set. IsWellFormed set) }
 {
-    Grounding::new(alloc).ground(flow, outline, o)
+    Grounding::new(alloc).ground(program_uses_marks(flow, outline), flow, outline, o)
 }

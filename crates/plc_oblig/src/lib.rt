@@ -24,7 +24,7 @@ pub use counting::count;
 pub use excess::has_large_set;
 pub use finding::nth;
 pub use grounding::{Grounding, ground};
-pub use plc_setting::Obligation;
+pub use plc_setting::{Obligation, program_uses_marks};
 pub use size::clauses;
 pub use stillness::{still, still_obligations_are_kept};
 pub use trees::direct;

@@ -8,6 +8,7 @@ ghost use Rattle.plc_lang.specs.Fields.{is_pointer_field};
 ghost use Rattle.plc_lang.specs.Fit.{FileFits};
 ghost use Rattle.plc_flow.specs.WellFormed.{most_step_primitives};
 ghost use Rattle.plc_setting.specs.Fit.{Fits};
+ghost use Rattle.plc_setting.specs.Marks.{program_uses_marks};
 ghost use Rattle.plc_setting.specs.Points.{clauses_at};
 ghost use Rattle.plc_setting.specs.Parts.{acting_locals, owner_locals, executed, conclusion, claim_made, clauses_of};
 ghost use Rattle.plc_setting.specs.Setting.{setting_of, bound_of};
@@ -16,7 +17,7 @@ ghost use Rattle.plc_symbolic.specs.declared.symbolic.NodeTerm.{NodeTerm};
 ghost use Rattle.plc_items.specs.declared.execution.Execution.{Execution};
 ghost use Rattle.plc_items.specs.Items.{values_from, beginning, freshness, denied};
 ghost use Rattle.plc_oblig.specs.GroundSets.{ground_set};
-ghost use Rattle.plc_oblig.specs.Size.{has_values, is_pointer_load, prim_size, clause_size};
+ghost use Rattle.plc_oblig.specs.Size.{has_values, is_pointer_load, differ_size, prim_size, clause_size};
 ghost use Rattle.plc_oblig.specs.Size.{AreSizesOf, AreFew, most_constants, most_pointers, most_deep_nodes, most_nodes};
 ghost use Rattle.plc_oblig.specs.Size.{most_of_primitive, most_instances};
 
@@ -26,7 +27,7 @@ use plc_lang::{Arg, Field, File, Ghost, Local, Prim, Rel, has_new};
 use plc_logic::{Clause, Outline};
 use plc_setting::{
     Obligation, acting_locals, acting_point, bound_of, claim_made, conclusion, executed,
-    invariants_before, is_labelled, owner_locals, owner_point, stands_at,
+    invariants_before, is_labelled, owner_locals, owner_point, program_uses_marks, stands_at,
 };
 
 /// How many there are of what a set rests on.
@@ -88,17 +89,25 @@ fn count_pointer_loads(prims: &[Prim]) -> u64
     total
 }
 
+/// How many clauses say that two pointers differ: where marks are used, none.
+fn differ_size(marked: bool) -> u64
+    ensures { result ≡ differ_size marked }
+{
+    if marked { 0 } else { 1 }
+}
+
 /// How many clauses a primitive gives, where there are so many nodes.
-fn prim_size(nodes: u64, prim: &Prim) -> u64
+fn prim_size(marked: bool, nodes: u64, prim: &Prim) -> u64
     requires { nodes ≤ most_nodes }
-    ensures size { result ≡ prim_size nodes prim.now }
+    ensures size { result ≡ prim_size marked nodes prim.now }
     ensures few { result ≤ most_of_primitive }
 {
     match *prim {
         Prim::Load { .. } | Prim::DataLoad { .. } | Prim::RefreshLoad { .. } => 2,
         Prim::Store { .. } | Prim::StoreNull { .. } => 1 + 2 * nodes,
         Prim::DataStore { .. } | Prim::RefreshStore { .. } => 1 + 2 * nodes,
-        Prim::Eq { .. } | Prim::Ne { .. } | Prim::IsNull { .. } | Prim::NotNull { .. } => 1,
+        Prim::Eq { .. } | Prim::IsNull { .. } | Prim::NotNull { .. } => 1,
+        Prim::Ne { .. } => differ_size(marked),
         Prim::DataTest { rel: Rel::Eq, .. } | Prim::DataTest { rel: Rel::Ne, .. } => 1,
         Prim::Call {
             func,
@@ -294,15 +303,15 @@ fn point_size(places: u64, flow: &Flow, outline: &Outline, p: u16) -> u64
 }
 
 /// How many clauses say what is executed, where there are so many nodes.
-fn executed_size(nodes: u64, prims: &[Prim]) -> u64
+fn executed_size(marked: bool, nodes: u64, prims: &[Prim]) -> u64
     requires few { nodes ≤ most_nodes }
     requires short { length prims.now ≤ most_step_primitives }
-    ensures size { result ≡ sum_by (prim_size nodes) prims.now }
+    ensures size { result ≡ sum_by (prim_size marked nodes) prims.now }
     ensures small { result ≤ length prims.now * most_of_primitive }
 {
     let mut total = 0;
     for prim in prims {
-        total += prim_size(nodes, prim);
+        total += prim_size(marked, nodes, prim);
     }
     total
 }
@@ -335,9 +344,10 @@ pub(crate) fn denied_size(flow: &Flow, outline: &Outline, o: &Obligation) -> u64
     }
 }
 
-/// How many clauses the ground set of an obligation has, from 0 to a few thousand millions. It takes no memory.
-pub fn clauses(flow: &Flow, outline: &Outline, o: &Obligation) -> u64
-    requires { Fits flow.now outline.now }
+/// How many clauses the ground set of an obligation has, where it is known whether marks are used.
+pub(crate) fn counted_clauses(marked: bool, flow: &Flow, outline: &Outline, o: &Obligation) -> u64
+    requires fits { Fits flow.now outline.now }
+    requires marked { marked ≡ program_uses_marks flow.now outline.now }
     ensures { result ≡ length (ground_set flow.now outline.now o.now).clauses }
 {
     let z = sizes_of(flow, outline, o);
@@ -347,6 +357,14 @@ pub fn clauses(flow: &Flow, outline: &Outline, o: &Obligation) -> u64
         + premises_size(z.instances, invariants_before(outline, o))
         + standing_size(z.instances, flow, outline, acting_point(flow, o))
         + standing_size(z.instances, flow, outline, owner_point(o))
-        + executed_size(z.nodes, executed(flow, o))
+        + executed_size(marked, z.nodes, executed(flow, o))
         + denied_size(flow, outline, o)
+}
+
+/// How many clauses the ground set of an obligation has, from 0 to a few thousand millions. It takes no memory.
+pub fn clauses(flow: &Flow, outline: &Outline, o: &Obligation) -> u64
+    requires { Fits flow.now outline.now }
+    ensures { result ≡ length (ground_set flow.now outline.now o.now).clauses }
+{
+    counted_clauses(program_uses_marks(flow, outline), flow, outline, o)
 }

@@ -18,7 +18,7 @@ fn is_shared(p: Var) -> bool
 }
 
 /// Whether the primitive makes a node, writes a field or an auxiliary field, retires, or gives a shared
-/// pointer a value.
+/// pointer a value or a mark.
 fn changes(prim: &Prim) -> bool
     ensures { result ≡ changes prim.now }
 {
@@ -26,6 +26,8 @@ fn changes(prim: &Prim) -> bool
         Prim::Null { p } => is_shared(p),
         Prim::Copy { p, .. } => is_shared(p),
         Prim::Load { p, .. } => is_shared(p),
+        Prim::Mark { p, .. } => is_shared(p),
+        Prim::Unmark { p, .. } => is_shared(p),
         Prim::New { .. } => true,
         Prim::Store { .. } => true,
         Prim::StoreNull { .. } => true,

@@ -1,6 +1,7 @@
 // The tree of an obligation, where it is still.
 ghost use Rattle.std.specs.Prelude.{◌≡◌, true, is_some, IfOk, IfSome, Contains};
 ghost use Rattle.plc_setting.specs.Fit.{Fits};
+ghost use Rattle.plc_setting.specs.Marks.{program_uses_marks};
 ghost use Rattle.plc_oblig.specs.Obligations.{obligations};
 ghost use Rattle.plc_oblig.specs.Still.{is_still};
 ghost use Rattle.plc_oblig.specs.Direct.{IsDirectTree};
@@ -13,23 +14,25 @@ use plc_base::NoMemory;
 use plc_flow::Flow;
 use plc_ground::Tree;
 use plc_logic::Outline;
-use plc_setting::Obligation;
+use plc_setting::{Obligation, program_uses_marks};
 use std::alloc::Global;
 
 impl Grounding {
     /// The tree of a still obligation.
     fn tree_of_still(
         &mut self,
+        marked: bool,
         flow: &Flow,
         outline: &Outline,
         o: &Obligation,
     ) -> Result<Tree, NoMemory>
         requires fits { Fits flow.now outline.now }
+        requires marked { marked ≡ program_uses_marks flow.now outline.now }
         requires there { Contains (obligations flow.now outline.now) o.now }
         requires still { is_still flow.now outline.now o.now ≡ true }
         ensures { IfOk result (λ tree. IsDirectTree flow.now outline.now o.now tree.nodes) }
     {
-        let set = self.ground(flow, outline, o)?;
+        let set = self.ground(marked, flow, outline, o)?;
         let count = denied_size(flow, outline, o) as usize;
         match find_refuted(&set, count) {
             None => unreachable!(),
@@ -44,19 +47,21 @@ impl Grounding {
     /// The tree of an obligation, as [`direct`] makes it.
     pub fn direct(
         &mut self,
+        marked: bool,
         flow: &Flow,
         outline: &Outline,
         o: &Obligation,
     ) -> Result<Option<Tree>, NoMemory>
         requires there { Contains (obligations flow.now outline.now) o.now }
         requires fits { Fits flow.now outline.now }
+        requires marked { marked ≡ program_uses_marks flow.now outline.now }
         ensures still { IfOk result (λ tree. is_some tree ≡ is_still flow.now outline.now o.now) }
         ensures tree { IfOk result (λ tree. IfSome tree (λ t. IsDirectTree flow.now outline.now o.now t.nodes)) }
     {
         if !still(flow, outline, o) {
             return Ok(None);
         }
-        let tree = self.tree_of_still(flow, outline, o)?;
+        let tree = self.tree_of_still(marked, flow, outline, o)?;
         Ok(Some(tree))
     }
 }
@@ -77,5 +82,5 @@ pub fn direct(
     ensures still { IfOk result (λ tree. is_some tree ≡ is_still flow.now outline.now o.now) }
     ensures tree { IfOk result (λ tree. IfSome tree (λ t. IsDirectTree flow.now outline.now o.now t.nodes)) }
 {
-    Grounding::new(alloc).direct(flow, outline, o)
+    Grounding::new(alloc).direct(program_uses_marks(flow, outline), flow, outline, o)
 }

@@ -7,7 +7,7 @@ use Rattle.plc_oblig.specs.Size.{clause_size, prim_size}
 use Rattle.plc_oblig.proofs.Bounds.{short_before}
 use Rattle.plc_oblig.proofs.Executed.{executed_length}
 use Rattle.plc_oblig.proofs.Wholes.{whole_length, set_length}
-use Rattle.plc_oblig.proofs.size.clauses.Goals as goal
+use Rattle.plc_oblig.proofs.size.counted_clauses.Goals as goal
 use Rattle.plc_setting.proofs.Fitting.{executed_short}
 
 pub overflow_add-result : goal.overflow_add-result
@@ -20,35 +20,35 @@ overflow_add-result-2 c =
 
 pub overflow_add-result-3 : goal.overflow_add-result-3
 overflow_add-result-3 c =
-    let before = short_before c.args.outline.now c.args.o.now c.requires.outline_fits.invariants in
+    let before = short_before c.args.outline.now c.args.o.now c.requires.fits.outline_fits.invariants in
     let same = ap length c.invariants_before.ensures in
     omega (arith, c.values_size.ensures.small, c.beginning_size.ensures.small, c.freshness_size.ensures.small, c.premises_size.ensures.small, before, same)
 
 pub overflow_add-result-4 : goal.overflow_add-result-4
 overflow_add-result-4 c =
-    let before = short_before c.args.outline.now c.args.o.now c.requires.outline_fits.invariants in
+    let before = short_before c.args.outline.now c.args.o.now c.requires.fits.outline_fits.invariants in
     let same = ap length c.invariants_before.ensures in
     omega (arith, c.values_size.ensures.small, c.beginning_size.ensures.small, c.freshness_size.ensures.small, c.premises_size.ensures.small, c.standing_size.ensures.small, before, same)
 
 pub overflow_add-result-5 : goal.overflow_add-result-5
 overflow_add-result-5 c =
-    let before = short_before c.args.outline.now c.args.o.now c.requires.outline_fits.invariants in
+    let before = short_before c.args.outline.now c.args.o.now c.requires.fits.outline_fits.invariants in
     let same = ap length c.invariants_before.ensures in
     omega (arith, c.values_size.ensures.small, c.beginning_size.ensures.small, c.freshness_size.ensures.small, c.premises_size.ensures.small, c.standing_size.ensures.small, c.standing_size-2.ensures.small, before, same)
 
 pub overflow_add-result-6 : goal.overflow_add-result-6
 overflow_add-result-6 c =
-    let before = short_before c.args.outline.now c.args.o.now c.requires.outline_fits.invariants in
+    let before = short_before c.args.outline.now c.args.o.now c.requires.fits.outline_fits.invariants in
     let same = ap length c.invariants_before.ensures in
-    let run = executed_short c.args.flow.now c.args.outline.now c.args.o.now c.requires in
+    let run = executed_short c.args.flow.now c.args.outline.now c.args.o.now c.requires.fits in
     let same_run = ap length c.executed.ensures in
     omega (arith, c.values_size.ensures.small, c.beginning_size.ensures.small, c.freshness_size.ensures.small, c.premises_size.ensures.small, c.standing_size.ensures.small, c.standing_size-2.ensures.small, c.executed_size.ensures.small, before, same, run, same_run)
 
 pub overflow_add-result-7 : goal.overflow_add-result-7
 overflow_add-result-7 c =
-    let before = short_before c.args.outline.now c.args.o.now c.requires.outline_fits.invariants in
+    let before = short_before c.args.outline.now c.args.o.now c.requires.fits.outline_fits.invariants in
     let same = ap length c.invariants_before.ensures in
-    let run = executed_short c.args.flow.now c.args.outline.now c.args.o.now c.requires in
+    let run = executed_short c.args.flow.now c.args.outline.now c.args.o.now c.requires.fits in
     let same_run = ap length c.executed.ensures in
     omega (arith, c.values_size.ensures.small, c.beginning_size.ensures.small, c.freshness_size.ensures.small, c.premises_size.ensures.small, c.standing_size.ensures.small, c.standing_size-2.ensures.small, c.executed_size.ensures.small, c.denied_size.ensures.small, before, same, run, same_run)
 
@@ -65,8 +65,9 @@ returns c =
     (c.beginning_size.ensures.size s z) (c.freshness_size.ensures.size s z)
     (c.premises_size.ensures.size ∙ ap (sum_by (clause_size c.sizes_of-z.result.instances)) c.invariants_before.ensures)
     c.standing_size.ensures.size c.standing_size-2.ensures.size
-    (c.executed_size.ensures.size ∙ ap (sum_by (prim_size c.sizes_of-z.result.nodes)) c.executed.ensures
-    ∙ ap (λ n. sum_by (prim_size n) (executed_of flow o)) z.nodes
-    ∙ sym (executed_length flow.file.ghosts s.mine s.nodes start (executed_of flow o)))
+    (c.executed_size.ensures.size ∙ ap (sum_by (prim_size c.args.marked c.sizes_of-z.result.nodes)) c.executed.ensures
+    ∙ ap (λ n. sum_by (prim_size c.args.marked n) (executed_of flow o)) z.nodes
+    ∙ ap (λ b. sum_by (prim_size b (length s.nodes)) (executed_of flow o)) c.requires.marked
+    ∙ sym (executed_length s.marked flow.file.ghosts s.mine s.nodes start (executed_of flow o)))
     (c.denied_size.ensures.size s (after_all start s.acts))
     ∙ set_length flow outline o
