@@ -1,7 +1,7 @@
 // Whether the ground set of any obligation has more clauses than it may. Who reads a file asks this before anything
-// else, so no set is made, and no memory is taken: no list of obligations is gone over, but the operations, steps, points
-// and primitives that they are made of. The clauses of other threads are gone over point by point and not step by step, so
-// that what stands at a point is counted once for all steps.
+// else, so no set is made, and no memory is taken: no list of obligations is gone over, but the operations, steps,
+// points and primitives that they are made of. The clauses of other threads are gone over point by point and not step
+// by step, so that what stands at a point is counted once for all steps.
 ghost use Rattle.std.specs.Prelude.{◌≡◌, ◌≤◌, ◌||◌, ◌++◌, MatchBool, length, map};
 ghost use Rattle.std.specs.List.{list_any};
 ghost use Rattle.plc_flow.specs.WellFormed.{most_step_primitives};

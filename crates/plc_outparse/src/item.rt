@@ -1,17 +1,16 @@
 // The items of an outline, each with those before it. The limit's place is the first token of the item
 // past it.
-ghost use Rattle.std.specs.Prelude.{◌≡◌, ◌+◌, ◌<◌, IfOk};
-ghost use Rattle.plc_base.specs.Limits.{most};
-ghost use Rattle.plc_base.specs.declared.limits.What1.TheVariants as limits;
+ghost use Rattle.std.specs.Prelude.{◌≡◌, ◌+◌, ◌<◌, true, IfOk};
+ghost use Rattle.plc_lang.specs.Locals.{locals_of};
 ghost use Rattle.plc_scope.specs.Answers.{Gives, Within};
 ghost use Rattle.plc_outparse.specs.Context.{IsWithinLimits};
 ghost use Rattle.plc_outparse.specs.Forms.{head_size};
-ghost use Rattle.plc_outparse.specs.Reading.{invariant_in, over_in, at_in, item_in, items_in};
-ghost use Rattle.plc_outparse.specs.Views.{head_tree, parts_at, parts_with, kinds_left};
+ghost use Rattle.plc_outparse.specs.Reading.{clause_line_in, invariant_in, item_in, items_in};
+ghost use Rattle.plc_outparse.specs.Views.{head_tree, parts_at, parts_with, read_with, kinds_left};
 
 use crate::clause::read_clause_line;
 use crate::context::Context;
-use crate::form::Head;
+use crate::form::{Head, Parsed};
 use crate::item_form::head_at;
 use crate::site::{few_locals_of, op_at, read_labels};
 use plc_base::{Items, OpId, What1};
@@ -49,64 +48,25 @@ fn read_invariant<'a>(
     Ok(rest)
 }
 
-/// An item over an operation, whose word stands at the place, from after its colon.
-#[tactic(auto, unfolding(crate::specs::Reading::over_in))]
-fn read_over<'a>(
+/// The clause of an item whose site stands in the operation.
+fn read_clause_in<'a>(
     alloc: Global,
     context: &Context,
-    parts: &mut Parts,
-    at: u32,
-    name: &[u8],
+    op: usize,
     start: Rest<'a>,
-) -> Result<Rest<'a>, ParseFault>
+) -> Parsed<'a, Clause>
     requires limits { IsWithinLimits context.now }
-    requires head { start.at ≡ at + 3 }
-    ensures read { Gives (parts_with parts.new) result
-        (over_in context.now.scope.now context.now.ops.now (parts_at parts.old at) name.now
+    ensures read { Gives (λ r. read_with r.0 r.1) result
+        (clause_line_in context.now.scope.now (locals_of context.now.ops.now op) true start.entry.at
         (kinds_left start.entry)) }
-    ensures place { IfOk result (λ r. Within start.entry r) }
+    ensures place { IfOk result (λ r. Within start.entry r.1) }
 {
-    if parts.items.len() == What1::Items.most() as usize {
-        return Err(ParseFault::past(What1::Items));
-    }
-    let op = op_at(context, name, at + 1)?;
-    let locals = few_locals_of(context, op as usize);
-    let (clause, rest) = read_clause_line(alloc, context.scope, locals, true, start)?;
-    let site = Site::Over(OpId(op));
-    parts.items.push(Item { site, clause })?;
-    Ok(rest)
-}
-
-/// An item at labels, whose word stands at the place, from after the name of the first label.
-#[tactic(auto, unfolding(crate::specs::Reading::at_in))]
-fn read_at<'a>(
-    alloc: Global,
-    context: &Context,
-    parts: &mut Parts,
-    at: u32,
-    name: &[u8],
-    start: Rest<'a>,
-) -> Result<Rest<'a>, ParseFault>
-    requires limits { IsWithinLimits context.now }
-    requires head { start.at ≡ at + 2 }
-    ensures read { Gives (parts_with parts.new) result
-        (at_in context.now.scope.now context.now.ops.now context.now.by_op.now (parts_at parts.old at)
-        name.now (kinds_left start.entry)) }
-    ensures place { IfOk result (λ r. Within start.entry r) }
-{
-    if parts.items.len() == What1::Items.most() as usize {
-        return Err(ParseFault::past(What1::Items));
-    }
-    let (labels, op, rest) = read_labels(alloc, context, at + 1, name, start)?;
     let locals = few_locals_of(context, op);
-    let (clause, rest) = read_clause_line(alloc, context.scope, locals, true, rest)?;
-    let site = Site::At(labels);
-    parts.items.push(Item { site, clause })?;
-    Ok(rest)
+    read_clause_line(alloc, context.scope, locals, true, start)
 }
 
 /// An item, from after how it begins, which stands at the place.
-#[tactic(auto, unfolding(crate::specs::Reading::item_in))]
+#[tactic(auto, unfolding(crate::specs::Reading::item_in, crate::specs::Reading::over_in, crate::specs::Reading::at_in))]
 fn read_item<'a>(
     alloc: Global,
     context: &Context,
@@ -122,10 +82,24 @@ fn read_item<'a>(
         (head_tree head.entry) (kinds_left start.entry)) }
     ensures place { IfOk result (λ r. Within start.entry r) }
 {
+    let is_full = parts.items.len() == What1::Items.most() as usize;
     match head {
         Head::Invariant => read_invariant(alloc, context.scope, parts, at, start),
-        Head::Over(name) => read_over(alloc, context, parts, at, name, start),
-        Head::At(name) => read_at(alloc, context, parts, at, name, start),
+        Head::Over(_) | Head::At(_) if is_full => Err(ParseFault::past(What1::Items)),
+        Head::Over(name) => {
+            let op = op_at(context, name, at + 1)?;
+            let (clause, rest) = read_clause_in(alloc, context, op as usize, start)?;
+            let site = Site::Over(OpId(op));
+            parts.items.push(Item { site, clause })?;
+            Ok(rest)
+        }
+        Head::At(name) => {
+            let (labels, op, rest) = read_labels(alloc, context, at + 1, name, start)?;
+            let (clause, rest) = read_clause_in(alloc, context, op, rest)?;
+            let site = Site::At(labels);
+            parts.items.push(Item { site, clause })?;
+            Ok(rest)
+        }
     }
 }
 

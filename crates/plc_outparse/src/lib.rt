@@ -9,6 +9,7 @@ mod form;
 mod item;
 mod item_form;
 mod kind;
+mod laws;
 mod literal_form;
 mod outline;
 mod reach;
@@ -16,4 +17,5 @@ mod site;
 mod term;
 
 pub use form::Parsed;
-pub use outline::{outlines_fit, read_outline};
+pub use laws::outlines_fit;
+pub use outline::read_outline;

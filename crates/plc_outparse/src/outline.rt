@@ -1,11 +1,8 @@
 // The outline of a file, which stands after all operations.
-ghost use Rattle.std.specs.Prelude.{◌+◌, ◌<◌, ◌≤◌, ◌^◌, IfOk, IfErr, Ok, length};
-ghost use Rattle.plc_base.specs.Limits.{most};
-ghost use Rattle.plc_base.specs.declared.limits.What1.TheVariants as limits;
+ghost use Rattle.std.specs.Prelude.{◌+◌, ◌<◌, ◌^◌, IfOk, IfErr, Ok};
 ghost use Rattle.plc_scope.specs.Answers.{Gives, Within};
 ghost use Rattle.plc_outparse.specs.Answers.{OpsFit};
-ghost use Rattle.plc_outparse.specs.Context.{IsWithinLimits};
-ghost use Rattle.plc_outparse.specs.Fit.{OutlinesFit};
+ghost use Rattle.plc_outparse.specs.Context.{HasFewLabels, IsWithinLimits};
 ghost use Rattle.plc_outparse.specs.Meaning.{depth_means};
 ghost use Rattle.plc_outparse.specs.Outlines.{Means, IsPartFault};
 ghost use Rattle.plc_outparse.specs.Reading.{depth_in, parts_in, outline_in};
@@ -77,7 +74,7 @@ fn read_parts<'a>(alloc: Global, context: &Context, start: Rest<'a>) -> Parsed<'
 /// The outline at the front, once it is known that one stands there.
 #[tactic(auto, unfolding(crate::specs::Reading::outline_in))]
 fn outline_at<'a>(alloc: Global, scope: &Scope, ops: &[Op], start: Rest<'a>) -> Parsed<'a, Outline>
-    requires labels { length scope.now.labels ≤ most limits.Labels }
+    requires labels { HasFewLabels scope.now }
     requires ops { OpsFit ops.now }
     ensures read { Gives (λ r. read_with r.0 r.1) result
         (outline_in scope.now ops.now start.entry.at (kinds_left start.entry)) }
@@ -113,7 +110,7 @@ pub fn read_outline<'a>(
     ops: &[Op],
     start: Rest<'a>,
 ) -> Parsed<'a, Outline>
-    requires labels { length scope.now.labels ≤ most limits.Labels }
+    requires labels { HasFewLabels scope.now }
     requires ops { OpsFit ops.now }
     ensures read { Gives (λ r. read_with r.0 r.1) result
         (outline_in scope.now ops.now start.entry.at (kinds_left start.entry)) }
@@ -124,10 +121,3 @@ pub fn read_outline<'a>(
 {
     outline_at(alloc, scope, ops, start)
 }
-
-/// The law that an outline which has a meaning fits its file: it is within the limits, what its clauses
-/// name is there, both sides of an equation have one sort, no invariant names a local or a thread, and
-/// the labels of an item stand in one operation.
-pub fn outlines_fit()
-    ensures { OutlinesFit }
-{}

@@ -6,7 +6,7 @@ ghost use Rattle.plc_base.specs.declared.limits.What1.TheVariants as limits;
 ghost use Rattle.plc_base.specs.Names.{place_of};
 ghost use Rattle.plc_scope.specs.Answers.{Gives, Within};
 ghost use Rattle.plc_scope.specs.Scope.{most_locals};
-ghost use Rattle.plc_outparse.specs.Context.{IsWithinLimits};
+ghost use Rattle.plc_outparse.specs.Context.{HasFewLabels, IsWithinLimits};
 ghost use Rattle.plc_lang.specs.Locals.{locals_of};
 ghost use Rattle.plc_outparse.specs.Meaning.{op_named, op_at, label_named, label_at, label_step};
 ghost use Rattle.plc_outparse.specs.Reading.{labels_in, all_labels_in};
@@ -77,7 +77,7 @@ fn label_with_name(labels: &[u16], name: u16) -> Option<u16>
 
 /// The label with this name.
 fn label_named(scope: &Scope, name: &[u8]) -> Option<u16>
-    requires { length scope.now.labels ≤ most limits.Labels }
+    requires { HasFewLabels scope.now }
     ensures { result ≡ label_named scope.now.labels (place_of name.now scope.now.names.names) }
 {
     label_with_name(scope.labels.as_slice(), scope.names.find(name)?)

@@ -13,27 +13,21 @@ use Rattle.plc_run.specs.Reach.{Goes, Blocks, Forbids, may_free, free_of, IsUnhe
 use Rattle.plc_run.proofs.Judged.{is_some_of, some_if, free_at, free_from}
 use Rattle.plc_run.specs.Position.{Position, threads_of, Follows}
 
--- that the table heard the history is all
-pub follows_if : (o : Observer) (p : Position) → p.located ≡ locations_after_all (of_threads o (threads_of p)) p.here.history → Follows o p
-follows_if o p heard = ((λ t a small. ap (λ l. stands l t a) heard ∙ (threads_follow o (threads_of p)).located p.here.history t a small), heard)
-
 pub unheard : (o : Observer) (p q : Position) → IsUnheard p q → Follows o p → Follows o q
-unheard o p q same follows = follows_if o q (same.located ∙ follows.1 ∙ (λ i. locations_after_all (of_threads o (sym same.threads i)) (sym same.history i)))
+unheard o p q same follows = same.located ∙ follows ∙ (λ i. locations_after_all (of_threads o (sym same.threads i)) (sym same.history i))
 
 pub heard : (o : Observer) (p q : Position) (events : List Event) → threads_of q ≡ threads_of p → q.here.history ≡ p.here.history ++ events → q.located ≡ locations_after_all p.located events → Follows o p → Follows o q
 heard o p q events same longer moved follows =
-    follows_if o q (
-    moved ∙ ap (λ l. locations_after_all l events) follows.1
+    moved ∙ ap (λ l. locations_after_all l events) follows
     ∙ sym (fold-append (λ (l : Locations) (e : Event). locations_after e l) (of_threads o (threads_of p)) p.here.history events)
     ∙ (λ i. locations_after_all (of_threads o (sym same i)) (sym longer i))
-    )
 
 -- the locations judge a free as the history does
 pub judged : (o : Observer) (p : Position) (a : ℕ) → Follows o p → bears p.located a ≡ may_free o (λ t. location o p.here.history t a) a (threads_of p)
 judged o p a follows =
     let at = λ (t : ℕ). location o p.here.history t a in
     let law = (threads_follow o (threads_of p)).frees p.here.history a in
-    let there : bears p.located a ≡ bears (locations_after_all (of_threads o (threads_of p)) p.here.history) a = ap (λ l. bears l a) follows.1 in
+    let there : bears p.located a ≡ bears (locations_after_all (of_threads o (threads_of p)) p.here.history) a = ap (λ l. bears l a) follows in
     there ∙ same_tests (bears (locations_after_all (of_threads o (threads_of p)) p.here.history) a) (may_free o at a (threads_of p))
     (λ b. free_from o at a (threads_of p) (λ t small. is_some_of (advance o t a (Freed a) (at t)) (law.0 b t small)))
     (λ b. law.1 (λ t small. some_if (advance o t a (Freed a) (at t)) (free_at o at a (threads_of p) t b small)))

@@ -84,16 +84,3 @@ begun_allowed flow o threads c e = go (initialised flow threads) e (execute_allo
 pub run_allowed : (flow : Flow) (o : Observer) (threads n : ℕ) (c : Configuration) → Run flow o threads n c → Allowed o threads c.history
 run_allowed flow o threads n c (begin e) = begun_allowed flow o threads c e
 run_allowed flow o threads n d (more {n = m} {c = c} run move moved) = move_allowed flow o threads c d move moved (run_allowed flow o threads m c run)
-
--- ---- judging in code
-
-none_if_not : {A : Type 0} (q : Option A) → is_some q ≡ false → q ≡ None
-none_if_not None e = refl
-none_if_not (Some x) e = cc
-
--- one thread that doesn't bear the free is enough
-pub not_free : (o : Observer) (at : ℕ → Option ℕ) (a n t : ℕ) → t < n → is_some (advance o t a (Freed a) (at t)) ≡ false → may_free o at a n ≡ false
-not_free o at a n t small none = elim (cases_Bool (may_free o at a n)) [
-  | inl may ↦ absurd (free_at o at a n t may small (none_if_not (advance o t a (Freed a) (at t)) none))
-  | inr kept ↦ kept
-]

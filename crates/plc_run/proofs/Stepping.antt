@@ -251,9 +251,6 @@ returned flow c t s ps fits exit new points =
     ap (λ b. cond b (Goes (record c { state = with_locals c.state t None; points = put_at None c.points t None })) Blocks) exit
     ∙ ap (λ s. Goes (record c { state = s; points = put_at None c.points t None })) gone ∙ ap (λ ps. Goes (record c { state = s; points = ps })) (sym points)
 
-pub not_returned : (flow : Flow) (c : Configuration) (t : ℕ) → at_exit flow (point_of c t) ≡ false → return_from flow c t (point_of c t) ≡ Blocks
-not_returned flow c t stays = ap (λ b. cond b (Goes (record c { state = with_locals c.state t None; points = put_at None c.points t None })) Blocks) stays
-
 pub started_so : (flow : Flow) (c : Configuration) (t op : ℕ) (args : List ℕ) (o : Op) (p : Point) (s : State) (ps : List (Option Point)) → begun flow c.points t op args ≡ Some (o, p)
     → s ≡ with_locals c.state t (Some (starting o args)) → ps ≡ put_at None c.points t (Some p) → start_from flow c t op args ≡ Goes (record c { state = s; points = ps })
 started_so flow c t op args o p s ps begins new points =

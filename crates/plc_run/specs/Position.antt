@@ -2,8 +2,8 @@
 use Rattle.std.specs.Prelude.{◌≡◌, ℕ, ◌<◌, Bool, true, false, [], ◌∷◌, ◌++◌, length, Some, None, Result, Ok, Err}
 use Rattle.plc_auto.specs.declared.event.Event.TheVariants.{Free as Freed}
 use Rattle.plc_auto.specs.declared.observer.Observer.{Observer}
-use Rattle.plc_auto.specs.Location.{location, Allowed}
-use Rattle.plc_auto.specs.Locations.{Locations, of_threads, locations_after_all, stands}
+use Rattle.plc_auto.specs.Location.{Allowed}
+use Rattle.plc_auto.specs.Locations.{Locations, of_threads, locations_after_all}
 use Rattle.plc_flow.specs.declared.flow.Flow.{Flow}
 use Rattle.plc_flow.specs.declared.steps_by_point.StepsByPoint.{StepsByPoint}
 use Rattle.plc_flow.specs.StepsByPoint.{IsIndexOf, first_points}
@@ -28,12 +28,10 @@ pub record Position : Type 0 where
 abbrev pub threads_of : Position → ℕ
 threads_of p = length p.here.points
 
--- each thread stands for each address where this observer comes to by the history: the locations are those of a watcher
--- for each thread, which heard the whole history
+-- the locations are those of a watcher for each thread, which heard the whole history; so each thread stands for each
+-- address where this observer comes to by the history (`locations_of_threads_follow`)
 abbrev pub Follows : Observer → Position → Type 0
-Follows o p =
-    ((t a : ℕ) → t < threads_of p → stands p.located t a ≡ location o p.here.history t a)
-    × (p.located ≡ locations_after_all (of_threads o (threads_of p)) p.here.history)
+Follows o p = p.located ≡ locations_after_all (of_threads o (threads_of p)) p.here.history
 
 -- so many moves of a run of this flow and observer lead there, the locations follow the history, and the index is that
 -- of the flow's steps

@@ -1,7 +1,7 @@
 // A configuration of a run in code, with the locations by which frees are judged. A step's primitives are taken on the
-// memory itself, and what takes them back is noted beside them: where one is blocked, is a race, or memory runs out, also
-// for what the observer hears of the step, they are taken back, and the configuration is as it was. The other moves ask
-// for their memory before they change anything.
+// memory itself, and what takes them back is noted beside them: where one is blocked, is a race, or memory runs out,
+// also for what the observer hears of the step, they are taken back, and the configuration is as it was. The other
+// moves ask for their memory before they change anything.
 ghost use Rattle.std.specs.Prelude.{◌≡◌, ℕ, ◌<◌, ◌++◌, ◌∷◌, [], Option, IfOk, OnOk, OnErr, Some, None};
 ghost use Rattle.std.specs.Prelude.{get_or, length, replicate, false};
 ghost use Rattle.plc_lang.specs.Shape.{PrimitivesIn};

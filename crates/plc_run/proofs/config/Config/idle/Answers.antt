@@ -1,17 +1,12 @@
-use Rattle.std.proofs.Common.{Option, None, false, length, sym, ap, ◌∙◌}
+use Rattle.std.proofs.Common.{Option, None, length, sym, ap, ◌∙◌}
 use Rattle.std.proofs.lemmas.List.{length-replicate}
 use Rattle.plc_auto.specs.Locations.{of_threads, locations_after_all}
 use Rattle.plc_flow.specs.declared.points.Point.{Point}
-use Rattle.plc_run.specs.Position.{Position}
-use Rattle.plc_run.proofs.Follow.{follows_if}
 use Rattle.plc_run.proofs.config.Config.idle.Goals as goal
 
 pub returns-clause-follows : goal.returns-clause-follows
 returns-clause-follows c =
     let o = c.args.observer.now in
     let many = ap length c.in_ok-points.ensures ∙ length-replicate {A = Option Point} c.args.threads None in
-    let p : Position = record { here = record { state = c.args.memory; history = c.args.history.items; points = c.in_ok-points.points.items }; ended = false; located = c.hear_all.new.self; steps = c.in_ok-steps.steps } in
-    follows_if o p (
     c.in_ok-hear_all.ensures.ok ∙ ap (λ l. locations_after_all l c.deref.result.now) c.in_ok-located.ensures
     ∙ (λ i. locations_after_all (of_threads o (sym many i)) (c.deref.ensures.value i))
-    )
