@@ -8,3 +8,4 @@ pub mod Readable
 pub mod Refusals
 pub mod SoFar
 pub mod Unique
+pub mod Unmarked

@@ -9,11 +9,12 @@ mod judged;
 mod laws;
 mod limits;
 mod loading;
+mod marks;
 mod tree;
 mod verdict;
 
 pub use certified::{Certified, certify};
 pub use judged::{Judged, LoadFault};
 pub use laws::certificates_are_verified;
-pub use loading::{files_are_unique, files_fit, load};
+pub use loading::{files_are_unique, files_fit, load, load_unmarked};
 pub use verdict::{Verdict, check};

@@ -1,15 +1,17 @@
 // Bytes, tokens, unit, flow, limits of the outline: the first refusal on this way is the answer.
-ghost use Rattle.std.specs.Prelude.{◌≡◌, ◌≤◌, ◌+◌, length, IfOk};
+ghost use Rattle.std.specs.Prelude.{◌≡◌, ◌<◌, ◌≤◌, ◌+◌, ◌^◌, length, IfOk, IfSome};
 ghost use Rattle.plc_base.specs.Limits.{largest_file};
 ghost use Rattle.plc_check.specs.Fit.{FilesFit, JudgedFits};
 ghost use Rattle.plc_check.specs.Loading.{IsLoaded, FilesAreUnique, line_of, place_of};
-ghost use Rattle.plc_lex.specs.Spelling.{line_feeds};
+ghost use Rattle.plc_check.specs.Unmarked.{IsLoadedUnmarked};
+ghost use Rattle.plc_lex.specs.Spelling.{AreTokensOf, line_feeds};
 ghost use Rattle.plc_parse.specs.Fit.{UnitFits};
 ghost use Rattle.plc_auto.specs.Schemes.{schemes_of};
 ghost use Rattle.plc_check.specs.Refusals.{lex_refusal, parse_refusal, flow_refusal, unplaced, IsLowered, IsJudgedOf};
 
 use crate::judged::{Judged, LoadFault};
 use crate::limits::limited;
+use crate::marks::use_marks;
 use plc_auto::{Scheme, schemes_of};
 use plc_base::{Items, What1};
 use plc_flow::{FlowFault, lower};
@@ -150,6 +152,41 @@ fn judged_of(alloc: Global, unit: Unit) -> Result<Judged, LoadFault>
     }
 }
 
+/// What is judged of the tokens that bytes spell, or the first refusal behind those of the tokens.
+fn loaded(alloc: Global, bytes: &[u8], found: &[Token]) -> Result<Judged, LoadFault>
+    requires short { length bytes.now ≤ largest_file }
+    requires few { length found.now < 2 ^ 32 }
+    requires spelled { AreTokensOf bytes.now found.now }
+    ensures loaded { IsLoaded bytes.now result }
+    ensures fits { IfOk result JudgedFits }
+{
+    match parse(alloc, found) {
+        Ok(unit) => judged_of(alloc, unit),
+        Err(fault) => Err(parse_refusal(bytes, found, fault)),
+    }
+}
+
+/// The same where the tokens use no marks, and `None` where they do.
+fn loaded_unmarked(
+    alloc: Global,
+    bytes: &[u8],
+    found: &[Token],
+) -> Result<Option<Judged>, LoadFault>
+    requires short { length bytes.now ≤ largest_file }
+    requires few { length found.now < 2 ^ 32 }
+    requires spelled { AreTokensOf bytes.now found.now }
+    ensures loaded { IsLoadedUnmarked bytes.now result }
+    ensures fits { IfOk result (λ some. IfSome some JudgedFits) }
+{
+    if use_marks(found) {
+        return Ok(None);
+    }
+    match loaded(alloc, bytes, found) {
+        Ok(judged) => Ok(Some(judged)),
+        Err(fault) => Err(fault),
+    }
+}
+
 /// Reads and lowers a file of at most 1 MiB. The first refusal on the way is the answer: `Lex` where
 /// the bytes spell no tokens, `Parse` or `Limit` where the tokens spell no unit, `Limit` where the flow
 /// would have more than 4,096 points, then where the outline has more than 1,000,000 obligations, then where
@@ -159,13 +196,22 @@ pub fn load(alloc: Global, bytes: &[u8]) -> Result<Judged, LoadFault>
     ensures loaded { IsLoaded bytes.now result }
     ensures fits { IfOk result JudgedFits }
 {
-    let found = match tokens(alloc, bytes) {
-        Ok(found) => found,
-        Err(fault) => return Err(lex_refusal(fault)),
-    };
-    match parse(alloc, &found) {
-        Ok(unit) => judged_of(alloc, unit),
-        Err(fault) => Err(parse_refusal(bytes, &found, fault)),
+    match tokens(alloc, bytes) {
+        Ok(found) => loaded(alloc, bytes, &found),
+        Err(fault) => Err(lex_refusal(fault)),
+    }
+}
+
+/// [`load`] for a certificate, which can't speak of marks yet: `None` exactly where the bytes spell tokens that use
+/// marks, whatever else is wrong with them, and otherwise what `load` answers.
+pub fn load_unmarked(alloc: Global, bytes: &[u8]) -> Result<Option<Judged>, LoadFault>
+    requires { length bytes.now ≤ largest_file }
+    ensures loaded { IsLoadedUnmarked bytes.now result }
+    ensures fits { IfOk result (λ some. IfSome some JudgedFits) }
+{
+    match tokens(alloc, bytes) {
+        Ok(found) => loaded_unmarked(alloc, bytes, &found),
+        Err(fault) => Err(lex_refusal(fault)),
     }
 }
 

@@ -3,7 +3,6 @@ use Rattle.std.proofs.Common.{◌≡◌, inr, ℕ, List, Result, Ok, Err, subst}
 use Rattle.std.specs.Prelude.{IfOk}
 use Rattle.plc_base.specs.Limits.{largest_file}
 use Rattle.plc_outside.specs.Known.{KnownFiles}
-use Rattle.plc_parse.specs.declared.unit.Unit.{Unit as FileUnit}
 use Rattle.plc_check.specs.declared.judged.Judged.{Judged}
 use Rattle.plc_check.specs.Loading.{IsLoaded, judged_of}
 use Rattle.plc_cli.specs.declared.answer.Answer.{Answer}
@@ -27,12 +26,19 @@ if_loaded r IsDue bytes j loaded h =
     if_ok_from r _ _ (λ answer h. loaded_answers IsDue bytes j answer.status answer.text.items loaded h) h
 
 -- where bytes were found in a file, what is answered to them is due for the file
-pub if_found : {E : Type 0} (r : Result Answer E) (old new : KnownFiles) (name : List ℕ) (IsDue : FileUnit → ℕ → List ℕ → Type 0) (bytes now : List ℕ) → IsFound old new name largest_file bytes → now ≡ bytes
-    → IfOk r (λ answer. IsAnsweredFile IsDue now answer.status answer.text.items)
-    → IfOk r (λ answer. IsDueForFile old new name (λ b. IsAnsweredFile IsDue b answer.status answer.text.items) answer.status answer.text.items)
-if_found r old new name IsDue bytes now found e h =
+pub if_found : {E : Type 0} (r : Result Answer E) (old new : KnownFiles) (name : List ℕ)
+    (Answers : List ℕ → ℕ → List ℕ → Type 0) (bytes now : List ℕ)
+    → IsFound old new name largest_file bytes → now ≡ bytes
+    → IfOk r (λ answer. Answers now answer.status answer.text.items)
+    → IfOk r (λ answer. IsDueForFile old new name (λ b. Answers b answer.status answer.text.items)
+    answer.status answer.text.items)
+if_found r old new name Answers bytes now found e h =
     if_ok_from r _ _
-    (λ answer h. inr (bytes, record { others = found.others; read = found.read; gave = found.gave }, subst (λ (b : List ℕ). IsAnsweredFile IsDue b answer.status answer.text.items) e h)) h
+    (λ answer h. inr (
+      bytes,
+      record { others = found.others; read = found.read; gave = found.gave },
+      subst (λ (b : List ℕ). Answers b answer.status answer.text.items) e h,
+    )) h
 
 -- where an answer has the status and the text of something right, it tells that
 pub if_told : {A E : Type 0} (r : Result Answer E) (IsRight : A → Type 0) (status_of : A → ℕ) (text_of : A → List ℕ) (what : A) → IsRight what

@@ -57,6 +57,7 @@ mod reading;
 mod replaying;
 mod sampling;
 mod status;
+mod unmarked;
 mod verifying;
 mod words;
 

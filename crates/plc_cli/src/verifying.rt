@@ -6,9 +6,10 @@ ghost use Rattle.plc_cli.specs.Certificates.{IsVerificationOf, IsCertificateAnsw
 ghost use Rattle.plc_cli.specs.Reads.{FilesAreKept, IsDueForPair};
 
 use crate::answer::Answer;
-use crate::asking::{Question, answer_bytes};
+use crate::asking::Question;
 use crate::reading::{Contents, read_both};
 use crate::status::{FAILS, HOLDS, REFUSED};
+use crate::unmarked::answer_unmarked;
 use plc_base::LARGEST_CERTIFICATE;
 use plc_cert::{Cert, CertFault, read};
 use plc_check::Judged;
@@ -87,7 +88,7 @@ pub(crate) fn verify_file<F: Files>(
         answer.status answer.text.items) }
 {
     match read_both(alloc, files, file, certificate, LARGEST_CERTIFICATE)? {
-        Contents::Read(bytes, second) => answer_bytes(
+        Contents::Read(bytes, second) => answer_unmarked(
             alloc,
             &bytes,
             &ForValidity {

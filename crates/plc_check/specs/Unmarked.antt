@@ -1,0 +1,22 @@
+-- What is loaded of a file of which a certificate can speak: certificates can't speak of marks yet.
+use Rattle.std.specs.Prelude.{◌≡◌, ◌≢◌, ℕ, true, List, Option, Some, None, Result, Ok, Err}
+use Rattle.plc_lex.specs.declared.token.Token.{Token}
+use Rattle.plc_lex.specs.Spelling.{AreTokensOf}
+use Rattle.plc_syntax.specs.Syntax.{kinds}
+use Rattle.plc_check.specs.declared.judged.Judged.{Judged}
+use Rattle.plc_check.specs.declared.judged.LoadFault.{LoadFault}
+use Rattle.plc_check.specs.declared.judged.LoadFault.TheVariants.{Memory}
+use Rattle.plc_check.specs.Loading.{IsLoaded}
+use Rattle.plc_check.specs.Marks.{tokens_use_marks}
+
+-- the bytes spell tokens that use marks; whether these spell a file isn't said
+pub record UsesMarks (bytes : List ℕ) : Type 0 where
+  pub tokens : List Token
+  pub spelled : AreTokensOf bytes tokens
+  pub uses : tokens_use_marks (kinds tokens) ≡ true
+
+-- the answer to bytes that use no marks is the one that they have without a certificate; memory may run out first
+abbrev pub IsLoadedUnmarked : List ℕ → Result (Option Judged) LoadFault → Type 0
+IsLoadedUnmarked bytes (Ok None) = UsesMarks bytes
+IsLoadedUnmarked bytes (Ok (Some j)) = (UsesMarks bytes → ⊥) × IsLoaded bytes (Ok j)
+IsLoadedUnmarked bytes (Err e) = (e ≢ Memory → UsesMarks bytes → ⊥) × IsLoaded bytes (Err e)
