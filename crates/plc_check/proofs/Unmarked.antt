@@ -9,7 +9,7 @@ use Rattle.plc_lex.specs.Refused.{StopsWith}
 use Rattle.plc_lex.proofs.Unique.{same_tokens, memory_alone}
 use Rattle.plc_syntax.specs.Syntax.{kinds}
 use Rattle.plc_check.specs.declared.judged.LoadFault.TheVariants.{Memory}
-use Rattle.plc_check.specs.Marks.{tokens_use_marks}
+use Rattle.plc_syntax.specs.Marks.{tokens_use_marks}
 use Rattle.plc_check.specs.Refusals.{lex_refusal}
 use Rattle.plc_check.specs.Unmarked.{UsesMarks}
 

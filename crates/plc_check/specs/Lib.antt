@@ -1,7 +1,6 @@
 -- what contracts of public calls say
 pub mod Fit
 pub mod Loading
-pub mod Marks
 pub mod Unmarked
 pub mod Verdicts
 pub mod Certified

@@ -7,7 +7,7 @@ use Rattle.plc_check.specs.declared.judged.Judged.{Judged}
 use Rattle.plc_check.specs.declared.judged.LoadFault.{LoadFault}
 use Rattle.plc_check.specs.declared.judged.LoadFault.TheVariants.{Memory}
 use Rattle.plc_check.specs.Loading.{IsLoaded}
-use Rattle.plc_check.specs.Marks.{tokens_use_marks}
+use Rattle.plc_syntax.specs.Marks.{tokens_use_marks}
 
 -- the bytes spell tokens that use marks; whether these spell a file isn't said
 pub record UsesMarks (bytes : List ℕ) : Type 0 where

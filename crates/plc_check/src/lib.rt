@@ -9,7 +9,6 @@ mod judged;
 mod laws;
 mod limits;
 mod loading;
-mod marks;
 mod tree;
 mod verdict;
 

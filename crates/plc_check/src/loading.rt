@@ -11,13 +11,13 @@ ghost use Rattle.plc_check.specs.Refusals.{lex_refusal, parse_refusal, flow_refu
 
 use crate::judged::{Judged, LoadFault};
 use crate::limits::limited;
-use crate::marks::use_marks;
 use plc_auto::{Scheme, schemes_of};
 use plc_base::{Items, What1};
 use plc_flow::{FlowFault, lower};
 use plc_lex::{LexFault, Token, tokens};
 use plc_parse::{Unit, parse};
 use plc_scope::ParseFault;
+use plc_syntax::use_marks;
 use std::alloc::Global;
 
 /// The refusal that a fault of the lexer is; that memory ran out there is told as `Memory`.
