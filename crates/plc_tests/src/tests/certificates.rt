@@ -81,6 +81,18 @@ const WRITTEN: &[(&str, &str, &str)] = &[
         PUBLISHED,
         "0\nverified points 5 steps 4 obligations 0\n",
     ),
+    (
+        "marked",
+        r#"{"env":[],"trees":[],"version":1}"#,
+        "2\nrefused file\n",
+    ),
+    ("marked", "{", "2\nrefused file\n"),
+    (
+        "marked-brace",
+        r#"{"env":[],"trees":[],"version":1}"#,
+        "2\nrefused file\n",
+    ),
+    ("marked-byte", "{", "2\nrefused byte at 13\n"),
     ("hazards", "{}", "2\nrefused certificate field root\n"),
     ("hazards", "{", "2\nrefused certificate json\n"),
     ("stray", "{", "2\nrefused byte at 13\n"),

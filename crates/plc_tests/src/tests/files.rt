@@ -107,6 +107,40 @@ op once() { ptr t; t := new; retire(t); }
 # twice
 struct Node { ptr next; }
 op twice() { ptr t; t := new; retire(t); retire(t); }
+# marked
+struct N { ptr next; }
+shared T;
+op f() { ptr n; n := mark T; T := n; }
+# marked-brace
+struct N { } op f() { ptr n; n := mark n; } }
+# marked-byte
+struct N { } $ op f() { ptr n; n := mark n; }
+# marked-name
+mark
+# marked-field
+struct N { ptr marked; }
+# marked-operation
+struct N { } op unmark() { }
+# marked-sort
+struct N { data d; } op f(v) { ptr p; p := mark v; }
+# marked-put
+struct Node { ptr next; }
+shared Top;
+op put() { ptr n; ptr m; n := new; m := mark n; Top := m; if (marked m) { m := unmark m; } if (m == n) { return; } }
+# marked-init
+struct N { ptr f; } shared T; shared U;
+init { T := new; U := mark T; T.f := U; T := unmark U; }
+op f() { ptr p; p := T; assume unmarked p; p := U; assume marked p; }
+# marked-null
+struct N { ptr f; }
+op f() { ptr p; ptr q; p := null; q := mark p; assume q == null; assume marked q; assume q != p; }
+# marked-link
+struct N { ptr f; }
+op f() { ptr p; ptr q; p := new; q := mark p; p.f := q; p := p.f; assume marked p; p := unmark p; }
+# marked-else
+struct N { ptr f; }
+op f() { ptr p; ptr q; p := new; q := mark p; if (marked q) { p := null; } else { p := q; }
+if (unmarked q) { p := q; } else { } }
 # blocked
 struct N { ptr f; } shared T; init { T.f := null; }
 # stack
@@ -330,6 +364,44 @@ pub(crate) const SCHEDULES: &[(&str, &[&str])] = &[
     (
         "addressless",
         &["threads 1\nstart 0 twice\nstep 0 0\nstep 0 0\nstep 0 0\nstep 0 0\n"],
+    ),
+    (
+        "marked-start",
+        &["threads 1\nstart 0 f\nstep 0 0\nstep 0 0\nstep 0 0\nstep 0 0\nstep 0 0\nreturn 0\n"],
+    ),
+    (
+        "marked-steps",
+        &[
+            "threads 1\nstart 0 f\nstep 0 0\nstep 0 0\nstep 0 0\nstep 0 0\nstep 0 0\nstep 0 0\nreturn 0\n",
+        ],
+    ),
+    (
+        "marked-loads",
+        &[
+            "threads 1\nstart 0 f\nstep 0 0 1\nstep 0 0\nstep 0 0\nstep 0 0\nstep 0 0\nstep 0 0\nstep 0 0\nreturn 0\n",
+        ],
+    ),
+    (
+        "marked-sides",
+        &[
+            "threads 1\nstart 0 f\nstep 0 0 1\nstep 0 0\nstep 0 0\nstep 0 0\nstep 0 0\n",
+            "step 0 1\nstep 0 0\nstep 0 0\nreturn 0\n",
+        ],
+    ),
+    (
+        "marked-side",
+        &["threads 1\nstart 0 f\nstep 0 0 1\nstep 0 0\nstep 0 0\nstep 0 0\nstep 0 0\nstep 0 0\n"],
+    ),
+    (
+        "marked-putting",
+        &[
+            "threads 1\nstart 0 put\nstep 0 0 1\nstep 0 0\nstep 0 0\nstep 0 0\nstep 0 0\n",
+            "step 0 0\nstep 0 0\nstep 0 0\nreturn 0\n",
+        ],
+    ),
+    (
+        "marked-otherwise",
+        &["threads 1\nstart 0 put\nstep 0 0 1\nstep 0 0\nstep 0 0\nstep 0 1\n"],
     ),
     ("no-threads", &["threads 0\n"]),
     ("one", &["threads 1\n"]),

@@ -122,6 +122,30 @@ untyped step 5 prim 0 line 4 retire t
 untyped step 3 prim 0 line 2 retire t
 # check once: 0
 safe points 5 steps 4 locations 2 obligations 0
+# check marked-put: 1
+untyped step 8 prim 0 line 3 compare m
+# check marked: 0
+safe points 4 steps 3 locations 2 obligations 0
+# check marked-init: 0
+safe points 6 steps 5 locations 2 obligations 0
+# check marked-null: 0
+safe points 7 steps 6 locations 2 obligations 0
+# check marked-link: 0
+safe points 8 steps 7 locations 2 obligations 0
+# check marked-else: 0
+safe points 12 steps 13 locations 2 obligations 0
+# check marked-brace, print marked-brace, replay marked-brace one leak: 2
+refused syntax token 18 line 1
+# check marked-byte: 2
+refused byte at 13
+# check marked-name: 2
+refused syntax token 0 line 1
+# check marked-field: 2
+refused syntax token 4 line 1
+# check marked-operation: 2
+refused syntax token 5 line 1
+# check marked-sort: 2
+refused sort token 19 line 1
 # check absent: 4
 read failed
 ";
@@ -196,6 +220,20 @@ impossible line 2
 impossible line 1
 # replay stack one leak: 0
 end lines 1 events 0 freed 0
+# replay marked-put marked-putting leak: 0
+end lines 11 events 0 freed 0
+# replay marked-put marked-otherwise leak: 1
+impossible line 6
+# replay marked-init marked-start leak: 0
+end lines 8 events 0 freed 0
+# replay marked-null marked-steps leak: 0
+end lines 9 events 0 freed 0
+# replay marked-link marked-loads leak: 0
+end lines 10 events 0 freed 0
+# replay marked-else marked-sides leak: 0
+end lines 11 events 0 freed 0
+# replay marked-else marked-side leak: 1
+impossible line 8
 # replay stack no-threads leak: 2
 refused schedule line 1
 # replay brace no-threads leak: 2
@@ -268,6 +306,16 @@ refused byte at 13
 refused syntax token 0 line 1
 # certify absent: 4
 read failed
+# certify marked, certify marked-put, certify marked-brace, certify marked-name: 2
+refused file
+# certify marked-byte, verify marked-byte empty: 2
+refused byte at 13
+# verify marked empty, verify marked-brace empty, verify marked-name empty: 2
+refused file
+# verify marked absent: 4
+read failed
+# verify publish marked: 2
+refused certificate json
 # verify publish empty: 2
 refused certificate json
 # verify lost empty: 2
