@@ -1,8 +1,8 @@
 -- The index of the steps by their first points, one step after another, and the step that it finds.
-use Rattle.std.proofs.Common.{◌≡◌, ◌≢◌, ℕ, zero, suc, ◌+◌, ◌<◌, ◌≤◌, Bool, true, false, cond, Option, Some, None, List, [], ◌∷◌, ◌++◌, length, filter, map, get_or, slice_get, set, take, replicate, refl, sym, ap, subst, ◌∙◌, arith, inl, inr, get_or-set_same, get_or-set_other, length-set}
+use Rattle.std.proofs.Common.{◌≡◌, ◌≢◌, ℕ, zero, suc, ◌+◌, ◌<◌, Bool, true, false, cond, Option, Some, None, List, [], ◌∷◌, ◌++◌, length, filter, map, get_or, slice_get, set, take, refl, sym, ap, subst, ◌∙◌, arith, inl, inr, get_or-set_same, get_or-set_other, length-set}
 use Rattle.std.specs.Prelude.{◌⊎◌, ◌==◌, if◌then◌else◌, option_map, option_and_then}
-use Rattle.std.proofs.lemmas.Bool.{cases_eq, cases_lt, eq-eqb, ne_eqb}
-use Rattle.std.proofs.lemmas.List.{append-nil, get_or_read, get_or_past, get_or-replicate, length-replicate, length-take-le, take_more}
+use Rattle.std.proofs.lemmas.Bool.{cases_eq, eq-eqb, ne_eqb}
+use Rattle.std.proofs.lemmas.List.{append-nil, get_or_read, length-take-le, take_more}
 use Rattle.std.proofs.lemmas.Option.{slice_get-map}
 use Rattle.plc_base.specs.declared.ids.PointId.{PointId}
 use Rattle.plc_flow.specs.declared.flow.Step.{Step}
@@ -20,16 +20,6 @@ use Rattle.plc_flow.proofs.Gates.{gates_rise}
 pub record HasRows (points : ℕ) (firsts : List PointId) (rows : List (List ℕ)) : Type 0 where
   pub count : length rows ≡ points
   pub each : (p : ℕ) → get_or rows p [] ≡ places_from 0 p firsts
-
-pub rows_none : (points : ℕ) (rows : List (List ℕ)) → rows ≡ replicate points [] → HasRows points [] rows
-rows_none points rows is = record {
-  count = ap length is ∙ length-replicate points [];
-  each = λ p. ap (λ (xs : List (List ℕ)). get_or xs p []) is ∙ row p (cases_lt p points);
-}
-  where
-    row : (p : ℕ) → (p < points) ⊎ (points ≤ p) → get_or {A = List ℕ} (replicate points []) p [] ≡ []
-    row p (inl inside) = get_or-replicate points p [] [] inside
-    row p (inr past) = get_or_past (replicate points []) p [] (subst (λ (n : ℕ). n ≤ p) (sym (length-replicate {A = List ℕ} points [])) past)
 
 -- what one more first point adds to a row
 abbrev added : ℕ → Bool → List ℕ

@@ -5,7 +5,7 @@ use Rattle.plc_auto.specs.declared.event.Event.{Event}
 use Rattle.plc_auto.specs.declared.event.Event.TheVariants.{Free as Freed}
 use Rattle.plc_auto.specs.declared.observer.Observer.{Observer}
 use Rattle.plc_auto.specs.Location.{location, advance}
-use Rattle.plc_auto.specs.Locations.{Locations, of_threads, locations_after, locations_after_all, stands, may_free as bears}
+use Rattle.plc_auto.specs.Locations.{Locations, of_threads, locations_after, locations_after_all, may_free as bears}
 use Rattle.plc_auto.proofs.Watched.{threads_follow}
 use Rattle.std.proofs.lemmas.List.Sums.{fold-append}
 use Rattle.plc_mem.specs.State.{freed}
