@@ -107,7 +107,8 @@ value : (ts : List TokenKind) → Takes after 1 (length ts) (value_of ts)
 value (Word Null ∷ rest) = omega arith
 value (Word New ∷ rest) = omega arith
 value (Number n ∷ rest) = omega arith
-value (Word Mark ∷ rest) = after_word MarkValue rest (length (Word Mark ∷ rest)) (name_of rest) (omega arith) (name rest)
+value (Word Mark ∷ rest) =
+    after_word MarkValue rest (length (Word Mark ∷ rest)) (name_of rest) (omega arith) (name rest)
 value (Word Unmark ∷ rest) =
     after_word UnmarkValue rest (length (Word Unmark ∷ rest)) (name_of rest) (omega arith) (name rest)
 value ts = made PlaceValue (length ts) (place_of ts) (place ts)

@@ -8,6 +8,7 @@ pub mod Holds
 pub mod Reach
 pub mod Upward
 pub mod Naming
+pub mod Marked
 pub mod Fits
 pub mod There
 pub mod Numbering

@@ -15,7 +15,7 @@ use Rattle.plc_base.specs.declared.ids.FieldId.{FieldId}
 use Rattle.plc_base.specs.declared.ids.FuncId.{FuncId}
 use Rattle.plc_auto.specs.declared.observer.Observer.{Observer}
 use Rattle.plc_auto.specs.Table.{is_well_formed}
-use Rattle.plc_syntax.specs.Trees.{Text, PlaceTree, PlaceOf, AtomTree, NullAtom, NumberAtom, NameAtom, ValueTree, NullValue, NewValue, NumberValue, PlaceValue, SetTree, SetName, SetField, RefreshTree, RefreshName, RefreshField, GhostSetTree, SetGhost, InitialTree, InitialSet, InitialGhost, Comparison, SameAs, OtherThan, LessThan, NotLessThan, TestTree, Compares, ConditionTree, TestCondition, RefreshCondition, CasCondition, PrimitiveTree, SetPrimitive, RefreshPrimitive, GhostPrimitive, ActivePrimitive, AssumePrimitive, SkipPrimitive, ArgumentTree, NoArgument, NullArgument, NameArgument, ActiveArgument, FieldTree, PointerField as PointerFieldTree, DataField as DataFieldTree, FunctionTree, Declares, WatchTree, UseHazard, UseEpoch, OneOf, OfThreads, GhostTree, Auxiliary as AuxiliaryTree, BlockTree, OpTree, Operates, FileTree}
+use Rattle.plc_syntax.specs.Trees.{Text, PlaceTree, PlaceOf, AtomTree, NullAtom, NumberAtom, NameAtom, ValueTree, NullValue, NewValue, NumberValue, MarkValue, UnmarkValue, PlaceValue, SetTree, SetName, SetField, RefreshTree, RefreshName, RefreshField, GhostSetTree, SetGhost, InitialTree, InitialSet, InitialGhost, Comparison, SameAs, OtherThan, LessThan, NotLessThan, TestTree, MarkedTest, UnmarkedTest, Compares, ConditionTree, TestCondition, RefreshCondition, CasCondition, PrimitiveTree, SetPrimitive, RefreshPrimitive, GhostPrimitive, ActivePrimitive, AssumePrimitive, SkipPrimitive, ArgumentTree, NoArgument, NullArgument, NameArgument, ActiveArgument, FieldTree, PointerField as PointerFieldTree, DataField as DataFieldTree, FunctionTree, Declares, WatchTree, UseHazard, UseEpoch, OneOf, OfThreads, GhostTree, Auxiliary as AuxiliaryTree, BlockTree, OpTree, Operates, FileTree}
 use Rattle.plc_forms.specs.Sizes.{initial_size, primitive_size, word_size}
 use Rattle.plc_scope.specs.declared.fault.ParseFault.{ParseFault}
 use Rattle.plc_scope.specs.declared.scope.Scope.{Scope}
@@ -44,6 +44,10 @@ module _ (h : Shape) (s : Scope) (r : Reaches h s) where
   pointer_value_in p at NullValue is = is
   pointer_value_in p at NewValue is = is
   pointer_value_in p at (NumberValue n) is = tt
+  pointer_value_in p at (MarkValue n) is =
+      next (VarIn h) (PrimitiveIn h) (pointer_at s n (at + 1)) _ (pointer_in h s r n (at + 1)) (λ q a. (is, a))
+  pointer_value_in p at (UnmarkValue n) is =
+      next (VarIn h) (PrimitiveIn h) (pointer_at s n (at + 1)) _ (pointer_in h s r n (at + 1)) (λ q a. (is, a))
   pointer_value_in p at (PlaceValue (PlaceOf n None)) is = next (VarIn h) (PrimitiveIn h) (pointer_at s n at) _ (pointer_in h s r n at) (λ q a. (is, a))
   pointer_value_in p at (PlaceValue (PlaceOf n (Some f))) is = next (VarIn h) (PrimitiveIn h) (pointer_at s n at) _ (pointer_in h s r n at) (λ q a.
       next (FieldIn h) (PrimitiveIn h) (pointer_field_at s f (at + 2)) _ (pointer_field_in h s r f (at + 2)) (λ g b. (is, a, b)))
@@ -52,6 +56,8 @@ module _ (h : Shape) (s : Scope) (r : Reaches h s) where
   data_value_in x at NullValue is = tt
   data_value_in x at NewValue is = tt
   data_value_in x at (NumberValue n) is = (is, tt)
+  data_value_in x at (MarkValue n) is = tt
+  data_value_in x at (UnmarkValue n) is = tt
   data_value_in x at (PlaceValue (PlaceOf n None)) is = next (ValueIn h) (PrimitiveIn h) (data_at s n at) _ (value_in h s r n at) (λ y a. (is, a))
   data_value_in x at (PlaceValue (PlaceOf n (Some f))) is = next (VarIn h) (PrimitiveIn h) (pointer_at s n at) _ (pointer_in h s r n at) (λ q a.
       next (FieldIn h) (PrimitiveIn h) (data_field_at s f (at + 2)) _ (data_field_in h s r f (at + 2)) (λ g b. (is, a, b)))
@@ -128,6 +134,10 @@ module _ (h : Shape) (s : Scope) (r : Reaches h s) where
 
   test_in : (at : ℕ) (t : TestTree) → Has (PrimitiveIn h) (test_means s at t)
   unfolding test_means
+  test_in at (MarkedTest n) =
+      next (VarIn h) (PrimitiveIn h) (pointer_at s n (at + 1)) _ (pointer_in h s r n (at + 1)) (λ p a. a)
+  test_in at (UnmarkedTest n) =
+      next (VarIn h) (PrimitiveIn h) (pointer_at s n (at + 1)) _ (pointer_in h s r n (at + 1)) (λ p a. a)
   test_in at (Compares n c a) = next (RoleIn h) (PrimitiveIn h) (known at (role_of s n)) _ (any_in h s r n at) (λ left b. test_of_in at c a left b)
 
   or_null_in : (at : ℕ) (n : Option Text) → Has (VarOrNullIn h) (pointer_or_null s at n)

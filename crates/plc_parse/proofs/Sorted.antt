@@ -14,7 +14,7 @@ use Rattle.plc_lang.specs.declared.syntax.Ghost.{Ghost}
 use Rattle.plc_lang.specs.declared.syntax.Local.{Local}
 use Rattle.plc_lang.specs.declared.syntax.File.{File}
 use Rattle.plc_lang.specs.WellSorted.{IsWellSorted, is_call, is_test, is_refresh, is_initial, is_me, WriteIsWellSorted, CallIsWellSorted, ClaimFits, ConditionIsWellSorted}
-use Rattle.plc_syntax.specs.Trees.{Text, PlaceTree, PlaceOf, AtomTree, NullAtom, NumberAtom, NameAtom, ValueTree, NullValue, NewValue, NumberValue, PlaceValue, SetTree, SetName, SetField, RefreshTree, RefreshName, RefreshField, GhostValueTree, NameGhost, MeGhost, NoneGhost, GhostSetTree, SetGhost, InitialTree, InitialSet, InitialGhost, Comparison, SameAs, OtherThan, LessThan, NotLessThan, TestTree, Compares, ConditionTree, TestCondition, RefreshCondition, CasCondition, PrimitiveTree, SetPrimitive, RefreshPrimitive, GhostPrimitive, ActivePrimitive, AssumePrimitive, SkipPrimitive, ArgumentTree, NoArgument, NullArgument, NameArgument, ActiveArgument}
+use Rattle.plc_syntax.specs.Trees.{Text, PlaceTree, PlaceOf, AtomTree, NullAtom, NumberAtom, NameAtom, ValueTree, NullValue, NewValue, NumberValue, MarkValue, UnmarkValue, PlaceValue, SetTree, SetName, SetField, RefreshTree, RefreshName, RefreshField, GhostValueTree, NameGhost, MeGhost, NoneGhost, GhostSetTree, SetGhost, InitialTree, InitialSet, InitialGhost, Comparison, SameAs, OtherThan, LessThan, NotLessThan, TestTree, MarkedTest, UnmarkedTest, Compares, ConditionTree, TestCondition, RefreshCondition, CasCondition, PrimitiveTree, SetPrimitive, RefreshPrimitive, GhostPrimitive, ActivePrimitive, AssumePrimitive, SkipPrimitive, ArgumentTree, NoArgument, NullArgument, NameArgument, ActiveArgument}
 use Rattle.plc_forms.specs.Sizes.{word_size}
 use Rattle.plc_scope.specs.declared.fault.ParseFault.{ParseFault}
 use Rattle.plc_scope.specs.declared.scope.Scope.{Scope}
@@ -161,6 +161,10 @@ module _ (file : File) (s : Scope) (all : AllThere (lists_of file) s) where
   pointer_value_sorted p at NullValue = record { sorted = tt; no_call = refl; of_kind = refl }
   pointer_value_sorted p at NewValue = record { sorted = tt; no_call = refl; of_kind = refl }
   pointer_value_sorted p at (NumberValue n) = tt
+  pointer_value_sorted p at (MarkValue n) =
+      any IsSet (pointer_at s n (at + 1)) _ (λ q. record { sorted = tt; no_call = refl; of_kind = refl })
+  pointer_value_sorted p at (UnmarkValue n) =
+      any IsSet (pointer_at s n (at + 1)) _ (λ q. record { sorted = tt; no_call = refl; of_kind = refl })
   pointer_value_sorted p at (PlaceValue (PlaceOf n None)) = any IsSet (pointer_at s n at) _ (λ q. record { sorted = tt; no_call = refl; of_kind = refl })
   pointer_value_sorted p at (PlaceValue (PlaceOf n (Some f))) = any IsSet (pointer_at s n at) _ (λ q.
       next (λ g. IsField (lists_of file) g.0 true) IsSet (pointer_field_at s f (at + 2)) _ (pointer_field_there (lists_of file) s all f (at + 2)) (λ g is. record { sorted = is; no_call = refl; of_kind = refl }))
@@ -169,6 +173,8 @@ module _ (file : File) (s : Scope) (all : AllThere (lists_of file) s) where
   data_value_sorted x at NullValue = tt
   data_value_sorted x at NewValue = tt
   data_value_sorted x at (NumberValue n) = record { sorted = tt; no_call = refl; of_kind = refl }
+  data_value_sorted x at (MarkValue n) = tt
+  data_value_sorted x at (UnmarkValue n) = tt
   data_value_sorted x at (PlaceValue (PlaceOf n None)) = any IsSet (data_at s n at) _ (λ y. record { sorted = tt; no_call = refl; of_kind = refl })
   data_value_sorted x at (PlaceValue (PlaceOf n (Some f))) = any IsSet (pointer_at s n at) _ (λ q.
       next (λ g. IsField (lists_of file) g.0 false) IsSet (data_field_at s f (at + 2)) _ (data_field_there (lists_of file) s all f (at + 2)) (λ g is. record { sorted = is; no_call = refl; of_kind = refl }))
@@ -281,6 +287,10 @@ module _ (file : File) (s : Scope) (all : AllThere (lists_of file) s) where
 
   test_sorted : (at : ℕ) (t : TestTree) → Has IsTest (test_means s at t)
   unfolding test_means
+  test_sorted at (MarkedTest n) =
+      any IsTest (pointer_at s n (at + 1)) _ (λ p. record { sorted = tt; no_call = refl; of_kind = refl })
+  test_sorted at (UnmarkedTest n) =
+      any IsTest (pointer_at s n (at + 1)) _ (λ p. record { sorted = tt; no_call = refl; of_kind = refl })
   test_sorted at (Compares n c a) = any IsTest (known at (role_of s n)) _ (λ left. test_of_sorted at c a left)
 
   pub condition_sorted : (at : ℕ) (c : ConditionTree) → Has (ConditionIsWellSorted file) (condition_means s at c)

@@ -4,7 +4,7 @@ use Rattle.plc_lex.specs.declared.token.TokenKind.{TokenKind}
 use Rattle.plc_lex.specs.declared.token.TokenKind.TheVariants.{Word, Symbol}
 use Rattle.plc_lex.specs.declared.token.Keyword.TheVariants.{Or}
 use Rattle.plc_lex.specs.declared.token.Symbol.TheVariants.{CloseBrace, CloseParen, OpenBrace, Semicolon}
-use Rattle.plc_syntax.specs.Trees.{Text, each_then, maybe_then, during_then, AtomTree, atom_then, NullAtom, NumberAtom, NameAtom, PlaceTree, PlaceOf, place_then, ValueTree, NullValue, NewValue, NumberValue, PlaceValue, value_then, SetName, SetField, RefreshName, RefreshField, SetGhost, GhostValueTree, NameGhost, MeGhost, NoneGhost, ghost_value_then, TestTree, Compares, test_then, ConditionTree, TestCondition, RefreshCondition, CasCondition, condition_then, PrimitiveTree, primitive_then, primitive_line_then, SetPrimitive, RefreshPrimitive, GhostPrimitive, ActivePrimitive, AssumePrimitive, SkipPrimitive, ArgumentTree, NoArgument, NullArgument, NameArgument, ActiveArgument, argument_then, StatementTree, statement_then, PrimitiveStatement, AtomicStatement, CallStatement, IfStatement, ChooseStatement, LoopStatement, BreakStatement, ReturnStatement, LabelStatement, BlockTree, NoStatement, Then, statements_then, ElseTree, NoElse, ElseBlock, else_then, OrTree, NoOr, OrBlock, or_then}
+use Rattle.plc_syntax.specs.Trees.{Text, each_then, maybe_then, during_then, AtomTree, atom_then, NullAtom, NumberAtom, NameAtom, PlaceTree, PlaceOf, place_then, ValueTree, NullValue, NewValue, NumberValue, MarkValue, UnmarkValue, PlaceValue, value_then, SetName, SetField, RefreshName, RefreshField, SetGhost, GhostValueTree, NameGhost, MeGhost, NoneGhost, ghost_value_then, TestTree, MarkedTest, UnmarkedTest, Compares, test_then, ConditionTree, TestCondition, RefreshCondition, CasCondition, condition_then, PrimitiveTree, primitive_then, primitive_line_then, SetPrimitive, RefreshPrimitive, GhostPrimitive, ActivePrimitive, AssumePrimitive, SkipPrimitive, ArgumentTree, NoArgument, NullArgument, NameArgument, ActiveArgument, argument_then, StatementTree, statement_then, PrimitiveStatement, AtomicStatement, CallStatement, IfStatement, ChooseStatement, LoopStatement, BreakStatement, ReturnStatement, LabelStatement, BlockTree, NoStatement, Then, statements_then, ElseTree, NoElse, ElseBlock, else_then, OrTree, NoOr, OrBlock, or_then}
 
 abbrev mutual
   pub statement_weight : StatementTree → ℕ
@@ -43,6 +43,8 @@ value_long : (v : ValueTree) (rest : List TokenKind) → length rest < length (v
 value_long NullValue rest = omega arith
 value_long NewValue rest = omega arith
 value_long (NumberValue n) rest = omega arith
+value_long (MarkValue n) rest = omega arith
+value_long (UnmarkValue n) rest = omega arith
 value_long (PlaceValue p) rest = place_long p rest
 
 ghost_value_long : (v : GhostValueTree) (rest : List TokenKind) → length rest < length (ghost_value_then v rest)
@@ -51,6 +53,8 @@ ghost_value_long MeGhost rest = omega arith
 ghost_value_long NoneGhost rest = omega arith
 
 test_long : (t : TestTree) (rest : List TokenKind) → length rest < length (test_then t rest)
+test_long (MarkedTest n) rest = omega arith
+test_long (UnmarkedTest n) rest = omega arith
 test_long (Compares n c a) rest = omega (arith, atom_long a rest)
 
 primitive_long : (p : PrimitiveTree) (rest : List TokenKind) → length rest < length (primitive_then p rest)

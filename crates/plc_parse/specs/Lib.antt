@@ -2,6 +2,7 @@
 pub mod Meaning
 pub mod Units
 pub mod Fit
+pub mod Marks
 -- words of private functions alone
 pub mod Reading
 pub mod Growth

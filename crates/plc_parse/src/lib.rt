@@ -9,12 +9,14 @@ mod declaration;
 mod lines;
 mod lists;
 mod local;
+mod marks;
 mod operation;
 mod reading;
 mod statement;
 mod step;
 mod unit;
 
+pub use marks::units_use_their_marks;
 pub use plc_scope::ParseFault;
 pub use reading::{faults_are_one, parse, units_are_unique, units_fit};
 pub use unit::Unit;
