@@ -18,6 +18,7 @@ use Rattle.plc_flow.specs.declared.flow.Flow.{Flow}
 use Rattle.plc_setting.specs.declared.acts.Act.{Act}
 use Rattle.plc_setting.specs.declared.obligations.Obligation.{Obligation}
 use Rattle.plc_setting.specs.Acts.{acts_of}
+use Rattle.plc_setting.specs.Marks.{program_uses_marks}
 use Rattle.plc_setting.specs.Parts.{executed, acting_locals, has_owner, owner_locals, acting_premises, owner_premises, conclusion, claim_made}
 use Rattle.plc_setting.specs.Setting.{variables_of}
 use Rattle.plc_setting.specs.Sorts.{symbol_sort, map_sort}
@@ -26,6 +27,7 @@ use Rattle.plc_gc.specs.State.{GcState, count}
 use Rattle.plc_gc.specs.Claims.{claim_holds}
 use Rattle.plc_gc.specs.Ranges.{IsInRange, ValuesAreInRange}
 use Rattle.plc_gc.specs.Run.{execute}
+use Rattle.plc_gc.specs.Unmarked.{AllUnmarked}
 use Rattle.plc_flow.proofs.Each.{Each}
 use Rattle.plc_held.proofs.Acts.{IsNamed}
 use Rattle.plc_held.proofs.Current.{bit}
@@ -70,15 +72,15 @@ scene_of flow o acting owner node bound = record {
   bound = bound;
 }
 
-abbrev pub acts_in : Flow → Obligation → List Act
-acts_in flow o = acts_of flow.file.ghosts (variables_of false (acting_locals flow o)) (executed flow o)
+abbrev pub acts_in : Flow → Outline → Obligation → List Act
+acts_in flow outline o = acts_of (program_uses_marks flow outline) flow.file.ghosts (variables_of false (acting_locals flow o)) (executed flow o)
 
-abbrev pub meaning_of : Flow → Obligation → Scene → GcState → Meaning
-meaning_of flow o w g = record {
-  symbol_sort = symbol_sort flow o (acts_in flow o);
+abbrev pub meaning_of : Flow → Outline → Obligation → Scene → GcState → Meaning
+meaning_of flow outline o w g = record {
+  symbol_sort = symbol_sort flow o (acts_in flow outline o);
   map_sort = map_sort flow.file;
-  symbol = meant (load_at start (seen w g) (acts_in flow o)) w g;
-  version = map_at start (seen w g) (acts_in flow o);
+  symbol = meant (load_at start (seen w g) (acts_in flow outline o)) w g;
+  version = map_at start (seen w g) (acts_in flow outline o);
 }
 
 -- ---- how many nodes are made
@@ -120,6 +122,7 @@ pub record IsReady (flow : Flow) (outline : Outline) (o : Obligation) (acting ow
   pub taken : execute g acting (executed flow o) ≡ Some h
   pub fields : g.fields ≡ flow.file.fields
   pub ranges : IsInRange g
+  pub unmarked : program_uses_marks flow outline ≡ false → AllUnmarked g
   pub values : ValuesAreInRange flow.file g
   pub begins : (b : ℕ → ℕ) → BeginsAs (scene_of flow o acting owner (count g) b) g o
   pub acting_holds : (b : ℕ → ℕ) → Each (IsPremise flow.file (scene_of flow o acting owner (count g) b) g false) (acting_premises flow outline o)

@@ -14,6 +14,7 @@ use Rattle.plc_flow.specs.declared.flow.Flow.{Flow}
 use Rattle.plc_setting.specs.declared.acts.Act.{Act}
 use Rattle.plc_setting.specs.declared.obligations.Obligation.{Obligation}
 use Rattle.plc_setting.specs.declared.setting.Setting.{Setting}
+use Rattle.plc_setting.specs.Marks.{program_uses_marks}
 use Rattle.plc_setting.specs.Parts.{executed, acting_locals, has_owner, owner_locals, acting_premises, owner_premises, conclusion, claim_made}
 use Rattle.plc_setting.specs.Setting.{pointer_loads_from, plain_constants, bound_of, setting_of}
 use Rattle.plc_setting.specs.Sorts.{sort_of, loads_of, load_sort}
@@ -42,6 +43,7 @@ use Rattle.plc_held.proofs.Premises.{instances_true}
 use Rattle.plc_held.proofs.Conclusion.{clause_denied, claim_denied}
 use Rattle.plc_held.proofs.Beginning.{beginning_true}
 use Rattle.plc_held.proofs.Apart.{apart as symbols_apart}
+use Rattle.plc_held.proofs.Silent.{obligation_is_silent}
 use Rattle.plc_held.proofs.Broken.{meant_named, scene_of, acts_in, meaning_of, any_none, any_some, ClaimFails, ClauseFails, IsBroken}
 
 module _ (flow : Flow) (outline : Outline) (o : Obligation) (acting owner : ℕ) (bound : ℕ → ℕ) (g h : GcState)
@@ -50,18 +52,18 @@ module _ (flow : Flow) (outline : Outline) (o : Obligation) (acting owner : ℕ)
   w = scene_of flow o acting owner (count g) bound
 
   abbrev e : Meaning
-  e = meaning_of flow o (scene_of flow o acting owner (count g) bound) g
+  e = meaning_of flow outline o (scene_of flow o acting owner (count g) bound) g
 
   abbrev acts : List Act
-  acts = acts_in flow o
+  acts = acts_in flow outline o
 
   abbrev s : Setting
   s = setting_of flow outline o
 
   -- ---- the run
 
-  run : Ran flow.file w broken.ready.shape broken.ready.shaped broken.ready.apart refl g (executed flow o) h
-  run = ran flow.file w broken.ready.shape broken.ready.shaped broken.ready.apart refl (executed flow o) g h broken.ready.taken broken.ready.fields broken.ready.ranges broken.ready.names broken.ready.sorted (λ some. refl) broken.ready.one_new
+  run : Ran flow.file (program_uses_marks flow outline) w broken.ready.shape broken.ready.shaped broken.ready.apart refl g (executed flow o) h
+  run = ran flow.file (program_uses_marks flow outline) w broken.ready.shape broken.ready.shaped broken.ready.apart refl (executed flow o) g h broken.ready.taken broken.ready.fields broken.ready.ranges (obligation_is_silent flow outline o) broken.ready.unmarked broken.ready.names broken.ready.sorted (λ some. refl) broken.ready.one_new
 
   acted : ActsRun (count g) (count h) (seen w g) acts (seen w h)
   acted = run.runs (count h) (omega arith)
@@ -151,7 +153,7 @@ module _ (flow : Flow) (outline : Outline) (o : Obligation) (acting owner : ℕ)
 
   done : IsExecuted e (count g) (count h) refl refl s.nodes start acts (seen w h)
   done = is_executed e (count g) (count h) refl refl s.nodes are_nodes start (seen w g) acts (seen w h) foresees now
-      (acts_sorted e flow.file w sorts_are broken.ready.shape broken.ready.shaped (executed flow o) start broken.ready.names broken.ready.sorted load_sorts) acted
+      (acts_sorted e flow.file (program_uses_marks flow outline) w sorts_are broken.ready.shape broken.ready.shaped (executed flow o) start broken.ready.names broken.ready.sorted load_sorts) acted
 
   means_after : Means e flow.file w (after_all start acts) h
   means_after = record {

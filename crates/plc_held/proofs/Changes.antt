@@ -1,22 +1,31 @@
 -- What is put into a place, changed in a map or made, as ground sets see it.
-use Rattle.std.proofs.Common.{◌≡◌, ℕ, suc, ◌<◌, Bool, true, false, Option, Some, None, slice_get, refl, sym, ap, ◌∙◌, subst, inl, inr, ◌⊎◌}
+use Rattle.std.proofs.Common.{◌≡◌, ℕ, suc, ◌<◌, Bool, true, false, Option, Some, None, slice_get, refl, sym, ap, ◌∙◌, subst}
+use Rattle.std.proofs.Common.{arith, inl, inr, ◌⊎◌}
 use Rattle.std.specs.Prelude.{if◌then◌else◌}
 use Rattle.std.proofs.lemmas.Bool.{both_ways, cases_eq, eq-eqb, ne_eqb}
 use Rattle.plc_lang.specs.declared.syntax.Field.{Field}
+use Rattle.plc_lang.specs.declared.syntax.Var.{Var}
+use Rattle.plc_lang.specs.declared.syntax.Var.TheVariants as vars
 use Rattle.plc_ground.specs.declared.terms.Symbol.{Symbol}
 use Rattle.plc_ground.specs.declared.terms.Map.{Map}
 use Rattle.plc_ground.specs.declared.terms.Map.TheVariants as maps
 use Rattle.plc_ground.specs.Symbols.{same_symbol, same_map}
 use Rattle.plc_gc.specs.declared.slot.Slot.{Slot}
 use Rattle.plc_gc.specs.declared.slot.Slot.TheVariants.{Shared as in_shared, Local as in_local, Data as in_data}
+use Rattle.plc_gc.specs.declared.slot.Slot.TheVariants.{SharedMark as shared_mark, LocalMark as local_mark}
 use Rattle.plc_gc.specs.declared.slot.Map.{Map as GcMap}
-use Rattle.plc_gc.specs.declared.slot.Map.TheVariants.{Pointer as pointer_field, Number as data_field, Auxiliary as auxiliary_field, Retirement as retirement}
-use Rattle.plc_gc.specs.State.{GcState, value, entry, count, put, update, made, with_locals}
+use Rattle.plc_gc.specs.declared.slot.Map.TheVariants.{Pointer as pointer_field, Mark as mark_field}
+use Rattle.plc_gc.specs.declared.slot.Map.TheVariants.{Number as data_field, Auxiliary as auxiliary_field}
+use Rattle.plc_gc.specs.declared.slot.Map.TheVariants.{Retirement as retirement}
+use Rattle.plc_gc.specs.State.{GcState, value, entry, count, put, put_pointer, update, made}
+use Rattle.plc_gc.specs.State.{update_pointer, with_locals, slot, mark_slot}
 use Rattle.plc_gc.specs.Clauses.{declared_map}
+use Rattle.plc_gc.specs.Laws.{Put}
 use Rattle.plc_gc.proofs.Views.{puts, updates, makes}
 use Rattle.plc_ground.proofs.Symbols.{same_symbol_true, same_symbol_refl, same_map_true, same_map_refl, field_id}
 use Rattle.plc_held.proofs.Acts.{View, with_symbol, with_map, changed}
-use Rattle.plc_held.proofs.Scene.{Scene, symbol_in, gc_map, seen, slot_of, symbol_there, symbol_fixed, one_symbol}
+use Rattle.plc_held.proofs.Scene.{Scene, symbol_in, gc_map, seen, slot_of, symbol_there, symbol_fixed}
+use Rattle.plc_held.proofs.Scene.{is_mark, no_mark, one_symbol}
 
 same_view : (v w : View) → ((s : Symbol) → v.symbol s ≡ w.symbol s) → ((m : Map) (i : ℕ) → v.map m i ≡ w.map m i) → v.count ≡ w.count → v ≡ w
 same_view v w a b c = λ i. record { symbol = λ s. a s i; map = λ m n. b m n i; count = c i }
@@ -27,11 +36,20 @@ pub put_fields : (g : GcState) (q : Slot) (n : ℕ) → (put g q n).fields ≡ g
 unfolding put with_locals
 put_fields g (in_shared i) n = refl
 put_fields g (in_local t v) n = refl
+put_fields g (shared_mark i) n = refl
+put_fields g (local_mark t v) n = refl
 put_fields g (in_data t x) n = refl
+
+pub put_pointer_fields : (g : GcState) (t : ℕ) (v : Var) (n m : ℕ) → (put_pointer g t v n m).fields ≡ g.fields
+put_pointer_fields g t v n m = put_fields (put g (mark_slot t v) m) (slot t v) n ∙ put_fields g (mark_slot t v) m
 
 pub update_fields : (g : GcState) (m : GcMap) (k n : ℕ) → (update g m k n).fields ≡ g.fields
 unfolding update
 update_fields g m k n = refl
+
+pub update_pointer_fields : (g : GcState) (f k n m : ℕ) → (update_pointer g f k n m).fields ≡ g.fields
+update_pointer_fields g f k n m =
+    update_fields (update g (mark_field f) k m) (pointer_field f) k n ∙ update_fields g (mark_field f) k m
 
 pub made_fields : (g : GcState) → (made g).fields ≡ g.fields
 unfolding made
@@ -86,6 +104,21 @@ one_map g maps.Retired (maps.Field f) h = absurd ((field_only f.0 (slice_get g.f
 one_map g maps.Retired (maps.Ghost i) h = cc
 one_map g maps.Retired maps.Retired h = refl
 
+-- ---- no map of a ground set has marks
+
+no_mark_map : (g : GcState) (l : Map) (f : ℕ) → gc_map g l ≡ mark_field f → ⊥
+no_mark_map g (maps.Field e) f h = go (slice_get g.fields e.0) h
+  where
+    go : (o : Option Field) → declared_map e.0 o ≡ mark_field f → ⊥
+    go None h = cc
+    go (Some d) h = inner d.pointer h
+      where
+        inner : (b : Bool) → (if b then pointer_field e.0 else data_field e.0) ≡ mark_field f → ⊥
+        inner true h = cc
+        inner false h = cc
+no_mark_map g (maps.Ghost i) f h = cc
+no_mark_map g maps.Retired f h = cc
+
 -- ---- values
 
 module _ (w : Scene) (ne : w.owner ≡ w.acting → ⊥) where
@@ -118,13 +151,54 @@ module _ (w : Scene) (ne : w.owner ≡ w.acting → ⊥) where
       (λ m i. (puts g q n).nodes.entries (gc_map (put g q n) m) i ∙ ap (λ l. entry g l i) (same_gc_map g (put g q n) (put_fields g q n) m))
       (puts g q n).nodes.count
 
-  pub seen_made : (g : GcState) (p : Symbol) (q : Slot) (n : ℕ) → slot_of w p ≡ Some q → seen w (put (made g) q n) ≡ with_symbol (seen w g) p n (suc (count g))
+  -- ground sets see no mark of a variable
+  mark_apart : (t : ℕ) (v : Var) (s : Symbol) (q : Slot) → slot_of w s ≡ Some q → q ≡ mark_slot t v → ⊥
+  mark_apart t (vars.Shared i) s q e same = both_ways (is_mark q) (no_mark w s q e) (ap is_mark same)
+  mark_apart t (vars.Local k) s q e same = both_ways (is_mark q) (no_mark w s q e) (ap is_mark same)
+
+  seen_mark : (g : GcState) (t : ℕ) (v : Var) (m : ℕ) → seen w (put g (mark_slot t v) m) ≡ seen w g
+  seen_mark g t v m = same_view (seen w (put g (mark_slot t v) m)) (seen w g)
+      (λ s. kept s (slot_of w s) refl)
+      (λ l i. u.nodes.entries (gc_map (put g (mark_slot t v) m) l) i
+      ∙ ap (λ d. entry g d i) (same_gc_map g (put g (mark_slot t v) m) (put_fields g (mark_slot t v) m) l))
+      u.nodes.count
+    where
+      u : Put g (mark_slot t v) m (put g (mark_slot t v) m)
+      u = puts g (mark_slot t v) m
+
+      kept : (s : Symbol) (o : Option Slot) → slot_of w s ≡ o
+          → symbol_in w (put g (mark_slot t v) m) s ≡ symbol_in w g s
+      kept s None e = symbol_fixed w (put g (mark_slot t v) m) g s e
+      kept s (Some q) e = symbol_there w (put g (mark_slot t v) m) s q e
+          ∙ u.elsewhere q (mark_apart t v s q e) ∙ sym (symbol_there w g s q e)
+
+  pub seen_put_pointer : (g : GcState) (t : ℕ) (v : Var) (p : Symbol) (n m : ℕ) → slot_of w p ≡ Some (slot t v)
+      → seen w (put_pointer g t v n m) ≡ with_symbol (seen w g) p n (count g)
+  seen_put_pointer g t v p n m at =
+      seen_put (put g (mark_slot t v) m) p (slot t v) n at
+      ∙ ap (λ (u : View). with_symbol u p n u.count) (seen_mark g t v m)
+
+  seen_grown : (g : GcState) (p : Symbol) (n : ℕ)
+      → with_symbol (seen w (made g)) p n (count (made g)) ≡ with_symbol (seen w g) p n (suc (count g))
   unfolding with_symbol
-  seen_made g p q n at = seen_put (made g) p q n at ∙ same_view (record { symbol = λ s. if same_symbol p s then n else symbol_in w (made g) s; map = λ m. entry (made g) (gc_map (made g) m); count = count (made g) })
-      (record { symbol = λ s. if same_symbol p s then n else symbol_in w g s; map = λ m. entry g (gc_map g m); count = suc (count g) })
+  seen_grown g p n = same_view
+      (record {
+        symbol = λ s. if same_symbol p s then n else symbol_in w (made g) s;
+        map = λ m. entry (made g) (gc_map (made g) m);
+        count = count (made g);
+      })
+      (record {
+        symbol = λ s. if same_symbol p s then n else symbol_in w g s;
+        map = λ m. entry g (gc_map g m);
+        count = suc (count g);
+      })
       (λ s. ap (λ k. if same_symbol p s then n else k) (stays g (made g) (makes g).values s))
       (λ m i. (makes g).entries (gc_map (made g) m) i ∙ ap (λ l. entry g l i) (same_gc_map g (made g) (made_fields g) m))
       (makes g).count
+
+  pub seen_made : (g : GcState) (t : ℕ) (v : Var) (p : Symbol) (n m : ℕ) → slot_of w p ≡ Some (slot t v)
+      → seen w (put_pointer (made g) t v n m) ≡ with_symbol (seen w g) p n (suc (count g))
+  seen_made g t v p n m at = seen_put_pointer (made g) t v p n m at ∙ seen_grown g p n
 
   update_map : (g : GcState) (m : Map) (k n : ℕ) (l : Map) (i : ℕ) → entry (update g (gc_map g m) k n) (gc_map g l) i ≡ (if same_map l m then changed (entry g (gc_map g l)) k n i else entry g (gc_map g l) i)
   update_map g m k n l i = go (same_map l m) refl
@@ -143,3 +217,23 @@ module _ (w : Scene) (ne : w.owner ≡ w.acting → ⊥) where
       (stays g (update g (gc_map g m) k n) (updates g (gc_map g m) k n).values)
       (λ l i. ap (λ d. entry (update g (gc_map g m) k n) d i) (same_gc_map g (update g (gc_map g m) k n) (update_fields g (gc_map g m) k n) l) ∙ update_map g m k n l i)
       ((updates g (gc_map g m) k n).count small)
+
+  -- nor of a field
+  seen_field_mark : (g : GcState) (f k m : ℕ) → k < count g → seen w (update g (mark_field f) k m) ≡ seen w g
+  seen_field_mark g f k m small =
+      let u = updates g (mark_field f) k m in
+      same_view (seen w (update g (mark_field f) k m)) (seen w g)
+      (stays g (update g (mark_field f) k m) u.values)
+      (λ l i. ap (λ d. entry (update g (mark_field f) k m) d i)
+      (same_gc_map g (update g (mark_field f) k m) (update_fields g (mark_field f) k m) l)
+      ∙ u.other_map (gc_map g l) i (no_mark_map g l f))
+      (u.count small)
+
+  pub seen_update_pointer : (g : GcState) (l : Map) (f k n m : ℕ) → gc_map g l ≡ pointer_field f → k < count g
+      → seen w (update_pointer g f k n m) ≡ with_map (seen w g) l k n
+  seen_update_pointer g l f k n m is small =
+      let h = update g (mark_field f) k m in
+      let same : gc_map h l ≡ pointer_field f = same_gc_map g h (update_fields g (mark_field f) k m) l ∙ is in
+      let more : k < count h = (let c = (updates g (mark_field f) k m).count small in omega arith) in
+      ap (λ d. seen w (update h d k n)) (sym same) ∙ seen_update h l k n more
+      ∙ ap (λ (u : View). with_map u l k n) (seen_field_mark g f k m small)

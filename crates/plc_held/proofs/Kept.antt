@@ -1,5 +1,6 @@
 -- Each move keeps what a held outline says, and so each run does.
-use Rattle.std.proofs.Common.{◌≡◌, ℕ, ◌<◌, List, [], ◌∷◌, ◌++◌, get_or, Some, None, slice_get, sym, ap, ◌∙◌, subst, arith, inl, inr}
+use Rattle.std.proofs.Common.{◌≡◌, ℕ, ◌<◌, false, List, [], ◌∷◌, ◌++◌, get_or, Some, None, slice_get}
+use Rattle.std.proofs.Common.{sym, ap, ◌∙◌, subst, arith, inl, inr}
 use Rattle.std.proofs.lemmas.Bool.{cases_eq}
 use Rattle.std.proofs.lemmas.Option.{same_Some}
 use Rattle.plc_base.specs.Tables.{put_at}
@@ -12,6 +13,7 @@ use Rattle.plc_threads.specs.declared.words.Move.TheVariants.{Start, Step as Tak
 use Rattle.plc_flow.specs.declared.points.Point.{Point}
 use Rattle.plc_logic.specs.declared.clause.Outline.{Outline}
 use Rattle.plc_setting.specs.Fit.{Fits}
+use Rattle.plc_setting.specs.Marks.{program_uses_marks}
 use Rattle.plc_setting.specs.Points.{clauses_at}
 use Rattle.plc_gc.specs.State.{GcState, Locals, locals_of, with_locals, starting}
 use Rattle.plc_gc.specs.Clauses.{Holds}
@@ -22,7 +24,10 @@ use Rattle.plc_gc.proofs.Busy.{IsBusyAt}
 use Rattle.plc_gc.proofs.Frames.{held_is}
 use Rattle.plc_gc.proofs.Ranges.{ranged_run}
 use Rattle.plc_gc.proofs.Threads.{busy_at, run_fits}
+use Rattle.plc_gc.specs.Unmarked.{AllUnmarked}
+use Rattle.plc_gc.proofs.Unmarked.{runs_stay_unmarked}
 use Rattle.plc_gc.proofs.Values.{runs_keep_values}
+use Rattle.plc_held.proofs.Silent.{flow_is_silent}
 use Rattle.plc_flow.proofs.Each.{Each}
 use Rattle.plc_held.specs.Held.{OutlineIsTrue, HeldOutlinesAreTrue, HeldClaimsAreTrue}
 use Rattle.plc_oblig.proofs.Lists.{all_of_each}
@@ -39,12 +44,14 @@ module _ (flow : Flow) (outline : Outline) (threads : ℕ) (fits : Fits flow out
   -- what every configuration of a run has
   record IsReached (c : GcConfiguration) : Type 0 where
     ranges : IsInRange c.state
+    unmarked : program_uses_marks flow outline ≡ false → AllUnmarked c.state
     values : ValuesAreInRange flow.file c.state
     threads_fit : 0 < threads → GcConfigurationFits flow threads c
 
   reached : (moves : List Move) (c : GcConfiguration) → GcRun flow threads moves c → IsReached c
   reached moves c run = record {
     ranges = ranged_run flow threads moves c run;
+    unmarked = λ none. (runs_stay_unmarked flow threads (flow_is_silent flow outline none)).run moves c run;
     values = (runs_keep_values flow threads fits.sorted).run moves c run;
     threads_fit = λ some. run_fits flow fits.flow_fits fits.sorted threads some moves c run;
   }
@@ -59,6 +66,7 @@ module _ (flow : Flow) (outline : Outline) (threads : ℕ) (fits : Fits flow out
         leaves_there = may.leaves_there;
         fields = k.fields;
         ranges = r.ranges;
+        unmarked = r.unmarked;
         values = r.values;
         invariants = kept.invariants;
         clauses = kept.points t p may.busy;
@@ -100,7 +108,9 @@ module _ (flow : Flow) (outline : Outline) (threads : ℕ) (fits : Fits flow out
         let b = busy_at flow threads (record { state = with_locals c.state t (Some (starting m.0 args)); points = put_at None c.points t (Some (record { op = op.0; at = m.1.entry.0 })) }) t (record { op = op.0; at = m.1.entry.0 }) k
         (get-put_same None c.points t (Some (record { op = op.0; at = m.1.entry.0 }))) in
         subst (IsKept outline flow) (sym m.7) (started flow outline threads fits met c kept t op.0 m.0 m.1 args m.4 m.5 m.6
-        (subst (λ (d : GcConfiguration). IsInRange d.state) m.7 s.ranges) (subst (λ (d : GcConfiguration). ValuesAreInRange flow.file d.state) m.7 s.values) k.fields
+        (subst (λ (d : GcConfiguration). IsInRange d.state) m.7 s.ranges)
+        (subst (λ (d : GcConfiguration). program_uses_marks flow outline ≡ false → AllUnmarked d.state) m.7 s.unmarked)
+        (subst (λ (d : GcConfiguration). ValuesAreInRange flow.file d.state) m.7 s.values) k.fields
         (declared_of flow (with_locals c.state t (Some (starting m.0 args))) t (record { op = op.0; at = m.1.entry.0 }) m.0 b m.4))
     moved d s (Take t nth addr) m = subst (IsKept outline flow) (sym m.5) (taken t nth m.0 m.1 m.2 m.3 m.4 (subst (GcConfigurationFits flow threads) m.5 (s.threads_fit (let known = m.3.known in omega arith))))
     moved d s (Return t) m = subst (IsKept outline flow) (sym m.6) (record {

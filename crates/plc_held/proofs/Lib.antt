@@ -19,6 +19,7 @@ pub mod Premises
 pub mod Conclusion
 pub mod Beginning
 pub mod Apart
+pub mod Silent
 pub mod Broken
 pub mod Central
 pub mod Agreement

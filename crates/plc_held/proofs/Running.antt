@@ -1,5 +1,6 @@
 -- Primitives that are executed are acts that run.
 use Rattle.std.proofs.Common.{◌≡◌, ℕ, ◌+◌, ◌<◌, ◌≤◌, Bool, true, false, List, [], ◌∷◌, Some, count_by, cond, refl, ap, ◌∙◌, subst, arith}
+use Rattle.std.proofs.lemmas.Bool.{or_parts}
 use Rattle.std.proofs.lemmas.List.Sums.{sum_by-cons}
 use Rattle.plc_base.specs.Functions.{is_retire}
 use Rattle.plc_lang.specs.declared.syntax.Arg.{Arg}
@@ -7,27 +8,33 @@ use Rattle.plc_lang.specs.declared.syntax.Arg.TheVariants as args
 use Rattle.plc_lang.specs.declared.syntax.File.{File}
 use Rattle.plc_lang.specs.declared.syntax.Rel.{Rel}
 use Rattle.plc_lang.specs.declared.syntax.Rel.TheVariants as rels
+use Rattle.plc_lang.specs.declared.syntax.Var.TheVariants as vars
 use Rattle.plc_lang.specs.declared.syntax.Ghost.{Ghost as AuxiliaryField}
 use Rattle.plc_lang.specs.declared.syntax.Primitive.{Primitive}
-use Rattle.plc_lang.specs.declared.syntax.Primitive.TheVariants.{Null, Copy, New, Load, Store, StoreNull, DataSet, DataLoad, DataStore, DataTest, Refresh, RefreshLoad, RefreshStore, Call, Ghost}
+use Rattle.plc_lang.specs.declared.syntax.Primitive.TheVariants.{Null, Copy, New, Load, Store, StoreNull, DataSet}
+use Rattle.plc_lang.specs.declared.syntax.Primitive.TheVariants.{DataLoad, DataStore, Ne, DataTest, Refresh}
+use Rattle.plc_lang.specs.declared.syntax.Primitive.TheVariants.{RefreshLoad, RefreshStore, Mark, Unmark, Call, Ghost}
 use Rattle.plc_lang.specs.Allocation.{is_new}
+use Rattle.plc_lang.specs.Marks.{speaks_of_marks, speak_of_marks}
 use Rattle.plc_lang.specs.Shape.{Shape, PrimitiveIn, PrimitivesIn}
 use Rattle.plc_lang.specs.WellSorted.{IsWellSorted, AreWellSorted}
 use Rattle.plc_ground.specs.declared.terms.Symbol.{Symbol}
 use Rattle.plc_setting.specs.declared.acts.Act.{Act}
 use Rattle.plc_setting.specs.declared.acts.Act.TheVariants.{Assign, Make, Fetch, Update, Test, Skip}
 use Rattle.plc_setting.specs.declared.setting.Variables.{Variables}
-use Rattle.plc_setting.specs.Acts.{data_test, call_act, act_of, acts_of}
+use Rattle.plc_setting.specs.Acts.{data_test, pointers_differ, call_act, act_of, acts_of}
 use Rattle.plc_setting.specs.Setting.{variables_of}
 use Rattle.plc_gc.specs.State.{GcState, count, made}
-use Rattle.plc_gc.specs.Primitives.{goes, after_call, after}
+use Rattle.plc_gc.specs.Primitives.{node_at, mark_at, field_at, field_mark_at, goes, after_call, after}
 use Rattle.plc_gc.specs.Ranges.{IsInRange}
 use Rattle.plc_gc.specs.Run.{turn, execute}
+use Rattle.plc_gc.specs.Unmarked.{AllUnmarked}
 use Rattle.plc_gc.proofs.Ranges.{ranged_primitive}
+use Rattle.plc_gc.proofs.Unmarked.{unmarked_primitive}
 use Rattle.plc_held.proofs.Acts.{View, with_symbol, with_map, act_after, ActsRun}
 use Rattle.plc_held.proofs.Current.{bit}
 use Rattle.plc_held.proofs.Scene.{Scene, seen}
-use Rattle.plc_held.proofs.Changes.{put_fields, update_fields, made_fields}
+use Rattle.plc_held.proofs.Changes.{put_fields, put_pointer_fields, update_fields, update_pointer_fields, made_fields}
 use Rattle.plc_held.proofs.Variables.{ShapeFits}
 use Rattle.plc_held.proofs.Rows.{RowFits, IsRow, row}
 
@@ -62,11 +69,17 @@ call_makes v true args.Null = refl
 call_makes v true args.None = refl
 call_makes v false a = refl
 
-makes : (gs : List AuxiliaryField) (v : Variables) (k : Primitive) → made_by (act_of gs v k) ≡ bit (is_new k)
-makes gs v (New p) = refl
-makes gs v (DataTest r x e) = test_makes r _ _
-makes gs v (Call f a) = call_makes v (is_retire f) a
-makes gs v _ = refl
+differ_makes : (marked : Bool) (a b : Symbol) → made_by (pointers_differ marked a b) ≡ 0
+differ_makes true a b = refl
+differ_makes false a b = refl
+
+makes : (marked : Bool) (gs : List AuxiliaryField) (v : Variables) (k : Primitive)
+    → made_by (act_of marked gs v k) ≡ bit (is_new k)
+makes marked gs v (New p) = refl
+makes marked gs v (Ne p q) = differ_makes marked _ _
+makes marked gs v (DataTest r x e) = test_makes r _ _
+makes marked gs v (Call f a) = call_makes v (is_retire f) a
+makes marked gs v _ = refl
 
 -- ---- fields stay
 
@@ -77,47 +90,64 @@ call_fields g t true args.None = refl
 call_fields g t false a = refl
 
 after_fields : (g : GcState) (t : ℕ) (k : Primitive) → (after g t k).fields ≡ g.fields
-after_fields g t (Null p) = put_fields g _ _
-after_fields g t (Copy p q) = put_fields g _ _
-after_fields g t (New p) = put_fields (made g) _ _ ∙ made_fields g
-after_fields g t (Load p q f) = put_fields g _ _
-after_fields g t (Store p f q) = update_fields g _ _ _
-after_fields g t (StoreNull p f) = update_fields g _ _ _
+after_fields g t (Null p) = put_pointer_fields g t _ _ _
+after_fields g t (Copy p q) = put_pointer_fields g t _ _ _
+after_fields g t (New p) = put_pointer_fields (made g) t _ _ _ ∙ made_fields g
+after_fields g t (Load p q f) = put_pointer_fields g t _ _ _
+after_fields g t (Store p f q) = update_pointer_fields g _ _ _ _
+after_fields g t (StoreNull p f) = update_pointer_fields g _ _ _ _
 after_fields g t (DataSet x e) = put_fields g _ _
 after_fields g t (DataLoad x q f) = put_fields g _ _
 after_fields g t (DataStore p f e) = update_fields g _ _ _
-after_fields g t (Refresh p q) = put_fields g _ _
-after_fields g t (RefreshLoad p q f) = put_fields g _ _
-after_fields g t (RefreshStore p f q) = update_fields g _ _ _
+after_fields g t (Refresh p q) = put_pointer_fields g t (vars.Local p) (node_at g t q) (mark_at g t q)
+after_fields g t (RefreshLoad p q f) =
+    put_pointer_fields g t (vars.Local p) (field_at g t q f.0) (field_mark_at g t q f.0)
+after_fields g t (RefreshStore p f q) = update_pointer_fields g _ _ _ _
+after_fields g t (Mark p q) = put_pointer_fields g t _ _ _
+after_fields g t (Unmark p q) = put_pointer_fields g t _ _ _
 after_fields g t (Call f a) = call_fields g t (is_retire f) a
 after_fields g t (Ghost p i v) = update_fields g _ _ _
 after_fields g t _ = refl
 
-module _ (file : File) (w : Scene) (shape : Shape) (shaped : ShapeFits shape w.mine) (apart : w.owner ≡ w.acting → ⊥) (ghosts : w.ghosts ≡ file.ghosts) where
+module _ (file : File) (marked : Bool) (w : Scene) (shape : Shape) (shaped : ShapeFits shape w.mine) (apart : w.owner ≡ w.acting → ⊥) (ghosts : w.ghosts ≡ file.ghosts) where
   -- the acts of these primitives lead from one state to the other
   pub record Ran (g : GcState) (ks : List Primitive) (h : GcState) : Type 0 where
-    pub runs : (limit : ℕ) → count h ≤ limit → ActsRun w.node limit (seen w g) (acts_of file.ghosts (variables_of false w.mine) ks) (seen w h)
+    pub runs : (limit : ℕ) → count h ≤ limit → ActsRun w.node limit (seen w g) (acts_of marked file.ghosts (variables_of false w.mine) ks) (seen w h)
     pub count_is : count h ≡ count g + count_by is_new ks
     pub ranges : IsInRange h
     pub fields : h.fields ≡ file.fields
 
-  fits_at : (g : GcState) (limit : ℕ) → g.fields ≡ file.fields → IsInRange g → count g ≤ limit → RowFits file w g limit
-  fits_at g limit same ranges few = record { apart = apart; ghosts = ghosts; fields = same; ranges = ranges; few = few }
+  fits_at : (g : GcState) (limit : ℕ) → g.fields ≡ file.fields → IsInRange g → (marked ≡ false → AllUnmarked g)
+      → count g ≤ limit → RowFits file marked w g limit
+  fits_at g limit same ranges clear few =
+      record { apart = apart; ghosts = ghosts; fields = same; ranges = ranges; few = few; unmarked = clear }
 
-  row_at : (g : GcState) (limit : ℕ) (k : Primitive) → g.fields ≡ file.fields → IsInRange g → count g ≤ limit → PrimitiveIn shape k → IsWellSorted file k → goes g w.acting k ≡ true → (is_new k ≡ true → w.node ≡ count g)
-      → IsRow w g limit (act_of file.ghosts (variables_of false w.mine) k) (after g w.acting k)
-  row_at g limit k same ranges few is sorted went node = row file w g limit (fits_at g limit same ranges few) shape shaped k is sorted went node
+  row_at : (g : GcState) (limit : ℕ) (k : Primitive) → g.fields ≡ file.fields → IsInRange g
+      → (marked ≡ false → AllUnmarked g) → count g ≤ limit → PrimitiveIn shape k → IsWellSorted file k → goes g w.acting k ≡ true → (is_new k ≡ true → w.node ≡ count g)
+      → IsRow w g limit (act_of marked file.ghosts (variables_of false w.mine) k) (after g w.acting k)
+  row_at g limit k same ranges clear few is sorted went node =
+      row file marked w g limit (fits_at g limit same ranges clear few) shape shaped k is sorted went node
 
-  count_after : (g : GcState) (k : Primitive) → IsRow w g (count g) (act_of file.ghosts (variables_of false w.mine) k) (after g w.acting k) → count (after g w.acting k) ≡ count g + bit (is_new k)
-  count_after g k r = ap (λ (v : View). v.count) r.leads ∙ count_act (seen w g) (act_of file.ghosts (variables_of false w.mine) k) ∙ ap (λ n. count g + n) (makes file.ghosts (variables_of false w.mine) k)
+  count_after : (g : GcState) (k : Primitive) → IsRow w g (count g) (act_of marked file.ghosts (variables_of false w.mine) k) (after g w.acting k) → count (after g w.acting k) ≡ count g + bit (is_new k)
+  count_after g k r = ap (λ (v : View). v.count) r.leads ∙ count_act (seen w g) (act_of marked file.ghosts (variables_of false w.mine) k) ∙ ap (λ n. count g + n) (makes marked file.ghosts (variables_of false w.mine) k)
 
-  pub ran : (ks : List Primitive) (g h : GcState) → execute g w.acting ks ≡ Some h → g.fields ≡ file.fields → IsInRange g → PrimitivesIn shape ks → AreWellSorted file ks
+  -- no mark is set by what doesn't speak of marks
+  clear_after : (g : GcState) (k : Primitive) (ks : List Primitive) → (marked ≡ false → speak_of_marks (k ∷ ks) ≡ false)
+      → (marked ≡ false → AllUnmarked g) → marked ≡ false → AllUnmarked (after g w.acting k)
+  clear_after g k ks silent clear none = unmarked_primitive g w.acting k
+      (or_parts (speaks_of_marks k) (speak_of_marks ks) (silent none)).0 (clear none)
+
+  pub ran : (ks : List Primitive) (g h : GcState) → execute g w.acting ks ≡ Some h → g.fields ≡ file.fields
+      → IsInRange g → (marked ≡ false → speak_of_marks ks ≡ false) → (marked ≡ false → AllUnmarked g)
+      → PrimitivesIn shape ks → AreWellSorted file ks
       → (0 < count_by is_new ks → w.node ≡ count g) → count_by is_new ks ≤ 1 → Ran g ks h
-  ran [] g h e same ranges is sorted node one =
+  ran [] g h e same ranges silent clear is sorted node one =
       let end : g ≡ h = cc in
       subst (Ran g []) end (record { runs = λ limit few. refl; count_is = omega arith; ranges = ranges; fields = same })
-  ran (k ∷ ks) g h e same ranges is sorted node one = go (goes g w.acting k) refl e (λ went rest node.
-      ran ks (after g w.acting k) h rest (after_fields g w.acting k ∙ same) (ranged_primitive g w.acting k went ranges) is.1 sorted.1 node (let c = sum_by-cons (λ x. cond (is_new x) 1 0) k ks in omega arith))
+  ran (k ∷ ks) g h e same ranges silent clear is sorted node one = go (goes g w.acting k) refl e (λ went rest node.
+      ran ks (after g w.acting k) h rest (after_fields g w.acting k ∙ same) (ranged_primitive g w.acting k went ranges)
+      (λ none. (or_parts (speaks_of_marks k) (speak_of_marks ks) (silent none)).1) (clear_after g k ks silent clear)
+      is.1 sorted.1 node (let c = sum_by-cons (λ x. cond (is_new x) 1 0) k ks in omega arith))
     where
       counted : count_by is_new (k ∷ ks) ≡ bit (is_new k) + count_by is_new ks
       counted = sum_by-cons (λ x. cond (is_new x) 1 0) k ks
@@ -129,7 +159,7 @@ module _ (file : File) (w : Scene) (shape : Shape) (shaped : ShapeFits shape w.m
       next went some =
           let c = counted in
           let n = node (omega arith) in
-          let d = count_after g k (row_at g (count g) k same ranges (omega arith) is.0 sorted.0 went first) in
+          let d = count_after g k (row_at g (count g) k same ranges clear (omega arith) is.0 sorted.0 went first) in
           omega arith
 
       go : (b : Bool) → goes g w.acting k ≡ b → turn b (execute (after g w.acting k) w.acting ks) ≡ Some h
@@ -138,12 +168,12 @@ module _ (file : File) (w : Scene) (shape : Shape) (shaped : ShapeFits shape w.m
       go true went e rest =
           let later = rest went e (next went) in
           let c = counted in
-          let d = count_after g k (row_at g (count g) k same ranges (omega arith) is.0 sorted.0 went first) in
+          let d = count_after g k (row_at g (count g) k same ranges clear (omega arith) is.0 sorted.0 went first) in
           let m = later.count_is in
           record {
             runs = λ limit few.
-                let r = row_at g limit k same ranges (omega arith) is.0 sorted.0 went first in
-                (r.acted, subst (λ v. ActsRun w.node limit v (acts_of file.ghosts (variables_of false w.mine) ks) (seen w h)) r.leads (later.runs limit few));
+                let r = row_at g limit k same ranges clear (omega arith) is.0 sorted.0 went first in
+                (r.acted, subst (λ v. ActsRun w.node limit v (acts_of marked file.ghosts (variables_of false w.mine) ks) (seen w h)) r.leads (later.runs limit few));
             count_is = omega arith;
             ranges = later.ranges;
             fields = later.fields;

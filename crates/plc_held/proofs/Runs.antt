@@ -15,17 +15,21 @@ use Rattle.plc_logic.specs.declared.clause.Outline.{Outline}
 use Rattle.plc_logic.specs.Fit.{ClauseFits, InvariantFits}
 use Rattle.plc_setting.specs.declared.obligations.Obligation.TheVariants.{Start, Enter}
 use Rattle.plc_setting.specs.Fit.{Fits}
+use Rattle.plc_setting.specs.Marks.{program_uses_marks}
 use Rattle.plc_setting.specs.Parts.{entry_clauses}
 use Rattle.plc_setting.specs.Points.{clauses_at}
 use Rattle.plc_oblig.specs.Obligations.{op_id}
 use Rattle.plc_gc.specs.declared.slot.Slot.TheVariants.{Shared as in_shared, Data as in_data}
 use Rattle.plc_gc.specs.declared.slot.Map.TheVariants.{Auxiliary as auxiliary_field}
-use Rattle.plc_gc.specs.State.{GcState, Locals, value, count, locals_of, with_locals, first_state, no_locals, starting}
+use Rattle.plc_gc.specs.declared.slot.Pointer.{Pointer}
+use Rattle.plc_gc.specs.State.{GcState, Locals, null_pointer, value, count, locals_of, with_locals, first_state, no_locals, starting}
 use Rattle.plc_gc.specs.Clauses.{Holds}
 use Rattle.plc_gc.specs.Ranges.{IsInRange, ValuesAreInRange}
 use Rattle.plc_gc.specs.Run.{GcConfiguration, point_of, beginning, initialised, first_configuration}
 use Rattle.plc_gc.proofs.Views.{gives, first}
+use Rattle.plc_gc.specs.Unmarked.{AllUnmarked}
 use Rattle.plc_gc.proofs.Ranges.{ranged_given, ranged_first}
+use Rattle.plc_gc.proofs.Unmarked.{unmarked_given, unmarked_first}
 use Rattle.plc_flow.proofs.Each.{Each, each_get}
 use Rattle.plc_oblig.proofs.Lists.{each_place, each_of_all}
 use Rattle.plc_held.proofs.Agreement.{each_same, nobody_sees, other_sees, given_fields}
@@ -70,6 +74,8 @@ module _ (flow : Flow) (outline : Outline) (threads : ℕ) (fits : Fits flow out
     taken = e;
     fields = ready_fields;
     ranges = ranged_given (first_state flow threads) 0 (Some no_locals) (λ v. refl) (ranged_first flow threads);
+    unmarked = λ none.
+        unmarked_given (first_state flow threads) 0 (Some no_locals) (λ v. refl) (unmarked_first flow threads);
     values = ready_values;
     begins = λ b. (
       λ j. (gives (first_state flow threads) 0 (Some no_locals)).shared j ∙ (first flow.file.fields (length flow.file.ghosts) (length flow.file.shared) threads).values (in_shared j),
@@ -118,7 +124,9 @@ module _ (flow : Flow) (outline : Outline) (threads : ℕ) (fits : Fits flow out
 
   module _ (c : GcConfiguration) (kept : IsKept outline flow c) (t op : ℕ) (operation : Op) (gate : Gate) (args : List ℕ)
       (named : slice_get flow.file.ops op ≡ Some operation) (opens : slice_get flow.gates op ≡ Some gate) (counted : length args ≡ parameters_of operation)
-      (ranges : IsInRange (with_locals c.state t (Some (starting operation args)))) (values : ValuesAreInRange flow.file (with_locals c.state t (Some (starting operation args))))
+      (ranges : IsInRange (with_locals c.state t (Some (starting operation args))))
+      (unmarked : program_uses_marks flow outline ≡ false → AllUnmarked (with_locals c.state t (Some (starting operation args))))
+      (values : ValuesAreInRange flow.file (with_locals c.state t (Some (starting operation args))))
       (fields : (with_locals c.state t (Some (starting operation args))).fields ≡ flow.file.fields) (held : (locals_of (with_locals c.state t (Some (starting operation args))) t).declared ≡ operation.locals) where
     abbrev new : GcState
     new = with_locals c.state t (Some (starting operation args))
@@ -137,9 +145,10 @@ module _ (flow : Flow) (outline : Outline) (threads : ℕ) (fits : Fits flow out
       taken = refl;
       fields = fields;
       ranges = ranges;
+      unmarked = unmarked;
       values = values;
       begins = λ b. (
-        λ v. (gives c.state t (Some (starting operation args))).pointers v ∙ get-replicate 0 (pointers_of operation) v,
+        λ v. (gives c.state t (Some (starting operation args))).pointers v ∙ ap (λ (p : Pointer). p.node) (get-replicate null_pointer (pointers_of operation) v),
         λ k l at other. subst (λ ls. slice_get ls k ≡ Some l → value new (in_data t (Rattle.plc_lang.specs.Numbering.data_number ls k)) ≡ 0) (sym (op_locals flow op operation named))
             (λ at. (gives c.state t (Some (starting operation args))).values (Rattle.plc_lang.specs.Numbering.data_number operation.locals k)
             ∙ others_zero operation (fits.sorted.file.each_op op operation named).parameters args counted k l at other) at,

@@ -11,6 +11,7 @@ use Rattle.plc_ground.specs.declared.terms.Map.{Map}
 use Rattle.plc_ground.specs.declared.terms.Map.TheVariants as maps
 use Rattle.plc_gc.specs.declared.slot.Slot.{Slot}
 use Rattle.plc_gc.specs.declared.slot.Slot.TheVariants.{Shared as in_shared, Local as in_local, Data as in_data}
+use Rattle.plc_gc.specs.declared.slot.Slot.TheVariants.{SharedMark as shared_mark, LocalMark as local_mark}
 use Rattle.plc_gc.specs.declared.slot.Map.{Map as GcMap}
 use Rattle.plc_gc.specs.declared.slot.Map.TheVariants.{Auxiliary as auxiliary_field, Retirement as retirement}
 use Rattle.plc_gc.specs.State.{GcState, value, entry, count}
@@ -104,6 +105,31 @@ symbol_fixed w g h (symbols.Shared i) e = cc
 symbol_fixed w g h (symbols.Mine k) e = declared_nowhere g h w.acting w.mine k (slice_get w.mine k) e
 symbol_fixed w g h (symbols.Theirs k) e = declared_nowhere g h w.owner w.theirs k (slice_get w.theirs k) e
 symbol_fixed w g h s e = refl
+
+-- ---- no constant stands for a mark
+
+abbrev pub is_mark : Slot → Bool
+is_mark (in_shared i) = false
+is_mark (in_local t v) = false
+is_mark (shared_mark i) = true
+is_mark (local_mark t v) = true
+is_mark (in_data t x) = false
+
+local_unmarked : (t : ℕ) (ls : List Local) (k : ℕ) (o : Option Local) (q : Slot) → local_slot t ls k o ≡ Some q
+    → is_mark q ≡ false
+local_unmarked t ls k None q e = cc
+local_unmarked t ls k (Some l) q e = go l.pointer e
+  where
+    go : (b : Bool) → Some (if b then in_local t (pointer_number ls k) else in_data t (data_number ls k)) ≡ Some q
+        → is_mark q ≡ false
+    go true e = ap is_mark (let same : q ≡ in_local t (pointer_number ls k) = cc in same)
+    go false e = ap is_mark (let same : q ≡ in_data t (data_number ls k) = cc in same)
+
+pub no_mark : (w : Scene) (s : Symbol) (q : Slot) → slot_of w s ≡ Some q → is_mark q ≡ false
+no_mark w (symbols.Shared i) q e = ap is_mark (let same : q ≡ in_shared i = cc in same)
+no_mark w (symbols.Mine k) q e = local_unmarked w.acting w.mine k (slice_get w.mine k) q e
+no_mark w (symbols.Theirs k) q e = local_unmarked w.owner w.theirs k (slice_get w.theirs k) q e
+no_mark w _ q e = cc
 
 -- ---- no two variables have one place
 

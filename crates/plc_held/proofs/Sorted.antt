@@ -12,7 +12,10 @@ use Rattle.plc_lang.specs.declared.syntax.Rel.{Rel}
 use Rattle.plc_lang.specs.declared.syntax.Rel.TheVariants as rels
 use Rattle.plc_lang.specs.declared.syntax.Var.{Var}
 use Rattle.plc_lang.specs.declared.syntax.Primitive.{Primitive}
-use Rattle.plc_lang.specs.declared.syntax.Primitive.TheVariants.{Null, Copy, New, Load, Store, StoreNull, DataSet, DataLoad, DataStore, Eq, Ne, IsNull, NotNull, DataTest, Refresh, RefreshLoad, RefreshStore, Call, Done, Active, Ghost}
+use Rattle.plc_lang.specs.declared.syntax.Primitive.TheVariants.{Null, Copy, New, Load, Store, StoreNull, DataSet}
+use Rattle.plc_lang.specs.declared.syntax.Primitive.TheVariants.{DataLoad, DataStore, Eq, Ne, IsNull, NotNull, DataTest}
+use Rattle.plc_lang.specs.declared.syntax.Primitive.TheVariants.{Refresh, RefreshLoad, RefreshStore, Mark, Unmark}
+use Rattle.plc_lang.specs.declared.syntax.Primitive.TheVariants.{MarkTest, Call, Done, Active, Ghost}
 use Rattle.plc_lang.specs.Numbering.{value_number}
 use Rattle.plc_lang.specs.Shape.{Shape, VarIn, ArgIn, PrimitiveIn, PrimitivesIn}
 use Rattle.plc_lang.specs.WellSorted.{FieldIs, ValueFits, IsWellSorted, AreWellSorted}
@@ -24,7 +27,7 @@ use Rattle.plc_ground.specs.declared.terms.Symbol.TheVariants as symbols
 use Rattle.plc_ground.specs.declared.terms.Map.TheVariants as maps
 use Rattle.plc_setting.specs.declared.acts.Act.{Act}
 use Rattle.plc_setting.specs.declared.acts.Act.TheVariants.{Assign, Make, Fetch, Update, Test, Skip}
-use Rattle.plc_setting.specs.Acts.{pointer_symbol, ghost_symbol, data_test, call_act, act_of, acts_of}
+use Rattle.plc_setting.specs.Acts.{pointer_symbol, ghost_symbol, data_test, pointers_differ, call_act, act_of, acts_of}
 use Rattle.plc_setting.specs.Setting.{variables_of}
 use Rattle.plc_setting.specs.Sorts.{field_sort, auxiliary_sort, value_sort, loads_of, load_sort}
 use Rattle.plc_items.specs.declared.execution.Execution.{Execution}
@@ -43,7 +46,7 @@ LoadIs e k (Update checked m p s) = Unit {0}
 LoadIs e k (Test a b equal) = Unit {0}
 LoadIs e k Skip = Unit {0}
 
-module _ (e : Meaning) (file : File) (w : Scene) (are : SortsAre e file w.mine w.theirs) (shape : Shape) (shaped : ShapeFits shape w.mine) where
+module _ (e : Meaning) (file : File) (marked : Bool) (w : Scene) (are : SortsAre e file w.mine w.theirs) (shape : Shape) (shaped : ShapeFits shape w.mine) where
   node_sort : (p : Var) → VarIn shape p → e.symbol_sort (pointer_symbol (variables_of false w.mine) p) ≡ sorts.Node
   node_sort p is = (variable w shape shaped p is).sorted e file are
 
@@ -65,13 +68,17 @@ module _ (e : Meaning) (file : File) (w : Scene) (are : SortsAre e file w.mine w
   tests_sorted k rels.Lt a b h = tt
   tests_sorted k rels.Ge a b h = tt
 
+  differ_sorted : (k : ℕ) (b : Bool) (l r : Symbol) → e.symbol_sort l ≡ e.symbol_sort r → ActIsSorted e k (pointers_differ b l r)
+  differ_sorted k true l r h = tt
+  differ_sorted k false l r h = h
+
   call_sorted : (k : ℕ) (b : Bool) (a : Arg) → ArgIn shape a → ActIsSorted e k (call_act (variables_of false w.mine) b a)
   call_sorted k true (args.Var p) is = (node_sort p is, are.maps maps.Retired ∙ sym are.yes)
   call_sorted k true args.Null is = tt
   call_sorted k true args.None is = tt
   call_sorted k false a is = tt
 
-  act_sorted : (n : ℕ) (k : Primitive) → PrimitiveIn shape k → IsWellSorted file k → LoadIs e n (act_of file.ghosts (variables_of false w.mine) k) → ActIsSorted e n (act_of file.ghosts (variables_of false w.mine) k)
+  act_sorted : (n : ℕ) (k : Primitive) → PrimitiveIn shape k → IsWellSorted file k → LoadIs e n (act_of marked file.ghosts (variables_of false w.mine) k) → ActIsSorted e n (act_of marked file.ghosts (variables_of false w.mine) k)
   act_sorted n (Null p) is sorted l = are.null ∙ sym (node_sort p is)
   act_sorted n (Copy p q) is sorted l = node_sort q is.1 ∙ sym (node_sort p is.0)
   act_sorted n (New p) is sorted l = are.new ∙ sym (node_sort p is)
@@ -82,13 +89,16 @@ module _ (e : Meaning) (file : File) (w : Scene) (are : SortsAre e file w.mine w
   act_sorted n (DataLoad x q f) is sorted l = (field_is f false sorted ∙ sym l, l ∙ sym ((local_data w shape shaped x is.0).sorted e file are))
   act_sorted n (DataStore p f a) is sorted l = (node_sort p is.0, field_is f false sorted ∙ sym ((amount w shape shaped a is.2).sorted e file are))
   act_sorted n (Eq p q) is sorted l = node_sort p is.0 ∙ sym (node_sort q is.1)
-  act_sorted n (Ne p q) is sorted l = node_sort p is.0 ∙ sym (node_sort q is.1)
+  act_sorted n (Ne p q) is sorted l = differ_sorted n marked _ _ (node_sort p is.0 ∙ sym (node_sort q is.1))
   act_sorted n (IsNull p) is sorted l = node_sort p is ∙ sym are.null
   act_sorted n (NotNull p) is sorted l = node_sort p is ∙ sym are.null
   act_sorted n (DataTest r x a) is sorted l = tests_sorted n r _ _ ((local_data w shape shaped x is.0).sorted e file are ∙ sym ((amount w shape shaped a is.1).sorted e file are))
   act_sorted n (Refresh p q) is sorted l = node_sort q is.1 ∙ sym ((local_pointer w shape shaped p is.0).sorted e file are)
   act_sorted n (RefreshLoad p q f) is sorted l = (field_is f true sorted ∙ sym l, l ∙ sym ((local_pointer w shape shaped p is.0).sorted e file are))
   act_sorted n (RefreshStore p f q) is sorted l = (node_sort p is.0, field_is f true sorted ∙ sym (node_sort q is.2))
+  act_sorted n (Mark p q) is sorted l = node_sort q is.1 ∙ sym (node_sort p is.0)
+  act_sorted n (Unmark p q) is sorted l = node_sort q is.1 ∙ sym (node_sort p is.0)
+  act_sorted n (MarkTest p m) is sorted l = tt
   act_sorted n (Call f a) is sorted l = call_sorted n (is_retire f) a is
   act_sorted n (Done f) is sorted l = tt
   act_sorted n (Active p) is sorted l = tt
@@ -109,9 +119,9 @@ module _ (e : Meaning) (file : File) (w : Scene) (are : SortsAre e file w.mine w
   load_first Skip x more h = (tt, h)
 
   pub acts_sorted : (ks : List Primitive) (x : Execution) → PrimitivesIn shape ks → AreWellSorted file ks
-      → ((j : ℕ) → e.symbol_sort (symbols.Loaded (x.loads + j)) ≡ load_sort (slice_get (loads_of (acts_of file.ghosts (variables_of false w.mine) ks)) j))
-      → AreSorted e x (acts_of file.ghosts (variables_of false w.mine) ks)
+      → ((j : ℕ) → e.symbol_sort (symbols.Loaded (x.loads + j)) ≡ load_sort (slice_get (loads_of (acts_of marked file.ghosts (variables_of false w.mine) ks)) j))
+      → AreSorted e x (acts_of marked file.ghosts (variables_of false w.mine) ks)
   acts_sorted [] x is sorted h = tt
   acts_sorted (k ∷ ks) x is sorted h =
-      let f = load_first (act_of file.ghosts (variables_of false w.mine) k) x (acts_of file.ghosts (variables_of false w.mine) ks) h in
-      (act_sorted x.loads k is.0 sorted.0 f.0, acts_sorted ks (after x (act_of file.ghosts (variables_of false w.mine) k)) is.1 sorted.1 f.1)
+      let f = load_first (act_of marked file.ghosts (variables_of false w.mine) k) x (acts_of marked file.ghosts (variables_of false w.mine) ks) h in
+      (act_sorted x.loads k is.0 sorted.0 f.0, acts_sorted ks (after x (act_of marked file.ghosts (variables_of false w.mine) k)) is.1 sorted.1 f.1)

@@ -23,6 +23,7 @@ use Rattle.plc_logic.specs.Fit.{ClauseFits, InvariantFits}
 use Rattle.plc_setting.specs.declared.obligations.Obligation.{Obligation}
 use Rattle.plc_setting.specs.declared.obligations.Obligation.TheVariants.{Own, Other, Claim}
 use Rattle.plc_setting.specs.Fit.{Fits}
+use Rattle.plc_setting.specs.Marks.{program_uses_marks}
 use Rattle.plc_setting.specs.Parts.{prims_of, locals_of_step, clauses_before, clauses_after, executed, acting_locals, owner_locals, acting_premises, owner_premises, conclusion}
 use Rattle.plc_setting.specs.Points.{count_at, stands_at, clauses_at}
 use Rattle.plc_oblig.specs.Obligations.{step_id, point_id}
@@ -32,6 +33,7 @@ use Rattle.plc_gc.specs.Claims.{claim_holds, ClaimsHold}
 use Rattle.plc_gc.specs.Primitives.{goes, after}
 use Rattle.plc_gc.specs.Ranges.{IsInRange, ValuesAreInRange}
 use Rattle.plc_gc.specs.Run.{turn, execute}
+use Rattle.plc_gc.specs.Unmarked.{AllUnmarked}
 use Rattle.plc_gc.proofs.Busy.{IsBusyAt}
 use Rattle.plc_gc.proofs.Frames.{held_is}
 use Rattle.plc_flow.proofs.Each.{Each, each_both, each_get}
@@ -103,6 +105,7 @@ pub record IsAt (flow : Flow) (outline : Outline) (g : GcState) (t : ℕ) (p : P
   pub leaves_there : slice_get (steps_from flow p.at) nth ≡ Some step
   pub fields : g.fields ≡ flow.file.fields
   pub ranges : IsInRange g
+  pub unmarked : program_uses_marks flow outline ≡ false → AllUnmarked g
   pub values : ValuesAreInRange flow.file g
   pub invariants : Each (Holds g None) outline.invariants
   pub clauses : Each (Holds g (Some t)) (clauses_at flow outline p.at)
@@ -154,6 +157,7 @@ module _ (flow : Flow) (outline : Outline) (fits : Fits flow outline) (met : Are
     taken = ap (execute g t) same ∙ e;
     fields = is.fields;
     ranges = is.ranges;
+    unmarked = is.unmarked;
     values = is.values;
     begins = begins;
     acting_holds = λ b. subst (Each (IsPremise flow.file (scene_of flow o t u (count g) b) g false)) (sym premises)
