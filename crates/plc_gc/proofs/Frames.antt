@@ -133,8 +133,8 @@ pointer_keeps : (t : ℕ) (g : GcState) (l : Locals) (u v : ℕ) (f : Pointer �
 pointer_keeps t g l u v f held own =
     let e = held_is g t l held in
     let ps = (locals_of g t).pointers in
-    subst (λ u. v < length (locals_of g u).pointers → Keeps t g l (with_locals g u (Some (changed (locals_of g u) v f))))
-    (sym own)
+    subst (λ u. v < length (locals_of g u).pointers
+    → Keeps t g l (with_locals g u (Some (changed (locals_of g u) v f)))) (sym own)
     (λ small. (
       _,
       given t g l (changed (locals_of g t) v f) held (ap (λ (m : Locals). m.declared) e)

@@ -46,7 +46,7 @@ gives g t l = record {
   nodes = record { entries = λ m k. refl; count = refl };
 }
 
--- ---- tables of pointers, by what is read of a pointer: a node that is written leaves the marks, a mark leaves the nodes
+-- ---- tables of pointers, by what is read of a pointer: a node that is written leaves the marks, a mark the nodes
 
 read_here : (read : Pointer → ℕ) (ps : List Pointer) (i : ℕ) (p : Pointer)
     → read (get_or (put_at null_pointer ps i p) i null_pointer) ≡ read p

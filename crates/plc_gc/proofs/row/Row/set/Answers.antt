@@ -14,7 +14,13 @@ returns-in-Pointer c =
 pub returns-in-Mark : goal.returns-in-Mark
 returns-in-Mark c =
     let h = rw (c.in-Mark.is, ← c.self.view_is) at c.requires in
-    rw (c.in-Mark.is, c.with_mark.ensures, c.pointer_at-in-Mark.ensures, c.deref-in-Mark.ensures.value, ← c.self.view_is)
+    rw (
+      c.in-Mark.is,
+      c.with_mark.ensures,
+      c.pointer_at-in-Mark.ensures,
+      c.deref-in-Mark.ensures.value,
+      ← c.self.view_is,
+    )
     (ap (λ xs. record (the_view c.self.inside) { pointers = xs })
     (sym (put_is_set null_pointer c.self.inside.pointers.items c.in-Mark.f _ h)))
 
