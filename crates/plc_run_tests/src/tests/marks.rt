@@ -6,7 +6,8 @@ use plc_base::NoMemory;
 use std::alloc::{AllocError, Global};
 
 // An operation for each way to change a pointer, then one for each test. The first two make the nodes 1 and 2.
-const FILE: &str = "struct Node { ptr next; } shared A; shared B; op first() { A := new; } op second() { B := new; } \
+const FILE: &str =
+    "struct Node { ptr next; } shared A; shared B; op first() { A := new; } op second() { B := new; } \
      op copy() { A := B; } op back() { B := A; } op set() { A := mark B; } op again() { B := mark B; } \
      op unset() { B := unmark A; } op load() { A := A.next; } op store() { A.next := B; } op cut() { B.next := A; } \
      op clear() { A.next := null; } op drop() { B := null; } op same() { if (A == B) { } } \
@@ -115,7 +116,8 @@ fn holds(model: &Model, op: u32) -> Option<bool> {
 // The moves of an assignment.
 fn assignment_text(alloc: Global, op: u32) -> Result<String, AllocError> {
     format!(in alloc;
-        "start 0 {op} => Done\nstep 0 0 => Done\nstep 0 0 => Done\nreturn 0 => Done\n")
+        "start 0 {op} => Done\nstep 0 0 => Done\nstep 0 0 => Done\nreturn 0 => Done\n"
+    )
 }
 
 // The moves of a test: the side that fails is tried first.
@@ -123,7 +125,8 @@ fn test_text(alloc: Global, op: u32, is_true: bool) -> Result<String, AllocError
     let (fails, goes) = if is_true { (1, 0) } else { (0, 1) };
     format!(in alloc;
         "start 0 {op} => Done\nstep 0 {fails} => Blocked\nstep 0 {goes} => Done\nstep 0 0 => Done\n\
-         step 0 0 => Done\nreturn 0 => Done\n")
+         step 0 0 => Done\nreturn 0 => Done\n"
+    )
 }
 
 // What is left, in which marks aren't told.
@@ -172,7 +175,12 @@ fn replayed(alloc: Global, moves: &str) -> Result<String, NoMemory> {
 fn marks_are_those_of_the_model(rt: HostRuntime) -> Result<(), NoMemory> {
     for seed in [1, 2, 3, 5, 8] {
         let moves = drawn(rt.alloc(), seed)?;
-        row_is(&rt, "", replayed(rt.alloc(), moves.as_str()), moves.as_str())?;
+        row_is(
+            &rt,
+            "",
+            replayed(rt.alloc(), moves.as_str()),
+            moves.as_str(),
+        )?;
     }
     Ok(())
 }
