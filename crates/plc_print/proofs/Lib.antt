@@ -1,4 +1,5 @@
 pub mod GrowingScopes
+pub mod Initials
 pub mod Items
 pub mod KeptNesting
 pub mod KeptTokens
