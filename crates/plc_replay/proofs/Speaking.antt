@@ -2,7 +2,7 @@
 use Rattle.std.proofs.Common.{◌≡◌, ℕ, ◌+◌, Bool, true, false, List, [], ◌∷◌, ◌++◌, Option, Some, None, refl, sym, ap, ◌∙◌, subst, append_assoc}
 use Rattle.std.proofs.lemmas.List.{append-nil}
 use Rattle.plc_lang.specs.declared.syntax.Primitive.{Primitive}
-use Rattle.plc_lang.specs.declared.syntax.Primitive.TheVariants.{Null, Copy, New, Load, Store, StoreNull, DataSet, DataLoad, DataStore, Eq, Ne, IsNull, NotNull, DataTest, Refresh, RefreshLoad, RefreshStore, Call, Done, Active, Ghost}
+use Rattle.plc_lang.specs.declared.syntax.Primitive.TheVariants.{Call, Done}
 use Rattle.plc_auto.specs.declared.event.Event.{Event}
 use Rattle.plc_auto.specs.declared.event.Event.TheVariants.{Free as Freed}
 use Rattle.plc_auto.specs.declared.observer.Observer.{Observer}
@@ -45,25 +45,7 @@ goes_by h e n = record { events = e ∷ []; grown = refl; spoken = (n, tt) }
 primitive_goes : (s : State) (h : List Event) (t : ℕ) (k : Primitive) → GoesOn h (recorded h (event_of s t k))
 primitive_goes s h t (Call f r) = goes_by h _ refl
 primitive_goes s h t (Done f) = goes_by h _ refl
-primitive_goes s h t (Null p) = goes_nowhere h
-primitive_goes s h t (Copy p q) = goes_nowhere h
-primitive_goes s h t (New p) = goes_nowhere h
-primitive_goes s h t (Load p q f) = goes_nowhere h
-primitive_goes s h t (Store p f q) = goes_nowhere h
-primitive_goes s h t (StoreNull p f) = goes_nowhere h
-primitive_goes s h t (DataSet x e) = goes_nowhere h
-primitive_goes s h t (DataLoad x q f) = goes_nowhere h
-primitive_goes s h t (DataStore p f e) = goes_nowhere h
-primitive_goes s h t (Eq p q) = goes_nowhere h
-primitive_goes s h t (Ne p q) = goes_nowhere h
-primitive_goes s h t (IsNull p) = goes_nowhere h
-primitive_goes s h t (NotNull p) = goes_nowhere h
-primitive_goes s h t (DataTest r x e) = goes_nowhere h
-primitive_goes s h t (Refresh p q) = goes_nowhere h
-primitive_goes s h t (RefreshLoad p q f) = goes_nowhere h
-primitive_goes s h t (RefreshStore p f q) = goes_nowhere h
-primitive_goes s h t (Active p) = goes_nowhere h
-primitive_goes s h t (Ghost p g v) = goes_nowhere h
+primitive_goes s h t k = goes_nowhere h
 
 -- how a step ends, if it does
 abbrev EndsOn : List Event → Ending → Type 0
