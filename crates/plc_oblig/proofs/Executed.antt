@@ -60,7 +60,8 @@ differ_reads : (marked : Bool) (a b : Symbol) → reads_pointer (pointers_differ
 differ_reads true a b = refl
 differ_reads false a b = refl
 
-reads_by : (marked : Bool) (ghosts : List AuxiliaryField) (v : Variables) (k : Primitive) → reads_pointer (act_of marked ghosts v k) ≡ is_pointer_load k
+reads_by : (marked : Bool) (ghosts : List AuxiliaryField) (v : Variables) (k : Primitive)
+    → reads_pointer (act_of marked ghosts v k) ≡ is_pointer_load k
 reads_by marked ghosts v (Null p) = refl
 reads_by marked ghosts v (Copy p q) = refl
 reads_by marked ghosts v (New p) = refl
@@ -86,14 +87,18 @@ reads_by marked ghosts v (Done f) = refl
 reads_by marked ghosts v (Active p) = refl
 reads_by marked ghosts v (Ghost p g e) = refl
 
-reads_tally : (marked : Bool) (ghosts : List AuxiliaryField) (v : Variables) (ks : List Primitive) → tally reads_pointer (acts_of marked ghosts v ks) ≡ tally is_pointer_load ks
+reads_tally : (marked : Bool) (ghosts : List AuxiliaryField) (v : Variables) (ks : List Primitive)
+    → tally reads_pointer (acts_of marked ghosts v ks) ≡ tally is_pointer_load ks
 reads_tally marked ghosts v [] = refl
 reads_tally marked ghosts v (k ∷ ks) =
-    ap (λ b. cond b (1 + tally reads_pointer (acts_of marked ghosts v ks)) (tally reads_pointer (acts_of marked ghosts v ks))) (reads_by marked ghosts v k)
+    ap (λ b. cond b (1 + tally reads_pointer (acts_of marked ghosts v ks))
+    (tally reads_pointer (acts_of marked ghosts v ks))) (reads_by marked ghosts v k)
     ∙ ap (λ n. cond (is_pointer_load k) (1 + n) n) (reads_tally marked ghosts v ks)
 
-pub loads_length : (marked : Bool) (ghosts : List AuxiliaryField) (v : Variables) (ks : List Primitive) → length (pointer_loads_from 0 (acts_of marked ghosts v ks)) ≡ count_by is_pointer_load ks
-loads_length marked ghosts v ks = acts_read 0 (acts_of marked ghosts v ks) ∙ reads_tally marked ghosts v ks ∙ tallied is_pointer_load ks
+pub loads_length : (marked : Bool) (ghosts : List AuxiliaryField) (v : Variables) (ks : List Primitive)
+    → length (pointer_loads_from 0 (acts_of marked ghosts v ks)) ≡ count_by is_pointer_load ks
+loads_length marked ghosts v ks =
+    acts_read 0 (acts_of marked ghosts v ks) ∙ reads_tally marked ghosts v ks ∙ tallied is_pointer_load ks
 
 -- ---- clauses
 
@@ -137,11 +142,13 @@ call_size_is nodes v true args.Null = refl
 call_size_is nodes v true args.None = refl
 call_size_is nodes v false a = refl
 
-differ_size_is : (nodes : ℕ) (marked : Bool) (a b : Symbol) → act_size nodes (pointers_differ marked a b) ≡ differ_size marked
+differ_size_is : (nodes : ℕ) (marked : Bool) (a b : Symbol)
+    → act_size nodes (pointers_differ marked a b) ≡ differ_size marked
 differ_size_is nodes true a b = refl
 differ_size_is nodes false a b = refl
 
-size_by : (marked : Bool) (nodes : ℕ) (ghosts : List AuxiliaryField) (v : Variables) (k : Primitive) → act_size nodes (act_of marked ghosts v k) ≡ prim_size marked nodes k
+size_by : (marked : Bool) (nodes : ℕ) (ghosts : List AuxiliaryField) (v : Variables) (k : Primitive)
+    → act_size nodes (act_of marked ghosts v k) ≡ prim_size marked nodes k
 size_by marked nodes ghosts v (Null p) = refl
 size_by marked nodes ghosts v (Copy p q) = refl
 size_by marked nodes ghosts v (New p) = refl
@@ -167,11 +174,13 @@ size_by marked nodes ghosts v (Done f) = refl
 size_by marked nodes ghosts v (Active p) = refl
 size_by marked nodes ghosts v (Ghost p g e) = let z : 0 + 2 * nodes ≡ 2 * nodes = omega arith in z
 
-pub executed_length : (marked : Bool) (ghosts : List AuxiliaryField) (v : Variables) (ts : List NodeTerm) (x : Execution) (ks : List Primitive) →
-    length (executed_clauses ts x (acts_of marked ghosts v ks)) ≡ sum_by (prim_size marked (length ts)) ks
+pub executed_length : (marked : Bool) (ghosts : List AuxiliaryField) (v : Variables) (ts : List NodeTerm) (x : Execution)
+    (ks : List Primitive) → length (executed_clauses ts x (acts_of marked ghosts v ks)) ≡ sum_by (prim_size marked (length ts)) ks
 executed_length marked ghosts v ts x [] = refl
 executed_length marked ghosts v ts x (k ∷ ks) =
-    both (act_clauses ts x (act_of marked ghosts v k)) (executed_clauses ts (after x (act_of marked ghosts v k)) (acts_of marked ghosts v ks)) (prim_size marked (length ts) k) (sum_by (prim_size marked (length ts)) ks)
+    both (act_clauses ts x (act_of marked ghosts v k))
+    (executed_clauses ts (after x (act_of marked ghosts v k)) (acts_of marked ghosts v ks))
+    (prim_size marked (length ts) k) (sum_by (prim_size marked (length ts)) ks)
     (act_length ts x (act_of marked ghosts v k) ∙ size_by marked (length ts) ghosts v k)
     (executed_length marked ghosts v ts (after x (act_of marked ghosts v k)) ks)
     ∙ sym (sum_by-cons (prim_size marked (length ts)) k ks)

@@ -233,7 +233,8 @@ module _ (flow : Flow) (outline : Outline) (o : Obligation) where
       let s = setting_of flow outline o in
       let d = drafted flow outline s o in
       let x = after_all start s.acts in
-      let stays = stays_after_all (program_uses_marks flow outline) flow.file.ghosts (acting_locals flow o) start (executed flow o) quiet start_stays in
+      let stays = stays_after_all (program_uses_marks flow outline) flow.file.ghosts (acting_locals flow o) start
+      (executed flow o) quiet start_stays in
       let at : Bool → List SymbolicLit = λ b. instance_at flow.file.ghosts b (has_owner o) c.literals (bound_nodes (length c.bound.names)) in
       let i = instance_at flow.file.ghosts false (has_owner o) c.literals (bound_nodes (length c.bound.names)) in
       let made = none_new (executed flow o) quiet in

@@ -114,7 +114,8 @@ module _ (marked : Bool) (ghosts : List AuxiliaryField) (ls : List Local) where
   told_apart x true l r h = h
   told_apart x false l r h = h
 
-  stays_after : (x : Execution) (q : Primitive) → changes q ≡ false → Stays x → Stays (after x (act_of marked ghosts (variables_of false ls) q))
+  stays_after : (x : Execution) (q : Primitive) → changes q ≡ false → Stays x
+      → Stays (after x (act_of marked ghosts (variables_of false ls) q))
   stays_after x (Null p) e h = stays_given x (pointer_symbol (variables_of false ls) p) _ _ (pointer_private p e) h
   stays_after x (Copy p q) e h = stays_given x (pointer_symbol (variables_of false ls) p) _ _ (pointer_private p e) h
   stays_after x (New p) e h = cc
@@ -140,7 +141,8 @@ module _ (marked : Bool) (ghosts : List AuxiliaryField) (ls : List Local) where
   stays_after x (Active p) e h = h
   stays_after x (Ghost p g v) e h = cc
 
-  pub stays_after_all : (x : Execution) (qs : List Primitive) → list_any changes qs ≡ false → Stays x → Stays (after_all x (acts_of marked ghosts (variables_of false ls) qs))
+  pub stays_after_all : (x : Execution) (qs : List Primitive) → list_any changes qs ≡ false → Stays x
+      → Stays (after_all x (acts_of marked ghosts (variables_of false ls) qs))
   stays_after_all x [] e h = h
   stays_after_all x (q ∷ qs) e h =
       let n = neither (changes q) (list_any changes qs) e in

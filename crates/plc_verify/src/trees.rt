@@ -4,6 +4,7 @@
 ghost use Rattle.std.specs.Prelude.{◌≡◌, ◌<◌, [], IsTrue, IfOk, OnOk, MatchResult, length};
 ghost use Rattle.plc_ground.specs.Trees.{Closes, IsVerdict};
 ghost use Rattle.plc_setting.specs.Fit.{Fits};
+ghost use Rattle.plc_setting.specs.Marks.{program_uses_marks};
 ghost use Rattle.plc_oblig.specs.Obligations.{obligations};
 ghost use Rattle.plc_oblig.specs.GroundSets.{ground_set};
 ghost use Rattle.plc_verify.specs.Trees.{TreesClose};
@@ -14,7 +15,7 @@ use plc_base::NoMemory;
 use plc_flow::Flow;
 use plc_ground::{Node, Tree, closes};
 use plc_logic::Outline;
-use plc_oblig::{Grounding, Noted, Obligation, Walk, count};
+use plc_oblig::{Grounding, Noted, Obligation, Walk, count, program_uses_marks};
 use std::alloc::Global;
 
 /// What is said to show that the outline of a flow holds: trees, one for each of its obligations in order.
@@ -23,6 +24,9 @@ struct Evidence<'a> {
     flow: &'a Flow,
     outline: &'a Outline,
     trees: &'a [Tree],
+    /// Whether marks are used, asked once for all ground sets.
+    marked: bool,
+    ghost asked: { marked ≡ program_uses_marks flow.now outline.now },
 }
 
 /// Whether two trees have the same nodes.
@@ -51,15 +55,17 @@ fn is_tried(evidence: &Evidence, tried: &Noted, o: &Obligation, tree: &Tree) -> 
 fn first_bad_node(
     alloc: Global,
     memory: &mut Grounding,
+    marked: bool,
     flow: &Flow,
     outline: &Outline,
     o: &Obligation,
     tree: &Tree,
 ) -> Result<Option<u64>, NoMemory>
-    requires { Fits flow.now outline.now }
+    requires fits { Fits flow.now outline.now }
+    requires marked { marked ≡ program_uses_marks flow.now outline.now }
     ensures { IfOk result (λ bad. IsVerdict (ground_set flow.now outline.now o.now) [] tree.now.nodes bad) }
 {
-    let set = memory.ground(flow, outline, o)?;
+    let set = memory.ground(marked, flow, outline, o)?;
     let bad = closes(alloc, &set, tree)?;
     memory.reuse(set);
     Ok(bad)
@@ -87,7 +93,15 @@ fn try_tree(
     if is_tried(evidence, tried, o, tree) {
         return Ok(None);
     }
-    let bad = first_bad_node(alloc, memory, evidence.flow, evidence.outline, o, tree)?;
+    let bad = first_bad_node(
+        alloc,
+        memory,
+        evidence.marked,
+        evidence.flow,
+        evidence.outline,
+        o,
+        tree,
+    )?;
     if bad.is_none() {
         tried.note(o, at)?;
     }
@@ -161,6 +175,7 @@ pub(crate) fn verify_trees(
         flow,
         outline,
         trees,
+        marked: program_uses_marks(flow, outline),
     };
     try_trees(alloc, &evidence)
 }

@@ -21,3 +21,6 @@ returns-in_ok-note-clause-tried c =
     let none : is_some c.in_ok-bad.bad ≡ false = (let e = c.is_none.ensures in let h = c.if-is_none.true in cc) in
     more_tried e.flow.now e.outline.now e.trees.now c.args.tried.now c.args.o.now c.args.at c.requires.tried c.note.new.self
     t is (closes_if_none set t.nodes c.in_ok-bad.bad c.in_ok-bad.ensures none) c.in_ok-note.ensures
+
+pub first_bad_node-requires-clause-marked : goal.first_bad_node-requires-clause-marked
+first_bad_node-requires-clause-marked c = c.args.evidence.now.asked
