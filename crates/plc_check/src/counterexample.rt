@@ -4,6 +4,7 @@
 // at a time.
 ghost use Rattle.std.specs.Prelude.{◌≡◌, [], IfOk, OnOk, IsTrue, Contains};
 ghost use Rattle.plc_setting.specs.Fit.{Fits};
+ghost use Rattle.plc_setting.specs.Marks.{program_uses_marks};
 ghost use Rattle.plc_oblig.specs.Obligations.{obligations};
 ghost use Rattle.plc_oblig.specs.Outlines.{IsKept};
 ghost use Rattle.plc_check.specs.Counterexamples.{IsCounterexampleAt, IsFirstCounterexample, NotedAreKept};
@@ -12,7 +13,7 @@ use crate::judged::Judged;
 use crate::tree::solve_at;
 use plc_base::NoMemory;
 use plc_ground::{GroundModel, GroundSet};
-use plc_oblig::{Grounding, Noted, Obligation, Walk, still};
+use plc_oblig::{Grounding, Noted, Obligation, Walk, program_uses_marks, still};
 use std::alloc::Global;
 
 /// An obligation that isn't kept, with its ground set and a model of it.
@@ -44,11 +45,13 @@ fn is_known_kept(judged: &Judged, kept: &Noted, o: &Obligation) -> bool
 fn counterexample_at(
     alloc: Global,
     memory: &mut Grounding,
+    marked: bool,
     kept: &mut Noted,
     judged: &Judged,
     obligation: Obligation,
 ) -> Result<Option<Counterexample>, NoMemory>
     requires fits { Fits judged.now.flow judged.now.unit_outline }
+    requires marked { marked ≡ program_uses_marks judged.now.flow judged.now.unit_outline }
     requires there { Contains (obligations judged.now.flow judged.now.unit_outline) obligation }
     requires kept { NotedAreKept judged.now.flow judged.now.unit_outline kept.old }
     ensures found { IfOk result (IsCounterexampleAt judged.now.flow judged.now.unit_outline obligation) }
@@ -57,7 +60,7 @@ fn counterexample_at(
     if is_known_kept(judged, kept, &obligation) {
         return Ok(None);
     }
-    let Err(found) = solve_at(alloc, memory, judged, obligation)? else {
+    let Err(found) = solve_at(alloc, memory, marked, judged, obligation)? else {
         // Only that it is found counts here, so it may have any number.
         kept.note(&obligation, 0)?;
         return Ok(None);
@@ -70,17 +73,19 @@ fn counterexample_at(
 fn first_on_walk(
     alloc: Global,
     memory: &mut Grounding,
+    marked: bool,
     kept: &mut Noted,
     walk: &mut Walk<'_>,
     judged: &Judged,
 ) -> Result<Option<Counterexample>, NoMemory>
     requires fits { Fits judged.now.flow judged.now.unit_outline }
+    requires marked { marked ≡ program_uses_marks judged.now.flow judged.now.unit_outline }
     requires begun { walk.old ≡ obligations judged.now.flow judged.now.unit_outline }
     requires none_noted { kept.old ≡ [] }
     ensures { IfOk result (IsFirstCounterexample judged.now.flow judged.now.unit_outline) }
 {
     while let Some(obligation) = walk.next() {
-        let found = counterexample_at(alloc, memory, kept, judged, obligation)?;
+        let found = counterexample_at(alloc, memory, marked, kept, judged, obligation)?;
         if let Some(found) = found {
             return Ok(Some(found));
         }
@@ -96,10 +101,11 @@ pub(crate) fn first_counterexample(
     requires { Fits judged.now.flow judged.now.unit_outline }
     ensures { IfOk result (IsFirstCounterexample judged.now.flow judged.now.unit_outline) }
 {
+    let marked = program_uses_marks(&judged.flow, &judged.unit_outline);
     let mut walk = Walk::new(alloc, &judged.flow, &judged.unit_outline)?;
     let mut memory = Grounding::new(alloc);
     let mut kept = Noted::new(alloc);
-    let found = first_on_walk(alloc, &mut memory, &mut kept, &mut walk, judged);
+    let found = first_on_walk(alloc, &mut memory, marked, &mut kept, &mut walk, judged);
     drop(walk);
     drop(memory);
     drop(kept);

@@ -3,6 +3,7 @@
 // same memory.
 ghost use Rattle.std.specs.Prelude.{◌≡◌, ◌<◌, [], IfOk, Contains, Some, length, slice_get};
 ghost use Rattle.plc_setting.specs.Fit.{Fits};
+ghost use Rattle.plc_setting.specs.Marks.{program_uses_marks};
 ghost use Rattle.plc_oblig.specs.Obligations.{obligations};
 ghost use Rattle.plc_check.specs.Counterexamples.{IsTreeAt, NotedHaveTrees, AddsTreeAt, AreTreesOrBroken};
 
@@ -10,7 +11,7 @@ use crate::counterexample::Counterexample;
 use crate::judged::Judged;
 use plc_base::{Items, NoMemory};
 use plc_ground::Tree;
-use plc_oblig::{Grounding, Noted, Obligation, Walk};
+use plc_oblig::{Grounding, Noted, Obligation, Walk, program_uses_marks};
 use plc_solve::{Answer, refute};
 use std::alloc::Global;
 
@@ -18,13 +19,15 @@ use std::alloc::Global;
 pub(crate) fn solve_at(
     alloc: Global,
     memory: &mut Grounding,
+    marked: bool,
     judged: &Judged,
     obligation: Obligation,
 ) -> Result<Result<Tree, Counterexample>, NoMemory>
-    requires { Fits judged.now.flow judged.now.unit_outline }
+    requires fits { Fits judged.now.flow judged.now.unit_outline }
+    requires marked { marked ≡ program_uses_marks judged.now.flow judged.now.unit_outline }
     ensures { IfOk result (IsTreeAt judged.now.flow judged.now.unit_outline obligation) }
 {
-    let set = memory.ground(&judged.flow, &judged.unit_outline, &obligation)?;
+    let set = memory.ground(marked, &judged.flow, &judged.unit_outline, &obligation)?;
     match refute(alloc, &set) {
         Ok(Answer::Closed(tree)) => {
             memory.reuse(set);
@@ -44,16 +47,18 @@ pub(crate) fn solve_at(
 fn make_tree(
     alloc: Global,
     memory: &mut Grounding,
+    marked: bool,
     judged: &Judged,
     obligation: Obligation,
 ) -> Result<Result<Tree, Counterexample>, NoMemory>
     requires fits { Fits judged.now.flow judged.now.unit_outline }
+    requires marked { marked ≡ program_uses_marks judged.now.flow judged.now.unit_outline }
     requires there { Contains (obligations judged.now.flow judged.now.unit_outline) obligation }
     ensures { IfOk result (IsTreeAt judged.now.flow judged.now.unit_outline obligation) }
 {
-    match memory.direct(&judged.flow, &judged.unit_outline, &obligation)? {
+    match memory.direct(marked, &judged.flow, &judged.unit_outline, &obligation)? {
         Some(tree) => Ok(Ok(tree)),
-        None => solve_at(alloc, memory, judged, obligation),
+        None => solve_at(alloc, memory, marked, judged, obligation),
     }
 }
 
@@ -72,12 +77,14 @@ fn copy_of(alloc: Global, trees: &[Tree], at: usize) -> Result<Tree, NoMemory>
 fn tree_at(
     alloc: Global,
     memory: &mut Grounding,
+    marked: bool,
     noted: &mut Noted,
     trees: &[Tree],
     judged: &Judged,
     obligation: Obligation,
 ) -> Result<Result<Tree, Counterexample>, NoMemory>
     requires fits { Fits judged.now.flow judged.now.unit_outline }
+    requires marked { marked ≡ program_uses_marks judged.now.flow judged.now.unit_outline }
     requires there { Contains (obligations judged.now.flow judged.now.unit_outline) obligation }
     requires noted { NotedHaveTrees judged.now.flow judged.now.unit_outline trees.now noted.old }
     ensures { IfOk result (AddsTreeAt judged.now.flow judged.now.unit_outline obligation trees.now noted.new) }
@@ -85,7 +92,7 @@ fn tree_at(
     if let Some(at) = noted.find(&judged.flow, &judged.unit_outline, &obligation) {
         return Ok(Ok(copy_of(alloc, trees, at)?));
     }
-    match make_tree(alloc, memory, judged, obligation)? {
+    match make_tree(alloc, memory, marked, judged, obligation)? {
         Ok(tree) => {
             noted.note(&obligation, trees.len())?;
             Ok(Ok(tree))
@@ -99,18 +106,28 @@ fn tree_at(
 fn trees_on_walk(
     alloc: Global,
     memory: &mut Grounding,
+    marked: bool,
     noted: &mut Noted,
     walk: &mut Walk<'_>,
     judged: &Judged,
 ) -> Result<Result<Items<Tree>, Counterexample>, NoMemory>
     requires fits { Fits judged.now.flow judged.now.unit_outline }
+    requires marked { marked ≡ program_uses_marks judged.now.flow judged.now.unit_outline }
     requires begun { walk.old ≡ obligations judged.now.flow judged.now.unit_outline }
     requires none_noted { noted.old ≡ [] }
     ensures { IfOk result (AreTreesOrBroken judged.now.flow judged.now.unit_outline) }
 {
     let mut trees = Items::new(alloc);
     while let Some(obligation) = walk.next() {
-        let tree = tree_at(alloc, memory, noted, trees.as_slice(), judged, obligation)?;
+        let tree = tree_at(
+            alloc,
+            memory,
+            marked,
+            noted,
+            trees.as_slice(),
+            judged,
+            obligation,
+        )?;
         match tree {
             Ok(tree) => trees.push(tree)?,
             Err(found) => return Ok(Err(found)),
@@ -127,10 +144,11 @@ pub(crate) fn trees_of(
     requires { Fits judged.now.flow judged.now.unit_outline }
     ensures { IfOk result (AreTreesOrBroken judged.now.flow judged.now.unit_outline) }
 {
+    let marked = program_uses_marks(&judged.flow, &judged.unit_outline);
     let mut walk = Walk::new(alloc, &judged.flow, &judged.unit_outline)?;
     let mut memory = Grounding::new(alloc);
     let mut noted = Noted::new(alloc);
-    let trees = trees_on_walk(alloc, &mut memory, &mut noted, &mut walk, judged);
+    let trees = trees_on_walk(alloc, &mut memory, marked, &mut noted, &mut walk, judged);
     drop(walk);
     drop(memory);
     drop(noted);

@@ -68,7 +68,8 @@ module _ (e : Meaning) (file : File) (marked : Bool) (w : Scene) (are : SortsAre
   tests_sorted k rels.Lt a b h = tt
   tests_sorted k rels.Ge a b h = tt
 
-  differ_sorted : (k : ℕ) (b : Bool) (l r : Symbol) → e.symbol_sort l ≡ e.symbol_sort r → ActIsSorted e k (pointers_differ b l r)
+  differ_sorted : (k : ℕ) (b : Bool) (l r : Symbol) → e.symbol_sort l ≡ e.symbol_sort r
+      → ActIsSorted e k (pointers_differ b l r)
   differ_sorted k true l r h = tt
   differ_sorted k false l r h = h
 
