@@ -3,7 +3,7 @@ ghost use Rattle.std.specs.Prelude.{◌≡◌, ◌<◌, ◌≤◌, ◌+◌, ◌^
 ghost use Rattle.plc_base.specs.Limits.{largest_file};
 ghost use Rattle.plc_check.specs.Fit.{FilesFit, JudgedFits};
 ghost use Rattle.plc_check.specs.Loading.{IsLoaded, FilesAreUnique, line_of, place_of};
-ghost use Rattle.plc_check.specs.Unmarked.{IsLoadedUnmarked};
+ghost use Rattle.plc_check.specs.Unmarked.{IsLoadedUnmarked, FilesUseTheirMarks};
 ghost use Rattle.plc_lex.specs.Spelling.{AreTokensOf, line_feeds};
 ghost use Rattle.plc_parse.specs.Fit.{UnitFits};
 ghost use Rattle.plc_auto.specs.Schemes.{schemes_of};
@@ -218,6 +218,11 @@ pub fn load_unmarked(alloc: Global, bytes: &[u8]) -> Result<Option<Judged>, Load
 /// The law that bytes spell at most one unit.
 pub fn files_are_unique()
     ensures { FilesAreUnique }
+{}
+
+/// The law that a file uses marks by its tokens exactly where the program that is judged of it does.
+pub fn files_use_their_marks()
+    ensures { FilesUseTheirMarks }
 {}
 
 /// The law that whatever unit bytes spell, what is judged of it fits.

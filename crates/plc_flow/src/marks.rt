@@ -1,5 +1,5 @@
-// Whether a program uses marks, which decides what its outline's ground sets speak of. A file without
-// them has the ground sets that it would have if there were no marks at all.
+// Whether a program uses marks. Where it does, `p != q` says less in the ground sets of its outline; a
+// program without them has the ground sets that it would have if there were no marks at all.
 ghost use Rattle.std.specs.Prelude.{◌≡◌};
 ghost use Rattle.std.specs.List.{list_any};
 ghost use Rattle.plc_lang.specs.Marks.{speak_of_marks};

@@ -8,7 +8,8 @@ use Rattle.plc_lex.specs.declared.token.TokenKind.TheVariants.{Word, Name, Numbe
 use Rattle.plc_lex.specs.declared.token.Keyword.{Keyword}
 use Rattle.plc_lex.specs.declared.token.Keyword.TheVariants.{Struct, Ptr, Data, Shared, Call, Use, Hazard, Epoch, Ghost}
 use Rattle.plc_lex.specs.declared.token.Keyword.TheVariants.{Thread, Init, Op, Skip, Label, During, Active, Assume, New}
-use Rattle.plc_lex.specs.declared.token.Keyword.TheVariants.{Null, Cas, Me, None as NoneWord, Mark, Unmark, Marked, Unmarked}
+use Rattle.plc_lex.specs.declared.token.Keyword.TheVariants.{Null, Cas, Me, None as NoneWord}
+use Rattle.plc_lex.specs.declared.token.Keyword.TheVariants.{Mark, Unmark, Marked, Unmarked}
 use Rattle.plc_lex.specs.declared.token.Symbol.{Symbol as Punctuation}
 use Rattle.plc_lex.specs.declared.token.Symbol.TheVariants.{Assign, Refresh, Equal, Unequal, AtLeast, Less, OpenBrace}
 use Rattle.plc_lex.specs.declared.token.Symbol.TheVariants.{CloseBrace, OpenParen, CloseParen, Semicolon, Comma, Dot}

@@ -14,7 +14,7 @@ ghost use Rattle.plc_oblig.specs.Outlines.{HasSmallSets, HasLargeSet};
 ghost use Rattle.plc_oblig.specs.Excess.{numbered, others_of_point, is_large};
 
 use crate::claims::is_claim;
-use crate::size::counted_clauses;
+use crate::size::clauses_where;
 use plc_base::{OpId, PointId, StepId, What1};
 use plc_flow::Flow;
 use plc_lang::Prim;
@@ -34,7 +34,7 @@ fn is_large(marked: bool, flow: &Flow, outline: &Outline, o: &Obligation) -> boo
     requires marked { marked ≡ program_uses_marks flow.now outline.now }
     ensures { result ≡ is_large flow.now outline.now o.now }
 {
-    counted_clauses(marked, flow, outline, o) > What1::Clauses.most() as u64
+    clauses_where(marked, flow, outline, o) > What1::Clauses.most() as u64
 }
 
 /// The obligation whose last number is this one, and which is the same else.

@@ -345,7 +345,7 @@ pub(crate) fn denied_size(flow: &Flow, outline: &Outline, o: &Obligation) -> u64
 }
 
 /// How many clauses the ground set of an obligation has, where it is known whether marks are used.
-pub(crate) fn counted_clauses(marked: bool, flow: &Flow, outline: &Outline, o: &Obligation) -> u64
+pub(crate) fn clauses_where(marked: bool, flow: &Flow, outline: &Outline, o: &Obligation) -> u64
     requires fits { Fits flow.now outline.now }
     requires marked { marked ≡ program_uses_marks flow.now outline.now }
     ensures { result ≡ length (ground_set flow.now outline.now o.now).clauses }
@@ -366,5 +366,5 @@ pub fn clauses(flow: &Flow, outline: &Outline, o: &Obligation) -> u64
     requires { Fits flow.now outline.now }
     ensures { result ≡ length (ground_set flow.now outline.now o.now).clauses }
 {
-    counted_clauses(program_uses_marks(flow, outline), flow, outline, o)
+    clauses_where(program_uses_marks(flow, outline), flow, outline, o)
 }

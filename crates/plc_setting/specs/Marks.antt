@@ -1,5 +1,5 @@
--- Whether the ground sets of a program speak of marks. Constants, clauses and their number depend on it, so it is named
--- once, here.
+-- Whether a program uses marks. The row of `p != q` among the acts depends on it, and with it the clauses of ground sets
+-- and their number, so it is named once, here.
 use Rattle.std.specs.Prelude.{Bool}
 use Rattle.plc_flow.specs.declared.flow.Flow.{Flow}
 use Rattle.plc_flow.specs.Marks.{flow_uses_marks}

@@ -1,5 +1,5 @@
-// What the search uses again at each node of a tree, so that a node asks for no memory of its own: the forest
-// of the branch, and the lists of splits that are done with. None of it is trusted.
+// What the search uses again at each node of a tree, so that most nodes ask for no memory of their own: the
+// forest of the branch, and the lists of small splits that are done with. None of it is trusted.
 ghost use Rattle.std.specs.Prelude.{◌≡◌, []};
 
 use crate::chain::Forest;

@@ -7,7 +7,7 @@ use Rattle.plc_oblig.specs.Size.{clause_size, prim_size}
 use Rattle.plc_oblig.proofs.Bounds.{short_before}
 use Rattle.plc_oblig.proofs.Executed.{executed_length}
 use Rattle.plc_oblig.proofs.Wholes.{whole_length, set_length}
-use Rattle.plc_oblig.proofs.size.counted_clauses.Goals as goal
+use Rattle.plc_oblig.proofs.size.clauses_where.Goals as goal
 use Rattle.plc_setting.proofs.Fitting.{executed_short}
 
 pub overflow_add-result : goal.overflow_add-result
