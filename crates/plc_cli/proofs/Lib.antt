@@ -7,5 +7,5 @@ pub mod Racing
 pub mod Serving
 pub mod Statuses
 pub mod TwoReads
-pub mod Unmarked
+pub mod Marked
 pub mod Verified

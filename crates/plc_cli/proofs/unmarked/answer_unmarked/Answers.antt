@@ -3,7 +3,7 @@ use Rattle.plc_check.specs.declared.judged.Judged.{Judged}
 use Rattle.plc_check.specs.Loading.{judged_of}
 use Rattle.plc_check.specs.Unmarked.{IsLoadedUnmarked}
 use Rattle.plc_cli.proofs.Answering.{if_loaded, if_ok_from}
-use Rattle.plc_cli.proofs.Unmarked.{if_unmarked}
+use Rattle.plc_cli.proofs.Marked.{if_unmarked}
 use Rattle.plc_cli.proofs.unmarked.answer_unmarked.Goals as goal
 
 pub returns-in-Ok-Some : goal.returns-in-Ok-Some
