@@ -135,7 +135,7 @@ impl<'a> Asked for BothRuns<'a> {
     }
 }
 
-fn ran(alloc: Global, file: &str, lines: &str) -> Result<String, NoMemory> {
+pub(crate) fn ran(alloc: Global, file: &str, lines: &str) -> Result<String, NoMemory> {
     answered(alloc, file, &BothRuns { lines })
 }
 

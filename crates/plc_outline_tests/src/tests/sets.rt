@@ -1,11 +1,12 @@
 // Ground sets of obligations as an independent reading of the format gives them: one of each kind and one at depth 1
 // whole (`whole_sets.rt` tells how a set is written), others by checksums, with loads, `retire` and premises at depth 1
-// among them.
+// among them. Beside them sets of files that use marks.
 ghost use Rattle.plc_setting.specs.Fit.{Fits};
 
 use crate::tests::checksums::{OF_DEEP, OF_HAZARDS};
 use crate::tests::deep::DEEP;
 use crate::tests::loading::{Asked, answered, put, text_is};
+use crate::tests::marks::MARKED_SETS;
 use crate::tests::whole_sets::{CLAIM, DEEP_START, ENTER, OTHER, OWN, START};
 use plc_base::{NoMemory, What1};
 use plc_check::Judged;
@@ -180,6 +181,10 @@ fn sets_are_those_of_the_format(rt: HostRuntime) -> Result<(), NoMemory> {
         text_is(&rt, answer_of_hazards(rt.alloc(), i), text)?;
     }
     text_is(&rt, answer(rt.alloc(), DEEP, 0), DEEP_START)?;
+    for row in MARKED_SETS {
+        let (file, i, text) = *row;
+        text_is(&rt, answer(rt.alloc(), file, i), text)?;
+    }
     Ok(())
 }
 

@@ -141,6 +141,16 @@ op f() { ptr p; ptr q; p := new; q := mark p; p.f := q; p := p.f; assume marked 
 struct N { ptr f; }
 op f() { ptr p; ptr q; p := new; q := mark p; if (marked q) { p := null; } else { p := q; }
 if (unmarked q) { p := q; } else { } }
+# marked-outline
+struct N { ptr f; }
+shared T;
+ghost st { made, linked };
+op f() { ptr p; ptr m; p := new; m := mark p; label a; atomic { ghost p.st := linked; T := m; } }
+outline { inv T == null or T.st == linked; at a: m == p; }
+# marked-different
+struct N { }
+op f() { ptr p; ptr q; p := new; assume p != q; label a; p := mark p; }
+outline { at a: p == null or p != q; }
 # blocked
 struct N { ptr f; } shared T; init { T.f := null; }
 # stack

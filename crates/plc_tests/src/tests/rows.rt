@@ -134,6 +134,20 @@ safe points 7 steps 6 locations 2 obligations 0
 safe points 8 steps 7 locations 2 obligations 0
 # check marked-else: 0
 safe points 12 steps 13 locations 2 obligations 0
+# check marked-outline: 0
+at a W {u r}
+at a p - {u r}
+at a m - {u r}
+safe points 5 steps 4 locations 2 obligations 10
+# check marked-different: 1
+unproved own step 1 line 2 clause 0
+term 0 null class 0
+term 1 a:p class 1
+term 2 a:q class 1
+term 3 yes class 3
+term 4 none class 4
+term 5 me class 5
+term 6 0 class 6
 # check marked-brace, print marked-brace, replay marked-brace one leak: 2
 refused syntax token 18 line 1
 # check marked-byte: 2
@@ -306,7 +320,9 @@ refused byte at 13
 refused syntax token 0 line 1
 # certify absent: 4
 read failed
-# certify marked, certify marked-put, certify marked-brace, certify marked-name: 2
+# certify marked, certify marked-put, certify marked-outline, certify marked-different: 2
+refused file
+# certify marked-brace, certify marked-name: 2
 refused file
 # certify marked-byte, verify marked-byte empty: 2
 refused byte at 13
