@@ -128,21 +128,21 @@ struct Node { ptr next; }
 shared Top;
 op put() { ptr n; ptr m; n := new; m := mark n; Top := m; if (marked m) { m := unmark m; } if (m == n) { return; } }
 # marked-init
-struct N { ptr f; } shared T; shared U;
-init { T := new; U := mark T; T.f := U; T := unmark U; }
+struct N { ptr next; } shared T; shared U;
+init { T := new; U := mark T; T.next := U; T := unmark U; }
 op f() { ptr p; p := T; assume unmarked p; p := U; assume marked p; }
 # marked-null
-struct N { ptr f; }
+struct N { ptr next; }
 op f() { ptr p; ptr q; p := null; q := mark p; assume q == null; assume marked q; assume q != p; }
 # marked-link
-struct N { ptr f; }
-op f() { ptr p; ptr q; p := new; q := mark p; p.f := q; p := p.f; assume marked p; p := unmark p; }
+struct N { ptr next; }
+op f() { ptr p; ptr q; p := new; q := mark p; p.next := q; p := p.next; assume marked p; p := unmark p; }
 # marked-else
-struct N { ptr f; }
+struct N { ptr next; }
 op f() { ptr p; ptr q; p := new; q := mark p; if (marked q) { p := null; } else { p := q; }
 if (unmarked q) { p := q; } else { } }
 # marked-outline
-struct N { ptr f; }
+struct N { ptr next; }
 shared T;
 ghost st { made, linked };
 op f() { ptr p; ptr m; p := new; m := mark p; label a; atomic { ghost p.st := linked; T := m; } }

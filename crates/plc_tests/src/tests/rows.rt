@@ -130,10 +130,10 @@ safe points 4 steps 3 locations 2 obligations 0
 safe points 6 steps 5 locations 2 obligations 0
 # check marked-null: 0
 safe points 7 steps 6 locations 2 obligations 0
-# check marked-link: 0
-safe points 8 steps 7 locations 2 obligations 0
+# check marked-link: 1
+untyped step 2 prim 0 line 2 deref p
 # check marked-else: 0
-safe points 12 steps 13 locations 2 obligations 0
+safe points 13 steps 14 locations 2 obligations 0
 # check marked-outline: 0
 at a W {u r}
 at a p - {u r}
