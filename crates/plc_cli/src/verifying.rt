@@ -1,6 +1,6 @@
 // Whether a certificate is valid for a file. No verdict is made: neither the inference nor the solver is called.
-ghost use Rattle.std.specs.Prelude.{IfOk};
-ghost use Rattle.plc_base.specs.Limits.{largest_certificate};
+ghost use Rattle.std.specs.Prelude.{◌≤◌, IfOk, length};
+ghost use Rattle.plc_base.specs.Limits.{largest_certificate, largest_file};
 ghost use Rattle.plc_setting.specs.Fit.{Fits};
 ghost use Rattle.plc_cli.specs.Certificates.{IsVerificationOf, IsCertificateAnswered, IsCertificateJudged};
 ghost use Rattle.plc_cli.specs.Reads.{FilesAreKept, IsDueForPair};
@@ -74,6 +74,15 @@ impl<'a> Question for ForValidity<'a> {
     }
 }
 
+/// The answer to the bytes of a file and to those that may be its certificate.
+fn answer_both(alloc: Global, bytes: &[u8], certificate: &[u8]) -> Result<Answer, AllocError>
+    requires { length bytes.now ≤ largest_file }
+    ensures { IfOk result (λ answer.
+        IsVerificationOf bytes.now certificate.now answer.status answer.text.items) }
+{
+    answer_unmarked(alloc, bytes, &ForValidity { certificate })
+}
+
 /// The answer to `verify FILE CERTIFICATE`.
 pub(crate) fn verify_file<F: Files>(
     alloc: Global,
@@ -88,13 +97,7 @@ pub(crate) fn verify_file<F: Files>(
         answer.status answer.text.items) }
 {
     match read_both(alloc, files, file, certificate, LARGEST_CERTIFICATE)? {
-        Contents::Read(bytes, second) => answer_unmarked(
-            alloc,
-            &bytes,
-            &ForValidity {
-                certificate: &second,
-            },
-        ),
+        Contents::Read(bytes, second) => answer_both(alloc, &bytes, &second),
         Contents::Unread(answer) => Ok(answer),
     }
 }
