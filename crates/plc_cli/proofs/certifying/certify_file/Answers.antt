@@ -11,5 +11,5 @@ returns-in-Read-clause-due g c =
     (subst (IsContentOf _ _ _ _) c.in-Read.is c.in_ok-bytes.ensures.read) c.deref.ensures.value
     c.answer_unmarked.ensures
 
-pub returns-in-Unread-clause-due : goal.returns-clause-due
+pub returns-in-Unread-clause-due : goal.returns-in-Unread-clause-due
 returns-in-Unread-clause-due g c = inl (subst (IsContentOf _ _ _ _) c.in-Unread.is c.in_ok-bytes.ensures.read)
