@@ -1,5 +1,6 @@
 -- Tests that one side decides, and where an option is none.
 use Rattle.std.proofs.Common.{◌≡◌, Bool, true, false, ◌&&◌, ◌||◌, is_none, Option, Some, None, refl, sym}
+use Rattle.plc_base.specs.Booleans.{same_bool}
 
 pub and_true : (x : Bool) → (x && true) ≡ x
 and_true true = refl
@@ -22,6 +23,18 @@ pub same_tests : (x y : Bool) → (x ≡ true → y ≡ true) → (y ≡ true �
 same_tests true y f g = sym (f refl)
 same_tests false true f g = g refl
 same_tests false false f g = refl
+
+pub same_if : (b c : Bool) → same_bool b c ≡ true → b ≡ c
+same_if true true e = refl
+same_if true false e = sym e
+same_if false true e = e
+same_if false false e = refl
+
+pub if_same : (b c : Bool) → b ≡ c → same_bool b c ≡ true
+if_same true true e = refl
+if_same true false e = sym e
+if_same false true e = e
+if_same false false e = refl
 
 pub none_if : {A : Type 0} (q : Option A) → is_none q ≡ true → q ≡ None
 none_if None e = refl

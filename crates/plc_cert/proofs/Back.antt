@@ -126,9 +126,14 @@ env_back e h = rw (mask_back e.w h.0, list_back shape.pointer_of written.pointer
 
 pub cert_back : (c : Cert) → IsInRange c → shape.certificate_of (written.cert c) ≡ read_back c
 cert_back c h =
-    rw (list_back shape.env_of written.env without_shared are_guarantees EnvIsInRange env_back c.env h.0, whole_list_back shape.tree_of written.tree TreeFits tree_back c.trees h.1) (by_test (list_all are_guarantees c.env))
+    let envs = list_back shape.env_of written.env without_shared are_guarantees EnvIsInRange env_back c.env h.1 in
+    let trees = whole_list_back shape.tree_of written.tree TreeFits tree_back c.trees h.2 in
+    let rest = by_test (list_all are_guarantees c.env) in
+    rw (envs, trees) (ap (λ r. if shape.is_version c.version then r else Err (fault.Version c.version)) rest)
   where
-    by_test : (b : Bool) → shape.with_lists (if b then Some (map without_shared c.env) else None) (Some c.trees) ≡ (if b then Ok (stored c) else Err (fault.Shape field.Env))
+    by_test : (b : Bool)
+        → shape.with_lists (if b then Some (map without_shared c.env) else None) (Some c.trees) c.version
+        ≡ (if b then Ok (stored c) else Err (fault.Shape field.Env))
     by_test true = refl
     by_test false = refl
 
@@ -153,10 +158,17 @@ each_passes P test part (x ∷ xs) h = and_from (test x) (list_all test xs) (par
 env_in_range : (e : Env) → EnvFits e → EnvIsInRange e
 env_in_range e h = (h.0, each_weaker PointerFits PointerIsInRange (λ t k. (guarantee_small t.g k.0, k.1)) e.locals h.1)
 
+version_small : (n : ℕ) → shape.is_version n ≡ true → n < 256
+version_small n h = elim (cases_lt n 256) [
+  | inl small ↦ small
+  | inr big ↦ absurd (true≢false (sym h ∙ rw (ne_eqb n 1 (λ e. omega arith), ne_eqb n 2 (λ e. omega arith)) refl))
+]
+
 pub in_range : (c : Cert) → CertFits c → IsInRange c
-in_range c h = (each_weaker EnvFits EnvIsInRange env_in_range c.env h.0, h.1)
+in_range c h = (version_small c.version h.0, each_weaker EnvFits EnvIsInRange env_in_range c.env h.1, h.2)
 
 pub read_whole : (c : Cert) → CertFits c → read_back c ≡ Ok (stored c)
 read_whole c h =
-    let each = each_passes EnvFits are_guarantees (λ e k. each_passes PointerFits (λ t. is_guarantee_set t.g) (λ t p. p.0) e.locals k.1) c.env h.0 in
-    rw each refl
+    let pointers = each_passes PointerFits (λ t. is_guarantee_set t.g) (λ t p. p.0) in
+    let each = each_passes EnvFits are_guarantees (λ e k. pointers e.locals k.1) c.env h.1 in
+    rw (h.0, each) refl

@@ -201,18 +201,23 @@ fine c = Ok c
 ok_is : (a b : Cert) → fine a ≡ fine b → a ≡ b
 ok_is a b e = ap (λ r. result_unwrap_or r a) e
 
-lists_only : (es : Option (List Env)) (ts : Option (List Tree)) (c : Cert) → shape.with_lists es ts ≡ Ok c → (es ≡ Some c.env) × (ts ≡ Some c.trees)
-lists_only None ts c e = absurd cc
-lists_only (Some es) None c e = absurd cc
-lists_only (Some es) (Some ts) c e = let same = ok_is _ c e in (ap (λ x. Some x.env) same, ap (λ x. Some x.trees) same)
+lists_only : (es : Option (List Env)) (ts : Option (List Tree)) (version : ℕ) (c : Cert)
+    → shape.with_lists es ts version ≡ Ok c → (es ≡ Some c.env) × (ts ≡ Some c.trees) × (version ≡ c.version)
+lists_only None ts version c e = absurd cc
+lists_only (Some es) None version c e = absurd cc
+lists_only (Some es) (Some ts) version c e =
+    let same = ok_is _ c e in (ap (λ x. Some x.env) same, ap (λ x. Some x.trees) same, ap (λ x. x.version) same)
 
-one_only : (t : Bool) (n : ℕ) (rest : Result Cert CertFault) (c : Cert) → (if t then rest else Err (fault.Version n)) ≡ Ok c → (t ≡ true) × (rest ≡ Ok c)
-one_only true n rest c e = (refl, e)
-one_only false n rest c e = absurd cc
+tested_only : (t : Bool) (n : ℕ) (rest : Result Cert CertFault) (c : Cert)
+    → (if t then rest else Err (fault.Version n)) ≡ Ok c → (t ≡ true) × (rest ≡ Ok c)
+tested_only true n rest c e = (refl, e)
+tested_only false n rest c e = absurd cc
 
-version_only : (v : Option ℕ) (rest : Result Cert CertFault) (c : Cert) → shape.with_version v rest ≡ Ok c → (v ≡ Some 1) × (rest ≡ Ok c)
+version_only : (v : Option ℕ) (rest : ℕ → Result Cert CertFault) (c : Cert) → shape.with_version v rest ≡ Ok c
+    → (n : ℕ) × (v ≡ Some n) × (shape.is_version n ≡ true) × (rest n ≡ Ok c)
 version_only None rest c e = absurd cc
-version_only (Some n) rest c e = let tested = one_only (n == 1) n rest c e in (ap Some (eqb-true n 1 tested.0), tested.1)
+version_only (Some n) rest c e =
+    let tested = tested_only (shape.is_version n) n (rest n) c e in (n, refl, tested.0, tested.1)
 
 object_only : (d : Data) (ms : Members) → as_object d ≡ Some ms → d ≡ object ms
 object_only null ms e = absurd cc
@@ -253,10 +258,14 @@ cert_only : (d : Data) (c : Cert) → shape.certificate_of d ≡ Ok c → (d ≡
 cert_only d c e =
     let r = from_root_only (shape.root_of d) c e in
     let v = version_only _ _ c r.2 in
-    let both = lists_only _ _ c v.1 in
-    let es = list_only shape.env_of written.env EnvFits env_only r.0.0 c.env both.0 in
-    let ts = list_only shape.tree_of written.tree TreeFits tree_only r.0.1 c.trees both.1 in
-    (root_only d r.0 r.1 ∙ ap₂ (λ x y. object (top (x, y, r.0.2))) es.0 ts.0 ∙ ap (λ z. object (top (list written.env c.env, list written.tree c.trees, z))) (whole_only r.0.2 1 v.0), (es.1, ts.1))
+    let all = lists_only _ _ v.0 c v.3 in
+    let es = list_only shape.env_of written.env EnvFits env_only r.0.0 c.env all.0 in
+    let ts = list_only shape.tree_of written.tree TreeFits tree_only r.0.1 c.trees all.1 in
+    let version = whole_only r.0.2 v.0 v.1 ∙ ap whole all.2 in (
+      root_only d r.0 r.1 ∙ ap₂ (λ x y. object (top (x, y, r.0.2))) es.0 ts.0
+          ∙ ap (λ z. object (top (list written.env c.env, list written.tree c.trees, z))) version,
+      (subst (λ n. shape.is_version n ≡ true) all.2 v.2, es.1, ts.1),
+    )
 
 json_only : (o : Option Data) (c : Cert) → shape.with_json o ≡ Ok c → (d : Data) × (o ≡ Some d) × (shape.certificate_of d ≡ Ok c)
 json_only None c e = absurd cc

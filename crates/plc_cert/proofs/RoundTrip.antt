@@ -80,28 +80,32 @@ env_depth : (e : Env) → tree.depth (outline (env e)) ≤ 4
 env_depth e = omega (arith, mask_depth e.w, list_depth pointer 2 pointer_depth e.locals)
 
 envs_flat : (c : Cert) → IsInRange c → IsFlat (list env c.env)
-envs_flat c h = list_flat env EnvIsInRange env_flat c.env h.0
+envs_flat c h = list_flat env EnvIsInRange env_flat c.env h.1
 
 trees_flat : (c : Cert) → IsInRange c → IsFlat (list written.tree c.trees)
-trees_flat c h = list_flat written.tree TreeFits tree_flat c.trees h.1
+trees_flat c h = list_flat written.tree TreeFits tree_flat c.trees h.2
 
-one_flat : IsFlat (whole 1)
-one_flat = omega arith
+version_flat : (c : Cert) → IsInRange c → IsFlat (whole c.version)
+version_flat c h = omega (arith, h.0)
 
 text_back : (c : Cert) → IsInRange c → read (text c) ≡ Some (cert c)
 text_back c h =
     let shallow : tree.depth (outline (cert c)) ≤ max_depth = omega (arith, list_depth env 4 env_depth c.env, list_depth written.tree 2 tree_depth c.trees) in
-    root_back (list env c.env) (list written.tree c.trees) (whole 1) (envs_flat c h) (trees_flat c h) one_flat shallow
+    root_back (list env c.env) (list written.tree c.trees) (whole c.version)
+    (envs_flat c h) (trees_flat c h) (version_flat c h) shallow
 
 text_utf8 : (c : Cert) → IsInRange c → IsUtf8 (text c)
-text_utf8 c h = root_utf8 (list env c.env) (list written.tree c.trees) (whole 1) (envs_flat c h) (trees_flat c h) one_flat
+text_utf8 c h =
+    root_utf8 (list env c.env) (list written.tree c.trees) (whole c.version)
+    (envs_flat c h) (trees_flat c h) (version_flat c h)
 
 pub text_is_answered : (c : Cert) → IsInRange c → reading (text c) ≡ read_back c
 text_is_answered c h = ap with_json (json_of-utf8 (text c) (text_utf8 c h) ∙ text_back c h) ∙ cert_back c h
 
 pub line_is_answered : (c : Cert) → IsInRange c → reading (text c ++ 10 ∷ []) ≡ read_back c
 line_is_answered c h =
-    let same = line_back (list env c.env) (list written.tree c.trees) (whole 1) (envs_flat c h) (trees_flat c h) one_flat in
+    let same = line_back (list env c.env) (list written.tree c.trees) (whole c.version)
+    (envs_flat c h) (trees_flat c h) (version_flat c h) in
     ap with_json (json_of-utf8 (text c ++ 10 ∷ []) (IsUtf8-append _ _ (text_utf8 c h) (IsUtf8-are_ascii _ refl)) ∙ same ∙ text_back c h) ∙ cert_back c h
 
 pub written_is_read : (c : Cert) → CertFits c → reading (text c) ≡ Ok (stored c)

@@ -1,6 +1,6 @@
 -- Which certificate a JSON value is, part by part, and which refusal comes first.
 use Rattle.std.specs.Prelude.{◌≡◌, ◌≢◌, ℕ, ◌+◌, ◌^◌, ◌==◌, List, [], ◌∷◌}
-use Rattle.std.specs.Prelude.{if◌then◌else◌, nat_lt, nat_le, codes, ◌&&◌, bytes_eq}
+use Rattle.std.specs.Prelude.{if◌then◌else◌, nat_lt, nat_le, codes, ◌&&◌, ◌||◌, Bool, bytes_eq}
 use Rattle.std.specs.Prelude.{Option, Some, None, option_map, option_and_then, Result, Ok, Err}
 use Rattle.std.specs.Str.{is_utf8}
 use Rattle.serde_json.specs.Data.{Data, Items, no_items, item, Members, no_members, member}
@@ -122,15 +122,19 @@ env_of d =
 -- ---- the whole, with the refusals in their order
 
 -- of the two lists the environments are judged first
-abbrev pub with_lists : Option (List Env) → Option (List Tree) → Result Cert CertFault
-with_lists None ts = Err (fault.Shape field.Env)
-with_lists (Some es) None = Err (fault.Shape field.Trees)
-with_lists (Some es) (Some ts) = Ok (record { env = es; trees = ts })
+abbrev pub with_lists : Option (List Env) → Option (List Tree) → ℕ → Result Cert CertFault
+with_lists None ts version = Err (fault.Shape field.Env)
+with_lists (Some es) None version = Err (fault.Shape field.Trees)
+with_lists (Some es) (Some ts) version = Ok (record { version = version; env = es; trees = ts })
 
--- what comes of the rest, where the version is 1
-abbrev pub with_version : {A : Type 0} → Option ℕ → Result A CertFault → Result A CertFault
+-- the two versions of the format
+abbrev pub is_version : ℕ → Bool
+is_version n = (n == 1) || (n == 2)
+
+-- what comes of the rest, where the version is one of the two
+abbrev pub with_version : {A : Type 0} → Option ℕ → (ℕ → Result A CertFault) → Result A CertFault
 with_version None rest = Err (fault.Shape field.Version)
-with_version (Some n) rest = if n == 1 then rest else Err (fault.Version n)
+with_version (Some n) rest = if is_version n then rest n else Err (fault.Version n)
 
 -- the members env, trees and version, and no other; a value has its members in the order of their names
 abbrev pub root_from : Members → Option (Data × Data × Data)

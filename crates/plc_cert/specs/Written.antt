@@ -48,12 +48,12 @@ pointer t = array (item (whole t.g.0) (item (mask t.m) no_items))
 abbrev pub env : Env → Data
 env e = array (item (mask e.w) (item (list pointer e.locals) no_items))
 
--- {"env":[..],"trees":[..],"version":1}
+-- {"env":[..],"trees":[..],"version":N}, N the certificate's own
 abbrev pub cert : Cert → Data
 cert c = object
     (member (codes "env") (list env c.env)
     (member (codes "trees") (list tree c.trees)
-    (member (codes "version") (whole 1) no_members)))
+    (member (codes "version") (whole c.version) no_members)))
 
 -- the text that is written, byte for byte: that value without white space
 abbrev pub text : Cert → List ℕ

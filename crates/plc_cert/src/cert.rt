@@ -10,6 +10,8 @@ use plc_type::Env;
 /// What shows that a file is safe.
 #[derive(Drop)]
 pub struct Cert {
+    /// The version of the format, 1 or 2. The two have one form; which one a file asks for is judged elsewhere.
+    pub version: u8,
     /// An environment for each point, in order. The types of shared pointers aren't written, so one
     /// that was read has none.
     pub env: Items<Env>,
@@ -24,7 +26,7 @@ pub enum CertFault {
     NotJson,
     /// A part isn't of its form: the first in the order of `CertField`.
     Shape { field: CertField },
-    /// The version is another than 1. It comes after `Root` and before `Env`.
+    /// The version is another than 1 and 2. It comes after `Root` and before `Env`.
     Version { n: u64 },
     /// Memory ran out.
     Memory,

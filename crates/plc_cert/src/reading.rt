@@ -47,16 +47,16 @@ fn root(value: &Value) -> Option<(&Value, &Value, &Value)>
     values(&mut value.as_object()?.iter())
 }
 
-/// Ok where the version is 1.
-fn version(value: &Value) -> Result<(), CertFault>
-    ensures { result ≡ with_version (whole_of (view value.now)) (Ok tt) }
+/// The version, where it is 1 or 2.
+fn version(value: &Value) -> Result<u8, CertFault>
+    ensures { result ≡ with_version (whole_of (view value.now)) (λ n. Ok n) }
 {
     match value.as_u64() {
         None => Err(CertFault::Shape {
             field: CertField::Version,
         }),
-        Some(n) => if n == 1 {
-            Ok(())
+        Some(n) => if n == 1 || n == 2 {
+            Ok(n as u8)
         } else {
             Err(CertFault::Version { n })
         },
@@ -72,7 +72,7 @@ fn certificate(alloc: Global, value: &Value) -> Result<Cert, CertFault>
             field: CertField::Root,
         });
     };
-    version(number)?;
+    let version = version(number)?;
     let Some(env) = list(alloc, env)? else {
         return Err(CertFault::Shape {
             field: CertField::Env,
@@ -83,7 +83,11 @@ fn certificate(alloc: Global, value: &Value) -> Result<Cert, CertFault>
             field: CertField::Trees,
         });
     };
-    Ok(Cert { env, trees })
+    Ok(Cert {
+        version,
+        env,
+        trees,
+    })
 }
 
 /// The certificate that the bytes are: JSON as `serde_json` reads it, white space and the order of

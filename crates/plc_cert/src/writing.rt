@@ -144,14 +144,14 @@ impl Serialize for Cert {
         out.key("trees")?;
         send_list(self.trees.as_slice(), out)?;
         out.key("version")?;
-        out.u64(1)?;
+        out.u64(self.version as u64)?;
         out.end_map()
     }
 }
 
 /// The text of a certificate, of any length: compact JSON without a line feed,
-/// `{"env":[..],"trees":[..],"version":1}`. The types of shared pointers are left out. The one error
-/// is that memory runs out.
+/// `{"env":[..],"trees":[..],"version":N}`, N the certificate's own. The types of shared pointers are
+/// left out. The one error is that memory runs out.
 pub fn write(alloc: Global, cert: &Cert) -> Result<Vec<u8>, NoMemory>
     ensures { IfOk result (λ bytes. bytes.items ≡ text cert.now) }
 {

@@ -1,6 +1,7 @@
 pub mod Completing
 pub mod Fitting
 pub mod Limiting
+pub mod Marked
 pub mod Matching
 pub mod Noting
 pub mod Opening
@@ -8,4 +9,3 @@ pub mod Readable
 pub mod Refusals
 pub mod SoFar
 pub mod Unique
-pub mod Unmarked

@@ -67,6 +67,7 @@ pub read_and_valid : CertificatesAreVerified
 read_and_valid j cert c = (
   line_is_read cert c.fits,
   record {
+    version = c.valid.version;
     typing = subst (IsTyping j.observer (skeleton_of j.flow)) (sym (completed_again j.flow cert.env)) c.valid.typing;
     trees = c.valid.trees;
   },

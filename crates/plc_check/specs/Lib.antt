@@ -1,7 +1,7 @@
 -- what contracts of public calls say
 pub mod Fit
 pub mod Loading
-pub mod Unmarked
+pub mod Marks
 pub mod Verdicts
 pub mod Certified
 -- words of private functions alone

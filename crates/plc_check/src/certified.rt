@@ -10,13 +10,14 @@ use crate::verdict::{Verdict, strongest, unproved};
 use plc_base::NoMemory;
 use plc_cert::Cert;
 use plc_infer::Typing;
+use plc_verify::certificate_version;
 use std::alloc::Global;
 
 /// What there is to show of a file.
 #[derive(Drop)]
 pub enum Certified {
-    /// It is safe: a certificate that is valid, with the strongest typing, and with trees in which no branch
-    /// splits one clause twice. What it is written as is read again, and valid too.
+    /// It is safe: a certificate that is valid, of the version of the file, with the strongest typing, and with
+    /// trees in which no branch splits one clause twice. What it is written as is read again, and valid too.
     Yes(Cert),
     /// It isn't: the verdict, which is never `Safe`.
     No(Verdict),
@@ -29,10 +30,14 @@ fn certify_outline(alloc: Global, judged: &Judged, typing: Typing) -> Result<Cer
     ensures { IfOk result (IsCertified judged.now) }
 {
     match trees_of(alloc, judged)? {
-        Ok(trees) => Ok(Certified::Yes(Cert {
-            env: typing.env,
-            trees,
-        })),
+        Ok(trees) => {
+            let version = certificate_version(&judged.flow, &judged.unit_outline);
+            Ok(Certified::Yes(Cert {
+                version,
+                env: typing.env,
+                trees,
+            }))
+        }
         Err(found) => Ok(Certified::No(unproved(found))),
     }
 }

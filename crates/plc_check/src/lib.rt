@@ -15,5 +15,5 @@ mod verdict;
 pub use certified::{Certified, certify};
 pub use judged::{Judged, LoadFault};
 pub use laws::certificates_are_verified;
-pub use loading::{files_are_unique, files_fit, files_use_their_marks, load, load_unmarked};
+pub use loading::{files_are_unique, files_fit, files_use_their_marks, load};
 pub use verdict::{Verdict, check};

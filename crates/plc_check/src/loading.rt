@@ -1,9 +1,9 @@
 // Bytes, tokens, unit, flow, limits of the outline: the first refusal on this way is the answer.
-ghost use Rattle.std.specs.Prelude.{◌≡◌, ◌<◌, ◌≤◌, ◌+◌, ◌^◌, length, IfOk, IfSome};
+ghost use Rattle.std.specs.Prelude.{◌≡◌, ◌<◌, ◌≤◌, ◌+◌, ◌^◌, length, IfOk};
 ghost use Rattle.plc_base.specs.Limits.{largest_file};
 ghost use Rattle.plc_check.specs.Fit.{FilesFit, JudgedFits};
 ghost use Rattle.plc_check.specs.Loading.{IsLoaded, FilesAreUnique, line_of, place_of};
-ghost use Rattle.plc_check.specs.Unmarked.{IsLoadedUnmarked, FilesUseTheirMarks};
+ghost use Rattle.plc_check.specs.Marks.{FilesUseTheirMarks};
 ghost use Rattle.plc_lex.specs.Spelling.{AreTokensOf, line_feeds};
 ghost use Rattle.plc_parse.specs.Fit.{UnitFits};
 ghost use Rattle.plc_auto.specs.Schemes.{schemes_of};
@@ -17,7 +17,6 @@ use plc_flow::{FlowFault, lower};
 use plc_lex::{LexFault, Token, tokens};
 use plc_parse::{Unit, parse};
 use plc_scope::ParseFault;
-use plc_syntax::use_marks;
 use std::alloc::Global;
 
 /// The refusal that a fault of the lexer is; that memory ran out there is told as `Memory`.
@@ -166,27 +165,6 @@ fn loaded(alloc: Global, bytes: &[u8], found: &[Token]) -> Result<Judged, LoadFa
     }
 }
 
-/// The same where the tokens use no marks, and `None` where they do.
-fn loaded_unmarked(
-    alloc: Global,
-    bytes: &[u8],
-    found: &[Token],
-) -> Result<Option<Judged>, LoadFault>
-    requires short { length bytes.now ≤ largest_file }
-    requires few { length found.now < 2 ^ 32 }
-    requires spelled { AreTokensOf bytes.now found.now }
-    ensures loaded { IsLoadedUnmarked bytes.now result }
-    ensures fits { IfOk result (λ some. IfSome some JudgedFits) }
-{
-    if use_marks(found) {
-        return Ok(None);
-    }
-    match loaded(alloc, bytes, found) {
-        Ok(judged) => Ok(Some(judged)),
-        Err(fault) => Err(fault),
-    }
-}
-
 /// Reads and lowers a file of at most 1 MiB. The first refusal on the way is the answer: `Lex` where
 /// the bytes spell no tokens, `Parse` or `Limit` where the tokens spell no unit, `Limit` where the flow
 /// would have more than 4,096 points, then where the outline has more than 1,000,000 obligations, then where
@@ -202,25 +180,12 @@ pub fn load(alloc: Global, bytes: &[u8]) -> Result<Judged, LoadFault>
     }
 }
 
-/// [`load`] for a certificate, which can't speak of marks yet: `None` exactly where the bytes spell tokens that use
-/// marks, whatever else is wrong with them, and otherwise what `load` answers.
-pub fn load_unmarked(alloc: Global, bytes: &[u8]) -> Result<Option<Judged>, LoadFault>
-    requires { length bytes.now ≤ largest_file }
-    ensures loaded { IsLoadedUnmarked bytes.now result }
-    ensures fits { IfOk result (λ some. IfSome some JudgedFits) }
-{
-    match tokens(alloc, bytes) {
-        Ok(found) => loaded_unmarked(alloc, bytes, &found),
-        Err(fault) => Err(lex_refusal(fault)),
-    }
-}
-
 /// The law that bytes spell at most one unit.
 pub fn files_are_unique()
     ensures { FilesAreUnique }
 {}
 
-/// The law that a file uses marks by its tokens exactly where the program that is judged of it does.
+/// The law that the program of a file uses marks exactly where one of the words of marks is among the file's tokens.
 pub fn files_use_their_marks()
     ensures { FilesUseTheirMarks }
 {}

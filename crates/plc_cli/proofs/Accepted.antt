@@ -13,13 +13,11 @@ use Rattle.plc_check.specs.declared.certified.Certified.TheVariants.{Yes, No}
 use Rattle.plc_check.specs.declared.verdict.Verdict.TheVariants.{Safe, Untyped, Unproved}
 use Rattle.plc_check.specs.Loading.{IsFileOf, judged_of}
 use Rattle.plc_check.specs.Certified.{IsCertified}
-use Rattle.plc_check.specs.Unmarked.{UsesMarks}
 use Rattle.plc_check.proofs.Readable.{read_and_valid}
 use Rattle.plc_check.proofs.Unique.{one_file}
 use Rattle.plc_texts.specs.Certificates.{verified_text}
-use Rattle.plc_cli.specs.Certificates.{IsCertificateJudged, IsCertificateAnswered, IsVerificationOf, IsCertifiedAs}
+use Rattle.plc_cli.specs.Certificates.{IsCertificateOf, IsCertificateJudged, IsCertificateAnswered, IsVerificationOf}
 use Rattle.plc_cli.specs.Certificates.{certified_status, certified_text}
-use Rattle.plc_cli.specs.Files.{IsAnsweredFile}
 use Rattle.plc_cli.specs.Laws.{verified_line, CertifiedFilesVerify}
 use Rattle.plc_cli.specs.Statuses.{holds}
 
@@ -57,7 +55,7 @@ module _ (j : Judged) (bytes : List ℕ) where
 
 -- of the unit that the bytes of the file spell
 of_unit : (bytes certificate : List ℕ) (u : FileUnit) → IsFileOf bytes u
-    → IsAnsweredFile (λ v. IsCertifiedAs (judged_of v)) bytes holds certificate → AreValid (judged_of u) certificate
+    → IsCertificateOf bytes holds certificate → AreValid (judged_of u) certificate
 of_unit bytes certificate u spelled (inl refused) = absurd (refused.none u spelled)
 of_unit bytes certificate u spelled (inr file) =
     subst (λ (v : FileUnit). AreValid (judged_of v) certificate) (one_file bytes file.unit u file.spelled spelled)
@@ -65,24 +63,20 @@ of_unit bytes certificate u spelled (inr file) =
 
 -- `verify` may answer so
 is_accepted : (bytes certificate : List ℕ) (u : FileUnit) → IsFileOf bytes u → AreValid (judged_of u) certificate
-    → (UsesMarks bytes → ⊥) → IsVerificationOf bytes certificate holds (verified_line u)
-is_accepted bytes certificate u spelled are unmarked = inr (record {
-  unmarked = unmarked;
+    → IsVerificationOf bytes certificate holds (verified_line u)
+is_accepted bytes certificate u spelled are = inr (record {
+  unit = u;
+  spelled = spelled;
   answer = inr (record {
-    unit = u;
-    spelled = spelled;
-    answer = inr (record {
-      cert = are.cert;
-      read = are.read;
-      answer = inl (record { valid = are.valid; status_is = refl; text_is = refl });
-    });
+    cert = are.cert;
+    read = are.read;
+    answer = inl (record { valid = are.valid; status_is = refl; text_is = refl });
   });
 })
 
 -- and can't answer otherwise
 is_only : (bytes certificate : List ℕ) (u : FileUnit) → IsFileOf bytes u → AreValid (judged_of u) certificate
-    → (status : ℕ) (text : List ℕ)
-    → IsAnsweredFile (λ v. IsCertificateAnswered (judged_of v) certificate) bytes status text
+    → (status : ℕ) (text : List ℕ) → IsVerificationOf bytes certificate status text
     → (status ≡ holds) × (text ≡ verified_line u)
 is_only bytes certificate u spelled are status text (inl refused) = absurd (refused.none u spelled)
 is_only bytes certificate u spelled are status text (inr file) =
@@ -90,18 +84,7 @@ is_only bytes certificate u spelled are status text (inr file) =
     (subst (λ (v : FileUnit). IsCertificateAnswered (judged_of v) certificate status text)
     (one_file bytes file.unit u file.spelled spelled) file.answer)
 
--- bytes that use no marks aren't refused for them either
-only_unmarked : (bytes certificate : List ℕ) (u : FileUnit) → IsFileOf bytes u → AreValid (judged_of u) certificate
-    → (UsesMarks bytes → ⊥) → (status : ℕ) (text : List ℕ) → IsVerificationOf bytes certificate status text
-    → (status ≡ holds) × (text ≡ verified_line u)
-only_unmarked bytes certificate u spelled are unmarked status text (inl marked) = absurd (unmarked marked.marks)
-only_unmarked bytes certificate u spelled are unmarked status text (inr file) =
-    is_only bytes certificate u spelled are status text file.answer
-
 pub certified_verify : CertifiedFilesVerify
-certified_verify bytes certificate u spelled (inl marked) = let is = marked.status_is in absurd cc
-certified_verify bytes certificate u spelled (inr file) =
-    let are = of_unit bytes certificate u spelled file.answer in (
-      is_accepted bytes certificate u spelled are file.unmarked,
-      only_unmarked bytes certificate u spelled are file.unmarked,
-    )
+certified_verify bytes certificate u spelled certified =
+    let are = of_unit bytes certificate u spelled certified in
+    (is_accepted bytes certificate u spelled are, is_only bytes certificate u spelled are)

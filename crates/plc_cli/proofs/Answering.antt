@@ -7,7 +7,7 @@ use Rattle.plc_check.specs.declared.judged.Judged.{Judged}
 use Rattle.plc_check.specs.Loading.{IsLoaded, judged_of}
 use Rattle.plc_cli.specs.declared.answer.Answer.{Answer}
 use Rattle.plc_cli.specs.Files.{IsAnsweredFile, IsTold}
-use Rattle.plc_cli.specs.Reads.{IsDueForFile, IsDueForPair, IsGivenPair}
+use Rattle.plc_cli.specs.Reads.{IsDueForFile}
 use Rattle.plc_cli.specs.Views.{IsFound}
 
 loaded_answers : (IsDue : Judged → ℕ → List ℕ → Type 0) (bytes : List ℕ) (j : Judged) (status : ℕ) (text : List ℕ) → IsLoaded bytes (Ok j) → IsDue j status text → IsAnsweredFile (λ u. IsDue (judged_of u)) bytes status text
@@ -38,23 +38,6 @@ if_found r old new name Answers bytes now found e h =
       bytes,
       record { others = found.others; read = found.read; gave = found.gave },
       subst (λ (b : List ℕ). Answers b answer.status answer.text.items) e h,
-    )) h
-
--- where bytes were found in two files, what is answered to them is due for the pair
-pub if_given : {E : Type 0} (r : Result Answer E) (old new : KnownFiles) (first second : List ℕ) (most : ℕ)
-    (Answers : List ℕ → List ℕ → ℕ → List ℕ → Type 0) (bytes more now now_more : List ℕ)
-    → IsGivenPair old new first second most bytes more → now ≡ bytes → now_more ≡ more
-    → IfOk r (λ answer. Answers now now_more answer.status answer.text.items)
-    → IfOk r (λ answer. IsDueForPair old new first second most (λ b m. Answers b m answer.status answer.text.items)
-    answer.status answer.text.items)
-if_given r old new first second most Answers bytes more now now_more given e f h =
-    if_ok_from r _ _
-    (λ answer h. inr (
-      bytes,
-      more,
-      given,
-      subst (λ (b : List ℕ). Answers b more answer.status answer.text.items) e
-          (subst (λ (m : List ℕ). Answers now m answer.status answer.text.items) f h),
     )) h
 
 -- where an answer has the status and the text of something right, it tells that

@@ -7,5 +7,4 @@ pub mod Racing
 pub mod Serving
 pub mod Statuses
 pub mod TwoReads
-pub mod Marked
 pub mod Verified

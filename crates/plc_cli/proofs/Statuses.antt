@@ -22,7 +22,6 @@ use Rattle.plc_cli.specs.Requests.{Request, Check, Certify, Print, Verify, Repla
 use Rattle.plc_cli.specs.Reads.{IsDueForFile, IsDueForPair}
 use Rattle.plc_cli.specs.Answer.{IsScheduleAnswered, IsReplayOf, IsDueFor, IsUnwritten, Ends, Outcome}
 use Rattle.plc_cli.specs.Statuses.{unwritten, no_memory, end_status}
-use Rattle.plc_cli.specs.Unmarked.{IsAnsweredUnmarked}
 use Rattle.plc_cli.specs.Verdicts.{verdict_status}
 use Rattle.plc_cli.proofs.TwoReads.{unread_status, unread_pair_status}
 
@@ -53,17 +52,11 @@ module _ (status : ℕ) (text : List ℕ) where
       IsTold IsRight status_of text_of status text → status ≤ 3
   told_low IsRight status_of text_of low told = omega (arith, told.status_is, low told.what)
 
-  -- the same where the marks of a file may be refused
-  unmarked_low : (IsDue : FileUnit → ℕ → List ℕ → Type 0) → ((u : FileUnit) → IsDue u status text → status ≤ 3) →
-      (bytes : List ℕ) → IsAnsweredUnmarked IsDue bytes status text → status ≤ 3
-  unmarked_low IsDue low bytes (inl marked) = omega (arith, marked.status_is)
-  unmarked_low IsDue low bytes (inr file) = answered_low IsDue low bytes file.answer
-
   pub check_low : (bytes : List ℕ) → IsAnswerTo bytes status text → status ≤ 3
   check_low bytes = answered_low (λ u. IsJudgedAs (judged_of u)) (λ u. told_low _ _ _ verdict_low) bytes
 
   pub certify_low : (bytes : List ℕ) → IsCertificateOf bytes status text → status ≤ 3
-  certify_low bytes = unmarked_low (λ u. IsCertifiedAs (judged_of u)) (λ u. told_low _ _ _ certified_low) bytes
+  certify_low bytes = answered_low (λ u. IsCertifiedAs (judged_of u)) (λ u. told_low _ _ _ certified_low) bytes
 
   pub print_low : (bytes : List ℕ) → IsPrintOf bytes status text → status ≤ 3
   print_low bytes = answered_low IsPrintedAs (λ u printed. omega (arith, printed.status_is)) bytes
@@ -78,7 +71,7 @@ module _ (status : ℕ) (text : List ℕ) where
 
   pub verify_low : (bytes second : List ℕ) → IsVerificationOf bytes second status text → status ≤ 3
   verify_low bytes second =
-      unmarked_low (λ u. IsCertificateAnswered (judged_of u) second) (λ u. second_low (judged_of u) second) bytes
+      answered_low (λ u. IsCertificateAnswered (judged_of u) second) (λ u. second_low (judged_of u) second) bytes
 
   schedule_low : (j : Judged) (r : Meanings) (bytes : List ℕ) → IsScheduleAnswered j r bytes status text → status ≤ 3
   schedule_low j r bytes (inl refused) = omega (arith, refused.status_is)

@@ -8,7 +8,6 @@ use Rattle.plc_cert.specs.declared.cert.Cert.{Cert}
 use Rattle.plc_verify.proofs.Refused.{valid_prove}
 use Rattle.plc_check.specs.Loading.{IsFileOf, judged_of}
 use Rattle.plc_cli.specs.Certificates.{IsVerificationOf, IsCertificateAnswered, IsCertificateJudged}
-use Rattle.plc_cli.specs.Files.{IsAnsweredFile}
 use Rattle.plc_cli.specs.Headline.{IsSafeProgram, IsSafePair}
 use Rattle.plc_cli.specs.Reads.{IsDueForPair}
 use Rattle.plc_cli.proofs.Racing.{never_races}
@@ -31,15 +30,10 @@ module _ (status : ℕ) (text : List ℕ) (is_0 : status ≡ 0) where
     certificate_safe second (inl refused) = let is = refused.status_is in absurd cc
     certificate_safe second (inr judged) = judged_safe judged.cert judged.answer
 
-  unmarked_safe : (bytes second : List ℕ)
-      → IsAnsweredFile (λ u. IsCertificateAnswered (judged_of u) second) bytes status text → IsSafeProgram bytes
-  unmarked_safe bytes second (inl refused) = let is = refused.status_is in absurd cc
-  unmarked_safe bytes second (inr spelled) =
-      certificate_safe bytes spelled.unit spelled.spelled second spelled.answer
-
   verification_safe : (bytes second : List ℕ) → IsVerificationOf bytes second status text → IsSafeProgram bytes
-  verification_safe bytes second (inl marked) = let is = marked.status_is in absurd cc
-  verification_safe bytes second (inr file) = unmarked_safe bytes second file.answer
+  verification_safe bytes second (inl refused) = let is = refused.status_is in absurd cc
+  verification_safe bytes second (inr spelled) =
+      certificate_safe bytes spelled.unit spelled.spelled second spelled.answer
 
   module _ (old new : KnownFiles) (name certificate : List ℕ) where
     pub safe_pair : IsDue status text old new name certificate → IsSafePair old new name certificate

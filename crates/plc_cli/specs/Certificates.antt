@@ -13,9 +13,8 @@ use Rattle.plc_check.specs.declared.certified.Certified.TheVariants.{Yes, No}
 use Rattle.plc_check.specs.Loading.{judged_of}
 use Rattle.plc_check.specs.Certified.{IsCertified}
 use Rattle.plc_texts.specs.Certificates.{certificate_line, certificate_text, verified_text, invalid_text}
-use Rattle.plc_cli.specs.Files.{IsTold}
+use Rattle.plc_cli.specs.Files.{IsAnsweredFile, IsTold}
 use Rattle.plc_cli.specs.Statuses.{holds, fails, refused}
-use Rattle.plc_cli.specs.Unmarked.{IsAnsweredUnmarked}
 use Rattle.plc_cli.specs.Verdicts.{verdict_status, verdict_text}
 
 -- ---- a certificate that is written
@@ -34,9 +33,9 @@ certified_text j (No verdict) = verdict_text j verdict
 abbrev pub IsCertifiedAs : Judged → ℕ → List ℕ → Type 0
 IsCertifiedAs j = IsTold (IsCertified j) certified_status (certified_text j)
 
--- what `certify` answers to bytes: refused, also for their marks, or certified, or not safe
+-- what `certify` answers to bytes: refused, or certified, or not safe
 abbrev pub IsCertificateOf : List ℕ → ℕ → List ℕ → Type 0
-IsCertificateOf bytes status text = IsAnsweredUnmarked (λ u. IsCertifiedAs (judged_of u)) bytes status text
+IsCertificateOf bytes status text = IsAnsweredFile (λ u. IsCertifiedAs (judged_of u)) bytes status text
 
 -- ---- a certificate that is judged
 
@@ -77,7 +76,7 @@ abbrev pub IsCertificateAnswered : Judged → List ℕ → ℕ → List ℕ → 
 IsCertificateAnswered j bytes status text =
     IsRefusedCertificate bytes status text ⊎ IsJudgedCertificate j bytes status text
 
--- what `verify` answers to the bytes of a file and of a certificate; the file's refusals, also for its marks, go first
+-- what `verify` answers to the bytes of a file and of a certificate; the file's refusals go first
 abbrev pub IsVerificationOf : List ℕ → List ℕ → ℕ → List ℕ → Type 0
 IsVerificationOf bytes second status text =
-    IsAnsweredUnmarked (λ u. IsCertificateAnswered (judged_of u) second) bytes status text
+    IsAnsweredFile (λ u. IsCertificateAnswered (judged_of u) second) bytes status text

@@ -12,7 +12,6 @@ pub mod Requests
 pub mod Samples
 pub mod Served
 pub mod Statuses
-pub mod Unmarked
 pub mod Verdicts
 -- words of private functions alone
 pub mod Views

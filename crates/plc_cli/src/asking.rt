@@ -30,7 +30,7 @@ pub(crate) trait Question: Drop {
 }
 
 /// The answer to a file that was loaded.
-pub(crate) fn answer_loaded<Q: Question>(
+fn answer_loaded<Q: Question>(
     alloc: Global,
     judged: Judged,
     question: &Q,

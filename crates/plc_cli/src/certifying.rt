@@ -1,21 +1,17 @@
 // The certificate of a file that is safe, and the law that it is accepted.
 ghost use Rattle.std.specs.Prelude.{◌≡◌, IfOk};
 ghost use Rattle.plc_texts.specs.Certificates.{certificate_line};
-ghost use Rattle.plc_cli.specs.Certificates.{IsCertifiedAs, IsCertificateOf};
+ghost use Rattle.plc_cli.specs.Certificates.{IsCertifiedAs};
 ghost use Rattle.plc_cli.specs.Laws.{CertifiedFilesVerify};
-ghost use Rattle.plc_cli.specs.Reads.{FilesAreKept, IsDueForFile};
 ghost use Rattle.plc_cli.specs.Statuses.{holds};
 
 use crate::answer::Answer;
 use crate::asking::Question;
 use crate::checking::told;
-use crate::reading::{Content, read};
 use crate::status::HOLDS;
-use crate::unmarked::answer_unmarked;
-use plc_base::{LARGEST_FILE, NoMemory};
+use plc_base::NoMemory;
 use plc_cert::Cert;
 use plc_check::{Certified, Judged, certify};
-use plc_outside::Files;
 use plc_texts::certified;
 use std::alloc::{AllocError, Global};
 
@@ -33,7 +29,7 @@ fn shown(alloc: Global, cert: Cert) -> Result<Answer, AllocError>
 
 /// The question for the certificate of a file, or for the verdict on one that has none.
 #[derive(Drop)]
-struct ForCertificate;
+pub(crate) struct ForCertificate;
 
 impl Question for ForCertificate {
     ghost due = { λ _ judged. IsCertifiedAs judged };
@@ -44,22 +40,6 @@ impl Question for ForCertificate {
             Ok(Certified::No(verdict)) => told(alloc, judged, verdict),
             Err(NoMemory) => Err(AllocError),
         }
-    }
-}
-
-/// The answer to `certify FILE`.
-pub(crate) fn certify_file<F: Files>(
-    alloc: Global,
-    files: &mut F,
-    file: &str,
-) -> Result<Answer, AllocError>
-    ensures kept { FilesAreKept (F.known files.old) (F.known files.new) }
-    ensures due { IfOk result (λ answer. IsDueForFile (F.known files.old) (F.known files.new) file.now
-        (λ bytes. IsCertificateOf bytes answer.status answer.text.items) answer.status answer.text.items) }
-{
-    match read(alloc, files, file, LARGEST_FILE)? {
-        Content::Read(bytes) => answer_unmarked(alloc, &bytes, &ForCertificate),
-        Content::Unread(answer) => Ok(answer),
     }
 }
 

@@ -57,7 +57,6 @@ mod reading;
 mod replaying;
 mod sampling;
 mod status;
-mod unmarked;
 mod verifying;
 mod words;
 

@@ -10,7 +10,7 @@ ghost use Rattle.plc_cli.specs.Served.{ServedReplays};
 
 use crate::answer::{Answer, refused_words};
 use crate::asking::answer_file;
-use crate::certifying::certify_file;
+use crate::certifying::ForCertificate;
 use crate::checking::ForVerdict;
 use crate::printing::ForText;
 use crate::replaying::replay_file;
@@ -38,7 +38,7 @@ fn answer_to<F: Files>(
 {
     match requested(reclaimers, words) {
         Some(Request::Check { file }) => answer_file(alloc, files, file, ForVerdict),
-        Some(Request::Certify { file }) => certify_file(alloc, files, file),
+        Some(Request::Certify { file }) => answer_file(alloc, files, file, ForCertificate),
         Some(Request::Print { file }) => answer_file(alloc, files, file, ForText),
         Some(Request::Verify { file, certificate }) => {
             verify_file(alloc, files, file, certificate)

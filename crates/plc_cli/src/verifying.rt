@@ -1,15 +1,14 @@
 // Whether a certificate is valid for a file. No verdict is made: neither the inference nor the solver is called.
-ghost use Rattle.std.specs.Prelude.{◌≤◌, IfOk, length};
-ghost use Rattle.plc_base.specs.Limits.{largest_certificate, largest_file};
+ghost use Rattle.std.specs.Prelude.{IfOk};
+ghost use Rattle.plc_base.specs.Limits.{largest_certificate};
 ghost use Rattle.plc_setting.specs.Fit.{Fits};
 ghost use Rattle.plc_cli.specs.Certificates.{IsVerificationOf, IsCertificateAnswered, IsCertificateJudged};
 ghost use Rattle.plc_cli.specs.Reads.{FilesAreKept, IsDueForPair};
 
 use crate::answer::Answer;
-use crate::asking::Question;
+use crate::asking::{Question, answer_bytes};
 use crate::reading::{Contents, read_both};
 use crate::status::{FAILS, HOLDS, REFUSED};
-use crate::unmarked::answer_unmarked;
 use plc_base::LARGEST_CERTIFICATE;
 use plc_cert::{Cert, CertFault, read};
 use plc_check::Judged;
@@ -74,15 +73,6 @@ impl<'a> Question for ForValidity<'a> {
     }
 }
 
-/// The answer to the bytes of a file and to those that may be its certificate.
-fn answer_both(alloc: Global, bytes: &[u8], certificate: &[u8]) -> Result<Answer, AllocError>
-    requires { length bytes.now ≤ largest_file }
-    ensures { IfOk result (λ answer.
-        IsVerificationOf bytes.now certificate.now answer.status answer.text.items) }
-{
-    answer_unmarked(alloc, bytes, &ForValidity { certificate })
-}
-
 /// The answer to `verify FILE CERTIFICATE`.
 pub(crate) fn verify_file<F: Files>(
     alloc: Global,
@@ -97,7 +87,13 @@ pub(crate) fn verify_file<F: Files>(
         answer.status answer.text.items) }
 {
     match read_both(alloc, files, file, certificate, LARGEST_CERTIFICATE)? {
-        Contents::Read(bytes, second) => answer_both(alloc, &bytes, &second),
+        Contents::Read(bytes, second) => answer_bytes(
+            alloc,
+            &bytes,
+            &ForValidity {
+                certificate: &second,
+            },
+        ),
         Contents::Unread(answer) => Ok(answer),
     }
 }

@@ -16,7 +16,7 @@ use Rattle.plc_lang.specs.declared.syntax.Primitive.TheVariants.{MarkTest, Call,
 use Rattle.plc_base.specs.Functions.{is_retire}
 use Rattle.plc_lang.specs.Comparison.{compares}
 use Rattle.plc_mem.specs.declared.cell.Cell.{Cell}
-use Rattle.plc_flow.specs.Points.{same_bool}
+use Rattle.plc_base.specs.Booleans.{same_bool}
 use Rattle.plc_mem.specs.State.{State, at_field, null_cell, fresh_cell, marked_cell, is_null, same_pointer, put}
 use Rattle.plc_mem.specs.State.{put_value, field_value, put_field_value, number_of, is_used, with_node, with_retired}
 use Rattle.plc_mem.specs.Primitives.{cell_at, field_at, comparison, race_of_call, goes_call, after_call, race_of, goes, after}

@@ -4,7 +4,7 @@ use Rattle.std.proofs.lemmas.Bool.{eqb-true}
 use Rattle.plc_flow.specs.declared.flow.Gate.{Gate}
 use Rattle.plc_flow.specs.declared.flow.Flow.{Flow}
 use Rattle.plc_flow.specs.WellFormed.{IsPointOf, IsWellFormed}
-use Rattle.plc_flow.specs.Points.{leaves, same_bool, StepsStayInTheirGate}
+use Rattle.plc_flow.specs.Points.{leaves, StepsStayInTheirGate}
 use Rattle.plc_flow.proofs.Gates.{one_gate}
 
 pub filter_member : {A : Type 0} (p : A → Bool) (xs : List A) (n : ℕ) (x : A) → slice_get (filter p xs) n ≡ Some x → (k : ℕ) × (slice_get xs k ≡ Some x) × (p x ≡ true)
@@ -27,17 +27,3 @@ stay_in_their_gate flow well op gate p nth s opens within at =
     let same : s.op.0 ≡ op = one_gate 0 flow.points flow.gates s.op.0 op w.0 gate p well.ranges w.1 opens (subst (IsPointOf w.0) from w.2) within in
     let its : w.0 ≡ gate = some_gate w.0 gate (sym (subst (λ i. slice_get flow.gates i ≡ Some w.0) same w.1) ∙ opens) in
     record { place = m.0; there = m.1; of_op = same; leads = subst (λ g. IsPointOf g s.to.0) its w.3 }
-
--- ---- the test of addresses
-
-pub same_if : (b c : Bool) → same_bool b c ≡ true → b ≡ c
-same_if true true e = refl
-same_if true false e = sym e
-same_if false true e = e
-same_if false false e = refl
-
-pub if_same : (b c : Bool) → b ≡ c → same_bool b c ≡ true
-if_same true true e = refl
-if_same true false e = sym e
-if_same false true e = e
-if_same false false e = refl

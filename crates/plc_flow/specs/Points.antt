@@ -1,7 +1,8 @@
 -- Where a thread may stand, and the steps that leave a point.
-use Rattle.std.specs.Prelude.{◌≡◌, ℕ, Bool, true, false, ◌==◌}
+use Rattle.std.specs.Prelude.{◌≡◌, ℕ, Bool, true, ◌==◌}
 use Rattle.std.specs.Prelude.{List, filter, slice_get, Option, Some, is_some}
 use Rattle.std.specs.List.{list_any}
+use Rattle.plc_base.specs.Booleans.{same_bool}
 use Rattle.plc_lang.specs.Allocation.{is_new}
 use Rattle.plc_flow.specs.declared.flow.Step.{Step}
 use Rattle.plc_flow.specs.declared.flow.Gate.{Gate}
@@ -19,12 +20,6 @@ steps_from flow p = filter (leaves p) flow.steps
 -- a move that takes a step names an address exactly where the step has a `new`
 abbrev pub Names : Option ℕ → Step → Type 0
 Names addr s = is_some addr ≡ list_any is_new s.prims
-
--- two tests answer alike
-abbrev pub same_bool : Bool → Bool → Bool
-same_bool true b = b
-same_bool false true = false
-same_bool false false = true
 
 -- `Names` as a test
 abbrev pub names_rightly : Option ℕ → Step → Bool

@@ -51,18 +51,10 @@ fn value_at<'a>(rest: Rest<'a>) -> Option<(Value<'a>, Rest<'a>)>
         Some((TokenKind::Word(Keyword::Null), after)) => Some((Value::Null, after)),
         Some((TokenKind::Word(Keyword::New), after)) => Some((Value::New, after)),
         Some((TokenKind::Number(n), after)) => Some((Value::Number(*n), after)),
-        Some((TokenKind::Word(Keyword::Mark), after)) => {
-            let (name, after) = name_at(after)?;
-            Some((Value::Mark(name), after))
-        }
-        Some((TokenKind::Word(Keyword::Unmark), after)) => {
-            let (name, after) = name_at(after)?;
-            Some((Value::Unmark(name), after))
-        }
-        _ => {
-            let (place, after) = place_at(rest)?;
-            Some((Value::Place(place), after))
-        }
+        Some((TokenKind::Word(Keyword::Mark), after)) => read_as! { name_at(after) => Value::Mark },
+        Some((TokenKind::Word(Keyword::Unmark), after)) =>
+            read_as! { name_at(after) => Value::Unmark },
+        _ => read_as! { place_at(rest) => Value::Place },
     }
 }
 

@@ -46,14 +46,10 @@ pub fn test_at<'a>(rest: Rest<'a>) -> Option<(Test<'a>, Rest<'a>)>
     ensures { Reads test_of test_tree test_size rest.entry result }
 {
     match first(rest) {
-        Some((TokenKind::Word(Keyword::Marked), after)) => {
-            let (name, after) = name_at(after)?;
-            Some((Test::Marked(name), after))
-        }
-        Some((TokenKind::Word(Keyword::Unmarked), after)) => {
-            let (name, after) = name_at(after)?;
-            Some((Test::Unmarked(name), after))
-        }
+        Some((TokenKind::Word(Keyword::Marked), after)) =>
+            read_as! { name_at(after) => Test::Marked },
+        Some((TokenKind::Word(Keyword::Unmarked), after)) =>
+            read_as! { name_at(after) => Test::Unmarked },
         _ => compared_at(rest),
     }
 }
@@ -100,8 +96,7 @@ fn cas_condition_at<'a>(rest: Rest<'a>) -> Option<(Condition<'a>, Rest<'a>)>
 {
     let after = symbol_at(rest, Symbol::OpenParen)?;
     let (is_active, after) = optional_word_at(after, Keyword::Active);
-    let (cas, after) = cas_at(is_active, after)?;
-    Some((Condition::Cas(cas), after))
+    read_as! { cas_at(is_active, after) => Condition::Cas }
 }
 
 /// A condition that is no cas.
@@ -111,8 +106,7 @@ fn named_condition_at<'a>(rest: Rest<'a>) -> Option<(Condition<'a>, Rest<'a>)>
     if let Some(((name, place), after)) = refresh_name_at(rest) {
         return Some((Condition::Refresh(name, place), after));
     }
-    let (test, after) = test_at(rest)?;
-    Some((Condition::Test(test), after))
+    read_as! { test_at(rest) => Condition::Test }
 }
 
 /// The condition of an `if`.

@@ -28,14 +28,10 @@ pub fn declaration_at<'a>(rest: Rest<'a>) -> Option<(Declaration<'a>, Rest<'a>)>
     ensures { Reads field_of field_tree (λ _. 3) rest.entry result }
 {
     match first(rest) {
-        Some((TokenKind::Word(Keyword::Ptr), after)) => {
-            let (name, after) = name_symbol_at(after, Symbol::Semicolon)?;
-            Some((Declaration::Pointer(name), after))
-        }
-        Some((TokenKind::Word(Keyword::Data), after)) => {
-            let (name, after) = name_symbol_at(after, Symbol::Semicolon)?;
-            Some((Declaration::Data(name), after))
-        }
+        Some((TokenKind::Word(Keyword::Ptr), after)) =>
+            read_as! { name_symbol_at(after, Symbol::Semicolon) => Declaration::Pointer },
+        Some((TokenKind::Word(Keyword::Data), after)) =>
+            read_as! { name_symbol_at(after, Symbol::Semicolon) => Declaration::Data },
         _ => None,
     }
 }

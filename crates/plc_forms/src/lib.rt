@@ -3,6 +3,16 @@
 //! as the tree has.
 #![tactic(auto)]
 
+// What a reader answers, made into the form that it stands for, as in the definitions.
+macro_rules! read_as {
+    ($read:expr => $form:expr) => {
+        match $read {
+            Some((read, after)) => Some(($form(read), after)),
+            None => None,
+        }
+    };
+}
+
 mod assignment;
 mod condition;
 mod declaration;

@@ -19,8 +19,7 @@ fn named_at<'a>(rest: Rest<'a>) -> Option<(Primitive<'a>, Rest<'a>)>
     if let Some((set, after)) = set_at(rest) {
         return Some((Primitive::Set(set), after));
     }
-    let (refresh, after) = refresh_at(rest)?;
-    Some((Primitive::Refresh(refresh), after))
+    read_as! { refresh_at(rest) => Primitive::Refresh }
 }
 
 /// A primitive, without its semicolon.
@@ -29,18 +28,12 @@ fn primitive_at<'a>(rest: Rest<'a>) -> Option<(Primitive<'a>, Rest<'a>)>
 {
     match first(rest) {
         Some((TokenKind::Word(Keyword::Skip), after)) => Some((Primitive::Skip, after)),
-        Some((TokenKind::Word(Keyword::Active), after)) => {
-            let (name, after) = name_at(after)?;
-            Some((Primitive::Active(name), after))
-        }
-        Some((TokenKind::Word(Keyword::Assume), after)) => {
-            let (test, after) = test_at(after)?;
-            Some((Primitive::Assume(test), after))
-        }
-        Some((TokenKind::Word(Keyword::Ghost), _)) => {
-            let (set, after) = ghost_set_at(rest)?;
-            Some((Primitive::Ghost(set), after))
-        }
+        Some((TokenKind::Word(Keyword::Active), after)) =>
+            read_as! { name_at(after) => Primitive::Active },
+        Some((TokenKind::Word(Keyword::Assume), after)) =>
+            read_as! { test_at(after) => Primitive::Assume },
+        Some((TokenKind::Word(Keyword::Ghost), _)) =>
+            read_as! { ghost_set_at(rest) => Primitive::Ghost },
         _ => named_at(rest),
     }
 }
@@ -60,8 +53,7 @@ fn initial_at<'a>(rest: Rest<'a>) -> Option<(Initial<'a>, Rest<'a>)>
     if let Some((set, after)) = set_at(rest) {
         return Some((Initial::Set(set), after));
     }
-    let (set, after) = ghost_set_at(rest)?;
-    Some((Initial::Ghost(set), after))
+    read_as! { ghost_set_at(rest) => Initial::Ghost }
 }
 
 /// An assignment of `init` and its semicolon.

@@ -15,7 +15,7 @@ use Rattle.plc_gc.specs.declared.slot.Map.TheVariants.{Number as data_field, Aux
 use Rattle.plc_gc.specs.declared.slot.Map.TheVariants.{Retirement as retirement}
 use Rattle.plc_gc.specs.State.{GcState, Row, Locals, null_pointer, with_node, with_mark, no_row, fresh_row, row_entry}
 use Rattle.plc_gc.specs.State.{row_with, locals_or_none, locals_of, value, entry}
-use Rattle.plc_gc.specs.Clauses.{declared_value, local_value}
+use Rattle.plc_gc.specs.Clauses.{declared_value, declared_mark}
 use Rattle.plc_gc.specs.Fit.{RowsFit, EntryIn, MapIn}
 use Rattle.plc_base.proofs.Tables.{put_is_set, length_put}
 use Rattle.plc_gc.proofs.Views.{no_entry}
@@ -52,11 +52,36 @@ pub named_data : (g : GcState) (t i : ℕ) (l : Locals) (d : ALocal) → locals_
 unfolding value
 named_data g t i l d e there is = rw (there, is) (sym (ap (λ (m : Locals). get_or m.values (data_number l.declared i) 0) e))
 
-pub local_held : (g : GcState) (t i n : ℕ) (l : Locals) → Some l ≡ get_or g.locals t None → ((h : GcState) (u : ℕ) → locals_of h u ≡ l → n ≡ declared_value h u l.declared i (slice_get l.declared i)) → n ≡ local_value g (Some t) i
-local_held g t i n l e f = let same = locals_held g t (Some l) e in subst (λ (m : Locals). n ≡ declared_value g t m.declared i (slice_get m.declared i)) (sym same) (f g t same)
+pub named_mark : (g : GcState) (t i : ℕ) (l : Locals) (d : ALocal) → locals_of g t ≡ l
+    → slice_get l.declared i ≡ Some d → d.pointer ≡ true
+    → (get_or l.pointers (pointer_number l.declared i) null_pointer).mark ≡ declared_mark g t l.declared i
+    (slice_get l.declared i)
+unfolding value
+named_mark g t i l d e there is =
+    rw (there, is) (sym (ap (λ (m : Locals). (get_or m.pointers (pointer_number l.declared i) null_pointer).mark) e))
 
-pub no_local : (g : GcState) (t i : ℕ) → None ≡ get_or g.locals t None → 0 ≡ local_value g (Some t) i
-no_local g t i e = subst (λ (m : Locals). 0 ≡ declared_value g t m.declared i (slice_get m.declared i)) (sym (locals_held g t None e)) refl
+pub no_mark : (g : GcState) (t i : ℕ) (l : Locals) (d : ALocal) → slice_get l.declared i ≡ Some d
+    → d.pointer ≡ false → 0 ≡ declared_mark g t l.declared i (slice_get l.declared i)
+no_mark g t i l d there is = rw (there, is) refl
+
+-- what is read of a local of a thread by its declaration, or where it has none
+abbrev pub ReadLocal : Type 0
+ReadLocal = GcState → ℕ → List ALocal → ℕ → Option ALocal → ℕ
+
+abbrev pub local_read : ReadLocal → GcState → ℕ → ℕ → ℕ
+local_read read g t i = read g t (locals_of g t).declared i (slice_get (locals_of g t).declared i)
+
+pub local_held : (read : ReadLocal) (g : GcState) (t i n : ℕ) (l : Locals) → Some l ≡ get_or g.locals t None
+    → ((h : GcState) (u : ℕ) → locals_of h u ≡ l → n ≡ read h u l.declared i (slice_get l.declared i))
+    → n ≡ local_read read g t i
+local_held read g t i n l e f =
+    let same = locals_held g t (Some l) e in
+    subst (λ (m : Locals). n ≡ read g t m.declared i (slice_get m.declared i)) (sym same) (f g t same)
+
+pub no_local : (read : ReadLocal) (g : GcState) (t i : ℕ) → 0 ≡ read g t [] i None
+    → None ≡ get_or g.locals t None → 0 ≡ local_read read g t i
+no_local read g t i none e =
+    subst (λ (m : Locals). 0 ≡ read g t m.declared i (slice_get m.declared i)) (sym (locals_held g t None e)) none
 
 -- a thread that has a local is one of the list
 pub pointer_below : (ls : List (Option Locals)) (t v : ℕ) → v < length (locals_or_none (get_or ls t None)).pointers → t < length ls

@@ -273,7 +273,7 @@ pub small_at : (g : GcState) (t : ℕ) (v : Var) → IsInRange g → node_at g t
 small_at g t (Shared i) k = k.shared i
 small_at g t (Local v) k = k.locals t v
 
-bit_at : (g : GcState) (t : ℕ) (v : Var) → IsInRange g → mark_at g t v ≤ 1
+pub bit_at : (g : GcState) (t : ℕ) (v : Var) → IsInRange g → mark_at g t v ≤ 1
 bit_at g t (Shared i) k = k.shared_marks i
 bit_at g t (Local v) k = k.local_marks t v
 

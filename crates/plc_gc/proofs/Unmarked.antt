@@ -132,7 +132,7 @@ unmarked_given g t l null k =
 
 -- ---- primitives
 
-clear_at : (g : GcState) (t : ℕ) (v : Var) → AllUnmarked g → mark_at g t v ≡ 0
+pub clear_at : (g : GcState) (t : ℕ) (v : Var) → AllUnmarked g → mark_at g t v ≡ 0
 clear_at g t (Shared i) k = k.shared i
 clear_at g t (Local v) k = k.locals t v
 

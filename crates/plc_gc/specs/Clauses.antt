@@ -11,11 +11,12 @@ use Rattle.plc_logic.specs.declared.clause.Term.{Term}
 use Rattle.plc_logic.specs.declared.clause.Term.TheVariants as terms
 use Rattle.plc_logic.specs.declared.clause.Literal.{Literal}
 use Rattle.plc_logic.specs.declared.clause.Clause.{Clause}
-use Rattle.plc_logic.specs.Negation.{Atom, AreEqual, IsRetired, atom_of, affirms}
+use Rattle.plc_logic.specs.Negation.{Atom, AreEqual, IsRetired, IsMarked, atom_of, affirms}
 use Rattle.plc_gc.specs.declared.slot.Slot.TheVariants.{Shared as in_shared, Local as in_local, Data as in_data}
+use Rattle.plc_gc.specs.declared.slot.Slot.TheVariants.{SharedMark as shared_mark, LocalMark as local_mark}
 use Rattle.plc_gc.specs.declared.slot.Map.{Map}
 use Rattle.plc_gc.specs.declared.slot.Map.TheVariants.{Pointer as pointer_field, Number as data_field}
-use Rattle.plc_gc.specs.declared.slot.Map.TheVariants.{Auxiliary as auxiliary_field}
+use Rattle.plc_gc.specs.declared.slot.Map.TheVariants.{Auxiliary as auxiliary_field, Mark as mark_field}
 use Rattle.plc_gc.specs.State.{GcState, is_retired, value, entry, count, locals_of}
 
 -- the value of a local of thread t by its number i among all locals that are declared; 0 where there is none
@@ -62,10 +63,34 @@ term_value g t b (terms.Value h v) = v
 term_value g t b terms.Me = thread_number t
 term_value g t b terms.Nobody = 0
 
+-- the mark of a pointer local of thread t by its number i among all locals; 0 where there is none
+abbrev pub declared_mark : GcState → ℕ → List Local → ℕ → Option Local → ℕ
+declared_mark g t ls i None = 0
+declared_mark g t ls i (Some l) = if l.pointer then value g (local_mark t (pointer_number ls i)) else 0
+
+-- that of a local of the thread for which a clause is asked, 0 where there is no thread
+abbrev pub local_mark_value : GcState → Option ℕ → ℕ → ℕ
+local_mark_value g None i = 0
+local_mark_value g (Some t) i = declared_mark g t (locals_of g t).declared i (slice_get (locals_of g t).declared i)
+
+-- the mark of a place of a pointer; no other term has one
+abbrev pub term_mark : GcState → Option ℕ → (ℕ → ℕ) → Term → ℕ
+term_mark g t b (terms.Shared i) = value g (shared_mark i)
+term_mark g t b (terms.Local i) = local_mark_value g t i
+term_mark g t b (terms.Bound i) = 0
+term_mark g t b (terms.FieldOf x f) = entry g (mark_field f.0) (base_node g t b x)
+term_mark g t b (terms.GhostOf x h) = 0
+term_mark g t b terms.Null = 0
+term_mark g t b (terms.Number n) = 0
+term_mark g t b (terms.Value h v) = 0
+term_mark g t b terms.Me = 0
+term_mark g t b terms.Nobody = 0
+
 -- what a literal is about is so
 abbrev pub atom_holds : GcState → Option ℕ → (ℕ → ℕ) → Atom → Bool
 atom_holds g t b (AreEqual x y) = term_value g t b x == term_value g t b y
 atom_holds g t b (IsRetired x) = is_retired g (base_node g t b x)
+atom_holds g t b (IsMarked x) = term_mark g t b x == 1
 
 -- a literal is true where it affirms what is so, or denies what isn't
 abbrev pub literal_holds : GcState → Option ℕ → (ℕ → ℕ) → Literal → Bool

@@ -1,7 +1,8 @@
 // Whether a clause is true at one binding of its quantified names. Every read is total, so nothing is asked of
 // the binding or of the thread: a name past the binding stands for null, and without a thread a local is 0.
 ghost use Rattle.std.specs.Prelude.{◌≡◌};
-ghost use Rattle.plc_gc.specs.Clauses.{base_node, term_value, thread_number, literal_holds, holds_at, bound_to};
+ghost use Rattle.plc_gc.specs.Clauses.{base_node, term_value, term_mark, thread_number, literal_holds, holds_at};
+ghost use Rattle.plc_gc.specs.Clauses.{bound_to};
 
 use crate::config::GcConfig;
 use crate::slot::{Map, Slot};
@@ -59,6 +60,19 @@ impl State {
         }
     }
 
+    /// The mark of a term; only a place of a pointer has one.
+    fn mark_of(&self, thread: Option<u32>, bound: &[u32], x: Term) -> u32
+        ensures { result ≡ term_mark self.now thread (bound_to bound.now) x }
+    {
+        match x {
+            Term::Shared(i) => self.value(Slot::SharedMark(i)),
+            Term::Local(i) => self.local_mark(thread, i),
+            Term::FieldOf { base, f } => self.entry(Map::Mark(f.0), self.base(thread, bound, base)),
+            Term::Bound(_) | Term::GhostOf { .. } | Term::Null | Term::Number(_) => 0,
+            Term::Value { .. } | Term::Me | Term::Nobody => 0,
+        }
+    }
+
     /// Whether a literal is true.
     fn literal_holds(&self, thread: Option<u32>, bound: &[u32], literal: &Literal) -> bool
         ensures { result ≡ literal_holds self.now thread (bound_to bound.now) literal.now }
@@ -72,6 +86,8 @@ impl State {
             }
             Literal::Retired { x, yes: true } => self.is_retired(self.base(thread, bound, x)),
             Literal::Retired { x, yes: false } => !self.is_retired(self.base(thread, bound, x)),
+            Literal::Marked { t, yes: true } => self.mark_of(thread, bound, t) == 1,
+            Literal::Marked { t, yes: false } => self.mark_of(thread, bound, t) != 1,
         }
     }
 

@@ -5,7 +5,7 @@ ghost use Rattle.std.specs.Prelude.{IfOk, Some, None};
 ghost use Rattle.plc_base.specs.Tables.{put_at};
 ghost use Rattle.plc_gc.specs.State.{GcState, Locals, locals_of, locals_or_none, no_locals, starting};
 ghost use Rattle.plc_gc.specs.State.{null_pointer};
-ghost use Rattle.plc_gc.specs.Clauses.{declared_value};
+ghost use Rattle.plc_gc.specs.Clauses.{declared_value, declared_mark};
 
 use crate::row::{find_node, pointer_at};
 use crate::slot::Pointer;
@@ -103,6 +103,24 @@ impl Locals {
                     pointer_at(&self.pointers, pointer_number(&self.declared, i)).node
                 } else {
                     entry_or(&self.values, data_number(&self.declared, i), 0)
+                }
+            }
+        }
+    }
+
+    /// The mark of the pointer local by its number among all that are declared, 0 where there is none.
+    pub fn named_mark(&self, i: u16) -> u32
+        ensures { (g : GcState) (t : ℕ) → locals_of g t ≡ self.now
+            → result ≡ declared_mark g t self.now.declared i (slice_get self.now.declared i) }
+    {
+        let i = i as usize;
+        match self.declared.get(i) {
+            None => 0,
+            Some(l) => {
+                if l.pointer {
+                    pointer_at(&self.pointers, pointer_number(&self.declared, i)).mark
+                } else {
+                    0
                 }
             }
         }

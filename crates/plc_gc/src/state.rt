@@ -5,7 +5,7 @@ ghost use Rattle.std.specs.Prelude.{Some, None};
 ghost use Rattle.plc_gc.specs.State.{GcState, first_state, locals_of, with_locals, value, entry, count, put};
 ghost use Rattle.plc_gc.specs.State.{update, made};
 ghost use Rattle.plc_gc.specs.State.{is_retired, is_made, is_pointer_field, node_of, null_pointer};
-ghost use Rattle.plc_gc.specs.Clauses.{local_value, field_map};
+ghost use Rattle.plc_gc.specs.Clauses.{local_value, local_mark_value, field_map};
 ghost use Rattle.plc_gc.specs.Fit.{SlotIn, MapIn};
 
 use crate::locals::{Locals, local_of, put_pointer, put_value};
@@ -232,6 +232,19 @@ impl State {
         };
         match held(&self.locals, t) {
             Some(l) => l.named(i),
+            None => 0,
+        }
+    }
+
+    /// The mark of the pointer local of a thread by its number among all that are declared; 0 where there is none.
+    pub fn local_mark(&self, thread: Option<u32>, i: u16) -> u32
+        ensures { result ≡ local_mark_value self.now thread i }
+    {
+        let Some(t) = thread else {
+            return 0;
+        };
+        match held(&self.locals, t) {
+            Some(l) => l.named_mark(i),
             None => 0,
         }
     }

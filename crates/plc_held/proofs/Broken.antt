@@ -1,5 +1,7 @@
--- What each constant stands for in a step that breaks an obligation: its premises hold before it, and its conclusion is false after it.
-use Rattle.std.proofs.Common.{◌≡◌, ℕ, ◌<◌, ◌≤◌, Bool, true, false, ◌||◌, cond, List, [], ◌∷◌, count_by, Option, Some, None, refl, ap, ◌∙◌, arith}
+-- What each constant stands for in a step that breaks an obligation: its premises hold before it, and its conclusion is
+-- false after it.
+use Rattle.std.proofs.Common.{◌≡◌, ℕ, ◌<◌, ◌≤◌, Bool, true, false, ◌||◌, cond, List, [], ◌∷◌, count_by}
+use Rattle.std.proofs.Common.{Option, Some, None, refl, ap, ◌∙◌, arith}
 use Rattle.std.specs.List.{list_any}
 use Rattle.std.proofs.lemmas.Bool.{or_parts}
 use Rattle.std.proofs.lemmas.List.Sums.{sum_by-cons}
@@ -19,7 +21,8 @@ use Rattle.plc_setting.specs.declared.acts.Act.{Act}
 use Rattle.plc_setting.specs.declared.obligations.Obligation.{Obligation}
 use Rattle.plc_setting.specs.Acts.{acts_of}
 use Rattle.plc_setting.specs.Marks.{program_uses_marks}
-use Rattle.plc_setting.specs.Parts.{executed, acting_locals, has_owner, owner_locals, acting_premises, owner_premises, conclusion, claim_made}
+use Rattle.plc_setting.specs.Parts.{executed, acting_locals, has_owner, owner_locals, acting_premises, owner_premises}
+use Rattle.plc_setting.specs.Parts.{conclusion, claim_made}
 use Rattle.plc_setting.specs.Setting.{variables_of}
 use Rattle.plc_setting.specs.Sorts.{symbol_sort, map_sort}
 use Rattle.plc_items.specs.Execution.{start}
@@ -29,7 +32,7 @@ use Rattle.plc_gc.specs.Ranges.{IsInRange, ValuesAreInRange}
 use Rattle.plc_gc.specs.Run.{execute}
 use Rattle.plc_gc.specs.Unmarked.{AllUnmarked}
 use Rattle.plc_flow.proofs.Each.{Each}
-use Rattle.plc_held.proofs.Acts.{IsNamed}
+use Rattle.plc_held.proofs.Acts.{IsNamed, fetched, mark_fetched}
 use Rattle.plc_held.proofs.Current.{bit}
 use Rattle.plc_held.proofs.Meaning.{Meaning}
 use Rattle.plc_held.proofs.Future.{map_at, load_at}
@@ -41,25 +44,32 @@ use Rattle.plc_held.proofs.Beginning.{BeginsAs}
 
 -- ---- the meaning
 
--- what each constant stands for, where the j-th thing that is read is this
-abbrev pub meant : (ℕ → ℕ) → Scene → GcState → Symbol → ℕ
-meant loads w g symbols.Null = symbol_in w g symbols.Null
-meant loads w g (symbols.Shared i) = symbol_in w g (symbols.Shared i)
-meant loads w g (symbols.Mine i) = symbol_in w g (symbols.Mine i)
-meant loads w g (symbols.Theirs i) = symbol_in w g (symbols.Theirs i)
-meant loads w g symbols.New = symbol_in w g symbols.New
-meant loads w g (symbols.Bound i) = symbol_in w g (symbols.Bound i)
-meant loads w g (symbols.Loaded j) = loads j
-meant loads w g symbols.Yes = symbol_in w g symbols.Yes
-meant loads w g symbols.Nobody = symbol_in w g symbols.Nobody
-meant loads w g symbols.Me = symbol_in w g symbols.Me
-meant loads w g symbols.You = symbol_in w g symbols.You
-meant loads w g (symbols.Value v) = symbol_in w g (symbols.Value v)
-meant loads w g (symbols.Number n) = symbol_in w g (symbols.Number n)
+-- what each constant stands for, where the j-th thing that is read is this, and has this mark
+abbrev pub meant : (ℕ → ℕ) → (ℕ → ℕ) → Scene → GcState → Symbol → ℕ
+meant loads marks w g symbols.Null = symbol_in w g symbols.Null
+meant loads marks w g (symbols.Shared i) = symbol_in w g (symbols.Shared i)
+meant loads marks w g (symbols.Mine i) = symbol_in w g (symbols.Mine i)
+meant loads marks w g (symbols.Theirs i) = symbol_in w g (symbols.Theirs i)
+meant loads marks w g symbols.New = symbol_in w g symbols.New
+meant loads marks w g (symbols.Bound i) = symbol_in w g (symbols.Bound i)
+meant loads marks w g (symbols.Loaded j) = loads j
+meant loads marks w g symbols.Yes = symbol_in w g symbols.Yes
+meant loads marks w g symbols.No = symbol_in w g symbols.No
+meant loads marks w g symbols.Nobody = symbol_in w g symbols.Nobody
+meant loads marks w g symbols.Me = symbol_in w g symbols.Me
+meant loads marks w g symbols.You = symbol_in w g symbols.You
+meant loads marks w g (symbols.Value v) = symbol_in w g (symbols.Value v)
+meant loads marks w g (symbols.Number n) = symbol_in w g (symbols.Number n)
+meant loads marks w g (symbols.MarkShared i) = symbol_in w g (symbols.MarkShared i)
+meant loads marks w g (symbols.MarkMine k) = symbol_in w g (symbols.MarkMine k)
+meant loads marks w g (symbols.MarkTheirs k) = symbol_in w g (symbols.MarkTheirs k)
+meant loads marks w g (symbols.MarkLoaded j) = marks j
 
-pub meant_named : (loads : ℕ → ℕ) (w : Scene) (g : GcState) (s : Symbol) → IsNamed s → meant loads w g s ≡ symbol_in w g s
-meant_named loads w g (symbols.Loaded j) h = cc
-meant_named loads w g s h = refl
+pub meant_named : (loads marks : ℕ → ℕ) (w : Scene) (g : GcState) (s : Symbol) → IsNamed s
+    → meant loads marks w g s ≡ symbol_in w g s
+meant_named loads marks w g (symbols.Loaded j) h = cc
+meant_named loads marks w g (symbols.MarkLoaded j) h = cc
+meant_named loads marks w g s h = refl
 
 abbrev pub scene_of : Flow → Obligation → ℕ → ℕ → ℕ → (ℕ → ℕ) → Scene
 scene_of flow o acting owner node bound = record {
@@ -73,13 +83,16 @@ scene_of flow o acting owner node bound = record {
 }
 
 abbrev pub acts_in : Flow → Outline → Obligation → List Act
-acts_in flow outline o = acts_of (program_uses_marks flow outline) flow.file.ghosts (variables_of false (acting_locals flow o)) (executed flow o)
+acts_in flow outline o =
+    acts_of (program_uses_marks flow outline) flow.file.ghosts (variables_of false (acting_locals flow o))
+    (executed flow o)
 
 abbrev pub meaning_of : Flow → Outline → Obligation → Scene → GcState → Meaning
 meaning_of flow outline o w g = record {
   symbol_sort = symbol_sort flow o (acts_in flow outline o);
   map_sort = map_sort flow.file;
-  symbol = meant (load_at start (seen w g) (acts_in flow outline o)) w g;
+  symbol = meant (load_at fetched start (seen w g) (acts_in flow outline o))
+      (load_at mark_fetched start (seen w g) (acts_in flow outline o)) w g;
   version = map_at start (seen w g) (acts_in flow outline o);
 }
 
@@ -97,8 +110,12 @@ pub any_some : (ks : List Primitive) → list_any is_new ks ≡ true → 0 < cou
 any_some [] h = cc
 any_some (k ∷ ks) h = go (is_new k) refl h (any_some ks)
   where
-    go : (b : Bool) → is_new k ≡ b → (b || list_any is_new ks) ≡ true → (list_any is_new ks ≡ true → 0 < count_by is_new ks) → 0 < count_by is_new (k ∷ ks)
-    go true is h rest = (let c = sum_by-cons (λ x. cond (is_new x) 1 0) k ks in let b : bit (is_new k) ≡ 1 = ap bit is in omega arith)
+    go : (b : Bool) → is_new k ≡ b → (b || list_any is_new ks) ≡ true
+        → (list_any is_new ks ≡ true → 0 < count_by is_new ks) → 0 < count_by is_new (k ∷ ks)
+    go true is h rest =
+        let c = sum_by-cons (λ x. cond (is_new x) 1 0) k ks in
+        let b : bit (is_new k) ≡ 1 = ap bit is in
+        omega arith
     go false is h rest = (let c = sum_by-cons (λ x. cond (is_new x) 1 0) k ks in let r = rest h in omega arith)
 
 -- ---- a broken obligation
@@ -125,11 +142,15 @@ pub record IsReady (flow : Flow) (outline : Outline) (o : Obligation) (acting ow
   pub unmarked : program_uses_marks flow outline ≡ false → AllUnmarked g
   pub values : ValuesAreInRange flow.file g
   pub begins : (b : ℕ → ℕ) → BeginsAs (scene_of flow o acting owner (count g) b) g o
-  pub acting_holds : (b : ℕ → ℕ) → Each (IsPremise flow.file (scene_of flow o acting owner (count g) b) g false) (acting_premises flow outline o)
-  pub owner_holds : (b : ℕ → ℕ) → Each (IsPremise flow.file (scene_of flow o acting owner (count g) b) g true) (owner_premises flow outline o)
+  pub acting_holds : (b : ℕ → ℕ)
+      → Each (IsPremise flow.file (scene_of flow o acting owner (count g) b) g false) (acting_premises flow outline o)
+  pub owner_holds : (b : ℕ → ℕ)
+      → Each (IsPremise flow.file (scene_of flow o acting owner (count g) b) g true) (owner_premises flow outline o)
 
 -- the primitives lead from a state in which the premises hold to one in which the conclusion is false at these nodes
-pub record IsBroken (flow : Flow) (outline : Outline) (o : Obligation) (acting owner : ℕ) (bound : ℕ → ℕ) (g h : GcState) : Type 0 where
+pub record IsBroken (flow : Flow) (outline : Outline) (o : Obligation) (acting owner : ℕ) (bound : ℕ → ℕ)
+    (g h : GcState) : Type 0 where
   pub ready : IsReady flow outline o acting owner g h
-  pub clause_fails : ClauseFails flow.file (scene_of flow o acting owner (count g) bound) h (has_owner o) (conclusion flow outline o)
+  pub clause_fails : ClauseFails flow.file (scene_of flow o acting owner (count g) bound) h (has_owner o)
+      (conclusion flow outline o)
   pub claim_fails : ClaimFails (scene_of flow o acting owner (count g) bound) h ready.shape (claim_made flow o)

@@ -1,11 +1,11 @@
 -- What is put into a place, changed in a map or made, as ground sets see it.
-use Rattle.std.proofs.Common.{◌≡◌, ℕ, suc, ◌<◌, Bool, true, false, Option, Some, None, slice_get, refl, sym, ap, ◌∙◌, subst}
-use Rattle.std.proofs.Common.{arith, inl, inr, ◌⊎◌}
+use Rattle.std.proofs.Common.{◌≡◌, ℕ, suc, ◌<◌, Bool, true, false, ◌==◌, Option, Some, None, slice_get}
+use Rattle.std.proofs.Common.{refl, sym, ap, ◌∙◌, subst, arith, inl, inr, ◌⊎◌}
 use Rattle.std.specs.Prelude.{if◌then◌else◌}
-use Rattle.std.proofs.lemmas.Bool.{both_ways, cases_eq, eq-eqb, ne_eqb}
+use Rattle.std.proofs.lemmas.Bool.{both_ways, cases_eq, eq-eqb, eqb-true, ne_eqb}
+use Rattle.plc_base.specs.declared.ids.FieldId.{FieldId}
 use Rattle.plc_lang.specs.declared.syntax.Field.{Field}
 use Rattle.plc_lang.specs.declared.syntax.Var.{Var}
-use Rattle.plc_lang.specs.declared.syntax.Var.TheVariants as vars
 use Rattle.plc_ground.specs.declared.terms.Symbol.{Symbol}
 use Rattle.plc_ground.specs.declared.terms.Map.{Map}
 use Rattle.plc_ground.specs.declared.terms.Map.TheVariants as maps
@@ -20,14 +20,14 @@ use Rattle.plc_gc.specs.declared.slot.Map.TheVariants.{Retirement as retirement}
 use Rattle.plc_gc.specs.State.{GcState, value, entry, count, put, put_pointer, update, made}
 use Rattle.plc_gc.specs.State.{update_pointer, with_locals, slot, mark_slot}
 use Rattle.plc_gc.specs.Clauses.{declared_map}
-use Rattle.plc_gc.specs.Laws.{Put}
 use Rattle.plc_gc.proofs.Views.{puts, updates, makes}
-use Rattle.plc_ground.proofs.Symbols.{same_symbol_true, same_symbol_refl, same_map_true, same_map_refl, field_id}
+use Rattle.plc_ground.proofs.Symbols.{same_symbol_true, same_symbol_refl, same_map_true, same_map_refl}
+use Rattle.plc_setting.specs.Acts.{mark_of}
 use Rattle.plc_held.proofs.Acts.{View, with_symbol, with_map, changed}
-use Rattle.plc_held.proofs.Scene.{Scene, symbol_in, gc_map, seen, slot_of, symbol_there, symbol_fixed}
-use Rattle.plc_held.proofs.Scene.{is_mark, no_mark, one_symbol}
+use Rattle.plc_held.proofs.Scene.{Scene, symbol_in, gc_map, seen, slot_of, symbol_there, symbol_fixed, one_symbol}
 
-same_view : (v w : View) → ((s : Symbol) → v.symbol s ≡ w.symbol s) → ((m : Map) (i : ℕ) → v.map m i ≡ w.map m i) → v.count ≡ w.count → v ≡ w
+pub same_view : (v w : View) → ((s : Symbol) → v.symbol s ≡ w.symbol s) → ((m : Map) (i : ℕ) → v.map m i ≡ w.map m i)
+    → v.count ≡ w.count → v ≡ w
 same_view v w a b c = λ i. record { symbol = λ s. a s i; map = λ m n. b m n i; count = c i }
 
 -- ---- fields stay
@@ -59,67 +59,67 @@ pub same_gc_map : (g h : GcState) → h.fields ≡ g.fields → (m : Map) → gc
 same_gc_map g h e (maps.Field f) = ap (λ fs. declared_map f.0 (slice_get fs f.0)) e
 same_gc_map g h e (maps.Ghost i) = refl
 same_gc_map g h e maps.Retired = refl
+same_gc_map g h e (maps.FieldMark f) = refl
 
 -- ---- no two maps are one map of the state
 
-declared_number : (f e : ℕ) (o p : Option Field) → declared_map f o ≡ declared_map e p → f ≡ e
-declared_number f e None None h = cc
-declared_number f e None (Some d) h = go d.pointer h
-  where
-    go : (b : Bool) → data_field f ≡ (if b then pointer_field e else data_field e) → f ≡ e
-    go true h = cc
-    go false h = cc
-declared_number f e (Some c) p h = go c.pointer p h
-  where
-    go : (b : Bool) (p : Option Field) → (if b then pointer_field f else data_field f) ≡ declared_map e p → f ≡ e
-    go true None h = cc
-    go false None h = cc
-    go true (Some d) h = inner d.pointer h
-      where
-        inner : (b : Bool) → pointer_field f ≡ (if b then pointer_field e else data_field e) → f ≡ e
-        inner true h = cc
-        inner false h = cc
-    go false (Some d) h = inner d.pointer h
-      where
-        inner : (b : Bool) → data_field f ≡ (if b then pointer_field e else data_field e) → f ≡ e
-        inner true h = cc
-        inner false h = cc
+-- which map is one of the state
+abbrev named_map : GcMap → Map
+named_map (pointer_field f) = maps.Field (record { 0 = f })
+named_map (mark_field f) = maps.FieldMark (record { 0 = f })
+named_map (data_field f) = maps.Field (record { 0 = f })
+named_map (auxiliary_field h) = maps.Ghost h
+named_map retirement = maps.Retired
 
-field_only : (f : ℕ) (o : Option Field) (m : GcMap) → declared_map f o ≡ m → ((h : ℕ) → m ≡ auxiliary_field h → ⊥) × (m ≡ retirement → ⊥)
-field_only f None m e = (λ h i. (let x = e ∙ i in cc), λ i. (let x = e ∙ i in cc))
-field_only f (Some d) m e = go d.pointer e
+named_field : (f : FieldId) (o : Option Field) → named_map (declared_map f.0 o) ≡ maps.Field f
+named_field f None = refl
+named_field f (Some d) = go d.pointer
   where
-    go : (b : Bool) → (if b then pointer_field f else data_field f) ≡ m → ((h : ℕ) → m ≡ auxiliary_field h → ⊥) × (m ≡ retirement → ⊥)
-    go true e = (λ h i. (let x = e ∙ i in cc), λ i. (let x = e ∙ i in cc))
-    go false e = (λ h i. (let x = e ∙ i in cc), λ i. (let x = e ∙ i in cc))
+    go : (b : Bool) → named_map (if b then pointer_field f.0 else data_field f.0) ≡ maps.Field f
+    go true = refl
+    go false = refl
+
+map_named : (g : GcState) (m : Map) → named_map (gc_map g m) ≡ m
+map_named g (maps.Field f) = named_field f (slice_get g.fields f.0)
+map_named g (maps.Ghost h) = refl
+map_named g maps.Retired = refl
+map_named g (maps.FieldMark f) = refl
 
 one_map : (g : GcState) (l m : Map) → gc_map g l ≡ gc_map g m → l ≡ m
-one_map g (maps.Field f) (maps.Field e) h = ap maps.Field (field_id f e (declared_number f.0 e.0 (slice_get g.fields f.0) (slice_get g.fields e.0) h))
-one_map g (maps.Field f) (maps.Ghost i) h = absurd ((field_only f.0 (slice_get g.fields f.0) (auxiliary_field i) h).0 i refl)
-one_map g (maps.Field f) maps.Retired h = absurd ((field_only f.0 (slice_get g.fields f.0) retirement h).1 refl)
-one_map g (maps.Ghost i) (maps.Field f) h = absurd ((field_only f.0 (slice_get g.fields f.0) (auxiliary_field i) (sym h)).0 i refl)
-one_map g (maps.Ghost i) (maps.Ghost j) h = ap maps.Ghost cc
-one_map g (maps.Ghost i) maps.Retired h = cc
-one_map g maps.Retired (maps.Field f) h = absurd ((field_only f.0 (slice_get g.fields f.0) retirement (sym h)).1 refl)
-one_map g maps.Retired (maps.Ghost i) h = cc
-one_map g maps.Retired maps.Retired h = refl
+one_map g l m same = sym (map_named g l) ∙ ap named_map same ∙ map_named g m
 
--- ---- no map of a ground set has marks
+-- ---- what is there already
 
-no_mark_map : (g : GcState) (l : Map) (f : ℕ) → gc_map g l ≡ mark_field f → ⊥
-no_mark_map g (maps.Field e) f h = go (slice_get g.fields e.0) h
+-- a value put where it is changes nothing
+pub put_again : (v : View) (p : Symbol) (n : ℕ) → v.symbol p ≡ n → with_symbol v p n v.count ≡ v
+unfolding with_symbol
+put_again v p n is = same_view
+    (record { symbol = λ s. if same_symbol p s then n else v.symbol s; map = v.map; count = v.count }) v
+    (λ s. go s (same_symbol p s) refl) (λ m i. refl) refl
   where
-    go : (o : Option Field) → declared_map e.0 o ≡ mark_field f → ⊥
-    go None h = cc
-    go (Some d) h = inner d.pointer h
-      where
-        inner : (b : Bool) → (if b then pointer_field e.0 else data_field e.0) ≡ mark_field f → ⊥
-        inner true h = cc
-        inner false h = cc
-no_mark_map g (maps.Ghost i) f h = cc
-no_mark_map g maps.Retired f h = cc
+    go : (s : Symbol) (b : Bool) → same_symbol p s ≡ b → (if b then n else v.symbol s) ≡ v.symbol s
+    go s true is_it = sym is ∙ ap v.symbol (same_symbol_true p s is_it)
+    go s false other = refl
 
--- ---- values
+pub update_again : (v : View) (m : Map) (k n : ℕ) → v.map m k ≡ n → with_map v m k n ≡ v
+unfolding with_map
+update_again v m k n is = same_view
+    (record {
+      symbol = v.symbol;
+      map = λ l i. if same_map l m then changed (v.map l) k n i else v.map l i;
+      count = v.count;
+    }) v (λ s. refl) (λ l i. go l i (same_map l m) refl) refl
+  where
+    at : (l : Map) → l ≡ m → (i : ℕ) (b : Bool) → (i == k) ≡ b → (if b then n else v.map l i) ≡ v.map l i
+    at l same i true here = sym is ∙ ap (λ l. v.map l k) (sym same) ∙ ap (v.map l) (sym (eqb-true i k here))
+    at l same i false other = refl
+
+    go : (l : Map) (i : ℕ) (b : Bool) → same_map l m ≡ b
+        → (if b then changed (v.map l) k n i else v.map l i) ≡ v.map l i
+    go l i true same = at l (same_map_true l m same) i (i == k) refl
+    go l i false other = refl
+
+-- ---- values, where the owner isn't the acting thread
 
 module _ (w : Scene) (ne : w.owner ≡ w.acting → ⊥) where
   -- a constant's value where values elsewhere stay
@@ -130,110 +130,114 @@ module _ (w : Scene) (ne : w.owner ≡ w.acting → ⊥) where
       go None e = symbol_fixed w h g s e
       go (Some q) e = symbol_there w h s q e ∙ same q ∙ sym (symbol_there w g s q e)
 
-  put_symbol : (g : GcState) (p : Symbol) (q : Slot) (n : ℕ) → slot_of w p ≡ Some q → (s : Symbol) → symbol_in w (put g q n) s ≡ (if same_symbol p s then n else symbol_in w g s)
+  put_symbol : (g : GcState) (p : Symbol) (q : Slot) (n : ℕ) → slot_of w p ≡ Some q → (s : Symbol)
+      → symbol_in w (put g q n) s ≡ (if same_symbol p s then n else symbol_in w g s)
   put_symbol g p q n at s = go (same_symbol p s) refl
     where
       other : (same_symbol p s ≡ false) → (r : Slot) → slot_of w s ≡ Some r → r ≡ q → ⊥
-      other differ r e same = both_ways (same_symbol p s) differ (ap (same_symbol p) (sym (one_symbol w ne p s q at (e ∙ ap Some same))) ∙ same_symbol_refl p)
+      other differ r e same = both_ways (same_symbol p s) differ
+          (ap (same_symbol p) (sym (one_symbol w ne p s q at (e ∙ ap Some same))) ∙ same_symbol_refl p)
 
       rest : same_symbol p s ≡ false → (o : Option Slot) → slot_of w s ≡ o → symbol_in w (put g q n) s ≡ symbol_in w g s
       rest differ None e = symbol_fixed w (put g q n) g s e
-      rest differ (Some r) e = symbol_there w (put g q n) s r e ∙ (puts g q n).elsewhere r (other differ r e) ∙ sym (symbol_there w g s r e)
+      rest differ (Some r) e = symbol_there w (put g q n) s r e ∙ (puts g q n).elsewhere r (other differ r e)
+          ∙ sym (symbol_there w g s r e)
 
       go : (b : Bool) → same_symbol p s ≡ b → symbol_in w (put g q n) s ≡ (if b then n else symbol_in w g s)
-      go true is = symbol_there w (put g q n) s q (ap (slot_of w) (sym (same_symbol_true p s is)) ∙ at) ∙ (puts g q n).here
+      go true is = symbol_there w (put g q n) s q (ap (slot_of w) (sym (same_symbol_true p s is)) ∙ at)
+          ∙ (puts g q n).here
       go false differ = rest differ (slot_of w s) refl
 
-  pub seen_put : (g : GcState) (p : Symbol) (q : Slot) (n : ℕ) → slot_of w p ≡ Some q → seen w (put g q n) ≡ with_symbol (seen w g) p n (count g)
+  pub seen_put : (g : GcState) (p : Symbol) (q : Slot) (n : ℕ) → slot_of w p ≡ Some q
+      → seen w (put g q n) ≡ with_symbol (seen w g) p n (count g)
   unfolding with_symbol
-  seen_put g p q n at = same_view (seen w (put g q n)) (record { symbol = λ s. if same_symbol p s then n else symbol_in w g s; map = λ m. entry g (gc_map g m); count = count g })
+  seen_put g p q n at = same_view (seen w (put g q n)) (record {
+    symbol = λ s. if same_symbol p s then n else symbol_in w g s;
+    map = λ m. entry g (gc_map g m);
+    count = count g;
+  })
       (put_symbol g p q n at)
-      (λ m i. (puts g q n).nodes.entries (gc_map (put g q n) m) i ∙ ap (λ l. entry g l i) (same_gc_map g (put g q n) (put_fields g q n) m))
+      (λ m i. (puts g q n).nodes.entries (gc_map (put g q n) m) i
+      ∙ ap (λ l. entry g l i) (same_gc_map g (put g q n) (put_fields g q n) m))
       (puts g q n).nodes.count
 
-  -- ground sets see no mark of a variable
-  mark_apart : (t : ℕ) (v : Var) (s : Symbol) (q : Slot) → slot_of w s ≡ Some q → q ≡ mark_slot t v → ⊥
-  mark_apart t (vars.Shared i) s q e same = both_ways (is_mark q) (no_mark w s q e) (ap is_mark same)
-  mark_apart t (vars.Local k) s q e same = both_ways (is_mark q) (no_mark w s q e) (ap is_mark same)
-
-  seen_mark : (g : GcState) (t : ℕ) (v : Var) (m : ℕ) → seen w (put g (mark_slot t v) m) ≡ seen w g
-  seen_mark g t v m = same_view (seen w (put g (mark_slot t v) m)) (seen w g)
-      (λ s. kept s (slot_of w s) refl)
-      (λ l i. u.nodes.entries (gc_map (put g (mark_slot t v) m) l) i
-      ∙ ap (λ d. entry g d i) (same_gc_map g (put g (mark_slot t v) m) (put_fields g (mark_slot t v) m) l))
-      u.nodes.count
-    where
-      u : Put g (mark_slot t v) m (put g (mark_slot t v) m)
-      u = puts g (mark_slot t v) m
-
-      kept : (s : Symbol) (o : Option Slot) → slot_of w s ≡ o
-          → symbol_in w (put g (mark_slot t v) m) s ≡ symbol_in w g s
-      kept s None e = symbol_fixed w (put g (mark_slot t v) m) g s e
-      kept s (Some q) e = symbol_there w (put g (mark_slot t v) m) s q e
-          ∙ u.elsewhere q (mark_apart t v s q e) ∙ sym (symbol_there w g s q e)
-
+  -- a variable of thread t gets a node and a mark
   pub seen_put_pointer : (g : GcState) (t : ℕ) (v : Var) (p : Symbol) (n m : ℕ) → slot_of w p ≡ Some (slot t v)
-      → seen w (put_pointer g t v n m) ≡ with_symbol (seen w g) p n (count g)
-  seen_put_pointer g t v p n m at =
-      seen_put (put g (mark_slot t v) m) p (slot t v) n at
-      ∙ ap (λ (u : View). with_symbol u p n u.count) (seen_mark g t v m)
-
-  seen_grown : (g : GcState) (p : Symbol) (n : ℕ)
-      → with_symbol (seen w (made g)) p n (count (made g)) ≡ with_symbol (seen w g) p n (suc (count g))
+      → slot_of w (mark_of p) ≡ Some (mark_slot t v)
+      → seen w (put_pointer g t v n m) ≡ with_symbol (with_symbol (seen w g) (mark_of p) m (count g)) p n (count g)
   unfolding with_symbol
-  seen_grown g p n = same_view
+  seen_put_pointer g t v p n m at marked =
+      seen_put (put g (mark_slot t v) m) p (slot t v) n at
+      ∙ ap (λ (u : View). with_symbol u p n u.count) (seen_put g (mark_of p) (mark_slot t v) m marked)
+
+  seen_grown : (g : GcState) (p : Symbol) (n : ℕ) (q : Symbol) (m : ℕ)
+      → with_symbol (with_symbol (seen w (made g)) q m (count (made g))) p n (count (made g))
+      ≡ with_symbol (with_symbol (seen w g) q m (count g)) p n (suc (count g))
+  unfolding with_symbol
+  seen_grown g p n q m = same_view
       (record {
-        symbol = λ s. if same_symbol p s then n else symbol_in w (made g) s;
-        map = λ m. entry (made g) (gc_map (made g) m);
+        symbol = λ s. if same_symbol p s then n else if same_symbol q s then m else symbol_in w (made g) s;
+        map = λ l. entry (made g) (gc_map (made g) l);
         count = count (made g);
       })
       (record {
-        symbol = λ s. if same_symbol p s then n else symbol_in w g s;
-        map = λ m. entry g (gc_map g m);
+        symbol = λ s. if same_symbol p s then n else if same_symbol q s then m else symbol_in w g s;
+        map = λ l. entry g (gc_map g l);
         count = suc (count g);
       })
-      (λ s. ap (λ k. if same_symbol p s then n else k) (stays g (made g) (makes g).values s))
-      (λ m i. (makes g).entries (gc_map (made g) m) i ∙ ap (λ l. entry g l i) (same_gc_map g (made g) (made_fields g) m))
+      (λ s. ap (λ k. if same_symbol p s then n else if same_symbol q s then m else k)
+      (stays g (made g) (makes g).values s))
+      (λ l i. (makes g).entries (gc_map (made g) l) i
+      ∙ ap (λ l. entry g l i) (same_gc_map g (made g) (made_fields g) l))
       (makes g).count
 
   pub seen_made : (g : GcState) (t : ℕ) (v : Var) (p : Symbol) (n m : ℕ) → slot_of w p ≡ Some (slot t v)
-      → seen w (put_pointer (made g) t v n m) ≡ with_symbol (seen w g) p n (suc (count g))
-  seen_made g t v p n m at = seen_put_pointer (made g) t v p n m at ∙ seen_grown g p n
+      → slot_of w (mark_of p) ≡ Some (mark_slot t v)
+      → seen w (put_pointer (made g) t v n m)
+      ≡ with_symbol (with_symbol (seen w g) (mark_of p) m (count g)) p n (suc (count g))
+  seen_made g t v p n m at marked = seen_put_pointer (made g) t v p n m at marked ∙ seen_grown g p n (mark_of p) m
 
-  update_map : (g : GcState) (m : Map) (k n : ℕ) (l : Map) (i : ℕ) → entry (update g (gc_map g m) k n) (gc_map g l) i ≡ (if same_map l m then changed (entry g (gc_map g l)) k n i else entry g (gc_map g l) i)
+  update_map : (g : GcState) (m : Map) (k n : ℕ) (l : Map) (i : ℕ)
+      → entry (update g (gc_map g m) k n) (gc_map g l) i
+      ≡ (if same_map l m then changed (entry g (gc_map g l)) k n i else entry g (gc_map g l) i)
   update_map g m k n l i = go (same_map l m) refl
     where
-      here : (l ≡ m) → (i ≡ k) ⊎ (i ≡ k → ⊥) → entry (update g (gc_map g m) k n) (gc_map g l) i ≡ changed (entry g (gc_map g l)) k n i
-      here same (inl e) = rw (eq-eqb i k e) (subst (λ l. entry (update g (gc_map g m) k n) (gc_map g l) i ≡ n) (sym same) (subst (λ i. entry (update g (gc_map g m) k n) (gc_map g m) i ≡ n) (sym e) (updates g (gc_map g m) k n).here))
+      here : (l ≡ m) → (i ≡ k) ⊎ (i ≡ k → ⊥)
+          → entry (update g (gc_map g m) k n) (gc_map g l) i ≡ changed (entry g (gc_map g l)) k n i
+      here same (inl e) = rw (eq-eqb i k e)
+          (subst (λ l. entry (update g (gc_map g m) k n) (gc_map g l) i ≡ n) (sym same)
+          (subst (λ i. entry (update g (gc_map g m) k n) (gc_map g m) i ≡ n) (sym e) (updates g (gc_map g m) k n).here))
       here same (inr other) = rw (ne_eqb i k other) ((updates g (gc_map g m) k n).other_node (gc_map g l) i other)
 
-      go : (b : Bool) → same_map l m ≡ b → entry (update g (gc_map g m) k n) (gc_map g l) i ≡ (if b then changed (entry g (gc_map g l)) k n i else entry g (gc_map g l) i)
+      go : (b : Bool) → same_map l m ≡ b
+          → entry (update g (gc_map g m) k n) (gc_map g l) i
+          ≡ (if b then changed (entry g (gc_map g l)) k n i else entry g (gc_map g l) i)
       go true e = here (same_map_true l m e) (cases_eq i k)
-      go false e = (updates g (gc_map g m) k n).other_map (gc_map g l) i (λ same. both_ways (same_map l m) e (subst (λ l. same_map l m ≡ true) (sym (one_map g l m same)) (same_map_refl m)))
+      go false e = (updates g (gc_map g m) k n).other_map (gc_map g l) i
+          (λ same. both_ways (same_map l m) e
+          (subst (λ l. same_map l m ≡ true) (sym (one_map g l m same)) (same_map_refl m)))
 
-  pub seen_update : (g : GcState) (m : Map) (k n : ℕ) → k < count g → seen w (update g (gc_map g m) k n) ≡ with_map (seen w g) m k n
+  pub seen_update : (g : GcState) (m : Map) (k n : ℕ) → k < count g
+      → seen w (update g (gc_map g m) k n) ≡ with_map (seen w g) m k n
   unfolding with_map
-  seen_update g m k n small = same_view (seen w (update g (gc_map g m) k n)) (record { symbol = symbol_in w g; map = λ l i. if same_map l m then changed (entry g (gc_map g l)) k n i else entry g (gc_map g l) i; count = count g })
+  seen_update g m k n small = same_view (seen w (update g (gc_map g m) k n)) (record {
+    symbol = symbol_in w g;
+    map = λ l i. if same_map l m then changed (entry g (gc_map g l)) k n i else entry g (gc_map g l) i;
+    count = count g;
+  })
       (stays g (update g (gc_map g m) k n) (updates g (gc_map g m) k n).values)
-      (λ l i. ap (λ d. entry (update g (gc_map g m) k n) d i) (same_gc_map g (update g (gc_map g m) k n) (update_fields g (gc_map g m) k n) l) ∙ update_map g m k n l i)
+      (λ l i. ap (λ d. entry (update g (gc_map g m) k n) d i)
+      (same_gc_map g (update g (gc_map g m) k n) (update_fields g (gc_map g m) k n) l) ∙ update_map g m k n l i)
       ((updates g (gc_map g m) k n).count small)
 
-  -- nor of a field
-  seen_field_mark : (g : GcState) (f k m : ℕ) → k < count g → seen w (update g (mark_field f) k m) ≡ seen w g
-  seen_field_mark g f k m small =
-      let u = updates g (mark_field f) k m in
-      same_view (seen w (update g (mark_field f) k m)) (seen w g)
-      (stays g (update g (mark_field f) k m) u.values)
-      (λ l i. ap (λ d. entry (update g (mark_field f) k m) d i)
-      (same_gc_map g (update g (mark_field f) k m) (update_fields g (mark_field f) k m) l)
-      ∙ u.other_map (gc_map g l) i (no_mark_map g l f))
-      (u.count small)
-
-  pub seen_update_pointer : (g : GcState) (l : Map) (f k n m : ℕ) → gc_map g l ≡ pointer_field f → k < count g
-      → seen w (update_pointer g f k n m) ≡ with_map (seen w g) l k n
-  seen_update_pointer g l f k n m is small =
-      let h = update g (mark_field f) k m in
-      let same : gc_map h l ≡ pointer_field f = same_gc_map g h (update_fields g (mark_field f) k m) l ∙ is in
-      let more : k < count h = (let c = (updates g (mark_field f) k m).count small in omega arith) in
-      ap (λ d. seen w (update h d k n)) (sym same) ∙ seen_update h l k n more
-      ∙ ap (λ (u : View). with_map u l k n) (seen_field_mark g f k m small)
+  -- a pointer field of a node gets a node and a mark
+  pub seen_update_pointer : (g : GcState) (f : FieldId) (k n m : ℕ) → gc_map g (maps.Field f) ≡ pointer_field f.0
+      → k < count g
+      → seen w (update_pointer g f.0 k n m) ≡ with_map (with_map (seen w g) (maps.FieldMark f) k m) (maps.Field f) k n
+  seen_update_pointer g f k n m is small =
+      let h = update g (mark_field f.0) k m in
+      let same : gc_map h (maps.Field f) ≡ pointer_field f.0 =
+      same_gc_map g h (update_fields g (mark_field f.0) k m) (maps.Field f) ∙ is in
+      let more : k < count h = (let c = (updates g (mark_field f.0) k m).count small in omega arith) in
+      ap (λ d. seen w (update h d k n)) (sym same) ∙ seen_update h (maps.Field f) k n more
+      ∙ ap (λ (u : View). with_map u (maps.Field f) k n) (seen_update g (maps.FieldMark f) k m small)

@@ -5,7 +5,8 @@ use Rattle.std.proofs.lemmas.List.Sums.{fold_push}
 use Rattle.plc_ground.specs.declared.terms.Symbol.{Symbol}
 use Rattle.plc_ground.specs.declared.terms.Map.{Map}
 use Rattle.plc_setting.specs.declared.acts.Act.{Act}
-use Rattle.plc_setting.specs.declared.acts.Act.TheVariants.{Assign, Make, Fetch, Update, Test, Skip}
+use Rattle.plc_setting.specs.declared.acts.Act.TheVariants.{Assign, Make, Fetch, FetchMarked, Update, Test}
+use Rattle.plc_setting.specs.declared.acts.Act.TheVariants.{Differ, Skip}
 use Rattle.plc_held.proofs.Fetches.{is_fetch}
 use Rattle.plc_items.specs.declared.execution.Execution.{Execution}
 use Rattle.plc_items.specs.Execution.{version, after}
@@ -21,19 +22,25 @@ abbrev pub writes : Act → Map → ℕ
 writes (Assign p e) l = 0
 writes (Make p) l = 0
 writes (Fetch p q f pointer) l = 0
+writes (FetchMarked p q f) l = 0
 writes (Update checked m p e) l = bit (same_map l m)
 writes (Test a b equal) l = 0
+writes (Differ a b) l = 0
 writes Skip l = 0
 
 pub version_after : (x : Execution) (a : Act) (l : Map) → version (after x a) l ≡ version x l + writes a l
 version_after x (Assign p e) l = omega arith
 version_after x (Make p) l = omega arith
 version_after x (Fetch p q f pointer) l = omega arith
-version_after x (Update checked m p e) l = fold_push (λ (n : ℕ) (k : Map). n + cond (same_map l k) 1 0) 0 x.written m
+version_after x (FetchMarked p q f) l = omega arith
+version_after x (Update checked m p e) l =
+    fold_push (λ (n : ℕ) (k : Map). n + cond (same_map l k) 1 0) 0 x.written m
 version_after x (Test a b equal) l = omega arith
+version_after x (Differ a b) l = omega arith
 version_after x Skip l = omega arith
 
-pub version_next : (x : Execution) (checked : Bool) (m : Map) (p e : Symbol) → version (after x (Update checked m p e)) m ≡ version x m + 1
+pub version_next : (x : Execution) (checked : Bool) (m : Map) (p e : Symbol)
+    → version (after x (Update checked m p e)) m ≡ version x m + 1
 version_next x checked m p e = version_after x (Update checked m p e) m ∙ rw (same_map_refl m) refl
 
 -- a map whose version stays isn't written
@@ -42,18 +49,23 @@ unfolding with_symbol with_map
 map_stays v (Assign p e) l n h = refl
 map_stays v (Make p) l n h = refl
 map_stays v (Fetch p q f pointer) l n h = refl
+map_stays v (FetchMarked p q f) l n h = refl
 map_stays v (Update checked m p e) l n h = go (same_map l m) h
   where
-    go : (b : Bool) → bit b ≡ 0 → (if b then changed (v.map l) (v.symbol p) (v.symbol e) n else v.map l n) ≡ v.map l n
+    go : (b : Bool) → bit b ≡ 0
+        → (if b then changed (v.map l) (v.symbol p) (v.symbol e) n else v.map l n) ≡ v.map l n
     go true h = absurd (omega arith)
     go false h = refl
 map_stays v (Test a b equal) l n h = refl
+map_stays v (Differ a b) l n h = refl
 map_stays v Skip l n h = refl
 
 pub loads_after : (x : Execution) (a : Act) → (after x a).loads ≡ x.loads + cond (is_fetch a) 1 0
 loads_after x (Assign p e) = omega arith
 loads_after x (Make p) = omega arith
 loads_after x (Fetch p q f pointer) = refl
+loads_after x (FetchMarked p q f) = refl
 loads_after x (Update checked m p e) = omega arith
 loads_after x (Test a b equal) = omega arith
+loads_after x (Differ a b) = omega arith
 loads_after x Skip = omega arith

@@ -51,10 +51,12 @@ pub record AreOne (e : Meaning) (a b : SymbolicTerm) : Type 0 where
   pub sort : sort_in e a ≡ sort_in e b
   pub value : value_in e a ≡ value_in e b
 
-pub equal_is_true : (e : Meaning) (a b : SymbolicTerm) (more : List SymbolicLit) → AreOne e a b → IsTrueIn e (is a b ∷ more)
+pub equal_is_true : (e : Meaning) (a b : SymbolicTerm) (more : List SymbolicLit) → AreOne e a b
+    → IsTrueIn e (is a b ∷ more)
 equal_is_true e a b more h = inl (h.sort, h.value)
 
-pub unequal_is_true : (e : Meaning) (a b : SymbolicTerm) (more : List SymbolicLit) → value_in e a ≢ value_in e b → IsTrueIn e (is_not a b ∷ more)
+pub unequal_is_true : (e : Meaning) (a b : SymbolicTerm) (more : List SymbolicLit) → value_in e a ≢ value_in e b
+    → IsTrueIn e (is_not a b ∷ more)
 unequal_is_true e a b more h = inl h
 
 pub later_is_true : (e : Meaning) (l : SymbolicLit) (more : List SymbolicLit) → IsTrueIn e more → IsTrueIn e (l ∷ more)

@@ -9,6 +9,7 @@ use Rattle.plc_flow.specs.declared.flow.Flow.{Flow}
 use Rattle.plc_flow.specs.declared.flow.Step.{Step}
 use Rattle.plc_flow.specs.Marks.{flow_uses_marks}
 use Rattle.plc_logic.specs.declared.clause.Outline.{Outline}
+use Rattle.plc_logic.specs.Marks.{outline_uses_marks}
 use Rattle.plc_setting.specs.declared.obligations.Obligation.{Obligation}
 use Rattle.plc_setting.specs.declared.obligations.Obligation.TheVariants.{Start, Enter, Own, Other, Claim}
 use Rattle.plc_setting.specs.Marks.{program_uses_marks}
@@ -44,7 +45,7 @@ module _ (flow : Flow) (silent : flow_uses_marks flow ≡ false) where
 pub flow_is_silent : (flow : Flow) (outline : Outline) → program_uses_marks flow outline ≡ false
     → flow_uses_marks flow ≡ false
 unfolding program_uses_marks
-flow_is_silent flow outline silent = silent
+flow_is_silent flow outline silent = (or_parts (flow_uses_marks flow) (outline_uses_marks outline) silent).0
 
 pub obligation_is_silent : (flow : Flow) (outline : Outline) (o : Obligation) → program_uses_marks flow outline ≡ false
     → speak_of_marks (executed flow o) ≡ false

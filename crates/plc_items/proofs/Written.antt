@@ -1,5 +1,6 @@
 -- Clauses that are written one after the other: those of a list's front are written, those of the rest are left.
-use Rattle.std.proofs.Common.{◌≡◌, ◌<◌, ◌≤◌, ℕ, ◌+◌, List, [], ◌∷◌, ◌++◌, length, map, flat_map, get_or, drop, ◌∙◌, ap, sym, zero-add, append_assoc}
+use Rattle.std.proofs.Common.{◌≡◌, ◌<◌, ◌≤◌, ℕ, ◌+◌, List, [], ◌∷◌, ◌++◌, length, map, flat_map, get_or, drop, ◌∙◌, ap}
+use Rattle.std.proofs.Common.{sym, zero-add, append_assoc}
 use Rattle.std.proofs.lemmas.List.{at_drop_more, at_drop_all}
 use Rattle.std.proofs.lemmas.Grind.{flat_map-append}
 use Rattle.std.proofs.lemmas.List.FromFn.{map-range_with_len_more}
@@ -27,10 +28,16 @@ pub written-flat_map_end : {X : Type 0} (f : X → Clauses) (d : Drafted) (xs : 
 written-flat_map_end f d xs i h = at_drop_all (λ ys. written_all d (flat_map f ys)) xs i h
 
 -- a clause for each number
-pub written-below : (f : ℕ → List SymbolicLit) (d : Drafted) (n : ℕ)
+written-below : (f : ℕ → List SymbolicLit) (d : Drafted) (n : ℕ)
     → written_all d (map f (below (n + 1))) ≡ written (written_all d (map f (below n))) (f n)
 written-below f d n =
     ap (written_all d) (map-range_with_len_more f 0 n n (zero-add n)) ∙ written-append d (map f (below n)) (f n ∷ [])
+
+-- the clause of the next number is written
+pub one-more-below : (f : ℕ → List SymbolicLit) (start old new : Drafted) (n : ℕ)
+    → new ≡ written old (f n) → old ≡ written_all start (map f (below n))
+    → new ≡ written_all start (map f (below (n + 1)))
+one-more-below f start old new n e h = e ∙ ap (λ d. written d (f n)) h ∙ sym (written-below f start n)
 
 -- ---- the items of a set, one after the other
 
@@ -46,8 +53,8 @@ written-premises f g d d₁ d₂ a b ab c c₁ e k h₁ h₂ =
     ∙ sym (written-append d (flat_map f ab) (flat_map g c))
 
 -- what is known before, then what the step does
-pub written-known : (d d₁ : Drafted) (v b f p e : Clauses) → d₁ ≡ written_all d (v ++ (b ++ (f ++ p)))
-    → written_all d₁ e ≡ written_all d (v ++ (b ++ (f ++ (p ++ e))))
-written-known d d₁ v b f p e h =
-    let a : (v ++ (b ++ (f ++ p))) ++ e ≡ v ++ (b ++ (f ++ (p ++ e))) = simp append_assoc in
-    ap (λ x. written_all x e) h ∙ sym (written-append d (v ++ (b ++ (f ++ p))) e) ∙ ap (written_all d) a
+pub written-known : (d d₁ : Drafted) (v m b f p e : Clauses) → d₁ ≡ written_all d (v ++ (m ++ (b ++ (f ++ p))))
+    → written_all d₁ e ≡ written_all d (v ++ (m ++ (b ++ (f ++ (p ++ e)))))
+written-known d d₁ v m b f p e h =
+    let a : (v ++ (m ++ (b ++ (f ++ p)))) ++ e ≡ v ++ (m ++ (b ++ (f ++ (p ++ e)))) = simp append_assoc in
+    ap (λ x. written_all x e) h ∙ sym (written-append d (v ++ (m ++ (b ++ (f ++ p)))) e) ∙ ap (written_all d) a

@@ -37,6 +37,7 @@ ValueIn ghosts terms.Nobody = Unit {0}
 abbrev pub ValuesIn : List Ghost → Literal → Type 0
 ValuesIn ghosts (literals.Same a b equal) = ValueIn ghosts a × ValueIn ghosts b
 ValuesIn ghosts (literals.Retired b is_so) = Unit {0}
+ValuesIn ghosts (literals.Marked t is_so) = Unit {0}
 
 -- the numbers of a clause's values have 16 bits, and it has no more names than it may
 pub record ClauseIn (ghosts : List Ghost) (c : Clause) : Type 0 where

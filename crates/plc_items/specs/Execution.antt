@@ -6,7 +6,9 @@ use Rattle.plc_ground.specs.declared.terms.Symbol.TheVariants as symbols
 use Rattle.plc_ground.specs.declared.terms.Map.{Map}
 use Rattle.plc_ground.specs.declared.terms.Map.TheVariants as maps
 use Rattle.plc_setting.specs.declared.acts.Act.{Act}
-use Rattle.plc_setting.specs.declared.acts.Act.TheVariants.{Assign, Make, Fetch, Update, Test, Skip}
+use Rattle.plc_setting.specs.declared.acts.Act.TheVariants.{Assign, Make, Fetch, FetchMarked, Update}
+use Rattle.plc_setting.specs.declared.acts.Act.TheVariants.{Test, Differ, Skip}
+use Rattle.plc_setting.specs.Acts.{mark_of}
 use Rattle.plc_items.specs.declared.execution.Execution.{Execution}
 use Rattle.plc_symbolic.specs.declared.symbolic.NodeTerm.{NodeTerm}
 use Rattle.plc_symbolic.specs.declared.symbolic.NodeTerm.TheVariants.{At}
@@ -45,8 +47,14 @@ after x (Assign p e) = assigned x p (current x e)
 after x (Make p) = assigned x p symbols.New
 after x (Fetch p q f pointer) =
     record { assigned = x.assigned ++ (p, symbols.Loaded x.loads) ∷ []; written = x.written; loads = x.loads + 1 }
+after x (FetchMarked p q f) = record {
+  assigned = x.assigned ++ (mark_of p, symbols.MarkLoaded x.loads) ∷ (p, symbols.Loaded x.loads) ∷ [];
+  written = x.written;
+  loads = x.loads + 1;
+}
 after x (Update checked m p e) = record x { written = x.written ++ m ∷ [] }
 after x (Test a b equal) = x
+after x (Differ a b) = x
 after x Skip = x
 
 -- after several
@@ -80,9 +88,16 @@ act_clauses nodes x (Fetch p q f pointer) =
     not_null x q
     ∷ (is (Constant (symbols.Loaded x.loads)) (map_now x (maps.Field f) (At (current x q))) ∷ [])
     ∷ []
+act_clauses nodes x (FetchMarked p q f) =
+    not_null x q
+    ∷ (is (Constant (symbols.Loaded x.loads)) (map_now x (maps.Field f) (At (current x q))) ∷ [])
+    ∷ (is (Constant (symbols.MarkLoaded x.loads)) (map_now x (maps.FieldMark f) (At (current x q))) ∷ [])
+    ∷ []
 act_clauses nodes x (Update checked m p e) =
     if_checked checked (not_null x p) ++ flat_map (update_at m (version x m) (held x p) (held x e)) nodes
 act_clauses nodes x (Test a b equal) = (test_lit equal (held x a) (held x b) ∷ []) ∷ []
+act_clauses nodes x (Differ a b) =
+    (is_not (held x a) (held x b) ∷ is_not (held x (mark_of a)) (held x (mark_of b)) ∷ []) ∷ []
 act_clauses nodes x Skip = []
 
 -- those of acts in order

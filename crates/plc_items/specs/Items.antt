@@ -34,8 +34,8 @@ use Rattle.plc_symbolic.specs.declared.symbolic.NodeTerm.TheVariants.{At}
 use Rattle.plc_symbolic.specs.declared.symbolic.SymbolicTerm.{SymbolicTerm}
 use Rattle.plc_symbolic.specs.declared.symbolic.SymbolicTerm.TheVariants.{Constant, Application}
 use Rattle.plc_symbolic.specs.declared.symbolic.SymbolicLit.{SymbolicLit}
-use Rattle.plc_setting.specs.Acts.{pointer_symbol}
-use Rattle.plc_items.specs.Execution.{start, current, map_now, after_all, not_null, executed_clauses}
+use Rattle.plc_setting.specs.Acts.{pointer_symbol, mark_of}
+use Rattle.plc_items.specs.Execution.{start, current, held, map_now, after_all, not_null, executed_clauses}
 use Rattle.plc_setting.specs.Setting.{below}
 use Rattle.plc_setting.specs.Parts.{acting_locals, acting_premises, owner_premises, conclusion, claim_made}
 use Rattle.plc_setting.specs.Setting.{local_symbol}
@@ -57,10 +57,31 @@ values_from g first [] ts = []
 values_from g first (h ∷ hs) ts =
     field_values g first (length h.values) ts ++ values_from (g + 1) (first + length h.values) hs ts
 
+-- ---- marks: each is set or isn't
+
+-- what a program without marks doesn't say
+abbrev pub only_if : Bool → Clauses → Clauses
+only_if true cs = cs
+only_if false cs = []
+
+abbrev pub set_or_not : SymbolicTerm → List SymbolicLit
+set_or_not m = is m (Constant symbols.Yes) ∷ is m (Constant symbols.No) ∷ []
+
+abbrev pub field_marks : List NodeTerm → FieldId → Clauses
+field_marks ts f = map (λ t. set_or_not (Application (maps.FieldMark f) 0 t)) ts
+
+-- the marks of pointers, then that in each pointer field of each node
+abbrev pub mark_values : Setting → Clauses
+mark_values s =
+    only_if s.marked (map (λ m. set_or_not (Constant m)) s.marks ++ flat_map (field_marks s.nodes) s.fields)
+
 -- ---- the beginning of the file and of operations
 
 abbrev pub equals : Symbol → Symbol → List SymbolicLit
 equals a b = is (Constant a) (Constant b) ∷ []
+
+abbrev pub unmarked : Symbol → List SymbolicLit
+unmarked p = equals (mark_of p) symbols.No
 
 -- the only node of which a conclusion may speak is the new one, if there is one
 abbrev pub only_new : Bool → Symbol → List SymbolicLit
@@ -70,13 +91,15 @@ only_new false c = []
 abbrev pub start_clauses : ℕ → Setting → Clauses
 start_clauses shared s =
     map (λ i. equals (symbols.Shared i) symbols.Null) (below shared)
-    ++ map (λ i. only_new s.makes (symbols.Bound i)) (below s.bound)
+    ++ (map (λ i. only_new s.makes (symbols.Bound i)) (below s.bound)
+    ++ only_if s.marked (map (λ i. unmarked (symbols.Shared i)) (below shared)))
 
--- pointer locals are null, data locals that are no parameters are 0
+-- pointer locals are null, data locals that are no parameters are 0, and no pointer local is marked
 abbrev pub enter_clauses : List Local → Setting → Clauses
 enter_clauses ls s =
     map (λ p. equals p symbols.Null) s.mine.pointers
-    ++ map (λ k. equals (symbols.Mine k) (symbols.Number 0)) (places_from is_other_data 0 ls)
+    ++ (map (λ k. equals (symbols.Mine k) (symbols.Number 0)) (places_from is_other_data 0 ls)
+    ++ only_if s.marked (map unmarked s.mine.pointers))
 
 abbrev pub beginning : Flow → Setting → Obligation → Clauses
 beginning flow s (Start i) = start_clauses (length flow.file.shared) s
@@ -120,17 +143,17 @@ no_field_leads fs t = map (λ f. is_other (Application (maps.Field f) 0 t)) fs
 abbrev pub unretired : Clauses
 unretired = (is_not (Application maps.Retired 0 (At symbols.New)) (Constant symbols.Yes) ∷ []) ∷ []
 
-abbrev pub if_fresh : Bool → Clauses → Clauses
-if_fresh true cs = cs
-if_fresh false cs = []
+abbrev pub unmarked_field : FieldId → List SymbolicLit
+unmarked_field f = default_is (maps.FieldMark f) symbols.No
 
 abbrev pub freshness : File → Setting → Clauses
-freshness file s = if_fresh s.makes
+freshness file s = only_if s.makes
     (is_other null ∷ (map (λ p. is_other (Constant p)) s.pointers
     ++ (flat_map (no_field_leads s.fields) s.nodes
     ++ (field_defaults_from 0 file.fields
     ++ (ghost_defaults_from 0 0 file.ghosts
-    ++ unretired)))))
+    ++ (unretired
+    ++ only_if s.marked (map unmarked_field s.fields)))))))
 
 -- ---- clauses of the outline, read for the acting thread or for the owner, with these nodes for the quantified names
 
@@ -157,11 +180,26 @@ read_term ghosts x owner names (terms.Value g v) = Constant (symbols.Value (valu
 read_term ghosts x owner names terms.Me = Constant (me owner)
 read_term ghosts x owner names terms.Nobody = Constant symbols.Nobody
 
+-- the mark of a place of a pointer; no other term has one
+abbrev pub read_mark : Execution → Bool → List NodeTerm → Term → SymbolicTerm
+read_mark x owner names (terms.Shared i) = held x (mark_of (symbols.Shared i))
+read_mark x owner names (terms.Local k) = held x (mark_of (local_symbol owner k))
+read_mark x owner names (terms.Bound i) = Constant symbols.No
+read_mark x owner names (terms.FieldOf b f) = map_now x (maps.FieldMark f) (base_node x owner names b)
+read_mark x owner names (terms.GhostOf b g) = Constant symbols.No
+read_mark x owner names terms.Null = Constant symbols.No
+read_mark x owner names (terms.Number n) = Constant symbols.No
+read_mark x owner names (terms.Value g v) = Constant symbols.No
+read_mark x owner names terms.Me = Constant symbols.No
+read_mark x owner names terms.Nobody = Constant symbols.No
+
 abbrev pub read_literal : List Ghost → Execution → Bool → List NodeTerm → Literal → SymbolicLit
 read_literal ghosts x owner names (literals.Same a b equal) =
     record { left = read_term ghosts x owner names a; right = read_term ghosts x owner names b; equal = equal }
 read_literal ghosts x owner names (literals.Retired b is_so) =
     record { left = map_now x maps.Retired (base_node x owner names b); right = Constant symbols.Yes; equal = is_so }
+read_literal ghosts x owner names (literals.Marked t is_so) =
+    record { left = read_mark x owner names t; right = Constant symbols.Yes; equal = is_so }
 
 -- ---- premises: each at all nodes that its names may stand for, the first name slowest
 
@@ -217,8 +255,9 @@ denied flow outline s x o =
 unfoldable pub clauses_of : Flow → Outline → Setting → Obligation → Clauses
 clauses_of flow outline s o =
     values_from 0 0 flow.file.ghosts s.nodes
+    ++ (mark_values s
     ++ (beginning flow s o
     ++ (freshness flow.file s
     ++ (premises flow outline s o
     ++ (executed_clauses s.nodes start s.acts
-    ++ denied flow outline s (after_all start s.acts) o))))
+    ++ denied flow outline s (after_all start s.acts) o)))))

@@ -1,5 +1,5 @@
 // How executions begin: all shared pointers are null before `init`, where no node is there yet; a thread starts
-// an operation with null in its pointer locals and 0 in the data locals that are no parameters.
+// an operation with null in its pointer locals and 0 in the data locals that are no parameters. No null is marked.
 ghost use Rattle.std.specs.Prelude.{◌≡◌, ◌<◌, length, map, OnOk};
 ghost use Rattle.plc_lang.specs.Locals.{is_other_data};
 ghost use Rattle.plc_lang.specs.Numbering.{places_from};
@@ -7,13 +7,13 @@ ghost use Rattle.plc_ground.specs.declared.terms.Symbol.TheVariants as symbols;
 ghost use Rattle.plc_symbolic.specs.Numbering.{written, written_all};
 ghost use Rattle.plc_setting.specs.Parts.{acting_locals};
 ghost use Rattle.plc_setting.specs.Setting.{below};
-ghost use Rattle.plc_items.specs.Items.{equals, only_new, start_clauses, enter_clauses, beginning};
+ghost use Rattle.plc_items.specs.Items.{equals, unmarked, only_if, only_new, start_clauses, enter_clauses, beginning};
 
 use plc_base::NoMemory;
 use plc_flow::Flow;
 use plc_ground::Symbol;
 use plc_lang::Local;
-use plc_setting::{Obligation, Setting, acting_locals};
+use plc_setting::{Obligation, Setting, acting_locals, mark_of};
 use plc_symbolic::{Draft, SymbolicTerm, is};
 
 /// Writes that two constants are equal.
@@ -21,6 +21,13 @@ fn push_equal(left: Symbol, right: Symbol, out: &mut Draft) -> Result<(), NoMemo
     ensures { OnOk result (out.new ≡ written out.old (equals left right)) }
 {
     out.push(&[is(SymbolicTerm::Constant(left), SymbolicTerm::Constant(right))])
+}
+
+/// Writes that a pointer isn't marked.
+fn push_unmarked(p: Symbol, out: &mut Draft) -> Result<(), NoMemory>
+    ensures { OnOk result (out.new ≡ written out.old (unmarked p)) }
+{
+    push_equal(mark_of(p), Symbol::No, out)
 }
 
 /// Writes that a node is the new one, the only one there may be: an empty clause where none is made.
@@ -55,12 +62,27 @@ fn push_bound_new(makes: bool, bound: u16, out: &mut Draft) -> Result<(), NoMemo
     Ok(())
 }
 
+/// Writes that no shared pointer is marked, where marks are used.
+fn push_shared_unmarked(marked: bool, shared: u16, out: &mut Draft) -> Result<(), NoMemory>
+    ensures { OnOk result (out.new ≡ written_all out.old
+        (only_if marked (map (λ i. unmarked (symbols.Shared i)) (below shared)))) }
+{
+    if !marked {
+        return Ok(());
+    }
+    for i in 0..shared {
+        push_unmarked(Symbol::Shared(i), out)?;
+    }
+    Ok(())
+}
+
 /// Writes what is known before `init`.
 fn push_start(shared: u16, s: &Setting, out: &mut Draft) -> Result<(), NoMemory>
     ensures { OnOk result (out.new ≡ written_all out.old (start_clauses shared s.now)) }
 {
     push_shared_null(shared, out)?;
-    push_bound_new(s.makes, s.bound, out)
+    push_bound_new(s.makes, s.bound, out)?;
+    push_shared_unmarked(s.marked, shared, out)
 }
 
 /// Whether a local is data and no parameter.
@@ -94,13 +116,27 @@ fn push_nulls(pointers: &[Symbol], out: &mut Draft) -> Result<(), NoMemory>
     Ok(())
 }
 
+/// Writes that none of these pointers is marked, where marks are used.
+fn push_all_unmarked(marked: bool, pointers: &[Symbol], out: &mut Draft) -> Result<(), NoMemory>
+    ensures { OnOk result (out.new ≡ written_all out.old (only_if marked (map unmarked pointers.now))) }
+{
+    if !marked {
+        return Ok(());
+    }
+    for p in pointers {
+        push_unmarked(*p, out)?;
+    }
+    Ok(())
+}
+
 /// Writes what is known of locals when an operation begins.
 fn push_enter(locals: &[Local], s: &Setting, out: &mut Draft) -> Result<(), NoMemory>
     requires { length locals.now < 65536 }
     ensures { OnOk result (out.new ≡ written_all out.old (enter_clauses locals.now s.now)) }
 {
     push_nulls(s.mine.pointers.as_slice(), out)?;
-    push_zeros(locals, out)
+    push_zeros(locals, out)?;
+    push_all_unmarked(s.marked, s.mine.pointers.as_slice(), out)
 }
 
 /// Writes what holds at first, by the kind of the obligation.
@@ -117,6 +153,6 @@ pub fn push_beginning(
     match o {
         Obligation::Start { .. } => push_start(flow.file.shared.len() as u16, s, out),
         Obligation::Enter { .. } => push_enter(acting_locals(flow, o), s, out),
-        _ => Ok(()),
+        Obligation::Own { .. } | Obligation::Other { .. } | Obligation::Claim { .. } => Ok(()),
     }
 }

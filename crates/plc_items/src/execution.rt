@@ -2,14 +2,19 @@
 // what was written is kept as it came, so the current ones are read off the past.
 ghost use Rattle.std.specs.Prelude.{◌≡◌, ◌+◌, ◌<◌, ◌≤◌, true, IfOk, OnOk};
 ghost use Rattle.std.specs.Prelude.{◌∷◌, [], length, flat_map};
-ghost use Rattle.plc_setting.specs.declared.acts.Act.TheVariants.{Fetch, Update};
+ghost use Rattle.plc_ground.specs.declared.terms.Map.TheVariants as maps;
+ghost use Rattle.plc_ground.specs.declared.terms.Symbol.TheVariants as symbols;
+ghost use Rattle.plc_setting.specs.declared.acts.Act.TheVariants.{FetchMarked, Update, Differ};
+ghost use Rattle.plc_symbolic.specs.declared.symbolic.NodeTerm.TheVariants.{At};
+ghost use Rattle.plc_symbolic.specs.declared.symbolic.SymbolicTerm.TheVariants.{Constant};
 ghost use Rattle.plc_symbolic.specs.Numbering.{written, written_all};
-ghost use Rattle.plc_items.specs.Execution.{start, current, version, held, assigned, after, after_all, not_null};
-ghost use Rattle.plc_items.specs.Execution.{update_at, if_checked, test_lit, act_clauses, executed_clauses};
+ghost use Rattle.plc_symbolic.specs.Terms.{is};
+ghost use Rattle.plc_items.specs.Execution.{start, current, version, held, map_now, assigned, after, after_all};
+ghost use Rattle.plc_items.specs.Execution.{not_null, update_at, if_checked, test_lit, act_clauses, executed_clauses};
 
 use plc_base::{FieldId, Items, NoMemory};
 use plc_ground::{Map, Symbol};
-use plc_setting::Act;
+use plc_setting::{Act, mark_of};
 use plc_symbolic::{Draft, NodeTerm, SymbolicTerm, applied, is, is_not, term_of};
 use std::alloc::Global;
 
@@ -58,7 +63,7 @@ pub fn version(x: &Execution, map: Map) -> u16
 }
 
 /// The constant that a variable has now, as a term.
-fn held(x: &Execution, symbol: Symbol) -> SymbolicTerm
+pub fn held(x: &Execution, symbol: Symbol) -> SymbolicTerm
     ensures { result ≡ held x.now symbol }
 {
     SymbolicTerm::Constant(current(x, symbol))
@@ -79,8 +84,47 @@ fn assign(x: &mut Execution, to: Symbol, value: Symbol) -> Result<(), NoMemory>
     Ok(())
 }
 
-/// Gives a variable what the field has at the node, which is read.
-fn fetch(
+/// Writes that a constant is what a map has now at a node.
+fn push_read(
+    x: &Execution,
+    read: Symbol,
+    map: Map,
+    node: Symbol,
+    out: &mut Draft,
+) -> Result<(), NoMemory>
+    requires { length x.now.written < 65536 }
+    ensures { OnOk result (out.new ≡ written out.old
+        (is (Constant read) (map_now x.now map (At (current x.now node))) ∷ [])) }
+{
+    let held = applied(map, version(x, map), NodeTerm::At(current(x, node)));
+    out.push(&[is(SymbolicTerm::Constant(read), held)])
+}
+
+/// Writes that the node isn't null, and that the next constant of what is read is what its field has.
+fn push_fetched(x: &Execution, node: Symbol, f: FieldId, out: &mut Draft) -> Result<(), NoMemory>
+    requires { length x.now.written < 65536 }
+    ensures { OnOk result (out.new ≡ written_all out.old (not_null x.now node
+        ∷ (is (Constant (symbols.Loaded x.now.loads)) (map_now x.now (maps.Field f) (At (current x.now node))) ∷ [])
+        ∷ [])) }
+{
+    push_not_null(x, node, out)?;
+    push_read(x, Symbol::Loaded(x.loads), Map::Field(f), node, out)
+}
+
+/// Gives a variable the constant of what is read.
+fn keep_read(x: &mut Execution, to: Symbol) -> Result<(), NoMemory>
+    requires { x.old.loads < 65535 }
+    ensures { OnOk result (x.new
+        ≡ record (assigned x.old to (symbols.Loaded x.old.loads)) { loads = x.old.loads + 1 }) }
+{
+    assign(x, to, Symbol::Loaded(x.loads))?;
+    x.loads += 1;
+    Ok(())
+}
+
+/// Gives a variable the pointer that the field has at the node, and its mark. Both are read before the variable
+/// changes, since it may be the one that names the node.
+fn fetch_marked(
     x: &mut Execution,
     to: Symbol,
     node: Symbol,
@@ -89,16 +133,14 @@ fn fetch(
 ) -> Result<(), NoMemory>
     requires written { length x.old.written < 65536 }
     requires loads { x.old.loads < 65535 }
-    ensures clauses { OnOk result (out.new ≡ written_all out.old (act_clauses [] x.old (Fetch to node f true))) }
-    ensures after { OnOk result (x.new ≡ after x.old (Fetch to node f true)) }
+    ensures clauses { OnOk result (out.new ≡ written_all out.old (act_clauses [] x.old (FetchMarked to node f))) }
+    ensures after { OnOk result (x.new ≡ after x.old (FetchMarked to node f)) }
 {
-    push_not_null(x, node, out)?;
-    let map = Map::Field(f);
-    let read = applied(map, version(x, map), NodeTerm::At(current(x, node)));
-    out.push(&[is(SymbolicTerm::Constant(Symbol::Loaded(x.loads)), read)])?;
-    assign(x, to, Symbol::Loaded(x.loads))?;
-    x.loads += 1;
-    Ok(())
+    let mark = Symbol::MarkLoaded(x.loads);
+    push_fetched(x, node, f, out)?;
+    push_read(x, mark, Map::FieldMark(f), node, out)?;
+    assign(x, mark_of(to), mark)?;
+    keep_read(x, to)
 }
 
 /// Writes at one node that the next version of a map differs from this one at most at the node that is written.
@@ -176,6 +218,15 @@ fn test(
     out.push(&[is_not(left, right)])
 }
 
+/// Writes that two pointers differ: in their nodes, or in their marks.
+fn differ(x: &Execution, left: Symbol, right: Symbol, out: &mut Draft) -> Result<(), NoMemory>
+    ensures { OnOk result (out.new ≡ written_all out.old (act_clauses [] x.now (Differ left right))) }
+{
+    let nodes = is_not(held(x, left), held(x, right));
+    let marks = is_not(held(x, mark_of(left)), held(x, mark_of(right)));
+    out.push(&[nodes, marks])
+}
+
 /// Writes that the pointer isn't null, where that is asked.
 fn push_checked(x: &Execution, checked: bool, p: Symbol, out: &mut Draft) -> Result<(), NoMemory>
     ensures { OnOk result (out.new ≡ written_all out.old (if_checked checked (not_null x.now p))) }
@@ -199,7 +250,11 @@ fn act(x: &mut Execution, a: Act, nodes: &[NodeTerm], out: &mut Draft) -> Result
             assign(x, to, value)
         }
         Act::Make { to } => assign(x, to, Symbol::New),
-        Act::Fetch { to, node, f, .. } => fetch(x, to, node, f, out),
+        Act::Fetch { to, node, f, .. } => {
+            push_fetched(x, node, f, out)?;
+            keep_read(x, to)
+        }
+        Act::FetchMarked { to, node, f } => fetch_marked(x, to, node, f, out),
         Act::Update {
             checked,
             map,
@@ -210,6 +265,7 @@ fn act(x: &mut Execution, a: Act, nodes: &[NodeTerm], out: &mut Draft) -> Result
             update(x, map, at, value, nodes, out)
         }
         Act::Test { left, right, equal } => test(x, left, right, equal, out),
+        Act::Differ { left, right } => differ(x, left, right, out),
         Act::Skip => Ok(()),
     }
 }

@@ -1,12 +1,13 @@
 // What is known of the node that a step makes: before the step no variable and no field leads to it, and all
-// that it holds is the default.
+// that it holds is the default. No pointer in it is marked.
 ghost use Rattle.std.specs.Prelude.{◌≡◌, ◌<◌, length, map, flat_map, OnOk};
 ghost use Rattle.std.specs.List.{sum_by};
 ghost use Rattle.plc_lang.specs.Numbering.{values_in};
 ghost use Rattle.plc_symbolic.specs.declared.symbolic.SymbolicTerm.TheVariants.{Constant};
 ghost use Rattle.plc_symbolic.specs.Numbering.{written, written_all};
 ghost use Rattle.plc_items.specs.Items.{is_other, default_is, field_default, field_defaults_from, ghost_default};
-ghost use Rattle.plc_items.specs.Items.{ghost_defaults_from, no_field_leads, unretired, freshness};
+ghost use Rattle.plc_items.specs.Items.{ghost_defaults_from, no_field_leads, unretired};
+ghost use Rattle.plc_items.specs.Items.{unmarked_field, only_if, freshness};
 
 use plc_base::{FieldId, NoMemory};
 use plc_ground::{Map, Symbol};
@@ -120,6 +121,19 @@ fn push_unretired(out: &mut Draft) -> Result<(), NoMemory>
     out.push(&[is_not(held, SymbolicTerm::Constant(Symbol::Yes))])
 }
 
+/// Writes that no pointer field of the new node is marked, where marks are used.
+fn push_unmarked_fields(marked: bool, fields: &[FieldId], out: &mut Draft) -> Result<(), NoMemory>
+    ensures { OnOk result (out.new ≡ written_all out.old (only_if marked (map unmarked_field fields.now))) }
+{
+    if !marked {
+        return Ok(());
+    }
+    for f in fields {
+        push_default(Map::FieldMark(*f), Symbol::No, out)?;
+    }
+    Ok(())
+}
+
 /// Writes what is known of the new node, where one is made.
 pub fn push_freshness(file: &File, s: &Setting, out: &mut Draft) -> Result<(), NoMemory>
     requires fields { length file.now.fields < 65536 }
@@ -135,5 +149,6 @@ pub fn push_freshness(file: &File, s: &Setting, out: &mut Draft) -> Result<(), N
     push_no_field(s.nodes.as_slice(), s.fields.as_slice(), out)?;
     push_field_defaults(file.fields.as_slice(), out)?;
     push_ghost_defaults(file.ghosts.as_slice(), out)?;
-    push_unretired(out)
+    push_unretired(out)?;
+    push_unmarked_fields(s.marked, s.fields.as_slice(), out)
 }

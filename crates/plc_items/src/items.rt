@@ -4,13 +4,14 @@ ghost use Rattle.plc_symbolic.specs.Numbering.{written_all};
 ghost use Rattle.plc_setting.specs.Fit.{Fits};
 ghost use Rattle.plc_setting.specs.Setting.{setting_of};
 ghost use Rattle.plc_items.specs.Execution.{start, after_all, executed_clauses};
-ghost use Rattle.plc_items.specs.Items.{values_from, beginning, freshness, premises, denied, clauses_of};
+ghost use Rattle.plc_items.specs.Items.{values_from, mark_values, beginning, freshness, premises, denied, clauses_of};
 
 use crate::beginning::push_beginning;
 use crate::conclusion::push_conclusion;
 use crate::execution::{Execution, push_executed};
 use crate::freshness::push_freshness;
 use crate::instances::{Premises, push_invariants, push_point};
+use crate::marks::push_mark_values;
 use crate::subject::Subject;
 use crate::values::push_values;
 use plc_base::NoMemory;
@@ -46,12 +47,14 @@ fn push_known(w: &Subject, out: &mut Draft) -> Result<(), NoMemory>
     requires { Fits w.now.flow.now w.now.outline.now }
     ensures { OnOk result (out.new ≡ written_all out.old
         (values_from 0 0 w.now.flow.now.file.ghosts w.now.setting.now.nodes
+        ++ (mark_values w.now.setting.now
         ++ (beginning w.now.flow.now w.now.setting.now w.now.obligation.now
         ++ (freshness w.now.flow.now.file w.now.setting.now
-        ++ premises w.now.flow.now w.now.outline.now w.now.setting.now w.now.obligation.now)))) }
+        ++ premises w.now.flow.now w.now.outline.now w.now.setting.now w.now.obligation.now))))) }
 {
     let ghosts = w.flow.file.ghosts.as_slice();
     push_values(w.alloc, ghosts, w.setting.nodes.as_slice(), out)?;
+    push_mark_values(w.setting, out)?;
     push_beginning(w.flow, w.setting, w.obligation, out)?;
     push_freshness(&w.flow.file, w.setting, out)?;
     push_premises(w, out)

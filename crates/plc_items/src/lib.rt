@@ -1,5 +1,5 @@
-//! The clauses of an obligation's ground set, item by item: values, the beginning, the new node, premises, what
-//! is executed, and the negated conclusion. Each item is written into a draft in the order of the format, so that
+//! The clauses of an obligation's ground set, item by item: values, marks, the beginning, the new node, premises,
+//! what is executed, and the negated conclusion. Each item is written into a draft in the order of the format, so that
 //! what `push_items` writes is the list of the definition.
 #![tactic(auto)]
 
@@ -9,6 +9,7 @@ mod execution;
 mod freshness;
 mod instances;
 mod items;
+mod marks;
 mod reading;
 mod subject;
 mod values;

@@ -6,14 +6,14 @@ ghost use Rattle.std.specs.List.{sum_by};
 ghost use Rattle.plc_lang.specs.Numbering.{values_in, value_number};
 ghost use Rattle.plc_ground.specs.declared.terms.Symbol.TheVariants as symbols;
 ghost use Rattle.plc_items.specs.Execution.{map_now};
-ghost use Rattle.plc_items.specs.Items.{base_node, me, read_term, read_literal};
+ghost use Rattle.plc_items.specs.Items.{base_node, me, read_term, read_mark, read_literal};
 ghost use Rattle.plc_items.specs.Bounds.{ValueIn, ValuesIn};
 
-use crate::execution::{Execution, current, version};
+use crate::execution::{Execution, current, held, version};
 use plc_ground::{Map, Symbol};
 use plc_lang::{Ghost, value_number};
 use plc_logic::{Base, Literal, Term};
-use plc_setting::local_symbol;
+use plc_setting::{local_symbol, mark_of};
 use plc_symbolic::{NodeTerm, SymbolicLit, SymbolicTerm, applied, term_of};
 
 /// How a clause is read.
@@ -95,6 +95,21 @@ fn read_term(r: &Reading, term: Term) -> SymbolicTerm
     }
 }
 
+/// The mark of a place of a pointer, as it reads now. No other term has one.
+fn read_mark(r: &Reading, term: Term) -> SymbolicTerm
+    requires { length r.now.execution.now.written < 65536 }
+    ensures { result ≡ read_mark r.now.execution.now r.now.owner r.now.names.now term }
+{
+    match term {
+        Term::Shared(i) => held(r.execution, mark_of(Symbol::Shared(i))),
+        Term::Local(k) => held(r.execution, mark_of(local_symbol(r.owner, k))),
+        Term::FieldOf { base, f } => map_at(r, Map::FieldMark(f), base),
+        Term::Bound(_) | Term::GhostOf { .. } => SymbolicTerm::Constant(Symbol::No),
+        Term::Null | Term::Number(_) | Term::Value { .. } => SymbolicTerm::Constant(Symbol::No),
+        Term::Me | Term::Nobody => SymbolicTerm::Constant(Symbol::No),
+    }
+}
+
 /// A literal of a clause, as it reads now.
 pub fn read_literal(r: &Reading, literal: &Literal) -> SymbolicLit
     requires versions { length r.now.execution.now.written < 65536 }
@@ -110,6 +125,11 @@ pub fn read_literal(r: &Reading, literal: &Literal) -> SymbolicLit
         },
         Literal::Retired { x, yes } => SymbolicLit {
             left: map_at(r, Map::Retired, x),
+            right: SymbolicTerm::Constant(Symbol::Yes),
+            equal: yes,
+        },
+        Literal::Marked { t, yes } => SymbolicLit {
+            left: read_mark(r, t),
             right: SymbolicTerm::Constant(Symbol::Yes),
             equal: yes,
         },

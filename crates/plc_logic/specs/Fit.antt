@@ -16,7 +16,7 @@ use Rattle.plc_logic.specs.declared.clause.Term.TheVariants as terms
 use Rattle.plc_logic.specs.declared.clause.Sort.{Sort}
 use Rattle.plc_logic.specs.declared.clause.Sort.TheVariants as sorts
 use Rattle.plc_logic.specs.declared.clause.Literal.{Literal}
-use Rattle.plc_logic.specs.declared.clause.Literal.TheVariants.{Same, Retired}
+use Rattle.plc_logic.specs.declared.clause.Literal.TheVariants.{Same, Retired, Marked}
 use Rattle.plc_logic.specs.declared.clause.Clause.{Clause}
 use Rattle.plc_logic.specs.declared.clause.Site.{Site}
 use Rattle.plc_logic.specs.declared.clause.Site.TheVariants.{Over, At}
@@ -66,12 +66,27 @@ HasSort w (terms.Value g v) s = (h : Ghost) × (slice_get w.file.ghosts g ≡ So
 HasSort w terms.Me s = (w.in_operation ≡ true) × (s ≡ sorts.Thread)
 HasSort w terms.Nobody s = s ≡ sorts.Thread
 
+-- a place that is there and holds a pointer, which is marked or not
+abbrev pub HoldsPointer : InReach → Term → Type 0
+HoldsPointer w (terms.Shared i) = i < length w.file.shared
+HoldsPointer w (terms.Local i) = (l : Local) × (slice_get w.locals i ≡ Some l) × (l.pointer ≡ true)
+HoldsPointer w (terms.Bound i) = ⊥
+HoldsPointer w (terms.FieldOf b f) = IsNode w b × (d : Field) × (slice_get w.file.fields f.0 ≡ Some d)
+    × (d.pointer ≡ true)
+HoldsPointer w (terms.GhostOf b g) = ⊥
+HoldsPointer w terms.Null = ⊥
+HoldsPointer w (terms.Number n) = ⊥
+HoldsPointer w (terms.Value g v) = ⊥
+HoldsPointer w terms.Me = ⊥
+HoldsPointer w terms.Nobody = ⊥
+
 -- ---- clauses
 
--- the two sides of an equation have one sort
+-- the two sides of an equation have one sort, and only a place of a pointer has a mark
 abbrev pub LiteralFits : InReach → Literal → Type 0
 LiteralFits w (Same a b is_so) = (s : Sort) × HasSort w a s × HasSort w b s
 LiteralFits w (Retired x is_so) = IsNode w x
+LiteralFits w (Marked t is_so) = HoldsPointer w t
 
 -- what a clause of an operation with these locals, or of an invariant, may name
 abbrev pub in_reach_of : File → List Local → Bool → Clause → InReach

@@ -1,5 +1,6 @@
 -- what contracts of public calls say
 pub mod Negation
+pub mod Marks
 pub mod Sites
 pub mod Fit
 pub mod Sorts

@@ -49,7 +49,7 @@ pub enum Sort {
     Thread,
     /// A value of the auxiliary field of this number.
     Value(u16),
-    /// Whether something is so: that of `retired` in ground sets. No term of a clause has it.
+    /// Whether something is so: that of `retired` and of marks in ground sets. No term of a clause has it.
     Truth,
 }
 
@@ -60,6 +60,8 @@ pub enum Literal {
     Same { a: Term, b: Term, equal: bool },
     /// A node is retired, or is not.
     Retired { x: Base, yes: bool },
+    /// The pointer in a shared pointer, a pointer local or a pointer field of a node is marked, or is not.
+    Marked { t: Term, yes: bool },
 }
 
 /// A disjunction of at most 16 literals.

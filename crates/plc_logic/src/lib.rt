@@ -4,10 +4,12 @@
 
 mod clause;
 mod equality;
+mod marks;
 mod negation;
 mod sites;
 
 pub use clause::{Base, Clause, Item, Literal, Outline, Site, Sort, Term};
 pub use equality::same_sort_is_equality;
+pub use marks::outline_uses_marks;
 pub use negation::{negated, negation_turns_the_truth};
 pub use sites::op_of_site;

@@ -15,6 +15,7 @@ pub fn negated(literal: &Literal) -> Literal
             equal: !equal,
         },
         Literal::Retired { x, yes } => Literal::Retired { x, yes: !yes },
+        Literal::Marked { t, yes } => Literal::Marked { t, yes: !yes },
     }
 }
 

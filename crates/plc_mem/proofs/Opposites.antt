@@ -6,7 +6,7 @@ use Rattle.plc_lang.specs.declared.syntax.Num.{Num}
 use Rattle.plc_lang.specs.declared.syntax.Rel.{Rel}
 use Rattle.plc_lang.specs.declared.syntax.Rel.TheVariants as rels
 use Rattle.plc_flow.proofs.Opposites.{of_each_test, below, not_below}
-use Rattle.plc_flow.specs.Points.{same_bool}
+use Rattle.plc_base.specs.Booleans.{same_bool}
 use Rattle.plc_mem.specs.State.{is_null, same_pointer, value_at, number_of}
 use Rattle.plc_mem.specs.Primitives.{cell_at}
 use Rattle.plc_mem.specs.Laws.{TestHasAnOpposite, TestsHaveOpposites}

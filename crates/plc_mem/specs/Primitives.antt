@@ -16,7 +16,7 @@ use Rattle.plc_lang.specs.Comparison.{compares}
 use Rattle.plc_mem.specs.declared.cell.Cell.{Cell}
 use Rattle.plc_mem.specs.declared.cell.RaceKind.{RaceKind}
 use Rattle.plc_mem.specs.declared.cell.RaceKind.TheVariants.{Deref, Compare, Pass, Double}
-use Rattle.plc_flow.specs.Points.{same_bool}
+use Rattle.plc_base.specs.Booleans.{same_bool}
 use Rattle.plc_mem.specs.State.{State, at_local, at_field, null_cell, fresh_cell, marked_cell, is_null, same_pointer}
 use Rattle.plc_mem.specs.State.{at, put, value_at, put_value, field_value, put_field_value, place, number_of, with_node}
 use Rattle.plc_mem.specs.State.{with_retired, is_used, is_retired}

@@ -11,7 +11,7 @@ use Rattle.plc_lang.specs.declared.syntax.Op.{Op}
 use Rattle.plc_lang.specs.Fields.{is_pointer_field}
 use Rattle.plc_lang.specs.Locals.{starting_pointers, starting_values}
 use Rattle.plc_flow.specs.declared.flow.Flow.{Flow}
-use Rattle.plc_flow.specs.Points.{same_bool}
+use Rattle.plc_base.specs.Booleans.{same_bool}
 use Rattle.plc_threads.specs.declared.words.Place.{Place as NamedPlace}
 use Rattle.plc_threads.specs.declared.words.Place.TheVariants as named
 use Rattle.plc_mem.specs.declared.cell.Cell.{Cell}

@@ -12,11 +12,11 @@ ghost use Rattle.plc_mem.specs.Outcomes.{outcome_of, next_of, address_or_null, S
 ghost use Rattle.plc_mem.specs.Fit.{shape, Kept};
 ghost use Rattle.plc_mem.specs.Coherence.{IsCoherent};
 
-use crate::cell::{Cell, Outcome, RaceKind, same_bool};
+use crate::cell::{Cell, Outcome, RaceKind};
 use crate::locals::Locals;
 use crate::memory::Memory;
 use plc_auto::Event;
-use plc_base::{FieldId, FuncId, NoMemory};
+use plc_base::{FieldId, FuncId, NoMemory, same_bool};
 use plc_lang::{Arg, Prim, Var, compares};
 
 impl Memory {

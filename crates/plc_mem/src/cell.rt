@@ -3,10 +3,10 @@
 // of an address is counted.
 ghost use Rattle.std.specs.Prelude.{◌≡◌};
 ghost use Rattle.plc_mem.specs.State.{null_cell, fresh_cell, marked_cell, is_null, same_pointer};
-ghost use Rattle.plc_flow.specs.Points.{same_bool};
 ghost use Rattle.plc_mem.specs.Primitives.{access, comparison};
 
 use plc_auto::Event;
+use plc_base::same_bool;
 
 /// A pointer value, that is a number with a mark, and its validity; the number 0 is null, and null is
 /// valid, marked or not.
@@ -39,13 +39,6 @@ pub enum Outcome {
     Blocked,
     /// It is a race, and changed nothing.
     Race(RaceKind),
-}
-
-/// Whether both are so, or neither is.
-pub(crate) fn same_bool(a: bool, b: bool) -> bool
-    ensures { result ≡ same_bool a b }
-{
-    if a { b } else { !b }
 }
 
 impl Cell {

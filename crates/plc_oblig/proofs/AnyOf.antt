@@ -1,7 +1,7 @@
 -- Whether any obligation passes a test, part by part, and point by point in place of step by step.
-use Rattle.std.proofs.Common.{◌≡◌, ℕ, zero, suc, ◌+◌, ◌<◌, ◌≤◌, ◌||◌, Bool, true, false, List, [], ◌∷◌, ◌++◌, map, drop, length, get_or, slice_get, Some, None, refl, sym, ap, ◌∙◌, subst, arith}
+use Rattle.std.proofs.Common.{◌≡◌, ℕ, zero, suc, ◌+◌, ◌<◌, ◌≤◌, ◌||◌, Bool, true, false, List, [], ◌∷◌, ◌++◌, map, drop, length, get_or, slice_get, Some, refl, sym, ap, ◌∙◌, subst, arith}
 use Rattle.std.specs.List.{list_any}
-use Rattle.std.specs.Prelude.{All, Any, MatchBool, nat_lt}
+use Rattle.std.specs.Prelude.{All, MatchBool, nat_lt}
 use Rattle.std.proofs.lemmas.Bool.{ltb-true, ltb-false, both_ways}
 use Rattle.std.proofs.lemmas.List.Folds.{list_any-append, list_any_none, list_any_at, Any-from_list_any}
 use Rattle.std.proofs.lemmas.List.Elements.{All-map}
@@ -72,12 +72,13 @@ any_part P part k i xs items a b same lt is e =
     ∙ list_any-append P (part k a) (parts_from part (k + 1) (drop (i + 1) xs))
     ∙ ap (λ c. c || list_any P (parts_from part (k + 1) (drop (i + 1) xs))) (sym e)
 
--- nothing is left after all items
-pub none_left_any : {A X : Type 0} (P : X → Bool) (part : ℕ → A → List X) (k i : ℕ) (xs : List A) → length xs ≤ i → list_any P (parts_from part k (drop i xs)) ≡ false
-none_left_any P part k zero [] h = refl
-none_left_any P part k (suc i) [] h = refl
-none_left_any P part k zero (x ∷ xs) h = absurd (omega arith)
-none_left_any P part k (suc i) (x ∷ xs) h = none_left_any P part k i xs (omega arith)
+-- nothing is left after all items, so none passes
+pub none_passes : {A X : Type 0} (P : X → Bool) (part : ℕ → A → List X) (k i : ℕ) (xs : List A) (all : Bool)
+    → list_any P (parts_from part k (drop i xs)) ≡ all → length xs ≤ i → false ≡ all
+none_passes P part k zero [] all e h = e
+none_passes P part k (suc i) [] all e h = e
+none_passes P part k zero (x ∷ xs) all e h = absurd (omega arith)
+none_passes P part k (suc i) (x ∷ xs) all e h = none_passes P part k i xs all e (omega arith)
 
 -- ---- point by point
 

@@ -17,7 +17,7 @@ use Rattle.plc_logic.specs.declared.clause.Site.TheVariants.{Over, At}
 use Rattle.plc_logic.specs.Fit.{OutlineFits, ItemFits, SiteFits, InvariantFits}
 use Rattle.plc_setting.specs.declared.obligations.Obligation.{Obligation}
 use Rattle.plc_setting.specs.declared.obligations.Obligation.TheVariants.{Start, Enter, Own, Other, Claim}
-use Rattle.plc_setting.specs.Parts.{conclusion, entry_clauses, clauses_after, invariants_before}
+use Rattle.plc_setting.specs.Parts.{conclusion, entry_clauses, clauses_after}
 use Rattle.plc_setting.specs.Setting.{bound_of}
 use Rattle.plc_setting.specs.Points.{clauses_at, stands_at}
 
@@ -59,15 +59,6 @@ small_conclusion flow outline (Own s k) c f is = found_in Small _ k c is
     (All-append Small outline.invariants (clauses_after flow outline (slice_get flow.steps s.0)) (small_invariants flow.file outline f) (small_after flow outline (slice_get flow.steps s.0) f))
 small_conclusion flow outline (Other s p k) c f is = found_in Small (clauses_at flow outline p.0) k c is (small_at_point flow outline p.0 f)
 small_conclusion flow outline (Claim s j) c f is = absurd (none-some c is)
-
--- ---- primitives
-
-pub short_before : (outline : Outline) (o : Obligation) → length outline.invariants ≤ most limits.Invariants → length (invariants_before outline o) ≤ most limits.Invariants
-short_before outline (Start i) e = omega arith
-short_before outline (Enter o c) e = omega arith
-short_before outline (Own k c) e = omega arith
-short_before outline (Other k p c) e = omega arith
-short_before outline (Claim k j) e = omega arith
 
 -- ---- names
 

@@ -21,9 +21,11 @@ use Rattle.plc_setting.specs.declared.obligations.Obligation.TheVariants.{Start,
 use Rattle.plc_setting.specs.Parts.{acting_locals}
 use Rattle.plc_setting.specs.Setting.{variables_of, targets_of, pointer_fields_from}
 use Rattle.plc_symbolic.specs.Terms.{Clauses, null}
-use Rattle.plc_items.specs.Items.{values_from, field_values, one_of_values, start_clauses, enter_clauses, freshness, field_defaults_from, ghost_defaults_from, no_field_leads, if_fresh, is_other, beginning}
+use Rattle.plc_items.specs.Items.{values_from, field_values, one_of_values, only_if, field_marks, mark_values}
+use Rattle.plc_items.specs.Items.{start_clauses, enter_clauses, beginning, is_other, no_field_leads}
+use Rattle.plc_items.specs.Items.{field_defaults_from, ghost_defaults_from, unretired, freshness}
 use Rattle.plc_lang.specs.Fields.{is_pointer_field}
-use Rattle.plc_oblig.specs.Size.{has_values}
+use Rattle.plc_oblig.specs.Size.{has_values, if_marked}
 
 -- ---- lists
 
@@ -103,21 +105,42 @@ values_tally g first (h ∷ hs) ts =
 pub values_length : (hs : List Ghost) (ts : List NodeTerm) → length (values_from 0 0 hs ts) ≡ count_by has_values hs * length ts
 values_length hs ts = values_tally 0 0 hs ts ∙ ap (λ n. n * length ts) (tallied has_values hs)
 
-pub start_length : (shared : ℕ) (s : Setting) → length (start_clauses shared s) ≡ shared + s.bound
-start_length shared s = both _ _ shared s.bound (length-map-range_with_len _ 0 shared) (length-map-range_with_len _ 0 s.bound)
+-- what is said of marks
+only_length : (marked : Bool) (cs : Clauses) (n : ℕ) → length cs ≡ n → length (only_if marked cs) ≡ if_marked marked n
+only_length true cs n e = e
+only_length false cs n e = refl
 
-pub enter_length : (ls : List Local) (s : Setting) → length (enter_clauses ls s) ≡ length s.mine.pointers + count_by is_other_data ls
-enter_length ls s = both _ _ (length s.mine.pointers) (count_by is_other_data ls)
-    (length-map s.mine.pointers _) (length-map (places_from is_other_data 0 ls) _ ∙ places_length is_other_data 0 ls)
+pub mark_values_length : (s : Setting)
+    → length (mark_values s) ≡ if_marked s.marked (length s.marks + length s.fields * length s.nodes)
+mark_values_length s = only_length s.marked _ _
+    (both _ (flat_map (field_marks s.nodes) s.fields) (length s.marks) _ (length-map s.marks _)
+    (each_length (field_marks s.nodes) (length s.nodes) (λ f. length-map s.nodes _) s.fields))
 
-pub start_beginning : (flow : Flow) (s : Setting) (o : Obligation) (i : ℕ) → o ≡ Start i → length (beginning flow s o) ≡ length flow.file.shared + s.bound
-start_beginning flow s o i is = ap (λ x. length (beginning flow s x)) is ∙ start_length (length flow.file.shared) s
+pub start_length : (shared : ℕ) (s : Setting)
+    → length (start_clauses shared s) ≡ shared + (s.bound + if_marked s.marked shared)
+start_length shared s = both _ _ shared _ (length-map-range_with_len _ 0 shared)
+    (both _ _ s.bound _ (length-map-range_with_len _ 0 s.bound)
+    (only_length s.marked _ shared (length-map-range_with_len _ 0 shared)))
 
-pub enter_beginning : (flow : Flow) (s : Setting) (o : Obligation) (p : OpId) (k : ℕ) → o ≡ Enter p k →
-    length (beginning flow s o) ≡ length s.mine.pointers + count_by is_other_data (acting_locals flow o)
+pub enter_length : (ls : List Local) (s : Setting) → length (enter_clauses ls s)
+    ≡ length s.mine.pointers + (count_by is_other_data ls + if_marked s.marked (length s.mine.pointers))
+enter_length ls s = both _ _ (length s.mine.pointers) _ (length-map s.mine.pointers _)
+    (both _ _ (count_by is_other_data ls) _
+    (length-map (places_from is_other_data 0 ls) _ ∙ places_length is_other_data 0 ls)
+    (only_length s.marked _ (length s.mine.pointers) (length-map s.mine.pointers _)))
+
+pub start_beginning : (flow : Flow) (s : Setting) (o : Obligation) (i : ℕ) → o ≡ Start i → length (beginning flow s o)
+    ≡ length flow.file.shared + (s.bound + if_marked s.marked (length flow.file.shared))
+start_beginning flow s o i is =
+    ap (λ x. length (beginning flow s x)) is ∙ start_length (length flow.file.shared) s
+
+pub enter_beginning : (flow : Flow) (s : Setting) (o : Obligation) (p : OpId) (k : ℕ) → o ≡ Enter p k
+    → length (beginning flow s o) ≡ length s.mine.pointers
+    + (count_by is_other_data (acting_locals flow o) + if_marked s.marked (length s.mine.pointers))
 enter_beginning flow s o p k is =
     ap (λ x. length (beginning flow s x)) is ∙ enter_length (acting_locals flow (Enter p k)) s
-    ∙ ap (λ x. length s.mine.pointers + count_by is_other_data (acting_locals flow x)) (sym is)
+    ∙ ap (λ x. length s.mine.pointers
+    + (count_by is_other_data (acting_locals flow x) + if_marked s.marked (length s.mine.pointers))) (sym is)
 
 field_defaults_length : (k : ℕ) (fs : List Field) → length (field_defaults_from k fs) ≡ length fs
 field_defaults_length k [] = refl
@@ -130,20 +153,22 @@ ghost_defaults_length g first (h ∷ hs) = ap suc (ghost_defaults_length (g + 1)
 leads_length : (fs : List FieldId) (ts : List NodeTerm) → length (flat_map (no_field_leads fs) ts) ≡ length ts * length fs
 leads_length fs ts = each_length (no_field_leads fs) (length fs) (λ t. length-map fs _) ts
 
-if_made : (b : Bool) (cs : Clauses) (n : ℕ) → b ≡ true → length cs ≡ n → length (if_fresh b cs) ≡ n
-if_made b cs n is e = ap (λ x. length (if_fresh x cs)) is ∙ e
+if_made : (b : Bool) (cs : Clauses) (n : ℕ) → b ≡ true → length cs ≡ n → length (only_if b cs) ≡ n
+if_made b cs n is e = ap (λ x. length (only_if x cs)) is ∙ e
 
 -- where a node is made
 pub made_length : (file : File) (s : Setting) → s.makes ≡ true →
-    length (freshness file s) ≡ 1 + (length s.pointers + (length s.nodes * length s.fields + (length file.fields + (length file.ghosts + 1))))
+    length (freshness file s) ≡ 1 + (length s.pointers + (length s.nodes * length s.fields
+    + (length file.fields + (length file.ghosts + (1 + if_marked s.marked (length s.fields))))))
 made_length file s makes = if_made s.makes _ _ makes
     (one_more (is_other null) _ _ (both _ _ _ _ (length-map s.pointers _)
     (both _ _ _ _ (leads_length s.fields s.nodes)
     (both _ _ _ _ (field_defaults_length 0 file.fields)
-    (both _ _ _ 1 (ghost_defaults_length 0 0 file.ghosts) refl)))))
+    (both _ _ _ _ (ghost_defaults_length 0 0 file.ghosts)
+    (both unretired _ 1 _ refl (only_length s.marked _ _ (length-map s.fields _))))))))
 
-if_unmade : (b : Bool) (cs : Clauses) → b ≡ false → length (if_fresh b cs) ≡ 0
-if_unmade b cs is = ap (λ x. length (if_fresh x cs)) is
+if_unmade : (b : Bool) (cs : Clauses) → b ≡ false → length (only_if b cs) ≡ 0
+if_unmade b cs is = ap (λ x. length (only_if x cs)) is
 
 -- where none is
 pub none_length : (file : File) (s : Setting) → s.makes ≡ false → length (freshness file s) ≡ 0

@@ -1,6 +1,6 @@
 -- Obligations that are alike have one ground set: of the other thread's point it has the locals of its operation and
 -- the clauses there, and nothing else.
-use Rattle.std.specs.Prelude.{◌≡◌, ◌==◌, Contains, ℕ, Bool, true, false, not, cond, List, [], ◌∷◌, map, filter, slice_get}
+use Rattle.std.specs.Prelude.{◌≡◌, ◌==◌, Contains, ℕ, Bool, true, not, cond, List, [], ◌∷◌, map, filter, slice_get}
 use Rattle.std.specs.List.{list_all, position_or_len}
 use Rattle.std.proofs.Common.{refl, sym, ap, ◌∙◌, subst, ◌+◌, inl, inr, ◌⊎◌}
 use Rattle.std.proofs.lemmas.Bool.{eqb-true, and_parts, false≢true}
@@ -11,7 +11,7 @@ use Rattle.plc_flow.specs.declared.flow.Flow.{Flow}
 use Rattle.plc_logic.specs.declared.clause.Item.{Item}
 use Rattle.plc_logic.specs.declared.clause.Outline.{Outline}
 use Rattle.plc_ground.specs.declared.terms.GroundSet.{GroundSet}
-use Rattle.plc_ground.specs.declared.terms.Symbol.TheVariants.{Null, Shared, Mine, Theirs, New, Bound, Loaded, Yes, Nobody, Me, You, Value, Number}
+use Rattle.plc_ground.specs.declared.terms.Symbol.TheVariants.{Theirs}
 use Rattle.plc_symbolic.specs.declared.symbolic.SymbolicTerm.{SymbolicTerm}
 use Rattle.plc_symbolic.specs.declared.symbolic.SymbolicTerm.TheVariants.{Constant, Application}
 use Rattle.plc_symbolic.specs.Numbering.{Drafted, blank, listed_all, written_all, numbered}
@@ -21,35 +21,31 @@ use Rattle.plc_setting.specs.declared.obligations.Obligation.{Obligation}
 use Rattle.plc_setting.specs.declared.obligations.Obligation.TheVariants.{Start, Enter, Own, Other, Claim}
 use Rattle.plc_setting.specs.Parts.{has_point, point_locals}
 use Rattle.plc_setting.specs.Points.{stands_at, clauses_at}
+use Rattle.plc_base.specs.Booleans.{same_bool}
+use Rattle.plc_base.proofs.Booleans.{same_if}
 use Rattle.plc_setting.specs.Setting.{setting_of}
 use Rattle.plc_setting.specs.Sorts.{sort_of, local_sort}
 use Rattle.plc_items.specs.Items.{clauses_of}
 use Rattle.plc_oblig.specs.GroundSets.{ground_set, drafted, listed_first}
-use Rattle.plc_oblig.specs.Alike.{agree, share_gate, share_item, are_points_alike, are_alike}
+use Rattle.plc_oblig.specs.Alike.{share_gate, share_item, are_points_alike, are_alike}
 
-agree_same : (a b : Bool) → agree a b ≡ true → a ≡ b
-agree_same true true h = refl
-agree_same true false h = sym h
-agree_same false true h = h
-agree_same false false h = refl
-
--- tests that agree on each element find the same place, and leave the same
-same_place : {A : Type 0} (f g : A → Bool) (xs : List A) → list_all (λ x. agree (f x) (g x)) xs ≡ true
+-- tests that answer alike on each element find the same place, and leave the same
+same_place : {A : Type 0} (f g : A → Bool) (xs : List A) → list_all (λ x. same_bool (f x) (g x)) xs ≡ true
     → position_or_len f xs ≡ position_or_len g xs
 same_place f g [] h = refl
 same_place f g (x ∷ xs) h =
-    let p = and_parts (agree (f x) (g x)) _ h in
-    go (f x) (g x) (agree_same (f x) (g x) p.0) (same_place f g xs p.1)
+    let p = and_parts (same_bool (f x) (g x)) _ h in
+    go (f x) (g x) (same_if (f x) (g x) p.0) (same_place f g xs p.1)
   where
     go : (a b : Bool) {m n : ℕ} → a ≡ b → m ≡ n → cond (not a) (1 + m) 0 ≡ cond (not b) (1 + n) 0
     go a b e h = cc
 
-same_left : {A : Type 0} (f g : A → Bool) (xs : List A) → list_all (λ x. agree (f x) (g x)) xs ≡ true
+same_left : {A : Type 0} (f g : A → Bool) (xs : List A) → list_all (λ x. same_bool (f x) (g x)) xs ≡ true
     → filter f xs ≡ filter g xs
 same_left f g [] h = refl
 same_left f g (x ∷ xs) h =
-    let p = and_parts (agree (f x) (g x)) _ h in
-    let e = agree_same (f x) (g x) p.0 in
+    let p = and_parts (same_bool (f x) (g x)) _ h in
+    let e = same_if (f x) (g x) p.0 in
     let r = same_left f g xs p.1 in
     cc
 
@@ -67,20 +63,9 @@ same_clauses flow outline p q h =
 -- the sort of each term is the same where the owner's locals are
 same_sort : (flow : Flow) (k : StepId) (c : ℕ) (p q : PointId) (acts : List Act) → point_locals flow p.0 ≡ point_locals flow q.0
     → (t : SymbolicTerm) → sort_of flow (Other k p c) acts t ≡ sort_of flow (Other k q c) acts t
-same_sort flow k c p q acts e (Application m v n) = refl
 same_sort flow k c p q acts e (Constant (Theirs i)) = ap (λ (ls : List Local). local_sort (slice_get ls i)) e
-same_sort flow k c p q acts e (Constant Null) = refl
-same_sort flow k c p q acts e (Constant (Shared i)) = refl
-same_sort flow k c p q acts e (Constant (Mine i)) = refl
-same_sort flow k c p q acts e (Constant New) = refl
-same_sort flow k c p q acts e (Constant (Bound i)) = refl
-same_sort flow k c p q acts e (Constant (Loaded i)) = refl
-same_sort flow k c p q acts e (Constant Yes) = refl
-same_sort flow k c p q acts e (Constant Nobody) = refl
-same_sort flow k c p q acts e (Constant Me) = refl
-same_sort flow k c p q acts e (Constant You) = refl
-same_sort flow k c p q acts e (Constant (Value i)) = refl
-same_sort flow k c p q acts e (Constant (Number i)) = refl
+same_sort flow k c p q acts e (Constant _) = refl
+same_sort flow k c p q acts e (Application m v n) = refl
 
 same_map : {A B : Type 0} (f g : A → B) → ((x : A) → f x ≡ g x) → (xs : List A) → map f xs ≡ map g xs
 same_map f g same [] = refl

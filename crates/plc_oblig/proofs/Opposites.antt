@@ -21,7 +21,7 @@ use Rattle.plc_logic.specs.declared.clause.Term.{Term}
 use Rattle.plc_logic.specs.declared.clause.Term.TheVariants as terms
 use Rattle.plc_logic.specs.declared.clause.Sort.{Sort}
 use Rattle.plc_logic.specs.declared.clause.Outline.{Outline}
-use Rattle.plc_logic.specs.Fit.{InReach, IsNode, HasSort, LiteralFits, InvariantFits, in_reach_of}
+use Rattle.plc_logic.specs.Fit.{InReach, IsNode, HasSort, HoldsPointer, LiteralFits, InvariantFits, in_reach_of}
 use Rattle.plc_logic.specs.Negation.{negation}
 use Rattle.plc_ground.specs.declared.terms.Symbol.TheVariants as symbols
 use Rattle.plc_ground.specs.declared.terms.Lit.{Lit}
@@ -38,7 +38,7 @@ use Rattle.plc_setting.specs.Marks.{program_uses_marks}
 use Rattle.plc_setting.specs.Setting.{below, setting_of, bound_of, pointer_loads_from}
 use Rattle.plc_items.specs.declared.execution.Execution.{Execution}
 use Rattle.plc_items.specs.Execution.{start, after_all, executed_clauses}
-use Rattle.plc_items.specs.Items.{values_from, beginning, freshness, premises, denied, denied_clause, denied_claim, clauses_of, escapes, instance_at, tuples, instances, bound_nodes, read_literal}
+use Rattle.plc_items.specs.Items.{values_from, mark_values, beginning, freshness, premises, denied, denied_clause, denied_claim, clauses_of, escapes, instance_at, tuples, instances, bound_nodes, read_literal}
 use Rattle.plc_symbolic.specs.declared.symbolic.NodeTerm.{NodeTerm}
 use Rattle.plc_symbolic.specs.declared.symbolic.NodeTerm.TheVariants.{At}
 use Rattle.plc_symbolic.specs.declared.symbolic.SymbolicTerm.{SymbolicTerm}
@@ -55,7 +55,8 @@ use Rattle.plc_oblig.proofs.Places.{there}
 use Rattle.plc_oblig.specs.Outlines.{IsKept}
 use Rattle.plc_oblig.specs.Direct.{opposite, opposites, IsRefuted, IsRefutedByLast, IsPremise, denied_count, instance_before}
 use Rattle.plc_oblig.proofs.Members.{at_head, in_tail, at_place, contains_map, contains_flat_map, Within, within_left, within_right, within_itself, within_map, map_read}
-use Rattle.plc_oblig.proofs.Staying.{Stays, start_stays, stays_after_all, none_new, BaseStays, TermStays, LiteralStays, literal_stays}
+use Rattle.plc_oblig.proofs.Staying.{Stays, stays_after_all, none_new, BaseStays, TermStays, LiteralStays}
+use Rattle.plc_oblig.proofs.Staying.{literal_stays}
 
 -- ---- a set that ends with the opposites of an earlier clause has no model
 
@@ -100,6 +101,7 @@ opposed_read : (ghosts : List AuxiliaryField) (x : Execution) (owner : Bool) (na
     → read_literal ghosts x owner names (negation l) ≡ opposed (read_literal ghosts x owner names l)
 opposed_read ghosts x owner names (literal.Same a b is_so) = refl
 opposed_read ghosts x owner names (literal.Retired b is_so) = refl
+opposed_read ghosts x owner names (literal.Marked t is_so) = refl
 
 escapes_denied : (js : List ℕ) → map alone (flat_map (escapes false) (map (λ i. At (symbols.Bound i)) js)) ≡ map (λ i. is_not (Constant (symbols.Bound i)) null ∷ []) js
 escapes_denied [] = refl
@@ -188,10 +190,9 @@ ends_refuted sorts d before i is there =
       read,
     )
 
-regroup : {A : Type 0} (a b c d e f : List A) → a ++ (b ++ (c ++ (d ++ (e ++ f)))) ≡ (a ++ (b ++ (c ++ (d ++ e)))) ++ f
-regroup a b c d e f =
-    sym (append_assoc a (b ++ (c ++ (d ++ e))) f ∙ ap (λ x. a ++ x) (append_assoc b (c ++ (d ++ e)) f
-    ∙ ap (λ x. b ++ x) (append_assoc c (d ++ e) f ∙ ap (λ x. c ++ x) (append_assoc d e f))))
+regroup : {A : Type 0} (a b c d e f g : List A)
+    → a ++ (b ++ (c ++ (d ++ (e ++ (f ++ g))))) ≡ (a ++ (b ++ (c ++ (d ++ (e ++ f))))) ++ g
+regroup a b c d e f g = sym (simp append_assoc)
 
 module _ (flow : Flow) (outline : Outline) (o : Obligation) where
   -- what stands before the negated conclusion
@@ -199,20 +200,24 @@ module _ (flow : Flow) (outline : Outline) (o : Obligation) where
   earlier_clauses =
       let s = setting_of flow outline o in
       values_from 0 0 flow.file.ghosts s.nodes
-      ++ (beginning flow s o ++ (freshness flow.file s ++ (premises flow outline s o ++ executed_clauses s.nodes start s.acts)))
+      ++ (mark_values s
+      ++ (beginning flow s o
+      ++ (freshness flow.file s ++ (premises flow outline s o ++ executed_clauses s.nodes start s.acts))))
 
   premise_held : (c : List SymbolicLit) → Contains (premises flow outline (setting_of flow outline o) o) c → Contains earlier_clauses c
   premise_held c h =
       let s = setting_of flow outline o in
-      Contains-append_right (values_from 0 0 flow.file.ghosts s.nodes) _ c (Contains-append_right (beginning flow s o) _ c (Contains-append_right (freshness flow.file s) _ c
-      (Contains-append_left (premises flow outline s o) _ c h)))
+      Contains-append_right (values_from 0 0 flow.file.ghosts s.nodes) _ c (Contains-append_right (mark_values s) _ c
+      (Contains-append_right (beginning flow s o) _ c (Contains-append_right (freshness flow.file s) _ c
+      (Contains-append_left (premises flow outline s o) _ c h))))
 
   clauses_end : clauses_of flow outline (setting_of flow outline o) o
       ≡ earlier_clauses ++ denied flow outline (setting_of flow outline o) (after_all start (setting_of flow outline o).acts) o
   unfolding clauses_of
   clauses_end =
       let s = setting_of flow outline o in
-      regroup (values_from 0 0 flow.file.ghosts s.nodes) (beginning flow s o) (freshness flow.file s) (premises flow outline s o) (executed_clauses s.nodes start s.acts)
+      regroup (values_from 0 0 flow.file.ghosts s.nodes) (mark_values s) (beginning flow s o) (freshness flow.file s)
+      (premises flow outline s o) (executed_clauses s.nodes start s.acts)
       (denied flow outline s (after_all start s.acts) o)
 
   clauses_are : (drafted flow outline (setting_of flow outline o) o).clauses ≡ clauses_of flow outline (setting_of flow outline o) o
@@ -233,8 +238,8 @@ module _ (flow : Flow) (outline : Outline) (o : Obligation) where
       let s = setting_of flow outline o in
       let d = drafted flow outline s o in
       let x = after_all start s.acts in
-      let stays = stays_after_all (program_uses_marks flow outline) flow.file.ghosts (acting_locals flow o) start
-      (executed flow o) quiet start_stays in
+      let stays = stays_after_all flow.file.ghosts (acting_locals flow o) (program_uses_marks flow outline)
+      (executed flow o) quiet in
       let at : Bool → List SymbolicLit = λ b. instance_at flow.file.ghosts b (has_owner o) c.literals (bound_nodes (length c.bound.names)) in
       let i = instance_at flow.file.ghosts false (has_owner o) c.literals (bound_nodes (length c.bound.names)) in
       let made = none_new (executed flow o) quiet in
@@ -275,9 +280,22 @@ sort_stays w none (terms.Value g v) s h = tt
 sort_stays w none terms.Me s h = tt
 sort_stays w none terms.Nobody s h = tt
 
+pointer_stays : (w : InReach) → w.locals ≡ [] → (t : Term) → HoldsPointer w t → TermStays false t
+pointer_stays w none (terms.Shared i) h = tt
+pointer_stays w none (terms.Local k) h = (let e = ap (λ ls. slice_get ls k) (sym none) ∙ h.1 in cc)
+pointer_stays w none (terms.Bound i) h = tt
+pointer_stays w none (terms.FieldOf b f) h = node_stays w none b h.0
+pointer_stays w none (terms.GhostOf b g) h = absurd h
+pointer_stays w none terms.Null h = tt
+pointer_stays w none (terms.Number n) h = tt
+pointer_stays w none (terms.Value g v) h = tt
+pointer_stays w none terms.Me h = tt
+pointer_stays w none terms.Nobody h = tt
+
 fit_stays : (w : InReach) → w.locals ≡ [] → (l : Literal) → LiteralFits w l → LiteralStays false l
 fit_stays w none (literal.Same a b is_so) h = (sort_stays w none a h.0 h.1, sort_stays w none b h.0 h.2)
 fit_stays w none (literal.Retired b is_so) h = node_stays w none b h
+fit_stays w none (literal.Marked t is_so) h = pointer_stays w none t h
 
 owner_base : (b : Base) → BaseStays true b
 owner_base (bases.Shared i) = tt
@@ -299,6 +317,7 @@ owner_term terms.Nobody = tt
 owner_literal : (l : Literal) → LiteralStays true l
 owner_literal (literal.Same a b is_so) = (owner_term a, owner_term b)
 owner_literal (literal.Retired b is_so) = owner_base b
+owner_literal (literal.Marked t is_so) = owner_term t
 
 -- ---- each obligation at a point of another thread has its clause
 

@@ -1,5 +1,5 @@
 -- The two sides of each literal of a ground set have one sort, item by item.
-use Rattle.std.proofs.Common.{◌≡◌, ℕ, zero, suc, ◌+◌, Bool, true, false, not, ◌&&◌, ◌==◌, unwrap_or, List, [], ◌∷◌, ◌++◌, length, map, slice_get, Option, Some, None, refl, sym, ap, ◌∙◌, arith}
+use Rattle.std.proofs.Common.{◌≡◌, ℕ, zero, suc, ◌+◌, Bool, true, false, not, ◌&&◌, ◌==◌, unwrap_or, List, [], ◌∷◌, ◌++◌, length, map, slice_get, Option, Some, None, refl, sym, ap, ◌∙◌, subst, arith, append_assoc}
 use Rattle.std.specs.Prelude.{if◌then◌else◌, flat_map, slice_index_or}
 use Rattle.std.specs.List.{range_with_len}
 use Rattle.std.proofs.lemmas.Bool.{eqb-true, eqb-false}
@@ -36,11 +36,11 @@ use Rattle.plc_symbolic.specs.declared.symbolic.SymbolicLit.{SymbolicLit}
 use Rattle.plc_ground.specs.Symbols.{same_symbol}
 use Rattle.plc_symbolic.specs.Terms.{Clauses, term_of, is, is_not, null}
 use Rattle.plc_setting.specs.declared.acts.Act.{Act}
-use Rattle.plc_setting.specs.declared.acts.Act.TheVariants.{Assign, Make, Fetch, Update, Test, Skip}
+use Rattle.plc_setting.specs.declared.acts.Act.TheVariants.{Assign, Make, Fetch, FetchMarked, Update, Test, Differ, Skip}
 use Rattle.plc_setting.specs.declared.obligations.Obligation.{Obligation}
 use Rattle.plc_setting.specs.declared.obligations.Obligation.TheVariants.{Start, Enter, Own, Other, Claim}
 use Rattle.plc_setting.specs.declared.setting.Setting.{Setting}
-use Rattle.plc_setting.specs.Acts.{pointer_symbol}
+use Rattle.plc_setting.specs.Acts.{pointer_symbol, mark_of}
 use Rattle.plc_setting.specs.Parts.{acting_locals}
 use Rattle.plc_setting.specs.Setting.{below, local_symbol}
 use Rattle.plc_setting.specs.Sorts.{field_sort, auxiliary_sort, local_sort, load_sort, loads_of, value_sort, map_sort, symbol_sort, sort_of}
@@ -48,14 +48,31 @@ use Rattle.plc_setting.specs.WellSorted.{ActFits, NodesFit}
 use Rattle.plc_setting.proofs.ActSorts.{kind_at_place}
 use Rattle.plc_items.specs.declared.execution.Execution.{Execution}
 use Rattle.plc_items.specs.Execution.{start, current, version, held, after, after_all, not_null, update_at, if_checked, test_lit, act_clauses, executed_clauses}
-use Rattle.plc_items.specs.Items.{one_of_values, field_values, values_from, equals, only_new, start_clauses, enter_clauses, beginning, is_other, field_default, field_defaults_from, ghost_default, ghost_defaults_from, no_field_leads, unretired, default_is, if_fresh, freshness, me, read_term, read_literal, escapes, instance_at, tuples, instances, bound_nodes, denied_clause, denied_claim}
+use Rattle.plc_items.specs.Items.{one_of_values, field_values, values_from, set_or_not, field_marks, mark_values}
+use Rattle.plc_items.specs.Items.{only_if, equals, unmarked, only_new, start_clauses, enter_clauses, beginning, is_other}
+use Rattle.plc_items.specs.Items.{field_default, field_defaults_from, ghost_default, ghost_defaults_from, no_field_leads}
+use Rattle.plc_items.specs.Items.{unretired, default_is, unmarked_field, freshness, me, read_term, read_mark, read_literal}
+use Rattle.plc_items.specs.Items.{escapes, instance_at, tuples, instances, bound_nodes, denied_clause, denied_claim}
 use Rattle.plc_ground.proofs.Symbols.{same_symbol_true}
 use Rattle.plc_oblig.proofs.Lists.{each_flat, each_map, each_all, each_from, each_place, each_of_all}
 use Rattle.plc_oblig.proofs.ValueSorts.{NumberedFrom, numbered_next, value_is_of}
 
--- a variable was given a constant
-pub current_given : (x : Execution) (p c s : Symbol) (loads : ℕ) → current (record { assigned = x.assigned ++ (p, c) ∷ []; written = x.written; loads = loads }) s ≡ (if same_symbol p s then c else current x s)
-current_given x p c s loads = fold_push (λ (now : Symbol) (a : Symbol × Symbol). if same_symbol a.0 s then a.1 else now) s x.assigned (p, c)
+-- the execution with one assignment more, and so many reads
+abbrev pub given : Execution → Symbol → Symbol → ℕ → Execution
+given x p c loads = record { assigned = x.assigned ++ (p, c) ∷ []; written = x.written; loads = loads }
+
+-- the variable has its new constant, and every other its old one
+pub current_given : (x : Execution) (p c s : Symbol) (loads : ℕ)
+    → current (given x p c loads) s ≡ (if same_symbol p s then c else current x s)
+current_given x p c s loads =
+    fold_push (λ (now : Symbol) (a : Symbol × Symbol). if same_symbol a.0 s then a.1 else now) s x.assigned (p, c)
+
+-- a pointer that is read with its mark is two assignments, of the mark first
+pub marked_fetch : (x : Execution) (p q : Symbol) (f : FieldId) → after x (FetchMarked p q f)
+    ≡ given (given x (mark_of p) (symbols.MarkLoaded x.loads) x.loads) p (symbols.Loaded x.loads) (x.loads + 1)
+marked_fetch x p q f =
+    ap (λ list. record { assigned = list; written = x.written; loads = x.loads + 1 })
+    (sym (append_assoc x.assigned ((mark_of p, symbols.MarkLoaded x.loads) ∷ []) ((p, symbols.Loaded x.loads) ∷ [])))
 
 module _ (flow : Flow) (o : Obligation) (s : Setting) (fit : NodesFit flow o s) where
   abbrev sort : Symbol → Sort
@@ -99,6 +116,31 @@ module _ (flow : Flow) (o : Obligation) (s : Setting) (fit : NodesFit flow o s) 
   pub all_values_sorted : (ts : List NodeTerm) → AreSorted (values_from 0 0 flow.file.ghosts ts)
   all_values_sorted ts = values_sorted 0 0 flow.file.ghosts (λ j d at. ap (slice_get flow.file.ghosts) (let same : 0 + j ≡ j = omega arith in same) ∙ at) refl ts
 
+  -- ---- marks
+
+  -- what is said of marks alone
+  only_sorted : (b : Bool) (cs : Clauses) → AreSorted cs → AreSorted (only_if b cs)
+  only_sorted true cs h = h
+  only_sorted false cs h = tt
+
+  mark_is_truth : (c : Symbol) → sort (mark_of c) ≡ sorts.Truth
+  mark_is_truth (symbols.Shared i) = refl
+  mark_is_truth _ = refl
+
+  unmarked_sorted : (ps : List Symbol) → AreSorted (map unmarked ps)
+  unmarked_sorted ps =
+      each_map IsSorted unmarked ps (each_all (λ p. IsSorted (unmarked p)) (λ p. (mark_is_truth p, tt)) ps)
+
+  pub mark_values_sorted : AreSorted (mark_values s)
+  mark_values_sorted = only_sorted s.marked _
+      (each_both IsSorted (map (λ m. set_or_not (Constant m)) s.marks) (flat_map (field_marks s.nodes) s.fields)
+      (each_map IsSorted (λ m. set_or_not (Constant m)) s.marks
+      (each_so (λ m. sort m ≡ sorts.Truth) (λ m. IsSorted (set_or_not (Constant m))) (λ m h. (h, (h, tt))) s.marks
+      (each_of_all (λ m. sort m ≡ sorts.Truth) s.marks fit.marks)))
+      (each_flat IsSorted (field_marks s.nodes) s.fields
+      (each_all (λ f. AreSorted (field_marks s.nodes f)) (λ f. each_map IsSorted (λ t. set_or_not (Application (maps.FieldMark f) 0 t)) s.nodes
+      (each_all (λ t. IsSorted (set_or_not (Application (maps.FieldMark f) 0 t))) (λ t. (refl, (refl, tt))) s.nodes)) s.fields)))
+
   -- ---- the beginning
 
   only_new_sorted : (makes : Bool) (i : ℕ) → IsSorted (only_new makes (symbols.Bound i))
@@ -107,9 +149,14 @@ module _ (flow : Flow) (o : Obligation) (s : Setting) (fit : NodesFit flow o s) 
 
   start_sorted : (shared : ℕ) → AreSorted (start_clauses shared s)
   start_sorted shared =
-      each_both IsSorted (map (λ i. equals (symbols.Shared i) symbols.Null) (below shared)) (map (λ i. only_new s.makes (symbols.Bound i)) (below s.bound))
-      (each_map IsSorted (λ i. equals (symbols.Shared i) symbols.Null) (below shared) (each_all (λ i. IsSorted (equals (symbols.Shared i) symbols.Null)) (λ i. (refl, tt)) (below shared)))
-      (each_map IsSorted (λ i. only_new s.makes (symbols.Bound i)) (below s.bound) (each_all (λ i. IsSorted (only_new s.makes (symbols.Bound i))) (only_new_sorted s.makes) (below s.bound)))
+      each_both IsSorted (map (λ i. equals (symbols.Shared i) symbols.Null) (below shared)) _
+      (each_map IsSorted (λ i. equals (symbols.Shared i) symbols.Null) (below shared)
+      (each_all (λ i. IsSorted (equals (symbols.Shared i) symbols.Null)) (λ i. (refl, tt)) (below shared)))
+      (each_both IsSorted (map (λ i. only_new s.makes (symbols.Bound i)) (below s.bound)) _
+      (each_map IsSorted (λ i. only_new s.makes (symbols.Bound i)) (below s.bound)
+      (each_all (λ i. IsSorted (only_new s.makes (symbols.Bound i))) (only_new_sorted s.makes) (below s.bound)))
+      (only_sorted s.marked _ (each_map IsSorted (λ i. unmarked (symbols.Shared i)) (below shared)
+      (each_all (λ i. IsSorted (unmarked (symbols.Shared i))) (λ i. (refl, tt)) (below shared)))))
 
   data_is_number : (p q : Bool) → (not p && not q) ≡ true → pointer_sort p ≡ sorts.Number
   data_is_number true q h = cc
@@ -123,11 +170,15 @@ module _ (flow : Flow) (o : Obligation) (s : Setting) (fit : NodesFit flow o s) 
 
   enter_sorted : (ls : List Local) → acting_locals flow o ≡ ls → AreSorted (enter_clauses ls s)
   enter_sorted ls same =
-      each_both IsSorted (map (λ p. equals p symbols.Null) s.mine.pointers) (map (λ k. equals (symbols.Mine k) (symbols.Number 0)) (places_from is_other_data 0 ls))
+      each_both IsSorted (map (λ p. equals p symbols.Null) s.mine.pointers) _
       (each_map IsSorted (λ p. equals p symbols.Null) s.mine.pointers
-      (each_so (λ p. sort p ≡ sorts.Node) (λ p. IsSorted (equals p symbols.Null)) (λ p h. (h, tt)) s.mine.pointers (each_of_all (λ p. sort p ≡ sorts.Node) s.mine.pointers fit.mine.pointers)))
+      (each_so (λ p. sort p ≡ sorts.Node) (λ p. IsSorted (equals p symbols.Null)) (λ p h. (h, tt)) s.mine.pointers
+      (each_of_all (λ p. sort p ≡ sorts.Node) s.mine.pointers fit.mine.pointers)))
+      (each_both IsSorted (map (λ k. equals (symbols.Mine k) (symbols.Number 0)) (places_from is_other_data 0 ls)) _
       (each_map IsSorted (λ k. equals (symbols.Mine k) (symbols.Number 0)) (places_from is_other_data 0 ls)
-      (each_place (λ k. IsSorted (equals (symbols.Mine k) (symbols.Number 0))) (places_from is_other_data 0 ls) (zero_sorted ls same)))
+      (each_place (λ k. IsSorted (equals (symbols.Mine k) (symbols.Number 0))) (places_from is_other_data 0 ls)
+      (zero_sorted ls same)))
+      (only_sorted s.marked _ (unmarked_sorted s.mine.pointers)))
 
   pub beginning_sorted : (q : Obligation) → acting_locals flow o ≡ acting_locals flow q → AreSorted (beginning flow s q)
   beginning_sorted (Start i) same = start_sorted (length flow.file.shared)
@@ -181,17 +232,20 @@ module _ (flow : Flow) (o : Obligation) (s : Setting) (fit : NodesFit flow o s) 
       (each_so (λ f. map_sort flow.file (maps.Field f) ≡ sorts.Node) (λ f. IsSorted (is_other (Application (maps.Field f) 0 t))) (λ f h. (sym h, tt)) s.fields
       (each_of_all (λ f. map_sort flow.file (maps.Field f) ≡ sorts.Node) s.fields fit.fields))) ts)
 
-  if_fresh_sorted : (b : Bool) (cs : Clauses) → AreSorted cs → AreSorted (if_fresh b cs)
-  if_fresh_sorted true cs h = h
-  if_fresh_sorted false cs h = tt
+  unmarked_fields : AreSorted (map unmarked_field s.fields)
+  unmarked_fields = each_map IsSorted unmarked_field s.fields
+      (each_all (λ f. IsSorted (unmarked_field f)) (λ f. (refl, tt)) s.fields)
 
   pub freshness_sorted : AreSorted (freshness flow.file s)
-  freshness_sorted = if_fresh_sorted s.makes _ (
+  freshness_sorted = only_sorted s.makes _ (
     (refl, tt),
     each_both IsSorted (map (λ p. is_other (Constant p)) s.pointers) _ pointers_sorted
         (each_both IsSorted (flat_map (no_field_leads s.fields) s.nodes) _ (leads_sorted s.nodes)
-        (each_both IsSorted (field_defaults_from 0 flow.file.fields) _ (fields_sorted 0 flow.file.fields (λ j f at. ap (slice_get flow.file.fields) (let same : 0 + j ≡ j = omega arith in same) ∙ at))
-        (each_both IsSorted (ghost_defaults_from 0 0 flow.file.ghosts) unretired (ghosts_sorted 0 0 flow.file.ghosts (λ j d at. ap (slice_get flow.file.ghosts) (let same : 0 + j ≡ j = omega arith in same) ∙ at) refl) ((refl, tt), tt)))),
+        (each_both IsSorted (field_defaults_from 0 flow.file.fields) _ (fields_sorted 0 flow.file.fields
+        (λ j f at. ap (slice_get flow.file.fields) (let same : 0 + j ≡ j = omega arith in same) ∙ at))
+        (each_both IsSorted (ghost_defaults_from 0 0 flow.file.ghosts) _ (ghosts_sorted 0 0 flow.file.ghosts
+        (λ j d at. ap (slice_get flow.file.ghosts) (let same : 0 + j ≡ j = omega arith in same) ∙ at) refl)
+        (each_both IsSorted unretired _ ((refl, tt), tt) (only_sorted s.marked _ unmarked_fields))))),
   )
 
   -- ---- clauses of the outline
@@ -235,13 +289,28 @@ module _ (flow : Flow) (o : Obligation) (s : Setting) (fit : NodesFit flow o s) 
     term_sorted terms.Me z h = me_sorted owner ∙ sym h.1
     term_sorted terms.Nobody z h = sym h
 
+    -- no mark but that of a place of a pointer is asked, and every mark has its sort
+    mark_sorted : (t : Term) → sort_of flow o s.acts (read_mark x owner names t) ≡ sorts.Truth
+    mark_sorted (terms.Shared i) = keeps (symbols.MarkShared i)
+    mark_sorted (terms.Local k) = keeps (mark_of (local_symbol owner k)) ∙ mark_is_truth (local_symbol owner k)
+    mark_sorted (terms.Bound i) = refl
+    mark_sorted (terms.FieldOf b f) = refl
+    mark_sorted (terms.GhostOf b g) = refl
+    mark_sorted terms.Null = refl
+    mark_sorted (terms.Number n) = refl
+    mark_sorted (terms.Value g v) = refl
+    mark_sorted terms.Me = refl
+    mark_sorted terms.Nobody = refl
+
     literal_sorted : (l : Literal) → LiteralFits reach l → OneSort (read_literal flow.file.ghosts x owner names l)
     literal_sorted (literals.Same a b equal) h = term_sorted a h.0 h.1 ∙ sym (term_sorted b h.0 h.2)
     literal_sorted (literals.Retired b is_so) h = refl
+    literal_sorted (literals.Marked t is_so) h = mark_sorted t
 
     negation_sorted : (l : Literal) → LiteralFits reach l → OneSort (read_literal flow.file.ghosts x owner names (negation l))
     negation_sorted (literals.Same a b equal) h = term_sorted a h.0 h.1 ∙ sym (term_sorted b h.0 h.2)
     negation_sorted (literals.Retired b is_so) h = refl
+    negation_sorted (literals.Marked t is_so) h = mark_sorted t
 
     literals_fit : Each (LiteralFits reach) c.literals
     literals_fit = each_of_all (LiteralFits reach) c.literals r.fits.each
@@ -283,7 +352,7 @@ module _ (flow : Flow) (o : Obligation) (s : Setting) (fit : NodesFit flow o s) 
 
   -- ---- the executed part
 
-  keeps_given : (x : Execution) (p c : Symbol) (loads : ℕ) → Keeps x → sort c ≡ sort p → Keeps (record { assigned = x.assigned ++ (p, c) ∷ []; written = x.written; loads = loads })
+  keeps_given : (x : Execution) (p c : Symbol) (loads : ℕ) → Keeps x → sort c ≡ sort p → Keeps (given x p c loads)
   keeps_given x p c loads keeps h z = ap sort (current_given x p c z loads) ∙ go (same_symbol p z) refl
     where
       go : (b : Bool) → same_symbol p z ≡ b → sort (if b then c else current x z) ≡ sort z
@@ -294,23 +363,44 @@ module _ (flow : Flow) (o : Obligation) (s : Setting) (fit : NodesFit flow o s) 
   abbrev pub LoadsAgree : Execution → List Act → Type 0
   LoadsAgree x more = (j : ℕ) → slice_get (loads_of s.acts) (x.loads + j) ≡ slice_get (loads_of more) j
 
-  load_now : (x : Execution) (p q : Symbol) (f : FieldId) (pointer : Bool) (more : List Act) → LoadsAgree x (Fetch p q f pointer ∷ more) → sort (symbols.Loaded x.loads) ≡ pointer_sort pointer
-  load_now x p q f pointer more agree = ap (λ n. load_sort (slice_get (loads_of s.acts) n)) (let same : x.loads ≡ x.loads + 0 = omega arith in same) ∙ ap load_sort (agree 0)
+  load_now : (x : Execution) (a : Act) (pointer : Bool) (more : List Act) → loads_of (a ∷ more) ≡ pointer ∷ loads_of more
+      → LoadsAgree x (a ∷ more) → sort (symbols.Loaded x.loads) ≡ pointer_sort pointer
+  load_now x a pointer more is agree =
+      ap (λ n. load_sort (slice_get (loads_of s.acts) n)) (let same : x.loads ≡ x.loads + 0 = omega arith in same)
+      ∙ ap load_sort (agree 0 ∙ ap (λ bs. slice_get bs 0) is)
+
+  next_loads : (x : Execution) (a : Act) (pointer : Bool) (more : List Act) → loads_of (a ∷ more) ≡ pointer ∷ loads_of more
+      → LoadsAgree x (a ∷ more) → (j : ℕ) → slice_get (loads_of s.acts) (x.loads + 1 + j) ≡ slice_get (loads_of more) j
+  next_loads x a pointer more is agree j =
+      ap (slice_get (loads_of s.acts)) (let same : x.loads + 1 + j ≡ x.loads + suc j = omega arith in same)
+      ∙ agree (suc j) ∙ ap (λ bs. slice_get bs (suc j)) is
 
   loads_after : (x : Execution) (a : Act) (more : List Act) → LoadsAgree x (a ∷ more) → LoadsAgree (after x a) more
   loads_after x (Assign p e) more agree = agree
   loads_after x (Make p) more agree = agree
-  loads_after x (Fetch p q f pointer) more agree = λ j. ap (slice_get (loads_of s.acts)) (let same : (x.loads + 1) + j ≡ x.loads + suc j = omega arith in same) ∙ agree (suc j)
+  loads_after x (Fetch p q f pointer) more agree = next_loads x (Fetch p q f pointer) pointer more refl agree
+  loads_after x (FetchMarked p q f) more agree = next_loads x (FetchMarked p q f) true more refl agree
   loads_after x (Update checked m p e) more agree = agree
   loads_after x (Test a b equal) more agree = agree
+  loads_after x (Differ a b) more agree = agree
   loads_after x Skip more agree = agree
 
-  keeps_after : (x : Execution) (a : Act) (more : List Act) → ActFits flow.file sort a → LoadsAgree x (a ∷ more) → Keeps x → Keeps (after x a)
+  keeps_after : (x : Execution) (a : Act) (more : List Act) → ActFits flow.file sort a → LoadsAgree x (a ∷ more)
+      → Keeps x → Keeps (after x a)
   keeps_after x (Assign p e) more h agree keeps = keeps_given x p (current x e) x.loads keeps (keeps e ∙ sym h)
   keeps_after x (Make p) more h agree keeps = keeps_given x p symbols.New x.loads keeps (sym h)
-  keeps_after x (Fetch p q f pointer) more h agree keeps = keeps_given x p (symbols.Loaded x.loads) (x.loads + 1) keeps (load_now x p q f pointer more agree ∙ sym h.1)
+  keeps_after x (Fetch p q f pointer) more h agree keeps =
+      keeps_given x p (symbols.Loaded x.loads) (x.loads + 1) keeps
+      (load_now x (Fetch p q f pointer) pointer more refl agree ∙ sym h.1)
+  keeps_after x (FetchMarked p q f) more h agree keeps =
+      let mark = symbols.MarkLoaded x.loads in
+      subst Keeps (sym (marked_fetch x p q f))
+      (keeps_given (given x (mark_of p) mark x.loads) p (symbols.Loaded x.loads) (x.loads + 1)
+      (keeps_given x (mark_of p) mark x.loads keeps (sym h.2))
+      (load_now x (FetchMarked p q f) true more refl agree ∙ sym h.1))
   keeps_after x (Update checked m p e) more h agree keeps = keeps
   keeps_after x (Test a b equal) more h agree keeps = keeps
+  keeps_after x (Differ a b) more h agree keeps = keeps
   keeps_after x Skip more h agree keeps = keeps
 
   if_checked_sorted : (b : Bool) (c : List SymbolicLit) → IsSorted c → AreSorted (if_checked b c)
@@ -324,7 +414,11 @@ module _ (flow : Flow) (o : Obligation) (s : Setting) (fit : NodesFit flow o s) 
   act_sorted : (x : Execution) (a : Act) (more : List Act) → ActFits flow.file sort a → LoadsAgree x (a ∷ more) → Keeps x → AreSorted (act_clauses s.nodes x a)
   act_sorted x (Assign p e) more h agree keeps = tt
   act_sorted x (Make p) more h agree keeps = tt
-  act_sorted x (Fetch p q f pointer) more h agree keeps = ((keeps q ∙ h.0, tt), ((load_now x p q f pointer more agree ∙ sym h.2, tt), tt))
+  act_sorted x (Fetch p q f pointer) more h agree keeps = ((keeps q ∙ h.0, tt), ((load_now x (Fetch p q f pointer) pointer more refl agree ∙ sym h.2, tt), tt))
+  act_sorted x (FetchMarked p q f) more h agree keeps = (
+    (keeps q ∙ h.0, tt),
+    ((load_now x (FetchMarked p q f) true more refl agree ∙ sym h.3, tt), ((refl, tt), tt)),
+  )
   act_sorted x (Update checked m p e) more h agree keeps =
       each_both IsSorted (if_checked checked (not_null x p)) (flat_map (update_at m (version x m) (held x p) (held x e)) s.nodes)
       (if_checked_sorted checked (not_null x p) (keeps p ∙ h.0, tt))
@@ -332,6 +426,10 @@ module _ (flow : Flow) (o : Obligation) (s : Setting) (fit : NodesFit flow o s) 
       (each_so IsTerm (λ n. AreSorted (update_at m (version x m) (held x p) (held x e) n))
       (λ n is. ((is ∙ sym (keeps p ∙ h.0), (sym (keeps e ∙ h.1), tt)), ((is ∙ sym (keeps p ∙ h.0), (refl, tt)), tt))) s.nodes (each_of_all IsTerm s.nodes fit.nodes)))
   act_sorted x (Test a b equal) more h agree keeps = (test_sorted equal (current x a) (current x b) (keeps a ∙ h ∙ sym (keeps b)), tt)
+  act_sorted x (Differ a b) more h agree keeps =
+      let nodes = keeps a ∙ h.0 ∙ sym (keeps b) in
+      let marks = keeps (mark_of a) ∙ h.1 ∙ sym (keeps (mark_of b)) in
+      ((nodes, (marks, tt)), tt)
   act_sorted x Skip more h agree keeps = tt
 
   executed_sorted : (x : Execution) (more : List Act) → Each (ActFits flow.file sort) more → LoadsAgree x more → Keeps x → AreSorted (executed_clauses s.nodes x more)

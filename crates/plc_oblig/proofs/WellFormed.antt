@@ -31,7 +31,7 @@ use Rattle.plc_setting.specs.WellSorted.{ActFits, NodesFit}
 use Rattle.plc_setting.proofs.ActSorts.{acts_fit}
 use Rattle.plc_setting.proofs.NodeSorts.{nodes_fit}
 use Rattle.plc_items.specs.Execution.{start, after_all, executed_clauses}
-use Rattle.plc_items.specs.Items.{values_from, beginning, freshness, instances, premises, denied_clause, denied_claim, denied, clauses_of}
+use Rattle.plc_items.specs.Items.{values_from, mark_values, beginning, freshness, instances, premises, denied_clause, denied_claim, denied, clauses_of}
 use Rattle.plc_oblig.specs.GroundSets.{listed_first, drafted, ground_set}
 use Rattle.plc_oblig.proofs.Lists.{each_of_all, all_of_each}
 use Rattle.plc_oblig.proofs.Sides as sides
@@ -151,11 +151,14 @@ module _ (flow : Flow) (outline : Outline) (fits : Fits flow outline) (o : Oblig
   clauses_sorted : AreSorted (clauses_of flow outline s o)
   unfolding clauses_of
   clauses_sorted =
-      each_both (Each OneSort) (values_from 0 0 flow.file.ghosts s.nodes) _ (sides.all_values_sorted flow o s fit s.nodes)
+      each_both (Each OneSort) (values_from 0 0 flow.file.ghosts s.nodes) _
+      (sides.all_values_sorted flow o s fit s.nodes)
+      (each_both (Each OneSort) (mark_values s) _ (sides.mark_values_sorted flow o s fit)
       (each_both (Each OneSort) (beginning flow s o) _ (sides.beginning_sorted flow o s fit o refl)
       (each_both (Each OneSort) (freshness flow.file s) _ (sides.freshness_sorted flow o s fit)
       (each_both (Each OneSort) (premises flow outline s o) _ premises_sorted
-      (each_both (Each OneSort) (executed_clauses s.nodes start s.acts) (denied flow outline s (after_all start s.acts) o) (sides.all_executed_sorted flow o s fit acts) denied_sorted))))
+      (each_both (Each OneSort) (executed_clauses s.nodes start s.acts)
+      (denied flow outline s (after_all start s.acts) o) (sides.all_executed_sorted flow o s fit acts) denied_sorted)))))
 
   abbrev pub draft : Drafted
   draft = drafted flow outline s o

@@ -1,7 +1,7 @@
 -- How large the setting of an obligation is, and how long its whole list of clauses.
 use Rattle.std.proofs.Common.{◌≡◌, ℕ, zero, suc, ◌+◌, ◌*◌, ◌^◌, ◌==◌, Bool, true, false, cond, List, [], ◌∷◌, ◌++◌, map, flat_map, length, count_by, sum_by, refl, sym, ap, ◌∙◌, arith, Option, Some, None}
 use Rattle.std.proofs.Math.Nat.{pow-zero, pow-succ'}
-use Rattle.std.proofs.lemmas.List.{length-map}
+use Rattle.std.proofs.lemmas.List.{length-map, length-append}
 use Rattle.std.proofs.lemmas.Option.{none-some}
 use Rattle.std.proofs.lemmas.List.FromFn.{length-map-range_with_len}
 use Rattle.std.proofs.lemmas.List.Sums.{sum_by-cons, sum_by-append}
@@ -23,17 +23,19 @@ use Rattle.plc_setting.specs.Parts.{conclusion, claim_made, acting_locals, owner
 use Rattle.plc_setting.specs.Parts.{clauses_of as point_clauses}
 use Rattle.plc_base.specs.declared.ids.PointId.{PointId}
 use Rattle.plc_setting.specs.Marks.{program_uses_marks}
+use Rattle.plc_setting.specs.Acts.{mark_of}
+use Rattle.plc_setting.specs.Setting.{mark_constants}
 use Rattle.plc_setting.specs.Setting.{nodes_of, targets_of, if_deep, if_made, node_constants, plain_constants, pointer_loads_from, setting_of, bound_of, below}
 use Rattle.plc_items.specs.declared.execution.Execution.{Execution}
 use Rattle.plc_items.specs.Execution.{start, after_all, executed_clauses}
-use Rattle.plc_items.specs.Items.{tuples, instances, denied, denied_clause, denied_claim, values_from, beginning, freshness, premises, clauses_of}
+use Rattle.plc_items.specs.Items.{tuples, instances, denied, denied_clause, denied_claim, values_from, mark_values, beginning, freshness, premises, clauses_of}
 use Rattle.plc_symbolic.specs.Terms.{Clauses}
 use Rattle.plc_symbolic.specs.Numbering.{blank, listed_all, written_all}
 use Rattle.plc_symbolic.proofs.Drafts.{written_all-clauses, listed_all-clauses}
 use Rattle.plc_oblig.specs.GroundSets.{ground_set, listed_first}
 use Rattle.plc_oblig.specs.declared.size.Sizes.{Sizes}
 use Rattle.plc_lang.specs.Fields.{is_pointer_field}
-use Rattle.plc_oblig.specs.Size.{clause_size, is_pointer_load, AreSizesOf}
+use Rattle.plc_oblig.specs.Size.{clause_size, is_pointer_load, if_marked, AreSizesOf}
 use Rattle.plc_oblig.proofs.Executed.{loads_length}
 use Rattle.plc_oblig.proofs.Lengths.{each_length, both, one_more, after_length, locals_length, fields_length}
 
@@ -96,6 +98,11 @@ nodes_length : (ss : List Symbol) (deep : Bool) (cs : List Symbol) (fs : List Fi
 nodes_length ss deep cs fs = both _ _ (length ss) _ (length-map ss _)
     (deep_length deep (targets_of fs cs) ∙ ap (λ n. cond deep n 0) (after_length fs cs))
 
+marks_length : (marked : Bool) (ps ls : List Symbol)
+    → length (mark_constants marked ps ls) ≡ if_marked marked (length ps + length ls)
+marks_length true ps ls = length-map (ps ++ ls) mark_of ∙ length-append ps ls
+marks_length false ps ls = refl
+
 -- the sizes of what a set rests on, where the lists have these lengths
 pub setting_sizes : (flow : Flow) (outline : Outline) (o : Obligation) (z : Sizes) (theirs loads plain constants : ℕ)
     → z.mine ≡ count_by is_pointer (acting_locals flow o)
@@ -109,9 +116,21 @@ pub setting_sizes : (flow : Flow) (outline : Outline) (o : Obligation) (z : Size
     → constants ≡ plain + 1 + cond z.made 1 0
     → z.nodes ≡ constants + cond (outline.depth == 1) (constants * z.fields) 0
     → z.instances ≡ plain + cond (outline.depth == 1) (constants * z.fields) 0
+    → z.marked ≡ program_uses_marks flow outline
+    → z.marks ≡ if_marked z.marked (z.pointers + loads)
     → AreSizesOf (setting_of flow outline o) z
-setting_sizes flow outline o z theirs loads plain constants mine_is theirs_is pointers_is fields_is bound_is made_is loads_is plain_is constants_is nodes_is instances_is =
-    record { mine = mine; pointers = pointers; fields = fields; bound = bound_is; made = made_is; nodes = nodes; instances = instances }
+setting_sizes flow outline o z theirs loads plain constants mine_is theirs_is pointers_is fields_is bound_is made_is loads_is plain_is constants_is nodes_is instances_is marked_is marks_is =
+    record {
+      mine = mine;
+      pointers = pointers;
+      fields = fields;
+      bound = bound_is;
+      made = made_is;
+      nodes = nodes;
+      instances = instances;
+      marked = marked_is;
+      marks = marks;
+    }
   where
     s : Setting
     s = setting_of flow outline o
@@ -162,7 +181,16 @@ setting_sizes flow outline o z theirs loads plain constants mine_is theirs_is po
     instances = instances_is ∙ ap (λ n. n + cond (outline.depth == 1) (constants * z.fields) 0) plain_so ∙ ap (λ n. length (plain_constants s.pointers s.bound ls) + n) deep
         ∙ sym (nodes_length (plain_constants s.pointers s.bound ls) (outline.depth == 1) s.constants s.fields)
 
+    marks : z.marks ≡ length s.marks
+    marks = marks_is ∙ ap (λ b. if_marked b (z.pointers + loads)) marked_is
+        ∙ ap (λ n. if_marked s.marked (n + loads)) pointers
+        ∙ ap (λ n. if_marked s.marked (length s.pointers + n)) loaded
+        ∙ sym (marks_length s.marked s.pointers ls)
+
 -- ---- the whole
+
+sums : (a b c d e f g h i : ℕ) → a + b + c + d + e + f + g + h + i ≡ a + (b + (c + (d + (((e + f) + g) + (h + i)))))
+sums a b c d e f g h i = omega arith
 
 -- the acting thread's premises: the invariants, then the clauses of its point
 acting_length : (flow : Flow) (outline : Outline) (o : Obligation) (s : Setting) (q : Option PointId) (places before standing : ℕ) → places ≡ length s.instances
@@ -186,11 +214,12 @@ owner_length flow outline o s q places standing few is standing_is =
     ∙ ap (λ n. sum_by (clause_size n) (owner_premises flow outline o)) few
     ∙ sym (all_instances_length flow.file.ghosts s true (owner_premises flow outline o))
 
-pub whole_length : (flow : Flow) (outline : Outline) (o : Obligation) (s : Setting) (q r : Option PointId) (places values first fresh before mine theirs run negated : ℕ)
+pub whole_length : (flow : Flow) (outline : Outline) (o : Obligation) (s : Setting) (q r : Option PointId) (places values marks first fresh before mine theirs run negated : ℕ)
     → places ≡ length s.instances
     → acting_premises flow outline o ≡ invariants_before outline o ++ point_clauses flow outline q
     → owner_premises flow outline o ≡ point_clauses flow outline r
     → values ≡ length (values_from 0 0 flow.file.ghosts s.nodes)
+    → marks ≡ length (mark_values s)
     → first ≡ length (beginning flow s o)
     → fresh ≡ length (freshness flow.file s)
     → before ≡ sum_by (clause_size places) (invariants_before outline o)
@@ -198,19 +227,23 @@ pub whole_length : (flow : Flow) (outline : Outline) (o : Obligation) (s : Setti
     → theirs ≡ sum_by (clause_size places) (point_clauses flow outline r)
     → run ≡ length (executed_clauses s.nodes start s.acts)
     → negated ≡ length (denied flow outline s (after_all start s.acts) o)
-    → values + first + fresh + before + mine + theirs + run + negated ≡ length (clauses_of flow outline s o)
+    → values + marks + first + fresh + before + mine + theirs + run + negated ≡ length (clauses_of flow outline s o)
 unfolding clauses_of
-whole_length flow outline o s q r places values first fresh before mine theirs run negated few acting owner values_is first_is fresh_is before_is mine_is theirs_is run_is negated_is =
-    let all : length (clauses_of flow outline s o) ≡ values + (first + (fresh + (((before + mine) + theirs) + (run + negated)))) = both (values_from 0 0 flow.file.ghosts s.nodes) _ values _ (sym values_is)
+whole_length flow outline o s q r places values marks first fresh before mine theirs run negated few acting owner values_is marks_is first_is fresh_is before_is mine_is theirs_is run_is negated_is =
+    let all : length (clauses_of flow outline s o)
+    ≡ values + (marks + (first + (fresh + (((before + mine) + theirs) + (run + negated))))) =
+    both (values_from 0 0 flow.file.ghosts s.nodes) _ values _ (sym values_is)
+    (both (mark_values s) _ marks _ (sym marks_is)
     (both (beginning flow s o) _ first _ (sym first_is)
     (both (freshness flow.file s) _ fresh _ (sym fresh_is)
     (both (premises flow outline s o) _ ((before + mine) + theirs) _
-    (both (flat_map (instances flow.file.ghosts s false) (acting_premises flow outline o)) (flat_map (instances flow.file.ghosts s true) (owner_premises flow outline o)) (before + mine) theirs
+    (both (flat_map (instances flow.file.ghosts s false) (acting_premises flow outline o))
+    (flat_map (instances flow.file.ghosts s true) (owner_premises flow outline o)) (before + mine) theirs
     (sym (acting_length flow outline o s q places before mine few acting before_is mine_is))
     (sym (owner_length flow outline o s r places theirs few owner theirs_is)))
-    (both (executed_clauses s.nodes start s.acts) (denied flow outline s (after_all start s.acts) o) run negated (sym run_is) (sym negated_is))))) in
-    let sum : values + first + fresh + before + mine + theirs + run + negated ≡ values + (first + (fresh + (((before + mine) + theirs) + (run + negated)))) = omega arith in
-    sum ∙ sym all
+    (both (executed_clauses s.nodes start s.acts) (denied flow outline s (after_all start s.acts) o) run negated
+    (sym run_is) (sym negated_is)))))) in
+    sums values marks first fresh before mine theirs run negated ∙ sym all
 
 -- the set has a clause for each
 pub set_length : (flow : Flow) (outline : Outline) (o : Obligation) → length (clauses_of flow outline (setting_of flow outline o) o) ≡ length (ground_set flow outline o).clauses

@@ -1,7 +1,8 @@
 -- Obligations that have one ground set: a step, and a clause of another thread at two points of one operation at which
 -- the outline puts the same clauses.
-use Rattle.std.specs.Prelude.{◌≡◌, ◌&&◌, ◌==◌, ℕ, Bool, true, false, not, List, Contains}
+use Rattle.std.specs.Prelude.{◌≡◌, ◌&&◌, ◌==◌, ℕ, Bool, true, false, List, Contains}
 use Rattle.std.specs.List.{list_all}
+use Rattle.plc_base.specs.Booleans.{same_bool}
 use Rattle.plc_flow.specs.declared.flow.Gate.{Gate}
 use Rattle.plc_flow.specs.declared.flow.Flow.{Flow}
 use Rattle.plc_logic.specs.declared.clause.Item.{Item}
@@ -12,18 +13,13 @@ use Rattle.plc_setting.specs.Parts.{has_point}
 use Rattle.plc_setting.specs.Points.{stands_at}
 use Rattle.plc_oblig.specs.GroundSets.{ground_set}
 
--- both are so, or neither is
-abbrev pub agree : Bool → Bool → Bool
-agree true b = b
-agree false b = not b
-
 -- both points belong to the operation, or neither does
 abbrev pub share_gate : ℕ → ℕ → Gate → Bool
-share_gate p q g = agree (has_point p g) (has_point q g)
+share_gate p q g = same_bool (has_point p g) (has_point q g)
 
 -- the item puts its clause at both points, or at neither
 abbrev pub share_item : Flow → ℕ → ℕ → Item → Bool
-share_item flow p q i = agree (stands_at flow p i) (stands_at flow q i)
+share_item flow p q i = same_bool (stands_at flow p i) (stands_at flow q i)
 
 -- the points belong to one operation, and the outline puts the same clauses there
 abbrev pub are_points_alike : Flow → Outline → ℕ → ℕ → Bool

@@ -61,6 +61,8 @@ pub record AreSizesOf (s : Setting) (z : Sizes) : Type 0 where
   pub made : z.made ≡ s.makes
   pub nodes : z.nodes ≡ length s.nodes
   pub instances : z.instances ≡ length s.instances
+  pub marked : z.marked ≡ s.marked
+  pub marks : z.marks ≡ length s.marks
 
 -- the pointer variables of two threads
 abbrev pub most_pointers : ℕ
@@ -86,6 +88,7 @@ pub record AreFew (z : Sizes) : Type 0 where
   pub bound : z.bound ≤ most_bound
   pub nodes : z.nodes ≤ most_nodes
   pub instances : z.instances ≤ most_nodes
+  pub marks : z.marks ≤ most_constants
 
 -- ---- items
 
@@ -103,33 +106,37 @@ call_size nodes true args.Null = 0
 call_size nodes true args.None = 0
 call_size nodes false a = 0
 
--- of a test that two pointers differ: none where marks are used
-abbrev pub differ_size : Bool → ℕ
-differ_size true = 0
-differ_size false = 1
+-- of what is said of marks beside the rest: nothing where no marks are used
+abbrev pub if_marked : Bool → ℕ → ℕ
+if_marked true n = n
+if_marked false n = 0
+
+-- of a store of a pointer, where there are so many nodes: of the field, and of the marks in it
+abbrev pub store_size : Bool → ℕ → ℕ
+store_size marked nodes = 1 + 2 * nodes + if_marked marked (2 * nodes)
 
 -- of a primitive, where it is known whether marks are used and how many nodes there are
 abbrev pub prim_size : Bool → ℕ → Primitive → ℕ
 prim_size marked nodes (Null p) = 0
 prim_size marked nodes (Copy p q) = 0
 prim_size marked nodes (New p) = 0
-prim_size marked nodes (Load p q f) = 2
-prim_size marked nodes (Store p f q) = 1 + 2 * nodes
-prim_size marked nodes (StoreNull p f) = 1 + 2 * nodes
+prim_size marked nodes (Load p q f) = 2 + if_marked marked 1
+prim_size marked nodes (Store p f q) = store_size marked nodes
+prim_size marked nodes (StoreNull p f) = store_size marked nodes
 prim_size marked nodes (DataSet x e) = 0
 prim_size marked nodes (DataLoad x q f) = 2
 prim_size marked nodes (DataStore p f e) = 1 + 2 * nodes
-prim_size marked nodes (Eq p q) = 1
-prim_size marked nodes (Ne p q) = differ_size marked
+prim_size marked nodes (Eq p q) = 1 + if_marked marked 1
+prim_size marked nodes (Ne p q) = 1
 prim_size marked nodes (IsNull p) = 1
 prim_size marked nodes (NotNull p) = 1
 prim_size marked nodes (DataTest r x e) = test_size r
 prim_size marked nodes (Refresh p q) = 0
-prim_size marked nodes (RefreshLoad p q f) = 2
-prim_size marked nodes (RefreshStore p f q) = 1 + 2 * nodes
+prim_size marked nodes (RefreshLoad p q f) = 2 + if_marked marked 1
+prim_size marked nodes (RefreshStore p f q) = store_size marked nodes
 prim_size marked nodes (Mark p q) = 0
 prim_size marked nodes (Unmark p q) = 0
-prim_size marked nodes (MarkTest p m) = 0
+prim_size marked nodes (MarkTest p m) = if_marked marked 1
 prim_size marked nodes (Call f a) = call_size nodes (is_retire f) a
 prim_size marked nodes (Done f) = 0
 prim_size marked nodes (Active p) = 0
@@ -137,7 +144,7 @@ prim_size marked nodes (Ghost p g e) = 2 * nodes
 
 -- no primitive gives more
 abbrev pub most_of_primitive : ℕ
-most_of_primitive = 1 + 2 * most_nodes
+most_of_primitive = 1 + 4 * most_nodes
 
 -- of the instances of a clause, where its names stand for so many nodes
 abbrev pub clause_size : ℕ → Clause → ℕ

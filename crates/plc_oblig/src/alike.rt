@@ -6,10 +6,10 @@ ghost use Rattle.std.specs.Prelude.{◌≡◌, ◌⊎◌, ℕ, [], Contains, OnO
 ghost use Rattle.std.specs.List.{list_all};
 ghost use Rattle.plc_setting.specs.declared.obligations.Obligation.{Obligation as AnObligation};
 ghost use Rattle.plc_setting.specs.Points.{is_labelled};
-ghost use Rattle.plc_oblig.specs.Alike.{agree, share_gate, share_item, are_points_alike, are_alike};
+ghost use Rattle.plc_oblig.specs.Alike.{share_gate, share_item, are_points_alike, are_alike};
 ghost use Rattle.plc_oblig.specs.Alike.{AlikeObligationsHaveOneSet, IsNotedAs};
 
-use plc_base::{NoMemory, PointId, StepId};
+use plc_base::{NoMemory, PointId, StepId, same_bool};
 use plc_flow::{Flow, Gate};
 use plc_logic::{Item, Outline};
 use plc_setting::{Obligation, has_point, is_labelled, stands_at};
@@ -20,18 +20,11 @@ use std::marker::Model;
 /// With this many that costs less than making the set.
 const MOST_COMPARED: usize = 32;
 
-/// Whether both are true or both false.
-fn agree(a: bool, b: bool) -> bool
-    ensures { result ≡ agree a b }
-{
-    a == b
-}
-
 /// Whether both points lie in the operation, or neither does.
 fn share_gate(p: u16, q: u16, gate: &Gate) -> bool
     ensures { result ≡ share_gate p q gate.now }
 {
-    agree(has_point(gate, p), has_point(gate, q))
+    same_bool(has_point(gate, p), has_point(gate, q))
 }
 
 /// A point, and whether any label names it.
@@ -58,7 +51,7 @@ fn share_item(flow: &Flow, p: Place, q: Place, item: &Item) -> bool
     requires second { q.labelled ≡ is_labelled flow.now q.point }
     ensures { result ≡ share_item flow.now p.point q.point item.now }
 {
-    agree(
+    same_bool(
         stands_at(flow, p.point, p.labelled, item),
         stands_at(flow, q.point, q.labelled, item),
     )

@@ -3,11 +3,11 @@
 // over the same memory.
 ghost use Rattle.std.specs.Prelude.{◌≡◌, ◌<◌, ◌≤◌, map, length, slice_get, Some, OnOk, IfOk};
 ghost use Rattle.plc_lang.specs.Fit.{FileFits};
-ghost use Rattle.plc_flow.specs.WellFormed.{most_step_primitives};
 ghost use Rattle.plc_ground.specs.Fit.{IsWellFormed};
 ghost use Rattle.plc_symbolic.specs.declared.symbolic.SymbolicTerm.TheVariants.{Constant};
 ghost use Rattle.plc_symbolic.specs.Numbering.{blank, listed_all};
 ghost use Rattle.plc_symbolic.specs.Terms.{term_of};
+ghost use Rattle.plc_setting.specs.Acts.{most_acts};
 ghost use Rattle.plc_setting.specs.Fit.{Fits};
 ghost use Rattle.plc_setting.specs.Marks.{program_uses_marks};
 ghost use Rattle.plc_setting.specs.Sorts.{sort_of};
@@ -79,7 +79,7 @@ fn sorts_of(
 fn write_draft(w: &Subject, draft: &mut Draft) -> Result<(), NoMemory>
     requires fits { Fits w.now.flow.now w.now.outline.now }
     requires setting { w.now.setting.now ≡ setting_of w.now.flow.now w.now.outline.now w.now.obligation.now }
-    requires few { length w.now.setting.now.acts ≤ most_step_primitives }
+    requires few { length w.now.setting.now.acts ≤ most_acts }
     requires blank { draft.old ≡ blank }
     ensures { OnOk result (draft.new
         ≡ drafted w.now.flow.now w.now.outline.now w.now.setting.now w.now.obligation.now) }
@@ -102,7 +102,7 @@ fn assemble(
 ) -> Result<GroundSet, NoMemory>
     requires fits { Fits flow.now outline.now }
     requires setting { s.now ≡ setting_of flow.now outline.now o.now }
-    requires few { length s.now.acts ≤ most_step_primitives }
+    requires few { length s.now.acts ≤ most_acts }
     ensures well { IfOk result (λ set. IsWellFormed set) }
     ensures set { IfOk result (λ set. set ≡ ground_set flow.now outline.now o.now) }
 {

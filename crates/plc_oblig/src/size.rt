@@ -15,9 +15,10 @@ ghost use Rattle.plc_setting.specs.Setting.{setting_of, bound_of};
 ghost use Rattle.plc_setting.specs.declared.setting.Setting.{Setting};
 ghost use Rattle.plc_symbolic.specs.declared.symbolic.NodeTerm.{NodeTerm};
 ghost use Rattle.plc_items.specs.declared.execution.Execution.{Execution};
-ghost use Rattle.plc_items.specs.Items.{values_from, beginning, freshness, denied};
+ghost use Rattle.plc_items.specs.Items.{values_from, mark_values, beginning, freshness, denied};
 ghost use Rattle.plc_oblig.specs.GroundSets.{ground_set};
-ghost use Rattle.plc_oblig.specs.Size.{has_values, is_pointer_load, differ_size, prim_size, clause_size};
+ghost use Rattle.plc_oblig.specs.Size.{has_values, is_pointer_load, if_marked, store_size, test_size, call_size};
+ghost use Rattle.plc_oblig.specs.Size.{prim_size, clause_size};
 ghost use Rattle.plc_oblig.specs.Size.{AreSizesOf, AreFew, most_constants, most_pointers, most_deep_nodes, most_nodes};
 ghost use Rattle.plc_oblig.specs.Size.{most_of_primitive, most_instances};
 
@@ -46,6 +47,10 @@ pub struct Sizes {
     pub nodes: u64,
     /// The nodes at which premises are instantiated.
     pub instances: u64,
+    /// Whether the program uses marks.
+    pub marked: bool,
+    /// The marks of pointer variables and of pointers that are read.
+    pub marks: u64,
 }
 
 /// How many locals are pointers.
@@ -89,11 +94,40 @@ fn count_pointer_loads(prims: &[Prim]) -> u64
     total
 }
 
-/// How many clauses say that two pointers differ: where marks are used, none.
-fn differ_size(marked: bool) -> u64
-    ensures { result ≡ differ_size marked }
+/// How many clauses say something of marks, none where no marks are used.
+fn if_marked(marked: bool, count: u64) -> u64
+    ensures { result ≡ if_marked marked count }
 {
-    if marked { 0 } else { 1 }
+    if marked { count } else { 0 }
+}
+
+/// How many clauses a store of a pointer gives, where there are so many nodes.
+fn store_size(marked: bool, nodes: u64) -> u64
+    requires { nodes ≤ most_nodes }
+    ensures { result ≡ store_size marked nodes }
+{
+    1 + 2 * nodes + if_marked(marked, 2 * nodes)
+}
+
+/// How many clauses a test of data gives: an order says nothing in ground sets.
+fn test_size(rel: Rel) -> u64
+    ensures { result ≡ test_size rel }
+{
+    match rel {
+        Rel::Eq | Rel::Ne => 1,
+        Rel::Lt | Rel::Ge => 0,
+    }
+}
+
+/// How many clauses a call gives: those of an update where it is one of `retire`.
+fn call_size(nodes: u64, retires: bool, arg: Arg) -> u64
+    requires { nodes ≤ most_nodes }
+    ensures { result ≡ call_size nodes retires arg }
+{
+    match arg {
+        Arg::Var(_) if retires => 1 + 2 * nodes,
+        _ => 0,
+    }
 }
 
 /// How many clauses a primitive gives, where there are so many nodes.
@@ -103,18 +137,20 @@ fn prim_size(marked: bool, nodes: u64, prim: &Prim) -> u64
     ensures few { result ≤ most_of_primitive }
 {
     match *prim {
-        Prim::Load { .. } | Prim::DataLoad { .. } | Prim::RefreshLoad { .. } => 2,
-        Prim::Store { .. } | Prim::StoreNull { .. } => 1 + 2 * nodes,
-        Prim::DataStore { .. } | Prim::RefreshStore { .. } => 1 + 2 * nodes,
-        Prim::Eq { .. } | Prim::IsNull { .. } | Prim::NotNull { .. } => 1,
-        Prim::Ne { .. } => differ_size(marked),
-        Prim::DataTest { rel: Rel::Eq, .. } | Prim::DataTest { rel: Rel::Ne, .. } => 1,
-        Prim::Call {
-            func,
-            arg: Arg::Var(_),
-        } if func.is_retire() => 1 + 2 * nodes,
+        Prim::Null { .. } | Prim::Copy { .. } | Prim::New { .. } | Prim::DataSet { .. } => 0,
+        Prim::Load { .. } | Prim::RefreshLoad { .. } => 2 + if_marked(marked, 1),
+        Prim::Store { .. } | Prim::StoreNull { .. } => store_size(marked, nodes),
+        Prim::RefreshStore { .. } => store_size(marked, nodes),
+        Prim::DataLoad { .. } => 2,
+        Prim::DataStore { .. } => 1 + 2 * nodes,
+        Prim::Eq { .. } => 1 + if_marked(marked, 1),
+        Prim::Ne { .. } | Prim::IsNull { .. } | Prim::NotNull { .. } => 1,
+        Prim::DataTest { rel, .. } => test_size(rel),
+        Prim::Refresh { .. } | Prim::Mark { .. } | Prim::Unmark { .. } => 0,
+        Prim::MarkTest { .. } => if_marked(marked, 1),
+        Prim::Call { func, arg } => call_size(nodes, func.is_retire(), arg),
+        Prim::Done { .. } | Prim::Active { .. } => 0,
         Prim::Ghost { .. } => 2 * nodes,
-        _ => 0,
     }
 }
 
@@ -183,9 +219,10 @@ fn count_bound(flow: &Flow, outline: &Outline, o: &Obligation) -> u64
     bound_of(conclusion(flow, outline, o)) as u64
 }
 
-/// The counts on which the number of clauses depends.
-fn sizes_of(flow: &Flow, outline: &Outline, o: &Obligation) -> Sizes
-    requires { Fits flow.now outline.now }
+/// The counts on which the number of clauses depends, where it is known whether marks are used.
+fn sizes_of(marked: bool, flow: &Flow, outline: &Outline, o: &Obligation) -> Sizes
+    requires fits { Fits flow.now outline.now }
+    requires marked { marked ≡ program_uses_marks flow.now outline.now }
     ensures sizes { AreSizesOf (setting_of flow.now outline.now o.now) result }
     ensures few { AreFew result }
 {
@@ -194,7 +231,8 @@ fn sizes_of(flow: &Flow, outline: &Outline, o: &Obligation) -> Sizes
     let fields = count_fields(&flow.file);
     let bound = count_bound(flow, outline, o);
     let made = has_new(executed(flow, o));
-    let plain = pointers + bound + count_loads(flow, outline, o);
+    let loads = count_loads(flow, outline, o);
+    let plain = pointers + bound + loads;
     let constants = plain + 1 + one_if(made);
     let deep = deep_nodes(outline.depth == 1, constants, fields);
     Sizes {
@@ -205,6 +243,8 @@ fn sizes_of(flow: &Flow, outline: &Outline, o: &Obligation) -> Sizes
         made,
         nodes: constants + deep,
         instances: plain + deep,
+        marked,
+        marks: if_marked(marked, pointers + loads),
     }
 }
 
@@ -218,18 +258,30 @@ fn values_size(ghosts: &[Ghost], nodes: u64) -> u64
     count_enumerated(ghosts) * nodes
 }
 
+/// How many clauses say that each mark is set or isn't.
+fn mark_values_size(z: Sizes) -> u64
+    requires { AreFew z }
+    ensures size { (s : Setting) → AreSizesOf s z → result ≡ length (mark_values s) }
+    ensures small { result ≤ most_constants + most limits.Fields * most_nodes }
+{
+    if_marked(z.marked, z.marks + z.fields * z.nodes)
+}
+
 /// How many clauses say how things are at first.
 fn beginning_size(flow: &Flow, z: Sizes, o: &Obligation) -> u64
     requires few { AreFew z }
     requires shared { length flow.now.file.shared ≤ most limits.Shared }
     requires locals { length (acting_locals flow.now o.now) ≤ most limits.Locals }
     ensures size { (s : Setting) → AreSizesOf s z → result ≡ length (beginning flow.now s o.now) }
-    ensures small { result ≤ 2 * most limits.Locals }
+    ensures small { result ≤ 3 * most limits.Locals }
 {
+    let shared = flow.file.shared.len() as u64;
     match o {
-        Obligation::Start { .. } => flow.file.shared.len() as u64 + z.bound,
-        Obligation::Enter { .. } => z.mine + count_other_data(acting_locals(flow, o)),
-        _ => 0,
+        Obligation::Start { .. } => shared + z.bound + if_marked(z.marked, shared),
+        Obligation::Enter { .. } => {
+            z.mine + count_other_data(acting_locals(flow, o)) + if_marked(z.marked, z.mine)
+        }
+        Obligation::Own { .. } | Obligation::Other { .. } | Obligation::Claim { .. } => 0,
     }
 }
 
@@ -239,7 +291,7 @@ fn freshness_size(file: &File, z: Sizes) -> u64
     requires fields { length file.now.fields ≤ most limits.Fields }
     requires ghosts { length file.now.ghosts ≤ most limits.Ghosts }
     ensures size { (s : Setting) → AreSizesOf s z → result ≡ length (freshness file.now s) }
-    ensures small { result ≤ 2 + most_pointers + most_nodes * most limits.Fields + most limits.Fields
+    ensures small { result ≤ 2 + most_pointers + most_nodes * most limits.Fields + 2 * most limits.Fields
         + most limits.Ghosts }
 {
     if z.made {
@@ -247,7 +299,8 @@ fn freshness_size(file: &File, z: Sizes) -> u64
             + z.pointers
             + z.nodes * z.fields
             + file.fields.len() as u64
-            + file.ghosts.len() as u64;
+            + file.ghosts.len() as u64
+            + if_marked(z.marked, z.fields);
     }
     0
 }
@@ -275,7 +328,7 @@ fn premises_size(places: u64, clauses: &[Clause]) -> u64
     requires bound { All (λ c. length c.bound.names ≤ most_bound) clauses.now }
     requires short { length clauses.now ≤ most limits.Invariants }
     ensures size { result ≡ sum_by (clause_size places) clauses.now }
-    ensures small { result ≤ length clauses.now * most_instances }
+    ensures small { result ≤ most limits.Invariants * most_instances }
 {
     let mut total = 0;
     for clause in clauses {
@@ -307,7 +360,7 @@ fn executed_size(marked: bool, nodes: u64, prims: &[Prim]) -> u64
     requires few { nodes ≤ most_nodes }
     requires short { length prims.now ≤ most_step_primitives }
     ensures size { result ≡ sum_by (prim_size marked nodes) prims.now }
-    ensures small { result ≤ length prims.now * most_of_primitive }
+    ensures small { result ≤ most_step_primitives * most_of_primitive }
 {
     let mut total = 0;
     for prim in prims {
@@ -350,8 +403,9 @@ pub(crate) fn clauses_where(marked: bool, flow: &Flow, outline: &Outline, o: &Ob
     requires marked { marked ≡ program_uses_marks flow.now outline.now }
     ensures { result ≡ length (ground_set flow.now outline.now o.now).clauses }
 {
-    let z = sizes_of(flow, outline, o);
+    let z = sizes_of(marked, flow, outline, o);
     values_size(flow.file.ghosts.as_slice(), z.nodes)
+        + mark_values_size(z)
         + beginning_size(flow, z, o)
         + freshness_size(&flow.file, z)
         + premises_size(z.instances, invariants_before(outline, o))

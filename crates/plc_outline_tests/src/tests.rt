@@ -6,6 +6,7 @@ mod collected;
 mod deep;
 mod erased;
 mod loading;
+mod marked_sets;
 mod marks;
 mod obligations;
 mod sets;

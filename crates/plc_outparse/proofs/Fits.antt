@@ -10,10 +10,11 @@ use Rattle.std.proofs.lemmas.List.Quantifiers.{position-Some}
 use Rattle.plc_base.specs.Limits.{most}
 use Rattle.plc_base.specs.declared.limits.What1.TheVariants as limits
 use Rattle.plc_base.specs.Names.{NameList, place_of}
+use Rattle.plc_base.specs.declared.ids.FieldId.{FieldId}
 use Rattle.plc_lang.specs.declared.syntax.Local.{Local}
 use Rattle.plc_lang.specs.declared.syntax.Op.{Op}
 use Rattle.plc_lang.specs.declared.syntax.File.{File}
-use Rattle.plc_syntax.specs.Trees.{Text, PlaceOf, TermTree, PlaceTerm, NullTerm, NumberTerm, MeTerm, NoneTerm, RetiredFlag, LiteralTree, FlagLiteral, NotLiteral, EqualityLiteral, BoundTree, NoBound, AllOf, ClauseTree, Claims, ItemTree, InvariantItem, OverItem, AtItem, OutlineTree, Outlined}
+use Rattle.plc_syntax.specs.Trees.{Text, PlaceOf, TermTree, PlaceTerm, NullTerm, NumberTerm, MeTerm, NoneTerm, PlaceTree, FlagTree, RetiredFlag, MarkedFlag, LiteralTree, FlagLiteral, NotLiteral, EqualityLiteral, BoundTree, NoBound, AllOf, ClauseTree, Claims, ItemTree, InvariantItem, OverItem, AtItem, OutlineTree, Outlined}
 use Rattle.plc_scope.specs.declared.fault.ParseFault.{ParseFault}
 use Rattle.plc_scope.specs.declared.fault.ParseFault.TheVariants as faults
 use Rattle.plc_scope.specs.declared.scope.Scope.{Scope}
@@ -35,16 +36,16 @@ use Rattle.plc_logic.specs.declared.clause.Site.{Site}
 use Rattle.plc_logic.specs.declared.clause.Site.TheVariants.{Over, At}
 use Rattle.plc_logic.specs.declared.clause.Item.{Item}
 use Rattle.plc_logic.specs.declared.clause.Outline.{Outline}
-use Rattle.plc_logic.specs.Fit.{InReach, IsNode, HasSort, pointer_sort, ghost_sort, LiteralFits, ClauseFits, InvariantFits, LabelsFit, SiteFits, ItemFits, OutlineFits}
+use Rattle.plc_logic.specs.Fit.{InReach, IsNode, HasSort, HoldsPointer, pointer_sort, ghost_sort, LiteralFits, ClauseFits, InvariantFits, LabelsFit, SiteFits, ItemFits, OutlineFits}
 use Rattle.plc_lang.specs.Labels.{block_labels, labels_by_op, has_label, op_of_label}
 use Rattle.plc_outparse.specs.declared.kind.Kind.{Kind}
 use Rattle.plc_outparse.specs.declared.kind.Kind.TheVariants as kinds
 use Rattle.plc_outparse.specs.Fit.{holds_threads, NamesOf, OutlinesFit}
-use Rattle.plc_outparse.specs.Reach.{Reach, auxiliary_sort, binding_kind, local_kind, kind_found, declared_kind, kind_or_bound, kind_of, as_base, base_at, base_term, as_term, as_field}
+use Rattle.plc_outparse.specs.Reach.{Reach, auxiliary_sort, binding_kind, local_kind, kind_found, declared_kind, kind_or_bound, kind_of, as_base, base_at, base_term, base_pointer, as_pointer, as_term, as_field, field_pointer, as_pointer_field}
 use Rattle.plc_outparse.specs.Sizes.{term_size, literal_size, bound_size, depth_size}
 use Rattle.plc_scope.specs.Limits.{stands_at}
 use Rattle.plc_lang.specs.Locals.{locals_or_none, locals_of}
-use Rattle.plc_outparse.specs.Meaning.{in_turn, me_means, term_means, sort_place, second_means, literal_means, counted, Literals, literal_step, none_bound, if_free, bound_with, second_bound, bound_means, reach, clause_means, clause_line_means, op_named, op_at, label_named, with_op, label_at, if_same_op, Labels, label_step, labels_mean, Parts, with_invariant, with_item, item_step, depth_means, outline_means}
+use Rattle.plc_outparse.specs.Meaning.{in_turn, me_means, term_means, sort_place, second_means, pointer_means, flag_means, literal_means, counted, Literals, literal_step, none_bound, if_free, bound_with, second_bound, bound_means, reach, clause_means, clause_line_means, op_named, op_at, label_named, with_op, label_at, if_same_op, Labels, label_step, labels_mean, Parts, with_invariant, with_item, item_step, depth_means, outline_means}
 
 fitting : {A : Type 0} (P : A → Type 0) (at : ℕ) (o : Option A) → IfSome o P → Has P (if_fits at o)
 fitting P at (Some x) h = h
@@ -177,10 +178,60 @@ module _ (file : File) (r : Reach) (names : NamesOf r.scope file) where
 
   -- ---- literals
 
+  base_holds : (b : Base) → IsNode w b → IfSome (base_pointer b) (HoldsPointer w)
+  base_holds (bases.Shared i) h = h
+  base_holds (bases.Local i) h = h
+  base_holds (bases.Bound i) h = tt
+
+  alone_holds : (k : Kind) → KindFits w k → IfSome (as_pointer k) (HoldsPointer w)
+  alone_holds (kinds.Node b) h = base_holds b h
+  alone_holds (kinds.Data i) h = tt
+  alone_holds (kinds.Field f s) h = tt
+  alone_holds (kinds.Auxiliary g s) h = tt
+  alone_holds (kinds.Value g v) h = tt
+  alone_holds kinds.NoValue h = tt
+
+  holds_nodes : (p : Bool) → sorts.Node ≡ pointer_sort p → p ≡ true
+  holds_nodes true e = refl
+  holds_nodes false e = cc
+
+  sort_holds : (b : Base) (f : FieldId) (s : Sort) → IsNode w b → KindFits w (kinds.Field f s)
+      → IfSome (field_pointer b f s) (HoldsPointer w)
+  sort_holds b f sorts.Node n h = (n, h.0, h.1, holds_nodes h.0.pointer h.2)
+  sort_holds b f sorts.Number n h = tt
+  sort_holds b f sorts.Thread n h = tt
+  sort_holds b f (sorts.Value g) n h = tt
+  sort_holds b f sorts.Truth n h = tt
+
+  field_holds : (b : Base) (k : Kind) → IsNode w b → KindFits w k → IfSome (as_pointer_field b k) (HoldsPointer w)
+  field_holds b (kinds.Node c) n h = tt
+  field_holds b (kinds.Data i) n h = tt
+  field_holds b (kinds.Field f s) n h = sort_holds b f s n h
+  field_holds b (kinds.Auxiliary g s) n h = tt
+  field_holds b (kinds.Value g v) n h = tt
+  field_holds b kinds.NoValue n h = tt
+
+  pointer_holds : (at : ℕ) (p : PlaceTree) → Has (HoldsPointer w) (pointer_means r at p)
+  pointer_holds at (PlaceOf n None) =
+      next (KindFits w) (HoldsPointer w) (known at (kind_of r n)) _
+      (known_has (KindFits w) at (kind_of r n) (kind_fits n))
+      (λ k h. fitting (HoldsPointer w) at (as_pointer k) (alone_holds k h))
+  pointer_holds at (PlaceOf n (Some f)) =
+      next (IsNode w) (HoldsPointer w) (base_at r n at) _ (base_is_node n at) (λ b node.
+      next (KindFits w) (HoldsPointer w) (known (at + 2) (kind_of r f)) _
+      (known_has (KindFits w) (at + 2) (kind_of r f) (kind_fits f))
+      (λ k h. fitting (HoldsPointer w) (at + 2) (as_pointer_field b k) (field_holds b k node h)))
+
+  flag_fits : (is_so : Bool) (at : ℕ) (f : FlagTree) → Has (LiteralFits w) (flag_means r is_so at f)
+  flag_fits is_so at (RetiredFlag n) =
+      next (IsNode w) (LiteralFits w) (base_at r n (at + 2)) _ (base_is_node n (at + 2)) (λ b h. h)
+  flag_fits is_so at (MarkedFlag p) =
+      next (HoldsPointer w) (LiteralFits w) (pointer_means r (at + 2) p) _ (pointer_holds (at + 2) p) (λ t h. h)
+
   literal_fits : (at : ℕ) (l : LiteralTree) → Has (LiteralFits w) (literal_means r at l)
   unfolding literal_means
-  literal_fits at (FlagLiteral (RetiredFlag n)) = next (IsNode w) (LiteralFits w) (base_at r n (at + 2)) _ (base_is_node n (at + 2)) (λ b h. h)
-  literal_fits at (NotLiteral (RetiredFlag n)) = next (IsNode w) (LiteralFits w) (base_at r n (at + 1 + 2)) _ (base_is_node n (at + 1 + 2)) (λ b h. h)
+  literal_fits at (FlagLiteral f) = flag_fits true at f
+  literal_fits at (NotLiteral f) = flag_fits false (at + 1) f
   literal_fits at (EqualityLiteral a e b) =
       next Sorted (LiteralFits w) (term_means r at a) _ (term_sorted at a) (λ x h.
       next (λ y. HasSort w y x.1) (LiteralFits w) (second_means r x.1 (at + term_size a + 1) b) _ (second_sorted x.1 (at + term_size a + 1) b) (λ y k. (x.1, h, k)))

@@ -3,7 +3,7 @@ use Rattle.std.proofs.Common.{◌≡◌, ℕ, List, [], ◌∷◌, Bool, true, f
 use Rattle.plc_lex.specs.declared.token.TokenKind.{TokenKind}
 use Rattle.plc_lex.specs.declared.token.TokenKind.TheVariants.{Symbol}
 use Rattle.plc_lex.specs.declared.token.Symbol.TheVariants.{Equal, Unequal, CloseBrace, Semicolon, Colon}
-use Rattle.plc_syntax.specs.Trees.{each_then, maybe_then, comma_name_then, PlaceOf, TermTree, PlaceTerm, NullTerm, NumberTerm, MeTerm, NoneTerm, term_then, RetiredFlag, LiteralTree, FlagLiteral, NotLiteral, EqualityLiteral, literal_then, BoundTree, NoBound, AllOf, bound_then, or_literal_then, clause_then, ItemTree, InvariantItem, OverItem, AtItem, item_then, depth_then}
+use Rattle.plc_syntax.specs.Trees.{each_then, maybe_then, comma_name_then, PlaceOf, TermTree, PlaceTerm, NullTerm, NumberTerm, MeTerm, NoneTerm, term_then, RetiredFlag, MarkedFlag, LiteralTree, FlagLiteral, NotLiteral, EqualityLiteral, literal_then, BoundTree, NoBound, AllOf, bound_then, or_literal_then, clause_then, ItemTree, InvariantItem, OverItem, AtItem, item_then, depth_then}
 use Rattle.plc_forms.specs.Forms.{◌>>=◌, read_as, dot_name_of, place_with}
 use Rattle.plc_outparse.specs.Forms.{term_of, equality_of, equation_of, literal_of, or_literal_of, bound_of, HeadTree, InvariantHead, OverHead, AtHead, item_head_of, depth_of}
 
@@ -31,7 +31,11 @@ equation_reads a false b rest h =
 
 pub literal_reads : (l : LiteralTree) (rest : List TokenKind) → NoDot rest → literal_of (literal_then l rest) ≡ Some (l, rest)
 literal_reads (FlagLiteral (RetiredFlag n)) rest h = refl
+literal_reads (FlagLiteral (MarkedFlag (PlaceOf n None))) rest h = refl
+literal_reads (FlagLiteral (MarkedFlag (PlaceOf n (Some f)))) rest h = refl
 literal_reads (NotLiteral (RetiredFlag n)) rest h = refl
+literal_reads (NotLiteral (MarkedFlag (PlaceOf n None))) rest h = refl
+literal_reads (NotLiteral (MarkedFlag (PlaceOf n (Some f)))) rest h = refl
 literal_reads (EqualityLiteral (PlaceTerm (PlaceOf n f)) e b) rest h = equation_reads (PlaceTerm (PlaceOf n f)) e b rest h
 literal_reads (EqualityLiteral NullTerm e b) rest h = equation_reads NullTerm e b rest h
 literal_reads (EqualityLiteral (NumberTerm n) e b) rest h = equation_reads (NumberTerm n) e b rest h
@@ -51,7 +55,8 @@ no_dot_after (l ∷ ls) rest = refl
 -- no literal begins with "all"
 literal_no_bound : (l : LiteralTree) (rest : List TokenKind) → bound_of (literal_then l rest) ≡ Some (NoBound, literal_then l rest)
 literal_no_bound (FlagLiteral (RetiredFlag n)) rest = refl
-literal_no_bound (NotLiteral (RetiredFlag n)) rest = refl
+literal_no_bound (FlagLiteral (MarkedFlag p)) rest = refl
+literal_no_bound (NotLiteral f) rest = refl
 literal_no_bound (EqualityLiteral (PlaceTerm (PlaceOf n f)) e b) rest = refl
 literal_no_bound (EqualityLiteral NullTerm e b) rest = refl
 literal_no_bound (EqualityLiteral (NumberTerm n) e b) rest = refl

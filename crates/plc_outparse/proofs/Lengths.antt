@@ -3,7 +3,7 @@ use Rattle.std.proofs.Common.{◌+◌, ◌<◌, ◌≤◌, List, [], ◌∷◌, 
 use Rattle.plc_lex.specs.declared.token.TokenKind.{TokenKind}
 use Rattle.plc_lex.specs.declared.token.TokenKind.TheVariants.{Symbol}
 use Rattle.plc_lex.specs.declared.token.Symbol.TheVariants.{Semicolon, Colon}
-use Rattle.plc_syntax.specs.Trees.{Text, each_then, comma_name_then, PlaceOf, TermTree, PlaceTerm, NullTerm, NumberTerm, MeTerm, NoneTerm, term_then, RetiredFlag, equality_symbol, LiteralTree, FlagLiteral, NotLiteral, EqualityLiteral, literal_then, BoundTree, NoBound, AllOf, bound_then, or_literal_then, ClauseTree, Claims, clause_then, ItemTree, InvariantItem, OverItem, AtItem, item_then}
+use Rattle.plc_syntax.specs.Trees.{Text, each_then, comma_name_then, PlaceOf, TermTree, PlaceTerm, NullTerm, NumberTerm, MeTerm, NoneTerm, term_then, FlagTree, RetiredFlag, MarkedFlag, flag_then, equality_symbol, LiteralTree, FlagLiteral, NotLiteral, EqualityLiteral, literal_then, BoundTree, NoBound, AllOf, bound_then, or_literal_then, ClauseTree, Claims, clause_then, ItemTree, InvariantItem, OverItem, AtItem, item_then}
 
 term_long : (t : TermTree) (rest : List TokenKind) → length rest < length (term_then t rest)
 term_long (PlaceTerm (PlaceOf n None)) rest = omega arith
@@ -13,9 +13,14 @@ term_long (NumberTerm n) rest = omega arith
 term_long MeTerm rest = omega arith
 term_long NoneTerm rest = omega arith
 
+flag_long : (f : FlagTree) (rest : List TokenKind) → length rest ≤ length (flag_then f rest)
+flag_long (RetiredFlag n) rest = omega arith
+flag_long (MarkedFlag (PlaceOf n None)) rest = omega arith
+flag_long (MarkedFlag (PlaceOf n (Some f))) rest = omega arith
+
 literal_long : (l : LiteralTree) (rest : List TokenKind) → length rest ≤ length (literal_then l rest)
-literal_long (FlagLiteral (RetiredFlag n)) rest = omega arith
-literal_long (NotLiteral (RetiredFlag n)) rest = omega arith
+literal_long (FlagLiteral f) rest = flag_long f rest
+literal_long (NotLiteral f) rest = omega (arith, flag_long f rest)
 literal_long (EqualityLiteral a e b) rest = omega (arith, term_long a (Symbol (equality_symbol e) ∷ term_then b rest), term_long b rest)
 
 pub literals_long : (ls : List LiteralTree) (rest : List TokenKind) → length ls + length rest ≤ length (each_then or_literal_then ls rest)

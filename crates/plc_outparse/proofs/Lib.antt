@@ -4,3 +4,4 @@ pub mod Lengths
 pub mod Law
 pub mod Exact
 pub mod Fits
+pub mod Marked

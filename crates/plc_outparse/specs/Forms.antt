@@ -4,12 +4,12 @@ use Rattle.std.specs.Prelude.{ℕ, Bool, true, false, Option, Some, None, List, 
 use Rattle.plc_lex.specs.declared.token.TokenKind.{TokenKind}
 use Rattle.plc_lex.specs.declared.token.TokenKind.TheVariants.{Word, Number, Symbol}
 use Rattle.plc_lex.specs.declared.token.Keyword.TheVariants.{Or, Null, Outline, Depth, Inv, Over, At, All, Not, Retired}
-use Rattle.plc_lex.specs.declared.token.Keyword.TheVariants.{Me, None as NoneWord}
+use Rattle.plc_lex.specs.declared.token.Keyword.TheVariants.{Marked, Me, None as NoneWord}
 use Rattle.plc_lex.specs.declared.token.Symbol.TheVariants.{Equal, Unequal, OpenBrace, OpenParen, CloseParen, Semicolon}
 use Rattle.plc_lex.specs.declared.token.Symbol.TheVariants.{Colon}
 use Rattle.plc_syntax.specs.Trees.{Text, TermTree, PlaceTerm, NullTerm, NumberTerm, MeTerm, NoneTerm, FlagTree}
-use Rattle.plc_syntax.specs.Trees.{RetiredFlag, LiteralTree, FlagLiteral, NotLiteral, EqualityLiteral, BoundTree}
-use Rattle.plc_syntax.specs.Trees.{NoBound, AllOf}
+use Rattle.plc_syntax.specs.Trees.{RetiredFlag, MarkedFlag, LiteralTree, FlagLiteral, NotLiteral, EqualityLiteral}
+use Rattle.plc_syntax.specs.Trees.{BoundTree, NoBound, AllOf}
 use Rattle.plc_forms.specs.Forms.{◌>>=◌, read_as, word_of, symbol_of, name_of, word_symbol_of, name_symbol_of}
 use Rattle.plc_forms.specs.Forms.{comma_name_of, name_or_none, place_of}
 
@@ -30,8 +30,21 @@ equality_of (Symbol Unequal ∷ rest) = Some (false, rest)
 equality_of ts = None
 
 -- "retired", and a name in parentheses
+abbrev pub retired_of : List TokenKind → Option (FlagTree × List TokenKind)
+retired_of ts = read_as RetiredFlag (word_symbol_of Retired OpenParen ts >>= name_symbol_of CloseParen)
+
+-- a place in parentheses, which stands after "marked"
+abbrev pub marked_of : List TokenKind → Option (FlagTree × List TokenKind)
+marked_of ts = do
+  us ← symbol_of OpenParen ts
+  p ← place_of us
+  rest ← symbol_of CloseParen p.1
+  Some (MarkedFlag p.0, rest)
+
+-- a flag
 abbrev pub flag_of : List TokenKind → Option (FlagTree × List TokenKind)
-flag_of ts = read_as RetiredFlag (word_symbol_of Retired OpenParen ts >>= name_symbol_of CloseParen)
+flag_of (Word Marked ∷ rest) = marked_of rest
+flag_of ts = retired_of ts
 
 -- an equation or an inequation
 abbrev pub equation_of : List TokenKind → Option (LiteralTree × List TokenKind)
@@ -45,6 +58,7 @@ equation_of ts = do
 abbrev pub literal_of : List TokenKind → Option (LiteralTree × List TokenKind)
 literal_of (Word Not ∷ rest) = read_as NotLiteral (flag_of rest)
 literal_of (Word Retired ∷ rest) = read_as FlagLiteral (flag_of (Word Retired ∷ rest))
+literal_of (Word Marked ∷ rest) = read_as FlagLiteral (flag_of (Word Marked ∷ rest))
 literal_of ts = equation_of ts
 
 -- a further literal

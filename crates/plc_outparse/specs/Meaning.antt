@@ -11,18 +11,19 @@ use Rattle.plc_lang.specs.declared.syntax.Local.{Local}
 use Rattle.plc_lang.specs.declared.syntax.Op.{Op}
 use Rattle.plc_lang.specs.Locals.{locals_of}
 use Rattle.plc_syntax.specs.Trees.{Text, PlaceTree, PlaceOf, TermTree, PlaceTerm, NullTerm, NumberTerm, MeTerm}
-use Rattle.plc_syntax.specs.Trees.{NoneTerm, FlagTree, RetiredFlag, LiteralTree, FlagLiteral, NotLiteral}
-use Rattle.plc_syntax.specs.Trees.{EqualityLiteral, BoundTree, NoBound, AllOf, ClauseTree, Claims, ItemTree}
+use Rattle.plc_syntax.specs.Trees.{NoneTerm, FlagTree, RetiredFlag, MarkedFlag, LiteralTree, FlagLiteral}
+use Rattle.plc_syntax.specs.Trees.{NotLiteral, EqualityLiteral, BoundTree, NoBound, AllOf, ClauseTree, Claims, ItemTree}
 use Rattle.plc_syntax.specs.Trees.{InvariantItem, OverItem, AtItem, OutlineTree, Outlined}
 use Rattle.plc_scope.specs.declared.fault.ParseFault.{ParseFault}
 use Rattle.plc_scope.specs.declared.fault.ParseFault.TheVariants as faults
 use Rattle.plc_scope.specs.declared.scope.Scope.{Scope}
 use Rattle.plc_scope.specs.Limits.{within_limit, stands_at}
 use Rattle.plc_scope.specs.Scope.{◌>>=◌, known, if_fits, if_new, with_last}
+use Rattle.plc_logic.specs.declared.clause.Base.{Base}
 use Rattle.plc_logic.specs.declared.clause.Term.{Term}
 use Rattle.plc_logic.specs.declared.clause.Term.TheVariants as terms
 use Rattle.plc_logic.specs.declared.clause.Literal.{Literal}
-use Rattle.plc_logic.specs.declared.clause.Literal.TheVariants.{Same, Retired}
+use Rattle.plc_logic.specs.declared.clause.Literal.TheVariants.{Same, Retired, Marked}
 use Rattle.plc_logic.specs.declared.clause.Clause.{Clause}
 use Rattle.plc_logic.specs.declared.clause.Site.{Site}
 use Rattle.plc_logic.specs.declared.clause.Site.TheVariants.{Over, At}
@@ -33,7 +34,8 @@ use Rattle.plc_logic.specs.declared.clause.Sort.TheVariants as sorts
 use Rattle.plc_logic.specs.Sorts.{same_sort}
 use Rattle.plc_outparse.specs.declared.kind.Kind.{Kind}
 use Rattle.plc_outparse.specs.Sizes.{term_size, literal_size, bound_size, depth_size}
-use Rattle.plc_outparse.specs.Reach.{Reach, declared_kind, kind_of, base_at, as_term, as_field}
+use Rattle.plc_outparse.specs.Reach.{Reach, declared_kind, kind_of, base_at, as_term, as_field, as_pointer}
+use Rattle.plc_outparse.specs.Reach.{as_pointer_field}
 use Rattle.plc_lang.specs.Labels.{labels_by_op, op_of_label}
 
 -- ---- parts
@@ -45,15 +47,20 @@ in_turn step s (x ∷ xs) = step s x >>= λ t. in_turn step t xs
 
 -- ---- terms
 
--- a name alone, or a field of a base
-abbrev pub place_means : Reach → ℕ → PlaceTree → Result (Term × Sort) ParseFault
-place_means r at (PlaceOf n None) = do
+-- what is wanted of a name alone, or of a field of a base
+abbrev pub wanted_of : {A : Type 0} → Reach → (Kind → Option A) → (Base → Kind → Option A) → ℕ → PlaceTree
+    → Result A ParseFault
+wanted_of r alone after at (PlaceOf n None) = do
   k ← known at (kind_of r n)
-  if_fits at (as_term k)
-place_means r at (PlaceOf n (Some f)) = do
+  if_fits at (alone k)
+wanted_of r alone after at (PlaceOf n (Some f)) = do
   b ← base_at r n at
   k ← known (at + 2) (kind_of r f)
-  if_fits (at + 2) (as_field b k)
+  if_fits (at + 2) (after b k)
+
+-- a name alone, or a field of a base, with its sort
+abbrev pub place_means : Reach → ℕ → PlaceTree → Result (Term × Sort) ParseFault
+place_means r at p = wanted_of r as_term as_field at p
 
 -- the thread that is in the operation, which an invariant lacks
 abbrev pub me_means : Bool → ℕ → Result (Term × Sort) ParseFault
@@ -89,11 +96,18 @@ second_means r wanted at t = do
 
 -- ---- literals
 
--- "retired", an opening parenthesis and a base
+-- a place that holds a pointer: a shared pointer or a pointer local, or a pointer field of a base
+abbrev pub pointer_means : Reach → ℕ → PlaceTree → Result Term ParseFault
+pointer_means r at p = wanted_of r as_pointer as_pointer_field at p
+
+-- a flag's word and an opening parenthesis, and then a base, or a place that has a mark
 abbrev pub flag_means : Reach → Bool → ℕ → FlagTree → Result Literal ParseFault
 flag_means r is_so at (RetiredFlag n) = do
   b ← base_at r n (at + 2)
   Ok (Retired b is_so)
+flag_means r is_so at (MarkedFlag p) = do
+  t ← pointer_means r (at + 2) p
+  Ok (Marked t is_so)
 
 -- the sides from left to right
 unfoldable pub literal_means : Reach → ℕ → LiteralTree → Result Literal ParseFault

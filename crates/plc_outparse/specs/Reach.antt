@@ -2,6 +2,7 @@
 -- keep what they stand for.
 use Rattle.std.specs.Prelude.{ℕ, Bool, true, false, List, Option, Some, None, option_and_then, Result}
 use Rattle.plc_base.specs.Names.{NameList, place_of}
+use Rattle.plc_base.specs.declared.ids.FieldId.{FieldId}
 use Rattle.plc_lang.specs.declared.syntax.Local.{Local}
 use Rattle.plc_syntax.specs.Trees.{Text}
 use Rattle.plc_scope.specs.declared.fault.ParseFault.{ParseFault}
@@ -95,6 +96,16 @@ as_term (kinds.Auxiliary g s) = None
 as_term (kinds.Value g v) = Some (terms.Value g v, sorts.Value g)
 as_term kinds.NoValue = None
 
+-- the place of a pointer that a base alone is; a quantified name is a node, and no place of one
+abbrev pub base_pointer : Base → Option Term
+base_pointer (bases.Shared i) = Some (terms.Shared i)
+base_pointer (bases.Local i) = Some (terms.Local i)
+base_pointer (bases.Bound i) = None
+
+-- the place of a pointer that a name alone is
+abbrev pub as_pointer : Kind → Option Term
+as_pointer k = option_and_then base_pointer (as_base k)
+
 -- the term that a name is after a base and a dot, with its sort
 abbrev pub as_field : Base → Kind → Option (Term × Sort)
 as_field b (kinds.Node c) = None
@@ -103,3 +114,20 @@ as_field b (kinds.Field f s) = Some (terms.FieldOf b f, s)
 as_field b (kinds.Auxiliary g s) = Some (terms.GhostOf b g, s)
 as_field b (kinds.Value g v) = None
 as_field b kinds.NoValue = None
+
+-- the place of a pointer that a field of a base is, by the sort of what it holds
+abbrev pub field_pointer : Base → FieldId → Sort → Option Term
+field_pointer b f sorts.Node = Some (terms.FieldOf b f)
+field_pointer b f sorts.Number = None
+field_pointer b f sorts.Thread = None
+field_pointer b f (sorts.Value g) = None
+field_pointer b f sorts.Truth = None
+
+-- the place of a pointer that a name is after a base and a dot
+abbrev pub as_pointer_field : Base → Kind → Option Term
+as_pointer_field b (kinds.Node c) = None
+as_pointer_field b (kinds.Data i) = None
+as_pointer_field b (kinds.Field f s) = field_pointer b f s
+as_pointer_field b (kinds.Auxiliary g s) = None
+as_pointer_field b (kinds.Value g v) = None
+as_pointer_field b kinds.NoValue = None

@@ -1,7 +1,8 @@
 -- How many tokens the forms of an outline have, so that a place after a form is the place before it and its size.
 use Rattle.std.specs.Prelude.{ℕ, ◌+◌, Option, Some, None}
-use Rattle.plc_syntax.specs.Trees.{TermTree, PlaceTerm, NullTerm, NumberTerm, MeTerm, NoneTerm, LiteralTree}
-use Rattle.plc_syntax.specs.Trees.{FlagLiteral, NotLiteral, EqualityLiteral, BoundTree, NoBound, AllOf}
+use Rattle.plc_syntax.specs.Trees.{TermTree, PlaceTerm, NullTerm, NumberTerm, MeTerm, NoneTerm, FlagTree, RetiredFlag}
+use Rattle.plc_syntax.specs.Trees.{MarkedFlag, LiteralTree, FlagLiteral, NotLiteral, EqualityLiteral}
+use Rattle.plc_syntax.specs.Trees.{BoundTree, NoBound, AllOf}
 use Rattle.plc_forms.specs.Sizes.{place_size}
 
 -- a side of an equation
@@ -12,10 +13,15 @@ term_size (NumberTerm n) = 1
 term_size MeTerm = 1
 term_size NoneTerm = 1
 
+-- its word, and a name or a place in parentheses
+abbrev pub flag_size : FlagTree → ℕ
+flag_size (RetiredFlag n) = 4
+flag_size (MarkedFlag p) = 3 + place_size p
+
 -- a literal without the "or" before it
 abbrev pub literal_size : LiteralTree → ℕ
-literal_size (FlagLiteral f) = 4
-literal_size (NotLiteral f) = 5
+literal_size (FlagLiteral f) = flag_size f
+literal_size (NotLiteral f) = 1 + flag_size f
 literal_size (EqualityLiteral a e b) = term_size a + 1 + term_size b
 
 -- "all", its names and a colon

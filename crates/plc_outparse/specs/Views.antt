@@ -3,12 +3,15 @@
 use Rattle.std.specs.Prelude.{ℕ, List}
 use Rattle.plc_lex.specs.declared.token.TokenKind.{TokenKind}
 use Rattle.plc_syntax.specs.Syntax.{kinds}
-use Rattle.plc_syntax.specs.Trees.{TermTree, PlaceTerm, NullTerm, NumberTerm, MeTerm, NoneTerm, RetiredFlag}
+use Rattle.plc_syntax.specs.Trees.{TermTree, PlaceTerm, NullTerm, NumberTerm, MeTerm, NoneTerm, FlagTree}
+use Rattle.plc_syntax.specs.Trees.{RetiredFlag, MarkedFlag}
 use Rattle.plc_syntax.specs.Trees.{LiteralTree, FlagLiteral, NotLiteral, EqualityLiteral, BoundTree, NoBound, AllOf}
 use Rattle.plc_forms.specs.declared.rest.Rest.{Rest}
 use Rattle.plc_forms.specs.Views.{text_or_none, place_tree}
 use Rattle.plc_outparse.specs.declared.form.Side.{Side}
 use Rattle.plc_outparse.specs.declared.form.Side.TheVariants as sides
+use Rattle.plc_outparse.specs.declared.form.FlagForm.{FlagForm}
+use Rattle.plc_outparse.specs.declared.form.FlagForm.TheVariants as flags
 use Rattle.plc_outparse.specs.declared.form.LiteralForm.{LiteralForm}
 use Rattle.plc_outparse.specs.declared.form.LiteralForm.TheVariants as literals
 use Rattle.plc_outparse.specs.declared.form.Quantified.{Quantified}
@@ -29,10 +32,15 @@ side_tree (sides.Number n) = NumberTerm n
 side_tree sides.Me = MeTerm
 side_tree sides.None = NoneTerm
 
+-- a flag
+abbrev pub flag_tree : FlagForm → FlagTree
+flag_tree (flags.Retired n) = RetiredFlag n.now
+flag_tree (flags.Marked p) = MarkedFlag (place_tree p)
+
 -- a literal
 abbrev pub literal_tree : LiteralForm → LiteralTree
-literal_tree (literals.Retired n) = FlagLiteral (RetiredFlag n.now)
-literal_tree (literals.NotRetired n) = NotLiteral (RetiredFlag n.now)
+literal_tree (literals.Flag f) = FlagLiteral (flag_tree f)
+literal_tree (literals.Not f) = NotLiteral (flag_tree f)
 literal_tree (literals.Equation a e b) = EqualityLiteral (side_tree a) e (side_tree b)
 
 -- the quantified names of a clause

@@ -16,11 +16,19 @@ pub enum Side<'a> {
     None,
 }
 
+/// What a literal says of a node or of a place.
+#[derive(Clone, Copy)]
+pub enum FlagForm<'a> {
+    Retired(&'a [u8]),
+    Marked(Place<'a>),
+}
+
 /// A literal.
 #[derive(Clone, Copy)]
 pub enum LiteralForm<'a> {
-    Retired(&'a [u8]),
-    NotRetired(&'a [u8]),
+    Flag(FlagForm<'a>),
+    /// The flag is denied.
+    Not(FlagForm<'a>),
     /// Two sides, and whether they are said to be equal.
     Equation(Side<'a>, bool, Side<'a>),
 }

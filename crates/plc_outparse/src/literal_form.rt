@@ -1,14 +1,13 @@
 // Literals and the quantified names before them.
 ghost use Rattle.std.specs.Prelude.{◌≡◌, ◌+◌, ◌-◌, MatchOption, Some, None};
 ghost use Rattle.plc_syntax.specs.Syntax.{kinds};
-ghost use Rattle.plc_syntax.specs.Trees.{RetiredFlag};
 ghost use Rattle.plc_forms.specs.Views.{After, text_or_none, Reads};
-ghost use Rattle.plc_outparse.specs.Forms.{term_of, equality_of, flag_of, equation_of, literal_of, or_literal_of};
-ghost use Rattle.plc_outparse.specs.Forms.{further_name_of, all_names_of, bound_of};
-ghost use Rattle.plc_outparse.specs.Sizes.{term_size, literal_size, bound_size};
-ghost use Rattle.plc_outparse.specs.Views.{side_tree, literal_tree, quantified_tree};
+ghost use Rattle.plc_outparse.specs.Forms.{term_of, equality_of, retired_of, marked_of, flag_of, equation_of};
+ghost use Rattle.plc_outparse.specs.Forms.{literal_of, or_literal_of, further_name_of, all_names_of, bound_of};
+ghost use Rattle.plc_outparse.specs.Sizes.{term_size, flag_size, literal_size, bound_size};
+ghost use Rattle.plc_outparse.specs.Views.{side_tree, flag_tree, literal_tree, quantified_tree};
 
-use crate::form::{LiteralForm, Quantified, Side};
+use crate::form::{FlagForm, LiteralForm, Quantified, Side};
 use plc_forms::{
     Rest, comma_name_at, first, name_at, name_symbol_at, place_at, symbol_at, word_at,
     word_symbol_at,
@@ -43,11 +42,32 @@ fn equality_at<'a>(rest: Rest<'a>) -> Option<(bool, Rest<'a>)>
 }
 
 /// "retired", and a name in parentheses.
-fn flag_at<'a>(rest: Rest<'a>) -> Option<(&'a [u8], Rest<'a>)>
-    ensures { Reads flag_of (λ x. RetiredFlag x.now) (λ _. 4) rest.entry result }
+fn retired_at<'a>(rest: Rest<'a>) -> Option<(FlagForm<'a>, Rest<'a>)>
+    ensures { Reads retired_of flag_tree flag_size rest.entry result }
 {
     let after = word_symbol_at(rest, Keyword::Retired, Symbol::OpenParen)?;
-    name_symbol_at(after, Symbol::CloseParen)
+    let (name, after) = name_symbol_at(after, Symbol::CloseParen)?;
+    Some((FlagForm::Retired(name), after))
+}
+
+/// A place in parentheses, from after "marked".
+fn marked_at<'a>(rest: Rest<'a>) -> Option<(FlagForm<'a>, Rest<'a>)>
+    ensures { Reads marked_of flag_tree (λ f. flag_size f - 1) rest.entry result }
+{
+    let after = symbol_at(rest, Symbol::OpenParen)?;
+    let (place, after) = place_at(after)?;
+    let after = symbol_at(after, Symbol::CloseParen)?;
+    Some((FlagForm::Marked(place), after))
+}
+
+/// A flag.
+fn flag_at<'a>(rest: Rest<'a>) -> Option<(FlagForm<'a>, Rest<'a>)>
+    ensures { Reads flag_of flag_tree flag_size rest.entry result }
+{
+    match first(rest) {
+        Some((TokenKind::Word(Keyword::Marked), after)) => marked_at(after),
+        _ => retired_at(rest),
+    }
 }
 
 /// An equation or an inequation.
@@ -66,11 +86,11 @@ pub fn literal_at<'a>(rest: Rest<'a>) -> Option<(LiteralForm<'a>, Rest<'a>)>
 {
     match first(rest) {
         Some((TokenKind::Word(Keyword::Not), after)) => match flag_at(after) {
-            Some((name, after)) => Some((LiteralForm::NotRetired(name), after)),
+            Some((flag, after)) => Some((LiteralForm::Not(flag), after)),
             None => None,
         },
-        Some((TokenKind::Word(Keyword::Retired), _)) => match flag_at(rest) {
-            Some((name, after)) => Some((LiteralForm::Retired(name), after)),
+        Some((TokenKind::Word(Keyword::Retired | Keyword::Marked), _)) => match flag_at(rest) {
+            Some((flag, after)) => Some((LiteralForm::Flag(flag), after)),
             None => None,
         },
         _ => equation_at(rest),

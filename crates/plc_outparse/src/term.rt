@@ -1,18 +1,18 @@
 // What terms and literals mean. A term is judged for itself, whichever sort it has; the second term of
 // an equation has to be of the first one's sort.
 ghost use Rattle.std.specs.Prelude.{◌≡◌, ◌+◌, ◌<◌, ◌≤◌, ◌^◌, length, Option, Some, None};
-ghost use Rattle.plc_syntax.specs.Trees.{PlaceOf, RetiredFlag};
+ghost use Rattle.plc_syntax.specs.Trees.{PlaceOf, RetiredFlag, MarkedFlag};
 ghost use Rattle.plc_forms.specs.Sizes.{place_size};
 ghost use Rattle.plc_forms.specs.Views.{place_tree};
 ghost use Rattle.plc_scope.specs.Answers.{Gives};
 ghost use Rattle.plc_scope.specs.Scope.{most_locals};
 ghost use Rattle.plc_outparse.specs.Meaning.{place_means, me_means, term_means, sort_place, second_means};
-ghost use Rattle.plc_outparse.specs.Meaning.{flag_means, literal_means};
-ghost use Rattle.plc_outparse.specs.Reach.{base_term, as_term, as_field};
-ghost use Rattle.plc_outparse.specs.Sizes.{term_size, literal_size};
-ghost use Rattle.plc_outparse.specs.Views.{side_tree, literal_tree, reach_of};
+ghost use Rattle.plc_outparse.specs.Meaning.{pointer_means, flag_means, literal_means};
+ghost use Rattle.plc_outparse.specs.Reach.{base_term, as_term, as_field, as_pointer, as_pointer_field};
+ghost use Rattle.plc_outparse.specs.Sizes.{term_size, flag_size, literal_size};
+ghost use Rattle.plc_outparse.specs.Views.{side_tree, flag_tree, literal_tree, reach_of};
 
-use crate::form::{LiteralForm, Side};
+use crate::form::{FlagForm, LiteralForm, Side};
 use crate::kind::Kind;
 use crate::reach::{Reach, base_at, kind_at};
 use plc_forms::Place;
@@ -145,14 +145,95 @@ fn second(reach: &Reach, sort: Sort, at: u32, side: Side) -> Result<Term, ParseF
     }
 }
 
+/// The place of a pointer that a name alone is. A quantified name is a node, and no place of one.
+fn as_pointer(kind: Kind) -> Option<Term>
+    ensures { result ≡ as_pointer kind }
+{
+    match kind {
+        Kind::Node(Base::Shared(i)) => Some(Term::Shared(i)),
+        Kind::Node(Base::Local(i)) => Some(Term::Local(i)),
+        _ => None,
+    }
+}
+
+/// The place of a pointer that a name is after a base and a dot.
+fn as_pointer_field(base: Base, kind: Kind) -> Option<Term>
+    ensures { result ≡ as_pointer_field base kind }
+{
+    match kind {
+        Kind::Field(f, Sort::Node) => Some(Term::FieldOf { base, f }),
+        _ => None,
+    }
+}
+
+/// A shared pointer or a pointer local.
+fn pointer_name(reach: &Reach, at: u32, name: &[u8]) -> Result<Term, ParseFault>
+    requires { length reach.now.locals.now ≤ most_locals }
+    ensures { Gives (λ t. t) result (pointer_means (reach_of reach.now) at (PlaceOf name.now None)) }
+{
+    match as_pointer(kind_at(reach, name, at)?) {
+        Some(term) => Ok(term),
+        None => Err(ParseFault::WrongSort { at }),
+    }
+}
+
+/// A pointer field of a base.
+fn pointer_field(reach: &Reach, at: u32, name: &[u8], field: &[u8]) -> Result<Term, ParseFault>
+    requires locals { length reach.now.locals.now ≤ most_locals }
+    requires place { at + 3 < 2 ^ 32 }
+    ensures { Gives (λ t. t) result
+        (pointer_means (reach_of reach.now) at (PlaceOf name.now (Some field.now))) }
+{
+    let base = base_at(reach, name, at)?;
+    match as_pointer_field(base, kind_at(reach, field, at + 2)?) {
+        Some(term) => Ok(term),
+        None => Err(ParseFault::WrongSort { at: at + 2 }),
+    }
+}
+
+/// A place that holds a pointer, and so a mark.
+fn pointer(reach: &Reach, at: u32, place: Place) -> Result<Term, ParseFault>
+    requires locals { length reach.now.locals.now ≤ most_locals }
+    requires place { at + place_size (place_tree place) < 2 ^ 32 }
+    ensures { Gives (λ t. t) result (pointer_means (reach_of reach.now) at (place_tree place.entry)) }
+{
+    match place.field {
+        None => pointer_name(reach, at, place.name),
+        Some(after) => pointer_field(reach, at, place.name, after),
+    }
+}
+
 /// The literal that a node is retired, or is not.
-fn flag(reach: &Reach, yes: bool, at: u32, name: &[u8]) -> Result<Literal, ParseFault>
+fn retired(reach: &Reach, yes: bool, at: u32, name: &[u8]) -> Result<Literal, ParseFault>
     requires locals { length reach.now.locals.now ≤ most_locals }
     requires place { at + 4 < 2 ^ 32 }
     ensures { Gives (λ r. r) result (flag_means (reach_of reach.now) yes at (RetiredFlag name.now)) }
 {
     let x = base_at(reach, name, at + 2)?;
     Ok(Literal::Retired { x, yes })
+}
+
+/// The literal that a place is marked, or is not.
+fn marked(reach: &Reach, yes: bool, at: u32, place: Place) -> Result<Literal, ParseFault>
+    requires locals { length reach.now.locals.now ≤ most_locals }
+    requires place { at + flag_size (MarkedFlag (place_tree place)) < 2 ^ 32 }
+    ensures { Gives (λ r. r) result
+        (flag_means (reach_of reach.now) yes at (MarkedFlag (place_tree place.entry))) }
+{
+    let t = pointer(reach, at + 2, place)?;
+    Ok(Literal::Marked { t, yes })
+}
+
+/// The literal that a flag is so, or is not.
+fn flag(reach: &Reach, yes: bool, at: u32, form: FlagForm) -> Result<Literal, ParseFault>
+    requires locals { length reach.now.locals.now ≤ most_locals }
+    requires place { at + flag_size (flag_tree form) < 2 ^ 32 }
+    ensures { Gives (λ r. r) result (flag_means (reach_of reach.now) yes at (flag_tree form.entry)) }
+{
+    match form {
+        FlagForm::Retired(name) => retired(reach, yes, at, name),
+        FlagForm::Marked(place) => marked(reach, yes, at, place),
+    }
 }
 
 /// The literal of a form at a place. `Undeclared` for a name without a declaration in reach, and
@@ -164,8 +245,8 @@ pub fn literal(reach: &Reach, at: u32, form: LiteralForm) -> Result<Literal, Par
     ensures { Gives (λ r. r) result (literal_means (reach_of reach.now) at (literal_tree form.entry)) }
 {
     match form {
-        LiteralForm::Retired(name) => flag(reach, true, at, name),
-        LiteralForm::NotRetired(name) => flag(reach, false, at + 1, name),
+        LiteralForm::Flag(form) => flag(reach, true, at, form),
+        LiteralForm::Not(form) => flag(reach, false, at + 1, form),
         LiteralForm::Equation(left, equal, right) => {
             let (a, sort) = term(reach, at, left)?;
             let b = second(reach, sort, at + side_size(left) + 1, right)?;

@@ -15,7 +15,7 @@ use Rattle.plc_lang.specs.declared.syntax.Primitive.TheVariants.{DataStore, Data
 use Rattle.plc_lang.specs.declared.syntax.Cond.{Cond}
 use Rattle.plc_lang.specs.declared.syntax.Op.{Op}
 use Rattle.plc_lang.specs.Marks.{speaks_of_marks, speak_of_marks, condition_uses_marks, statement_uses_marks}
-use Rattle.plc_lang.specs.Marks.{statements_use_marks, blocks_use_marks, file_uses_marks}
+use Rattle.plc_lang.specs.Marks.{statements_use_marks, blocks_use_marks}
 use Rattle.plc_lang.specs.Statements.{Statement, Statements, Blocks}
 use Rattle.plc_syntax.specs.Trees.{Text, PlaceTree, PlaceOf, AtomTree, NullAtom, NumberAtom, NameAtom, ValueTree}
 use Rattle.plc_syntax.specs.Trees.{NullValue, NewValue, NumberValue, MarkValue, UnmarkValue, PlaceValue}
@@ -27,11 +27,11 @@ use Rattle.plc_syntax.specs.Trees.{PrimitiveTree, SetPrimitive, RefreshPrimitive
 use Rattle.plc_syntax.specs.Trees.{AssumePrimitive, SkipPrimitive, StatementTree, PrimitiveStatement, AtomicStatement}
 use Rattle.plc_syntax.specs.Trees.{CallStatement, IfStatement, ChooseStatement, LoopStatement, BreakStatement}
 use Rattle.plc_syntax.specs.Trees.{ReturnStatement, LabelStatement, BlockTree, NoStatement, Then, ElseTree, NoElse}
-use Rattle.plc_syntax.specs.Trees.{ElseBlock, OrTree, NoOr, OrBlock, OpTree, Operates, FileTree}
+use Rattle.plc_syntax.specs.Trees.{ElseBlock, OrTree, NoOr, OrBlock, OpTree, Operates, OutlineTree, FileTree}
 use Rattle.plc_syntax.specs.Marks.{value_uses_marks, set_uses_marks, initial_uses_marks}
 use Rattle.plc_syntax.specs.Marks.{init_uses_marks, test_uses_marks, condition_tree_uses_marks, primitive_uses_marks}
 use Rattle.plc_syntax.specs.Marks.{statement_tree_uses_marks, block_uses_marks, else_uses_marks, or_uses_marks}
-use Rattle.plc_syntax.specs.Marks.{op_uses_marks, file_tree_uses_marks}
+use Rattle.plc_syntax.specs.Marks.{op_uses_marks, outline_tree_uses_marks, outlined_uses_marks, file_tree_uses_marks}
 use Rattle.plc_syntax.proofs.Marked.{marks_spelled}
 use Rattle.plc_forms.specs.Sizes.{initial_size, primitive_size, condition_size, call_size, word_size}
 use Rattle.plc_scope.specs.declared.fault.ParseFault.{ParseFault}
@@ -51,7 +51,11 @@ use Rattle.plc_scope.specs.Primitives.{test_means, pointer_or_null, condition_me
 use Rattle.plc_scope.specs.Primitives.{primitive_means, initial_means, call_means}
 use Rattle.plc_scope.proofs.Holds.{Has, has_along, next, any, unless, both_err}
 use Rattle.plc_parse.specs.declared.unit.Unit.{Unit as FileUnit}
-use Rattle.plc_parse.specs.Marks.{UnitsUseTheirMarks}
+use Rattle.plc_logic.specs.declared.clause.Outline.{Outline}
+use Rattle.plc_logic.specs.Marks.{outline_uses_marks}
+use Rattle.plc_outparse.specs.Meaning.{outline_means}
+use Rattle.plc_outparse.proofs.Marked.{OutlineSpeaks, outline_marked}
+use Rattle.plc_parse.specs.Marks.{unit_uses_marks, UnitsUseTheirMarks}
 use Rattle.plc_parse.specs.Meaning.{counted, count_of, allocates, before, forms_mean, atomic_means, initials_mean}
 use Rattle.plc_parse.specs.Meaning.{one_or_skip, label_means, during_means, statement_means, statements_mean}
 use Rattle.plc_parse.specs.Meaning.{else_means, or_means, listed, field_means, shared_means, function_means}
@@ -370,12 +374,23 @@ starts_marked s at (Some is) = let uses : Bool = list_any initial_uses_marks is 
     next (FormsSpeak uses) (FormsSpeak uses) (initials_mean s (at + 2) is) _
     (forms_marked (initial_means s) initial_size initial_uses_marks (initial_marked s) 0 false (at + 2) is) (λ b a. a)
 
+-- an outline does, or none that is left out
+abbrev UnderSpeaks : Bool → Outline → Type 0
+UnderSpeaks uses o = outline_uses_marks o ≡ uses
+
+outlined_marked : (s : Scope) (ops : List Op) (at : ℕ) (t : Option OutlineTree)
+    → Has (UnderSpeaks (outlined_uses_marks t)) (outlined_means s ops at t)
+outlined_marked s ops at None = refl
+outlined_marked s ops at (Some t) = let uses : Bool = outline_tree_uses_marks t in
+    next (OutlineSpeaks s ops uses) (UnderSpeaks uses) (outline_means s ops at t) _ (outline_marked s ops at t)
+    (λ o is. is)
+
 abbrev UnitSpeaks : Bool → FileUnit → Type 0
-UnitSpeaks uses u = file_uses_marks u.file ≡ uses
+UnitSpeaks uses u = unit_uses_marks u ≡ uses
 
 unit_marked : (lines : List ℕ) (f : FileTree) → Has (UnitSpeaks (file_tree_uses_marks f)) (file_means lines f)
 unfolding file_means
-unit_marked lines f = let uses : Bool = init_uses_marks f.starts || list_any op_uses_marks f.ops in
+unit_marked lines f = let uses : Bool = file_tree_uses_marks f in
     any (UnitSpeaks uses) (declared first_scope f.name 1 Taken) _ (λ s.
     any (UnitSpeaks uses) (listed field_means s 0 3 f.fields) _ (λ fields.
     any (UnitSpeaks uses) (listed shared_means fields.1 0 (fields.2 + 1) f.pointers) _ (λ pointers.
@@ -386,7 +401,9 @@ unit_marked lines f = let uses : Bool = init_uses_marks f.starts || list_any op_
     (starts_marked ghosts.1 ghosts.2 f.starts) (λ starts a.
     next (OpsSpeak lines (list_any op_uses_marks f.ops)) (UnitSpeaks uses)
     (listed (op_means lines) ghosts.1 0 starts.1 f.ops) _ (ops_marked lines ghosts.1 0 starts.1 f.ops) (λ ops b.
-    any (UnitSpeaks uses) (outlined_means ops.1 ops.0 ops.2 f.outlined) _ (λ outline. rw (a, b) refl)))))))))
+    next (UnderSpeaks (outlined_uses_marks f.outlined)) (UnitSpeaks uses)
+    (outlined_means ops.1 ops.0 ops.2 f.outlined) _ (outlined_marked ops.1 ops.0 ops.2 f.outlined) (λ outline c.
+    rw (a, b, c) refl)))))))))
 
 -- the tokens say what the tree says, and the tree what the unit says
 pub units_marked : UnitsUseTheirMarks

@@ -4,8 +4,8 @@
 ghost use Rattle.plc_parse.specs.Marks.{UnitsUseTheirMarks};
 
 /// The law that tokens use marks exactly where the unit that they spell does: one of the words `mark`,
-/// `unmark`, `marked` and `unmarked` is among them where a primitive of the unit speaks of marks, and
-/// nowhere else.
+/// `unmark`, `marked` and `unmarked` is among them where a primitive of the unit or a literal of its
+/// outline speaks of marks, and nowhere else.
 pub fn units_use_their_marks()
     ensures { UnitsUseTheirMarks }
 {}

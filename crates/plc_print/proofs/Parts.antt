@@ -2,9 +2,9 @@
 use Rattle.std.proofs.Common.{◌≡◌, ◌+◌, ◌<◌, ◌++◌, ◌∷◌, [], List, length, map, drop, get_or, Option, Some, None, Bool, true, false, ℕ, refl, ap, sym, ◌∙◌, append_assoc}
 use Rattle.plc_lex.specs.declared.token.TokenKind.{TokenKind}
 use Rattle.plc_lex.specs.declared.token.TokenKind.TheVariants.{Word, Name, Symbol}
-use Rattle.plc_lex.specs.declared.token.Keyword.TheVariants.{Struct, Ghost, Init, Op, Atomic, If, Else, Loop, Choose, Or, Active, Cas, Inv, Over, At, Not}
+use Rattle.plc_lex.specs.declared.token.Keyword.TheVariants.{Struct, Ghost, Init, Op, Atomic, If, Else, Loop, Choose, Or, Active, Cas, Inv, Over, At, Not, Marked}
 use Rattle.plc_lex.specs.declared.token.Symbol.TheVariants.{OpenBrace, CloseBrace, OpenParen, CloseParen, Semicolon, Comma, Colon}
-use Rattle.plc_syntax.specs.Trees.{each_then, maybe_then, word_if_then, comma_name_then, FieldTree, PointerField, DataField, field_then, struct_then, shared_then, FunctionTree, Declares, function_then, WatchTree, UseHazard, UseEpoch, watch_then, GhostKindTree, OneOf, OfThreads, ghost_kind_then, GhostTree, Auxiliary, ghost_then, Text, PlaceTree, PlaceOf, place_then, AtomTree, NullAtom, NumberAtom, NameAtom, atom_then, ValueTree, NullValue, NewValue, NumberValue, MarkValue, UnmarkValue, PlaceValue, value_then, SetTree, SetName, SetField, set_then, RefreshTree, RefreshName, RefreshField, refresh_then, GhostValueTree, NameGhost, MeGhost, NoneGhost, ghost_value_then, GhostSetTree, SetGhost, ghost_set_then, InitialTree, InitialSet, InitialGhost, initial_then, init_then, TestTree, MarkedTest, UnmarkedTest, Compares, test_then, name_or_null_then, ConditionTree, TestCondition, RefreshCondition, CasCondition, condition_then, PrimitiveTree, SetPrimitive, RefreshPrimitive, GhostPrimitive, ActivePrimitive, AssumePrimitive, SkipPrimitive, primitive_then, primitive_line_then, ArgumentTree, NoArgument, NullArgument, NameArgument, ActiveArgument, argument_then, during_then, StatementTree, PrimitiveStatement, AtomicStatement, CallStatement, IfStatement, ChooseStatement, LoopStatement, BreakStatement, ReturnStatement, LabelStatement, BlockTree, NoStatement, Then as ThenStatement, ElseTree, NoElse, ElseBlock, OrTree, NoOr, OrBlock, statement_then, statements_then, else_then, or_then, parameters_then, OpTree, Operates, op_then, TermTree, PlaceTerm, NullTerm, NumberTerm, MeTerm, NoneTerm, term_then, FlagTree, RetiredFlag, flag_then, equality_symbol, LiteralTree, FlagLiteral, NotLiteral, EqualityLiteral, literal_then, or_literal_then, BoundTree, NoBound, AllOf, bound_then, ClauseTree, Claims, clause_then, ItemTree, InvariantItem, OverItem, AtItem, item_then, depth_then}
+use Rattle.plc_syntax.specs.Trees.{each_then, maybe_then, word_if_then, comma_name_then, FieldTree, PointerField, DataField, field_then, struct_then, shared_then, FunctionTree, Declares, function_then, WatchTree, UseHazard, UseEpoch, watch_then, GhostKindTree, OneOf, OfThreads, ghost_kind_then, GhostTree, Auxiliary, ghost_then, Text, PlaceTree, PlaceOf, place_then, AtomTree, NullAtom, NumberAtom, NameAtom, atom_then, ValueTree, NullValue, NewValue, NumberValue, MarkValue, UnmarkValue, PlaceValue, value_then, SetTree, SetName, SetField, set_then, RefreshTree, RefreshName, RefreshField, refresh_then, GhostValueTree, NameGhost, MeGhost, NoneGhost, ghost_value_then, GhostSetTree, SetGhost, ghost_set_then, InitialTree, InitialSet, InitialGhost, initial_then, init_then, TestTree, MarkedTest, UnmarkedTest, Compares, test_then, name_or_null_then, ConditionTree, TestCondition, RefreshCondition, CasCondition, condition_then, PrimitiveTree, SetPrimitive, RefreshPrimitive, GhostPrimitive, ActivePrimitive, AssumePrimitive, SkipPrimitive, primitive_then, primitive_line_then, ArgumentTree, NoArgument, NullArgument, NameArgument, ActiveArgument, argument_then, during_then, StatementTree, PrimitiveStatement, AtomicStatement, CallStatement, IfStatement, ChooseStatement, LoopStatement, BreakStatement, ReturnStatement, LabelStatement, BlockTree, NoStatement, Then as ThenStatement, ElseTree, NoElse, ElseBlock, OrTree, NoOr, OrBlock, statement_then, statements_then, else_then, or_then, parameters_then, OpTree, Operates, op_then, TermTree, PlaceTerm, NullTerm, NumberTerm, MeTerm, NoneTerm, term_then, FlagTree, RetiredFlag, MarkedFlag, flag_then, equality_symbol, LiteralTree, FlagLiteral, NotLiteral, EqualityLiteral, literal_then, or_literal_then, BoundTree, NoBound, AllOf, bound_then, ClauseTree, Claims, clause_then, ItemTree, InvariantItem, OverItem, AtItem, item_then, depth_then}
 use Rattle.plc_print.specs.Text.{token_text, after, text_of}
 use Rattle.plc_print.proofs.Items.{copy_left, item_left}
 
@@ -282,6 +282,8 @@ term_leads NoneTerm rest = refl
 
 pub flag_leads : (f : FlagTree) → Leads (flag_then f)
 flag_leads (RetiredFlag n) rest = refl
+flag_leads (MarkedFlag p) rest =
+    ap (λ ts. Word Marked ∷ Symbol OpenParen ∷ ts) (before (place_then p) (Symbol CloseParen) (place_leads p) rest)
 
 pub literal_leads : (l : LiteralTree) → Leads (literal_then l)
 literal_leads (FlagLiteral f) rest = flag_leads f rest

@@ -7,7 +7,7 @@ use Rattle.plc_base.specs.declared.limits.What1.TheVariants as limits
 use Rattle.plc_lang.specs.Names.{name_at, field_name, auxiliary_name, value_name, local_name}
 use Rattle.plc_lang.specs.declared.syntax.File.{File}
 use Rattle.plc_lang.specs.declared.syntax.Local.{Local}
-use Rattle.plc_syntax.specs.Trees.{Text, PlaceOf, TermTree, PlaceTerm, NullTerm, NumberTerm, MeTerm, NoneTerm, RetiredFlag, LiteralTree, FlagLiteral, NotLiteral, EqualityLiteral, BoundTree, NoBound, AllOf, ClauseTree, Claims}
+use Rattle.plc_syntax.specs.Trees.{Text, PlaceTree, PlaceOf, TermTree, PlaceTerm, NullTerm, NumberTerm, MeTerm, NoneTerm, FlagTree, RetiredFlag, MarkedFlag, LiteralTree, FlagLiteral, NotLiteral, EqualityLiteral, BoundTree, NoBound, AllOf, ClauseTree, Claims}
 use Rattle.plc_scope.specs.declared.fault.ParseFault.{ParseFault}
 use Rattle.plc_scope.specs.declared.fault.ParseFault.TheVariants as faults
 use Rattle.plc_scope.specs.declared.scope.Scope.{Scope}
@@ -21,16 +21,17 @@ use Rattle.plc_logic.specs.declared.clause.Base.{Base}
 use Rattle.plc_logic.specs.declared.clause.Base.TheVariants as bases
 use Rattle.plc_logic.specs.declared.clause.Term.{Term}
 use Rattle.plc_logic.specs.declared.clause.Sort.{Sort}
+use Rattle.plc_logic.specs.declared.clause.Sort.TheVariants as sorts
 use Rattle.plc_logic.specs.declared.clause.Literal.{Literal}
-use Rattle.plc_logic.specs.declared.clause.Literal.TheVariants.{Same, Retired}
+use Rattle.plc_logic.specs.declared.clause.Literal.TheVariants.{Same, Retired, Marked}
 use Rattle.plc_logic.specs.declared.clause.Clause.{Clause}
 use Rattle.plc_outparse.specs.declared.kind.Kind.{Kind}
 use Rattle.plc_outparse.specs.declared.kind.Kind.TheVariants as kinds
 use Rattle.plc_outparse.specs.Sizes.{term_size, literal_size, bound_size}
-use Rattle.plc_outparse.specs.Reach.{Reach, binding_kind, local_kind, kind_found, declared_kind, kind_or_bound, kind_of, as_base, base_at, as_term, as_field}
+use Rattle.plc_outparse.specs.Reach.{Reach, binding_kind, local_kind, kind_found, declared_kind, kind_or_bound, kind_of, as_base, base_at, as_term, as_pointer, as_field, as_pointer_field}
 use Rattle.plc_logic.specs.Sorts.{same_sort}
-use Rattle.plc_outparse.specs.Meaning.{in_turn, me_means, term_means, sort_place, if_same_sort, second_means, flag_means, literal_means, counted, literal_step, none_bound, if_free, bound_with, bound_means, reach, clause_means, clause_line_means}
-use Rattle.plc_print.specs.Outlines.{base_name, term_tree, flag_literal, literal_tree, bound_tree, claims_tree, clause_tree}
+use Rattle.plc_outparse.specs.Meaning.{in_turn, wanted_of, me_means, term_means, sort_place, if_same_sort, second_means, pointer_means, flag_means, literal_means, counted, literal_step, none_bound, if_free, bound_with, bound_means, reach, clause_means, clause_line_means}
+use Rattle.plc_print.specs.Outlines.{base_name, term_tree, pointer_place, flag_literal, literal_tree, bound_tree, claims_tree, clause_tree}
 use Rattle.plc_print.proofs.Steps.{within, after, Found, then_found, moved, if_found}
 use Rattle.plc_print.proofs.SpelledNames.{IsBound, Bound, Ends, from_number, number_named, place_found, fits_found, known_found}
 
@@ -130,6 +131,21 @@ module _ (file : File) (s : Scope) (bound : Bound file s) where
     base_found n at = then_found (IsKind n) (IsBase n) (λ a. known a (kind_of here n)) (λ k a. if_fits a (as_base k)) at (named_found n at (kind_of here n) (kind_is n))
         (λ k h. fits_found file (Ends file s) (λ b. base_name file ls quantified.names b ≡ n) (as_base k) at (λ e. base_is n k (h e)))
 
+    -- what is wanted of a place is spelled so, alone or after a dot
+    wanted_found : {A : Type 0} (alone : Kind → Option A) (field : Base → Kind → Option A) (Spells : PlaceTree → A → Type 0)
+        → ((n : Text) (k : Kind) → KindIs ls quantified.names n k → IfSome (alone k) (Spells (PlaceOf n None)))
+        → ((m n : Text) (b : Base) (k : Kind) → base_name file ls quantified.names b ≡ m → KindIs ls quantified.names n k → IfSome (field b k) (Spells (PlaceOf m (Some n))))
+        → (at : ℕ) (p : PlaceTree) → Has (Found (λ x. Ends file s → Spells p x) (λ a. wanted_of here alone field a p)) (wanted_of here alone field at p)
+    wanted_found alone field Spells one other at (PlaceOf n None) =
+        then_found (IsKind n) (λ x. Ends file s → Spells (PlaceOf n None) x) (λ a. known a (kind_of here n)) (λ k a. if_fits a (alone k)) at (named_found n at (kind_of here n) (kind_is n))
+        (λ k h. fits_found file (Ends file s) (Spells (PlaceOf n None)) (alone k) at (λ e. one n k (h e)))
+    wanted_found alone field Spells one other at (PlaceOf n (Some f)) =
+        then_found (IsBase n) (λ x. Ends file s → Spells (PlaceOf n (Some f)) x) (base_at here n) (λ b a. known (a + 2) (kind_of here f) >>= λ k. if_fits (a + 2) (field b k)) at (base_found n at) (λ b h.
+        then_found (IsKind f) (λ x. Ends file s → Spells (PlaceOf n (Some f)) x) (λ a. known (a + 2) (kind_of here f)) (λ k a. if_fits (a + 2) (field b k)) at
+        (moved (IsKind f) (λ a. known a (kind_of here f)) (λ a. a + 2) at (named_found f (at + 2) (kind_of here f) (kind_is f))) (λ k g.
+        moved (λ x. Ends file s → Spells (PlaceOf n (Some f)) x) (λ a. if_fits a (field b k)) (λ a. a + 2) at
+        (fits_found file (Ends file s) (Spells (PlaceOf n (Some f))) (field b k) (at + 2) (λ e. other n f b k (h e) (g e)))))
+
     abbrev SpellsTerm : TermTree → Term × Sort → Type 0
     SpellsTerm t x = term_tree file ls quantified.names x.0 ≡ t
 
@@ -160,15 +176,7 @@ module _ (file : File) (s : Scope) (bound : Bound file s) where
 
     term_found : (at : ℕ) (t : TermTree) → Has (Found (IsTerm t) (λ a. term_means here a t)) (term_means here at t)
     unfolding term_means
-    term_found at (PlaceTerm (PlaceOf n None)) =
-        then_found (IsKind n) (IsTerm (PlaceTerm (PlaceOf n None))) (λ a. known a (kind_of here n)) (λ k a. if_fits a (as_term k)) at (named_found n at (kind_of here n) (kind_is n))
-        (λ k h. fits_found file (Ends file s) (SpellsTerm (PlaceTerm (PlaceOf n None))) (as_term k) at (λ e. alone_is n k (h e)))
-    term_found at (PlaceTerm (PlaceOf n (Some f))) =
-        then_found (IsBase n) (IsTerm (PlaceTerm (PlaceOf n (Some f)))) (base_at here n) (λ b a. known (a + 2) (kind_of here f) >>= λ k. if_fits (a + 2) (as_field b k)) at (base_found n at) (λ b h.
-        then_found (IsKind f) (IsTerm (PlaceTerm (PlaceOf n (Some f)))) (λ a. known (a + 2) (kind_of here f)) (λ k a. if_fits (a + 2) (as_field b k)) at
-        (moved (IsKind f) (λ a. known a (kind_of here f)) (λ a. a + 2) at (named_found f (at + 2) (kind_of here f) (kind_is f))) (λ k g.
-        moved (IsTerm (PlaceTerm (PlaceOf n (Some f)))) (λ a. if_fits a (as_field b k)) (λ a. a + 2) at
-        (fits_found file (Ends file s) (SpellsTerm (PlaceTerm (PlaceOf n (Some f)))) (as_field b k) (at + 2) (λ e. field_is n f b k (h e) (g e)))))
+    term_found at (PlaceTerm p) = wanted_found as_term as_field (λ q x. SpellsTerm (PlaceTerm q) x) alone_is field_is at p
     term_found at NullTerm = record { named = λ e. refl; again = λ a. refl }
     term_found at (NumberTerm n) = record { named = λ e. refl; again = λ a. refl }
     term_found at MeTerm = me_found in_operation at
@@ -182,19 +190,54 @@ module _ (file : File) (s : Scope) (bound : Bound file s) where
     second_found wanted at t = then_found (IsTerm t) (IsSide t) (λ a. term_means here a t) (λ x a. if_same_sort wanted (sort_place a t) x) at (term_found at t)
         (λ x h. if_found (IsSide t) (same_sort x.1 wanted) x.0 (λ a. sort_place a t) at h)
 
+    -- ---- places of pointers
+
+    abbrev SpellsPointer : PlaceTree → Term → Type 0
+    SpellsPointer p t = pointer_place file ls quantified.names t ≡ p
+
+    alone_points : (n : Text) (k : Kind) → KindIs ls quantified.names n k → IfSome (as_pointer k) (SpellsPointer (PlaceOf n None))
+    alone_points n (kinds.Node (bases.Shared i)) h = ap (λ (m : Text). PlaceOf m None) h
+    alone_points n (kinds.Node (bases.Local i)) h = ap (λ (m : Text). PlaceOf m None) h
+    alone_points n (kinds.Node (bases.Bound i)) h = tt
+    alone_points n (kinds.Data i) h = tt
+    alone_points n (kinds.Field f t) h = tt
+    alone_points n (kinds.Auxiliary g t) h = tt
+    alone_points n (kinds.Value g v) h = tt
+    alone_points n kinds.NoValue h = tt
+
+    field_points : (m n : Text) (b : Base) (k : Kind) → base_name file ls quantified.names b ≡ m → KindIs ls quantified.names n k → IfSome (as_pointer_field b k) (SpellsPointer (PlaceOf m (Some n)))
+    field_points m n b (kinds.Node c) h g = tt
+    field_points m n b (kinds.Data i) h g = tt
+    field_points m n b (kinds.Field f sorts.Node) h g = ap₂ (λ (x y : Text). PlaceOf x (Some y)) h g
+    field_points m n b (kinds.Field f sorts.Number) h g = tt
+    field_points m n b (kinds.Field f sorts.Thread) h g = tt
+    field_points m n b (kinds.Field f (sorts.Value v)) h g = tt
+    field_points m n b (kinds.Field f sorts.Truth) h g = tt
+    field_points m n b (kinds.Auxiliary f t) h g = tt
+    field_points m n b (kinds.Value f v) h g = tt
+    field_points m n b kinds.NoValue h g = tt
+
+    abbrev IsPointer : PlaceTree → Term → Type 0
+    IsPointer p t = Ends file s → SpellsPointer p t
+
+    pointer_found : (at : ℕ) (p : PlaceTree) → Has (Found (IsPointer p) (λ a. pointer_means here a p)) (pointer_means here at p)
+    pointer_found at p = wanted_found as_pointer as_pointer_field SpellsPointer alone_points field_points at p
+
     -- ---- literals
 
     abbrev IsLiteral : LiteralTree → Literal → Type 0
     IsLiteral l x = Ends file s → literal_tree file ls quantified.names x ≡ l
 
-    flag_found : (is_so : Bool) (at : ℕ) (n : Text) → Has (Found (IsLiteral (flag_literal file ls quantified.names (RetiredFlag n) is_so)) (λ a. flag_means here is_so a (RetiredFlag n))) (flag_means here is_so at (RetiredFlag n))
-    flag_found is_so at n = then_found (IsBase n) (IsLiteral (flag_literal file ls quantified.names (RetiredFlag n) is_so)) (λ a. base_at here n (a + 2)) (λ b a. Ok (Retired b is_so)) at (moved (IsBase n) (base_at here n) (λ a. a + 2) at (base_found n (at + 2)))
+    flag_found : (is_so : Bool) (at : ℕ) (f : FlagTree) → Has (Found (IsLiteral (flag_literal file ls quantified.names f is_so)) (λ a. flag_means here is_so a f)) (flag_means here is_so at f)
+    flag_found is_so at (RetiredFlag n) = then_found (IsBase n) (IsLiteral (flag_literal file ls quantified.names (RetiredFlag n) is_so)) (λ a. base_at here n (a + 2)) (λ b a. Ok (Retired b is_so)) at (moved (IsBase n) (base_at here n) (λ a. a + 2) at (base_found n (at + 2)))
         (λ b h. record { named = λ e. ap (λ (m : Text). flag_literal file ls quantified.names (RetiredFlag m) is_so) (h e); again = λ a. refl })
+    flag_found is_so at (MarkedFlag p) = then_found (IsPointer p) (IsLiteral (flag_literal file ls quantified.names (MarkedFlag p) is_so)) (λ a. pointer_means here (a + 2) p) (λ t a. Ok (Marked t is_so)) at (moved (IsPointer p) (λ a. pointer_means here a p) (λ a. a + 2) at (pointer_found (at + 2) p))
+        (λ t h. record { named = λ e. ap (λ (q : PlaceTree). flag_literal file ls quantified.names (MarkedFlag q) is_so) (h e); again = λ a. refl })
 
     literal_found : (at : ℕ) (l : LiteralTree) → Has (Found (IsLiteral l) (λ a. literal_means here a l)) (literal_means here at l)
     unfolding literal_means
-    literal_found at (FlagLiteral (RetiredFlag n)) = flag_found true at n
-    literal_found at (NotLiteral (RetiredFlag n)) = moved (IsLiteral (NotLiteral (RetiredFlag n))) (λ a. flag_means here false a (RetiredFlag n)) (λ a. a + 1) at (flag_found false (at + 1) n)
+    literal_found at (FlagLiteral f) = flag_found true at f
+    literal_found at (NotLiteral f) = moved (IsLiteral (NotLiteral f)) (λ a. flag_means here false a f) (λ a. a + 1) at (flag_found false (at + 1) f)
     literal_found at (EqualityLiteral t is_equal u) =
         then_found (IsTerm t) (IsLiteral (EqualityLiteral t is_equal u)) (λ a. term_means here a t) (λ x a. second_means here x.1 (a + term_size t + 1) u >>= λ y. Ok (Same x.0 y is_equal)) at (term_found at t) (λ x h.
         then_found (IsSide u) (IsLiteral (EqualityLiteral t is_equal u)) (λ a. second_means here x.1 (a + term_size t + 1) u) (λ y a. Ok (Same x.0 y is_equal)) at

@@ -12,7 +12,7 @@ use Rattle.plc_logic.specs.declared.clause.Base.TheVariants as bases
 use Rattle.plc_logic.specs.declared.clause.Term.{Term}
 use Rattle.plc_logic.specs.declared.clause.Term.TheVariants as terms
 use Rattle.plc_logic.specs.declared.clause.Literal.{Literal}
-use Rattle.plc_logic.specs.declared.clause.Literal.TheVariants.{Same, Retired}
+use Rattle.plc_logic.specs.declared.clause.Literal.TheVariants.{Same, Retired, Marked}
 use Rattle.plc_logic.specs.declared.clause.Clause.{Clause}
 use Rattle.plc_logic.specs.declared.clause.Site.{Site}
 use Rattle.plc_logic.specs.declared.clause.Site.TheVariants.{Over, At}
@@ -20,10 +20,10 @@ use Rattle.plc_logic.specs.declared.clause.Item.{Item}
 use Rattle.plc_logic.specs.declared.clause.Outline.{Outline}
 use Rattle.plc_lang.specs.Labels.{labels_by_op}
 use Rattle.plc_logic.specs.Sites.{op_of_site}
-use Rattle.plc_syntax.specs.Trees.{Text, PlaceOf, TermTree, PlaceTerm, NullTerm, NumberTerm, MeTerm, NoneTerm, FlagTree}
-use Rattle.plc_syntax.specs.Trees.{RetiredFlag, LiteralTree, FlagLiteral, NotLiteral, EqualityLiteral, BoundTree}
-use Rattle.plc_syntax.specs.Trees.{NoBound, AllOf, ClauseTree, Claims, ItemTree, InvariantItem, OverItem, AtItem}
-use Rattle.plc_syntax.specs.Trees.{OutlineTree, Outlined}
+use Rattle.plc_syntax.specs.Trees.{Text, PlaceTree, PlaceOf, TermTree, PlaceTerm, NullTerm, NumberTerm, MeTerm}
+use Rattle.plc_syntax.specs.Trees.{NoneTerm, FlagTree, RetiredFlag, MarkedFlag, LiteralTree, FlagLiteral}
+use Rattle.plc_syntax.specs.Trees.{NotLiteral, EqualityLiteral, BoundTree, NoBound, AllOf, ClauseTree, Claims, ItemTree}
+use Rattle.plc_syntax.specs.Trees.{InvariantItem, OverItem, AtItem, OutlineTree, Outlined}
 
 -- ---- literals; the names in reach are those of the file, of the operation's locals and of the clause
 
@@ -55,7 +55,20 @@ module _ (file : File) (locals : List Local) (bound : List Text) where
   term_tree terms.Me = MeTerm
   term_tree terms.Nobody = NoneTerm
 
-  -- what is said of a node
+  -- the place of a pointer; no text says that anything else is marked
+  abbrev pub pointer_place : Term → PlaceTree
+  pointer_place (terms.Shared i) = PlaceOf (base_name (bases.Shared i)) None
+  pointer_place (terms.Local i) = PlaceOf (base_name (bases.Local i)) None
+  pointer_place (terms.Bound i) = PlaceOf [] None
+  pointer_place (terms.FieldOf b f) = PlaceOf (base_name b) (Some (field_name file f))
+  pointer_place (terms.GhostOf b g) = PlaceOf [] None
+  pointer_place terms.Null = PlaceOf [] None
+  pointer_place (terms.Number n) = PlaceOf [] None
+  pointer_place (terms.Value g v) = PlaceOf [] None
+  pointer_place terms.Me = PlaceOf [] None
+  pointer_place terms.Nobody = PlaceOf [] None
+
+  -- what is said of a node or a place
   abbrev pub flag_literal : FlagTree → Bool → LiteralTree
   flag_literal f true = FlagLiteral f
   flag_literal f false = NotLiteral f
@@ -63,6 +76,7 @@ module _ (file : File) (locals : List Local) (bound : List Text) where
   abbrev pub literal_tree : Literal → LiteralTree
   literal_tree (Same a b is_equal) = EqualityLiteral (term_tree a) is_equal (term_tree b)
   literal_tree (Retired x is_so) = flag_literal (RetiredFlag (base_name x)) is_so
+  literal_tree (Marked t is_so) = flag_literal (MarkedFlag (pointer_place t)) is_so
 
 -- ---- clauses
 

@@ -5,10 +5,10 @@ ghost use Rattle.std.specs.Prelude.{◌≡◌, ◌∷◌, [], OnOk, get_or, map}
 ghost use Rattle.plc_lex.specs.declared.token.TokenKind.TheVariants.{Symbol as SymbolToken};
 ghost use Rattle.plc_lex.specs.declared.token.Symbol.TheVariants as symbols;
 ghost use Rattle.plc_logic.specs.declared.clause.Literal.TheVariants as literals;
-ghost use Rattle.plc_syntax.specs.Trees.{NoBound, each_then, term_then, equality_symbol, literal_then, or_literal_then};
-ghost use Rattle.plc_syntax.specs.Trees.{bound_then, clause_then};
-ghost use Rattle.plc_print.specs.Outlines.{base_name, field_term, term_tree, literal_tree, bound_tree, claims_tree};
-ghost use Rattle.plc_print.specs.Outlines.{clause_tree};
+ghost use Rattle.plc_syntax.specs.Trees.{NoBound, MarkedFlag, each_then, place_then, term_then, equality_symbol};
+ghost use Rattle.plc_syntax.specs.Trees.{flag_then, literal_then, or_literal_then, bound_then, clause_then};
+ghost use Rattle.plc_print.specs.Outlines.{base_name, field_term, term_tree, pointer_place, literal_tree, bound_tree};
+ghost use Rattle.plc_print.specs.Outlines.{claims_tree, clause_tree};
 ghost use Rattle.plc_print.specs.Pieces.{Prints};
 
 use crate::names::Reach;
@@ -117,6 +117,49 @@ fn retired(out: &mut Printer, reach: InClause, x: Base, yes: bool) -> Printed
     }
 }
 
+/// The place of a pointer.
+fn place(out: &mut Printer, reach: InClause, t: Term) -> Printed
+    ensures { OnOk result
+        (Prints out.old out.new (place_then
+        (pointer_place reach.entry.file.now reach.entry.locals.now reach.entry.bound.now.names t) [])) }
+{
+    match t {
+        Term::Shared(_) | Term::Local(_) | Term::FieldOf { .. } => term(out, reach, t),
+        Term::Bound(_)
+        | Term::GhostOf { .. }
+        | Term::Null
+        | Term::Number(_)
+        | Term::Value { .. }
+        | Term::Me
+        | Term::Nobody => out.token(Piece::Name(&[])),
+    }
+}
+
+/// A pointer that is marked.
+fn is_marked(out: &mut Printer, reach: InClause, t: Term) -> Printed
+    ensures { OnOk result
+        (Prints out.old out.new (flag_then (MarkedFlag
+        (pointer_place reach.entry.file.now reach.entry.locals.now reach.entry.bound.now.names t)) [])) }
+{
+    out.tokens(&[Piece::Word(Keyword::Marked), OPEN])?;
+    place(out, reach, t)?;
+    out.token(CLOSE)
+}
+
+/// A pointer that is marked, or is not.
+fn marked(out: &mut Printer, reach: InClause, t: Term, yes: bool) -> Printed
+    ensures { OnOk result
+        (Prints out.old out.new (literal_then
+        (literal_tree reach.entry.file.now reach.entry.locals.now reach.entry.bound.now.names
+        (literals.Marked t yes)) [])) }
+{
+    if yes {
+        return is_marked(out, reach, t);
+    }
+    out.token(Piece::Word(Keyword::Not))?;
+    is_marked(out, reach, t)
+}
+
 /// A literal.
 fn literal(out: &mut Printer, reach: InClause, literal: Literal) -> Printed
     ensures { OnOk result
@@ -126,6 +169,7 @@ fn literal(out: &mut Printer, reach: InClause, literal: Literal) -> Printed
     match literal {
         Literal::Same { a, b, equal } => same(out, reach, a, b, equal),
         Literal::Retired { x, yes } => retired(out, reach, x, yes),
+        Literal::Marked { t, yes } => marked(out, reach, t, yes),
     }
 }
 

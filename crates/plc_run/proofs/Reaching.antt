@@ -22,7 +22,7 @@ use Rattle.plc_threads.specs.Standing.{begun, step_of, at_exit}
 use Rattle.plc_threads.proofs.Moves.{begun_so, begins_so, taken_so, takes_so, exit_so, ends_so}
 use Rattle.plc_run.specs.Position.{IsForbidden, HasNone}
 use Rattle.plc_run.specs.Reach.{Reached, Goes, Blocks, Forbids, Breaks, started, start_from, ended_as, take_step, step_from, return_from, may_free, free_of, reach}
-use Rattle.plc_flow.proofs.Leaving.{same_if, if_same}
+use Rattle.plc_base.proofs.Booleans.{same_if, if_same}
 use Rattle.plc_run.proofs.Judged.{judged_allowed, judged_forbidden}
 use Rattle.plc_run.proofs.Runs.{one_step}
 

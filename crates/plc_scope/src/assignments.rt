@@ -1,6 +1,8 @@
 // What an assignment means. The left side is judged before the right one, and each name where it
 // stands, so that the first fault is the one at the least token; `null`, `new`, `mark`, `unmark` and
 // numbers are judged by the left side and are themselves the place.
+#![tactic(auto, unfolding(crate::specs::Primitives::set_means))]
+
 ghost use Rattle.std.specs.Prelude.{◌+◌, ◌<◌, ◌≤◌, ◌^◌, length};
 ghost use Rattle.plc_forms.specs.Sizes.{value_size, set_size};
 ghost use Rattle.plc_forms.specs.Views.{value_tree, atom_tree, set_tree};
@@ -10,7 +12,7 @@ ghost use Rattle.plc_scope.specs.Primitives.{data_atom, atom_into, set_means};
 ghost use Rattle.plc_scope.specs.Scope.{most_locals};
 
 use crate::binding::Role;
-use crate::fault::ParseFault;
+use crate::fault::{Meaning, ParseFault};
 use crate::numbers::number;
 use crate::scope::Scope;
 use plc_base::FieldId;
@@ -18,7 +20,7 @@ use plc_forms::{Atom, Place, Set, Value};
 use plc_lang::{Num, Prim, Var};
 
 /// What is put into a pointer variable.
-fn pointer_value(scope: &Scope, p: Var, at: u32, value: Value) -> Result<Prim, ParseFault>
+fn pointer_value(scope: &Scope, p: Var, at: u32, value: Value) -> Meaning<Prim>
     requires locals { length scope.now.locals ≤ most_locals }
     requires place { at + value_size (value_tree value) < 2 ^ 32 }
     ensures { Gives (λ k. k) result (pointer_value scope.now p at (value_tree value.entry)) }
@@ -49,7 +51,7 @@ fn pointer_value(scope: &Scope, p: Var, at: u32, value: Value) -> Result<Prim, P
 }
 
 /// What is put into a data local.
-fn data_value(scope: &Scope, x: u16, at: u32, value: Value) -> Result<Prim, ParseFault>
+fn data_value(scope: &Scope, x: u16, at: u32, value: Value) -> Meaning<Prim>
     requires locals { length scope.now.locals ≤ most_locals }
     requires place { at + value_size (value_tree value) < 2 ^ 32 }
     ensures { Gives (λ k. k) result (data_value scope.now x at (value_tree value.entry)) }
@@ -78,13 +80,7 @@ fn data_value(scope: &Scope, x: u16, at: u32, value: Value) -> Result<Prim, Pars
 }
 
 /// What is put into the variable on the left, whose name stands at the second place.
-fn value_into(
-    scope: &Scope,
-    at: u32,
-    value: Value,
-    left: Role,
-    left_at: u32,
-) -> Result<Prim, ParseFault>
+fn value_into(scope: &Scope, at: u32, value: Value, left: Role, left_at: u32) -> Meaning<Prim>
     requires locals { length scope.now.locals ≤ most_locals }
     requires place { at + value_size (value_tree value) < 2 ^ 32 }
     ensures { Gives (λ k. k) result (value_into scope.now at (value_tree value.entry) left left_at) }
@@ -97,7 +93,7 @@ fn value_into(
 }
 
 /// What is put into a pointer field.
-fn pointer_atom(scope: &Scope, p: Var, f: FieldId, at: u32, atom: Atom) -> Result<Prim, ParseFault>
+fn pointer_atom(scope: &Scope, p: Var, f: FieldId, at: u32, atom: Atom) -> Meaning<Prim>
     requires { length scope.now.locals ≤ most_locals }
     ensures { Gives (λ k. k) result (pointer_atom scope.now p f at (atom_tree atom.entry)) }
 {
@@ -112,7 +108,7 @@ fn pointer_atom(scope: &Scope, p: Var, f: FieldId, at: u32, atom: Atom) -> Resul
 }
 
 /// What is put into a data field.
-fn data_atom(scope: &Scope, p: Var, f: FieldId, at: u32, atom: Atom) -> Result<Prim, ParseFault>
+fn data_atom(scope: &Scope, p: Var, f: FieldId, at: u32, atom: Atom) -> Meaning<Prim>
     requires { length scope.now.locals ≤ most_locals }
     ensures { Gives (λ k. k) result (data_atom scope.now p f at (atom_tree atom.entry)) }
 {
@@ -128,7 +124,7 @@ fn atom_into(
     atom: Atom,
     field: Role,
     field_at: u32,
-) -> Result<Prim, ParseFault>
+) -> Meaning<Prim>
     requires { length scope.now.locals ≤ most_locals }
     ensures { Gives (λ k. k) result (atom_into scope.now p at (atom_tree atom.entry) field field_at) }
 {
@@ -141,8 +137,7 @@ fn atom_into(
 
 /// The primitive of an assignment at a place: `Undeclared` or `WrongSort` at the least token that
 /// can't stand there.
-#[tactic(auto, unfolding(crate::specs::Primitives::set_means))]
-pub fn assignment(scope: &Scope, at: u32, set: Set) -> Result<Prim, ParseFault>
+pub fn assignment(scope: &Scope, at: u32, set: Set) -> Meaning<Prim>
     requires locals { length scope.now.locals ≤ most_locals }
     requires place { at + set_size (set_tree set) < 2 ^ 32 }
     ensures { Gives (λ k. k) result (set_means scope.now at (set_tree set.entry)) }

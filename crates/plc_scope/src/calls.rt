@@ -8,7 +8,7 @@ ghost use Rattle.plc_scope.specs.Primitives.{argument_means, call_means};
 ghost use Rattle.plc_scope.specs.Scope.{most_locals};
 ghost use Rattle.plc_scope.specs.Views.{call_meaning};
 
-use crate::fault::ParseFault;
+use crate::fault::{Meaning, ParseFault};
 use crate::scope::Scope;
 use plc_base::FuncId;
 use plc_forms::{Argument, Call};
@@ -24,12 +24,7 @@ pub struct Called {
 }
 
 /// The argument of a function that takes a pointer.
-fn pointer_argument(
-    scope: &Scope,
-    func: FuncId,
-    at: u32,
-    argument: Argument,
-) -> Result<Called, ParseFault>
+fn pointer_argument(scope: &Scope, func: FuncId, at: u32, argument: Argument) -> Meaning<Called>
     requires locals { length scope.now.locals ≤ most_locals }
     requires place { at + call_size (argument_tree argument) < 2 ^ 32 }
     ensures { Gives call_meaning result (argument_means scope.now func true at (argument_tree argument.entry)) }
@@ -46,7 +41,7 @@ fn pointer_argument(
 /// What a call at a place means. `Undeclared` or `WrongSort` at a name that can't stand there;
 /// `NoSuchCall` at the function's name for an argument too many or too few, and for `retire` of null.
 #[tactic(auto, unfolding(crate::specs::Primitives::call_means))]
-pub fn call(scope: &Scope, at: u32, form: Call) -> Result<Called, ParseFault>
+pub fn call(scope: &Scope, at: u32, form: Call) -> Meaning<Called>
     requires locals { length scope.now.locals ≤ most_locals }
     requires place { at + call_size (argument_tree form.argument) < 2 ^ 32 }
     ensures { Gives call_meaning result

@@ -1,5 +1,7 @@
 // What tests and the conditions of `if` mean: the left side is judged before the relation, and both
 // before the right side.
+#![tactic(auto, unfolding(crate::specs::Primitives::test_means, crate::specs::Primitives::condition_means))]
+
 ghost use Rattle.std.specs.Prelude.{◌+◌, ◌<◌, ◌≤◌, ◌^◌, length, ◌≡◌};
 ghost use Rattle.plc_forms.specs.Sizes.{test_size, condition_size};
 ghost use Rattle.plc_forms.specs.Views.{text_or_none, atom_tree, relation_tree, test_tree, condition_tree};
@@ -9,7 +11,7 @@ ghost use Rattle.plc_scope.specs.Primitives.{test_means, pointer_or_null, cas_me
 ghost use Rattle.plc_scope.specs.Scope.{most_locals};
 
 use crate::binding::Role;
-use crate::fault::ParseFault;
+use crate::fault::{Meaning, ParseFault};
 use crate::numbers::number;
 use crate::refreshes::refresh_into;
 use crate::scope::Scope;
@@ -17,13 +19,7 @@ use plc_forms::{Atom, Cas, Condition, Relation, Test};
 use plc_lang::{Cond, Prim, Rel, Var};
 
 /// A test of equality of pointers, or its opposite.
-fn pointer_equality(
-    scope: &Scope,
-    p: Var,
-    is_equal: bool,
-    at: u32,
-    atom: Atom,
-) -> Result<Prim, ParseFault>
+fn pointer_equality(scope: &Scope, p: Var, is_equal: bool, at: u32, atom: Atom) -> Meaning<Prim>
     requires { length scope.now.locals ≤ most_locals }
     ensures { Gives (λ k. k) result (pointer_equality scope.now p is_equal at (atom_tree atom.entry)) }
 {
@@ -43,13 +39,7 @@ fn pointer_equality(
 }
 
 /// A test of pointers, which have no order; the relation stands at the place.
-fn pointer_test(
-    scope: &Scope,
-    p: Var,
-    at: u32,
-    relation: Relation,
-    atom: Atom,
-) -> Result<Prim, ParseFault>
+fn pointer_test(scope: &Scope, p: Var, at: u32, relation: Relation, atom: Atom) -> Meaning<Prim>
     requires locals { length scope.now.locals ≤ most_locals }
     requires place { at + 1 < 2 ^ 32 }
     ensures { Gives (λ k. k) result (pointer_test scope.now p at (relation_tree relation) (atom_tree atom.entry)) }
@@ -74,7 +64,7 @@ fn data_relation(form: Relation) -> Rel
 }
 
 /// What a data local is compared with.
-fn data_test(scope: &Scope, x: u16, rel: Rel, at: u32, atom: Atom) -> Result<Prim, ParseFault>
+fn data_test(scope: &Scope, x: u16, rel: Rel, at: u32, atom: Atom) -> Meaning<Prim>
     requires { length scope.now.locals ≤ most_locals }
     ensures { Gives (λ k. k) result (data_test scope.now x rel at (atom_tree atom.entry)) }
 {
@@ -83,7 +73,7 @@ fn data_test(scope: &Scope, x: u16, rel: Rel, at: u32, atom: Atom) -> Result<Pri
 }
 
 /// A test of the mark of the pointer variable that stands at the place.
-fn mark_test(scope: &Scope, name: &[u8], yes: bool, at: u32) -> Result<Prim, ParseFault>
+fn mark_test(scope: &Scope, name: &[u8], yes: bool, at: u32) -> Meaning<Prim>
     requires { length scope.now.locals ≤ most_locals }
     ensures { Gives (λ k. k) result (mark_test scope.now name.now yes at) }
 {
@@ -93,8 +83,7 @@ fn mark_test(scope: &Scope, name: &[u8], yes: bool, at: u32) -> Result<Prim, Par
 
 /// The primitive of a test at a place: `Undeclared` or `WrongSort` at the least token that can't
 /// stand there.
-#[tactic(auto, unfolding(crate::specs::Primitives::test_means))]
-pub fn test(scope: &Scope, at: u32, test: Test) -> Result<Prim, ParseFault>
+pub fn test(scope: &Scope, at: u32, test: Test) -> Meaning<Prim>
     requires locals { length scope.now.locals ≤ most_locals }
     requires place { at + test_size (test_tree test) < 2 ^ 32 }
     ensures { Gives (λ k. k) result (test_means scope.now at (test_tree test.entry)) }
@@ -115,7 +104,7 @@ pub fn test(scope: &Scope, at: u32, test: Test) -> Result<Prim, ParseFault>
 }
 
 /// A pointer variable, or none for null.
-fn pointer_or_null(scope: &Scope, at: u32, name: Option<&[u8]>) -> Result<Option<Var>, ParseFault>
+fn pointer_or_null(scope: &Scope, at: u32, name: Option<&[u8]>) -> Meaning<Option<Var>>
     requires { length scope.now.locals ≤ most_locals }
     ensures { Gives (λ v. v) result (pointer_or_null scope.now at (text_or_none name.entry)) }
 {
@@ -126,7 +115,7 @@ fn pointer_or_null(scope: &Scope, at: u32, name: Option<&[u8]>) -> Result<Option
 }
 
 /// The three pointers of a cas, two tokens apart.
-fn cas(scope: &Scope, at: u32, cas: Cas) -> Result<Cond, ParseFault>
+fn cas(scope: &Scope, at: u32, cas: Cas) -> Meaning<Cond>
     requires locals { length scope.now.locals ≤ most_locals }
     requires place { at + 4 < 2 ^ 32 }
     ensures { Gives (λ c. c) result
@@ -147,8 +136,7 @@ fn cas(scope: &Scope, at: u32, cas: Cas) -> Result<Cond, ParseFault>
 
 /// The condition of an `if` at a place: `Undeclared` or `WrongSort` at the least token that can't
 /// stand there.
-#[tactic(auto, unfolding(crate::specs::Primitives::condition_means))]
-pub fn condition(scope: &Scope, at: u32, condition: Condition) -> Result<Cond, ParseFault>
+pub fn condition(scope: &Scope, at: u32, condition: Condition) -> Meaning<Cond>
     requires locals { length scope.now.locals ≤ most_locals }
     requires place { at + condition_size (condition_tree condition) < 2 ^ 32 }
     ensures { Gives (λ c. c) result (condition_means scope.now at (condition_tree condition.entry)) }

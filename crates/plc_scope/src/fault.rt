@@ -27,6 +27,9 @@ pub enum ParseFault {
     Memory,
 }
 
+/// What a form or a name means, or why it means nothing.
+pub type Meaning<T> = Result<T, ParseFault>;
+
 impl ParseFault {
     /// The fault of one more of something than there may be.
     #[tactic(auto, using(crate::proofs::Limits::most_few))]

@@ -8,7 +8,7 @@ ghost use Rattle.plc_scope.specs.Scope.{pointer_local_at, function_at, protectin
 ghost use Rattle.plc_scope.specs.Scope.{auxiliary_at, value_at, thread_at};
 
 use crate::binding::{Binding, Found, Role};
-use crate::fault::ParseFault;
+use crate::fault::{Meaning, ParseFault};
 use crate::scope::Scope;
 use plc_base::{FieldId, FuncId};
 use plc_lang::{Local, Var, data_number, pointer_number};
@@ -108,7 +108,7 @@ impl Scope {
     }
 
     /// What a name at a place is. `Undeclared` where it has no declaration in reach.
-    pub fn role(&self, name: &[u8], at: u32) -> Result<Role, ParseFault>
+    pub fn role(&self, name: &[u8], at: u32) -> Meaning<Role>
         requires { length self.now.locals ≤ most_locals }
         ensures { Gives (λ role. role) result (known at (role_of self.now name.now)) }
     {
@@ -117,7 +117,7 @@ impl Scope {
 
     /// The pointer variable that a name at a place is; `Undeclared`, or `WrongSort` for another thing.
     #[tactic(auto, unfolding(crate::specs::Scope::pointer_at))]
-    pub fn pointer_at(&self, name: &[u8], at: u32) -> Result<Var, ParseFault>
+    pub fn pointer_at(&self, name: &[u8], at: u32) -> Meaning<Var>
         requires { length self.now.locals ≤ most_locals }
         ensures { Gives (λ variable. variable) result (pointer_at self.now name.now at) }
     {
@@ -127,7 +127,7 @@ impl Scope {
     /// The reclaimer function that a name at a place is, and whether it takes a pointer; `Undeclared`, or
     /// `WrongSort` for another thing.
     #[tactic(auto, unfolding(crate::specs::Scope::function_at))]
-    pub fn function_at(&self, name: &[u8], at: u32) -> Result<(FuncId, bool), ParseFault>
+    pub fn function_at(&self, name: &[u8], at: u32) -> Meaning<(FuncId, bool)>
         requires { length self.now.locals ≤ most_locals }
         ensures { Gives (λ x. (x.0, x.1)) result (function_at self.now name.now at) }
     {
@@ -137,7 +137,7 @@ impl Scope {
     /// The auxiliary field that a name at a place is, and whether it holds a thread; `Undeclared`, or
     /// `WrongSort` for another thing.
     #[tactic(auto, unfolding(crate::specs::Scope::auxiliary_at))]
-    pub fn auxiliary_at(&self, name: &[u8], at: u32) -> Result<(u16, bool), ParseFault>
+    pub fn auxiliary_at(&self, name: &[u8], at: u32) -> Meaning<(u16, bool)>
         requires { length self.now.locals ≤ most_locals }
         ensures { Gives (λ x. (x.0, x.1)) result (auxiliary_at self.now name.now at) }
     {
@@ -146,7 +146,7 @@ impl Scope {
 
     /// The data local that a name at a place is; `Undeclared`, or `WrongSort` for another thing.
     #[tactic(auto, unfolding(crate::specs::Scope::data_at))]
-    pub fn data_at(&self, name: &[u8], at: u32) -> Result<u16, ParseFault>
+    pub fn data_at(&self, name: &[u8], at: u32) -> Meaning<u16>
         requires { length self.now.locals ≤ most_locals }
         ensures { Gives (λ local. local) result (data_at self.now name.now at) }
     {
@@ -156,7 +156,7 @@ impl Scope {
     /// The function that sets a hazard pointer: it takes a pointer and isn't `retire`; `Undeclared`, or
     /// `WrongSort` for another thing.
     #[tactic(auto, unfolding(crate::specs::Scope::protecting_at))]
-    pub fn protecting_at(&self, name: &[u8], at: u32) -> Result<FuncId, ParseFault>
+    pub fn protecting_at(&self, name: &[u8], at: u32) -> Meaning<FuncId>
         requires { length self.now.locals ≤ most_locals }
         ensures { Gives (λ x. x) result (protecting_at self.now name.now at) }
     {
@@ -165,7 +165,7 @@ impl Scope {
 
     /// The pointer field that a name at a place is; `Undeclared`, or `WrongSort` for another thing.
     #[tactic(auto, unfolding(crate::specs::Scope::pointer_field_at))]
-    pub fn pointer_field_at(&self, name: &[u8], at: u32) -> Result<FieldId, ParseFault>
+    pub fn pointer_field_at(&self, name: &[u8], at: u32) -> Meaning<FieldId>
         requires { length self.now.locals ≤ most_locals }
         ensures { Gives (λ field. field) result (pointer_field_at self.now name.now at) }
     {
@@ -175,7 +175,7 @@ impl Scope {
     /// The function that takes no pointer, such as those of an epoch; `Undeclared`, or `WrongSort` for
     /// another thing.
     #[tactic(auto, unfolding(crate::specs::Scope::without_pointer_at))]
-    pub fn without_pointer_at(&self, name: &[u8], at: u32) -> Result<FuncId, ParseFault>
+    pub fn without_pointer_at(&self, name: &[u8], at: u32) -> Meaning<FuncId>
         requires { length self.now.locals ≤ most_locals }
         ensures { Gives (λ x. x) result (without_pointer_at self.now name.now at) }
     {
@@ -184,7 +184,7 @@ impl Scope {
 
     /// The data field that a name at a place is; `Undeclared`, or `WrongSort` for another thing.
     #[tactic(auto, unfolding(crate::specs::Scope::data_field_at))]
-    pub fn data_field_at(&self, name: &[u8], at: u32) -> Result<FieldId, ParseFault>
+    pub fn data_field_at(&self, name: &[u8], at: u32) -> Meaning<FieldId>
         requires { length self.now.locals ≤ most_locals }
         ensures { Gives (λ field. field) result (data_field_at self.now name.now at) }
     {
@@ -193,7 +193,7 @@ impl Scope {
 
     /// The pointer local that a name at a place is; `Undeclared`, or `WrongSort` for another thing.
     #[tactic(auto, unfolding(crate::specs::Scope::pointer_local_at))]
-    pub fn pointer_local_at(&self, name: &[u8], at: u32) -> Result<u16, ParseFault>
+    pub fn pointer_local_at(&self, name: &[u8], at: u32) -> Meaning<u16>
         requires { length self.now.locals ≤ most_locals }
         ensures { Gives (λ x. x) result (pointer_local_at self.now name.now at) }
     {
@@ -203,7 +203,7 @@ impl Scope {
     /// The value that a name at a place is, of the auxiliary field with this number; `Undeclared`, or
     /// `WrongSort` for another thing.
     #[tactic(auto, unfolding(crate::specs::Scope::value_at))]
-    pub fn value_at(&self, field: u16, name: &[u8], at: u32) -> Result<u16, ParseFault>
+    pub fn value_at(&self, field: u16, name: &[u8], at: u32) -> Meaning<u16>
         requires { length self.now.locals ≤ most_locals }
         ensures { Gives (λ x. x) result (value_at self.now field name.now at) }
     {
@@ -212,7 +212,7 @@ impl Scope {
 
     /// Where a thread is wanted no name can stand: `Undeclared`, or else `WrongSort`.
     #[tactic(auto, unfolding(crate::specs::Scope::thread_at))]
-    pub fn thread_at(&self, name: &[u8], at: u32) -> Result<u16, ParseFault>
+    pub fn thread_at(&self, name: &[u8], at: u32) -> Meaning<u16>
         requires { length self.now.locals ≤ most_locals }
         ensures { Gives (λ x. x) result (thread_at self.now name.now at) }
     {

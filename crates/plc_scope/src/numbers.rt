@@ -7,13 +7,13 @@ ghost use Rattle.plc_scope.specs.Answers.{Gives};
 ghost use Rattle.plc_scope.specs.Primitives.{with_number};
 ghost use Rattle.plc_scope.specs.Scope.{most_locals};
 
-use crate::fault::ParseFault;
+use crate::fault::{Meaning, ParseFault};
 use crate::scope::Scope;
 use plc_forms::Atom;
 use plc_lang::Num;
 
 /// The number that is put into a data field or compared with a data local.
-pub fn number(scope: &Scope, at: u32, atom: Atom) -> Result<Num, ParseFault>
+pub fn number(scope: &Scope, at: u32, atom: Atom) -> Meaning<Num>
     requires { length scope.now.locals ≤ most_locals }
     ensures { (make : Num → Primitive) → Gives make result
         (with_number scope.now at (atom_tree atom.entry) make) }

@@ -1,4 +1,6 @@
 // What primitives and the assignments of `init` mean.
+#![tactic(auto, unfolding(crate::specs::Primitives::primitive_means, crate::specs::Primitives::initial_means))]
+
 ghost use Rattle.std.specs.Prelude.{◌+◌, ◌<◌, ◌≤◌, ◌^◌, length};
 ghost use Rattle.plc_forms.specs.Sizes.{primitive_size, initial_size};
 ghost use Rattle.plc_forms.specs.Views.{primitive_tree, initial_tree};
@@ -8,7 +10,7 @@ ghost use Rattle.plc_scope.specs.Scope.{most_locals};
 
 use crate::assignments::assignment;
 use crate::conditions::test;
-use crate::fault::ParseFault;
+use crate::fault::Meaning;
 use crate::refreshes::{ghost_set, refresh};
 use crate::scope::Scope;
 use plc_forms::{Initial, Primitive};
@@ -16,8 +18,7 @@ use plc_lang::Prim;
 
 /// The primitive of a form at a place, or `None` for `skip`, which is none: `Undeclared` or
 /// `WrongSort` at the least token that can't stand there.
-#[tactic(auto, unfolding(crate::specs::Primitives::primitive_means))]
-pub fn primitive(scope: &Scope, at: u32, form: Primitive) -> Result<Option<Prim>, ParseFault>
+pub fn primitive(scope: &Scope, at: u32, form: Primitive) -> Meaning<Option<Prim>>
     requires locals { length scope.now.locals ≤ most_locals }
     requires place { at + primitive_size (primitive_tree form) < 2 ^ 32 }
     ensures { Gives (λ k. k) result (primitive_means scope.now at (primitive_tree form.entry)) }
@@ -36,14 +37,13 @@ pub fn primitive(scope: &Scope, at: u32, form: Primitive) -> Result<Option<Prim>
 }
 
 /// The primitive of an assignment of `init` at a place, with the same faults. No thread acts there.
-#[tactic(auto, unfolding(crate::specs::Primitives::initial_means))]
-pub fn initial(scope: &Scope, at: u32, form: Initial) -> Result<Option<Prim>, ParseFault>
+pub fn initial(scope: &Scope, at: u32, form: Initial) -> Meaning<Option<Prim>>
     requires locals { length scope.now.locals ≤ most_locals }
     requires place { at + initial_size (initial_tree form) < 2 ^ 32 }
     ensures { Gives (λ k. k) result (initial_means scope.now at (initial_tree form.entry)) }
 {
     match form {
-        Initial::Set(set) => Ok(Some(assignment(scope, at, set)?)),
+        Initial::Set(set) => primitive(scope, at, Primitive::Set(set)),
         Initial::Ghost(set) => Ok(Some(ghost_set(scope, true, at, set)?)),
     }
 }

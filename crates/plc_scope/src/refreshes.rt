@@ -8,30 +8,28 @@ ghost use Rattle.plc_scope.specs.Primitives.{refresh_from, refresh_name_means, r
 ghost use Rattle.plc_scope.specs.Primitives.{ghost_value_means, ghost_set_means};
 ghost use Rattle.plc_scope.specs.Scope.{most_locals};
 
-use crate::fault::ParseFault;
+use crate::fault::{Meaning, ParseFault};
 use crate::scope::Scope;
 use plc_forms::{GhostSet, GhostValue, Place, Refresh};
 use plc_lang::{GhostVal, Prim};
 
 /// What a pointer local is refreshed from.
-fn refresh_from(scope: &Scope, p: u16, at: u32, place: Place) -> Result<Prim, ParseFault>
+fn refresh_from(scope: &Scope, p: u16, at: u32, place: Place) -> Meaning<Prim>
     requires locals { length scope.now.locals ≤ most_locals }
     requires place { at + place_size (place_tree place) < 2 ^ 32 }
     ensures { Gives (λ k. k) result (refresh_from scope.now p at (place_tree place.entry)) }
 {
     let q = scope.pointer_at(place.name, at)?;
-    match place.field {
-        None => Ok(Prim::Refresh { p, q }),
-        Some(field) => {
-            let f = scope.pointer_field_at(field, at + 2)?;
-            Ok(Prim::RefreshLoad { p, q, f })
-        }
-    }
+    let Some(field) = place.field else {
+        return Ok(Prim::Refresh { p, q });
+    };
+    let f = scope.pointer_field_at(field, at + 2)?;
+    Ok(Prim::RefreshLoad { p, q, f })
 }
 
 /// The primitive of a refresh into a pointer local.
 #[tactic(auto, unfolding(crate::specs::Primitives::refresh_name_means))]
-pub fn refresh_into(scope: &Scope, at: u32, name: &[u8], place: Place) -> Result<Prim, ParseFault>
+pub fn refresh_into(scope: &Scope, at: u32, name: &[u8], place: Place) -> Meaning<Prim>
     requires locals { length scope.now.locals ≤ most_locals }
     requires place { at + 2 + place_size (place_tree place) < 2 ^ 32 }
     ensures { Gives (λ k. k) result (refresh_name_means scope.now at name.now (place_tree place.entry)) }
@@ -42,7 +40,7 @@ pub fn refresh_into(scope: &Scope, at: u32, name: &[u8], place: Place) -> Result
 
 /// The primitive of a refresh into a pointer local or into a pointer field.
 #[tactic(auto, unfolding(crate::specs::Primitives::refresh_means))]
-pub fn refresh(scope: &Scope, at: u32, refresh: Refresh) -> Result<Prim, ParseFault>
+pub fn refresh(scope: &Scope, at: u32, refresh: Refresh) -> Meaning<Prim>
     requires locals { length scope.now.locals ≤ most_locals }
     requires place { at + refresh_size (refresh_tree refresh) < 2 ^ 32 }
     ensures { Gives (λ k. k) result (refresh_means scope.now at (refresh_tree refresh.entry)) }
@@ -67,7 +65,7 @@ fn ghost_value(
     of_threads: bool,
     at: u32,
     value: GhostValue,
-) -> Result<GhostVal, ParseFault>
+) -> Meaning<GhostVal>
     requires { length scope.now.locals ≤ most_locals }
     ensures { Gives (λ v. v) result
         (ghost_value_means scope.now in_init g of_threads at (ghost_value_tree value.entry)) }
@@ -83,7 +81,7 @@ fn ghost_value(
 
 /// The primitive of an assignment to an auxiliary field, in `init` or in an operation.
 #[tactic(auto, unfolding(crate::specs::Primitives::ghost_set_means))]
-pub fn ghost_set(scope: &Scope, in_init: bool, at: u32, set: GhostSet) -> Result<Prim, ParseFault>
+pub fn ghost_set(scope: &Scope, in_init: bool, at: u32, set: GhostSet) -> Meaning<Prim>
     requires locals { length scope.now.locals ≤ most_locals }
     requires place { at + ghost_set_size < 2 ^ 32 }
     ensures { Gives (λ k. k) result (ghost_set_means scope.now in_init at (ghost_set_tree set.entry)) }

@@ -1,7 +1,9 @@
 -- What is executed names constants and maps of the sorts that its rows ask.
-use Rattle.std.proofs.Common.{◌≡◌, ◌<◌, ◌+◌, ℕ, zero, suc, Bool, true, false, not, cond, ◌&&◌, ◌||◌, List, [], ◌∷◌, length, map, take, slice_get, slice_index_or, count_by, Option, Some, None, option_map, unwrap_or, All, refl, sym, ap, subst, ◌∙◌, arith}
+use Rattle.std.proofs.Common.{◌≡◌, ◌<◌, ◌+◌, ℕ, zero, suc, Bool, true, false, not, cond, ◌&&◌, ◌||◌, List, [], ◌∷◌}
+use Rattle.std.proofs.Common.{length, map, take, slice_get, count_by, Option, Some, None, option_map, unwrap_or, All}
+use Rattle.std.proofs.Common.{refl, sym, ap, subst, ◌∙◌, arith}
 use Rattle.std.specs.List.{list_any}
-use Rattle.std.proofs.lemmas.List.{length-map, get_or-map}
+use Rattle.std.proofs.lemmas.List.Elements.{All-nil, All-cons, All-append}
 use Rattle.std.proofs.lemmas.List.Sums.{sum_by-cons}
 use Rattle.std.proofs.lemmas.Option.{slice_get-map, slice_get_within}
 use Rattle.plc_base.specs.Functions.{is_retire}
@@ -38,18 +40,19 @@ use Rattle.plc_ground.specs.declared.terms.Symbol.{Symbol}
 use Rattle.plc_ground.specs.declared.terms.Symbol.TheVariants as symbols
 use Rattle.plc_ground.specs.declared.terms.Map.TheVariants as maps
 use Rattle.plc_setting.specs.declared.acts.Act.{Act}
+use Rattle.plc_setting.specs.declared.acts.Act.TheVariants.{Assign, Make, FetchMarked, Update}
 use Rattle.plc_setting.specs.declared.obligations.Obligation.{Obligation}
 use Rattle.plc_setting.specs.declared.obligations.Obligation.TheVariants.{Start, Enter, Own, Other, Claim}
 use Rattle.plc_setting.specs.declared.setting.Variables.{Variables}
-use Rattle.plc_setting.specs.Acts.{symbol_at, pointer_symbol, number_symbol, ghost_symbol, data_test, pointers_differ}
-use Rattle.plc_setting.specs.Acts.{call_act, act_of, acts_of}
+use Rattle.plc_setting.specs.Acts.{symbol_at, pointer_symbol, number_symbol, ghost_symbol, data_test, call_act, act_of}
+use Rattle.plc_setting.specs.Acts.{mark_of, truth, assign_marked, store_marked, marked_acts, acts_of_primitive, acts_of}
 use Rattle.plc_setting.specs.Marks.{program_uses_marks}
 use Rattle.plc_setting.specs.Fit.{Fits}
 use Rattle.plc_setting.specs.Parts.{prims_of, executed, acting_locals, locals_of_step}
 use Rattle.plc_setting.specs.Setting.{local_symbol, variables_of}
 use Rattle.plc_setting.specs.Sorts.{field_sort, auxiliary_sort, local_sort, value_sort, map_sort, symbol_sort}
 use Rattle.plc_setting.specs.WellSorted.{ActFits, ActsFit}
-use Rattle.plc_setting.proofs.Fitting.{sorted_at, executed_sorted}
+use Rattle.plc_setting.proofs.Fitting.{executed_sorted}
 
 -- ---- the local that a variable's constant names
 
@@ -59,11 +62,14 @@ Stands k ls b p = (n : ℕ) × (l : Local) × (p ≡ b + n) × (slice_get ls n �
 further : (k : Local → Bool) (l : Local) (ls : List Local) (b p : ℕ) → Stands k ls (b + 1) p → Stands k (l ∷ ls) b p
 further k l ls b p s = (suc (s.0), s.1, omega (arith, s.2), s.3, s.4)
 
-pub kind_at_place : (k : Local → Bool) (ls : List Local) (b v p : ℕ) → slice_get (places_from k b ls) v ≡ Some p → Stands k ls b p
+pub kind_at_place : (k : Local → Bool) (ls : List Local) (b v p : ℕ) → slice_get (places_from k b ls) v ≡ Some p
+    → Stands k ls b p
 kind_at_place k [] b v p e = absurd cc
 kind_at_place k (l ∷ ls) b v p e = go (λ w f. kind_at_place k ls (b + 1) w p f) (k l) refl v e
   where
-    go : ((w : ℕ) → slice_get (places_from k (b + 1) ls) w ≡ Some p → Stands k ls (b + 1) p) → (y : Bool) → k l ≡ y → (v : ℕ) → slice_get (cond y (b ∷ places_from k (b + 1) ls) (places_from k (b + 1) ls)) v ≡ Some p → Stands k (l ∷ ls) b p
+    go : ((w : ℕ) → slice_get (places_from k (b + 1) ls) w ≡ Some p → Stands k ls (b + 1) p) → (y : Bool) → k l ≡ y
+        → (v : ℕ) → slice_get (cond y (b ∷ places_from k (b + 1) ls) (places_from k (b + 1) ls)) v ≡ Some p
+        → Stands k (l ∷ ls) b p
     go rest true h zero f = (let same : b ≡ p = cc in (zero, l, omega (arith, same), refl, h))
     go rest true h (suc w) f = further k l ls b p (rest w f)
     go rest false h w f = further k l ls b p (rest w f)
@@ -84,19 +90,24 @@ named_local k ls v h =
     record {
       place = s.0;
       named = s.1;
-      symbol = ap (λ (o : Option Symbol). unwrap_or o symbols.Null) (slice_get-map (local_symbol false) (places_from k 0 ls) v ∙ ap (option_map (local_symbol false)) found.1) ∙ ap symbols.Mine same;
+      symbol =
+          ap (λ (o : Option Symbol). unwrap_or o symbols.Null)
+          (slice_get-map (local_symbol false) (places_from k 0 ls) v ∙ ap (option_map (local_symbol false)) found.1)
+          ∙ ap symbols.Mine same;
       there = s.3;
       kind = s.4;
     }
 
 -- parameters and other data locals are the data locals
-one_local : (a p rest : Bool) → ((a && p) || rest) ≡ false → (cond a 1 0 + cond (not p && not a) 1 0 ≡ cond (not p) 1 0) × (rest ≡ false)
+one_local : (a p rest : Bool) → ((a && p) || rest) ≡ false
+    → (cond a 1 0 + cond (not p && not a) 1 0 ≡ cond (not p) 1 0) × (rest ≡ false)
 one_local true true rest e = absurd cc
 one_local true false rest e = (refl, e)
 one_local false true rest e = (refl, e)
 one_local false false rest e = (refl, e)
 
-data_count : (ls : List Local) → list_any (λ l. is_parameter l && is_pointer l) ls ≡ false → count_by is_parameter ls + count_by is_other_data ls ≡ count_by is_data ls
+data_count : (ls : List Local) → list_any (λ l. is_parameter l && is_pointer l) ls ≡ false
+    → count_by is_parameter ls + count_by is_other_data ls ≡ count_by is_data ls
 data_count [] e = refl
 data_count (l ∷ ls) e =
     let one = one_local l.param l.pointer (list_any (λ l. is_parameter l && is_pointer l) ls) e in
@@ -121,30 +132,28 @@ front_in h zero ks i = tt
 front_in h (suc j) [] i = tt
 front_in h (suc j) (k ∷ ks) i = (i.0, front_in h j ks i.1)
 
-in_at : (h : Shape) (ks : List Primitive) (i : ℕ) (d : Primitive) → PrimitivesIn h ks → i < length ks → PrimitiveIn h (slice_index_or ks i d)
-in_at h [] i d there within = absurd (omega arith)
-in_at h (k ∷ ks) zero d there within = there.0
-in_at h (k ∷ ks) (suc i) d there within = in_at h ks i d there.1 (omega arith)
-
 abbrev some_shape : ℕ → ℕ → Shape
 some_shape p v = record { shared = 0; pointers = p; values = v; fields = 0 }
 
 nothing_executed : (ls : List Local) → Executes ls []
-nothing_executed ls = record { shape = some_shape (count_by is_pointer ls) (count_by is_data ls); locals = (refl, refl); names = tt }
+nothing_executed ls =
+    record { shape = some_shape (count_by is_pointer ls) (count_by is_data ls); locals = (refl, refl); names = tt }
 
 op_there : (ops : List Op) (i : ℕ) → i < length ops → (o : Op) × (slice_get ops i ≡ Some o)
 op_there [] i less = absurd (omega arith)
 op_there (o ∷ ops) zero less = (o, refl)
 op_there (o ∷ ops) (suc i) less = op_there ops i (omega arith)
 
-op_of_step : (flow : Flow) (outline : Outline) → Fits flow outline → (k : ℕ) (s : Step) → slice_get flow.steps k ≡ Some s → (o : Op) × (slice_get flow.file.ops s.op.0 ≡ Some o)
+op_of_step : (flow : Flow) (outline : Outline) → Fits flow outline → (k : ℕ) (s : Step)
+    → slice_get flow.steps k ≡ Some s → (o : Op) × (slice_get flow.file.ops s.op.0 ≡ Some o)
 op_of_step flow outline fits k s is =
     let w = fits.flow_fits.well.steps k s is in
     let within = slice_get_within flow.gates s.op.0 w.0 w.1 in
     let same = fits.flow_fits.well.gates in
     op_there flow.file.ops s.op.0 (omega (arith, within, same))
 
-step_executes : (flow : Flow) (outline : Outline) → Fits flow outline → (k : ℕ) (r : Option Step) → slice_get flow.steps k ≡ r → Executes (locals_of_step flow r) (prims_of r)
+step_executes : (flow : Flow) (outline : Outline) → Fits flow outline → (k : ℕ) (r : Option Step)
+    → slice_get flow.steps k ≡ r → Executes (locals_of_step flow r) (prims_of r)
 step_executes flow outline fits k None is = nothing_executed []
 step_executes flow outline fits k (Some s) is =
     let op = op_of_step flow outline fits k s is in
@@ -155,8 +164,10 @@ step_executes flow outline fits k (Some s) is =
       names = fits.flow_fits.steps k s op.0 is op.1;
     })
 
-executes : (flow : Flow) (outline : Outline) (o : Obligation) → Fits flow outline → Executes (acting_locals flow o) (executed flow o)
-executes flow outline (Start i) fits = record { shape = init_shape flow.file; locals = (refl, refl); names = fits.flow_fits.init }
+executes : (flow : Flow) (outline : Outline) (o : Obligation) → Fits flow outline
+    → Executes (acting_locals flow o) (executed flow o)
+executes flow outline (Start i) fits =
+    record { shape = init_shape flow.file; locals = (refl, refl); names = fits.flow_fits.init }
 executes flow outline (Enter op c) fits = nothing_executed (acting_locals flow (Enter op c))
 executes flow outline (Own k c) fits = step_executes flow outline fits k.0 _ refl
 executes flow outline (Other k p c) fits = step_executes flow outline fits k.0 _ refl
@@ -165,6 +176,28 @@ executes flow outline (Claim k j) fits =
     record { shape = e.shape; locals = e.locals; names = front_in e.shape j _ e.names }
 
 -- ---- sorts
+
+-- the mark of anything is a truth
+pub mark_sort : (flow : Flow) (o : Obligation) (acts : List Act) (s : Symbol)
+    → symbol_sort flow o acts (mark_of s) ≡ sorts.Truth
+mark_sort flow o acts symbols.Null = refl
+mark_sort flow o acts (symbols.Shared i) = refl
+mark_sort flow o acts (symbols.Mine k) = refl
+mark_sort flow o acts (symbols.Theirs k) = refl
+mark_sort flow o acts symbols.New = refl
+mark_sort flow o acts (symbols.Bound i) = refl
+mark_sort flow o acts (symbols.Loaded r) = refl
+mark_sort flow o acts symbols.Yes = refl
+mark_sort flow o acts symbols.No = refl
+mark_sort flow o acts symbols.Nobody = refl
+mark_sort flow o acts symbols.Me = refl
+mark_sort flow o acts symbols.You = refl
+mark_sort flow o acts (symbols.Value v) = refl
+mark_sort flow o acts (symbols.Number n) = refl
+mark_sort flow o acts (symbols.MarkShared i) = refl
+mark_sort flow o acts (symbols.MarkMine k) = refl
+mark_sort flow o acts (symbols.MarkTheirs k) = refl
+mark_sort flow o acts (symbols.MarkLoaded r) = refl
 
 module _ (flow : Flow) (o : Obligation) (acts : List Act) (h : Shape) (of : IsOf h (acting_locals flow o)) where
   abbrev ls : List Local
@@ -198,16 +231,19 @@ module _ (flow : Flow) (o : Obligation) (acts : List Act) (h : Shape) (of : IsOf
   of_number (nums.Lit n) there = refl
   of_number (nums.Local x) there = of_data x there
 
-  of_field : (wanted : Bool) (f : FieldId) → FieldIs flow.file wanted f → map_sort flow.file (maps.Field f) ≡ pointer_sort wanted
+  of_field : (wanted : Bool) (f : FieldId) → FieldIs flow.file wanted f
+      → map_sort flow.file (maps.Field f) ≡ pointer_sort wanted
   of_field wanted f s = ap field_sort s.1 ∙ ap pointer_sort s.2
 
   of_values : (g : ℕ) (vs : List ℕ) (v : ℕ) → v < length vs → sorts.Value g ≡ ghost_sort g vs
   of_values g [] v less = absurd (omega arith)
   of_values g (x ∷ vs) v less = refl
 
-  of_ghost : (g : ℕ) (v : GhostVal) → WriteIsWellSorted flow.file g v → sort (ghost_symbol flow.file.ghosts g v) ≡ map_sort flow.file (maps.Ghost g)
+  of_ghost : (g : ℕ) (v : GhostVal) → WriteIsWellSorted flow.file g v
+      → sort (ghost_symbol flow.file.ghosts g v) ≡ map_sort flow.file (maps.Ghost g)
   of_ghost g (values.Value v) s =
-      ap value_sort ((values_are_numbered flow.file.ghosts).there g v s.0 s.1 s.2) ∙ of_values g s.0.values v s.2 ∙ ap (auxiliary_sort g) (sym s.1)
+      ap value_sort ((values_are_numbered flow.file.ghosts).there g v s.0 s.1 s.2) ∙ of_values g s.0.values v s.2
+      ∙ ap (auxiliary_sort g) (sym s.1)
   of_ghost g values.Me s = ap (ghost_sort g) (sym s.2) ∙ ap (auxiliary_sort g) (sym s.1)
   of_ghost g values.None s = ap (ghost_sort g) (sym s.2) ∙ ap (auxiliary_sort g) (sym s.1)
 
@@ -217,48 +253,116 @@ module _ (flow : Flow) (o : Obligation) (acts : List Act) (h : Shape) (of : IsOf
   test_fits rels.Lt a b e = tt
   test_fits rels.Ge a b e = tt
 
-  differ_fits : (marked : Bool) (a b : Symbol) → sort a ≡ sort b → ActFits flow.file sort (pointers_differ marked a b)
-  differ_fits true a b e = tt
-  differ_fits false a b e = e
-
   call_fits : (b : Bool) (a : Arg) → ArgIn h a → ActFits flow.file sort (call_act mine b a)
   call_fits true (args.Var p) there = (of_variable p there, refl)
   call_fits true args.Null there = tt
   call_fits true args.None there = tt
   call_fits false a there = tt
 
-  pub act_fits : (marked : Bool) (k : Primitive) → PrimitiveIn h k → IsWellSorted flow.file k → ActFits flow.file sort (act_of marked flow.file.ghosts mine k)
-  act_fits marked (Null p) n s = of_variable p n
-  act_fits marked (Copy p q) n s = of_variable p n.0 ∙ sym (of_variable q n.1)
-  act_fits marked (New p) n s = of_variable p n
-  act_fits marked (Load p q f) n s = (of_variable q n.1, of_variable p n.0, of_field true f s)
-  act_fits marked (Store p f q) n s = (of_variable p n.0, of_variable q n.2 ∙ sym (of_field true f s))
-  act_fits marked (StoreNull p f) n s = (of_variable p n.0, sym (of_field true f s))
-  act_fits marked (DataSet x e) n s = of_data x n.0 ∙ sym (of_number e n.1)
-  act_fits marked (DataLoad x q f) n s = (of_variable q n.1, of_data x n.0, of_field false f s)
-  act_fits marked (DataStore p f e) n s = (of_variable p n.0, of_number e n.2 ∙ sym (of_field false f s))
-  act_fits marked (Eq p q) n s = of_variable p n.0 ∙ sym (of_variable q n.1)
-  act_fits marked (Ne p q) n s = differ_fits marked _ _ (of_variable p n.0 ∙ sym (of_variable q n.1))
-  act_fits marked (IsNull p) n s = of_variable p n
-  act_fits marked (NotNull p) n s = of_variable p n
-  act_fits marked (DataTest r x e) n s = test_fits r _ _ (of_data x n.0 ∙ sym (of_number e n.1))
-  act_fits marked (Refresh p q) n s = of_pointer p n.0 ∙ sym (of_variable q n.1)
-  act_fits marked (RefreshLoad p q f) n s = (of_variable q n.1, of_pointer p n.0, of_field true f s)
-  act_fits marked (RefreshStore p f q) n s = (of_variable p n.0, of_variable q n.2 ∙ sym (of_field true f s))
-  act_fits marked (Mark p q) n s = of_variable p n.0 ∙ sym (of_variable q n.1)
-  act_fits marked (Unmark p q) n s = of_variable p n.0 ∙ sym (of_variable q n.1)
-  act_fits marked (MarkTest p m) n s = tt
-  act_fits marked (Call f a) n s = call_fits (is_retire f) a n
-  act_fits marked (Done f) n s = tt
-  act_fits marked (Active p) n s = tt
-  act_fits marked (Ghost p g v) n s = (of_variable p n, of_ghost g v s)
+  pub act_fits : (k : Primitive) → PrimitiveIn h k → IsWellSorted flow.file k
+      → ActFits flow.file sort (act_of flow.file.ghosts mine k)
+  act_fits (Null p) n s = of_variable p n
+  act_fits (Copy p q) n s = of_variable p n.0 ∙ sym (of_variable q n.1)
+  act_fits (New p) n s = of_variable p n
+  act_fits (Load p q f) n s = (of_variable q n.1, of_variable p n.0, of_field true f s)
+  act_fits (Store p f q) n s = (of_variable p n.0, of_variable q n.2 ∙ sym (of_field true f s))
+  act_fits (StoreNull p f) n s = (of_variable p n.0, sym (of_field true f s))
+  act_fits (DataSet x e) n s = of_data x n.0 ∙ sym (of_number e n.1)
+  act_fits (DataLoad x q f) n s = (of_variable q n.1, of_data x n.0, of_field false f s)
+  act_fits (DataStore p f e) n s = (of_variable p n.0, of_number e n.2 ∙ sym (of_field false f s))
+  act_fits (Eq p q) n s = of_variable p n.0 ∙ sym (of_variable q n.1)
+  act_fits (Ne p q) n s = of_variable p n.0 ∙ sym (of_variable q n.1)
+  act_fits (IsNull p) n s = of_variable p n
+  act_fits (NotNull p) n s = of_variable p n
+  act_fits (DataTest r x e) n s = test_fits r _ _ (of_data x n.0 ∙ sym (of_number e n.1))
+  act_fits (Refresh p q) n s = of_pointer p n.0 ∙ sym (of_variable q n.1)
+  act_fits (RefreshLoad p q f) n s = (of_variable q n.1, of_pointer p n.0, of_field true f s)
+  act_fits (RefreshStore p f q) n s = (of_variable p n.0, of_variable q n.2 ∙ sym (of_field true f s))
+  act_fits (Mark p q) n s = of_variable p n.0 ∙ sym (of_variable q n.1)
+  act_fits (Unmark p q) n s = of_variable p n.0 ∙ sym (of_variable q n.1)
+  act_fits (MarkTest p m) n s = tt
+  act_fits (Call f a) n s = call_fits (is_retire f) a n
+  act_fits (Done f) n s = tt
+  act_fits (Active p) n s = tt
+  act_fits (Ghost p g v) n s = (of_variable p n, of_ghost g v s)
 
-  pub each_fits : (marked : Bool) (ks : List Primitive) → PrimitivesIn h ks → AreWellSorted flow.file ks → All (ActFits flow.file sort) (acts_of marked flow.file.ghosts mine ks)
-  each_fits marked ks there sorted = λ i d within.
-      let size : length (acts_of marked flow.file.ghosts mine ks) ≡ length ks = length-map ks (act_of marked flow.file.ghosts mine) in
-      let less : i < length ks = omega (arith, size) in
-      let k = slice_index_or ks i (Null (vars.Shared 0)) in
-      subst (ActFits flow.file sort) (sym (get_or-map (act_of marked flow.file.ghosts mine) ks i (Null (vars.Shared 0)) d less)) (act_fits marked k (in_at h ks i _ there less) (sorted_at flow.file ks i _ sorted less))
+  -- ---- a program that uses marks
+
+  abbrev Fit : List Act → Type 0
+  Fit acts = All (ActFits flow.file sort) acts
+
+  one : (a : Act) → ActFits flow.file sort a → Fit (a ∷ [])
+  one a fits = All-cons (ActFits flow.file sort) a [] fits (All-nil (ActFits flow.file sort))
+
+  two : (a b : Act) → ActFits flow.file sort a → ActFits flow.file sort b → Fit (a ∷ b ∷ [])
+  two a b first second = All-cons (ActFits flow.file sort) a (b ∷ []) first (one b second)
+
+  of_mark : (s : Symbol) → sort (mark_of s) ≡ sorts.Truth
+  of_mark s = mark_sort flow o acts s
+
+  same_marks : (s r : Symbol) → sort (mark_of s) ≡ sort (mark_of r)
+  same_marks s r = of_mark s ∙ sym (of_mark r)
+
+  of_truth : (m : Bool) → sort (truth m) ≡ sorts.Truth
+  of_truth true = refl
+  of_truth false = refl
+
+  assigned_fits : (p e m : Symbol) → sort p ≡ sort e → sort m ≡ sorts.Truth → Fit (assign_marked p e m)
+  assigned_fits p e m node mark = two (Assign (mark_of p) m) (Assign p e) (of_mark p ∙ sym mark) node
+
+  copied_fits : (p q : Symbol) → sort p ≡ sorts.Node → sort q ≡ sorts.Node → Fit (assign_marked p q (mark_of q))
+  copied_fits p q a b = assigned_fits p q (mark_of q) (a ∙ sym b) (of_mark q)
+
+  read_fits : (p q : Symbol) (f : FieldId) → sort p ≡ sorts.Node → sort q ≡ sorts.Node → FieldIs flow.file true f
+      → Fit (FetchMarked p q f ∷ [])
+  read_fits p q f a b s = one (FetchMarked p q f) (b, a, of_mark p, of_field true f s)
+
+  stored_fits : (f : FieldId) (p e m : Symbol) → sort p ≡ sorts.Node → sort e ≡ sorts.Node → sort m ≡ sorts.Truth
+      → FieldIs flow.file true f → Fit (store_marked f p e m)
+  stored_fits f p e m node value mark s =
+      two (Update true (maps.Field f) p e) (Update false (maps.FieldMark f) p m) (node, value ∙ sym (of_field true f s))
+      (node, mark)
+
+  marked_fits : (k : Primitive) → PrimitiveIn h k → IsWellSorted flow.file k → Fit (marked_acts flow.file.ghosts mine k)
+  marked_fits (Null p) n s = assigned_fits _ symbols.Null symbols.No (of_variable p n) refl
+  marked_fits (Copy p q) n s = copied_fits _ _ (of_variable p n.0) (of_variable q n.1)
+  marked_fits (New p) n s = two _ (Make (pointer_symbol mine p)) (of_mark (pointer_symbol mine p)) (of_variable p n)
+  marked_fits (Load p q f) n s = read_fits _ _ f (of_variable p n.0) (of_variable q n.1) s
+  marked_fits (Store p f q) n s =
+      stored_fits f _ _ _ (of_variable p n.0) (of_variable q n.2) (of_mark (pointer_symbol mine q)) s
+  marked_fits (StoreNull p f) n s = stored_fits f _ symbols.Null symbols.No (of_variable p n.0) refl refl s
+  marked_fits (DataSet x e) n s = one _ (act_fits (DataSet x e) n s)
+  marked_fits (DataLoad x q f) n s = one _ (act_fits (DataLoad x q f) n s)
+  marked_fits (DataStore p f e) n s = one _ (act_fits (DataStore p f e) n s)
+  marked_fits (Eq p q) n s =
+      two _ _ (act_fits (Eq p q) n s) (same_marks (pointer_symbol mine p) (pointer_symbol mine q))
+  marked_fits (Ne p q) n s = one _ (act_fits (Ne p q) n s, same_marks (pointer_symbol mine p) (pointer_symbol mine q))
+  marked_fits (IsNull p) n s = one _ (act_fits (IsNull p) n s)
+  marked_fits (NotNull p) n s = one _ (act_fits (NotNull p) n s)
+  marked_fits (DataTest r x e) n s = one _ (act_fits (DataTest r x e) n s)
+  marked_fits (Refresh p q) n s = copied_fits _ _ (of_pointer p n.0) (of_variable q n.1)
+  marked_fits (RefreshLoad p q f) n s = read_fits _ _ f (of_pointer p n.0) (of_variable q n.1) s
+  marked_fits (RefreshStore p f q) n s =
+      stored_fits f _ _ _ (of_variable p n.0) (of_variable q n.2) (of_mark (pointer_symbol mine q)) s
+  marked_fits (Mark p q) n s = assigned_fits _ _ symbols.Yes (of_variable p n.0 ∙ sym (of_variable q n.1)) refl
+  marked_fits (Unmark p q) n s = assigned_fits _ _ symbols.No (of_variable p n.0 ∙ sym (of_variable q n.1)) refl
+  marked_fits (MarkTest p m) n s = one _ (of_mark (pointer_symbol mine p) ∙ sym (of_truth m))
+  marked_fits (Call f a) n s = one _ (act_fits (Call f a) n s)
+  marked_fits (Done f) n s = one _ (act_fits (Done f) n s)
+  marked_fits (Active p) n s = one _ (act_fits (Active p) n s)
+  marked_fits (Ghost p g v) n s = one _ (act_fits (Ghost p g v) n s)
+
+  primitive_fits : (marked : Bool) (k : Primitive) → PrimitiveIn h k → IsWellSorted flow.file k
+      → Fit (acts_of_primitive marked flow.file.ghosts mine k)
+  primitive_fits true k n s = marked_fits k n s
+  primitive_fits false k n s = one _ (act_fits k n s)
+
+  pub each_fits : (marked : Bool) (ks : List Primitive) → PrimitivesIn h ks → AreWellSorted flow.file ks
+      → Fit (acts_of marked flow.file.ghosts mine ks)
+  each_fits marked [] n s = All-nil (ActFits flow.file sort)
+  each_fits marked (k ∷ ks) n s =
+      All-append (ActFits flow.file sort) (acts_of_primitive marked flow.file.ghosts mine k)
+      (acts_of marked flow.file.ghosts mine ks) (primitive_fits marked k n.0 s.0) (each_fits marked ks n.1 s.1)
 
 pub acts_fit : (flow : Flow) (outline : Outline) (o : Obligation) → Fits flow outline → ActsFit flow outline o
 acts_fit flow outline o fits =

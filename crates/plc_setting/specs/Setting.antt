@@ -26,13 +26,14 @@ use Rattle.plc_logic.specs.declared.clause.Outline.{Outline}
 use Rattle.plc_ground.specs.declared.terms.Symbol.{Symbol}
 use Rattle.plc_ground.specs.declared.terms.Symbol.TheVariants as symbols
 use Rattle.plc_setting.specs.declared.acts.Act.{Act}
-use Rattle.plc_setting.specs.declared.acts.Act.TheVariants.{Assign, Make, Fetch, Update, Test, Skip}
+use Rattle.plc_setting.specs.declared.acts.Act.TheVariants.{Assign, Make, Fetch, FetchMarked, Update}
+use Rattle.plc_setting.specs.declared.acts.Act.TheVariants.{Test, Differ, Skip}
 use Rattle.plc_setting.specs.declared.obligations.Obligation.{Obligation}
 use Rattle.plc_setting.specs.declared.setting.Setting.{Setting}
 use Rattle.plc_setting.specs.declared.setting.Variables.{Variables}
 use Rattle.plc_symbolic.specs.declared.symbolic.NodeTerm.{NodeTerm}
 use Rattle.plc_symbolic.specs.declared.symbolic.NodeTerm.TheVariants.{At, Target}
-use Rattle.plc_setting.specs.Acts.{acts_of}
+use Rattle.plc_setting.specs.Acts.{acts_of, mark_of}
 use Rattle.plc_setting.specs.Marks.{program_uses_marks}
 use Rattle.plc_setting.specs.Parts.{executed, acting_locals, owner_locals, has_owner, conclusion}
 
@@ -60,10 +61,12 @@ variables_of owner ls = record {
 abbrev pub loads_from : ℕ → List Act → List Symbol
 loads_from k [] = []
 loads_from k (Fetch p q f pointer ∷ more) = symbols.Loaded k ∷ loads_from (k + 1) more
+loads_from k (FetchMarked p q f ∷ more) = symbols.Loaded k ∷ loads_from (k + 1) more
 loads_from k (Assign p e ∷ more) = loads_from k more
 loads_from k (Make p ∷ more) = loads_from k more
 loads_from k (Update checked m p e ∷ more) = loads_from k more
 loads_from k (Test a b equal ∷ more) = loads_from k more
+loads_from k (Differ a b ∷ more) = loads_from k more
 loads_from k (Skip ∷ more) = loads_from k more
 
 -- those of them that are nodes, each by its number among all reads
@@ -71,10 +74,12 @@ abbrev pub pointer_loads_from : ℕ → List Act → List Symbol
 pointer_loads_from k [] = []
 pointer_loads_from k (Fetch p q f true ∷ more) = symbols.Loaded k ∷ pointer_loads_from (k + 1) more
 pointer_loads_from k (Fetch p q f false ∷ more) = pointer_loads_from (k + 1) more
+pointer_loads_from k (FetchMarked p q f ∷ more) = symbols.Loaded k ∷ pointer_loads_from (k + 1) more
 pointer_loads_from k (Assign p e ∷ more) = pointer_loads_from k more
 pointer_loads_from k (Make p ∷ more) = pointer_loads_from k more
 pointer_loads_from k (Update checked m p e ∷ more) = pointer_loads_from k more
 pointer_loads_from k (Test a b equal ∷ more) = pointer_loads_from k more
+pointer_loads_from k (Differ a b ∷ more) = pointer_loads_from k more
 pointer_loads_from k (Skip ∷ more) = pointer_loads_from k more
 
 -- ---- nodes
@@ -114,6 +119,16 @@ if_deep false ns = []
 abbrev pub nodes_of : List Symbol → Bool → List Symbol → List FieldId → List NodeTerm
 nodes_of ss deep constants fs = map At ss ++ if_deep deep (targets_of fs constants)
 
+-- ---- marks
+
+abbrev pub if_marked : Bool → List Symbol → List Symbol
+if_marked true ss = ss
+if_marked false ss = []
+
+-- the constants of marks: those of the pointer variables and of the pointers that are read
+abbrev pub mark_constants : Bool → List Symbol → List Symbol → List Symbol
+mark_constants marked pointers loads = if_marked marked (map mark_of (pointers ++ loads))
+
 -- ---- the setting
 
 abbrev pub bound_of : Option Clause → ℕ
@@ -149,6 +164,7 @@ setting_of flow outline o =
       nodes = nodes_of constants deep constants fields;
       instances = nodes_of (plain_constants pointers bound loads) deep constants fields;
       fields = fields;
+      marks = mark_constants marked pointers loads;
     }
 
 -- ---- the constants, in order
@@ -172,6 +188,7 @@ term_numbers t = []
 abbrev pub literal_numbers : Literal → List ℕ
 literal_numbers (literals.Same a b equal) = term_numbers a ++ term_numbers b
 literal_numbers (literals.Retired x is_so) = []
+literal_numbers (literals.Marked t is_so) = []
 
 abbrev pub clause_numbers : Clause → List ℕ
 clause_numbers c = flat_map literal_numbers c.literals
@@ -210,6 +227,7 @@ constants_of flow outline s =
     ++ (if_made s.makes
     ++ (map symbols.Bound (below s.bound)
     ++ (loads_from 0 s.acts
-    ++ (symbols.Yes ∷ symbols.Nobody ∷ symbols.Me ∷ (if_owned s.owned
+    ++ (symbols.Yes ∷ (if_marked s.marked (symbols.No ∷ [])
+    ++ (symbols.Nobody ∷ symbols.Me ∷ (if_owned s.owned
     ++ (map symbols.Value (below (sum_by values_in flow.file.ghosts))
-    ++ map symbols.Number (numbers_of flow outline))))))))))))
+    ++ (map symbols.Number (numbers_of flow outline) ++ s.marks))))))))))))))

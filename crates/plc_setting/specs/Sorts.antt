@@ -1,5 +1,5 @@
 -- The sort of each term of a ground set.
-use Rattle.std.specs.Prelude.{ℕ, Bool, List, [], ◌∷◌, Option, Some, None, slice_get}
+use Rattle.std.specs.Prelude.{ℕ, Bool, true, List, [], ◌∷◌, Option, Some, None, slice_get}
 use Rattle.plc_lang.specs.declared.syntax.Field.{Field}
 use Rattle.plc_lang.specs.declared.syntax.Ghost.{Ghost}
 use Rattle.plc_lang.specs.declared.syntax.File.{File}
@@ -14,7 +14,8 @@ use Rattle.plc_ground.specs.declared.terms.Symbol.TheVariants as symbols
 use Rattle.plc_ground.specs.declared.terms.Map.{Map}
 use Rattle.plc_ground.specs.declared.terms.Map.TheVariants as maps
 use Rattle.plc_setting.specs.declared.acts.Act.{Act}
-use Rattle.plc_setting.specs.declared.acts.Act.TheVariants.{Assign, Make, Fetch, Update, Test, Skip}
+use Rattle.plc_setting.specs.declared.acts.Act.TheVariants.{Assign, Make, Fetch, FetchMarked, Update}
+use Rattle.plc_setting.specs.declared.acts.Act.TheVariants.{Test, Differ, Skip}
 use Rattle.plc_setting.specs.declared.obligations.Obligation.{Obligation}
 use Rattle.plc_symbolic.specs.declared.symbolic.SymbolicTerm.{SymbolicTerm}
 use Rattle.plc_symbolic.specs.declared.symbolic.SymbolicTerm.TheVariants.{Constant, Application}
@@ -42,15 +43,18 @@ abbrev pub map_sort : File → Map → Sort
 map_sort file (maps.Field f) = field_sort (slice_get file.fields f.0)
 map_sort file (maps.Ghost g) = auxiliary_sort g (slice_get file.ghosts g)
 map_sort file maps.Retired = sorts.Truth
+map_sort file (maps.FieldMark f) = sorts.Truth
 
 -- whether what is read goes into a pointer, read by read
 abbrev pub loads_of : List Act → List Bool
 loads_of [] = []
 loads_of (Fetch p q f pointer ∷ more) = pointer ∷ loads_of more
+loads_of (FetchMarked p q f ∷ more) = true ∷ loads_of more
 loads_of (Assign p e ∷ more) = loads_of more
 loads_of (Make p ∷ more) = loads_of more
 loads_of (Update checked m p e ∷ more) = loads_of more
 loads_of (Test a b equal ∷ more) = loads_of more
+loads_of (Differ a b ∷ more) = loads_of more
 loads_of (Skip ∷ more) = loads_of more
 
 abbrev pub load_sort : Option Bool → Sort
@@ -67,11 +71,16 @@ symbol_sort flow o acts symbols.New = sorts.Node
 symbol_sort flow o acts (symbols.Bound i) = sorts.Node
 symbol_sort flow o acts (symbols.Loaded k) = load_sort (slice_get (loads_of acts) k)
 symbol_sort flow o acts symbols.Yes = sorts.Truth
+symbol_sort flow o acts symbols.No = sorts.Truth
 symbol_sort flow o acts symbols.Nobody = sorts.Thread
 symbol_sort flow o acts symbols.Me = sorts.Thread
 symbol_sort flow o acts symbols.You = sorts.Thread
 symbol_sort flow o acts (symbols.Value v) = value_sort (value_at flow.file.ghosts v)
 symbol_sort flow o acts (symbols.Number n) = sorts.Number
+symbol_sort flow o acts (symbols.MarkShared i) = sorts.Truth
+symbol_sort flow o acts (symbols.MarkMine i) = sorts.Truth
+symbol_sort flow o acts (symbols.MarkTheirs i) = sorts.Truth
+symbol_sort flow o acts (symbols.MarkLoaded i) = sorts.Truth
 
 abbrev pub sort_of : Flow → Obligation → List Act → SymbolicTerm → Sort
 sort_of flow o acts (Constant s) = symbol_sort flow o acts s

@@ -10,12 +10,14 @@ use Rattle.plc_logic.specs.Fit.{pointer_sort}
 use Rattle.plc_ground.specs.declared.terms.Symbol.{Symbol}
 use Rattle.plc_ground.specs.declared.terms.Map.TheVariants as maps
 use Rattle.plc_setting.specs.declared.acts.Act.{Act}
-use Rattle.plc_setting.specs.declared.acts.Act.TheVariants.{Assign, Make, Fetch, Update, Test, Skip}
+use Rattle.plc_setting.specs.declared.acts.Act.TheVariants.{Assign, Make, Fetch, FetchMarked, Update}
+use Rattle.plc_setting.specs.declared.acts.Act.TheVariants.{Test, Differ, Skip}
 use Rattle.plc_setting.specs.declared.obligations.Obligation.{Obligation}
 use Rattle.plc_setting.specs.declared.setting.Setting.{Setting}
 use Rattle.plc_setting.specs.declared.setting.Variables.{Variables}
 use Rattle.plc_symbolic.specs.Terms.{term_of}
 use Rattle.plc_setting.specs.Fit.{Fits}
+use Rattle.plc_setting.specs.Acts.{mark_of}
 use Rattle.plc_setting.specs.Setting.{setting_of}
 use Rattle.plc_setting.specs.Sorts.{map_sort, symbol_sort, sort_of}
 
@@ -25,8 +27,11 @@ ActFits file sort (Assign p e) = sort p ≡ sort e
 ActFits file sort (Make p) = sort p ≡ sorts.Node
 ActFits file sort (Fetch p q f pointer) = (sort q ≡ sorts.Node) × (sort p ≡ pointer_sort pointer)
     × (map_sort file (maps.Field f) ≡ pointer_sort pointer)
+ActFits file sort (FetchMarked p q f) = (sort q ≡ sorts.Node) × (sort p ≡ sorts.Node)
+    × (sort (mark_of p) ≡ sorts.Truth) × (map_sort file (maps.Field f) ≡ sorts.Node)
 ActFits file sort (Update checked m p e) = (sort p ≡ sorts.Node) × (sort e ≡ map_sort file m)
 ActFits file sort (Test a b equal) = sort a ≡ sort b
+ActFits file sort (Differ a b) = (sort a ≡ sort b) × (sort (mark_of a) ≡ sort (mark_of b))
 ActFits file sort Skip = Unit {0}
 
 -- every act of an obligation is such
@@ -49,6 +54,7 @@ pub record NodesFit (flow : Flow) (o : Obligation) (s : Setting) : Type 0 where
   pub nodes : All (λ n. sort_of flow o s.acts (term_of n) ≡ sorts.Node) s.nodes
   pub instances : All (λ n. sort_of flow o s.acts (term_of n) ≡ sorts.Node) s.instances
   pub fields : All (λ f. map_sort flow.file (maps.Field f) ≡ sorts.Node) s.fields
+  pub marks : All (λ c. symbol_sort flow o s.acts c ≡ sorts.Truth) s.marks
 
 -- the acts, and the setting, of every flow, outline and obligation are well-sorted
 abbrev pub AllActsFit : Type 0

@@ -1,16 +1,16 @@
 // The constants of a ground set, in the order in which they are listed.
-ghost use Rattle.std.specs.Prelude.{◌≡◌, ◌≤◌, ◌<◌, ◌++◌, ◌∷◌, length, map, OnOk, IfOk};
+ghost use Rattle.std.specs.Prelude.{◌≡◌, ◌≤◌, ◌<◌, ◌++◌, ◌∷◌, [], length, map, OnOk, IfOk};
 ghost use Rattle.std.specs.List.{sum_by};
 ghost use Rattle.plc_lang.specs.Numbering.{values_in};
-ghost use Rattle.plc_flow.specs.WellFormed.{most_step_primitives};
+ghost use Rattle.plc_setting.specs.Acts.{most_acts};
 ghost use Rattle.plc_ground.specs.declared.terms.Symbol.TheVariants as symbols;
 ghost use Rattle.plc_setting.specs.Fit.{Fits};
-ghost use Rattle.plc_setting.specs.Setting.{if_owned, constants_of};
+ghost use Rattle.plc_setting.specs.Setting.{if_owned, if_marked, constants_of};
 
 use crate::numbers::numbers_of;
 use crate::setting::Setting;
 use crate::symbols::{
-    push_all, push_bound, push_loads, push_made, push_owner, push_shared, push_values,
+    push_all, push_bound, push_loads, push_made, push_owner, push_shared, push_unset, push_values,
 };
 use plc_base::{Items, NoMemory};
 use plc_flow::Flow;
@@ -53,12 +53,17 @@ fn push_variables(list: &mut Items<Symbol>, s: &Setting) -> Result<(), NoMemory>
     push_all(list, s.theirs.values.as_slice())
 }
 
-/// Lists what `retired` is for a retired node, and the threads.
-fn push_threads(list: &mut Items<Symbol>, owned: bool) -> Result<(), NoMemory>
-    ensures { OnOk result (list.new
-        ≡ list.old ++ (symbols.Yes ∷ symbols.Nobody ∷ symbols.Me ∷ if_owned owned)) }
+/// Lists what `retired` is for a retired node, with it what marks are, and the threads.
+fn push_truths_and_threads(
+    list: &mut Items<Symbol>,
+    marked: bool,
+    owned: bool,
+) -> Result<(), NoMemory>
+    ensures { OnOk result (list.new ≡ list.old ++ (symbols.Yes ∷ (if_marked marked (symbols.No ∷ [])
+        ++ (symbols.Nobody ∷ symbols.Me ∷ if_owned owned)))) }
 {
     list.push(Symbol::Yes)?;
+    push_unset(list, marked)?;
     list.push(Symbol::Nobody)?;
     list.push(Symbol::Me)?;
     push_owner(list, owned)
@@ -72,7 +77,7 @@ pub fn constants_of(
     s: &Setting,
 ) -> Result<Items<Symbol>, NoMemory>
     requires fits { Fits flow.now outline.now }
-    requires few { length s.now.acts ≤ most_step_primitives }
+    requires few { length s.now.acts ≤ most_acts }
     ensures { IfOk result (λ list. list ≡ constants_of flow.now outline.now s.now) }
 {
     let mut list = Items::new(alloc);
@@ -82,9 +87,10 @@ pub fn constants_of(
     push_made(&mut list, s.makes)?;
     push_bound(&mut list, s.bound)?;
     push_loads(&mut list, s.acts.as_slice())?;
-    push_threads(&mut list, s.owned)?;
+    push_truths_and_threads(&mut list, s.marked, s.owned)?;
     push_values(&mut list, count_values(flow.file.ghosts.as_slice()))?;
     let numbers = numbers_of(alloc, flow, outline)?;
     push_numbers(&mut list, &numbers)?;
+    push_all(&mut list, s.marks.as_slice())?;
     Ok(list)
 }

@@ -15,7 +15,7 @@ mod setting;
 mod sorts;
 mod symbols;
 
-pub use acts::{Act, pointer_symbol};
+pub use acts::{Act, mark_of, pointer_symbol};
 pub use constants::constants_of;
 pub use laws::{acts_fit, nodes_fit, numbers_fit};
 pub use marks::program_uses_marks;

@@ -82,7 +82,7 @@ fn put_of_literal(numbers: &mut BTreeSet<u32>, literal: &Literal) -> Result<(), 
             put(numbers, number_that_is(a))?;
             put(numbers, number_that_is(b))
         }
-        Literal::Retired { .. } => Ok(()),
+        Literal::Retired { .. } | Literal::Marked { .. } => Ok(()),
     }
 }
 

@@ -3,22 +3,21 @@ ghost use Rattle.std.specs.Prelude.{◌≡◌, ◌≤◌, ◌==◌, true, false,
 ghost use Rattle.plc_base.specs.Limits.{most};
 ghost use Rattle.plc_base.specs.declared.limits.What1.TheVariants as limits;
 ghost use Rattle.plc_lang.specs.Numbering.{places_from};
-ghost use Rattle.plc_flow.specs.WellFormed.{most_step_primitives};
 ghost use Rattle.plc_logic.specs.declared.clause.Outline.{Outline as AnOutline};
 ghost use Rattle.plc_setting.specs.Fit.{Fits};
 ghost use Rattle.plc_setting.specs.Setting.{local_symbol, variables_of, pointer_fields_from, bound_of};
 ghost use Rattle.plc_setting.specs.Kinds.{is_kind};
 ghost use Rattle.plc_setting.specs.Setting.{pointer_variables, pointer_loads_from, setting_of};
-ghost use Rattle.plc_setting.specs.Setting.{node_constants, plain_constants, nodes_of};
+ghost use Rattle.plc_setting.specs.Setting.{node_constants, plain_constants, nodes_of, mark_constants};
 ghost use Rattle.plc_setting.specs.Parts.{executed, acting_locals, owner_locals};
-ghost use Rattle.plc_setting.specs.Acts.{acts_of};
+ghost use Rattle.plc_setting.specs.Acts.{acts_of, most_acts};
 ghost use Rattle.plc_setting.specs.Marks.{program_uses_marks};
 
 use crate::acts::{Act, acts_of};
 use crate::nodes::{node_constants, nodes_of, plain_constants};
 use crate::obligations::Obligation;
 use crate::parts::{acting_locals, conclusion, executed, has_owner, owner_locals};
-use crate::symbols::{push_all, push_pointer_loads, push_shared};
+use crate::symbols::{push_all, push_marks, push_pointer_loads, push_shared};
 use plc_base::{FieldId, Items, NoMemory};
 use plc_flow::Flow;
 use plc_ground::Symbol;
@@ -60,6 +59,8 @@ pub struct Setting {
     pub instances: Items<NodeTerm>,
     /// The pointer fields of the struct.
     pub fields: Items<FieldId>,
+    /// The marks of the pointer variables and of the pointers that are read, where the program uses marks.
+    pub marks: Items<Symbol>,
 }
 
 /// The constant of a local, by its number among all locals of its operation.
@@ -157,7 +158,7 @@ fn pointer_variables(
 
 /// The nodes that are read.
 fn loaded_pointers(alloc: Global, acts: &[Act]) -> Result<Items<Symbol>, NoMemory>
-    requires { length acts.now ≤ most_step_primitives }
+    requires { length acts.now ≤ most_acts }
     ensures { IfOk result (λ list. list ≡ pointer_loads_from 0 acts.now) }
 {
     let mut list = Items::new(alloc);
@@ -227,17 +228,37 @@ fn node_lists(
     })
 }
 
-/// The nodes of a setting, with the pointer variables and pointer fields through which they are found.
+/// The marks of pointer variables and of pointers that are read, where the program uses marks.
+fn mark_constants(
+    alloc: Global,
+    marked: bool,
+    pointers: &[Symbol],
+    loaded: &[Symbol],
+) -> Result<Items<Symbol>, NoMemory>
+    ensures { IfOk result (λ list. list ≡ mark_constants marked pointers.now loaded.now) }
+{
+    let mut list = Items::new(alloc);
+    if marked {
+        push_marks(&mut list, pointers)?;
+        push_marks(&mut list, loaded)?;
+    }
+    Ok(list)
+}
+
+/// The nodes of a setting, with the pointer variables and pointer fields through which they are found,
+/// and the marks of its pointers.
 #[derive(Drop)]
 struct Nodes {
     pointers: Items<Symbol>,
     fields: Items<FieldId>,
     lists: NodeLists,
+    marks: Items<Symbol>,
 }
 
 /// The nodes of a setting, from what is executed and from how many nodes the conclusion names.
 fn setting_nodes(
     alloc: Global,
+    marked: bool,
     flow: &Flow,
     outline: &Outline,
     run: &Executed,
@@ -245,7 +266,7 @@ fn setting_nodes(
     bound: u16,
 ) -> Result<Nodes, NoMemory>
     requires fits { Fits flow.now outline.now }
-    requires few { length run.now.acts ≤ most_step_primitives }
+    requires few { length run.now.acts ≤ most_acts }
     ensures pointers { IfOk result (λ nodes. nodes.pointers
         ≡ pointer_variables (length flow.now.file.shared) run.now.mine run.now.theirs) }
     ensures fields { IfOk result (λ nodes. nodes.fields ≡ pointer_fields_from 0 flow.now.file.fields) }
@@ -256,6 +277,8 @@ fn setting_nodes(
     ensures instances { IfOk result (λ nodes. nodes.lists.instances
         ≡ nodes_of (plain_constants nodes.pointers bound (pointer_loads_from 0 run.now.acts))
         (outline.now.depth == 1) nodes.lists.constants nodes.fields) }
+    ensures marks { IfOk result (λ nodes. nodes.marks
+        ≡ mark_constants marked nodes.pointers (pointer_loads_from 0 run.now.acts)) }
 {
     let pointers = pointer_variables(alloc, flow.file.shared.len(), &run.mine, &run.theirs)?;
     let loaded = loaded_pointers(alloc, run.acts.as_slice())?;
@@ -269,10 +292,12 @@ fn setting_nodes(
         outline.depth == 1,
         fields.as_slice(),
     )?;
+    let marks = mark_constants(alloc, marked, pointers.as_slice(), loaded.as_slice())?;
     Ok(Nodes {
         pointers,
         fields,
         lists,
+        marks,
     })
 }
 
@@ -298,6 +323,7 @@ fn setting_from_parts(
       nodes = nodes.lists.nodes;
       instances = nodes.lists.instances;
       fields = nodes.fields;
+      marks = nodes.marks;
     } }
 {
     Setting {
@@ -313,6 +339,7 @@ fn setting_from_parts(
         nodes: nodes.lists.nodes,
         instances: nodes.lists.instances,
         fields: nodes.fields,
+        marks: nodes.marks,
     }
 }
 
@@ -327,11 +354,11 @@ pub fn setting_of(
     requires fits { Fits flow.now outline.now }
     requires marked { marked ≡ program_uses_marks flow.now outline.now }
     ensures setting { IfOk result (λ s. s ≡ setting_of flow.now outline.now o.now) }
-    ensures few { IfOk result (λ s. length s.acts ≤ most_step_primitives) }
+    ensures few { IfOk result (λ s. length s.acts ≤ most_acts) }
 {
     let run = executed_by(alloc, marked, flow, o)?;
     let makes = has_new(executed(flow, o));
     let bound = bound_of(conclusion(flow, outline, o));
-    let nodes = setting_nodes(alloc, flow, outline, &run, makes, bound)?;
+    let nodes = setting_nodes(alloc, marked, flow, outline, &run, makes, bound)?;
     Ok(setting_from_parts(marked, run, has_owner(o), makes, bound, nodes))
 }

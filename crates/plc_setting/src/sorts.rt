@@ -62,6 +62,7 @@ fn map_sort(file: &File, map: Map) -> Sort
         Map::Field(f) => field_sort(file.fields.as_slice(), f),
         Map::Ghost(g) => auxiliary_sort(file.ghosts.as_slice(), g),
         Map::Retired => Sort::Truth,
+        Map::FieldMark(_) => Sort::Truth,
     }
 }
 
@@ -81,11 +82,21 @@ fn load_sort(acts: &[Act], k: u16) -> Sort
 {
     let mut left = k;
     for act in acts {
-        if let Act::Fetch { pointer, .. } = act {
-            if left == 0 {
-                return pointer_sort(*pointer);
+        match act {
+            Act::Fetch { pointer, .. } => {
+                if left == 0 {
+                    return pointer_sort(*pointer);
+                }
+                left -= 1;
             }
-            left -= 1;
+            Act::FetchMarked { .. } => {
+                if left == 0 {
+                    return Sort::Node;
+                }
+                left -= 1;
+            }
+            Act::Assign { .. } | Act::Make { .. } | Act::Update { .. } => {}
+            Act::Test { .. } | Act::Differ { .. } | Act::Skip => {}
         }
     }
     Sort::Node
@@ -116,11 +127,16 @@ fn symbol_sort(flow: &Flow, o: &Obligation, acts: &[Act], symbol: Symbol) -> Sor
         Symbol::Bound(_) => Sort::Node,
         Symbol::Loaded(k) => load_sort(acts, k),
         Symbol::Yes => Sort::Truth,
+        Symbol::No => Sort::Truth,
         Symbol::Nobody => Sort::Thread,
         Symbol::Me => Sort::Thread,
         Symbol::You => Sort::Thread,
         Symbol::Value(v) => value_sort(flow.file.ghosts.as_slice(), v),
         Symbol::Number(_) => Sort::Number,
+        Symbol::MarkShared(_) => Sort::Truth,
+        Symbol::MarkMine(_) => Sort::Truth,
+        Symbol::MarkTheirs(_) => Sort::Truth,
+        Symbol::MarkLoaded(_) => Sort::Truth,
     }
 }
 

@@ -1,12 +1,13 @@
 // Runs of constants, each put after those that are there. The lists of a setting and the constants of a
 // ground set are made of these runs.
-ghost use Rattle.std.specs.Prelude.{◌≡◌, ◌≤◌, ◌<◌, ◌++◌, length, map, OnOk};
+ghost use Rattle.std.specs.Prelude.{◌≡◌, ◌≤◌, ◌<◌, ◌++◌, ◌∷◌, [], length, map, OnOk};
 ghost use Rattle.plc_base.specs.Limits.{most};
 ghost use Rattle.plc_base.specs.declared.limits.What1.TheVariants as limits;
 ghost use Rattle.plc_ground.specs.declared.terms.Symbol.TheVariants as symbols;
-ghost use Rattle.plc_setting.specs.Setting.{below, if_made, if_owned, loads_from, pointer_loads_from};
+ghost use Rattle.plc_setting.specs.Setting.{below, if_made, if_owned, if_marked, loads_from, pointer_loads_from};
+ghost use Rattle.plc_setting.specs.Acts.{mark_of};
 
-use crate::acts::Act;
+use crate::acts::{Act, mark_of};
 use plc_base::{Items, NoMemory};
 use plc_ground::Symbol;
 
@@ -61,6 +62,26 @@ pub fn push_made(list: &mut Items<Symbol>, makes: bool) -> Result<(), NoMemory>
     Ok(())
 }
 
+/// Lists the mark that isn't set, where marks are used.
+pub fn push_unset(list: &mut Items<Symbol>, marked: bool) -> Result<(), NoMemory>
+    ensures { OnOk result (list.new ≡ list.old ++ if_marked marked (symbols.No ∷ [])) }
+{
+    if marked {
+        list.push(Symbol::No)?;
+    }
+    Ok(())
+}
+
+/// Lists the marks of what these constants stand for.
+pub fn push_marks(list: &mut Items<Symbol>, of: &[Symbol]) -> Result<(), NoMemory>
+    ensures { OnOk result (list.new ≡ list.old ++ map mark_of of.now) }
+{
+    for symbol in of {
+        list.push(mark_of(*symbol))?;
+    }
+    Ok(())
+}
+
 /// Lists the owner, where there is one.
 pub fn push_owner(list: &mut Items<Symbol>, owned: bool) -> Result<(), NoMemory>
     ensures { OnOk result (list.new ≡ list.old ++ if_owned owned) }
@@ -78,7 +99,7 @@ pub fn push_loads(list: &mut Items<Symbol>, acts: &[Act]) -> Result<(), NoMemory
 {
     let mut loads = 0;
     for act in acts {
-        if let Act::Fetch { .. } = act {
+        if let Act::Fetch { .. } | Act::FetchMarked { .. } = act {
             list.push(Symbol::Loaded(loads))?;
             loads += 1;
         }
@@ -93,11 +114,19 @@ pub fn push_pointer_loads(list: &mut Items<Symbol>, acts: &[Act]) -> Result<(), 
 {
     let mut reads = 0;
     for act in acts {
-        if let Act::Fetch { pointer, .. } = act {
-            if *pointer {
-                list.push(Symbol::Loaded(reads))?;
+        match act {
+            Act::Fetch { pointer, .. } => {
+                if *pointer {
+                    list.push(Symbol::Loaded(reads))?;
+                }
+                reads += 1;
             }
-            reads += 1;
+            Act::FetchMarked { .. } => {
+                list.push(Symbol::Loaded(reads))?;
+                reads += 1;
+            }
+            Act::Assign { .. } | Act::Make { .. } | Act::Update { .. } => {}
+            Act::Test { .. } | Act::Differ { .. } | Act::Skip => {}
         }
     }
     Ok(())

@@ -21,7 +21,7 @@ ghost use Rattle.plc_solve.specs.Search.{IsSurvey, IsFalse, AreFalse, AreInside}
 ghost use Rattle.plc_ground.specs.declared.terms.Lit.{Lit};
 
 use crate::survey::Survey;
-use plc_ground::{GroundSet, Lit, clause, holds, must_differ};
+use plc_ground::{GroundSet, GroundTerm, Lit, Symbol, clause, holds, must_differ};
 
 /// Whether the literal at a place is true; false where there is none.
 fn is_true_at(class: &[u32], literals: &[Lit], at: usize) -> bool
@@ -131,6 +131,39 @@ fn open_count(set: &GroundSet, survey: &Survey, class: &[u32], c: usize, most: u
     count
 }
 
+/// Whether the term is the constant `no`.
+fn is_no(set: &GroundSet, i: u32) -> bool
+    requires { i < length set.now.terms }
+{
+    let term = set.terms.as_slice()[i as usize];
+    matches!(term, GroundTerm::Const(Symbol::No))
+}
+
+/// Whether a clause only says that a mark is set or isn't.
+fn is_choice_of_mark(set: &GroundSet, c: usize) -> bool
+    requires well { IsWellFormed set.now }
+    requires clause { c < length set.now.clauses }
+{
+    let literals = clause(set, c);
+    literals.len() == 2 && literals[0].equal && literals[1].equal && is_no(set, literals[1].right)
+}
+
+/// How many literals of a false clause are open, counted up to `most`. Of a mark of which nothing is known it is as
+/// many as may be.
+fn rated(set: &GroundSet, survey: &Survey, class: &[u32], c: usize, most: usize) -> usize
+    requires well { IsWellFormed set.now }
+    requires one_each { length class.now ≡ length set.now.terms }
+    requires no_later { IsNoLater class.now }
+    requires survey { IsSurvey set.now survey.now }
+    requires clause { c < length set.now.clauses }
+{
+    let open = open_count(set, survey, class, c, most);
+    if open > 1 && is_choice_of_mark(set, c) {
+        return usize::MAX;
+    }
+    open
+}
+
 /// The clause with fewer open literals, the earlier of two with as many.
 fn better(set: &GroundSet, survey: &Survey, class: &[u32], best: Option<Choice>, c: usize) -> Choice
     requires well { IsWellFormed set.now }
@@ -144,7 +177,7 @@ fn better(set: &GroundSet, survey: &Survey, class: &[u32], best: Option<Choice>,
         Some(found) => found.open,
         None => usize::MAX,
     };
-    let open = open_count(set, survey, class, c, most);
+    let open = rated(set, survey, class, c, most);
     match best {
         Some(found) if found.open <= open => found,
         _ => Choice { clause: c, open },

@@ -43,18 +43,23 @@ fn symbol_key(symbol: Symbol) -> u64
 {
     match symbol {
         Symbol::Null => 0,
-        Symbol::Shared(i) => 8 + 16 * i as u64,
-        Symbol::Mine(i) => 9 + 16 * i as u64,
-        Symbol::Theirs(i) => 10 + 16 * i as u64,
+        Symbol::Shared(i) => 8 + 32 * i as u64,
+        Symbol::Mine(i) => 9 + 32 * i as u64,
+        Symbol::Theirs(i) => 10 + 32 * i as u64,
         Symbol::New => 1,
-        Symbol::Bound(i) => 11 + 16 * i as u64,
-        Symbol::Loaded(i) => 12 + 16 * i as u64,
+        Symbol::Bound(i) => 11 + 32 * i as u64,
+        Symbol::Loaded(i) => 12 + 32 * i as u64,
         Symbol::Yes => 2,
+        Symbol::No => 6,
         Symbol::Nobody => 3,
         Symbol::Me => 4,
         Symbol::You => 5,
-        Symbol::Value(i) => 13 + 16 * i as u64,
-        Symbol::Number(n) => 14 + 16 * n as u64,
+        Symbol::Value(i) => 13 + 32 * i as u64,
+        Symbol::Number(n) => 14 + 32 * n as u64,
+        Symbol::MarkShared(i) => 15 + 32 * i as u64,
+        Symbol::MarkMine(i) => 16 + 32 * i as u64,
+        Symbol::MarkTheirs(i) => 17 + 32 * i as u64,
+        Symbol::MarkLoaded(i) => 18 + 32 * i as u64,
     }
 }
 
@@ -64,7 +69,7 @@ fn node_key(node: NodeTerm) -> u64
 {
     match node {
         NodeTerm::At(symbol) => symbol_key(symbol),
-        NodeTerm::Target { f, of } => symbol_key(of) + 0x10_0000 * (1 + f.0 as u64),
+        NodeTerm::Target { f, of } => symbol_key(of) + 0x20_0000 * (1 + f.0 as u64),
     }
 }
 
@@ -76,6 +81,7 @@ fn map_key(map: Map) -> u64
         Map::Field(f) => 1 + 4 * f.0 as u64,
         Map::Ghost(g) => 2 + 4 * g as u64,
         Map::Retired => 3,
+        Map::FieldMark(f) => 4 + 4 * f.0 as u64,
     }
 }
 
@@ -86,7 +92,7 @@ pub fn term_key(term: SymbolicTerm) -> u64
     match term {
         SymbolicTerm::Constant(symbol) => symbol_key(symbol),
         SymbolicTerm::Application { map, version, node } => {
-            node_key(node) + 0x10_0000_0000 * map_key(map) + 0x1000_0000_0000 * version as u64
+            node_key(node) + 0x20_0000_0000 * map_key(map) + 0x2000_0000_0000 * version as u64
         }
     }
 }

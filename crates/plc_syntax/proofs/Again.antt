@@ -8,7 +8,7 @@ use Rattle.plc_syntax.specs.declared.expected.Expected.{Expected}
 use Rattle.plc_syntax.specs.declared.expected.Expected.TheVariants as expected
 use Rattle.plc_syntax.specs.declared.expected.Part.{Part as PartName}
 use Rattle.plc_syntax.specs.declared.expected.Part.TheVariants as parts
-use Rattle.plc_syntax.specs.Trees.{Text, each_then, maybe_then, word_if_then, comma_name_then, FieldTree, field_then, shared_then, FunctionTree, function_then, WatchTree, watch_then, GhostKindTree, ghost_kind_then, GhostTree, ghost_then, dot_name_then, PlaceTree, place_then, AtomTree, atom_then, ValueTree, value_then, GhostValueTree, ghost_value_then, InitialTree, initial_then, init_then, Comparison, comparison_symbol, TestTree, test_then, name_or_null_then, ConditionTree, condition_then, PrimitiveTree, primitive_then, primitive_line_then, ArgumentTree, argument_then, during_then, StatementTree, BlockTree, ElseTree, OrTree, statement_then, statements_then, else_then, or_then, parameters_then, OpTree, op_then, TermTree, term_then, FlagTree, flag_then, equality_symbol, LiteralTree, literal_then, BoundTree, bound_then, or_literal_then, ClauseTree, clause_then, ItemTree, item_then, depth_then, OutlineTree, outline_then, FileTree, file_tokens, PointerField, DataField, Declares, UseHazard, UseEpoch, OneOf, OfThreads, Auxiliary, PlaceOf, NullAtom, NumberAtom, NameAtom, NullValue, NewValue, NumberValue, MarkValue, UnmarkValue, PlaceValue, SetName, SetField, RefreshName, RefreshField, NameGhost, MeGhost, NoneGhost, SetGhost, InitialSet, InitialGhost, SameAs, OtherThan, LessThan, NotLessThan, MarkedTest, UnmarkedTest, Compares, TestCondition, RefreshCondition, CasCondition, SetPrimitive, RefreshPrimitive, GhostPrimitive, ActivePrimitive, AssumePrimitive, SkipPrimitive, NoArgument, NullArgument, NameArgument, ActiveArgument, PrimitiveStatement, AtomicStatement, CallStatement, IfStatement, ChooseStatement, LoopStatement, BreakStatement, ReturnStatement, LabelStatement, NoStatement, Then, NoElse, ElseBlock, NoOr, OrBlock, Operates, PlaceTerm, NullTerm, NumberTerm, MeTerm, NoneTerm, RetiredFlag, FlagLiteral, NotLiteral, EqualityLiteral, NoBound, AllOf, Claims, InvariantItem, OverItem, AtItem, Outlined}
+use Rattle.plc_syntax.specs.Trees.{Text, each_then, maybe_then, word_if_then, comma_name_then, FieldTree, field_then, shared_then, FunctionTree, function_then, WatchTree, watch_then, GhostKindTree, ghost_kind_then, GhostTree, ghost_then, dot_name_then, PlaceTree, place_then, AtomTree, atom_then, ValueTree, value_then, GhostValueTree, ghost_value_then, InitialTree, initial_then, init_then, Comparison, comparison_symbol, TestTree, test_then, name_or_null_then, ConditionTree, condition_then, PrimitiveTree, primitive_then, primitive_line_then, ArgumentTree, argument_then, during_then, StatementTree, BlockTree, ElseTree, OrTree, statement_then, statements_then, else_then, or_then, parameters_then, OpTree, op_then, TermTree, term_then, FlagTree, flag_then, equality_symbol, LiteralTree, literal_then, BoundTree, bound_then, or_literal_then, ClauseTree, clause_then, ItemTree, item_then, depth_then, OutlineTree, outline_then, FileTree, file_tokens, PointerField, DataField, Declares, UseHazard, UseEpoch, OneOf, OfThreads, Auxiliary, PlaceOf, NullAtom, NumberAtom, NameAtom, NullValue, NewValue, NumberValue, MarkValue, UnmarkValue, PlaceValue, SetName, SetField, RefreshName, RefreshField, NameGhost, MeGhost, NoneGhost, SetGhost, InitialSet, InitialGhost, SameAs, OtherThan, LessThan, NotLessThan, MarkedTest, UnmarkedTest, Compares, TestCondition, RefreshCondition, CasCondition, SetPrimitive, RefreshPrimitive, GhostPrimitive, ActivePrimitive, AssumePrimitive, SkipPrimitive, NoArgument, NullArgument, NameArgument, ActiveArgument, PrimitiveStatement, AtomicStatement, CallStatement, IfStatement, ChooseStatement, LoopStatement, BreakStatement, ReturnStatement, LabelStatement, NoStatement, Then, NoElse, ElseBlock, NoOr, OrBlock, Operates, PlaceTerm, NullTerm, NumberTerm, MeTerm, NoneTerm, RetiredFlag, MarkedFlag, FlagLiteral, NotLiteral, EqualityLiteral, NoBound, AllOf, Claims, InvariantItem, OverItem, AtItem, Outlined}
 use Rattle.plc_syntax.specs.Table.{after_expected, may_be_empty}
 use Rattle.plc_syntax.proofs.Laws.{reads}
 
@@ -204,6 +204,7 @@ again_term NoneTerm s rest h = refl
 
 again_flag : (f : FlagTree) (s : List Expected) (rest : List TokenKind) → go (expected.Part parts.Flag ∷ s) (flag_then f rest) ≡ go s rest
 again_flag (RetiredFlag n) s rest = refl
+again_flag (MarkedFlag p) s rest = again_place p _ _ (λ s. refl)
 
 again_rel : (e : Bool) (t : TermTree) (s : List Expected) (rest : List TokenKind) → Skips parts.DotName rest → go (expected.Part parts.Equality ∷ s) (Symbol (equality_symbol e) ∷ term_then t rest) ≡ go s rest
 again_rel true t s rest h = again_term t s rest h
@@ -215,6 +216,7 @@ dot_first false t s = refl
 
 again_lit : (l : LiteralTree) (s : List Expected) (rest : List TokenKind) → Skips parts.DotName rest → go (expected.Part parts.Literal ∷ s) (literal_then l rest) ≡ go s rest
 again_lit (FlagLiteral (RetiredFlag n)) s rest h = refl
+again_lit (FlagLiteral (MarkedFlag p)) s rest h = again_place p _ _ (λ s. refl)
 again_lit (NotLiteral f) s rest h = again_flag f s rest
 again_lit (EqualityLiteral (PlaceTerm (PlaceOf n f)) e t) s rest h = again_dot f _ _ (dot_first e (term_then t rest)) ∙ again_rel e t s rest h
 again_lit (EqualityLiteral NullTerm e t) s rest h = again_rel e t s rest h
@@ -236,6 +238,7 @@ again_lit_lits l ls s rest = again_lit l _ _ (lits_first ls rest) ∙ again_lits
 
 lit_first : (l : LiteralTree) (rest : List TokenKind) → Skips parts.Bound (literal_then l rest)
 lit_first (FlagLiteral (RetiredFlag n)) rest s = refl
+lit_first (FlagLiteral (MarkedFlag p)) rest s = refl
 lit_first (NotLiteral f) rest s = refl
 lit_first (EqualityLiteral (PlaceTerm (PlaceOf n f)) e t) rest s = refl
 lit_first (EqualityLiteral NullTerm e t) rest s = refl

@@ -2,9 +2,9 @@
 use Rattle.std.proofs.Common.{◌≡◌, List, [], ◌∷◌, ◌++◌, Some, None, refl, ap, ◌∙◌}
 use Rattle.plc_lex.specs.declared.token.TokenKind.{TokenKind}
 use Rattle.plc_lex.specs.declared.token.TokenKind.TheVariants.{Word, Name, Number, Symbol}
-use Rattle.plc_lex.specs.declared.token.Keyword.TheVariants.{Outline, Depth, Inv, Over, At, Or}
-use Rattle.plc_lex.specs.declared.token.Symbol.TheVariants.{OpenBrace, CloseBrace, Semicolon, Colon}
-use Rattle.plc_syntax.specs.Trees.{each_then, comma_name_then, PlaceOf, PlaceTerm, NullTerm, NumberTerm, MeTerm, NoneTerm, term_then, RetiredFlag, equality_symbol, FlagLiteral, NotLiteral, EqualityLiteral, literal_then, or_literal_then, NoBound, AllOf, bound_then, Claims, clause_then, InvariantItem, OverItem, AtItem, item_then, OutlineTree, Outlined, outline_then}
+use Rattle.plc_lex.specs.declared.token.Keyword.TheVariants.{Outline, Depth, Inv, Over, At, Not, Marked, Or}
+use Rattle.plc_lex.specs.declared.token.Symbol.TheVariants.{OpenBrace, CloseBrace, OpenParen, CloseParen, Semicolon, Colon}
+use Rattle.plc_syntax.specs.Trees.{each_then, comma_name_then, PlaceOf, place_then, PlaceTerm, NullTerm, NumberTerm, MeTerm, NoneTerm, term_then, flag_then, RetiredFlag, MarkedFlag, equality_symbol, FlagLiteral, NotLiteral, EqualityLiteral, literal_then, or_literal_then, NoBound, AllOf, bound_then, Claims, clause_then, InvariantItem, OverItem, AtItem, item_then, OutlineTree, Outlined, outline_then}
 
 -- the tokens of each tree are the same before any others
 abbrev Appends : {X : Type 0} → (X → List TokenKind → List TokenKind) → Type 0
@@ -17,17 +17,24 @@ each_appends x_then h (x ∷ xs) a b = ap (x_then x) (each_appends x_then h xs a
 comma_name_appends : Appends comma_name_then
 comma_name_appends n a b = refl
 
+place_appends : Appends place_then
+place_appends (PlaceOf n None) a b = refl
+place_appends (PlaceOf n (Some f)) a b = refl
+
 term_appends : Appends term_then
-term_appends (PlaceTerm (PlaceOf n None)) a b = refl
-term_appends (PlaceTerm (PlaceOf n (Some f))) a b = refl
+term_appends (PlaceTerm p) a b = place_appends p a b
 term_appends NullTerm a b = refl
 term_appends (NumberTerm n) a b = refl
 term_appends MeTerm a b = refl
 term_appends NoneTerm a b = refl
 
+flag_appends : Appends flag_then
+flag_appends (RetiredFlag n) a b = refl
+flag_appends (MarkedFlag p) a b = ap (λ ts. Word Marked ∷ Symbol OpenParen ∷ ts) (place_appends p (Symbol CloseParen ∷ a) b)
+
 literal_appends : Appends literal_then
-literal_appends (FlagLiteral (RetiredFlag n)) a b = refl
-literal_appends (NotLiteral (RetiredFlag n)) a b = refl
+literal_appends (FlagLiteral f) a b = flag_appends f a b
+literal_appends (NotLiteral f) a b = ap (λ ts. Word Not ∷ ts) (flag_appends f a b)
 literal_appends (EqualityLiteral t e u) a b =
     ap (λ ts. term_then t (Symbol (equality_symbol e) ∷ ts)) (term_appends u a b) ∙ term_appends t (Symbol (equality_symbol e) ∷ term_then u a) b
 

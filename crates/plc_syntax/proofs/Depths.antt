@@ -4,8 +4,8 @@ use Rattle.std.specs.Prelude.{max}
 use Rattle.std.proofs.Math.Nat.{le-max_left, le-max_right, max-le}
 use Rattle.plc_lex.specs.declared.token.TokenKind.{TokenKind}
 use Rattle.plc_lex.specs.declared.token.TokenKind.TheVariants.{Word, Name, Number, Symbol}
-use Rattle.plc_lex.specs.declared.token.Symbol.TheVariants.{OpenBrace, CloseBrace, Semicolon}
-use Rattle.plc_syntax.specs.Trees.{Text, each_then, maybe_then, comma_name_then, names_then, FieldTree, PointerField, DataField, field_then, shared_then, FunctionTree, Declares, function_then, WatchTree, UseHazard, UseEpoch, watch_then, OneOf, OfThreads, GhostTree, Auxiliary, ghost_then, PlaceTree, PlaceOf, place_then, AtomTree, NullAtom, NumberAtom, NameAtom, atom_then, ValueTree, NullValue, NewValue, NumberValue, MarkValue, UnmarkValue, PlaceValue, value_then, SetTree, SetName, SetField, set_then, RefreshTree, RefreshName, RefreshField, refresh_then, GhostValueTree, NameGhost, MeGhost, NoneGhost, ghost_value_then, GhostSetTree, SetGhost, ghost_set_then, InitialTree, InitialSet, InitialGhost, initial_then, init_then, TestTree, MarkedTest, UnmarkedTest, Compares, SameAs, OtherThan, LessThan, NotLessThan, test_then, name_or_null_then, ConditionTree, TestCondition, RefreshCondition, CasCondition, condition_then, PrimitiveTree, SetPrimitive, RefreshPrimitive, GhostPrimitive, ActivePrimitive, AssumePrimitive, SkipPrimitive, primitive_then, primitive_line_then, ArgumentTree, NoArgument, NullArgument, NameArgument, ActiveArgument, argument_then, during_then, StatementTree, PrimitiveStatement, AtomicStatement, CallStatement, IfStatement, ChooseStatement, LoopStatement, BreakStatement, ReturnStatement, LabelStatement, BlockTree, NoStatement, Then, ElseTree, NoElse, ElseBlock, OrTree, NoOr, OrBlock, statement_then, statements_then, else_then, or_then, parameters_then, OpTree, Operates, op_then, TermTree, PlaceTerm, NullTerm, NumberTerm, MeTerm, NoneTerm, term_then, RetiredFlag, LiteralTree, FlagLiteral, NotLiteral, EqualityLiteral, literal_then, BoundTree, NoBound, AllOf, bound_then, or_literal_then, ClauseTree, Claims, clause_then, ItemTree, InvariantItem, OverItem, AtItem, item_then, depth_then, OutlineTree, Outlined, outline_then, FileTree, file_tokens}
+use Rattle.plc_lex.specs.declared.token.Symbol.TheVariants.{OpenBrace, CloseBrace, CloseParen, Semicolon}
+use Rattle.plc_syntax.specs.Trees.{Text, each_then, maybe_then, comma_name_then, names_then, FieldTree, PointerField, DataField, field_then, shared_then, FunctionTree, Declares, function_then, WatchTree, UseHazard, UseEpoch, watch_then, OneOf, OfThreads, GhostTree, Auxiliary, ghost_then, PlaceTree, PlaceOf, place_then, AtomTree, NullAtom, NumberAtom, NameAtom, atom_then, ValueTree, NullValue, NewValue, NumberValue, MarkValue, UnmarkValue, PlaceValue, value_then, SetTree, SetName, SetField, set_then, RefreshTree, RefreshName, RefreshField, refresh_then, GhostValueTree, NameGhost, MeGhost, NoneGhost, ghost_value_then, GhostSetTree, SetGhost, ghost_set_then, InitialTree, InitialSet, InitialGhost, initial_then, init_then, TestTree, MarkedTest, UnmarkedTest, Compares, SameAs, OtherThan, LessThan, NotLessThan, test_then, name_or_null_then, ConditionTree, TestCondition, RefreshCondition, CasCondition, condition_then, PrimitiveTree, SetPrimitive, RefreshPrimitive, GhostPrimitive, ActivePrimitive, AssumePrimitive, SkipPrimitive, primitive_then, primitive_line_then, ArgumentTree, NoArgument, NullArgument, NameArgument, ActiveArgument, argument_then, during_then, StatementTree, PrimitiveStatement, AtomicStatement, CallStatement, IfStatement, ChooseStatement, LoopStatement, BreakStatement, ReturnStatement, LabelStatement, BlockTree, NoStatement, Then, ElseTree, NoElse, ElseBlock, OrTree, NoOr, OrBlock, statement_then, statements_then, else_then, or_then, parameters_then, OpTree, Operates, op_then, TermTree, PlaceTerm, NullTerm, NumberTerm, MeTerm, NoneTerm, term_then, FlagTree, RetiredFlag, MarkedFlag, flag_then, LiteralTree, FlagLiteral, NotLiteral, EqualityLiteral, literal_then, BoundTree, NoBound, AllOf, bound_then, or_literal_then, ClauseTree, Claims, clause_then, ItemTree, InvariantItem, OverItem, AtItem, item_then, depth_then, OutlineTree, Outlined, outline_then, FileTree, file_tokens}
 use Rattle.plc_syntax.specs.Nesting.{nesting_limit}
 use Rattle.plc_syntax.specs.Depth.{statement_depth, block_depth, else_depth, or_depth, op_depth, ops_depth, file_depth, DepthIsThatOfBraces}
 use Rattle.plc_syntax.proofs.Braced.{is_atomic, Fine, AnyToken, Shallow, shallow_tokens, tokens_shallow}
@@ -168,9 +168,13 @@ term_flat (NumberTerm n) o c r = refl
 term_flat MeTerm o c r = refl
 term_flat NoneTerm o c r = refl
 
+flag_flat : (f : FlagTree) → Flat flag_then f
+flag_flat (RetiredFlag n) o c r = refl
+flag_flat (MarkedFlag p) o c r = place_flat p o c (Symbol CloseParen ∷ r)
+
 literal_flat : (l : LiteralTree) → Flat literal_then l
-literal_flat (FlagLiteral (RetiredFlag n)) o c r = refl
-literal_flat (NotLiteral (RetiredFlag n)) o c r = refl
+literal_flat (FlagLiteral f) o c r = flag_flat f o c r
+literal_flat (NotLiteral f) o c r = flag_flat f o c r
 literal_flat (EqualityLiteral a true b) o c r = term_flat a o c _ ∙ term_flat b o c r
 literal_flat (EqualityLiteral a false b) o c r = term_flat a o c _ ∙ term_flat b o c r
 

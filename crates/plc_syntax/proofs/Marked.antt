@@ -1,7 +1,6 @@
 -- Which tokens use marks: form by form, each form's tokens before any others.
-use Rattle.std.proofs.Common.{◌≡◌, Bool, true, false, Some, None, List, [], ◌∷◌, ◌||◌, refl, ap, ◌∙◌}
+use Rattle.std.proofs.Common.{◌≡◌, Bool, true, false, Some, None, List, [], ◌∷◌, ◌||◌, refl, ◌∙◌}
 use Rattle.std.specs.List.{list_any}
-use Rattle.plc_lex.specs.declared.token.Token.{Token}
 use Rattle.plc_lex.specs.declared.token.TokenKind.{TokenKind}
 use Rattle.plc_lex.specs.declared.token.TokenKind.TheVariants.{Symbol}
 use Rattle.plc_lex.specs.declared.token.Symbol.TheVariants.{CloseBrace, Semicolon}
@@ -27,20 +26,17 @@ use Rattle.plc_syntax.specs.Trees.{LabelStatement, NoStatement, Then, NoElse, El
 use Rattle.plc_syntax.specs.Trees.{NoOr, OrBlock, statement_then, statements_then, else_then, or_then}
 use Rattle.plc_syntax.specs.Trees.{parameters_then, Operates, op_then}
 use Rattle.plc_syntax.specs.Trees.{PlaceTerm, NullTerm, NumberTerm, MeTerm, NoneTerm, term_then}
-use Rattle.plc_syntax.specs.Trees.{RetiredFlag, FlagLiteral, NotLiteral, EqualityLiteral, literal_then}
+use Rattle.plc_syntax.specs.Trees.{RetiredFlag, MarkedFlag, flag_then, FlagLiteral, NotLiteral, EqualityLiteral, literal_then}
 use Rattle.plc_syntax.specs.Trees.{NoBound, AllOf, bound_then, or_literal_then, Claims}
 use Rattle.plc_syntax.specs.Trees.{clause_then, InvariantItem, OverItem, AtItem, item_then, depth_then}
 use Rattle.plc_syntax.specs.Trees.{Outlined, outline_then}
-use Rattle.plc_syntax.specs.Syntax.{kinds}
-use Rattle.plc_syntax.specs.Marks.{is_mark_word, tokens_use_marks, value_uses_marks, set_uses_marks}
+use Rattle.plc_syntax.specs.Marks.{tokens_use_marks, value_uses_marks, set_uses_marks}
 use Rattle.plc_syntax.specs.Marks.{initial_uses_marks, init_uses_marks, test_uses_marks, condition_tree_uses_marks}
 use Rattle.plc_syntax.specs.Marks.{primitive_uses_marks, statement_tree_uses_marks, block_uses_marks}
-use Rattle.plc_syntax.specs.Marks.{else_uses_marks, or_uses_marks, op_uses_marks, TreesSpellTheirMarks}
-
--- a test of tokens by their kinds
-pub any_of_kinds : (ts : List Token) → list_any (λ t. is_mark_word t.kind) ts ≡ tokens_use_marks (kinds ts)
-any_of_kinds [] = refl
-any_of_kinds (t ∷ ts) = ap (λ b. is_mark_word t.kind || b) (any_of_kinds ts)
+use Rattle.plc_syntax.specs.Marks.{else_uses_marks, or_uses_marks, op_uses_marks, flag_uses_marks}
+use Rattle.plc_syntax.specs.Marks.{literal_tree_uses_marks, clause_tree_uses_marks, item_tree_uses_marks}
+use Rattle.plc_syntax.specs.Marks.{outline_tree_uses_marks, outlined_uses_marks, file_tree_uses_marks}
+use Rattle.plc_syntax.specs.Marks.{TreesSpellTheirMarks}
 
 -- ---- forms that never use marks
 
@@ -117,32 +113,10 @@ term_plain (NumberTerm n) r = refl
 term_plain MeTerm r = refl
 term_plain NoneTerm r = refl
 
-literal_plain : Plain literal_then
-literal_plain (FlagLiteral (RetiredFlag n)) r = refl
-literal_plain (NotLiteral (RetiredFlag n)) r = refl
-literal_plain (EqualityLiteral a true b) r = term_plain a _ ∙ term_plain b r
-literal_plain (EqualityLiteral a false b) r = term_plain a _ ∙ term_plain b r
-
-or_literal_plain : Plain or_literal_then
-or_literal_plain l r = literal_plain l r
-
 bound_plain : Plain bound_then
 bound_plain NoBound r = refl
 bound_plain (AllOf n None) r = refl
 bound_plain (AllOf n (Some m)) r = refl
-
-clause_plain : Plain clause_then
-clause_plain (Claims b l ls) r =
-    bound_plain b _ ∙ (literal_plain l _ ∙ each_plain or_literal_then or_literal_plain ls r)
-
-item_plain : Plain item_then
-item_plain (InvariantItem c) r = clause_plain c (Symbol Semicolon ∷ r)
-item_plain (OverItem n c) r = clause_plain c (Symbol Semicolon ∷ r)
-item_plain (AtItem n ns c) r = names_plain n ns _ ∙ clause_plain c (Symbol Semicolon ∷ r)
-
-outline_plain : Plain outline_then
-outline_plain (Outlined d items) r =
-    maybe_plain depth_then (λ n rest. refl) d _ ∙ each_plain item_then item_plain items (Symbol CloseBrace ∷ r)
 
 -- ---- forms that may use them
 
@@ -241,6 +215,37 @@ op_spells : Spells op_then op_uses_marks
 op_spells (Operates n ps locals b) r =
     parameters_plain ps _ ∙ (each_plain field_then field_plain locals _ ∙ block_spells b (Symbol CloseBrace ∷ r))
 
+flag_spells : Spells flag_then flag_uses_marks
+flag_spells (RetiredFlag n) r = refl
+flag_spells (MarkedFlag p) r = refl
+
+literal_spells : Spells literal_then literal_tree_uses_marks
+literal_spells (FlagLiteral f) r = flag_spells f r
+literal_spells (NotLiteral f) r = flag_spells f r
+literal_spells (EqualityLiteral a true b) r = term_plain a _ ∙ term_plain b r
+literal_spells (EqualityLiteral a false b) r = term_plain a _ ∙ term_plain b r
+
+or_literal_spells : Spells or_literal_then literal_tree_uses_marks
+or_literal_spells l r = literal_spells l r
+
+clause_spells : Spells clause_then clause_tree_uses_marks
+clause_spells (Claims b l ls) r =
+    bound_plain b _ ∙ joined (literal_tree_uses_marks l) (list_any literal_tree_uses_marks ls) _ _ _
+    (literal_spells l _) (each_spells or_literal_then literal_tree_uses_marks or_literal_spells ls r)
+
+item_spells : Spells item_then item_tree_uses_marks
+item_spells (InvariantItem c) r = clause_spells c (Symbol Semicolon ∷ r)
+item_spells (OverItem n c) r = clause_spells c (Symbol Semicolon ∷ r)
+item_spells (AtItem n ns c) r = names_plain n ns _ ∙ clause_spells c (Symbol Semicolon ∷ r)
+
+outline_spells : Spells outline_then outline_tree_uses_marks
+outline_spells (Outlined d items) r = maybe_plain depth_then (λ n rest. refl) d _
+    ∙ each_spells item_then item_tree_uses_marks item_spells items (Symbol CloseBrace ∷ r)
+
+outlined_spells : Spells (maybe_then outline_then) outlined_uses_marks
+outlined_spells None r = refl
+outlined_spells (Some o) r = outline_spells o r
+
 -- nothing comes after a file
 ends : (b : Bool) → (b || false) ≡ b
 ends true = refl
@@ -253,8 +258,8 @@ marks_spelled f =
     ∙ (each_plain function_then function_plain f.functions _
     ∙ (maybe_plain watch_then watch_plain f.watched _
     ∙ (each_plain ghost_then ghost_plain f.ghosts _
-    ∙ (joined (init_uses_marks f.starts) (list_any op_uses_marks f.ops) _ _ _ (init_spells f.starts _)
-    (each_spells op_then op_uses_marks op_spells f.ops _)
-    ∙ (ap (λ k. init_uses_marks f.starts || list_any op_uses_marks f.ops || k)
-    (maybe_plain outline_then outline_plain f.outlined [])
-    ∙ ends (init_uses_marks f.starts || list_any op_uses_marks f.ops)))))))
+    ∙ (joined (init_uses_marks f.starts || list_any op_uses_marks f.ops) (outlined_uses_marks f.outlined) _ _ _
+    (joined (init_uses_marks f.starts) (list_any op_uses_marks f.ops) _ _ _ (init_spells f.starts _)
+    (each_spells op_then op_uses_marks op_spells f.ops _))
+    (outlined_spells f.outlined [])
+    ∙ ends (file_tree_uses_marks f))))))

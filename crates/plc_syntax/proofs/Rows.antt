@@ -8,7 +8,7 @@ use Rattle.plc_syntax.specs.declared.expected.Expected.{Expected}
 use Rattle.plc_syntax.specs.declared.expected.Expected.TheVariants as expected
 use Rattle.plc_syntax.specs.declared.expected.Part.{Part as PartName}
 use Rattle.plc_syntax.specs.declared.expected.Part.TheVariants as parts
-use Rattle.plc_syntax.specs.Trees.{each_then, initial_then, primitive_line_then, statements_then, PointerField, DataField, Declares, UseHazard, UseEpoch, OneOf, OfThreads, Auxiliary, PlaceOf, NullAtom, NumberAtom, NameAtom, NullValue, NewValue, NumberValue, MarkValue, UnmarkValue, PlaceValue, NameGhost, MeGhost, NoneGhost, SetGhost, InitialSet, InitialGhost, SameAs, OtherThan, LessThan, NotLessThan, MarkedTest, UnmarkedTest, Compares, TestCondition, CasCondition, GhostPrimitive, ActivePrimitive, AssumePrimitive, SkipPrimitive, NullArgument, NameArgument, ActiveArgument, PrimitiveStatement, AtomicStatement, IfStatement, ChooseStatement, LoopStatement, BreakStatement, ReturnStatement, LabelStatement, Then, ElseBlock, OrBlock, Operates, PlaceTerm, NullTerm, NumberTerm, MeTerm, NoneTerm, RetiredFlag, FlagLiteral, NotLiteral, EqualityLiteral, AllOf, Claims, InvariantItem, OverItem, AtItem, Outlined}
+use Rattle.plc_syntax.specs.Trees.{each_then, initial_then, primitive_line_then, statements_then, PointerField, DataField, Declares, UseHazard, UseEpoch, OneOf, OfThreads, Auxiliary, PlaceOf, NullAtom, NumberAtom, NameAtom, NullValue, NewValue, NumberValue, MarkValue, UnmarkValue, PlaceValue, NameGhost, MeGhost, NoneGhost, SetGhost, InitialSet, InitialGhost, SameAs, OtherThan, LessThan, NotLessThan, MarkedTest, UnmarkedTest, Compares, TestCondition, CasCondition, GhostPrimitive, ActivePrimitive, AssumePrimitive, SkipPrimitive, NullArgument, NameArgument, ActiveArgument, PrimitiveStatement, AtomicStatement, IfStatement, ChooseStatement, LoopStatement, BreakStatement, ReturnStatement, LabelStatement, Then, ElseBlock, OrBlock, Operates, PlaceTerm, NullTerm, NumberTerm, MeTerm, NoneTerm, RetiredFlag, MarkedFlag, FlagLiteral, NotLiteral, EqualityLiteral, AllOf, Claims, InvariantItem, OverItem, AtItem, Outlined}
 use Rattle.plc_syntax.specs.Table.{after_expected, may_be_empty, after_part}
 use Rattle.plc_syntax.proofs.Laws.{RowIs}
 use Rattle.plc_syntax.proofs.Meaning.{Tree, spell}
@@ -249,6 +249,7 @@ row_or_literals _ = tt
 row_literal : (t : TokenKind) → PartRow parts.Literal t
 row_literal (Word words.Not) = λ p. (NotLiteral p.0, λ rest. refl)
 row_literal (Word words.Retired) = λ p. (FlagLiteral (RetiredFlag p.1.0), λ rest. refl)
+row_literal (Word words.Marked) = λ p. (FlagLiteral (MarkedFlag p.1.0), λ rest. refl)
 row_literal (Name x) = λ p. (EqualityLiteral (PlaceTerm (PlaceOf x p.0)) p.1.0.0 p.1.0.1, λ rest. refl)
 row_literal (Word words.Null) = λ p. (EqualityLiteral NullTerm p.0.0 p.0.1, λ rest. refl)
 row_literal (Number x) = λ p. (EqualityLiteral (NumberTerm x) p.0.0 p.0.1, λ rest. refl)
@@ -258,6 +259,7 @@ row_literal _ = tt
 
 row_flag : (t : TokenKind) → PartRow parts.Flag t
 row_flag (Word words.Retired) = λ p. (RetiredFlag p.1.0, λ rest. refl)
+row_flag (Word words.Marked) = λ p. (MarkedFlag p.1.0, λ rest. refl)
 row_flag _ = tt
 
 row_equality : (t : TokenKind) → PartRow parts.Equality t

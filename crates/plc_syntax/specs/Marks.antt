@@ -14,7 +14,10 @@ use Rattle.plc_syntax.specs.Trees.{AssumePrimitive, SkipPrimitive}
 use Rattle.plc_syntax.specs.Trees.{StatementTree, PrimitiveStatement, AtomicStatement, CallStatement, IfStatement}
 use Rattle.plc_syntax.specs.Trees.{ChooseStatement, LoopStatement, BreakStatement, ReturnStatement, LabelStatement}
 use Rattle.plc_syntax.specs.Trees.{BlockTree, NoStatement, Then, ElseTree, NoElse, ElseBlock, OrTree, NoOr, OrBlock}
-use Rattle.plc_syntax.specs.Trees.{OpTree, Operates, FileTree, file_tokens}
+use Rattle.plc_syntax.specs.Trees.{OpTree, Operates, FlagTree, RetiredFlag, MarkedFlag}
+use Rattle.plc_syntax.specs.Trees.{LiteralTree, FlagLiteral, NotLiteral, EqualityLiteral, ClauseTree, Claims}
+use Rattle.plc_syntax.specs.Trees.{ItemTree, InvariantItem, OverItem, AtItem, OutlineTree, Outlined}
+use Rattle.plc_syntax.specs.Trees.{FileTree, file_tokens}
 
 -- the token is one of the four words
 abbrev pub is_mark_word : TokenKind → Bool
@@ -104,9 +107,40 @@ abbrev mutual
 abbrev pub op_uses_marks : OpTree → Bool
 op_uses_marks (Operates n ps locals b) = block_uses_marks b
 
--- a file does where its init block or an operation does; no outline can
+-- the flag that a literal says or denies is `marked`
+abbrev pub flag_uses_marks : FlagTree → Bool
+flag_uses_marks (RetiredFlag n) = false
+flag_uses_marks (MarkedFlag p) = true
+
+-- a literal says or denies it
+abbrev pub literal_tree_uses_marks : LiteralTree → Bool
+literal_tree_uses_marks (FlagLiteral f) = flag_uses_marks f
+literal_tree_uses_marks (NotLiteral f) = flag_uses_marks f
+literal_tree_uses_marks (EqualityLiteral a is_equal b) = false
+
+-- one of the literals of a clause does
+abbrev pub clause_tree_uses_marks : ClauseTree → Bool
+clause_tree_uses_marks (Claims b l ls) = literal_tree_uses_marks l || list_any literal_tree_uses_marks ls
+
+-- the clause of an item does
+abbrev pub item_tree_uses_marks : ItemTree → Bool
+item_tree_uses_marks (InvariantItem c) = clause_tree_uses_marks c
+item_tree_uses_marks (OverItem n c) = clause_tree_uses_marks c
+item_tree_uses_marks (AtItem n ns c) = clause_tree_uses_marks c
+
+-- one of the outline's items does
+abbrev pub outline_tree_uses_marks : OutlineTree → Bool
+outline_tree_uses_marks (Outlined d items) = list_any item_tree_uses_marks items
+
+-- one does, where there is an outline
+abbrev pub outlined_uses_marks : Option OutlineTree → Bool
+outlined_uses_marks None = false
+outlined_uses_marks (Some o) = outline_tree_uses_marks o
+
+-- a file does where its init block, an operation or its outline does
 abbrev pub file_tree_uses_marks : FileTree → Bool
-file_tree_uses_marks f = init_uses_marks f.starts || list_any op_uses_marks f.ops
+file_tree_uses_marks f =
+    init_uses_marks f.starts || list_any op_uses_marks f.ops || outlined_uses_marks f.outlined
 
 -- the tokens of a file use marks exactly where its tree does
 abbrev pub TreesSpellTheirMarks : Type 0

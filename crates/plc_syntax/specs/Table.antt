@@ -308,6 +308,7 @@ after_or_literals _ = None
 abbrev pub after_literal : TokenKind → Option (List Expected)
 after_literal (kinds.Word words.Not) = Some (Part Flag ∷ [])
 after_literal (kinds.Word words.Retired) = Some (Symbol OpenParen ∷ Name ∷ Symbol CloseParen ∷ [])
+after_literal (kinds.Word words.Marked) = Some (Symbol OpenParen ∷ Part Place ∷ Symbol CloseParen ∷ [])
 after_literal (kinds.Name n) = Some (Part DotName ∷ Part Equality ∷ [])
 after_literal (kinds.Word words.Null) = Some (Part Equality ∷ [])
 after_literal (kinds.Number n) = Some (Part Equality ∷ [])
@@ -315,9 +316,10 @@ after_literal (kinds.Word words.Me) = Some (Part Equality ∷ [])
 after_literal (kinds.Word words.None) = Some (Part Equality ∷ [])
 after_literal _ = None
 
--- a literal on a flag of a node
+-- a literal on a flag of a node or a place
 abbrev pub after_flag : TokenKind → Option (List Expected)
 after_flag (kinds.Word words.Retired) = Some (Symbol OpenParen ∷ Name ∷ Symbol CloseParen ∷ [])
+after_flag (kinds.Word words.Marked) = Some (Symbol OpenParen ∷ Part Place ∷ Symbol CloseParen ∷ [])
 after_flag _ = None
 
 -- what follows the first term of a literal

@@ -353,12 +353,14 @@ term_then (NumberTerm n) rest = Number n ∷ rest
 term_then MeTerm rest = Word Me ∷ rest
 term_then NoneTerm rest = Word NoneWord ∷ rest
 
--- lit := [ "not" ] "retired" "(" NAME ")" | term ( "==" | "!=" ) term
+-- lit := [ "not" ] ( "retired" "(" NAME ")" | "marked" "(" NAME [ "." NAME ] ")" ) | term ( "==" | "!=" ) term
 pub data FlagTree : Type 0 where
   RetiredFlag : Text → FlagTree
+  MarkedFlag : PlaceTree → FlagTree
 
 abbrev pub flag_then : FlagTree → List TokenKind → List TokenKind
 flag_then (RetiredFlag n) rest = Word Retired ∷ Symbol OpenParen ∷ Name n ∷ Symbol CloseParen ∷ rest
+flag_then (MarkedFlag p) rest = Word Marked ∷ Symbol OpenParen ∷ place_then p (Symbol CloseParen ∷ rest)
 
 abbrev pub equality_symbol : Bool → Punctuation
 equality_symbol true = Equal

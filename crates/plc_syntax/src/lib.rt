@@ -12,5 +12,5 @@ mod recognizer;
 mod table;
 
 pub use fault::SyntaxFault;
-pub use marks::{trees_spell_their_marks, use_marks};
+pub use marks::trees_spell_their_marks;
 pub use recognizer::{depth_is_that_of_braces, outline_fault, syntax, syntax_faults_are_one};

@@ -105,23 +105,19 @@ fn after_part(part: Part, kind: &TokenKind) -> Option<&'static [Expected]>
     ensures { IsRow result (after_part part kind.now) }
 {
     rows_of! { part, kind;
-        File => after_file, Fields => after_fields, Pointers => after_pointers,
-        Functions => after_functions, PointerWord => after_pointer_word, Use => after_use,
-        Scheme => after_scheme, Ghosts => after_ghosts, GhostKind => after_ghost_kind,
-        MoreNames => after_more_names, Init => after_init, InitialSets => after_initial_sets,
-        Ops => after_ops, Parameters => after_parameters, Statements => after_statements,
-        Block => after_block, Else => after_else, SecondBlock => after_second_block,
-        FurtherBlocks => after_further_blocks, NamedTail => after_named_tail,
-        Argument => after_argument, During => after_during, Condition => after_condition,
-        ConditionTail => after_condition_tail, ActiveWord => after_active_word,
-        NameOrNull => after_name_or_null, Primitives => after_primitives,
-        AssignmentTail => after_assignment_tail, SetTail => after_set_tail,
-        FieldTail => after_field_tail, Value => after_value, Place => after_place,
-        DotName => after_dot_name, Atom => after_atom, GhostValue => after_ghost_value,
-        Test => after_test, Comparison => after_comparison, Outline => after_outline,
-        WholeOutline => after_outline, Depth => after_depth, Items => after_items,
-        Bound => after_bound, SecondName => after_second_name, OrLiterals => after_or_literals,
-        Literal => after_literal, Flag => after_flag, Equality => after_equality,
-        Term => after_term
+        File => after_file, Fields => after_fields, Pointers => after_pointers, Functions => after_functions,
+        PointerWord => after_pointer_word, Use => after_use, Scheme => after_scheme, Ghosts => after_ghosts,
+        GhostKind => after_ghost_kind, MoreNames => after_more_names, Init => after_init,
+        InitialSets => after_initial_sets, Ops => after_ops, Parameters => after_parameters,
+        Statements => after_statements, Block => after_block, Else => after_else, SecondBlock => after_second_block,
+        FurtherBlocks => after_further_blocks, NamedTail => after_named_tail, Argument => after_argument,
+        During => after_during, Condition => after_condition, ConditionTail => after_condition_tail,
+        ActiveWord => after_active_word, NameOrNull => after_name_or_null, Primitives => after_primitives,
+        AssignmentTail => after_assignment_tail, SetTail => after_set_tail, FieldTail => after_field_tail,
+        Value => after_value, Place => after_place, DotName => after_dot_name, Atom => after_atom,
+        GhostValue => after_ghost_value, Test => after_test, Comparison => after_comparison, Outline => after_outline,
+        WholeOutline => after_outline, Depth => after_depth, Items => after_items, Bound => after_bound,
+        SecondName => after_second_name, OrLiterals => after_or_literals, Literal => after_literal,
+        Flag => after_flag, Equality => after_equality, Term => after_term
     }
 }

@@ -13,6 +13,7 @@ use Rattle.plc_cert.specs.Written as written
 use Rattle.plc_verify.specs.declared.fault.Slot.{Slot}
 use Rattle.plc_verify.specs.declared.fault.Slot.TheVariants.{W, Local}
 use Rattle.plc_verify.specs.declared.fault.VerifyFault.{VerifyFault}
+use Rattle.plc_verify.specs.declared.fault.VerifyFault.TheVariants as verify
 use Rattle.plc_verify.specs.declared.fault.VerifyFault.TheVariants.{EnvCount, EnvAt, EntryAt, TypeAt, FlowAt}
 use Rattle.plc_verify.specs.declared.fault.VerifyFault.TheVariants.{TreeCount, TreeAt, Memory}
 use Rattle.plc_texts.specs.Counts.{counts_text}
@@ -51,9 +52,10 @@ slot_name file op (Local v) = variable_in file op (vars.Local v)
 abbrev pub pair_text : List ℕ → ℕ → List ℕ → ℕ → List ℕ
 pair_text first a second b = first ++ decimal a ++ second ++ decimal b ++ codes "\n"
 
--- invalid envs HAVE WANT; invalid env P; invalid entry OP VAR; invalid type step S prim K; invalid flow step S VAR;
--- invalid trees HAVE WANT; invalid tree I node K; running out of memory has no text
+-- invalid version HAVE WANT; invalid envs HAVE WANT; invalid env P; invalid entry OP VAR; invalid type step S prim K;
+-- invalid flow step S VAR; invalid trees HAVE WANT; invalid tree I node K; running out of memory has no text
 abbrev pub invalid_text : Flow → VerifyFault → List ℕ
+invalid_text flow (verify.Version have want) = pair_text (codes "invalid version ") have (codes " ") want
 invalid_text flow (EnvCount have want) = pair_text (codes "invalid envs ") have (codes " ") want
 invalid_text flow (EnvAt p) = codes "invalid env " ++ decimal p.0 ++ codes "\n"
 invalid_text flow (EntryAt op var) =

@@ -18,10 +18,6 @@ read_failed = codes "read failed\n"
 abbrev pub read_too_long : List ℕ
 read_too_long = codes "read too long\n"
 
--- the text of a file that uses marks, where a certificate is asked of it
-abbrev pub file_refused : List ℕ
-file_refused = codes "refused file\n"
-
 -- refused byte at N, and the same of names and numbers; running out of memory has no text
 abbrev pub lex_text : LexFault → List ℕ
 lex_text (BadByte at) = codes "refused byte at " ++ decimal at ++ codes "\n"

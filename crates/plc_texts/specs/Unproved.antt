@@ -9,9 +9,10 @@ use Rattle.plc_lang.specs.Numbering.{value_at}
 use Rattle.plc_flow.specs.declared.flow.Flow.{Flow}
 use Rattle.plc_ground.specs.declared.terms.Symbol.{Symbol}
 use Rattle.plc_ground.specs.declared.terms.Symbol.TheVariants.{Null, Shared, Mine, Theirs, New, Bound, Loaded}
-use Rattle.plc_ground.specs.declared.terms.Symbol.TheVariants.{Yes, Nobody, Me, You, Value, Number}
+use Rattle.plc_ground.specs.declared.terms.Symbol.TheVariants.{Yes, No, Nobody, Me, You, Value, Number}
+use Rattle.plc_ground.specs.declared.terms.Symbol.TheVariants.{MarkShared, MarkMine, MarkTheirs, MarkLoaded}
 use Rattle.plc_ground.specs.declared.terms.Map.{Map}
-use Rattle.plc_ground.specs.declared.terms.Map.TheVariants.{Field, Ghost, Retired}
+use Rattle.plc_ground.specs.declared.terms.Map.TheVariants.{Field, Ghost, Retired, FieldMark}
 use Rattle.plc_ground.specs.declared.terms.GroundTerm.{GroundTerm}
 use Rattle.plc_ground.specs.declared.terms.GroundTerm.TheVariants.{Const, App}
 use Rattle.plc_ground.specs.declared.terms.GroundSet.{GroundSet}
@@ -48,6 +49,11 @@ abbrev pub value_in : File → Option (ℕ × ℕ) → List ℕ
 value_in file None = []
 value_in file (Some v) = value_name file v.0 v.1
 
+-- mark(TEXT)
+abbrev pub mark_text : List ℕ → List ℕ
+mark_text text = codes "mark(" ++ text ++ codes ")"
+
+-- a constant; that of a mark has the text of the pointer's constant within
 abbrev pub symbol_text : File → List Local → List Local → Symbol → List ℕ
 symbol_text file mine theirs Null = codes "null"
 symbol_text file mine theirs (Shared i) = codes "s:" ++ shared_name file i
@@ -57,17 +63,23 @@ symbol_text file mine theirs New = codes "new"
 symbol_text file mine theirs (Bound c) = codes "c" ++ decimal c
 symbol_text file mine theirs (Loaded r) = codes "r" ++ decimal r
 symbol_text file mine theirs Yes = codes "yes"
+symbol_text file mine theirs No = codes "no"
 symbol_text file mine theirs Nobody = codes "none"
 symbol_text file mine theirs Me = codes "me"
 symbol_text file mine theirs You = codes "you"
 symbol_text file mine theirs (Value v) = value_in file (value_at file.ghosts v)
 symbol_text file mine theirs (Number n) = decimal n
+symbol_text file mine theirs (MarkShared i) = mark_text (codes "s:" ++ shared_name file i)
+symbol_text file mine theirs (MarkMine v) = mark_text (codes "a:" ++ local_name file mine v)
+symbol_text file mine theirs (MarkTheirs v) = mark_text (codes "b:" ++ local_name file theirs v)
+symbol_text file mine theirs (MarkLoaded r) = mark_text (codes "r" ++ decimal r)
 
--- NAME
+-- NAME, and NAME.mark for the mark in a field
 abbrev pub map_name : File → Map → List ℕ
 map_name file (Field f) = field_name file f
 map_name file (Ghost g) = auxiliary_name file g
 map_name file Retired = codes "retired"
+map_name file (FieldMark f) = field_name file f ++ codes ".mark"
 
 -- a constant, or NAME.v(TEXT), where the texts of the terms before are these
 abbrev pub term_text : File → List Local → List Local → List (List ℕ) → GroundTerm → List ℕ

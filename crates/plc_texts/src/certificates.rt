@@ -142,6 +142,13 @@ pub fn invalid(alloc: Global, flow: &Flow, fault: VerifyFault) -> Result<Vec<u8>
     ensures { IfOk result (λ v. v.items ≡ invalid_text flow.now fault) }
 {
     match fault {
+        VerifyFault::Version { have, want } => paired(
+            alloc,
+            "invalid version ",
+            u64::from(have),
+            " ",
+            u64::from(want),
+        ),
         VerifyFault::EnvCount { have, want } => {
             paired(alloc, "invalid envs ", have, " ", u64::from(want))
         }

@@ -16,9 +16,7 @@ mod typing;
 pub use certificates::{certified, invalid, uncertified, verified};
 pub use failing::untyped;
 pub use models::unproved;
-pub use refusals::{
-    file_refused, lexical, limit, parsed, read_failed, read_too_long, words_refused,
-};
+pub use refusals::{lexical, limit, parsed, read_failed, read_too_long, words_refused};
 pub use replays::{ended, unscheduled};
 pub use samples::sampled;
 pub use typing::safe;

@@ -4,7 +4,8 @@
 ghost use Rattle.std.specs.Prelude.{◌≡◌, ◌++◌, OnOk, IfOk, codes, decimal, get_or, map, slice_get, []};
 ghost use Rattle.plc_lang.specs.Names.{value_name};
 ghost use Rattle.plc_lang.specs.Numbering.{value_at};
-ghost use Rattle.plc_texts.specs.Unproved.{step_text, claim_text, obligation_text, value_in, symbol_text, map_name};
+ghost use Rattle.plc_texts.specs.Unproved.{step_text, claim_text, obligation_text, value_in, mark_text};
+ghost use Rattle.plc_texts.specs.Unproved.{symbol_text, map_name};
 ghost use Rattle.plc_texts.specs.Unproved.{term_text, term_texts, term_line, term_lines, unproved_text};
 ghost use Rattle.plc_texts.specs.Untyped.{step_line};
 
@@ -111,6 +112,24 @@ fn value_text(file: &File, number: u16) -> &[u8]
     }
 }
 
+/// The mark of a constant that is spelled as words and a name.
+fn push_mark(out: &mut Vec<u8>, words: &str, name: &[u8]) -> Result<(), AllocError>
+    ensures { OnOk result (out.new.items ≡ out.old.items ++ mark_text (words.now ++ name.now)) }
+{
+    push(out, "mark(")?;
+    push_named(out, words, name)?;
+    push(out, ")")
+}
+
+/// The mark of what a load reads.
+fn push_loaded_mark(out: &mut Vec<u8>, load: u16) -> Result<(), AllocError>
+    ensures { OnOk result (out.new.items ≡ out.old.items ++ mark_text (codes "r" ++ decimal load)) }
+{
+    push(out, "mark(")?;
+    push_numbered(out, "r", u32::from(load))?;
+    push(out, ")")
+}
+
 /// A constant.
 fn push_symbol(
     out: &mut Vec<u8>,
@@ -130,22 +149,31 @@ fn push_symbol(
         Symbol::Bound(c) => push_numbered(out, "c", u32::from(c)),
         Symbol::Loaded(r) => push_numbered(out, "r", u32::from(r)),
         Symbol::Yes => push(out, "yes"),
+        Symbol::No => push(out, "no"),
         Symbol::Nobody => push(out, "none"),
         Symbol::Me => push(out, "me"),
         Symbol::You => push(out, "you"),
         Symbol::Value(v) => push_bytes(out, value_text(file, v)),
         Symbol::Number(n) => push_number(out, u64::from(n)),
+        Symbol::MarkShared(i) => push_mark(out, "s:", shared_name(file, i)),
+        Symbol::MarkMine(v) => push_mark(out, "a:", local_name(file, mine, v)),
+        Symbol::MarkTheirs(v) => push_mark(out, "b:", local_name(file, theirs, v)),
+        Symbol::MarkLoaded(r) => push_loaded_mark(out, r),
     }
 }
 
 /// The name of what is applied.
-fn map_name(file: &File, map: Map) -> &[u8]
-    ensures { result.now ≡ map_name file.now map }
+fn push_map(out: &mut Vec<u8>, file: &File, map: Map) -> Result<(), AllocError>
+    ensures { OnOk result (out.new.items ≡ out.old.items ++ map_name file.now map) }
 {
     match map {
-        Map::Field(f) => field_name(file, f),
-        Map::Ghost(g) => auxiliary_name(file, g),
-        Map::Retired => "retired".as_bytes(),
+        Map::Field(f) => push_bytes(out, field_name(file, f)),
+        Map::Ghost(g) => push_bytes(out, auxiliary_name(file, g)),
+        Map::Retired => push(out, "retired"),
+        Map::FieldMark(f) => {
+            push_bytes(out, field_name(file, f))?;
+            push(out, ".mark")
+        }
     }
 }
 
@@ -162,14 +190,15 @@ fn text_at(texts: &[Vec<u8>], at: u32) -> &[u8]
 /// An application, by the text of its argument.
 fn push_application(
     out: &mut Vec<u8>,
-    name: &[u8],
+    file: &File,
+    map: Map,
     version: u16,
     arg: &[u8],
 ) -> Result<(), AllocError>
     ensures { OnOk result (out.new.items ≡ out.old.items
-        ++ name.now ++ codes "." ++ decimal version ++ codes "(" ++ arg.now ++ codes ")") }
+        ++ map_name file.now map ++ codes "." ++ decimal version ++ codes "(" ++ arg.now ++ codes ")") }
 {
-    push_bytes(out, name)?;
+    push_map(out, file, map)?;
     push_numbered(out, ".", u32::from(version))?;
     push_named(out, "(", arg)?;
     push(out, ")")
@@ -191,7 +220,8 @@ fn push_term(
         GroundTerm::Const(symbol) => push_symbol(out, file, mine, theirs, symbol),
         GroundTerm::App { map, version, arg } => push_application(
             out,
-            map_name(file, map),
+            file,
+            map,
             version,
             text_at(before, arg),
         ),

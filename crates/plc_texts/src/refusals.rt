@@ -1,7 +1,7 @@
 // Why words, files and bytes are refused, as texts.
 ghost use Rattle.std.specs.Prelude.{◌≡◌, ◌++◌, IfOk, codes, decimal};
 ghost use Rattle.plc_texts.specs.Refusals.{lex_text, limit_text, parse_text, token_text};
-ghost use Rattle.plc_texts.specs.Refusals.{words_refused, read_failed, read_too_long, file_refused};
+ghost use Rattle.plc_texts.specs.Refusals.{words_refused, read_failed, read_too_long};
 
 use crate::push::{push, push_number};
 use plc_base::What1;
@@ -35,13 +35,6 @@ pub fn read_too_long(alloc: Global) -> Result<Vec<u8>, AllocError>
     ensures { IfOk result (λ v. v.items ≡ read_too_long) }
 {
     fixed(alloc, "read too long\n")
-}
-
-/// A file that uses marks, where a certificate is asked of it.
-pub fn file_refused(alloc: Global) -> Result<Vec<u8>, AllocError>
-    ensures { IfOk result (λ v. v.items ≡ file_refused) }
-{
-    fixed(alloc, "refused file\n")
 }
 
 /// A number after words, and the end of the line.

@@ -26,10 +26,12 @@ use Rattle.plc_cert.specs.declared.cert.Cert.{Cert}
 use Rattle.plc_verify.specs.declared.fault.Slot.{Slot}
 use Rattle.plc_verify.specs.declared.fault.Slot.TheVariants.{W, Local}
 use Rattle.plc_verify.specs.declared.fault.VerifyFault.{VerifyFault}
-use Rattle.plc_verify.specs.declared.fault.VerifyFault.TheVariants.{EnvCount, EnvAt, EntryAt, TypeAt, FlowAt, TreeCount, TreeAt, Memory}
-use Rattle.plc_verify.specs.Environments.{completed, IsFirstAbove, FailsAfterStep, FailsAtEntry}
-use Rattle.plc_verify.specs.Trees.{TreesClose}
-use Rattle.plc_verify.specs.Validity.{IsValid, IsRefused, ValidCertificatesProve}
+use Rattle.plc_verify.specs.declared.fault.VerifyFault.TheVariants.{Version, EnvCount, EnvAt, EntryAt, TypeAt, FlowAt}
+use Rattle.plc_verify.specs.declared.fault.VerifyFault.TheVariants.{TreeCount, TreeAt, Memory}
+use Rattle.plc_verify.specs.Environments.{AreOther, completed, IsTypingFault, IsFirstAbove}
+use Rattle.plc_verify.specs.Environments.{FailsAfterStep, FailsAtEntry}
+use Rattle.plc_verify.specs.Trees.{TreesClose, IsTreeFault}
+use Rattle.plc_verify.specs.Validity.{certificate_version, IsValid, IsFirstFault, IsRefused, ValidCertificatesProve}
 use Rattle.plc_verify.specs.Tests.{MayFail, MayNotClose}
 use Rattle.plc_verify.proofs.Passages.{past_end, same_locals}
 use Rattle.plc_xfer.specs.Typings.{IsTyping}
@@ -72,35 +74,66 @@ module _ (flow : Flow) (o : Observer) (outline : Outline) (cert : Cert) (fits : 
   no_entry : (i : ℕ) (var : Slot) → FailsAtEntry o (skeleton_of flow) envs i → IsTyping o (skeleton_of flow) envs → ⊥
   no_entry i var f t = f.narrow.fails (λ p is. (env_parts (entry (length flow.file.shared) (locals_at (skeleton_of flow) p) (all_locations o)) (env_at envs p) (t.pretyping.entries i p is)).0)
 
-  pub environments_refuse : (fault : VerifyFault) → MayFail o (skeleton_of flow) envs fault → IsRefused flow o outline cert fault
-  environments_refuse (EnvCount have want) h = (inl h, λ v. h.differ (h.have_is ∙ v.typing.pretyping.count ∙ sym h.want_is))
-  environments_refuse (EnvAt point) h = (inl h, λ v. h.fails (λ small. v.typing.pretyping.environments point.0 small))
-  environments_refuse (EntryAt op var) h = (inl h, λ v. no_entry op.0 var h.0 v.typing)
-  environments_refuse (TypeAt step prim) h = (inl h, λ v. h.fails (v.typing.holding step.0 prim))
-  environments_refuse (FlowAt step var) h = (inl h, λ v. no_flow step.0 var h v.typing)
-  environments_refuse (TreeCount have want) h = absurd h
-  environments_refuse (TreeAt obligation node) h = absurd h
-  environments_refuse Memory h = tt
+  pub version_refuses : (have want : ℕ) → AreOther have want cert.version (certificate_version flow outline)
+      → IsRefused flow o outline cert (Version have want)
+  version_refuses have want h = (inl h, λ v. h.differ (h.have_is ∙ v.version ∙ sym h.want_is))
 
-  pub trees_refuse : IsTyping o (skeleton_of flow) envs → (fault : VerifyFault) → MayNotClose flow outline cert.trees fault → IsRefused flow o outline cert fault
-  trees_refuse t (TreeCount have want) h = (inr (record { typing = t; is_fault = h }), λ v. h.differ (h.have_is ∙ v.trees.one_each ∙ sym h.want_is))
-  trees_refuse t (TreeAt i node) h = (
-    inr (record { typing = t; is_fault = h }),
-    λ v.
-        let both = one_verdict (ground_set flow outline h.obligation) [] h.tree.nodes None (Some node) (v.trees.closed i h.obligation h.tree h.obligation_is h.tree_is) h.fails in absurd cc,
+  among_environments : cert.version ≡ certificate_version flow outline → (fault : VerifyFault)
+      → IsTypingFault o (skeleton_of flow) envs fault → IsFirstFault flow o outline cert fault
+  among_environments same fault h = inr (inl (record { version = same; is_fault = h }))
+
+  pub environments_refuse : cert.version ≡ certificate_version flow outline → (fault : VerifyFault)
+      → MayFail o (skeleton_of flow) envs fault → IsRefused flow o outline cert fault
+  environments_refuse same (Version have want) h = absurd h
+  environments_refuse same (EnvCount have want) h = (
+    among_environments same (EnvCount have want) h,
+    λ v. h.differ (h.have_is ∙ v.typing.pretyping.count ∙ sym h.want_is),
   )
-  trees_refuse t (EnvCount have want) h = absurd h
-  trees_refuse t (EnvAt point) h = absurd h
-  trees_refuse t (EntryAt op var) h = absurd h
-  trees_refuse t (TypeAt step prim) h = absurd h
-  trees_refuse t (FlowAt step var) h = absurd h
-  trees_refuse t Memory h = tt
+  environments_refuse same (EnvAt point) h = (
+    among_environments same (EnvAt point) h,
+    λ v. h.fails (λ small. v.typing.pretyping.environments point.0 small),
+  )
+  environments_refuse same (EntryAt op var) h =
+      (among_environments same (EntryAt op var) h, λ v. no_entry op.0 var h.0 v.typing)
+  environments_refuse same (TypeAt step prim) h =
+      (among_environments same (TypeAt step prim) h, λ v. h.fails (v.typing.holding step.0 prim))
+  environments_refuse same (FlowAt step var) h =
+      (among_environments same (FlowAt step var) h, λ v. no_flow step.0 var h v.typing)
+  environments_refuse same (TreeCount have want) h = absurd h
+  environments_refuse same (TreeAt obligation node) h = absurd h
+  environments_refuse same Memory h = tt
 
-  pub judged : IsTyping o (skeleton_of flow) envs → (r : Result (Unit {0}) VerifyFault)
+  among_trees : cert.version ≡ certificate_version flow outline → IsTyping o (skeleton_of flow) envs
+      → (fault : VerifyFault) → IsTreeFault flow outline cert.trees fault → IsFirstFault flow o outline cert fault
+  among_trees same t fault h = inr (inr (record { version = same; typing = t; is_fault = h }))
+
+  pub trees_refuse : cert.version ≡ certificate_version flow outline → IsTyping o (skeleton_of flow) envs
+      → (fault : VerifyFault) → MayNotClose flow outline cert.trees fault → IsRefused flow o outline cert fault
+  trees_refuse same t (TreeCount have want) h = (
+    among_trees same t (TreeCount have want) h,
+    λ v. h.differ (h.have_is ∙ v.trees.one_each ∙ sym h.want_is),
+  )
+  trees_refuse same t (TreeAt i node) h = (
+    among_trees same t (TreeAt i node) h,
+    λ v.
+        let both = one_verdict (ground_set flow outline h.obligation) [] h.tree.nodes None (Some node)
+        (v.trees.closed i h.obligation h.tree h.obligation_is h.tree_is) h.fails in
+        absurd cc,
+  )
+  trees_refuse same t (Version have want) h = absurd h
+  trees_refuse same t (EnvCount have want) h = absurd h
+  trees_refuse same t (EnvAt point) h = absurd h
+  trees_refuse same t (EntryAt op var) h = absurd h
+  trees_refuse same t (TypeAt step prim) h = absurd h
+  trees_refuse same t (FlowAt step var) h = absurd h
+  trees_refuse same t Memory h = tt
+
+  pub judged : cert.version ≡ certificate_version flow outline → IsTyping o (skeleton_of flow) envs
+      → (r : Result (Unit {0}) VerifyFault)
       → MatchResult r (λ _. TreesClose flow outline cert.trees) (MayNotClose flow outline cert.trees)
       → MatchResult r (λ _. IsValid flow o outline cert) (IsRefused flow o outline cert)
-  judged t (Ok u) h = record { typing = t; trees = h }
-  judged t (Err fault) h = trees_refuse t fault h
+  judged same t (Ok u) h = record { version = same; typing = t; trees = h }
+  judged same t (Err fault) h = trees_refuse same t fault h
 
 pub valid_prove : ValidCertificatesProve
 valid_prove flow o outline cert v = (

@@ -16,7 +16,7 @@ use Rattle.plc_flow.specs.declared.flow.Flow.{Flow}
 use Rattle.plc_verify.specs.declared.fault.Slot.{Slot}
 use Rattle.plc_verify.specs.declared.fault.Slot.TheVariants.{W, Local}
 use Rattle.plc_verify.specs.declared.fault.VerifyFault.{VerifyFault}
-use Rattle.plc_verify.specs.declared.fault.VerifyFault.TheVariants.{EnvCount, EnvAt, EntryAt, TypeAt, FlowAt}
+use Rattle.plc_verify.specs.declared.fault.VerifyFault.TheVariants.{Version, EnvCount, EnvAt, EntryAt, TypeAt, FlowAt}
 use Rattle.plc_verify.specs.declared.fault.VerifyFault.TheVariants.{TreeCount, TreeAt, Memory}
 
 -- a certificate has no types of shared pointers: each of them guarantees nothing and stands where any address may
@@ -109,6 +109,7 @@ pub record FailsAfterStep (o : Observer) (s : Skeleton) (envs : List Env) (k : �
 
 -- the first item of the environments that fails
 abbrev pub IsTypingFault : Observer → Skeleton → List Env → VerifyFault → Type 0
+IsTypingFault o s envs (Version have want) = ⊥
 IsTypingFault o s envs (EnvCount have want) = AreOther have want (length envs) (length s.locals)
 IsTypingFault o s envs (EnvAt point) = FailsAtPoint o s envs point.0
 IsTypingFault o s envs (EntryAt op var) = FailsAtEntry o s envs op.0 × (var ≡ W)

@@ -15,7 +15,7 @@ use Rattle.plc_ground.specs.Trees.{Closes, IsVerdict}
 use Rattle.plc_setting.specs.declared.obligations.Obligation.{Obligation}
 use Rattle.plc_oblig.specs.GroundSets.{ground_set}
 use Rattle.plc_verify.specs.declared.fault.VerifyFault.{VerifyFault}
-use Rattle.plc_verify.specs.declared.fault.VerifyFault.TheVariants.{EnvCount, EnvAt, EntryAt, TypeAt, FlowAt}
+use Rattle.plc_verify.specs.declared.fault.VerifyFault.TheVariants.{Version, EnvCount, EnvAt, EntryAt, TypeAt, FlowAt}
 use Rattle.plc_verify.specs.declared.fault.VerifyFault.TheVariants.{TreeCount, TreeAt, Memory}
 use Rattle.plc_verify.specs.Environments.{IsTypingFault, LocalBelow}
 use Rattle.plc_verify.specs.Trees.{IsTreeFault}
@@ -48,6 +48,7 @@ NoneAbove a b = (within a.w b.w ≡ true) × ((v : ℕ) → LocalBelow a b v)
 
 -- an item of the environments that fails, or memory that runs out
 abbrev pub MayFail : Observer → Skeleton → List Env → VerifyFault → Type 0
+MayFail o s envs (Version have want) = ⊥
 MayFail o s envs (EnvCount have want) = IsTypingFault o s envs (EnvCount have want)
 MayFail o s envs (EnvAt point) = IsTypingFault o s envs (EnvAt point)
 MayFail o s envs (EntryAt op var) = IsTypingFault o s envs (EntryAt op var)
@@ -61,6 +62,7 @@ MayFail o s envs Memory = Unit {0}
 abbrev pub MayNotClose : Flow → Outline → List Tree → VerifyFault → Type 0
 MayNotClose flow outline trees (TreeCount have want) = IsTreeFault flow outline trees (TreeCount have want)
 MayNotClose flow outline trees (TreeAt obligation node) = IsTreeFault flow outline trees (TreeAt obligation node)
+MayNotClose flow outline trees (Version have want) = ⊥
 MayNotClose flow outline trees (EnvCount have want) = ⊥
 MayNotClose flow outline trees (EnvAt point) = ⊥
 MayNotClose flow outline trees (EntryAt op var) = ⊥

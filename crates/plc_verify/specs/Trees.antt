@@ -8,7 +8,7 @@ use Rattle.plc_setting.specs.declared.obligations.Obligation.{Obligation}
 use Rattle.plc_oblig.specs.Obligations.{obligations}
 use Rattle.plc_oblig.specs.GroundSets.{ground_set}
 use Rattle.plc_verify.specs.declared.fault.VerifyFault.{VerifyFault}
-use Rattle.plc_verify.specs.declared.fault.VerifyFault.TheVariants.{EnvCount, EnvAt, EntryAt, TypeAt, FlowAt}
+use Rattle.plc_verify.specs.declared.fault.VerifyFault.TheVariants.{Version, EnvCount, EnvAt, EntryAt, TypeAt, FlowAt}
 use Rattle.plc_verify.specs.declared.fault.VerifyFault.TheVariants.{TreeCount, TreeAt, Memory}
 use Rattle.plc_verify.specs.Environments.{AreOther}
 
@@ -38,6 +38,7 @@ abbrev pub IsTreeFault : Flow → Outline → List Tree → VerifyFault → Type
 IsTreeFault flow outline trees (TreeCount have want) =
     AreOther have want (length trees) (length (obligations flow outline))
 IsTreeFault flow outline trees (TreeAt obligation node) = FailsAtTree flow outline trees obligation node
+IsTreeFault flow outline trees (Version have want) = ⊥
 IsTreeFault flow outline trees (EnvCount have want) = ⊥
 IsTreeFault flow outline trees (EnvAt point) = ⊥
 IsTreeFault flow outline trees (EntryAt op var) = ⊥

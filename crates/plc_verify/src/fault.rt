@@ -18,6 +18,8 @@ pub enum Slot {
 /// `TypeAt` and then `FlowAt`, come before those of the next step.
 #[derive(Clone, Copy)]
 pub enum VerifyFault {
+    /// The certificate has version `have`, and those of the file have `want`.
+    Version { have: u8, want: u8 },
     /// There are `have` environments, and the flow has `want` points.
     EnvCount { have: u64, want: u32 },
     /// The environment of the point doesn't fit it: it has another number of locals than the point's operation has

@@ -1,5 +1,6 @@
-//! Certificates judged: `verify` answers Ok exactly where a certificate's environments are a typing and its trees
-//! close the ground sets of the obligations, and else the first item that fails, in a fixed order.
+//! Certificates judged: `verify` answers Ok exactly where a certificate has the version of the file, its environments
+//! are a typing and its trees close the ground sets of the obligations, and else the first item that fails, in a fixed
+//! order.
 //!
 //! It doesn't know who wrote the certificate or how: it stands on the typing rules, the obligations and the judge of
 //! trees, and on neither the inference nor the solver. So whoever trusts the answer needn't trust these two, and a
@@ -13,7 +14,9 @@ mod laws;
 mod steps;
 mod trees;
 mod typing;
+mod version;
 
 pub use fault::{Slot, VerifyFault};
 pub use judging::verify;
 pub use laws::valid_certificates_prove;
+pub use version::certificate_version;

@@ -89,6 +89,21 @@ over o : p == null or p . d != v or p . d == 7 ;
 at a , b : p . own == me or p . own != none ;
 at c : s . st != made ;
 }
+# struct N{ptr f;}shared A;op o(){ptr p;label a;}outline{inv marked(A)or not marked(A.f);inv all x:not marked(x.f);\
+    at a:not marked(p)or marked(p.f);}
+struct N {
+ptr f ;
+}
+shared A ;
+op o ( ) {
+ptr p ;
+label a ;
+}
+outline {
+inv marked ( A ) or not marked ( A . f ) ;
+inv all x : not marked ( x . f ) ;
+at a : not marked ( p ) or marked ( p . f ) ;
+}
 # struct retire { }
 duplicate 1
 # struct N { ptr N; }

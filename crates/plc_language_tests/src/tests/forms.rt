@@ -22,6 +22,7 @@ if (n ?= Top.next) { } if (cas(Top, n, null)) { } if (cas(active Top, null, n)) 
 choose { } or { break; } or { label l; } loop { } }
 op g() { }
 outline { depth 1; inv Top == null or not retired(Top) or retired(Top);
+inv marked(Top) or not marked(Top.next);
 over f: all x, y: x.st != made or 7 == y.val; at l, k: all x: me == none; }";
 
 // What the test of syntax alone answers.

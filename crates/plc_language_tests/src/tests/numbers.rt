@@ -104,7 +104,7 @@ const OUTLINE: &str = "outline { depth 1;
 inv all x, y: x.next != y or not retired(x) or y == Top;
 over pop: s.owner != me;
 at d, e: all x: x.st == cut or t == null or retired(s);
-over push: v == 7; }";
+over push: v == 7 or marked(n) or not marked(n.next); }";
 
 // Names are numbered in the order of their declaration, locals over an operation, labels over the file.
 const NUMBERS: &str = "22 2 1 2 3 0 2 3 Plain
@@ -114,7 +114,8 @@ inv [Same { a: FieldOf { base: Bound(0), f: FieldId(0) }, b: Bound(1), equal: fa
 over OpId(1) [Same { a: GhostOf { base: Local(1), g: 1 }, b: Me, equal: false }]
 at [1, 2] [Same { a: GhostOf { base: Bound(0), g: 0 }, b: Value { g: 0, v: 2 }, equal: true }, \
     Same { a: Local(0), b: Null, equal: true }, Retired { x: Local(1), yes: true }]
-over OpId(0) [Same { a: Local(0), b: Number(7), equal: true }]
+over OpId(0) [Same { a: Local(0), b: Number(7), equal: true }, Marked { t: Local(1), yes: true }, \
+    Marked { t: FieldOf { base: Local(1), f: FieldId(0) }, yes: false }]
 Some(0) Some(1) Some(1) None Some(1) Some(1) Some(0) ";
 
 #[test]

@@ -130,6 +130,40 @@ inv retired(Top) or not retired(Top); => unit
 inv retired(val); => sort 5
 inv not retired(z); => undeclared 6
 over push: retired(v); => sort 7
+inv marked(Top) or not marked(Top.next); => unit
+over push: marked(n) or not marked(n.next); => unit
+inv all x: marked(x.next) or not marked(x.next); => unit
+inv all x: marked(x); => sort 8
+inv all x: not marked(x); => sort 9
+over push: marked(v); => sort 7
+inv marked(next); => sort 5
+inv marked(st); => sort 5
+inv marked(made); => sort 5
+inv marked(protect); => sort 5
+inv marked(Node); => sort 5
+inv marked(push); => sort 5
+inv not marked(c); => sort 6
+inv marked(z); => undeclared 5
+inv marked(n); => undeclared 5
+inv not marked(n.next); => undeclared 6
+over pop: marked(n); => undeclared 7
+inv marked(Top.val); => sort 7
+inv all x: not marked(x.val); => sort 11
+over push: marked(n.st); => sort 9
+inv marked(Top.owner); => sort 7
+inv marked(Top.made); => sort 7
+inv marked(Top.Top); => sort 7
+inv marked(Top.z); => undeclared 7
+over push: marked(v.next); => sort 7
+over push: marked(v.z); => sort 7
+inv marked(made.next); => sort 5
+inv marked(z.y); => undeclared 5
+inv marked Top; => syntax 4
+inv marked(null); => syntax 5
+inv marked(Top.next.next); => syntax 8
+inv marked(Top) == null; => syntax 7
+inv not not marked(Top); => syntax 4
+inv unmarked(Top); => syntax 3
 ";
 
 #[test]

@@ -3,7 +3,7 @@
 // many clauses as there may be.
 ghost use Rattle.plc_setting.specs.Fit.{Fits};
 
-use crate::tests::deep::DEEP;
+use crate::tests::deep::{DEEP, DEEP_MARKED};
 use crate::tests::loading::{Asked, answered, text_is};
 use plc_base::{Items, LARGEST_FILE, NoMemory};
 use plc_check::{Judged, LoadFault, load};
@@ -167,6 +167,11 @@ fn sets_are_as_large_as_the_format_says(rt: HostRuntime) -> Result<(), NoMemory>
         &rt,
         answer(alloc, DEEP, 0, 10000),
         "677 sets, 81385 terms, 313503 clauses, 1759449 literals, at most 742 clauses",
+    )?;
+    text_is(
+        &rt,
+        answer(alloc, DEEP_MARKED, 0, 10000),
+        "221 sets, 15425 terms, 46467 clauses, 274972 literals, at most 340 clauses",
     )?;
     let full = format!(in alloc; "{WIDE}{FULL}}}\n")?;
     text_is(&rt, answered(alloc, full.as_str(), &Counted(33)), "65536")?;

@@ -25,6 +25,8 @@ fn is_answered(alloc: Global, text: &str, want: Result<&str, CertFault>) -> bool
 
 const EMPTY: &str = r#"{"env":[],"trees":[],"version":1}"#;
 
+const EMPTY_WITH_MARKS: &str = r#"{"env":[],"trees":[],"version":2}"#;
+
 const WHOLE: &str =
     r#"{"env":[[[0,7],[[0,[]],[1,[2]],[3,[]],[7,[0,2]]]],[[],[]]],"trees":[[[0,3],[1,0,4294967295]],[]],"version":1}"#;
 
@@ -32,6 +34,7 @@ const WHOLE: &str =
 fn what_is_written_is_read(rt: HostRuntime) {
     let rows = [
         (EMPTY, EMPTY),
+        (EMPTY_WITH_MARKS, EMPTY_WITH_MARKS),
         (WHOLE, WHOLE),
         (
             " {\"version\":1,\"trees\":[ [[1 ,2,3]] ],\r\n\t\"env\":[]}\n",
@@ -39,6 +42,10 @@ fn what_is_written_is_read(rt: HostRuntime) {
         ),
         (r#"{"\u0065nv":[],"trees":[],"version":1}"#, EMPTY),
         (r#"{"env":7,"env":[],"trees":[],"version":1}"#, EMPTY),
+        (
+            r#"{"version":1,"version":2,"trees":[],"env":[]}"#,
+            EMPTY_WITH_MARKS,
+        ),
     ];
     for (text, written) in rows {
         assert!(rt; is_answered(rt.alloc(), text, Ok(written)), "{text}");
@@ -46,7 +53,12 @@ fn what_is_written_is_read(rt: HostRuntime) {
 }
 
 // Texts that are no JSON, and those whose part is the first that is at fault.
-const NOT_JSON: &[&str] = &["", "{", r#"{"env":1e999,"trees":[],"version":1}"#];
+const NOT_JSON: &[&str] = &[
+    "",
+    "{",
+    r#"{"env":1e999,"trees":[],"version":1}"#,
+    r#"{"env":[],"trees":[],"version":2"#,
+];
 
 const BAD_ROOTS: &[&str] = &[
     "{}",
@@ -57,16 +69,20 @@ const BAD_ROOTS: &[&str] = &[
 
 const BAD_VERSIONS: &[&str] = &[
     r#"{"env":7,"trees":7,"version":1.0}"#,
+    r#"{"env":7,"trees":7,"version":2.0}"#,
     r#"{"env":7,"trees":7,"version":-1}"#,
     r#"{"env":7,"trees":7,"version":18446744073709551616}"#,
 ];
 
-const OTHER_VERSION: &[&str] = &[r#"{"env":7,"trees":7,"version":2}"#];
+const OTHER_VERSION: &[&str] = &[r#"{"env":7,"trees":7,"version":3}"#];
+
+const NO_VERSION: &[&str] = &[r#"{"env":7,"trees":7,"version":0}"#];
 
 const LAST_VERSION: &[&str] = &[r#"{"env":7,"trees":7,"version":18446744073709551615}"#];
 
 const BAD_ENVS: &[&str] = &[
     r#"{"env":7,"trees":7,"version":1}"#,
+    r#"{"env":7,"trees":7,"version":2}"#,
     r#"{"env":[[[1,0],[]]],"trees":7,"version":1}"#,
     r#"{"env":[[[8],[]]],"trees":7,"version":1}"#,
     r#"{"env":[[[],[[2,[]]]]],"trees":7,"version":1}"#,
@@ -74,6 +90,7 @@ const BAD_ENVS: &[&str] = &[
 
 const BAD_TREES: &[&str] = &[
     r#"{"env":[],"trees":7,"version":1}"#,
+    r#"{"env":[],"trees":7,"version":2}"#,
     r#"{"env":[],"trees":[[[1,0]]],"version":1}"#,
     r#"{"env":[],"trees":[[[0,4294967296]]],"version":1}"#,
 ];
@@ -95,7 +112,8 @@ fn each_refusal_comes_in_its_order(rt: HostRuntime) {
         (NOT_JSON, CertFault::NotJson),
         (BAD_ROOTS, shape(CertField::Root)),
         (BAD_VERSIONS, shape(CertField::Version)),
-        (OTHER_VERSION, CertFault::Version { n: 2 }),
+        (OTHER_VERSION, CertFault::Version { n: 3 }),
+        (NO_VERSION, CertFault::Version { n: 0 }),
         (LAST_VERSION, CertFault::Version { n: u64::MAX }),
         (BAD_ENVS, shape(CertField::Env)),
         (BAD_TREES, shape(CertField::Trees)),
@@ -113,6 +131,7 @@ fn example(alloc: Global) -> Result<Cert, NoMemory> {
         nodes: Items::from_vec(nodes),
     };
     Ok(Cert {
+        version: 2,
         env: Items::from_vec(vec![in alloc; env]?),
         trees: Items::from_vec(vec![in alloc; tree]?),
     })
@@ -127,7 +146,7 @@ fn written(alloc: Global) -> Result<Vec<u8>, NoMemory> {
 #[test]
 fn certificates_are_written_whole(rt: HostRuntime) -> Result<(), NoMemory> {
     let text = written(rt.alloc())?;
-    let want = r#"{"env":[[[0,1,2],[[7,[]],[7,[]]]]],"trees":[[[0,12],[1,5,0]]],"version":1}"#;
+    let want = r#"{"env":[[[0,1,2],[[7,[]],[7,[]]]]],"trees":[[[0,12],[1,5,0]]],"version":2}"#;
     assert!(rt; text.as_slice() == want.as_bytes());
     Ok(())
 }

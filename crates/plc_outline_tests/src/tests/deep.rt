@@ -1,4 +1,4 @@
-// A file with every form that an outline and a step may have.
+// Files with every form that an outline and a step may have: one without marks, one that uses them.
 
 // Two operations over a struct with two pointer fields and a data field, at depth 1.
 pub(crate) const DEEP: &str = "struct Node { ptr next; data val; ptr other; }
@@ -35,5 +35,45 @@ at a, b: n != null;
 at b: x == n.val or n.next == t;
 over take: t == null or t.st != made or t.owner != me;
 at c: t.next == s or t.other == s or Spare == t;
+}
+";
+
+// Two operations over a struct with a pointer field and a data field, at depth 1, that set, clear and test marks, and
+// say in the outline what is marked.
+pub(crate) const DEEP_MARKED: &str = "struct Node { ptr next; data val; }
+shared Head; shared Spare;
+call enter(); call leave();
+use epoch(enter, leave);
+ghost st { made, linked, cut };
+init { Head := new; Head := mark Head; ghost Head.st := linked; }
+op put(v) {
+ptr n; ptr p;
+atomic { n := new; n.val := v; }
+atomic { p := Head; active p; assume unmarked p; n.next ?= p; Head := n; ghost n.st := linked; }
+}
+op del() {
+ptr p; ptr c; data x;
+enter();
+atomic { p := Head; active p; assume p != null; c := p.next; }
+label a;
+choose {
+atomic { assume unmarked c; assume p != c; c := mark c; p.next := c; }
+label b;
+} or {
+atomic { assume marked c; active p; p := p.next; p := unmark p; x := p.val; }
+if (marked c) { c := unmark c; } else { Spare := c; }
+} or {
+atomic { active p; active Head; assume Head == p; c ?= p.next; p.next ?= Spare; Spare := mark p; }
+retire(p);
+}
+leave();
+}
+outline { depth 1;
+inv Head == null or not marked(Head.next) or Head.st == linked;
+inv all x, y: x.st != linked or x.next != y or marked(x.next) or y == null or y.st != cut;
+over put: n == null or n.st == made or n.st == linked;
+at a: p != null;
+at a: p.next == c or not marked(c);
+at b: marked(c) or marked(p.next);
 }
 ";

@@ -1,12 +1,12 @@
 // Ground sets of obligations as an independent reading of the format gives them: one of each kind and one at depth 1
 // whole (`whole_sets.rt` tells how a set is written), others by checksums, with loads, `retire` and premises at depth 1
-// among them. Beside them sets of files that use marks.
+// among them. So do those of files that use marks (`marked_sets.rt`).
 ghost use Rattle.plc_setting.specs.Fit.{Fits};
 
-use crate::tests::checksums::{OF_DEEP, OF_HAZARDS};
-use crate::tests::deep::DEEP;
+use crate::tests::checksums::{OF_DEEP, OF_DEEP_MARKED, OF_HAZARDS};
+use crate::tests::deep::{DEEP, DEEP_MARKED};
 use crate::tests::loading::{Asked, answered, put, text_is};
-use crate::tests::marks::MARKED_SETS;
+use crate::tests::marked_sets::MARKED_SETS;
 use crate::tests::whole_sets::{CLAIM, DEEP_START, ENTER, OTHER, OWN, START};
 use plc_base::{NoMemory, What1};
 use plc_check::Judged;
@@ -25,11 +25,16 @@ fn symbol_text(alloc: Global, symbol: Symbol) -> Result<String, AllocError> {
         Symbol::Bound(i) => format!(in alloc; "c{i}"),
         Symbol::Loaded(k) => format!(in alloc; "l{k}"),
         Symbol::Yes => format!(in alloc; "yes"),
+        Symbol::No => format!(in alloc; "no"),
         Symbol::Nobody => format!(in alloc; "none"),
         Symbol::Me => format!(in alloc; "me"),
         Symbol::You => format!(in alloc; "you"),
         Symbol::Value(v) => format!(in alloc; "v{v}"),
         Symbol::Number(n) => format!(in alloc; "n{n}"),
+        Symbol::MarkShared(i) => format!(in alloc; "ms{i}"),
+        Symbol::MarkMine(k) => format!(in alloc; "ma{k}"),
+        Symbol::MarkTheirs(k) => format!(in alloc; "mb{k}"),
+        Symbol::MarkLoaded(k) => format!(in alloc; "ml{k}"),
     }
 }
 
@@ -38,6 +43,7 @@ fn term_text(alloc: Global, term: GroundTerm) -> Result<String, AllocError> {
         GroundTerm::Const(symbol) => symbol_text(alloc, symbol),
         GroundTerm::App { map, version, arg } => match map {
             Map::Field(f) => format!(in alloc; "f{}.{version}@{arg}", f.0),
+            Map::FieldMark(f) => format!(in alloc; "m{}.{version}@{arg}", f.0),
             Map::Ghost(g) => format!(in alloc; "g{g}.{version}@{arg}"),
             Map::Retired => format!(in alloc; "retired.{version}@{arg}"),
         },
@@ -197,6 +203,10 @@ fn other_sets_have_their_checksums(rt: HostRuntime) -> Result<(), NoMemory> {
     for row in OF_DEEP {
         let (i, sum) = *row;
         assert_eq!(rt; checksum(answer(rt.alloc(), DEEP, i)?.as_str()), sum);
+    }
+    for row in OF_DEEP_MARKED {
+        let (i, sum) = *row;
+        assert_eq!(rt; checksum(answer(rt.alloc(), DEEP_MARKED, i)?.as_str()), sum);
     }
     Ok(())
 }

@@ -5,7 +5,8 @@ ghost use Rattle.plc_syntax.specs.Table.{after_flag, after_equality, after_term}
 
 use crate::expected::Expected::{self, Name, Number, Part, Symbol};
 use crate::expected::Part::{
-    Bound, Depth, DotName, Equality, Flag, Items, Literal, MoreNames, OrLiterals, SecondName, Term,
+    Bound, Depth, DotName, Equality, Flag, Items, Literal, MoreNames, OrLiterals, Place,
+    SecondName, Term,
 };
 use plc_lex::Symbol::{
     CloseBrace, CloseParen, Colon, Comma, Equal, OpenBrace, OpenParen, Semicolon, Unequal,
@@ -72,6 +73,7 @@ pub fn after_literal(kind: &TokenKind) -> Option<&'static [Expected]>
     rows! { kind;
         TokenKind::Word(Keyword::Not) => [Part(Flag)],
         TokenKind::Word(Keyword::Retired) => [Symbol(OpenParen), Name, Symbol(CloseParen)],
+        TokenKind::Word(Keyword::Marked) => [Symbol(OpenParen), Part(Place), Symbol(CloseParen)],
         TokenKind::Name(_) => [Part(DotName), Part(Equality)],
         TokenKind::Word(Keyword::Null | Keyword::Me | Keyword::None) | TokenKind::Number(_) =>
             [Part(Equality)]
@@ -83,7 +85,8 @@ pub fn after_flag(kind: &TokenKind) -> Option<&'static [Expected]>
     ensures { IsRow result (after_flag kind.now) }
 {
     rows! { kind;
-        TokenKind::Word(Keyword::Retired) => [Symbol(OpenParen), Name, Symbol(CloseParen)]
+        TokenKind::Word(Keyword::Retired) => [Symbol(OpenParen), Name, Symbol(CloseParen)],
+        TokenKind::Word(Keyword::Marked) => [Symbol(OpenParen), Part(Place), Symbol(CloseParen)]
     }
 }
 

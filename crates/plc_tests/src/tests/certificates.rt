@@ -56,6 +56,15 @@ fn what_is_certified_is_verified(rt: HostRuntime) -> Result<(), AllocError> {
         ("labelled", "0\nverified points 7 steps 6 obligations 0\n"),
         ("protected", "0\nverified points 5 steps 4 obligations 0\n"),
         ("once", "0\nverified points 5 steps 4 obligations 0\n"),
+        ("marked", "0\nverified points 4 steps 3 obligations 0\n"),
+        (
+            "marked-outline",
+            "0\nverified points 5 steps 4 obligations 10\n",
+        ),
+        (
+            "marked-shared",
+            "0\nverified points 5 steps 4 obligations 10\n",
+        ),
     ] {
         let (name, want) = *row;
         assert_eq!(rt; verified_own(rt.alloc(), name)?.as_str(), want, "{name}");
@@ -68,6 +77,12 @@ fn what_is_certified_is_verified(rt: HostRuntime) -> Result<(), AllocError> {
 pub(crate) const PUBLISHED: &str =
     "{\"env\":[[[0,1],[[7,[]]]],[[0,1],[[0,[0,1]]]],[[0,1],[[7,[0]]]],[[0,1],[[7,[0]]]],[[0,1],[[0,[0,1]]]]],\
      \"trees\":[],\"version\":1}";
+
+/// A certificate of `marked-link` without a typing: any address may stand anywhere.
+const ANYWHERE: &str =
+    "{\"env\":[[[0,1],[[0,[0,1]],[0,[0,1]]]],[[0,1],[[0,[0,1]],[0,[0,1]]]],[[0,1],[[0,[0,1]],[0,[0,1]]]],\
+     [[0,1],[[0,[0,1]],[0,[0,1]]]],[[0,1],[[0,[0,1]],[0,[0,1]]]],[[0,1],[[0,[0,1]],[0,[0,1]]]],\
+     [[0,1],[[0,[0,1]],[0,[0,1]]]],[[0,1],[[0,[0,1]],[0,[0,1]]]]],\"trees\":[],\"version\":2}";
 
 // Certificates that no `certify` wrote.
 const WRITTEN: &[(&str, &str, &str)] = &[
@@ -82,17 +97,16 @@ const WRITTEN: &[(&str, &str, &str)] = &[
         "0\nverified points 5 steps 4 obligations 0\n",
     ),
     (
+        "least",
+        r#"{"env":[[[],[]]],"trees":[[]],"version":2}"#,
+        "1\ninvalid version 2 1\n",
+    ),
+    (
         "marked",
         r#"{"env":[],"trees":[],"version":1}"#,
-        "2\nrefused file\n",
+        "1\ninvalid version 1 2\n",
     ),
-    ("marked", "{", "2\nrefused file\n"),
-    (
-        "marked-brace",
-        r#"{"env":[],"trees":[],"version":1}"#,
-        "2\nrefused file\n",
-    ),
-    ("marked-byte", "{", "2\nrefused byte at 13\n"),
+    ("marked-link", ANYWHERE, "1\ninvalid type step 2 prim 0\n"),
     ("hazards", "{}", "2\nrefused certificate field root\n"),
     ("hazards", "{", "2\nrefused certificate json\n"),
     ("stray", "{", "2\nrefused byte at 13\n"),
@@ -108,18 +122,39 @@ fn certificates_from_elsewhere_are_judged(rt: HostRuntime) -> Result<(), AllocEr
             "{name}"
         );
     }
+    // There is no other one with the strongest typing.
+    let certificate = certificate_of(rt.alloc(), "publish")?;
+    assert_eq!(rt; certificate.as_str().strip_suffix("\n"), Some(PUBLISHED));
     Ok(())
 }
 
-// Changes of a certificate of `hazards`: the first place where one text stands has another one; then the answer.
+// Changes of a certificate of `hazards`: the first place where a text stands has another one; then the answer.
 const TEXT_CHANGES: &str = r#"{"env": => "env": => 2 refused certificate json
 "version" => "versions" => 2 refused certificate field root
 "version":1 => "version":true => 2 refused certificate field version
-"version":1 => "version":2 => 2 refused certificate version 2
+"version":1 => "version":3 => 2 refused certificate version 3
+"version":1 => "version":2 => 1 invalid version 2 1
 {"env":[ => {"env":[[], => 2 refused certificate field env
 "trees":[ => "trees":[[[2,0,0]], => 2 refused certificate field trees
 {"env":[ => {"env":[[[],[]], => 1 invalid envs 38 37
 "trees":[ => "trees":[[], => 1 invalid trees 2846 2845
+"trees":[[ => "trees":[[[0,4294967295], => 1 invalid tree 0 node 0
+"#;
+
+// The same of `marked-shared`. Its first environments are those of the entry and the exit of `g`, its last step is
+// the one to the exit.
+const MARKED_CHANGES: &str = r#"{"env": => "env": => 2 refused certificate json
+"version" => "versions" => 2 refused certificate field root
+"version":2 => "version":true => 2 refused certificate field version
+"version":2 => "version":3 => 2 refused certificate version 3
+"version":2 => "version":1 => 1 invalid version 1 2
+{"env":[ => {"env":[[], => 2 refused certificate field env
+"trees":[ => "trees":[[[2,0,0]], => 2 refused certificate field trees
+{"env":[ => {"env":[[[],[]], => 1 invalid envs 6 5
+{"env":[[[0,1],[[7,[]]]] => {"env":[[[0,1],[]] => 1 invalid env 0
+{"env":[[[0,1], => {"env":[[[0], => 1 invalid entry g W
+[[0,[0,1]]]],[[0,1],[[7, => [[0,[0]]]],[[0,1],[[7, => 1 invalid flow step 3 p
+"trees":[ => "trees":[[], => 1 invalid trees 11 10
 "trees":[[ => "trees":[[[0,4294967295], => 1 invalid tree 0 node 0
 "#;
 
@@ -135,19 +170,24 @@ fn with_text(
     }
 }
 
-// What is answered to a certificate of `hazards`, its status before the rest.
-fn verified_line(alloc: Global, certificate: &str) -> Result<String, AllocError> {
-    let answer = verified(alloc, "hazards", certificate)?;
+// What is answered to a certificate for a file, its status before the rest.
+fn verified_line(alloc: Global, name: &str, certificate: &str) -> Result<String, AllocError> {
+    let answer = verified(alloc, name, certificate)?;
     let (status, line) = answer.as_str().split_once("\n").unwrap_or(("", ""));
     format!(in alloc; "{status} {line}")
 }
 
 // The answer to a certificate that is changed by a row, where it isn't the row's.
-fn wrong_text(alloc: Global, certificate: &str, row: &str) -> Result<String, AllocError> {
+fn wrong_text(
+    alloc: Global,
+    name: &str,
+    certificate: &str,
+    row: &str,
+) -> Result<String, AllocError> {
     let (found, rest) = row.split_once(" => ").unwrap_or((row, ""));
     let (text, want) = rest.split_once(" => ").unwrap_or((rest, ""));
     let changed = with_text(alloc, certificate, found, text)?;
-    let have = verified_line(alloc, changed.as_str())?;
+    let have = verified_line(alloc, name, changed.as_str())?;
     if have.as_str().strip_suffix("\n") == Some(want) {
         Ok(String::new(alloc))
     } else {
@@ -157,10 +197,12 @@ fn wrong_text(alloc: Global, certificate: &str, row: &str) -> Result<String, All
 
 #[test]
 fn a_certificate_with_another_text_has_its_answer(rt: HostRuntime) -> Result<(), AllocError> {
-    let certificate = certificate_of(rt.alloc(), "hazards")?;
-    for row in TEXT_CHANGES.lines() {
-        let wrong = wrong_text(rt.alloc(), certificate.as_str(), row)?;
-        assert_eq!(rt; wrong.as_str(), "", "{row}");
+    for (name, changes) in [("hazards", TEXT_CHANGES), ("marked-shared", MARKED_CHANGES)] {
+        let certificate = certificate_of(rt.alloc(), name)?;
+        for row in changes.lines() {
+            let wrong = wrong_text(rt.alloc(), name, certificate.as_str(), row)?;
+            assert_eq!(rt; wrong.as_str(), "", "{row}");
+        }
     }
     Ok(())
 }
@@ -213,7 +255,7 @@ fn verified_env(
     env: &str,
 ) -> Result<String, AllocError> {
     let changed = with_env(alloc, certificate, point, env)?;
-    verified_line(alloc, changed.as_str())
+    verified_line(alloc, "hazards", changed.as_str())
 }
 
 #[test]

@@ -151,6 +151,11 @@ outline { inv T == null or T.st == linked; at a: m == p; }
 struct N { }
 op f() { ptr p; ptr q; p := new; assume p != q; label a; p := mark p; }
 outline { at a: p == null or p != q; }
+# marked-shared
+struct N { ptr f; }
+shared T;
+op g() { ptr p; p := new; p := mark p; label a; T := p; }
+outline { inv T == null or marked(T); at a: marked(p); }
 # blocked
 struct N { ptr f; } shared T; init { T.f := null; }
 # stack
@@ -199,6 +204,14 @@ pub(crate) const CHANGED: &[(&str, &str, &[(usize, &str)])] = &[
     ),
     ("weaker", "hazards", &[(46, "")]),
     ("interfered", "hazards", &[(49, "")]),
+    (
+        "marked-cleared",
+        "marked-shared",
+        &[(
+            3,
+            "op g() { ptr p; p := new; p := unmark p; label a; T := p; }\n",
+        )],
+    ),
 ];
 
 // The file of the stack with an outline, in the spelling that is printed.

@@ -131,6 +131,7 @@ fn what_is_printed_is_a_model(rt: HostRuntime) -> Result<(), NoMemory> {
             "interfered",
             "unproved other step 6 line 15 point 0 clause 0",
         ),
+        ("marked-cleared", "unproved own step 1 line 3 clause 1"),
     ] {
         let (name, want) = *row;
         assert_eq!(rt; first_line(rt.alloc(), name)?.as_str(), want);

@@ -145,9 +145,16 @@ term 0 null class 0
 term 1 a:p class 1
 term 2 a:q class 1
 term 3 yes class 3
-term 4 none class 4
-term 5 me class 5
-term 6 0 class 6
+term 4 no class 4
+term 5 none class 5
+term 6 me class 6
+term 7 0 class 7
+term 8 mark(a:p) class 3
+term 9 mark(a:q) class 4
+# check marked-shared: 0
+at a W {u r}
+at a p - {u r}
+safe points 5 steps 4 locations 2 obligations 10
 # check marked-brace, print marked-brace, replay marked-brace one leak: 2
 refused syntax token 18 line 1
 # check marked-byte: 2
@@ -320,17 +327,9 @@ refused byte at 13
 refused syntax token 0 line 1
 # certify absent: 4
 read failed
-# certify marked, certify marked-put, certify marked-outline, certify marked-different: 2
-refused file
-# certify marked-brace, certify marked-name: 2
-refused file
-# certify marked-byte, verify marked-byte empty: 2
-refused byte at 13
-# verify marked empty, verify marked-brace empty, verify marked-name empty: 2
-refused file
-# verify marked absent: 4
-read failed
-# verify publish marked: 2
+# certify marked-put: 1
+untyped step 8 prim 0 line 3 compare m
+# verify marked empty, verify publish marked: 2
 refused certificate json
 # verify publish empty: 2
 refused certificate json

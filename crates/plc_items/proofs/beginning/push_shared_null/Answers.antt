@@ -1,13 +1,9 @@
-use Rattle.std.proofs.Common.{◌∙◌, ℕ, List, sym, ap}
 use Rattle.plc_ground.specs.declared.terms.Symbol.TheVariants as symbols
-use Rattle.plc_symbolic.specs.declared.symbolic.SymbolicLit.{SymbolicLit}
-use Rattle.plc_symbolic.specs.Numbering.{written}
 use Rattle.plc_items.specs.Items.{equals}
-use Rattle.plc_items.proofs.Written.{written-below}
+use Rattle.plc_items.proofs.Written.{one-more-below}
 use Rattle.plc_items.proofs.beginning.push_shared_null.Goals as goal
 
 pub loop-i-preserved : goal.loop-i-preserved
 loop-i-preserved c =
-    let f : ℕ → List SymbolicLit = λ (i : ℕ). equals (symbols.Shared i) symbols.Null in
-    c.in_ok-push_equal.ensures ∙ ap (λ d. written d (f c.loop-i.i)) c.loop-i.invariant
-    ∙ sym (written-below f c.args.out.now c.loop-i.i)
+    one-more-below (λ i. equals (symbols.Shared i) symbols.Null) _ _ _ c.loop-i.i
+    c.in_ok-push_equal.ensures c.loop-i.invariant

@@ -4,4 +4,4 @@ pub returns : goal.returns
 returns c =
     let first = c.requires.first in
     let second = c.requires.second in
-    rw (c.agree.ensures, c.stands_at.ensures, c.stands_at-2.ensures)
+    rw (c.same_bool.ensures, c.stands_at.ensures, c.stands_at-2.ensures)

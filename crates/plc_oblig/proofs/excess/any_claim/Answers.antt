@@ -2,7 +2,7 @@ use Rattle.std.proofs.Common.{length, true, false, sym, ap, ◌∙◌, arith}
 use Rattle.std.specs.List.{list_any}
 use Rattle.plc_oblig.specs.Obligations.{claims_of, claims_in}
 use Rattle.plc_oblig.specs.Excess.{is_large}
-use Rattle.plc_oblig.proofs.AnyOf.{any_part, none_left_any}
+use Rattle.plc_oblig.proofs.AnyOf.{any_part, none_passes}
 use Rattle.plc_oblig.proofs.excess.any_claim.Goals as goal
 
 pub returns-then-any_claim_of : goal.returns-then-any_claim_of
@@ -23,6 +23,5 @@ loop-step-preserved c =
 
 pub returns : goal.returns
 returns c =
-    sym (sym c.loop-step.invariant
-    ∙ none_left_any (is_large c.args.flow.now c.args.outline.now) claims_of c.loop-step.step c.loop-step.step c.args.flow.now.steps
-    (omega (arith, ap length c.as_slice-s-items.ensures, c.loop-step-test.false)))
+    none_passes (is_large c.args.flow.now c.args.outline.now) claims_of
+    c.loop-step.step c.loop-step.step c.args.flow.now.steps _ c.loop-step.invariant (omega (arith, ap length c.as_slice-s-items.ensures, c.loop-step-test.false))

@@ -6,7 +6,7 @@ use Rattle.plc_setting.specs.Setting.{below}
 use Rattle.plc_oblig.specs.Obligations.{enters_of, op_id}
 use Rattle.plc_oblig.specs.Excess.{is_large}
 use Rattle.plc_oblig.proofs.Walking.{any_default, no_gate}
-use Rattle.plc_oblig.proofs.AnyOf.{any_part, none_left_any}
+use Rattle.plc_oblig.proofs.AnyOf.{any_part, none_passes}
 use Rattle.plc_oblig.proofs.excess.any_enter.Goals as goal
 
 pub returns-then-any_numbered : goal.returns-then-any_numbered
@@ -31,6 +31,5 @@ loop-op-preserved c =
 
 pub returns : goal.returns
 returns c =
-    sym (sym c.loop-op.invariant
-    ∙ none_left_any (is_large c.args.flow.now c.args.outline.now) (enters_of c.args.flow.now c.args.outline.now) c.loop-op.op c.loop-op.op c.args.flow.now.gates
-    (omega (arith, ap length c.as_slice-gate-items.ensures, c.loop-op-test.false)))
+    none_passes (is_large c.args.flow.now c.args.outline.now) (enters_of c.args.flow.now c.args.outline.now)
+    c.loop-op.op c.loop-op.op c.args.flow.now.gates _ c.loop-op.invariant (omega (arith, ap length c.as_slice-gate-items.ensures, c.loop-op-test.false))

@@ -1,4 +1,4 @@
-use Rattle.std.proofs.Common.{◌++◌, sym}
+use Rattle.std.proofs.Common.{sym}
 use Rattle.std.proofs.lemmas.List.Folds.{list_any-append}
 use Rattle.plc_oblig.specs.Obligations.{others, claims}
 use Rattle.plc_oblig.specs.Excess.{is_large}

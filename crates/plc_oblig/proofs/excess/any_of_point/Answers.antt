@@ -5,7 +5,7 @@ use Rattle.plc_setting.specs.Setting.{below}
 use Rattle.plc_oblig.specs.Obligations.{others_at, step_id, point_id}
 use Rattle.plc_oblig.specs.Excess.{is_large}
 use Rattle.plc_oblig.proofs.Walking.{there_is}
-use Rattle.plc_oblig.proofs.AnyOf.{any_part, none_left_any}
+use Rattle.plc_oblig.proofs.AnyOf.{any_part, none_passes}
 use Rattle.plc_oblig.proofs.excess.any_of_point.Goals as goal
 
 pub returns-then-any_numbered : goal.returns-then-any_numbered
@@ -28,6 +28,5 @@ loop-step-preserved c =
 
 pub returns : goal.returns
 returns c =
-    sym (sym c.loop-step.invariant
-    ∙ none_left_any (is_large c.args.flow.now c.args.outline.now) (λ k s. others_at c.args.flow.now c.args.outline.now k 0 c.args.point.0) c.loop-step.step c.loop-step.step c.args.flow.now.steps
-    (omega (arith, c.len-step-end.ensures, c.loop-step-test.false)))
+    none_passes (is_large c.args.flow.now c.args.outline.now) (λ k s. others_at c.args.flow.now c.args.outline.now k 0 c.args.point.0)
+    c.loop-step.step c.loop-step.step c.args.flow.now.steps _ c.loop-step.invariant (omega (arith, c.len-step-end.ensures, c.loop-step-test.false))

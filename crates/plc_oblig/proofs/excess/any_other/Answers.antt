@@ -3,7 +3,7 @@ use Rattle.std.proofs.lemmas.List.FromFn.{length-range_with_len}
 use Rattle.plc_setting.specs.Setting.{below}
 use Rattle.plc_oblig.specs.Excess.{is_large, others_of_point}
 use Rattle.plc_oblig.proofs.Walking.{below_at, below_lt}
-use Rattle.plc_oblig.proofs.AnyOf.{any_part, none_left_any, any_by_points}
+use Rattle.plc_oblig.proofs.AnyOf.{any_part, none_passes, any_by_points}
 use Rattle.plc_oblig.proofs.excess.any_other.Goals as goal
 
 pub returns-then-any_of_point : goal.returns-then-any_of_point
@@ -22,7 +22,9 @@ loop-p-preserved c =
 
 pub returns : goal.returns
 returns c =
-    let large = is_large c.args.flow.now c.args.outline.now in
-    sym (sym (any_by_points large c.args.flow.now c.args.outline.now) ∙ sym c.loop-p.invariant
-    ∙ none_left_any large (λ place p. others_of_point c.args.flow.now c.args.outline.now p) c.loop-p.p c.loop-p.p (below c.args.flow.now.points)
-    (omega (arith, length-range_with_len 0 c.args.flow.now.points, c.loop-p-test.false)))
+    let flow = c.args.flow.now in
+    let outline = c.args.outline.now in
+    let large = is_large flow outline in
+    none_passes large (λ place p. others_of_point flow outline p) c.loop-p.p c.loop-p.p (below flow.points) _
+    (c.loop-p.invariant ∙ any_by_points large flow outline)
+    (omega (arith, length-range_with_len 0 flow.points, c.loop-p-test.false))

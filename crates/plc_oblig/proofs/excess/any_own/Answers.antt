@@ -4,7 +4,7 @@ use Rattle.plc_setting.specs.declared.obligations.Obligation.TheVariants.{Own}
 use Rattle.plc_setting.specs.Setting.{below}
 use Rattle.plc_oblig.specs.Obligations.{owns_of, own_count, step_id}
 use Rattle.plc_oblig.specs.Excess.{is_large}
-use Rattle.plc_oblig.proofs.AnyOf.{any_part, none_left_any}
+use Rattle.plc_oblig.proofs.AnyOf.{any_part, none_passes}
 use Rattle.plc_oblig.proofs.excess.any_own.Goals as goal
 
 pub returns-then-any_numbered : goal.returns-then-any_numbered
@@ -27,6 +27,5 @@ loop-step-preserved c =
 
 pub returns : goal.returns
 returns c =
-    sym (sym c.loop-step.invariant
-    ∙ none_left_any (is_large c.args.flow.now c.args.outline.now) (owns_of c.args.flow.now c.args.outline.now) c.loop-step.step c.loop-step.step c.args.flow.now.steps
-    (omega (arith, ap length c.as_slice-s-items.ensures, c.loop-step-test.false)))
+    none_passes (is_large c.args.flow.now c.args.outline.now) (owns_of c.args.flow.now c.args.outline.now)
+    c.loop-step.step c.loop-step.step c.args.flow.now.steps _ c.loop-step.invariant (omega (arith, ap length c.as_slice-s-items.ensures, c.loop-step-test.false))

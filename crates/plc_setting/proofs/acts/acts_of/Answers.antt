@@ -5,3 +5,7 @@ use Rattle.plc_setting.proofs.acts.acts_of.Goals as goal
 pub act_of-requires-clause-sorted : goal.act_of-requires-clause-sorted
 act_of-requires-clause-sorted c =
     sorted_at c.args.file.now c.args.prims.now c.loop-prim.prim-index _ c.requires.sorted (omega arith)
+
+pub push_marked-requires-clause-sorted : goal.push_marked-requires-clause-sorted
+push_marked-requires-clause-sorted c =
+    sorted_at c.args.file.now c.args.prims.now c.loop-prim.prim-index _ c.requires.sorted (omega arith)
