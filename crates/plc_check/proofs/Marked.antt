@@ -1,5 +1,5 @@
 -- The flow uses marks where the file does, and the file or the outline where the tokens do.
-use Rattle.std.proofs.Common.{◌≡◌, ◌||◌, List, sym, ap, ◌∙◌}
+use Rattle.std.proofs.Common.{◌||◌, List, sym, ap, ◌∙◌}
 use Rattle.plc_lex.specs.declared.token.Token.{Token}
 use Rattle.plc_lex.proofs.Unique.{same_tokens}
 use Rattle.plc_syntax.specs.Marks.{tokens_use_marks}

@@ -76,6 +76,11 @@ IsPassedLimit flow outline (Some limits.Obligations) = most limits.Obligations <
 IsPassedLimit flow outline (Some limits.Clauses) = HasFewObligations flow outline × HasLargeSet flow outline
 IsPassedLimit flow outline (Some other) = ⊥
 
+-- what is judged is handed on where its outline is within its limits; else the first limit that it passes is the answer
+abbrev pub IsWithinLimits : Judged → Result Judged What1 → Type 0
+IsWithinLimits j (Ok k) = (k ≡ j) × IsPassedLimit j.flow j.unit_outline None
+IsWithinLimits j (Err what) = IsPassedLimit j.flow j.unit_outline (Some what)
+
 -- what is judged is handed on where its outline is within its limits; else the first that is passed is told
 abbrev pub IsLimited : Judged → Result Judged LoadFault → Type 0
 IsLimited j (Ok k) = (k ≡ j) × IsPassedLimit j.flow j.unit_outline None

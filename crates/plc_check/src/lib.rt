@@ -9,6 +9,7 @@ mod judged;
 mod laws;
 mod limits;
 mod loading;
+mod outlined;
 mod tree;
 mod verdict;
 
@@ -16,4 +17,5 @@ pub use certified::{Certified, certify};
 pub use judged::{Judged, LoadFault};
 pub use laws::certificates_are_verified;
 pub use loading::{files_are_unique, files_fit, files_use_their_marks, load};
+pub use outlined::{OutlineFault, with_outline};
 pub use verdict::{Verdict, check};

@@ -2,7 +2,7 @@
 // counted, no set is made, and no memory is taken.
 ghost use Rattle.std.specs.Prelude.{◌≡◌};
 ghost use Rattle.plc_setting.specs.Fit.{Fits};
-ghost use Rattle.plc_check.specs.Refusals.{IsPassedLimit, IsLimited};
+ghost use Rattle.plc_check.specs.Refusals.{IsPassedLimit, IsWithinLimits, IsLimited};
 
 use crate::judged::{Judged, LoadFault};
 use plc_base::What1;
@@ -24,36 +24,45 @@ fn passed_limit(judged: &Judged) -> Option<What1>
     None
 }
 
-/// A refusal of what is judged, which ends here.
-fn refused(judged: Judged, fault: LoadFault) -> LoadFault
-    ensures { result ≡ fault }
+/// The limit that is passed; what is judged ends here.
+fn refused(judged: Judged, what: What1) -> What1
+    ensures { result ≡ what }
 {
     drop(judged);
-    fault
+    what
 }
 
 /// What is judged, handed on where no limit is passed.
-fn handed_on(judged: Judged, passed: Option<What1>) -> Result<Judged, LoadFault>
+fn handed_on(judged: Judged, passed: Option<What1>) -> Result<Judged, What1>
     requires { IsPassedLimit judged.flow judged.unit_outline passed }
-    ensures { IsLimited judged result }
+    ensures { IsWithinLimits judged result }
 {
     match passed {
         None => Ok(judged),
-        Some(what) => Err(refused(
-            judged,
-            LoadFault::Limit {
-                what,
-                count: what.most() + 1,
-            },
-        )),
+        Some(what) => Err(refused(judged, what)),
     }
 }
 
-/// What is judged, handed on where its outline is within its limits. It takes no memory.
+/// What is judged, handed on where its outline is within its limits; else the first that it passes. It takes no
+/// memory.
+pub(crate) fn within_limits(judged: Judged) -> Result<Judged, What1>
+    requires { Fits judged.flow judged.unit_outline }
+    ensures { IsWithinLimits judged result }
+{
+    let passed = passed_limit(&judged);
+    handed_on(judged, passed)
+}
+
+/// What `load` gives of what is judged.
 pub(crate) fn limited(judged: Judged) -> Result<Judged, LoadFault>
     requires { Fits judged.flow judged.unit_outline }
     ensures { IsLimited judged result }
 {
-    let passed = passed_limit(&judged);
-    handed_on(judged, passed)
+    match within_limits(judged) {
+        Ok(judged) => Ok(judged),
+        Err(what) => Err(LoadFault::Limit {
+            what,
+            count: what.most() + 1,
+        }),
+    }
 }

@@ -16,9 +16,12 @@ use Rattle.plc_cli.specs.Completeness.{files_of, AreTold, AreShort, NoneRose, Is
 use Rattle.plc_cli.specs.Completeness.{HasRoom, LacksRoom, Completeness, HonestRunsAreAnswered}
 use Rattle.plc_cli.specs.Files.{IsAnswerTo, IsPrintOf}
 use Rattle.plc_cli.specs.Reads.{IsUnread, IsDueForFile, IsDueForPair}
-use Rattle.plc_cli.specs.Requests.{Request, Check, Certify, Print, Verify, Replay, Sample}
+use Rattle.plc_cli.specs.Locations.{IsLocationOf}
+use Rattle.plc_cli.specs.Requests.{Request, Check, Certify, Print, Verify, Replay, Sample, Suggest, Locate}
 use Rattle.plc_cli.specs.Statuses.{unread, unwritten, no_memory}
+use Rattle.plc_cli.specs.Suggestions.{IsSuggestionOf}
 use Rattle.plc_cli.proofs.Statuses.{check_low, certify_low, print_low, verify_low, replay_low, sample_low}
+use Rattle.plc_cli.proofs.Statuses.{suggest_low, locate_low}
 
 -- ---- what is told of one file
 
@@ -153,6 +156,13 @@ module _ (old new : KnownFiles) (status : ℕ) (text : List ℕ) where
         (λ bytes more. IsReplayOf replay.reclaimer bytes more status text)
         (replay_low status text replay.reclaimer) (0, omega arith, refl) (1, omega arith, refl) replay.due)
     due_is (Some (Sample k n)) fine sample = inr (sample.answer, sample_low status text k n sample.answer)
+    due_is (Some (Suggest name)) fine due =
+        one_file (Some (Suggest name)) fine name (λ bytes. IsSuggestionOf bytes status text)
+        (suggest_low status text) (0, omega arith, refl) due
+    due_is (Some (Locate name claims)) fine due =
+        two_files (Some (Locate name claims)) fine name claims largest_file
+        (λ bytes more. IsLocationOf bytes more status text)
+        (locate_low status text) (0, omega arith, refl) (1, omega arith, refl) due
 
 -- ---- what is written
 

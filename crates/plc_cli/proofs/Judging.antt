@@ -32,7 +32,7 @@ use Rattle.plc_cli.proofs.Racing.{never_races}
 use Rattle.plc_cli.proofs.TwoReads.{told_is, unread_status}
 use Rattle.plc_cli.proofs.Verified as verified
 
-stuck_or_typed : (o : Observer) (s : Skeleton) (k i : ℕ) (fault : TypeFault) → IsStuckAt o s k i fault → HasTyping o s → ⊥
+pub stuck_or_typed : (o : Observer) (s : Skeleton) (k i : ℕ) (fault : TypeFault) → IsStuckAt o s k i fault → HasTyping o s → ⊥
 stuck_or_typed o s k i fault stuck typed = stuck.fails typed.0 typed.1.pretyping (typed.1.holding k i)
 
 -- what each thing of a list has has the one in its midst

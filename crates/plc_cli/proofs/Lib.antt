@@ -1,10 +1,13 @@
 pub mod Accepted
 pub mod Answering
 pub mod Completing
+pub mod Extending
 pub mod Judging
+pub mod Located
 pub mod Numbers
 pub mod Racing
 pub mod Serving
 pub mod Statuses
+pub mod Suggested
 pub mod TwoReads
 pub mod Verified

@@ -12,7 +12,7 @@ use Rattle.plc_check.specs.Loading.{IsFileOf}
 use Rattle.plc_check.proofs.Fitting.{all_files_fit}
 use Rattle.plc_cli.specs.Headline.{IsProved}
 
-typed_and_held_are_safe : TypedAndHeldProgramsAreSafe
+pub typed_and_held_are_safe : TypedAndHeldProgramsAreSafe
 typed_and_held_are_safe = held_suffices (claims_suffice true_claims_suffice true_claims) held_claims
 
 pub never_races : (bytes : List ℕ) (u : FileUnit) → IsFileOf bytes u → IsProved u → NeverRaces (flow_of u.file) u.observer

@@ -13,15 +13,20 @@ use Rattle.plc_parse.specs.declared.unit.Unit.{Unit as FileUnit}
 use Rattle.plc_cert.specs.declared.cert.Cert.{Cert}
 use Rattle.plc_check.specs.declared.certified.Certified.{Certified}
 use Rattle.plc_check.specs.declared.certified.Certified.TheVariants.{Yes, No}
+use Rattle.plc_suggest.specs.declared.suggestion.Suggestion.{Suggestion}
+use Rattle.plc_suggest.specs.declared.suggestion.Suggestion.TheVariants.{Found, Insufficient}
+use Rattle.plc_at.specs.declared.located.Located.{Located}
 use Rattle.plc_check.specs.Loading.{judged_of}
 use Rattle.plc_cli.specs.Certificates.{IsCertifiedAs, IsCertificateOf, IsCertificateJudged, IsCertificateAnswered, IsVerificationOf, certified_status}
 use Rattle.plc_cli.specs.Files.{IsAnsweredFile, IsTold, IsJudgedAs, IsAnswerTo, IsPrintedAs, IsPrintOf}
 use Rattle.plc_cli.specs.Samples.{IsSampledAs, IsSampleAnswer}
 use Rattle.plc_sample.specs.Sample.{sample_text}
-use Rattle.plc_cli.specs.Requests.{Request, Check, Certify, Print, Verify, Replay, Sample}
+use Rattle.plc_cli.specs.Locations.{AreClaimsAnswered, IsLocationAnswered, IsLocationOf}
+use Rattle.plc_cli.specs.Requests.{Request, Check, Certify, Print, Verify, Replay, Sample, Suggest, Locate}
 use Rattle.plc_cli.specs.Reads.{IsDueForFile, IsDueForPair}
 use Rattle.plc_cli.specs.Answer.{IsScheduleAnswered, IsReplayOf, IsDueFor, IsUnwritten, Ends, Outcome}
 use Rattle.plc_cli.specs.Statuses.{unwritten, no_memory, end_status}
+use Rattle.plc_cli.specs.Suggestions.{IsSuggestionAnswered, IsSuggestionOf, suggestion_status}
 use Rattle.plc_cli.specs.Verdicts.{verdict_status}
 use Rattle.plc_cli.proofs.TwoReads.{unread_status, unread_pair_status}
 
@@ -39,6 +44,10 @@ verdict_low (Unproved o set model) = omega arith
 certified_low : (certified : Certified) → certified_status certified ≤ 3
 certified_low (Yes cert) = omega arith
 certified_low (No verdict) = verdict_low verdict
+
+suggestion_low : (suggestion : Suggestion) → suggestion_status suggestion ≤ 3
+suggestion_low (Found spots) = omega arith
+suggestion_low (Insufficient step prim fault) = omega arith
 
 module _ (status : ℕ) (text : List ℕ) where
   -- a file is refused, or what is due for its unit has a low status
@@ -83,6 +92,29 @@ module _ (status : ℕ) (text : List ℕ) where
   pub sample_low : (k n : ℕ) → IsSampleAnswer k n status text → status ≤ 3
   sample_low k n = answered_low (λ u. IsSampledAs k n (judged_of u)) (λ u. told_low _ _ _ verdict_low) (sample_text k n)
 
+  suggested_low : (j : Judged) → IsSuggestionAnswered j status text → status ≤ 3
+  suggested_low j (inl many) = omega (arith, many.status_is)
+  suggested_low j (inr told) = told_low _ _ _ suggestion_low told.answer
+
+  pub suggest_low : (bytes : List ℕ) → IsSuggestionOf bytes status text → status ≤ 3
+  suggest_low bytes = answered_low (λ u. IsSuggestionAnswered (judged_of u)) (λ u. suggested_low (judged_of u)) bytes
+
+  claims_low : (j : Judged) (claims : List Located) → AreClaimsAnswered j claims status text → status ≤ 3
+  claims_low j claims (inl untyped) = omega (arith, untyped.status_is)
+  claims_low j claims (inr (inl unlocated)) = omega (arith, unlocated.status_is)
+  claims_low j claims (inr (inr (inl many))) = omega (arith, many.status_is)
+  claims_low j claims (inr (inr (inr (inl large)))) = omega (arith, large.status_is)
+  claims_low j claims (inr (inr (inr (inr located)))) = told_low _ _ _ verdict_low located.answer
+
+  location_low : (j : Judged) (second : List ℕ) → IsLocationAnswered j second status text → status ≤ 3
+  location_low j second (inl none) = omega (arith, none.status_is)
+  location_low j second (inr (inl none)) = omega (arith, none.status_is)
+  location_low j second (inr (inr read)) = claims_low j read.claims read.answer
+
+  pub locate_low : (bytes second : List ℕ) → IsLocationOf bytes second status text → status ≤ 3
+  locate_low bytes second =
+      answered_low (λ u. IsLocationAnswered (judged_of u) second) (λ u. location_low (judged_of u) second) bytes
+
   file_low : (old new : KnownFiles) (name : List ℕ) (Answers : List ℕ → Type 0) →
       ((bytes : List ℕ) → Answers bytes → status ≤ 3) → IsDueForFile old new name Answers status text → status ≤ 4
   file_low old new name Answers low (inl none) = omega (arith, unread_status status text _ _ _ _ _ _ none)
@@ -103,6 +135,8 @@ module _ (status : ℕ) (text : List ℕ) where
   due_low reclaimers (Some (Verify name certificate)) old new due = pair_low _ _ _ _ _ _ verify_low due
   due_low reclaimers (Some (Replay file schedule number)) old new replay = pair_low _ _ _ _ _ _ (replay_low replay.reclaimer) replay.due
   due_low reclaimers (Some (Sample k n)) old new sample = omega (arith, sample_low k n sample.answer)
+  due_low reclaimers (Some (Suggest name)) old new due = file_low _ _ _ _ suggest_low due
+  due_low reclaimers (Some (Locate name claims)) old new due = pair_low _ _ _ _ _ _ locate_low due
 
   module _ (reclaimers : List Meanings) (request : Option Request) (old new : KnownFiles) (due : IsDueFor reclaimers request old new status text) (sink sink_now : KnownSink) where
     low : status ≤ 4

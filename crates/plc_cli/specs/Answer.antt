@@ -1,7 +1,7 @@
 -- The status and the text that are due for words and files.
 use Rattle.std.specs.Prelude.{◌≡◌, ◌≢◌, ◌⊎◌, ◌<◌, ℕ, List}
 use Rattle.std.specs.Prelude.{[], length, Option, Some, None, slice_get}
-use Rattle.plc_base.specs.Limits.{largest_schedule, largest_certificate}
+use Rattle.plc_base.specs.Limits.{largest_file, largest_schedule, largest_certificate}
 use Rattle.plc_outside.specs.Known.{KnownFiles, KnownSink}
 use Rattle.plc_outside.specs.Outside.{Rose, Appends, AppendsPart}
 use Rattle.plc_check.specs.declared.judged.Judged.{Judged}
@@ -17,8 +17,10 @@ use Rattle.plc_texts.specs.Replays.{schedule_text, end_text}
 use Rattle.plc_cli.specs.Certificates.{IsCertificateOf, IsVerificationOf}
 use Rattle.plc_cli.specs.Files.{IsAnsweredFile, IsTold, IsAnswerTo, IsPrintOf}
 use Rattle.plc_cli.specs.Reads.{IsDueForFile, IsDueForPair}
-use Rattle.plc_cli.specs.Requests.{Request, Check, Certify, Print, Verify, Replay, Sample}
+use Rattle.plc_cli.specs.Locations.{IsLocationOf}
+use Rattle.plc_cli.specs.Requests.{Request, Check, Certify, Print, Verify, Replay, Sample, Suggest, Locate}
 use Rattle.plc_cli.specs.Samples.{IsSampleAnswer}
+use Rattle.plc_cli.specs.Suggestions.{IsSuggestionOf}
 use Rattle.plc_cli.specs.Statuses.{refused, bad_words, unwritten, no_memory, end_status}
 
 -- ---- the answer to the bytes of a file and of a schedule
@@ -88,6 +90,10 @@ IsDueFor reclaimers (Some (Verify name certificate)) old new status text =
 IsDueFor reclaimers (Some (Replay file schedule number)) old new status text =
     IsDueForReplay reclaimers old new file schedule number status text
 IsDueFor reclaimers (Some (Sample k n)) old new status text = IsDueForSample old new k n status text
+IsDueFor reclaimers (Some (Suggest name)) old new status text =
+    IsDueForFile old new name (λ bytes. IsSuggestionOf bytes status text) status text
+IsDueFor reclaimers (Some (Locate name claims)) old new status text =
+    IsDueForPair old new name claims largest_file (λ bytes second. IsLocationOf bytes second status text) status text
 
 -- the sink took a part of the text alone: its count rose or can't rise, and its room was less than the text
 pub record IsUnwritten (text : List ℕ) (old new : KnownSink) : Type 0 where

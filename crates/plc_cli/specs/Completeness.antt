@@ -12,8 +12,10 @@ use Rattle.plc_texts.specs.Refusals.{read_too_long, words_refused}
 use Rattle.plc_cli.specs.Answer.{IsReplayOf}
 use Rattle.plc_cli.specs.Certificates.{IsCertificateOf, IsVerificationOf}
 use Rattle.plc_cli.specs.Files.{IsAnswerTo, IsPrintOf}
-use Rattle.plc_cli.specs.Requests.{Request, Check, Certify, Print, Verify, Replay, Sample}
+use Rattle.plc_cli.specs.Locations.{IsLocationOf}
+use Rattle.plc_cli.specs.Requests.{Request, Check, Certify, Print, Verify, Replay, Sample, Suggest, Locate}
 use Rattle.plc_cli.specs.Samples.{IsSampleAnswer}
+use Rattle.plc_cli.specs.Suggestions.{IsSuggestionOf}
 use Rattle.plc_cli.specs.Statuses.{bad_words, unread, unwritten, no_memory}
 
 -- ---- the files among the words
@@ -27,6 +29,8 @@ files_of (Some (Print name)) = (name, largest_file) ∷ []
 files_of (Some (Verify name certificate)) = (name, largest_file) ∷ (certificate, largest_certificate) ∷ []
 files_of (Some (Replay file schedule number)) = (file, largest_file) ∷ (schedule, largest_schedule) ∷ []
 files_of (Some (Sample k n)) = []
+files_of (Some (Suggest name)) = (name, largest_file) ∷ []
+files_of (Some (Locate name claims)) = (name, largest_file) ∷ (claims, largest_file) ∷ []
 
 -- the contents are told
 abbrev pub AreTold : Option Request → KnownFiles → Type 0
@@ -58,6 +62,11 @@ IsAnswerOf reclaimers (Some (Replay file schedule number)) files status text =
     IsSomeAnd (slice_get reclaimers number) (λ reclaimer. IsSomeAnd (files.content file)
     (λ bytes. IsSomeAnd (files.content schedule) (λ second. IsReplayOf reclaimer bytes second status text)))
 IsAnswerOf reclaimers (Some (Sample k n)) files status text = IsSampleAnswer k n status text
+IsAnswerOf reclaimers (Some (Suggest name)) files status text =
+    IsSomeAnd (files.content name) (λ bytes. IsSuggestionOf bytes status text)
+IsAnswerOf reclaimers (Some (Locate name claims)) files status text =
+    IsSomeAnd (files.content name) (λ bytes. IsSomeAnd (files.content claims)
+    (λ second. IsLocationOf bytes second status text))
 
 -- the result is the status that is due, and the due text was written
 pub record IsAnswered (reclaimers : List Meanings) (request : Option Request) (files : KnownFiles)

@@ -8,8 +8,10 @@ use Rattle.plc_cli.specs.Requests.{asks_for_files, request_of}
 use Rattle.plc_cli.specs.Answer.{Outcome}
 use Rattle.plc_cli.specs.Completeness.{Completeness}
 use Rattle.plc_cli.specs.Headline.{Headline}
+use Rattle.plc_cli.specs.Locations.{LocatedRuns}
 use Rattle.plc_cli.specs.Served.{ServedReplays}
 use Rattle.plc_cli.specs.Statuses.{no_memory}
+use Rattle.plc_cli.specs.Suggestions.{Suggested}
 
 -- the names of its reclaimers, in this order
 abbrev pub own_names : List (List ℕ)
@@ -36,6 +38,8 @@ pub record RunsWithOwn (words : List (List ℕ)) (old new : KnownFiles) (sink si
   pub headline : Headline (request_of own_names words) old new result
   pub completeness : Completeness reclaimers (request_of own_names words) old new sink sink_now result
   pub served : ServedReplays reclaimers (request_of own_names words) old new sink sink_now result
+  pub suggested : Suggested (request_of own_names words) old new sink sink_now result
+  pub located : LocatedRuns (request_of own_names words) old new result
   pub untouched : asks_for_files (request_of own_names words) ≡ false → new ≡ old
   pub files_kept : FilesAreKept old new
   pub count_kept : sink.faults ≤ sink_now.faults

@@ -16,6 +16,8 @@ pub data Request : Type 0 where
   Verify : List ℕ → List ℕ → Request
   Replay : List ℕ → List ℕ → ℕ → Request
   Sample : ℕ → ℕ → Request
+  Suggest : List ℕ → Request
+  Locate : List ℕ → List ℕ → Request
 
 -- whether files are asked for: only a sample and words of no listed form ask for none
 abbrev pub asks_for_files : Option Request → Bool
@@ -26,13 +28,16 @@ asks_for_files (Some (Print file)) = true
 asks_for_files (Some (Verify file certificate)) = true
 asks_for_files (Some (Replay file schedule number)) = true
 asks_for_files (Some (Sample k n)) = false
+asks_for_files (Some (Suggest file)) = true
+asks_for_files (Some (Locate file claims)) = true
 
--- `check FILE`, `certify FILE` and `print FILE`
+-- `check FILE`, `certify FILE`, `print FILE` and `suggest FILE`
 abbrev pub request_of_two : List ℕ → List ℕ → Option Request
 request_of_two command file =
     if bytes_eq command (codes "check") then Some (Check file) else
     (if bytes_eq command (codes "certify") then Some (Certify file) else
-    (if bytes_eq command (codes "print") then Some (Print file) else None))
+    (if bytes_eq command (codes "print") then Some (Print file) else
+    (if bytes_eq command (codes "suggest") then Some (Suggest file) else None)))
 
 -- the number that a word spells in decimal, without a sign or zeros in front, among so many from the least on
 abbrev pub number_among : ℕ → ℕ → List ℕ → Option ℕ
@@ -50,11 +55,12 @@ sample_of copies line =
     option_and_then
     (λ k. option_map (λ n. Sample k n) (number_in 0 (sample_lines k) line)) (number_in 1 most_copies copies)
 
--- `verify FILE CERTIFICATE` and `sample K N`
+-- `verify FILE CERTIFICATE`, `locate FILE CLAIMS` and `sample K N`
 abbrev pub request_of_three : List ℕ → List ℕ → List ℕ → Option Request
 request_of_three command first second =
     if bytes_eq command (codes "verify") then Some (Verify first second) else
-    (if bytes_eq command (codes "sample") then sample_of first second else None)
+    (if bytes_eq command (codes "locate") then Some (Locate first second) else
+    (if bytes_eq command (codes "sample") then sample_of first second else None))
 
 -- `replay FILE SCHEDULE RECLAIMER`, where a reclaimer has this name; of those of one name the first counts
 abbrev pub request_of_four : List (List ℕ) → List ℕ → List ℕ → List ℕ → List ℕ → Option Request

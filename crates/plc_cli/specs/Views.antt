@@ -1,18 +1,36 @@
 -- What the program's requests, the contents that it read and a file that was loaded stand for.
-use Rattle.std.specs.Prelude.{ℕ, ◌<◌, ◌≤◌, List, [], ◌∷◌}
+use Rattle.std.specs.Prelude.{◌≡◌, ◌⊎◌, ℕ, ◌<◌, ◌≤◌, List, [], ◌∷◌, All, Result, Ok, Err}
+use Rattle.plc_base.specs.declared.limits.What1.{What1}
 use Rattle.plc_outside.specs.Known.{KnownFiles}
 use Rattle.plc_base.specs.Limits.{most_copies}
+use Rattle.plc_lex.specs.declared.token.Token.{Token}
+use Rattle.plc_lex.specs.Spelling.{AreTokensOf}
+use Rattle.plc_syntax.specs.Syntax.{kinds}
+use Rattle.plc_logic.specs.declared.clause.Outline.{Outline}
+use Rattle.plc_infer.specs.declared.typing.Typing.{Typing}
+use Rattle.plc_oblig.specs.Outlines.{HasFewObligations, HasSmallSets}
+use Rattle.plc_at.specs.declared.located.Located.{Located}
+use Rattle.plc_at.specs.Claims.{SpellClaims, ClaimsStopAt, ClaimFits}
 use Rattle.plc_parse.specs.declared.unit.Unit.{Unit as FileUnit}
 use Rattle.plc_check.specs.declared.judged.Judged.{Judged}
+use Rattle.plc_check.specs.Outlined.{outlined, IsOutlineLimit}
+use Rattle.plc_check.specs.Verdicts.{IsVerdictOn}
+use Rattle.plc_texts.specs.Claims.{claim_text}
+use Rattle.plc_texts.specs.Refusals.{limit_text}
 use Rattle.plc_sample.specs.Numbers.{sample_lines}
+use Rattle.plc_cli.specs.declared.answer.Answer.{Answer}
 use Rattle.plc_cli.specs.declared.words.Request.{Request as Asked}
 use Rattle.plc_cli.specs.declared.words.Request.TheVariants as asked
 use Rattle.plc_cli.specs.declared.reading.Content.{Content}
 use Rattle.plc_cli.specs.declared.reading.Content.TheVariants as one
 use Rattle.plc_cli.specs.declared.reading.Contents.{Contents}
 use Rattle.plc_cli.specs.declared.reading.Contents.TheVariants as two
-use Rattle.plc_cli.specs.Requests.{Request, Check, Certify, Print, Verify, Replay, Sample}
+use Rattle.plc_cli.specs.Files.{IsTold}
+use Rattle.plc_cli.specs.Locations.{AreNoTokens, AreNoClaims, IsUntypedAs, IsStrongestTypingOf, located_verdict_text}
+use Rattle.plc_cli.specs.Requests.{Request, Check, Certify, Print, Verify, Replay, Sample, Suggest, Locate}
 use Rattle.plc_cli.specs.Reads.{IsUnread, IsUnreadPair, IsRead, IsGivenPair, NoFaultBut, Gave, Only, reading}
+use Rattle.plc_cli.specs.Statuses.{refused}
+use Rattle.plc_cli.specs.Verdicts.{verdict_status}
 
 -- a request, with the bytes of its names
 abbrev pub request_view : Asked → Request
@@ -22,6 +40,8 @@ request_view (asked.Print file) = Print file.now
 request_view (asked.Verify file certificate) = Verify file.now certificate.now
 request_view (asked.Replay file schedule reclaimer) = Replay file.now schedule.now reclaimer
 request_view (asked.Sample copies line) = Sample copies line
+request_view (asked.Suggest file) = Suggest file.now
+request_view (asked.Locate file claims) = Locate file.now claims.now
 
 -- the reclaimer of a request is one of so many, and the numbers of a sample are those that a sample may have
 abbrev pub IsInRange : ℕ → Asked → Type 0
@@ -30,6 +50,8 @@ IsInRange count (asked.Certify file) = Unit {0}
 IsInRange count (asked.Print file) = Unit {0}
 IsInRange count (asked.Verify file certificate) = Unit {0}
 IsInRange count (asked.Replay file schedule reclaimer) = reclaimer < count
+IsInRange count (asked.Suggest file) = Unit {0}
+IsInRange count (asked.Locate file claims) = Unit {0}
 IsInRange count (asked.Sample copies line) = ((1 ≤ copies) × (copies ≤ most_copies)) × (line ≤ sample_lines copies)
 
 -- a read of a file of at most so many bytes gave these
@@ -54,3 +76,57 @@ AreContentsOf old new first second most (two.Unread answer) =
 -- the unit that was loaded
 abbrev pub unit_of : Judged → FileUnit
 unit_of j = record { file = j.flow.file; observer = j.observer; outline = j.unit_outline }
+
+-- ---- claims of locations
+
+-- tokens are no claims for this file, which is known at this place
+pub record AreNoClaimsIn (j : Judged) (ts : List Token) (status : ℕ) (text : List ℕ) : Type 0 where
+  pub place : ℕ
+  pub stops : ClaimsStopAt j.flow j.observer (kinds ts) place
+  pub status_is : status ≡ refused
+  pub text_is : text ≡ claim_text place
+
+-- the claims that tokens spell, or the answer where they spell none
+abbrev pub AreReadTokens : Judged → List Token → Result (List Located) Answer → Type 0
+AreReadTokens j ts (Ok claims) =
+    SpellClaims j.flow j.observer (kinds ts) claims × All (ClaimFits j.flow) claims
+AreReadTokens j ts (Err answer) = AreNoClaimsIn j ts answer.status answer.text.items
+
+-- the bytes spell tokens, which spell these claims
+pub record SpellFittingClaims (j : Judged) (second : List ℕ) (claims : List Located) : Type 0 where
+  pub tokens : List Token
+  pub spelled : AreTokensOf second tokens
+  pub read : SpellClaims j.flow j.observer (kinds tokens) claims
+  pub fit : All (ClaimFits j.flow) claims
+
+-- the claims that bytes spell, or the answer where they spell none
+abbrev pub AreReadClaims : Judged → List ℕ → Result (List Located) Answer → Type 0
+AreReadClaims j second (Ok claims) = SpellFittingClaims j second claims
+AreReadClaims j second (Err answer) =
+    AreNoTokens second answer.status answer.text.items ⊎ AreNoClaims j second answer.status answer.text.items
+
+-- the strongest typing, or the answer where there is none
+abbrev pub IsTypedOrTold : Judged → Result Typing Answer → Type 0
+IsTypedOrTold j (Ok typing) = IsStrongestTypingOf j typing.env
+IsTypedOrTold j (Err answer) = IsUntypedAs j answer.status answer.text.items
+
+-- the outline passes a limit, which is told
+pub record IsOutlineLimitTold (j : Judged) (outline : Outline) (status : ℕ) (text : List ℕ) : Type 0 where
+  pub what : What1
+  pub count : ℕ
+  pub limit : IsOutlineLimit j.flow outline what count
+  pub status_is : status ≡ refused
+  pub text_is : text ≡ limit_text what count
+
+-- it is within its limits, and any verdict is told that is right on the file with it
+pub record IsVerdictTold (j : Judged) (outline : Outline) (claims : List Located) (status : ℕ) (text : List ℕ) : Type 0
+  where
+    pub few : HasFewObligations j.flow outline
+    pub small : HasSmallSets j.flow outline
+    pub answer : IsTold (IsVerdictOn (outlined j outline)) verdict_status
+        (located_verdict_text (outlined j outline) claims) status text
+
+-- what is answered to claims by an outline that says what they need
+abbrev pub IsAnsweredWith : Judged → Outline → List Located → ℕ → List ℕ → Type 0
+IsAnsweredWith j outline claims status text =
+    IsOutlineLimitTold j outline status text ⊎ IsVerdictTold j outline claims status text

@@ -1,7 +1,8 @@
 //! The command line: `run` does all that the program does. It takes the words, reads the files that
 //! they name, and answers with a status and a text: the verdict on a file (`check`), its certificate
 //! (`certify`), whether a certificate is valid for it (`verify`), its canonical text (`print`), what a
-//! recorded schedule leads to (`replay`), or the verdict on a file that is made (`sample`).
+//! recorded schedule leads to (`replay`), the verdict on a file that is made (`sample`), the claims that
+//! its steps lack (`suggest`), or that claims of locations are true in its runs (`locate`).
 //!
 //! # What a 0 of `check` means
 //!
@@ -36,6 +37,29 @@
 //! `use epoch`, and under one that acts as `epoch` where it has no `use hazard`. So it is of `Hazard` and
 //! `Epoch`, whose `new` promises how they act; `run_with_own` is `run` with these two, `leak` and `list`.
 //!
+//! # What a 0 of `suggest` means
+//!
+//! The claims that `suggest` writes make the file's steps typable, and each of them is needed. `run` promises, as the
+//! clause `suggested`, that where it ends with 0 for the words `suggest` and a name, the bytes that the read of that
+//! name gave spell a program that has a typing once a claim `active` stands at each spot that was written, and none
+//! where one of these is left out, whatever is done with the others. There may be a smaller set elsewhere. Where it
+//! ends with 1, no claims in front of steps give the program a typing; one within an atomic block may.
+//!
+//! No outline is judged: a claim that is suggested need not be true, which is for `check` to say of the file that has
+//! it.
+//!
+//! # What a 0 of `locate` means
+//!
+//! A claim says that at a label a pointer local that isn't null stands in certain locations of the file's observer,
+//! such as those of a node that isn't retired. `run` promises, as the clause `located`, that where it ends with 0 for
+//! the words `locate` and two names, the bytes that the reads gave spell a program and claims for it, that no run of
+//! the program has a pointer race or a second retire, and that each claim is true in every state of every run. So no
+//! run races, as after a 0 of `check`, though it is the extended outline that holds: what the types leave open is added
+//! to the file's own, which alone may not hold.
+//!
+//! Where it ends with 1 the file has no typing, the extended outline doesn't hold, or a claim follows neither from its
+//! type nor from an item that could be added (`unlocated`), which is no proof that it isn't true.
+//!
 //! # Where the outside has no fault
 //!
 //! The clause `completeness` says when nothing but the files decides. Where their contents are told and short enough,
@@ -50,6 +74,7 @@ mod asking;
 mod certifying;
 mod checking;
 mod laws;
+mod locating;
 mod own;
 mod printing;
 mod program;
@@ -57,6 +82,7 @@ mod reading;
 mod replaying;
 mod sampling;
 mod status;
+mod suggesting;
 mod verifying;
 mod words;
 

@@ -6,16 +6,20 @@ ghost use Rattle.plc_cli.specs.Reads.{FilesAreKept};
 ghost use Rattle.plc_cli.specs.Answer.{IsDueFor, Outcome};
 ghost use Rattle.plc_cli.specs.Completeness.{Completeness};
 ghost use Rattle.plc_cli.specs.Headline.{Headline};
+ghost use Rattle.plc_cli.specs.Locations.{LocatedRuns};
 ghost use Rattle.plc_cli.specs.Served.{ServedReplays};
+ghost use Rattle.plc_cli.specs.Suggestions.{Suggested};
 
 use crate::answer::{Answer, refused_words};
 use crate::asking::answer_file;
 use crate::certifying::ForCertificate;
 use crate::checking::ForVerdict;
+use crate::locating::locate_file;
 use crate::printing::ForText;
 use crate::replaying::replay_file;
 use crate::sampling::judge_sample;
 use crate::status::{NO_MEMORY, UNWRITTEN};
+use crate::suggesting::ForSuggestions;
 use crate::verifying::verify_file;
 use crate::words::{Request, requested};
 use plc_outside::{Files, Sink, SinkFault, write_text};
@@ -51,6 +55,8 @@ fn answer_to<F: Files>(
             },
         ) => replay_file(alloc, files, file, schedule, &mut reclaimers[reclaimer]),
         Some(Request::Sample { copies, line }) => judge_sample(alloc, copies, line),
+        Some(Request::Suggest { file }) => answer_file(alloc, files, file, ForSuggestions),
+        Some(Request::Locate { file, claims }) => locate_file(alloc, files, file, claims),
         None => refused_words(alloc),
     }
 }
@@ -59,8 +65,8 @@ fn answer_to<F: Files>(
 ///
 /// `words` are those after the program's name, and `reclaimers` those that a replay may ask for by name;
 /// of those of one name the first counts, and all are dropped at the end. The statuses and the causes of
-/// each are in docs/formats.md; what a 0 of `check` means, what `replay` rules out and when the contents of
-/// the files alone decide stands at the head of this crate, and in docs/runs.md.
+/// each are in docs/formats.md; what a 0 of `check`, of `suggest` and of `locate` means, what `replay` rules out and
+/// when the contents of the files alone decide stands at the head of this crate, and in docs/runs.md.
 pub fn run<F: Files, S: Sink>(
     alloc: Global,
     words: &[String],
@@ -79,6 +85,10 @@ pub fn run<F: Files, S: Sink>(
     ensures served { ServedReplays (map meanings reclaimers.items)
         (request_of (map named reclaimers.items) (map string_bytes words.now))
         (F.known files.old) (F.known files.new) (S.known out.old) (S.known out.new) result }
+    ensures suggested { Suggested (request_of (map named reclaimers.items) (map string_bytes words.now))
+        (F.known files.old) (F.known files.new) (S.known out.old) (S.known out.new) result }
+    ensures located { LocatedRuns (request_of (map named reclaimers.items) (map string_bytes words.now))
+        (F.known files.old) (F.known files.new) result }
     ensures untouched { asks_for_files (request_of (map named reclaimers.items) (map string_bytes words.now)) ≡ false
         → F.known files.new ≡ F.known files.old }
     ensures files_kept { FilesAreKept (F.known files.old) (F.known files.new) }

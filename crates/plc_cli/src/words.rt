@@ -41,6 +41,15 @@ pub(crate) enum Request<'a> {
         copies: u8,
         line: u16,
     },
+    /// The claims that a file lacks.
+    Suggest {
+        file: &'a str,
+    },
+    /// That claims of locations are true in a file's program, where that can be shown.
+    Locate {
+        file: &'a str,
+        claims: &'a str,
+    },
 }
 
 /// A command with one file.
@@ -52,6 +61,7 @@ fn request_of_two<'a>(command: &str, file: &'a str) -> Option<Request<'a>>
         "check" => Some(Request::Check { file }),
         "certify" => Some(Request::Certify { file }),
         "print" => Some(Request::Print { file }),
+        "suggest" => Some(Request::Suggest { file }),
         _ => None,
     }
 }
@@ -78,7 +88,7 @@ fn sample_of<'a>(copies: &str, line: &str) -> Option<Request<'a>>
     })
 }
 
-/// A command with a file and its certificate, or with the numbers of a sample.
+/// A command with a file and its certificate or claims of locations, or with the numbers of a sample.
 fn request_of_three<'a>(command: &str, first: &'a str, second: &'a str) -> Option<Request<'a>>
     ensures asks { option_map request_view result ≡ request_of_three command.now first.now second.now }
     ensures in_range { (count : ℕ) → IfSome result (IsInRange count) }
@@ -87,6 +97,10 @@ fn request_of_three<'a>(command: &str, first: &'a str, second: &'a str) -> Optio
         "verify" => Some(Request::Verify {
             file: first,
             certificate: second,
+        }),
+        "locate" => Some(Request::Locate {
+            file: first,
+            claims: second,
         }),
         "sample" => sample_of(first, second),
         _ => None,

@@ -28,6 +28,9 @@ module _ (o : Observer) (first e : Env) (prims : List Primitive) (i : ℕ) (d : 
   pub found : (f : TypeFault) → Some f ≡ fault_of e (get_or prims i d) → fault_at o first prims i ≡ Some f
   found f h = here ∙ sym h
 
+  pub failed : is_none (fault_of e (get_or prims i d)) ≡ false → is_none (fault_at o first prims i) ≡ false
+  failed h = ap is_none here ∙ h
+
   pub passed : ((j : ℕ) → j < i → fault_at o first prims j ≡ None) → None ≡ fault_of e (get_or prims i d) → (j : ℕ) → j < i + 1 → fault_at o first prims j ≡ None
   passed before h = below_more (λ (j : ℕ). fault_at o first prims j ≡ None) i before (here ∙ sym h)
 

@@ -1,16 +1,21 @@
 -- What the index of a program's steps has of a point: each step that leaves the point, and steps alone.
-use Rattle.std.proofs.Common.{◌≡◌, ℕ, zero, suc, ◌+◌, ◌<◌, ◌≤◌, Bool, true, false, Some, List, [], ◌∷◌, length, sym, ap, subst, ◌∙◌, arith, inl, inr}
+use Rattle.std.proofs.Common.{◌≡◌, ℕ, zero, suc, ◌+◌, ◌<◌, ◌≤◌, Bool, true, false, Some, List, [], ◌∷◌, length, set, sym, ap, subst, ◌∙◌, arith, inl, inr}
 use Rattle.std.specs.Prelude.{◌==◌, if◌then◌else◌, slice_get, option_map}
 use Rattle.std.proofs.lemmas.Bool.{eq-eqb}
 use Rattle.std.proofs.lemmas.List.{length-map}
 use Rattle.std.proofs.lemmas.Option.{slice_get-map, slice_get-get_or, slice_get_within}
 use Rattle.plc_base.specs.declared.ids.PointId.{PointId}
+use Rattle.plc_auto.specs.declared.observer.Observer.{Observer}
+use Rattle.plc_type.specs.declared.env.Env.{Env}
 use Rattle.plc_flow.specs.StepsByPoint.{places_from}
 use Rattle.plc_infer.specs.declared.program.Edge.{Edge}
 use Rattle.plc_infer.specs.declared.program.Program.{Program}
 use Rattle.plc_infer.specs.Programs.{program_of, passage_at, first_points, IsProgram}
-use Rattle.plc_infer.specs.WorkLists.{Among}
-use Rattle.plc_infer.proofs.Programs.{steps_length, step_at, step_from, from_point, no_edge}
+use Rattle.plc_infer.specs.Graphs.{graph_of}
+use Rattle.plc_infer.specs.Starts.{starts_of}
+use Rattle.plc_infer.specs.WorkLists.{Among, UnderWay}
+use Rattle.plc_infer.proofs.Listed.{taken}
+use Rattle.plc_infer.proofs.Programs.{steps_length, step_at, step_from, from_point, no_edge, program_laws}
 
 -- ---- places in a list of points
 
@@ -67,3 +72,13 @@ leaving_all p at k small from =
 
 pub leaving_known : (p : Program) (at k : ℕ) → Among (places_from 0 at (first_points p)) k → k < length (program_of p).passages
 leaving_known p at k a = let h = places_below 0 at (first_points p) k a in omega (arith, h, firsts_length p, steps_length p)
+
+-- a point is taken, and the index has the steps that leave it
+pub leaving_taken : (o : Observer) (p : Program) → IsProgram (program_of p) → (asked : ℕ → Env → Type 0) (envs : List Env) (at : ℕ) (queue left steps : List ℕ) (marks unmarked : List Bool)
+    → UnderWay (graph_of o (program_of p)) asked (starts_of o (program_of p)) envs queue marks [] → queue ≡ at ∷ left → unmarked ≡ set marks at false → steps ≡ places_from 0 at (first_points p)
+    → UnderWay (graph_of o (program_of p)) asked (starts_of o (program_of p)) envs left unmarked steps
+leaving_taken o p well asked envs at queue left steps marks unmarked u q m row =
+    let graph = graph_of o (program_of p) in
+    let starts = starts_of o (program_of p) in
+    let before : UnderWay graph asked starts envs (at ∷ left) marks [] = subst (λ (xs : List ℕ). UnderWay graph asked starts envs xs marks []) q u in
+    rw (m, row) (taken graph (program_laws o (program_of p) well) asked starts envs at left marks (places_from 0 at (first_points p)) before (leaving_all p at) (leaving_known p at))

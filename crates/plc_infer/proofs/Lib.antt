@@ -8,3 +8,5 @@ pub mod Programs
 pub mod Points
 pub mod Flows
 pub mod Failing
+pub mod Noted
+pub mod Trying

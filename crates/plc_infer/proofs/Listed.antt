@@ -3,8 +3,8 @@ use Rattle.std.proofs.Common.{◌≡◌, ◌≢◌, ℕ, zero, suc, ◌+◌, ◌
 use Rattle.std.specs.Prelude.{◌⊎◌}
 use Rattle.std.proofs.lemmas.Bool.{cases_eq}
 use Rattle.std.proofs.lemmas.List.{get_or-replicate, length-replicate, length_push}
-use Rattle.plc_infer.specs.Iteration.{Graph, Laws, env_at, Shaped, Stays, IsStrongest, total}
-use Rattle.plc_infer.specs.WorkLists.{Among, numbers, is_marked, Puts, UnderWay, Looked, Gains}
+use Rattle.plc_infer.specs.Iteration.{Graph, Laws, env_at, Shaped, Stays, Rising, IsStrongest, total}
+use Rattle.plc_infer.specs.WorkLists.{Among, numbers, is_marked, Puts, Settled, Unasked, UnderWay, Looked, Gains}
 use Rattle.plc_infer.proofs.Lists.{among_first, among_last, among_numbers, numbers_below}
 use Rattle.plc_infer.proofs.Climb.{rising_start, rising_raised, total_raised, led_fits}
 
@@ -54,7 +54,7 @@ put_length p queue queue' marks marks' (inr x) = let e = ap length x.0 ∙ lengt
 
 module _ {E : Type 0} (g : Graph E) (laws : Laws g) where
   -- all points are on the list
-  pub begun : (starts : List E) (queue : List ℕ) (marks : List Bool) → Shaped g starts → queue ≡ numbers g.points → marks ≡ replicate g.points true → UnderWay g starts starts queue marks []
+  pub begun : (starts : List E) (queue : List ℕ) (marks : List Bool) → Shaped g starts → queue ≡ numbers g.points → marks ≡ replicate g.points true → UnderWay g Unasked starts starts queue marks []
   begun starts queue marks s q m = record {
     rising = rising_start g laws starts s;
     count = ap length m ∙ length-replicate g.points true;
@@ -72,10 +72,31 @@ module _ {E : Type 0} (g : Graph E) (laws : Laws g) where
       small_of : (p : ℕ) → is_marked (replicate g.points true) p ≡ true → p < g.points
       small_of p h = past g.points p h
 
+  -- no point is on the list, and some steps are to be looked at
+  pub begun_with : (asked : ℕ → E → Type 0) (starts envs : List E) (queue : List ℕ) (marks : List Bool) (todo : List ℕ) → Rising g starts envs → queue ≡ [] → marks ≡ replicate g.points false
+      → ((k : ℕ) → Among todo k → k < g.steps) → ((k : ℕ) → k < g.steps → Among todo k ⊎ Settled g asked envs k) → UnderWay g asked starts envs queue marks todo
+  begun_with asked starts envs queue marks todo r q m known rest = record {
+    rising = r;
+    count = ap length m ∙ length-replicate g.points false;
+    points = λ p a. absurd (subst (λ (xs : List ℕ). Among xs p) q a);
+    queued = λ p h. absurd (none g.points p (subst (λ (ms : List Bool). is_marked ms p ≡ true) m h));
+    steps = known;
+    left = λ k small. swap k (rest k small);
+  }
+    where
+      none : (n p : ℕ) → get_or (replicate n false) p false ≡ true → ⊥
+      none zero p h = unmarked _ refl h
+      none (suc n) zero h = unmarked _ refl h
+      none (suc n) (suc p) h = none n p h
+
+      swap : (k : ℕ) → Among todo k ⊎ Settled g asked envs k → Settled g asked envs k ⊎ (is_marked marks (g.from k) ≡ true) ⊎ Among todo k
+      swap k (inl a) = inr (inr a)
+      swap k (inr s) = inl s
+
   -- a point is taken, and the steps that leave it are to be looked at
-  pub taken : (starts envs : List E) (p : ℕ) (queue : List ℕ) (marks : List Bool) (steps : List ℕ) → UnderWay g starts envs (p ∷ queue) marks [] → ((k : ℕ) → k < g.steps → g.from k ≡ p → Among steps k) → ((k : ℕ) → Among steps k → k < g.steps)
-      → UnderWay g starts envs queue (set marks p false) steps
-  taken starts envs p queue marks steps u all in_steps = record {
+  pub taken : (asked : ℕ → E → Type 0) (starts envs : List E) (p : ℕ) (queue : List ℕ) (marks : List Bool) (steps : List ℕ) → UnderWay g asked starts envs (p ∷ queue) marks [] → ((k : ℕ) → k < g.steps → g.from k ≡ p → Among steps k) → ((k : ℕ) → Among steps k → k < g.steps)
+      → UnderWay g asked starts envs queue (set marks p false) steps
+  taken asked starts envs p queue marks steps u all in_steps = record {
     rising = u.rising;
     count = length-set marks p false ∙ u.count;
     points = λ q a. u.points q (inr a);
@@ -95,28 +116,31 @@ module _ {E : Type 0} (g : Graph E) (laws : Laws g) where
       others q h (inl e) = absurd (unmarked _ (get_or-set_same marks p false false small) (subst (λ (i : ℕ). is_marked (set marks p false) i ≡ true) e h))
       others q h (inr ne) = tail q ne (u.queued q (sym (get_or-set_other marks p q false false ne) ∙ h))
 
-      kept : (k : ℕ) → k < g.steps → Stays g envs k ⊎ (is_marked marks (g.from k) ≡ true) ⊎ Among [] k → (g.from k ≡ p) ⊎ (g.from k ≢ p)
-          → Stays g envs k ⊎ (is_marked (set marks p false) (g.from k) ≡ true) ⊎ Among steps k
+      kept : (k : ℕ) → k < g.steps → Settled g asked envs k ⊎ (is_marked marks (g.from k) ≡ true) ⊎ Among [] k → (g.from k ≡ p) ⊎ (g.from k ≢ p)
+          → Settled g asked envs k ⊎ (is_marked (set marks p false) (g.from k) ≡ true) ⊎ Among steps k
       kept k within h (inl e) = inr (inr (all k within e))
       kept k within (inl h) (inr ne) = inl h
       kept k within (inr (inl h)) (inr ne) = inr (inl (get_or-set_other marks p (g.from k) false false ne ∙ h))
       kept k within (inr (inr h)) (inr ne) = absurd h
 
-  -- no point is left
-  pub ended : (starts envs : List E) (marks : List Bool) → UnderWay g starts envs [] marks [] → IsStrongest g starts envs
-  ended starts envs marks u = record {
-    pretyping = record { shaped = u.rising.shaped; above = u.rising.above; stays = λ k small. stay k (u.left k small) };
+  -- no point is left: each step is settled
+  pub settled : (asked : ℕ → E → Type 0) (starts envs : List E) (marks : List Bool) → UnderWay g asked starts envs [] marks [] → (k : ℕ) → k < g.steps → Settled g asked envs k
+  settled asked starts envs marks u k small = settle (u.left k small)
+    where
+      settle : Settled g asked envs k ⊎ (is_marked marks (g.from k) ≡ true) ⊎ Among [] k → Settled g asked envs k
+      settle (inl h) = h
+      settle (inr (inl h)) = absurd (u.queued (g.from k) h)
+      settle (inr (inr h)) = absurd h
+
+  pub ended : (asked : ℕ → E → Type 0) (starts envs : List E) (marks : List Bool) → UnderWay g asked starts envs [] marks [] → IsStrongest g starts envs
+  ended asked starts envs marks u = record {
+    pretyping = record { shaped = u.rising.shaped; above = u.rising.above; stays = λ k small. (settled asked starts envs marks u k small).0 };
     below_all = u.rising.below_all;
   }
-    where
-      stay : (k : ℕ) → Stays g envs k ⊎ (is_marked marks (g.from k) ≡ true) ⊎ Among [] k → Stays g envs k
-      stay k (inl h) = h
-      stay k (inr (inl h)) = absurd (u.queued (g.from k) h)
-      stay k (inr (inr h)) = absurd h
 
-  -- a step leads to no more than its last point has
-  passed_over : (starts envs : List E) (queue : List ℕ) (marks : List Bool) (k : ℕ) (todo : List ℕ) → UnderWay g starts envs queue marks (k ∷ todo) → Stays g envs k → UnderWay g starts envs queue marks todo
-  passed_over starts envs queue marks k todo u h = record {
+  -- a step is settled as it is
+  passed_over : (asked : ℕ → E → Type 0) (starts envs : List E) (queue : List ℕ) (marks : List Bool) (k : ℕ) (todo : List ℕ) → UnderWay g asked starts envs queue marks (k ∷ todo) → Settled g asked envs k → UnderWay g asked starts envs queue marks todo
+  passed_over asked starts envs queue marks k todo u h = record {
     rising = u.rising;
     count = u.count;
     points = u.points;
@@ -125,10 +149,10 @@ module _ {E : Type 0} (g : Graph E) (laws : Laws g) where
     left = λ j small. kept j (u.left j small);
   }
     where
-      kept : (j : ℕ) → Stays g envs j ⊎ (is_marked marks (g.from j) ≡ true) ⊎ Among (k ∷ todo) j → Stays g envs j ⊎ (is_marked marks (g.from j) ≡ true) ⊎ Among todo j
+      kept : (j : ℕ) → Settled g asked envs j ⊎ (is_marked marks (g.from j) ≡ true) ⊎ Among (k ∷ todo) j → Settled g asked envs j ⊎ (is_marked marks (g.from j) ≡ true) ⊎ Among todo j
       kept j (inl x) = inl x
       kept j (inr (inl x)) = inr (inl x)
-      kept j (inr (inr (inl e))) = inl (subst (Stays g envs) e h)
+      kept j (inr (inr (inl e))) = inl (subst (Settled g asked envs) e h)
       kept j (inr (inr (inr a))) = inr (inr a)
 
   module _ (envs : List E) (k : ℕ) (small : k < g.steps) (s : Shaped g envs) where
@@ -174,9 +198,9 @@ module _ {E : Type 0} (g : Graph E) (laws : Laws g) where
         subst (λ (e : E). g.below (g.after k e) (env_at g new (g.to k)) ≡ true) (sym (there (g.from k) ne)) at_k
 
   -- a step raised its last point, which is on the list now
-  went_up : (starts envs : List E) (queue queue' : List ℕ) (marks marks' : List Bool) (k : ℕ) (todo : List ℕ) → Shaped g starts → UnderWay g starts envs queue marks (k ∷ todo) → Puts (g.to k) queue queue' marks marks'
-      → UnderWay g starts (set envs (g.to k) (g.joined (env_at g envs (g.to k)) (g.after k (env_at g envs (g.from k))))) queue' marks' todo
-  went_up starts envs queue queue' marks marks' k todo first u x = record {
+  went_up : (asked : ℕ → E → Type 0) (starts envs : List E) (queue queue' : List ℕ) (marks marks' : List Bool) (k : ℕ) (todo : List ℕ) → Shaped g starts → UnderWay g asked starts envs queue marks (k ∷ todo) → Puts (g.to k) queue queue' marks marks' → asked k (env_at g envs (g.from k))
+      → UnderWay g asked starts (set envs (g.to k) (g.joined (env_at g envs (g.to k)) (g.after k (env_at g envs (g.from k))))) queue' marks' todo
+  went_up asked starts envs queue queue' marks marks' k todo first u x given = record {
     rising = rising_raised g laws starts envs k small first u.rising;
     count = put_count (g.to k) queue queue' marks marks' x ∙ u.count;
     points = put_points (g.to k) g.points queue queue' marks marks' (laws.to_in k small) x u.points;
@@ -194,20 +218,27 @@ module _ {E : Type 0} (g : Graph E) (laws : Laws g) where
       mark_in : g.to k < length marks
       mark_in = subst (λ (n : ℕ). g.to k < n) (sym u.count) (laws.to_in k small)
 
-      kept : (j : ℕ) → j < g.steps → g.from j ≢ g.to k → Stays g envs j ⊎ (is_marked marks (g.from j) ≡ true) ⊎ Among (k ∷ todo) j
-          → Stays g (new envs k small u.rising.shaped) j ⊎ (is_marked marks' (g.from j) ≡ true) ⊎ Among todo j
-      kept j within ne (inl h) = inl (stays_still envs k small u.rising.shaped j within ne h (cases_eq (g.to j) (g.to k)))
+      -- what is asked of a step's first environment is what was asked of it before
+      asked_still : (j : ℕ) → g.from j ≢ g.to k → asked j (env_at g envs (g.from j)) → asked j (env_at g (new envs k small u.rising.shaped) (g.from j))
+      asked_still j ne h = subst (asked j) (sym (there envs k small u.rising.shaped (g.from j) ne)) h
+
+      now : g.from k ≢ g.to k → Settled g asked (new envs k small u.rising.shaped) k
+      now ne = (stays_now envs k small u.rising.shaped ne, asked_still k ne given)
+
+      kept : (j : ℕ) → j < g.steps → g.from j ≢ g.to k → Settled g asked envs j ⊎ (is_marked marks (g.from j) ≡ true) ⊎ Among (k ∷ todo) j
+          → Settled g asked (new envs k small u.rising.shaped) j ⊎ (is_marked marks' (g.from j) ≡ true) ⊎ Among todo j
+      kept j within ne (inl h) = inl (stays_still envs k small u.rising.shaped j within ne h.0 (cases_eq (g.to j) (g.to k)), asked_still j ne h.1)
       kept j within ne (inr (inl h)) = inr (inl (put_marks (g.to k) (g.from j) queue queue' marks marks' mark_in x h))
-      kept j within ne (inr (inr (inl e))) = inl (subst (Stays g (new envs k small u.rising.shaped)) e (stays_now envs k small u.rising.shaped (λ same. ne (subst (λ (i : ℕ). g.from i ≡ g.to k) e same))))
+      kept j within ne (inr (inr (inl e))) = inl (subst (Settled g asked (new envs k small u.rising.shaped)) e (now (λ same. ne (subst (λ (i : ℕ). g.from i ≡ g.to k) e same))))
       kept j within ne (inr (inr (inr a))) = inr (inr a)
 
   -- one step less to be looked at
-  pub looked : (starts envs new : List E) (queue queue' : List ℕ) (marks marks' : List Bool) (k : ℕ) (todo : List ℕ) → Shaped g starts → UnderWay g starts envs queue marks (k ∷ todo) → Looked g k envs new queue queue' marks marks'
-      → UnderWay g starts new queue' marks' todo
-  looked starts envs new queue queue' marks marks' k todo first u (inl x) =
-      rw (x.0.1, x.1, x.2) (passed_over starts envs queue marks k todo u x.0.0)
-  looked starts envs new queue queue' marks marks' k todo first u (inr x) =
-      rw x.0.1 (went_up starts envs queue queue' marks marks' k todo first u x.1)
+  pub looked : (asked : ℕ → E → Type 0) (starts envs new : List E) (queue queue' : List ℕ) (marks marks' : List Bool) (k : ℕ) (todo : List ℕ) → Shaped g starts → UnderWay g asked starts envs queue marks (k ∷ todo) → Looked g k envs new queue queue' marks marks' → asked k (env_at g envs (g.from k))
+      → UnderWay g asked starts new queue' marks' todo
+  looked asked starts envs new queue queue' marks marks' k todo first u (inl x) given =
+      rw (x.0.1, x.1, x.2) (passed_over asked starts envs queue marks k todo u (x.0.0, given))
+  looked asked starts envs new queue queue' marks marks' k todo first u (inr x) given =
+      rw x.0.1 (went_up asked starts envs queue queue' marks marks' k todo first u x.1 given)
 
   pub gains : (envs new : List E) (queue queue' : List ℕ) (marks marks' : List Bool) (k : ℕ) → k < g.steps → Shaped g envs → Looked g k envs new queue queue' marks marks' → Gains g envs new queue queue'
   gains envs new queue queue' marks marks' k small s (inl x) = let e = ap (total g) x.0.1 in let l = ap length x.1 in omega arith

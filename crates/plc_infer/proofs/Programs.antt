@@ -40,6 +40,9 @@ step_read p k small = get_or_default p.steps.now k no_edge (step_at p k) small
 pub step_from : (p : Program) (k : ℕ) → k < length p.steps.now → (passage_at (program_of p) k).from ≡ (step_at p k).from.0
 step_from p k small = ap (λ (x : Passage). x.from) (step_is p k (step_at p k) small (step_read p k small))
 
+pub step_to : (p : Program) (k : ℕ) → k < length p.steps.now → (passage_at (program_of p) k).to ≡ (step_at p k).to.0
+step_to p k small = ap (λ (x : Passage). x.to) (step_is p k (step_at p k) small (step_read p k small))
+
 pub from_point : (p : Program) (k : ℕ) → IsProgram (program_of p) → k < length p.steps.now → (step_at p k).from.0 < length (program_of p).locals
 from_point p k well small = subst (λ (n : ℕ). n < length (program_of p).locals) (step_from p k small) (well.from_in k (subst (λ (n : ℕ). k < n) (sym (steps_length p)) small))
 
@@ -128,3 +131,12 @@ module _ (o : Observer) (p : Program) (envs : List Env) (k : ℕ) (x : Edge) (we
       let made : c ≡ env_join (env_at envs x.to.0) (led o (env_at envs x.from.0) x.prims.now) = join ∙ ap (λ (e : Env). env_join e (led o a x.prims.now)) to ∙ ap (λ (e : Env). env_join (env_at envs x.to.0) (led o e x.prims.now)) from in
       let here : Raised o envs new (edge_of x) = (below, made_new ∙ ap (slice_set envs x.to.0) made) in
       subst (Raised o envs new) (sym (step_is p k x small is)) here
+
+-- the step that the code reads has both its points
+module _ (o : Observer) (p : Program) (envs : List Env) (k : ℕ) (well : IsProgram (program_of p))
+    (shaped : Shaped (graph_of o (program_of p)) envs) (small : k < length p.steps.now) where
+  pub from_inside : (step_at p k).from.0 < length envs
+  from_inside = from_within o p envs k (step_at p k) well shaped small (step_read p k small)
+
+  pub to_inside : (step_at p k).to.0 < length envs
+  to_inside = to_within o p envs k (step_at p k) well shaped small (step_read p k small)

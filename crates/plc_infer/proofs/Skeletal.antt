@@ -20,6 +20,9 @@ use Rattle.plc_infer.specs.Iteration as graph
 use Rattle.plc_infer.specs.Programs.{passage_at, some_passage, IsProgram}
 use Rattle.plc_infer.specs.Starts.{start_at, starts_of}
 use Rattle.plc_infer.specs.Graphs.{total, graph_of}
+use Rattle.plc_infer.specs.WorkLists.{Settled}
+use Rattle.plc_infer.specs.Trials.{MeetsAll}
+use Rattle.plc_infer.specs.Resuming.{IsBegun, StepIsTyped}
 use Rattle.plc_infer.proofs.Environments.{fits_is, is_fits, length_of}
 use Rattle.plc_infer.proofs.Climb.{stuck_at}
 use Rattle.plc_infer.proofs.Lists.{table_length, table_at}
@@ -128,13 +131,17 @@ module _ (order : EnvironmentsAreOrdered) (rules : RulesKeepOrder) (o : Observer
     step_of : (k : ℕ) → k < length s.passages → slice_get s.passages k ≡ Some (passage_at s k)
     step_of k small = slice_get-get_or s.passages k some_passage small
 
+    above_starts : (envs : List Env) → ((q : ℕ) → q < length s.locals → is q (env_at envs q)) → ((i q : ℕ) → slice_get s.entries i ≡ Some q → env_below (entry s.shared (locals_at s q) (all_locations o)) (env_at envs q) ≡ true)
+        → (q : ℕ) → q < length s.locals → env_below (env_at starts q) (env_at envs q) ≡ true
+    above_starts envs environments entries q small = elim (st.each q small) [
+      | inl i ↦ subst (λ (e : Env). env_below e (env_at envs q) ≡ true) (sym (st.entries i.0 q i.1)) (entries i.0 q i.1)
+      | inr away ↦ subst (λ (e : Env). env_below e (env_at envs q) ≡ true) (sym (st.others q small away)) (rules.bottom_least o s.shared (locals_at s q) (env_at envs q) (environments q small))
+    ]
+
     pub into_graph : IsProgram s → (envs : List Env) → IsPretyping o s envs → graph.IsPretyping (graph_of o s) starts envs
     into_graph k envs p = record {
       shaped = record { count = p.count; fitting = λ q small. is_fits o _ _ _ (p.environments q small) };
-      above = λ q small. elim (st.each q small) [
-        | inl i ↦ subst (λ (e : Env). env_below e (env_at envs q) ≡ true) (sym (st.entries i.0 q i.1)) (p.entries i.0 q i.1)
-        | inr away ↦ subst (λ (e : Env). env_below e (env_at envs q) ≡ true) (sym (st.others q small away)) (rules.bottom_least o s.shared (locals_at s q) (env_at envs q) (p.environments q small))
-      ];
+      above = above_starts envs p.environments p.entries;
       stays = λ i small. p.flows i (passage_at s i) (step_of i small);
     }
 
@@ -160,6 +167,23 @@ module _ (order : EnvironmentsAreOrdered) (rules : RulesKeepOrder) (o : Observer
     past_faults e [] i h = refl
     past_faults e (k ∷ ks) zero h = absurd (omega arith)
     past_faults e (k ∷ ks) (suc i) h = past_faults (env_after o e k) ks i (omega arith)
+
+    pub typing_into_graph : IsProgram s → (envs : List Env) → IsTyping o s envs → graph.IsTyping (graph_of o s) starts envs
+    typing_into_graph k envs t = record {
+      pretyping = into_graph k envs t.pretyping;
+      holding = λ l i small within. is_none_of _ (sym (fault_is envs l i small) ∙ t.holding l i);
+    }
+
+    -- environments that are begun are on the way, and a step that is typed in them is settled
+    pub begun_rising : IsProgram s → (envs : List Env) (changed : List ℕ) → IsBegun o s envs changed → graph.Rising (graph_of o s) starts envs
+    begun_rising k envs changed b = record {
+      shaped = record { count = b.count; fitting = λ q small. is_fits o _ _ _ (b.environments q small) };
+      above = above_starts envs b.environments b.entries;
+      below_all = λ others p. b.below_all others (from_graph k others p);
+    }
+
+    pub typed_settled : (envs : List Env) (k : ℕ) → k < length s.passages → StepIsTyped o s envs k → Settled (graph_of o s) (MeetsAll (graph_of o s)) envs k
+    typed_settled envs k small t = (t.flows (passage_at s k) (step_of k small), λ i within. is_none_of _ (sym (fault_is envs k i small) ∙ t.holding i))
 
     -- a condition that isn't one of the steps' is none
     held : (envs : List Env) (k i : ℕ) → (k < length s.passages → i < length (passage_at s k).prims → fault_at o (env_at envs (passage_at s k).from) (passage_at s k).prims i ≡ None) → fault_under o s envs k i ≡ None

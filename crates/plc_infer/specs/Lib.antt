@@ -1,7 +1,9 @@
 -- what contracts of public calls say
 pub mod Programs
+pub mod Resuming
 -- words of private functions alone
 pub mod Graphs
 pub mod Iteration
 pub mod Starts
 pub mod WorkLists
+pub mod Trials

@@ -3,7 +3,7 @@
 use Rattle.std.specs.Prelude.{◌≡◌, ℕ, ◌+◌, ◌<◌, ◌≤◌, Bool, true, false, List, []}
 use Rattle.std.specs.Prelude.{◌∷◌, ◌++◌, length, get_or, slice_set, ◌⊎◌}
 use Rattle.plc_xfer.specs.Rules.{table}
-use Rattle.plc_infer.specs.Iteration.{Graph, Stays, Rising, Relaxed, total}
+use Rattle.plc_infer.specs.Iteration.{Graph, env_at, Stays, Rising, Relaxed, total}
 
 -- a number is in a list
 abbrev pub Among : List ℕ → ℕ → Type 0
@@ -24,15 +24,23 @@ Puts p queue queue' marks marks' =
     ((is_marked marks p ≡ true) × (queue' ≡ queue) × (marks' ≡ marks))
     ⊎ ((queue' ≡ queue ++ p ∷ []) × (marks' ≡ slice_set marks p true))
 
+-- a step leads to no more than its last point has, and the environment from which it runs has what is asked of it
+abbrev pub Settled : {E : Type 0} → Graph E → (ℕ → E → Type 0) → List E → ℕ → Type 0
+Settled g asked envs k = Stays g envs k × asked k (env_at g envs (g.from k))
+
+-- nothing is asked of the environments from which steps run
+abbrev pub Unasked : {E : Type 0} → ℕ → E → Type 0
+Unasked k e = Unit {0}
+
 -- on the way to the strongest, with the points on the list and the steps that are still to be looked at
-pub record UnderWay {E : Type 0} (g : Graph E) (starts envs : List E) (queue : List ℕ) (marks : List Bool)
-    (todo : List ℕ) : Type 0 where
+pub record UnderWay {E : Type 0} (g : Graph E) (asked : ℕ → E → Type 0) (starts envs : List E) (queue : List ℕ)
+    (marks : List Bool) (todo : List ℕ) : Type 0 where
   pub rising : Rising g starts envs
   pub count : length marks ≡ g.points
   pub points : (p : ℕ) → Among queue p → p < g.points
   pub queued : (p : ℕ) → is_marked marks p ≡ true → Among queue p
   pub steps : (k : ℕ) → Among todo k → k < g.steps
-  pub left : (k : ℕ) → k < g.steps → Stays g envs k ⊎ (is_marked marks (g.from k) ≡ true) ⊎ Among todo k
+  pub left : (k : ℕ) → k < g.steps → Settled g asked envs k ⊎ (is_marked marks (g.from k) ≡ true) ⊎ Among todo k
 
 -- what a look at one step did: nothing, or its last point was raised and put on the list
 abbrev pub Looked : {E : Type 0} → Graph E → ℕ → List E → List E → List ℕ → List ℕ → List Bool → List Bool → Type 0

@@ -8,7 +8,7 @@ ghost use Rattle.plc_xfer.specs.Typings.{led};
 ghost use Rattle.plc_infer.specs.Programs.{IsProgram, program_of};
 ghost use Rattle.plc_infer.specs.Graphs.{graph_of};
 ghost use Rattle.plc_infer.specs.Iteration.{Shaped, Relaxed, IsStrongest as IsLeast};
-ghost use Rattle.plc_infer.specs.WorkLists.{UnderWay, Looked, Gains};
+ghost use Rattle.plc_infer.specs.WorkLists.{UnderWay, Unasked, Looked, Gains};
 ghost use Rattle.plc_infer.specs.Starts.{starts_of};
 
 use crate::program::{Program, steps_by_point};
@@ -54,10 +54,10 @@ fn relax_all(
 ) -> Result<(), NoMemory>
     requires program { IsProgram (program_of program.now) }
     requires under_way { let s = program_of program.now
-        in UnderWay (graph_of observer.now s) (starts_of observer.now s) envs.old.items
+        in UnderWay (graph_of observer.now s) Unasked (starts_of observer.now s) envs.old.items
         list.old.queue.items list.old.marks.items steps.now }
     ensures under_way { let s = program_of program.now
-        in IfOk result (λ _. UnderWay (graph_of observer.now s) (starts_of observer.now s) envs.new.items
+        in IfOk result (λ _. UnderWay (graph_of observer.now s) Unasked (starts_of observer.now s) envs.new.items
         list.new.queue.items list.new.marks.items []) }
     ensures gains { IfOk result (λ _. Gains (graph_of observer.now (program_of program.now))
         envs.old.items envs.new.items list.old.queue.items list.new.queue.items) }

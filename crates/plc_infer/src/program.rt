@@ -67,8 +67,9 @@ fn first_points(alloc: Global, program: &Program) -> Result<Vec<PointId>, NoMemo
     Ok(firsts)
 }
 
-/// The index of a program's steps by the points that they leave.
-pub(crate) fn steps_by_point(alloc: Global, program: &Program) -> Result<StepsByPoint, NoMemory>
+/// The index of a program's steps by the points that they leave, made once for all that goes on to look at its steps.
+/// The one error is that memory runs out.
+pub fn steps_by_point(alloc: Global, program: &Program) -> Result<StepsByPoint, NoMemory>
     requires { IsProgram (program_of program.now) }
     ensures { IfOk result (λ index. IsIndexOf (first_points program.now) index) }
 {

@@ -35,6 +35,17 @@ impl WorkList {
         })
     }
 
+    /// No point of so many.
+    pub(crate) fn none(alloc: Global, points: usize) -> Result<WorkList, NoMemory>
+        ensures { IfOk result (λ list. (list.queue.items ≡ [])
+            × (list.marks.items ≡ replicate points false)) }
+    {
+        Ok(WorkList {
+            queue: VecDeque::new(alloc),
+            marks: vec![in alloc; false; points]?,
+        })
+    }
+
     /// Takes the point that waits longest.
     pub(crate) fn take(&mut self) -> Option<u16>
         requires { (p : ℕ) → Among self.old.queue.items p → p < length self.old.marks.items }

@@ -2,3 +2,9 @@ pub mod Active
 pub mod Reached
 pub mod Joint
 pub mod ByRun
+pub mod LocatedSets
+pub mod LocatedItems
+pub mod LocatedNodes
+pub mod LocatedPoints
+pub mod LocatedPointers
+pub mod Located

@@ -2,9 +2,11 @@
 // runs are true. Erasure carries each claim over to memory as it is, with frees and with addresses that are used
 // again. Under a typing a step is no race where its claims are true in memory. The first speaks of collected runs
 // alone, the second of runs up to their last move, so that neither asks that the next step is no race: the one
-// induction over moves is that of types, and nothing goes in a circle.
+// induction over moves is that of types, and nothing goes in a circle. Claims of locations rest on the same three:
+// the type says where an address stands, and the outline, by erasure, whether it is retired.
 ghost use Rattle.plc_joint.specs.ByRun.{ClaimsOfOneRunSuffice};
 ghost use Rattle.plc_joint.specs.Joint.{ActiveWordsAgree, TrueGcClaimsSuffice, TypedAndHeldProgramsAreSafe};
+ghost use Rattle.plc_joint.specs.Located.{LocatedClaimsAreTrue};
 
 /// What erasure and types call an active pointer is the same in memory where null pointers are valid, as
 /// in each state of a run.
@@ -30,4 +32,13 @@ pub fn true_gc_claims_suffice()
 /// the observer allows. Any typing will do, one that was inferred and one that came with a certificate.
 pub fn typed_and_held_programs_are_safe()
     ensures { TypedAndHeldProgramsAreSafe }
+{}
+
+/// A claim of locations is true that was judged under a typing: in every state of every run of the flow, with
+/// any number of threads, any interleaving, any reuse of addresses and any free that the observer allows, the
+/// address that the pointer local holds at the label, where it isn't null, stands for its thread in one of the
+/// locations of the claim. This asks that each claim follows from the type of its local there, alone or with
+/// what the claim adds to the outline, and that the outline holds with what all of them add.
+pub fn located_claims_are_true()
+    ensures { LocatedClaimsAreTrue }
 {}

@@ -7,6 +7,7 @@ mod primitives;
 mod reclaimers;
 mod replays;
 mod schedules;
+mod suggestions;
 mod texts;
 mod types;
 mod typings;

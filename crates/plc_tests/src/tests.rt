@@ -3,6 +3,8 @@ mod certificates;
 mod faults;
 mod files;
 mod limits;
+mod located;
+mod locations;
 mod outlines;
 mod outside;
 mod program;

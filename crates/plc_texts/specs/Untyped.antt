@@ -29,10 +29,14 @@ abbrev pub step_operation : Option Step → ℕ
 step_operation None = 0
 step_operation (Some s) = s.op.0
 
--- untyped step S prim K line N KIND VAR
-abbrev pub untyped_text : Flow → ℕ → ℕ → TypeFault → List ℕ
-untyped_text flow k i fault =
+-- WORD step S prim K line N KIND VAR
+abbrev pub condition_text : List ℕ → Flow → ℕ → ℕ → TypeFault → List ℕ
+condition_text word flow k i fault =
     let step = slice_get flow.steps k in
-    codes "untyped step " ++ decimal k ++ codes " prim " ++ decimal i ++ codes " line " ++ decimal (step_line step)
+    word ++ codes " step " ++ decimal k ++ codes " prim " ++ decimal i ++ codes " line " ++ decimal (step_line step)
     ++ codes " " ++ fault_word fault ++ codes " "
     ++ variable_in flow.file (step_operation step) (fault_variable fault) ++ codes "\n"
+
+-- untyped step S prim K line N KIND VAR
+abbrev pub untyped_text : Flow → ℕ → ℕ → TypeFault → List ℕ
+untyped_text flow k i fault = condition_text (codes "untyped") flow k i fault

@@ -11,6 +11,7 @@ use crate::counts::push_counts;
 use crate::names::variable_in;
 use crate::push::{push, push_bytes, push_number};
 use crate::refusals::{fixed, numbered};
+use crate::steps::operation_of;
 use plc_base::{NoMemory, OpId, StepId};
 use plc_cert::{Cert, CertFault, CertField, write};
 use plc_flow::Flow;
@@ -76,16 +77,6 @@ pub fn verified(alloc: Global, flow: &Flow, obligations: u64) -> Result<Vec<u8>,
     Ok(out)
 }
 
-/// The operation of a step.
-fn operation_of(flow: &Flow, step: StepId) -> u16
-    ensures { result ≡ step_operation (slice_get flow.now.steps step.0) }
-{
-    match flow.steps.get(step.0 as usize) {
-        Some(step) => step.op.0,
-        None => 0,
-    }
-}
-
 /// A part of an environment: W, or a pointer local of the operation.
 fn slot_name(file: &File, operation: u16, slot: Slot) -> &[u8]
     ensures { result.now ≡ slot_name file.now operation slot }
@@ -97,7 +88,13 @@ fn slot_name(file: &File, operation: u16, slot: Slot) -> &[u8]
 }
 
 /// Two numbers, each after words.
-fn paired(alloc: Global, first: &str, a: u64, second: &str, b: u64) -> Result<Vec<u8>, AllocError>
+pub(crate) fn paired(
+    alloc: Global,
+    first: &str,
+    a: u64,
+    second: &str,
+    b: u64,
+) -> Result<Vec<u8>, AllocError>
     ensures { IfOk result (λ v. v.items ≡ pair_text first.now a second.now b) }
 {
     let mut out = fixed(alloc, first)?;
@@ -131,7 +128,7 @@ fn passage(alloc: Global, flow: &Flow, step: StepId, var: Slot) -> Result<Vec<u8
     push(&mut out, " ")?;
     push_bytes(
         &mut out,
-        slot_name(&flow.file, operation_of(flow, step), var),
+        slot_name(&flow.file, operation_of(flow, step.0), var),
     )?;
     push(&mut out, "\n")?;
     Ok(out)

@@ -1,10 +1,12 @@
-// The text of an untyped file: the condition that fails.
+// The text of a condition that fails: in an untyped file, or in one that no claims in front of steps make typable.
 ghost use Rattle.std.specs.Prelude.{◌≡◌, ◌++◌, IfOk, OnOk, codes, decimal};
 ghost use Rattle.plc_texts.specs.Names.{variable_in};
-ghost use Rattle.plc_texts.specs.Untyped.{untyped_text, fault_word, fault_variable};
+ghost use Rattle.plc_texts.specs.Untyped.{condition_text, untyped_text, fault_word, fault_variable};
 
 use crate::names::variable_in;
 use crate::push::{push, push_bytes, push_numbered};
+use crate::refusals::fixed;
+use crate::steps::{line_of, operation_of};
 use plc_flow::Flow;
 use plc_lang::Var;
 use plc_xfer::TypeFault;
@@ -34,10 +36,10 @@ fn fault_variable(fault: TypeFault) -> Var
 
 /// The step and the primitive whose condition fails, and its line.
 fn push_place(out: &mut Vec<u8>, step: u16, prim: u16, line: u32) -> Result<(), AllocError>
-    ensures { OnOk result (out.new.items ≡ out.old.items ++ codes "untyped step " ++ decimal step
+    ensures { OnOk result (out.new.items ≡ out.old.items ++ codes " step " ++ decimal step
         ++ codes " prim " ++ decimal prim ++ codes " line " ++ decimal line) }
 {
-    push_numbered(out, "untyped step ", u32::from(step))?;
+    push_numbered(out, " step ", u32::from(step))?;
     push_numbered(out, " prim ", u32::from(prim))?;
     push_numbered(out, " line ", line)
 }
@@ -59,6 +61,23 @@ fn push_condition(
     push(out, "\n")
 }
 
+/// The text of a condition that fails, after `word`, which says what that makes of the file.
+pub(crate) fn condition(
+    alloc: Global,
+    word: &str,
+    flow: &Flow,
+    step: u16,
+    prim: u16,
+    fault: TypeFault,
+) -> Result<Vec<u8>, AllocError>
+    ensures { IfOk result (λ v. v.items ≡ condition_text word.now flow.now step prim fault) }
+{
+    let mut out = fixed(alloc, word)?;
+    push_place(&mut out, step, prim, line_of(flow, step))?;
+    push_condition(&mut out, flow, operation_of(flow, step), fault)?;
+    Ok(out)
+}
+
 /// The text of a file without a typing: the step and primitive whose condition fails, its line, and
 /// the variable that lacks what is asked.
 pub fn untyped(
@@ -70,12 +89,5 @@ pub fn untyped(
 ) -> Result<Vec<u8>, AllocError>
     ensures { IfOk result (λ v. v.items ≡ untyped_text flow.now step prim fault) }
 {
-    let (line, op) = match flow.steps.get(step as usize) {
-        Some(step) => (step.line, step.op.0),
-        None => (0, 0),
-    };
-    let mut out = Vec::new(alloc);
-    push_place(&mut out, step, prim, line)?;
-    push_condition(&mut out, flow, op, fault)?;
-    Ok(out)
+    condition(alloc, "untyped", flow, step, prim, fault)
 }

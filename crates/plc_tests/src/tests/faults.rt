@@ -4,7 +4,7 @@
 use crate::tests::certificates::PUBLISHED;
 use crate::tests::files::{Entries, FILES, SCHEDULES, put, put_pieces, put_sections, put_stacks};
 use crate::tests::program::words_of;
-use crate::tests::rows::{CHECKED, REPLAYED};
+use crate::tests::rows::{CHECKED, REPLAYED, SUGGESTED};
 use plc_base::NoMemory;
 use plc_cli::{FailSink, Files, MemFiles, Sink, run_with_own};
 use plc_outside::{FixedSink, HonestFiles};
@@ -16,10 +16,18 @@ const COMMANDS: &[(&str, u64, usize, usize)] = &[
     ("check hazards", 1, 150, 4),
     ("verify publish certificate", 2, 20, 3),
     ("replay stack reused list", 2, 10, 4),
+    ("suggest stack", 1, 40, 4),
+    ("locate hazards claims", 2, 20, 3),
 ];
 
 const VERIFIED: &str = "# verify publish certificate: 0
 verified points 5 steps 4 obligations 0
+";
+
+const CLAIMS: &str = "at f t { u.held }";
+
+const LOCATED: &str = "# locate hazards claims: 0
+located claims 1 obligations 2885
 ";
 
 // Whether these words are one of the commands of a row.
@@ -34,7 +42,7 @@ fn has_command(head: &str, words: &str) -> bool {
 
 // The status and the text that are due to words.
 fn wanted(words: &str) -> &'static str {
-    for rows in [CHECKED, VERIFIED, REPLAYED] {
+    for rows in [CHECKED, VERIFIED, REPLAYED, SUGGESTED, LOCATED] {
         for row in rows.split("# ") {
             if let Some((head, answer)) = row.split_once(": ") {
                 if has_command(head, words) {
@@ -62,8 +70,10 @@ fn entries(alloc: Global) -> Result<Entries, AllocError> {
     put_sections(alloc, &mut files, FILES)?;
     put_stacks(alloc, &mut files)?;
     put_pieces(alloc, &mut files, SCHEDULES)?;
-    let bytes = Vec::from_slice(alloc, PUBLISHED.as_bytes())?;
-    put(alloc, &mut files, "certificate", bytes)?;
+    for (name, text) in [("certificate", PUBLISHED), ("claims", CLAIMS)] {
+        let bytes = Vec::from_slice(alloc, text.as_bytes())?;
+        put(alloc, &mut files, name, bytes)?;
+    }
     Ok(files)
 }
 

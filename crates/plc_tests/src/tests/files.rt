@@ -158,6 +158,15 @@ op g() { ptr p; p := new; p := mark p; label a; T := p; }
 outline { inv T == null or marked(T); at a: marked(p); }
 # blocked
 struct N { ptr f; } shared T; init { T.f := null; }
+# read-twice
+struct N { ptr f; } shared T; op g() { ptr p; ptr q; atomic { p := T; q := p.f; p := q.f; } }
+# compared-read
+struct N { ptr f; } shared T; op g() { ptr p; ptr q; atomic { p := T; q := p.f; assume q == p; } }
+# never-retired
+struct N { } shared T; op f() { ptr p; p := T; label c; } op g() { data x; label e; }
+outline { inv all y: not retired(y); }
+# pointerless
+struct N { } op f() { data x; label l; }
 # stack
 struct Node { ptr next; }
 shared Top;
@@ -175,6 +184,7 @@ pub(crate) const STACKS: &[&str] = &["hazards", "epochs-held"];
 // Files that differ from another in some lines, each by its number and with what stands in its place.
 pub(crate) const CHANGED: &[(&str, &str, &[(usize, &str)])] = &[
     ("unclaimed", "hazards", &[(27, "atomic { t ?= Top; }\n")]),
+    ("unsaid", "hazards", &[(56, "\n")]),
     (
         "retired-again",
         "hazards",

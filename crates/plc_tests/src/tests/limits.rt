@@ -81,7 +81,7 @@ inv all x: x == null; inv all x: x == null; inv all x: x == null; inv all x: x =
 inv all x: x == null; inv all x: x == null; inv all x: x == null; inv all x: x == null; inv all x: x == null;
 |inv S0 == null; |}
 |0 safe points 2 steps 1 locations 2 obligations 66|2 refused limit clauses 65537
-# check made, print made, certify made, verify made plain, replay made plain leak|3|
+# check made, print made, certify made, verify made plain, replay made plain leak, suggest made, locate made plain|3|
 struct N { ptr a; ptr b; ptr c; ptr d; ptr e; ptr f; ptr g; ptr h; }
 shared A; shared B; shared C; shared D; shared E; shared F; shared G; shared H;
 shared I; shared J; shared K; shared L; shared M; shared O; shared P; shared Q;
@@ -94,8 +94,37 @@ op r() { skip; } outline { depth 1; |inv all x, y: x == y; |}
 const OBLIGATIONS: &str = "\
 # check made|998|struct N { } op f() { ptr p; |skip; |} outline { over f: p == null; }
 |0 safe points 1000 steps 999 locations 2 obligations 999000|2 refused limit obligations 1000001
-# print made, certify made, verify made plain, replay made plain leak|999|struct N { } op f() { ptr p; |skip; |}
+# print made, certify made, verify made plain, replay made plain leak, suggest made, locate made plain|999|
+struct N { } op f() { ptr p; |skip; |}
 outline { over f: p == null; }|2 refused limit obligations 1000001
+";
+
+// Two claims, each of which adds an item and with it s + 1 obligations: to 254 items and to 255; then to 997,002 and
+// 998,001 obligations of `f` and an invariant, which with those of the claims are as many as there may be, and more.
+const EXTENDED: &str = "\
+# locate made claims|254|struct N { } shared T; op f() { ptr p; p := T; label c; }
+outline { inv all y: not retired(y); |at c: null == null; |}
+|0 located claims 2 obligations 771|2 refused limit items 257
+# locate made claims|996|struct N { } shared T; op f() { ptr p; p := T; label c; |skip; |}
+outline { inv null != null; over f: null == null; }
+|1 unproved start clause 0|2 refused limit obligations 1000001
+# locate made others|255|struct N { } shared T; op f() { ptr p; p := T; label c; }
+outline { inv all y: not retired(y); |at c: null == null; |}
+|1 unlocated claim 2|1 unlocated claim 2
+";
+
+// Claims for these: of `p` its type knows no location at `c`. Of the others the last is unlocated.
+const CLAIMS: &str = "at c p { u } at c p { u }";
+
+const OTHERS: &str = "at c p { u } at c p { u r } at c p { r }";
+
+// A step with a primitive has a spot for each pointer: in `g` two, in `f` one. A `skip` and the end of an operation
+// have none.
+const SPOTS: &str = "\
+# suggest made|4078|struct N { } op h() { ptr p; skip; }
+op g() { ptr p; ptr q; p := q; p := q; p := q; p := q; p := q; p := q; p := q; p := q; p := q; }
+op f() { ptr p; |p := null; |}
+|0 suggested 0|2 refused limit places 4097
 ";
 
 // As many obligations as there may be, and one claim more.
@@ -110,7 +139,17 @@ const MOST_OBLIGATIONS: &str = "\
 const SIZES: &[(&str, usize, &str)] = &[
     ("check made", 1_048_576, "2 refused syntax token 0 line 1"),
     (
-        "check made, print made, certify made, verify made absent, replay made absent leak",
+        "check made, print made, certify made, verify made absent, replay made absent leak, suggest made",
+        1_048_577,
+        "4 read too long",
+    ),
+    (
+        "locate plain made",
+        1_048_576,
+        "0 located claims 0 obligations 0",
+    ),
+    (
+        "locate plain made, locate made absent",
         1_048_577,
         "4 read too long",
     ),
@@ -157,7 +196,7 @@ const NUMBERS: &[(&str, &str, &str)] = &[
 
 const PLAIN: &str = "struct N { } op f() { ptr p; p := new; }";
 
-// The answers to commands over `made` and a plain file whose status and first line aren't as is wanted.
+// The answers to commands over `made`, a plain file and claims whose status and first line aren't as is wanted.
 fn wrong_answers(
     alloc: Global,
     commands: &str,
@@ -165,7 +204,12 @@ fn wrong_answers(
     want: &str,
 ) -> Result<String, AllocError> {
     let mut files = Vec::new(alloc);
-    for (name, bytes) in [("plain", PLAIN.as_bytes()), ("made", made)] {
+    for (name, bytes) in [
+        ("plain", PLAIN.as_bytes()),
+        ("claims", CLAIMS.as_bytes()),
+        ("others", OTHERS.as_bytes()),
+        ("made", made),
+    ] {
         put(alloc, &mut files, name, Vec::from_slice(alloc, bytes)?)?;
     }
     let mut files = MemFiles::new(alloc, files, Vec::new(alloc));
@@ -261,6 +305,18 @@ fn files_have_sizes(rt: HostRuntime) -> Result<(), AllocError> {
 #[test]
 fn obligations_have_a_limit(rt: HostRuntime) -> Result<(), AllocError> {
     assert_eq!(rt; wrong_in_rows(rt.alloc(), OBLIGATIONS)?.as_str(), "");
+    Ok(())
+}
+
+#[test]
+fn extended_outlines_have_limits(rt: HostRuntime) -> Result<(), AllocError> {
+    assert_eq!(rt; wrong_in_rows(rt.alloc(), EXTENDED)?.as_str(), "");
+    Ok(())
+}
+
+#[test]
+fn spots_have_a_limit(rt: HostRuntime) -> Result<(), AllocError> {
+    assert_eq!(rt; wrong_in_rows(rt.alloc(), SPOTS)?.as_str(), "");
     Ok(())
 }
 

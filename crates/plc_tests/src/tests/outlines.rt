@@ -2,6 +2,7 @@
 // ground set of the obligation that it tells. Which model is printed is left open, so no row has it. Beside them a
 // few samples that are larger than any file here.
 ghost use Rattle.std.specs.Prelude.{IfOk};
+ghost use Rattle.plc_flow.specs.WellFormed.{FlowFits};
 ghost use Rattle.plc_setting.specs.Fit.{Fits};
 
 use crate::tests::files::{CHANGED, changed};
@@ -14,8 +15,9 @@ use plc_oblig::{Obligation, count, ground, nth};
 use plc_texts::unproved;
 use std::alloc::{AllocError, Global};
 
-fn loaded(alloc: Global, text: &str) -> Result<Judged, NoMemory>
-    ensures { IfOk result (λ judged. Fits judged.flow judged.unit_outline) }
+pub(crate) fn loaded(alloc: Global, text: &str) -> Result<Judged, NoMemory>
+    ensures fits { IfOk result (λ judged. Fits judged.flow judged.unit_outline) }
+    ensures flow { IfOk result (λ judged. FlowFits judged.flow) }
 {
     if text.len() > LARGEST_FILE {
         return Err(NoMemory);

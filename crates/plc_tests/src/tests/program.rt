@@ -4,7 +4,7 @@ use crate::tests::files::{
     Entries, FILES, OUTLINED, SCHEDULES, STACKS, put, put_changed, put_made, put_pieces,
     put_sections, put_stacks, text_of,
 };
-use crate::tests::rows::{CERTIFIED, CHECKED, PRINTED, REPLAYED, UNLISTED};
+use crate::tests::rows::{CERTIFIED, CHECKED, PRINTED, REPLAYED, SUGGESTED, UNLISTED};
 use plc_cli::{FailSink, Files, MemFiles, VecSink, run, run_with_own};
 use std::alloc::{AllocError, Global};
 
@@ -129,6 +129,7 @@ fn each_row_has_its_answer(rt: HostRuntime) -> Result<(), AllocError> {
         (PRINTED, [0]),
         (REPLAYED, [0]),
         (CERTIFIED, [0]),
+        (SUGGESTED, [0]),
         (UNLISTED, [1]),
     ] {
         let (rows, failing) = *row;

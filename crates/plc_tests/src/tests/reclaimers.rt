@@ -107,7 +107,7 @@ fn each_replay_has_its_end(rt: HostRuntime) -> Result<(), AllocError> {
 }
 
 // The number that is drawn after another.
-fn drawn_after(number: u32) -> u32 {
+pub(crate) fn drawn_after(number: u32) -> u32 {
     number.wrapping_mul(1_664_525).wrapping_add(1_013_904_223)
 }
 

@@ -17,7 +17,7 @@ refused syntax token 4 line 1
 refused undeclared token 14 line 1
 # check loop: 0
 safe points 5 steps 4 locations 2 obligations 0
-# check claim, certify claim: 1
+# check claim, certify claim, locate claim empty: 1
 unproved claim step 0 prim 0 line 1
 term 0 null class 0
 term 1 a:n class 1
@@ -26,7 +26,7 @@ term 3 none class 3
 term 4 me class 4
 term 5 0 class 5
 term 6 retired.0(a:n) class 2
-# check entered, certify entered: 1
+# check entered, certify entered, locate entered empty: 1
 unproved enter f clause 0
 term 0 null class 0
 term 1 s:T class 1
@@ -300,6 +300,10 @@ words refused
 words refused
 # verify publish lost stray: 3
 words refused
+# suggest, suggest publish lost, Suggest publish: 3
+words refused
+# locate, locate publish, locate publish lost stray, Locate publish lost: 3
+words refused
 # sample 0 0: 3
 words refused
 # sample 17 0: 3
@@ -349,4 +353,72 @@ refused syntax token 0 line 1
 untyped step 23 prim 0 line 27 deref t
 # sample 2 62: 1
 untyped step 62 prim 0 line 62 deref t
+";
+
+// Claims that files need, and files that no claims make typable. Whether claims are true isn't asked: `claim` and
+// `weaker` need no more.
+pub(crate) const SUGGESTED: &str = "# suggest stack: 0
+active t step 5 line 6
+active t step 12 line 7
+active t step 15 line 8
+suggested 3
+# suggest unclaimed: 0
+active t step 24 line 28
+suggested 1
+# suggest epochs: 0
+active t step 3 line 6
+suggested 1
+# suggest lost: 0
+active m step 3 line 8
+suggested 1
+# suggest dead: 0
+active a step 2 line 3
+suggested 1
+# suggest endless: 0
+active a step 4 line 3
+suggested 1
+# suggest rounds: 0
+active c step 1 line 3
+suggested 1
+# suggest retired-again: 0
+active t step 29 line 35
+suggested 1
+# suggest left-early: 0
+active t step 24 line 28
+active t step 26 line 32
+active t step 31 line 37
+suggested 3
+# suggest twice: 0
+active t step 3 line 2
+suggested 1
+# suggest compared: 0
+active T step 1 line 2
+active p step 1 line 2
+suggested 2
+# suggest marked-put: 0
+active n step 8 line 3
+active m step 8 line 3
+active n step 10 line 3
+active m step 10 line 3
+suggested 4
+# suggest marked-link: 0
+active p step 2 line 2
+active p step 3 line 2
+suggested 2
+# suggest hazards, suggest epochs-held, suggest weaker, suggest claim, suggest publish, suggest least: 0
+suggested 0
+# suggest read-twice: 1
+insufficient step 0 prim 2 line 1 deref q
+# suggest compared-read: 1
+insufficient step 0 prim 2 line 1 compare q
+# suggest stray, locate stray empty: 2
+refused byte at 13
+# suggest empty, locate empty empty: 2
+refused syntax token 0 line 1
+# suggest brace, locate brace stray: 2
+refused syntax token 4 line 1
+# suggest unknown-outline, locate unknown-outline publish: 2
+refused undeclared token 7 line 1
+# suggest absent, locate stray absent, locate absent empty: 4
+read failed
 ";

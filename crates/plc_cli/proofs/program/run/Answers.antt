@@ -2,8 +2,10 @@ use Rattle.std.proofs.Common.{◌<◌, length, Err, ap, subst}
 use Rattle.plc_outside.specs.Outside.{Appends, AppendsPart}
 use Rattle.plc_cli.proofs.Completing.{completeness_of}
 use Rattle.plc_cli.proofs.Judging.{headline_from}
+use Rattle.plc_cli.proofs.Located.{located_runs}
 use Rattle.plc_cli.proofs.Serving.{served_replays}
 use Rattle.plc_cli.proofs.Statuses.{all_written, part_written, memory_ran_out}
+use Rattle.plc_cli.proofs.Suggested.{suggested_from}
 use Rattle.plc_cli.proofs.program.run.Goals as goal
 
 -- ---- the whole text was written
@@ -23,6 +25,12 @@ returns-in-Ok-write_text-clause-completeness g c =
 
 pub returns-in-Ok-write_text-clause-served : goal.returns-in-Ok-write_text-clause-served
 returns-in-Ok-write_text-clause-served g c = served_replays _ _ _ _ _ _ _ (returns-in-Ok-write_text-clause-outcome g c)
+
+pub returns-in-Ok-write_text-clause-suggested : goal.returns-in-Ok-write_text-clause-suggested
+returns-in-Ok-write_text-clause-suggested g c = suggested_from _ _ _ _ _ _ _ (returns-in-Ok-write_text-clause-outcome g c)
+
+pub returns-in-Ok-write_text-clause-located : goal.returns-in-Ok-write_text-clause-located
+returns-in-Ok-write_text-clause-located g c = located_runs _ _ _ _ _ _ _ (returns-in-Ok-write_text-clause-outcome g c)
 
 -- ---- the sink failed
 

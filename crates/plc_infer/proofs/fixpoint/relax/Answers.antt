@@ -2,11 +2,11 @@ use Rattle.std.proofs.Common.{◌≡◌, true, false, refl, sym, ap, ◌∙◌, 
 use Rattle.plc_type.specs.declared.env.Env.{Env}
 use Rattle.plc_type.specs.Environments.{env_below, env_join}
 use Rattle.plc_xfer.specs.Typings.{led}
-use Rattle.plc_infer.proofs.Programs.{step_at, step_read, from_within, to_within, from_fits, led_shape, to_there, stays, raised}
+use Rattle.plc_infer.proofs.Programs.{step_at, step_read, from_inside, to_inside, from_fits, led_shape, to_there, stays, raised}
 use Rattle.plc_infer.proofs.fixpoint.relax.Goals as goal
 
 pub index-requires : goal.index-requires
-index-requires c = omega (arith, from_within c.args.observer.now c.args.program.now c.args.envs.now.items c.args.k (step_at c.args.program.now c.args.k) c.requires.program c.requires.shaped c.requires.known (step_read c.args.program.now c.args.k c.requires.known))
+index-requires c = omega (arith, from_inside c.args.observer.now c.args.program.now c.args.envs.now.items c.args.k c.requires.program c.requires.shaped c.requires.known)
 
 pub led_from-requires : goal.led_from-requires
 led_from-requires c =
@@ -14,10 +14,10 @@ led_from-requires c =
     from_fits c.args.observer.now p c.args.envs.now.items c.args.k (step_at p c.args.k) c.requires.program c.requires.shaped c.requires.known (step_read p c.args.k c.requires.known) c.index.result.now c.index.ensures
 
 pub index-requires-2 : goal.index-requires-2
-index-requires-2 c = omega (arith, to_within c.args.observer.now c.args.program.now c.args.envs.now.items c.args.k (step_at c.args.program.now c.args.k) c.requires.program c.requires.shaped c.requires.known (step_read c.args.program.now c.args.k c.requires.known))
+index-requires-2 c = omega (arith, to_inside c.args.observer.now c.args.program.now c.args.envs.now.items c.args.k c.requires.program c.requires.shaped c.requires.known)
 
 pub index_mut-requires : goal.index_mut-requires
-index_mut-requires c = omega (arith, to_within c.args.observer.now c.args.program.now c.args.envs.now.items c.args.k (step_at c.args.program.now c.args.k) c.requires.program c.requires.shaped c.requires.known (step_read c.args.program.now c.args.k c.requires.known))
+index_mut-requires c = omega (arith, to_inside c.args.observer.now c.args.program.now c.args.envs.now.items c.args.k c.requires.program c.requires.shaped c.requires.known)
 
 pub returns-then-env_below : goal.returns-then-env_below
 returns-then-env_below c =

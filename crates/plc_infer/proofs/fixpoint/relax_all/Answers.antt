@@ -3,7 +3,7 @@ use Rattle.std.proofs.lemmas.List.{drop_more}
 use Rattle.plc_infer.specs.Programs.{program_of}
 use Rattle.plc_infer.specs.Graphs.{graph_of}
 use Rattle.plc_infer.specs.Starts.{starts_of}
-use Rattle.plc_infer.specs.WorkLists.{UnderWay}
+use Rattle.plc_infer.specs.WorkLists.{UnderWay, Unasked}
 use Rattle.plc_infer.proofs.Lists.{among_drop}
 use Rattle.plc_infer.proofs.Listed.{looked, gains, gains_more}
 use Rattle.plc_infer.proofs.Programs.{steps_length, program_laws, program_starts}
@@ -25,11 +25,11 @@ loop-k-preserved c =
     let k = get_or c.args.steps.now c.loop-k.k-index 0 in
     let todo = drop (c.loop-k.k-index + 1) c.args.steps.now in
     let small = c.loop-k.invariant.under_way.steps k (among_drop c.args.steps.now c.loop-k.k-index inside) in
-    let before : UnderWay graph starts c.loop-k.envs.items c.loop-k.list.queue.items c.loop-k.list.marks.items (k ∷ todo) =
-    subst (λ (ks : List ℕ). UnderWay graph starts c.loop-k.envs.items c.loop-k.list.queue.items c.loop-k.list.marks.items ks) (drop_more c.args.steps.now c.loop-k.k-index 0 inside) c.loop-k.invariant.under_way in
+    let before : UnderWay graph Unasked starts c.loop-k.envs.items c.loop-k.list.queue.items c.loop-k.list.marks.items (k ∷ todo) =
+    subst (λ (ks : List ℕ). UnderWay graph Unasked starts c.loop-k.envs.items c.loop-k.list.queue.items c.loop-k.list.marks.items ks) (drop_more c.args.steps.now c.loop-k.k-index 0 inside) c.loop-k.invariant.under_way in
     record {
-      under_way = looked graph laws starts c.loop-k.envs.items c.relax_listed.new.envs.items c.loop-k.list.queue.items c.relax_listed.new.list.queue.items c.loop-k.list.marks.items c.relax_listed.new.list.marks.items k todo
-          (program_starts c.args.observer.now s c.requires.program) before c.in_ok-relax_listed.ensures;
+      under_way = looked graph laws Unasked starts c.loop-k.envs.items c.relax_listed.new.envs.items c.loop-k.list.queue.items c.relax_listed.new.list.queue.items c.loop-k.list.marks.items c.relax_listed.new.list.marks.items k todo
+          (program_starts c.args.observer.now s c.requires.program) before c.in_ok-relax_listed.ensures tt;
       gains = gains_more graph c.args.envs.now.items c.loop-k.envs.items c.relax_listed.new.envs.items c.args.list.now.queue.items c.loop-k.list.queue.items c.relax_listed.new.list.queue.items c.loop-k.invariant.gains
           (gains graph laws c.loop-k.envs.items c.relax_listed.new.envs.items c.loop-k.list.queue.items c.relax_listed.new.list.queue.items c.loop-k.list.marks.items c.relax_listed.new.list.marks.items k small before.rising.shaped c.in_ok-relax_listed.ensures);
     }

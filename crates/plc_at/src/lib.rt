@@ -1,0 +1,17 @@
+//! Claims that a pointer local stands in certain locations of the observer: `read_claims` reads them for a file, and
+//! `extend` adds to the file's outline what they need beyond the types, so that where the extended outline holds each
+//! claim is true in every run (`plc_joint`).
+#![tactic(auto)]
+
+mod adding;
+mod extension;
+mod fault;
+mod located;
+mod names;
+mod needs;
+mod reading;
+
+pub use extension::extend;
+pub use fault::{AtFault, ClaimFault};
+pub use located::Located;
+pub use reading::{claim_faults_are_one, read_claims};

@@ -1,0 +1,67 @@
+// The claims that a file lacks. No outline is judged: whether a suggested claim is true is for the check of the file
+// that has it. So the question needs the types alone, and what it answers is one set, which the definition fixes.
+ghost use Rattle.std.specs.Prelude.{◌≡◌, IfOk};
+ghost use Rattle.plc_cli.specs.Suggestions.{IsSuggestionAnswered, suggestion_status, suggestion_text};
+
+use crate::answer::Answer;
+use crate::asking::Question;
+use crate::status::{FAILS, HOLDS, REFUSED};
+use plc_check::Judged;
+use plc_suggest::{SuggestFault, Suggestion, suggest};
+use plc_texts::{insufficient, suggested, too_many_spots};
+use std::alloc::{AllocError, Global};
+
+/// The status of a suggestion: that of a failure where no claims are enough.
+fn status_of(suggestion: &Suggestion) -> u8
+    ensures { result ≡ suggestion_status suggestion.now }
+{
+    match suggestion {
+        Suggestion::Found(_) => HOLDS,
+        Suggestion::Insufficient { .. } => FAILS,
+    }
+}
+
+/// The text of a suggestion.
+fn text_of(alloc: Global, judged: &Judged, suggestion: &Suggestion) -> Result<Vec<u8>, AllocError>
+    ensures { IfOk result (λ text. text.items ≡ suggestion_text judged.now suggestion.now) }
+{
+    match suggestion {
+        Suggestion::Found(spots) => suggested(alloc, &judged.flow, spots.as_slice()),
+        Suggestion::Insufficient { step, prim, fault } => {
+            insufficient(alloc, &judged.flow, step.0, *prim, *fault)
+        }
+    }
+}
+
+/// The answer that says a suggestion.
+fn told(alloc: Global, judged: &Judged, suggestion: Suggestion) -> Result<Answer, AllocError>
+    ensures { IfOk result (λ answer. (answer.status ≡ suggestion_status suggestion)
+        × (answer.text.items ≡ suggestion_text judged.now suggestion)) }
+{
+    let status = status_of(&suggestion);
+    let text = text_of(alloc, judged, &suggestion);
+    drop(suggestion);
+    Ok(Answer {
+        status,
+        text: text?,
+    })
+}
+
+/// The question for the claims that a file lacks.
+#[derive(Drop)]
+pub(crate) struct ForSuggestions;
+
+impl Question for ForSuggestions {
+    ghost due = { λ _ judged. IsSuggestionAnswered judged };
+
+    fn answer(&self, alloc: Global, judged: &Judged) -> Result<Answer, AllocError> {
+        match suggest(alloc, &judged.flow, &judged.observer) {
+            Ok(suggestion) => told(alloc, judged, suggestion),
+            Err(SuggestFault::TooMany { count }) => Ok(Answer {
+                status: REFUSED,
+                text: too_many_spots(alloc, count)?,
+            }),
+            Err(SuggestFault::Memory) => Err(AllocError),
+        }
+    }
+}

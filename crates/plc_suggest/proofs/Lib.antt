@@ -1,0 +1,10 @@
+pub mod Order
+pub mod Marked
+pub mod Begun
+pub mod Chosen
+pub mod Minimal
+pub mod Listing
+pub mod Claiming
+pub mod Deciding
+pub mod MarkedPrograms
+pub mod Trying

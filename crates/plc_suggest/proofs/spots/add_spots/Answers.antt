@@ -1,0 +1,24 @@
+use Rattle.std.proofs.Common.{◌≡◌, length, ap, arith, length-append}
+use Rattle.plc_suggest.specs.Spots.{spots_before}
+use Rattle.plc_suggest.proofs.Listing.{pointers_counted, spots_counted}
+use Rattle.plc_suggest.proofs.spots.add_spots.Goals as goal
+
+pub returns-then-len-shared-gt-MOST_SPOTS-clause-too_many : goal.returns-then-len-shared-gt-MOST_SPOTS-clause-too_many
+returns-then-len-shared-gt-MOST_SPOTS-clause-too_many c = λ count e.
+    let is : count ≡ 4097 = cc in
+    let many = spots_counted c.args.shared c.args.locals c.args.step.0 c.args.prims.now c.if-is_empty.ensures in
+    (is, omega (arith, many, c.len.ensures, c.if-len-shared-gt-MOST_SPOTS.true))
+
+pub returns-clause-few : goal.returns-clause-few
+returns-clause-few c =
+    let many = pointers_counted c.args.shared c.args.locals c.args.step.0 in
+    let all = ap length c.in_ok-add_pointers.ensures in
+    omega (
+      arith,
+      many,
+      all,
+      length-append c.args.spots.now.items
+          (spots_before c.args.step.0 c.args.shared c.args.locals),
+      c.len.ensures,
+      c.if-len-shared-gt-MOST_SPOTS.false,
+    )
