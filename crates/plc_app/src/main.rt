@@ -3,32 +3,15 @@
 //! nothing is written.
 #![tactic(auto)]
 
-use plc_cli::{NO_MEMORY, NOT_UTF8, OutSink, RealFiles, run_with_own};
-use std::env;
-use std::io::{self, ErrorKind};
+use plc_cli::{NO_MEMORY, OutSink, RealFiles, program_words, run_with_own, words_status};
+use std::io;
 use std::process::ExitCode;
-
-// The words after the program's name, or the status where there are none.
-fn words(rt: &HostRuntime) -> Result<Vec<String>, u8> {
-    let mut words = Vec::new(rt.alloc());
-    let args = match env::args(rt) {
-        Ok(args) => args,
-        Err(fault) if fault.kind() == ErrorKind::InvalidData => return Err(NOT_UTF8),
-        Err(_) => return Err(NO_MEMORY),
-    };
-    for word in args.skip(1) {
-        if words.push(word).is_err() {
-            return Err(NO_MEMORY);
-        }
-    }
-    Ok(words)
-}
 
 fn main(rt: HostRuntime) -> ExitCode {
     let alloc = rt.alloc();
-    let words = match words(&rt) {
+    let words = match program_words(&rt) {
         Ok(words) => words,
-        Err(status) => return ExitCode::from(status),
+        Err(fault) => return ExitCode::from(words_status(fault)),
     };
     let host = match rt.clone() {
         Ok(host) => host,

@@ -1,5 +1,6 @@
 pub mod Completing
 pub mod Fitting
+pub mod Found
 pub mod Limiting
 pub mod Marked
 pub mod Matching

@@ -1,8 +1,7 @@
 -- Trees in the middle of a walk: one for each obligation that was handed out.
-use Rattle.std.proofs.Common.{◌≡◌, ℕ, zero, suc, List, [], ◌∷◌, ◌++◌, length, slice_get, Some, refl, sym, ap, ◌∙◌, subst}
+use Rattle.std.proofs.Common.{◌≡◌, ℕ, zero, suc, List, [], ◌∷◌, ◌++◌, length, slice_get, Some, refl, sym, ap, subst}
 use Rattle.std.specs.Prelude.{All}
 use Rattle.std.specs.List.{AllByRecursion}
-use Rattle.std.proofs.lemmas.List.{append_assoc, append-nil}
 use Rattle.std.proofs.lemmas.List.Elements.{All-nil, All-cons}
 use Rattle.plc_flow.specs.declared.flow.Flow.{Flow}
 use Rattle.plc_logic.specs.declared.clause.Outline.{Outline}
@@ -14,7 +13,7 @@ use Rattle.plc_oblig.specs.GroundSets.{ground_set}
 use Rattle.plc_oblig.specs.Outlines.{IsKept}
 use Rattle.plc_cert.specs.Fits.{TreeFits}
 use Rattle.plc_check.specs.Counterexamples.{IsTreeOf, AreTreesFor}
-use Rattle.plc_check.proofs.SoFar.{SoFar}
+use Rattle.plc_check.proofs.SoFar.{SoFar, listed_more, listed_all}
 
 module _ (flow : Flow) (outline : Outline) where
   -- of the obligations these are left, and the trees are those of the others
@@ -37,13 +36,13 @@ module _ (flow : Flow) (outline : Outline) where
       → left ≡ o ∷ new → IsTreeOf flow outline o t → TreesSoFar new (ts ++ t ∷ [])
   one_more left new ts o t s e r = record {
     before = s.before ++ o ∷ [];
-    listed = s.listed ∙ ap (λ (os : List Obligation). s.before ++ os) e ∙ sym (append_assoc s.before (o ∷ []) new);
+    listed = listed_more (obligations flow outline) s.before left new o s.listed e;
     trees = pushed s.before ts o t s.trees r;
   }
 
   pub all_trees : (left : List Obligation) (ts : List Tree) → TreesSoFar left ts → left ≡ [] → AreTreesFor flow outline (obligations flow outline) ts
   all_trees left ts s e =
-      subst (λ (os : List Obligation). AreTreesFor flow outline os ts) (sym (s.listed ∙ ap (λ (os : List Obligation). s.before ++ os) e ∙ append-nil s.before)) s.trees
+      subst (λ (os : List Obligation). AreTreesFor flow outline os ts) (sym (listed_all (obligations flow outline) s.before left s.listed e)) s.trees
 
   kept_of : (os : List Obligation) (ts : List Tree) → AreTreesFor flow outline os ts → All (IsKept flow outline) os
   kept_of [] ts m = All-nil (IsKept flow outline)

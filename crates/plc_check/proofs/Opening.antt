@@ -10,7 +10,7 @@ use Rattle.plc_oblig.specs.Obligations.{obligations}
 use Rattle.plc_oblig.specs.GroundSets.{ground_set}
 use Rattle.plc_oblig.specs.Outlines.{IsKept, IsLeastOpen}
 use Rattle.plc_check.specs.declared.counterexample.Counterexample.{Counterexample}
-use Rattle.plc_check.specs.Counterexamples.{IsCounterexample}
+use Rattle.plc_check.specs.Open.{IsCounterexample}
 use Rattle.plc_check.proofs.SoFar.{SoFar}
 
 pub least_open : (flow : Flow) (outline : Outline) (left new : List Obligation) (o : Obligation)

@@ -11,6 +11,21 @@ pub record SoFar {A : Type 0} (P : A → Type 0) (whole left : List A) : Type 0 
   pub listed : whole ≡ before ++ left
   pub kept : All P before
 
+-- one more was handed out of those that were left
+pub listed_more : {A : Type 0} (whole before left new : List A) (x : A) → whole ≡ before ++ left → left ≡ x ∷ new → whole ≡ (before ++ x ∷ []) ++ new
+listed_more {A} whole before left new x listed e = listed ∙ ap (λ (ys : List A). before ++ ys) e ∙ sym (append_assoc before (x ∷ []) new)
+
+-- what is handed out is in the list
+pub is_listed : {A : Type 0} (whole before left new : List A) (x : A) → whole ≡ before ++ left → left ≡ x ∷ new → Contains whole x
+is_listed {A} whole before left new x listed e =
+    let split : whole ≡ before ++ x ∷ new = listed ∙ ap (λ (ys : List A). before ++ ys) e in
+    subst (λ (ys : List A). Contains ys x) (sym split)
+    (length before, omega (arith, length-append before (x ∷ new)), get_or-append_seam before x new x)
+
+-- where none is left, those that were handed out are all
+pub listed_all : {A : Type 0} (whole before left : List A) → whole ≡ before ++ left → left ≡ [] → whole ≡ before
+listed_all {A} whole before left listed e = listed ∙ ap (λ (ys : List A). before ++ ys) e ∙ append-nil before
+
 module _ {A : Type 0} (P : A → Type 0) (whole : List A) where
   pub begun : SoFar P whole whole
   begun = record { before = []; listed = refl; kept = All-nil P }
@@ -18,15 +33,6 @@ module _ {A : Type 0} (P : A → Type 0) (whole : List A) where
   pub advanced : (left new : List A) (x : A) → SoFar P whole left → left ≡ x ∷ new → P x → SoFar P whole new
   advanced left new x s e p = record {
     before = s.before ++ x ∷ [];
-    listed = s.listed ∙ ap (λ (ys : List A). s.before ++ ys) e ∙ sym (append_assoc s.before (x ∷ []) new);
+    listed = listed_more whole s.before left new x s.listed e;
     kept = All-push P s.before x s.kept p;
   }
-
-  pub ended : (left : List A) → SoFar P whole left → left ≡ [] → All P whole
-  ended left s e = subst (All P) (sym (s.listed ∙ ap (λ (ys : List A). s.before ++ ys) e ∙ append-nil s.before)) s.kept
-
-  pub is_listed : (left new : List A) (x : A) → SoFar P whole left → left ≡ x ∷ new → Contains whole x
-  is_listed left new x s e =
-      let split : whole ≡ s.before ++ x ∷ new = s.listed ∙ ap (λ (ys : List A). s.before ++ ys) e in
-      subst (λ (ys : List A). Contains ys x) (sym split)
-      (length s.before, omega (arith, length-append s.before (x ∷ new)), get_or-append_seam s.before x new x)

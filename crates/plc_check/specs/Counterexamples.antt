@@ -4,18 +4,13 @@ use Rattle.plc_flow.specs.declared.flow.Flow.{Flow}
 use Rattle.plc_logic.specs.declared.clause.Outline.{Outline}
 use Rattle.plc_setting.specs.declared.obligations.Obligation.{Obligation}
 use Rattle.plc_ground.specs.declared.terms.Tree.{Tree}
-use Rattle.plc_ground.specs.Model.{IsModel}
 use Rattle.plc_ground.specs.Trees.{Closes, SplitsOnce}
 use Rattle.plc_oblig.specs.Obligations.{obligations}
 use Rattle.plc_oblig.specs.GroundSets.{ground_set}
 use Rattle.plc_oblig.specs.Outlines.{IsKept, OutlineHolds, IsLeastOpen}
 use Rattle.plc_cert.specs.Fits.{TreeFits}
 use Rattle.plc_check.specs.declared.counterexample.Counterexample.{Counterexample}
-
--- the set is the obligation's, and the model is one of the set
-pub record IsCounterexample (flow : Flow) (outline : Outline) (x : Counterexample) : Type 0 where
-  pub set_is : x.set ≡ ground_set flow outline x.obligation
-  pub model : IsModel x.set x.model.class
+use Rattle.plc_check.specs.Open.{IsCounterexample}
 
 -- what breaks this obligation, or none where it is kept
 abbrev pub IsCounterexampleAt : Flow → Outline → Obligation → Option Counterexample → Type 0

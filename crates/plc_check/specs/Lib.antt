@@ -4,6 +4,7 @@ pub mod Loading
 pub mod Marks
 pub mod Verdicts
 pub mod Certified
+pub mod Open
 pub mod Outlined
 -- words of private functions alone
 pub mod Refusals

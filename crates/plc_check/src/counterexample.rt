@@ -1,27 +1,28 @@
-// What breaks an outline. The obligations are gone over in order, up to the first that isn't kept. One that is still,
-// or alike one that was found to be kept, is known to be kept without a set. Of each other the ground set is made and
-// given to the solver, which closes it or finds a model: the state in which the step breaks the clause. One set is held
-// at a time.
-ghost use Rattle.std.specs.Prelude.{◌≡◌, [], IfOk, OnOk, IsTrue, Contains};
+// What breaks one obligation. One that is still, or alike one that was found to be kept, is known to be kept without a
+// set. Of each other the ground set is made and given to the solver, which closes it or finds a model: the state in
+// which the step breaks the clause.
+ghost use Rattle.std.specs.Prelude.{◌≡◌, IfOk, OnOk, IsTrue, Contains};
 ghost use Rattle.plc_setting.specs.Fit.{Fits};
 ghost use Rattle.plc_setting.specs.Marks.{program_uses_marks};
 ghost use Rattle.plc_oblig.specs.Obligations.{obligations};
 ghost use Rattle.plc_oblig.specs.Outlines.{IsKept};
-ghost use Rattle.plc_check.specs.Counterexamples.{IsCounterexampleAt, IsFirstCounterexample, NotedAreKept};
+ghost use Rattle.plc_check.specs.Counterexamples.{IsCounterexampleAt, NotedAreKept};
 
 use crate::judged::Judged;
 use crate::tree::solve_at;
 use plc_base::NoMemory;
 use plc_ground::{GroundModel, GroundSet};
-use plc_oblig::{Grounding, Noted, Obligation, Walk, program_uses_marks, still};
+use plc_oblig::{Grounding, Noted, Obligation, still};
 use std::alloc::Global;
 
 /// An obligation that isn't kept, with its ground set and a model of it.
 #[derive(Drop)]
-pub(crate) struct Counterexample {
-    pub(crate) obligation: Obligation,
-    pub(crate) set: GroundSet,
-    pub(crate) model: GroundModel,
+pub struct Counterexample {
+    pub obligation: Obligation,
+    /// The ground set of the obligation.
+    pub set: GroundSet,
+    /// A model of that set: the state in which the step breaks the clause.
+    pub model: GroundModel,
 }
 
 /// Whether the obligation is known to be kept before its set is made: it is still, or one that is alike was found to be
@@ -42,7 +43,7 @@ fn is_known_kept(judged: &Judged, kept: &Noted, o: &Obligation) -> bool
 }
 
 /// What breaks one obligation, if it isn't kept. One that is kept is noted.
-fn counterexample_at(
+pub(crate) fn counterexample_at(
     alloc: Global,
     memory: &mut Grounding,
     marked: bool,
@@ -66,48 +67,4 @@ fn counterexample_at(
         return Ok(None);
     };
     Ok(Some(found))
-}
-
-/// What breaks the first of the obligations that a walk hands out and that isn't kept. The walk stands at its
-/// beginning, and nothing is noted yet.
-fn first_on_walk(
-    alloc: Global,
-    memory: &mut Grounding,
-    marked: bool,
-    kept: &mut Noted,
-    walk: &mut Walk<'_>,
-    judged: &Judged,
-) -> Result<Option<Counterexample>, NoMemory>
-    requires fits { Fits judged.now.flow judged.now.unit_outline }
-    requires marked { marked ≡ program_uses_marks judged.now.flow judged.now.unit_outline }
-    requires begun { walk.old ≡ obligations judged.now.flow judged.now.unit_outline }
-    requires none_noted { kept.old ≡ [] }
-    ensures { IfOk result (IsFirstCounterexample judged.now.flow judged.now.unit_outline) }
-{
-    while let Some(obligation) = walk.next() {
-        let found = counterexample_at(alloc, memory, marked, kept, judged, obligation)?;
-        if let Some(found) = found {
-            return Ok(Some(found));
-        }
-    }
-    Ok(None)
-}
-
-/// What breaks the least obligation that isn't kept, if the outline doesn't hold.
-pub(crate) fn first_counterexample(
-    alloc: Global,
-    judged: &Judged,
-) -> Result<Option<Counterexample>, NoMemory>
-    requires { Fits judged.now.flow judged.now.unit_outline }
-    ensures { IfOk result (IsFirstCounterexample judged.now.flow judged.now.unit_outline) }
-{
-    let marked = program_uses_marks(&judged.flow, &judged.unit_outline);
-    let mut walk = Walk::new(alloc, &judged.flow, &judged.unit_outline)?;
-    let mut memory = Grounding::new(alloc);
-    let mut kept = Noted::new(alloc);
-    let found = first_on_walk(alloc, &mut memory, marked, &mut kept, &mut walk, judged);
-    drop(walk);
-    drop(memory);
-    drop(kept);
-    found
 }

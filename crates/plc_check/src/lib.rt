@@ -1,6 +1,6 @@
 //! From bytes to the verdict, on the parser, the lowering, the inference and the solver: `load` gives the flow
-//! and the outline that the bytes spell or the first refusal, `check` the verdict of the definitions, and
-//! `certify` what shows that a file is safe.
+//! and the outline that the bytes spell or the first refusal, `check` the verdict of the definitions, `certify`
+//! what shows that a file is safe, and `open_obligations` all that breaks its outline.
 #![tactic(auto)]
 
 mod certified;
@@ -9,13 +9,16 @@ mod judged;
 mod laws;
 mod limits;
 mod loading;
+mod open;
 mod outlined;
 mod tree;
 mod verdict;
 
 pub use certified::{Certified, certify};
+pub use counterexample::Counterexample;
 pub use judged::{Judged, LoadFault};
 pub use laws::certificates_are_verified;
 pub use loading::{files_are_unique, files_fit, files_use_their_marks, load};
+pub use open::{OpenObligations, open_obligations};
 pub use outlined::{OutlineFault, with_outline};
 pub use verdict::{Verdict, check};

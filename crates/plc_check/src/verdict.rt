@@ -5,8 +5,9 @@ ghost use Rattle.plc_check.specs.declared.verdict.Verdict.TheVariants.{Unproved}
 ghost use Rattle.plc_check.specs.Strongest.{IsStrongestTyping, IsStrongestOrNone};
 ghost use Rattle.plc_check.specs.Verdicts.{IsVerdictOn};
 
-use crate::counterexample::{Counterexample, first_counterexample};
+use crate::counterexample::Counterexample;
 use crate::judged::Judged;
+use crate::open::first_counterexample;
 use plc_base::{NoMemory, StepId};
 use plc_ground::{GroundModel, GroundSet};
 use plc_infer::{InferFault, Typing, infer};

@@ -5,9 +5,8 @@ use Rattle.plc_base.specs.Limits.{largest_file}
 use Rattle.plc_outside.specs.Known.{KnownFiles}
 use Rattle.plc_outside.specs.Reading.{Reading}
 use Rattle.plc_cli.specs.Reads.{FilesAreKept, NoFaultBut, Only, Either, reading}
-use Rattle.plc_cli.specs.Reads.{IsUnread, IsUnreadPair, IsSecondUnread, IsGivenPair}
+use Rattle.plc_cli.specs.Reads.{IsUnread, IsUnreadPair, IsSecondUnread, IsGivenPair, IsFound}
 use Rattle.plc_cli.specs.Statuses.{unread}
-use Rattle.plc_cli.specs.Views.{IsFound}
 
 -- bytes that a read gave, where the content is told
 pub told_is : (told : Option (List ℕ)) (bytes content : List ℕ) → IfSome told (λ c. bytes ≡ c) → told ≡ Some content → bytes ≡ content

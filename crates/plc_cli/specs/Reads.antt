@@ -5,6 +5,10 @@ use Rattle.plc_base.specs.Limits.{largest_file}
 use Rattle.plc_outside.specs.Known.{KnownFiles}
 use Rattle.plc_outside.specs.Reading.{Reading}
 use Rattle.plc_texts.specs.Refusals.{read_failed, read_too_long}
+use Rattle.plc_cli.specs.declared.reading.Content.{Content}
+use Rattle.plc_cli.specs.declared.reading.Content.TheVariants as one
+use Rattle.plc_cli.specs.declared.reading.Contents.{Contents}
+use Rattle.plc_cli.specs.declared.reading.Contents.TheVariants as two
 use Rattle.plc_cli.specs.Statuses.{unread}
 
 -- no content changes, and no count falls
@@ -105,3 +109,24 @@ abbrev pub IsDueForPair : KnownFiles → KnownFiles → List ℕ → List ℕ �
 IsDueForPair old new first second most Answers status text =
     IsUnreadPair old new first second most status text
     ⊎ ((bytes : List ℕ) × (more : List ℕ) × IsGivenPair old new first second most bytes more × Answers bytes more)
+
+-- ---- what the code of a read answers
+
+-- a read of a file of at most so many bytes gave these
+pub record IsFound (old new : KnownFiles) (name : List ℕ) (most : ℕ) (bytes : List ℕ) : Type 0 where
+  pub others : NoFaultBut (Only name) old new
+  pub read : IsRead old name most bytes
+  pub gave : Gave old new (reading name bytes ∷ [])
+
+-- what a read came to: bytes, or the answer where there are none
+abbrev pub IsContentOf : KnownFiles → KnownFiles → List ℕ → ℕ → Content → Type 0
+IsContentOf old new name most (one.Read bytes) = IsFound old new name most bytes.items
+IsContentOf old new name most (one.Unread answer) =
+    IsUnread (Only name) old new [] name most answer.status answer.text.items
+
+-- what two reads came to, one after the other
+abbrev pub AreContentsOf : KnownFiles → KnownFiles → List ℕ → List ℕ → ℕ → Contents → Type 0
+AreContentsOf old new first second most (two.Read bytes more) =
+    IsGivenPair old new first second most bytes.items more.items
+AreContentsOf old new first second most (two.Unread answer) =
+    IsUnreadPair old new first second most answer.status answer.text.items

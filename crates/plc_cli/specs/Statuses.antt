@@ -1,5 +1,7 @@
 -- The exit statuses, by name.
 use Rattle.std.specs.Prelude.{ℕ}
+use Rattle.plc_outside.specs.declared.words.WordsFault.{WordsFault}
+use Rattle.plc_outside.specs.declared.words.WordsFault.TheVariants.{NotUtf8, Memory}
 use Rattle.plc_replay.specs.declared.end.End.{End}
 use Rattle.plc_replay.specs.declared.end.End.TheVariants.{Ended, Race, Impossible, ForbiddenFree}
 
@@ -30,6 +32,15 @@ unwritten = 5
 -- memory ran out
 abbrev pub no_memory : ℕ
 no_memory = 6
+
+-- a word of the command line isn't UTF-8
+abbrev pub not_utf8 : ℕ
+not_utf8 = 7
+
+-- the status where there are no words
+abbrev pub words_status : WordsFault → ℕ
+words_status NotUtf8 = not_utf8
+words_status Memory = no_memory
 
 -- the status of an end: a schedule is followed to its end, or it isn't
 abbrev pub end_status : End → ℕ

@@ -1,7 +1,6 @@
--- What the program's requests, the contents that it read and a file that was loaded stand for.
+-- What the program's requests and a file that was loaded stand for.
 use Rattle.std.specs.Prelude.{◌≡◌, ◌⊎◌, ℕ, ◌<◌, ◌≤◌, List, [], ◌∷◌, All, Result, Ok, Err}
 use Rattle.plc_base.specs.declared.limits.What1.{What1}
-use Rattle.plc_outside.specs.Known.{KnownFiles}
 use Rattle.plc_base.specs.Limits.{most_copies}
 use Rattle.plc_lex.specs.declared.token.Token.{Token}
 use Rattle.plc_lex.specs.Spelling.{AreTokensOf}
@@ -21,14 +20,9 @@ use Rattle.plc_sample.specs.Numbers.{sample_lines}
 use Rattle.plc_cli.specs.declared.answer.Answer.{Answer}
 use Rattle.plc_cli.specs.declared.words.Request.{Request as Asked}
 use Rattle.plc_cli.specs.declared.words.Request.TheVariants as asked
-use Rattle.plc_cli.specs.declared.reading.Content.{Content}
-use Rattle.plc_cli.specs.declared.reading.Content.TheVariants as one
-use Rattle.plc_cli.specs.declared.reading.Contents.{Contents}
-use Rattle.plc_cli.specs.declared.reading.Contents.TheVariants as two
 use Rattle.plc_cli.specs.Files.{IsTold}
 use Rattle.plc_cli.specs.Locations.{AreNoTokens, AreNoClaims, IsUntypedAs, IsStrongestTypingOf, located_verdict_text}
 use Rattle.plc_cli.specs.Requests.{Request, Check, Certify, Print, Verify, Replay, Sample, Suggest, Locate}
-use Rattle.plc_cli.specs.Reads.{IsUnread, IsUnreadPair, IsRead, IsGivenPair, NoFaultBut, Gave, Only, reading}
 use Rattle.plc_cli.specs.Statuses.{refused}
 use Rattle.plc_cli.specs.Verdicts.{verdict_status}
 
@@ -53,25 +47,6 @@ IsInRange count (asked.Replay file schedule reclaimer) = reclaimer < count
 IsInRange count (asked.Suggest file) = Unit {0}
 IsInRange count (asked.Locate file claims) = Unit {0}
 IsInRange count (asked.Sample copies line) = ((1 ≤ copies) × (copies ≤ most_copies)) × (line ≤ sample_lines copies)
-
--- a read of a file of at most so many bytes gave these
-pub record IsFound (old new : KnownFiles) (name : List ℕ) (most : ℕ) (bytes : List ℕ) : Type 0 where
-  pub others : NoFaultBut (Only name) old new
-  pub read : IsRead old name most bytes
-  pub gave : Gave old new (reading name bytes ∷ [])
-
--- what a read came to: bytes, or the answer where there are none
-abbrev pub IsContentOf : KnownFiles → KnownFiles → List ℕ → ℕ → Content → Type 0
-IsContentOf old new name most (one.Read bytes) = IsFound old new name most bytes.items
-IsContentOf old new name most (one.Unread answer) =
-    IsUnread (Only name) old new [] name most answer.status answer.text.items
-
--- what two reads came to, one after the other
-abbrev pub AreContentsOf : KnownFiles → KnownFiles → List ℕ → List ℕ → ℕ → Contents → Type 0
-AreContentsOf old new first second most (two.Read bytes more) =
-    IsGivenPair old new first second most bytes.items more.items
-AreContentsOf old new first second most (two.Unread answer) =
-    IsUnreadPair old new first second most answer.status answer.text.items
 
 -- the unit that was loaded
 abbrev pub unit_of : Judged → FileUnit

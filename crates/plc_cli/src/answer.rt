@@ -11,13 +11,13 @@ use std::alloc::{AllocError, Global};
 
 /// A status with its text.
 #[derive(Drop)]
-pub(crate) struct Answer {
-    pub(crate) status: u8,
-    pub(crate) text: Vec<u8>,
+pub struct Answer {
+    pub status: u8,
+    pub text: Vec<u8>,
 }
 
-/// The answer to words of no listed form.
-pub(crate) fn refused_words(alloc: Global) -> Result<Answer, AllocError>
+/// The answer to words of no listed form. The one error is that memory runs out.
+pub fn refused_words(alloc: Global) -> Result<Answer, AllocError>
     ensures { IfOk result (λ answer. (answer.status ≡ bad_words) × (answer.text.items ≡ words_refused)) }
 {
     Ok(Answer {
@@ -38,8 +38,8 @@ fn refusal_text(alloc: Global, fault: &LoadFault) -> Result<Vec<u8>, AllocError>
     }
 }
 
-/// The answer to a file that is refused.
-pub(crate) fn refusal(alloc: Global, fault: &LoadFault) -> Result<Answer, AllocError>
+/// The answer to a file that is refused. The one error is that memory runs out.
+pub fn refusal(alloc: Global, fault: &LoadFault) -> Result<Answer, AllocError>
     ensures { IfOk result (λ answer. (answer.status ≡ refused) × (answer.text.items ≡ load_text fault.now)) }
 {
     Ok(Answer {

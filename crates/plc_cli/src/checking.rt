@@ -26,8 +26,8 @@ impl Question for ForVerdict {
     }
 }
 
-/// The status of a verdict: that of a failure where the file isn't safe.
-pub(crate) fn status_of(verdict: &Verdict) -> u8
+/// The status with which `check` says a verdict: 0 where the file is safe, else 1.
+pub fn verdict_status(verdict: &Verdict) -> u8
     ensures { result ≡ verdict_status verdict.now }
 {
     match verdict {
@@ -36,8 +36,8 @@ pub(crate) fn status_of(verdict: &Verdict) -> u8
     }
 }
 
-/// The text of a verdict.
-pub(crate) fn text_of(
+/// The text with which `check` says a verdict. The one error is that memory runs out.
+pub fn verdict_text(
     alloc: Global,
     judged: &Judged,
     verdict: &Verdict,
@@ -70,8 +70,8 @@ pub(crate) fn told(alloc: Global, judged: &Judged, verdict: Verdict) -> Result<A
     ensures { IfOk result (λ answer. (answer.status ≡ verdict_status verdict)
         × (answer.text.items ≡ verdict_text judged.now verdict)) }
 {
-    let status = status_of(&verdict);
-    let text = text_of(alloc, judged, &verdict);
+    let status = verdict_status(&verdict);
+    let text = verdict_text(alloc, judged, &verdict);
     drop(verdict);
     Ok(Answer {
         status,

@@ -18,7 +18,7 @@ ghost use Rattle.plc_cli.specs.Verdicts.{verdict_status};
 ghost use Rattle.plc_cli.specs.Views.{AreReadClaims, AreReadTokens, IsTypedOrTold, IsAnsweredWith};
 
 use crate::answer::{Answer, refusal};
-use crate::checking::{status_of, text_of};
+use crate::checking::{verdict_status, verdict_text};
 use crate::reading::{Contents, read_both};
 use crate::status::{FAILS, REFUSED};
 use plc_at::{AtFault, ClaimFault, Located, extend, read_claims};
@@ -44,7 +44,7 @@ fn located_text(
 {
     match verdict {
         Verdict::Safe { obligations, .. } => located(alloc, claims.len() as u64, *obligations),
-        Verdict::Untyped { .. } | Verdict::Unproved { .. } => text_of(alloc, judged, verdict),
+        Verdict::Untyped { .. } | Verdict::Unproved { .. } => verdict_text(alloc, judged, verdict),
     }
 }
 
@@ -58,7 +58,7 @@ fn told_located(
     ensures { IfOk result (λ answer. (answer.status ≡ verdict_status verdict)
         × (answer.text.items ≡ located_verdict_text judged.now claims.now verdict)) }
 {
-    let status = status_of(&verdict);
+    let status = verdict_status(&verdict);
     let text = located_text(alloc, judged, claims, &verdict);
     drop(verdict);
     Ok(Answer {

@@ -1,8 +1,7 @@
 // The files among the words are read whole before anything is judged, in the order of the words, so
 // the first read that gives no bytes is the answer. What is answered to the bytes isn't known here.
 ghost use Rattle.std.specs.Prelude.{◌≡◌, ◌≢◌, ℕ, List, IfOk};
-ghost use Rattle.plc_cli.specs.Reads.{FilesAreKept};
-ghost use Rattle.plc_cli.specs.Views.{IsContentOf, AreContentsOf};
+ghost use Rattle.plc_cli.specs.Reads.{FilesAreKept, IsContentOf, AreContentsOf};
 
 use crate::answer::Answer;
 use crate::status::UNREAD;
@@ -13,7 +12,7 @@ use std::alloc::{AllocError, Global};
 
 /// What a read came to.
 #[derive(Drop)]
-pub(crate) enum Content {
+pub enum Content {
     /// The bytes of the file.
     Read(Vec<u8>),
     /// The answer to a read that failed, or found too many bytes.
@@ -22,15 +21,16 @@ pub(crate) enum Content {
 
 /// What two reads came to.
 #[derive(Drop)]
-pub(crate) enum Contents {
+pub enum Contents {
     /// The bytes of the files.
     Read(Vec<u8>, Vec<u8>),
     /// The answer to the first read that failed, or found too many bytes.
     Unread(Answer),
 }
 
-/// The bytes of a file, at most so many, or the answer where they couldn't be read.
-pub(crate) fn read<F: Files>(
+/// The bytes of a file, at most so many, or the answer where they couldn't be read. The one error is that memory runs
+/// out.
+pub fn read<F: Files>(
     alloc: Global,
     files: &mut F,
     name: &str,
@@ -55,8 +55,9 @@ pub(crate) fn read<F: Files>(
     }
 }
 
-/// The bytes of two files, the second of at most so many, or the answer where they couldn't be read.
-pub(crate) fn read_both<F: Files>(
+/// The bytes of two files, the second of at most so many, or the answer where they couldn't be read. The one error is
+/// that memory runs out.
+pub fn read_both<F: Files>(
     alloc: Global,
     files: &mut F,
     first: &str,

@@ -29,8 +29,8 @@ fn status_of(end: &End) -> u8
     }
 }
 
-/// The answer to a schedule that was read.
-fn answered(
+/// The answer of `replay` to a schedule that was read. The one error is that memory runs out.
+pub fn answer_schedule(
     alloc: Global,
     judged: &Judged,
     schedule: &Schedule,
@@ -70,7 +70,7 @@ fn scheduled(
         IsScheduleAnswered judged.now (meanings reclaimer.old) bytes.now answer.status answer.text.items) }
 {
     match read_schedule(alloc, bytes) {
-        Ok(schedule) => answered(alloc, judged, &schedule, reclaimer),
+        Ok(schedule) => answer_schedule(alloc, judged, &schedule, reclaimer),
         Err(SchedFault::Memory) => Err(AllocError),
         Err(fault) => Ok(Answer {
             status: REFUSED,

@@ -7,7 +7,7 @@ ghost use Rattle.plc_cli.specs.Verdicts.{verdict_status};
 
 use crate::answer::Answer;
 use crate::asking::{Question, answer_bytes};
-use crate::checking::{status_of, text_of};
+use crate::checking::{verdict_status, verdict_text};
 use plc_base::NoMemory;
 use plc_check::{Judged, Verdict, check};
 use plc_sample::text;
@@ -28,7 +28,7 @@ fn sampled_text(
         Verdict::Safe { obligations, .. } => {
             sampled(alloc, copies, line, &judged.flow, *obligations)
         }
-        Verdict::Untyped { .. } | Verdict::Unproved { .. } => text_of(alloc, judged, verdict),
+        Verdict::Untyped { .. } | Verdict::Unproved { .. } => verdict_text(alloc, judged, verdict),
     }
 }
 
@@ -44,7 +44,7 @@ fn told_sample(
         × (answer.text.items ≡ sampled_text copies line judged.now verdict.now)) }
 {
     Ok(Answer {
-        status: status_of(verdict),
+        status: verdict_status(verdict),
         text: sampled_text(alloc, copies, line, judged, verdict)?,
     })
 }

@@ -1,6 +1,7 @@
 // A command answered in memory: the files are real, the output is kept.
 use plc_base::LARGEST_FILE;
 use plc_cli::{Files, MemFiles, RealFiles, VecSink, run_with_own};
+use plc_view::show;
 use std::alloc::{AllocError, Global};
 use std::io;
 
@@ -16,6 +17,11 @@ fn words_of(alloc: Global, line: &str) -> Result<Vec<String>, AllocError> {
     Ok(words)
 }
 
+/// How often a piece stands in a text.
+fn count_of(text: &str, piece: &str) -> usize {
+    text.matches(piece).count()
+}
+
 /// The first line of an answer that doesn't tell the types at a label.
 fn told(text: &str) -> &str {
     for line in text.lines() {
@@ -26,6 +32,14 @@ fn told(text: &str) -> &str {
     ""
 }
 
+/// The status that words end with: those after `show` are for `plc-show`, others for `plc`.
+fn status_of<F: Files>(alloc: Global, words: &[String], files: &mut F, out: &mut VecSink) -> u8 {
+    match words {
+        [first, others @ ..] if first.as_str() == "show" => show(alloc, others, files, out),
+        _ => run_with_own(alloc, words, files, out),
+    }
+}
+
 /// The status that words end with, and what they write.
 fn written<F: Files>(
     alloc: Global,
@@ -33,7 +47,7 @@ fn written<F: Files>(
     files: &mut F,
 ) -> Result<(u8, Vec<u8>), AllocError> {
     let mut out = VecSink::new(alloc);
-    let status = run_with_own(alloc, words, files, &mut out);
+    let status = status_of(alloc, words, files, &mut out);
     let bytes = Vec::from_slice(alloc, out.written());
     drop(out);
     Ok((status, bytes?))
@@ -118,13 +132,29 @@ fn kept_answer(
     }
 }
 
-/// The command with the line that tells its answer, and the status.
-fn line_of(alloc: Global, line: &str, status: u8, written: &[u8]) -> Result<String, AllocError> {
-    let text = match str::from_utf8(written) {
-        Ok(text) => told(text),
-        Err(_) => "no text",
-    };
+/// A command with what tells its answer, and the status: of a page how many parts can be opened and how many drawings
+/// there are, of lines for editors all of them, else a line.
+fn text_of(alloc: Global, line: &str, status: u8, text: &str) -> Result<String, AllocError> {
+    if line.starts_with("show --plain ") {
+        return format!(in alloc; "{line} => {status}\n{text}");
+    }
+    if line.starts_with("show ") {
+        let parts = count_of(text, "<details");
+        let drawings = count_of(text, "<svg");
+        return format!(in alloc;
+            "{line} => a page of {parts} parts and {drawings} drawings, {status}"
+        );
+    }
+    let text = told(text);
     format!(in alloc; "{line} => {text}, {status}")
+}
+
+/// The command with what tells its answer, and the status.
+fn line_of(alloc: Global, line: &str, status: u8, written: &[u8]) -> Result<String, AllocError> {
+    match str::from_utf8(written) {
+        Ok(text) => text_of(alloc, line, status, text),
+        Err(_) => format!(in alloc; "{line} => no text, {status}"),
+    }
 }
 
 /// A command with its answer, over files that are lent.

@@ -9,8 +9,9 @@ use Rattle.plc_flow.specs.declared.flow.Flow.{Flow}
 use Rattle.plc_flow.specs.WellFormed.{IsWellFormed}
 use Rattle.plc_lang.specs.Skeleton.{Skeleton, Passage, locals_at}
 use Rattle.plc_flow.specs.Skeleton.{skeleton_of, passage_of, pointers_by_point}
-use Rattle.plc_infer.specs.declared.program.Program.{Program}
-use Rattle.plc_infer.specs.Programs.{edge_of, program_of, passage_at, some_passage, number_of, IsProgram}
+use Rattle.plc_infer.specs.declared.flow_lists.FlowLists.{FlowLists}
+use Rattle.plc_infer.specs.Programs.{edge_of, passage_at, some_passage, number_of, IsProgram}
+use Rattle.plc_infer.specs.FlowLists.{listed}
 use Rattle.plc_infer.proofs.Points.{locals_there, entries_within}
 use Rattle.plc_flow.proofs.Gates.{point_count}
 
@@ -72,9 +73,9 @@ same_parts : (shared n : ℕ) (locals counts entries points : List ℕ) (steps p
     → (let s : Skeleton = record { shared = shared; locals = locals; entries = entries; passages = steps } in s) ≡ record { shared = n; locals = counts; entries = points; passages = passages }
 same_parts shared n locals counts entries points steps passages a b c d = cc
 
--- the program that is read of a flow is its skeleton
-pub program_is : (flow : Flow) (p : Program) → p.shared ≡ length flow.file.shared → p.locals.now ≡ pointers_by_point flow.file.ops flow.gates → p.entries.now ≡ map (λ (g : Gate). g.entry) flow.gates → map edge_of p.steps.now ≡ map passage_of flow.steps
-    → program_of p ≡ skeleton_of flow
-program_is flow p shared locals entries steps =
-    same_parts p.shared (length flow.file.shared) p.locals.now (pointers_by_point flow.file.ops flow.gates) (map number_of p.entries.now) (map (λ (g : Gate). g.entry.0) flow.gates) (map edge_of p.steps.now) (map passage_of flow.steps)
+-- the lists that are read of a flow are its skeleton
+pub lists_are : (flow : Flow) (l : FlowLists) → l.shared ≡ length flow.file.shared → l.locals.items ≡ pointers_by_point flow.file.ops flow.gates
+    → l.entries.items ≡ map (λ (g : Gate). g.entry) flow.gates → map edge_of l.steps.items ≡ map passage_of flow.steps → listed l ≡ skeleton_of flow
+lists_are flow l shared locals entries steps =
+    same_parts l.shared (length flow.file.shared) l.locals.items (pointers_by_point flow.file.ops flow.gates) (map number_of l.entries.items) (map (λ (g : Gate). g.entry.0) flow.gates) (map edge_of l.steps.items) (map passage_of flow.steps)
     shared locals (ap (map number_of) entries ∙ entries_are flow.gates) steps

@@ -9,7 +9,7 @@ use Rattle.plc_type.specs.declared.env.Env.{Env}
 use Rattle.plc_type.specs.Environments.{bottom, env_below, env_join, SameShape}
 use Rattle.plc_type.proofs.Ordered.{ordered}
 use Rattle.plc_xfer.specs.Rules.{FitsObserver}
-use Rattle.plc_xfer.specs.Typings.{env_at, led, IsEnvironment}
+use Rattle.plc_xfer.specs.Typings.{env_at, led, IsEnvironment, IsStrongest}
 use Rattle.plc_xfer.proofs.Order.{kept, well_formed, same_shape, led_is}
 use Rattle.plc_xfer.proofs.Facts.{well_formed_fits}
 use Rattle.plc_infer.specs.declared.program.Edge.{Edge}
@@ -17,9 +17,9 @@ use Rattle.plc_infer.specs.declared.program.Program.{Program}
 use Rattle.plc_infer.specs.Programs.{edge_of, program_of, some_passage, passage_at, IsProgram}
 use Rattle.plc_infer.specs.Starts.{starts_of}
 use Rattle.plc_infer.specs.Graphs.{graph_of}
-use Rattle.plc_infer.specs.Iteration.{Laws, Shaped, Stays, Relaxed}
+use Rattle.plc_infer.specs.Iteration.{Laws, Shaped, Stays, Relaxed, IsStrongest as IsLeast}
 use Rattle.plc_infer.proofs.Environments.{fits_is}
-use Rattle.plc_infer.proofs.Skeletal.{lawful, starts_shaped, starts_are}
+use Rattle.plc_infer.proofs.Skeletal.{lawful, starts_shaped, starts_are, strongest_is}
 
 pub steps_length : (p : Program) → length (program_of p).passages ≡ length p.steps.now
 steps_length p = length-map p.steps.now edge_of
@@ -55,6 +55,10 @@ program_laws o s well = lawful ordered kept o s well
 
 pub program_starts : (o : Observer) (s : Skeleton) → IsProgram s → Shaped (graph_of o s) (starts_of o s)
 program_starts o s well = starts_shaped ordered kept o s (starts_of o s) (starts_are ordered kept o s well)
+
+-- what the iteration ends with is a pre-typing below each other
+pub program_strongest : (o : Observer) (s : Skeleton) → IsProgram s → (envs : List Env) → IsLeast (graph_of o s) (starts_of o s) envs → IsStrongest o s envs
+program_strongest o s well envs least = strongest_is ordered kept o s (starts_of o s) (starts_are ordered kept o s well) well envs least
 
 -- the environment of a point, as the code reads it
 env_there : (o : Observer) (s : Skeleton) (envs : List Env) (q : ℕ) (e : Env) → Shaped (graph_of o s) envs → q < length s.locals → e ≡ get_or envs q e

@@ -13,7 +13,8 @@ ghost use Rattle.plc_infer.specs.declared.typing.InferFault.TheVariants.{Memory}
 
 use crate::faults::first_fault;
 use crate::fixpoint::strongest;
-use crate::program::{Program, edges, entries, pointers_by_point};
+use crate::flow_lists::FlowLists;
+use crate::program::Program;
 use plc_auto::Observer;
 use plc_base::{Items, NoMemory, StepId};
 use plc_flow::Flow;
@@ -67,16 +68,8 @@ pub fn infer(alloc: Global, flow: &Flow, observer: &Observer) -> Result<Typing, 
     ensures stuck { (k : StepId) (i : ℕ) (fault : AFault) → result ≡ Err (InferFault.Stuck k i fault)
         → IsStuckAt observer.now (skeleton_of flow.now) k.0 i fault }
 {
-    let locals = pointers_by_point(alloc, flow)?;
-    let entries = entries(alloc, flow)?;
-    let steps = edges(alloc, flow)?;
-    let program = Program {
-        shared: flow.file.shared.len() as u16,
-        locals: locals.as_slice(),
-        entries: entries.as_slice(),
-        steps: steps.as_slice(),
-    };
-    infer_program(alloc, &program, observer)
+    let lists = FlowLists::of(alloc, flow)?;
+    infer_program(alloc, &lists.program(), observer)
 }
 
 /// The strongest typing of a program, or the least step and primitive whose condition no pre-typing
@@ -99,4 +92,19 @@ pub fn infer_program(
             env: Items::from_vec(envs),
         }),
     }
+}
+
+/// The strongest pre-typing of a flow: the environments to which its steps lead, whether or not the conditions of the
+/// steps hold. Where a typing exists it is the strongest one; else it is what is known where a condition fails. Every
+/// point has one, also where no step leads. The one error is that memory runs out.
+pub fn pretyping(alloc: Global, flow: &Flow, observer: &Observer) -> Result<Typing, NoMemory>
+    requires flow { IsWellFormed flow.now }
+    requires file { FileFits flow.now.file }
+    ensures { IfOk result (λ typing. IsStrongest observer.now (skeleton_of flow.now) typing.env) }
+{
+    let lists = FlowLists::of(alloc, flow)?;
+    let envs = strongest(alloc, &lists.program(), observer)?;
+    Ok(Typing {
+        env: Items::from_vec(envs),
+    })
 }

@@ -288,3 +288,13 @@ pub fn push_executed(
     }
     Ok(x)
 }
+
+/// What acts make of variables and maps, where no clauses are wanted. The one error is that memory runs out.
+pub fn execution_of(alloc: Global, acts: &[Act]) -> Result<Execution, NoMemory>
+    requires { length acts.now < 65536 }
+    ensures after { IfOk result (λ x. x ≡ after_all start acts.now) }
+    ensures few { IfOk result (λ x. length x.written ≤ length acts.now) }
+{
+    let mut unread = Draft::new(alloc);
+    push_executed(alloc, acts, &[], &mut unread)
+}

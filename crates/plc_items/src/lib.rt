@@ -14,6 +14,6 @@ mod reading;
 mod subject;
 mod values;
 
-pub use execution::Execution;
+pub use execution::{Execution, current, execution_of, version};
 pub use items::push_items;
 pub use subject::Subject;

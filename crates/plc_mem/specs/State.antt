@@ -208,6 +208,10 @@ has_place s (at_shared i) = nat_lt i (length s.shared)
 has_place s (at_local t v) = nat_lt v (length (locals_of s t).pointers)
 has_place s (at_field a f) = is_used s a && get_or s.fields f false
 
+-- what a pointer place holds, if there is such a place
+abbrev pub cell_of : State → Place → Option Cell
+cell_of s p = if has_place s p then Some (at s p) else None
+
 -- the number of a pointer place, if there is such a place
 abbrev pub number_at : State → Place → Option ℕ
 number_at s p = if has_place s p then Some (at s p).number else None

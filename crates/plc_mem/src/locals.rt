@@ -95,8 +95,8 @@ impl Locals {
         self.pointers[v as usize] = c;
     }
 
-    /// The data local.
-    pub(crate) fn value(&self, x: u16) -> u32
+    /// The number of a data local, and 0 where there is no such local.
+    pub fn value(&self, x: u16) -> u32
         ensures { (s : State) (t : ℕ) → result ≡ value_at (with_locals s t (Some self.now)) t x }
     {
         entry_or(&self.values, x as usize, 0)

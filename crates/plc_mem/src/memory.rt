@@ -2,12 +2,12 @@
 // its nodes have, and every read is total, so that nothing here rests on how an address came to be used.
 ghost use Rattle.std.specs.Prelude.{◌≡◌, ℕ, ◌<◌, ◌==◌, not, length, nat_lt, get_or, slice_set, filter, map, false};
 ghost use Rattle.std.specs.Prelude.{if◌then◌else◌, is_ok, IfOk, IfSome, Some, None};
+ghost use Rattle.std.specs.Option.{option_copied};
 ghost use Rattle.plc_lang.specs.Shape.{VarIn};
 ghost use Rattle.plc_lang.specs.Fields.{is_pointer_field};
 ghost use Rattle.plc_mem.specs.State.{State, null_cell, at, put, at_field, place, field_value, put_field_value};
 ghost use Rattle.plc_mem.specs.State.{with_node, with_retired, with_locals, is_used, is_retired, freed, fresh_state};
-ghost use Rattle.plc_mem.specs.State.{first_state, number_at, valid_at, place_of};
-ghost use Rattle.plc_mem.specs.Access.{cell_of};
+ghost use Rattle.plc_mem.specs.State.{first_state, cell_of, number_at, valid_at, place_of};
 ghost use Rattle.plc_mem.specs.Primitives.{cell_at};
 ghost use Rattle.plc_mem.specs.Fit.{shape, NodesFit, Kept};
 ghost use Rattle.plc_mem.specs.Coherence.{IsCoherent, LocalsCoherent};
@@ -20,7 +20,7 @@ use crate::node::Nodes;
 use plc_base::{FieldId, NoMemory};
 use plc_flow::Flow;
 use plc_lang::{Field, Var};
-use plc_threads::{Place, copy_held, entry_or, find_entry, none_held};
+use plc_threads::{Place, copy_held, entry_or, find_entry, held, none_held};
 use std::alloc::Global;
 use std::marker::Model;
 
@@ -167,9 +167,26 @@ impl Memory {
         self.retired.contains(&a)
     }
 
-    /// The number of a pointer place, and `None` exactly where the memory has no such place: a shared
-    /// pointer or a local past the last, a local of a thread without locals, a field of an address
-    /// that isn't used (null has none), a data field.
+    /// What a pointer place holds: a number, whether it is marked, and whether it is valid. `None` comes exactly where
+    /// the memory has no such place: a shared pointer or a local past the last, a local of a thread without locals, a
+    /// field of an address that isn't used (null has none), a data field.
+    pub fn cell(&self, place: &Place) -> Option<Cell>
+        ensures { result ≡ cell_of self.now (place_of place.now) }
+    {
+        match *place {
+            Place::Shared(i) => self.shared_pointer(i),
+            Place::Cell { a, f } => {
+                if self.used(a) && self.is_pointer(f) {
+                    Some(self.field(a, f))
+                } else {
+                    None
+                }
+            }
+            Place::Local { t, v } => local_of(&self.locals, t, v),
+        }
+    }
+
+    /// The number of a pointer place, and `None` exactly where the memory has no such place (`cell`).
     pub fn number(&self, place: &Place) -> Option<u32>
         ensures { result ≡ number_at self.now (place_of place.now) }
     {
@@ -189,21 +206,12 @@ impl Memory {
         }
     }
 
-    /// What a pointer place holds, if there is such a place.
-    fn cell(&self, place: &Place) -> Option<Cell>
-        ensures { result ≡ cell_of self.now (place_of place.now) }
+    /// What a thread holds: the locals of the operation that it is in. `None` exactly where it is idle, and where
+    /// there is no such thread.
+    pub fn locals(&self, t: u32) -> Option<&Locals>
+        ensures { option_copied result ≡ get_or self.now.locals t None }
     {
-        match *place {
-            Place::Shared(i) => self.shared_pointer(i),
-            Place::Cell { a, f } => {
-                if self.used(a) && self.is_pointer(f) {
-                    Some(self.field(a, f))
-                } else {
-                    None
-                }
-            }
-            Place::Local { t, v } => local_of(&self.locals, t, v),
-        }
+        held(&self.locals, t)
     }
 
     /// The shared pointer, if there is one of this number.
@@ -259,8 +267,9 @@ impl Memory {
         self.nodes.set_cell(a, f.0 as usize, c);
     }
 
-    /// The number of a data field of a node.
-    pub(crate) fn field_value(&self, a: u32, f: FieldId) -> u32
+    /// The number of a data field of the node at an address, and 0 where no node stands there, or nodes have no such
+    /// field.
+    pub fn field_value(&self, a: u32, f: FieldId) -> u32
         ensures { result ≡ field_value self.now a f.0 }
     {
         self.nodes.value(a, f.0 as usize)

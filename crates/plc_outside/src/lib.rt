@@ -20,6 +20,7 @@ mod memory_sinks;
 mod readings;
 mod real;
 mod sinks;
+mod words;
 mod writing;
 
 pub use files::{FileFault, Files};
@@ -29,4 +30,5 @@ pub use memory::MemFiles;
 pub use memory_sinks::{FailSink, VecSink};
 pub use real::{OutSink, RealFiles};
 pub use sinks::{Sink, SinkFault};
+pub use words::{WordsFault, program_words};
 pub use writing::write_text;

@@ -2,8 +2,13 @@
 //! with the frees that a reclaimer picks. `replay` gives the one end that the definition gives:
 //! the first race, impossible line or forbidden free, or else the counts of the whole. Under a
 //! reclaimer that serves the file's observer no end is a forbidden free.
+//!
+//! A replay may also be followed line by line, to look at memory and threads after each: `begin_reclaimer`, then
+//! `begin_run` for line 1, then `take_line` for each further line, until one of them answers an end or none is left.
+//! Who has to know the move of a line calls `ask` and `take_move`, of which `take_line` is made.
 #![tactic(auto)]
 
+mod beginning;
 mod end;
 mod laws;
 mod lines;
@@ -11,6 +16,10 @@ mod moving;
 mod replaying;
 mod wanted;
 
+pub use beginning::{begin_reclaimer, begin_run};
 pub use end::End;
 pub use laws::{schedules_come_to_one_end, served_replays_forbid_nothing};
+pub use lines::take_line;
+pub use moving::take_move;
 pub use replaying::replay;
+pub use wanted::{Wanted, ask};

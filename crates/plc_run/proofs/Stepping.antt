@@ -149,7 +149,7 @@ restored v q mid s t l m held rest same as_lent given =
     λ i. record { here = record { state = state i; history = (same i).here.history; points = (same i).here.points }; ended = (same i).ended; located = (same i).located; steps = (same i).steps }
 
 -- the memory is whole with the locals that were lent
-whole : (s lent : State) (t : ℕ) (l : Locals) → get_or s.locals t None ≡ Some l → lent ≡ record s { locals = set s.locals t None } → with_locals lent t (Some l) ≡ s
+pub whole : (s lent : State) (t : ℕ) (l : Locals) → get_or s.locals t None ≡ Some l → lent ≡ record s { locals = set s.locals t None } → with_locals lent t (Some l) ≡ s
 whole s lent t l held rest = ap (λ (s : State). with_locals s t (Some l)) rest ∙ given_back s t l held
 
 some_same : {A : Type 0} (x y : A) → Some x ≡ Some y → x ≡ y

@@ -1,4 +1,4 @@
--- How the code says that primitives in order ended, and what it asks before it takes a step.
+-- How the code says that primitives in order ended, and what it asks before it takes a step, or tries its primitives.
 use Rattle.std.specs.Prelude.{◌≡◌, ℕ, ◌<◌, List, length, get_or, Some, None}
 use Rattle.plc_lang.specs.declared.syntax.Primitive.{Primitive}
 use Rattle.plc_lang.specs.Shape.{PrimitivesIn}
@@ -39,3 +39,10 @@ pub record IsReady (c : Configuration) (t : ℕ) (p : Point) (step : Step) : Typ
   pub held : get_or c.state.locals t None ≡ Some locals
   pub fit : PrimitivesIn (shape c.state locals) step.prims
   pub short : length step.prims < 65536
+
+-- thread t holds locals to which these primitives fit, and there are few of them
+pub record MayTry (s : State) (t : ℕ) (ps : List Primitive) : Type 0 where
+  pub locals : Locals
+  pub held : get_or s.locals t None ≡ Some locals
+  pub fit : PrimitivesIn (shape s locals) ps
+  pub short : length ps < 65536

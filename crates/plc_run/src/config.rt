@@ -27,7 +27,7 @@ use plc_flow::{Flow, Point, Step, StepsByPoint, names_rightly};
 use plc_lang::Prim;
 use plc_mem::{Locals, Memory, RaceKind, Undo};
 use plc_threads::{
-    Move, StartFault, arrival, at_exit, begun, indexed_step_at, none_held, set_point,
+    Move, StartFault, arrival, at_exit, begun, indexed_step_at, none_held, point_at, set_point,
 };
 use std::alloc::Global;
 use std::marker::Model;
@@ -44,12 +44,12 @@ fn came_about(ended: &Result<Ended, NoMemory>) -> bool
 #[derive(Drop)]
 pub struct Config {
     alloc: Global,
-    memory: Memory,
+    pub(crate) memory: Memory,
     history: Vec<Event>,
     located: Locations,
-    points: Vec<Option<Point>>,
-    ended: bool,
-    steps: StepsByPoint,
+    pub(crate) points: Vec<Option<Point>>,
+    pub(crate) ended: bool,
+    pub(crate) steps: StepsByPoint,
 }
 
 impl Model for Config {
@@ -139,6 +139,13 @@ impl Config {
         ensures { result.now ≡ self.now.here.state }
     {
         &self.memory
+    }
+
+    /// The point where a thread stands. `None` exactly where it is idle, and where there is no such thread.
+    pub fn point(&self, t: u32) -> Option<Point>
+        ensures { result ≡ point_of self.now.here t }
+    {
+        point_at(&self.points, t)
     }
 
     /// One move, with the flow and the observer of the start. After `Blocked` and `Forbidden`, and where

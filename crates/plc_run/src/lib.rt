@@ -6,7 +6,10 @@ mod config;
 mod execute;
 mod laws;
 mod moved;
+mod refusal;
+mod refusing;
 
 pub use config::Config;
 pub use laws::{init_is_quiet, runs_are_observed, runs_go_on, threads_hold_their_locals};
 pub use moved::Moved;
+pub use refusal::Refusal;

@@ -9,7 +9,7 @@ ghost use Rattle.plc_texts.specs.Untyped.{step_operation};
 
 use crate::counts::push_counts;
 use crate::names::variable_in;
-use crate::push::{push, push_bytes, push_number};
+use crate::pieces::{push, push_bytes, push_number};
 use crate::refusals::{fixed, numbered};
 use crate::steps::operation_of;
 use plc_base::{NoMemory, OpId, StepId};

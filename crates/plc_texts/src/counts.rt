@@ -2,7 +2,7 @@
 ghost use Rattle.std.specs.Prelude.{◌≡◌, ◌++◌, OnOk};
 ghost use Rattle.plc_texts.specs.Counts.{counts_text};
 
-use crate::push::{push, push_number};
+use crate::pieces::{push, push_number};
 use plc_flow::Flow;
 use std::alloc::AllocError;
 

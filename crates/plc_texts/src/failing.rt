@@ -4,7 +4,7 @@ ghost use Rattle.plc_texts.specs.Names.{variable_in};
 ghost use Rattle.plc_texts.specs.Untyped.{condition_text, untyped_text, fault_word, fault_variable};
 
 use crate::names::variable_in;
-use crate::push::{push, push_bytes, push_numbered};
+use crate::pieces::{push, push_bytes, push_numbered};
 use crate::refusals::fixed;
 use crate::steps::{line_of, operation_of};
 use plc_flow::Flow;

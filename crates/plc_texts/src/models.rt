@@ -9,7 +9,7 @@ ghost use Rattle.plc_texts.specs.Unproved.{symbol_text, map_name};
 ghost use Rattle.plc_texts.specs.Unproved.{term_text, term_texts, term_line, term_lines, unproved_text};
 ghost use Rattle.plc_texts.specs.Untyped.{step_line};
 
-use crate::push::{push, push_bytes, push_number, push_numbered};
+use crate::pieces::{push, push_bytes, push_number, push_numbered};
 use plc_base::StepId;
 use plc_flow::Flow;
 use plc_ground::{GroundSet, GroundTerm, Map, Symbol};
@@ -102,8 +102,8 @@ fn value_of(file: &File, field: usize, value: u32) -> &[u8]
     }
 }
 
-/// The name of a value by its number over the file.
-fn value_text(file: &File, number: u16) -> &[u8]
+/// The name of a value of an auxiliary field, by its number over the file; the empty name where none has it.
+pub fn value_text(file: &File, number: u16) -> &[u8]
     ensures { result.now ≡ value_in file.now (value_at file.now.ghosts number) }
 {
     match value_at(file.ghosts.as_slice(), u32::from(number)) {

@@ -4,8 +4,8 @@ ghost use Rattle.plc_texts.specs.Names.{variable_in};
 
 use plc_lang::{File, Var, locals_of, variable_name};
 
-/// The name of a pointer variable of an operation.
-pub(crate) fn variable_in<'a>(file: &'a File, operation: u16, var: Var) -> &'a [u8]
+/// The name of a pointer variable of the operation with a number; empty where there is none.
+pub fn variable_in<'a>(file: &'a File, operation: u16, var: Var) -> &'a [u8]
     ensures { result.now ≡ variable_in file.now operation var }
 {
     variable_name(

@@ -3,7 +3,7 @@ ghost use Rattle.std.specs.Prelude.{◌≡◌, ◌++◌, IfOk, codes, decimal};
 ghost use Rattle.plc_texts.specs.Refusals.{lex_text, limit_text, parse_text, token_text};
 ghost use Rattle.plc_texts.specs.Refusals.{words_refused, read_failed, read_too_long};
 
-use crate::push::{push, push_number};
+use crate::pieces::{push, push_number};
 use plc_base::What1;
 use plc_lex::LexFault;
 use plc_scope::ParseFault;

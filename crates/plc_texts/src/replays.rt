@@ -2,7 +2,7 @@
 ghost use Rattle.std.specs.Prelude.{◌≡◌, ◌++◌, IfOk, codes, decimal};
 ghost use Rattle.plc_texts.specs.Replays.{end_text, race_name, schedule_text};
 
-use crate::push::{push, push_numbered};
+use crate::pieces::{push, push_numbered};
 use crate::refusals::{fixed, limit, numbered};
 use plc_base::What1;
 use plc_mem::RaceKind;

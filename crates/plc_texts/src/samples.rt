@@ -3,7 +3,7 @@ ghost use Rattle.std.specs.Prelude.{◌≡◌, IfOk};
 ghost use Rattle.plc_texts.specs.Samples.{summary_text};
 
 use crate::counts::push_counts;
-use crate::push::{push, push_numbered};
+use crate::pieces::{push, push_numbered};
 use plc_flow::Flow;
 use std::alloc::{AllocError, Global};
 

@@ -4,8 +4,9 @@ ghost use Rattle.plc_texts.specs.Untyped.{step_line, step_operation};
 
 use plc_flow::Flow;
 
-/// The line of a step.
-pub(crate) fn line_of(flow: &Flow, step: u16) -> u32
+/// The line of the file at which a step stands, by its number among the steps of the flow; 0 where there is no such
+/// step.
+pub fn line_of(flow: &Flow, step: u16) -> u32
     ensures { result ≡ step_line (slice_get flow.now.steps step) }
 {
     match flow.steps.get(step as usize) {

@@ -5,7 +5,7 @@ ghost use Rattle.plc_texts.specs.Suggestions.{spot_line, spot_lines, suggested_t
 
 use crate::failing::condition;
 use crate::names::variable_in;
-use crate::push::{push, push_bytes, push_number, push_numbered};
+use crate::pieces::{push, push_bytes, push_number, push_numbered};
 use crate::refusals::numbered;
 use crate::steps::{line_of, operation_of};
 use plc_flow::Flow;

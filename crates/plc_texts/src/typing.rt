@@ -7,7 +7,7 @@ ghost use Rattle.plc_texts.specs.Typings.{anywhere_line, local_line, local_lines
 ghost use Rattle.plc_texts.specs.Typings.{env_lines, label_lines, safe_line, safe_text};
 ghost use Rattle.plc_lang.specs.Names.{name_at};
 
-use crate::push::{push, push_bytes, push_number};
+use crate::pieces::{push, push_bytes, push_number};
 use plc_auto::Observer;
 use plc_base::{LocId, Mask, PointId};
 use plc_flow::{Flow, Gate};

@@ -143,7 +143,25 @@ fn moved_text(alloc: Global, answer: &Moved, events: &[Event]) -> Result<String,
     Ok(text)
 }
 
-// One move, with its answer; or the places, where `places` stands in its stead.
+// Why there is no such move, after the word `why`.
+fn why_text(
+    alloc: Global,
+    flow: &Flow,
+    observer: &Observer,
+    config: &Config,
+    line: &str,
+) -> Result<String, NoMemory>
+    requires fits { FlowFits flow.now }
+    requires of_run { IsOfRun flow.now observer.now config.now }
+{
+    let m = move_of(alloc, line)?;
+    match config.refusal(flow, &m)? {
+        Some(cause) => Ok(format!(in alloc; "{cause:?}")?),
+        None => Ok(String::from_str(alloc, "None")?),
+    }
+}
+
+// One move, with its answer; or the places, where `places` stands in its stead, or after `why` the cause.
 fn take_move(
     alloc: Global,
     flow: &Flow,
@@ -157,6 +175,9 @@ fn take_move(
 {
     if line == "places" {
         return Ok(places_text(alloc, config.memory())?);
+    }
+    if let Some(asked) = line.strip_prefix("why ") {
+        return why_text(alloc, flow, observer, config, asked);
     }
     let m = move_of(alloc, line)?;
     let before = config.history().len();
@@ -229,12 +250,12 @@ pub(crate) fn ran(
 const STACK: &str =
     "struct Node { ptr next; } shared Top; call protect(ptr); use hazard(protect); op put(v) { ptr n; n := new; \
      Top := n; } op take() { ptr t; t := Top; Top := null; retire(t); } op look() { ptr t; t := Top; protect(t); \
-     t ?= Top; }";
+     t ?= Top; } op swap() { ptr n; atomic { n := Top; assume n != Top; Top := n; } }";
 
 // Moves with their answers, from the beginning.
 const MOVES: &str = "# start 0 0 7 => Done
 start 0 0 7 => Blocked
-start 1 3 => Blocked
+start 1 4 => Blocked
 start 1 0 => Blocked
 start 1 0 7 7 => Blocked
 start 2 0 7 => Blocked
@@ -278,6 +299,49 @@ free 1 => Blocked
 places => Top=0 p=1? r=1? 
 ";
 
+// Why moves are blocked, or not, where nothing happens of the asking.
+const WHYS: &str = "# why start 0 0 7 => None
+why start 2 0 7 => NoThread
+why start 0 4 => NoOperation
+why start 0 0 => Arguments
+why step 0 0 => Idle
+why step 2 0 => NoThread
+why return 0 => Idle
+why free 0 => Null
+why free 1 => None
+start 0 0 7 => Done
+why start 0 0 7 => Busy
+why step 0 0 => NoAddress
+why step 0 1 2 => NoStep
+why step 0 0 2 => None
+why return 0 => NotAtExit
+step 0 0 2 => Done
+why step 0 0 3 => NotAllocating
+step 0 0 => Done
+step 0 0 => Done
+why return 0 => None
+# start 0 3 => Done
+why step 0 0 => Blocked { prim: 1 }
+places => Top=0 p=0 
+# start 0 0 7 => Done
+step 0 0 1 => Done
+step 0 0 => Done
+step 0 0 => Done
+return 0 => Done
+start 0 1 => Done
+start 1 1 => Done
+step 0 0 => Done
+step 1 0 => Done
+step 0 0 => Done
+step 1 0 => Done
+step 0 0 => Done, 0 calls 0 with 1
+free 1 => Done, 1 is freed
+why step 1 0 => None
+step 1 0 => Pass 0
+why step 0 0 => Ended
+why free 0 => Ended
+";
+
 // Moves from the beginning to the call by which a reader protects the node of `Top`.
 const PROTECT: &str = "start 0 0 7 => Done
 step 0 0 1 => Done
@@ -311,7 +375,7 @@ places => Top=0 p=1 r=1 1.next=0 used 1 retired 1
 
 #[test]
 fn moves_have_their_answers(rt: HostRuntime) -> Result<(), NoMemory> {
-    for (before, rows) in [("", MOVES), ("", PROTECT), (PROTECT, PROTECTED)] {
+    for (before, rows) in [("", MOVES), ("", WHYS), ("", PROTECT), (PROTECT, PROTECTED)] {
         for row in rows.split("# ") {
             text_is(&rt, ran(rt.alloc(), STACK, before, row), row)?;
         }

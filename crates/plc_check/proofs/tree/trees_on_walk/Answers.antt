@@ -1,6 +1,5 @@
 use Rattle.std.proofs.Common.{List, [], ◌∷◌, ◌++◌, sym, subst}
 use Rattle.plc_oblig.specs.Obligations.{obligations}
-use Rattle.plc_oblig.specs.Outlines.{IsKept}
 use Rattle.plc_setting.specs.declared.obligations.Obligation.{Obligation}
 use Rattle.plc_ground.specs.declared.terms.Tree.{Tree}
 use Rattle.plc_check.specs.Counterexamples.{AddsTreeAt, NotedHaveTrees}
@@ -40,10 +39,9 @@ returns-in-Err c =
 
 pub tree_at-requires-clause-there : goal.tree_at-requires-clause-there
 tree_at-requires-clause-there c =
-    is_listed (IsKept c.args.judged.now.flow c.args.judged.now.unit_outline) (obligations c.args.judged.now.flow c.args.judged.now.unit_outline)
-    c.loop-obligation.walk c.next.new.self c.in-Some.obligation
-    (kept_so_far c.args.judged.now.flow c.args.judged.now.unit_outline c.loop-obligation.walk c.loop-obligation.trees c.loop-obligation.invariant.0)
-    c.in-Some.ensures
+    let so_far = c.loop-obligation.invariant.0 in
+    is_listed (obligations c.args.judged.now.flow c.args.judged.now.unit_outline) so_far.before
+    c.loop-obligation.walk c.next.new.self c.in-Some.obligation so_far.listed c.in-Some.ensures
 
 pub tree_at-requires-clause-noted : goal.tree_at-requires-clause-noted
 tree_at-requires-clause-noted c =

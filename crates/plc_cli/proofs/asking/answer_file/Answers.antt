@@ -1,7 +1,7 @@
 use Rattle.std.proofs.Common.{inl, subst}
 use Rattle.plc_check.specs.Loading.{judged_of}
 use Rattle.plc_cli.specs.Files.{IsAnsweredFile}
-use Rattle.plc_cli.specs.Views.{IsContentOf}
+use Rattle.plc_cli.specs.Reads.{IsContentOf}
 use Rattle.plc_cli.proofs.Answering.{if_found}
 use Rattle.plc_cli.proofs.asking.answer_file.Goals as goal
 

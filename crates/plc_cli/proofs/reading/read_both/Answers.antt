@@ -1,5 +1,5 @@
 use Rattle.std.proofs.Common.{inr, subst}
-use Rattle.plc_cli.specs.Views.{IsContentOf}
+use Rattle.plc_cli.specs.Reads.{IsContentOf}
 use Rattle.plc_cli.proofs.TwoReads.{second_unread}
 use Rattle.plc_cli.proofs.reading.read_both.Goals as goal
 

@@ -5,8 +5,8 @@ use Rattle.plc_infer.specs.Programs.{program_of}
 use Rattle.plc_infer.specs.Starts.{starts_of}
 use Rattle.plc_infer.specs.Graphs.{graph_of}
 use Rattle.plc_infer.specs.Iteration.{HoldBelow}
-use Rattle.plc_infer.proofs.Skeletal.{stuck_is, typing_is, strongest_is, starts_are}
-use Rattle.plc_infer.proofs.Programs.{steps_length}
+use Rattle.plc_infer.proofs.Skeletal.{stuck_is, typing_is, starts_are}
+use Rattle.plc_infer.proofs.Programs.{steps_length, program_strongest}
 use Rattle.plc_infer.proofs.typing.infer_program.Goals as goal
 
 pub returns-in-Some-clause-stuck : goal.returns-in-Some-clause-stuck
@@ -32,4 +32,4 @@ pub returns-in-None-clause-strongest : goal.returns-in-None-clause-strongest
 returns-in-None-clause-strongest c =
     let o = c.args.observer.now in
     let s = program_of c.args.program.now in
-    rw c.from_vec.ensures (strongest_is ordered kept o s (starts_of o s) (starts_are ordered kept o s c.requires) c.requires c.in_ok-envs.envs.items c.in_ok-envs.ensures)
+    rw c.from_vec.ensures (program_strongest o s c.requires c.in_ok-envs.envs.items c.in_ok-envs.ensures)

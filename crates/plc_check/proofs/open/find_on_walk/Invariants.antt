@@ -1,0 +1,14 @@
+use Rattle.std.proofs.Common.{◌≤◌, length}
+use Rattle.plc_check.specs.Counterexamples.{NotedAreKept}
+use Rattle.plc_check.proofs.Found.{FoundSoFar}
+use Rattle.plc_check.proofs.open.find_on_walk.Given as goal
+
+abbrev pub invariant-obligations : goal.invariant-obligations
+invariant-obligations l = record {
+  so_far : FoundSoFar l.judged.flow l.judged.unit_outline l.walk l.found;
+  noted : NotedAreKept l.judged.flow l.judged.unit_outline l.kept;
+  few : length l.found ≤ l.most;
+}
+
+abbrev pub decreases-obligations : goal.decreases-obligations
+decreases-obligations l = length l.walk

@@ -1,0 +1,3 @@
+-- what contracts of public calls say
+pub mod Escaping
+pub mod Pages

@@ -1,0 +1,2 @@
+-- what contracts of public calls say
+pub mod Pages

@@ -1,0 +1,20 @@
+//! Pages that show what `check` answers to a file: the file with its steps, what is known at each point, and what the
+//! answer is about, in the file's own words. It judges nothing: it stands on the crates on which `check` stands, and
+//! the answer on a page is the text that `plc check` writes (`file_page`), with the status of it.
+//!
+//! `plain_lines` says the same in lines for editors and tools.
+#![tactic(auto)]
+
+mod listing;
+mod page;
+mod plain;
+mod points;
+mod refused;
+mod safe;
+mod shown;
+mod types;
+mod unproved;
+mod untyped;
+
+pub use page::{Page, file_page};
+pub use plain::{Lines, plain_lines};

@@ -1,0 +1,176 @@
+// The page of a file: the answer, what it is about, the file, and its points. What follows the answer is made apart,
+// so that the page shows the answer whatever is said of it.
+ghost use Rattle.std.specs.Prelude.{◌≡◌, ◌≤◌, IfOk, length};
+ghost use Rattle.plc_base.specs.Limits.{largest_file};
+ghost use Rattle.plc_flow.specs.Skeleton.{skeleton_of};
+ghost use Rattle.plc_setting.specs.Fit.{Fits};
+ghost use Rattle.plc_xfer.specs.Typings.{IsStrongest};
+ghost use Rattle.plc_page.specs.Pages.{ShowsCheck, SaysVerdict, ShowsVerdict, SaysRefusal};
+
+use crate::listing::{push_bytes_listing, push_listing};
+use crate::points::push_points;
+use crate::refused::line_of_refusal;
+use crate::safe::push_safe;
+use crate::shown::{Shown, Written};
+use crate::unproved::{MOST_SHOWN, push_unproved};
+use crate::untyped::push_failure;
+use plc_base::{Items, NoMemory};
+use plc_check::{Judged, LoadFault, Verdict, check, load, open_obligations};
+use plc_cli::{refusal, verdict_status, verdict_text};
+use plc_html::{Html, whole_page};
+use plc_infer::{Typing, pretyping};
+use plc_lex::tokens;
+use plc_texts::line_of;
+use plc_words::Clauses;
+use std::alloc::Global;
+
+/// A page, with the status of the answer that it shows.
+#[derive(Drop)]
+pub struct Page {
+    pub status: u8,
+    pub bytes: Items<u8>,
+}
+
+/// The line of the primitive that has no typing, or 0.
+fn line_here(judged: &Judged, verdict: &Verdict) -> u32 {
+    match verdict {
+        Verdict::Untyped { step, .. } => line_of(&judged.flow, step.0),
+        Verdict::Safe { .. } | Verdict::Unproved { .. } => 0,
+    }
+}
+
+/// What the answer is about.
+fn push_reasons(html: &mut Html, shown: &Shown, verdict: &Verdict) -> Written
+    requires fits { Fits shown.now.judged.now.flow shown.now.judged.now.unit_outline }
+    requires strongest { IsStrongest shown.now.judged.now.observer (skeleton_of shown.now.judged.now.flow)
+        shown.now.typing.now.env }
+{
+    match verdict {
+        Verdict::Safe { .. } => push_safe(html),
+        Verdict::Untyped { step, prim, fault } => push_failure(html, shown, *step, *prim, *fault),
+        Verdict::Unproved { .. } => {
+            let open = open_obligations(html.alloc(), shown.judged, MOST_SHOWN)?;
+            push_unproved(html, shown, &open)
+        }
+    }
+}
+
+/// All that follows the answer.
+fn push_all(html: &mut Html, shown: &Shown, verdict: &Verdict) -> Written
+    requires fits { Fits shown.now.judged.now.flow shown.now.judged.now.unit_outline }
+    requires strongest { IsStrongest shown.now.judged.now.observer (skeleton_of shown.now.judged.now.flow)
+        shown.now.typing.now.env }
+{
+    push_reasons(html, shown, verdict)?;
+    push_listing(html, shown, line_here(shown.judged, verdict))?;
+    push_points(html, shown)
+}
+
+/// Where the clauses of the outline stand in bytes that spell a file.
+pub(crate) fn clauses_in(alloc: Global, bytes: &[u8]) -> Result<Clauses, NoMemory>
+    requires { length bytes.now ≤ largest_file }
+{
+    match tokens(alloc, bytes) {
+        Ok(tokens) => Clauses::read(alloc, &tokens),
+        Err(_) => Err(NoMemory),
+    }
+}
+
+/// What follows the answer.
+fn rest_of(
+    alloc: Global,
+    bytes: &[u8],
+    judged: &Judged,
+    verdict: &Verdict,
+) -> Result<Html, NoMemory>
+    requires short { length bytes.now ≤ largest_file }
+    requires fits { Fits judged.now.flow judged.now.unit_outline }
+{
+    let clauses = clauses_in(alloc, bytes)?;
+    let typing = pretyping(alloc, &judged.flow, &judged.observer)?;
+    let shown = Shown {
+        bytes,
+        judged,
+        clauses: &clauses,
+        typing: &typing,
+    };
+    let mut html = Html::new(alloc);
+    push_all(&mut html, &shown, verdict)?;
+    Ok(html)
+}
+
+/// The page that says a verdict.
+fn verdict_page(
+    alloc: Global,
+    name: &[u8],
+    bytes: &[u8],
+    judged: &Judged,
+    verdict: &Verdict,
+) -> Result<Page, NoMemory>
+    requires short { length bytes.now ≤ largest_file }
+    requires fits { Fits judged.now.flow judged.now.unit_outline }
+    ensures { IfOk result (SaysVerdict judged.now verdict.now) }
+{
+    let text = verdict_text(alloc, judged, verdict)?;
+    let rest = rest_of(alloc, bytes, judged, verdict)?;
+    let page = whole_page(alloc, name, &text, rest)?;
+    Ok(Page {
+        status: verdict_status(verdict),
+        bytes: Items::from_vec(page),
+    })
+}
+
+/// The page of a file that was loaded.
+fn judged_page(alloc: Global, name: &[u8], bytes: &[u8], judged: &Judged) -> Result<Page, NoMemory>
+    requires short { length bytes.now ≤ largest_file }
+    requires fits { Fits judged.now.flow judged.now.unit_outline }
+    ensures { IfOk result (ShowsVerdict judged.now) }
+{
+    let verdict = check(alloc, judged)?;
+    let page = verdict_page(alloc, name, bytes, judged, &verdict);
+    drop(verdict);
+    page
+}
+
+/// The page of a file that was loaded, which ends here.
+fn loaded_page(alloc: Global, name: &[u8], bytes: &[u8], judged: Judged) -> Result<Page, NoMemory>
+    requires short { length bytes.now ≤ largest_file }
+    requires fits { Fits judged.flow judged.unit_outline }
+    ensures { IfOk result (ShowsVerdict judged) }
+{
+    let page = judged_page(alloc, name, bytes, &judged);
+    drop(judged);
+    page
+}
+
+/// The page of a file that is refused.
+fn refused_page(
+    alloc: Global,
+    name: &[u8],
+    bytes: &[u8],
+    fault: &LoadFault,
+) -> Result<Page, NoMemory>
+    ensures { IfOk result (SaysRefusal fault.now) }
+{
+    let answer = refusal(alloc, fault)?;
+    let mut rest = Html::new(alloc);
+    push_bytes_listing(&mut rest, bytes, line_of_refusal(bytes, fault))?;
+    let page = whole_page(alloc, name, &answer.text, rest)?;
+    Ok(Page {
+        status: answer.status,
+        bytes: Items::from_vec(page),
+    })
+}
+
+/// The page of a file, by its bytes: the answer of `check`, what it is about, the file, and its points. `name` is the
+/// title. The one error is that memory runs out.
+pub fn file_page(alloc: Global, name: &[u8], bytes: &[u8]) -> Result<Page, NoMemory>
+    requires { length bytes.now ≤ largest_file }
+    ensures { IfOk result (ShowsCheck bytes.now) }
+{
+    match load(alloc, bytes) {
+        Ok(judged) => loaded_page(alloc, name, bytes, judged),
+        Err(LoadFault::Memory) => Err(NoMemory),
+        Err(fault) => refused_page(alloc, name, bytes, &fault),
+    }
+}

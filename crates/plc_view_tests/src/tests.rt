@@ -1,0 +1,175 @@
+// Pages of small files, and of files that would be markup if a page let them.
+use plc_cli::{MemFiles, VecSink};
+use plc_view::show;
+use std::alloc::{AllocError, Global};
+
+struct Row {
+    words: &'static str,
+    file: &'static str,
+    status: u8,
+    shows: &'static str,
+    hides: &'static str,
+}
+
+const SMALL: &str = "struct Node { ptr next; data val; }
+shared Top;
+op f(v) { ptr n; n := new; n.val := v; Top := n; }
+";
+
+// A comment, and nothing else, may hold any bytes.
+const MARKUP: &str =
+    "struct Node { ptr next; } // </td><script>alert('1')</script><img src=\"x\" onerror=alert(2)>
+shared Top; // &amp; <b>
+op f() { ptr n; n := Top; n := n.next; }
+";
+
+const REFUSED: &str = "struct Node { <script>alert(1)</script> }";
+
+const BROKEN: &str = "struct Node { ptr next; }
+shared Top;
+ghost st { made, linked };
+op put() { ptr n; n := new; Top := n; }
+outline { inv Top == null or Top.st == linked; /* */ }
+";
+
+const UNPROVED: &str = "struct Node { ptr next; }
+shared Top;
+ghost st { made, linked };
+op put() {
+    ptr n;
+    n := new;
+    Top := n;
+}
+outline { inv Top == null or Top.st == linked; }
+";
+
+const ROWS: [Row; 11] = [
+    Row {
+        words: "file",
+        file: SMALL,
+        status: 0,
+        shows: "<pre class=\"answer\">safe points 5 steps 4 locations 2 obligations 0\n</pre>",
+        hides: "<script",
+    },
+    Row {
+        words: "file",
+        file: SMALL,
+        status: 0,
+        shows: "<td>op f(v) { ptr n; n := new; n.val := v; Top := n; }</td>",
+        hides: "src=",
+    },
+    Row {
+        words: "file",
+        file: MARKUP,
+        status: 1,
+        shows: "// &lt;/td&gt;&lt;script&gt;alert(&#39;1&#39;)&lt;/script&gt;&lt;img src=&quot;x&quot; onerror=alert(2)&gt;",
+        hides: "<script",
+    },
+    Row {
+        words: "file",
+        file: MARKUP,
+        status: 1,
+        shows: "// &amp;amp; &lt;b&gt;",
+        hides: "<img",
+    },
+    Row {
+        words: "file",
+        file: REFUSED,
+        status: 2,
+        shows: "<tr class=\"here\" id=\"L1\">",
+        hides: "<script",
+    },
+    Row {
+        words: "file",
+        file: UNPROVED,
+        status: 1,
+        shows: "<pre class=\"answer\">unproved own step 1 line 7 clause 0\n",
+        hides: "At least",
+    },
+    Row {
+        words: "--plain file",
+        file: UNPROVED,
+        status: 1,
+        shows: "file:7: ",
+        hides: "<",
+    },
+    Row {
+        words: "--plain file",
+        file: SMALL,
+        status: 0,
+        shows: "",
+        hides: "file",
+    },
+    Row {
+        words: "--plain file",
+        file: BROKEN,
+        status: 2,
+        shows: "file:5: refused byte at 152\n",
+        hides: "<",
+    },
+    Row {
+        words: "--plain",
+        file: SMALL,
+        status: 3,
+        shows: "words refused\n",
+        hides: "<",
+    },
+    Row {
+        words: "file schedule leak",
+        file: SMALL,
+        status: 3,
+        shows: "words refused\n",
+        hides: "<",
+    },
+];
+
+// The words of a line, which blanks part.
+fn words_of(alloc: Global, line: &str) -> Result<Vec<String>, AllocError> {
+    let mut words = Vec::new(alloc);
+    for word in line.split(' ') {
+        words.push(String::from_str(alloc, word)?)?;
+    }
+    Ok(words)
+}
+
+// The file.
+fn files_of(alloc: Global, file: &str) -> Result<MemFiles, AllocError> {
+    let mut files = Vec::new(alloc);
+    files.push((
+        String::from_str(alloc, "file")?,
+        Vec::from_slice(alloc, file.as_bytes())?,
+    ))?;
+    Ok(MemFiles::new(alloc, files, Vec::new(alloc)))
+}
+
+// Whether a page is as the row says.
+fn is_so(row: &Row, status: u8, written: &[u8]) -> bool {
+    match str::from_utf8(written) {
+        Ok(text) => {
+            status == row.status && text.contains(row.shows) && !text.contains(row.hides)
+        }
+        Err(_) => false,
+    }
+}
+
+// Whether what is written for the row is as it says.
+fn row_is(alloc: Global, row: &Row) -> Result<bool, AllocError> {
+    let words = words_of(alloc, row.words)?;
+    let mut files = files_of(alloc, row.file)?;
+    let mut out = VecSink::new(alloc);
+    let status = show(alloc, &words, &mut files, &mut out);
+    let so = is_so(row, status, out.written());
+    drop(out);
+    drop(files);
+    drop(words);
+    Ok(so)
+}
+
+#[test]
+fn pages_are_as_the_rows_say(rt: HostRuntime) -> Result<(), AllocError> {
+    for (at, row) in ROWS.iter().enumerate() {
+        let so = row_is(rt.alloc(), row)?;
+        assert!(rt; so, "row {at}");
+    }
+    Ok(())
+}
