@@ -19,4 +19,3 @@ mod untyped;
 pub use listing::{push_file, push_numbered_lines};
 pub use page::{Page, file_page, refused_page};
 pub use plain::{Lines, plain_lines};
-pub use shown::{Written, push_sentence};

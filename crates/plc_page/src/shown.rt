@@ -6,7 +6,7 @@ use plc_infer::Typing;
 use plc_words::Clauses;
 
 /// What writing a part of a page answers: nothing, or that memory runs out.
-pub type Written = Result<(), NoMemory>;
+pub(crate) type Written = Result<(), NoMemory>;
 
 /// A file that is shown.
 #[derive(Clone, Copy)]
@@ -21,8 +21,8 @@ pub(crate) struct Shown<'a> {
     pub(crate) typing: &'a Typing,
 }
 
-/// Adds a sentence, in which the file's own words stand between backquotes. The one error is that memory runs out.
-pub fn push_sentence(html: &mut Html, words: &[u8]) -> Written {
+/// Adds a sentence, in which the file's own words stand between backquotes.
+pub(crate) fn push_sentence(html: &mut Html, words: &[u8]) -> Written {
     let mut quoted = false;
     for piece in words.split(|byte| *byte == b'`') {
         html.markup(if quoted { "<code>" } else { "" })?;

@@ -2,17 +2,13 @@
 ghost use Rattle.plc_flow.specs.WellFormed.{FlowFits};
 ghost use Rattle.plc_run.specs.Position.{IsOfRun};
 
-use crate::pieces::{push_name, push_numbered};
 use crate::racing::push_race;
 use crate::refused::push_refusal;
-use crate::taken::step_of;
-use crate::traced::Traced;
-use crate::watching::push_forbidding;
 use plc_auto::Observer;
 use plc_html::Html;
 use plc_mem::RaceKind;
-use plc_page::Written;
 use plc_replay::End;
+use plc_rows::{Traced, Written, push_forbidding, push_name, push_numbered, step_of};
 use plc_run::Config;
 use plc_sched::Entry;
 use plc_threads::Move;
@@ -47,7 +43,7 @@ fn push_forbidden(html: &mut Html, traced: &Traced, config: &Config, a: u32) -> 
     push_numbered(html, " is a forbidden free: the reclaimer picks ", a)?;
     html.markup(", which the observer keeps, by where it stands for")?;
     html.markup("</p>\n")?;
-    let observer = &traced.judged.observer;
+    let observer = traced.observer;
     push_forbidding(html, observer, config.history(), traced.threads, a)
 }
 
@@ -59,11 +55,11 @@ fn push_impossible(
     config: &Config,
     m: &Move,
 ) -> Written
-    requires fits { FlowFits traced.now.judged.now.flow }
-    requires of_run { IsOfRun traced.now.judged.now.flow observer.now config.now }
+    requires fits { FlowFits traced.now.flow.now }
+    requires of_run { IsOfRun traced.now.flow.now observer.now config.now }
 {
     html.markup(" is impossible: ")?;
-    if let Some(refusal) = config.refusal(&traced.judged.flow, m)? {
+    if let Some(refusal) = config.refusal(traced.flow, m)? {
         push_refusal(html, traced, config, m, refusal)?;
     }
     html.markup(".</p>\n")
@@ -78,8 +74,8 @@ pub(crate) fn push_ending(
     m: &Move,
     end: &End,
 ) -> Written
-    requires fits { FlowFits traced.now.judged.now.flow }
-    requires of_run { IsOfRun traced.now.judged.now.flow traced.now.judged.now.observer config.now }
+    requires fits { FlowFits traced.now.flow.now }
+    requires of_run { IsOfRun traced.now.flow.now traced.now.observer.now config.now }
 {
     match *end {
         End::Ended { .. } => Ok(()),
@@ -89,7 +85,7 @@ pub(crate) fn push_ending(
         }
         End::Impossible { line } => {
             push_line(html, line)?;
-            push_impossible(html, traced, &traced.judged.observer, config, m)
+            push_impossible(html, traced, traced.observer, config, m)
         }
         End::ForbiddenFree { a, line } => {
             push_line(html, line)?;

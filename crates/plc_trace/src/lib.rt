@@ -3,20 +3,12 @@
 //! (`replay_page`), with the status of it, and what follows is read from the same run, taken once more.
 #![tactic(auto)]
 
-mod changes;
 mod ending;
-mod events;
-mod history;
+mod log;
 mod page;
-mod pieces;
 mod racing;
 mod refused;
-mod rows;
-mod standing;
-mod store;
-mod taken;
-mod traced;
+mod running;
 mod walk;
-mod watching;
 
 pub use page::replay_page;

@@ -1,162 +1,22 @@
-// The page of a run: the answer of `replay`, what is said of its last line, a row for each line, and what is there
-// after it. What follows the answer is made apart, so that the page shows the answer whatever is said of it.
-ghost use Rattle.std.specs.Prelude.{◌≡◌, ◌≢◌, ◌+◌, ◌<◌, ◌≤◌, IfOk, length};
+// The page of a run: the answer of `replay`, and what is said of the run, which is taken once more. What follows the
+// answer is made apart, so that the page shows the answer whatever is said of it.
+ghost use Rattle.std.specs.Prelude.{◌≡◌, ◌≢◌, ◌≤◌, IfOk, length};
 ghost use Rattle.plc_base.specs.Limits.{largest_file};
 ghost use Rattle.plc_flow.specs.WellFormed.{FlowFits};
-ghost use Rattle.plc_sched.specs.Schedules.{IsWithinLimits, line_limit};
+ghost use Rattle.plc_sched.specs.Schedules.{IsWithinLimits};
 ghost use Rattle.plc_sched.specs.declared.fault.SchedFault.TheVariants.{Memory};
-ghost use Rattle.plc_trace.specs.Going.{GoesOnFrom};
 ghost use Rattle.plc_trace.specs.Pages.{ShowsReplay, ShowsSchedule, ShowsEnd, SaysUnscheduled};
 
-use crate::rows::{push_first, push_heads};
-use crate::standing::push_standing;
-use crate::traced::{Log, Traced};
-use crate::walk::take_all;
+use crate::running::trace;
 use plc_base::{Items, NoMemory};
 use plc_check::{Judged, LoadFault, load};
 use plc_cli::{REFUSED, answer_schedule};
-use plc_flow::StepsByPoint;
 use plc_html::{Html, whole_page};
-use plc_mem::Memory;
-use plc_page::{Page, Written, push_file, push_numbered_lines, refused_page};
+use plc_page::{Page, push_file, push_numbered_lines, refused_page};
 use plc_reclaim::Reclaimer;
-use plc_replay::{End, begin_reclaimer, begin_run, replay};
-use plc_run::Config;
-use plc_sched::{Entry, SchedFault, Schedule, read_schedule};
+use plc_sched::{SchedFault, Schedule, read_schedule};
 use plc_texts::unscheduled;
-use plc_threads::StartFault;
 use std::alloc::Global;
-
-/// How many lines of a schedule a page shows at most.
-const MOST_LINES: usize = 300;
-
-/// How many lines were taken, with the one at which a run ends.
-fn lines_of(end: &End) -> u32 {
-    match *end {
-        End::Ended { lines, .. } => lines,
-        End::Race { line, .. } => line,
-        End::Impossible { line } => line,
-        End::ForbiddenFree { line, .. } => line,
-    }
-}
-
-/// How many of the entries aren't shown.
-fn left_out(end: &End) -> usize {
-    (lines_of(end) as usize).saturating_sub(MOST_LINES.saturating_add(1))
-}
-
-/// The row of all lines that aren't shown, and the start.
-fn push_begun(log: &mut Log, traced: &Traced, config: &Config, lines: u32) -> Written {
-    let before = Memory::new(log.rows.alloc(), &traced.judged.flow, traced.threads)?;
-    push_first(&mut log.rows, traced, &before, config, lines)
-}
-
-/// That each line was taken.
-fn push_taken_all(log: &mut Log, end: &Option<End>) -> Written {
-    match end {
-        Some(_) => Ok(()),
-        None => log
-            .ending
-            .markup("<p>All lines of the schedule were taken.</p>\n"),
-    }
-}
-
-/// The lines that are shown, after so many others.
-fn show(
-    log: &mut Log,
-    traced: &Traced,
-    config: &mut Config,
-    reclaimer: &mut Box<dyn Reclaimer>,
-    entries: &[Entry],
-    lines: u32,
-) -> Written
-    requires fits { FlowFits traced.now.judged.now.flow }
-    requires few { lines + length entries.now ≤ line_limit }
-    requires stands { GoesOnFrom traced.now.judged.now lines config.old }
-{
-    push_begun(log, traced, config, lines)?;
-    let end = take_all(log, traced, config, reclaimer, entries, lines, true)?;
-    push_taken_all(log, &end)?;
-    push_standing(&mut log.after, traced, config)
-}
-
-/// All lines: the first ones, so many, are taken without a row.
-fn follow(
-    log: &mut Log,
-    traced: &Traced,
-    config: &mut Config,
-    reclaimer: &mut Box<dyn Reclaimer>,
-    entries: &[Entry],
-    untold: usize,
-) -> Written
-    requires fits { FlowFits traced.now.judged.now.flow }
-    requires few { length entries.now < line_limit }
-    requires untold { untold ≤ length entries.now }
-    requires stands { GoesOnFrom traced.now.judged.now 1 config.old }
-{
-    let first = &entries[..untold];
-    let others = &entries[untold..];
-    match take_all(log, traced, config, reclaimer, first, 1, false)? {
-        Some(_) => Ok(()),
-        None => show(log, traced, config, reclaimer, others, 1 + untold as u32),
-    }
-}
-
-/// The run of a schedule, from its start.
-fn run(
-    log: &mut Log,
-    traced: &Traced,
-    schedule: &Schedule,
-    reclaimer: &mut Box<dyn Reclaimer>,
-    untold: usize,
-) -> Written
-    requires fits { FlowFits traced.now.judged.now.flow }
-    requires within { IsWithinLimits schedule.now }
-{
-    let judged = traced.judged;
-    let entries = schedule.entries.as_slice();
-    let untold = untold.min(entries.len());
-    begin_reclaimer(reclaimer, judged.schemes.as_slice())?;
-    match begin_run(
-        log.rows.alloc(),
-        &judged.flow,
-        &judged.observer,
-        schedule.threads,
-    ) {
-        Ok(mut config) => follow(log, traced, &mut config, reclaimer, entries, untold),
-        Err(StartFault::NoStart) => log.ending.markup(
-            "<p>Line 1 of the schedule is impossible: <code>init</code> is blocked, so that the program has no start.</p>\n",
-        ),
-        Err(StartFault::Memory) => Err(NoMemory),
-    }
-}
-
-/// The sentences in front of the table.
-fn push_introduction(html: &mut Html, untold: usize) -> Written {
-    html.markup(
-        "<h2 id=\"run\">The run</h2>\n<p>A row for each line of the schedule: what its thread did, what the reclaimer did, what that changed, where the observer then stands for the address of each event, and which nodes are retired and not freed.</p>\n",
-    )?;
-    if untold > 0 {
-        html.markup("<p>Only the last lines are shown, ")?;
-        html.number(MOST_LINES as u64)?;
-        html.markup(" of them; the first row has what all lines before them changed.</p>\n")?;
-    }
-    Ok(())
-}
-
-/// What was written of a run, in the order of the page.
-fn put_together(log: Log, threads: u32, untold: usize, bytes: &[u8]) -> Result<Html, NoMemory> {
-    let here = log.here;
-    let mut html = log.ending;
-    push_introduction(&mut html, untold)?;
-    html.markup("<div class=\"wide\"><table>\n")?;
-    push_heads(&mut html, threads)?;
-    html.append(log.rows)?;
-    html.markup("</table></div>\n")?;
-    html.append(log.after)?;
-    push_file(&mut html, bytes, here)?;
-    Ok(html)
-}
 
 /// What follows the answer to a schedule.
 fn rest_of(
@@ -169,19 +29,17 @@ fn rest_of(
     requires fits { FlowFits judged.now.flow }
     requires within { IsWithinLimits schedule.now }
 {
-    let flow = &judged.flow;
     let schemes = judged.schemes.as_slice();
-    let end = replay(alloc, flow, &judged.observer, schemes, schedule, reclaimer)?;
-    let untold = left_out(&end);
-    let steps = StepsByPoint::of_flow(alloc, flow)?;
-    let traced = Traced {
-        judged,
-        steps: &steps,
-        threads: schedule.threads,
-    };
-    let mut log = Log::new(alloc);
-    run(&mut log, &traced, schedule, reclaimer, untold)?;
-    put_together(log, schedule.threads, untold, bytes)
+    let (mut html, here) = trace(
+        alloc,
+        &judged.flow,
+        &judged.observer,
+        schemes,
+        schedule,
+        reclaimer,
+    )?;
+    push_file(&mut html, bytes, here)?;
+    Ok(html)
 }
 
 /// The page of a schedule that was read.

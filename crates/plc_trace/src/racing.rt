@@ -1,15 +1,15 @@
 // Why the last line is a race: which primitive of the step is one, by which pointer, and when that pointer's node was
 // retired and freed.
-use crate::history::{last_free, last_retirement, push_line_of};
-use crate::pieces::{push_cell, push_name, push_numbered, push_prim, push_taken_step};
-use crate::traced::Traced;
 use plc_auto::Event;
 use plc_base::StepId;
 use plc_flow::Step;
 use plc_html::Html;
 use plc_lang::{Arg, Prim, Var};
 use plc_mem::{Cell, RaceKind};
-use plc_page::Written;
+use plc_rows::{
+    Traced, Written, last_free, last_retirement, push_cell, push_line_of, push_name, push_numbered,
+    push_prim, push_taken_step,
+};
 use plc_run::Config;
 use plc_texts::variable_in;
 use plc_threads::Place;
@@ -152,7 +152,7 @@ fn push_pointers(
     for var in risked(*racing) {
         if let Some(var) = var {
             html.markup("<li>")?;
-            push_name(html, variable_in(&traced.judged.flow.file, step.op.0, var))?;
+            push_name(html, variable_in(&traced.flow.file, step.op.0, var))?;
             push_risked(html, config, heard, before, t, var)?;
             html.markup(".</li>\n")?;
         }
@@ -180,7 +180,7 @@ fn push_racing(
 ) -> Written {
     html.markup(". Its primitive ")?;
     if let Some(prim) = step.prims.get(prim as usize) {
-        push_prim(html, &traced.judged.flow, step, prim)?;
+        push_prim(html, traced.flow, step, prim)?;
     }
     html.markup(words_of(kind))?;
     html.markup(":</p>\n")
@@ -199,8 +199,8 @@ pub(crate) fn push_race(
 ) -> Written {
     push_numbered(html, " is a race. Thread ", t)?;
     html.markup(" takes ")?;
-    push_taken_step(html, &traced.judged.flow, id)?;
-    match traced.judged.flow.steps.get(id.0 as usize) {
+    push_taken_step(html, traced.flow, id)?;
+    match traced.flow.steps.get(id.0 as usize) {
         Some(step) => {
             push_racing(html, traced, step, prim, kind)?;
             push_pointers(html, traced, config, heard, t, step, prim)

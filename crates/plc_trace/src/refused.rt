@@ -1,12 +1,9 @@
 // Why the last line is impossible, in a sentence.
-use crate::pieces::{push_name, push_numbered, push_place, push_prim};
-use crate::taken::step_of;
-use crate::traced::Traced;
 use plc_base::OpId;
 use plc_flow::{Flow, Point, Step};
 use plc_html::Html;
 use plc_lang::{Prim, count_parameters, operation_name};
-use plc_page::Written;
+use plc_rows::{Traced, Written, push_name, push_numbered, push_place, push_prim, step_of};
 use plc_run::{Config, Refusal};
 use plc_threads::Move;
 
@@ -49,7 +46,7 @@ fn push_blocked_by(
     m: &Move,
     prim: u16,
 ) -> Written {
-    let flow = &traced.judged.flow;
+    let flow = traced.flow;
     let found = match m {
         Move::Step { t, nth, .. } => step_of(traced, config, *t, *nth),
         _ => None,
@@ -81,7 +78,7 @@ fn push_at(
     m: &Move,
     words: &'static str,
 ) -> Written {
-    let flow = &traced.judged.flow;
+    let flow = traced.flow;
     html.markup(words)?;
     if let Some(point) = point_of(config, m) {
         html.markup(" ")?;
@@ -107,7 +104,7 @@ fn push_count(html: &mut Html, traced: &Traced, config: &Config, m: &Move) -> Wr
 fn push_parameters(html: &mut Html, traced: &Traced, m: &Move) -> Written {
     html.markup("the operation has another number of parameters")?;
     if let Move::Start { op, .. } = m {
-        if let Some(operation) = traced.judged.flow.file.ops.get(op.0 as usize) {
+        if let Some(operation) = traced.flow.file.ops.get(op.0 as usize) {
             html.markup(": ")?;
             html.number(count_parameters(operation) as u64)?;
         }

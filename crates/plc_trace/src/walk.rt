@@ -7,15 +7,12 @@ ghost use Rattle.plc_sched.specs.Schedules.{line_limit};
 ghost use Rattle.plc_trace.specs.Going.{GoesOnFrom, GoesOn};
 
 use crate::ending::{push_ending, push_unknown};
-use crate::history::note;
-use crate::rows::{Row, push_row};
-use crate::taken::{Taken, taken_by};
-use crate::traced::{Log, Traced};
+use crate::log::Log;
 use plc_base::NoMemory;
 use plc_mem::Memory;
-use plc_page::Written;
 use plc_reclaim::Reclaimer;
 use plc_replay::{End, Wanted, ask, take_line, take_move};
+use plc_rows::{Row, Taken, Traced, Written, note, push_row, taken_by};
 use plc_run::Config;
 use plc_sched::Entry;
 use plc_texts::line_of;
@@ -23,12 +20,12 @@ use plc_threads::Move;
 
 /// Writes the row of a move, and what is said of it where it is the last.
 fn tell(log: &mut Log, traced: &Traced, row: &Row, config: &Config, m: &Move) -> Written
-    requires fits { FlowFits traced.now.judged.now.flow }
-    requires of_run { IsOfRun traced.now.judged.now.flow traced.now.judged.now.observer config.now }
+    requires fits { FlowFits traced.now.flow.now }
+    requires of_run { IsOfRun traced.now.flow.now traced.now.observer.now config.now }
 {
     push_row(&mut log.rows, traced, row, config)?;
     if let Taken::Step(id) = row.taken {
-        log.here = line_of(&traced.judged.flow, id.0);
+        log.here = line_of(traced.flow, id.0);
     }
     match &row.end {
         Some(end) => push_ending(&mut log.ending, traced, config, &log.heard, m, end),
@@ -47,15 +44,14 @@ fn take_shown(
     m: &Move,
     lines: u32,
 ) -> Result<Option<End>, NoMemory>
-    requires fits { FlowFits traced.now.judged.now.flow }
+    requires fits { FlowFits traced.now.flow.now }
     requires few { lines < line_limit }
-    requires stands { GoesOnFrom traced.now.judged.now lines config.old }
-    ensures stands { IfOk result (λ r. GoesOn traced.now.judged.now (lines + 1) r config.new) }
+    requires stands { GoesOnFrom traced.now.flow.now traced.now.observer.now lines config.old }
+    ensures stands { IfOk result (λ r. GoesOn traced.now.flow.now traced.now.observer.now (lines + 1) r config.new) }
 {
-    let judged = traced.judged;
     let heard = config.history().len();
     let taken = taken_by(traced, config, entry);
-    let end = take_move(&judged.flow, &judged.observer, m, config, reclaimer, lines)?;
+    let end = take_move(traced.flow, traced.observer, m, config, reclaimer, lines)?;
     let line = lines + 1;
     note(&mut log.heard, config.history().len(), line)?;
     let row = Row {
@@ -99,13 +95,13 @@ fn take_told(
     entry: &Entry,
     lines: u32,
 ) -> Result<Option<End>, NoMemory>
-    requires fits { FlowFits traced.now.judged.now.flow }
+    requires fits { FlowFits traced.now.flow.now }
     requires few { lines < line_limit }
-    requires stands { GoesOnFrom traced.now.judged.now lines config.old }
-    ensures stands { IfOk result (λ r. GoesOn traced.now.judged.now (lines + 1) r config.new) }
+    requires stands { GoesOnFrom traced.now.flow.now traced.now.observer.now lines config.old }
+    ensures stands { IfOk result (λ r. GoesOn traced.now.flow.now traced.now.observer.now (lines + 1) r config.new) }
 {
     let line = lines + 1;
-    match ask(log.rows.alloc(), &traced.judged.flow, reclaimer, entry)? {
+    match ask(log.rows.alloc(), traced.flow, reclaimer, entry)? {
         Wanted::Move(m) => {
             let before = config.memory().copy()?;
             take_shown(log, traced, config, reclaimer, &before, entry, &m, lines)
@@ -132,17 +128,16 @@ fn take_untold(
     entry: &Entry,
     lines: u32,
 ) -> Result<Option<End>, NoMemory>
-    requires fits { FlowFits traced.now.judged.now.flow }
+    requires fits { FlowFits traced.now.flow.now }
     requires few { lines < line_limit }
-    requires stands { GoesOnFrom traced.now.judged.now lines config.old }
-    ensures stands { IfOk result (λ r. GoesOn traced.now.judged.now (lines + 1) r config.new) }
+    requires stands { GoesOnFrom traced.now.flow.now traced.now.observer.now lines config.old }
+    ensures stands { IfOk result (λ r. GoesOn traced.now.flow.now traced.now.observer.now (lines + 1) r config.new) }
 {
-    let judged = traced.judged;
     let alloc = log.rows.alloc();
     let end = take_line(
         alloc,
-        &judged.flow,
-        &judged.observer,
+        traced.flow,
+        traced.observer,
         config,
         reclaimer,
         entry,
@@ -162,10 +157,10 @@ fn take_one(
     lines: u32,
     shown: bool,
 ) -> Result<Option<End>, NoMemory>
-    requires fits { FlowFits traced.now.judged.now.flow }
+    requires fits { FlowFits traced.now.flow.now }
     requires few { lines < line_limit }
-    requires stands { GoesOnFrom traced.now.judged.now lines config.old }
-    ensures stands { IfOk result (λ r. GoesOn traced.now.judged.now (lines + 1) r config.new) }
+    requires stands { GoesOnFrom traced.now.flow.now traced.now.observer.now lines config.old }
+    ensures stands { IfOk result (λ r. GoesOn traced.now.flow.now traced.now.observer.now (lines + 1) r config.new) }
 {
     if shown {
         take_told(log, traced, config, reclaimer, entry, lines)
@@ -184,10 +179,10 @@ pub(crate) fn take_all(
     taken: u32,
     shown: bool,
 ) -> Result<Option<End>, NoMemory>
-    requires fits { FlowFits traced.now.judged.now.flow }
+    requires fits { FlowFits traced.now.flow.now }
     requires few { taken + length entries.now ≤ line_limit }
-    requires stands { GoesOnFrom traced.now.judged.now taken config.old }
-    ensures stands { IfOk result (λ r. GoesOn traced.now.judged.now (taken + length entries.now) r config.new) }
+    requires stands { GoesOnFrom traced.now.flow.now traced.now.observer.now taken config.old }
+    ensures stands { IfOk result (λ r. GoesOn traced.now.flow.now traced.now.observer.now (taken + length entries.now) r config.new) }
 {
     let mut lines = taken;
     for entry in entries {

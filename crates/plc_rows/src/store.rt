@@ -1,11 +1,11 @@
 // Memory as it is: what each shared pointer, each node and each local holds.
 use crate::changes::{AFTER_ADDRESSES, value_of};
 use crate::pieces::{push_cell, push_name, push_numbered};
+use crate::traced::Written;
 use plc_base::FieldId;
 use plc_html::Html;
 use plc_lang::{Field, File, Local, locals_of, name_at};
 use plc_mem::Memory;
-use plc_page::Written;
 use plc_threads::Place;
 
 /// What a pointer place holds.

@@ -1,10 +1,10 @@
 // Events in words.
 use crate::pieces::{push_name, push_numbered};
+use crate::traced::Written;
 use plc_auto::Event;
 use plc_base::FuncId;
 use plc_html::Html;
 use plc_lang::{File, function_name};
-use plc_page::Written;
 
 /// The address that a call names.
 fn push_argument(html: &mut Html, a: Option<u32>) -> Written {

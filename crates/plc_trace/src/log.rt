@@ -1,19 +1,6 @@
-// What all parts of the page of a run are about, and what is written of it while its lines are taken.
-use plc_check::Judged;
-use plc_flow::StepsByPoint;
+// What is written while the lines of a schedule are taken.
 use plc_html::Html;
 use std::alloc::Global;
-
-/// A program whose run is shown.
-#[derive(Clone, Copy)]
-pub(crate) struct Traced<'a> {
-    /// What is judged of the file.
-    pub(crate) judged: &'a Judged,
-    /// The steps of its points.
-    pub(crate) steps: &'a StepsByPoint,
-    /// How many threads there are.
-    pub(crate) threads: u32,
-}
 
 /// What is written while the lines are taken.
 #[derive(Drop)]

@@ -1,12 +1,12 @@
 // Which event was the last one of an address, and by which line of the schedule it was heard.
 use crate::pieces::push_numbered;
+use crate::traced::Written;
 use plc_auto::{EvKind, Event};
 use plc_base::{FuncId, NoMemory};
 use plc_html::Html;
-use plc_page::Written;
 
 /// Notes by which line the events were heard that aren't noted yet.
-pub(crate) fn note(heard: &mut Vec<u32>, events: usize, line: u32) -> Result<(), NoMemory> {
+pub fn note(heard: &mut Vec<u32>, events: usize, line: u32) -> Result<(), NoMemory> {
     for _ in heard.len()..events {
         heard.push(line)?;
     }
@@ -22,7 +22,7 @@ fn is_retirement(event: &Event, a: u32) -> bool {
 }
 
 /// The place of the last event that frees an address.
-pub(crate) fn last_free(history: &[Event], a: u32) -> Option<usize> {
+pub fn last_free(history: &[Event], a: u32) -> Option<usize> {
     let mut found = None;
     for (place, event) in history.iter().enumerate() {
         if event.kind() == EvKind::Free && event.address() == a {
@@ -33,7 +33,7 @@ pub(crate) fn last_free(history: &[Event], a: u32) -> Option<usize> {
 }
 
 /// The place of the last event that retires an address.
-pub(crate) fn last_retirement(history: &[Event], a: u32) -> Option<usize> {
+pub fn last_retirement(history: &[Event], a: u32) -> Option<usize> {
     let mut found = None;
     for (place, event) in history.iter().enumerate() {
         if is_retirement(event, a) {
@@ -71,6 +71,6 @@ pub(crate) fn concerned(history: &[Event], place: usize) -> (u32, u32) {
 }
 
 /// The line by which an event was heard.
-pub(crate) fn push_line_of(html: &mut Html, heard: &[u32], place: usize) -> Written {
+pub fn push_line_of(html: &mut Html, heard: &[u32], place: usize) -> Written {
     push_numbered(html, "line ", heard.get(place).copied().unwrap_or(0))
 }

@@ -1,13 +1,12 @@
 // What is there after the last line: memory, where each thread stands, and which steps leave there.
 use crate::pieces::{push_name, push_numbered, push_place, push_prim, push_taken_step};
 use crate::store::{push_locals, push_memory};
-use crate::traced::Traced;
+use crate::traced::{Traced, Written};
 use plc_base::{OpId, StepId};
 use plc_flow::{Flow, Point, Step};
 use plc_html::Html;
 use plc_lang::{Prim, operation_name};
 use plc_mem::{Locals, Memory, Outcome};
-use plc_page::Written;
 use plc_run::Config;
 
 /// The first primitive of a step that isn't a claim: claims change nothing.
@@ -70,7 +69,7 @@ fn push_choices(
         html.markup(" ")?;
         html.number(nth as u64)?;
         html.markup("</code>: ")?;
-        push_choice(html, &traced.judged.flow, memory, t, StepId(*number))?;
+        push_choice(html, traced.flow, memory, t, StepId(*number))?;
         html.markup("</li>\n")?;
     }
     html.markup("</ul>\n")
@@ -86,7 +85,7 @@ fn is_exit(flow: &Flow, point: Point) -> bool {
 
 /// A thread that is in an operation.
 fn push_busy(html: &mut Html, traced: &Traced, memory: &Memory, t: u32, point: Point) -> Written {
-    let flow = &traced.judged.flow;
+    let flow = traced.flow;
     html.markup("<p>It is in ")?;
     push_name(html, operation_name(&flow.file, OpId(point.op)))?;
     push_numbered(html, ", at point ", u32::from(point.at))?;
@@ -114,9 +113,9 @@ fn push_thread(html: &mut Html, traced: &Traced, config: &Config, t: u32) -> Wri
 }
 
 /// Memory and all threads, after the last line that was taken.
-pub(crate) fn push_standing(html: &mut Html, traced: &Traced, config: &Config) -> Written {
+pub fn push_standing(html: &mut Html, traced: &Traced, config: &Config) -> Written {
     html.markup("<h2>After the last line that could be taken</h2>\n")?;
-    push_memory(html, &traced.judged.flow.file, config.memory())?;
+    push_memory(html, &traced.flow.file, config.memory())?;
     for t in 0..traced.threads {
         push_thread(html, traced, config, t)?;
     }

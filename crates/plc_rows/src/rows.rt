@@ -5,12 +5,11 @@ use crate::events::push_events;
 use crate::history::concerned;
 use crate::pieces::push_numbered;
 use crate::taken::{Taken, push_entry, push_taken, thread_of};
-use crate::traced::Traced;
+use crate::traced::{Traced, Written};
 use crate::watching::push_watchers;
 use plc_auto::{Event, Observer};
 use plc_html::Html;
 use plc_mem::Memory;
-use plc_page::Written;
 use plc_replay::End;
 use plc_run::Config;
 use plc_sched::Entry;
@@ -23,21 +22,21 @@ const MOST_KEPT: u32 = 4;
 
 /// A line that was taken.
 #[derive(Clone, Copy)]
-pub(crate) struct Row<'a> {
+pub struct Row<'a> {
     /// Its number in the schedule.
-    pub(crate) line: u32,
-    pub(crate) entry: &'a Entry,
-    pub(crate) taken: Taken,
+    pub line: u32,
+    pub entry: &'a Entry,
+    pub taken: Taken,
     /// The memory before it.
-    pub(crate) before: &'a Memory,
+    pub before: &'a Memory,
     /// How many events there were before it.
-    pub(crate) heard: usize,
+    pub heard: usize,
     /// What it ends, if it is the last.
-    pub(crate) end: Option<End>,
+    pub end: Option<End>,
 }
 
 /// The heads of the columns.
-pub(crate) fn push_heads(html: &mut Html, threads: u32) -> Written {
+pub fn push_heads(html: &mut Html, threads: u32) -> Written {
     html.markup("<tr><th>line</th><th>schedule</th>")?;
     if threads > MOST_COLUMNS {
         html.markup("<th>its thread</th>")?;
@@ -57,7 +56,7 @@ fn events_of<'a>(row: &Row, config: &'a Config) -> &'a [Event] {
 
 /// What the thread of a row did.
 fn push_deed(html: &mut Html, traced: &Traced, row: &Row, config: &Config) -> Written {
-    let flow = &traced.judged.flow;
+    let flow = traced.flow;
     push_taken(html, flow, row.entry, row.taken)?;
     push_events(html, &flow.file, events_of(row, config))
 }
@@ -92,7 +91,7 @@ fn push_reclaimer(html: &mut Html, traced: &Traced, row: &Row, config: &Config) 
                 if let Taken::Quiet = row.taken {
                     html.markup("picks nothing")?;
                 }
-                push_events(html, &traced.judged.flow.file, events_of(row, config))?;
+                push_events(html, &traced.flow.file, events_of(row, config))?;
             }
         }
     }
@@ -105,7 +104,7 @@ fn push_address(html: &mut Html, traced: &Traced, config: &Config, a: u32) -> Wr
         return Ok(());
     }
     let threads = traced.threads.min(MOST_COLUMNS);
-    push_watchers(html, &traced.judged.observer, config.history(), threads, a)
+    push_watchers(html, traced.observer, config.history(), threads, a)
 }
 
 /// Where the observer stands for the first addresses that are retired.
@@ -127,7 +126,7 @@ fn push_event_observed(html: &mut Html, traced: &Traced, config: &Config, place:
     if second != first {
         push_address(html, traced, config, second)?;
     }
-    match traced.judged.observer {
+    match *traced.observer {
         Observer::Epoch(_, _) if first == 0 => push_kept(html, traced, config),
         _ => Ok(()),
     }
@@ -157,13 +156,7 @@ fn push_changed(html: &mut Html, traced: &Traced, row: &Row, config: &Config) ->
     match &row.end {
         Some(end) => push_end(html, end)?,
         None => {
-            push_changes(
-                html,
-                &traced.judged.flow,
-                row.before,
-                config,
-                traced.threads,
-            )?;
+            push_changes(html, traced.flow, row.before, config, traced.threads)?;
             push_observed(html, traced, row, config)?;
         }
     }
@@ -178,7 +171,7 @@ fn push_row_end(html: &mut Html, config: &Config) -> Written {
 }
 
 /// A row, in the configuration after its line.
-pub(crate) fn push_row(html: &mut Html, traced: &Traced, row: &Row, config: &Config) -> Written {
+pub fn push_row(html: &mut Html, traced: &Traced, row: &Row, config: &Config) -> Written {
     push_numbered(html, "<tr id=\"S", row.line)?;
     push_numbered(html, "\"><td>", row.line)?;
     html.markup("</td><td>")?;
@@ -192,7 +185,7 @@ pub(crate) fn push_row(html: &mut Html, traced: &Traced, row: &Row, config: &Con
 
 /// The row of the lines that aren't shown one by one, of which the start is the first: what they made of the memory
 /// before `init`.
-pub(crate) fn push_first(
+pub fn push_first(
     html: &mut Html,
     traced: &Traced,
     before: &Memory,
@@ -210,7 +203,7 @@ pub(crate) fn push_first(
         html.markup("<td></td>")?;
     }
     html.markup("<td></td><td>")?;
-    push_changes(html, &traced.judged.flow, before, config, traced.threads)?;
+    push_changes(html, traced.flow, before, config, traced.threads)?;
     html.markup("</td>")?;
     push_row_end(html, config)
 }

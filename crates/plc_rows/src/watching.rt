@@ -1,10 +1,10 @@
 // Where the observer stands for a thread and an address: the location to which the history leads, event by event, and
 // its words.
 use crate::pieces::{push_name, push_numbered};
+use crate::traced::Written;
 use plc_auto::{EvKind, Event, Observer};
 use plc_base::{LocId, Mask};
 use plc_html::Html;
-use plc_page::Written;
 use plc_words::push_anywhere;
 
 /// Where an event leads from a location.
@@ -81,7 +81,7 @@ pub(crate) fn push_watchers(
 }
 
 /// The threads that forbid to free an address, each with where it stands.
-pub(crate) fn push_forbidding(
+pub fn push_forbidding(
     html: &mut Html,
     observer: &Observer,
     history: &[Event],

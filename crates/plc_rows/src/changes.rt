@@ -1,11 +1,11 @@
 // What a line changed in memory: what is otherwise than before it, place by place.
 use crate::pieces::{push_cell, push_name, push_numbered};
+use crate::traced::Written;
 use plc_base::{FieldId, MOST_ADDRESSES, same_bool};
 use plc_flow::Flow;
 use plc_html::Html;
 use plc_lang::{Field, File, Local, locals_of, name_at};
 use plc_mem::{Cell, Memory};
-use plc_page::Written;
 use plc_run::Config;
 use plc_threads::Place;
 

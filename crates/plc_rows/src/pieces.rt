@@ -1,28 +1,28 @@
 // The pieces of which sentences on a run are made.
+use crate::traced::Written;
 use plc_base::{PointId, StepId};
 use plc_flow::{Flow, Step};
 use plc_html::Html;
 use plc_lang::{Prim, locals_of};
 use plc_mem::Cell;
-use plc_page::{Written, push_sentence};
 use plc_texts::line_of;
 use plc_words::{push_point, push_primitive, push_step};
 
 /// A word and a number.
-pub(crate) fn push_numbered(html: &mut Html, word: &'static str, number: u32) -> Written {
+pub fn push_numbered(html: &mut Html, word: &'static str, number: u32) -> Written {
     html.markup(word)?;
     html.number(u64::from(number))
 }
 
 /// A name of the file.
-pub(crate) fn push_name(html: &mut Html, name: &[u8]) -> Written {
+pub fn push_name(html: &mut Html, name: &[u8]) -> Written {
     html.markup("<code>")?;
     html.text(name)?;
     html.markup("</code>")
 }
 
 /// What a pointer holds: `null` or an address, the mark, and that it dangles.
-pub(crate) fn push_cell(html: &mut Html, cell: Cell) -> Written {
+pub fn push_cell(html: &mut Html, cell: Cell) -> Written {
     if cell.is_null() {
         html.markup("null")?;
     } else {
@@ -33,7 +33,7 @@ pub(crate) fn push_cell(html: &mut Html, cell: Cell) -> Written {
 }
 
 /// A step, with its number, its line and its primitives; by it one comes to the line.
-pub(crate) fn push_taken_step(html: &mut Html, flow: &Flow, id: StepId) -> Written {
+pub fn push_taken_step(html: &mut Html, flow: &Flow, id: StepId) -> Written {
     let mut words = Vec::new(html.alloc());
     push_step(&mut words, flow, id)?;
     push_numbered(html, "<a href=\"#L", line_of(flow, id.0))?;
@@ -43,7 +43,7 @@ pub(crate) fn push_taken_step(html: &mut Html, flow: &Flow, id: StepId) -> Writt
 }
 
 /// A primitive of a step.
-pub(crate) fn push_prim(html: &mut Html, flow: &Flow, step: &Step, prim: &Prim) -> Written {
+pub fn push_prim(html: &mut Html, flow: &Flow, step: &Step, prim: &Prim) -> Written {
     let locals = locals_of(flow.file.ops.as_slice(), step.op.0 as usize);
     let mut words = Vec::new(html.alloc());
     push_primitive(&mut words, &flow.file, locals, prim)?;
@@ -51,8 +51,8 @@ pub(crate) fn push_prim(html: &mut Html, flow: &Flow, step: &Step, prim: &Prim) 
 }
 
 /// Where a thread stands that is at a point.
-pub(crate) fn push_place(html: &mut Html, flow: &Flow, at: u16) -> Written {
+pub fn push_place(html: &mut Html, flow: &Flow, at: u16) -> Written {
     let mut words = Vec::new(html.alloc());
     push_point(&mut words, flow, PointId(at))?;
-    push_sentence(html, &words)
+    html.text(&words)
 }

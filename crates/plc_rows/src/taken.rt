@@ -1,17 +1,16 @@
 // What a line of a schedule takes: the line in its own words, and what the thread did by it.
 use crate::pieces::{push_name, push_numbered, push_taken_step};
-use crate::traced::Traced;
+use crate::traced::{Traced, Written};
 use plc_base::{OpId, StepId};
 use plc_flow::Flow;
 use plc_html::Html;
 use plc_lang::operation_name;
-use plc_page::Written;
 use plc_run::Config;
 use plc_sched::Entry;
 
 /// What a line takes, found before it is taken.
 #[derive(Clone, Copy)]
-pub(crate) enum Taken {
+pub enum Taken {
     /// What the line itself says.
     Told,
     /// A step of the flow.
@@ -23,14 +22,14 @@ pub(crate) enum Taken {
 }
 
 /// The step that a thread takes, if there is one.
-pub(crate) fn step_of(traced: &Traced, config: &Config, t: u32, nth: u16) -> Option<StepId> {
+pub fn step_of(traced: &Traced, config: &Config, t: u32, nth: u16) -> Option<StepId> {
     let point = config.point(t)?;
     let number = traced.steps.leaving(point.at).get(nth as usize)?;
     Some(StepId(*number))
 }
 
 /// What a line takes in a configuration.
-pub(crate) fn taken_by(traced: &Traced, config: &Config, entry: &Entry) -> Taken {
+pub fn taken_by(traced: &Traced, config: &Config, entry: &Entry) -> Taken {
     match entry {
         Entry::Start { .. } | Entry::Tick => Taken::Told,
         Entry::Step { t, nth, .. } => match step_of(traced, config, *t, *nth) {
