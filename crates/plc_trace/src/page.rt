@@ -1,10 +1,9 @@
 // The page of a run: the answer of `replay`, and what is said of the run, which is taken once more. What follows the
 // answer is made apart, so that the page shows the answer whatever is said of it.
-ghost use Rattle.std.specs.Prelude.{◌≡◌, ◌≢◌, ◌≤◌, IfOk, length};
+ghost use Rattle.std.specs.Prelude.{◌≤◌, IfOk, length};
 ghost use Rattle.plc_base.specs.Limits.{largest_file};
 ghost use Rattle.plc_flow.specs.WellFormed.{FlowFits};
 ghost use Rattle.plc_sched.specs.Schedules.{IsWithinLimits};
-ghost use Rattle.plc_sched.specs.declared.fault.SchedFault.TheVariants.{Memory};
 ghost use Rattle.plc_trace.specs.Pages.{ShowsReplay, ShowsSchedule, ShowsEnd, SaysUnscheduled};
 
 use crate::running::trace;
@@ -79,7 +78,6 @@ fn unscheduled_page(
     second: &[u8],
     fault: SchedFault,
 ) -> Result<Page, NoMemory>
-    requires { fault ≢ Memory }
     ensures { IfOk result (SaysUnscheduled fault) }
 {
     let text = unscheduled(alloc, fault)?;
