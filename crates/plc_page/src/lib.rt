@@ -16,5 +16,6 @@ mod types;
 mod unproved;
 mod untyped;
 
-pub use page::{Page, file_page};
+pub use listing::{push_file, push_numbered_lines};
+pub use page::{Page, file_page, refused_page};
 pub use plain::{Lines, plain_lines};

@@ -117,8 +117,15 @@ pub(crate) fn push_listing(html: &mut Html, shown: &Shown, here: u32) -> Written
     push_lines(html, shown.bytes, Some(flow), &steps, here)
 }
 
-/// A file that is refused, line by line. The line `here` is marked; 0 marks none.
-pub(crate) fn push_bytes_listing(html: &mut Html, bytes: &[u8], here: u32) -> Written {
-    html.markup("<h2 id=\"file\">The file</h2>\n")?;
+/// The lines of a text, each with its number, by which one comes to it: `#L5`. The line `here` is marked; 0 marks none.
+/// The one error is that memory runs out.
+pub fn push_numbered_lines(html: &mut Html, bytes: &[u8], here: u32) -> Written {
     push_lines(html, bytes, None, &[], here)
+}
+
+/// The file line by line, without its steps. The line `here` is marked; 0 marks none. The one error is that memory runs
+/// out.
+pub fn push_file(html: &mut Html, bytes: &[u8], here: u32) -> Written {
+    html.markup("<h2 id=\"file\">The file</h2>\n")?;
+    push_numbered_lines(html, bytes, here)
 }

@@ -7,7 +7,7 @@ ghost use Rattle.plc_setting.specs.Fit.{Fits};
 ghost use Rattle.plc_xfer.specs.Typings.{IsStrongest};
 ghost use Rattle.plc_page.specs.Pages.{ShowsCheck, SaysVerdict, ShowsVerdict, SaysRefusal};
 
-use crate::listing::{push_bytes_listing, push_listing};
+use crate::listing::{push_file, push_listing};
 use crate::points::push_points;
 use crate::refused::line_of_refusal;
 use crate::safe::push_safe;
@@ -143,8 +143,9 @@ fn loaded_page(alloc: Global, name: &[u8], bytes: &[u8], judged: Judged) -> Resu
     page
 }
 
-/// The page of a file that is refused.
-fn refused_page(
+/// The page of a file that is refused: the refusal and the file, by its bytes. `name` is the title. The one error is
+/// that memory runs out.
+pub fn refused_page(
     alloc: Global,
     name: &[u8],
     bytes: &[u8],
@@ -154,7 +155,7 @@ fn refused_page(
 {
     let answer = refusal(alloc, fault)?;
     let mut rest = Html::new(alloc);
-    push_bytes_listing(&mut rest, bytes, line_of_refusal(bytes, fault))?;
+    push_file(&mut rest, bytes, line_of_refusal(bytes, fault))?;
     let page = whole_page(alloc, name, &answer.text, rest)?;
     Ok(Page {
         status: answer.status,

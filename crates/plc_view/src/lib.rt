@@ -1,6 +1,6 @@
-//! The command line of `plc-show`: the page of a file, or lines for editors, by the words that are given. It reads and
-//! writes as `plc` does (`plc_cli`), and ends with the status of the answer that it shows. What a page says is promised
-//! by `plc_page`, which makes it.
+//! The command line of `plc-show`: the page of a file, the page of a recorded run, or lines for editors, by the words
+//! that are given. It reads and writes as `plc` does (`plc_cli`), and ends with the status of the answer that it shows.
+//! What a page says is promised by `plc_page` and `plc_trace`, which make it.
 #![tactic(auto)]
 
 mod showing;

@@ -43,7 +43,7 @@ op put() {
 outline { inv Top == null or Top.st == linked; }
 ";
 
-const ROWS: [Row; 11] = [
+const ROWS: [Row; 17] = [
     Row {
         words: "file",
         file: SMALL,
@@ -115,13 +115,64 @@ const ROWS: [Row; 11] = [
         hides: "<",
     },
     Row {
-        words: "file schedule leak",
+        words: "file schedule other",
         file: SMALL,
         status: 3,
         shows: "words refused\n",
         hides: "<",
     },
+    Row {
+        words: "--plain schedule leak",
+        file: SMALL,
+        status: 3,
+        shows: "words refused\n",
+        hides: "<",
+    },
+    Row {
+        words: "file schedule leak",
+        file: SMALL,
+        status: 1,
+        shows: "<pre class=\"answer\">impossible line 6\n</pre>",
+        hides: "<script",
+    },
+    Row {
+        words: "file schedule list",
+        file: SMALL,
+        status: 1,
+        shows: "<div><code>Top</code>: null &rarr; 3</div>",
+        hides: "dangl",
+    },
+    Row {
+        words: "file schedule hazard",
+        file: SMALL,
+        status: 1,
+        shows: "the steps that leave the point of the thread are 1, counted from 0",
+        hides: "<img",
+    },
+    Row {
+        words: "file schedule epoch",
+        file: MARKUP,
+        status: 1,
+        shows: "is impossible: the operation has another number of parameters: 0.",
+        hides: "<script",
+    },
+    Row {
+        words: "file schedule leak",
+        file: REFUSED,
+        status: 2,
+        shows: "<tr class=\"here\" id=\"L1\">",
+        hides: "<script",
+    },
 ];
+
+// What each file may be replayed by. Its last line takes a step that isn't there.
+const SCHEDULE: &str = "threads 2
+start 1 f 7
+step 1 0 3
+step 1 0
+step 1 0
+step 1 5
+";
 
 // The words of a line, which blanks part.
 fn words_of(alloc: Global, line: &str) -> Result<Vec<String>, AllocError> {
@@ -132,9 +183,13 @@ fn words_of(alloc: Global, line: &str) -> Result<Vec<String>, AllocError> {
     Ok(words)
 }
 
-// The file.
+// The file and the schedule.
 fn files_of(alloc: Global, file: &str) -> Result<MemFiles, AllocError> {
     let mut files = Vec::new(alloc);
+    files.push((
+        String::from_str(alloc, "schedule")?,
+        Vec::from_slice(alloc, SCHEDULE.as_bytes())?,
+    ))?;
     files.push((
         String::from_str(alloc, "file")?,
         Vec::from_slice(alloc, file.as_bytes())?,

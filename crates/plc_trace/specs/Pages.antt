@@ -1,0 +1,34 @@
+-- What a page of a run says of a file and a schedule.
+use Rattle.std.specs.Prelude.{◌≡◌, ℕ, List}
+use Rattle.plc_sched.specs.declared.schedule.Schedule.{Schedule}
+use Rattle.plc_reclaim.specs.Meanings.{Meanings}
+use Rattle.plc_check.specs.declared.judged.Judged.{Judged}
+use Rattle.plc_sched.specs.declared.fault.SchedFault.{SchedFault}
+use Rattle.plc_texts.specs.Replays.{schedule_text}
+use Rattle.plc_cli.specs.Statuses.{refused}
+use Rattle.plc_cli.specs.Answer.{IsReplayOf, IsScheduleAnswered, IsEndOf}
+use Rattle.plc_page.specs.declared.page.Page.{Page}
+use Rattle.plc_page.specs.Pages.{ShowsAnswer}
+
+-- the page shows, by its status and its text, an answer that is due
+pub record ShowsDue (IsDue : ℕ → List ℕ → Type 0) (page : Page) : Type 0 where
+  pub status : ℕ
+  pub text : List ℕ
+  pub due : IsDue status text
+  pub shows : ShowsAnswer status text page
+
+-- the page shows what `replay` answers to the bytes of a file and of a schedule, under a reclaimer with these meanings
+abbrev pub ShowsReplay : Meanings → List ℕ → List ℕ → Page → Type 0
+ShowsReplay reclaimer bytes second = ShowsDue (IsReplayOf reclaimer bytes second)
+
+-- the page shows what is answered to the bytes of a schedule for a flow that was loaded
+abbrev pub ShowsSchedule : Judged → Meanings → List ℕ → Page → Type 0
+ShowsSchedule j reclaimer second = ShowsDue (IsScheduleAnswered j reclaimer second)
+
+-- the page shows the end of a schedule
+abbrev pub ShowsEnd : Judged → Meanings → Schedule → Page → Type 0
+ShowsEnd j reclaimer schedule = ShowsDue (IsEndOf j reclaimer schedule)
+
+-- the page says why the bytes are no schedule
+abbrev pub SaysUnscheduled : SchedFault → Page → Type 0
+SaysUnscheduled fault page = ShowsAnswer refused (schedule_text fault) page

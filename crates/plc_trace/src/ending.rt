@@ -1,0 +1,105 @@
+// What is said of the last line: why it is a race, impossible, or a forbidden free.
+ghost use Rattle.plc_flow.specs.WellFormed.{FlowFits};
+ghost use Rattle.plc_run.specs.Position.{IsOfRun};
+
+use crate::racing::push_race;
+use crate::refused::push_refusal;
+use plc_auto::Observer;
+use plc_html::Html;
+use plc_mem::RaceKind;
+use plc_replay::End;
+use plc_rows::{Traced, Written, push_forbidding, push_name, push_numbered, step_of};
+use plc_run::Config;
+use plc_sched::Entry;
+use plc_threads::Move;
+
+/// The line of which is spoken.
+fn push_line(html: &mut Html, line: u32) -> Written {
+    push_numbered(html, "<p>Line <a href=\"#S", line)?;
+    push_numbered(html, "\">", line)?;
+    html.markup("</a> of the schedule")
+}
+
+/// A step that is a race.
+fn push_race_of(
+    html: &mut Html,
+    traced: &Traced,
+    config: &Config,
+    heard: &[u32],
+    m: &Move,
+    kind: RaceKind,
+    prim: u16,
+) -> Written {
+    if let Move::Step { t, nth, .. } = m {
+        if let Some(id) = step_of(traced, config, *t, *nth) {
+            return push_race(html, traced, config, heard, *t, id, kind, prim);
+        }
+    }
+    html.markup(" is a race.</p>\n")
+}
+
+/// A free that the observer forbids.
+fn push_forbidden(html: &mut Html, traced: &Traced, config: &Config, a: u32) -> Written {
+    push_numbered(html, " is a forbidden free: the reclaimer picks ", a)?;
+    html.markup(", which the observer keeps, by where it stands for")?;
+    html.markup("</p>\n")?;
+    let observer = traced.observer;
+    push_forbidding(html, observer, config.history(), traced.threads, a)
+}
+
+/// A line that is impossible.
+fn push_impossible(
+    html: &mut Html,
+    traced: &Traced,
+    observer: &Observer,
+    config: &Config,
+    m: &Move,
+) -> Written
+    requires fits { FlowFits traced.now.flow.now }
+    requires of_run { IsOfRun traced.now.flow.now observer.now config.now }
+{
+    html.markup(" is impossible: ")?;
+    if let Some(refusal) = config.refusal(traced.flow, m)? {
+        push_refusal(html, traced, config, m, refusal)?;
+    }
+    html.markup(".</p>\n")
+}
+
+/// What is said of a move that is the last.
+pub(crate) fn push_ending(
+    html: &mut Html,
+    traced: &Traced,
+    config: &Config,
+    heard: &[u32],
+    m: &Move,
+    end: &End,
+) -> Written
+    requires fits { FlowFits traced.now.flow.now }
+    requires of_run { IsOfRun traced.now.flow.now traced.now.observer.now config.now }
+{
+    match *end {
+        End::Ended { .. } => Ok(()),
+        End::Race { kind, line, prim } => {
+            push_line(html, line)?;
+            push_race_of(html, traced, config, heard, m, kind, prim)
+        }
+        End::Impossible { line } => {
+            push_line(html, line)?;
+            push_impossible(html, traced, traced.observer, config, m)
+        }
+        End::ForbiddenFree { a, line } => {
+            push_line(html, line)?;
+            push_forbidden(html, traced, config, a)
+        }
+    }
+}
+
+/// What is said of a line whose operation the file lacks.
+pub(crate) fn push_unknown(html: &mut Html, entry: &Entry, line: u32) -> Written {
+    push_line(html, line)?;
+    html.markup(" is impossible: the file has no operation ")?;
+    if let Entry::Start { op, .. } = entry {
+        push_name(html, op.as_slice())?;
+    }
+    html.markup(".</p>\n")
+}

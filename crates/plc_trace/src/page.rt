@@ -1,0 +1,148 @@
+// The page of a run: the answer of `replay`, and what is said of the run, which is taken once more. What follows the
+// answer is made apart, so that the page shows the answer whatever is said of it.
+ghost use Rattle.std.specs.Prelude.{◌≤◌, IfOk, length};
+ghost use Rattle.plc_base.specs.Limits.{largest_file};
+ghost use Rattle.plc_flow.specs.WellFormed.{FlowFits};
+ghost use Rattle.plc_sched.specs.Schedules.{IsWithinLimits};
+ghost use Rattle.plc_trace.specs.Pages.{ShowsReplay, ShowsSchedule, ShowsEnd, SaysUnscheduled};
+
+use crate::running::trace;
+use plc_base::{Items, NoMemory};
+use plc_check::{Judged, LoadFault, load};
+use plc_cli::{REFUSED, answer_schedule};
+use plc_html::{Html, whole_page};
+use plc_page::{Page, push_file, push_numbered_lines, refused_page};
+use plc_reclaim::Reclaimer;
+use plc_sched::{SchedFault, Schedule, read_schedule};
+use plc_texts::unscheduled;
+use std::alloc::Global;
+
+/// What follows the answer to a schedule.
+fn rest_of(
+    alloc: Global,
+    bytes: &[u8],
+    judged: &Judged,
+    schedule: &Schedule,
+    reclaimer: &mut Box<dyn Reclaimer>,
+) -> Result<Html, NoMemory>
+    requires fits { FlowFits judged.now.flow }
+    requires within { IsWithinLimits schedule.now }
+{
+    let schemes = judged.schemes.as_slice();
+    let (mut html, here) = trace(
+        alloc,
+        &judged.flow,
+        &judged.observer,
+        schemes,
+        schedule,
+        reclaimer,
+    )?;
+    push_file(&mut html, bytes, here)?;
+    Ok(html)
+}
+
+/// The page of a schedule that was read.
+fn ended_page(
+    alloc: Global,
+    name: &[u8],
+    bytes: &[u8],
+    judged: &Judged,
+    schedule: &Schedule,
+    reclaimer: &mut Box<dyn Reclaimer>,
+) -> Result<Page, NoMemory>
+    requires fits { FlowFits judged.now.flow }
+    requires within { IsWithinLimits schedule.now }
+    ensures { IfOk result (ShowsEnd judged.now (meanings reclaimer.old) schedule.now) }
+{
+    let answer = answer_schedule(alloc, judged, schedule, reclaimer)?;
+    let rest = rest_of(alloc, bytes, judged, schedule, reclaimer)?;
+    let page = whole_page(alloc, name, &answer.text, rest)?;
+    Ok(Page {
+        status: answer.status,
+        bytes: Items::from_vec(page),
+    })
+}
+
+/// The line at which the refusal of a schedule points; 0 where it names none.
+fn line_of_refusal(fault: SchedFault) -> u32 {
+    match fault {
+        SchedFault::Line { n } => n,
+        SchedFault::Limit { .. } | SchedFault::Memory => 0,
+    }
+}
+
+/// The page of a schedule that is refused.
+fn unscheduled_page(
+    alloc: Global,
+    name: &[u8],
+    second: &[u8],
+    fault: SchedFault,
+) -> Result<Page, NoMemory>
+    ensures { IfOk result (SaysUnscheduled fault) }
+{
+    let text = unscheduled(alloc, fault)?;
+    let mut rest = Html::new(alloc);
+    rest.markup("<h2>The schedule</h2>\n")?;
+    push_numbered_lines(&mut rest, second, line_of_refusal(fault))?;
+    let page = whole_page(alloc, name, &text, rest)?;
+    Ok(Page {
+        status: REFUSED,
+        bytes: Items::from_vec(page),
+    })
+}
+
+/// The page of a schedule for a file that was loaded.
+fn scheduled_page(
+    alloc: Global,
+    name: &[u8],
+    bytes: &[u8],
+    second: &[u8],
+    judged: &Judged,
+    reclaimer: &mut Box<dyn Reclaimer>,
+) -> Result<Page, NoMemory>
+    requires fits { FlowFits judged.now.flow }
+    ensures { IfOk result (ShowsSchedule judged.now (meanings reclaimer.old) second.now) }
+{
+    match read_schedule(alloc, second) {
+        Ok(schedule) => ended_page(alloc, name, bytes, judged, &schedule, reclaimer),
+        Err(SchedFault::Memory) => Err(NoMemory),
+        Err(fault) => unscheduled_page(alloc, name, second, fault),
+    }
+}
+
+/// The page of a schedule for a file that was loaded, which ends here.
+fn loaded_page(
+    alloc: Global,
+    name: &[u8],
+    bytes: &[u8],
+    second: &[u8],
+    judged: Judged,
+    reclaimer: &mut Box<dyn Reclaimer>,
+) -> Result<Page, NoMemory>
+    requires fits { FlowFits judged.flow }
+    ensures { IfOk result (ShowsSchedule judged (meanings reclaimer.old) second.now) }
+{
+    let page = scheduled_page(alloc, name, bytes, second, &judged, reclaimer);
+    drop(judged);
+    page
+}
+
+/// The page of a recorded run, by the bytes of a file and of a schedule: the answer of `replay` under this reclaimer,
+/// what is said of the last line, a row for each line, at most the last 300, and what is there after it. A file or a
+/// schedule that is refused is shown with the refusal. `name` is the title. The one error is that memory runs out.
+pub fn replay_page(
+    alloc: Global,
+    name: &[u8],
+    bytes: &[u8],
+    second: &[u8],
+    reclaimer: &mut Box<dyn Reclaimer>,
+) -> Result<Page, NoMemory>
+    requires { length bytes.now ≤ largest_file }
+    ensures { IfOk result (ShowsReplay (meanings reclaimer.old) bytes.now second.now) }
+{
+    match load(alloc, bytes) {
+        Ok(judged) => loaded_page(alloc, name, bytes, second, judged, reclaimer),
+        Err(LoadFault::Memory) => Err(NoMemory),
+        Err(fault) => refused_page(alloc, name, bytes, &fault),
+    }
+}
