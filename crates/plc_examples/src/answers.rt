@@ -1,6 +1,7 @@
 // A command answered in memory: the files are real, the output is kept.
 use plc_base::LARGEST_FILE;
 use plc_cli::{Files, MemFiles, RealFiles, VecSink, run_with_own};
+use plc_hunting::hunt;
 use plc_view::show;
 use std::alloc::{AllocError, Global};
 use std::io;
@@ -32,10 +33,20 @@ fn told(text: &str) -> &str {
     ""
 }
 
-/// The status that words end with: those after `show` are for `plc-show`, others for `plc`.
+/// The status that words end with for `plc-hunt`; what it says beside the run is let go.
+fn hunt_status<F: Files>(alloc: Global, words: &[String], files: &mut F, out: &mut VecSink) -> u8 {
+    let mut said = VecSink::new(alloc);
+    let status = hunt(alloc, words, files, out, &mut said);
+    drop(said);
+    status
+}
+
+/// The status that words end with: those after `show` are for `plc-show`, those after `hunt` for `plc-hunt`, others for
+/// `plc`.
 fn status_of<F: Files>(alloc: Global, words: &[String], files: &mut F, out: &mut VecSink) -> u8 {
     match words {
         [first, others @ ..] if first.as_str() == "show" => show(alloc, others, files, out),
+        [first, others @ ..] if first.as_str() == "hunt" => hunt_status(alloc, others, files, out),
         _ => run_with_own(alloc, words, files, out),
     }
 }
@@ -117,19 +128,52 @@ fn certified_answer(
     verified(alloc, both)
 }
 
-/// The answer to a command; to `certify FILE, verify` that of `verify` to what `certify` writes.
+/// The answer of `replay` under a reclaimer to a file and a schedule.
+fn replayed(alloc: Global, both: Entries, reclaimer: &str) -> Result<(u8, Vec<u8>), AllocError> {
+    let mut files = MemFiles::new(alloc, both, Vec::new(alloc));
+    let answer = match format!(in alloc; "replay file schedule {reclaimer}") {
+        Ok(line) => answer(alloc, line.as_str(), &mut files),
+        Err(fault) => Err(fault),
+    };
+    drop(files);
+    answer
+}
+
+/// The answer of `replay` to what `plc-hunt` writes to a line of `hunt`, the name of a file, and a reclaimer.
+fn hunted_answer(
+    alloc: Global,
+    files: &mut RealFiles<HostRuntime>,
+    line: &str,
+    words: &[String],
+) -> Result<(u8, Vec<u8>), AllocError> {
+    let (name, reclaimer) = match words {
+        [_, name, reclaimer] => (name.as_str(), reclaimer.as_str()),
+        _ => ("", ""),
+    };
+    let mut both = Vec::new(alloc);
+    put(alloc, &mut both, "schedule", answer(alloc, line, files)?.1)?;
+    put_file(alloc, files, name, &mut both)?;
+    replayed(alloc, both, reclaimer)
+}
+
+/// The answer to a command; to `certify FILE, verify` that of `verify` to what `certify` writes, and to `hunt FILE
+/// RECLAIMER, replay` that of `replay` to what `plc-hunt` writes.
 fn kept_answer(
     alloc: Global,
     files: &mut RealFiles<HostRuntime>,
     line: &str,
 ) -> Result<(u8, Vec<u8>), AllocError> {
-    match line.strip_suffix(", verify") {
-        Some(certify) => {
-            let name = certify.strip_prefix("certify ").unwrap_or("");
-            certified_answer(alloc, files, name)
-        }
-        None => answer(alloc, line, files),
+    if let Some(certify) = line.strip_suffix(", verify") {
+        let name = certify.strip_prefix("certify ").unwrap_or("");
+        return certified_answer(alloc, files, name);
     }
+    if let Some(hunt) = line.strip_suffix(", replay") {
+        let words = words_of(alloc, hunt)?;
+        let answer = hunted_answer(alloc, files, hunt, &words);
+        drop(words);
+        return answer;
+    }
+    answer(alloc, line, files)
 }
 
 /// A command with what tells its answer, and the status: of a page how many parts can be opened and how many drawings

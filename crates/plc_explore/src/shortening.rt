@@ -1,0 +1,266 @@
+// A run that races is made short: moves are left out as long as it still races. What is left out at once are the moves
+// of one thread between two moments at which it stands at the same point, or from one moment on; so a whole operation,
+// a turn of a loop, and all that a thread does are among them. The longest are tried first. Each attempt is followed
+// from the beginning (delta debugging, Zeller 1999).
+ghost use Rattle.std.specs.Prelude.{◌<◌};
+ghost use Rattle.plc_flow.specs.WellFormed.{FlowFits};
+
+use crate::follow::{Stand, Way, follow, mover};
+use crate::frees::Frees;
+use crate::program::Program;
+use crate::trail::Trail;
+use plc_base::{Items, NoMemory};
+use plc_threads::Move;
+use std::alloc::Global;
+
+/// Which moves of a run are kept, and what was seen of them when they were followed last.
+#[derive(Drop)]
+struct Shortening {
+    alloc: Global,
+    threads: u32,
+    moves: Vec<Move>,
+    kept: Vec<bool>,
+    way: Way,
+}
+
+impl Shortening {
+    /// Follows the moves that are kept, and keeps none after the race, and no free that did nothing.
+    fn races(&mut self, program: &Program, frees: &mut Frees) -> Result<bool, NoMemory>
+        requires { FlowFits program.now.flow.now }
+    {
+        let threads = self.threads.max(1);
+        let all = follow(
+            self.alloc,
+            program,
+            frees,
+            threads,
+            &self.moves,
+            &self.kept,
+            &mut self.way,
+        )?;
+        let Some(count) = all else {
+            return Ok(false);
+        };
+        for (number, kept) in self.kept.iter_mut().enumerate() {
+            *kept = *kept && number < count;
+        }
+        for number in &self.way.idle {
+            if let Some(kept) = self.kept.get_mut(*number) {
+                *kept = false;
+            }
+        }
+        Ok(true)
+    }
+
+    /// Leaves out the moves of these numbers.
+    fn leave_out(&mut self, numbers: &[usize]) {
+        for number in numbers {
+            if let Some(kept) = self.kept.get_mut(*number) {
+                *kept = false;
+            }
+        }
+    }
+
+    /// Leaves out the moves of these numbers, if the run then still races.
+    fn tries_without(
+        &mut self,
+        program: &Program,
+        frees: &mut Frees,
+        numbers: &[usize],
+    ) -> Result<bool, NoMemory>
+        requires { FlowFits program.now.flow.now }
+    {
+        let before = Vec::from_slice(self.alloc, &self.kept)?;
+        self.leave_out(numbers);
+        let races = self.races(program, frees)?;
+        if !races {
+            self.kept = before;
+        }
+        Ok(races)
+    }
+
+    /// The moves of a thread that are kept, each with where the thread stood before it.
+    fn moves_of(&self, t: u32) -> Result<Vec<Stand>, NoMemory> {
+        let mut own = Vec::new(self.alloc);
+        for stand in &self.way.stands {
+            if stand.t == t {
+                own.push(*stand)?;
+            }
+        }
+        Ok(own)
+    }
+}
+
+/// Whether so many moves of a thread from one on may be left out: those up to the last, or up to one before which it
+/// stands where it stood.
+fn is_round(own: &[Stand], from: usize, length: usize) -> bool {
+    let Some(first) = own.get(from) else {
+        return false;
+    };
+    match own.get(from.saturating_add(length)) {
+        Some(next) => next.at == first.at,
+        None => from.saturating_add(length) == own.len(),
+    }
+}
+
+/// The numbers of so many moves of a thread from one on.
+fn numbers_of(
+    alloc: Global,
+    own: &[Stand],
+    from: usize,
+    length: usize,
+) -> Result<Vec<usize>, NoMemory> {
+    let mut numbers = Vec::new(alloc);
+    for stand in own.iter().skip(from).take(length) {
+        numbers.push(stand.number)?;
+    }
+    Ok(numbers)
+}
+
+/// Leaves out so many moves of a thread in one place, if there is one where the run then still races.
+fn leave_round(
+    s: &mut Shortening,
+    program: &Program,
+    frees: &mut Frees,
+    own: &[Stand],
+    length: usize,
+) -> Result<bool, NoMemory>
+    requires { FlowFits program.now.flow.now }
+{
+    for from in 0..own.len() {
+        if is_round(own, from, length) {
+            let numbers = numbers_of(s.alloc, own, from, length)?;
+            if s.tries_without(program, frees, &numbers)? {
+                return Ok(true);
+            }
+        }
+    }
+    Ok(false)
+}
+
+/// Leaves out some moves of a thread, the most that go at once, if there are any.
+fn leave_some(
+    s: &mut Shortening,
+    program: &Program,
+    frees: &mut Frees,
+    t: u32,
+) -> Result<bool, NoMemory>
+    requires { FlowFits program.now.flow.now }
+{
+    let own = s.moves_of(t)?;
+    for k in 0..own.len() {
+        let length = own.len() - k;
+        if leave_round(s, program, frees, &own, length)? {
+            return Ok(true);
+        }
+    }
+    Ok(false)
+}
+
+/// Leaves out one free, if there is one that isn't needed.
+fn leave_free(s: &mut Shortening, program: &Program, frees: &mut Frees) -> Result<bool, NoMemory>
+    requires { FlowFits program.now.flow.now }
+{
+    for number in 0..s.moves.len() {
+        let is_free = s.moves.get(number).is_some_and(|m| mover(m).is_none());
+        if is_free
+            && s.kept.get(number) == Some(&true)
+            && s.tries_without(program, frees, &[number])?
+        {
+            return Ok(true);
+        }
+    }
+    Ok(false)
+}
+
+/// Leaves out some moves, if there are any that aren't needed.
+fn leave_any(s: &mut Shortening, program: &Program, frees: &mut Frees) -> Result<bool, NoMemory>
+    requires { FlowFits program.now.flow.now }
+{
+    // An attempt that failed has followed other moves, so what is kept is followed again.
+    for t in 0..s.threads {
+        if !s.races(program, frees)? {
+            return Ok(false);
+        }
+        if leave_some(s, program, frees, t)? {
+            return Ok(true);
+        }
+    }
+    leave_free(s, program, frees)
+}
+
+/// The number of a thread among those that were met so far, which it joins if it is new.
+fn number_among(met: &mut Vec<u32>, t: u32) -> Result<u32, NoMemory> {
+    for k in 0..met.len() {
+        if met[k] == t {
+            return Ok(k.min(64) as u32);
+        }
+    }
+    let k = met.len().min(64) as u32;
+    met.push(t)?;
+    Ok(k)
+}
+
+/// The same move by the thread with its number among those that were met so far.
+fn renumbered(met: &mut Vec<u32>, m: Move) -> Result<Move, NoMemory> {
+    Ok(match m {
+        Move::Start { t, op, args } => Move::Start {
+            t: number_among(met, t)?,
+            op,
+            args,
+        },
+        Move::Step { t, nth, addr } => Move::Step {
+            t: number_among(met, t)?,
+            nth,
+            addr,
+        },
+        Move::Return { t } => Move::Return {
+            t: number_among(met, t)?,
+        },
+        Move::Free { a } => Move::Free { a },
+    })
+}
+
+/// The moves that are kept, with threads numbered in the order in which they move first.
+fn kept_moves(s: Shortening) -> Result<Trail, NoMemory> {
+    let mut met = Vec::new(s.alloc);
+    let mut moves = Items::new(s.alloc);
+    for (m, kept) in s.moves.into_iter().zip(s.kept.into_iter()) {
+        if kept {
+            moves.push(renumbered(&mut met, m)?)?;
+        }
+    }
+    Ok(Trail {
+        threads: met.len().clamp(1, 64) as u32,
+        moves,
+    })
+}
+
+/// Makes a run that races short. The run that is answered races, where the one that is given does; no clause says so,
+/// and whoever shows it follows it once more. The one error is that memory runs out.
+pub fn shorten(
+    alloc: Global,
+    program: &Program,
+    frees: &mut Frees,
+    trail: Trail,
+) -> Result<Trail, NoMemory>
+    requires { FlowFits program.now.flow.now }
+{
+    let moves = trail.moves.into_vec();
+    let mut s = Shortening {
+        alloc,
+        threads: trail.threads,
+        kept: vec![in alloc; true; moves.len()]?,
+        moves,
+        way: Way {
+            stands: Vec::new(alloc),
+            idle: Vec::new(alloc),
+        },
+    };
+    for _ in 0..s.moves.len() {
+        if !leave_any(&mut s, program, frees)? {
+            break;
+        }
+    }
+    kept_moves(s)
+}

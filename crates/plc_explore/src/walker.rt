@@ -1,0 +1,351 @@
+// A run that is drawn: threads move in an order that changes (order.rt), each by a move that is drawn among those that
+// it has, and after each event what may be freed is freed. The run ends at the first race, where no thread can move, or
+// where it grows too long.
+ghost use Rattle.std.specs.Prelude.{◌<◌};
+ghost use Rattle.plc_flow.specs.StepsByPoint.{IsIndexOf, first_points};
+ghost use Rattle.plc_flow.specs.WellFormed.{FlowFits};
+ghost use Rattle.plc_run.specs.Position.{IsOfRun};
+
+use crate::frees::Frees;
+use crate::order::Order;
+use crate::outlook::Outlook;
+use crate::plan::Plan;
+use crate::program::Program;
+use crate::random::Random;
+use plc_auto::Event;
+use plc_base::{NoMemory, OpId};
+use plc_flow::{Point, Step};
+use plc_lang::{Prim, Var, count_parameters, has_new};
+use plc_run::{Config, Moved};
+use plc_threads::Move;
+use std::alloc::Global;
+
+/// The most moves of a run that is drawn, frees aside.
+const LONGEST: u32 = 400;
+
+/// The most addresses that are freed after one move.
+const MOST_FREES: u32 = 8;
+
+/// What came of a thread's turn.
+#[derive(Clone, Copy, PartialEq, Eq)]
+pub enum Turn {
+    /// It moved, and others may see it.
+    Went,
+    /// It moved, and no other thread sees it.
+    Passed,
+    /// It gives way before it writes.
+    Waits,
+    /// Its move is a race, which ends the run.
+    Raced,
+    /// It has no move.
+    Stuck,
+}
+
+/// Draws one run.
+#[derive(Drop)]
+pub struct Walker<'a> {
+    random: &'a mut Random,
+    frees: &'a mut Frees,
+    plan: Plan,
+    order: Order,
+    moves: Vec<Move>,
+}
+
+/// Whether a point is the exit of its operation.
+fn is_exit(program: &Program, point: Point) -> bool {
+    match program.flow.gates.get(point.op as usize) {
+        Some(gate) => point.at == gate.exit.0,
+        None => false,
+    }
+}
+
+impl<'a> Walker<'a> {
+    /// Who draws a run, with what is drawn before its first move.
+    pub fn new(
+        alloc: Global,
+        program: &Program,
+        random: &'a mut Random,
+        frees: &'a mut Frees,
+    ) -> Result<Walker<'a>, NoMemory> {
+        frees.begin(program.schemes)?;
+        let plan = Plan::draw(alloc, random)?;
+        let order = Order::draw(alloc, random, plan.threads())?;
+        Ok(Walker {
+            random,
+            frees,
+            plan,
+            order,
+            moves: Vec::new(alloc),
+        })
+    }
+
+    /// How many threads the run has.
+    pub fn threads(&self) -> u32
+        ensures { 0 < result }
+    {
+        self.plan.threads()
+    }
+
+    /// The moves that were made.
+    pub fn into_moves(self) -> Vec<Move> {
+        self.moves
+    }
+
+    /// How many moves were made.
+    pub fn count(&self) -> u64 {
+        self.moves.len() as u64
+    }
+
+    /// Moves, from where runs begin, until the run races or ends.
+    pub fn walk(&mut self, program: &Program, config: &mut Config) -> Result<bool, NoMemory>
+        requires fits { FlowFits program.now.flow.now }
+        requires indexed { IsIndexOf (first_points program.now.flow.now) program.now.steps.now }
+        requires of_run { IsOfRun program.now.flow.now program.now.observer.now config.old }
+    {
+        for _ in 0..LONGEST {
+            match self.go(program, config)? {
+                Turn::Went | Turn::Passed | Turn::Waits => {}
+                Turn::Raced => return Ok(true),
+                Turn::Stuck => return Ok(false),
+            }
+        }
+        Ok(false)
+    }
+
+    /// Lets the first thread move that can.
+    fn go(&mut self, program: &Program, config: &mut Config) -> Result<Turn, NoMemory>
+        requires fits { FlowFits program.now.flow.now }
+        requires indexed { IsIndexOf (first_points program.now.flow.now) program.now.steps.now }
+        requires of_run { IsOfRun program.now.flow.now program.now.observer.now config.old }
+        ensures of_run { IsOfRun program.now.flow.now program.now.observer.now config.new }
+    {
+        for k in 0..self.order.len() {
+            let t = self.order.at(k);
+            match self.turn(program, config, t)? {
+                Turn::Went => {
+                    self.order.moved(k, self.random)?;
+                    return Ok(Turn::Went);
+                }
+                Turn::Waits => {
+                    self.order.give_way(k, self.random)?;
+                    return Ok(Turn::Waits);
+                }
+                Turn::Passed => {
+                    self.order.passed(k, self.random)?;
+                    return Ok(Turn::Passed);
+                }
+                Turn::Raced => return Ok(Turn::Raced),
+                Turn::Stuck => {}
+            }
+        }
+        Ok(Turn::Stuck)
+    }
+
+    /// Lets a thread move: an idle one begins an operation, one at the exit returns, another takes a step.
+    fn turn(&mut self, program: &Program, config: &mut Config, t: u32) -> Result<Turn, NoMemory>
+        requires fits { FlowFits program.now.flow.now }
+        requires indexed { IsIndexOf (first_points program.now.flow.now) program.now.steps.now }
+        requires of_run { IsOfRun program.now.flow.now program.now.observer.now config.old }
+        ensures of_run { IsOfRun program.now.flow.now program.now.observer.now config.new }
+    {
+        match config.point(t) {
+            None => self.begin(program, config, t),
+            Some(point) if is_exit(program, point) => {
+                self.make(program, config, Move::Return { t })
+            }
+            Some(point) => self.step(program, config, t, point.at),
+        }
+    }
+
+    /// Lets an idle thread begin an operation that is drawn.
+    fn begin(&mut self, program: &Program, config: &mut Config, t: u32) -> Result<Turn, NoMemory>
+        requires fits { FlowFits program.now.flow.now }
+        requires of_run { IsOfRun program.now.flow.now program.now.observer.now config.old }
+        ensures of_run { IsOfRun program.now.flow.now program.now.observer.now config.new }
+    {
+        let ops = program.flow.file.ops.as_slice();
+        let op = self.random.below(ops.len().min(65_535) as u32) as u16;
+        let Some(operation) = ops.get(op as usize) else {
+            return Ok(Turn::Stuck);
+        };
+        if !self.plan.may_begin(t) {
+            return Ok(Turn::Stuck);
+        }
+        self.plan.began(t);
+        let count = count_parameters(operation);
+        let args = self.plan.arguments(self.random, program.numbers, count)?;
+        self.make(
+            program,
+            config,
+            Move::Start {
+                t,
+                op: OpId(op),
+                args,
+            },
+        )
+    }
+
+    /// Lets a thread take one of the steps that leave its point: the first, from one that is drawn on, that looks as if
+    /// it led on and can be taken; where none does, the first that can be taken.
+    fn step(
+        &mut self,
+        program: &Program,
+        config: &mut Config,
+        t: u32,
+        at: u16,
+    ) -> Result<Turn, NoMemory>
+        requires fits { FlowFits program.now.flow.now }
+        requires indexed { IsIndexOf (first_points program.now.flow.now) program.now.steps.now }
+        requires of_run { IsOfRun program.now.flow.now program.now.observer.now config.old }
+        ensures of_run { IsOfRun program.now.flow.now program.now.observer.now config.new }
+    {
+        let count = program.steps.leaving(at).len().min(65_535) as u32;
+        let first = self.random.below(count);
+        for k in 0..count {
+            let nth = ((first as u64 + k as u64) % count as u64) as u16;
+            let Some(step) = program.steps.nth_step(program.flow, at, nth) else {
+                continue;
+            };
+            if count > 1 && !looks_open(program, config, t, step) {
+                continue;
+            }
+            let turn = self.take(program, config, t, nth, step)?;
+            if turn != Turn::Stuck {
+                return Ok(turn);
+            }
+        }
+        Ok(Turn::Stuck)
+    }
+
+    /// Takes a step of a thread, if it can be taken.
+    fn take(
+        &mut self,
+        program: &Program,
+        config: &mut Config,
+        t: u32,
+        nth: u16,
+        step: &Step,
+    ) -> Result<Turn, NoMemory>
+        requires fits { FlowFits program.now.flow.now }
+        requires of_run { IsOfRun program.now.flow.now program.now.observer.now config.old }
+        ensures of_run { IsOfRun program.now.flow.now program.now.observer.now config.new }
+    {
+        if writes(step.prims.as_slice()) && self.order.waits(self.random) {
+            return Ok(Turn::Waits);
+        }
+        if !has_new(step.prims.as_slice()) {
+            let turn = self.make(program, config, Move::Step { t, nth, addr: None })?;
+            let passed = turn == Turn::Went && step.prims.is_empty();
+            return Ok(if passed { Turn::Passed } else { turn });
+        }
+        let a = self.plan.address(self.random);
+        let turn = self.make(
+            program,
+            config,
+            Move::Step {
+                t,
+                nth,
+                addr: Some(a),
+            },
+        )?;
+        if turn == Turn::Went {
+            self.plan.used(a);
+        }
+        Ok(turn)
+    }
+
+    /// Makes a move, if there is one, and frees what may be freed after it.
+    fn make(&mut self, program: &Program, config: &mut Config, m: Move) -> Result<Turn, NoMemory>
+        requires fits { FlowFits program.now.flow.now }
+        requires of_run { IsOfRun program.now.flow.now program.now.observer.now config.old }
+        ensures of_run { IsOfRun program.now.flow.now program.now.observer.now config.new }
+    {
+        let before = config.history().len();
+        match config.step(program.flow, program.observer, &m)? {
+            Moved::Done => {
+                self.moves.push(m)?;
+                self.hear(config, before)?;
+                self.free(program, config)?;
+                Ok(Turn::Went)
+            }
+            Moved::Race { .. } => {
+                self.moves.push(m)?;
+                Ok(Turn::Raced)
+            }
+            Moved::Blocked | Moved::Forbidden { .. } => Ok(Turn::Stuck),
+        }
+    }
+
+    /// Hears the events after so many.
+    fn hear(&mut self, config: &Config, before: usize) -> Result<(), NoMemory> {
+        for event in config.history().iter().skip(before) {
+            self.frees.hear(event)?;
+            if let Event::Call { f, a: Some(a), .. } = event {
+                if f.is_retire() {
+                    self.plan.retire(*a)?;
+                }
+            }
+        }
+        Ok(())
+    }
+
+    /// Frees what may be freed.
+    fn free(&mut self, program: &Program, config: &mut Config) -> Result<(), NoMemory>
+        requires fits { FlowFits program.now.flow.now }
+        requires of_run { IsOfRun program.now.flow.now program.now.observer.now config.old }
+        ensures of_run { IsOfRun program.now.flow.now program.now.observer.now config.new }
+    {
+        for _ in 0..MOST_FREES {
+            if self.plan.retired().is_empty() {
+                return Ok(());
+            }
+            let Some(a) = self.frees.next(self.plan.retired(), self.random) else {
+                return Ok(());
+            };
+            let m = Move::Free { a };
+            if config.step(program.flow, program.observer, &m)? != Moved::Done {
+                return Ok(());
+            }
+            self.moves.push(m)?;
+            self.plan.free(a)?;
+            self.frees.hear(&Event::Free { a })?;
+        }
+        Ok(())
+    }
+}
+
+/// Whether one of these primitives writes a pointer that other threads may read.
+fn writes(prims: &[Prim]) -> bool {
+    prims.iter().any(|prim| {
+        matches!(
+            prim,
+            Prim::Copy {
+                p: Var::Shared(_),
+                ..
+            } | Prim::Null { p: Var::Shared(_) }
+                | Prim::Mark {
+                    p: Var::Shared(_),
+                    ..
+                }
+                | Prim::Unmark {
+                    p: Var::Shared(_),
+                    ..
+                }
+                | Prim::Load {
+                    p: Var::Shared(_),
+                    ..
+                }
+                | Prim::Store { .. }
+                | Prim::StoreNull { .. }
+        )
+    })
+}
+
+/// Whether a step of a thread looks as if it led on.
+fn looks_open(program: &Program, config: &Config, t: u32, step: &Step) -> bool {
+    let memory = config.memory();
+    match memory.locals(t) {
+        Some(me) => Outlook { memory, me, t }.is_open(program.flow, program.steps, step),
+        None => true,
+    }
+}

@@ -1,0 +1,295 @@
+// A hunt in the bytes of a file: the runs of its program are drawn, and the first that races is made short, written, and
+// followed once more as it is written.
+ghost use Rattle.std.specs.Prelude.{◌≡◌, ◌≤◌, [], false, IfOk, IfSome, IsTrue, length};
+ghost use Rattle.plc_cli.specs.Refusals.{load_text};
+ghost use Rattle.plc_cli.specs.Statuses.{holds, fails, refused};
+ghost use Rattle.plc_hunting.specs.Texts.{run_text};
+ghost use Rattle.plc_hunting.specs.Trails.{TrailRaces};
+ghost use Rattle.plc_base.specs.Limits.{largest_file};
+ghost use Rattle.plc_flow.specs.StepsByPoint.{IsIndexOf, first_points};
+ghost use Rattle.plc_flow.specs.WellFormed.{FlowFits};
+ghost use Rattle.plc_hunting.specs.Racing.{IsHuntedBy, IsHuntUnder, IsHuntedFreely, IsFreeHunt};
+
+use crate::account::push_account;
+use crate::racing::{run_races, schedule_races};
+use crate::writing::run_text;
+use plc_base::NoMemory;
+use plc_check::{Judged, LoadFault, load};
+use plc_cli::refusal;
+use plc_explore::{
+    Account, Frees, Program, Random, Trail, explore, follow_to_race, numbers_in, shorten,
+};
+use plc_flow::StepsByPoint;
+use plc_reclaim::Reclaimer;
+use plc_texts::{push, push_number, push_numbered};
+use std::alloc::{AllocError, Global};
+
+/// How many moves are made at most, over all runs of a hunt.
+pub const MOST_MOVES: u64 = 40_000_000;
+
+/// What was asked is there.
+const FOUND: u8 = 0;
+
+/// Nothing was found.
+const NOTHING: u8 = 1;
+
+/// An answer: the status, the text that is asked for, and what is said beside it.
+#[derive(Drop)]
+pub struct Hunted {
+    pub status: u8,
+    pub text: Vec<u8>,
+    pub said: Vec<u8>,
+}
+
+/// A run that was found, if one was, what is known of its race, and how much was tried.
+#[derive(Drop)]
+struct Quarry {
+    trail: Option<Trail>,
+    account: Option<Account>,
+    seed: u32,
+    runs: u64,
+    moves: u64,
+}
+
+/// Makes a run short, and finds out what can be said of its race.
+fn shortened(
+    alloc: Global,
+    program: &Program,
+    frees: &mut Frees,
+    trail: Option<Trail>,
+) -> Result<(Option<Trail>, Option<Account>), NoMemory>
+    requires fits { FlowFits program.now.flow.now }
+    requires indexed { IsIndexOf (first_points program.now.flow.now) program.now.steps.now }
+{
+    let Some(trail) = trail else {
+        return Ok((None, None));
+    };
+    let trail = shorten(alloc, program, frees, trail)?;
+    let account = follow_to_race(alloc, program, frees, &trail)?;
+    Ok((Some(trail), account))
+}
+
+/// Draws runs until one races, and makes that short.
+fn hunt_program(
+    alloc: Global,
+    program: &Program,
+    frees: &mut Frees,
+    seed: u32,
+) -> Result<Quarry, NoMemory>
+    requires fits { FlowFits program.now.flow.now }
+    requires indexed { IsIndexOf (first_points program.now.flow.now) program.now.steps.now }
+{
+    let mut random = Random::new(u64::from(seed));
+    let explored = explore(alloc, program, frees, &mut random, MOST_MOVES)?;
+    let (trail, account) = shortened(alloc, program, frees, explored.trail)?;
+    Ok(Quarry {
+        trail,
+        account,
+        seed,
+        runs: explored.runs,
+        moves: explored.moves,
+    })
+}
+
+/// The same in a file that was loaded.
+fn hunt_judged(
+    alloc: Global,
+    judged: &Judged,
+    mut frees: Frees,
+    seed: u32,
+) -> Result<Quarry, NoMemory>
+    requires fits { FlowFits judged.now.flow }
+{
+    let steps = StepsByPoint::of_flow(alloc, &judged.flow)?;
+    let numbers = numbers_in(alloc, &judged.flow)?;
+    let program = Program {
+        flow: &judged.flow,
+        steps: &steps,
+        numbers: &numbers,
+        observer: &judged.observer,
+        schemes: judged.schemes.as_slice(),
+    };
+    hunt_program(alloc, &program, &mut frees, seed)
+}
+
+/// What is said of a hunt: of the race, if one was found, and how much was tried.
+fn said_of(
+    alloc: Global,
+    judged: &Judged,
+    quarry: &Quarry,
+    races: bool,
+) -> Result<Vec<u8>, AllocError> {
+    let mut said = Vec::new(alloc);
+    match &quarry.account {
+        Some(account) if races => push_account(&mut said, &judged.flow.file, account)?,
+        _ if quarry.runs == 0 => push(&mut said, "the program has no run\n")?,
+        _ => push(
+            &mut said,
+            "no race was met, which says nothing of other runs\n",
+        )?,
+    }
+    push_numbered(&mut said, "seed ", quarry.seed)?;
+    push(&mut said, ", runs ")?;
+    push_number(&mut said, quarry.runs)?;
+    push(&mut said, ", moves ")?;
+    push_number(&mut said, quarry.moves)?;
+    push(&mut said, "\n")?;
+    Ok(said)
+}
+
+/// The text of a run; empty where there is none.
+fn text_of(
+    alloc: Global,
+    judged: &Judged,
+    ticks: bool,
+    trail: &Option<Trail>,
+) -> Result<Vec<u8>, AllocError>
+    ensures { IfOk result (λ text. IfSome trail.now (λ run.
+        text.items ≡ run_text judged.now.flow ticks run.threads run.moves)) }
+{
+    match trail {
+        Some(trail) => run_text(
+            alloc,
+            &judged.flow,
+            ticks,
+            trail.threads,
+            trail.moves.as_slice(),
+        ),
+        None => Ok(Vec::new(alloc)),
+    }
+}
+
+/// The answer where a race was found, if the text shows one, else that none was.
+fn answer_of(alloc: Global, races: bool, text: Vec<u8>, said: Vec<u8>) -> Hunted
+    ensures found { IsTrue races → (result.status ≡ holds) × (result.text.items ≡ text.items) }
+    ensures nothing { races ≡ false → (result.status ≡ fails) × (result.text.items ≡ []) }
+{
+    if races {
+        Hunted {
+            status: FOUND,
+            text,
+            said,
+        }
+    } else {
+        Hunted {
+            status: NOTHING,
+            text: Vec::new(alloc),
+            said,
+        }
+    }
+}
+
+/// The answer for a file that was loaded, under a reclaimer.
+fn hunted_by(
+    alloc: Global,
+    judged: &Judged,
+    frees: Frees,
+    seed: u32,
+    reclaimer: &mut Box<dyn Reclaimer>,
+) -> Result<Hunted, NoMemory>
+    requires fits { FlowFits judged.now.flow }
+    ensures { IfOk result (λ h. IsHuntedBy (meanings reclaimer.old) judged.now h.status h.text.items) }
+{
+    let quarry = hunt_judged(alloc, judged, frees, seed)?;
+    let text = text_of(alloc, judged, true, &quarry.trail)?;
+    let races = schedule_races(alloc, judged, &text, reclaimer)?;
+    let said = said_of(alloc, judged, &quarry, races)?;
+    Ok(answer_of(alloc, races, text, said))
+}
+
+/// The same, which ends the file.
+fn hunted_in(
+    alloc: Global,
+    judged: Judged,
+    frees: Frees,
+    seed: u32,
+    reclaimer: &mut Box<dyn Reclaimer>,
+) -> Result<Hunted, NoMemory>
+    requires fits { FlowFits judged.flow }
+    ensures { IfOk result (λ h. IsHuntedBy (meanings reclaimer.old) judged h.status h.text.items) }
+{
+    let hunted = hunted_by(alloc, &judged, frees, seed, reclaimer);
+    drop(judged);
+    hunted
+}
+
+/// The answer to a file that is refused.
+fn refused_file(alloc: Global, fault: &LoadFault) -> Result<Hunted, NoMemory>
+    ensures { IfOk result (λ h. (h.status ≡ refused) × (h.text.items ≡ load_text fault.now)) }
+{
+    let answer = refusal(alloc, fault)?;
+    Ok(Hunted {
+        status: answer.status,
+        text: answer.text,
+        said: Vec::new(alloc),
+    })
+}
+
+/// The answer to the bytes of a file under a reclaimer: a schedule that comes to a race under it, or that none was met
+/// with this seed. Runs are drawn under another value of the same reclaimer. The one error is that memory runs out.
+pub fn hunt_under(
+    alloc: Global,
+    bytes: &[u8],
+    frees: Frees,
+    seed: u32,
+    reclaimer: &mut Box<dyn Reclaimer>,
+) -> Result<Hunted, NoMemory>
+    requires { length bytes.now ≤ largest_file }
+    ensures { IfOk result (λ h. IsHuntUnder (meanings reclaimer.old) bytes.now h.status h.text.items) }
+{
+    match load(alloc, bytes) {
+        Ok(judged) => hunted_in(alloc, judged, frees, seed, reclaimer),
+        Err(LoadFault::Memory) => Err(NoMemory),
+        Err(fault) => refused_file(alloc, &fault),
+    }
+}
+
+/// Whether a run races, if there is one.
+fn trail_races(alloc: Global, judged: &Judged, trail: &Option<Trail>) -> Result<bool, NoMemory>
+    requires fits { FlowFits judged.now.flow }
+    ensures races { IfOk result (λ races. IsTrue races → TrailRaces judged.now trail.now) }
+{
+    let Some(trail) = trail else {
+        return Ok(false);
+    };
+    if trail.threads == 0 {
+        return Ok(false);
+    }
+    let moves = trail.moves.as_slice();
+    run_races(alloc, &judged.flow, &judged.observer, trail.threads, moves)
+}
+
+/// The answer for a file that was loaded, where any allowed free may come.
+fn hunted_freely(alloc: Global, judged: &Judged, seed: u32) -> Result<Hunted, NoMemory>
+    requires fits { FlowFits judged.now.flow }
+    ensures { IfOk result (λ h. IsHuntedFreely judged.now h.status h.text.items) }
+{
+    let quarry = hunt_judged(alloc, judged, Frees::Any, seed)?;
+    let text = text_of(alloc, judged, false, &quarry.trail)?;
+    let races = trail_races(alloc, judged, &quarry.trail)?;
+    let said = said_of(alloc, judged, &quarry, races)?;
+    Ok(answer_of(alloc, races, text, said))
+}
+
+/// The same, which ends the file.
+fn hunted_freely_in(alloc: Global, judged: Judged, seed: u32) -> Result<Hunted, NoMemory>
+    requires fits { FlowFits judged.flow }
+    ensures { IfOk result (λ h. IsHuntedFreely judged h.status h.text.items) }
+{
+    let hunted = hunted_freely(alloc, &judged, seed);
+    drop(judged);
+    hunted
+}
+
+/// The answer to the bytes of a file where any free may come that the observer allows: a run that races, or that none
+/// was met with this seed. The one error is that memory runs out.
+pub fn hunt_freely(alloc: Global, bytes: &[u8], seed: u32) -> Result<Hunted, NoMemory>
+    requires { length bytes.now ≤ largest_file }
+    ensures { IfOk result (λ h. IsFreeHunt bytes.now h.status h.text.items) }
+{
+    match load(alloc, bytes) {
+        Ok(judged) => hunted_freely_in(alloc, judged, seed),
+        Err(LoadFault::Memory) => Err(NoMemory),
+        Err(fault) => refused_file(alloc, &fault),
+    }
+}

@@ -1,0 +1,13 @@
+//! The command line of `plc-hunt`: a run of a file's program that races, as a schedule, by the words that are given. Runs
+//! are drawn (`plc_explore`), and what is answered was followed once more: as a schedule that `replay` under the same
+//! reclaimer answers with a race, or, where any allowed free may come, as a run of the definition.
+#![tactic(auto)]
+
+mod account;
+mod asking;
+mod hunting;
+mod racing;
+mod writing;
+
+pub use asking::hunt;
+pub use hunting::{Hunted, MOST_MOVES, hunt_freely, hunt_under};
