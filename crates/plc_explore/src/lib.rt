@@ -2,8 +2,8 @@
 //! run races follows it once more, as `plc_hunting` does.
 //!
 //! A run is drawn as in probabilistic concurrency testing (Burckhardt and others, ASPLOS 2010): the first thread moves
-//! that can, in an order that changes at a few moves. Addresses are used again as soon as they can be, since that is how
-//! a stale pointer meets a new node.
+//! that can, in an order that changes at a few moves. Addresses are used again as soon as they can be, since that is
+//! how a stale pointer meets a new node.
 #![tactic(auto)]
 
 mod account;

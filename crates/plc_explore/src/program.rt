@@ -6,8 +6,8 @@ use plc_flow::{Flow, StepsByPoint};
 use plc_lang::{Num, Prim};
 use std::alloc::Global;
 
-/// A program: its flow, with the index of its steps and the numbers that stand in it, the observer that says which frees
-/// are allowed, and what a reclaimer begins with.
+/// A program: its flow, with the index of its steps and the numbers that stand in it, the observer that says which
+/// frees are allowed, and what a reclaimer begins with.
 #[derive(Clone, Copy)]
 pub struct Program<'a> {
     pub flow: &'a Flow,

@@ -1,5 +1,5 @@
-// A hunt in the bytes of a file: the runs of its program are drawn, and the first that races is made short, written, and
-// followed once more as it is written.
+// A hunt in the bytes of a file: the runs of its program are drawn, and the first that races is made short, written,
+// and followed once more as it is written.
 ghost use Rattle.std.specs.Prelude.{◌≡◌, ◌≤◌, [], false, IfOk, IfSome, IsTrue, length};
 ghost use Rattle.plc_cli.specs.Refusals.{load_text};
 ghost use Rattle.plc_cli.specs.Statuses.{holds, fails, refused};

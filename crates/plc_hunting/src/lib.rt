@@ -1,6 +1,6 @@
-//! The command line of `plc-hunt`: a run of a file's program that races, as a schedule, by the words that are given. Runs
-//! are drawn (`plc_explore`), and what is answered was followed once more: as a schedule that `replay` under the same
-//! reclaimer answers with a race, or, where any allowed free may come, as a run of the definition.
+//! The command line of `plc-hunt`: a run of a file's program that races, as a schedule, by the words that are given.
+//! Runs are drawn (`plc_explore`), and what is answered was followed once more: as a schedule that `replay` under the
+//! same reclaimer answers with a race, or, where any allowed free may come, as a run of the definition.
 #![tactic(auto)]
 
 mod account;

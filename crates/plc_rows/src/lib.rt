@@ -1,6 +1,6 @@
 //! A recorded run in rows of a page: what a line of its schedule takes, what that changes in memory, where the observer
-//! then stands, and what is there after the last line. It judges nothing, and reads what it shows from configurations of
-//! runs. The layer above takes the lines.
+//! then stands, and what is there after the last line. It judges nothing, and reads what it shows from configurations
+//! of runs. The layer above takes the lines.
 #![tactic(auto)]
 
 mod changes;

@@ -1,6 +1,6 @@
 // What words ask for: the page of a file, the page of a run, or lines for editors. What can't be read or asked is
-// answered as `plc` answers it. A reclaimer is made in the call that hands it on, since no function may hand out a value
-// of a trait.
+// answered as `plc` answers it. A reclaimer is made in the call that hands it on, since no function may hand out a
+// value of a trait.
 ghost use Rattle.std.specs.Prelude.{◌≤◌, length};
 ghost use Rattle.plc_base.specs.Limits.{largest_file};
 
