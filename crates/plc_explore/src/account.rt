@@ -76,11 +76,11 @@ impl Notes {
     }
 }
 
-/// Where something happened to an address for the last time.
-fn last_of(happened: &[Happened], a: u32) -> Option<Lines> {
+/// Where something happened to an address for the last time before a line of the schedule.
+fn last_before(happened: &[Happened], a: u32, line: u32) -> Option<Lines> {
     let mut last = None;
     for one in happened {
-        if one.a == a {
+        if one.a == a && one.at.schedule < line {
             last = Some(one.at);
         }
     }
@@ -136,19 +136,39 @@ fn make(
     Ok(moved)
 }
 
+/// Notes where the node at an address was freed last, and where it was retired before that; of one that is retired a
+/// second time, where it was retired first.
+fn tell_node(account: &mut Account, notes: &Notes, a: u32) {
+    let mut until = account.at.schedule;
+    if account.kind != RaceKind::Double {
+        account.freed = last_before(&notes.freed, a, until);
+    }
+    if let Some(freed) = account.freed {
+        until = freed.schedule;
+    }
+    account.retired = last_before(&notes.retired, a, until);
+}
+
 /// Notes of a pointer that is invalid before a step, or whose node is retired a second time, where its node was retired
 /// and freed.
-fn tell_pointer(account: &mut Account, notes: &Notes, seen: &Seen, op: u16, var: Option<Var>) {
+fn tell_pointer(
+    account: &mut Account,
+    notes: &Notes,
+    seen: &Seen,
+    op: u16,
+    var: Option<Var>,
+    is_alone: bool,
+) {
     let Some(var) = var else {
         return;
     };
-    let Some(cell) = seen.value_before(var) else {
-        return;
-    };
-    if !cell.valid || account.kind == RaceKind::Double {
-        account.pointer = Some((op, var));
-        account.retired = last_of(&notes.retired, cell.number);
-        account.freed = last_of(&notes.freed, cell.number);
+    match seen.value_before(var) {
+        Some(cell) if !cell.valid || account.kind == RaceKind::Double => {
+            account.pointer = Some((op, var));
+            tell_node(account, notes, cell.number);
+        }
+        None if is_alone => account.pointer = Some((op, var)),
+        _ => {}
     }
 }
 
@@ -177,8 +197,9 @@ fn account_of(
         prim: race.prim,
     };
     let (first, second) = seen.racing_pointers();
-    tell_pointer(&mut account, notes, &seen, step.op.0, first);
-    tell_pointer(&mut account, notes, &seen, step.op.0, second);
+    let is_alone = second.is_none();
+    tell_pointer(&mut account, notes, &seen, step.op.0, first, is_alone);
+    tell_pointer(&mut account, notes, &seen, step.op.0, second, false);
     account
 }
 

@@ -8,7 +8,7 @@ use plc_reclaim::Reclaimer;
 /// Who says what is freed.
 #[derive(Drop)]
 pub enum Frees {
-    /// A reclaimer: it is asked after each event, and what it picks is freed.
+    /// A reclaimer: it is asked after each move while something is retired, and what it picks is freed.
     Picked(Box<dyn Reclaimer>),
     /// Nobody: any retired address may be freed that the observer doesn't keep.
     Any,

@@ -33,13 +33,15 @@ fn pointers_of(prim: &Prim) -> (Option<Var>, Option<Var>) {
     }
 }
 
-/// The pointer to which a primitive assigns, where it copies or loads one, and the one from which.
-fn assigned(prim: &Prim) -> Option<(Var, Var)> {
+/// The pointer to which a primitive assigns, and the one that it copies, or through which it loads.
+fn assigned(prim: &Prim) -> Option<(Var, Option<Var>)> {
     match *prim {
         Prim::Copy { p, q }
         | Prim::Mark { p, q }
         | Prim::Unmark { p, q }
-        | Prim::Load { p, q, .. } => Some((p, q)),
+        | Prim::Load { p, q, .. } => Some((p, Some(q))),
+        Prim::Refresh { p, q } | Prim::RefreshLoad { p, q, .. } => Some((Var::Local(p), Some(q))),
+        Prim::Null { p } | Prim::New { p } => Some((p, None)),
         _ => None,
     }
 }
@@ -63,10 +65,12 @@ impl Seen<'_> {
     }
 
     /// What a primitive of the step before the race gives to the pointer that it assigns.
-    fn given(&self, prim: &Prim, from: Var) -> Option<Cell> {
-        let cell = self.value(from)?;
+    fn given(&self, prim: &Prim, from: Option<Var>) -> Option<Cell> {
+        let cell = self.value(from?)?;
         match *prim {
-            Prim::Load { f, .. } => self.memory.cell(&Place::Cell { a: cell.number, f }),
+            Prim::Load { f, .. } | Prim::RefreshLoad { f, .. } => self
+                .memory
+                .cell(&Place::Cell { a: cell.number, f }),
             _ => Some(cell),
         }
     }

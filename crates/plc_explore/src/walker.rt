@@ -1,5 +1,5 @@
 // A run that is drawn: threads move in an order that changes (order.rt), each by a move that is drawn among those that
-// it has, and after each event what may be freed is freed. The run ends at the first race, where no thread can move, or
+// it has, and after each move what may be freed is freed. The run ends at the first race, where no thread can move, or
 // where it grows too long.
 ghost use Rattle.std.specs.Prelude.{◌<◌};
 ghost use Rattle.plc_flow.specs.StepsByPoint.{IsIndexOf, first_points};

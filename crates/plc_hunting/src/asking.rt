@@ -17,6 +17,33 @@ use std::alloc::Global;
 /// The seed where none is given.
 const SEED: u32 = 1;
 
+/// Who says what is freed.
+#[derive(Clone, Copy)]
+enum Freeing {
+    /// `leak`
+    Leak,
+    /// `list`
+    List,
+    /// `hazard`
+    Hazard,
+    /// `epoch`
+    Epoch,
+    /// `any`: whatever the observer allows may be freed.
+    Any,
+}
+
+/// What a word means, if it is one of the five.
+fn freeing_of(word: &str) -> Option<Freeing> {
+    match word {
+        "leak" => Some(Freeing::Leak),
+        "list" => Some(Freeing::List),
+        "hazard" => Some(Freeing::Hazard),
+        "epoch" => Some(Freeing::Epoch),
+        "any" => Some(Freeing::Any),
+        _ => None,
+    }
+}
+
 /// A hunt with these two values of a reclaimer.
 fn hunt_with(
     alloc: Global,
@@ -24,45 +51,38 @@ fn hunt_with(
     seed: u32,
     drawing: Box<dyn Reclaimer>,
     mut judging: Box<dyn Reclaimer>,
-) -> Result<Option<Hunted>, NoMemory>
+) -> Result<Hunted, NoMemory>
     requires { length bytes.now ≤ largest_file }
 {
-    let hunted = hunt_under(alloc, bytes, Frees::Picked(drawing), seed, &mut judging)?;
-    Ok(Some(hunted))
+    hunt_under(alloc, bytes, Frees::Picked(drawing), seed, &mut judging)
 }
 
-/// The answer to the bytes of a file under the reclaimer of a name. `None` comes where there is no such reclaimer.
-fn hunt_named(
-    alloc: Global,
-    bytes: &[u8],
-    reclaimer: &str,
-    seed: u32,
-) -> Result<Option<Hunted>, NoMemory>
+/// The answer to the bytes of a file.
+fn hunt_bytes(alloc: Global, bytes: &[u8], freeing: Freeing, seed: u32) -> Result<Hunted, NoMemory>
     requires { length bytes.now ≤ largest_file }
 {
-    match reclaimer {
-        "leak" => {
+    match freeing {
+        Freeing::Leak => {
             let drawing = Box::new(alloc, Leak::new(alloc))?;
             let judging = Box::new(alloc, Leak::new(alloc))?;
             hunt_with(alloc, bytes, seed, drawing, judging)
         }
-        "list" => {
+        Freeing::List => {
             let drawing = Box::new(alloc, ByList::new(alloc))?;
             let judging = Box::new(alloc, ByList::new(alloc))?;
             hunt_with(alloc, bytes, seed, drawing, judging)
         }
-        "hazard" => {
+        Freeing::Hazard => {
             let drawing = Box::new(alloc, Hazard::new(alloc))?;
             let judging = Box::new(alloc, Hazard::new(alloc))?;
             hunt_with(alloc, bytes, seed, drawing, judging)
         }
-        "epoch" => {
+        Freeing::Epoch => {
             let drawing = Box::new(alloc, Epoch::new(alloc))?;
             let judging = Box::new(alloc, Epoch::new(alloc))?;
             hunt_with(alloc, bytes, seed, drawing, judging)
         }
-        "any" => Ok(Some(hunt_freely(alloc, bytes, seed)?)),
-        _ => Ok(None),
+        Freeing::Any => hunt_freely(alloc, bytes, seed),
     }
 }
 
@@ -76,19 +96,16 @@ fn wrong_words(alloc: Global) -> Result<Hunted, NoMemory> {
     })
 }
 
-/// The answer to a file, a reclaimer and a seed.
+/// The answer to a file.
 fn hunt_file<F: Files>(
     alloc: Global,
     files: &mut F,
     file: &str,
-    reclaimer: &str,
+    freeing: Freeing,
     seed: u32,
 ) -> Result<Hunted, NoMemory> {
     match read(alloc, files, file, LARGEST_FILE)? {
-        Content::Read(bytes) => match hunt_named(alloc, &bytes, reclaimer, seed)? {
-            Some(hunted) => Ok(hunted),
-            None => wrong_words(alloc),
-        },
+        Content::Read(bytes) => hunt_bytes(alloc, &bytes, freeing, seed),
         Content::Unread(answer) => Ok(Hunted {
             status: answer.status,
             text: answer.text,
@@ -97,22 +114,31 @@ fn hunt_file<F: Files>(
     }
 }
 
-/// Whether a reclaimer has this name.
-fn is_known(reclaimer: &str) -> bool {
-    matches!(reclaimer, "leak" | "list" | "hazard" | "epoch" | "any")
+/// The answer to a file with who frees and a seed, if they are such words.
+fn hunt_asked<F: Files>(
+    alloc: Global,
+    files: &mut F,
+    file: &str,
+    freeing: Option<Freeing>,
+    seed: Option<u32>,
+) -> Result<Hunted, NoMemory> {
+    match (freeing, seed) {
+        (Some(freeing), Some(seed)) => hunt_file(alloc, files, file, freeing, seed),
+        _ => wrong_words(alloc),
+    }
 }
 
 /// The answer to the words.
 fn answer_to<F: Files>(alloc: Global, words: &[String], files: &mut F) -> Result<Hunted, NoMemory> {
     match words {
-        [file, reclaimer] if is_known(reclaimer.as_str()) => {
-            hunt_file(alloc, files, file.as_str(), reclaimer.as_str(), SEED)
+        [file, word] => {
+            let freeing = freeing_of(word.as_str());
+            hunt_asked(alloc, files, file.as_str(), freeing, Some(SEED))
         }
-        [file, reclaimer, seed] if is_known(reclaimer.as_str()) => {
-            match number_of(seed.as_bytes(), 0, u32::MAX) {
-                Some(seed) => hunt_file(alloc, files, file.as_str(), reclaimer.as_str(), seed),
-                None => wrong_words(alloc),
-            }
+        [file, word, seed] => {
+            let freeing = freeing_of(word.as_str());
+            let seed = number_of(seed.as_bytes(), 0, u32::MAX);
+            hunt_asked(alloc, files, file.as_str(), freeing, seed)
         }
         _ => wrong_words(alloc),
     }

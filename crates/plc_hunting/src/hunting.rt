@@ -25,7 +25,7 @@ use plc_texts::{push, push_number, push_numbered};
 use std::alloc::{AllocError, Global};
 
 /// How many moves are made at most, over all runs of a hunt.
-pub const MOST_MOVES: u64 = 40_000_000;
+const MOST_MOVES: u64 = 40_000_000;
 
 /// What was asked is there.
 const FOUND: u8 = 0;
@@ -122,7 +122,10 @@ fn said_of(
     let mut said = Vec::new(alloc);
     match &quarry.account {
         Some(account) if races => push_account(&mut said, &judged.flow.file, account)?,
-        _ if quarry.runs == 0 => push(&mut said, "the program has no run\n")?,
+        _ if quarry.runs == 0 => push(
+            &mut said,
+            "no run was drawn: the program has none, or no operation\n",
+        )?,
         _ => push(
             &mut said,
             "no race was met, which says nothing of other runs\n",

@@ -10,4 +10,4 @@ mod racing;
 mod writing;
 
 pub use asking::hunt;
-pub use hunting::{Hunted, MOST_MOVES, hunt_freely, hunt_under};
+pub use hunting::{Hunted, hunt_freely, hunt_under};

@@ -41,7 +41,7 @@ fn push_race_of(
 /// A free that the observer forbids.
 fn push_forbidden(html: &mut Html, traced: &Traced, config: &Config, a: u32) -> Written {
     push_numbered(html, " is a forbidden free: the reclaimer picks ", a)?;
-    html.markup(", which the observer keeps, by where it stands for")?;
+    html.markup(", which the observer forbids, since it stands so:")?;
     html.markup("</p>\n")?;
     let observer = traced.observer;
     push_forbidding(html, observer, config.history(), traced.threads, a)
