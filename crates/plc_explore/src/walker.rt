@@ -185,8 +185,8 @@ impl<'a> Walker<'a> {
         )
     }
 
-    /// Lets a thread take one of the steps that leave its point: the first, from one that is drawn on, that looks as if
-    /// it led on and can be taken; where none does, the first that can be taken.
+    /// Lets a thread take one of the steps that leave its point: of several the first, from one that is drawn on, that
+    /// looks as if it led on and can be taken. Where none does it has no move for now.
     fn step(
         &mut self,
         program: &Program,
