@@ -182,7 +182,8 @@ pub(crate) fn take_all(
     requires fits { FlowFits traced.now.flow.now }
     requires few { taken + length entries.now ≤ line_limit }
     requires stands { GoesOnFrom traced.now.flow.now traced.now.observer.now taken config.old }
-    ensures stands { IfOk result (λ r. GoesOn traced.now.flow.now traced.now.observer.now (taken + length entries.now) r config.new) }
+    ensures stands { IfOk result (λ r.
+        GoesOn traced.now.flow.now traced.now.observer.now (taken + length entries.now) r config.new) }
 {
     let mut lines = taken;
     for entry in entries {
