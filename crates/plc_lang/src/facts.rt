@@ -1,6 +1,7 @@
 // What a primitive does with the pointers that it names, in code: the one table of it, for whoever shows or draws runs.
 ghost use Rattle.std.specs.Prelude.{◌≡◌};
 ghost use Rattle.plc_lang.specs.Facts.{accessed, compared, called, risked, assigned};
+ghost use Rattle.plc_lang.specs.WellSorted.{is_test};
 
 use crate::syntax::{Arg, Primitive, Var};
 use plc_base::FuncId;
@@ -72,4 +73,19 @@ pub fn assigned(primitive: &Primitive) -> Option<Var>
         Primitive::Refresh { p, .. } | Primitive::RefreshLoad { p, .. } => Some(Var::Local(p)),
         _ => None,
     }
+}
+
+/// Whether the primitive is a test: it goes on only where something is so, and changes nothing.
+pub fn is_test(primitive: &Primitive) -> bool
+    ensures { result ≡ is_test primitive.now }
+{
+    matches!(
+        primitive,
+        Primitive::Eq { .. }
+            | Primitive::Ne { .. }
+            | Primitive::IsNull { .. }
+            | Primitive::NotNull { .. }
+            | Primitive::DataTest { .. }
+            | Primitive::MarkTest { .. }
+    )
 }
