@@ -6,7 +6,7 @@ ghost use Rattle.plc_check.specs.Strongest.{IsStrongestTyping};
 
 use crate::judged::Judged;
 use crate::tree::trees_of;
-use crate::verdict::{Verdict, strongest, unproved};
+use crate::verdict::{Verdict, strongest_typing, unproved_verdict};
 use plc_base::NoMemory;
 use plc_cert::Cert;
 use plc_infer::Typing;
@@ -38,7 +38,7 @@ fn certify_outline(alloc: Global, judged: &Judged, typing: Typing) -> Result<Cer
                 trees,
             }))
         }
-        Err(found) => Ok(Certified::No(unproved(found))),
+        Err(found) => Ok(Certified::No(unproved_verdict(found))),
     }
 }
 
@@ -48,7 +48,7 @@ pub fn certify(alloc: Global, judged: &Judged) -> Result<Certified, NoMemory>
     requires { Fits judged.now.flow judged.now.unit_outline }
     ensures { IfOk result (IsCertified judged.now) }
 {
-    match strongest(alloc, judged)? {
+    match strongest_typing(alloc, judged)? {
         Ok(typing) => certify_outline(alloc, judged, typing),
         Err(verdict) => Ok(Certified::No(verdict)),
     }

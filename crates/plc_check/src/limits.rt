@@ -25,7 +25,7 @@ fn passed_limit(judged: &Judged) -> Option<What1>
 }
 
 /// The limit that is passed; what is judged ends here.
-fn refused(judged: Judged, what: What1) -> What1
+fn refuse(judged: Judged, what: What1) -> What1
     ensures { result ≡ what }
 {
     drop(judged);
@@ -33,13 +33,13 @@ fn refused(judged: Judged, what: What1) -> What1
 }
 
 /// What is judged, handed on where no limit is passed.
-fn handed_on(judged: Judged, passed: Option<What1>) -> Result<Judged, What1>
+fn hand_on(judged: Judged, passed: Option<What1>) -> Result<Judged, What1>
     requires { IsPassedLimit judged.flow judged.unit_outline passed }
     ensures { IsWithinLimits judged result }
 {
     match passed {
         None => Ok(judged),
-        Some(what) => Err(refused(judged, what)),
+        Some(what) => Err(refuse(judged, what)),
     }
 }
 
@@ -50,11 +50,11 @@ pub(crate) fn within_limits(judged: Judged) -> Result<Judged, What1>
     ensures { IsWithinLimits judged result }
 {
     let passed = passed_limit(&judged);
-    handed_on(judged, passed)
+    hand_on(judged, passed)
 }
 
 /// What `load` gives of what is judged.
-pub(crate) fn limited(judged: Judged) -> Result<Judged, LoadFault>
+pub(crate) fn check_limits(judged: Judged) -> Result<Judged, LoadFault>
     requires { Fits judged.flow judged.unit_outline }
     ensures { IsLimited judged result }
 {

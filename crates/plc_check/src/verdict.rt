@@ -39,7 +39,10 @@ pub enum Verdict {
 }
 
 /// The strongest typing, or the verdict that there is none.
-pub(crate) fn strongest(alloc: Global, judged: &Judged) -> Result<Result<Typing, Verdict>, NoMemory>
+pub(crate) fn strongest_typing(
+    alloc: Global,
+    judged: &Judged,
+) -> Result<Result<Typing, Verdict>, NoMemory>
     requires { Fits judged.now.flow judged.now.unit_outline }
     ensures { IfOk result (IsStrongestOrNone judged.now) }
 {
@@ -53,7 +56,7 @@ pub(crate) fn strongest(alloc: Global, judged: &Judged) -> Result<Result<Typing,
 }
 
 /// The verdict that an obligation isn't kept.
-pub(crate) fn unproved(found: Counterexample) -> Verdict
+pub(crate) fn unproved_verdict(found: Counterexample) -> Verdict
     ensures { result ≡ Unproved found.obligation found.set found.model }
 {
     Verdict::Unproved {
@@ -74,7 +77,7 @@ fn judge_outline(alloc: Global, judged: &Judged, typing: Typing) -> Result<Verdi
             typing,
             obligations: count(&judged.flow, &judged.unit_outline),
         }),
-        Some(found) => Ok(unproved(found)),
+        Some(found) => Ok(unproved_verdict(found)),
     }
 }
 
@@ -85,7 +88,7 @@ pub fn check(alloc: Global, judged: &Judged) -> Result<Verdict, NoMemory>
     requires { Fits judged.now.flow judged.now.unit_outline }
     ensures { IfOk result (IsVerdictOn judged.now) }
 {
-    match strongest(alloc, judged)? {
+    match strongest_typing(alloc, judged)? {
         Ok(typing) => judge_outline(alloc, judged, typing),
         Err(verdict) => Ok(verdict),
     }

@@ -27,8 +27,8 @@ use Rattle.plc_check.specs.declared.verdict.Verdict.TheVariants.{Safe, Untyped, 
 use Rattle.plc_check.specs.Loading.{IsFileOf, HasLexFault, judged_of}
 use Rattle.plc_check.specs.Outlined.{outlined, IsOutlineLimit}
 use Rattle.plc_check.specs.Verdicts.{IsVerdictOn}
-use Rattle.plc_texts.specs.Claims.{claim_text, unlocated_text, located_text}
-use Rattle.plc_texts.specs.Refusals.{lex_text, limit_text}
+use Rattle.plc_texts.specs.Claims.{claim_fault_text, unlocated_text, located_text}
+use Rattle.plc_texts.specs.Refusals.{lex_fault_text, limit_text}
 use Rattle.plc_texts.specs.Untyped.{untyped_text}
 use Rattle.plc_cli.specs.Files.{IsAnsweredFile, IsTold}
 use Rattle.plc_cli.specs.Reads.{IsGivenPair}
@@ -118,7 +118,7 @@ pub record AreNoTokens (second : List ℕ) (status : ℕ) (text : List ℕ) : Ty
   pub fault : LexFault
   pub has : HasLexFault second fault
   pub status_is : status ≡ refused
-  pub text_is : text ≡ lex_text fault
+  pub text_is : text ≡ lex_fault_text fault
 
 -- their tokens are no claims for this file, which is known at this place
 pub record AreNoClaims (j : Judged) (second : List ℕ) (status : ℕ) (text : List ℕ) : Type 0 where
@@ -127,7 +127,7 @@ pub record AreNoClaims (j : Judged) (second : List ℕ) (status : ℕ) (text : L
   pub place : ℕ
   pub stops : ClaimsStopAt j.flow j.observer (kinds tokens) place
   pub status_is : status ≡ refused
-  pub text_is : text ≡ claim_text place
+  pub text_is : text ≡ claim_fault_text place
 
 -- they are claims, which are answered
 pub record AreClaims (j : Judged) (second : List ℕ) (status : ℕ) (text : List ℕ) : Type 0 where

@@ -14,7 +14,7 @@ use Rattle.plc_parse.specs.declared.unit.Unit.{Unit as FileUnit}
 use Rattle.plc_check.specs.declared.judged.Judged.{Judged}
 use Rattle.plc_check.specs.Outlined.{outlined, IsOutlineLimit}
 use Rattle.plc_check.specs.Verdicts.{IsVerdictOn}
-use Rattle.plc_texts.specs.Claims.{claim_text}
+use Rattle.plc_texts.specs.Claims.{claim_fault_text}
 use Rattle.plc_texts.specs.Refusals.{limit_text}
 use Rattle.plc_sample.specs.Numbers.{sample_lines}
 use Rattle.plc_cli.specs.declared.answer.Answer.{Answer}
@@ -59,7 +59,7 @@ pub record AreNoClaimsIn (j : Judged) (ts : List Token) (status : ℕ) (text : L
   pub place : ℕ
   pub stops : ClaimsStopAt j.flow j.observer (kinds ts) place
   pub status_is : status ≡ refused
-  pub text_is : text ≡ claim_text place
+  pub text_is : text ≡ claim_fault_text place
 
 -- the claims that tokens spell, or the answer where they spell none
 abbrev pub AreReadTokens : Judged → List Token → Result (List Located) Answer → Type 0

@@ -28,13 +28,16 @@ use plc_infer::{InferFault, Typing, infer};
 use plc_lex::{LexFault, Token, tokens};
 use plc_logic::Outline;
 use plc_outside::Files;
-use plc_texts::{lexical, limit, located, no_claim, unlocated, untyped};
+use plc_texts::{
+    FailedCondition, claim_fault_text, lex_fault_text, limit_text, located_text, unlocated_text,
+    untyped_text,
+};
 use plc_type::Env;
 use std::alloc::{AllocError, Global};
 use std::mem;
 
 /// The text of a verdict: one line where the claims are true.
-fn located_text(
+fn located_verdict_text(
     alloc: Global,
     judged: &Judged,
     claims: &[Located],
@@ -43,13 +46,13 @@ fn located_text(
     ensures { IfOk result (λ text. text.items ≡ located_verdict_text judged.now claims.now verdict.now) }
 {
     match verdict {
-        Verdict::Safe { obligations, .. } => located(alloc, claims.len() as u64, *obligations),
+        Verdict::Safe { obligations, .. } => located_text(alloc, claims.len() as u64, *obligations),
         Verdict::Untyped { .. } | Verdict::Unproved { .. } => verdict_text(alloc, judged, verdict),
     }
 }
 
 /// The answer that says a verdict.
-fn told_located(
+fn located_answer(
     alloc: Global,
     judged: &Judged,
     claims: &[Located],
@@ -59,7 +62,7 @@ fn told_located(
         × (answer.text.items ≡ located_verdict_text judged.now claims.now verdict)) }
 {
     let status = verdict_status(&verdict);
-    let text = located_text(alloc, judged, claims, &verdict);
+    let text = located_verdict_text(alloc, judged, claims, &verdict);
     drop(verdict);
     Ok(Answer {
         status,
@@ -74,13 +77,17 @@ fn judge_claims(alloc: Global, judged: &Judged, claims: &[Located]) -> Result<An
         (located_verdict_text judged.now claims.now) answer.status answer.text.items) }
 {
     match check(alloc, judged) {
-        Ok(verdict) => told_located(alloc, judged, claims, verdict),
+        Ok(verdict) => located_answer(alloc, judged, claims, verdict),
         Err(NoMemory) => Err(AllocError),
     }
 }
 
 /// The same, after which what is judged ends.
-fn judge_claims_of(alloc: Global, judged: Judged, claims: &[Located]) -> Result<Answer, AllocError>
+fn judge_claims_once(
+    alloc: Global,
+    judged: Judged,
+    claims: &[Located],
+) -> Result<Answer, AllocError>
     requires { Fits judged.flow judged.unit_outline }
     ensures { IfOk result (λ answer. IsTold (IsVerdictOn judged) verdict_status
         (located_verdict_text judged claims.now) answer.status answer.text.items) }
@@ -91,22 +98,22 @@ fn judge_claims_of(alloc: Global, judged: Judged, claims: &[Located]) -> Result<
 }
 
 /// The answer where a limit is passed.
-fn limited(alloc: Global, what: What1, count: u32) -> Result<Answer, AllocError>
+fn limit_answer(alloc: Global, what: What1, count: u32) -> Result<Answer, AllocError>
     ensures { IfOk result (λ answer. (answer.status ≡ refused) × (answer.text.items ≡ limit_text what count)) }
 {
     Ok(Answer {
         status: REFUSED,
-        text: limit(alloc, what, count)?,
+        text: limit_text(alloc, what, count)?,
     })
 }
 
 /// The answer where a claim isn't located.
-fn unplaced(alloc: Global, claim: u32) -> Result<Answer, AllocError>
+fn unlocated_answer(alloc: Global, claim: u32) -> Result<Answer, AllocError>
     ensures { IfOk result (λ answer. (answer.status ≡ fails) × (answer.text.items ≡ unlocated_text claim)) }
 {
     Ok(Answer {
         status: FAILS,
-        text: unlocated(alloc, claim)?,
+        text: unlocated_text(alloc, claim)?,
     })
 }
 
@@ -122,8 +129,8 @@ fn answer_with(
         IsAnsweredWith judged outline claims.now answer.status answer.text.items) }
 {
     match with_outline(judged, outline) {
-        Ok(judged) => judge_claims_of(alloc, judged, claims),
-        Err(OutlineFault::Limit { what, count }) => limited(alloc, what, count),
+        Ok(judged) => judge_claims_once(alloc, judged, claims),
+        Err(OutlineFault::Limit { what, count }) => limit_answer(alloc, what, count),
     }
 }
 
@@ -152,8 +159,8 @@ fn answer_typed(
     let own = mem::replace(&mut judged.unit_outline, no_outline(alloc));
     match extend(alloc, claims, &judged.flow, &judged.observer, typing, own) {
         Ok(outline) => answer_with(alloc, judged, outline, claims),
-        Err(AtFault::Unlocated { claim }) => unplaced(alloc, claim),
-        Err(AtFault::Items { count }) => limited(alloc, What1::Items, count),
+        Err(AtFault::Unlocated { claim }) => unlocated_answer(alloc, claim),
+        Err(AtFault::Items { count }) => limit_answer(alloc, What1::Items, count),
         Err(AtFault::Memory) => Err(AllocError),
     }
 }
@@ -167,7 +174,7 @@ fn typing_of(alloc: Global, judged: &Judged) -> Result<Result<Typing, Answer>, A
         Ok(typing) => Ok(Ok(typing)),
         Err(InferFault::Stuck { step, prim, fault }) => Ok(Err(Answer {
             status: FAILS,
-            text: untyped(alloc, &judged.flow, step.0, prim, fault)?,
+            text: untyped_text(alloc, &judged.flow, FailedCondition { step, prim, fault })?,
         })),
         Err(InferFault::Memory) => Err(AllocError),
     }
@@ -201,7 +208,7 @@ fn claims_in(
         Ok(claims) => Ok(Ok(Items::from_vec(claims))),
         Err(ClaimFault::Token { at }) => Ok(Err(Answer {
             status: REFUSED,
-            text: no_claim(alloc, at)?,
+            text: claim_fault_text(alloc, at)?,
         })),
         Err(ClaimFault::Memory) => Err(AllocError),
     }
@@ -222,7 +229,7 @@ fn claims_of(
         Err(LexFault::Memory) => Err(AllocError),
         Err(fault) => Ok(Err(Answer {
             status: REFUSED,
-            text: lexical(alloc, fault)?,
+            text: lex_fault_text(alloc, fault)?,
         })),
     }
 }
