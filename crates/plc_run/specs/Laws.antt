@@ -45,3 +45,7 @@ pub record RunLaws (flow : Flow) (o : Observer) (threads : ℕ) : Type 0 where
       → Moves flow o threads c move d → ⊥
   pub one_race : (c : Configuration) (move : Move) (kind other : RaceKind) (k n : ℕ)
       → Races flow threads c move kind k → Races flow threads c move other n → (kind ≡ other) × (k ≡ n)
+
+-- so every flow's runs go on, by every observer and with any number of threads
+abbrev pub RunsGoOn : Type 0
+RunsGoOn = (flow : Flow) (o : Observer) (threads : ℕ) → RunLaws flow o threads
