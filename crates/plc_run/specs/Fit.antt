@@ -1,14 +1,12 @@
 -- What every configuration of a run of a flow has: each busy thread holds the locals of its operation.
-use Rattle.std.specs.Prelude.{◌≡◌, ℕ, ◌<◌, length}
+use Rattle.std.specs.Prelude.{◌≡◌, ℕ, length}
 use Rattle.plc_lang.specs.declared.syntax.Op.{Op}
 use Rattle.plc_lang.specs.Shape.{shape_of}
-use Rattle.plc_auto.specs.declared.observer.Observer.{Observer}
 use Rattle.plc_flow.specs.declared.flow.Flow.{Flow}
-use Rattle.plc_flow.specs.WellFormed.{FlowFits}
 use Rattle.plc_threads.specs.Fit.{ThreadsFit}
 use Rattle.plc_mem.specs.State.{State, Locals}
 use Rattle.plc_mem.specs.Fit.{shape}
-use Rattle.plc_run.specs.Run.{Configuration, Run}
+use Rattle.plc_run.specs.Run.{Configuration}
 
 -- the locals have the shape of an operation's
 abbrev pub LocalsFit : Flow → State → Op → Locals → Type 0
@@ -19,9 +17,3 @@ pub record ConfigurationFits (flow : Flow) (threads : ℕ) (c : Configuration) :
   pub shared : length c.state.shared ≡ length flow.file.shared
   pub fields : length c.state.fields ≡ length flow.file.fields
   pub standing : ThreadsFit flow (LocalsFit flow c.state) threads c.state.locals c.points
-
--- every configuration of a run of a flow whose primitives name what is there has it
-abbrev pub ThreadsHoldTheirLocals : Type 0
-ThreadsHoldTheirLocals =
-    (flow : Flow) (o : Observer) (threads n : ℕ) (c : Configuration)
-    → FlowFits flow → 0 < threads → Run flow o threads n c → ConfigurationFits flow threads c

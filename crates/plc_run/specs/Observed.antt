@@ -4,7 +4,7 @@ use Rattle.std.specs.Prelude.{◌≡◌, ℕ, ◌<◌, true, List, Some, None}
 use Rattle.plc_lang.specs.declared.syntax.Primitive.{Primitive}
 use Rattle.plc_auto.specs.declared.event.Event.{Event}
 use Rattle.plc_auto.specs.declared.observer.Observer.{Observer}
-use Rattle.plc_auto.specs.Table.{count_of, is_well_formed}
+use Rattle.plc_auto.specs.Table.{count_of}
 use Rattle.plc_auto.specs.Location.{location, Allowed, is_retired_after}
 use Rattle.plc_flow.specs.declared.flow.Flow.{Flow}
 use Rattle.plc_threads.specs.declared.words.Move.{Move}
@@ -30,7 +30,3 @@ pub record RunsAreObserved (o : Observer) (threads : ℕ) : Type 0 where
   pub by_move : (flow : Flow) (c d : Configuration) (move : Move) → Moves flow o threads c move d
       → IsObserved o threads c.state c.history → IsObserved o threads d.state d.history
   pub run : (flow : Flow) (n : ℕ) (c : Configuration) → Run flow o threads n c → IsObserved o threads c.state c.history
-
--- so it holds for every observer under which `retire` belongs to no scheme
-abbrev pub EveryRunIsObserved : Type 0
-EveryRunIsObserved = (o : Observer) (threads : ℕ) → is_well_formed o ≡ true → RunsAreObserved o threads

@@ -1,7 +1,6 @@
 -- How runs begin where each thing stands where its kind may stand: `init` is no race, and nothing is heard of it.
 use Rattle.std.specs.Prelude.{◌≡◌, ◌↔◌, ℕ, [], Some, None}
 use Rattle.plc_flow.specs.declared.flow.Flow.{Flow}
-use Rattle.plc_flow.specs.WellSorted.{FlowIsWellSorted}
 use Rattle.plc_run.specs.Run.{Ending, Fine, Stuck, Raced, Configuration, initialised, first_configuration}
 
 -- no race, and where it isn't blocked nothing was heard
@@ -15,7 +14,3 @@ pub record InitIsQuiet (flow : Flow) (threads : ℕ) : Type 0 where
   pub quiet : IsQuiet (initialised flow threads)
   pub empty : (c : Configuration) → first_configuration flow threads ≡ Some c → c.history ≡ []
   pub blocked : (first_configuration flow threads ≡ None) ↔ (initialised flow threads ≡ Stuck)
-
--- so it is for every flow in which each thing stands where its kind may stand
-abbrev pub EveryInitIsQuiet : Type 0
-EveryInitIsQuiet = (flow : Flow) (threads : ℕ) → FlowIsWellSorted flow → InitIsQuiet flow threads

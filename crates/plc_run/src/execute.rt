@@ -17,6 +17,13 @@ use plc_lang::Prim;
 use plc_mem::{Locals, Memory, Outcome, RaceKind, Undo};
 use std::alloc::Global;
 
+/// Who takes primitives: a thread, and the address that a `new` of them takes, where the move names one.
+#[derive(Clone, Copy)]
+pub struct Actor {
+    pub t: u32,
+    pub addr: Option<u32>,
+}
+
 /// How primitives in order ended.
 #[derive(Clone, Copy)]
 pub enum Ended {
@@ -26,13 +33,6 @@ pub enum Ended {
     Blocked,
     /// This one is a race.
     Raced { kind: RaceKind, prim: u16 },
-}
-
-/// Who takes primitives: a thread, and the address that a `new` of them takes, where the move names one.
-#[derive(Clone, Copy)]
-pub struct Actor {
-    pub t: u32,
-    pub addr: Option<u32>,
 }
 
 /// What `init` came to, with its events.

@@ -1,8 +1,5 @@
 // The laws stand over the definitions, so that proofs above never open them.
-ghost use Rattle.plc_run.specs.Laws.{RunsGoOn};
-ghost use Rattle.plc_run.specs.Observed.{EveryRunIsObserved};
-ghost use Rattle.plc_run.specs.Fit.{ThreadsHoldTheirLocals};
-ghost use Rattle.plc_run.specs.Quiet.{EveryInitIsQuiet};
+ghost use Rattle.plc_run.specs.Laws.{RunsGoOn, EveryRunIsObserved, ThreadsHoldTheirLocals, EveryInitIsQuiet};
 
 /// Every flow has runs: they begin, an idle thread starts any operation, a step whose primitives
 /// succeed is taken, a thread at an exit returns, and an address is freed exactly where the longer
