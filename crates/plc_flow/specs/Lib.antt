@@ -1,4 +1,5 @@
 -- what contracts of public calls say
+pub mod Laws
 pub mod Lowering
 pub mod Marks
 pub mod Opposites
