@@ -2,7 +2,6 @@
 pub mod Laws
 pub mod Lowering
 pub mod Marks
-pub mod Opposites
 pub mod Points
 pub mod Sides
 pub mod Skeleton

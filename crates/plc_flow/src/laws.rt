@@ -1,6 +1,5 @@
 // The laws stand over the definitions, so that proofs above never open them.
-ghost use Rattle.plc_flow.specs.Laws.{EveryStepStaysInItsGate, FlowsFit, LoweringKeepsMarks};
-ghost use Rattle.plc_flow.specs.Opposites.{OppositesAreTests};
+ghost use Rattle.plc_flow.specs.Laws.{EveryStepStaysInItsGate, FlowsFit, LoweringKeepsMarks, OppositesAreTests};
 
 /// The flow of every file that was read and that has at most 4,096 points can be run; each thing in
 /// it stands where its kind may stand, and the l-th labelled point is a point of the operation whose
