@@ -13,10 +13,10 @@ use std::alloc::Global;
 /// The points, the steps and the labels that are made so far, and where their lists are made.
 #[derive(Drop)]
 pub(crate) struct Builder {
-    pub alloc: Global,
     pub points: u16,
     pub steps: Items<Step>,
     pub labels: Items<PointId>,
+    pub alloc: Global,
 }
 
 /// What stands around a statement.

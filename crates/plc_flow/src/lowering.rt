@@ -81,10 +81,10 @@ pub fn lower(alloc: Global, file: File) -> Result<Flow, FlowFault>
     ensures sorted { FileIsWellSorted file → IfOk result FlowIsWellSorted }
 {
     let mut out = Builder {
-        alloc,
         points: 0,
         steps: Items::new(alloc),
         labels: Items::new(alloc),
+        alloc,
     };
     let gates = lower_ops(file.ops.as_slice(), &mut out);
     finish(file, gates, out)
