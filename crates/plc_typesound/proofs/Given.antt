@@ -1,12 +1,13 @@
 -- Locals that come and go with a start and a return: other threads meet what they met, and the one that starts meets its entry.
 use Rattle.std.proofs.Common.{◌≡◌, ℕ, List, get_or, Option, Some, None, refl, sym, ap, ◌∙◌, subst, inl, inr, ◌⊎◌}
 use Rattle.std.proofs.lemmas.Bool.{cases_eq}
+use Rattle.std.specs.Option.{unwrap_or}
 use Rattle.plc_lang.specs.declared.syntax.Var.TheVariants.{Shared, Local}
 use Rattle.plc_lang.specs.declared.syntax.Op.{Op}
 use Rattle.plc_auto.specs.declared.event.Event.{Event}
 use Rattle.plc_auto.specs.declared.observer.Observer.{Observer}
 use Rattle.plc_mem.specs.declared.cell.Cell.{Cell}
-use Rattle.plc_mem.specs.State.{State, Place, at_shared, at_local, at_field, Locals, null_cell, locals_or_none, at, place, with_locals, starting}
+use Rattle.plc_mem.specs.State.{State, Place, at_shared, at_local, at_field, Locals, null_cell, at, place, with_locals, starting, no_locals}
 use Rattle.plc_base.proofs.Tables.{get-replicate}
 use Rattle.plc_mem.proofs.Views.{gives}
 use Rattle.plc_type.specs.declared.env.Env.{Env}
@@ -17,7 +18,7 @@ use Rattle.plc_typesound.proofs.Kept.{bare_met}
 
 -- locals without a pointer that isn't null
 abbrev pub AllNull : Option Locals → Type 0
-AllNull l = (v : ℕ) → get_or (locals_or_none l).pointers v null_cell ≡ null_cell
+AllNull l = (v : ℕ) → get_or (unwrap_or l no_locals).pointers v null_cell ≡ null_cell
 
 pub none_null : AllNull None
 none_null v = refl
