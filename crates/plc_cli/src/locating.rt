@@ -21,7 +21,7 @@ use crate::answer::{Answer, refusal};
 use crate::checking::{verdict_status, verdict_text};
 use crate::reading::{Contents, read_both};
 use crate::status::{FAILS, REFUSED};
-use plc_at::{AtFault, ClaimFault, Located, extend, read_claims};
+use plc_at::{AtFault, ClaimFault, LocationClaim, extend, read_claims};
 use plc_base::{Items, LARGEST_FILE, NoMemory, What1};
 use plc_check::{Judged, LoadFault, OutlineFault, Verdict, check, load, with_outline};
 use plc_infer::{InferFault, Typing, infer};
@@ -37,7 +37,7 @@ use std::mem;
 fn located_text(
     alloc: Global,
     judged: &Judged,
-    claims: &[Located],
+    claims: &[LocationClaim],
     verdict: &Verdict,
 ) -> Result<Vec<u8>, AllocError>
     ensures { IfOk result (λ text. text.items ≡ located_verdict_text judged.now claims.now verdict.now) }
@@ -52,7 +52,7 @@ fn located_text(
 fn told_located(
     alloc: Global,
     judged: &Judged,
-    claims: &[Located],
+    claims: &[LocationClaim],
     verdict: Verdict,
 ) -> Result<Answer, AllocError>
     ensures { IfOk result (λ answer. (answer.status ≡ verdict_status verdict)
@@ -68,7 +68,11 @@ fn told_located(
 }
 
 /// The answer to claims for a file with an outline that says what they need.
-fn judge_claims(alloc: Global, judged: &Judged, claims: &[Located]) -> Result<Answer, AllocError>
+fn judge_claims(
+    alloc: Global,
+    judged: &Judged,
+    claims: &[LocationClaim],
+) -> Result<Answer, AllocError>
     requires { Fits judged.now.flow judged.now.unit_outline }
     ensures { IfOk result (λ answer. IsTold (IsVerdictOn judged.now) verdict_status
         (located_verdict_text judged.now claims.now) answer.status answer.text.items) }
@@ -80,7 +84,11 @@ fn judge_claims(alloc: Global, judged: &Judged, claims: &[Located]) -> Result<An
 }
 
 /// The same, after which what is judged ends.
-fn judge_claims_of(alloc: Global, judged: Judged, claims: &[Located]) -> Result<Answer, AllocError>
+fn judge_claims_of(
+    alloc: Global,
+    judged: Judged,
+    claims: &[LocationClaim],
+) -> Result<Answer, AllocError>
     requires { Fits judged.flow judged.unit_outline }
     ensures { IfOk result (λ answer. IsTold (IsVerdictOn judged) verdict_status
         (located_verdict_text judged claims.now) answer.status answer.text.items) }
@@ -115,7 +123,7 @@ fn answer_with(
     alloc: Global,
     judged: Judged,
     outline: Outline,
-    claims: &[Located],
+    claims: &[LocationClaim],
 ) -> Result<Answer, AllocError>
     requires { Fits judged.flow outline }
     ensures { IfOk result (λ answer.
@@ -140,7 +148,7 @@ fn no_outline(alloc: Global) -> Outline {
 fn answer_typed(
     alloc: Global,
     mut judged: Judged,
-    claims: &[Located],
+    claims: &[LocationClaim],
     typing: &[Env],
 ) -> Result<Answer, AllocError>
     requires fits { Fits judged.flow judged.unit_outline }
@@ -174,7 +182,11 @@ fn typing_of(alloc: Global, judged: &Judged) -> Result<Result<Typing, Answer>, A
 }
 
 /// The answer to claims that were read.
-fn answer_claims(alloc: Global, judged: Judged, claims: &[Located]) -> Result<Answer, AllocError>
+fn answer_claims(
+    alloc: Global,
+    judged: Judged,
+    claims: &[LocationClaim],
+) -> Result<Answer, AllocError>
     requires fits { Fits judged.flow judged.unit_outline }
     requires claims { All (ClaimFits judged.flow) claims.now }
     ensures { IfOk result (λ answer.
@@ -192,7 +204,7 @@ fn claims_in(
     alloc: Global,
     judged: &Judged,
     found: &[Token],
-) -> Result<Result<Items<Located>, Answer>, AllocError>
+) -> Result<Result<Items<LocationClaim>, Answer>, AllocError>
     requires fits { Fits judged.now.flow judged.now.unit_outline }
     requires few { length found.now < 2 ^ 32 }
     ensures { IfOk result (AreReadTokens judged.now found.now) }
@@ -212,7 +224,7 @@ fn claims_of(
     alloc: Global,
     judged: &Judged,
     bytes: &[u8],
-) -> Result<Result<Items<Located>, Answer>, AllocError>
+) -> Result<Result<Items<LocationClaim>, Answer>, AllocError>
     requires fits { Fits judged.now.flow judged.now.unit_outline }
     requires short { length bytes.now ≤ largest_file }
     ensures { IfOk result (AreReadClaims judged.now bytes.now) }
