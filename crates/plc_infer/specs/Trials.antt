@@ -68,7 +68,7 @@ Raises p reached old new queue queue' marks marks' =
     ⊎ ((env_below reached (env_at old p) ≡ false) × (new ≡ slice_set old p (env_join (env_at old p) reached))
     × Puts p queue queue' marks marks')
 
--- so the code does, and what was replaced is noted
+-- the environment of a point is raised so in the lists of the code, and what was replaced is noted
 pub record IsRaised (point : ℕ) (old new : List Env) (before after : Work) : Type 0 where
   pub raised : Raises point before.reached old new before.list.queue.items after.list.queue.items
       before.list.marks.items after.list.marks.items
@@ -87,7 +87,7 @@ LooksAt g k old new queue queue' marks marks' true =
     MeetsAll g k (graph.env_at g old (g.from k)) × Looked g k old new queue queue' marks marks'
 LooksAt g k old new queue queue' marks marks' false = FailsOne g k (graph.env_at g old (g.from k))
 
--- so the code does, and what was replaced is noted
+-- a step is looked at so in the lists of the code, and what was replaced is noted
 pub record IsLookedAt (o : Observer) (p : Program) (k : ℕ) (old new : List Env) (before after : Work) (held : Bool)
     : Type 0 where
   pub tried : LooksAt (graph_of o (program_of p)) k old new before.list.queue.items after.list.queue.items
@@ -107,7 +107,7 @@ LooksAtAll g starts old new queue queue' marks' true =
     UnderWay g (MeetsAll g) starts new queue' marks' [] × Gains g old new queue queue'
 LooksAtAll g starts old new queue queue' marks' false = HasNoTyping g starts
 
--- so the code does, and what was replaced is noted
+-- steps are looked at so in the lists of the code, and what was replaced is noted
 pub record AreLookedAt (o : Observer) (p : Program) (old new : List Env) (before after : Work) (held : Bool)
     : Type 0 where
   pub tried : LooksAtAll (graph_of o (program_of p)) (starts_of o (program_of p)) old new before.list.queue.items
