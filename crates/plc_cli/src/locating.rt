@@ -21,7 +21,7 @@ use crate::answer::{Answer, refusal};
 use crate::checking::{verdict_status, verdict_text};
 use crate::reading::{Contents, read_both};
 use crate::status::{FAILS, REFUSED};
-use plc_at::{AtFault, ClaimFault, Located, extend, read_claims};
+use plc_at::{AtFault, ClaimFault, LocationClaim, extend, read_claims};
 use plc_base::{Items, LARGEST_FILE, NoMemory, What1};
 use plc_check::{Judged, LoadFault, OutlineFault, Verdict, check, load, with_outline};
 use plc_infer::{InferFault, Typing, infer};
@@ -40,7 +40,7 @@ use std::mem;
 fn located_verdict_text(
     alloc: Global,
     judged: &Judged,
-    claims: &[Located],
+    claims: &[LocationClaim],
     verdict: &Verdict,
 ) -> Result<Vec<u8>, AllocError>
     ensures { IfOk result (λ text. text.items ≡ located_verdict_text judged.now claims.now verdict.now) }
@@ -55,7 +55,7 @@ fn located_verdict_text(
 fn located_answer(
     alloc: Global,
     judged: &Judged,
-    claims: &[Located],
+    claims: &[LocationClaim],
     verdict: Verdict,
 ) -> Result<Answer, AllocError>
     ensures { IfOk result (λ answer. (answer.status ≡ verdict_status verdict)
@@ -71,7 +71,11 @@ fn located_answer(
 }
 
 /// The answer to claims for a file with an outline that says what they need.
-fn judge_claims(alloc: Global, judged: &Judged, claims: &[Located]) -> Result<Answer, AllocError>
+fn judge_claims(
+    alloc: Global,
+    judged: &Judged,
+    claims: &[LocationClaim],
+) -> Result<Answer, AllocError>
     requires { Fits judged.now.flow judged.now.unit_outline }
     ensures { IfOk result (λ answer. IsTold (IsVerdictOn judged.now) verdict_status
         (located_verdict_text judged.now claims.now) answer.status answer.text.items) }
@@ -86,7 +90,7 @@ fn judge_claims(alloc: Global, judged: &Judged, claims: &[Located]) -> Result<An
 fn judge_claims_once(
     alloc: Global,
     judged: Judged,
-    claims: &[Located],
+    claims: &[LocationClaim],
 ) -> Result<Answer, AllocError>
     requires { Fits judged.flow judged.unit_outline }
     ensures { IfOk result (λ answer. IsTold (IsVerdictOn judged) verdict_status
@@ -122,7 +126,7 @@ fn answer_with(
     alloc: Global,
     judged: Judged,
     outline: Outline,
-    claims: &[Located],
+    claims: &[LocationClaim],
 ) -> Result<Answer, AllocError>
     requires { Fits judged.flow outline }
     ensures { IfOk result (λ answer.
@@ -147,7 +151,7 @@ fn no_outline(alloc: Global) -> Outline {
 fn answer_typed(
     alloc: Global,
     mut judged: Judged,
-    claims: &[Located],
+    claims: &[LocationClaim],
     typing: &[Env],
 ) -> Result<Answer, AllocError>
     requires fits { Fits judged.flow judged.unit_outline }
@@ -181,7 +185,11 @@ fn typing_of(alloc: Global, judged: &Judged) -> Result<Result<Typing, Answer>, A
 }
 
 /// The answer to claims that were read.
-fn answer_claims(alloc: Global, judged: Judged, claims: &[Located]) -> Result<Answer, AllocError>
+fn answer_claims(
+    alloc: Global,
+    judged: Judged,
+    claims: &[LocationClaim],
+) -> Result<Answer, AllocError>
     requires fits { Fits judged.flow judged.unit_outline }
     requires claims { All (ClaimFits judged.flow) claims.now }
     ensures { IfOk result (λ answer.
@@ -199,7 +207,7 @@ fn claims_in(
     alloc: Global,
     judged: &Judged,
     found: &[Token],
-) -> Result<Result<Items<Located>, Answer>, AllocError>
+) -> Result<Result<Items<LocationClaim>, Answer>, AllocError>
     requires fits { Fits judged.now.flow judged.now.unit_outline }
     requires few { length found.now < 2 ^ 32 }
     ensures { IfOk result (AreReadTokens judged.now found.now) }
@@ -219,7 +227,7 @@ fn claims_of(
     alloc: Global,
     judged: &Judged,
     bytes: &[u8],
-) -> Result<Result<Items<Located>, Answer>, AllocError>
+) -> Result<Result<Items<LocationClaim>, Answer>, AllocError>
     requires fits { Fits judged.now.flow judged.now.unit_outline }
     requires short { length bytes.now ≤ largest_file }
     ensures { IfOk result (AreReadClaims judged.now bytes.now) }

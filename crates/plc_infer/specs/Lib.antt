@@ -2,6 +2,7 @@
 pub mod Programs
 pub mod Resuming
 -- words of private functions alone
+pub mod Faults
 pub mod FlowLists
 pub mod Graphs
 pub mod Iteration

@@ -34,10 +34,10 @@ use Rattle.plc_type.specs.Guarantees.{is_safe, is_active, is_local, without_acti
 use Rattle.plc_type.specs.Types.{bare, null_type}
 use Rattle.plc_xfer.specs.Calls.{on_this, on_other, on_either, other_type, beside_retired}
 use Rattle.plc_xfer.specs.Rules.{type_of, is_variable, effect, shared_type, new_type, equal_type, refreshed_type, placed_type, active_type}
-use Rattle.plc_typesound.specs.Meaning.{stands, Fits, Meets, EnvMet}
-use Rattle.plc_typesound.specs.Claims.{IsActive}
-use Rattle.plc_typesound.proofs.Sets.{Live, stands_meet, stands_left, stands_right, stands_unretired, stands_step}
-use Rattle.plc_typesound.proofs.Kept.{pick, pick_two, variable_cases, Writes, put_writes, kept, got, copied, bare_met, local_safe, local_active, without_not}
+use Rattle.plc_sound.specs.Meaning.{stands, Fits, Meets, EnvMet}
+use Rattle.plc_sound.specs.Claims.{IsActive}
+use Rattle.plc_sound.proofs.Sets.{Live, stands_meet, stands_left, stands_right, stands_unretired, stands_step}
+use Rattle.plc_sound.proofs.Kept.{pick, pick_two, variable_cases, Writes, put_writes, kept, got, copied, bare_met, local_safe, local_active, without_not}
 
 -- ---- guarantees
 

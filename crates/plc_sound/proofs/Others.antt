@@ -38,12 +38,12 @@ use Rattle.plc_type.specs.declared.env.Env.{Env}
 use Rattle.plc_type.specs.Guarantees.{nothing, is_safe, is_local}
 use Rattle.plc_type.specs.Types.{bare}
 use Rattle.plc_xfer.specs.Rules.{type_of}
-use Rattle.plc_typesound.specs.Meaning.{stands, Fits, Meets, EnvMet}
-use Rattle.plc_typesound.specs.Calm.{TypeIsCalm, IsCalm, may_happen}
-use Rattle.plc_typesound.proofs.Sets.{Live}
-use Rattle.plc_typesound.proofs.Kept.{Writes, put_writes, kept, stayed, bare_met, local_safe}
-use Rattle.plc_typesound.proofs.Own.{Here, variable_there, new_writes, field_there, valid_if, not_zero, is_not_null}
-use Rattle.plc_typesound.proofs.Step.{retire_valid, and-false, fine_parts}
+use Rattle.plc_sound.specs.Meaning.{stands, Fits, Meets, EnvMet}
+use Rattle.plc_sound.specs.Calm.{TypeIsCalm, IsCalm, may_happen}
+use Rattle.plc_sound.proofs.Sets.{Live}
+use Rattle.plc_sound.proofs.Kept.{Writes, put_writes, kept, stayed, bare_met, local_safe}
+use Rattle.plc_sound.proofs.Own.{Here, variable_there, new_writes, field_there, valid_if, not_zero, is_not_null}
+use Rattle.plc_sound.proofs.Step.{retire_valid, and-false, fine_parts}
 
 -- ---- what a primitive that succeeded did, for the threads that it isn't
 

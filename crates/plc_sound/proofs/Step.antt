@@ -34,12 +34,12 @@ use Rattle.plc_xfer.specs.Rules.{type_of, effect, effect_anywhere, env_after, en
 use Rattle.plc_xfer.specs.Typings.{fault_at}
 use Rattle.plc_xfer.specs.Laws.{asked}
 use Rattle.plc_xfer.proofs.ByFacts.{by_facts}
-use Rattle.plc_typesound.specs.Meaning.{EnvMet}
-use Rattle.plc_typesound.specs.Claims.{ClaimTrue, ClaimsTrue}
-use Rattle.plc_typesound.proofs.Sets.{Live}
-use Rattle.plc_typesound.proofs.Kept.{env_met, stayed, active_safe}
-use Rattle.plc_typesound.proofs.Own.{Here, own_null, own_copy, own_load, own_new, own_store, own_store_null, own_refresh, own_refresh_load, own_eq, own_is_null, own_active, own_other, own_other_anywhere, own_call, own_call_anywhere, own_retire, reads_call, reads_return, valid_if, not_zero, field_there}
-use Rattle.plc_typesound.proofs.Own.{own_mark, same_number}
+use Rattle.plc_sound.specs.Meaning.{EnvMet}
+use Rattle.plc_sound.specs.Claims.{ClaimTrue, ClaimsTrue}
+use Rattle.plc_sound.proofs.Sets.{Live}
+use Rattle.plc_sound.proofs.Kept.{env_met, stayed, active_safe}
+use Rattle.plc_sound.proofs.Own.{Here, own_null, own_copy, own_load, own_new, own_store, own_store_null, own_refresh, own_refresh_load, own_eq, own_is_null, own_active, own_other, own_other_anywhere, own_call, own_call_anywhere, own_retire, reads_call, reads_return, valid_if, not_zero, field_there}
+use Rattle.plc_sound.proofs.Own.{own_mark, same_number}
 
 -- ---- conditions that hold
 

@@ -33,16 +33,15 @@ use Rattle.plc_lang.specs.Skeleton.{Passage, locals_at}
 use Rattle.plc_xfer.proofs.Facts.{after_all_well_formed, well_formed_fits}
 use Rattle.plc_xfer.proofs.Order.{well_formed, same_shape, entry_is, led_is}
 use Rattle.plc_flow.specs.Skeleton.{skeleton_of, passage_of}
-use Rattle.plc_infer.proofs.Flows.{Ends, ends_of}
-use Rattle.plc_infer.proofs.Points.{locals_there}
-use Rattle.plc_typesound.specs.Meaning.{EnvMet}
-use Rattle.plc_typesound.specs.Claims.{MoveClaims}
-use Rattle.plc_typesound.specs.Laws.{MeetsPoint, AllMeet, entry_of, TypesAreSound}
-use Rattle.plc_typesound.proofs.Kept.{env_weaker}
-use Rattle.plc_typesound.proofs.Step.{own_step, never_races}
-use Rattle.plc_typesound.proofs.Calm.{interfered_is_calm, interfered_env_met, entry_is_calm, entry_met}
-use Rattle.plc_typesound.proofs.Others.{foreign_step, free_met}
-use Rattle.plc_typesound.proofs.Given.{none_null, starting_null, given_null, given_met}
+use Rattle.plc_flow.proofs.Ends.{Ends, ends_of, locals_there}
+use Rattle.plc_sound.specs.Meaning.{EnvMet}
+use Rattle.plc_sound.specs.Claims.{MoveClaims}
+use Rattle.plc_sound.specs.Laws.{MeetsPoint, AllMeet, entry_of, TypesAreSound}
+use Rattle.plc_sound.proofs.Kept.{env_weaker}
+use Rattle.plc_sound.proofs.Step.{own_step, never_races}
+use Rattle.plc_sound.proofs.Calm.{interfered_is_calm, interfered_env_met, entry_is_calm, entry_met}
+use Rattle.plc_sound.proofs.Others.{foreign_step, free_met}
+use Rattle.plc_sound.proofs.Given.{none_null, starting_null, given_null, given_met}
 use Rattle.plc_flow.proofs.Gates.{point_count}
 
 -- an operation's entry and a step, as typings have them

@@ -27,11 +27,11 @@ use Rattle.plc_type.specs.Types.{bare, null_type}
 use Rattle.plc_type.specs.Environments.{entry}
 use Rattle.plc_xfer.specs.Rules.{type_of, interfered, interfered_local, FitsObserver}
 use Rattle.plc_xfer.proofs.Facts.{variable_within}
-use Rattle.plc_typesound.specs.Meaning.{stands, Fits, Meets, EnvMet}
-use Rattle.plc_typesound.specs.Calm.{TypeIsCalm, IsCalm}
-use Rattle.plc_typesound.proofs.Sets.{stands_meet, stands_closure, stands_unretired, stands_all}
-use Rattle.plc_typesound.proofs.Own.{Here}
-use Rattle.plc_typesound.proofs.Kept.{bare_met, local_safe, local_active}
+use Rattle.plc_sound.specs.Meaning.{stands, Fits, Meets, EnvMet}
+use Rattle.plc_sound.specs.Calm.{TypeIsCalm, IsCalm}
+use Rattle.plc_sound.proofs.Sets.{stands_meet, stands_closure, stands_unretired, stands_all}
+use Rattle.plc_sound.proofs.Own.{Here}
+use Rattle.plc_sound.proofs.Kept.{bare_met, local_safe, local_active}
 
 -- ---- types
 

@@ -12,9 +12,9 @@ use Rattle.plc_base.proofs.Tables.{get-replicate}
 use Rattle.plc_mem.proofs.Views.{gives}
 use Rattle.plc_type.specs.declared.env.Env.{Env}
 use Rattle.plc_xfer.specs.Rules.{type_of}
-use Rattle.plc_typesound.specs.Calm.{IsCalm}
-use Rattle.plc_typesound.specs.Meaning.{Fits, Meets, EnvMet}
-use Rattle.plc_typesound.proofs.Kept.{bare_met}
+use Rattle.plc_sound.specs.Calm.{IsCalm}
+use Rattle.plc_sound.specs.Meaning.{Fits, Meets, EnvMet}
+use Rattle.plc_sound.proofs.Kept.{bare_met}
 
 -- locals without a pointer that isn't null
 abbrev pub AllNull : Option Locals → Type 0
