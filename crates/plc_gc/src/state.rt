@@ -7,7 +7,7 @@ ghost use Rattle.plc_gc.specs.State.{update, made};
 ghost use Rattle.plc_gc.specs.State.{is_retired, is_made, is_pointer_field, node_of, null_pointer};
 ghost use Rattle.plc_gc.specs.Clauses.{local_value, local_mark_value, field_map};
 ghost use Rattle.plc_gc.specs.Named.{named_local};
-ghost use Rattle.plc_gc.specs.Fit.{SlotIn, MapIn};
+ghost use Rattle.plc_gc.specs.Fit.{RowsFit, SlotIn, MapIn};
 
 use crate::locals::{Locals, local_of, put_pointer, put_value};
 use crate::pointers::{find_node, pointer_at, put_mark, put_node};
@@ -16,7 +16,7 @@ use crate::slot::{Map, Pointer, Slot};
 use plc_base::{FieldId, NoMemory};
 use plc_flow::Flow;
 use plc_lang::Field;
-use plc_threads::{Place, copy_held, entry_or, find_entry, held, none_held};
+use plc_threads::{Place, copy_held, held, none_held};
 use std::alloc::Global;
 use std::marker::Model;
 
@@ -32,10 +32,6 @@ pub struct State {
 }
 
 impl Model for State {
-    ghost use Rattle.std.specs.Prelude.{length};
-    ghost use Rattle.plc_gc.specs.State.{GcState};
-    ghost use Rattle.plc_gc.specs.Fit.{RowsFit};
-
     ghost Value = { GcState };
 
     ghost view = { λ s. record {

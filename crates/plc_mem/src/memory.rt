@@ -36,10 +36,6 @@ pub struct Memory {
 }
 
 impl Model for Memory {
-    ghost use Rattle.std.specs.Prelude.{length};
-    ghost use Rattle.plc_mem.specs.State.{State};
-    ghost use Rattle.plc_mem.specs.Fit.{NodesFit};
-
     ghost Value = { State };
 
     ghost view = { λ m. record {
