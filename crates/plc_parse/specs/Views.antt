@@ -1,5 +1,5 @@
 -- How the program's answers are seen.
-use Rattle.std.specs.Prelude.{ℕ, List}
+use Rattle.std.specs.Prelude.{ℕ, Bool, List}
 use Rattle.plc_lex.specs.declared.token.TokenKind.{TokenKind}
 use Rattle.plc_forms.specs.declared.rest.Rest.{Rest}
 use Rattle.plc_scope.specs.declared.scope.Scope.{Scope}
@@ -15,3 +15,8 @@ read_in a scope rest = ((a, scope, rest.at), kinds_left rest)
 -- how blocks are read in a context, whose own loop counts for nothing
 abbrev pub blocks_within : Context → BlockReader
 blocks_within context = block_in (lines_of context.tokens.now) context.most
+
+-- what a reader of statements makes of what stands from here on, in a context
+abbrev pub here : {A : Type 0} → (BlockReader → ℕ → Scope → Bool → ℕ → List TokenKind → A) → Context → Scope → Rest → A
+here reads context scope rest =
+    reads (blocks_within context) context.most scope context.in_loop rest.at (kinds_left rest)

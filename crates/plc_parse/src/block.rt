@@ -9,7 +9,7 @@ ghost use Rattle.plc_parse.specs.Growth.{ReadsBlock, CanReadBlock};
 ghost use Rattle.plc_parse.specs.Reading.{loop_in, else_in, branches_in, if_in, blocks_in};
 ghost use Rattle.plc_parse.specs.Reading.{choose_in, statement_in};
 ghost use Rattle.plc_outparse.specs.Views.{kinds_left};
-ghost use Rattle.plc_parse.specs.Views.{read_in, blocks_within};
+ghost use Rattle.plc_parse.specs.Views.{read_in, blocks_within, here};
 
 use crate::lines::line_at;
 use crate::statement::read_flat;
@@ -138,8 +138,7 @@ fn read_blocks<'a>(
 fn read_choose<'a>(context: Context, scope: &mut Scope, start: Rest<'a>) -> Parsed<'a, Stmt>
     requires { CanReadBlock (length context.tokens.now) scope.old start }
     ensures read { Gives (λ r. read_in (statement_of r.0) scope.new r.1) result
-        (choose_in (blocks_within context.entry) context.entry.most scope.old context.entry.in_loop start.entry.at
-        (kinds_left start.entry)) }
+        (here choose_in context.entry scope.old start.entry) }
     ensures labels { IfOk result (λ r. ReadsBlock (length context.entry.tokens.now) scope.old scope.new r.1) }
 {
     let (first, rest) = read_block(context, scope, start)?;
@@ -153,8 +152,7 @@ fn read_choose<'a>(context: Context, scope: &mut Scope, start: Rest<'a>) -> Pars
 fn read_statement<'a>(context: Context, scope: &mut Scope, start: Rest<'a>) -> Parsed<'a, Stmt>
     requires { CanReadBlock (length context.tokens.now) scope.old start }
     ensures read { Gives (λ r. read_in (statement_of r.0) scope.new r.1) result
-        (statement_in (blocks_within context.entry) context.entry.most scope.old context.entry.in_loop start.entry.at
-        (kinds_left start.entry)) }
+        (here statement_in context.entry scope.old start.entry) }
     ensures labels { IfOk result (λ r. ReadsBlock (length context.entry.tokens.now) scope.old scope.new r.1) }
 {
     if let Some(after) = word_symbol_at(start, Keyword::Loop, Symbol::OpenBrace) {
