@@ -6,6 +6,7 @@ pub mod Faults
 pub mod FlowLists
 pub mod Graphs
 pub mod Iteration
+pub mod Relaxing
 pub mod Starts
 pub mod WorkLists
 pub mod Trials
