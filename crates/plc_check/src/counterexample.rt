@@ -3,16 +3,14 @@
 // which the step breaks the clause.
 ghost use Rattle.std.specs.Prelude.{◌≡◌, IfOk, OnOk, IsTrue, Contains};
 ghost use Rattle.plc_setting.specs.Fit.{Fits};
-ghost use Rattle.plc_setting.specs.Marks.{program_uses_marks};
 ghost use Rattle.plc_oblig.specs.Obligations.{obligations};
 ghost use Rattle.plc_oblig.specs.Outlines.{IsKept};
 ghost use Rattle.plc_check.specs.Counterexamples.{IsCounterexampleAt, NotedAreKept};
 
-use crate::judged::Judged;
 use crate::tree::solve_at;
 use plc_base::NoMemory;
 use plc_ground::{GroundModel, GroundSet};
-use plc_oblig::{Grounding, Noted, Obligation, still};
+use plc_oblig::{Annotated, Grounding, Noted, Obligation, still};
 use std::alloc::Global;
 
 /// An obligation that isn't kept, with its ground set and a model of it.
@@ -27,16 +25,16 @@ pub struct Counterexample {
 
 /// Whether the obligation is known to be kept before its set is made: it is still, or one that is alike was found to be
 /// kept, which has the same set.
-fn is_known_kept(judged: &Judged, kept: &Noted, o: &Obligation) -> bool
-    requires fits { Fits judged.now.flow judged.now.unit_outline }
-    requires there { Contains (obligations judged.now.flow judged.now.unit_outline) o.now }
-    requires kept { NotedAreKept judged.now.flow judged.now.unit_outline kept.now }
-    ensures { IsTrue result → IsKept judged.now.flow judged.now.unit_outline o.now }
+fn is_known_kept(program: &Annotated<'_>, kept: &Noted, o: &Obligation) -> bool
+    requires fits { Fits program.now.flow.now program.now.outline.now }
+    requires there { Contains (obligations program.now.flow.now program.now.outline.now) o.now }
+    requires kept { NotedAreKept program.now.flow.now program.now.outline.now kept.now }
+    ensures { IsTrue result → IsKept program.now.flow.now program.now.outline.now o.now }
 {
-    if still(&judged.flow, &judged.unit_outline, o) {
+    if still(program.flow, program.outline, o) {
         return true;
     }
-    match kept.find(&judged.flow, &judged.unit_outline, o) {
+    match kept.find(program.flow, program.outline, o) {
         Some(_) => true,
         None => false,
     }
@@ -46,22 +44,20 @@ fn is_known_kept(judged: &Judged, kept: &Noted, o: &Obligation) -> bool
 pub(crate) fn counterexample_at(
     alloc: Global,
     memory: &mut Grounding,
-    marked: bool,
+    program: &Annotated<'_>,
     kept: &mut Noted,
-    judged: &Judged,
     obligation: Obligation,
 ) -> Result<Option<Counterexample>, NoMemory>
-    requires fits { Fits judged.now.flow judged.now.unit_outline }
-    requires marked { marked ≡ program_uses_marks judged.now.flow judged.now.unit_outline }
-    requires there { Contains (obligations judged.now.flow judged.now.unit_outline) obligation }
-    requires kept { NotedAreKept judged.now.flow judged.now.unit_outline kept.old }
-    ensures found { IfOk result (IsCounterexampleAt judged.now.flow judged.now.unit_outline obligation) }
-    ensures kept { OnOk result (NotedAreKept judged.now.flow judged.now.unit_outline kept.new) }
+    requires fits { Fits program.now.flow.now program.now.outline.now }
+    requires there { Contains (obligations program.now.flow.now program.now.outline.now) obligation }
+    requires kept { NotedAreKept program.now.flow.now program.now.outline.now kept.old }
+    ensures found { IfOk result (IsCounterexampleAt program.now.flow.now program.now.outline.now obligation) }
+    ensures kept { OnOk result (NotedAreKept program.now.flow.now program.now.outline.now kept.new) }
 {
-    if is_known_kept(judged, kept, &obligation) {
+    if is_known_kept(program, kept, &obligation) {
         return Ok(None);
     }
-    let Err(found) = solve_at(alloc, memory, marked, judged, obligation)? else {
+    let Err(found) = solve_at(alloc, memory, program, obligation)? else {
         // Only that it is found counts here, so it may have any number.
         kept.note(&obligation, 0)?;
         return Ok(None);

@@ -6,7 +6,7 @@ ghost use Rattle.plc_check.specs.Refusals.{IsPassedLimit, IsWithinLimits, IsLimi
 
 use crate::judged::{Judged, LoadFault};
 use plc_base::What1;
-use plc_oblig::{count, has_large_set};
+use plc_oblig::{annotate, count, has_large_set};
 
 /// The first limit that the outline passes, if it passes one.
 fn passed_limit(judged: &Judged) -> Option<What1>
@@ -18,7 +18,7 @@ fn passed_limit(judged: &Judged) -> Option<What1>
     if count(flow, outline) > What1::Obligations.most() as u64 {
         return Some(What1::Obligations);
     }
-    if has_large_set(flow, outline) {
+    if has_large_set(&annotate(flow, outline)) {
         return Some(What1::Clauses);
     }
     None

@@ -3,7 +3,6 @@
 // that the caller owns, so that the loop owns nothing large.
 ghost use Rattle.std.specs.Prelude.{◌≡◌, [], IfOk};
 ghost use Rattle.plc_setting.specs.Fit.{Fits};
-ghost use Rattle.plc_setting.specs.Marks.{program_uses_marks};
 ghost use Rattle.plc_oblig.specs.Obligations.{obligations};
 ghost use Rattle.plc_check.specs.Counterexamples.{IsFirstCounterexample};
 ghost use Rattle.plc_check.specs.Open.{AreOpen};
@@ -11,7 +10,7 @@ ghost use Rattle.plc_check.specs.Open.{AreOpen};
 use crate::counterexample::{Counterexample, counterexample_at};
 use crate::judged::Judged;
 use plc_base::{Items, NoMemory};
-use plc_oblig::{Grounding, Noted, Walk, program_uses_marks};
+use plc_oblig::{Annotated, Grounding, Noted, Walk, annotate};
 use std::alloc::Global;
 
 /// What breaks an outline, obligation by obligation.
@@ -28,26 +27,24 @@ pub struct OpenObligations {
 fn find_on_walk(
     alloc: Global,
     memory: &mut Grounding,
-    marked: bool,
+    program: &Annotated<'_>,
     kept: &mut Noted,
     walk: &mut Walk<'_>,
-    judged: &Judged,
     most: usize,
     found: &mut Items<Counterexample>,
 ) -> Result<bool, NoMemory>
-    requires fits { Fits judged.now.flow judged.now.unit_outline }
-    requires marked { marked ≡ program_uses_marks judged.now.flow judged.now.unit_outline }
-    requires begun { walk.old ≡ obligations judged.now.flow judged.now.unit_outline }
+    requires fits { Fits program.now.flow.now program.now.outline.now }
+    requires begun { walk.old ≡ obligations program.now.flow.now program.now.outline.now }
     requires none_noted { kept.old ≡ [] }
     requires none_found { found.old ≡ [] }
-    ensures { IfOk result (λ all. AreOpen judged.now.flow judged.now.unit_outline most
+    ensures { IfOk result (λ all. AreOpen program.now.flow.now program.now.outline.now most
         (record { found = found.new; all = all })) }
 {
     'obligations: while found.len() < most {
         let Some(obligation) = walk.next() else {
             return Ok(true);
         };
-        let broken = counterexample_at(alloc, memory, marked, kept, judged, obligation)?;
+        let broken = counterexample_at(alloc, memory, program, kept, obligation)?;
         let Some(broken) = broken else {
             continue;
         };
@@ -68,7 +65,7 @@ pub fn open_obligations(
     requires { Fits judged.now.flow judged.now.unit_outline }
     ensures { IfOk result (AreOpen judged.now.flow judged.now.unit_outline most) }
 {
-    let marked = program_uses_marks(&judged.flow, &judged.unit_outline);
+    let program = annotate(&judged.flow, &judged.unit_outline);
     let mut walk = Walk::new(alloc, &judged.flow, &judged.unit_outline)?;
     let mut memory = Grounding::new(alloc);
     let mut kept = Noted::new(alloc);
@@ -76,10 +73,9 @@ pub fn open_obligations(
     let all = find_on_walk(
         alloc,
         &mut memory,
-        marked,
+        &program,
         &mut kept,
         &mut walk,
-        judged,
         most,
         &mut found,
     );

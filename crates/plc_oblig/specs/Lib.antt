@@ -11,3 +11,4 @@ pub mod Finding
 pub mod Size
 pub mod Left
 pub mod Excess
+pub mod Drafting

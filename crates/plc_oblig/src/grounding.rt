@@ -1,27 +1,24 @@
 // The ground set of an obligation: constants and nodes are listed, then the clauses are written item by item, and
 // each term that was listed has its sort. Whoever goes over many obligations makes their sets one after another
 // over the same memory.
-ghost use Rattle.std.specs.Prelude.{◌≡◌, ◌<◌, ◌≤◌, map, length, slice_get, Some, OnOk, IfOk};
+ghost use Rattle.std.specs.Prelude.{◌≡◌, ◌<◌, map, length, slice_get, Some, OnOk, IfOk};
 ghost use Rattle.plc_lang.specs.Fit.{FileFits};
 ghost use Rattle.plc_ground.specs.Fit.{IsWellFormed};
 ghost use Rattle.plc_symbolic.specs.declared.symbolic.SymbolicTerm.TheVariants.{Constant};
 ghost use Rattle.plc_symbolic.specs.Numbering.{blank, listed_all};
 ghost use Rattle.plc_symbolic.specs.Terms.{term_of};
-ghost use Rattle.plc_setting.specs.Acts.{most_acts};
 ghost use Rattle.plc_setting.specs.Fit.{Fits};
-ghost use Rattle.plc_setting.specs.Marks.{program_uses_marks};
 ghost use Rattle.plc_setting.specs.Sorts.{sort_of};
-ghost use Rattle.plc_setting.specs.Setting.{setting_of};
+ghost use Rattle.plc_oblig.specs.Drafting.{CanDraft};
 ghost use Rattle.plc_oblig.specs.GroundSets.{drafted, ground_set};
 
+use crate::annotated::{Annotated, annotate};
 use plc_base::{Items, NoMemory};
 use plc_flow::Flow;
 use plc_ground::{GroundSet, Sort, Symbol};
 use plc_items::{Subject, push_items};
 use plc_logic::Outline;
-use plc_setting::{
-    Act, Obligation, Setting, constants_of, program_uses_marks, setting_of, sort_of,
-};
+use plc_setting::{Act, Obligation, Setting, constants_of, setting_of, sort_of};
 use plc_symbolic::{Draft, NodeTerm, SymbolicTerm, term_of};
 use std::alloc::Global;
 
@@ -77,9 +74,7 @@ fn sorts_of(
 
 /// Writes the clauses of the set, after the terms that are listed first.
 fn write_draft(w: &Subject, draft: &mut Draft) -> Result<(), NoMemory>
-    requires fits { Fits w.now.flow.now w.now.outline.now }
-    requires setting { w.now.setting.now ≡ setting_of w.now.flow.now w.now.outline.now w.now.obligation.now }
-    requires few { length w.now.setting.now.acts ≤ most_acts }
+    requires ready { CanDraft w.now.flow.now w.now.outline.now w.now.setting.now w.now.obligation.now }
     requires blank { draft.old ≡ blank }
     ensures { OnOk result (draft.new
         ≡ drafted w.now.flow.now w.now.outline.now w.now.setting.now w.now.obligation.now) }
@@ -100,9 +95,7 @@ fn assemble(
     o: &Obligation,
     draft: &mut Draft,
 ) -> Result<GroundSet, NoMemory>
-    requires fits { Fits flow.now outline.now }
-    requires setting { s.now ≡ setting_of flow.now outline.now o.now }
-    requires few { length s.now.acts ≤ most_acts }
+    requires { CanDraft flow.now outline.now s.now o.now }
     ensures well { IfOk result (λ set. IsWellFormed set) }
     ensures set { IfOk result (λ set. set ≡ ground_set flow.now outline.now o.now) }
 {
@@ -136,21 +129,15 @@ impl Grounding {
         }
     }
 
-    /// The ground set of an obligation, as [`ground`] makes it. Whether marks are used is asked once for all of them,
-    /// by [`program_uses_marks`].
-    pub fn ground(
-        &mut self,
-        marked: bool,
-        flow: &Flow,
-        outline: &Outline,
-        o: &Obligation,
-    ) -> Result<GroundSet, NoMemory>
-        requires fits { Fits flow.now outline.now }
-        requires marked { marked ≡ program_uses_marks flow.now outline.now }
+    /// The ground set of an obligation, as [`ground`] makes it.
+    pub fn ground(&mut self, program: &Annotated<'_>, o: &Obligation) -> Result<GroundSet, NoMemory>
+        requires fits { Fits program.now.flow.now program.now.outline.now }
         ensures well { IfOk result (λ set. IsWellFormed set) }
-        ensures set { IfOk result (λ set. set ≡ ground_set flow.now outline.now o.now) }
+        ensures set { IfOk result (λ set. set ≡ ground_set program.now.flow.now program.now.outline.now o.now) }
     {
-        let s = setting_of(self.alloc, marked, flow, outline, o)?;
+        let flow = program.flow;
+        let outline = program.outline;
+        let s = setting_of(self.alloc, program.marked, flow, outline, o)?;
         let set = assemble(self.alloc, flow, outline, &s, o, &mut self.draft);
         drop(s);
         set
@@ -174,5 +161,5 @@ pub fn ground(
     ensures set { IfOk result (λ set. set ≡ ground_set flow.now outline.now o.now) }
     ensures well { IfOk result (λ set. IsWellFormed set) }
 {
-    Grounding::new(alloc).ground(program_uses_marks(flow, outline), flow, outline, o)
+    Grounding::new(alloc).ground(&annotate(flow, outline), o)
 }

@@ -8,7 +8,6 @@ ghost use Rattle.plc_lang.specs.Fields.{is_pointer_field};
 ghost use Rattle.plc_lang.specs.Fit.{FileFits};
 ghost use Rattle.plc_flow.specs.WellFormed.{most_step_primitives};
 ghost use Rattle.plc_setting.specs.Fit.{Fits};
-ghost use Rattle.plc_setting.specs.Marks.{program_uses_marks};
 ghost use Rattle.plc_setting.specs.Points.{clauses_at};
 ghost use Rattle.plc_setting.specs.Parts.{acting_locals, owner_locals, executed, conclusion, claim_made, clauses_of};
 ghost use Rattle.plc_setting.specs.Setting.{setting_of, bound_of};
@@ -22,13 +21,14 @@ ghost use Rattle.plc_oblig.specs.Size.{prim_size, clause_size};
 ghost use Rattle.plc_oblig.specs.Size.{AreSizesOf, AreFew, most_constants, most_pointers, most_deep_nodes, most_nodes};
 ghost use Rattle.plc_oblig.specs.Size.{most_of_primitive, most_instances};
 
+use crate::annotated::{Annotated, annotate};
 use plc_base::PointId;
 use plc_flow::Flow;
 use plc_lang::{Arg, Field, File, Ghost, Local, Prim, Rel, has_new};
 use plc_logic::{Clause, Outline};
 use plc_setting::{
     Obligation, acting_locals, acting_point, bound_of, claim_made, conclusion, executed,
-    invariants_before, is_labelled, owner_locals, owner_point, program_uses_marks, stands_at,
+    invariants_before, is_labelled, owner_locals, owner_point, stands_at,
 };
 
 /// How many there are of what a set rests on.
@@ -219,13 +219,15 @@ fn count_bound(flow: &Flow, outline: &Outline, o: &Obligation) -> u64
     bound_of(conclusion(flow, outline, o)) as u64
 }
 
-/// The counts on which the number of clauses depends, where it is known whether marks are used.
-fn sizes_of(marked: bool, flow: &Flow, outline: &Outline, o: &Obligation) -> Sizes
-    requires fits { Fits flow.now outline.now }
-    requires marked { marked ≡ program_uses_marks flow.now outline.now }
-    ensures sizes { AreSizesOf (setting_of flow.now outline.now o.now) result }
+/// The counts on which the number of clauses depends.
+fn sizes_of(program: &Annotated<'_>, o: &Obligation) -> Sizes
+    requires fits { Fits program.now.flow.now program.now.outline.now }
+    ensures sizes { AreSizesOf (setting_of program.now.flow.now program.now.outline.now o.now) result }
     ensures few { AreFew result }
 {
+    let flow = program.flow;
+    let outline = program.outline;
+    let marked = program.marked;
     let mine = count_mine(flow, o);
     let pointers = flow.file.shared.len() as u64 + mine + count_theirs(flow, o);
     let fields = count_fields(&flow.file);
@@ -398,12 +400,13 @@ pub(crate) fn denied_size(flow: &Flow, outline: &Outline, o: &Obligation) -> u64
 }
 
 /// How many clauses the ground set of an obligation has, where it is known whether marks are used.
-pub(crate) fn clauses_where(marked: bool, flow: &Flow, outline: &Outline, o: &Obligation) -> u64
-    requires fits { Fits flow.now outline.now }
-    requires marked { marked ≡ program_uses_marks flow.now outline.now }
-    ensures { result ≡ length (ground_set flow.now outline.now o.now).clauses }
+pub(crate) fn clauses_where(program: &Annotated<'_>, o: &Obligation) -> u64
+    requires fits { Fits program.now.flow.now program.now.outline.now }
+    ensures { result ≡ length (ground_set program.now.flow.now program.now.outline.now o.now).clauses }
 {
-    let z = sizes_of(marked, flow, outline, o);
+    let flow = program.flow;
+    let outline = program.outline;
+    let z = sizes_of(program, o);
     values_size(flow.file.ghosts.as_slice(), z.nodes)
         + mark_values_size(z)
         + beginning_size(flow, z, o)
@@ -411,7 +414,7 @@ pub(crate) fn clauses_where(marked: bool, flow: &Flow, outline: &Outline, o: &Ob
         + premises_size(z.instances, invariants_before(outline, o))
         + standing_size(z.instances, flow, outline, acting_point(flow, o))
         + standing_size(z.instances, flow, outline, owner_point(o))
-        + executed_size(marked, z.nodes, executed(flow, o))
+        + executed_size(program.marked, z.nodes, executed(flow, o))
         + denied_size(flow, outline, o)
 }
 
@@ -420,5 +423,5 @@ pub fn clauses(flow: &Flow, outline: &Outline, o: &Obligation) -> u64
     requires { Fits flow.now outline.now }
     ensures { result ≡ length (ground_set flow.now outline.now o.now).clauses }
 {
-    clauses_where(program_uses_marks(flow, outline), flow, outline, o)
+    clauses_where(&annotate(flow, outline), o)
 }

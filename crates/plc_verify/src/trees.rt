@@ -4,29 +4,25 @@
 ghost use Rattle.std.specs.Prelude.{◌≡◌, ◌<◌, [], IsTrue, IfOk, OnOk, MatchResult, length};
 ghost use Rattle.plc_ground.specs.Trees.{Closes, IsVerdict};
 ghost use Rattle.plc_setting.specs.Fit.{Fits};
-ghost use Rattle.plc_setting.specs.Marks.{program_uses_marks};
 ghost use Rattle.plc_oblig.specs.Obligations.{obligations};
 ghost use Rattle.plc_oblig.specs.GroundSets.{ground_set};
 ghost use Rattle.plc_verify.specs.Trees.{TreesClose};
-ghost use Rattle.plc_verify.specs.Tests.{MayNotClose, NotedClose, IsVerdictAt};
+ghost use Rattle.plc_verify.specs.Tests.{MayNotClose};
+ghost use Rattle.plc_verify.specs.Evidence.{IsComplete, TriedClose, IsVerdictOf, Proves, MayNotProve};
 
 use crate::fault::VerifyFault;
 use plc_base::NoMemory;
 use plc_flow::Flow;
 use plc_ground::{Node, Tree, closes};
 use plc_logic::Outline;
-use plc_oblig::{Grounding, Noted, Obligation, Walk, count, program_uses_marks};
+use plc_oblig::{Annotated, Grounding, Noted, Obligation, Walk, annotate, count};
 use std::alloc::Global;
 
-/// What is said to show that the outline of a flow holds: trees, one for each of its obligations in order.
+/// What is said to show that the outline of a program holds: trees, one for each of its obligations in order.
 #[derive(Clone, Copy)]
 struct Evidence<'a> {
-    flow: &'a Flow,
-    outline: &'a Outline,
+    program: Annotated<'a>,
     trees: &'a [Tree],
-    /// Whether marks are used, asked once for all ground sets.
-    marked: bool,
-    ghost asked: { marked ≡ program_uses_marks flow.now outline.now },
 }
 
 /// Whether two trees have the same nodes.
@@ -38,11 +34,11 @@ fn are_same(a: &[Node], b: &[Node]) -> bool
 
 /// Whether this tree was found to close the set of an obligation that is alike.
 fn is_tried(evidence: &Evidence, tried: &Noted, o: &Obligation, tree: &Tree) -> bool
-    requires { NotedClose evidence.now.flow.now evidence.now.outline.now evidence.now.trees.now tried.now }
+    requires { TriedClose evidence.now tried.now }
     ensures { IsTrue result
-        → Closes (ground_set evidence.now.flow.now evidence.now.outline.now o.now) tree.now.nodes }
+        → Closes (ground_set evidence.now.program.flow.now evidence.now.program.outline.now o.now) tree.now.nodes }
 {
-    let Some(at) = tried.find(evidence.flow, evidence.outline, o) else {
+    let Some(at) = tried.find(evidence.program.flow, evidence.program.outline, o) else {
         return false;
     };
     match evidence.trees.get(at) {
@@ -55,17 +51,15 @@ fn is_tried(evidence: &Evidence, tried: &Noted, o: &Obligation, tree: &Tree) -> 
 fn first_bad_node(
     alloc: Global,
     memory: &mut Grounding,
-    marked: bool,
-    flow: &Flow,
-    outline: &Outline,
+    program: &Annotated<'_>,
     o: &Obligation,
     tree: &Tree,
 ) -> Result<Option<u64>, NoMemory>
-    requires fits { Fits flow.now outline.now }
-    requires marked { marked ≡ program_uses_marks flow.now outline.now }
-    ensures { IfOk result (λ bad. IsVerdict (ground_set flow.now outline.now o.now) [] tree.now.nodes bad) }
+    requires { Fits program.now.flow.now program.now.outline.now }
+    ensures { IfOk result (λ bad.
+        IsVerdict (ground_set program.now.flow.now program.now.outline.now o.now) [] tree.now.nodes bad) }
 {
-    let set = memory.ground(marked, flow, outline, o)?;
+    let set = memory.ground(program, o)?;
     let bad = closes(alloc, &set, tree)?;
     memory.reuse(set);
     Ok(bad)
@@ -81,27 +75,17 @@ fn try_tree(
     o: &Obligation,
     at: usize,
 ) -> Result<Option<u64>, NoMemory>
-    requires fits { Fits evidence.now.flow.now evidence.now.outline.now }
+    requires fits { Fits evidence.now.program.flow.now evidence.now.program.outline.now }
     requires there { at < length evidence.now.trees.now }
-    requires tried { NotedClose evidence.now.flow.now evidence.now.outline.now evidence.now.trees.now tried.old }
-    ensures bad { IfOk result
-        (IsVerdictAt evidence.now.flow.now evidence.now.outline.now evidence.now.trees.now at o.now) }
-    ensures tried { OnOk result
-        (NotedClose evidence.now.flow.now evidence.now.outline.now evidence.now.trees.now tried.new) }
+    requires tried { TriedClose evidence.now tried.old }
+    ensures bad { IfOk result (IsVerdictOf evidence.now at o.now) }
+    ensures tried { OnOk result (TriedClose evidence.now tried.new) }
 {
     let tree = &evidence.trees[at];
     if is_tried(evidence, tried, o, tree) {
         return Ok(None);
     }
-    let bad = first_bad_node(
-        alloc,
-        memory,
-        evidence.marked,
-        evidence.flow,
-        evidence.outline,
-        o,
-        tree,
-    )?;
+    let bad = first_bad_node(alloc, memory, &evidence.program, o, tree)?;
     if bad.is_none() {
         tried.note(o, at)?;
     }
@@ -116,14 +100,10 @@ fn try_each(
     walk: &mut Walk,
     evidence: &Evidence,
 ) -> Result<(), VerifyFault>
-    requires fits { Fits evidence.now.flow.now evidence.now.outline.now }
-    requires one_each { length evidence.now.trees.now
-        ≡ length (obligations evidence.now.flow.now evidence.now.outline.now) }
-    requires tried { NotedClose evidence.now.flow.now evidence.now.outline.now evidence.now.trees.now tried.old }
-    requires first { walk.old ≡ obligations evidence.now.flow.now evidence.now.outline.now }
-    ensures { MatchResult result
-        (λ _. TreesClose evidence.now.flow.now evidence.now.outline.now evidence.now.trees.now)
-        (λ fault. MayNotClose evidence.now.flow.now evidence.now.outline.now evidence.now.trees.now fault) }
+    requires complete { IsComplete evidence.now }
+    requires tried { TriedClose evidence.now tried.old }
+    requires first { walk.old ≡ obligations evidence.now.program.flow.now evidence.now.program.outline.now }
+    ensures { MatchResult result (λ _. Proves evidence.now) (λ fault. MayNotProve evidence.now fault) }
 {
     for i in 0..evidence.trees.len() {
         let Some(o) = walk.next() else {
@@ -142,14 +122,10 @@ fn try_each(
 
 /// Tries each tree, where there is one for each obligation.
 fn try_trees(alloc: Global, evidence: &Evidence) -> Result<(), VerifyFault>
-    requires fits { Fits evidence.now.flow.now evidence.now.outline.now }
-    requires one_each { length evidence.now.trees.now
-        ≡ length (obligations evidence.now.flow.now evidence.now.outline.now) }
-    ensures { MatchResult result
-        (λ _. TreesClose evidence.now.flow.now evidence.now.outline.now evidence.now.trees.now)
-        (λ fault. MayNotClose evidence.now.flow.now evidence.now.outline.now evidence.now.trees.now fault) }
+    requires complete { IsComplete evidence.now }
+    ensures { MatchResult result (λ _. Proves evidence.now) (λ fault. MayNotProve evidence.now fault) }
 {
-    let mut walk = Walk::new(alloc, evidence.flow, evidence.outline)?;
+    let mut walk = Walk::new(alloc, evidence.program.flow, evidence.program.outline)?;
     let mut memory = Grounding::new(alloc);
     let mut tried = Noted::new(alloc);
     try_each(alloc, &mut memory, &mut tried, &mut walk, evidence)
@@ -172,10 +148,8 @@ pub(crate) fn verify_trees(
         return Err(VerifyFault::TreeCount { have, want });
     }
     let evidence = Evidence {
-        flow,
-        outline,
+        program: annotate(flow, outline),
         trees,
-        marked: program_uses_marks(flow, outline),
     };
     try_trees(alloc, &evidence)
 }

@@ -1,0 +1,30 @@
+-- What is said of the trees of a program, by the evidence that has both.
+use Rattle.std.specs.Prelude.{◌≡◌, ℕ, List, length, Option}
+use Rattle.plc_setting.specs.Fit.{Fits}
+use Rattle.plc_setting.specs.declared.obligations.Obligation.{Obligation}
+use Rattle.plc_oblig.specs.Obligations.{obligations}
+use Rattle.plc_verify.specs.declared.fault.VerifyFault.{VerifyFault}
+use Rattle.plc_verify.specs.declared.trees.Evidence.{Evidence}
+use Rattle.plc_verify.specs.Trees.{TreesClose}
+use Rattle.plc_verify.specs.Tests.{MayNotClose, NotedClose, IsVerdictAt}
+
+-- the outline fits the flow, and there is one tree for each obligation
+pub record IsComplete (e : Evidence) : Type 0 where
+  pub fits : Fits e.program.flow.now e.program.outline.now
+  pub one_each : length e.trees.now ≡ length (obligations e.program.flow.now e.program.outline.now)
+
+-- each obligation that is noted has the tree with its number, which closes its ground set
+abbrev pub TriedClose : Evidence → List (Obligation × ℕ) → Type 0
+TriedClose e noted = NotedClose e.program.flow.now e.program.outline.now e.trees.now noted
+
+-- what is found of the tree with this number, over the ground set of an obligation
+abbrev pub IsVerdictOf : Evidence → ℕ → Obligation → Option ℕ → Type 0
+IsVerdictOf e at o bad = IsVerdictAt e.program.flow.now e.program.outline.now e.trees.now at o bad
+
+-- the trees close the ground sets of the obligations
+abbrev pub Proves : Evidence → Type 0
+Proves e = TreesClose e.program.flow.now e.program.outline.now e.trees.now
+
+-- the first tree that doesn't, or memory that runs out
+abbrev pub MayNotProve : Evidence → VerifyFault → Type 0
+MayNotProve e fault = MayNotClose e.program.flow.now e.program.outline.now e.trees.now fault
