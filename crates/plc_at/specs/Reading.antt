@@ -90,7 +90,8 @@ pub record EndClaim (flow : Flow) (o : Observer) (c : LocationClaim) (ts : List 
   pub claims_are : claims ≡ with_locations c locations ∷ map located written
 
 -- an opening brace is before these tokens
-pub record OpenClaim (flow : Flow) (o : Observer) (c : LocationClaim) (ts : List TokenKind) (claims : List LocationClaim)
+pub record OpenClaim
+    (flow : Flow) (o : Observer) (c : LocationClaim) (ts : List TokenKind) (claims : List LocationClaim)
     : Type 0 where
   pub after : List TokenKind
   pub tokens : ts ≡ Symbol OpenBrace ∷ after

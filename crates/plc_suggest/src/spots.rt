@@ -50,7 +50,7 @@ pub(crate) fn all_spots(
     Ok(spots)
 }
 
-/// Adds the spots of a step at the end: the shared pointers and then the pointer locals, none where it has no primitive.
+/// Adds the spots of a step at the end, shared pointers before pointer locals: none where it has no primitive.
 fn add_spots(
     step: StepId,
     prims: &[Prim],
