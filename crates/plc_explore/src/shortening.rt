@@ -211,10 +211,10 @@ fn renumbered(met: &mut Vec<u32>, m: Move) -> Result<Move, NoMemory> {
 }
 
 /// The moves that are kept, with threads numbered in the order in which they move first.
-fn kept_moves(s: Shortening) -> Result<Trail, NoMemory> {
-    let mut met = Vec::new(s.alloc);
-    let mut moves = Items::new(s.alloc);
-    for (m, kept) in s.run.moves.into_iter().zip(s.run.kept.into_iter()) {
+fn kept_moves(alloc: Global, run: Recorded) -> Result<Trail, NoMemory> {
+    let mut met = Vec::new(alloc);
+    let mut moves = Items::new(alloc);
+    for (m, kept) in run.moves.into_iter().zip(run.kept.into_iter()) {
         if kept {
             moves.push(renumbered(&mut met, m)?)?;
         }
@@ -253,5 +253,5 @@ pub fn shorten(
             break;
         }
     }
-    kept_moves(s)
+    kept_moves(alloc, s.run)
 }
