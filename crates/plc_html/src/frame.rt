@@ -22,7 +22,7 @@ h1 { font-size: 1.3rem; margin: 0 0 .5rem; overflow-wrap: anywhere; }
 h2 { font-size: 1.1rem; margin: 2rem 0 .5rem; border-bottom: 1px solid var(--line); }
 h3 { font-size: 1rem; margin: 1.2rem 0 .3rem; overflow-wrap: anywhere; }
 p, li, summary, dd { overflow-wrap: anywhere; }
-pre, code, .listing, svg { font-family: ui-monospace, monospace; font-size: 13px; }
+pre, code, .listing, .states, svg { font-family: ui-monospace, monospace; font-size: 13px; }
 pre { margin: .3rem 0; white-space: pre-wrap; overflow-wrap: anywhere; }
 .answer { border: 2px solid; padding: .5rem .75rem; max-height: 16rem; overflow-y: auto; }
 .wide { overflow-x: auto; margin: .3rem 0; }
@@ -31,11 +31,13 @@ th, td { text-align: left; vertical-align: top; padding: .1rem .6rem; border-top
 .listing td, .listing th { border: 0; padding: 0 .6rem; white-space: pre; }
 .listing .here { background: var(--soft); font-weight: bold; }
 .steps { color: #777; }
+.states td { white-space: nowrap; }
 details { margin: .2rem 0; }
 details > summary { cursor: pointer; }
 details > :not(summary) { margin-left: 1rem; }
 svg { display: block; font-size: 12px; }
 .changed { font-weight: bold; fill: var(--mark); stroke: none; color: var(--mark); }
+.gone { text-decoration: line-through; }
 .pair { display: flex; flex-wrap: wrap; gap: 0 2.5rem; }
 .pair > div { max-width: 100%; }
 @media print { .answer { max-height: none; } details::details-content { content-visibility: visible; } }
