@@ -8,11 +8,9 @@ use Rattle.plc_lang.specs.declared.syntax.Var.TheVariants as vars
 use Rattle.plc_lang.specs.declared.syntax.Arg.{Arg}
 use Rattle.plc_lang.specs.declared.syntax.Arg.TheVariants as args
 use Rattle.plc_lang.specs.declared.syntax.Primitive.{Primitive}
-use Rattle.plc_lang.specs.declared.syntax.Primitive.TheVariants.{Null, Copy, New, Load, Store, StoreNull, DataSet}
-use Rattle.plc_lang.specs.declared.syntax.Primitive.TheVariants.{DataLoad, DataStore, Eq, Ne, IsNull, NotNull}
-use Rattle.plc_lang.specs.declared.syntax.Primitive.TheVariants.{DataTest, Refresh, RefreshLoad, RefreshStore}
-use Rattle.plc_lang.specs.declared.syntax.Primitive.TheVariants.{Mark, Unmark, MarkTest}
-use Rattle.plc_lang.specs.declared.syntax.Primitive.TheVariants.{Call, Done, Active, Ghost}
+use Rattle.plc_lang.specs.declared.syntax.Primitive.TheVariants.{Null, Copy, New, Load, Store, StoreNull, DataLoad}
+use Rattle.plc_lang.specs.declared.syntax.Primitive.TheVariants.{DataStore, Eq, Ne, Refresh, RefreshLoad, RefreshStore}
+use Rattle.plc_lang.specs.declared.syntax.Primitive.TheVariants.{Mark, Unmark, Call}
 
 -- the pointer that it goes through, to a field of the node
 abbrev pub accessed : Primitive → Option Var
@@ -50,29 +48,15 @@ risked_by None None None = (None, None)
 abbrev pub risked : Primitive → Option Var × Option Var
 risked k = risked_by (accessed k) (compared k) (called k)
 
--- the pointer that it assigns
+-- the pointer that it assigns; the last row is for what assigns none (of this word speaks what draws and shows runs
+-- alone, so a row that is missing makes no answer of a command wrong)
 abbrev pub assigned : Primitive → Option Var
 assigned (Null p) = Some p
 assigned (Copy p q) = Some p
 assigned (New p) = Some p
 assigned (Load p q f) = Some p
-assigned (Store p f q) = None
-assigned (StoreNull p f) = None
-assigned (DataSet x e) = None
-assigned (DataLoad x q f) = None
-assigned (DataStore p f e) = None
-assigned (Eq p q) = None
-assigned (Ne p q) = None
-assigned (IsNull p) = None
-assigned (NotNull p) = None
-assigned (DataTest rel x e) = None
 assigned (Refresh p q) = Some (vars.Local p)
 assigned (RefreshLoad p q f) = Some (vars.Local p)
-assigned (RefreshStore p f q) = None
 assigned (Mark p q) = Some p
 assigned (Unmark p q) = Some p
-assigned (MarkTest p m) = None
-assigned (Call f a) = None
-assigned (Done f) = None
-assigned (Active p) = None
-assigned (Ghost p g v) = None
+assigned k = None
