@@ -1,6 +1,5 @@
 // What can be told of a race: through which pointer it goes, where its node was retired and where it was freed, each by
 // the line of the schedule and by that of the file. The run is followed once more for it; no answer rests on it.
-ghost use Rattle.plc_flow.specs.WellFormed.{FlowFits};
 ghost use Rattle.plc_explore.specs.Running.{IsIndexed, IsRunOf};
 
 use crate::frees::Frees;
@@ -168,7 +167,6 @@ fn account_from(
     notes: &mut Notes,
     moves: &[Move],
 ) -> Result<Option<Account>, NoMemory>
-    requires fits { FlowFits program.now.flow.now }
     requires indexed { IsIndexed program.now }
     requires of_run { IsRunOf program.now run.old.config }
 {
@@ -201,8 +199,7 @@ pub fn follow_to_race(
     frees: &mut Frees,
     trail: &Trail,
 ) -> Result<Option<Account>, NoMemory>
-    requires fits { FlowFits program.now.flow.now }
-    requires indexed { IsIndexed program.now }
+    requires { IsIndexed program.now }
 {
     let mut notes = Notes {
         retired: Vec::new(alloc),

@@ -1,5 +1,4 @@
 // Runs are drawn one after the other, until one races or as many moves were made as there may be.
-ghost use Rattle.plc_flow.specs.WellFormed.{FlowFits};
 ghost use Rattle.plc_explore.specs.Running.{IsIndexed};
 
 use crate::frees::Frees;
@@ -34,8 +33,7 @@ fn draw(
     frees: &mut Frees,
     random: &mut Random,
 ) -> Result<Option<Drawn>, NoMemory>
-    requires fits { FlowFits program.now.flow.now }
-    requires indexed { IsIndexed program.now }
+    requires { IsIndexed program.now }
 {
     if program.flow.file.ops.is_empty() {
         return Ok(None);
@@ -59,8 +57,7 @@ pub fn explore(
     random: &mut Random,
     most: u64,
 ) -> Result<Explored, NoMemory>
-    requires fits { FlowFits program.now.flow.now }
-    requires indexed { IsIndexed program.now }
+    requires { IsIndexed program.now }
 {
     let mut explored = Explored {
         trail: None,

@@ -1,6 +1,5 @@
 // A recorded run with some of its moves left out: whether it still races, and where its threads stand on the way.
-ghost use Rattle.plc_flow.specs.WellFormed.{FlowFits};
-ghost use Rattle.plc_explore.specs.Running.{IsRunOf};
+ghost use Rattle.plc_explore.specs.Running.{IsRunOf, MayRun};
 
 use crate::frees::Frees;
 use crate::program::Program;
@@ -61,9 +60,8 @@ fn stand_of(config: &Config, number: usize, m: &Move) -> Option<Stand> {
 
 /// Makes a move, of which this is said where there is none.
 fn make_or(program: &Program, run: &mut Running, m: &Move, otherwise: Met) -> Result<Met, NoMemory>
-    requires fits { FlowFits program.now.flow.now }
-    requires of_run { IsRunOf program.now run.old.config }
-    ensures of_run { IsRunOf program.now run.new.config }
+    requires { IsRunOf program.now run.old.config }
+    ensures { IsRunOf program.now run.new.config }
 {
     Ok(match run.make(program, m)? {
         Moved::Done => Met::Goes,
@@ -75,9 +73,8 @@ fn make_or(program: &Program, run: &mut Running, m: &Move, otherwise: Met) -> Re
 /// Makes a move again. A free is that of the address that is to be freed now; where there is none, or it may not be
 /// freed now, nothing happens.
 fn make_again(program: &Program, run: &mut Running, m: &Move) -> Result<Met, NoMemory>
-    requires fits { FlowFits program.now.flow.now }
-    requires of_run { IsRunOf program.now run.old.config }
-    ensures of_run { IsRunOf program.now run.new.config }
+    requires { IsRunOf program.now run.old.config }
+    ensures { IsRunOf program.now run.new.config }
 {
     match m {
         Move::Free { a } => match run.frees.again(*a) {
@@ -95,8 +92,7 @@ fn follow_from(
     recorded: &Recorded,
     way: &mut Way,
 ) -> Result<Option<usize>, NoMemory>
-    requires fits { FlowFits program.now.flow.now }
-    requires of_run { IsRunOf program.now run.old.config }
+    requires { IsRunOf program.now run.old.config }
 {
     for (number, m) in recorded.moves.iter().enumerate() {
         if !recorded.kept.get(number).copied().unwrap_or(false) {
@@ -124,7 +120,7 @@ pub fn follow(
     recorded: &Recorded,
     way: &mut Way,
 ) -> Result<Option<usize>, NoMemory>
-    requires { FlowFits program.now.flow.now }
+    requires { MayRun program.now }
 {
     way.stands.clear();
     way.idle.clear();

@@ -1,8 +1,7 @@
 // A run as it goes on. Whoever draws one, makes one short or tells of its race makes its moves here, so that whoever says
 // what is freed hears all that happens.
 ghost use Rattle.std.specs.Prelude.{◌<◌, IfOk, IfSome};
-ghost use Rattle.plc_flow.specs.WellFormed.{FlowFits};
-ghost use Rattle.plc_explore.specs.Running.{IsIndexed, IsRunOf};
+ghost use Rattle.plc_explore.specs.Running.{IsIndexed, IsRunOf, MayRun};
 
 use crate::frees::Frees;
 use crate::program::Program;
@@ -44,7 +43,7 @@ impl<'a> Running<'a> {
         frees: &'a mut Frees,
         threads: u32,
     ) -> Result<Option<Running<'a>>, NoMemory>
-        requires fits { FlowFits program.now.flow.now }
+        requires may { MayRun program.now }
         requires some { 0 < threads }
         ensures of_run { IfOk result (λ begun. IfSome begun (λ run. IsRunOf program.now run.config)) }
     {
@@ -58,9 +57,8 @@ impl<'a> Running<'a> {
 
     /// Makes a move, and hands its events over.
     pub fn make(&mut self, program: &Program, m: &Move) -> Result<Moved, NoMemory>
-        requires fits { FlowFits program.now.flow.now }
-        requires of_run { IsRunOf program.now self.old.config }
-        ensures of_run { IsRunOf program.now self.new.config }
+        requires { IsRunOf program.now self.old.config }
+        ensures { IsRunOf program.now self.new.config }
     {
         let before = self.config.history().len();
         let moved = self.config.step(program.flow, program.observer, m)?;

@@ -2,7 +2,7 @@
 // of one thread between two moments at which it stands at the same point, or from one moment on; so a whole operation,
 // a turn of a loop, and all that a thread does are among them. The longest are tried first. Each attempt is followed
 // from the beginning (delta debugging, Zeller 1999).
-ghost use Rattle.plc_flow.specs.WellFormed.{FlowFits};
+ghost use Rattle.plc_explore.specs.Running.{MayRun};
 
 use crate::follow::{Recorded, Stand, Way, follow};
 use crate::frees::Frees;
@@ -24,7 +24,7 @@ struct Shortening {
 impl Shortening {
     /// Follows the moves that are kept, and keeps none after the race, and no free that did nothing.
     fn races(&mut self, program: &Program, frees: &mut Frees) -> Result<bool, NoMemory>
-        requires { FlowFits program.now.flow.now }
+        requires { MayRun program.now }
     {
         let all = follow(self.alloc, program, frees, &self.run, &mut self.way)?;
         let Some(count) = all else {
@@ -57,7 +57,7 @@ impl Shortening {
         frees: &mut Frees,
         numbers: &[usize],
     ) -> Result<bool, NoMemory>
-        requires { FlowFits program.now.flow.now }
+        requires { MayRun program.now }
     {
         let before = Vec::from_slice(self.alloc, &self.run.kept)?;
         self.leave_out(numbers);
@@ -114,7 +114,7 @@ fn leave_round(
     own: &[Stand],
     length: usize,
 ) -> Result<bool, NoMemory>
-    requires { FlowFits program.now.flow.now }
+    requires { MayRun program.now }
 {
     for from in 0..own.len() {
         if is_round(own, from, length) {
@@ -134,7 +134,7 @@ fn leave_some(
     frees: &mut Frees,
     t: u32,
 ) -> Result<bool, NoMemory>
-    requires { FlowFits program.now.flow.now }
+    requires { MayRun program.now }
 {
     let own = s.moves_of(t)?;
     for k in 0..own.len() {
@@ -148,7 +148,7 @@ fn leave_some(
 
 /// Leaves out one free, if there is one that isn't needed.
 fn leave_free(s: &mut Shortening, program: &Program, frees: &mut Frees) -> Result<bool, NoMemory>
-    requires { FlowFits program.now.flow.now }
+    requires { MayRun program.now }
 {
     for number in 0..s.run.moves.len() {
         let is_free = s.run.moves.get(number).is_some_and(|m| mover(m).is_none());
@@ -164,7 +164,7 @@ fn leave_free(s: &mut Shortening, program: &Program, frees: &mut Frees) -> Resul
 
 /// Leaves out some moves, if there are any that aren't needed.
 fn leave_any(s: &mut Shortening, program: &Program, frees: &mut Frees) -> Result<bool, NoMemory>
-    requires { FlowFits program.now.flow.now }
+    requires { MayRun program.now }
 {
     // An attempt that failed has followed other moves, so what is kept is followed again.
     for t in 0..s.run.threads {
@@ -233,7 +233,7 @@ pub fn shorten(
     frees: &mut Frees,
     trail: Trail,
 ) -> Result<Trail, NoMemory>
-    requires { FlowFits program.now.flow.now }
+    requires { MayRun program.now }
 {
     let moves = trail.moves.into_vec();
     let mut s = Shortening {

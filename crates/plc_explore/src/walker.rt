@@ -2,7 +2,6 @@
 // it has, and after each move what may be freed is freed. The run ends at the first race, where no thread can move, or
 // where it grows too long.
 ghost use Rattle.std.specs.Prelude.{◌<◌};
-ghost use Rattle.plc_flow.specs.WellFormed.{FlowFits};
 ghost use Rattle.plc_explore.specs.Running.{IsIndexed, IsRunOf};
 
 use crate::order::Order;
@@ -93,7 +92,6 @@ impl<'a> Walker<'a> {
 
     /// Moves, from where runs begin, until the run races or ends.
     pub fn walk(&mut self, program: &Program, run: &mut Running) -> Result<bool, NoMemory>
-        requires fits { FlowFits program.now.flow.now }
         requires indexed { IsIndexed program.now }
         requires of_run { IsRunOf program.now run.old.config }
     {
@@ -109,7 +107,6 @@ impl<'a> Walker<'a> {
 
     /// Lets the first thread move that can.
     fn go(&mut self, program: &Program, run: &mut Running) -> Result<Turn, NoMemory>
-        requires fits { FlowFits program.now.flow.now }
         requires indexed { IsIndexed program.now }
         requires of_run { IsRunOf program.now run.old.config }
         ensures of_run { IsRunOf program.now run.new.config }
@@ -138,7 +135,6 @@ impl<'a> Walker<'a> {
 
     /// Lets a thread move: an idle one begins an operation, one at the exit returns, another takes a step.
     fn turn(&mut self, program: &Program, run: &mut Running, t: u32) -> Result<Turn, NoMemory>
-        requires fits { FlowFits program.now.flow.now }
         requires indexed { IsIndexed program.now }
         requires of_run { IsRunOf program.now run.old.config }
         ensures of_run { IsRunOf program.now run.new.config }
@@ -154,9 +150,8 @@ impl<'a> Walker<'a> {
 
     /// Lets an idle thread begin an operation that is drawn.
     fn begin(&mut self, program: &Program, run: &mut Running, t: u32) -> Result<Turn, NoMemory>
-        requires fits { FlowFits program.now.flow.now }
-        requires of_run { IsRunOf program.now run.old.config }
-        ensures of_run { IsRunOf program.now run.new.config }
+        requires { IsRunOf program.now run.old.config }
+        ensures { IsRunOf program.now run.new.config }
     {
         let ops = program.flow.file.ops.as_slice();
         let op = self.random.below(ops.len().min(65_535) as u32) as u16;
@@ -182,7 +177,6 @@ impl<'a> Walker<'a> {
         t: u32,
         at: u16,
     ) -> Result<Turn, NoMemory>
-        requires fits { FlowFits program.now.flow.now }
         requires indexed { IsIndexed program.now }
         requires of_run { IsRunOf program.now run.old.config }
         ensures of_run { IsRunOf program.now run.new.config }
@@ -214,9 +208,8 @@ impl<'a> Walker<'a> {
         nth: u16,
         step: &Step,
     ) -> Result<Turn, NoMemory>
-        requires fits { FlowFits program.now.flow.now }
-        requires of_run { IsRunOf program.now run.old.config }
-        ensures of_run { IsRunOf program.now run.new.config }
+        requires { IsRunOf program.now run.old.config }
+        ensures { IsRunOf program.now run.new.config }
     {
         if writes(step.prims.as_slice()) && self.order.waits(self.random) {
             return Ok(Turn::Waits);
@@ -237,9 +230,8 @@ impl<'a> Walker<'a> {
 
     /// Makes a move, if there is one, and frees what may be freed after it.
     fn make(&mut self, program: &Program, run: &mut Running, m: Move) -> Result<Turn, NoMemory>
-        requires fits { FlowFits program.now.flow.now }
-        requires of_run { IsRunOf program.now run.old.config }
-        ensures of_run { IsRunOf program.now run.new.config }
+        requires { IsRunOf program.now run.old.config }
+        ensures { IsRunOf program.now run.new.config }
     {
         let before = run.config.history().len();
         match run.make(program, &m)? {
@@ -271,9 +263,8 @@ impl<'a> Walker<'a> {
 
     /// Frees what may be freed.
     fn free(&mut self, program: &Program, run: &mut Running) -> Result<(), NoMemory>
-        requires fits { FlowFits program.now.flow.now }
-        requires of_run { IsRunOf program.now run.old.config }
-        ensures of_run { IsRunOf program.now run.new.config }
+        requires { IsRunOf program.now run.old.config }
+        ensures { IsRunOf program.now run.new.config }
     {
         for _ in 0..MOST_FREES {
             if self.plan.retired().is_empty() {

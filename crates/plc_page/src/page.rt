@@ -107,7 +107,7 @@ fn rest_of(alloc: Global, answered: Answered) -> Result<Html, NoMemory>
 fn verdict_page(alloc: Global, name: &[u8], answered: Answered) -> Result<Page, NoMemory>
     requires short { length answered.bytes.now ≤ largest_file }
     requires fits { Fits answered.judged.now.flow answered.judged.now.unit_outline }
-    ensures { IfOk result (SaysVerdict answered.judged.now answered.verdict.now) }
+    ensures { IfOk result (SaysVerdict answered.entry.judged.now answered.entry.verdict.now) }
 {
     let text = verdict_text(alloc, answered.judged, answered.verdict)?;
     let rest = rest_of(alloc, answered)?;

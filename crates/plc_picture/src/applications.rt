@@ -36,6 +36,11 @@ fn plain_column(execution: &Execution, map: Map) -> Column
     }
 }
 
+/// The number of a field at a place. No file has so many fields that a number would be too great.
+fn number_of(place: usize) -> u16 {
+    place.min(65_535) as u16
+}
+
 /// A field of the struct, which has marks.
 fn field_column(execution: &Execution, field: FieldId) -> Column
     requires { length execution.now.written < 65536 }
@@ -58,10 +63,10 @@ pub(crate) fn columns_of(
 {
     let mut columns = Items::new(alloc);
     for k in 0..file.fields.len() {
-        columns.push(field_column(execution, FieldId(k as u16)))?;
+        columns.push(field_column(execution, FieldId(number_of(k))))?;
     }
     for g in 0..file.ghosts.len() {
-        columns.push(plain_column(execution, Map::Ghost(g as u16)))?;
+        columns.push(plain_column(execution, Map::Ghost(number_of(g))))?;
     }
     columns.push(plain_column(execution, Map::Retired))?;
     Ok(columns)

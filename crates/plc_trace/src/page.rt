@@ -34,7 +34,7 @@ fn ended_page(
 ) -> Result<Page, NoMemory>
     requires fits { FlowFits recorded.judged.now.flow }
     requires within { IsWithinLimits recorded.schedule.now }
-    ensures { IfOk result (ShowsEnd recorded.judged.now (meanings reclaimer.old) recorded.schedule.now) }
+    ensures { IfOk result (ShowsEnd recorded.entry.judged.now (meanings reclaimer.old) recorded.entry.schedule.now) }
 {
     let answer = answer_schedule(alloc, recorded.judged, recorded.schedule, reclaimer)?;
     let (mut rest, here) = trace(alloc, recorded, reclaimer)?;
@@ -77,7 +77,7 @@ fn scheduled_page(
     reclaimer: &mut Box<dyn Reclaimer>,
 ) -> Result<Page, NoMemory>
     requires fits { FlowFits judged.now.flow }
-    ensures { IfOk result (ShowsSchedule judged.now (meanings reclaimer.old) pair.schedule.now) }
+    ensures { IfOk result (ShowsSchedule judged.now (meanings reclaimer.old) pair.entry.schedule.now) }
 {
     let schedule = match read_schedule(alloc, pair.schedule) {
         Ok(schedule) => schedule,
@@ -89,21 +89,6 @@ fn scheduled_page(
         schedule: &schedule,
     };
     ended_page(alloc, pair, recorded, reclaimer)
-}
-
-/// The page of a schedule for a file that was loaded, which ends here.
-fn loaded_page(
-    alloc: Global,
-    pair: Pair,
-    judged: Judged,
-    reclaimer: &mut Box<dyn Reclaimer>,
-) -> Result<Page, NoMemory>
-    requires fits { FlowFits judged.flow }
-    ensures { IfOk result (ShowsSchedule judged (meanings reclaimer.old) pair.schedule.now) }
-{
-    let page = scheduled_page(alloc, pair, &judged, reclaimer);
-    drop(judged);
-    page
 }
 
 /// The page of a recorded run, by the bytes of a file and of a schedule: the answer of `replay` under this reclaimer,
@@ -125,7 +110,7 @@ pub fn replay_page(
         schedule: second,
     };
     match load(alloc, bytes) {
-        Ok(judged) => loaded_page(alloc, pair, judged, reclaimer),
+        Ok(judged) => scheduled_page(alloc, pair, &judged, reclaimer),
         Err(LoadFault::Memory) => Err(NoMemory),
         Err(fault) => refused_page(alloc, name, bytes, &fault),
     }

@@ -1,10 +1,10 @@
 // The lines of a schedule, taken one by one as `replay` takes them, with a row for each that is shown. A line that
 // isn't shown is taken alike, so that memory and history are those of the whole run.
-ghost use Rattle.std.specs.Prelude.{◌+◌, ◌<◌, ◌≤◌, length, IfOk};
+ghost use Rattle.std.specs.Prelude.{◌+◌, ◌≤◌, length, IfOk};
 ghost use Rattle.plc_flow.specs.WellFormed.{FlowFits};
 ghost use Rattle.plc_run.specs.Position.{IsOfRun};
 ghost use Rattle.plc_sched.specs.Schedules.{line_limit};
-ghost use Rattle.plc_trace.specs.Going.{GoesOnFrom, GoesOn};
+ghost use Rattle.plc_trace.specs.Going.{GoesOnFrom, MayTake, GoesOn};
 
 use crate::ending::{Reached, push_ending, push_unknown};
 use crate::log::Log;
@@ -55,10 +55,8 @@ fn take_shown(
     m: &Move,
     lines: u32,
 ) -> Result<Option<End>, NoMemory>
-    requires fits { FlowFits traced.now.flow.now }
-    requires few { lines < line_limit }
-    requires stands { GoesOnFrom traced.now lines walk.old.config }
-    ensures stands { IfOk result (λ r. GoesOn traced.now (lines + 1) r walk.new.config) }
+    requires { MayTake traced.now lines walk.old.config }
+    ensures { IfOk result (λ r. GoesOn traced.now (lines + 1) r walk.new.config) }
 {
     let heard = walk.config.history().len();
     let taken = taken_by(traced, &walk.config, entry);
@@ -111,10 +109,8 @@ fn take_told(
     entry: &Entry,
     lines: u32,
 ) -> Result<Option<End>, NoMemory>
-    requires fits { FlowFits traced.now.flow.now }
-    requires few { lines < line_limit }
-    requires stands { GoesOnFrom traced.now lines walk.old.config }
-    ensures stands { IfOk result (λ r. GoesOn traced.now (lines + 1) r walk.new.config) }
+    requires { MayTake traced.now lines walk.old.config }
+    ensures { IfOk result (λ r. GoesOn traced.now (lines + 1) r walk.new.config) }
 {
     let line = lines + 1;
     match ask(walk.log.rows.alloc(), traced.flow, walk.reclaimer, entry)? {
@@ -143,10 +139,8 @@ fn take_one(
     lines: u32,
     shown: bool,
 ) -> Result<Option<End>, NoMemory>
-    requires fits { FlowFits traced.now.flow.now }
-    requires few { lines < line_limit }
-    requires stands { GoesOnFrom traced.now lines walk.old.config }
-    ensures stands { IfOk result (λ r. GoesOn traced.now (lines + 1) r walk.new.config) }
+    requires { MayTake traced.now lines walk.old.config }
+    ensures { IfOk result (λ r. GoesOn traced.now (lines + 1) r walk.new.config) }
 {
     if shown {
         return take_told(traced, walk, entry, lines);

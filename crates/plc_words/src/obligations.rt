@@ -14,6 +14,9 @@ use plc_setting::{Obligation, count_at, is_labelled, stands_at};
 use plc_texts::{push, push_bytes, push_numbered};
 use std::alloc::AllocError;
 
+/// What writing a part of a sentence answers: nothing, or that memory runs out.
+type Written = Result<(), AllocError>;
+
 /// What sentences are about.
 #[derive(Clone, Copy)]
 struct Subject<'a> {
@@ -24,7 +27,7 @@ struct Subject<'a> {
 }
 
 /// The line of a clause, and its text.
-fn push_placed(out: &mut Vec<u8>, about: &Subject, id: ClauseId) -> Result<(), AllocError> {
+fn push_placed(out: &mut Vec<u8>, about: &Subject, id: ClauseId) -> Written {
     match about.clauses.placed(id) {
         Some(placed) => {
             push_numbered(out, " in line ", placed.line)?;
@@ -42,7 +45,7 @@ fn push_clause(
     about: &Subject,
     operation: &[u8],
     id: Option<ClauseId>,
-) -> Result<(), AllocError> {
+) -> Written {
     match id {
         None => push(out, "a clause"),
         Some(ClauseId::Invariant(_)) => push(out, "the invariant"),
@@ -58,19 +61,14 @@ fn push_clause(
 }
 
 /// An invariant that may be wrong where a run begins.
-fn push_start(out: &mut Vec<u8>, about: &Subject, id: Option<ClauseId>) -> Result<(), AllocError> {
+fn push_start(out: &mut Vec<u8>, about: &Subject, id: Option<ClauseId>) -> Written {
     push(out, "where a run begins, ")?;
     push_clause(out, about, &[], id)?;
     push(out, " may be wrong")
 }
 
 /// A clause that may be wrong where an operation begins.
-fn push_enter(
-    out: &mut Vec<u8>,
-    about: &Subject,
-    op: OpId,
-    id: Option<ClauseId>,
-) -> Result<(), AllocError> {
+fn push_enter(out: &mut Vec<u8>, about: &Subject, op: OpId, id: Option<ClauseId>) -> Written {
     let operation = operation_name(&about.flow.file, op);
     push(out, "where ")?;
     push_bytes(out, operation)?;
@@ -117,12 +115,7 @@ fn missing(about: &Subject, from: PointId, stands: bool) -> Option<&'static str>
 }
 
 /// What is missing at the point before a step, if something is.
-fn push_before(
-    out: &mut Vec<u8>,
-    about: &Subject,
-    from: PointId,
-    stands: bool,
-) -> Result<(), AllocError> {
+fn push_before(out: &mut Vec<u8>, about: &Subject, from: PointId, stands: bool) -> Written {
     let Some(words) = missing(about, from, stands) else {
         return Ok(());
     };
@@ -136,12 +129,7 @@ fn push_before(
 }
 
 /// That a step may break a clause of its own thread, or doesn't lead to it.
-fn push_own(
-    out: &mut Vec<u8>,
-    about: &Subject,
-    step: &Step,
-    id: Option<ClauseId>,
-) -> Result<(), AllocError> {
+fn push_own(out: &mut Vec<u8>, about: &Subject, step: &Step, id: Option<ClauseId>) -> Written {
     let stands = stands_before(about, step.from, id);
     push(
         out,
@@ -156,12 +144,7 @@ fn push_own(
 }
 
 /// That a step may break a clause of another thread, which stands at a point.
-fn push_other(
-    out: &mut Vec<u8>,
-    about: &Subject,
-    id: Option<ClauseId>,
-    point: PointId,
-) -> Result<(), AllocError> {
+fn push_other(out: &mut Vec<u8>, about: &Subject, id: Option<ClauseId>, point: PointId) -> Written {
     push(out, " of another thread may break ")?;
     push_clause(out, about, operation_of(about.flow, point), id)?;
     push(out, ", for a thread that stands here: ")?;
@@ -169,12 +152,7 @@ fn push_other(
 }
 
 /// That a step makes a claim by a primitive, of which the outline doesn't say why it is true.
-fn push_claim(
-    out: &mut Vec<u8>,
-    about: &Subject,
-    step: &Step,
-    prim: u16,
-) -> Result<(), AllocError> {
+fn push_claim(out: &mut Vec<u8>, about: &Subject, step: &Step, prim: u16) -> Written {
     push(out, " claims `")?;
     if let Some(prim) = step.prims.get(prim as usize) {
         push_primitive(
@@ -193,12 +171,7 @@ fn push_claim(
 
 /// The sentence on an obligation of a step: the step with its line and what it does, primitives between backquotes,
 /// and then what may be wrong of it.
-fn push_of_step(
-    out: &mut Vec<u8>,
-    about: &Subject,
-    number: StepId,
-    o: &Obligation,
-) -> Result<(), AllocError> {
+fn push_of_step(out: &mut Vec<u8>, about: &Subject, number: StepId, o: &Obligation) -> Written {
     let Some(step) = about.flow.steps.get(number.0 as usize) else {
         return Ok(());
     };

@@ -6,6 +6,7 @@
 //   place where the sides of an `if` or of a `choose` come together;
 // - no step leads to the point after a `return` or a `break`, and after a loop that has no `break`;
 // - a step without primitives and of an earlier line leaves the end of a block, which begins in that line.
+use crate::clauses::number;
 use crate::primitives::push_primitive;
 use crate::steps::{count_leaving, first_steps, locals_of_step};
 use plc_base::{FuncId, OpId, PointId};
@@ -35,7 +36,7 @@ struct Arrivals {
 pub(crate) fn operation_of(flow: &Flow, point: PointId) -> &[u8] {
     for (op, gate) in flow.gates.as_slice().iter().enumerate() {
         if has_point(gate, point.0) {
-            return operation_name(&flow.file, OpId(op as u16));
+            return operation_name(&flow.file, OpId(number(op)));
         }
     }
     &[]
@@ -44,7 +45,7 @@ pub(crate) fn operation_of(flow: &Flow, point: PointId) -> &[u8] {
 /// Words with the name of an operation.
 fn push_of(out: &mut Vec<u8>, words: &str, flow: &Flow, op: usize) -> Result<bool, AllocError> {
     push(out, words)?;
-    push_bytes(out, operation_name(&flow.file, OpId(op as u16)))?;
+    push_bytes(out, operation_name(&flow.file, OpId(number(op))))?;
     Ok(true)
 }
 
@@ -71,7 +72,7 @@ fn push_labels(
     for (k, at) in flow.labels.as_slice().iter().enumerate() {
         if at.0 == point.0 {
             push(out, if named { ", label " } else { "label " })?;
-            push_bytes(out, label_name(&flow.file, k as u16))?;
+            push_bytes(out, label_name(&flow.file, number(k)))?;
             named = true;
         }
     }
