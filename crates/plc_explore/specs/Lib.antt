@@ -1,2 +1,0 @@
--- what contracts say for the crates above alone
-pub mod Running

@@ -16,7 +16,6 @@ mod plan;
 mod pointers;
 mod program;
 mod random;
-mod running;
 mod shortening;
 mod trail;
 mod walker;

@@ -6,8 +6,8 @@ ghost use Rattle.plc_cli.specs.Statuses.{holds, fails, refused};
 ghost use Rattle.plc_hunting.specs.Texts.{run_text};
 ghost use Rattle.plc_hunting.specs.Trails.{TrailRaces};
 ghost use Rattle.plc_base.specs.Limits.{largest_file};
+ghost use Rattle.plc_flow.specs.StepsByPoint.{IsIndexOf, first_points};
 ghost use Rattle.plc_flow.specs.WellFormed.{FlowFits};
-ghost use Rattle.plc_explore.specs.Running.{IsIndexed};
 ghost use Rattle.plc_hunting.specs.Racing.{IsHuntedBy, IsHuntUnder, IsHuntedFreely, IsFreeHunt};
 
 use crate::account::push_account;
@@ -58,7 +58,8 @@ fn shortened(
     frees: &mut Frees,
     trail: Option<Trail>,
 ) -> Result<(Option<Trail>, Option<Account>), NoMemory>
-    requires { IsIndexed program.now }
+    requires fits { FlowFits program.now.flow.now }
+    requires indexed { IsIndexOf (first_points program.now.flow.now) program.now.steps.now }
 {
     let Some(trail) = trail else {
         return Ok((None, None));
@@ -75,7 +76,8 @@ fn hunt_program(
     frees: &mut Frees,
     seed: u32,
 ) -> Result<Quarry, NoMemory>
-    requires { IsIndexed program.now }
+    requires fits { FlowFits program.now.flow.now }
+    requires indexed { IsIndexOf (first_points program.now.flow.now) program.now.steps.now }
 {
     let mut random = Random::new(u64::from(seed));
     let explored = explore(alloc, program, frees, &mut random, MOST_MOVES)?;

@@ -31,9 +31,15 @@ pub fn schedule_races(
         Err(SchedFault::Memory) => return Err(NoMemory),
         Err(_) => return Ok(false),
     };
-    let (flow, observer) = (&judged.flow, &judged.observer);
     let schemes = judged.schemes.as_slice();
-    match replay(alloc, flow, observer, schemes, &schedule, reclaimer)? {
+    match replay(
+        alloc,
+        &judged.flow,
+        &judged.observer,
+        schemes,
+        &schedule,
+        reclaimer,
+    )? {
         End::Race { .. } => Ok(true),
         _ => Ok(false),
     }

@@ -1,5 +1,7 @@
-// A lock-free stack in two spellings: hazard pointers protect its nodes, or epochs do. Each is a list of pieces, of
-// which most stand in both: they differ in their observer and in how a node is taken.
+//! A lock-free stack in two spellings, for the tests of several crates: hazard pointers protect its nodes, or epochs
+//! do. Each is a list of pieces, of which most stand in both: they differ in their observer and in how a node is
+//! taken.
+#![tactic(auto)]
 
 const NODES: &str = "struct Node { ptr next; data val; }
 shared Top;
