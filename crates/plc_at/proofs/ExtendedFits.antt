@@ -16,7 +16,7 @@ use Rattle.plc_logic.specs.Fit.{pointer_sort, LiteralFits, in_reach_of, ClauseFi
 use Rattle.plc_flow.specs.declared.flow.Flow.{Flow}
 use Rattle.plc_auto.specs.declared.observer.Observer.{Observer}
 use Rattle.plc_type.specs.declared.env.Env.{Env}
-use Rattle.plc_at.specs.declared.located.Located.{Located}
+use Rattle.plc_at.specs.declared.claim.LocationClaim.{LocationClaim}
 use Rattle.plc_at.specs.Claims.{ClaimFits, locals_by_label}
 use Rattle.plc_at.specs.Extended.{Need, Nothing, Unretired, RetiredNode, Unlocated}
 use Rattle.plc_at.specs.Extended.{need_of, claimed_place, null_or_retired, item_at, items_for}
@@ -41,7 +41,7 @@ clause_fits file ls place is_so at =
     }
 
 -- the label stands in the operation
-label_fits : (flow : Flow) (o : Observer) (c : Located) (n : ℕ) → ClaimFits flow c
+label_fits : (flow : Flow) (o : Observer) (c : LocationClaim) (n : ℕ) → ClaimFits flow c
     → op_of_label (labels_by_op flow.file.ops) c.label ≡ Some n → LabelsFit flow.file (c.label ∷ []) n
 label_fits flow o c n fits stands =
     let IsKnown = λ (l : ℕ). l < length flow.file.labels in
@@ -52,7 +52,7 @@ label_fits flow o c n fits stands =
       within = All-cons StandsThere c.label [] stands (All-nil StandsThere);
     }
 
-item_fits : (flow : Flow) (o : Observer) (c : Located) (is_so : Bool) → ClaimFits flow c
+item_fits : (flow : Flow) (o : Observer) (c : LocationClaim) (is_so : Bool) → ClaimFits flow c
     → ItemFits flow.file (item_at flow c is_so)
 item_fits flow o c is_so fits =
     let s = in_operation flow c.label c.local fits.local in
@@ -67,7 +67,7 @@ item_fits flow o c is_so fits =
     )
 
 -- what a claim adds
-needed_fit : (flow : Flow) (o : Observer) (c : Located) (need : Need) → ClaimFits flow c
+needed_fit : (flow : Flow) (o : Observer) (c : LocationClaim) (need : Need) → ClaimFits flow c
     → All (ItemFits flow.file) (items_for flow c need)
 needed_fit flow o c Nothing fits = All-nil (ItemFits flow.file)
 needed_fit flow o c Unretired fits =
@@ -79,7 +79,7 @@ needed_fit flow o c RetiredNode fits =
 needed_fit flow o c Unlocated fits = All-nil (ItemFits flow.file)
 
 -- what all claims add
-added_fit : (flow : Flow) (o : Observer) (typing : List Env) (claims : List Located) → All (ClaimFits flow) claims
+added_fit : (flow : Flow) (o : Observer) (typing : List Env) (claims : List LocationClaim) → All (ClaimFits flow) claims
     → All (ItemFits flow.file) (added_items flow o typing claims)
 added_fit flow o typing [] fit = All-nil (ItemFits flow.file)
 added_fit flow o typing (c ∷ cs) fit =
@@ -89,7 +89,7 @@ added_fit flow o typing (c ∷ cs) fit =
     (added_fit flow o typing cs (All-tail (ClaimFits flow) c cs fit))
 
 -- the outline with them
-pub extended_fits : (flow : Flow) (o : Observer) (typing : List Env) (claims : List Located) (outline : Outline)
+pub extended_fits : (flow : Flow) (o : Observer) (typing : List Env) (claims : List LocationClaim) (outline : Outline)
     → OutlineFits flow.file outline → All (ClaimFits flow) claims
     → length outline.items + length (added_items flow o typing claims) ≤ most_items
     → OutlineFits flow.file (extended flow o typing claims outline)

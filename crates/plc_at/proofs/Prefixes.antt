@@ -5,7 +5,7 @@ use Rattle.std.proofs.lemmas.List.{take-append-drop}
 use Rattle.plc_lex.specs.declared.token.TokenKind.{TokenKind}
 use Rattle.plc_flow.specs.declared.flow.Flow.{Flow}
 use Rattle.plc_auto.specs.declared.observer.Observer.{Observer}
-use Rattle.plc_at.specs.declared.located.Located.{Located}
+use Rattle.plc_at.specs.declared.claim.LocationClaim.{LocationClaim}
 use Rattle.plc_at.specs.Claims.{SpellClaims, BeginClaims, ClaimsStopAt}
 
 -- what is taken twice is taken once
@@ -31,7 +31,7 @@ begin_less flow o ts n k le s =
     begin_front flow o (take n ts) (drop n (take k ts)) (subst (λ ts. BeginClaims flow o ts) parts s)
 
 -- tokens that spell claims begin them at each place
-pub spelled_begin : (flow : Flow) (o : Observer) (ts : List TokenKind) (n : ℕ) (claims : List Located)
+pub spelled_begin : (flow : Flow) (o : Observer) (ts : List TokenKind) (n : ℕ) (claims : List LocationClaim)
     → SpellClaims flow o ts claims → BeginClaims flow o (take n ts)
 spelled_begin flow o ts n claims s =
     (drop n ts, claims, subst (λ ts. SpellClaims flow o ts claims) (sym (take-append-drop n ts)) s)
@@ -52,7 +52,7 @@ stops_at_one flow o ts a b s t =
     omega arith
 
 -- tokens that stop spell no claims
-pub stops_spell_none : (flow : Flow) (o : Observer) (ts : List TokenKind) (a : ℕ) (claims : List Located)
+pub stops_spell_none : (flow : Flow) (o : Observer) (ts : List TokenKind) (a : ℕ) (claims : List LocationClaim)
     → ClaimsStopAt flow o ts a → SpellClaims flow o ts claims → ⊥
 stops_spell_none flow o ts a claims s c =
     let inside : a < length ts → ⊥ = λ h. s.stops h (spelled_begin flow o ts (a + 1) claims c) in

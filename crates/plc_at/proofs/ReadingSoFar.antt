@@ -15,7 +15,7 @@ use Rattle.plc_lang.specs.Names.{label_name, pointer_name}
 use Rattle.plc_flow.specs.declared.flow.Flow.{Flow}
 use Rattle.plc_auto.specs.declared.observer.Observer.{Observer}
 use Rattle.plc_auto.specs.Table.{count_of}
-use Rattle.plc_at.specs.declared.located.Located.{Located}
+use Rattle.plc_at.specs.declared.claim.LocationClaim.{LocationClaim}
 use Rattle.plc_at.specs.declared.reading.Due.{Due}
 use Rattle.plc_at.specs.declared.reading.Due.TheVariants as due
 use Rattle.plc_at.specs.Claims.{locals_by_label, Written, NamesWhatIsThere, before_dot, dot_then, located}
@@ -29,9 +29,9 @@ use Rattle.plc_at.specs.Reading.{HasSecondPart, DueFits, ended, Advances}
 no_claims : (flow : Flow) (o : Observer) → SpellClaims flow o [] []
 no_claims flow o = record { written = []; there = All-nil (NamesWhatIsThere flow o); tokens = refl; claims_are = refl }
 
-closed : (flow : Flow) (o : Observer) (c : Located) → EndClaim flow o c (Symbol CloseBrace ∷ []) (c ∷ [])
+closed : (flow : Flow) (o : Observer) (c : LocationClaim) → EndClaim flow o c (Symbol CloseBrace ∷ []) (c ∷ [])
 closed flow o c = record {
-  places = [];
+  locations = [];
   are_there = All-nil (λ l. l < count_of o);
   written = [];
   there = All-nil (NamesWhatIsThere flow o);
@@ -45,22 +45,22 @@ named : (flow : Flow) (o : Observer) (l v : ℕ) → IsPointerAt flow l v
     ∷ Name (pointer_name flow.file (locals_by_label flow l) v) ∷ Symbol OpenBrace ∷ Symbol CloseBrace ∷ [])
     (record { label = l; local = v; set = 0 } ∷ [])
 named flow o l v p =
-    let c : Written = record { label = l; local = v; places = [] } in
+    let c : Written = record { label = l; local = v; locations = [] } in
     let none = All-nil (λ l. l < count_of o) in
     record {
       written = c ∷ [];
       there = All-cons (NamesWhatIsThere flow o) c []
-          (record { label = p.label_there; local = p.local_there; places = none }) (All-nil (NamesWhatIsThere flow o));
+          (record { label = p.label_there; local = p.local_there; locations = none }) (All-nil (NamesWhatIsThere flow o));
       tokens = refl;
       claims_are = refl;
     }
 
 -- a claim that ends with a name of two parts
-parted : (flow : Flow) (o : Observer) (c : Located) (l : ℕ) (h : HasSecondPart o l)
+parted : (flow : Flow) (o : Observer) (c : LocationClaim) (l : ℕ) (h : HasSecondPart o l)
     → EndClaim flow o c (Name (before_dot (location_name o l)) ∷ Symbol Dot ∷ Name h.second ∷ Symbol CloseBrace ∷ [])
     (with_location c l ∷ [])
 parted flow o c l h = record {
-  places = l ∷ [];
+  locations = l ∷ [];
   are_there = All-cons (λ l. l < count_of o) l [] h.there (All-nil (λ l. l < count_of o));
   written = [];
   there = All-nil (NamesWhatIsThere flow o);
@@ -91,7 +91,7 @@ completes flow o (due.Opening c) f = (
   ),
 )
 completes flow o (due.Location c) f = (Symbol CloseBrace ∷ [], (c ∷ [], closed flow o c))
-completes flow o (due.Point c l) f =
+completes flow o (due.Dot c l) f =
     (Symbol Dot ∷ Name f.1.second ∷ Symbol CloseBrace ∷ [], (with_location c l ∷ [], parted flow o c l f.1))
 completes flow o (due.Part c l) f =
     (Name f.1.second ∷ Symbol CloseBrace ∷ [], (with_location c l ∷ [], parted flow o c l f.1))
@@ -111,12 +111,12 @@ kinds_count [] = refl
 kinds_count (t ∷ tokens) = ap suc (kinds_count tokens)
 
 -- so far these claims are read, and this is due
-pub record ReadTo (flow : Flow) (o : Observer) (ts : List TokenKind) (i : ℕ) (d : Due) (claims : List Located) : Type 0
+pub record ReadTo (flow : Flow) (o : Observer) (ts : List TokenKind) (i : ℕ) (d : Due) (claims : List LocationClaim) : Type 0
   where
     pub fits : DueFits flow o d
-    pub spells : (rest : List TokenKind) (more : List Located) → MayFollow flow o d rest more
+    pub spells : (rest : List TokenKind) (more : List LocationClaim) → MayFollow flow o d rest more
         → SpellClaims flow o (take i ts ++ rest) (claims ++ more)
-    pub goes_on : (rest : List TokenKind) (all : List Located) → SpellClaims flow o (take i ts ++ rest) all
+    pub goes_on : (rest : List TokenKind) (all : List LocationClaim) → SpellClaims flow o (take i ts ++ rest) all
         → MayGoOn flow o d rest
 
 pub read_none : (flow : Flow) (o : Observer) (ts : List TokenKind) → ReadTo flow o ts 0 (due.Claim None) []
@@ -135,7 +135,7 @@ take_more ts i t rest e =
     go (x ∷ xs) (suc i) e = ap (λ y. x ∷ y) (go xs i e)
 
 pub read_more : (flow : Flow) (o : Observer) (ts : List TokenKind) (i : ℕ) (d next : Due) (t : TokenKind)
-    (claims : List Located) → slice_get ts i ≡ Some t → ReadTo flow o ts i d claims → Advances flow o d t next
+    (claims : List LocationClaim) → slice_get ts i ≡ Some t → ReadTo flow o ts i d claims → Advances flow o d t next
     → ReadTo flow o ts (i + 1) next (claims ++ ended next)
 read_more flow o ts i d next t claims e r a = record {
   fits = a.fits;
@@ -148,7 +148,7 @@ read_more flow o ts i d next t claims e r a = record {
 }
 
 -- what is read begins claims
-pub read_begin : (flow : Flow) (o : Observer) (ts : List TokenKind) (i : ℕ) (d : Due) (claims : List Located)
+pub read_begin : (flow : Flow) (o : Observer) (ts : List TokenKind) (i : ℕ) (d : Due) (claims : List LocationClaim)
     → ReadTo flow o ts i d claims → BeginClaims flow o (take i ts)
 read_begin flow o ts i d claims r =
     let c = completes flow o d r.fits in
@@ -156,7 +156,7 @@ read_begin flow o ts i d claims r =
 
 -- a token that can't follow is the place of the fault
 pub read_stops : (flow : Flow) (o : Observer) (ts : List TokenKind) (i : ℕ) (d : Due) (t : TokenKind)
-    (claims : List Located) → slice_get ts i ≡ Some t → ReadTo flow o ts i d claims
+    (claims : List LocationClaim) → slice_get ts i ≡ Some t → ReadTo flow o ts i d claims
     → ((rest : List TokenKind) → MayGoOn flow o d (t ∷ rest) → ⊥) → ClaimsStopAt flow o ts i
 read_stops flow o ts i d t claims e r none =
     let inside = slice_get_within ts i t e in
@@ -172,7 +172,7 @@ no_more : (ts : List TokenKind) → ts ++ [] ≡ ts
 no_more [] = refl
 no_more (t ∷ ts) = ap (λ x. t ∷ x) (no_more ts)
 
-no_more_claims : (cs : List Located) → cs ++ [] ≡ cs
+no_more_claims : (cs : List LocationClaim) → cs ++ [] ≡ cs
 no_more_claims [] = refl
 no_more_claims (c ∷ cs) = ap (λ x. c ∷ x) (no_more_claims cs)
 
@@ -180,8 +180,8 @@ whole : (ts : List TokenKind) (i : ℕ) → length ts ≤ i → take i ts ++ [] 
 whole ts i e = ap (λ x. x ++ []) (take_all i ts e) ∙ no_more ts
 
 -- where something else than a claim is due, the claims haven't ended
-pub read_unfinished : (flow : Flow) (o : Observer) (ts : List TokenKind) (i n : ℕ) (d : Due) (claims : List Located)
-    → n ≡ length ts → length ts ≤ i → ReadTo flow o ts i d claims → ((last : Option Located) → d ≡ due.Claim last → ⊥)
+pub read_unfinished : (flow : Flow) (o : Observer) (ts : List TokenKind) (i n : ℕ) (d : Due) (claims : List LocationClaim)
+    → n ≡ length ts → length ts ≤ i → ReadTo flow o ts i d claims → ((last : Option LocationClaim) → d ≡ due.Claim last → ⊥)
     → ClaimsStopAt flow o ts n
 read_unfinished flow o ts i n d claims s e r h =
     let same : take i ts ≡ take n ts = take_all i ts e ∙ sym (take_all n ts (omega arith)) in
@@ -194,14 +194,14 @@ read_unfinished flow o ts i n d claims s e r h =
     }
 
 -- and where a claim is due, they have
-pub read_all : (flow : Flow) (o : Observer) (ts : List TokenKind) (i : ℕ) (last : Option Located)
-    (claims : List Located) → length ts ≤ i → ReadTo flow o ts i (due.Claim last) claims → SpellClaims flow o ts claims
+pub read_all : (flow : Flow) (o : Observer) (ts : List TokenKind) (i : ℕ) (last : Option LocationClaim)
+    (claims : List LocationClaim) → length ts ≤ i → ReadTo flow o ts i (due.Claim last) claims → SpellClaims flow o ts claims
 read_all flow o ts i last claims e r =
     subst (λ x. SpellClaims flow o x claims) (whole ts i e)
     (subst (λ x. SpellClaims flow o (take i ts ++ []) x) (no_more_claims claims) (r.spells [] [] (no_claims flow o)))
 
 -- claims that are spelled fit
-pub spelled_fit : (flow : Flow) (o : Observer) (ts : List TokenKind) (claims : List Located)
+pub spelled_fit : (flow : Flow) (o : Observer) (ts : List TokenKind) (claims : List LocationClaim)
     → SpellClaims flow o ts claims → All (ClaimFits flow) claims
 spelled_fit flow o ts claims s =
     subst (λ x. All (ClaimFits flow) x) (sym s.claims_are)

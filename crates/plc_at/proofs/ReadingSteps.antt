@@ -13,7 +13,7 @@ use Rattle.plc_lang.specs.Names.{label_name, pointer_name}
 use Rattle.plc_flow.specs.declared.flow.Flow.{Flow}
 use Rattle.plc_auto.specs.declared.observer.Observer.{Observer}
 use Rattle.plc_auto.specs.Table.{count_of}
-use Rattle.plc_at.specs.declared.located.Located.{Located}
+use Rattle.plc_at.specs.declared.claim.LocationClaim.{LocationClaim}
 use Rattle.plc_at.specs.declared.reading.Due.{Due}
 use Rattle.plc_at.specs.declared.reading.Due.TheVariants as due
 use Rattle.plc_at.specs.Claims.{locals_by_label, Written, NamesWhatIsThere, before_dot, after_dot, dot_then}
@@ -34,9 +34,9 @@ record FirstClaim (flow : Flow) (o : Observer) (t : TokenKind) (ts : List TokenK
   pub word : t ≡ Word At
   pub tokens : ts ≡ Name (label_name flow.file first.label)
       ∷ Name (pointer_name flow.file (locals_by_label flow first.label) first.local)
-      ∷ Symbol OpenBrace ∷ each_then (location_then o) first.places (Symbol CloseBrace ∷ claims_tokens flow o others)
+      ∷ Symbol OpenBrace ∷ each_then (location_then o) first.locations (Symbol CloseBrace ∷ claims_tokens flow o others)
 
-first_claim : (flow : Flow) (o : Observer) (t : TokenKind) (ts : List TokenKind) (claims : List Located)
+first_claim : (flow : Flow) (o : Observer) (t : TokenKind) (ts : List TokenKind) (claims : List LocationClaim)
     → SpellClaims flow o (t ∷ ts) claims → FirstClaim flow o t ts
 first_claim flow o t ts claims s = go s.written s.there s.tokens
   where
@@ -62,7 +62,7 @@ pointer_of : (flow : Flow) (o : Observer) (c : Written) → NamesWhatIsThere flo
 pointer_of flow o c n = record { label_there = n.label; local_there = n.local }
 
 -- what a claim begins with, and where one can be written
-pub claim_due : (flow : Flow) (o : Observer) (t : TokenKind) (ts : List TokenKind) (claims : List Located)
+pub claim_due : (flow : Flow) (o : Observer) (t : TokenKind) (ts : List TokenKind) (claims : List LocationClaim)
     → SpellClaims flow o (t ∷ ts) claims → (t ≡ Word At) × HasPointers flow
 claim_due flow o t ts claims s =
     let f = first_claim flow o t ts claims s in
@@ -75,7 +75,7 @@ pub record LabelDue (flow : Flow) (t : TokenKind) : Type 0 where
   pub token : t ≡ Name name
   pub is_named : IsLabelNamed flow name label
 
-pub label_due : (flow : Flow) (o : Observer) (t : TokenKind) (ts : List TokenKind) (claims : List Located)
+pub label_due : (flow : Flow) (o : Observer) (t : TokenKind) (ts : List TokenKind) (claims : List LocationClaim)
     → SpellClaims flow o (Word At ∷ t ∷ ts) claims → LabelDue flow t
 label_due flow o t ts claims s =
     let f = first_claim flow o (Word At) (t ∷ ts) claims s in
@@ -106,7 +106,7 @@ pub record LocalDue (flow : Flow) (label_text : List ℕ) (t : TokenKind) : Type
   pub token : t ≡ Name name
   pub are_named : AreNamed flow label_text name label local
 
-pub local_due : (flow : Flow) (o : Observer) (x : List ℕ) (t : TokenKind) (ts : List TokenKind) (claims : List Located)
+pub local_due : (flow : Flow) (o : Observer) (x : List ℕ) (t : TokenKind) (ts : List TokenKind) (claims : List LocationClaim)
     → SpellClaims flow o (Word At ∷ Name x ∷ t ∷ ts) claims → LocalDue flow x t
 local_due flow o x t ts claims s =
     let f = first_claim flow o (Word At) (Name x ∷ t ∷ ts) claims s in
@@ -120,22 +120,22 @@ local_due flow o x t ts claims s =
     }
 
 -- the claim of a label and a local, before any location
-abbrev pub bare : ℕ → ℕ → Located
+abbrev pub bare : ℕ → ℕ → LocationClaim
 bare label local = record { label = label; local = local; set = no_members }
 
 bare_spells : (flow : Flow) (o : Observer) (x name : List ℕ) (label local : ℕ) → AreNamed flow x name label local
-    → (ts : List TokenKind) (claims : List Located) → OpenClaim flow o (bare label local) ts claims
+    → (ts : List TokenKind) (claims : List LocationClaim) → OpenClaim flow o (bare label local) ts claims
     → SpellClaims flow o (Word At ∷ Name x ∷ Name name ∷ ts) claims
 bare_spells flow o x name label local n ts claims m =
     let e = m.tokens in
     let k = m.ends.tokens in
     let a = n.label_named in
     let b = n.local_named in
-    let c : Written = record { label = label; local = local; places = m.ends.places } in
+    let c : Written = record { label = label; local = local; locations = m.ends.locations } in
     record {
       written = c ∷ m.ends.written;
       there = All-cons (NamesWhatIsThere flow o) c m.ends.written
-          (record { label = n.there.label_there; local = n.there.local_there; places = m.ends.are_there }) m.ends.there;
+          (record { label = n.there.label_there; local = n.there.local_there; locations = m.ends.are_there }) m.ends.there;
       tokens = cc;
       claims_are = m.ends.claims_are;
     }
@@ -145,13 +145,13 @@ bare_goes_on : (flow : Flow) (o : Observer) (x name : List ℕ) (label local : �
 bare_goes_on flow o x name label local ts g =
     let f = first_claim flow o (Word At) (Name x ∷ Name name ∷ ts) g.0 g.1 in
     let e = f.tokens in (
-      with_locations (bare label local) f.first.places ∷ map located f.others,
+      with_locations (bare label local) f.first.locations ∷ map located f.others,
       record {
-        after = each_then (location_then o) f.first.places (Symbol CloseBrace ∷ claims_tokens flow o f.others);
+        after = each_then (location_then o) f.first.locations (Symbol CloseBrace ∷ claims_tokens flow o f.others);
         tokens = cc;
         ends = record {
-          places = f.first.places;
-          are_there = f.there.places;
+          locations = f.first.locations;
+          are_there = f.there.locations;
           written = f.others;
           there = f.all_there;
           tokens = refl;
@@ -171,11 +171,11 @@ local_read flow o l name label local n = record {
 
 -- ---- the opening brace
 
-pub brace_due : (flow : Flow) (o : Observer) (c : Located) (t : TokenKind) (ts : List TokenKind) (claims : List Located)
+pub brace_due : (flow : Flow) (o : Observer) (c : LocationClaim) (t : TokenKind) (ts : List TokenKind) (claims : List LocationClaim)
     → OpenClaim flow o c (t ∷ ts) claims → t ≡ Symbol OpenBrace
 brace_due flow o c t ts claims m = (let e = m.tokens in cc)
 
-pub brace_read : (flow : Flow) (o : Observer) (c : Located) → ClaimFits flow c
+pub brace_read : (flow : Flow) (o : Observer) (c : LocationClaim) → ClaimFits flow c
     → Advances flow o (due.Opening c) (Symbol OpenBrace) (due.Location c)
 brace_read flow o c f = record {
   fits = f;
@@ -189,14 +189,14 @@ brace_read flow o c f = record {
 -- ---- within braces
 
 -- a claim ends with more locations and then more claims
-ends_so : (flow : Flow) (o : Observer) (c : Located) (places : List ℕ) (written : List Written)
-    → All (λ l. l < count_of o) places → All (NamesWhatIsThere flow o) written → (ts : List TokenKind)
-    → ts ≡ each_then (location_then o) places (Symbol CloseBrace ∷ claims_tokens flow o written)
+ends_so : (flow : Flow) (o : Observer) (c : LocationClaim) (locations : List ℕ) (written : List Written)
+    → All (λ l. l < count_of o) locations → All (NamesWhatIsThere flow o) written → (ts : List TokenKind)
+    → ts ≡ each_then (location_then o) locations (Symbol CloseBrace ∷ claims_tokens flow o written)
     → MayGoOn flow o (due.Location c) ts
-ends_so flow o c places written a b ts e = (
-  with_locations c places ∷ map located written,
+ends_so flow o c locations written a b ts e = (
+  with_locations c locations ∷ map located written,
   record {
-    places = places;
+    locations = locations;
     are_there = a;
     written = written;
     there = b;
@@ -205,19 +205,19 @@ ends_so flow o c places written a b ts e = (
   },
 )
 
-pub close_read : (flow : Flow) (o : Observer) (c : Located)
+pub close_read : (flow : Flow) (o : Observer) (c : LocationClaim)
     → Advances flow o (due.Location c) (Symbol CloseBrace) (due.Claim (Some c))
 close_read flow o c = record {
   fits = tt;
   spells = λ ts claims m. record {
-    places = [];
+    locations = [];
     are_there = All-nil (λ l. l < count_of o);
     written = m.written;
     there = m.there;
     tokens = ap (λ x. Symbol CloseBrace ∷ x) m.tokens;
     claims_are = ap (λ x. c ∷ x) m.claims_are;
   };
-  goes_on = λ ts g. go ts g.1.written g.1.there g.1.places g.1.tokens;
+  goes_on = λ ts g. go ts g.1.written g.1.there g.1.locations g.1.tokens;
 }
   where
     go : (ts : List TokenKind) (ws : List Written) → All (NamesWhatIsThere flow o) ws → (ps : List ℕ)
@@ -231,9 +231,9 @@ pub data PlaceDue (o : Observer) (t : TokenKind) : Type 0 where
   closes : t ≡ Symbol CloseBrace → PlaceDue o t
   names : (l : ℕ) → l < count_of o → t ≡ Name (before_dot (location_name o l)) → PlaceDue o t
 
-pub place_due : (flow : Flow) (o : Observer) (c : Located) (t : TokenKind) (ts : List TokenKind) (claims : List Located)
+pub location_due : (flow : Flow) (o : Observer) (c : LocationClaim) (t : TokenKind) (ts : List TokenKind) (claims : List LocationClaim)
     → EndClaim flow o c (t ∷ ts) claims → PlaceDue o t
-place_due flow o c t ts claims m = go m.places m.are_there m.tokens
+location_due flow o c t ts claims m = go m.locations m.are_there m.tokens
   where
     go : (ps : List ℕ) → All (λ l. l < count_of o) ps
         → t ∷ ts ≡ each_then (location_then o) ps (Symbol CloseBrace ∷ claims_tokens flow o m.written) → PlaceDue o t
@@ -252,9 +252,9 @@ record FirstLocation (flow : Flow) (o : Observer) (name : List ℕ) (ts : List T
   pub tokens : ts ≡ dot_then (after_dot (location_name o first))
       (each_then (location_then o) others (Symbol CloseBrace ∷ claims_tokens flow o written))
 
-first_location : (flow : Flow) (o : Observer) (c : Located) (name : List ℕ) (ts : List TokenKind)
-    (claims : List Located) → EndClaim flow o c (Name name ∷ ts) claims → FirstLocation flow o name ts
-first_location flow o c name ts claims m = go m.places m.are_there m.tokens
+first_location : (flow : Flow) (o : Observer) (c : LocationClaim) (name : List ℕ) (ts : List TokenKind)
+    (claims : List LocationClaim) → EndClaim flow o c (Name name ∷ ts) claims → FirstLocation flow o name ts
+first_location flow o c name ts claims m = go m.locations m.are_there m.tokens
   where
     go : (ps : List ℕ) → All (λ l. l < count_of o) ps
         → Name name ∷ ts ≡ each_then (location_then o) ps (Symbol CloseBrace ∷ claims_tokens flow o m.written)
@@ -272,7 +272,7 @@ first_location flow o c name ts claims m = go m.places m.are_there m.tokens
     }
 
 -- a name of one part
-pub whole_read : (flow : Flow) (o : Observer) (c : Located) (name : List ℕ) (l : ℕ) → ClaimFits flow c
+pub whole_read : (flow : Flow) (o : Observer) (c : LocationClaim) (name : List ℕ) (l : ℕ) → ClaimFits flow c
     → BeginsWith o name l → is_some (after_dot (location_name o l)) ≡ false
     → Advances flow o (due.Location c) (Name name) (due.Location (with_location c l))
 whole_read flow o c name l f b none = record {
@@ -282,8 +282,8 @@ whole_read flow o c name l f b none = record {
       let n = b.begins in
       let e = no_part (after_dot (location_name o l)) none in
       record {
-        places = l ∷ m.places;
-        are_there = All-cons (λ l. l < count_of o) l m.places b.there m.are_there;
+        locations = l ∷ m.locations;
+        are_there = All-cons (λ l. l < count_of o) l m.locations b.there m.are_there;
         written = m.written;
         there = m.there;
         tokens = cc;
@@ -303,9 +303,9 @@ whole_read flow o c name l f b none = record {
     no_part (Some y) e = absurd cc
 
 -- the first part of a name of two
-pub part_read : (flow : Flow) (o : Observer) (c : Located) (name : List ℕ) (l : ℕ) → ClaimFits flow c
+pub part_read : (flow : Flow) (o : Observer) (c : LocationClaim) (name : List ℕ) (l : ℕ) → ClaimFits flow c
     → BeginsWith o name l → is_some (after_dot (location_name o l)) ≡ true
-    → Advances flow o (due.Location c) (Name name) (due.Point c l)
+    → Advances flow o (due.Location c) (Name name) (due.Dot c l)
 part_read flow o c name l f b some = record {
   fits = (f, go (after_dot (location_name o l)) refl some);
   spells = λ ts claims m. subst (λ x. EndClaim flow o c (Name x ∷ ts) claims) b.begins m;
@@ -318,10 +318,10 @@ part_read flow o c name l f b some = record {
 
 -- ---- the dot, and the second part
 
-pub point_due : (flow : Flow) (o : Observer) (c : Located) (l : ℕ) → HasSecondPart o l → (t : TokenKind)
-    (ts : List TokenKind) (claims : List Located)
+pub dot_due : (flow : Flow) (o : Observer) (c : LocationClaim) (l : ℕ) → HasSecondPart o l → (t : TokenKind)
+    (ts : List TokenKind) (claims : List LocationClaim)
     → EndClaim flow o c (Name (before_dot (location_name o l)) ∷ t ∷ ts) claims → t ≡ Symbol Dot
-point_due flow o c l h t ts claims m = go (after_dot (location_name o n.first)) some n.tokens
+dot_due flow o c l h t ts claims m = go (after_dot (location_name o n.first)) some n.tokens
   where
     n : FirstLocation flow o (before_dot (location_name o l)) (t ∷ ts)
     n = first_location flow o c (before_dot (location_name o l)) (t ∷ ts) claims m
@@ -336,9 +336,9 @@ point_due flow o c l h t ts claims m = go (after_dot (location_name o n.first)) 
     go None s e = absurd cc
     go (Some y) s e = cc
 
-pub point_read : (flow : Flow) (o : Observer) (c : Located) (l : ℕ) → ClaimFits flow c → HasSecondPart o l
-    → Advances flow o (due.Point c l) (Symbol Dot) (due.Part c l)
-point_read flow o c l f h = record { fits = (f, h); spells = λ ts claims m. m; goes_on = λ ts g. g }
+pub dot_read : (flow : Flow) (o : Observer) (c : LocationClaim) (l : ℕ) → ClaimFits flow c → HasSecondPart o l
+    → Advances flow o (due.Dot c l) (Symbol Dot) (due.Part c l)
+dot_read flow o c l f h = record { fits = (f, h); spells = λ ts claims m. m; goes_on = λ ts g. g }
 
 -- after a dot the second part is named
 record SecondPart (o : Observer) (flow : Flow) (ps : List ℕ) (ws : List Written) (x : Option (List ℕ)) (t : TokenKind)
@@ -362,8 +362,8 @@ pub record PartDue (o : Observer) (first : List ℕ) (t : TokenKind) : Type 0 wh
   pub token : t ≡ Name name
   pub parts : HasParts o first name location
 
-pub part_due : (flow : Flow) (o : Observer) (c : Located) (first : List ℕ) (t : TokenKind) (ts : List TokenKind)
-    (claims : List Located) → EndClaim flow o c (Name first ∷ Symbol Dot ∷ t ∷ ts) claims → PartDue o first t
+pub part_due : (flow : Flow) (o : Observer) (c : LocationClaim) (first : List ℕ) (t : TokenKind) (ts : List TokenKind)
+    (claims : List LocationClaim) → EndClaim flow o c (Name first ∷ Symbol Dot ∷ t ∷ ts) claims → PartDue o first t
 part_due flow o c first t ts claims m =
     let n = first_location flow o c first (Symbol Dot ∷ t ∷ ts) claims m in
     let p = second_part o flow n.others n.written (after_dot (location_name o n.first)) t ts n.tokens in
@@ -374,7 +374,7 @@ part_due flow o c first t ts claims m =
       parts = record { front = record { there = n.there; begins = n.begins }; back = p.has };
     }
 
-pub second_read : (flow : Flow) (o : Observer) (c : Located) (l : ℕ) (name : List ℕ) (k : ℕ) → ClaimFits flow c
+pub second_read : (flow : Flow) (o : Observer) (c : LocationClaim) (l : ℕ) (name : List ℕ) (k : ℕ) → ClaimFits flow c
     → HasParts o (before_dot (location_name o l)) name k
     → Advances flow o (due.Part c l) (Name name) (due.Location (with_location c k))
 second_read flow o c l name k f h = record {
@@ -384,8 +384,8 @@ second_read flow o c l name k f h = record {
       let a = h.front.begins in
       let b = h.back in
       record {
-        places = k ∷ m.places;
-        are_there = All-cons (λ l. l < count_of o) k m.places h.front.there m.are_there;
+        locations = k ∷ m.locations;
+        are_there = All-cons (λ l. l < count_of o) k m.locations h.front.there m.are_there;
         written = m.written;
         there = m.there;
         tokens = cc;
@@ -401,20 +401,20 @@ second_read flow o c l name k f h = record {
 -- ---- the end
 
 -- nothing else than a claim may be due at the end
-pub unfinished : (flow : Flow) (o : Observer) (d : Due) → ((last : Option Located) → d ≡ due.Claim last → ⊥)
+pub unfinished : (flow : Flow) (o : Observer) (d : Due) → ((last : Option LocationClaim) → d ≡ due.Claim last → ⊥)
     → MayGoOn flow o d [] → ⊥
 unfinished flow o (due.Claim last) h g = h last refl
 unfinished flow o due.Label h g = (let e = (first_claim flow o (Word At) [] g.0 g.1).tokens in cc)
 unfinished flow o (due.Local l) h g =
     (let e = (first_claim flow o (Word At) (Name (label_name flow.file l) ∷ []) g.0 g.1).tokens in cc)
 unfinished flow o (due.Opening c) h g = (let e = g.1.tokens in cc)
-unfinished flow o (due.Location c) h g = none g.1.places g.1.tokens
+unfinished flow o (due.Location c) h g = none g.1.locations g.1.tokens
   where
     none : (ps : List ℕ)
         → [] ≡ each_then (location_then o) ps (Symbol CloseBrace ∷ claims_tokens flow o g.1.written) → ⊥
     none [] e = cc
     none (p ∷ ps) e = cc
-unfinished flow o (due.Point c l) h g = none n.others (after_dot (location_name o n.first)) n.tokens
+unfinished flow o (due.Dot c l) h g = none n.others (after_dot (location_name o n.first)) n.tokens
   where
     n : FirstLocation flow o (before_dot (location_name o l)) []
     n = first_location flow o c (before_dot (location_name o l)) [] g.0 g.1

@@ -16,7 +16,7 @@ use Rattle.plc_lang.specs.Names.{label_name, pointer_name}
 use Rattle.plc_flow.specs.declared.flow.Flow.{Flow}
 use Rattle.plc_auto.specs.declared.observer.Observer.{Observer}
 use Rattle.plc_auto.specs.Table.{names_of, count_of}
-use Rattle.plc_at.specs.declared.located.Located.{Located}
+use Rattle.plc_at.specs.declared.claim.LocationClaim.{LocationClaim}
 
 -- ---- what a claim may name
 
@@ -37,13 +37,13 @@ pointers_by_label flow label = count_by is_pointer (locals_by_label flow label)
 pub record Written : Type 0 where
   pub label : ℕ
   pub local : ℕ
-  pub places : List ℕ
+  pub locations : List ℕ
 
 -- the label, the local and the locations that it names exist
 pub record NamesWhatIsThere (flow : Flow) (o : Observer) (c : Written) : Type 0 where
   pub label : c.label < length flow.file.labels
   pub local : c.local < pointers_by_label flow c.label
-  pub places : All (λ l. l < count_of o) c.places
+  pub locations : All (λ l. l < count_of o) c.locations
 
 -- ---- its tokens
 
@@ -72,7 +72,7 @@ abbrev pub claim_then : Flow → Observer → Written → List TokenKind → Lis
 claim_then flow o c rest =
     Word At ∷ Name (label_name flow.file c.label)
     ∷ Name (pointer_name flow.file (locals_by_label flow c.label) c.local)
-    ∷ Symbol OpenBrace ∷ each_then (location_then o) c.places (Symbol CloseBrace ∷ rest)
+    ∷ Symbol OpenBrace ∷ each_then (location_then o) c.locations (Symbol CloseBrace ∷ rest)
 
 -- { claim }*
 abbrev pub claims_tokens : Flow → Observer → List Written → List TokenKind
@@ -82,14 +82,14 @@ claims_tokens flow o cs = each_then (claim_then flow o) cs []
 
 -- a set of locations
 abbrev pub set_of : List ℕ → ℕ
-set_of places = fold (λ set l. union set (single l)) no_members places
+set_of locations = fold (λ set l. union set (single l)) no_members locations
 
 -- a claim
-abbrev pub located : Written → Located
-located c = record { label = c.label; local = c.local; set = set_of c.places }
+abbrev pub located : Written → LocationClaim
+located c = record { label = c.label; local = c.local; set = set_of c.locations }
 
 -- the tokens spell these claims
-pub record SpellClaims (flow : Flow) (o : Observer) (ts : List TokenKind) (claims : List Located) : Type 0 where
+pub record SpellClaims (flow : Flow) (o : Observer) (ts : List TokenKind) (claims : List LocationClaim) : Type 0 where
   pub written : List Written
   pub there : All (NamesWhatIsThere flow o) written
   pub tokens : ts ≡ claims_tokens flow o written
@@ -97,7 +97,7 @@ pub record SpellClaims (flow : Flow) (o : Observer) (ts : List TokenKind) (claim
 
 -- some list of claims begins with these tokens
 abbrev pub BeginClaims : Flow → Observer → List TokenKind → Type 0
-BeginClaims flow o ts = (rest : List TokenKind) × (claims : List Located) × SpellClaims flow o (ts ++ rest) claims
+BeginClaims flow o ts = (rest : List TokenKind) × (claims : List LocationClaim) × SpellClaims flow o (ts ++ rest) claims
 
 -- the least place with whose token no list of claims begins any more, or the end where the tokens begin one and are
 -- none
@@ -105,11 +105,11 @@ pub record ClaimsStopAt (flow : Flow) (o : Observer) (ts : List TokenKind) (plac
   pub within : place ≤ length ts
   pub goes_on : BeginClaims flow o (take place ts)
   pub stops : place < length ts → BeginClaims flow o (take (place + 1) ts) → ⊥
-  pub unfinished : place ≡ length ts → (claims : List Located) → SpellClaims flow o ts claims → ⊥
+  pub unfinished : place ≡ length ts → (claims : List LocationClaim) → SpellClaims flow o ts claims → ⊥
 
 -- ---- what follows of claims that were read
 
 -- its label and its pointer local exist
-pub record ClaimFits (flow : Flow) (c : Located) : Type 0 where
+pub record ClaimFits (flow : Flow) (c : LocationClaim) : Type 0 where
   pub label : c.label < length flow.file.labels
   pub local : c.local < pointers_by_label flow c.label

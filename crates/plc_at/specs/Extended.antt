@@ -20,7 +20,7 @@ use Rattle.plc_logic.specs.declared.clause.Clause.{Clause}
 use Rattle.plc_logic.specs.declared.clause.Site.TheVariants.{At}
 use Rattle.plc_logic.specs.declared.clause.Item.{Item}
 use Rattle.plc_logic.specs.declared.clause.Outline.{Outline}
-use Rattle.plc_at.specs.declared.located.Located.{Located}
+use Rattle.plc_at.specs.declared.claim.LocationClaim.{LocationClaim}
 use Rattle.plc_at.specs.Claims.{locals_by_label}
 
 -- ---- the type that a claim is about
@@ -36,7 +36,7 @@ env_of typing None = None
 env_of typing (Some p) = slice_get typing p.0
 
 -- the type of the claim's local at the label's point
-abbrev pub claimed_type : Flow → List Env → Located → PtrType
+abbrev pub claimed_type : Flow → List Env → LocationClaim → PtrType
 claimed_type flow typing c = local_type c.local (env_of typing (slice_get flow.labels c.label))
 
 -- ---- what it needs
@@ -59,7 +59,7 @@ need o t set =
     else Unlocated
 
 -- of a claim under a typing
-abbrev pub need_of : Flow → Observer → List Env → Located → Need
+abbrev pub need_of : Flow → Observer → List Env → LocationClaim → Need
 need_of flow o typing c = need o (claimed_type flow typing c) c.set
 
 -- ---- what it adds
@@ -70,7 +70,7 @@ place_or_first None = 0
 place_or_first (Some place) = place
 
 -- the place of the claim's local among all locals of its operation, by which clauses count
-abbrev pub claimed_place : Flow → Located → ℕ
+abbrev pub claimed_place : Flow → LocationClaim → ℕ
 claimed_place flow c = place_or_first (pointer_place (locals_by_label flow c.label) c.local)
 
 -- VAR == null or retired(VAR), or with `not`
@@ -81,23 +81,23 @@ null_or_retired v is_so = record {
 }
 
 -- at LABEL: VAR == null or retired(VAR), or with `not`
-abbrev pub item_at : Flow → Located → Bool → Item
+abbrev pub item_at : Flow → LocationClaim → Bool → Item
 item_at flow c is_so = record { site = At (c.label ∷ []); clause = null_or_retired (claimed_place flow c) is_so }
 
 -- the items that a claim adds, none where it isn't located
-abbrev pub items_for : Flow → Located → Need → List Item
+abbrev pub items_for : Flow → LocationClaim → Need → List Item
 items_for flow c Nothing = []
 items_for flow c Unretired = item_at flow c false ∷ []
 items_for flow c RetiredNode = item_at flow c true ∷ []
 items_for flow c Unlocated = []
 
 -- those of all claims, in their order
-abbrev pub added_items : Flow → Observer → List Env → List Located → List Item
+abbrev pub added_items : Flow → Observer → List Env → List LocationClaim → List Item
 added_items flow o typing [] = []
 added_items flow o typing (c ∷ cs) = items_for flow c (need_of flow o typing c) ++ added_items flow o typing cs
 
 -- the outline with these after its own
-abbrev pub extended : Flow → Observer → List Env → List Located → Outline → Outline
+abbrev pub extended : Flow → Observer → List Env → List LocationClaim → Outline → Outline
 extended flow o typing claims outline = record {
   depth = outline.depth;
   invariants = outline.invariants;
@@ -107,20 +107,20 @@ extended flow o typing claims outline = record {
 -- ---- when there is one
 
 -- a claim that is located
-abbrev pub IsLocated : Flow → Observer → List Env → Located → Type 0
+abbrev pub IsLocated : Flow → Observer → List Env → LocationClaim → Type 0
 IsLocated flow o typing c = need_of flow o typing c ≢ Unlocated
 
 -- each claim is located
-abbrev pub AreLocated : Flow → Observer → List Env → List Located → Type 0
-AreLocated flow o typing claims = (i : ℕ) (c : Located) → slice_get claims i ≡ Some c → IsLocated flow o typing c
+abbrev pub AreLocated : Flow → Observer → List Env → List LocationClaim → Type 0
+AreLocated flow o typing claims = (i : ℕ) (c : LocationClaim) → slice_get claims i ≡ Some c → IsLocated flow o typing c
 
 -- the least claim that isn't
-pub record IsFirstUnlocated (flow : Flow) (o : Observer) (typing : List Env) (claims : List Located) (i : ℕ) : Type 0
-  where
-    pub claim : Located
-    pub there : slice_get claims i ≡ Some claim
-    pub unlocated : need_of flow o typing claim ≡ Unlocated
-    pub before : (j : ℕ) (c : Located) → j < i → slice_get claims j ≡ Some c → IsLocated flow o typing c
+pub record IsFirstUnlocated (flow : Flow) (o : Observer) (typing : List Env) (claims : List LocationClaim) (i : ℕ)
+    : Type 0 where
+  pub claim : LocationClaim
+  pub there : slice_get claims i ≡ Some claim
+  pub unlocated : need_of flow o typing claim ≡ Unlocated
+  pub before : (j : ℕ) (c : LocationClaim) → j < i → slice_get claims j ≡ Some c → IsLocated flow o typing c
 
 -- how many items an outline may have
 abbrev pub most_items : ℕ

@@ -16,7 +16,7 @@ use Rattle.plc_lang.specs.Names.{label_name, pointer_name}
 use Rattle.plc_flow.specs.declared.flow.Flow.{Flow}
 use Rattle.plc_auto.specs.declared.observer.Observer.{Observer}
 use Rattle.plc_auto.specs.Table.{names_of, count_of}
-use Rattle.plc_at.specs.declared.located.Located.{Located}
+use Rattle.plc_at.specs.declared.claim.LocationClaim.{LocationClaim}
 use Rattle.plc_at.specs.declared.reading.Due.{Due}
 use Rattle.plc_at.specs.declared.reading.Due.TheVariants as due
 use Rattle.plc_at.specs.Claims.{locals_by_label, pointers_by_label, Written, NamesWhatIsThere, before_dot, after_dot}
@@ -71,45 +71,46 @@ pub record HasParts (o : Observer) (first second : List ℕ) (l : ℕ) : Type 0 
 -- ---- what may follow
 
 -- a claim of one more location
-abbrev pub with_location : Located → ℕ → Located
+abbrev pub with_location : LocationClaim → ℕ → LocationClaim
 with_location c l = record { label = c.label; local = c.local; set = union c.set (single l) }
 
 -- a claim of several more locations
-abbrev pub with_locations : Located → List ℕ → Located
-with_locations c places =
-    record { label = c.label; local = c.local; set = fold (λ set l. union set (single l)) c.set places }
+abbrev pub with_locations : LocationClaim → List ℕ → LocationClaim
+with_locations c locations =
+    record { label = c.label; local = c.local; set = fold (λ set l. union set (single l)) c.set locations }
 
 -- tokens end the claim whose braces are open, and then spell claims
-pub record EndClaim (flow : Flow) (o : Observer) (c : Located) (ts : List TokenKind) (claims : List Located) : Type 0
-  where
-    pub places : List ℕ
-    pub are_there : All (λ l. l < count_of o) places
-    pub written : List Written
-    pub there : All (NamesWhatIsThere flow o) written
-    pub tokens : ts ≡ each_then (location_then o) places (Symbol CloseBrace ∷ claims_tokens flow o written)
-    pub claims_are : claims ≡ with_locations c places ∷ map located written
+pub record EndClaim (flow : Flow) (o : Observer) (c : LocationClaim) (ts : List TokenKind) (claims : List LocationClaim)
+    : Type 0 where
+  pub locations : List ℕ
+  pub are_there : All (λ l. l < count_of o) locations
+  pub written : List Written
+  pub there : All (NamesWhatIsThere flow o) written
+  pub tokens : ts ≡ each_then (location_then o) locations (Symbol CloseBrace ∷ claims_tokens flow o written)
+  pub claims_are : claims ≡ with_locations c locations ∷ map located written
 
 -- an opening brace is before these tokens
-pub record OpenClaim (flow : Flow) (o : Observer) (c : Located) (ts : List TokenKind) (claims : List Located) : Type 0
-  where
-    pub after : List TokenKind
-    pub tokens : ts ≡ Symbol OpenBrace ∷ after
-    pub ends : EndClaim flow o c after claims
+pub record OpenClaim
+    (flow : Flow) (o : Observer) (c : LocationClaim) (ts : List TokenKind) (claims : List LocationClaim)
+    : Type 0 where
+  pub after : List TokenKind
+  pub tokens : ts ≡ Symbol OpenBrace ∷ after
+  pub ends : EndClaim flow o c after claims
 
 -- tokens may follow where this is due, and spell these claims with what stands before them
-abbrev pub MayFollow : Flow → Observer → Due → List TokenKind → List Located → Type 0
+abbrev pub MayFollow : Flow → Observer → Due → List TokenKind → List LocationClaim → Type 0
 MayFollow flow o (due.Claim last) ts claims = SpellClaims flow o ts claims
 MayFollow flow o due.Label ts claims = SpellClaims flow o (Word At ∷ ts) claims
 MayFollow flow o (due.Local l) ts claims = SpellClaims flow o (Word At ∷ Name (label_name flow.file l) ∷ ts) claims
 MayFollow flow o (due.Opening c) ts claims = OpenClaim flow o c ts claims
 MayFollow flow o (due.Location c) ts claims = EndClaim flow o c ts claims
-MayFollow flow o (due.Point c l) ts claims = EndClaim flow o c (Name (before_dot (location_name o l)) ∷ ts) claims
+MayFollow flow o (due.Dot c l) ts claims = EndClaim flow o c (Name (before_dot (location_name o l)) ∷ ts) claims
 MayFollow flow o (due.Part c l) ts claims =
     EndClaim flow o c (Name (before_dot (location_name o l)) ∷ Symbol Dot ∷ ts) claims
 
 -- some tokens may
 abbrev pub MayGoOn : Flow → Observer → Due → List TokenKind → Type 0
-MayGoOn flow o d ts = (claims : List Located) × MayFollow flow o d ts claims
+MayGoOn flow o d ts = (claims : List LocationClaim) × MayFollow flow o d ts claims
 
 -- a location whose name has a second part
 pub record HasSecondPart (o : Observer) (l : ℕ) : Type 0 where
@@ -128,26 +129,26 @@ DueFits flow o due.Label = HasPointers flow
 DueFits flow o (due.Local l) = IsPointerAt flow l 0
 DueFits flow o (due.Opening c) = ClaimFits flow c
 DueFits flow o (due.Location c) = ClaimFits flow c
-DueFits flow o (due.Point c l) = ClaimFits flow c × HasSecondPart o l
+DueFits flow o (due.Dot c l) = ClaimFits flow c × HasSecondPart o l
 DueFits flow o (due.Part c l) = ClaimFits flow c × HasSecondPart o l
 
 -- ---- steps
 
 -- the claim that has just ended, if one has
-abbrev pub ended : Due → List Located
+abbrev pub ended : Due → List LocationClaim
 ended (due.Claim None) = []
 ended (due.Claim (Some c)) = c ∷ []
 ended due.Label = []
 ended (due.Local l) = []
 ended (due.Opening c) = []
 ended (due.Location c) = []
-ended (due.Point c l) = []
+ended (due.Dot c l) = []
 ended (due.Part c l) = []
 
 -- after a token something else is due, and just that may follow which might have followed it
 pub record Advances (flow : Flow) (o : Observer) (d : Due) (t : TokenKind) (next : Due) : Type 0 where
   pub fits : DueFits flow o next
-  pub spells : (ts : List TokenKind) (claims : List Located) → MayFollow flow o next ts claims
+  pub spells : (ts : List TokenKind) (claims : List LocationClaim) → MayFollow flow o next ts claims
       → MayFollow flow o d (t ∷ ts) (ended next ++ claims)
   pub goes_on : (ts : List TokenKind) → MayGoOn flow o d (t ∷ ts) → MayGoOn flow o next ts
 
@@ -158,4 +159,4 @@ IsStep flow o d t (Some next) = Advances flow o d t next
 
 -- a claim is due
 abbrev pub IsClaim : Due → Type 0
-IsClaim d = (last : Option Located) × (d ≡ due.Claim last)
+IsClaim d = (last : Option LocationClaim) × (d ≡ due.Claim last)

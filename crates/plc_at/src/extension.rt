@@ -11,8 +11,8 @@ ghost use Rattle.plc_at.specs.Extended.{added_items, extended, most_items, AreLo
 ghost use Rattle.plc_at.specs.Needs.{IsFirstUnlocatedOrNone, IsRefusal};
 
 use crate::adding::add_items;
+use crate::claim::LocationClaim;
 use crate::fault::AtFault;
-use crate::located::Located;
 use crate::needs::{count_for, is_located, need_of};
 use plc_auto::Observer;
 use plc_base::{NoMemory, What1};
@@ -23,7 +23,7 @@ use std::alloc::Global;
 
 /// The place of the first claim that isn't located; `None` where each is.
 fn first_unlocated(
-    claims: &[Located],
+    claims: &[LocationClaim],
     flow: &Flow,
     observer: &Observer,
     typing: &[Env],
@@ -39,7 +39,7 @@ fn first_unlocated(
 }
 
 /// How many items the claims add.
-fn count_added(claims: &[Located], flow: &Flow, observer: &Observer, typing: &[Env]) -> usize
+fn count_added(claims: &[LocationClaim], flow: &Flow, observer: &Observer, typing: &[Env]) -> usize
     ensures count { result ≡ length (added_items flow.now observer.now typing.now claims.now) }
     ensures few { result ≤ length claims.now }
 {
@@ -62,7 +62,7 @@ fn number_of(at: usize) -> Result<u32, NoMemory>
 
 /// Refuses where a claim isn't located.
 fn all_located(
-    claims: &[Located],
+    claims: &[LocationClaim],
     flow: &Flow,
     observer: &Observer,
     typing: &[Env],
@@ -82,7 +82,7 @@ fn all_located(
 /// Refuses where a claim isn't located, and else where after so many items those of the claims are too many.
 fn addable(
     before: usize,
-    claims: &[Located],
+    claims: &[LocationClaim],
     flow: &Flow,
     observer: &Observer,
     typing: &[Env],
@@ -114,7 +114,7 @@ fn addable(
 /// outline is extended from the empty one of depth 0. A refusal drops the outline.
 pub fn extend(
     alloc: Global,
-    claims: &[Located],
+    claims: &[LocationClaim],
     flow: &Flow,
     observer: &Observer,
     typing: &[Env],

@@ -4,7 +4,6 @@ ghost use Rattle.plc_at.specs.declared.fault.ClaimFault.TheVariants as claim;
 ghost use Rattle.plc_at.specs.declared.fault.AtFault.TheVariants as at;
 
 use plc_base::NoMemory;
-use std::alloc::AllocError;
 
 /// Why tokens are no list of claims for a file.
 #[derive(Debug, Drop)]
@@ -27,26 +26,10 @@ pub enum AtFault {
     Memory,
 }
 
-impl From<AllocError> for ClaimFault {
-    ghost from_gives = { λ _ e. e ≡ claim.Memory };
-
-    fn from(_error: AllocError) -> Self {
-        Self::Memory
-    }
-}
-
 impl From<NoMemory> for ClaimFault {
     ghost from_gives = { λ _ e. e ≡ claim.Memory };
 
     fn from(_error: NoMemory) -> Self {
-        Self::Memory
-    }
-}
-
-impl From<AllocError> for AtFault {
-    ghost from_gives = { λ _ e. e ≡ at.Memory };
-
-    fn from(_error: AllocError) -> Self {
         Self::Memory
     }
 }

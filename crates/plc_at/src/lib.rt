@@ -4,14 +4,14 @@
 #![tactic(auto)]
 
 mod adding;
+mod claim;
 mod extension;
 mod fault;
-mod located;
 mod names;
 mod needs;
 mod reading;
 
+pub use claim::LocationClaim;
 pub use extension::extend;
 pub use fault::{AtFault, ClaimFault};
-pub use located::Located;
 pub use reading::{claim_faults_are_one, read_claims};

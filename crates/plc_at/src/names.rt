@@ -34,7 +34,7 @@ fn ops_among(
 }
 
 /// The operation of each label, `None` where none has it. Its one error is that memory runs out.
-pub fn ops_of_labels(alloc: Global, flow: &Flow) -> Result<Vec<Option<usize>>, NoMemory>
+pub(crate) fn ops_of_labels(alloc: Global, flow: &Flow) -> Result<Vec<Option<usize>>, NoMemory>
     requires { FileFits flow.now.file }
     ensures { IfOk result (λ ops. AreOps flow.now ops.items) }
 {
@@ -45,7 +45,7 @@ pub fn ops_of_labels(alloc: Global, flow: &Flow) -> Result<Vec<Option<usize>>, N
 
 /// The locals of a label's operation.
 #[tactic(auto, unfolding(crate::specs::Claims::locals_by_label))]
-fn locals_of_label<'a>(flow: &'a Flow, ops: &[Option<usize>], label: u16) -> &'a [Local]
+pub(crate) fn locals_of_label<'a>(flow: &'a Flow, ops: &[Option<usize>], label: u16) -> &'a [Local]
     requires ops { AreOps flow.now ops.now }
     requires label { label < length flow.now.file.labels }
     ensures { result.now ≡ locals_by_label flow.now label }
@@ -64,7 +64,7 @@ fn count_pointers(locals: &[Local]) -> usize
 }
 
 /// Whether some label's operation has a pointer local, so that a claim can be written.
-pub fn has_pointers(flow: &Flow, ops: &[Option<usize>]) -> bool
+pub(crate) fn has_pointers(flow: &Flow, ops: &[Option<usize>]) -> bool
     requires file { FileFits flow.now.file }
     requires ops { AreOps flow.now ops.now }
     ensures { IsTrue result ↔ HasPointers flow.now }
@@ -78,7 +78,7 @@ pub fn has_pointers(flow: &Flow, ops: &[Option<usize>]) -> bool
 }
 
 /// The first label of this name whose operation has a pointer local.
-pub fn label_named(flow: &Flow, ops: &[Option<usize>], name: &[u8]) -> Option<u16>
+pub(crate) fn label_named(flow: &Flow, ops: &[Option<usize>], name: &[u8]) -> Option<u16>
     requires file { FileFits flow.now.file }
     requires ops { AreOps flow.now ops.now }
     ensures some { IfSome result (IsLabelNamed flow.now name.now) }
@@ -113,7 +113,7 @@ fn local_named(file: &File, locals: &[Local], name: &[u8]) -> Option<u16>
 }
 
 /// The first label of this name whose operation has a pointer local of that name, with the first such local.
-pub fn pointer_named(
+pub(crate) fn pointer_named(
     flow: &Flow,
     ops: &[Option<usize>],
     label_text: &[u8],
@@ -154,53 +154,53 @@ fn parts(name: &[u8]) -> (&[u8], Option<&[u8]>)
 }
 
 /// The part of a location's name before its dot.
-pub fn first_part(observer: &Observer, place: u16) -> &[u8]
-    requires { place < count_of observer.now }
-    ensures { result.now ≡ before_dot (location_name observer.now place) }
+pub(crate) fn first_part(observer: &Observer, location: u16) -> &[u8]
+    requires { location < count_of observer.now }
+    ensures { result.now ≡ before_dot (location_name observer.now location) }
 {
-    parts(observer.name(LocId(place))).0
+    parts(observer.name(LocId(location))).0
 }
 
 /// The first location whose name begins with this part.
-pub fn location_with(observer: &Observer, first: &[u8]) -> Option<u16>
+pub(crate) fn location_with(observer: &Observer, first: &[u8]) -> Option<u16>
     ensures some { IfSome result (BeginsWith observer.now first.now) }
-    ensures none { IfNone result ((place : ℕ) → BeginsWith observer.now first.now place → ⊥) }
+    ensures none { IfNone result ((location : ℕ) → BeginsWith observer.now first.now location → ⊥) }
 {
-    for place in 0..observer.count() {
-        if first_part(observer, place) == first {
-            return Some(place);
+    for location in 0..observer.count() {
+        if first_part(observer, location) == first {
+            return Some(location);
         }
     }
     None
 }
 
 /// Whether a location's name has a second part.
-pub fn has_second_part(observer: &Observer, place: u16) -> bool
-    requires { place < count_of observer.now }
-    ensures { result ≡ is_some (after_dot (location_name observer.now place)) }
+pub(crate) fn has_second_part(observer: &Observer, location: u16) -> bool
+    requires { location < count_of observer.now }
+    ensures { result ≡ is_some (after_dot (location_name observer.now location)) }
 {
-    parts(observer.name(LocId(place))).1.is_some()
+    parts(observer.name(LocId(location))).1.is_some()
 }
 
 /// Whether a location's name has these two parts.
-fn has_parts(observer: &Observer, place: u16, first: &[u8], second: &[u8]) -> bool
-    requires { place < count_of observer.now }
-    ensures { IsTrue result ↔ HasParts observer.now first.now second.now place }
+fn has_parts(observer: &Observer, location: u16, first: &[u8], second: &[u8]) -> bool
+    requires { location < count_of observer.now }
+    ensures { IsTrue result ↔ HasParts observer.now first.now second.now location }
 {
-    match parts(observer.name(LocId(place))) {
+    match parts(observer.name(LocId(location))) {
         (before, Some(after)) => before == first && after == second,
         (_, None) => false,
     }
 }
 
 /// The location whose name has these two parts.
-pub fn location_of_parts(observer: &Observer, first: &[u8], second: &[u8]) -> Option<u16>
+pub(crate) fn location_of_parts(observer: &Observer, first: &[u8], second: &[u8]) -> Option<u16>
     ensures some { IfSome result (HasParts observer.now first.now second.now) }
-    ensures none { IfNone result ((place : ℕ) → HasParts observer.now first.now second.now place → ⊥) }
+    ensures none { IfNone result ((location : ℕ) → HasParts observer.now first.now second.now location → ⊥) }
 {
-    for place in 0..observer.count() {
-        if has_parts(observer, place, first, second) {
-            return Some(place);
+    for location in 0..observer.count() {
+        if has_parts(observer, location, first, second) {
+            return Some(location);
         }
     }
     None

@@ -4,11 +4,11 @@
 // whether each claim is located before any item is made.
 ghost use Rattle.std.specs.Prelude.{◌≡◌, ◌≤◌, ◌↔◌, IsTrue, Some, length};
 ghost use Rattle.plc_flow.specs.declared.flow.Flow.{Flow as AFlow};
-ghost use Rattle.plc_at.specs.declared.located.Located.{Located as ALocated};
+ghost use Rattle.plc_at.specs.declared.claim.LocationClaim.{LocationClaim as ALocated};
 ghost use Rattle.plc_at.specs.Extended.{local_type, env_of, claimed_type, need, need_of, items_for, IsLocated};
 ghost use Rattle.plc_at.specs.Needs.{answered};
 
-use crate::located::Located;
+use crate::claim::LocationClaim;
 use plc_auto::Observer;
 use plc_base::{Mask, PointId};
 use plc_flow::Flow;
@@ -48,7 +48,7 @@ fn type_at(local: u16, point: PointId, typing: &[Env]) -> PtrType
 }
 
 /// The type of the claim's local at the label's point.
-fn claimed_type(claim: &Located, flow: &Flow, typing: &[Env]) -> PtrType
+fn claimed_type(claim: &LocationClaim, flow: &Flow, typing: &[Env]) -> PtrType
     ensures { result ≡ claimed_type flow.now typing.now claim.now }
 {
     match flow.labels.get(claim.label as usize) {
@@ -75,14 +75,24 @@ fn need_for(t: PtrType, set: &Mask, observer: &Observer) -> Need
 }
 
 /// What a claim needs under a typing.
-pub(crate) fn need_of(claim: &Located, flow: &Flow, observer: &Observer, typing: &[Env]) -> Need
+pub(crate) fn need_of(
+    claim: &LocationClaim,
+    flow: &Flow,
+    observer: &Observer,
+    typing: &[Env],
+) -> Need
     ensures { answered result ≡ need_of flow.now observer.now typing.now claim.now }
 {
     need_for(claimed_type(claim, flow, typing), &claim.set, observer)
 }
 
 /// Whether a claim follows from its type, or from an item that can be added.
-pub(crate) fn is_located(claim: &Located, flow: &Flow, observer: &Observer, typing: &[Env]) -> bool
+pub(crate) fn is_located(
+    claim: &LocationClaim,
+    flow: &Flow,
+    observer: &Observer,
+    typing: &[Env],
+) -> bool
     ensures { IsTrue result ↔ IsLocated flow.now observer.now typing.now claim.now }
 {
     match need_of(claim, flow, observer, typing) {

@@ -10,42 +10,42 @@ ghost use Rattle.plc_syntax.specs.Syntax.{kinds};
 ghost use Rattle.plc_flow.specs.declared.flow.Flow.{Flow as AFlow};
 ghost use Rattle.plc_auto.specs.declared.observer.Observer.{Observer as AnObserver};
 ghost use Rattle.plc_auto.specs.Table.{count_of};
-ghost use Rattle.plc_at.specs.declared.located.Located.{Located as AClaim};
+ghost use Rattle.plc_at.specs.declared.claim.LocationClaim.{LocationClaim as AClaim};
 ghost use Rattle.plc_at.specs.declared.fault.ClaimFault.TheVariants as claim;
 ghost use Rattle.plc_at.specs.declared.reading.Due.TheVariants as due;
 ghost use Rattle.plc_at.specs.Claims.{SpellClaims, ClaimsStopAt, ClaimFits};
 ghost use Rattle.plc_at.specs.Reading.{AreOps, HasSecondPart, with_location, DueFits, ended, IsStep, IsClaim};
 
+use crate::claim::LocationClaim;
 use crate::fault::ClaimFault;
-use crate::located::Located;
 use crate::names::{
     first_part, has_pointers, has_second_part, label_named, location_of_parts, location_with,
     ops_of_labels, pointer_named,
 };
 use plc_auto::Observer;
-use plc_base::{LocId, Mask};
+use plc_base::{LocId, Mask, NoMemory};
 use plc_flow::Flow;
 use plc_lang::label_name;
 use plc_lex::{Keyword, Symbol, Token, TokenKind};
-use std::alloc::{AllocError, Global};
+use std::alloc::Global;
 
 /// What is due next, with what was read of the claim that hasn't ended.
 #[derive(Clone, Copy)]
 enum Due {
     /// A claim, or the end. The last claim has just ended.
-    Claim(Option<Located>),
+    Claim(Option<LocationClaim>),
     /// A label's name, after `at`.
     Label,
     /// The name of a pointer local, after the name of this label.
     Local(u16),
     /// The opening brace of this claim.
-    Opening(Located),
+    Opening(LocationClaim),
     /// The name of a location, or the closing brace.
-    Location(Located),
+    Location(LocationClaim),
     /// The dot in a location's name, after its first part; the number is that of a location with this first part.
-    Point(Located, u16),
+    Dot(LocationClaim, u16),
     /// The second part of it, after the dot.
-    Part(Located, u16),
+    Part(LocationClaim, u16),
 }
 
 /// Whether a token is this word.
@@ -113,11 +113,11 @@ fn after_label(flow: &Flow, ops: &[Option<usize>], label: u16, kind: &TokenKind)
     let name = name_of(kind)?;
     let (label, local) = pointer_named(flow, ops, label_name(&flow.file, label), name)?;
     let set = Mask::empty();
-    Some(Due::Opening(Located { label, local, set }))
+    Some(Due::Opening(LocationClaim { label, local, set }))
 }
 
 /// After the name of a local.
-fn after_local(claim: Located, kind: &TokenKind) -> Option<Due>
+fn after_local(claim: LocationClaim, kind: &TokenKind) -> Option<Due>
     ensures { (flow : AFlow) (observer : AnObserver) → ClaimFits flow claim
         → IsStep flow observer (due.Opening claim) kind.now result }
 {
@@ -129,13 +129,13 @@ fn after_local(claim: Located, kind: &TokenKind) -> Option<Due>
 }
 
 /// The claim with one more location.
-fn with_location(claim: Located, place: u16) -> Located
-    requires { place < 8 }
-    ensures { result ≡ with_location claim place }
+fn with_location(claim: LocationClaim, location: u16) -> LocationClaim
+    requires { location < 8 }
+    ensures { result ≡ with_location claim location }
 {
     let mut set = claim.set;
-    set.insert(LocId(place));
-    Located {
+    set.insert(LocId(location));
+    LocationClaim {
         label: claim.label,
         local: claim.local,
         set,
@@ -143,19 +143,19 @@ fn with_location(claim: Located, place: u16) -> Located
 }
 
 /// After the name of a location or the first part of one, within braces.
-fn after_first_part(observer: &Observer, claim: Located, name: &[u8]) -> Option<Due>
+fn after_first_part(observer: &Observer, claim: LocationClaim, name: &[u8]) -> Option<Due>
     ensures { (flow : AFlow) → ClaimFits flow claim
         → IsStep flow observer.now (due.Location claim) (kinds_are.Name name.now) result }
 {
-    let place = location_with(observer, name)?;
-    if has_second_part(observer, place) {
-        return Some(Due::Point(claim, place));
+    let location = location_with(observer, name)?;
+    if has_second_part(observer, location) {
+        return Some(Due::Dot(claim, location));
     }
-    Some(Due::Location(with_location(claim, place)))
+    Some(Due::Location(with_location(claim, location)))
 }
 
 /// Within braces, after whole names of locations.
-fn within_braces(observer: &Observer, claim: Located, kind: &TokenKind) -> Option<Due>
+fn within_braces(observer: &Observer, claim: LocationClaim, kind: &TokenKind) -> Option<Due>
     ensures { (flow : AFlow) → ClaimFits flow claim
         → IsStep flow observer.now (due.Location claim) kind.now result }
 {
@@ -167,25 +167,30 @@ fn within_braces(observer: &Observer, claim: Located, kind: &TokenKind) -> Optio
 }
 
 /// After the first part of a location's name.
-fn before_point(claim: Located, place: u16, kind: &TokenKind) -> Option<Due>
-    ensures { (flow : AFlow) (observer : AnObserver) → ClaimFits flow claim → HasSecondPart observer place
-        → IsStep flow observer (due.Point claim place) kind.now result }
+fn before_dot(claim: LocationClaim, location: u16, kind: &TokenKind) -> Option<Due>
+    ensures { (flow : AFlow) (observer : AnObserver) → ClaimFits flow claim → HasSecondPart observer location
+        → IsStep flow observer (due.Dot claim location) kind.now result }
 {
     if is_symbol(kind, Symbol::Dot) {
-        Some(Due::Part(claim, place))
+        Some(Due::Part(claim, location))
     } else {
         None
     }
 }
 
 /// After the dot.
-fn after_point(observer: &Observer, claim: Located, place: u16, kind: &TokenKind) -> Option<Due>
-    requires { place < count_of observer.now }
+fn after_dot(
+    observer: &Observer,
+    claim: LocationClaim,
+    location: u16,
+    kind: &TokenKind,
+) -> Option<Due>
+    requires { location < count_of observer.now }
     ensures { (flow : AFlow) → ClaimFits flow claim
-        → IsStep flow observer.now (due.Part claim place) kind.now result }
+        → IsStep flow observer.now (due.Part claim location) kind.now result }
 {
     let name = name_of(kind)?;
-    let found = location_of_parts(observer, first_part(observer, place), name)?;
+    let found = location_of_parts(observer, first_part(observer, location), name)?;
     Some(Due::Location(with_location(claim, found)))
 }
 
@@ -208,13 +213,13 @@ fn step(
         Due::Local(label) => after_label(flow, ops, label, kind),
         Due::Opening(claim) => after_local(claim, kind),
         Due::Location(claim) => within_braces(observer, claim, kind),
-        Due::Point(claim, place) => before_point(claim, place, kind),
-        Due::Part(claim, place) => after_point(observer, claim, place, kind),
+        Due::Dot(claim, location) => before_dot(claim, location, kind),
+        Due::Part(claim, location) => after_dot(observer, claim, location, kind),
     }
 }
 
 /// Notes the claim that has just ended, if one has.
-fn note(claims: &mut Vec<Located>, due: Due) -> Result<(), AllocError>
+fn note(claims: &mut Vec<LocationClaim>, due: Due) -> Result<(), NoMemory>
     ensures { OnOk result (claims.new.items ≡ claims.old.items ++ ended due) }
 {
     if let Due::Claim(Some(claim)) = due {
@@ -252,7 +257,7 @@ pub fn read_claims(
     tokens: &[Token],
     flow: &Flow,
     observer: &Observer,
-) -> Result<Vec<Located>, ClaimFault>
+) -> Result<Vec<LocationClaim>, ClaimFault>
     requires file { FileFits flow.now.file }
     requires tokens { length tokens.now < 2 ^ 32 }
     ensures spelled { IfOk result (λ claims. SpellClaims flow.now observer.now (kinds tokens.now) claims.items) }
@@ -278,7 +283,7 @@ pub fn read_claims(
     Ok(claims)
 }
 
-/// Tokens stop being claims at one place, and tokens that stop at one spell no claims.
+/// Tokens stop being claims at one location, and tokens that stop at one spell no claims.
 pub fn claim_faults_are_one()
     ensures one { (flow : AFlow) (observer : AnObserver) (ts : List AKind) (a b : ℕ)
         → ClaimsStopAt flow observer ts a → ClaimsStopAt flow observer ts b → a ≡ b }

@@ -70,10 +70,6 @@ row_more e on_this ws r i d kind own small is by =
     (λ j. with_one (get_or ws i d).observer (is j) (by j) on_this i (with_all e on_this (take i ws) r))
     ∙ (λ j. record { address = r.address; retired = r.retired; at = all_more e on_this ws r.at i d small j })
 
-pub row_stays : (e : Event) (ws : List Watcher) (r : Row) (i : ℕ) (d : Watcher) → i < length ws → is_by (thread_of e) (get_or ws i d).thread ≡ false
-    → with_all e false (take i ws) r ≡ with_all e false (take (i + 1) ws) r
-row_stays e ws r i d small other = λ j. record { address = r.address; retired = r.retired; at = other_stays e ws r.at i d small other j }
-
 -- ---- one watcher of a row in code
 
 pub placed : (o : Observer) (kind : EvKind) (own on_this : Bool) (ats : List (Option LocId)) (i : ℕ) (x r : Option LocId) → x ≡ get_or ats i x → target_of r ≡ moved_by o kind own on_this (target_of x)

@@ -134,7 +134,7 @@ impl Locations {
         add_row(self.alloc, e.address(), &self.others, &mut self.rows)?;
         put_in_order(&mut self.rows, e);
         move_rows(&mut self.rows, e, &self.watchers);
-        self.others.move_own(e, &self.watchers);
+        self.others.move_all(e, false, &self.watchers);
         drop_rows(&mut self.rows, &self.others);
         Ok(())
     }

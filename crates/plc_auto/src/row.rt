@@ -169,26 +169,14 @@ impl Row {
         }
     }
 
-    /// Moves all watchers by an event that names the address.
-    fn move_all(&mut self, e: &Event, watchers: &[Watcher])
-        ensures { self.new ≡ with_all e.now true watchers.now self.old }
+    /// Moves all watchers by an event, which names the address or doesn't. Where it doesn't, only its own thread's move.
+    pub fn move_all(&mut self, e: &Event, on_this: bool, watchers: &[Watcher])
+        ensures { self.new ≡ with_all e.now on_this watchers.now self.old }
     {
         let kind = e.kind();
         for i in 0..watchers.len() {
             let own = is_own(e, &watchers[i]);
-            self.move_one(&watchers[i].observer, kind, own, true, i);
-        }
-    }
-
-    /// Moves the watchers of the event's thread, which doesn't name the address. No other moves by it.
-    pub fn move_own(&mut self, e: &Event, watchers: &[Watcher])
-        ensures { self.new ≡ with_all e.now false watchers.now self.old }
-    {
-        let kind = e.kind();
-        for i in 0..watchers.len() {
-            if is_own(e, &watchers[i]) {
-                self.move_one(&watchers[i].observer, kind, true, false, i);
-            }
+            self.move_one(&watchers[i].observer, kind, own, on_this, i);
         }
     }
 
@@ -198,7 +186,7 @@ impl Row {
     {
         if is_this(e.address(), self.address) {
             self.retired = retired_by(e, self.address, self.retired);
-            self.move_all(e, watchers);
+            self.move_all(e, true, watchers);
         }
     }
 

@@ -5,7 +5,7 @@ use Rattle.std.proofs.lemmas.List.{ext_get_or, get_or-map, length-map}
 use Rattle.plc_type.specs.declared.env.PtrType.{PtrType}
 use Rattle.plc_type.specs.declared.env.Env.{Env}
 use Rattle.plc_type.specs.Environments.{bottom}
-use Rattle.plc_xfer.specs.Typings.{IsTyping, IsStrongest, IsPretyping, env_at}
+use Rattle.plc_xfer.specs.Typings.{IsTyping, IsPretyping, env_at}
 use Rattle.plc_flow.specs.declared.flow.Flow.{Flow}
 use Rattle.plc_flow.specs.Skeleton.{skeleton_of}
 use Rattle.plc_auto.specs.declared.observer.Observer.{Observer}
@@ -17,12 +17,8 @@ use Rattle.plc_cert.specs.Shape.{is_version}
 use Rattle.plc_verify.specs.Environments.{with_shared, completed}
 use Rattle.plc_verify.specs.Validity.{certificate_version}
 use Rattle.plc_check.specs.declared.judged.Judged.{Judged}
-use Rattle.plc_check.specs.declared.certified.Certified.TheVariants.{No}
-use Rattle.plc_check.specs.declared.verdict.Verdict.{Verdict}
-use Rattle.plc_check.specs.declared.verdict.Verdict.TheVariants.{Safe, Untyped, Unproved}
-use Rattle.plc_check.specs.Certified.{ShowsSafe, IsCertified}
-use Rattle.plc_check.specs.Verdicts.{IsVerdictOn}
-use Rattle.plc_check.specs.Strongest.{IsStrongestOrNone}
+use Rattle.plc_check.specs.Certified.{ShowsSafe}
+use Rattle.plc_check.specs.Strongest.{IsStrongestTyping}
 use Rattle.plc_check.specs.Counterexamples.{AreTreesFor}
 use Rattle.plc_check.proofs.Matching.{one_each, tree_of, trees_fit}
 use Rattle.plc_check.proofs.Readable.{envs_fit}
@@ -47,29 +43,22 @@ version_fits flow outline n e = ap is_version e ∙ either (program_uses_marks f
     either false = refl
 
 pub certificate : (j : Judged) (cert : Cert) → cert.version ≡ certificate_version j.flow j.unit_outline
-    → IsTyping j.observer (skeleton_of j.flow) cert.env
-    → IsStrongest j.observer (skeleton_of j.flow) cert.env
+    → IsStrongestTyping j cert.env
     → AreTreesFor j.flow j.unit_outline (obligations j.flow j.unit_outline) cert.trees → ShowsSafe j cert
-certificate j cert version typing strongest trees = record {
+certificate j cert version typing trees = record {
   valid = record {
     version = version;
-    typing = subst (IsTyping j.observer (skeleton_of j.flow)) (sym (complete j.observer j.flow cert.env typing.pretyping)) typing;
+    typing = subst (IsTyping j.observer (skeleton_of j.flow)) (sym (complete j.observer j.flow cert.env typing.typed.pretyping)) typing.typed;
     trees = record {
       one_each = one_each j.flow j.unit_outline (obligations j.flow j.unit_outline) cert.trees trees;
       closed = λ i o t e f. (tree_of j.flow j.unit_outline (obligations j.flow j.unit_outline) cert.trees i o t trees e f).closes;
     };
   };
-  strongest = strongest;
+  strongest = typing.strongest;
   once = λ i o t e f. (tree_of j.flow j.unit_outline (obligations j.flow j.unit_outline) cert.trees i o t trees e f).once;
   fits = (
     version_fits j.flow j.unit_outline cert.version version,
-    envs_fit j.observer (skeleton_of j.flow) cert.env typing.pretyping,
+    envs_fit j.observer (skeleton_of j.flow) cert.env typing.typed.pretyping,
     trees_fit j.flow j.unit_outline (obligations j.flow j.unit_outline) cert.trees trees,
   );
 }
-
--- where there is no typing, what is told is the verdict, and there is nothing else to show
-pub none_typed : (j : Judged) (v : Verdict) → IsStrongestOrNone j (Err v) → IsVerdictOn j v × IsCertified j (No v)
-none_typed j (Untyped step prim fault) stuck = (stuck, stuck)
-none_typed j (Safe typing count) none = absurd none
-none_typed j (Unproved obligation set model) none = absurd none

@@ -6,7 +6,7 @@ pub mod Verdicts
 pub mod Certified
 pub mod Open
 pub mod Outlined
+pub mod Strongest
 -- words of private functions alone
 pub mod Refusals
 pub mod Counterexamples
-pub mod Strongest

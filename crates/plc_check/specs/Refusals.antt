@@ -33,10 +33,10 @@ lex_refusal (lex.BadByte at) = faults.Lex (lex.BadByte at)
 lex_refusal (lex.LongName at) = faults.Lex (lex.LongName at)
 lex_refusal (lex.BadNumber at) = faults.Lex (lex.BadNumber at)
 
--- a fault without a place
-abbrev pub unplaced : ParseFault → LoadFault
-unplaced (parse.Limit what count) = faults.Limit what count
-unplaced other = faults.Memory
+-- the refusal of a fault without a place
+abbrev pub unplaced_refusal : ParseFault → LoadFault
+unplaced_refusal (parse.Limit what count) = faults.Limit what count
+unplaced_refusal other = faults.Memory
 
 -- the refusal of a fault of the parser, with the line of its place
 abbrev pub parse_refusal : List ℕ → List Token → ParseFault → LoadFault

@@ -6,7 +6,7 @@ ghost use Rattle.plc_check.specs.Strongest.{IsStrongestTyping};
 
 use crate::judged::Judged;
 use crate::tree::trees_of;
-use crate::verdict::{Verdict, strongest, unproved};
+use crate::verdict::{Typed, Verdict, strongest_typing, unproved_verdict};
 use plc_base::NoMemory;
 use plc_cert::Cert;
 use plc_infer::Typing;
@@ -26,7 +26,7 @@ pub enum Certified {
 /// What there is to show of a file that has a typing: a certificate where its outline holds, else the verdict.
 fn certify_outline(alloc: Global, judged: &Judged, typing: Typing) -> Result<Certified, NoMemory>
     requires fits { Fits judged.now.flow judged.now.unit_outline }
-    requires typing { IsStrongestTyping judged.now typing }
+    requires typing { IsStrongestTyping judged.now typing.env }
     ensures { IfOk result (IsCertified judged.now) }
 {
     match trees_of(alloc, judged)? {
@@ -38,7 +38,7 @@ fn certify_outline(alloc: Global, judged: &Judged, typing: Typing) -> Result<Cer
                 trees,
             }))
         }
-        Err(found) => Ok(Certified::No(unproved(found))),
+        Err(found) => Ok(Certified::No(unproved_verdict(found))),
     }
 }
 
@@ -48,8 +48,10 @@ pub fn certify(alloc: Global, judged: &Judged) -> Result<Certified, NoMemory>
     requires { Fits judged.now.flow judged.now.unit_outline }
     ensures { IfOk result (IsCertified judged.now) }
 {
-    match strongest(alloc, judged)? {
-        Ok(typing) => certify_outline(alloc, judged, typing),
-        Err(verdict) => Ok(Certified::No(verdict)),
+    match strongest_typing(alloc, judged)? {
+        Typed::Typing(typing) => certify_outline(alloc, judged, typing),
+        Typed::Untyped { step, prim, fault } => {
+            Ok(Certified::No(Verdict::Untyped { step, prim, fault }))
+        }
     }
 }

@@ -2,18 +2,14 @@
 // set. Of each other the ground set is made and given to the solver, which closes it or finds a model: the state in
 // which the step breaks the clause.
 ghost use Rattle.std.specs.Prelude.{◌≡◌, IfOk, OnOk, IsTrue, Contains};
-ghost use Rattle.plc_setting.specs.Fit.{Fits};
-ghost use Rattle.plc_setting.specs.Marks.{program_uses_marks};
-ghost use Rattle.plc_oblig.specs.Obligations.{obligations};
+ghost use Rattle.plc_oblig.specs.Programs.{ProgramFits, obligations_of};
 ghost use Rattle.plc_oblig.specs.Outlines.{IsKept};
 ghost use Rattle.plc_check.specs.Counterexamples.{IsCounterexampleAt, NotedAreKept};
 
-use crate::judged::Judged;
 use crate::tree::solve_at;
 use plc_base::NoMemory;
 use plc_ground::{GroundModel, GroundSet};
-use plc_oblig::{Grounding, Noted, Obligation, still};
-use std::alloc::Global;
+use plc_oblig::{Annotated, Grounding, Noted, Obligation, still};
 
 /// An obligation that isn't kept, with its ground set and a model of it.
 #[derive(Drop)]
@@ -27,16 +23,16 @@ pub struct Counterexample {
 
 /// Whether the obligation is known to be kept before its set is made: it is still, or one that is alike was found to be
 /// kept, which has the same set.
-fn is_known_kept(judged: &Judged, kept: &Noted, o: &Obligation) -> bool
-    requires fits { Fits judged.now.flow judged.now.unit_outline }
-    requires there { Contains (obligations judged.now.flow judged.now.unit_outline) o.now }
-    requires kept { NotedAreKept judged.now.flow judged.now.unit_outline kept.now }
-    ensures { IsTrue result → IsKept judged.now.flow judged.now.unit_outline o.now }
+fn is_known_kept(program: &Annotated<'_>, kept: &Noted, o: &Obligation) -> bool
+    requires fits { ProgramFits program.now }
+    requires there { Contains (obligations_of program.now) o.now }
+    requires kept { NotedAreKept program.now.flow.now program.now.outline.now kept.now }
+    ensures { IsTrue result → IsKept program.now.flow.now program.now.outline.now o.now }
 {
-    if still(&judged.flow, &judged.unit_outline, o) {
+    if still(program.flow, program.outline, o) {
         return true;
     }
-    match kept.find(&judged.flow, &judged.unit_outline, o) {
+    match kept.find(program.flow, program.outline, o) {
         Some(_) => true,
         None => false,
     }
@@ -44,24 +40,21 @@ fn is_known_kept(judged: &Judged, kept: &Noted, o: &Obligation) -> bool
 
 /// What breaks one obligation, if it isn't kept. One that is kept is noted.
 pub(crate) fn counterexample_at(
-    alloc: Global,
     memory: &mut Grounding,
-    marked: bool,
+    program: &Annotated<'_>,
     kept: &mut Noted,
-    judged: &Judged,
     obligation: Obligation,
 ) -> Result<Option<Counterexample>, NoMemory>
-    requires fits { Fits judged.now.flow judged.now.unit_outline }
-    requires marked { marked ≡ program_uses_marks judged.now.flow judged.now.unit_outline }
-    requires there { Contains (obligations judged.now.flow judged.now.unit_outline) obligation }
-    requires kept { NotedAreKept judged.now.flow judged.now.unit_outline kept.old }
-    ensures found { IfOk result (IsCounterexampleAt judged.now.flow judged.now.unit_outline obligation) }
-    ensures kept { OnOk result (NotedAreKept judged.now.flow judged.now.unit_outline kept.new) }
+    requires fits { ProgramFits program.now }
+    requires there { Contains (obligations_of program.now) obligation }
+    requires kept { NotedAreKept program.now.flow.now program.now.outline.now kept.old }
+    ensures found { IfOk result (IsCounterexampleAt program.now.flow.now program.now.outline.now obligation) }
+    ensures kept { OnOk result (NotedAreKept program.now.flow.now program.now.outline.now kept.new) }
 {
-    if is_known_kept(judged, kept, &obligation) {
+    if is_known_kept(program, kept, &obligation) {
         return Ok(None);
     }
-    let Err(found) = solve_at(alloc, memory, marked, judged, obligation)? else {
+    let Err(found) = solve_at(memory, program, obligation)? else {
         // Only that it is found counts here, so it may have any number.
         kept.note(&obligation, 0)?;
         return Ok(None);

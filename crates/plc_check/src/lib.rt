@@ -21,4 +21,4 @@ pub use laws::certificates_are_verified;
 pub use loading::{files_are_unique, files_fit, files_use_their_marks, load};
 pub use open::{OpenObligations, open_obligations};
 pub use outlined::{OutlineFault, with_outline};
-pub use verdict::{Verdict, check};
+pub use verdict::{Typed, Verdict, check, strongest_typing};

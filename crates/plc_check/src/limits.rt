@@ -6,7 +6,7 @@ ghost use Rattle.plc_check.specs.Refusals.{IsPassedLimit, IsWithinLimits, IsLimi
 
 use crate::judged::{Judged, LoadFault};
 use plc_base::What1;
-use plc_oblig::{count, has_large_set};
+use plc_oblig::{annotate, count, has_large_set};
 
 /// The first limit that the outline passes, if it passes one.
 fn passed_limit(judged: &Judged) -> Option<What1>
@@ -18,14 +18,14 @@ fn passed_limit(judged: &Judged) -> Option<What1>
     if count(flow, outline) > What1::Obligations.most() as u64 {
         return Some(What1::Obligations);
     }
-    if has_large_set(flow, outline) {
+    if has_large_set(&annotate(flow, outline)) {
         return Some(What1::Clauses);
     }
     None
 }
 
 /// The limit that is passed; what is judged ends here.
-fn refused(judged: Judged, what: What1) -> What1
+fn refuse(judged: Judged, what: What1) -> What1
     ensures { result ≡ what }
 {
     drop(judged);
@@ -33,13 +33,13 @@ fn refused(judged: Judged, what: What1) -> What1
 }
 
 /// What is judged, handed on where no limit is passed.
-fn handed_on(judged: Judged, passed: Option<What1>) -> Result<Judged, What1>
+fn hand_on(judged: Judged, passed: Option<What1>) -> Result<Judged, What1>
     requires { IsPassedLimit judged.flow judged.unit_outline passed }
     ensures { IsWithinLimits judged result }
 {
     match passed {
         None => Ok(judged),
-        Some(what) => Err(refused(judged, what)),
+        Some(what) => Err(refuse(judged, what)),
     }
 }
 
@@ -50,11 +50,11 @@ pub(crate) fn within_limits(judged: Judged) -> Result<Judged, What1>
     ensures { IsWithinLimits judged result }
 {
     let passed = passed_limit(&judged);
-    handed_on(judged, passed)
+    hand_on(judged, passed)
 }
 
 /// What `load` gives of what is judged.
-pub(crate) fn limited(judged: Judged) -> Result<Judged, LoadFault>
+pub(crate) fn check_limits(judged: Judged) -> Result<Judged, LoadFault>
     requires { Fits judged.flow judged.unit_outline }
     ensures { IsLimited judged result }
 {

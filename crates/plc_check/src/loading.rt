@@ -7,10 +7,11 @@ ghost use Rattle.plc_check.specs.Marks.{FilesUseTheirMarks};
 ghost use Rattle.plc_lex.specs.Spelling.{AreTokensOf, line_feeds};
 ghost use Rattle.plc_parse.specs.Fit.{UnitFits};
 ghost use Rattle.plc_auto.specs.Schemes.{schemes_of};
-ghost use Rattle.plc_check.specs.Refusals.{lex_refusal, parse_refusal, flow_refusal, unplaced, IsLowered, IsJudgedOf};
+ghost use Rattle.plc_check.specs.Refusals.{lex_refusal, parse_refusal, flow_refusal, unplaced_refusal};
+ghost use Rattle.plc_check.specs.Refusals.{IsLowered, IsJudgedOf};
 
 use crate::judged::{Judged, LoadFault};
-use crate::limits::limited;
+use crate::limits::check_limits;
 use plc_auto::{Scheme, schemes_of};
 use plc_base::{Items, What1};
 use plc_flow::{FlowFault, lower};
@@ -68,9 +69,9 @@ fn place_of(fault: &ParseFault) -> Option<u32>
     }
 }
 
-/// A fault that is told without a place: a limit, or running out of memory.
-fn unplaced(fault: ParseFault) -> LoadFault
-    ensures { result ≡ unplaced fault }
+/// The refusal that a fault without a place is: a limit, or running out of memory.
+fn unplaced_refusal(fault: ParseFault) -> LoadFault
+    ensures { result ≡ unplaced_refusal fault }
 {
     match fault {
         ParseFault::Limit { what, count } => LoadFault::Limit { what, count },
@@ -88,7 +89,7 @@ fn parse_refusal(bytes: &[u8], tokens: &[Token], fault: ParseFault) -> LoadFault
             fault,
             line: line_of(bytes, tokens, at),
         },
-        None => unplaced(fault),
+        None => unplaced_refusal(fault),
     }
 }
 
@@ -106,7 +107,7 @@ fn flow_refusal(fault: FlowFault) -> LoadFault
 }
 
 /// What is judged of a unit, with the schemes of its observer.
-fn lowered_with(alloc: Global, unit: Unit, schemes: Items<Scheme>) -> Result<Judged, LoadFault>
+fn lower_with(alloc: Global, unit: Unit, schemes: Items<Scheme>) -> Result<Judged, LoadFault>
     requires { schemes ≡ schemes_of unit.observer }
     ensures { IsLowered unit result }
 {
@@ -128,11 +129,11 @@ fn lowered_with(alloc: Global, unit: Unit, schemes: Items<Scheme>) -> Result<Jud
 }
 
 /// What is judged of a unit.
-fn lowered(alloc: Global, unit: Unit) -> Result<Judged, LoadFault>
+fn lower_unit(alloc: Global, unit: Unit) -> Result<Judged, LoadFault>
     ensures { IsLowered unit result }
 {
     match schemes_of(alloc, &unit.observer) {
-        Ok(schemes) => lowered_with(alloc, unit, schemes),
+        Ok(schemes) => lower_with(alloc, unit, schemes),
         Err(_) => {
             drop(unit);
             Err(LoadFault::Memory)
@@ -145,14 +146,14 @@ fn judged_of(alloc: Global, unit: Unit) -> Result<Judged, LoadFault>
     requires { UnitFits unit }
     ensures { IsJudgedOf unit result }
 {
-    match lowered(alloc, unit) {
-        Ok(judged) => limited(judged),
+    match lower_unit(alloc, unit) {
+        Ok(judged) => check_limits(judged),
         Err(fault) => Err(fault),
     }
 }
 
 /// What is judged of the tokens that bytes spell, or the first refusal behind those of the tokens.
-fn loaded(alloc: Global, bytes: &[u8], found: &[Token]) -> Result<Judged, LoadFault>
+fn load_tokens(alloc: Global, bytes: &[u8], found: &[Token]) -> Result<Judged, LoadFault>
     requires short { length bytes.now ≤ largest_file }
     requires few { length found.now < 2 ^ 32 }
     requires spelled { AreTokensOf bytes.now found.now }
@@ -175,7 +176,7 @@ pub fn load(alloc: Global, bytes: &[u8]) -> Result<Judged, LoadFault>
     ensures fits { IfOk result JudgedFits }
 {
     match tokens(alloc, bytes) {
-        Ok(found) => loaded(alloc, bytes, &found),
+        Ok(found) => load_tokens(alloc, bytes, &found),
         Err(fault) => Err(lex_refusal(fault)),
     }
 }

@@ -3,15 +3,14 @@
 // that the caller owns, so that the loop owns nothing large.
 ghost use Rattle.std.specs.Prelude.{◌≡◌, [], IfOk};
 ghost use Rattle.plc_setting.specs.Fit.{Fits};
-ghost use Rattle.plc_setting.specs.Marks.{program_uses_marks};
-ghost use Rattle.plc_oblig.specs.Obligations.{obligations};
+ghost use Rattle.plc_oblig.specs.Programs.{ProgramFits, obligations_of};
 ghost use Rattle.plc_check.specs.Counterexamples.{IsFirstCounterexample};
 ghost use Rattle.plc_check.specs.Open.{AreOpen};
 
 use crate::counterexample::{Counterexample, counterexample_at};
 use crate::judged::Judged;
 use plc_base::{Items, NoMemory};
-use plc_oblig::{Grounding, Noted, Walk, program_uses_marks};
+use plc_oblig::{Annotated, Grounding, Noted, Walk, annotate};
 use std::alloc::Global;
 
 /// What breaks an outline, obligation by obligation.
@@ -26,28 +25,25 @@ pub struct OpenObligations {
 /// Puts what breaks the obligations that a walk hands out into a list, until there is as much as is asked for, and
 /// answers whether all were looked at. The walk stands at its beginning, and nothing is noted or found yet.
 fn find_on_walk(
-    alloc: Global,
     memory: &mut Grounding,
-    marked: bool,
+    program: &Annotated<'_>,
     kept: &mut Noted,
     walk: &mut Walk<'_>,
-    judged: &Judged,
     most: usize,
     found: &mut Items<Counterexample>,
 ) -> Result<bool, NoMemory>
-    requires fits { Fits judged.now.flow judged.now.unit_outline }
-    requires marked { marked ≡ program_uses_marks judged.now.flow judged.now.unit_outline }
-    requires begun { walk.old ≡ obligations judged.now.flow judged.now.unit_outline }
+    requires fits { ProgramFits program.now }
+    requires begun { walk.old ≡ obligations_of program.now }
     requires none_noted { kept.old ≡ [] }
     requires none_found { found.old ≡ [] }
-    ensures { IfOk result (λ all. AreOpen judged.now.flow judged.now.unit_outline most
+    ensures { IfOk result (λ all. AreOpen program.now.flow.now program.now.outline.now most
         (record { found = found.new; all = all })) }
 {
     'obligations: while found.len() < most {
         let Some(obligation) = walk.next() else {
             return Ok(true);
         };
-        let broken = counterexample_at(alloc, memory, marked, kept, judged, obligation)?;
+        let broken = counterexample_at(memory, program, kept, obligation)?;
         let Some(broken) = broken else {
             continue;
         };
@@ -68,18 +64,16 @@ pub fn open_obligations(
     requires { Fits judged.now.flow judged.now.unit_outline }
     ensures { IfOk result (AreOpen judged.now.flow judged.now.unit_outline most) }
 {
-    let marked = program_uses_marks(&judged.flow, &judged.unit_outline);
+    let program = annotate(&judged.flow, &judged.unit_outline);
     let mut walk = Walk::new(alloc, &judged.flow, &judged.unit_outline)?;
     let mut memory = Grounding::new(alloc);
     let mut kept = Noted::new(alloc);
     let mut found = Items::new(alloc);
     let all = find_on_walk(
-        alloc,
         &mut memory,
-        marked,
+        &program,
         &mut kept,
         &mut walk,
-        judged,
         most,
         &mut found,
     );

@@ -19,7 +19,7 @@ pub enum OutlineFault {
 }
 
 /// What is judged, with another outline, whatever its limits. Its own ends here.
-fn replaced(mut judged: Judged, outline: Outline) -> Judged
+fn replace_outline(mut judged: Judged, outline: Outline) -> Judged
     ensures { result ≡ outlined judged outline }
 {
     judged.unit_outline = outline;
@@ -34,7 +34,7 @@ pub fn with_outline(judged: Judged, outline: Outline) -> Result<Judged, OutlineF
     requires { Fits judged.flow outline }
     ensures { IsOutlined judged outline result }
 {
-    match within_limits(replaced(judged, outline)) {
+    match within_limits(replace_outline(judged, outline)) {
         Ok(judged) => Ok(judged),
         Err(what) => Err(OutlineFault::Limit {
             what,

@@ -2,7 +2,7 @@
 ghost use Rattle.std.specs.Prelude.{◌≡◌, IfOk};
 ghost use Rattle.plc_setting.specs.Fit.{Fits};
 ghost use Rattle.plc_check.specs.declared.verdict.Verdict.TheVariants.{Unproved};
-ghost use Rattle.plc_check.specs.Strongest.{IsStrongestTyping, IsStrongestOrNone};
+ghost use Rattle.plc_check.specs.Strongest.{IsStrongestTyping, IsTypedAs};
 ghost use Rattle.plc_check.specs.Verdicts.{IsVerdictOn};
 
 use crate::counterexample::Counterexample;
@@ -38,22 +38,34 @@ pub enum Verdict {
     },
 }
 
-/// The strongest typing, or the verdict that there is none.
-pub(crate) fn strongest(alloc: Global, judged: &Judged) -> Result<Result<Typing, Verdict>, NoMemory>
+/// What the types of a file come to.
+#[derive(Drop)]
+pub enum Typed {
+    /// The strongest of its typings.
+    Typing(Typing),
+    /// It has none: the condition of this primitive fails under every pre-typing, as no earlier one does.
+    Untyped {
+        step: StepId,
+        prim: u16,
+        fault: TypeFault,
+    },
+}
+
+/// The strongest typing of what [`crate::load`] gave, or the condition that none meets. The one error is that memory
+/// runs out.
+pub fn strongest_typing(alloc: Global, judged: &Judged) -> Result<Typed, NoMemory>
     requires { Fits judged.now.flow judged.now.unit_outline }
-    ensures { IfOk result (IsStrongestOrNone judged.now) }
+    ensures { IfOk result (IsTypedAs judged.now) }
 {
     match infer(alloc, &judged.flow, &judged.observer) {
-        Ok(typing) => Ok(Ok(typing)),
-        Err(InferFault::Stuck { step, prim, fault }) => {
-            Ok(Err(Verdict::Untyped { step, prim, fault }))
-        }
+        Ok(typing) => Ok(Typed::Typing(typing)),
+        Err(InferFault::Stuck { step, prim, fault }) => Ok(Typed::Untyped { step, prim, fault }),
         Err(InferFault::Memory) => Err(NoMemory),
     }
 }
 
 /// The verdict that an obligation isn't kept.
-pub(crate) fn unproved(found: Counterexample) -> Verdict
+pub(crate) fn unproved_verdict(found: Counterexample) -> Verdict
     ensures { result ≡ Unproved found.obligation found.set found.model }
 {
     Verdict::Unproved {
@@ -66,7 +78,7 @@ pub(crate) fn unproved(found: Counterexample) -> Verdict
 /// The verdict where there is a typing: by the outline alone.
 fn judge_outline(alloc: Global, judged: &Judged, typing: Typing) -> Result<Verdict, NoMemory>
     requires fits { Fits judged.now.flow judged.now.unit_outline }
-    requires typing { IsStrongestTyping judged.now typing }
+    requires typing { IsStrongestTyping judged.now typing.env }
     ensures { IfOk result (IsVerdictOn judged.now) }
 {
     match first_counterexample(alloc, judged)? {
@@ -74,7 +86,7 @@ fn judge_outline(alloc: Global, judged: &Judged, typing: Typing) -> Result<Verdi
             typing,
             obligations: count(&judged.flow, &judged.unit_outline),
         }),
-        Some(found) => Ok(unproved(found)),
+        Some(found) => Ok(unproved_verdict(found)),
     }
 }
 
@@ -85,8 +97,8 @@ pub fn check(alloc: Global, judged: &Judged) -> Result<Verdict, NoMemory>
     requires { Fits judged.now.flow judged.now.unit_outline }
     ensures { IfOk result (IsVerdictOn judged.now) }
 {
-    match strongest(alloc, judged)? {
-        Ok(typing) => judge_outline(alloc, judged, typing),
-        Err(verdict) => Ok(verdict),
+    match strongest_typing(alloc, judged)? {
+        Typed::Typing(typing) => judge_outline(alloc, judged, typing),
+        Typed::Untyped { step, prim, fault } => Ok(Verdict::Untyped { step, prim, fault }),
     }
 }

@@ -9,7 +9,7 @@ use Rattle.plc_outside.specs.Known.{KnownFiles, KnownSink}
 use Rattle.plc_outside.specs.Outside.{Rose, Appends}
 use Rattle.plc_outside.specs.Reading.{Reading}
 use Rattle.plc_reclaim.specs.Meanings.{Meanings}
-use Rattle.plc_texts.specs.Refusals.{read_too_long}
+use Rattle.plc_texts.specs.Refusals.{read_too_long_text}
 use Rattle.plc_cli.specs.Answer.{IsReplayOf, IsDueFor, IsWritten, Outcome}
 use Rattle.plc_cli.specs.Certificates.{IsCertificateOf, IsVerificationOf}
 use Rattle.plc_cli.specs.Completeness.{files_of, AreTold, AreShort, NoneRose, IsAnswerOf, IsAnswered, IsToldTooLong}
@@ -48,7 +48,7 @@ module _ (old new : KnownFiles) (status : ℕ) (text : List ℕ) where
   record IsLong (file : List ℕ × ℕ) : Type 0 where
     pub long : IsSomeAnd (old.content file.0) (λ bytes. file.1 < length bytes)
     pub status_is : status ≡ unread
-    pub text_is : text ≡ read_too_long
+    pub text_is : text ≡ read_too_long_text
 
   -- the same of one of the files among the words
   abbrev IsOneLong : Option Request → Type 0

@@ -2,13 +2,13 @@
 use Rattle.std.proofs.Common.{◌≡◌, inl, inr, ℕ, List, subst}
 use Rattle.plc_type.specs.declared.env.Env.{Env}
 use Rattle.plc_logic.specs.declared.clause.Outline.{Outline}
-use Rattle.plc_at.specs.declared.located.Located.{Located}
+use Rattle.plc_at.specs.declared.claim.LocationClaim.{LocationClaim}
 use Rattle.plc_check.specs.declared.judged.Judged.{Judged}
 use Rattle.plc_check.specs.Outlined.{outlined}
 use Rattle.plc_cli.specs.Locations.{AreClaimsAnswered, AreExtended, extended_of}
 use Rattle.plc_cli.specs.Views.{IsAnsweredWith}
 
-module _ (j : Judged) (none : Outline) (claims : List Located) (typing : List Env)
+module _ (j : Judged) (none : Outline) (claims : List LocationClaim) (typing : List Env)
     (extends : AreExtended j claims typing) (status : ℕ) (text : List ℕ) where
   by_extension : IsAnsweredWith (outlined j none) (extended_of j typing claims) claims status text
       → AreClaimsAnswered j claims status text

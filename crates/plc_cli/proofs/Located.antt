@@ -12,12 +12,12 @@ use Rattle.plc_setting.specs.Fit.{Fits}
 use Rattle.plc_oblig.specs.Outlines.{OutlineHolds}
 use Rattle.plc_run.specs.Run.{NeverRaces}
 use Rattle.plc_run.proofs.Observed.{observed}
-use Rattle.plc_typesound.proofs.Moves.{sound}
+use Rattle.plc_sound.proofs.Moves.{sound}
 use Rattle.plc_erasure.proofs.Runs.{erasure, true_claims}
 use Rattle.plc_held.proofs.Kept.{held_outlines}
 use Rattle.plc_joint.specs.Located.{ClaimsAreTrue, LocatedClaimsAreTrue}
 use Rattle.plc_joint.proofs.Located.{located_claims}
-use Rattle.plc_at.specs.declared.located.Located.{Located}
+use Rattle.plc_at.specs.declared.claim.LocationClaim.{LocationClaim}
 use Rattle.plc_at.specs.Claims.{ClaimFits}
 use Rattle.plc_at.specs.Extended.{added_items}
 use Rattle.plc_at.proofs.ExtendedFits.{extended_fits}
@@ -46,7 +46,7 @@ located_claims_are_true = located_claims sound erasure true_claims held_outlines
 -- ---- what the answer to claims says
 
 module _ (status : ℕ) (text : List ℕ) (zero : status ≡ holds) where
-  module _ (u : FileUnit) (judged_fits : JudgedFits (judged_of u)) (claims : List Located)
+  module _ (u : FileUnit) (judged_fits : JudgedFits (judged_of u)) (claims : List LocationClaim)
       (fit : All (ClaimFits (flow_of u.file)) claims) where
     -- no run races, and the claims are true
     abbrev IsLocatedSafely : Type 0

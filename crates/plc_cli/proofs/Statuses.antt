@@ -15,7 +15,7 @@ use Rattle.plc_check.specs.declared.certified.Certified.{Certified}
 use Rattle.plc_check.specs.declared.certified.Certified.TheVariants.{Yes, No}
 use Rattle.plc_suggest.specs.declared.suggestion.Suggestion.{Suggestion}
 use Rattle.plc_suggest.specs.declared.suggestion.Suggestion.TheVariants.{Found, Insufficient}
-use Rattle.plc_at.specs.declared.located.Located.{Located}
+use Rattle.plc_at.specs.declared.claim.LocationClaim.{LocationClaim}
 use Rattle.plc_check.specs.Loading.{judged_of}
 use Rattle.plc_cli.specs.Certificates.{IsCertifiedAs, IsCertificateOf, IsCertificateJudged, IsCertificateAnswered, IsVerificationOf, certified_status}
 use Rattle.plc_cli.specs.Files.{IsAnsweredFile, IsTold, IsJudgedAs, IsAnswerTo, IsPrintedAs, IsPrintOf}
@@ -99,7 +99,7 @@ module _ (status : ℕ) (text : List ℕ) where
   pub suggest_low : (bytes : List ℕ) → IsSuggestionOf bytes status text → status ≤ 3
   suggest_low bytes = answered_low (λ u. IsSuggestionAnswered (judged_of u)) (λ u. suggested_low (judged_of u)) bytes
 
-  claims_low : (j : Judged) (claims : List Located) → AreClaimsAnswered j claims status text → status ≤ 3
+  claims_low : (j : Judged) (claims : List LocationClaim) → AreClaimsAnswered j claims status text → status ≤ 3
   claims_low j claims (inl untyped) = omega (arith, untyped.status_is)
   claims_low j claims (inr (inl unlocated)) = omega (arith, unlocated.status_is)
   claims_low j claims (inr (inr (inl many))) = omega (arith, many.status_is)

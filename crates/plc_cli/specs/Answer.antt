@@ -12,8 +12,8 @@ use Rattle.plc_sched.specs.declared.fault.SchedFault.TheVariants as sched
 use Rattle.plc_sched.specs.Schedules.{IsScheduleOf, IsScheduleFault}
 use Rattle.plc_reclaim.specs.Meanings.{Meanings}
 use Rattle.plc_replay.specs.Outcome.{ComesTo}
-use Rattle.plc_texts.specs.Refusals.{words_refused}
-use Rattle.plc_texts.specs.Replays.{schedule_text, end_text}
+use Rattle.plc_texts.specs.Refusals.{words_refused_text}
+use Rattle.plc_texts.specs.Replays.{schedule_fault_text, end_text}
 use Rattle.plc_cli.specs.Certificates.{IsCertificateOf, IsVerificationOf}
 use Rattle.plc_cli.specs.Files.{IsAnsweredFile, IsTold, IsAnswerTo, IsPrintOf}
 use Rattle.plc_cli.specs.Reads.{IsDueForFile, IsDueForPair}
@@ -31,7 +31,7 @@ pub record IsRefusedSchedule (bytes : List ℕ) (status : ℕ) (text : List ℕ)
   pub has : IsScheduleFault bytes fault
   pub told : fault ≢ sched.Memory
   pub status_is : status ≡ refused
-  pub text_is : text ≡ schedule_text fault
+  pub text_is : text ≡ schedule_fault_text fault
 
 -- what the schedule leads to under a reclaimer
 abbrev pub IsEndOf : Judged → Meanings → Schedule → ℕ → List ℕ → Type 0
@@ -59,7 +59,7 @@ IsReplayOf reclaimer bytes second status text =
 pub record IsWordsRefused (old new : KnownFiles) (status : ℕ) (text : List ℕ) : Type 0 where
   pub untouched : new ≡ old
   pub status_is : status ≡ bad_words
-  pub text_is : text ≡ words_refused
+  pub text_is : text ≡ words_refused_text
 
 -- what is due for a replay under the reclaimer of this number
 pub record IsDueForReplay

@@ -12,7 +12,7 @@ use Rattle.plc_check.specs.declared.certified.Certified.{Certified}
 use Rattle.plc_check.specs.declared.certified.Certified.TheVariants.{Yes, No}
 use Rattle.plc_check.specs.Loading.{judged_of}
 use Rattle.plc_check.specs.Certified.{IsCertified}
-use Rattle.plc_texts.specs.Certificates.{certificate_line, certificate_text, verified_text, invalid_text}
+use Rattle.plc_texts.specs.Certificates.{certificate_line, certificate_fault_text, verified_text, invalid_text}
 use Rattle.plc_cli.specs.Files.{IsAnsweredFile, IsTold}
 use Rattle.plc_cli.specs.Statuses.{holds, fails, refused}
 use Rattle.plc_cli.specs.Verdicts.{verdict_status, verdict_text}
@@ -45,7 +45,7 @@ pub record IsRefusedCertificate (bytes : List ℕ) (status : ℕ) (text : List �
   pub is_fault : reading bytes ≡ Err fault
   pub told : fault ≢ faults.Memory
   pub status_is : status ≡ refused
-  pub text_is : text ≡ certificate_text fault
+  pub text_is : text ≡ certificate_fault_text fault
 
 -- the certificate is valid
 pub record IsVerified (j : Judged) (cert : Cert) (status : ℕ) (text : List ℕ) : Type 0 where

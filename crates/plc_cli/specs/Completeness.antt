@@ -8,7 +8,7 @@ use Rattle.plc_outside.specs.HonestFiles as honest
 use Rattle.plc_outside.specs.Known.{KnownFiles, KnownSink}
 use Rattle.plc_outside.specs.Outside.{Rose, Appends}
 use Rattle.plc_reclaim.specs.Meanings.{Meanings}
-use Rattle.plc_texts.specs.Refusals.{read_too_long, words_refused}
+use Rattle.plc_texts.specs.Refusals.{read_too_long_text, words_refused_text}
 use Rattle.plc_cli.specs.Answer.{IsReplayOf}
 use Rattle.plc_cli.specs.Certificates.{IsCertificateOf, IsVerificationOf}
 use Rattle.plc_cli.specs.Files.{IsAnswerTo, IsPrintOf}
@@ -48,7 +48,7 @@ NoneRose request old new = All (λ file. new.faults file.0 ≡ old.faults file.0
 
 -- the status and the text that are due to the contents, which are told; words of no listed form are refused
 abbrev pub IsAnswerOf : List Meanings → Option Request → KnownFiles → ℕ → List ℕ → Type 0
-IsAnswerOf reclaimers None files status text = (status ≡ bad_words) × (text ≡ words_refused)
+IsAnswerOf reclaimers None files status text = (status ≡ bad_words) × (text ≡ words_refused_text)
 IsAnswerOf reclaimers (Some (Check name)) files status text =
     IsSomeAnd (files.content name) (λ bytes. IsAnswerTo bytes status text)
 IsAnswerOf reclaimers (Some (Certify name)) files status text =
@@ -82,21 +82,21 @@ pub record IsToldTooLong (request : Option Request) (files : KnownFiles) (sink s
   pub among : Contains (files_of request) file
   pub long : IsSomeAnd (files.content file.0) (λ bytes. file.1 < length bytes)
   pub status_is : result ≡ unread
-  pub written : Appends sink.written sink_now.written read_too_long
+  pub written : Appends sink.written sink_now.written read_too_long_text
 
 -- ---- where it is given
 
 -- the sink has room for `read too long`, and for whatever is due to the contents
 pub record HasRoom (reclaimers : List Meanings) (request : Option Request) (files : KnownFiles) (sink : KnownSink)
     : Type 0 where
-  pub long : length read_too_long ≤ sink.room
+  pub long : length read_too_long_text ≤ sink.room
   pub due : (status : ℕ) (text : List ℕ) → IsAnswerOf reclaimers request files status text → length text ≤ sink.room
 
 -- it lacks the room for a text that is to be written: one that is due to the contents, or `read too long`
 pub record LacksRoom (reclaimers : List Meanings) (request : Option Request) (files : KnownFiles) (sink : KnownSink)
     : Type 0 where
   pub text : List ℕ
-  pub due : ((status : ℕ) × IsAnswerOf reclaimers request files status text) ⊎ (text ≡ read_too_long)
+  pub due : ((status : ℕ) × IsAnswerOf reclaimers request files status text) ⊎ (text ≡ read_too_long_text)
   pub longer : sink.room < length text
 
 -- The status with such a room: 4 and 5 come only as `read too long`, and with each status but 4 and 6 what is due to

@@ -7,7 +7,7 @@ use Rattle.plc_check.specs.declared.judged.LoadFault.{LoadFault}
 use Rattle.plc_check.specs.declared.judged.LoadFault.TheVariants.{Memory}
 use Rattle.plc_check.specs.Loading.{IsFileOf, HasFault, judged_of}
 use Rattle.plc_check.specs.Verdicts.{IsVerdictOn}
-use Rattle.plc_cli.specs.Refusals.{load_text}
+use Rattle.plc_cli.specs.Refusals.{load_fault_text}
 use Rattle.plc_cli.specs.Statuses.{holds, refused}
 use Rattle.plc_cli.specs.Verdicts.{verdict_status, verdict_text}
 
@@ -18,7 +18,7 @@ pub record IsRefusedFile (bytes : List ℕ) (status : ℕ) (text : List ℕ) : T
   pub told : fault ≢ Memory
   pub none : (u : FileUnit) → IsFileOf bytes u → ⊥
   pub status_is : status ≡ refused
-  pub text_is : text ≡ load_text fault
+  pub text_is : text ≡ load_fault_text fault
 
 -- the bytes spell a file, for which this is due
 pub record IsSpelledFile (IsDue : FileUnit → ℕ → List ℕ → Type 0) (bytes : List ℕ) (status : ℕ) (text : List ℕ)

@@ -18,7 +18,7 @@ use Rattle.plc_xfer.specs.Typings.{IsTyping, IsStrongest, IsStuckAt}
 use Rattle.plc_oblig.specs.Outlines.{HasFewObligations, HasSmallSets}
 use Rattle.plc_run.specs.Run.{NeverRaces}
 use Rattle.plc_joint.specs.Located.{ClaimsAreTrue}
-use Rattle.plc_at.specs.declared.located.Located.{Located}
+use Rattle.plc_at.specs.declared.claim.LocationClaim.{LocationClaim}
 use Rattle.plc_at.specs.Claims.{SpellClaims, ClaimsStopAt}
 use Rattle.plc_at.specs.Extended.{AreLocated, IsFirstUnlocated, extended, most_items}
 use Rattle.plc_check.specs.declared.judged.Judged.{Judged}
@@ -27,8 +27,8 @@ use Rattle.plc_check.specs.declared.verdict.Verdict.TheVariants.{Safe, Untyped, 
 use Rattle.plc_check.specs.Loading.{IsFileOf, HasLexFault, judged_of}
 use Rattle.plc_check.specs.Outlined.{outlined, IsOutlineLimit}
 use Rattle.plc_check.specs.Verdicts.{IsVerdictOn}
-use Rattle.plc_texts.specs.Claims.{claim_text, unlocated_text, located_text}
-use Rattle.plc_texts.specs.Refusals.{lex_text, limit_text}
+use Rattle.plc_texts.specs.Claims.{claim_fault_text, unlocated_text, located_text}
+use Rattle.plc_texts.specs.Refusals.{lex_fault_text, limit_text}
 use Rattle.plc_texts.specs.Untyped.{untyped_text}
 use Rattle.plc_cli.specs.Files.{IsAnsweredFile, IsTold}
 use Rattle.plc_cli.specs.Reads.{IsGivenPair}
@@ -53,7 +53,7 @@ pub record IsStrongestTypingOf (j : Judged) (typing : List Env) : Type 0 where
   pub strongest : IsStrongest j.observer (skeleton_of j.flow) typing
 
 -- the first claim that isn't located under it
-pub record IsUnlocatedAs (j : Judged) (claims : List Located) (status : ℕ) (text : List ℕ) : Type 0 where
+pub record IsUnlocatedAs (j : Judged) (claims : List LocationClaim) (status : ℕ) (text : List ℕ) : Type 0 where
   pub typing : List Env
   pub strongest : IsStrongestTypingOf j typing
   pub claim : ℕ
@@ -62,11 +62,11 @@ pub record IsUnlocatedAs (j : Judged) (claims : List Located) (status : ℕ) (te
   pub text_is : text ≡ unlocated_text claim
 
 -- the file's outline, extended by the claims under a typing
-abbrev pub extended_of : Judged → List Env → List Located → Outline
+abbrev pub extended_of : Judged → List Env → List LocationClaim → Outline
 extended_of j typing claims = extended j.flow j.observer typing claims j.unit_outline
 
 -- each claim is located, and the extended outline has more items than it may have
-pub record HasTooManyItems (j : Judged) (claims : List Located) (status : ℕ) (text : List ℕ) : Type 0 where
+pub record HasTooManyItems (j : Judged) (claims : List LocationClaim) (status : ℕ) (text : List ℕ) : Type 0 where
   pub typing : List Env
   pub strongest : IsStrongestTypingOf j typing
   pub located : AreLocated j.flow j.observer typing claims
@@ -75,13 +75,13 @@ pub record HasTooManyItems (j : Judged) (claims : List Located) (status : ℕ) (
   pub text_is : text ≡ limit_text limits.Items (most_items + 1)
 
 -- each claim is located, and the extended outline has no more items than it may have
-pub record AreExtended (j : Judged) (claims : List Located) (typing : List Env) : Type 0 where
+pub record AreExtended (j : Judged) (claims : List LocationClaim) (typing : List Env) : Type 0 where
   pub strongest : IsStrongestTypingOf j typing
   pub located : AreLocated j.flow j.observer typing claims
   pub few : length (extended_of j typing claims).items ≤ most_items
 
 -- the extended outline passes a limit
-pub record HasLargeOutline (j : Judged) (claims : List Located) (status : ℕ) (text : List ℕ) : Type 0 where
+pub record HasLargeOutline (j : Judged) (claims : List LocationClaim) (status : ℕ) (text : List ℕ) : Type 0 where
   pub typing : List Env
   pub extends : AreExtended j claims typing
   pub what : What1
@@ -91,13 +91,13 @@ pub record HasLargeOutline (j : Judged) (claims : List Located) (status : ℕ) (
   pub text_is : text ≡ limit_text what count
 
 -- the line of claims that are proved, or the verdict's text
-abbrev pub located_verdict_text : Judged → List Located → Verdict → List ℕ
+abbrev pub located_verdict_text : Judged → List LocationClaim → Verdict → List ℕ
 located_verdict_text j claims (Safe typing count) = located_text (length claims) count
 located_verdict_text j claims (Untyped step prim fault) = verdict_text j (Untyped step prim fault)
 located_verdict_text j claims (Unproved obligation set model) = verdict_text j (Unproved obligation set model)
 
 -- any verdict that is right on the file with the extended outline, which is within its limits
-pub record IsLocatedAs (j : Judged) (claims : List Located) (status : ℕ) (text : List ℕ) : Type 0 where
+pub record IsLocatedAs (j : Judged) (claims : List LocationClaim) (status : ℕ) (text : List ℕ) : Type 0 where
   pub typing : List Env
   pub extends : AreExtended j claims typing
   pub few : HasFewObligations j.flow (extended_of j typing claims)
@@ -106,7 +106,7 @@ pub record IsLocatedAs (j : Judged) (claims : List Located) (status : ℕ) (text
       (located_verdict_text (outlined j (extended_of j typing claims)) claims) status text
 
 -- what is answered to claims: the first of these
-abbrev pub AreClaimsAnswered : Judged → List Located → ℕ → List ℕ → Type 0
+abbrev pub AreClaimsAnswered : Judged → List LocationClaim → ℕ → List ℕ → Type 0
 AreClaimsAnswered j claims status text =
     IsUntypedAs j status text ⊎ IsUnlocatedAs j claims status text ⊎ HasTooManyItems j claims status text
     ⊎ HasLargeOutline j claims status text ⊎ IsLocatedAs j claims status text
@@ -118,7 +118,7 @@ pub record AreNoTokens (second : List ℕ) (status : ℕ) (text : List ℕ) : Ty
   pub fault : LexFault
   pub has : HasLexFault second fault
   pub status_is : status ≡ refused
-  pub text_is : text ≡ lex_text fault
+  pub text_is : text ≡ lex_fault_text fault
 
 -- their tokens are no claims for this file, which is known at this place
 pub record AreNoClaims (j : Judged) (second : List ℕ) (status : ℕ) (text : List ℕ) : Type 0 where
@@ -127,13 +127,13 @@ pub record AreNoClaims (j : Judged) (second : List ℕ) (status : ℕ) (text : L
   pub place : ℕ
   pub stops : ClaimsStopAt j.flow j.observer (kinds tokens) place
   pub status_is : status ≡ refused
-  pub text_is : text ≡ claim_text place
+  pub text_is : text ≡ claim_fault_text place
 
 -- they are claims, which are answered
 pub record AreClaims (j : Judged) (second : List ℕ) (status : ℕ) (text : List ℕ) : Type 0 where
   pub tokens : List Token
   pub spelled : AreTokensOf second tokens
-  pub claims : List Located
+  pub claims : List LocationClaim
   pub read : SpellClaims j.flow j.observer (kinds tokens) claims
   pub answer : AreClaimsAnswered j claims status text
 
@@ -156,7 +156,7 @@ pub record IsLocatedProgram (bytes second : List ℕ) : Type 0 where
   pub spelled : IsFileOf bytes unit
   pub tokens : List Token
   pub spelled_second : AreTokensOf second tokens
-  pub claims : List Located
+  pub claims : List LocationClaim
   pub read : SpellClaims (flow_of unit.file) unit.observer (kinds tokens) claims
   pub safe : NeverRaces (flow_of unit.file) unit.observer
   pub true_claims : ClaimsAreTrue (flow_of unit.file) unit.observer claims

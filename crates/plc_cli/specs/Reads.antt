@@ -4,7 +4,7 @@ use Rattle.std.specs.Prelude.{List, [], ◌∷◌, ◌++◌, length, IfSome}
 use Rattle.plc_base.specs.Limits.{largest_file}
 use Rattle.plc_outside.specs.Known.{KnownFiles}
 use Rattle.plc_outside.specs.Reading.{Reading}
-use Rattle.plc_texts.specs.Refusals.{read_failed, read_too_long}
+use Rattle.plc_texts.specs.Refusals.{read_failed_text, read_too_long_text}
 use Rattle.plc_cli.specs.declared.reading.Content.{Content}
 use Rattle.plc_cli.specs.declared.reading.Content.TheVariants as one
 use Rattle.plc_cli.specs.declared.reading.Contents.{Contents}
@@ -45,7 +45,7 @@ pub record IsReadFailed (may : List ℕ → Type 0) (old new : KnownFiles) (befo
   pub others : NoFaultBut may old new
   pub gave : Gave old new before
   pub status_is : status ≡ unread
-  pub text_is : text ≡ read_failed
+  pub text_is : text ≡ read_failed_text
 
 -- more bytes were taken than the file may have, and where the content is told it is longer
 pub record IsReadTooLong (may : List ℕ → Type 0) (old new : KnownFiles) (before : List Reading) (name : List ℕ)
@@ -55,7 +55,7 @@ pub record IsReadTooLong (may : List ℕ → Type 0) (old new : KnownFiles) (bef
   pub long : most < new.taken
   pub told : IfSome (old.content name) (λ c. most < length c)
   pub status_is : status ≡ unread
-  pub text_is : text ≡ read_too_long
+  pub text_is : text ≡ read_too_long_text
 
 -- the read gave no bytes: it failed, or the file is too long
 abbrev pub IsUnread : (List ℕ → Type 0) → KnownFiles → KnownFiles → List Reading → List ℕ → ℕ → ℕ → List ℕ → Type 0

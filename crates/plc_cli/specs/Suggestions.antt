@@ -13,7 +13,7 @@ use Rattle.plc_suggest.specs.declared.suggestion.Suggestion.TheVariants.{Found, 
 use Rattle.plc_suggest.specs.Spots.{spots_of}
 use Rattle.plc_suggest.specs.Needed.{IsLeastTypable, IsNeverTypable}
 use Rattle.plc_suggest.specs.Suggestions.{IsSuggestion, most_spots}
-use Rattle.plc_texts.specs.Suggestions.{suggested_text, insufficient_text, spots_text}
+use Rattle.plc_texts.specs.Suggestions.{suggested_text, insufficient_text, spots_limit_text}
 use Rattle.plc_cli.specs.Files.{IsAnsweredFile, IsTold}
 use Rattle.plc_cli.specs.Reads.{IsGivenFile}
 use Rattle.plc_cli.specs.Requests.{Request, Suggest}
@@ -39,7 +39,7 @@ spot_count j = length (spots_of (skeleton_of j.flow))
 pub record HasTooManySpots (j : Judged) (status : ℕ) (text : List ℕ) : Type 0 where
   pub many : most_spots < spot_count j
   pub status_is : status ≡ refused
-  pub text_is : text ≡ spots_text (most_spots + 1)
+  pub text_is : text ≡ spots_limit_text (most_spots + 1)
 
 -- there are no more, and a right suggestion is the answer
 pub record IsSuggestedAs (j : Judged) (status : ℕ) (text : List ℕ) : Type 0 where

@@ -8,13 +8,13 @@ use Rattle.plc_syntax.specs.Syntax.{kinds}
 use Rattle.plc_logic.specs.declared.clause.Outline.{Outline}
 use Rattle.plc_infer.specs.declared.typing.Typing.{Typing}
 use Rattle.plc_oblig.specs.Outlines.{HasFewObligations, HasSmallSets}
-use Rattle.plc_at.specs.declared.located.Located.{Located}
+use Rattle.plc_at.specs.declared.claim.LocationClaim.{LocationClaim}
 use Rattle.plc_at.specs.Claims.{SpellClaims, ClaimsStopAt, ClaimFits}
 use Rattle.plc_parse.specs.declared.unit.Unit.{Unit as FileUnit}
 use Rattle.plc_check.specs.declared.judged.Judged.{Judged}
 use Rattle.plc_check.specs.Outlined.{outlined, IsOutlineLimit}
 use Rattle.plc_check.specs.Verdicts.{IsVerdictOn}
-use Rattle.plc_texts.specs.Claims.{claim_text}
+use Rattle.plc_texts.specs.Claims.{claim_fault_text}
 use Rattle.plc_texts.specs.Refusals.{limit_text}
 use Rattle.plc_sample.specs.Numbers.{sample_lines}
 use Rattle.plc_cli.specs.declared.answer.Answer.{Answer}
@@ -59,23 +59,23 @@ pub record AreNoClaimsIn (j : Judged) (ts : List Token) (status : ℕ) (text : L
   pub place : ℕ
   pub stops : ClaimsStopAt j.flow j.observer (kinds ts) place
   pub status_is : status ≡ refused
-  pub text_is : text ≡ claim_text place
+  pub text_is : text ≡ claim_fault_text place
 
 -- the claims that tokens spell, or the answer where they spell none
-abbrev pub AreReadTokens : Judged → List Token → Result (List Located) Answer → Type 0
+abbrev pub AreReadTokens : Judged → List Token → Result (List LocationClaim) Answer → Type 0
 AreReadTokens j ts (Ok claims) =
     SpellClaims j.flow j.observer (kinds ts) claims × All (ClaimFits j.flow) claims
 AreReadTokens j ts (Err answer) = AreNoClaimsIn j ts answer.status answer.text.items
 
 -- the bytes spell tokens, which spell these claims
-pub record SpellFittingClaims (j : Judged) (second : List ℕ) (claims : List Located) : Type 0 where
+pub record SpellFittingClaims (j : Judged) (second : List ℕ) (claims : List LocationClaim) : Type 0 where
   pub tokens : List Token
   pub spelled : AreTokensOf second tokens
   pub read : SpellClaims j.flow j.observer (kinds tokens) claims
   pub fit : All (ClaimFits j.flow) claims
 
 -- the claims that bytes spell, or the answer where they spell none
-abbrev pub AreReadClaims : Judged → List ℕ → Result (List Located) Answer → Type 0
+abbrev pub AreReadClaims : Judged → List ℕ → Result (List LocationClaim) Answer → Type 0
 AreReadClaims j second (Ok claims) = SpellFittingClaims j second claims
 AreReadClaims j second (Err answer) =
     AreNoTokens second answer.status answer.text.items ⊎ AreNoClaims j second answer.status answer.text.items
@@ -94,14 +94,14 @@ pub record IsOutlineLimitTold (j : Judged) (outline : Outline) (status : ℕ) (t
   pub text_is : text ≡ limit_text what count
 
 -- it is within its limits, and any verdict is told that is right on the file with it
-pub record IsVerdictTold (j : Judged) (outline : Outline) (claims : List Located) (status : ℕ) (text : List ℕ) : Type 0
-  where
-    pub few : HasFewObligations j.flow outline
-    pub small : HasSmallSets j.flow outline
-    pub answer : IsTold (IsVerdictOn (outlined j outline)) verdict_status
-        (located_verdict_text (outlined j outline) claims) status text
+pub record IsVerdictTold (j : Judged) (outline : Outline) (claims : List LocationClaim) (status : ℕ) (text : List ℕ)
+    : Type 0 where
+  pub few : HasFewObligations j.flow outline
+  pub small : HasSmallSets j.flow outline
+  pub answer : IsTold (IsVerdictOn (outlined j outline)) verdict_status
+      (located_verdict_text (outlined j outline) claims) status text
 
 -- what is answered to claims by an outline that says what they need
-abbrev pub IsAnsweredWith : Judged → Outline → List Located → ℕ → List ℕ → Type 0
+abbrev pub IsAnsweredWith : Judged → Outline → List LocationClaim → ℕ → List ℕ → Type 0
 IsAnsweredWith j outline claims status text =
     IsOutlineLimitTold j outline status text ⊎ IsVerdictTold j outline claims status text

@@ -1,12 +1,12 @@
 // An answer, and those that need no more than a refusal.
 ghost use Rattle.std.specs.Prelude.{◌≡◌, IfOk};
-ghost use Rattle.plc_texts.specs.Refusals.{words_refused};
-ghost use Rattle.plc_cli.specs.Refusals.{load_text};
+ghost use Rattle.plc_texts.specs.Refusals.{words_refused_text};
+ghost use Rattle.plc_cli.specs.Refusals.{load_fault_text};
 ghost use Rattle.plc_cli.specs.Statuses.{bad_words, refused};
 
 use crate::status::{BAD_WORDS, REFUSED};
 use plc_check::LoadFault;
-use plc_texts::{lexical, limit, parsed, words_refused};
+use plc_texts::{lex_fault_text, limit_text, parse_fault_text, words_refused_text};
 use std::alloc::{AllocError, Global};
 
 /// A status with its text.
@@ -17,33 +17,33 @@ pub struct Answer {
 }
 
 /// The answer to words of no listed form. The one error is that memory runs out.
-pub fn refused_words(alloc: Global) -> Result<Answer, AllocError>
-    ensures { IfOk result (λ answer. (answer.status ≡ bad_words) × (answer.text.items ≡ words_refused)) }
+pub fn words_refusal(alloc: Global) -> Result<Answer, AllocError>
+    ensures { IfOk result (λ answer. (answer.status ≡ bad_words) × (answer.text.items ≡ words_refused_text)) }
 {
     Ok(Answer {
         status: BAD_WORDS,
-        text: words_refused(alloc)?,
+        text: words_refused_text(alloc)?,
     })
 }
 
 /// The text of a refusal; running out of memory has none.
-fn refusal_text(alloc: Global, fault: &LoadFault) -> Result<Vec<u8>, AllocError>
-    ensures { IfOk result (λ text. text.items ≡ load_text fault.now) }
+fn load_fault_text(alloc: Global, fault: &LoadFault) -> Result<Vec<u8>, AllocError>
+    ensures { IfOk result (λ text. text.items ≡ load_fault_text fault.now) }
 {
     match fault {
-        LoadFault::Lex(fault) => lexical(alloc, *fault),
-        LoadFault::Parse { fault, line } => parsed(alloc, fault, *line),
-        LoadFault::Limit { what, count } => limit(alloc, *what, *count),
+        LoadFault::Lex(fault) => lex_fault_text(alloc, *fault),
+        LoadFault::Parse { fault, line } => parse_fault_text(alloc, fault, *line),
+        LoadFault::Limit { what, count } => limit_text(alloc, *what, *count),
         LoadFault::Memory => Ok(Vec::new(alloc)),
     }
 }
 
 /// The answer to a file that is refused. The one error is that memory runs out.
 pub fn refusal(alloc: Global, fault: &LoadFault) -> Result<Answer, AllocError>
-    ensures { IfOk result (λ answer. (answer.status ≡ refused) × (answer.text.items ≡ load_text fault.now)) }
+    ensures { IfOk result (λ answer. (answer.status ≡ refused) × (answer.text.items ≡ load_fault_text fault.now)) }
 {
     Ok(Answer {
         status: REFUSED,
-        text: refusal_text(alloc, fault)?,
+        text: load_fault_text(alloc, fault)?,
     })
 }

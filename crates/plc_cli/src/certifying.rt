@@ -7,19 +7,19 @@ ghost use Rattle.plc_cli.specs.Statuses.{holds};
 
 use crate::answer::Answer;
 use crate::asking::Question;
-use crate::checking::told;
+use crate::checking::verdict_answer;
 use crate::status::HOLDS;
 use plc_base::NoMemory;
 use plc_cert::Cert;
 use plc_check::{Certified, Judged, certify};
-use plc_texts::certified;
+use plc_texts::certificate_line;
 use std::alloc::{AllocError, Global};
 
 /// The answer that writes a certificate.
-fn shown(alloc: Global, cert: Cert) -> Result<Answer, AllocError>
+fn certificate_answer(alloc: Global, cert: Cert) -> Result<Answer, AllocError>
     ensures { IfOk result (λ answer. (answer.status ≡ holds) × (answer.text.items ≡ certificate_line cert)) }
 {
-    let text = certified(alloc, &cert);
+    let text = certificate_line(alloc, &cert);
     drop(cert);
     Ok(Answer {
         status: HOLDS,
@@ -36,8 +36,8 @@ impl Question for ForCertificate {
 
     fn answer(&self, alloc: Global, judged: &Judged) -> Result<Answer, AllocError> {
         match certify(alloc, judged) {
-            Ok(Certified::Yes(cert)) => shown(alloc, cert),
-            Ok(Certified::No(verdict)) => told(alloc, judged, verdict),
+            Ok(Certified::Yes(cert)) => certificate_answer(alloc, cert),
+            Ok(Certified::No(verdict)) => verdict_answer(alloc, judged, verdict),
             Err(NoMemory) => Err(AllocError),
         }
     }

@@ -8,7 +8,7 @@ use crate::asking::Question;
 use crate::status::{FAILS, HOLDS};
 use plc_base::NoMemory;
 use plc_check::{Judged, Verdict, check};
-use plc_texts::{safe, unproved, untyped};
+use plc_texts::{FailedCondition, safe_text, unproved_text, untyped_text};
 use std::alloc::{AllocError, Global};
 
 /// The question for the verdict on a file.
@@ -20,7 +20,7 @@ impl Question for ForVerdict {
 
     fn answer(&self, alloc: Global, judged: &Judged) -> Result<Answer, AllocError> {
         match check(alloc, judged) {
-            Ok(verdict) => told(alloc, judged, verdict),
+            Ok(verdict) => verdict_answer(alloc, judged, verdict),
             Err(NoMemory) => Err(AllocError),
         }
     }
@@ -49,24 +49,36 @@ pub fn verdict_text(
         Verdict::Safe {
             typing,
             obligations,
-        } => safe(
+        } => safe_text(
             alloc,
             flow,
             &judged.observer,
             typing.env.as_slice(),
             *obligations,
         ),
-        Verdict::Untyped { step, prim, fault } => untyped(alloc, flow, step.0, *prim, *fault),
+        Verdict::Untyped { step, prim, fault } => untyped_text(
+            alloc,
+            flow,
+            FailedCondition {
+                step: *step,
+                prim: *prim,
+                fault: *fault,
+            },
+        ),
         Verdict::Unproved {
             obligation,
             set,
             model,
-        } => unproved(alloc, flow, obligation, set, model.class.as_slice()),
+        } => unproved_text(alloc, flow, obligation, set, model.class.as_slice()),
     }
 }
 
 /// The answer that says a verdict.
-pub(crate) fn told(alloc: Global, judged: &Judged, verdict: Verdict) -> Result<Answer, AllocError>
+pub(crate) fn verdict_answer(
+    alloc: Global,
+    judged: &Judged,
+    verdict: Verdict,
+) -> Result<Answer, AllocError>
     ensures { IfOk result (λ answer. (answer.status ≡ verdict_status verdict)
         × (answer.text.items ≡ verdict_text judged.now verdict)) }
 {

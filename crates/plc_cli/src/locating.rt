@@ -21,45 +21,48 @@ use crate::answer::{Answer, refusal};
 use crate::checking::{verdict_status, verdict_text};
 use crate::reading::{Contents, read_both};
 use crate::status::{FAILS, REFUSED};
-use plc_at::{AtFault, ClaimFault, Located, extend, read_claims};
+use plc_at::{AtFault, ClaimFault, LocationClaim, extend, read_claims};
 use plc_base::{Items, LARGEST_FILE, NoMemory, What1};
 use plc_check::{Judged, LoadFault, OutlineFault, Verdict, check, load, with_outline};
 use plc_infer::{InferFault, Typing, infer};
 use plc_lex::{LexFault, Token, tokens};
 use plc_logic::Outline;
 use plc_outside::Files;
-use plc_texts::{lexical, limit, located, no_claim, unlocated, untyped};
+use plc_texts::{
+    FailedCondition, claim_fault_text, lex_fault_text, limit_text, located_text, unlocated_text,
+    untyped_text,
+};
 use plc_type::Env;
 use std::alloc::{AllocError, Global};
 use std::mem;
 
 /// The text of a verdict: one line where the claims are true.
-fn located_text(
+fn located_verdict_text(
     alloc: Global,
     judged: &Judged,
-    claims: &[Located],
+    claims: &[LocationClaim],
     verdict: &Verdict,
 ) -> Result<Vec<u8>, AllocError>
     ensures { IfOk result (λ text. text.items ≡ located_verdict_text judged.now claims.now verdict.now) }
 {
     match verdict {
-        Verdict::Safe { obligations, .. } => located(alloc, claims.len() as u64, *obligations),
+        Verdict::Safe { obligations, .. } => located_text(alloc, claims.len() as u64, *obligations),
         Verdict::Untyped { .. } | Verdict::Unproved { .. } => verdict_text(alloc, judged, verdict),
     }
 }
 
 /// The answer that says a verdict.
-fn told_located(
+fn located_answer(
     alloc: Global,
     judged: &Judged,
-    claims: &[Located],
+    claims: &[LocationClaim],
     verdict: Verdict,
 ) -> Result<Answer, AllocError>
     ensures { IfOk result (λ answer. (answer.status ≡ verdict_status verdict)
         × (answer.text.items ≡ located_verdict_text judged.now claims.now verdict)) }
 {
     let status = verdict_status(&verdict);
-    let text = located_text(alloc, judged, claims, &verdict);
+    let text = located_verdict_text(alloc, judged, claims, &verdict);
     drop(verdict);
     Ok(Answer {
         status,
@@ -68,19 +71,27 @@ fn told_located(
 }
 
 /// The answer to claims for a file with an outline that says what they need.
-fn judge_claims(alloc: Global, judged: &Judged, claims: &[Located]) -> Result<Answer, AllocError>
+fn judge_claims(
+    alloc: Global,
+    judged: &Judged,
+    claims: &[LocationClaim],
+) -> Result<Answer, AllocError>
     requires { Fits judged.now.flow judged.now.unit_outline }
     ensures { IfOk result (λ answer. IsTold (IsVerdictOn judged.now) verdict_status
         (located_verdict_text judged.now claims.now) answer.status answer.text.items) }
 {
     match check(alloc, judged) {
-        Ok(verdict) => told_located(alloc, judged, claims, verdict),
+        Ok(verdict) => located_answer(alloc, judged, claims, verdict),
         Err(NoMemory) => Err(AllocError),
     }
 }
 
 /// The same, after which what is judged ends.
-fn judge_claims_of(alloc: Global, judged: Judged, claims: &[Located]) -> Result<Answer, AllocError>
+fn judge_claims_once(
+    alloc: Global,
+    judged: Judged,
+    claims: &[LocationClaim],
+) -> Result<Answer, AllocError>
     requires { Fits judged.flow judged.unit_outline }
     ensures { IfOk result (λ answer. IsTold (IsVerdictOn judged) verdict_status
         (located_verdict_text judged claims.now) answer.status answer.text.items) }
@@ -91,22 +102,22 @@ fn judge_claims_of(alloc: Global, judged: Judged, claims: &[Located]) -> Result<
 }
 
 /// The answer where a limit is passed.
-fn limited(alloc: Global, what: What1, count: u32) -> Result<Answer, AllocError>
+fn limit_answer(alloc: Global, what: What1, count: u32) -> Result<Answer, AllocError>
     ensures { IfOk result (λ answer. (answer.status ≡ refused) × (answer.text.items ≡ limit_text what count)) }
 {
     Ok(Answer {
         status: REFUSED,
-        text: limit(alloc, what, count)?,
+        text: limit_text(alloc, what, count)?,
     })
 }
 
 /// The answer where a claim isn't located.
-fn unplaced(alloc: Global, claim: u32) -> Result<Answer, AllocError>
+fn unlocated_answer(alloc: Global, claim: u32) -> Result<Answer, AllocError>
     ensures { IfOk result (λ answer. (answer.status ≡ fails) × (answer.text.items ≡ unlocated_text claim)) }
 {
     Ok(Answer {
         status: FAILS,
-        text: unlocated(alloc, claim)?,
+        text: unlocated_text(alloc, claim)?,
     })
 }
 
@@ -115,15 +126,15 @@ fn answer_with(
     alloc: Global,
     judged: Judged,
     outline: Outline,
-    claims: &[Located],
+    claims: &[LocationClaim],
 ) -> Result<Answer, AllocError>
     requires { Fits judged.flow outline }
     ensures { IfOk result (λ answer.
         IsAnsweredWith judged outline claims.now answer.status answer.text.items) }
 {
     match with_outline(judged, outline) {
-        Ok(judged) => judge_claims_of(alloc, judged, claims),
-        Err(OutlineFault::Limit { what, count }) => limited(alloc, what, count),
+        Ok(judged) => judge_claims_once(alloc, judged, claims),
+        Err(OutlineFault::Limit { what, count }) => limit_answer(alloc, what, count),
     }
 }
 
@@ -140,7 +151,7 @@ fn no_outline(alloc: Global) -> Outline {
 fn answer_typed(
     alloc: Global,
     mut judged: Judged,
-    claims: &[Located],
+    claims: &[LocationClaim],
     typing: &[Env],
 ) -> Result<Answer, AllocError>
     requires fits { Fits judged.flow judged.unit_outline }
@@ -152,8 +163,8 @@ fn answer_typed(
     let own = mem::replace(&mut judged.unit_outline, no_outline(alloc));
     match extend(alloc, claims, &judged.flow, &judged.observer, typing, own) {
         Ok(outline) => answer_with(alloc, judged, outline, claims),
-        Err(AtFault::Unlocated { claim }) => unplaced(alloc, claim),
-        Err(AtFault::Items { count }) => limited(alloc, What1::Items, count),
+        Err(AtFault::Unlocated { claim }) => unlocated_answer(alloc, claim),
+        Err(AtFault::Items { count }) => limit_answer(alloc, What1::Items, count),
         Err(AtFault::Memory) => Err(AllocError),
     }
 }
@@ -167,14 +178,18 @@ fn typing_of(alloc: Global, judged: &Judged) -> Result<Result<Typing, Answer>, A
         Ok(typing) => Ok(Ok(typing)),
         Err(InferFault::Stuck { step, prim, fault }) => Ok(Err(Answer {
             status: FAILS,
-            text: untyped(alloc, &judged.flow, step.0, prim, fault)?,
+            text: untyped_text(alloc, &judged.flow, FailedCondition { step, prim, fault })?,
         })),
         Err(InferFault::Memory) => Err(AllocError),
     }
 }
 
 /// The answer to claims that were read.
-fn answer_claims(alloc: Global, judged: Judged, claims: &[Located]) -> Result<Answer, AllocError>
+fn answer_claims(
+    alloc: Global,
+    judged: Judged,
+    claims: &[LocationClaim],
+) -> Result<Answer, AllocError>
     requires fits { Fits judged.flow judged.unit_outline }
     requires claims { All (ClaimFits judged.flow) claims.now }
     ensures { IfOk result (λ answer.
@@ -192,7 +207,7 @@ fn claims_in(
     alloc: Global,
     judged: &Judged,
     found: &[Token],
-) -> Result<Result<Items<Located>, Answer>, AllocError>
+) -> Result<Result<Items<LocationClaim>, Answer>, AllocError>
     requires fits { Fits judged.now.flow judged.now.unit_outline }
     requires few { length found.now < 2 ^ 32 }
     ensures { IfOk result (AreReadTokens judged.now found.now) }
@@ -201,7 +216,7 @@ fn claims_in(
         Ok(claims) => Ok(Ok(Items::from_vec(claims))),
         Err(ClaimFault::Token { at }) => Ok(Err(Answer {
             status: REFUSED,
-            text: no_claim(alloc, at)?,
+            text: claim_fault_text(alloc, at)?,
         })),
         Err(ClaimFault::Memory) => Err(AllocError),
     }
@@ -212,7 +227,7 @@ fn claims_of(
     alloc: Global,
     judged: &Judged,
     bytes: &[u8],
-) -> Result<Result<Items<Located>, Answer>, AllocError>
+) -> Result<Result<Items<LocationClaim>, Answer>, AllocError>
     requires fits { Fits judged.now.flow judged.now.unit_outline }
     requires short { length bytes.now ≤ largest_file }
     ensures { IfOk result (AreReadClaims judged.now bytes.now) }
@@ -222,7 +237,7 @@ fn claims_of(
         Err(LexFault::Memory) => Err(AllocError),
         Err(fault) => Ok(Err(Answer {
             status: REFUSED,
-            text: lexical(alloc, fault)?,
+            text: lex_fault_text(alloc, fault)?,
         })),
     }
 }

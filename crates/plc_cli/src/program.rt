@@ -10,7 +10,7 @@ ghost use Rattle.plc_cli.specs.Locations.{LocatedRuns};
 ghost use Rattle.plc_cli.specs.Served.{ServedReplays};
 ghost use Rattle.plc_cli.specs.Suggestions.{Suggested};
 
-use crate::answer::{Answer, refused_words};
+use crate::answer::{Answer, words_refusal};
 use crate::asking::answer_file;
 use crate::certifying::ForCertificate;
 use crate::checking::ForVerdict;
@@ -21,7 +21,7 @@ use crate::sampling::judge_sample;
 use crate::status::{NO_MEMORY, UNWRITTEN};
 use crate::suggesting::ForSuggestions;
 use crate::verifying::verify_file;
-use crate::words::{Request, requested};
+use crate::words::{Request, request_of};
 use plc_outside::{Files, Sink, SinkFault, write_text};
 use plc_reclaim::Reclaimer;
 use std::alloc::{AllocError, Global};
@@ -40,7 +40,7 @@ fn answer_to<F: Files>(
         (request_of (map named reclaimers.old) (map string_bytes words.now))
         (F.known files.old) (F.known files.new) answer.status answer.text.items) }
 {
-    match requested(reclaimers, words) {
+    match request_of(reclaimers, words) {
         Some(Request::Check { file }) => answer_file(alloc, files, file, ForVerdict),
         Some(Request::Certify { file }) => answer_file(alloc, files, file, ForCertificate),
         Some(Request::Print { file }) => answer_file(alloc, files, file, ForText),
@@ -57,7 +57,7 @@ fn answer_to<F: Files>(
         Some(Request::Sample { copies, line }) => judge_sample(alloc, copies, line),
         Some(Request::Suggest { file }) => answer_file(alloc, files, file, ForSuggestions),
         Some(Request::Locate { file, claims }) => locate_file(alloc, files, file, claims),
-        None => refused_words(alloc),
+        None => words_refusal(alloc),
     }
 }
 

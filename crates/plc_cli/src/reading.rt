@@ -7,7 +7,7 @@ use crate::answer::Answer;
 use crate::status::UNREAD;
 use plc_base::LARGEST_FILE;
 use plc_outside::{FileFault, Files};
-use plc_texts::{read_failed, read_too_long};
+use plc_texts::{read_failed_text, read_too_long_text};
 use std::alloc::{AllocError, Global};
 
 /// What a read came to.
@@ -45,11 +45,11 @@ pub fn read<F: Files>(
         Ok(bytes) => Ok(Content::Read(bytes)),
         Err(FileFault::Failed) => Ok(Content::Unread(Answer {
             status: UNREAD,
-            text: read_failed(alloc)?,
+            text: read_failed_text(alloc)?,
         })),
         Err(FileFault::TooLong) => Ok(Content::Unread(Answer {
             status: UNREAD,
-            text: read_too_long(alloc)?,
+            text: read_too_long_text(alloc)?,
         })),
         Err(FileFault::Memory) => Err(AllocError),
     }

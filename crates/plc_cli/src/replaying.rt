@@ -16,11 +16,11 @@ use plc_outside::Files;
 use plc_reclaim::Reclaimer;
 use plc_replay::{End, replay};
 use plc_sched::{SchedFault, Schedule, read_schedule};
-use plc_texts::{ended, unscheduled};
+use plc_texts::{end_text, schedule_fault_text};
 use std::alloc::{AllocError, Global};
 
 /// The status of an end: that of a failure where it isn't the end of the schedule.
-fn status_of(end: &End) -> u8
+fn end_status(end: &End) -> u8
     ensures { result ≡ end_status end.now }
 {
     match end {
@@ -51,15 +51,15 @@ pub fn answer_schedule(
         reclaimer,
     ) {
         Ok(end) => Ok(Answer {
-            status: status_of(&end),
-            text: ended(alloc, &end)?,
+            status: end_status(&end),
+            text: end_text(alloc, &end)?,
         }),
         Err(NoMemory) => Err(AllocError),
     }
 }
 
 /// The answer to the bytes of a schedule.
-fn scheduled(
+fn answer_schedule_bytes(
     alloc: Global,
     judged: &Judged,
     bytes: &[u8],
@@ -74,13 +74,13 @@ fn scheduled(
         Err(SchedFault::Memory) => Err(AllocError),
         Err(fault) => Ok(Answer {
             status: REFUSED,
-            text: unscheduled(alloc, fault)?,
+            text: schedule_fault_text(alloc, fault)?,
         }),
     }
 }
 
 /// The answer to the bytes of a schedule for a file that was loaded.
-fn scheduled_for(
+fn answer_second(
     alloc: Global,
     judged: Judged,
     bytes: &[u8],
@@ -90,14 +90,14 @@ fn scheduled_for(
     ensures { IfOk result (λ answer.
         IsScheduleAnswered judged (meanings reclaimer.old) bytes.now answer.status answer.text.items) }
 {
-    let answer = scheduled(alloc, &judged, bytes, reclaimer);
+    let answer = answer_schedule_bytes(alloc, &judged, bytes, reclaimer);
     drop(judged);
     answer
 }
 
 /// The answer to the bytes of a file and of a schedule; the file's refusals go first. It is no `Question`, since the
 /// reclaimer is lent to it.
-fn replayed(
+fn replay_bytes(
     alloc: Global,
     bytes: &[u8],
     second: &[u8],
@@ -108,7 +108,7 @@ fn replayed(
         IsReplayOf (meanings reclaimer.old) bytes.now second.now answer.status answer.text.items) }
 {
     match load(alloc, bytes) {
-        Ok(judged) => scheduled_for(alloc, judged, second, reclaimer),
+        Ok(judged) => answer_second(alloc, judged, second, reclaimer),
         Err(LoadFault::Memory) => Err(AllocError),
         Err(fault) => refusal(alloc, &fault),
     }
@@ -129,7 +129,7 @@ pub(crate) fn replay_file<F: Files>(
         answer.status answer.text.items) }
 {
     match read_both(alloc, files, file, schedule, LARGEST_SCHEDULE)? {
-        Contents::Read(bytes, second) => replayed(alloc, &bytes, &second, reclaimer),
+        Contents::Read(bytes, second) => replay_bytes(alloc, &bytes, &second, reclaimer),
         Contents::Unread(answer) => Ok(answer),
     }
 }

@@ -11,7 +11,7 @@ use crate::checking::{verdict_status, verdict_text};
 use plc_base::NoMemory;
 use plc_check::{Judged, Verdict, check};
 use plc_sample::text;
-use plc_texts::sampled;
+use plc_texts::summary_text;
 use std::alloc::{AllocError, Global};
 
 /// The text of a verdict: one line where the sample is safe.
@@ -26,14 +26,14 @@ fn sampled_text(
 {
     match verdict {
         Verdict::Safe { obligations, .. } => {
-            sampled(alloc, copies, line, &judged.flow, *obligations)
+            summary_text(alloc, copies, line, &judged.flow, *obligations)
         }
         Verdict::Untyped { .. } | Verdict::Unproved { .. } => verdict_text(alloc, judged, verdict),
     }
 }
 
 /// The answer that says a verdict.
-fn told_sample(
+fn sample_answer(
     alloc: Global,
     copies: u8,
     line: u16,
@@ -61,7 +61,7 @@ impl Question for ForSample {
 
     fn answer(&self, alloc: Global, judged: &Judged) -> Result<Answer, AllocError> {
         match check(alloc, judged) {
-            Ok(verdict) => told_sample(alloc, self.copies, self.line, judged, &verdict),
+            Ok(verdict) => sample_answer(alloc, self.copies, self.line, judged, &verdict),
             Err(NoMemory) => Err(AllocError),
         }
     }

@@ -8,11 +8,11 @@ use crate::asking::Question;
 use crate::status::{FAILS, HOLDS, REFUSED};
 use plc_check::Judged;
 use plc_suggest::{SuggestFault, Suggestion, suggest};
-use plc_texts::{insufficient, suggested, too_many_spots};
+use plc_texts::{FailedCondition, insufficient_text, spots_limit_text, suggested_text};
 use std::alloc::{AllocError, Global};
 
 /// The status of a suggestion: that of a failure where no claims are enough.
-fn status_of(suggestion: &Suggestion) -> u8
+fn suggestion_status(suggestion: &Suggestion) -> u8
     ensures { result ≡ suggestion_status suggestion.now }
 {
     match suggestion {
@@ -22,24 +22,37 @@ fn status_of(suggestion: &Suggestion) -> u8
 }
 
 /// The text of a suggestion.
-fn text_of(alloc: Global, judged: &Judged, suggestion: &Suggestion) -> Result<Vec<u8>, AllocError>
+fn suggestion_text(
+    alloc: Global,
+    judged: &Judged,
+    suggestion: &Suggestion,
+) -> Result<Vec<u8>, AllocError>
     ensures { IfOk result (λ text. text.items ≡ suggestion_text judged.now suggestion.now) }
 {
     match suggestion {
-        Suggestion::Found(spots) => suggested(alloc, &judged.flow, spots.as_slice()),
+        Suggestion::Found(spots) => suggested_text(alloc, &judged.flow, spots.as_slice()),
         Suggestion::Insufficient { step, prim, fault } => {
-            insufficient(alloc, &judged.flow, step.0, *prim, *fault)
+            let failed = FailedCondition {
+                step: *step,
+                prim: *prim,
+                fault: *fault,
+            };
+            insufficient_text(alloc, &judged.flow, failed)
         }
     }
 }
 
 /// The answer that says a suggestion.
-fn told(alloc: Global, judged: &Judged, suggestion: Suggestion) -> Result<Answer, AllocError>
+fn suggestion_answer(
+    alloc: Global,
+    judged: &Judged,
+    suggestion: Suggestion,
+) -> Result<Answer, AllocError>
     ensures { IfOk result (λ answer. (answer.status ≡ suggestion_status suggestion)
         × (answer.text.items ≡ suggestion_text judged.now suggestion)) }
 {
-    let status = status_of(&suggestion);
-    let text = text_of(alloc, judged, &suggestion);
+    let status = suggestion_status(&suggestion);
+    let text = suggestion_text(alloc, judged, &suggestion);
     drop(suggestion);
     Ok(Answer {
         status,
@@ -56,10 +69,10 @@ impl Question for ForSuggestions {
 
     fn answer(&self, alloc: Global, judged: &Judged) -> Result<Answer, AllocError> {
         match suggest(alloc, &judged.flow, &judged.observer) {
-            Ok(suggestion) => told(alloc, judged, suggestion),
+            Ok(suggestion) => suggestion_answer(alloc, judged, suggestion),
             Err(SuggestFault::TooMany { count }) => Ok(Answer {
                 status: REFUSED,
-                text: too_many_spots(alloc, count)?,
+                text: spots_limit_text(alloc, count)?,
             }),
             Err(SuggestFault::Memory) => Err(AllocError),
         }

@@ -13,7 +13,7 @@ use plc_base::LARGEST_CERTIFICATE;
 use plc_cert::{Cert, CertFault, read};
 use plc_check::Judged;
 use plc_outside::Files;
-use plc_texts::{invalid, uncertified, verified};
+use plc_texts::{certificate_fault_text, invalid_text, verified_text};
 use plc_verify::{VerifyFault, verify};
 use std::alloc::{AllocError, Global};
 
@@ -33,12 +33,12 @@ fn judge_certificate(alloc: Global, judged: &Judged, cert: &Cert) -> Result<Answ
         // It has a tree for each obligation.
         Ok(()) => Ok(Answer {
             status: HOLDS,
-            text: verified(alloc, &judged.flow, cert.trees.len() as u64)?,
+            text: verified_text(alloc, &judged.flow, cert.trees.len() as u64)?,
         }),
         Err(VerifyFault::Memory) => Err(AllocError),
         Err(fault) => Ok(Answer {
             status: FAILS,
-            text: invalid(alloc, &judged.flow, fault)?,
+            text: invalid_text(alloc, &judged.flow, fault)?,
         }),
     }
 }
@@ -54,7 +54,7 @@ fn answer_certificate(alloc: Global, judged: &Judged, bytes: &[u8]) -> Result<An
         Err(CertFault::Memory) => Err(AllocError),
         Err(fault) => Ok(Answer {
             status: REFUSED,
-            text: uncertified(alloc, fault)?,
+            text: certificate_fault_text(alloc, fault)?,
         }),
     }
 }

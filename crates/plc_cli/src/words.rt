@@ -131,7 +131,7 @@ fn request_of_four<'a>(
 }
 
 /// What words ask for, or `None` where they are of no listed form.
-pub(crate) fn requested<'a>(
+pub(crate) fn request_of<'a>(
     reclaimers: &[Box<dyn Reclaimer>],
     words: &'a [String],
 ) -> Option<Request<'a>>

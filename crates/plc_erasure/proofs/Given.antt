@@ -2,9 +2,10 @@
 use Rattle.std.proofs.Common.{◌≡◌, ℕ, Bool, true, ◌==◌, List, [], Option, Some, None, get_or, length, map, refl, sym}
 use Rattle.std.proofs.Common.{ap, ◌∙◌, inl, inr}
 use Rattle.std.proofs.lemmas.Bool.{cases_eq}
+use Rattle.std.specs.Option.{unwrap_or}
 use Rattle.plc_lang.specs.declared.syntax.Op.{Op}
 use Rattle.plc_flow.specs.declared.flow.Flow.{Flow}
-use Rattle.plc_mem.specs.State.{State, Place, at_shared, at_local, at_field, Locals, null_cell, at, value_at, is_used, with_locals, locals_or_none, locals_of, no_locals, starting, first_state, fresh_state}
+use Rattle.plc_mem.specs.State.{State, Place, at_shared, at_local, at_field, Locals, null_cell, at, value_at, is_used, with_locals, locals_of, no_locals, starting, first_state, fresh_state}
 use Rattle.plc_mem.specs.Laws.{is_there}
 use Rattle.plc_lang.specs.Fields.{is_pointer_field}
 use Rattle.plc_base.proofs.Tables.{get-replicate}
@@ -15,7 +16,7 @@ use Rattle.plc_gc.specs.declared.slot.Map.TheVariants.{Pointer as pointer_field,
 use Rattle.plc_gc.specs.declared.slot.Map.TheVariants.{Number as data_field, Retirement as retirement}
 use Rattle.plc_gc.specs.declared.slot.Pointer.{Pointer}
 use Rattle.plc_gc.specs.State.{GcState, value, null_pointer, with_locals as gc_with_locals}
-use Rattle.plc_gc.specs.State.{locals_or_none as gc_locals_or_none, Locals as GcLocals, no_locals as gc_no_locals}
+use Rattle.plc_gc.specs.State.{Locals as GcLocals, no_locals as gc_no_locals}
 use Rattle.plc_gc.specs.State.{starting as gc_starting, first_state as gc_first_state}
 use Rattle.plc_gc.specs.Laws.{IsFirst}
 use Rattle.plc_gc.proofs.Views.{gives as gc_gives, first}
@@ -25,10 +26,10 @@ use Rattle.plc_erasure.proofs.Changes.{Alike, null_alike, alike, AlikeAt, alike_
 
 -- the locals that a thread gets in both
 pub record SameLocals (trace : Trace) (l : Option Locals) (m : Option GcLocals) : Type 0 where
-  pub pointers : (v : ℕ) → Alike trace (get_or (locals_or_none l).pointers v null_cell)
-      (get_or (gc_locals_or_none m).pointers v null_pointer).node
-      (get_or (gc_locals_or_none m).pointers v null_pointer).mark
-  pub values : (x : ℕ) → get_or (gc_locals_or_none m).values x 0 ≡ get_or (locals_or_none l).values x 0
+  pub pointers : (v : ℕ) → Alike trace (get_or (unwrap_or l no_locals).pointers v null_cell)
+      (get_or (unwrap_or m gc_no_locals).pointers v null_pointer).node
+      (get_or (unwrap_or m gc_no_locals).pointers v null_pointer).mark
+  pub values : (x : ℕ) → get_or (unwrap_or m gc_no_locals).values x 0 ≡ get_or (unwrap_or l no_locals).values x 0
 
 pub erased_given : (trace : Trace) (s : State) (g : GcState) (t : ℕ) (l : Option Locals) (m : Option GcLocals) → IsErased trace s g → SameLocals trace l m → IsErased trace (with_locals s t l) (gc_with_locals g t m)
 erased_given trace s g t l m er same =
@@ -82,7 +83,7 @@ same_starting trace o args = record {
 
 fresh_value : (fields : List Bool) (shared threads t x : ℕ) → value_at (fresh_state fields shared threads) t x ≡ 0
 unfolding value_at locals_of
-fresh_value fields shared threads t x = ap (λ l. get_or (locals_or_none l).values x 0) (get-replicate None threads t)
+fresh_value fields shared threads t x = ap (λ l. get_or (unwrap_or l no_locals).values x 0) (get-replicate None threads t)
 
 pub erased_first : (flow : Flow) (threads : ℕ) → IsErased no_trace (first_state flow threads) (gc_first_state flow threads)
 erased_first flow threads =

@@ -7,7 +7,8 @@ use Rattle.plc_flow.specs.declared.flow.Flow.{Flow}
 use Rattle.plc_flow.specs.declared.flow.FlowFault.{FlowFault}
 use Rattle.plc_flow.specs.Lowering.{made_of, flow_of, most_points, IsLowered}
 use Rattle.plc_flow.specs.WellFormed.{GatesFrom, IsWellFormed, FlowFits}
-use Rattle.plc_flow.specs.WellSorted.{FlowIsWellSorted, FlowsFit}
+use Rattle.plc_flow.specs.Laws.{FlowsFit}
+use Rattle.plc_flow.specs.WellSorted.{FlowIsWellSorted}
 use Rattle.plc_flow.proofs.Within.{ops_few, ops_gates, ops_counted, flow_steps_within, flow_labels_within}
 use Rattle.plc_flow.proofs.Short.{flow_steps_short}
 use Rattle.plc_flow.proofs.Naming.{flow_steps_named}

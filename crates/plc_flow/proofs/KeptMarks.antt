@@ -25,7 +25,7 @@ use Rattle.plc_flow.specs.declared.builder.Here.{Here}
 use Rattle.plc_flow.specs.Sides.{opposite, claim, equals, differs, becomes, true_side, false_side, call_side}
 use Rattle.plc_flow.specs.Lowering.{Lowered, joins, side_made, if_made, statement_made, statements_made, blocks_made}
 use Rattle.plc_flow.specs.Lowering.{op_made, ops_made}
-use Rattle.plc_flow.specs.Marks.{LoweringKeepsMarks}
+use Rattle.plc_flow.specs.Laws.{LoweringKeepsMarks}
 
 -- ---- lists
 

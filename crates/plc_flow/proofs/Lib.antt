@@ -1,4 +1,5 @@
 pub mod Each
+pub mod Ends
 pub mod Fitting
 pub mod Gates
 pub mod Labelled

@@ -9,7 +9,7 @@ use Rattle.plc_lang.specs.declared.syntax.Num.{Num}
 use Rattle.plc_lang.specs.declared.syntax.Var.{Var}
 use Rattle.plc_lang.specs.WellSorted.{is_test, is_claim}
 use Rattle.plc_flow.specs.Sides.{opposite}
-use Rattle.plc_flow.specs.Opposites.{OppositesAreTests}
+use Rattle.plc_flow.specs.Laws.{OppositesAreTests}
 
 -- what holds of each kind of test holds of every test
 pub of_each_test : (P : Primitive → Type 0) → ((p q : Var) → P (prims.Eq p q)) → ((p q : Var) → P (prims.Ne p q))

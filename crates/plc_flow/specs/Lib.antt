@@ -1,7 +1,7 @@
 -- what contracts of public calls say
+pub mod Laws
 pub mod Lowering
 pub mod Marks
-pub mod Opposites
 pub mod Points
 pub mod Sides
 pub mod Skeleton

@@ -1,15 +1,14 @@
 -- What else every flow keeps that was lowered from a file that was read: each thing stands where its kind may stand,
 -- and labels are numbered.
-use Rattle.std.specs.Prelude.{◌≡◌, ◌≤◌, ℕ, length, slice_get, Some}
+use Rattle.std.specs.Prelude.{◌≡◌, ℕ, length, slice_get, Some}
 use Rattle.plc_base.specs.declared.ids.PointId.{PointId}
 use Rattle.plc_lang.specs.declared.syntax.File.{File}
-use Rattle.plc_lang.specs.Fit.{FileFits, NamesWhatIsThere}
 use Rattle.plc_lang.specs.Labels.{labels_by_op, op_of_label}
 use Rattle.plc_lang.specs.WellSorted.{StepIsWellSorted, FileIsWellSorted}
 use Rattle.plc_flow.specs.declared.flow.Step.{Step}
 use Rattle.plc_flow.specs.declared.flow.Gate.{Gate}
 use Rattle.plc_flow.specs.declared.flow.Flow.{Flow}
-use Rattle.plc_flow.specs.Lowering.{made_of, flow_of, most_points}
+use Rattle.plc_flow.specs.Lowering.{flow_of}
 use Rattle.plc_flow.specs.WellFormed.{IsPointOf, FlowFits}
 
 -- a point of the operation whose statements have the label
@@ -31,9 +30,3 @@ pub record FlowIsWellSorted (flow : Flow) : Type 0 where
 pub record FlowOfFits (file : File) : Type 0 where
   pub fits : FlowFits (flow_of file)
   pub sorted : FlowIsWellSorted (flow_of file)
-
--- so it is with the flow of every file that was read and has few enough points
-abbrev pub FlowsFit : Type 0
-FlowsFit =
-    (file : File) → FileFits file → NamesWhatIsThere file → FileIsWellSorted file
-    → (made_of file).points ≤ most_points → FlowOfFits file

@@ -10,12 +10,13 @@ use plc_base::{Items, OpId, PointId, What1};
 use plc_lang::Prim;
 use std::alloc::Global;
 
-/// The points, the steps and the labels that are made so far.
+/// The points, the steps and the labels that are made so far, and where their lists are made.
 #[derive(Drop)]
 pub(crate) struct Builder {
     pub points: u16,
     pub steps: Items<Step>,
     pub labels: Items<PointId>,
+    pub alloc: Global,
 }
 
 /// What stands around a statement.
@@ -90,18 +91,12 @@ pub(crate) fn label_during(during: Option<u16>, called: PointId, out: &mut Build
 }
 
 /// A step from each end to the point where they join.
-pub(crate) fn join_all(
-    alloc: Global,
-    here: Here,
-    ends: &[PointId],
-    join: PointId,
-    out: &mut Builder,
-) -> Next
+pub(crate) fn join_all(here: Here, ends: &[PointId], join: PointId, out: &mut Builder) -> Next
     requires { out.old.points ≤ most_points }
     ensures { Makes out.old out.new result (a_join here ends.now join.0) }
 {
     for end in ends {
-        step(here, *end, join, Items::new(alloc), out)?;
+        step(here, *end, join, Items::new(out.alloc), out)?;
     }
     Ok(join)
 }

@@ -1,10 +1,5 @@
 // The laws stand over the definitions, so that proofs above never open them.
-ghost use Rattle.plc_flow.specs.declared.flow.Flow.{Flow};
-ghost use Rattle.plc_flow.specs.Marks.{LoweringKeepsMarks};
-ghost use Rattle.plc_flow.specs.Opposites.{OppositesAreTests};
-ghost use Rattle.plc_flow.specs.Points.{StepsStayInTheirGate};
-ghost use Rattle.plc_flow.specs.WellFormed.{IsWellFormed};
-ghost use Rattle.plc_flow.specs.WellSorted.{FlowsFit};
+ghost use Rattle.plc_flow.specs.Laws.{EveryStepStaysInItsGate, FlowsFit, LoweringKeepsMarks, OppositesAreTests};
 
 /// The flow of every file that was read and that has at most 4,096 points can be run; each thing in
 /// it stands where its kind may stand, and the l-th labelled point is a point of the operation whose
@@ -15,7 +10,7 @@ pub fn flows_fit()
 
 /// A step that leaves a point of an operation is of that operation, and leads to a point of it.
 pub fn steps_stay_in_their_gate()
-    ensures { (flow : Flow) → IsWellFormed flow → StepsStayInTheirGate flow }
+    ensures { EveryStepStaysInItsGate }
 {}
 
 /// The opposite of a test is a test, whose opposite is the first; no test is a claim. That exactly one of the two goes

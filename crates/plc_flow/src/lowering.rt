@@ -17,7 +17,7 @@ use std::alloc::Global;
 
 /// An operation: its entry, its exit, its body, and a closing step without primitives. The answer
 /// is its exit.
-fn lower_op(alloc: Global, id: OpId, op: &Op, out: &mut Builder) -> Next
+fn lower_op(id: OpId, op: &Op, out: &mut Builder) -> Next
     requires { out.old.points ≤ most_points }
     ensures { Makes out.old out.new result (op_made id.0 op.now out.old.points) }
 {
@@ -29,20 +29,20 @@ fn lower_op(alloc: Global, id: OpId, op: &Op, out: &mut Builder) -> Next
         after: exit,
         line: op.line,
     };
-    let last = lower_block(alloc, here, entry, &op.body, out)?;
-    step(here, last, exit, Items::new(alloc), out)
+    let last = lower_block(here, entry, &op.body, out)?;
+    step(here, last, exit, Items::new(out.alloc), out)
 }
 
 /// The operations in order, and the gate of each.
-fn lower_ops(alloc: Global, ops: &[Op], out: &mut Builder) -> Result<Items<Gate>, FlowFault>
+fn lower_ops(ops: &[Op], out: &mut Builder) -> Result<Items<Gate>, FlowFault>
     requires { out.old.points ≤ most_points }
     ensures { MakesGates out.old out.new result (ops_made 0 ops.now out.old.points) }
 {
-    let mut gates = Items::new(alloc);
+    let mut gates = Items::new(out.alloc);
     let mut id = 0;
     for op in ops {
         let first = out.points;
-        let exit = lower_op(alloc, OpId(id), op, out)?;
+        let exit = lower_op(OpId(id), op, out)?;
         gates.push(Gate {
             entry: PointId(first),
             exit,
@@ -84,7 +84,8 @@ pub fn lower(alloc: Global, file: File) -> Result<Flow, FlowFault>
         points: 0,
         steps: Items::new(alloc),
         labels: Items::new(alloc),
+        alloc,
     };
-    let gates = lower_ops(alloc, file.ops.as_slice(), &mut out);
+    let gates = lower_ops(file.ops.as_slice(), &mut out);
     finish(file, gates, out)
 }

@@ -13,7 +13,6 @@ use crate::flow::FlowFault;
 use crate::sides::{call_prims, copied, false_prims, one, true_prims};
 use plc_base::{FuncId, Items, PointId};
 use plc_lang::{Block, Cond, Prim, Stmt};
-use std::alloc::Global;
 
 /// Primitives that are one step.
 fn lower_one(here: Here, from: PointId, prims: Items<Prim>, out: &mut Builder) -> Next
@@ -26,7 +25,6 @@ fn lower_one(here: Here, from: PointId, prims: Items<Prim>, out: &mut Builder) -
 
 /// A call and its return; `during` names the point between the two.
 fn lower_call(
-    alloc: Global,
     here: Here,
     from: PointId,
     func: FuncId,
@@ -41,42 +39,48 @@ fn lower_call(
     let done = point(out)?;
     step(here, from, called, prims, out)?;
     label_during(during, called, out)?;
-    step(here, called, done, one(alloc, Prim::Done { func })?, out)
+    step(
+        here,
+        called,
+        done,
+        one(out.alloc, Prim::Done { func })?,
+        out,
+    )
 }
 
 /// A step to the exit, or out of a loop. What stands after it goes on from a point of its own.
-fn lower_leave(alloc: Global, here: Here, from: PointId, to: PointId, out: &mut Builder) -> Next
+fn lower_leave(here: Here, from: PointId, to: PointId, out: &mut Builder) -> Next
     requires { out.old.points ≤ most_points }
     ensures { Makes out.old out.new result (leave_made (λ h. to) here out.old.points from.0) }
 {
-    step(here, from, to, Items::new(alloc), out)?;
+    step(here, from, to, Items::new(out.alloc), out)?;
     point(out)
 }
 
 /// One statement, by its kind.
 #[cycle(lower)]
-fn lower_stmt(alloc: Global, here: Here, from: PointId, stmt: &Stmt, out: &mut Builder) -> Next
+fn lower_stmt(here: Here, from: PointId, stmt: &Stmt, out: &mut Builder) -> Next
     requires { out.old.points ≤ most_points }
     ensures { Makes out.old out.new result (statement_made (statement_of stmt.now) here out.old.points from.0) }
 {
     match stmt {
-        Stmt::One(prim) => lower_one(here, from, one(alloc, *prim)?, out),
-        Stmt::Atomic(prims) => lower_one(here, from, copied(alloc, prims.as_slice())?, out),
+        Stmt::One(prim) => lower_one(here, from, one(out.alloc, *prim)?, out),
+        Stmt::Atomic(prims) => lower_one(here, from, copied(out.alloc, prims.as_slice())?, out),
         Stmt::Call {
             func,
             arg,
             active,
             during,
         } => {
-            let prims = call_prims(alloc, *active, *func, *arg)?;
-            lower_call(alloc, here, from, *func, prims, *during, out)
+            let prims = call_prims(out.alloc, *active, *func, *arg)?;
+            lower_call(here, from, *func, prims, *during, out)
         }
-        Stmt::If { cond, yes, no } => lower_if(alloc, here, from, *cond, yes, no, out),
-        Stmt::Choose(blocks) => lower_choose(alloc, here, from, blocks, out),
-        Stmt::Loop(block) => lower_loop(alloc, here, from, block, out),
-        Stmt::Break => lower_leave(alloc, here, from, here.after, out),
-        Stmt::Return => lower_leave(alloc, here, from, here.exit, out),
-        Stmt::Skip => lower_one(here, from, Items::new(alloc), out),
+        Stmt::If { cond, yes, no } => lower_if(here, from, *cond, yes, no, out),
+        Stmt::Choose(blocks) => lower_choose(here, from, blocks, out),
+        Stmt::Loop(block) => lower_loop(here, from, block, out),
+        Stmt::Break => lower_leave(here, from, here.after, out),
+        Stmt::Return => lower_leave(here, from, here.exit, out),
+        Stmt::Skip => lower_one(here, from, Items::new(out.alloc), out),
         Stmt::Label(_) => label(from, out),
     }
 }
@@ -84,7 +88,6 @@ fn lower_stmt(alloc: Global, here: Here, from: PointId, stmt: &Stmt, out: &mut B
 /// Both sides from one point, the one on which the condition holds first, and a join.
 #[cycle(lower)]
 fn lower_if(
-    alloc: Global,
     here: Here,
     from: PointId,
     cond: Cond,
@@ -95,48 +98,41 @@ fn lower_if(
     requires { out.old.points ≤ most_points }
     ensures { Makes out.old out.new result (statement_made (If cond yes.now no.now) here out.old.points from.0) }
 {
-    let first = lower_side(alloc, here, from, true_prims(alloc, cond)?, yes, out)?;
-    let second = lower_side(alloc, here, from, false_prims(alloc, cond)?, no, out)?;
+    let first = lower_side(here, from, true_prims(out.alloc, cond)?, yes, out)?;
+    let second = lower_side(here, from, false_prims(out.alloc, cond)?, no, out)?;
     let join = point(out)?;
-    step(here, first, join, Items::new(alloc), out)?;
-    step(here, second, join, Items::new(alloc), out)
+    step(here, first, join, Items::new(out.alloc), out)?;
+    step(here, second, join, Items::new(out.alloc), out)
 }
 
 /// All blocks from one point, and a join.
 #[cycle(lower)]
-fn lower_choose(
-    alloc: Global,
-    here: Here,
-    from: PointId,
-    blocks: &[Block],
-    out: &mut Builder,
-) -> Next
+fn lower_choose(here: Here, from: PointId, blocks: &[Block], out: &mut Builder) -> Next
     requires { out.old.points ≤ most_points }
     ensures { Makes out.old out.new result (statement_made (Choose (blocks_of blocks.now)) here out.old.points from.0) }
 {
-    let ends = lower_branches(alloc, here, from, blocks, out)?;
+    let ends = lower_branches(here, from, blocks, out)?;
     let after = point(out)?;
-    join_all(alloc, here, ends.as_slice(), after, out)
+    join_all(here, ends.as_slice(), after, out)
 }
 
 /// A point to which the block's end leads back, and one after the loop, which a `break` leads to.
 #[cycle(lower)]
-fn lower_loop(alloc: Global, here: Here, from: PointId, block: &Block, out: &mut Builder) -> Next
+fn lower_loop(here: Here, from: PointId, block: &Block, out: &mut Builder) -> Next
     requires { out.old.points ≤ most_points }
     ensures { Makes out.old out.new result (statement_made (Loop block.now) here out.old.points from.0) }
 {
     let head = point(out)?;
     let after = point(out)?;
-    step(here, from, head, Items::new(alloc), out)?;
-    let end = lower_block(alloc, Here { after, ..here }, head, block, out)?;
-    step(here, end, head, Items::new(alloc), out)?;
+    step(here, from, head, Items::new(out.alloc), out)?;
+    let end = lower_block(Here { after, ..here }, head, block, out)?;
+    step(here, end, head, Items::new(out.alloc), out)?;
     Ok(after)
 }
 
 /// A step with these primitives to a new point, and the block from there.
 #[cycle(lower)]
 fn lower_side(
-    alloc: Global,
     here: Here,
     from: PointId,
     prims: Items<Prim>,
@@ -148,13 +144,12 @@ fn lower_side(
 {
     let first = point(out)?;
     step(here, from, first, prims, out)?;
-    lower_block(alloc, here, first, block, out)
+    lower_block(here, first, block, out)
 }
 
 /// Blocks side by side from one point, and the end of each.
 #[cycle(lower)]
 fn lower_branches(
-    alloc: Global,
     here: Here,
     from: PointId,
     blocks: &[Block],
@@ -163,9 +158,9 @@ fn lower_branches(
     requires { out.old.points ≤ most_points }
     ensures { MakesBranches out.old out.new result (blocks_made (blocks_of blocks.now) here out.old.points from.0) }
 {
-    let mut ends = Items::new(alloc);
+    let mut ends = Items::new(out.alloc);
     for block in blocks {
-        let end = lower_side(alloc, here, from, Items::new(alloc), block, out)?;
+        let end = lower_side(here, from, Items::new(out.alloc), block, out)?;
         ends.push(end)?;
     }
     Ok(ends)
@@ -173,13 +168,7 @@ fn lower_branches(
 
 /// Statements in order, each from the point that the one before it goes on from.
 #[cycle(lower)]
-pub(crate) fn lower_block(
-    alloc: Global,
-    here: Here,
-    from: PointId,
-    block: &Block,
-    out: &mut Builder,
-) -> Next
+pub(crate) fn lower_block(here: Here, from: PointId, block: &Block, out: &mut Builder) -> Next
     requires { out.old.points ≤ most_points }
     ensures { Makes out.old out.new result (statements_made block.now here out.old.points from.0) }
 {
@@ -189,7 +178,7 @@ pub(crate) fn lower_block(
             line: line.line,
             ..here
         };
-        at = lower_stmt(alloc, here, at, &line.stmt, out)?;
+        at = lower_stmt(here, at, &line.stmt, out)?;
     }
     Ok(at)
 }

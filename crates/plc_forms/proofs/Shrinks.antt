@@ -6,9 +6,9 @@ use Rattle.plc_lex.specs.declared.token.Keyword.{Keyword}
 use Rattle.plc_lex.specs.declared.token.Keyword.TheVariants.{Ptr, Data, Ghost, Skip, Active, Assume, New, Null, Me, None as NoneWord, Mark, Unmark, Marked, Unmarked}
 use Rattle.plc_lex.specs.declared.token.Symbol.{Symbol as Punctuation}
 use Rattle.plc_lex.specs.declared.token.Symbol.TheVariants.{Assign, Refresh, Equal, Unequal, AtLeast, Less, Semicolon, Comma, Dot}
-use Rattle.plc_syntax.specs.Table.{same_punctuation}
+use Rattle.plc_lex.specs.Characters.{same_word, same_symbol}
 use Rattle.plc_syntax.specs.Trees.{Text, FieldTree, PointerField, DataField, PlaceTree, PlaceValue, MarkValue, UnmarkValue, SetName, SetField, RefreshName, RefreshField, SetGhost, InitialTree, InitialSet, InitialGhost, MarkedTest, UnmarkedTest, Compares, PrimitiveTree, SetPrimitive, RefreshPrimitive, GhostPrimitive, ActivePrimitive, AssumePrimitive}
-use Rattle.plc_forms.specs.Forms.{◌>>=◌, read_or, read_as, same_word, word_of, symbol_of, name_of, semicolon_of, name_symbol_of, symbol_name_of, word_name_of, field_of, comma_name_of, dot_name_of, place_with, place_of, value_of, atom_of, set_name_of, field_symbol_of, set_field_of, set_of, refresh_name_of, refresh_field_of, refresh_of, ghost_value_of, ghost_set_of, comparison_of, compared_of, test_of, named_of, primitive_of, line_of, primitive_line_of, initial_of, initial_line_of}
+use Rattle.plc_forms.specs.Forms.{◌>>=◌, read_or, read_as, word_of, symbol_of, name_of, semicolon_of, name_symbol_of, symbol_name_of, word_name_of, field_of, comma_name_of, dot_name_of, place_with, place_of, value_of, atom_of, set_name_of, field_symbol_of, set_field_of, set_of, refresh_name_of, refresh_field_of, refresh_of, ghost_value_of, ghost_set_of, comparison_of, compared_of, test_of, named_of, primitive_of, line_of, primitive_line_of, initial_of, initial_line_of}
 
 -- at least so many of n tokens are taken; what is left is seen in the answer
 abbrev Takes : {A : Type 0} → (A → List TokenKind) → ℕ → ℕ → Option A → Type 0
@@ -68,7 +68,7 @@ word w (Word found ∷ rest) = tested (length (Word found ∷ rest)) (same_word 
 word w ts = tt
 
 symbol : (s : Punctuation) (ts : List TokenKind) → Takes whole 1 (length ts) (symbol_of s ts)
-symbol s (Symbol found ∷ rest) = tested (length (Symbol found ∷ rest)) (same_punctuation found s) rest (omega arith)
+symbol s (Symbol found ∷ rest) = tested (length (Symbol found ∷ rest)) (same_symbol found s) rest (omega arith)
 symbol s ts = tt
 
 name : (ts : List TokenKind) → Takes after 1 (length ts) (name_of ts)

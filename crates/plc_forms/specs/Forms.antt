@@ -1,8 +1,6 @@
 -- The forms at the front of tokens, each with the tokens after it. A form is read from left to right: where a
 -- token doesn't fit, nothing is read.
 use Rattle.std.specs.Prelude.{Bool, true, false, if◌then◌else◌, Option, Some, None, List, ◌∷◌}
-use denote.Enum.Bare.{sameb}
-use Rattle.plc_lex.specs.contracts.token.Keyword as keyword
 use Rattle.plc_lex.specs.declared.token.TokenKind.{TokenKind}
 use Rattle.plc_lex.specs.declared.token.TokenKind.TheVariants.{Word, Name, Number, Symbol}
 use Rattle.plc_lex.specs.declared.token.Keyword.{Keyword}
@@ -13,7 +11,7 @@ use Rattle.plc_lex.specs.declared.token.Keyword.TheVariants.{Mark, Unmark, Marke
 use Rattle.plc_lex.specs.declared.token.Symbol.{Symbol as Punctuation}
 use Rattle.plc_lex.specs.declared.token.Symbol.TheVariants.{Assign, Refresh, Equal, Unequal, AtLeast, Less, OpenBrace}
 use Rattle.plc_lex.specs.declared.token.Symbol.TheVariants.{CloseBrace, OpenParen, CloseParen, Semicolon, Comma, Dot}
-use Rattle.plc_syntax.specs.Table.{same_punctuation}
+use Rattle.plc_lex.specs.Characters.{same_word, same_symbol}
 use Rattle.plc_syntax.specs.Trees.{Text, FieldTree, PointerField, DataField, PlaceTree, PlaceOf, AtomTree, NullAtom}
 use Rattle.plc_syntax.specs.Trees.{NumberAtom, NameAtom, ValueTree, NullValue, NewValue, NumberValue, PlaceValue}
 use Rattle.plc_syntax.specs.Trees.{MarkValue, UnmarkValue, MarkedTest, UnmarkedTest}
@@ -43,10 +41,6 @@ read_as f (Some x) = Some (f x.0, x.1)
 
 -- ---- single tokens
 
--- whether two keywords are one
-abbrev pub same_word : Keyword → Keyword → Bool
-same_word a b = sameb keyword.the_type a b
-
 -- a keyword
 abbrev pub word_of : Keyword → List TokenKind → Option (List TokenKind)
 word_of word (Word found ∷ rest) = if same_word found word then Some rest else None
@@ -54,7 +48,7 @@ word_of word ts = None
 
 -- a symbol
 abbrev pub symbol_of : Punctuation → List TokenKind → Option (List TokenKind)
-symbol_of symbol (Symbol found ∷ rest) = if same_punctuation found symbol then Some rest else None
+symbol_of symbol (Symbol found ∷ rest) = if same_symbol found symbol then Some rest else None
 symbol_of symbol ts = None
 
 -- a name, the first parameter

@@ -1,5 +1,6 @@
 -- What primitives keep: how many variables and fields there are, and the other threads' locals.
 use Rattle.std.proofs.Common.{◌≡◌, ℕ, ◌<◌, Bool, true, false, List, [], ◌∷◌, Some, None, length, get_or, refl, sym, ap, ◌∙◌, subst}
+use Rattle.std.specs.Option.{unwrap_or}
 use Rattle.plc_base.specs.Functions.{is_retire}
 use Rattle.plc_base.specs.Tables.{put_at}
 use Rattle.plc_base.proofs.Tables.{get-put_same, get-put_other, length_put}
@@ -19,7 +20,7 @@ use Rattle.plc_gc.specs.declared.slot.Slot.TheVariants.{SharedMark as shared_mar
 use Rattle.plc_gc.specs.declared.slot.Slot.TheVariants.{Data as in_data}
 use Rattle.plc_gc.specs.declared.slot.Map.{Map}
 use Rattle.plc_gc.specs.declared.slot.Pointer.{Pointer}
-use Rattle.plc_gc.specs.State.{GcState, Locals, null_pointer, with_node, with_mark, mark_put, locals_or_none}
+use Rattle.plc_gc.specs.State.{GcState, Locals, null_pointer, with_node, with_mark, mark_put, no_locals}
 use Rattle.plc_gc.specs.State.{locals_of, with_locals, put, put_pointer, update, update_pointer, made, slot, mark_slot}
 use Rattle.plc_gc.proofs.Views.{locals-with_same}
 use Rattle.plc_gc.specs.Primitives.{after_call, goes, after}
@@ -44,7 +45,7 @@ Keeps t g l new = (m : Locals) × KeepsFrame t g l new m
 
 pub held_is : (g : GcState) (t : ℕ) (l : Locals) → get_or g.locals t None ≡ Some l → locals_of g t ≡ l
 unfolding locals_of
-held_is g t l held = ap locals_or_none held
+held_is g t l held = ap (λ o. unwrap_or o no_locals) held
 
 -- the frame of a thread that holds these locals
 abbrev pub frame_by : GcState → Locals → Frame

@@ -1,12 +1,12 @@
 -- The words of a state over the lists that the code keeps.
-use Rattle.std.proofs.Common.{◌≡◌, ℕ, zero, suc, ◌<◌, true, false, List, [], ◌∷◌, ◌++◌, Option, Some, None, get_or, set, slice_get, length, refl, sym, ap, ◌∙◌, subst, arith}
+use Rattle.std.proofs.Common.{◌≡◌, ℕ, zero, suc, ◌<◌, Bool, true, false, cond, List, [], ◌∷◌, ◌++◌, Option, Some, None, get_or, set, slice_get, length, refl, sym, ap, ◌∙◌, arith}
 use Rattle.std.specs.Prelude.{nat_lt}
 use Rattle.std.proofs.lemmas.Bool.{ltb-true, ltb-false}
 use Rattle.std.proofs.lemmas.List.{get_or_past, get_or_default, length-replicate}
 use Rattle.std.proofs.lemmas.Option.{slice_get_read, get_or_from_slice_get}
+use Rattle.std.specs.Option.{unwrap_or}
 use Rattle.plc_base.specs.Tables.{put_at}
 use Rattle.plc_lang.specs.declared.syntax.Local.{Local as ALocal}
-use Rattle.plc_lang.specs.Numbering.{pointer_number, data_number}
 use Rattle.plc_gc.specs.declared.slot.Slot.TheVariants.{Data as in_data}
 use Rattle.plc_gc.specs.declared.slot.Map.{Map}
 use Rattle.plc_gc.specs.declared.slot.Pointer.{Pointer}
@@ -14,8 +14,9 @@ use Rattle.plc_gc.specs.declared.slot.Map.TheVariants.{Pointer as pointer_field,
 use Rattle.plc_gc.specs.declared.slot.Map.TheVariants.{Number as data_field, Auxiliary as auxiliary_field}
 use Rattle.plc_gc.specs.declared.slot.Map.TheVariants.{Retirement as retirement}
 use Rattle.plc_gc.specs.State.{GcState, Row, Locals, null_pointer, with_node, with_mark, no_row, fresh_row, row_entry}
-use Rattle.plc_gc.specs.State.{row_with, locals_or_none, locals_of, value, entry}
-use Rattle.plc_gc.specs.Clauses.{declared_value, declared_mark}
+use Rattle.plc_gc.specs.State.{row_with, locals_of, value, entry, no_locals}
+use Rattle.plc_gc.specs.Clauses.{declared_value, declared_mark, local_value, local_mark_value}
+use Rattle.plc_gc.specs.Named.{declared_local, named_local}
 use Rattle.plc_gc.specs.Fit.{RowsFit, EntryIn, MapIn}
 use Rattle.plc_base.proofs.Tables.{put_is_set, length_put}
 use Rattle.plc_gc.proofs.Views.{no_entry}
@@ -27,75 +28,56 @@ looked xs i x small e = slice_get_read xs (length xs) i x refl (ltb-true i (leng
 
 -- ---- locals
 
-pub locals_held : (g : GcState) (t : ℕ) (q : Option Locals) → q ≡ get_or g.locals t None → locals_of g t ≡ locals_or_none q
+pub locals_held : (g : GcState) (t : ℕ) (q : Option Locals) → q ≡ get_or g.locals t None → locals_of g t ≡ unwrap_or q no_locals
 unfolding locals_of
-locals_held g t q e = sym (ap locals_or_none e)
+locals_held g t q e = sym (ap (λ o. unwrap_or o no_locals) e)
 
 pub pointer_held : (g : GcState) (t v : ℕ) (q : Option Locals) → q ≡ get_or g.locals t None
-    → get_or (locals_or_none q).pointers v null_pointer ≡ get_or (locals_of g t).pointers v null_pointer
+    → get_or (unwrap_or q no_locals).pointers v null_pointer ≡ get_or (locals_of g t).pointers v null_pointer
 pointer_held g t v q e = sym (ap (λ (m : Locals). get_or m.pointers v null_pointer) (locals_held g t q e))
 
-pub data_held : (g : GcState) (t x : ℕ) (q : Option Locals) → q ≡ get_or g.locals t None → get_or (locals_or_none q).values x 0 ≡ value g (in_data t x)
+pub data_held : (g : GcState) (t x : ℕ) (q : Option Locals) → q ≡ get_or g.locals t None → get_or (unwrap_or q no_locals).values x 0 ≡ value g (in_data t x)
 unfolding value
 data_held g t x q e = sym (ap (λ (m : Locals). get_or m.values x 0) (locals_held g t q e))
 
--- a local by its number among all that are declared
-pub named_pointer : (g : GcState) (t i : ℕ) (l : Locals) (d : ALocal) → locals_of g t ≡ l
-    → slice_get l.declared i ≡ Some d → d.pointer ≡ true
-    → (get_or l.pointers (pointer_number l.declared i) null_pointer).node ≡ declared_value g t l.declared i
-    (slice_get l.declared i)
+-- what is read of a local by its name is what clauses call its value, and its mark
+pub record IsRead (p : Pointer) (n m : ℕ) : Type 0 where
+  pub number : p.node ≡ n
+  pub mark : p.mark ≡ m
+
+chosen : (b : Bool) (p q : Pointer) (n m k : ℕ) → IsRead p n m → IsRead q k 0 → IsRead (cond b p q) (cond b n k) (cond b m 0)
+chosen true p q n m k one other = one
+chosen false p q n m k one other = other
+
+declared_read : (g : GcState) (t i : ℕ) (d : Option ALocal) → IsRead (declared_local (locals_of g t) i d)
+    (declared_value g t (locals_of g t).declared i d) (declared_mark g t (locals_of g t).declared i d)
 unfolding value
-named_pointer g t i l d e there is =
-    rw (there, is) (sym (ap (λ (m : Locals). (get_or m.pointers (pointer_number l.declared i) null_pointer).node) e))
+declared_read g t i None = record { number = refl; mark = refl }
+declared_read g t i (Some d) = chosen d.pointer _ _ _ _ _ (record { number = refl; mark = refl }) (record { number = refl; mark = refl })
 
-pub named_data : (g : GcState) (t i : ℕ) (l : Locals) (d : ALocal) → locals_of g t ≡ l → slice_get l.declared i ≡ Some d → d.pointer ≡ false → get_or l.values (data_number l.declared i) 0 ≡ declared_value g t l.declared i (slice_get l.declared i)
-unfolding value
-named_data g t i l d e there is = rw (there, is) (sym (ap (λ (m : Locals). get_or m.values (data_number l.declared i) 0) e))
+pub named_read : (g : GcState) (thread : Option ℕ) (i : ℕ)
+    → IsRead (named_local g thread i) (local_value g thread i) (local_mark_value g thread i)
+named_read g None i = record { number = refl; mark = refl }
+named_read g (Some t) i = declared_read g t i (slice_get (locals_of g t).declared i)
 
-pub named_mark : (g : GcState) (t i : ℕ) (l : Locals) (d : ALocal) → locals_of g t ≡ l
-    → slice_get l.declared i ≡ Some d → d.pointer ≡ true
-    → (get_or l.pointers (pointer_number l.declared i) null_pointer).mark ≡ declared_mark g t l.declared i
-    (slice_get l.declared i)
-unfolding value
-named_mark g t i l d e there is =
-    rw (there, is) (sym (ap (λ (m : Locals). (get_or m.pointers (pointer_number l.declared i) null_pointer).mark) e))
-
-pub no_mark : (g : GcState) (t i : ℕ) (l : Locals) (d : ALocal) → slice_get l.declared i ≡ Some d
-    → d.pointer ≡ false → 0 ≡ declared_mark g t l.declared i (slice_get l.declared i)
-no_mark g t i l d there is = rw (there, is) refl
-
--- what is read of a local of a thread by its declaration, or where it has none
-abbrev pub ReadLocal : Type 0
-ReadLocal = GcState → ℕ → List ALocal → ℕ → Option ALocal → ℕ
-
-abbrev pub local_read : ReadLocal → GcState → ℕ → ℕ → ℕ
-local_read read g t i = read g t (locals_of g t).declared i (slice_get (locals_of g t).declared i)
-
-pub local_held : (read : ReadLocal) (g : GcState) (t i n : ℕ) (l : Locals) → Some l ≡ get_or g.locals t None
-    → ((h : GcState) (u : ℕ) → locals_of h u ≡ l → n ≡ read h u l.declared i (slice_get l.declared i))
-    → n ≡ local_read read g t i
-local_held read g t i n l e f =
-    let same = locals_held g t (Some l) e in
-    subst (λ (m : Locals). n ≡ read g t m.declared i (slice_get m.declared i)) (sym same) (f g t same)
-
-pub no_local : (read : ReadLocal) (g : GcState) (t i : ℕ) → 0 ≡ read g t [] i None
-    → None ≡ get_or g.locals t None → 0 ≡ local_read read g t i
-no_local read g t i none e =
-    subst (λ (m : Locals). 0 ≡ read g t m.declared i (slice_get m.declared i)) (sym (locals_held g t None e)) none
+-- a thread's local by its name is that of what it holds
+pub named_held : (g : GcState) (t i : ℕ) (q : Option Locals) → q ≡ get_or g.locals t None
+    → declared_local (unwrap_or q no_locals) i (slice_get (unwrap_or q no_locals).declared i) ≡ named_local g (Some t) i
+named_held g t i q e = sym (ap (λ (l : Locals). declared_local l i (slice_get l.declared i)) (locals_held g t q e))
 
 -- a thread that has a local is one of the list
-pub pointer_below : (ls : List (Option Locals)) (t v : ℕ) → v < length (locals_or_none (get_or ls t None)).pointers → t < length ls
+pub pointer_below : (ls : List (Option Locals)) (t v : ℕ) → v < length (unwrap_or (get_or ls t None) no_locals).pointers → t < length ls
 pointer_below [] t v h = absurd (omega (arith, h))
 pointer_below (l ∷ ls) zero v h = omega arith
 pointer_below (l ∷ ls) (suc t) v h = let small = pointer_below ls t v h in omega arith
 
-pub value_below : (ls : List (Option Locals)) (t x : ℕ) → x < length (locals_or_none (get_or ls t None)).values → t < length ls
+pub value_below : (ls : List (Option Locals)) (t x : ℕ) → x < length (unwrap_or (get_or ls t None) no_locals).values → t < length ls
 value_below [] t x h = absurd (omega (arith, h))
 value_below (l ∷ ls) zero x h = omega arith
 value_below (l ∷ ls) (suc t) x h = let small = value_below ls t x h in omega arith
 
 -- locals that were written in their place
-pub written_there : (ls : List (Option Locals)) (t : ℕ) (l : Locals) (q : Option Locals) (with_it : Locals → Locals) → t < length ls → q ≡ get_or ls t q → q ≡ Some l → set ls t (Some (with_it l)) ≡ put_at None ls t (Some (with_it (locals_or_none (get_or ls t None))))
+pub written_there : (ls : List (Option Locals)) (t : ℕ) (l : Locals) (q : Option Locals) (with_it : Locals → Locals) → t < length ls → q ≡ get_or ls t q → q ≡ Some l → set ls t (Some (with_it l)) ≡ put_at None ls t (Some (with_it (unwrap_or (get_or ls t None) no_locals)))
 written_there ls t l q with_it small e is =
     let held : get_or ls t None ≡ Some l = get_or_default ls t None q small ∙ sym e ∙ is in
     rw held (sym (put_is_set None ls t (Some (with_it l)) small))

@@ -1,6 +1,7 @@
 -- What every state of a garbage-collected run has, through each change, each primitive and each move, by the laws of the state alone.
 use Rattle.std.proofs.Common.{◌≡◌, ℕ, ◌<◌, ◌≤◌, Bool, true, false, List, [], ◌∷◌, Option, Some, None, get_or, replicate, length, refl, sym, ap, ◌∙◌, subst, arith, inl, inr, ◌⊎◌}
 use Rattle.std.proofs.lemmas.Bool.{cases_eq, not-true, eq-eqb, false≢true}
+use Rattle.std.specs.Option.{unwrap_or}
 use Rattle.plc_lang.specs.declared.syntax.Var.{Var}
 use Rattle.plc_lang.specs.declared.syntax.Var.TheVariants.{Shared, Local}
 use Rattle.plc_lang.specs.declared.syntax.Arg.{Arg}
@@ -25,7 +26,7 @@ use Rattle.plc_gc.specs.declared.slot.Map.TheVariants.{Pointer as pointer_field,
 use Rattle.plc_gc.specs.declared.slot.Map.TheVariants.{Number as data_field, Auxiliary as auxiliary_field}
 use Rattle.plc_gc.specs.declared.slot.Map.TheVariants.{Retirement as retirement}
 use Rattle.plc_gc.specs.State.{GcState, Locals, null_pointer, value, entry, count, put, put_pointer, update}
-use Rattle.plc_gc.specs.State.{update_pointer, made, slot, mark_slot, with_locals, locals_or_none, no_locals, starting}
+use Rattle.plc_gc.specs.State.{update_pointer, made, slot, mark_slot, with_locals, no_locals, starting}
 use Rattle.plc_gc.specs.State.{first_state}
 use Rattle.plc_gc.specs.Primitives.{node_at, mark_at, some_node, goes_call, after_call, goes, after}
 use Rattle.plc_gc.specs.Run.{GcConfiguration, GcRun, begin, more, turn, execute, beginning, initialised, first_configuration, Moves}
@@ -244,7 +245,7 @@ ranged_field g f k n m made some small bit s =
     (some, omega (arith, c, small)) (ranged_update g (mark_field f) k m made (some, bit) s)
 
 pub ranged_given : (g : GcState) (t : ℕ) (l : Option Locals)
-    → ((v : ℕ) → get_or (locals_or_none l).pointers v null_pointer ≡ null_pointer) → IsInRange g
+    → ((v : ℕ) → get_or (unwrap_or l no_locals).pointers v null_pointer ≡ null_pointer) → IsInRange g
     → IsInRange (with_locals g t l)
 ranged_given g t l null k =
     let u = gives g t l in

@@ -4,6 +4,7 @@ use Rattle.std.proofs.Common.{◌≡◌, ℕ, zero, suc, Bool, true, false, ◌&
 use Rattle.std.proofs.Common.{get_or, slice_get, replicate, length, refl, sym, ap, ◌∙◌, subst, inl, inr}
 use Rattle.std.proofs.lemmas.Bool.{cases_eq, or_parts}
 use Rattle.std.specs.List.{list_any}
+use Rattle.std.specs.Option.{unwrap_or}
 use Rattle.plc_base.specs.Functions.{is_retire}
 use Rattle.plc_base.proofs.Tables.{get-replicate}
 use Rattle.plc_lang.specs.declared.syntax.Var.{Var}
@@ -31,7 +32,7 @@ use Rattle.plc_gc.specs.declared.slot.Pointer.{Pointer}
 use Rattle.plc_gc.specs.declared.slot.Map.TheVariants.{Mark as mark_field, Number as data_field}
 use Rattle.plc_gc.specs.declared.slot.Map.TheVariants.{Auxiliary as auxiliary_field, Retirement as retirement}
 use Rattle.plc_gc.specs.State.{GcState, Locals, null_pointer, value, entry, put, put_pointer, update, update_pointer}
-use Rattle.plc_gc.specs.State.{made, slot, mark_slot, with_locals, locals_or_none, no_locals, starting, first_state}
+use Rattle.plc_gc.specs.State.{made, slot, mark_slot, with_locals, no_locals, starting, first_state}
 use Rattle.plc_gc.specs.Primitives.{node_at, mark_at, same_pointer, after_call, goes, after}
 use Rattle.plc_gc.specs.Run.{GcConfiguration, GcRun, begin, more, turn, execute, beginning, initialised}
 use Rattle.plc_gc.specs.Run.{first_configuration, Moves}
@@ -116,7 +117,7 @@ unmarked_made g k = record {
 }
 
 pub unmarked_given : (g : GcState) (t : ℕ) (l : Option Locals)
-    → ((v : ℕ) → get_or (locals_or_none l).pointers v null_pointer ≡ null_pointer) → AllUnmarked g
+    → ((v : ℕ) → get_or (unwrap_or l no_locals).pointers v null_pointer ≡ null_pointer) → AllUnmarked g
     → AllUnmarked (with_locals g t l)
 unmarked_given g t l null k =
     let u = gives g t l in

@@ -3,8 +3,10 @@ use Rattle.std.proofs.Common.{◌≡◌, ℕ, zero, suc, ◌<◌, ◌≤◌, Lis
 use Rattle.std.proofs.Common.{refl, sym, ap, ◌∙◌, subst, arith, inl, inr, length-append}
 use Rattle.std.proofs.lemmas.Bool.{cases_eq}
 use Rattle.std.proofs.lemmas.List.{get_or_past}
+use Rattle.std.specs.Option.{unwrap_or}
 use Rattle.plc_base.specs.Tables.{put_at}
 use Rattle.plc_base.proofs.Tables.{get-put_same, get-put_other, get-replicate, length_put}
+use Rattle.plc_threads.proofs.Holding.{held-put_same, held-put_other}
 use Rattle.plc_lang.specs.declared.syntax.Field.{Field}
 use Rattle.plc_lang.specs.declared.syntax.Var.{Var}
 use Rattle.plc_lang.specs.declared.syntax.Var.TheVariants.{Shared, Local}
@@ -18,19 +20,19 @@ use Rattle.plc_gc.specs.declared.slot.Map.TheVariants.{Pointer as pointer_field,
 use Rattle.plc_gc.specs.declared.slot.Map.TheVariants.{Number as data_field, Auxiliary as auxiliary_field}
 use Rattle.plc_gc.specs.declared.slot.Map.TheVariants.{Retirement as retirement}
 use Rattle.plc_gc.specs.State.{GcState, Row, Locals, null_pointer, with_node, with_mark, node_put, mark_put, no_row}
-use Rattle.plc_gc.specs.State.{fresh_row, row_entry, row_with, locals_or_none, locals_of, with_locals, value, entry}
+use Rattle.plc_gc.specs.State.{fresh_row, row_entry, row_with, locals_of, with_locals, value, entry, no_locals}
 use Rattle.plc_gc.specs.State.{count, put, update, made, fresh_state, slot, mark_slot, put_pointer, update_pointer}
 use Rattle.plc_gc.specs.Laws.{Put, Updated, PointerPut, PointerUpdated, WasMade, HasLocals, IsFirst, GcStateLaws}
 
 -- ---- locals
 
-pub locals-with_same : (g : GcState) (t : ℕ) (l : Option Locals) → locals_of (with_locals g t l) t ≡ locals_or_none l
+pub locals-with_same : (g : GcState) (t : ℕ) (l : Option Locals) → locals_of (with_locals g t l) t ≡ unwrap_or l no_locals
 unfolding locals_of with_locals
-locals-with_same g t l = ap locals_or_none (get-put_same None g.locals t l)
+locals-with_same g t l = held-put_same no_locals g.locals t l
 
 pub locals-with_other : (g : GcState) (t : ℕ) (l : Option Locals) (u : ℕ) → (u ≡ t → ⊥) → locals_of (with_locals g t l) u ≡ locals_of g u
 unfolding locals_of with_locals
-locals-with_other g t l u ne = ap locals_or_none (get-put_other None g.locals t l u ne)
+locals-with_other g t l u ne = held-put_other no_locals g.locals t l u ne
 
 pub gives : (g : GcState) (t : ℕ) (l : Option Locals) → HasLocals g t l (with_locals g t l)
 unfolding value entry count with_locals
@@ -70,6 +72,12 @@ node_here ps i n = read_here (λ p. p.node) ps i (with_node (get_or ps i null_po
 mark_here : (ps : List Pointer) (i n : ℕ) → (get_or (mark_put ps i n) i null_pointer).mark ≡ n
 mark_here ps i n = read_here (λ p. p.mark) ps i (with_mark (get_or ps i null_pointer) n)
 
+-- each pointer of a table has the node and the mark that it had, but for the number at one place; `at` and `mark_at`
+-- name the places of the nodes and of the marks
+record ElseSame (at mark_at : ℕ → Slot) (here : Slot) (ps qs : List Pointer) : Type 0 where
+  nodes : (j : ℕ) → (at j ≡ here → ⊥) → (get_or qs j null_pointer).node ≡ (get_or ps j null_pointer).node
+  marks : (j : ℕ) → (mark_at j ≡ here → ⊥) → (get_or qs j null_pointer).mark ≡ (get_or ps j null_pointer).mark
+
 node_there : (ps : List Pointer) (i n j : ℕ) → (j ≡ i → ⊥)
     → (get_or (node_put ps i n) j null_pointer).node ≡ (get_or ps j null_pointer).node
 node_there ps i n = read_there (λ p. p.node) ps i (with_node (get_or ps i null_pointer) n)
@@ -86,30 +94,27 @@ node_stays : (ps : List Pointer) (i n j : ℕ)
     → (get_or (mark_put ps i n) j null_pointer).node ≡ (get_or ps j null_pointer).node
 node_stays ps i n = read_stays (λ p. p.node) ps i (with_mark (get_or ps i null_pointer) n) refl
 
+same_but_node : (at mark_at : ℕ → Slot) (ps : List Pointer) (i n : ℕ) → ElseSame at mark_at (at i) ps (node_put ps i n)
+same_but_node at mark_at ps i n =
+    record { nodes = λ j ne. node_there ps i n j (λ e. ne (ap at e)); marks = λ j ne. mark_stays ps i n j }
+
+same_but_mark : (at mark_at : ℕ → Slot) (ps : List Pointer) (i n : ℕ)
+    → ElseSame at mark_at (mark_at i) ps (mark_put ps i n)
+same_but_mark at mark_at ps i n =
+    record { nodes = λ j ne. node_stays ps i n j; marks = λ j ne. mark_there ps i n j (λ e. ne (ap mark_at e)) }
+
 -- ---- values
 
-shared_put : (g : GcState) (i n : ℕ) → Put g (in_shared i) n (put g (in_shared i) n)
-unfolding value entry count put
-shared_put g i n = record {
-  here = node_here g.shared i n;
+-- where shared pointers change at one place alone, all else has what it had
+shared_put : (g : GcState) (ps : List Pointer) (p : Slot) (n : ℕ) → value (record g { shared = ps }) p ≡ n
+    → ElseSame in_shared shared_mark p g.shared ps → Put g p n (record g { shared = ps })
+unfolding value entry count
+shared_put g ps p n here same = record {
+  here = here;
   elsewhere = elim [
-    | in_shared j ↦ λ ne. node_there g.shared i n j (λ e. ne (ap in_shared e))
+    | in_shared j ↦ same.nodes j
     | in_local t v ↦ λ ne. refl
-    | shared_mark j ↦ λ ne. mark_stays g.shared i n j
-    | local_mark t v ↦ λ ne. refl
-    | in_data t x ↦ λ ne. refl
-  ];
-  nodes = record { entries = λ m k. refl; count = refl };
-}
-
-shared_mark_put : (g : GcState) (i n : ℕ) → Put g (shared_mark i) n (put g (shared_mark i) n)
-unfolding value entry count put
-shared_mark_put g i n = record {
-  here = mark_here g.shared i n;
-  elsewhere = elim [
-    | in_shared j ↦ λ ne. node_stays g.shared i n j
-    | in_local t v ↦ λ ne. refl
-    | shared_mark j ↦ λ ne. mark_there g.shared i n j (λ e. ne (ap shared_mark e))
+    | shared_mark j ↦ same.marks j
     | local_mark t v ↦ λ ne. refl
     | in_data t x ↦ λ ne. refl
   ];
@@ -118,14 +123,11 @@ shared_mark_put g i n = record {
 
 -- where a thread's locals change at one place alone, all else has what it had
 own_put : (g : GcState) (t : ℕ) (l : Locals) (p : Slot) (n : ℕ) → value (with_locals g t (Some l)) p ≡ n
-    → ((v : ℕ) → (in_local t v ≡ p → ⊥)
-    → (get_or l.pointers v null_pointer).node ≡ (get_or (locals_of g t).pointers v null_pointer).node)
-    → ((v : ℕ) → (local_mark t v ≡ p → ⊥)
-    → (get_or l.pointers v null_pointer).mark ≡ (get_or (locals_of g t).pointers v null_pointer).mark)
+    → ElseSame (in_local t) (local_mark t) p (locals_of g t).pointers l.pointers
     → ((x : ℕ) → (in_data t x ≡ p → ⊥) → get_or l.values x 0 ≡ get_or (locals_of g t).values x 0)
     → Put g p n (with_locals g t (Some l))
 unfolding value
-own_put g t l p n here pointers marks values =
+own_put g t l p n here same values =
     record { here = here; elsewhere = kept; nodes = (gives g t (Some l)).nodes }
   where
     h : HasLocals g t (Some l) (with_locals g t (Some l))
@@ -144,40 +146,30 @@ own_put g t l p n here pointers marks values =
 
     kept : (q : Slot) → (q ≡ p → ⊥) → value (with_locals g t (Some l)) q ≡ value g q
     kept (in_shared j) ne = h.shared j
-    kept (in_local u v) ne = place (λ u. in_local u v) u ne (λ own. h.pointers v ∙ pointers v own) (h.others u v)
+    kept (in_local u v) ne = place (λ u. in_local u v) u ne (λ own. h.pointers v ∙ same.nodes v own) (h.others u v)
     kept (shared_mark j) ne = h.shared_marks j
-    kept (local_mark u v) ne = place (λ u. local_mark u v) u ne (λ own. h.marks v ∙ marks v own) (h.other_marks u v)
+    kept (local_mark u v) ne = place (λ u. local_mark u v) u ne (λ own. h.marks v ∙ same.marks v own) (h.other_marks u v)
     kept (in_data u x) ne = place (λ u. in_data u x) u ne (λ own. h.values x ∙ values x own) (h.other_values u x)
 
-local_put : (g : GcState) (t v n : ℕ) → Put g (in_local t v) n (put g (in_local t v) n)
-unfolding put
-local_put g t v n =
+pub puts : (g : GcState) (p : Slot) (n : ℕ) → Put g p n (put g p n)
+unfolding value put
+puts g (in_shared i) n =
+    shared_put g _ (in_shared i) n (node_here g.shared i n) (same_but_node in_shared shared_mark g.shared i n)
+puts g (shared_mark i) n =
+    shared_put g _ (shared_mark i) n (mark_here g.shared i n) (same_but_mark in_shared shared_mark g.shared i n)
+puts g (in_local t v) n =
     let ps = (locals_of g t).pointers in
-    let l : Locals = record (locals_of g t) { pointers = node_put ps v n } in
-    own_put g t l (in_local t v) n ((gives g t (Some l)).pointers v ∙ node_here ps v n)
-    (λ w ne. node_there ps v n w (λ e. ne (ap (in_local t) e))) (λ w ne. mark_stays ps v n w) (λ x ne. refl)
-
-local_mark_put : (g : GcState) (t v n : ℕ) → Put g (local_mark t v) n (put g (local_mark t v) n)
-unfolding put
-local_mark_put g t v n =
+    own_put g t _ (in_local t v) n ((gives g t (Some (record (locals_of g t) { pointers = node_put ps v n }))).pointers v ∙ node_here ps v n)
+    (same_but_node (in_local t) (local_mark t) ps v n) (λ x ne. refl)
+puts g (local_mark t v) n =
     let ps = (locals_of g t).pointers in
-    let l : Locals = record (locals_of g t) { pointers = mark_put ps v n } in
-    own_put g t l (local_mark t v) n ((gives g t (Some l)).marks v ∙ mark_here ps v n)
-    (λ w ne. node_stays ps v n w) (λ w ne. mark_there ps v n w (λ e. ne (ap (local_mark t) e))) (λ x ne. refl)
-
-data_put : (g : GcState) (t x n : ℕ) → Put g (in_data t x) n (put g (in_data t x) n)
-unfolding put
-data_put g t x n =
+    own_put g t _ (local_mark t v) n ((gives g t (Some (record (locals_of g t) { pointers = mark_put ps v n }))).marks v ∙ mark_here ps v n)
+    (same_but_mark (in_local t) (local_mark t) ps v n) (λ x ne. refl)
+puts g (in_data t x) n =
     let l : Locals = record (locals_of g t) { values = put_at 0 (locals_of g t).values x n } in
     own_put g t l (in_data t x) n ((gives g t (Some l)).values x ∙ get-put_same 0 (locals_of g t).values x n)
-    (λ v ne. refl) (λ v ne. refl) (λ y ne. get-put_other 0 (locals_of g t).values x n y (λ e. ne (ap (in_data t) e)))
-
-pub puts : (g : GcState) (p : Slot) (n : ℕ) → Put g p n (put g p n)
-puts g (in_shared i) n = shared_put g i n
-puts g (in_local t v) n = local_put g t v n
-puts g (shared_mark i) n = shared_mark_put g i n
-puts g (local_mark t v) n = local_mark_put g t v n
-puts g (in_data t x) n = data_put g t x n
+    (record { nodes = λ v ne. refl; marks = λ v ne. refl })
+    (λ y ne. get-put_other 0 (locals_of g t).values x n y (λ e. ne (ap (in_data t) e)))
 
 -- ---- rows
 
@@ -212,6 +204,15 @@ fresh_entry fields ghosts (data_field f) = get-replicate 0 fields f
 fresh_entry fields ghosts (auxiliary_field h) = get-replicate 0 ghosts h
 fresh_entry fields ghosts retirement = refl
 
+-- what is known of nodes is no value of a place
+values_stay : (g : GcState) (rows : List Row) (q : Slot) → value (record g { rows = rows }) q ≡ value g q
+unfolding value
+values_stay g rows (in_shared i) = refl
+values_stay g rows (in_local t v) = refl
+values_stay g rows (shared_mark i) = refl
+values_stay g rows (local_mark t v) = refl
+values_stay g rows (in_data t x) = refl
+
 pub updates : (g : GcState) (m : Map) (k n : ℕ) → Updated g m k n (update g m k n)
 unfolding value entry count update
 updates g m k n =
@@ -224,13 +225,7 @@ updates g m k n =
             (ap (λ r. row_entry r l) (get-put_same no_row g.rows k r) ∙ row_other (get_or g.rows k no_row) m n l ne)
         | inr other ↦ ap (λ r. row_entry r l) (get-put_other no_row g.rows k r j other)
       ];
-      values = elim [
-        | in_shared i ↦ refl
-        | in_local t v ↦ refl
-        | shared_mark i ↦ refl
-        | local_mark t v ↦ refl
-        | in_data t x ↦ refl
-      ];
+      values = values_stay g (put_at no_row g.rows k r);
       count = λ small. length_put no_row g.rows k r small;
     }
 
@@ -278,13 +273,7 @@ pub makes : (g : GcState) → WasMade g (made g)
 unfolding value entry count made
 makes g = record {
   entries = λ m k. pushed g.rows (fresh_row (length g.fields) g.ghosts) m k (fresh_entry (length g.fields) g.ghosts m);
-  values = elim [
-    | in_shared i ↦ refl
-    | in_local t v ↦ refl
-    | shared_mark i ↦ refl
-    | local_mark t v ↦ refl
-    | in_data t x ↦ refl
-  ];
+  values = values_stay g (g.rows ++ fresh_row (length g.fields) g.ghosts ∷ []);
   count = (let e = length-append g.rows (fresh_row (length g.fields) g.ghosts ∷ []) in omega (arith, e));
 }
 
@@ -299,12 +288,12 @@ unfolding value locals_of
 first_value fields ghosts shared threads (in_shared i) =
     ap (λ (p : Pointer). p.node) (get-replicate null_pointer shared i)
 first_value fields ghosts shared threads (in_local t v) =
-    ap (λ l. (get_or (locals_or_none l).pointers v null_pointer).node) (get-replicate None threads t)
+    ap (λ l. (get_or (unwrap_or l no_locals).pointers v null_pointer).node) (get-replicate None threads t)
 first_value fields ghosts shared threads (shared_mark i) =
     ap (λ (p : Pointer). p.mark) (get-replicate null_pointer shared i)
 first_value fields ghosts shared threads (local_mark t v) =
-    ap (λ l. (get_or (locals_or_none l).pointers v null_pointer).mark) (get-replicate None threads t)
-first_value fields ghosts shared threads (in_data t x) = ap (λ l. get_or (locals_or_none l).values x 0) (get-replicate None threads t)
+    ap (λ l. (get_or (unwrap_or l no_locals).pointers v null_pointer).mark) (get-replicate None threads t)
+first_value fields ghosts shared threads (in_data t x) = ap (λ l. get_or (unwrap_or l no_locals).values x 0) (get-replicate None threads t)
 
 first_entry : (fields : List Field) (ghosts shared threads : ℕ) (m : Map) (k : ℕ) → entry (fresh_state fields ghosts shared threads) m k ≡ 0
 unfolding entry

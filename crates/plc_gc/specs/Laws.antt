@@ -1,5 +1,6 @@
 -- What each change of a garbage-collected state leaves at each place and at each node.
 use Rattle.std.specs.Prelude.{◌≡◌, ℕ, suc, ◌<◌, ◌≤◌, true, not, List, Option, Some, get_or}
+use Rattle.std.specs.Option.{unwrap_or}
 use Rattle.plc_lang.specs.declared.syntax.Field.{Field}
 use Rattle.plc_lang.specs.declared.syntax.Primitive.{Primitive}
 use Rattle.plc_lang.specs.declared.syntax.Var.{Var}
@@ -11,7 +12,7 @@ use Rattle.plc_gc.specs.declared.slot.Slot.TheVariants.{Shared as in_shared, Loc
 use Rattle.plc_gc.specs.declared.slot.Slot.TheVariants.{SharedMark as shared_mark, LocalMark as local_mark}
 use Rattle.plc_gc.specs.declared.slot.Map.{Map}
 use Rattle.plc_gc.specs.declared.slot.Map.TheVariants.{Pointer as pointer_field, Mark as mark_field}
-use Rattle.plc_gc.specs.State.{GcState, Locals, value, entry, count, put, update, made, with_locals, locals_or_none}
+use Rattle.plc_gc.specs.State.{GcState, Locals, value, entry, count, put, update, made, with_locals, no_locals}
 use Rattle.plc_gc.specs.State.{fresh_state, null_pointer, slot, mark_slot, put_pointer, update_pointer}
 use Rattle.plc_gc.specs.Primitives.{some_node, goes, after}
 
@@ -58,9 +59,9 @@ pub record WasMade (g new : GcState) : Type 0 where
 
 -- thread t has these locals now, or none; all else stays
 pub record HasLocals (g : GcState) (t : ℕ) (l : Option Locals) (new : GcState) : Type 0 where
-  pub pointers : (v : ℕ) → value new (in_local t v) ≡ (get_or (locals_or_none l).pointers v null_pointer).node
-  pub marks : (v : ℕ) → value new (local_mark t v) ≡ (get_or (locals_or_none l).pointers v null_pointer).mark
-  pub values : (x : ℕ) → value new (in_data t x) ≡ get_or (locals_or_none l).values x 0
+  pub pointers : (v : ℕ) → value new (in_local t v) ≡ (get_or (unwrap_or l no_locals).pointers v null_pointer).node
+  pub marks : (v : ℕ) → value new (local_mark t v) ≡ (get_or (unwrap_or l no_locals).pointers v null_pointer).mark
+  pub values : (x : ℕ) → value new (in_data t x) ≡ get_or (unwrap_or l no_locals).values x 0
   pub shared : (i : ℕ) → value new (in_shared i) ≡ value g (in_shared i)
   pub shared_marks : (i : ℕ) → value new (shared_mark i) ≡ value g (shared_mark i)
   pub others : (u v : ℕ) → (u ≡ t → ⊥) → value new (in_local u v) ≡ value g (in_local u v)

@@ -13,4 +13,5 @@ pub mod Threads
 pub mod Unmarked
 -- words of private functions alone
 pub mod Fit
+pub mod Named
 pub mod Reach

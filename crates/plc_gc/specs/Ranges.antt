@@ -6,6 +6,7 @@ use Rattle.plc_lang.specs.declared.syntax.Ghost.{Ghost as AuxiliaryField}
 use Rattle.plc_lang.specs.declared.syntax.File.{File}
 use Rattle.plc_lang.specs.WellSorted.{IsWellSorted}
 use Rattle.plc_flow.specs.declared.flow.Flow.{Flow}
+use Rattle.plc_flow.specs.WellSorted.{FlowIsWellSorted}
 use Rattle.plc_threads.specs.declared.words.Move.{Move}
 use Rattle.plc_gc.specs.declared.slot.Slot.TheVariants.{Shared as in_shared, Local as in_local}
 use Rattle.plc_gc.specs.declared.slot.Slot.TheVariants.{SharedMark as shared_mark, LocalMark as local_mark}
@@ -42,6 +43,10 @@ pub record RunsStayInRange (flow : Flow) (threads : ℕ) : Type 0 where
       → IsInRange d.state
   pub run : (moves : List Move) (c : GcConfiguration) → GcRun flow threads moves c → IsInRange c.state
 
+-- so it is with every flow
+abbrev pub CollectedRunsStayInRange : Type 0
+CollectedRunsStayInRange = (flow : Flow) (threads : ℕ) → RunsStayInRange flow threads
+
 -- an auxiliary field of the file that has values has one of them at every node
 abbrev pub ValuesAreInRange : File → GcState → Type 0
 ValuesAreInRange file g =
@@ -56,3 +61,7 @@ pub record RunsKeepValues (flow : Flow) (threads : ℕ) : Type 0 where
   pub by_move : (c d : GcConfiguration) (move : Move) → Moves flow threads c move d → ValuesAreInRange flow.file c.state
       → ValuesAreInRange flow.file d.state
   pub run : (moves : List Move) (c : GcConfiguration) → GcRun flow threads moves c → ValuesAreInRange flow.file c.state
+
+-- so it is with every flow of a file that was read
+abbrev pub CollectedRunsKeepValues : Type 0
+CollectedRunsKeepValues = (flow : Flow) (threads : ℕ) → FlowIsWellSorted flow → RunsKeepValues flow threads

@@ -36,3 +36,7 @@ pub record GcRunLaws (flow : Flow) (threads : ℕ) : Type 0 where
       → d ≡ e
   pub one_run : (moves : List Move) (c d : GcConfiguration) → GcRun flow threads moves c → GcRun flow threads moves d
       → c ≡ d
+
+-- so it is with every flow
+abbrev pub CollectedRunsGoOn : Type 0
+CollectedRunsGoOn = (flow : Flow) (threads : ℕ) → GcRunLaws flow threads

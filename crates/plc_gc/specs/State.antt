@@ -2,6 +2,7 @@
 -- back.
 use Rattle.std.specs.Prelude.{ℕ, Bool, false, ◌&&◌, nat_lt, if◌then◌else◌, ◌==◌, List, [], ◌∷◌, ◌++◌, length, get_or}
 use Rattle.std.specs.Prelude.{slice_get, replicate, Option, Some, None}
+use Rattle.std.specs.Option.{unwrap_or}
 use Rattle.plc_base.specs.Tables.{put_at}
 use Rattle.plc_lang.specs.declared.syntax.Var.{Var}
 use Rattle.plc_lang.specs.declared.syntax.Var.TheVariants.{Shared, Local}
@@ -106,14 +107,9 @@ row_with r retirement n = record r { retired = n }
 abbrev pub no_locals : Locals
 no_locals = record { declared = []; pointers = []; values = [] }
 
--- the locals of a thread, none for an idle one
-abbrev pub locals_or_none : Option Locals → Locals
-locals_or_none None = no_locals
-locals_or_none (Some l) = l
-
--- the locals of thread t
+-- the locals of thread t, none for an idle one
 unfoldable pub locals_of : GcState → ℕ → Locals
-locals_of g t = locals_or_none (get_or g.locals t None)
+locals_of g t = unwrap_or (get_or g.locals t None) no_locals
 
 -- the state with the locals of thread t put in
 unfoldable pub with_locals : GcState → ℕ → Option Locals → GcState

@@ -4,6 +4,7 @@ use Rattle.plc_lang.specs.declared.syntax.Var.{Var}
 use Rattle.plc_lang.specs.declared.syntax.Primitive.{Primitive}
 use Rattle.plc_lang.specs.Marks.{speaks_of_marks}
 use Rattle.plc_flow.specs.declared.flow.Flow.{Flow}
+use Rattle.plc_flow.specs.Marks.{flow_uses_marks}
 use Rattle.plc_threads.specs.declared.words.Move.{Move}
 use Rattle.plc_gc.specs.declared.slot.Slot.TheVariants.{SharedMark as shared_mark, LocalMark as local_mark}
 use Rattle.plc_gc.specs.declared.slot.Map.TheVariants.{Mark as mark_field}
@@ -28,3 +29,8 @@ pub record RunsStayUnmarked (flow : Flow) (threads : ℕ) : Type 0 where
   pub run : (moves : List Move) (c : GcConfiguration) → GcRun flow threads moves c → AllUnmarked c.state
   pub compared : (g : GcState) (t : ℕ) (p q : Var) → AllUnmarked g
       → same_pointer g t p q ≡ (node_at g t p == node_at g t q)
+
+-- so it is with every flow that doesn't use marks
+abbrev pub CollectedRunsStayUnmarked : Type 0
+CollectedRunsStayUnmarked =
+    (flow : Flow) (threads : ℕ) → flow_uses_marks flow ≡ false → RunsStayUnmarked flow threads

@@ -1,17 +1,10 @@
 // The laws stand over the definitions, so that proofs above never open them.
-ghost use Rattle.std.specs.Prelude.{ℕ, ◌≡◌, ◌<◌, false, List};
-ghost use Rattle.plc_flow.specs.declared.flow.Flow.{Flow};
-ghost use Rattle.plc_threads.specs.declared.words.Move.{Move};
-ghost use Rattle.plc_flow.specs.Marks.{flow_uses_marks};
-ghost use Rattle.plc_flow.specs.WellFormed.{FlowFits};
-ghost use Rattle.plc_flow.specs.WellSorted.{FlowIsWellSorted};
 ghost use Rattle.plc_gc.specs.Laws.{CollectedAccessesAgree, CollectedTestsHaveOpposites, GcStateLaws};
-ghost use Rattle.plc_gc.specs.Ranges.{RunsStayInRange, RunsKeepValues};
-ghost use Rattle.plc_gc.specs.Unmarked.{RunsStayUnmarked};
+ghost use Rattle.plc_gc.specs.Ranges.{CollectedRunsKeepValues, CollectedRunsStayInRange};
 ghost use Rattle.plc_gc.specs.Reached.{ClaimsAreReached};
-ghost use Rattle.plc_gc.specs.Run.{GcConfiguration, GcRun};
-ghost use Rattle.plc_gc.specs.RunLaws.{GcRunLaws};
-ghost use Rattle.plc_gc.specs.Threads.{GcConfigurationFits};
+ghost use Rattle.plc_gc.specs.RunLaws.{CollectedRunsGoOn};
+ghost use Rattle.plc_gc.specs.Threads.{CollectedThreadsHoldTheirLocals};
+ghost use Rattle.plc_gc.specs.Unmarked.{CollectedRunsStayUnmarked};
 
 /// What is put into a place or a map is read back, and nothing else changes with it. A node that isn't
 /// made yet reads as one that was just allocated, so an allocation changes no entry.
@@ -23,26 +16,26 @@ pub fn collected_state_reads_back()
 /// frees, of which none changes anything. Each move leads to one configuration at most, whatever
 /// address it names, and so do the moves of a whole run.
 pub fn collected_runs_go_on()
-    ensures { (flow : Flow) (threads : ℕ) → GcRunLaws flow threads }
+    ensures { CollectedRunsGoOn }
 {}
 
 /// In every state of every garbage-collected run, and between the primitives of a step, each pointer
 /// leads to null or to a node that was made, a mark is 0 or 1, null has null, unmarked, and 0 in its
 /// fields and isn't retired, and what isn't made has 0 in every map.
 pub fn collected_runs_stay_in_range()
-    ensures { (flow : Flow) (threads : ℕ) → RunsStayInRange flow threads }
+    ensures { CollectedRunsStayInRange }
 {}
 
 /// In every state of every garbage-collected run of a flow of a file that was read, and between the
 /// primitives of a step, an enumerated auxiliary field has one of its values at every node.
 pub fn collected_runs_keep_values()
-    ensures { (flow : Flow) (threads : ℕ) → FlowIsWellSorted flow → RunsKeepValues flow threads }
+    ensures { CollectedRunsKeepValues }
 {}
 
 /// In no state of a garbage-collected run of a flow that doesn't use marks, and nowhere between the primitives of
 /// a step, is a pointer marked; so a comparison of two pointers is there one of their nodes.
 pub fn collected_runs_stay_unmarked()
-    ensures { (flow : Flow) (threads : ℕ) → flow_uses_marks flow ≡ false → RunsStayUnmarked flow threads }
+    ensures { CollectedRunsStayUnmarked }
 {}
 
 /// Where all claims that a step reaches are true, each is true in the state in which it is reached, and
@@ -54,9 +47,7 @@ pub fn claims_are_reached()
 /// In every configuration of a garbage-collected run of a flow of a file that was read, each busy thread stands at
 /// a point of its operation and holds that operation's locals, and an idle one holds none.
 pub fn collected_threads_hold_their_locals()
-    ensures { (flow : Flow) (threads : ℕ) (moves : List Move) (c : GcConfiguration)
-        → FlowFits flow → FlowIsWellSorted flow → 0 < threads → GcRun flow threads moves c
-        → GcConfigurationFits flow threads c }
+    ensures { CollectedThreadsHoldTheirLocals }
 {}
 
 /// Of a test and its opposite exactly one goes, in every garbage-collected state, and a test changes nothing.

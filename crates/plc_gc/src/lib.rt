@@ -8,6 +8,7 @@ mod config;
 mod execute;
 mod laws;
 mod locals;
+mod pointers;
 mod primitives;
 mod row;
 mod slot;
@@ -17,6 +18,6 @@ pub use clauses::holds;
 pub use config::{GcConfig, GcMoved};
 pub use laws::{
     claims_are_reached, collected_accesses_agree, collected_runs_go_on, collected_runs_keep_values,
-    collected_runs_stay_in_range, collected_state_reads_back, collected_tests_have_opposites,
-    collected_threads_hold_their_locals,
+    collected_runs_stay_in_range, collected_runs_stay_unmarked, collected_state_reads_back,
+    collected_tests_have_opposites, collected_threads_hold_their_locals,
 };

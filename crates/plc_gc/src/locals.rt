@@ -1,17 +1,19 @@
 // The locals of a thread that is in an operation. Clauses count pointer and data locals together, so the
 // declarations stand beside the values.
-ghost use Rattle.std.specs.Prelude.{◌≡◌, ℕ, ◌<◌, get_or, slice_get, length, nat_lt, if◌then◌else◌};
+ghost use Rattle.std.specs.Prelude.{◌≡◌, ◌<◌, ◌≤◌, get_or, slice_get, length, nat_lt, if◌then◌else◌};
 ghost use Rattle.std.specs.Prelude.{IfOk, Some, None};
+ghost use Rattle.std.specs.Option.{unwrap_or};
 ghost use Rattle.plc_base.specs.Tables.{put_at};
-ghost use Rattle.plc_gc.specs.State.{GcState, Locals, locals_of, locals_or_none, no_locals, starting};
+ghost use Rattle.plc_lang.specs.Numbering.{data_number, pointer_number};
+ghost use Rattle.plc_gc.specs.State.{Locals, no_locals, starting};
 ghost use Rattle.plc_gc.specs.State.{null_pointer};
-ghost use Rattle.plc_gc.specs.Clauses.{declared_value, declared_mark};
+ghost use Rattle.plc_gc.specs.Named.{declared_local};
 
-use crate::row::{find_node, pointer_at};
+use crate::pointers::{find_node, pointer_at};
 use crate::slot::Pointer;
 use plc_base::NoMemory;
 use plc_lang::{Local, Op, count_other_data, count_pointers, data_number, pointer_number};
-use plc_threads::{TryCopy, entry_or, find_entry, held};
+use plc_threads::{TryCopy, entry_or, held};
 use std::alloc::Global;
 use std::marker::Model;
 
@@ -90,40 +92,38 @@ impl Locals {
         find_node(&self.pointers, v as usize)
     }
 
-    /// The local by its number among all that are declared, 0 past the last.
-    pub fn named(&self, i: u16) -> u32
-        ensures { (g : GcState) (t : ℕ) → locals_of g t ≡ self.now
-            → result ≡ declared_value g t self.now.declared i (slice_get self.now.declared i) }
+    /// What the local holds that has this number among all that are declared: a pointer local its pointer, a data local
+    /// its number, unmarked. Null past the last.
+    pub fn named(&self, i: u16) -> Pointer
+        ensures { result ≡ declared_local self.now i (slice_get self.now.declared i) }
     {
         let i = i as usize;
         match self.declared.get(i) {
-            None => 0,
+            None => Pointer::null(),
             Some(l) => {
                 if l.pointer {
-                    pointer_at(&self.pointers, pointer_number(&self.declared, i)).node
+                    self.declared_pointer(i)
                 } else {
-                    entry_or(&self.values, data_number(&self.declared, i), 0)
+                    Pointer::unmarked(self.declared_value(i))
                 }
             }
         }
     }
 
-    /// The mark of the pointer local by its number among all that are declared, 0 where there is none.
-    pub fn named_mark(&self, i: u16) -> u32
-        ensures { (g : GcState) (t : ℕ) → locals_of g t ≡ self.now
-            → result ≡ declared_mark g t self.now.declared i (slice_get self.now.declared i) }
+    /// The pointer local that is declared at a place.
+    fn declared_pointer(&self, i: usize) -> Pointer
+        requires { i ≤ length self.now.declared }
+        ensures { result ≡ get_or self.now.pointers (pointer_number self.now.declared i) null_pointer }
     {
-        let i = i as usize;
-        match self.declared.get(i) {
-            None => 0,
-            Some(l) => {
-                if l.pointer {
-                    pointer_at(&self.pointers, pointer_number(&self.declared, i)).mark
-                } else {
-                    0
-                }
-            }
-        }
+        pointer_at(&self.pointers, pointer_number(&self.declared, i))
+    }
+
+    /// The data local that is declared at a place.
+    fn declared_value(&self, i: usize) -> u32
+        requires { i ≤ length self.now.declared }
+        ensures { result ≡ get_or self.now.values (data_number self.now.declared i) 0 }
+    {
+        entry_or(&self.values, data_number(&self.declared, i), 0)
     }
 
     /// Puts a pointer into a pointer local.
@@ -145,7 +145,7 @@ impl Locals {
 
 /// A pointer local of a thread, if there is one of this number.
 pub fn local_of(locals: &[Option<Locals>], t: u32, v: u16) -> Option<u32>
-    ensures { let l = locals_or_none (get_or locals.now t None)
+    ensures { let l = unwrap_or (get_or locals.now t None) no_locals
         in result ≡ (if nat_lt v (length l.pointers) then Some (get_or l.pointers v null_pointer).node else None) }
 {
     held(locals, t)?.find(v)
@@ -153,8 +153,8 @@ pub fn local_of(locals: &[Option<Locals>], t: u32, v: u16) -> Option<u32>
 
 /// Puts a pointer into a pointer local of a thread.
 pub fn put_pointer(locals: &mut Vec<Option<Locals>>, t: u32, v: u16, p: Pointer)
-    requires { v < length (locals_or_none (get_or locals.old.items t None)).pointers }
-    ensures { let l = locals_or_none (get_or locals.old.items t None)
+    requires { v < length (unwrap_or (get_or locals.old.items t None) no_locals).pointers }
+    ensures { let l = unwrap_or (get_or locals.old.items t None) no_locals
         in locals.new.items
         ≡ put_at None locals.old.items t (Some (record l { pointers = put_at null_pointer l.pointers v p })) }
 {
@@ -165,8 +165,8 @@ pub fn put_pointer(locals: &mut Vec<Option<Locals>>, t: u32, v: u16, p: Pointer)
 
 /// Puts a number into a data local of a thread.
 pub fn put_value(locals: &mut Vec<Option<Locals>>, t: u32, x: u16, n: u32)
-    requires { x < length (locals_or_none (get_or locals.old.items t None)).values }
-    ensures { let l = locals_or_none (get_or locals.old.items t None)
+    requires { x < length (unwrap_or (get_or locals.old.items t None) no_locals).values }
+    ensures { let l = unwrap_or (get_or locals.old.items t None) no_locals
         in locals.new.items ≡ put_at None locals.old.items t (Some (record l { values = put_at 0 l.values x n })) }
 {
     if let Some(l) = &mut locals[t as usize] {

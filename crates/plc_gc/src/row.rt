@@ -1,9 +1,10 @@
 // The row of a node: a pointer for each field in `pointers` and a number for each in `values`, of which a
 // pointer field has the first and a data field the second, a number for each auxiliary field, and the retirement.
-ghost use Rattle.std.specs.Prelude.{◌≡◌, get_or, length, nat_lt, if◌then◌else◌, IfOk, Some, None};
-ghost use Rattle.plc_gc.specs.State.{null_pointer, row_entry, row_with, fresh_row};
+ghost use Rattle.std.specs.Prelude.{◌≡◌, IfOk};
+ghost use Rattle.plc_gc.specs.State.{row_entry, row_with, fresh_row};
 ghost use Rattle.plc_gc.specs.Fit.{EntryIn};
 
+use crate::pointers::{pointer_at, put_mark, put_node};
 use crate::slot::{Map, Pointer};
 use plc_base::NoMemory;
 use plc_threads::entry_or;
@@ -30,25 +31,6 @@ impl Model for Row {
       auxiliary = r.auxiliary.items;
       retired = r.retired;
     } };
-}
-
-/// The pointer at a place of a table, null past its end.
-pub fn pointer_at(pointers: &[Pointer], i: usize) -> Pointer
-    ensures { result ≡ get_or pointers.now i null_pointer }
-{
-    entry_or(pointers, i, Pointer::null())
-}
-
-/// The node at a place of a table, if there is such a place.
-pub fn find_node(pointers: &[Pointer], i: usize) -> Option<u32>
-    ensures { result
-        ≡ (if nat_lt i (length pointers.now) then Some (get_or pointers.now i null_pointer).node else None) }
-{
-    if i < pointers.len() {
-        Some(pointers[i].node)
-    } else {
-        None
-    }
 }
 
 impl Row {
@@ -95,12 +77,8 @@ impl Row {
         ensures { self.new ≡ row_with self.old map n }
     {
         match map {
-            Map::Pointer(f) => {
-                self.pointers[f as usize] = pointer_at(&self.pointers, f as usize).with_node(n);
-            }
-            Map::Mark(f) => {
-                self.pointers[f as usize] = pointer_at(&self.pointers, f as usize).with_mark(n);
-            }
+            Map::Pointer(f) => put_node(&mut self.pointers, f as usize, n),
+            Map::Mark(f) => put_mark(&mut self.pointers, f as usize, n),
             Map::Number(f) => self.values[f as usize] = n,
             Map::Auxiliary(h) => self.auxiliary[h as usize] = n,
             Map::Retirement => self.retired = n,

@@ -3,6 +3,7 @@
 // retired. So one word reads a place and one a map, and a node that isn't made reads as a fresh one.
 ghost use Rattle.std.specs.Prelude.{◌≡◌};
 ghost use Rattle.plc_gc.specs.State.{null_pointer, with_node, with_mark, slot, mark_slot};
+ghost use Rattle.plc_gc.specs.Named.{unmarked};
 
 use plc_lang::Var;
 
@@ -19,6 +20,13 @@ impl Pointer {
         ensures { result ≡ null_pointer }
     {
         Pointer { node: 0, mark: 0 }
+    }
+
+    /// A number that has no mark.
+    pub fn unmarked(n: u32) -> Pointer
+        ensures { result ≡ unmarked n }
+    {
+        Pointer { node: n, mark: 0 }
     }
 
     /// With another node.

@@ -1,20 +1,22 @@
 // The values of a garbage-collected state. A node's number is the place of its row, and no row is taken
 // back, so that a look-up is an index. What it is seen as is the state of the definitions; reads are total.
-ghost use Rattle.std.specs.Prelude.{◌≡◌, ◌<◌, nat_lt, if◌then◌else◌, get_or, slice_get, length, IfOk, OnOk, OnErr};
-ghost use Rattle.std.specs.Prelude.{Some, None};
+ghost use Rattle.std.specs.Prelude.{◌≡◌, ◌<◌, get_or, slice_get, length, IfOk, OnOk, OnErr};
+ghost use Rattle.plc_threads.specs.declared.words.Place.TheVariants as places;
 ghost use Rattle.plc_gc.specs.State.{GcState, first_state, locals_of, with_locals, value, entry, count, put};
 ghost use Rattle.plc_gc.specs.State.{update, made};
 ghost use Rattle.plc_gc.specs.State.{is_retired, is_made, is_pointer_field, node_of, null_pointer};
 ghost use Rattle.plc_gc.specs.Clauses.{local_value, local_mark_value, field_map};
-ghost use Rattle.plc_gc.specs.Fit.{SlotIn, MapIn};
+ghost use Rattle.plc_gc.specs.Named.{named_local};
+ghost use Rattle.plc_gc.specs.Fit.{RowsFit, SlotIn, MapIn};
 
 use crate::locals::{Locals, local_of, put_pointer, put_value};
-use crate::row::{Row, copy_rows, find_node, pointer_at};
+use crate::pointers::{find_node, pointer_at, put_mark, put_node};
+use crate::row::{Row, copy_rows};
 use crate::slot::{Map, Pointer, Slot};
 use plc_base::{FieldId, NoMemory};
 use plc_flow::Flow;
 use plc_lang::Field;
-use plc_threads::{Place, copy_held, entry_or, find_entry, held, none_held};
+use plc_threads::{Place, copy_held, held, none_held};
 use std::alloc::Global;
 use std::marker::Model;
 
@@ -30,10 +32,6 @@ pub struct State {
 }
 
 impl Model for State {
-    ghost use Rattle.std.specs.Prelude.{length};
-    ghost use Rattle.plc_gc.specs.State.{GcState};
-    ghost use Rattle.plc_gc.specs.Fit.{RowsFit};
-
     ghost Value = { GcState };
 
     ghost view = { λ s. record {
@@ -138,16 +136,12 @@ impl State {
         ensures { self.new ≡ put self.old slot n }
     {
         match slot {
-            Slot::Shared(i) => {
-                self.shared[i as usize] = pointer_at(&self.shared, i as usize).with_node(n);
-            }
+            Slot::Shared(i) => put_node(&mut self.shared, i as usize, n),
             Slot::Local { t, v } => {
                 let p = self.pointer(t, v).with_node(n);
                 put_pointer(&mut self.locals, t, v, p);
             }
-            Slot::SharedMark(i) => {
-                self.shared[i as usize] = pointer_at(&self.shared, i as usize).with_mark(n);
-            }
+            Slot::SharedMark(i) => put_mark(&mut self.shared, i as usize, n),
             Slot::LocalMark { t, v } => {
                 let p = self.pointer(t, v).with_mark(n);
                 put_pointer(&mut self.locals, t, v, p);
@@ -186,23 +180,37 @@ impl State {
     {
         match *place {
             Place::Shared(i) => self.shared_pointer(i),
-            Place::Cell { a, f } => {
-                if self.is_made(a) && self.is_pointer_field(f) {
-                    Some(self.entry(Map::Pointer(f.0), a))
-                } else {
-                    None
-                }
-            }
-            Place::Local { t, v } => local_of(&self.locals, t, v),
+            Place::Cell { a, f } => self.pointer_field(a, f),
+            Place::Local { t, v } => self.local_pointer(t, v),
         }
     }
 
-    /// The shared pointer, if there is one of this number.
+    /// The node that a shared pointer holds, if there is one of this number.
+    #[tactic(auto, unfolding(crate::specs::State::has_place, crate::specs::State::value))]
     fn shared_pointer(&self, i: u16) -> Option<u32>
-        ensures { result
-            ≡ (if nat_lt i (length self.now.shared) then Some (get_or self.now.shared i null_pointer).node else None) }
+        ensures { result ≡ node_of self.now (places.Shared i) }
     {
         find_node(&self.shared, i as usize)
+    }
+
+    /// The node that a pointer field holds of a node that was made, if there is one of this number.
+    #[tactic(auto, unfolding(crate::specs::State::has_place))]
+    fn pointer_field(&self, k: u32, f: FieldId) -> Option<u32>
+        ensures { result ≡ node_of self.now (places.Cell k f) }
+    {
+        if self.is_made(k) && self.is_pointer_field(f) {
+            Some(self.entry(Map::Pointer(f.0), k))
+        } else {
+            None
+        }
+    }
+
+    /// The node that a pointer local of a busy thread holds, if there is one of this number.
+    #[tactic(auto, unfolding(crate::specs::State::has_place, crate::specs::State::value))]
+    fn local_pointer(&self, t: u32, v: u16) -> Option<u32>
+        ensures { result ≡ node_of self.now (places.Local t v) }
+    {
+        local_of(&self.locals, t, v)
     }
 
     /// Whether a node was made and isn't null.
@@ -223,30 +231,32 @@ impl State {
         }
     }
 
+    /// What the local of a thread holds that has this number among all that are declared (`Locals::named`); null where
+    /// there is none.
+    fn named(&self, thread: Option<u32>, i: u16) -> Pointer
+        ensures { result ≡ named_local self.now thread i }
+    {
+        let Some(t) = thread else {
+            return Pointer::null();
+        };
+        match held(&self.locals, t) {
+            Some(l) => l.named(i),
+            None => Pointer::null(),
+        }
+    }
+
     /// The local of a thread by its number among all that are declared; 0 where there is none.
     pub fn local(&self, thread: Option<u32>, i: u16) -> u32
         ensures { result ≡ local_value self.now thread i }
     {
-        let Some(t) = thread else {
-            return 0;
-        };
-        match held(&self.locals, t) {
-            Some(l) => l.named(i),
-            None => 0,
-        }
+        self.named(thread, i).node
     }
 
     /// The mark of the pointer local of a thread by its number among all that are declared; 0 where there is none.
     pub fn local_mark(&self, thread: Option<u32>, i: u16) -> u32
         ensures { result ≡ local_mark_value self.now thread i }
     {
-        let Some(t) = thread else {
-            return 0;
-        };
-        match held(&self.locals, t) {
-            Some(l) => l.named_mark(i),
-            None => 0,
-        }
+        self.named(thread, i).mark
     }
 
     /// What a field holds at a node, whichever kind it has.

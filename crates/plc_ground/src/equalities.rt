@@ -8,7 +8,7 @@
 // Classes that are joined are the only ones in which applications can clash, so these alone are
 // searched. Union by size and a forest of reasons win little on sets of a hundred terms, and each
 // would have to be kept true by proof.
-ghost use Rattle.std.specs.Prelude.{◌≡◌, ◌≢◌, ◌+◌, ◌-◌, ◌<◌, ◌≤◌, ◌==◌, ℕ, length};
+ghost use Rattle.std.specs.Prelude.{◌≡◌, ◌≢◌, ◌↔◌, ◌+◌, ◌-◌, ◌<◌, ◌≤◌, ◌==◌, ℕ, length};
 ghost use Rattle.std.specs.Prelude.{slice_index, slice_set, Some, IfSome, IfNone, List, sum, ◌^◌, All};
 ghost use Rattle.std.specs.Prelude.{IfOk, OnOk, take, drop, ◌∷◌, ◌++◌, [], Ok, true, false, IsTrue};
 ghost use Rattle.plc_ground.specs.Fit.{IsWellFormed, IsInRange};
@@ -155,47 +155,43 @@ fn application_at(set: &GroundSet, list: &[u32], k: usize) -> usize
     list[k] as usize
 }
 
-/// The first place of an application whose argument has this class.
-fn place_in(set: &GroundSet, class: &[u32], list: &[u32], x: u32) -> Option<usize>
-    requires well { IsWellFormed set.now }
-    requires one_each { length class.now ≡ length set.now.terms }
-    requires list { IsOfOneMap set.now.terms list.now }
-    ensures some { IfSome result (λ k. (k < length list.now)
-        × HasArgumentIn set.now.terms class.now x (slice_index list.now k)) }
-    ensures none { IfNone result ((k : ℕ) → k < length list.now
-        → HasArgumentIn set.now.terms class.now x (slice_index list.now k) → ⊥) }
+/// Whether this is the class that is given, if one is.
+fn is_given(own: Option<u32>, class: u32) -> bool
+    ensures { IsTrue result ↔ (own ≡ Some class) }
 {
-    for k in 0..list.len() {
-        let i = application_at(set, list, k);
-        if has_argument_in(set, class, i, x) {
-            return Some(k);
-        }
+    match own {
+        None => false,
+        Some(own) => own == class,
     }
-    None
 }
 
-/// Whether the argument of an application has class `x`, and the application has another than `own`.
-fn is_other_in(set: &GroundSet, class: &[u32], i: usize, x: u32, own: u32) -> bool
+/// Whether the argument of an application has class `x`, and the application is not in the class `own`, if that is
+/// given.
+fn is_other_in(set: &GroundSet, class: &[u32], i: usize, x: u32, own: Option<u32>) -> bool
     requires well { IsWellFormed set.now }
     requires one_each { length class.now ≡ length set.now.terms }
     requires range { i < length set.now.terms }
-    ensures yes { IsTrue result → HasArgumentIn set.now.terms class.now x i × (slice_index class.now i ≢ own) }
-    ensures no { result ≡ false → HasArgumentIn set.now.terms class.now x i → slice_index class.now i ≡ own }
+    ensures yes { IsTrue result → HasArgumentIn set.now.terms class.now x i × (own ≢ Some (slice_index class.now i)) }
+    ensures no { result ≡ false → HasArgumentIn set.now.terms class.now x i → own ≡ Some (slice_index class.now i) }
 {
-    class[i] != own && has_argument_in(set, class, i, x)
+    if is_given(own, class[i]) {
+        return false;
+    }
+    has_argument_in(set, class, i, x)
 }
 
-/// The first place of an application whose argument has class `x`, and which has another than `own`.
-fn other_place_in(set: &GroundSet, class: &[u32], list: &[u32], x: u32, own: u32) -> Option<usize>
+/// The first place of an application whose argument has class `x`, and which isn't in the class `own`, if that is
+/// given.
+fn place_in(set: &GroundSet, class: &[u32], list: &[u32], x: u32, own: Option<u32>) -> Option<usize>
     requires well { IsWellFormed set.now }
     requires one_each { length class.now ≡ length set.now.terms }
     requires list { IsOfOneMap set.now.terms list.now }
     ensures some { IfSome result (λ k. (k < length list.now)
         × HasArgumentIn set.now.terms class.now x (slice_index list.now k)
-        × (slice_index class.now (slice_index list.now k) ≢ own)) }
+        × (own ≢ Some (slice_index class.now (slice_index list.now k)))) }
     ensures none { IfNone result ((k : ℕ) → k < length list.now
         → HasArgumentIn set.now.terms class.now x (slice_index list.now k)
-        → slice_index class.now (slice_index list.now k) ≡ own) }
+        → own ≡ Some (slice_index class.now (slice_index list.now k))) }
 {
     for k in 0..list.len() {
         let i = application_at(set, list, k);
@@ -216,11 +212,11 @@ fn clash_in(set: &GroundSet, class: &[u32], list: &[u32], x: u32) -> Option<(usi
     ensures range { IfSome result (λ p. (p.0 < length set.now.terms) × (p.1 < length set.now.terms)) }
     ensures none { IfNone result (AgreeAt set.now.terms class.now x list.now) }
 {
-    let Some(k) = place_in(set, class, list, x) else {
+    let Some(k) = place_in(set, class, list, x, None) else {
         return None;
     };
     let i = application_at(set, list, k);
-    let Some(n) = other_place_in(set, class, list, x, class[i]) else {
+    let Some(n) = place_in(set, class, list, x, Some(class[i])) else {
         return None;
     };
     let j = application_at(set, list, n);

@@ -19,11 +19,11 @@ use Rattle.plc_setting.specs.declared.acts.Act.TheVariants.{Assign, Make, Fetch,
 use Rattle.plc_setting.specs.declared.acts.Act.TheVariants.{Differ, Skip}
 use Rattle.plc_setting.specs.declared.setting.Setting.{Setting}
 use Rattle.plc_setting.specs.Acts.{mark_of}
-use Rattle.plc_setting.specs.Setting.{mark_constants}
+use Rattle.plc_setting.specs.Setting.{only_if, mark_constants}
 use Rattle.plc_setting.specs.Sorts.{auxiliary_sort, value_sort}
 use Rattle.plc_items.specs.declared.execution.Execution.{Execution}
 use Rattle.plc_items.specs.Execution.{after}
-use Rattle.plc_items.specs.Items.{one_of_values, field_values, values_from, only_if, set_or_not, field_marks}
+use Rattle.plc_items.specs.Items.{one_of_values, field_values, values_from, set_or_not, field_marks}
 use Rattle.plc_items.specs.Items.{mark_values}
 use Rattle.plc_symbolic.specs.declared.symbolic.NodeTerm.{NodeTerm}
 use Rattle.plc_symbolic.specs.declared.symbolic.SymbolicTerm.TheVariants.{Constant, Application}

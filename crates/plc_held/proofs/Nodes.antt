@@ -18,8 +18,8 @@ use Rattle.plc_ground.specs.declared.terms.Map.TheVariants as maps
 use Rattle.plc_setting.specs.declared.acts.Act.{Act}
 use Rattle.plc_setting.specs.declared.acts.Act.TheVariants.{Assign, Make, Fetch, FetchMarked, Update, Test}
 use Rattle.plc_setting.specs.declared.acts.Act.TheVariants.{Differ, Skip}
-use Rattle.plc_setting.specs.Setting.{below, local_symbol, variables_of, pointer_variables, pointer_loads_from, if_made}
-use Rattle.plc_setting.specs.Setting.{node_constants, plain_constants, pointer_fields_from, targets_of, if_deep}
+use Rattle.plc_setting.specs.Setting.{below, only_if, local_symbol, variables_of, pointer_variables, pointer_loads_from}
+use Rattle.plc_setting.specs.Setting.{node_constants, plain_constants, pointer_fields_from, targets_of}
 use Rattle.plc_setting.specs.Setting.{nodes_of}
 use Rattle.plc_setting.specs.Sorts.{field_sort, local_sort}
 use Rattle.plc_items.specs.declared.execution.Execution.{Execution}
@@ -196,7 +196,7 @@ module _ (e : Meaning) (file : File) (w : Scene) (g : GcState) (limit : ℕ) (be
   pub new_is : e.symbol symbols.New ≡ count g
   new_is = before.means.constants symbols.New refl refl ∙ before.node
 
-  made_below : (makes : Bool) → (makes ≡ true → count g < limit) → Each (IsBelow e limit) (if_made makes)
+  made_below : (makes : Bool) → (makes ≡ true → count g < limit) → Each (IsBelow e limit) (only_if makes (symbols.New ∷ []))
   made_below true h = (
     record {
       sort = before.means.sorts_are.new;
@@ -220,9 +220,9 @@ module _ (e : Meaning) (file : File) (w : Scene) (g : GcState) (limit : ℕ) (be
     pub constants_below : Each (IsBelow e limit) (node_constants pointers makes bound loads)
     constants_below = (
       weaker symbols.Null null_below,
-      each_both (IsBelow e limit) pointers (if_made makes ++ (map symbols.Bound (below bound) ++ loads))
+      each_both (IsBelow e limit) pointers (only_if makes (symbols.New ∷ []) ++ (map symbols.Bound (below bound) ++ loads))
           (each_so (IsBelow e (count g)) (IsBelow e limit) weaker pointers ps)
-          (each_both (IsBelow e limit) (if_made makes) (map symbols.Bound (below bound) ++ loads)
+          (each_both (IsBelow e limit) (only_if makes (symbols.New ∷ [])) (map symbols.Bound (below bound) ++ loads)
           (made_below makes made)
           (each_both (IsBelow e limit) (map symbols.Bound (below bound)) loads (bound_below bound bs) ls)),
     )
@@ -257,7 +257,7 @@ module _ (e : Meaning) (file : File) (w : Scene) (g : GcState) (limit : ℕ) (be
       }) fs h)) ss)
 
   deep_below : (deep : Bool) (ns : List NodeTerm) → Each (IsTermBelow e limit) ns
-      → Each (IsTermBelow e limit) (if_deep deep ns)
+      → Each (IsTermBelow e limit) (only_if deep ns)
   deep_below true ns h = h
   deep_below false ns h = tt
 
@@ -265,7 +265,7 @@ module _ (e : Meaning) (file : File) (w : Scene) (g : GcState) (limit : ℕ) (be
       → Each (FieldIs file true) fs → Each (IsBelow e limit) ss
       → Each (IsTermBelow e limit) (nodes_of ss deep constants fs)
   nodes_below ss deep constants fs fields h = each_both (IsTermBelow e limit) (map At ss)
-      (if_deep deep (targets_of fs constants))
+      (only_if deep (targets_of fs constants))
       (each_map (IsTermBelow e limit) At ss
       (each_so (IsBelow e limit) (λ s. IsTermBelow e limit (At s))
       (λ s b. record { sort = b.sort; below = b.below }) ss h))

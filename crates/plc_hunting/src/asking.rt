@@ -8,7 +8,7 @@ use crate::hunting::{Hunted, hunt_freely, hunt_under};
 use plc_base::{LARGEST_FILE, NoMemory};
 use plc_cli::{
     ByList, Content, Epoch, Files, Hazard, Leak, NO_MEMORY, Reclaimer, Sink, SinkFault, UNWRITTEN,
-    read, refused_words, write_text,
+    read, words_refusal, write_text,
 };
 use plc_explore::Frees;
 use plc_sched::number_of;
@@ -88,7 +88,7 @@ fn hunt_bytes(alloc: Global, bytes: &[u8], freeing: Freeing, seed: u32) -> Resul
 
 /// The answer to words of no listed form.
 fn wrong_words(alloc: Global) -> Result<Hunted, NoMemory> {
-    let answer = refused_words(alloc)?;
+    let answer = words_refusal(alloc)?;
     Ok(Hunted {
         status: answer.status,
         text: answer.text,

@@ -1,7 +1,7 @@
 // A hunt in the bytes of a file: the runs of its program are drawn, and the first that races is made short, written,
 // and followed once more as it is written.
 ghost use Rattle.std.specs.Prelude.{◌≡◌, ◌≤◌, [], false, IfOk, IfSome, IsTrue, length};
-ghost use Rattle.plc_cli.specs.Refusals.{load_text};
+ghost use Rattle.plc_cli.specs.Refusals.{load_fault_text};
 ghost use Rattle.plc_cli.specs.Statuses.{holds, fails, refused};
 ghost use Rattle.plc_hunting.specs.Texts.{run_text};
 ghost use Rattle.plc_hunting.specs.Trails.{TrailRaces};
@@ -218,7 +218,7 @@ fn hunted_in(
 
 /// The answer to a file that is refused.
 fn refused_file(alloc: Global, fault: &LoadFault) -> Result<Hunted, NoMemory>
-    ensures { IfOk result (λ h. (h.status ≡ refused) × (h.text.items ≡ load_text fault.now)) }
+    ensures { IfOk result (λ h. (h.status ≡ refused) × (h.text.items ≡ load_fault_text fault.now)) }
 {
     let answer = refusal(alloc, fault)?;
     Ok(Hunted {

@@ -1,6 +1,7 @@
 -- The test of an environment is the definition.
 use Rattle.std.proofs.Common.{◌≡◌, ℕ, zero, suc, true, List, [], ◌∷◌, length, replicate, refl, ap, ◌∙◌}
 use Rattle.std.proofs.lemmas.Bool.{and_parts, and_from, eq-eqb, eqb-true}
+use Rattle.std.proofs.lemmas.List.{length-replicate}
 use Rattle.plc_auto.specs.declared.observer.Observer.{Observer}
 use Rattle.plc_type.specs.declared.env.PtrType.{PtrType}
 use Rattle.plc_type.specs.declared.env.Env.{Env}
@@ -23,10 +24,6 @@ list_bare : (w n : ℕ) → all_bare w (replicate n (bare w)) ≡ true
 list_bare w zero = refl
 list_bare w (suc n) = and_from _ _ refl (and_from _ _ (eq-eqb w w refl) (list_bare w n))
 
-pub length_of : {A : Type 0} (n : ℕ) (x : A) → length (replicate n x) ≡ n
-length_of zero x = refl
-length_of (suc n) x = ap suc (length_of n x)
-
 pub fits_is : (o : Observer) (n m : ℕ) (e : Env) → fits o n m e ≡ true → IsEnvironment o n m e
 unfolding fits
 fits_is o n m e h =
@@ -46,6 +43,6 @@ pub is_fits : (o : Observer) (n m : ℕ) (e : Env) → IsEnvironment o n m e →
 unfolding fits
 is_fits o n m e h =
     and_from _ _ h.anywhere
-    (and_from _ _ (eq-eqb _ _ (ap length h.shared_types ∙ length_of n (bare e.w)))
+    (and_from _ _ (eq-eqb _ _ (ap length h.shared_types ∙ length-replicate n (bare e.w)))
     (and_from _ _ (ap (all_bare e.w) h.shared_types ∙ list_bare e.w n)
     (and_from _ _ (eq-eqb _ _ h.count) h.types)))

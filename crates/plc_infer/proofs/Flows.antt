@@ -12,34 +12,15 @@ use Rattle.plc_flow.specs.Skeleton.{skeleton_of, passage_of, pointers_by_point}
 use Rattle.plc_infer.specs.declared.flow_lists.FlowLists.{FlowLists}
 use Rattle.plc_infer.specs.Programs.{edge_of, passage_at, some_passage, number_of, IsProgram}
 use Rattle.plc_infer.specs.FlowLists.{listed}
-use Rattle.plc_infer.proofs.Points.{locals_there, entries_within}
+use Rattle.plc_infer.proofs.Points.{entries_within}
 use Rattle.plc_flow.proofs.Gates.{point_count}
+use Rattle.plc_flow.proofs.Ends.{Ends, ends_of}
 
 pub passage_is : (flow : Flow) (k : ℕ) (s : Step) → slice_get flow.steps k ≡ Some s → passage_at (skeleton_of flow) k ≡ passage_of s
 passage_is flow k s e = get_or_from_slice_get (map passage_of flow.steps) k (passage_of s) some_passage (slice_get-map passage_of flow.steps k ∙ ap (λ (o : Option Step). option_map passage_of o) e)
 
 pub passages_length : (flow : Flow) → length (skeleton_of flow).passages ≡ length flow.steps
 passages_length flow = length-map flow.steps passage_of
-
--- both ends of a step are points with the same locals
-pub record Ends (flow : Flow) (s : Step) : Type 0 where
-  pub from_in : s.from.0 < length (skeleton_of flow).locals
-  pub to_in : s.to.0 < length (skeleton_of flow).locals
-  pub same : locals_at (skeleton_of flow) s.to.0 ≡ locals_at (skeleton_of flow) s.from.0
-
-pub ends_of : (flow : Flow) (k : ℕ) (s : Step) → IsWellFormed flow → slice_get flow.steps k ≡ Some s → Ends flow s
-ends_of flow k s w e =
-    let within = w.steps k s e in
-    let f = locals_there 0 flow.file.ops flow.gates flow.points s.op.0 s.from.0 within.0 (sym w.gates) w.ranges within.1 within.2 in
-    let t = locals_there 0 flow.file.ops flow.gates flow.points s.op.0 s.to.0 within.0 (sym w.gates) w.ranges within.1 within.3 in
-    let points = point_count flow w in
-    let from_is : s.from.0 - 0 ≡ s.from.0 = omega arith in
-    let to_is : s.to.0 - 0 ≡ s.to.0 = omega arith in
-    record {
-      from_in = let h = f.1 in omega (arith, points);
-      to_in = let h = t.1 in omega (arith, points);
-      same = ap (λ (p : ℕ). get_or (pointers_by_point flow.file.ops flow.gates) p 0) (sym to_is) ∙ t.2 ∙ sym f.2 ∙ ap (λ (p : ℕ). get_or (pointers_by_point flow.file.ops flow.gates) p 0) from_is;
-    }
 
 some_step : Step
 some_step = record { op = record { 0 = 0 }; from = record { 0 = 0 }; to = record { 0 = 0 }; prims = []; line = 0 }

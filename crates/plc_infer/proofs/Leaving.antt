@@ -1,5 +1,5 @@
 -- What the index of a program's steps has of a point: each step that leaves the point, and steps alone.
-use Rattle.std.proofs.Common.{◌≡◌, ℕ, zero, suc, ◌+◌, ◌<◌, ◌≤◌, Bool, true, false, Some, List, [], ◌∷◌, length, set, sym, ap, subst, ◌∙◌, arith, inl, inr}
+use Rattle.std.proofs.Common.{◌≡◌, ℕ, zero, suc, ◌+◌, ◌<◌, ◌≤◌, Bool, true, false, Some, List, [], ◌∷◌, length, get_or, drop, set, sym, ap, subst, ◌∙◌, arith, inl, inr}
 use Rattle.std.specs.Prelude.{◌==◌, if◌then◌else◌, slice_get, option_map}
 use Rattle.std.proofs.lemmas.Bool.{eq-eqb}
 use Rattle.std.proofs.lemmas.List.{length-map}
@@ -11,9 +11,10 @@ use Rattle.plc_flow.specs.StepsByPoint.{places_from}
 use Rattle.plc_infer.specs.declared.program.Edge.{Edge}
 use Rattle.plc_infer.specs.declared.program.Program.{Program}
 use Rattle.plc_infer.specs.Programs.{program_of, passage_at, first_points, IsProgram}
-use Rattle.plc_infer.specs.Graphs.{graph_of}
+use Rattle.plc_infer.specs.Graphs.{graph_of, CanRun}
 use Rattle.plc_infer.specs.Starts.{starts_of}
 use Rattle.plc_infer.specs.WorkLists.{Among, UnderWay}
+use Rattle.plc_infer.proofs.Lists.{among_drop}
 use Rattle.plc_infer.proofs.Listed.{taken}
 use Rattle.plc_infer.proofs.Programs.{steps_length, step_at, step_from, from_point, no_edge, program_laws}
 
@@ -82,3 +83,14 @@ leaving_taken o p well asked envs at queue left steps marks unmarked u q m row =
     let starts = starts_of o (program_of p) in
     let before : UnderWay graph asked starts envs (at ∷ left) marks [] = subst (λ (xs : List ℕ). UnderWay graph asked starts envs xs marks []) q u in
     rw (m, row) (taken graph (program_laws o (program_of p) well) asked starts envs at left marks (places_from 0 at (first_points p)) before (leaving_all p at) (leaving_known p at))
+
+-- ---- steps that are still to be looked at
+
+pub may_run : (o : Observer) (p : Program) (asked : ℕ → Env → Type 0) (envs : List Env) (queue : List ℕ) (marks : List Bool) (steps : List ℕ) (i : ℕ)
+    → IsProgram (program_of p) → i < length steps → UnderWay (graph_of o (program_of p)) asked (starts_of o (program_of p)) envs queue marks (drop i steps)
+    → CanRun o p (get_or steps i 0) envs
+may_run o p asked envs queue marks steps i well small under_way = record {
+  program = well;
+  known = subst (λ (n : ℕ). get_or steps i 0 < n) (steps_length p) (under_way.steps (get_or steps i 0) (among_drop steps i small));
+  shaped = under_way.rising.shaped;
+}

@@ -6,8 +6,7 @@ use Rattle.std.proofs.lemmas.List.Elements.{All-push, All-pop}
 use Rattle.plc_base.specs.declared.ids.PointId.{PointId}
 use Rattle.plc_type.specs.declared.env.Env.{Env}
 use Rattle.plc_infer.specs.declared.resuming.Replaced.{Replaced}
-use Rattle.plc_infer.specs.Resuming.{put_back, AreWithin}
-use Rattle.plc_infer.specs.Trials.{IsNoted}
+use Rattle.plc_infer.specs.Trials.{put_back, AreWithin, IsNoted}
 
 -- the one that was replaced last is put back first
 pub last_first : (rs : List Replaced) (r : Replaced) (envs : List Env)

@@ -1,49 +1,16 @@
--- The points of a flow: where they begin, and that the starts and the counts of locals are theirs.
+-- The points of a flow: where they begin, and that the counts of locals are theirs.
 use Rattle.std.proofs.Common.{◌≡◌, ℕ, zero, suc, ◌+◌, ◌-◌, ◌<◌, ◌≤◌, List, [], ◌∷◌, ◌++◌, drop, length, get_or, map, replicate, append_assoc, Some, sym, ap, subst, ◌∙◌, arith}
 use Rattle.std.specs.Prelude.{slice_get}
-use Rattle.std.proofs.lemmas.List.{get_or-append_right, get_or_append_left, get_or-replicate, at_drop_more}
+use Rattle.std.proofs.lemmas.List.{at_drop_more}
 use Rattle.plc_lang.specs.declared.syntax.Op.{Op}
 use Rattle.plc_flow.specs.declared.flow.Gate.{Gate}
-use Rattle.plc_flow.specs.WellFormed.{GatesFrom, IsPointOf}
+use Rattle.plc_flow.specs.WellFormed.{GatesFrom}
 use Rattle.plc_lang.specs.Locals.{pointers_of}
 use Rattle.plc_flow.specs.Skeleton.{pointers_by_point}
-use Rattle.plc_infer.proofs.Environments.{length_of}
 use Rattle.plc_flow.proofs.Gates.{ends_after}
 
 abbrev pub entries_of : List Gate → List ℕ
 entries_of gs = map (λ (g : Gate). g.entry.0) gs
-
-abbrev nth_pointers : List Op → ℕ → ℕ
-nth_pointers [] k = 0
-nth_pointers (o ∷ os) zero = pointers_of o
-nth_pointers (o ∷ os) (suc k) = nth_pointers os k
-
--- the points of the k-th gate have the locals of the k-th operation
-pub locals_there : (n : ℕ) (os : List Op) (gs : List Gate) (end k p : ℕ) (g : Gate) → length os ≡ length gs → GatesFrom n gs end → slice_get gs k ≡ Some g → IsPointOf g p
-    → (n ≤ p) × (p < end) × (get_or (pointers_by_point os gs) (p - n) 0 ≡ nth_pointers os k)
-locals_there n [] [] end k p g same h e at = absurd cc
-locals_there n (o ∷ os) [] end k p g same h e at = absurd cc
-locals_there n [] (x ∷ gs) end k p g same h e at = absurd (omega arith)
-locals_there n (o ∷ os) (x ∷ gs) end zero p g same (first, entry_is, exit_is, wide, rest) e at =
-    let is : x ≡ g = cc in
-    let low : x.first ≤ p = subst (λ (y : Gate). y.first ≤ p) (sym is) at.0 in
-    let high : p < x.after = subst (λ (y : Gate). p < y.after) (sym is) at.1 in
-    let r = ends_after x.after gs end rest in
-    let long = length_of (x.after - x.first) (pointers_of o) in (
-      omega arith,
-      omega arith,
-      get_or_append_left (replicate (x.after - x.first) (pointers_of o)) (pointers_by_point os gs) 0 (p - n) (omega arith)
-          ∙ get_or-replicate (x.after - x.first) (p - n) (pointers_of o) 0 (omega arith),
-    )
-locals_there n (o ∷ os) (x ∷ gs) end (suc k) p g same (first, entry_is, exit_is, wide, rest) e at =
-    let r = locals_there x.after os gs end k p g (omega arith) rest e at in
-    let long = length_of (x.after - x.first) (pointers_of o) in
-    let there : p - n - (x.after - x.first) ≡ p - x.after = let l = r.0 in omega arith in (
-      let l = r.0 in omega arith,
-      r.1,
-      get_or-append_right (replicate (x.after - x.first) (pointers_of o)) (pointers_by_point os gs) (x.after - x.first) (p - n) 0 long (let l = r.0 in omega arith)
-          ∙ ap (λ (i : ℕ). get_or (pointers_by_point os gs) i 0) there ∙ r.2,
-    )
 
 -- entries are points
 pub entries_within : (n : ℕ) (gs : List Gate) (end i p : ℕ) → GatesFrom n gs end → slice_get (entries_of gs) i ≡ Some p → (n ≤ p) × (p < end)

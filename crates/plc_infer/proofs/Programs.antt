@@ -1,5 +1,5 @@
 -- What the code reads of a program and of the environments at its points.
-use Rattle.std.proofs.Common.{◌≡◌, ℕ, ◌<◌, List, [], length, get_or, refl, sym, ap, subst, ◌∙◌, arith}
+use Rattle.std.proofs.Common.{◌≡◌, ℕ, ◌<◌, List, [], length, get_or, Bool, inl, inr, refl, sym, ap, subst, ◌∙◌, arith}
 use Rattle.std.specs.Prelude.{slice_set, true, false}
 use Rattle.std.proofs.lemmas.List.{length-map, get_or-map, get_or_default}
 use Rattle.std.proofs.lemmas.Option.{slice_get_read, get_or_from_slice_get}
@@ -16,7 +16,9 @@ use Rattle.plc_infer.specs.declared.program.Edge.{Edge}
 use Rattle.plc_infer.specs.declared.program.Program.{Program}
 use Rattle.plc_infer.specs.Programs.{edge_of, program_of, some_passage, passage_at, IsProgram}
 use Rattle.plc_infer.specs.Starts.{starts_of}
-use Rattle.plc_infer.specs.Graphs.{graph_of}
+use Rattle.plc_infer.specs.Graphs.{graph_of, CanRun}
+use Rattle.plc_infer.specs.WorkLists.{Looked, Puts}
+use Rattle.plc_infer.specs.Trials.{Raises}
 use Rattle.plc_infer.specs.Iteration.{Laws, Shaped, Stays, Relaxed, IsStrongest as IsLeast}
 use Rattle.plc_infer.proofs.Environments.{fits_is}
 use Rattle.plc_infer.proofs.Skeletal.{lawful, starts_shaped, starts_are, strongest_is}
@@ -119,6 +121,9 @@ module _ (o : Observer) (p : Program) (envs : List Env) (k : ℕ) (x : Edge) (we
       let is_to : IsEnvironment o n m b = subst (λ (l : ℕ). IsEnvironment o n l b) same_locals (subst (IsEnvironment o n (locals_at (program_of p) x.to.0)) (sym to.0) to.1) in
       same_shape o n m b (led o a x.prims.now) is_to (led_is o n m a x.prims.now is_from)
 
+  last_read : env_at envs x.to.0 ≡ get_or envs x.to.0 (env_at envs x.to.0)
+  last_read = get_or_default envs x.to.0 (bottom 0 0) (env_at envs x.to.0) to_within
+
   pub stays : (a b : Env) → a ≡ get_or envs x.from.0 a → b ≡ get_or envs x.to.0 b → env_below (led o a x.prims.now) b ≡ true → Stays (graph_of o (program_of p)) envs k
   stays a b read_a read_b h =
       let from = (from_there a read_a).0 in
@@ -136,6 +141,18 @@ module _ (o : Observer) (p : Program) (envs : List Env) (k : ℕ) (x : Edge) (we
       let here : Raised o envs new (edge_of x) = (below, made_new ∙ ap (slice_set envs x.to.0) made) in
       subst (Raised o envs new) (sym (step_is p k x small is)) here
 
+  -- where what was reached is what the step leads to, raising its last point is a look at the step
+  raised_look : (new : List Env) (a r : Env) (queue queue' : List ℕ) (marks marks' : List Bool) → a ≡ get_or envs x.from.0 a → r ≡ led o a x.prims.now
+      → Raises x.to.0 r envs new queue queue' marks marks' → Looked (graph_of o (program_of p)) k envs new queue queue' marks marks'
+  raised_look new a r queue queue' marks marks' read leads (inl (below, same, line, marked)) =
+      inl ((stays a (env_at envs x.to.0) read last_read (subst (λ (e : Env). env_below e (env_at envs x.to.0) ≡ true) leads below), same), line, marked)
+  raised_look new a r queue queue' marks marks' read leads (inr (out, made, puts)) =
+      inr (
+        raised new a (env_at envs x.to.0) (env_join (env_at envs x.to.0) r) read last_read (subst (λ (e : Env). env_below e (env_at envs x.to.0) ≡ false) leads out)
+            (ap (env_join (env_at envs x.to.0)) leads) made,
+        subst (λ (n : ℕ). Puts n queue queue' marks marks') (sym (ap (λ (y : Passage). y.to) (step_is p k x small is))) puts,
+      )
+
 -- the step that the code reads has both its points
 module _ (o : Observer) (p : Program) (envs : List Env) (k : ℕ) (well : IsProgram (program_of p))
     (shaped : Shaped (graph_of o (program_of p)) envs) (small : k < length p.steps.now) where
@@ -144,3 +161,29 @@ module _ (o : Observer) (p : Program) (envs : List Env) (k : ℕ) (well : IsProg
 
   pub to_inside : (step_at p k).to.0 < length envs
   to_inside = to_within o p envs k (step_at p k) well shaped small (step_read p k small)
+
+-- the same of a step that may be run
+module _ {o : Observer} {p : Program} {k : ℕ} {envs : List Env} (run : CanRun o p k envs) where
+  there : step_at p k ≡ get_or p.steps.now k (step_at p k)
+  there = step_read p k run.known
+
+  pub run_from_inside : (step_at p k).from.0 < length envs
+  run_from_inside = from_within o p envs k (step_at p k) run.program run.shaped run.known there
+
+  pub run_to_inside : (step_at p k).to.0 < length envs
+  run_to_inside = to_within o p envs k (step_at p k) run.program run.shaped run.known there
+
+  pub run_fits : (a : Env) → a ≡ get_or envs (step_at p k).from.0 a → FitsObserver o a
+  run_fits a read = from_fits o p envs k (step_at p k) run.program run.shaped run.known there a read
+
+  pub run_shape : (a : Env) → a ≡ get_or envs (step_at p k).from.0 a
+      → SameShape (env_at envs (step_at p k).to.0) (led o a (step_at p k).prims.now)
+  run_shape a read =
+      led_shape o p envs k (step_at p k) run.program run.shaped run.known there a (env_at envs (step_at p k).to.0) read
+      (last_read o p envs k (step_at p k) run.program run.shaped run.known there)
+
+  pub run_look : (new : List Env) (a r : Env) (queue queue' : List ℕ) (marks marks' : List Bool)
+      → a ≡ get_or envs (step_at p k).from.0 a → r ≡ led o a (step_at p k).prims.now
+      → Raises (step_at p k).to.0 r envs new queue queue' marks marks'
+      → Looked (graph_of o (program_of p)) k envs new queue queue' marks marks'
+  run_look = raised_look o p envs k (step_at p k) run.program run.shaped run.known there

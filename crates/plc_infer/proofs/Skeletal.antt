@@ -4,6 +4,7 @@ use Rattle.std.specs.Prelude.{◌==◌, slice_get, is_none, ◌⊎◌, if◌then
 use Rattle.std.specs.List.{list_any}
 use Rattle.std.proofs.lemmas.Bool.{cases_lt, cases_eq, eq-eqb, ne_eqb, or_left, or_right, or_from}
 use Rattle.std.proofs.lemmas.Option.{slice_get-get_or, slice_get_within, get_or_from_slice_get, slice_get_past}
+use Rattle.std.proofs.lemmas.List.{length-replicate}
 use Rattle.plc_lang.specs.declared.syntax.Primitive.{Primitive}
 use Rattle.plc_auto.specs.declared.observer.Observer.{Observer}
 use Rattle.plc_auto.specs.Sets.{all_locations}
@@ -23,7 +24,7 @@ use Rattle.plc_infer.specs.Graphs.{total, graph_of}
 use Rattle.plc_infer.specs.WorkLists.{Settled}
 use Rattle.plc_infer.specs.Trials.{MeetsAll}
 use Rattle.plc_infer.specs.Resuming.{IsBegun, StepIsTyped}
-use Rattle.plc_infer.proofs.Environments.{fits_is, is_fits, length_of}
+use Rattle.plc_infer.proofs.Environments.{fits_is, is_fits}
 use Rattle.plc_infer.proofs.Climb.{stuck_at}
 use Rattle.plc_infer.proofs.Lists.{table_length, table_at}
 
@@ -71,7 +72,7 @@ module _ (order : EnvironmentsAreOrdered) (rules : RulesKeepOrder) (o : Observer
   shape p a b x y = (ap length x.shared_types ∙ long a.w ∙ sym (long b.w) ∙ sym (ap length y.shared_types), x.count ∙ sym y.count)
     where
       long : (w : ℕ) → length (replicate s.shared (bare w)) ≡ s.shared
-      long w = length_of s.shared (bare w)
+      long w = length-replicate s.shared (bare w)
 
   pub lawful : IsProgram s → graph.Laws (graph_of o s)
   lawful k = record {
@@ -93,7 +94,7 @@ module _ (order : EnvironmentsAreOrdered) (rules : RulesKeepOrder) (o : Observer
       small : (p : ℕ) (a : Env) → is p a → env_size a ≤ 262 * (1 + s.shared + total s.locals)
       small p a x =
           let b = order.bounded a (rules.range o _ _ a x) in
-          let n : length a.shared ≡ s.shared = ap length x.shared_types ∙ length_of s.shared (bare a.w) in
+          let n : length a.shared ≡ s.shared = ap length x.shared_types ∙ length-replicate s.shared (bare a.w) in
           let m = get_most s.locals p in
           omega (arith, b, n, m, x.count)
 

@@ -1,7 +1,7 @@
 -- Looks at steps condition by condition: what is kept, why a condition that fails on the way fails under every
 -- pre-typing, and what the environments are at the beginning and at the end.
 use Rattle.std.proofs.Common.{◌≡◌, ℕ, zero, suc, ◌<◌, Bool, true, false, List, [], ◌∷◌, length, get_or, replicate, inl}
-use Rattle.std.proofs.Common.{inr, refl, subst, arith}
+use Rattle.std.proofs.Common.{inr, refl, ap, subst, ◌∙◌, arith}
 use Rattle.std.specs.Prelude.{◌⊎◌, Contains, All}
 use Rattle.plc_auto.specs.declared.observer.Observer.{Observer}
 use Rattle.plc_lang.specs.Skeleton.{Skeleton}
@@ -9,14 +9,15 @@ use Rattle.plc_type.specs.declared.env.Env.{Env}
 use Rattle.plc_type.proofs.Ordered.{ordered}
 use Rattle.plc_xfer.specs.Typings.{HasTyping, IsTyping, IsStrongest}
 use Rattle.plc_xfer.proofs.Order.{kept}
+use Rattle.plc_infer.specs.declared.resuming.Replaced.{Replaced}
 use Rattle.plc_infer.specs.Iteration as graph
 use Rattle.plc_infer.specs.Iteration.{Graph, Laws, env_at, Shaped, Rising}
 use Rattle.plc_infer.specs.Programs.{IsProgram}
 use Rattle.plc_infer.specs.Starts.{starts_of}
 use Rattle.plc_infer.specs.Graphs.{graph_of}
 use Rattle.plc_infer.specs.WorkLists.{Among, Settled, UnderWay, Gains}
-use Rattle.plc_infer.specs.Trials.{MeetsAll, FailsOne, Tried, HasNone}
-use Rattle.plc_infer.specs.Resuming.{IsBegun, StepIsTyped}
+use Rattle.plc_infer.specs.Trials.{MeetsAll, FailsOne, LooksAt, HasNoTyping, IsNoted, put_back}
+use Rattle.plc_infer.specs.Resuming.{IsBegun, StepIsTyped, IsReached, IsResumed}
 use Rattle.plc_infer.proofs.Listed.{begun_with, looked, gains, settled, ended}
 use Rattle.plc_infer.proofs.Skeletal.{starts_are, begun_rising, typed_settled, typing_into_graph, strongest_is}
 use Rattle.plc_infer.proofs.Skeletal.{typing_is}
@@ -42,7 +43,7 @@ among_all n (x ∷ xs) h k (inr a) = among_all n xs (λ i d small. h (suc i) d (
 module _ {E : Type 0} (g : Graph E) (laws : Laws g) where
   -- environments only rise, so that a condition that fails on the way fails under every pre-typing
   pub none_meets : (starts envs : List E) (k : ℕ) → k < g.steps → Rising g starts envs
-      → FailsOne g k (env_at g envs (g.from k)) → HasNone g starts
+      → FailsOne g k (env_at g envs (g.from k)) → HasNoTyping g starts
   none_meets starts envs k small r f = λ others t.
       let from = laws.from_in k small in
       let here = laws.less k f.0 _ _ small (r.shaped.fitting (g.from k) from)
@@ -53,7 +54,7 @@ module _ {E : Type 0} (g : Graph E) (laws : Laws g) where
   -- one step less to be looked at
   pub tried : (starts envs new : List E) (queue queue' : List ℕ) (marks marks' : List Bool) (k : ℕ) (todo : List ℕ)
       → Shaped g starts → UnderWay g (MeetsAll g) starts envs queue marks (k ∷ todo)
-      → Tried g k envs new queue queue' marks marks' true
+      → LooksAt g k envs new queue queue' marks marks' true
       → UnderWay g (MeetsAll g) starts new queue' marks' todo × Gains g envs new queue queue'
   tried starts envs new queue queue' marks marks' k todo first u h = (
     looked g laws (MeetsAll g) starts envs new queue queue' marks marks' k todo first u h.1 h.0,
@@ -87,8 +88,14 @@ module _ (o : Observer) (s : Skeleton) (well : IsProgram s) where
       rest k small = step k small (b.typed k small)
 
   -- no typing of the rules
-  pub untyped : HasNone g starts → HasTyping o s → ⊥
+  untyped : HasNoTyping g starts → HasTyping o s → ⊥
   untyped h t = h t.0 (typing_into_graph ordered kept o s starts (starts_are ordered kept o s well) well t.0 t.1)
+
+  -- where a condition fails, what was replaced is put back
+  pub given_up : (old failed new : List Env) (before replaced : List Replaced) → HasNoTyping g starts
+      → IsNoted old failed before replaced → before ≡ [] → new ≡ put_back replaced failed → IsResumed o s old new false
+  given_up old failed new before replaced none noted first back =
+      (untyped none, back ∙ noted.back ∙ ap (λ (rs : List Replaced). put_back rs old) first)
 
   -- nothing is left to be looked at
   module _ (envs : List Env) (queue : List ℕ) (marks : List Bool)
@@ -99,9 +106,12 @@ module _ (o : Observer) (s : Skeleton) (well : IsProgram s) where
     least : graph.IsStrongest g starts envs
     least = ended g (program_laws o s well) (MeetsAll g) starts envs marks u
 
-    pub strongest : IsStrongest o s envs
+    strongest : IsStrongest o s envs
     strongest = strongest_is ordered kept o s starts (starts_are ordered kept o s well) well envs least
 
-    pub typed : IsTyping o s envs
+    typed : IsTyping o s envs
     typed = typing_is ordered kept o s starts (starts_are ordered kept o s well) well envs least
         (λ k small. (settled g (program_laws o s well) (MeetsAll g) starts envs marks u k small).1)
+
+    pub reached : IsReached o s envs
+    reached = record { typing = typed; strongest = strongest }

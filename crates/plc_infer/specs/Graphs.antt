@@ -1,5 +1,5 @@
 -- A program as a graph of environments.
-use Rattle.std.specs.Prelude.{◌==◌, ◌&&◌, ◌+◌, ◌*◌, ℕ, Bool, true, List, [], ◌∷◌, length, is_none}
+use Rattle.std.specs.Prelude.{◌==◌, ◌&&◌, ◌+◌, ◌*◌, ◌<◌, ℕ, Bool, true, List, [], ◌∷◌, length, is_none}
 use Rattle.plc_base.specs.Mask.{within}
 use Rattle.plc_auto.specs.declared.observer.Observer.{Observer}
 use Rattle.plc_auto.specs.Sets.{all_locations}
@@ -9,8 +9,9 @@ use Rattle.plc_type.specs.Environments.{env_below, env_join, bottom}
 use Rattle.plc_type.specs.Laws.{env_size}
 use Rattle.plc_xfer.specs.Typings.{led, fault_at, all_types}
 use Rattle.plc_lang.specs.Skeleton.{Skeleton, locals_at}
-use Rattle.plc_infer.specs.Iteration.{Graph}
-use Rattle.plc_infer.specs.Programs.{passage_at}
+use Rattle.plc_infer.specs.declared.program.Program.{Program}
+use Rattle.plc_infer.specs.Iteration.{Graph, Shaped}
+use Rattle.plc_infer.specs.Programs.{IsProgram, passage_at, program_of}
 
 -- whether an environment is one of a pre-typing, as a test
 abbrev pub all_bare : ℕ → List PtrType → Bool
@@ -45,3 +46,9 @@ graph_of o s = record {
   conditions = λ k. length (passage_at s k).prims;
   holds = λ k i e. is_none (fault_at o e (passage_at s k).prims i);
 }
+
+-- step k of a program may be run from the environment of its first point
+pub record CanRun (o : Observer) (p : Program) (k : ℕ) (envs : List Env) : Type 0 where
+  pub program : IsProgram (program_of p)
+  pub known : k < length p.steps.now
+  pub shaped : Shaped (graph_of o (program_of p)) envs

@@ -15,14 +15,14 @@ edge_of e = record { from = e.from.0; to = e.to.0; prims = e.prims.now }
 abbrev pub number_of : PointId → ℕ
 number_of p = p.0
 
+-- plain lists of these parts
+abbrev pub skeleton_with : ℕ → List ℕ → List PointId → List Edge → Skeleton
+skeleton_with shared locals entries steps =
+    record { shared = shared; locals = locals; entries = map number_of entries; passages = map edge_of steps }
+
 -- a program as plain lists
 abbrev pub program_of : Program → Skeleton
-program_of p = record {
-  shared = p.shared;
-  locals = p.locals.now;
-  entries = map number_of p.entries.now;
-  passages = map edge_of p.steps.now;
-}
+program_of p = skeleton_with p.shared p.locals.now p.entries.now p.steps.now
 
 -- the first points of a program's steps
 abbrev pub first_points : Program → List PointId

@@ -1,13 +1,16 @@
--- Environments from which inference goes on, after some steps of a program were changed, and how they are put back.
-use Rattle.std.specs.Prelude.{◌≡◌, ◌⊎◌, ℕ, ◌<◌, true, List, [], ◌∷◌, length, slice_get, slice_set}
-use Rattle.std.specs.Prelude.{Some, None, Contains, All}
+-- Environments from which inference goes on, after some steps of a program were changed, and what it comes to.
+use Rattle.std.specs.Prelude.{◌≡◌, ◌⊎◌, ℕ, ◌<◌, Bool, true, false, List, length, slice_get, Some, None, Contains, All}
 use Rattle.plc_lang.specs.Skeleton.{Skeleton, Passage, locals_at}
+use Rattle.plc_flow.specs.declared.steps_by_point.StepsByPoint.{StepsByPoint}
+use Rattle.plc_flow.specs.StepsByPoint.{IsIndexOf}
 use Rattle.plc_auto.specs.declared.observer.Observer.{Observer}
 use Rattle.plc_auto.specs.Sets.{all_locations}
 use Rattle.plc_type.specs.declared.env.Env.{Env}
 use Rattle.plc_type.specs.Environments.{env_below, entry}
-use Rattle.plc_xfer.specs.Typings.{IsEnvironment, IsPretyping, env_at, led, fault_under}
-use Rattle.plc_infer.specs.declared.resuming.Replaced.{Replaced}
+use Rattle.plc_xfer.specs.Typings.{IsEnvironment, IsPretyping, IsTyping, IsStrongest, HasTyping}
+use Rattle.plc_xfer.specs.Typings.{env_at, led, fault_under}
+use Rattle.plc_infer.specs.declared.program.Program.{Program}
+use Rattle.plc_infer.specs.Programs.{IsProgram, first_points, program_of}
 
 -- a step leads to no more than its last point has, and each of its conditions holds
 pub record StepIsTyped (o : Observer) (s : Skeleton) (envs : List Env) (k : ℕ) : Type 0 where
@@ -26,11 +29,21 @@ pub record IsBegun (o : Observer) (s : Skeleton) (envs : List Env) (changed : Li
       → (p : ℕ) → p < length s.locals → env_below (env_at envs p) (env_at others p) ≡ true
   pub typed : (k : ℕ) → k < length s.passages → Contains changed k ⊎ StepIsTyped o s envs k
 
--- environments with those that were replaced put back, the one that was replaced last first
-abbrev pub put_back : List Replaced → List Env → List Env
-put_back [] envs = envs
-put_back (r ∷ rs) envs = slice_set (put_back rs envs) r.point.0 r.env
+-- inference may go on with a program: from the index of its steps by the points that they leave, from environments
+-- that are begun, and with the changed steps by their numbers
+pub record CanResume (o : Observer) (p : Program) (steps : StepsByPoint) (changed : List ℕ) (envs : List Env)
+    : Type 0 where
+  pub program : IsProgram (program_of p)
+  pub index : IsIndexOf (first_points p) steps
+  pub known : All (λ (k : ℕ). k < length p.steps.now) changed
+  pub begun : IsBegun o (program_of p) envs changed
 
--- each of those that were replaced stood at one of so many points
-abbrev pub AreWithin : ℕ → List Replaced → Type 0
-AreWithin points replaced = All (λ (r : Replaced). r.point.0 < points) replaced
+-- the environments are the strongest pre-typing, and a typing
+pub record IsReached (o : Observer) (s : Skeleton) (envs : List Env) : Type 0 where
+  pub typing : IsTyping o s envs
+  pub strongest : IsStrongest o s envs
+
+-- what inference comes to: a typing was reached, or there is none, and the environments are as before
+abbrev pub IsResumed : Observer → Skeleton → List Env → List Env → Bool → Type 0
+IsResumed o s old new true = IsReached o s new
+IsResumed o s old new false = (HasTyping o s → ⊥) × (new ≡ old)

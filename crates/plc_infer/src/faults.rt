@@ -1,10 +1,10 @@
 // The first condition that fails as the steps run from the environments of their first points.
-ghost use Rattle.std.specs.Prelude.{◌≡◌, ◌<◌, ℕ, Some, None, IfOk, MatchOption, length};
+ghost use Rattle.std.specs.Prelude.{◌<◌, IfOk, length};
 ghost use Rattle.plc_xfer.specs.Rules.{FitsObserver};
-ghost use Rattle.plc_xfer.specs.Typings.{fault_at, env_at};
-ghost use Rattle.plc_infer.specs.Programs.{IsProgram, program_of, passage_at};
+ghost use Rattle.plc_infer.specs.Programs.{IsProgram, program_of};
 ghost use Rattle.plc_infer.specs.Graphs.{graph_of};
-ghost use Rattle.plc_infer.specs.Iteration.{Shaped, HoldBelow, IsFirstFailing};
+ghost use Rattle.plc_infer.specs.Iteration.{Shaped};
+ghost use Rattle.plc_infer.specs.Faults.{IsFirstFault, IsFirstFaultOfStep};
 
 use crate::program::Program;
 use plc_auto::Observer;
@@ -23,11 +23,7 @@ pub(crate) fn first_fault(
 ) -> Result<Option<(StepId, u16, TypeFault)>, NoMemory>
     requires program { IsProgram (program_of program.now) }
     requires shaped { Shaped (graph_of observer.now (program_of program.now)) envs.now }
-    ensures { IfOk result (λ found. MatchOption found
-        (HoldBelow (graph_of observer.now (program_of program.now)) envs.now (length program.now.steps.now))
-        (λ at. IsFirstFailing (graph_of observer.now (program_of program.now)) envs.now at.0.0 at.1
-        × (let x = passage_at (program_of program.now) at.0.0
-        in fault_at observer.now (env_at envs.now x.from) x.prims at.1 ≡ Some at.2))) }
+    ensures { IfOk result (IsFirstFault observer.now program.now envs.now) }
 {
     for k in 0..program.steps.len() {
         let step = &program.steps[k];
@@ -49,10 +45,7 @@ fn fault_in_step(
 ) -> Result<Option<(u16, TypeFault)>, NoMemory>
     requires short { length prims.now < 65536 }
     requires fits { FitsObserver observer.now env.now }
-    ensures { IfOk result (λ found. MatchOption found
-        ((i : ℕ) → i < length prims.now → fault_at observer.now env.now prims.now i ≡ None)
-        (λ at. (at.0 < length prims.now) × (fault_at observer.now env.now prims.now at.0 ≡ Some at.1)
-        × ((i : ℕ) → i < at.0 → fault_at observer.now env.now prims.now i ≡ None))) }
+    ensures { IfOk result (IsFirstFaultOfStep observer.now env.now prims.now) }
 {
     let mut env = env.copy(alloc)?;
     for (i, prim) in prims.iter().enumerate() {

@@ -2,13 +2,14 @@
 // leads too far raises the environment of its last point to the join, which puts that point on the
 // list. Every pre-typing stays above what is reached, so the end is the strongest. The list begins with
 // all points: also a step that nothing reaches has to lead to no more than its last point has.
-ghost use Rattle.std.specs.Prelude.{◌≡◌, ◌<◌, [], IfOk, OnOk, length};
+ghost use Rattle.std.specs.Prelude.{◌≡◌, IfOk, OnOk, length};
 ghost use Rattle.plc_xfer.specs.Rules.{FitsObserver};
 ghost use Rattle.plc_xfer.specs.Typings.{led};
 ghost use Rattle.plc_infer.specs.Programs.{IsProgram, program_of};
-ghost use Rattle.plc_infer.specs.Graphs.{graph_of};
-ghost use Rattle.plc_infer.specs.Iteration.{Shaped, Relaxed, IsStrongest as IsLeast};
-ghost use Rattle.plc_infer.specs.WorkLists.{UnderWay, Unasked, Looked, Gains};
+ghost use Rattle.plc_infer.specs.Graphs.{graph_of, CanRun};
+ghost use Rattle.plc_infer.specs.Iteration.{Relaxed, IsStrongest as IsLeast};
+ghost use Rattle.plc_infer.specs.Relaxing.{AreRelaxed, CanRelaxAll};
+ghost use Rattle.plc_infer.specs.WorkLists.{Looked};
 ghost use Rattle.plc_infer.specs.Starts.{starts_of};
 
 use crate::program::{Program, steps_by_point};
@@ -52,15 +53,8 @@ fn relax_all(
     list: &mut WorkList,
     reached: &mut Env,
 ) -> Result<(), NoMemory>
-    requires program { IsProgram (program_of program.now) }
-    requires under_way { let s = program_of program.now
-        in UnderWay (graph_of observer.now s) Unasked (starts_of observer.now s) envs.old.items
-        list.old.queue.items list.old.marks.items steps.now }
-    ensures under_way { let s = program_of program.now
-        in IfOk result (λ _. UnderWay (graph_of observer.now s) Unasked (starts_of observer.now s) envs.new.items
-        list.new.queue.items list.new.marks.items []) }
-    ensures gains { IfOk result (λ _. Gains (graph_of observer.now (program_of program.now))
-        envs.old.items envs.new.items list.old.queue.items list.new.queue.items) }
+    requires { CanRelaxAll observer.now program.now steps.now envs.old.items list.old }
+    ensures { OnOk result (AreRelaxed observer.now program.now envs.old.items envs.new.items list.old list.new) }
 {
     for k in steps {
         relax_listed(program, observer, *k as usize, envs, list, reached)?;
@@ -77,9 +71,7 @@ fn relax_listed(
     list: &mut WorkList,
     reached: &mut Env,
 ) -> Result<(), NoMemory>
-    requires program { IsProgram (program_of program.now) }
-    requires known { k < length program.now.steps.now }
-    requires shaped { Shaped (graph_of observer.now (program_of program.now)) envs.old.items }
+    requires run { CanRun observer.now program.now k envs.old.items }
     requires marks { length list.old.marks.items ≡ length program.now.locals.now }
     ensures { let graph = graph_of observer.now (program_of program.now)
         in IfOk result (λ _. Looked graph k envs.old.items envs.new.items
@@ -100,9 +92,7 @@ fn relax(
     envs: &mut Vec<Env>,
     reached: &mut Env,
 ) -> Result<bool, NoMemory>
-    requires program { IsProgram (program_of program.now) }
-    requires known { k < length program.now.steps.now }
-    requires shaped { Shaped (graph_of observer.now (program_of program.now)) envs.old.items }
+    requires { CanRun observer.now program.now k envs.old.items }
     ensures { let graph = graph_of observer.now (program_of program.now)
         in IfOk result (λ raised. Relaxed graph k envs.old.items envs.new.items raised) }
 {

@@ -13,6 +13,6 @@ mod starts;
 mod typing;
 mod work_list;
 
-pub use program::{Edge, Program, edges, entries, pointers_by_point, steps_by_point};
-pub use resuming::{Replaced, put_back, resume};
+pub use program::{Edge, Program, edges, entries, pointers_by_point};
+pub use resuming::resume;
 pub use typing::{InferFault, Typing, infer, infer_program, pretyping};

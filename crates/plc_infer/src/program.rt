@@ -69,7 +69,7 @@ fn first_points(alloc: Global, program: &Program) -> Result<Vec<PointId>, NoMemo
 
 /// The index of a program's steps by the points that they leave, made once for all that goes on to look at its steps.
 /// The one error is that memory runs out.
-pub fn steps_by_point(alloc: Global, program: &Program) -> Result<StepsByPoint, NoMemory>
+pub(crate) fn steps_by_point(alloc: Global, program: &Program) -> Result<StepsByPoint, NoMemory>
     requires { IsProgram (program_of program.now) }
     ensures { IfOk result (λ index. IsIndexOf (first_points program.now) index) }
 {

@@ -20,7 +20,7 @@ use plc_base::{Items, NoMemory, StepId};
 use plc_flow::Flow;
 use plc_type::Env;
 use plc_xfer::TypeFault;
-use std::alloc::{AllocError, Global};
+use std::alloc::Global;
 
 /// An environment for each point of a flow.
 #[derive(Drop)]
@@ -40,14 +40,6 @@ pub enum InferFault {
     },
     /// Memory ran out.
     Memory,
-}
-
-impl From<AllocError> for InferFault {
-    ghost from_gives = { λ _ e. e ≡ Memory };
-
-    fn from(_e: AllocError) -> InferFault {
-        InferFault::Memory
-    }
 }
 
 impl From<NoMemory> for InferFault {

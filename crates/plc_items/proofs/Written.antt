@@ -1,6 +1,6 @@
 -- Clauses that are written one after the other: those of a list's front are written, those of the rest are left.
 use Rattle.std.proofs.Common.{◌≡◌, ◌<◌, ◌≤◌, ℕ, ◌+◌, List, [], ◌∷◌, ◌++◌, length, map, flat_map, get_or, drop, ◌∙◌, ap}
-use Rattle.std.proofs.Common.{sym, zero-add, append_assoc}
+use Rattle.std.proofs.Common.{sym, zero-add}
 use Rattle.std.proofs.lemmas.List.{at_drop_more, at_drop_all}
 use Rattle.std.proofs.lemmas.Grind.{flat_map-append}
 use Rattle.std.proofs.lemmas.List.FromFn.{map-range_with_len_more}
@@ -52,9 +52,7 @@ written-premises f g d d₁ d₂ a b ab c c₁ e k h₁ h₂ =
     ∙ ap (written_all d) (sym (flat_map-append f a b)) ∙ ap (λ cs. written_all d (flat_map f cs)) (sym e))
     ∙ sym (written-append d (flat_map f ab) (flat_map g c))
 
--- what is known before, then what the step does
-pub written-known : (d d₁ : Drafted) (v m b f p e : Clauses) → d₁ ≡ written_all d (v ++ (m ++ (b ++ (f ++ p))))
-    → written_all d₁ e ≡ written_all d (v ++ (m ++ (b ++ (f ++ (p ++ e)))))
-written-known d d₁ v m b f p e h =
-    let a : (v ++ (m ++ (b ++ (f ++ p)))) ++ e ≡ v ++ (m ++ (b ++ (f ++ (p ++ e)))) = simp append_assoc in
-    ap (λ x. written_all x e) h ∙ sym (written-append d (v ++ (m ++ (b ++ (f ++ p)))) e) ∙ ap (written_all d) a
+-- an item, then the rest of them
+pub written-then : (d d₁ : Drafted) (a rest : Clauses) → d₁ ≡ written_all d a
+    → written_all d₁ rest ≡ written_all d (a ++ rest)
+written-then d d₁ a rest h = ap (λ x. written_all x rest) h ∙ sym (written-append d a rest)

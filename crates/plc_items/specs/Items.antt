@@ -36,9 +36,8 @@ use Rattle.plc_symbolic.specs.declared.symbolic.SymbolicTerm.TheVariants.{Consta
 use Rattle.plc_symbolic.specs.declared.symbolic.SymbolicLit.{SymbolicLit}
 use Rattle.plc_setting.specs.Acts.{pointer_symbol, mark_of}
 use Rattle.plc_items.specs.Execution.{start, current, held, map_now, after_all, not_null, executed_clauses}
-use Rattle.plc_setting.specs.Setting.{below}
+use Rattle.plc_setting.specs.Setting.{below, only_if, local_symbol}
 use Rattle.plc_setting.specs.Parts.{acting_locals, acting_premises, owner_premises, conclusion, claim_made}
-use Rattle.plc_setting.specs.Setting.{local_symbol}
 use Rattle.plc_symbolic.specs.Terms.{Clauses, term_of, is, is_not, null, new_node}
 
 -- ---- values: each node has one of the values of each enumerated auxiliary field
@@ -58,11 +57,6 @@ values_from g first (h ∷ hs) ts =
     field_values g first (length h.values) ts ++ values_from (g + 1) (first + length h.values) hs ts
 
 -- ---- marks: each is set or isn't
-
--- what a program without marks doesn't say
-abbrev pub only_if : Bool → Clauses → Clauses
-only_if true cs = cs
-only_if false cs = []
 
 abbrev pub set_or_not : SymbolicTerm → List SymbolicLit
 set_or_not m = is m (Constant symbols.Yes) ∷ is m (Constant symbols.No) ∷ []

@@ -6,8 +6,8 @@ ghost use Rattle.plc_lang.specs.Numbering.{places_from};
 ghost use Rattle.plc_ground.specs.declared.terms.Symbol.TheVariants as symbols;
 ghost use Rattle.plc_symbolic.specs.Numbering.{written, written_all};
 ghost use Rattle.plc_setting.specs.Parts.{acting_locals};
-ghost use Rattle.plc_setting.specs.Setting.{below};
-ghost use Rattle.plc_items.specs.Items.{equals, unmarked, only_if, only_new, start_clauses, enter_clauses, beginning};
+ghost use Rattle.plc_setting.specs.Setting.{below, only_if};
+ghost use Rattle.plc_items.specs.Items.{equals, unmarked, only_new, start_clauses, enter_clauses, beginning};
 
 use plc_base::NoMemory;
 use plc_flow::Flow;

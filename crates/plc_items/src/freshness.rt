@@ -5,9 +5,9 @@ ghost use Rattle.std.specs.List.{sum_by};
 ghost use Rattle.plc_lang.specs.Numbering.{values_in};
 ghost use Rattle.plc_symbolic.specs.declared.symbolic.SymbolicTerm.TheVariants.{Constant};
 ghost use Rattle.plc_symbolic.specs.Numbering.{written, written_all};
+ghost use Rattle.plc_setting.specs.Setting.{only_if};
 ghost use Rattle.plc_items.specs.Items.{is_other, default_is, field_default, field_defaults_from, ghost_default};
-ghost use Rattle.plc_items.specs.Items.{ghost_defaults_from, no_field_leads, unretired};
-ghost use Rattle.plc_items.specs.Items.{unmarked_field, only_if, freshness};
+ghost use Rattle.plc_items.specs.Items.{ghost_defaults_from, no_field_leads, unretired, unmarked_field, freshness};
 
 use plc_base::{FieldId, NoMemory};
 use plc_ground::{Map, Symbol};

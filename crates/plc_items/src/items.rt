@@ -1,10 +1,9 @@
 // All items of a ground set, in order.
-ghost use Rattle.std.specs.Prelude.{◌≡◌, ◌++◌, OnOk};
+ghost use Rattle.std.specs.Prelude.{◌≡◌, OnOk};
 ghost use Rattle.plc_symbolic.specs.Numbering.{written_all};
 ghost use Rattle.plc_setting.specs.Fit.{Fits};
 ghost use Rattle.plc_setting.specs.Setting.{setting_of};
-ghost use Rattle.plc_items.specs.Execution.{start, after_all, executed_clauses};
-ghost use Rattle.plc_items.specs.Items.{values_from, mark_values, beginning, freshness, premises, denied, clauses_of};
+ghost use Rattle.plc_items.specs.Items.{premises, clauses_of};
 
 use crate::beginning::push_beginning;
 use crate::conclusion::push_conclusion;
@@ -42,38 +41,6 @@ fn push_premises(w: &Subject, out: &mut Draft) -> Result<(), NoMemory>
     push_point(&owner, w.flow, w.outline, owner_point(w.obligation), out)
 }
 
-/// Writes what is known before the step.
-fn push_known(w: &Subject, out: &mut Draft) -> Result<(), NoMemory>
-    requires { Fits w.now.flow.now w.now.outline.now }
-    ensures { OnOk result (out.new ≡ written_all out.old
-        (values_from 0 0 w.now.flow.now.file.ghosts w.now.setting.now.nodes
-        ++ (mark_values w.now.setting.now
-        ++ (beginning w.now.flow.now w.now.setting.now w.now.obligation.now
-        ++ (freshness w.now.flow.now.file w.now.setting.now
-        ++ premises w.now.flow.now w.now.outline.now w.now.setting.now w.now.obligation.now))))) }
-{
-    let ghosts = w.flow.file.ghosts.as_slice();
-    push_values(w.alloc, ghosts, w.setting.nodes.as_slice(), out)?;
-    push_mark_values(w.setting, out)?;
-    push_beginning(w.flow, w.setting, w.obligation, out)?;
-    push_freshness(&w.flow.file, w.setting, out)?;
-    push_premises(w, out)
-}
-
-/// Writes what the step does, and that the conclusion is false after it.
-fn push_step(w: &Subject, out: &mut Draft) -> Result<(), NoMemory>
-    requires fits { Fits w.now.flow.now w.now.outline.now }
-    requires setting { w.now.setting.now ≡ setting_of w.now.flow.now w.now.outline.now w.now.obligation.now }
-    ensures { OnOk result (out.new ≡ written_all out.old
-        (executed_clauses w.now.setting.now.nodes start w.now.setting.now.acts
-        ++ denied w.now.flow.now w.now.outline.now w.now.setting.now
-        (after_all start w.now.setting.now.acts) w.now.obligation.now)) }
-{
-    let acts = w.setting.acts.as_slice();
-    let x = push_executed(w.alloc, acts, w.setting.nodes.as_slice(), out)?;
-    push_conclusion(w, &x, out)
-}
-
 /// Writes the clauses of the obligation's ground set.
 pub fn push_items(w: &Subject, out: &mut Draft) -> Result<(), NoMemory>
     requires fits { Fits w.now.flow.now w.now.outline.now }
@@ -81,6 +48,17 @@ pub fn push_items(w: &Subject, out: &mut Draft) -> Result<(), NoMemory>
     ensures { OnOk result (out.new ≡ written_all out.old
         (clauses_of w.now.flow.now w.now.outline.now w.now.setting.now w.now.obligation.now)) }
 {
-    push_known(w, out)?;
-    push_step(w, out)
+    let s = w.setting;
+    push_values(
+        w.alloc,
+        w.flow.file.ghosts.as_slice(),
+        s.nodes.as_slice(),
+        out,
+    )?;
+    push_mark_values(s, out)?;
+    push_beginning(w.flow, s, w.obligation, out)?;
+    push_freshness(&w.flow.file, s, out)?;
+    push_premises(w, out)?;
+    let x = push_executed(w.alloc, s.acts.as_slice(), s.nodes.as_slice(), out)?;
+    push_conclusion(w, &x, out)
 }

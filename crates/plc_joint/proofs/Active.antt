@@ -5,7 +5,7 @@ use Rattle.plc_lang.specs.declared.syntax.Var.{Var}
 use Rattle.plc_mem.specs.State.{State, is_null}
 use Rattle.plc_mem.specs.Primitives.{cell_at}
 use Rattle.plc_mem.specs.Coherence.{IsCoherent}
-use Rattle.plc_typesound.specs.Claims as types
+use Rattle.plc_sound.specs.Claims as types
 use Rattle.plc_erasure.specs.Erasure as erasure
 use Rattle.plc_joint.specs.Joint.{ActiveWordsAgree}
 

@@ -6,15 +6,12 @@ use Rattle.plc_flow.specs.declared.flow.Flow.{Flow}
 use Rattle.plc_flow.specs.declared.flow.Step.{Step}
 use Rattle.plc_threads.specs.declared.words.Move.{Move}
 use Rattle.plc_threads.specs.declared.words.Move.TheVariants.{Step as Take}
-use Rattle.plc_flow.specs.Skeleton.{skeleton_of}
-use Rattle.plc_flow.specs.WellFormed.{FlowFits}
 use Rattle.plc_mem.specs.Outcomes.{address_or_null}
 use Rattle.plc_run.specs.Run.{Configuration, Run, Moves, begin, more}
 use Rattle.plc_run.proofs.Runs.{one_step}
 use Rattle.plc_type.specs.declared.env.Env.{Env}
-use Rattle.plc_xfer.specs.Typings.{IsTyping}
-use Rattle.plc_typesound.specs.Claims.{ClaimsTrue, MoveClaims}
-use Rattle.plc_typesound.specs.Laws.{AllMeet, TypesAreSound}
+use Rattle.plc_sound.specs.Claims.{ClaimsTrue, MoveClaims}
+use Rattle.plc_sound.specs.Laws.{AllMeet, TypesAreSound, SoundnessOfTypes}
 use Rattle.plc_gc.specs.Claims.{ClaimsHold}
 use Rattle.plc_erasure.specs.Claims.{taken_by, actor_of, address_named, AreActive, RunClaimsAreActive, RunClaimsAreKept}
 use Rattle.plc_erasure.specs.Laws.{IsErasedRun, ErasureLaw}
@@ -46,10 +43,6 @@ all_meet flow o threads envs law n d (more {n = m} {c = c} run move moved) activ
     law.by_move m c d move run (all_meet flow o threads envs law m c run active.0) (taken_claims flow o threads c d move moved active.1) moved
 
 -- what contracts of the crates below say, whatever their proofs
-abbrev pub SoundnessOfTypes : Type 0
-SoundnessOfTypes =
-    (flow : Flow) (o : Observer) (threads : ℕ) (envs : List Env) → FlowFits flow → is_well_formed o ≡ true → IsTyping o (skeleton_of flow) envs → TypesAreSound flow o threads envs
-
 abbrev pub Erasure : Type 0
 Erasure = (flow : Flow) (o : Observer) (threads : ℕ) → is_well_formed o ≡ true → 0 < threads → ErasureLaw flow o threads
 

@@ -18,8 +18,8 @@ use Rattle.plc_run.specs.Run.{Configuration, Run, begin, more, point_of as run_p
 use Rattle.plc_run.specs.Observed.{IsObserved, RunsAreObserved}
 use Rattle.plc_type.specs.declared.env.Env.{Env}
 use Rattle.plc_xfer.specs.Typings.{IsTyping, env_at}
-use Rattle.plc_typesound.specs.Meaning.{Meets, EnvMet}
-use Rattle.plc_typesound.specs.Laws.{AllMeet, TypesAreSound}
+use Rattle.plc_sound.specs.Meaning.{Meets, EnvMet}
+use Rattle.plc_sound.specs.Laws.{AllMeet, TypesAreSound, SoundnessOfTypes}
 use Rattle.plc_gc.specs.declared.slot.Slot.TheVariants.{Local as in_local}
 use Rattle.plc_gc.specs.State.{Locals, value, locals_of, is_retired as is_retired_node}
 use Rattle.plc_gc.specs.Clauses.{Holds}
@@ -34,12 +34,12 @@ use Rattle.plc_setting.specs.Points.{stands_at, clauses_at}
 use Rattle.plc_oblig.proofs.Lists.{each_of_all, all_of_each, each_place}
 use Rattle.plc_oblig.proofs.Standing.{locals_at, point_clauses_fit}
 use Rattle.plc_held.specs.Held.{OutlineIsTrue, HeldOutlinesAreTrue}
-use Rattle.plc_at.specs.declared.located.Located.{Located}
+use Rattle.plc_at.specs.declared.claim.LocationClaim.{LocationClaim}
 use Rattle.plc_at.specs.Claims.{ClaimFits}
 use Rattle.plc_at.specs.Extended.{Need, Nothing, Unretired, RetiredNode, Unlocated, need_of, claimed_type}
 use Rattle.plc_at.specs.Extended.{null_or_retired, claimed_place, items_for, IsLocated, extended}
 use Rattle.plc_joint.specs.Located.{ClaimIsTrue, LocatedClaimsAreTrue}
-use Rattle.plc_joint.proofs.ByRun.{SoundnessOfTypes, Erasure}
+use Rattle.plc_joint.proofs.ByRun.{Erasure}
 use Rattle.plc_joint.proofs.Joint.{ErasureOfClaims}
 use Rattle.plc_joint.proofs.Reached.{move_claims}
 use Rattle.plc_joint.proofs.LocatedSets.{need_means}
@@ -61,7 +61,7 @@ met_along flow o threads envs law active n d (more {n = m} {c = c} run move move
 
 -- the locals that a thread declares at the label's point are those of the label's operation
 declared_there : (flow : Flow) (outline : Outline) → Fits flow outline → (threads : ℕ) (d : GcConfiguration)
-    → GcConfigurationFits flow threads d → (t : ℕ) (p : Point) → point_of d t ≡ Some p → (claim : Located)
+    → GcConfigurationFits flow threads d → (t : ℕ) (p : Point) → point_of d t ≡ Some p → (claim : LocationClaim)
     → (x : Placed flow claim p.at) → (locals_of d.state t).declared ≡ x.operation.locals
 declared_there flow outline fits threads d k t p busy claim x =
     let b = busy_at flow threads d t p k busy in
@@ -74,7 +74,7 @@ declared_there flow outline fits threads d k t p busy claim x =
 abbrev Clauses : Flow → ℕ → (Clause → Type 0) → List Item → Type 0
 Clauses flow p P items = Each (λ (i : Item). stands_at flow p i ≡ true → P i.clause) items
 
-module _ (flow : Flow) (d : GcConfiguration) (t p : ℕ) (claim : Located) (q : PointId) (x : Placed flow claim p)
+module _ (flow : Flow) (d : GcConfiguration) (t p : ℕ) (claim : LocationClaim) (q : PointId) (x : Placed flow claim p)
     (declared : (locals_of d.state t).declared ≡ x.operation.locals)
     (some : (value d.state (in_local t claim.local) == 0) ≡ false)
     (at : slice_get flow.labels claim.label ≡ Some q) (same : p ≡ q.0) where
@@ -109,13 +109,13 @@ TruthOfOutlines =
 abbrev pub Observation : Type 0
 Observation = (o : Observer) → is_well_formed o ≡ true → (threads : ℕ) → RunsAreObserved o threads
 
-module _ (flow : Flow) (o : Observer) (threads : ℕ) (typing : List Env) (claims : List Located) (outline : Outline)
+module _ (flow : Flow) (o : Observer) (threads : ℕ) (typing : List Env) (claims : List LocationClaim) (outline : Outline)
     (fits : Fits flow (extended flow o typing claims outline)) (typed : IsTyping o (skeleton_of flow) typing)
     (n : ℕ) (c : Configuration) (run : Run flow o threads n c) (er : IsErasedRun flow o threads n c run)
     (k : GcConfigurationFits flow threads er.collected)
     (told : OutlineIsTrue flow (extended flow o typing claims outline) threads er.collected) where
   -- what is added says of the local's node what is needed
-  says_there : (t : ℕ) (p : Point) → point_of er.collected t ≡ Some p → (i : ℕ) (claim : Located) (q : PointId)
+  says_there : (t : ℕ) (p : Point) → point_of er.collected t ≡ Some p → (i : ℕ) (claim : LocationClaim) (q : PointId)
       → slice_get claims i ≡ Some claim → slice_get flow.labels claim.label ≡ Some q → p.at ≡ q.0
       → Placed flow claim p.at → (value er.collected.state (in_local t claim.local) == 0) ≡ false
       → Says er.collected.state (value er.collected.state (in_local t claim.local)) (need_of flow o typing claim)
@@ -133,7 +133,7 @@ module _ (flow : Flow) (o : Observer) (threads : ℕ) (typing : List Env) (claim
   one_true : ErasureLaw flow o threads → IsObserved o threads c.state c.history
       → ((t : ℕ) (p : Point) → t < threads → run_point_of c t ≡ Some p
       → EnvMet o c.history t c.state (env_at typing p.at))
-      → (i : ℕ) (claim : Located) → slice_get claims i ≡ Some claim → ClaimFits flow claim
+      → (i : ℕ) (claim : LocationClaim) → slice_get claims i ≡ Some claim → ClaimFits flow claim
       → IsLocated flow o typing claim → ClaimIsTrue flow o threads c claim
   one_true law seen met i claim listed fit located t p q known busy at same some =
       let trace = trace_of flow o threads n c run in

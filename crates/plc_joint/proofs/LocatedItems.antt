@@ -12,7 +12,7 @@ use Rattle.plc_logic.specs.declared.clause.Item.{Item}
 use Rattle.plc_logic.specs.declared.clause.Outline.{Outline}
 use Rattle.plc_setting.specs.Points.{is_point, names_point, stands_at, clauses_at}
 use Rattle.plc_oblig.proofs.Lists.{each_left, each_right}
-use Rattle.plc_at.specs.declared.located.Located.{Located}
+use Rattle.plc_at.specs.declared.claim.LocationClaim.{LocationClaim}
 use Rattle.plc_at.specs.Extended.{need_of, item_at, items_for, added_items, extended}
 
 -- what holds of each clause of the items that pass a test
@@ -30,21 +30,21 @@ each_passing P test (x ∷ xs) h = go (test x) refl (each_passing P test xs) h
     go false is rest h = (λ e. cc, rest h)
 
 -- the items of one claim are among those of all
-of_one : (P : Item → Type 0) (flow : Flow) (o : Observer) (typing : List Env) (claims : List Located)
-    → Each P (added_items flow o typing claims) → (i : ℕ) (c : Located) → slice_get claims i ≡ Some c
+of_one : (P : Item → Type 0) (flow : Flow) (o : Observer) (typing : List Env) (claims : List LocationClaim)
+    → Each P (added_items flow o typing claims) → (i : ℕ) (c : LocationClaim) → slice_get claims i ≡ Some c
     → Each P (items_for flow c (need_of flow o typing c))
 of_one P flow o typing [] h i c at = cc
 of_one P flow o typing (x ∷ cs) h zero c at =
     let same : x ≡ c = cc in
-    subst (λ (x : Located). Each P (items_for flow x (need_of flow o typing x))) same
+    subst (λ (x : LocationClaim). Each P (items_for flow x (need_of flow o typing x))) same
     (each_left P (items_for flow x (need_of flow o typing x)) (added_items flow o typing cs) h)
 of_one P flow o typing (x ∷ cs) h (suc i) c at =
     of_one P flow o typing cs
     (each_right P (items_for flow x (need_of flow o typing x)) (added_items flow o typing cs) h) i c at
 
 -- what holds of each clause of a point holds of those of a claim's items that stand there
-pub claim_items : (P : Clause → Type 0) (flow : Flow) (o : Observer) (typing : List Env) (claims : List Located)
-    (outline : Outline) (p i : ℕ) (c : Located) → slice_get claims i ≡ Some c
+pub claim_items : (P : Clause → Type 0) (flow : Flow) (o : Observer) (typing : List Env) (claims : List LocationClaim)
+    (outline : Outline) (p i : ℕ) (c : LocationClaim) → slice_get claims i ≡ Some c
     → Each P (clauses_at flow (extended flow o typing claims outline) p)
     → Each (λ (i : Item). stands_at flow p i ≡ true → P i.clause) (items_for flow c (need_of flow o typing c))
 claim_items P flow o typing claims outline p i c at h =
@@ -54,7 +54,7 @@ claim_items P flow o typing claims outline p i c at h =
     (each_passing P (stands_at flow p) (outline.items ++ added_items flow o typing claims) h)) i c at
 
 -- and they stand at the label's point
-pub stands_there : (flow : Flow) (c : Located) (is_so : Bool) (p : ℕ) (q : PointId)
+pub stands_there : (flow : Flow) (c : LocationClaim) (is_so : Bool) (p : ℕ) (q : PointId)
     → slice_get flow.labels c.label ≡ Some q → p ≡ q.0 → stands_at flow p (item_at flow c is_so) ≡ true
 stands_there flow c is_so p q at same =
     or_left (names_point flow.labels p c.label) false (ap (is_point p) at ∙ eq-eqb q.0 p (sym same))

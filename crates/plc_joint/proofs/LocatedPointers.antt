@@ -12,8 +12,8 @@ use Rattle.plc_mem.specs.State.{State, is_null, is_retired, at_local}
 use Rattle.plc_mem.specs.Primitives.{cell_at}
 use Rattle.plc_run.specs.Observed.{IsObserved}
 use Rattle.plc_type.specs.declared.env.PtrType.{PtrType}
-use Rattle.plc_typesound.specs.Meaning.{stands, Fits, Meets}
-use Rattle.plc_typesound.proofs.Sets.{Live, stands_within}
+use Rattle.plc_sound.specs.Meaning.{stands, Fits, Meets}
+use Rattle.plc_sound.proofs.Sets.{Live, stands_within}
 use Rattle.plc_gc.specs.declared.slot.Slot.TheVariants.{Local as in_local}
 use Rattle.plc_gc.specs.State.{GcState, value, is_retired as is_retired_node}
 use Rattle.plc_erasure.specs.Trace.{Trace}

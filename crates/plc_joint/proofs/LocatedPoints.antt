@@ -25,7 +25,7 @@ use Rattle.plc_xfer.specs.Rules.{type_of}
 use Rattle.plc_xfer.specs.Typings.{IsTyping, env_at}
 use Rattle.plc_oblig.proofs.Places.{there}
 use Rattle.plc_oblig.proofs.Standing.{Stands, op_locals}
-use Rattle.plc_at.specs.declared.located.Located.{Located}
+use Rattle.plc_at.specs.declared.claim.LocationClaim.{LocationClaim}
 use Rattle.plc_at.specs.Claims.{ClaimFits, locals_or_none, locals_by_label}
 use Rattle.plc_at.specs.Extended.{place_or_first, claimed_place, local_type, env_of, claimed_type}
 
@@ -59,7 +59,7 @@ counted_from n end (x ∷ os) (y ∷ gs) (suc k) i g o all opens named at =
 -- ---- the operation of a label's point
 
 -- the operation in which a claim's label stands, and the claim's local there
-pub record Placed (flow : Flow) (claim : Located) (p : ℕ) : Type 0 where
+pub record Placed (flow : Flow) (claim : LocationClaim) (p : ℕ) : Type 0 where
   pub op : ℕ
   pub operation : Op
   pub stands : Stands flow op p operation
@@ -75,7 +75,7 @@ numbered ls v few =
     ∙ (numbers_are_one ls).of_pointer v place.0 place.1
 
 -- by the operation with the number
-placed_in : (flow : Flow) (o : Observer) (claim : Located) (p : ℕ) (q : PointId) → ClaimFits flow claim → p ≡ q.0
+placed_in : (flow : Flow) (o : Observer) (claim : LocationClaim) (p : ℕ) (q : PointId) → ClaimFits flow claim → p ≡ q.0
     → (i : IsPointOfLabel flow claim.label q) → (operation : Op) → slice_get flow.file.ops i.op ≡ Some operation
     → Placed flow claim p
 unfolding locals_by_label
@@ -95,7 +95,7 @@ placed_in flow o claim p q claimed same i operation named =
     }
 
 -- where the label has a point, there is such an operation
-pub placed : (flow : Flow) (o : Observer) (claim : Located) (p : ℕ) (q : PointId) → FlowFits flow
+pub placed : (flow : Flow) (o : Observer) (claim : LocationClaim) (p : ℕ) (q : PointId) → FlowFits flow
     → FlowIsWellSorted flow → ClaimFits flow claim → slice_get flow.labels claim.label ≡ Some q → p ≡ q.0
     → Placed flow claim p
 placed flow o claim p q fits sorted claimed at same =
@@ -111,7 +111,7 @@ same_entry : {A : Type 0} (xs : List A) (i : ℕ) (d e : A) → i < length xs �
 same_entry xs i d e small = get_or_from_slice_get xs i (get_or xs i e) d (slice_get-get_or xs i e small)
 
 -- the type that a claim is about is that of its local at the point
-pub claimed_is : (flow : Flow) (o : Observer) (typing : List Env) (claim : Located) (p : ℕ) (q : PointId)
+pub claimed_is : (flow : Flow) (o : Observer) (typing : List Env) (claim : LocationClaim) (p : ℕ) (q : PointId)
     → FlowFits flow → IsTyping o (skeleton_of flow) typing → slice_get flow.labels claim.label ≡ Some q → p ≡ q.0
     → Placed flow claim p → type_of (env_at typing p) (local claim.local) ≡ claimed_type flow typing claim
 unfolding type_of

@@ -10,8 +10,8 @@ use Rattle.plc_auto.specs.Sets.{is_location, unretired}
 use Rattle.plc_auto.proofs.SetLemmas.{has-unretired}
 use Rattle.plc_type.specs.declared.env.PtrType.{PtrType}
 use Rattle.plc_type.specs.Guarantees.{is_safe}
-use Rattle.plc_typesound.specs.Meaning.{stands}
-use Rattle.plc_typesound.proofs.Sets.{Live, stands_within, stands_meet, stands_unretired}
+use Rattle.plc_sound.specs.Meaning.{stands}
+use Rattle.plc_sound.proofs.Sets.{Live, stands_within, stands_meet, stands_unretired}
 use Rattle.plc_at.specs.Extended.{Need, Nothing, Unretired, RetiredNode, Unlocated, need}
 
 -- what is so of a type and a set of locations where there is this need

@@ -12,7 +12,7 @@ use Rattle.plc_mem.specs.State.{State}
 use Rattle.plc_mem.specs.Primitives.{race_of, goes, after, event_of}
 use Rattle.plc_mem.specs.Outcomes.{address_or_null}
 use Rattle.plc_run.specs.Run.{Configuration, Run, Fine, turn, recorded, execute}
-use Rattle.plc_typesound.specs.Claims.{ClaimTrue, ClaimsTrue, MoveClaims}
+use Rattle.plc_sound.specs.Claims.{ClaimTrue, ClaimsTrue, MoveClaims}
 use Rattle.plc_erasure.specs.Erasure.{IsActive}
 use Rattle.plc_erasure.specs.Laws.{ClaimsAreActive}
 use Rattle.plc_joint.proofs.Active.{active_for_types}

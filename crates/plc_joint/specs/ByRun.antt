@@ -13,7 +13,7 @@ use Rattle.plc_mem.specs.declared.cell.RaceKind.{RaceKind}
 use Rattle.plc_run.specs.Run.{Configuration, Run, Races, MayTake, point_of}
 use Rattle.plc_type.specs.declared.env.Env.{Env}
 use Rattle.plc_xfer.specs.Typings.{IsTyping, env_at}
-use Rattle.plc_typesound.specs.Meaning.{EnvMet}
+use Rattle.plc_sound.specs.Meaning.{EnvMet}
 use Rattle.plc_gc.specs.Run.{GcConfiguration, GcRun}
 use Rattle.plc_gc.specs.Claims.{ClaimsHold}
 use Rattle.plc_erasure.specs.Trace.{moves_of}

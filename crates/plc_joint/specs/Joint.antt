@@ -12,7 +12,7 @@ use Rattle.plc_mem.specs.Primitives.{cell_at}
 use Rattle.plc_mem.specs.Coherence.{IsCoherent}
 use Rattle.plc_run.specs.Run.{NeverRaces}
 use Rattle.plc_xfer.specs.Typings.{HasTyping}
-use Rattle.plc_typesound.specs.Claims as types
+use Rattle.plc_sound.specs.Claims as types
 use Rattle.plc_gc.specs.Claims.{AllClaimsHold}
 use Rattle.plc_erasure.specs.Erasure as erasure
 use Rattle.plc_setting.specs.Fit.{Fits}

@@ -4,6 +4,7 @@
 mod allocation;
 mod block;
 mod comparison;
+mod facts;
 mod labels;
 mod locals;
 mod marks;
@@ -14,6 +15,7 @@ mod syntax;
 pub use allocation::{has_new, is_new};
 pub use block::Block;
 pub use comparison::compares;
+pub use facts::{accessed, assigned, called, compared, is_test, risked};
 pub use labels::{labels_by_op, op_of_label};
 pub use locals::{count_other_data, count_parameters, count_pointers, locals_of};
 pub use marks::speak_of_marks;

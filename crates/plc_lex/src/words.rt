@@ -1,6 +1,7 @@
-// The written keywords and symbols, as two tables in the order of the language's description.
-ghost use Rattle.std.specs.Prelude.{◌≡◌, map};
-ghost use Rattle.plc_lex.specs.Characters.{keyword_in, keyword_of, symbol_in, symbol_of};
+// The written keywords and symbols, as two tables in the order of the language's description. Reading searches them,
+// and printing takes the row whose number is the variant's, so that no word is spelled twice and none lacks a text.
+ghost use Rattle.std.specs.Prelude.{◌≡◌, Some, length, map};
+ghost use Rattle.plc_lex.specs.Characters.{keyword_in, keyword_of, symbol_in, symbol_of, symbol_text, word_text};
 
 use crate::token::{Keyword, Symbol};
 
@@ -106,4 +107,22 @@ pub fn symbol(bytes: &[u8]) -> Option<(Symbol, usize)>
     ensures { result ≡ symbol_of bytes.now }
 {
     symbol_in(&SYMBOLS, bytes)
+}
+
+/// The letters of a keyword, which spell it.
+#[tactic(auto, unfolding(crate::specs::Characters::keyword_of, crate::specs::Characters::keywords))]
+pub fn word_text(word: Keyword) -> &'static [u8]
+    ensures text { result.now ≡ word_text word }
+    ensures spells { keyword_of result.now ≡ Some word }
+{
+    KEYWORDS[word as usize].0
+}
+
+/// The characters of a symbol, which spell it.
+#[tactic(auto, unfolding(crate::specs::Characters::symbol_of, crate::specs::Characters::symbols_longest_first))]
+pub fn symbol_text(symbol: Symbol) -> &'static [u8]
+    ensures text { result.now ≡ symbol_text symbol }
+    ensures spells { symbol_of result.now ≡ Some (symbol, length result.now) }
+{
+    SYMBOLS[symbol as usize].0
 }

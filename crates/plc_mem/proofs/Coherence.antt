@@ -2,6 +2,7 @@
 use Rattle.std.proofs.Common.{get_or, Result, Ok, Err, IfOk, IfSome, length, set, ◌≡◌, ℕ, ◌<◌, Bool, true, false, not, ◌&&◌, ◌||◌, ◌==◌, List, Option, Some, None, refl, sym, ap, ◌∙◌, subst, arith, inl, inr}
 use Rattle.std.proofs.lemmas.List.{get_or_default}
 use Rattle.std.proofs.lemmas.Bool.{cases_Bool, cases_eq, and_parts, or_parts, not-true, eq-eqb, ne_eqb, eqb-true, false≢true}
+use Rattle.std.specs.Option.{unwrap_or}
 use Rattle.plc_lang.specs.declared.syntax.Arg.{Arg}
 use Rattle.plc_lang.specs.declared.syntax.Arg.TheVariants as args
 use Rattle.plc_lang.specs.declared.syntax.Op.{Op}
@@ -11,7 +12,7 @@ use Rattle.plc_lang.specs.declared.syntax.Primitive.TheVariants.{Mark, Unmark, M
 use Rattle.plc_base.specs.Functions.{is_retire}
 use Rattle.plc_mem.specs.declared.cell.Cell.{Cell}
 use Rattle.plc_mem.specs.declared.cell.RaceKind.{RaceKind}
-use Rattle.plc_mem.specs.State.{State, Place, at_shared, at_local, at_field, Locals, null_cell, fresh_cell, is_null, at, put, put_value, put_field_value, place, is_used, is_retired, with_node, with_retired, with_locals, locals_or_none, locals_of, cut, freed, fresh_state, no_locals, starting}
+use Rattle.plc_mem.specs.State.{State, Place, at_shared, at_local, at_field, Locals, null_cell, fresh_cell, is_null, at, put, put_value, put_field_value, place, is_used, is_retired, with_node, with_retired, with_locals, locals_of, cut, freed, fresh_state, no_locals, starting}
 use Rattle.plc_mem.specs.State.{marked_cell}
 use Rattle.plc_mem.specs.Primitives.{cell_at, field_at, access, retirement, race_of_call, goes_call, after_call, race_of, goes, after}
 use Rattle.plc_mem.specs.Outcomes.{moved, next_of}
@@ -139,7 +140,7 @@ freed_coherent s a pos k =
 
 -- ---- locals that come and go
 
-give_coherent : (s : State) (t : ℕ) (l : Option Locals) → LocalsCoherent s (locals_or_none l) → IsCoherent s → IsCoherent (with_locals s t l)
+give_coherent : (s : State) (t : ℕ) (l : Option Locals) → LocalsCoherent s (unwrap_or l no_locals) → IsCoherent s → IsCoherent (with_locals s t l)
 give_coherent s t l mine k =
     let g = gives s t l in
     let same : (c : Cell) → CellCoherent s c → CellCoherent (with_locals s t l) c = λ c fine. cell_stays (λ a u. g.addresses.used a ∙ u) fine in
@@ -268,6 +269,6 @@ taken_coherent s t d h k =
       subst (λ o. IfSome o (λ l. LocalsCoherent (record s { locals = set s.locals t None }) l)) (get_or_default s.locals t None d h) (mine (get_or s.locals t None) (held_coherent s t k)),
     )
   where
-    mine : (o : Option Locals) → LocalsCoherent s (locals_or_none o) → IfSome o (λ l. LocalsCoherent (record s { locals = set s.locals t None }) l)
+    mine : (o : Option Locals) → LocalsCoherent s (unwrap_or o no_locals) → IfSome o (λ l. LocalsCoherent (record s { locals = set s.locals t None }) l)
     mine None fine = tt
     mine (Some l) fine = λ v. cell_stays (λ a u. u) (fine v)

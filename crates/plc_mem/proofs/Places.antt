@@ -6,9 +6,10 @@ use Rattle.std.proofs.lemmas.Bool.Decides.{nat_tests}
 use Rattle.std.proofs.lemmas.List.{length-map, length-replicate, get_or_default, get_or_past}
 use Rattle.plc_mem.specs.declared.cell.Cell.{Cell}
 use Rattle.plc_mem.specs.State.{State, Node, null_cell, node_of, put_node, empty_node, fresh_node, with_node, cut, cut_node}
-use Rattle.plc_base.specs.Tables.{put_at}
-use Rattle.plc_base.proofs.Tables.{put_is_set, length_put}
-use Rattle.plc_mem.specs.Fit.{NodesFit}
+use Rattle.plc_base.proofs.Tables.{length_put}
+use Rattle.plc_mem.specs.declared.node.Entry.{Entry}
+use Rattle.plc_mem.specs.declared.node.Entry.TheVariants.{Pointer, Number}
+use Rattle.plc_mem.specs.Fit.{NodesFit, node_with}
 
 -- ---- a table
 
@@ -73,16 +74,15 @@ put_node_at ns a i r e =
 pub put_no_node : (ns : List Node) (a : ℕ) (r : Node) → position (λ n. n.address == a) ns ≡ None → put_node ns a r ≡ ns
 put_no_node ns a r e = put_node_place ns a r ∙ set_past ns _ r (position_none (λ (n : Node). n.address == a) ns e)
 
--- a write into one list of the node at a place, as a write into the node of the address
-pub node_written : {A : Type 0} (d : A) (part : Node → List A) (with_part : Node → List A → Node) (ns : List Node) (a i f : ℕ) (v : A) (n some : Node)
-    → position (λ n. n.address == a) ns ≡ Some i → n ≡ get_or ns i some → f < length (part (get_or ns i some))
-    → set ns i (with_part n (set (part n) f v)) ≡ put_node ns a (with_part (node_of ns a) (put_at d (part (node_of ns a)) f v))
-node_written d part with_part ns a i f v n some e is small =
-    let r = node_at ns a i some e in
-    let h : f < length (part (node_of ns a)) = subst (λ (n : Node). f < length (part n)) r.1 small in
-    ap (λ (n : Node). set ns i (with_part n (set (part n) f v))) (is ∙ r.1)
-    ∙ ap (λ xs. set ns i (with_part (node_of ns a) xs)) (sym (put_is_set d (part (node_of ns a)) f v h))
-    ∙ sym (put_node_at ns a i _ e)
+-- a write into the node at a place, as a write into the node of the address
+pub node_written : (ns : List Node) (a i f : ℕ) (e : Entry) (some : Node) → position (λ n. n.address == a) ns ≡ Some i
+    → set ns i (node_with (get_or ns i some) f e) ≡ put_node ns a (node_with (node_of ns a) f e)
+node_written ns a i f e some there =
+    ap (λ (n : Node). set ns i (node_with n f e)) (node_at ns a i some there).1 ∙ sym (put_node_at ns a i _ there)
+
+pub same_address : (n : Node) (f : ℕ) (e : Entry) → (node_with n f e).address ≡ n.address
+same_address n f (Pointer c) = refl
+same_address n f (Number v) = refl
 
 -- ---- nodes with a cell and a number for each field
 
@@ -125,20 +125,17 @@ pub nodes_fit_cut : (k a : ℕ) (ns : List Node) → NodesFit k ns → NodesFit 
 nodes_fit_cut k a [] fit = tt
 nodes_fit_cut k a (n ∷ ns) fit = (length-map n.cells (cut a) ∙ fit.0, fit.1, nodes_fit_cut k a ns fit.2)
 
-pub nodes_fit_put : (k : ℕ) (ns : List Node) (a f : ℕ) (c : Cell) → NodesFit k ns → f < k → NodesFit k (put_node ns a (record (node_of ns a) { cells = put_at null_cell (node_of ns a).cells f c }))
-nodes_fit_put k [] a f c fit h = tt
-nodes_fit_put k (n ∷ ns) a f c fit h = go (n.address == a) (nodes_fit_put k ns a f c fit.2 h)
-  where
-    go : (b : Bool) → NodesFit k (put_node ns a (record (node_of ns a) { cells = put_at null_cell (node_of ns a).cells f c }))
-        → NodesFit k (cond b (record (cond b n (node_of ns a)) { cells = put_at null_cell (cond b n (node_of ns a)).cells f c } ∷ ns) (n ∷ put_node ns a (record (cond b n (node_of ns a)) { cells = put_at null_cell (cond b n (node_of ns a)).cells f c })))
-    go true rest = (length_put null_cell n.cells f c (omega (arith, fit.0)) ∙ fit.0, fit.1, fit.2)
-    go false rest = (fit.0, fit.1, rest)
+entry_fits : (k : ℕ) (n : Node) (f : ℕ) (e : Entry) → length n.cells ≡ k → length n.values ≡ k → f < k
+    → (length (node_with n f e).cells ≡ k) × (length (node_with n f e).values ≡ k)
+entry_fits k n f (Pointer c) cells values h = (length_put null_cell n.cells f c (omega (arith, cells)) ∙ cells, values)
+entry_fits k n f (Number v) cells values h = (cells, length_put 0 n.values f v (omega (arith, values)) ∙ values)
 
-pub nodes_fit_put_value : (k : ℕ) (ns : List Node) (a f c : ℕ) → NodesFit k ns → f < k → NodesFit k (put_node ns a (record (node_of ns a) { values = put_at 0 (node_of ns a).values f c }))
-nodes_fit_put_value k [] a f c fit h = tt
-nodes_fit_put_value k (n ∷ ns) a f c fit h = go (n.address == a) (nodes_fit_put_value k ns a f c fit.2 h)
+pub nodes_fit_put : (k : ℕ) (ns : List Node) (a f : ℕ) (e : Entry) → NodesFit k ns → f < k
+    → NodesFit k (put_node ns a (node_with (node_of ns a) f e))
+nodes_fit_put k [] a f e fit h = tt
+nodes_fit_put k (n ∷ ns) a f e fit h = go (n.address == a) (nodes_fit_put k ns a f e fit.2 h)
   where
-    go : (b : Bool) → NodesFit k (put_node ns a (record (node_of ns a) { values = put_at 0 (node_of ns a).values f c }))
-        → NodesFit k (cond b (record (cond b n (node_of ns a)) { values = put_at 0 (cond b n (node_of ns a)).values f c } ∷ ns) (n ∷ put_node ns a (record (cond b n (node_of ns a)) { values = put_at 0 (cond b n (node_of ns a)).values f c })))
-    go true rest = (fit.0, length_put 0 n.values f c (omega (arith, fit.1)) ∙ fit.1, fit.2)
+    go : (b : Bool) → NodesFit k (put_node ns a (node_with (node_of ns a) f e))
+        → NodesFit k (cond b (node_with (cond b n (node_of ns a)) f e ∷ ns) (n ∷ put_node ns a (node_with (cond b n (node_of ns a)) f e)))
+    go true rest = let here = entry_fits k n f e fit.0 fit.1 h in (here.0, here.1, fit.2)
     go false rest = (fit.0, fit.1, rest)

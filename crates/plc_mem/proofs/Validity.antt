@@ -1,6 +1,7 @@
 -- Where every pointer is valid, a primitive leaves every pointer valid, and so do starts and returns.
 use Rattle.std.proofs.Common.{◌≡◌, ℕ, Bool, true, false, List, Option, get_or, refl, ap, ◌∙◌, inl, inr}
 use Rattle.std.proofs.lemmas.Bool.{cases_Bool, cases_eq, and_parts, not-true}
+use Rattle.std.specs.Option.{unwrap_or}
 use Rattle.plc_lang.specs.declared.syntax.Arg.{Arg}
 use Rattle.plc_lang.specs.declared.syntax.Arg.TheVariants as args
 use Rattle.plc_lang.specs.declared.syntax.Primitive.{Primitive}
@@ -8,7 +9,7 @@ use Rattle.plc_lang.specs.declared.syntax.Primitive.TheVariants.{Null, Copy, New
 use Rattle.plc_lang.specs.declared.syntax.Primitive.TheVariants.{Mark, Unmark, MarkTest}
 use Rattle.plc_base.specs.Functions.{is_retire}
 use Rattle.plc_mem.specs.declared.cell.Cell.{Cell}
-use Rattle.plc_mem.specs.State.{State, Place, at_shared, at_local, at_field, Locals, null_cell, fresh_cell, locals_or_none, at, put, place, is_used, with_node, with_locals, put_value, put_field_value, fresh_state}
+use Rattle.plc_mem.specs.State.{State, Place, at_shared, at_local, at_field, Locals, null_cell, fresh_cell, at, put, place, is_used, with_node, with_locals, put_value, put_field_value, fresh_state, no_locals}
 use Rattle.plc_mem.specs.State.{marked_cell}
 use Rattle.plc_mem.specs.Primitives.{cell_at, field_at, after_call, goes, after}
 use Rattle.plc_mem.specs.Laws.{is_there}
@@ -82,11 +83,11 @@ after_valid s t a (Active p) all may = all
 after_valid s t a (Ghost p g v) all may = all
 
 -- an operation is begun with null pointers, and left with none
-pub given_valid : (s : State) (t : ℕ) (l : Option Locals) → AllValid s → ((v : ℕ) → (get_or (locals_or_none l).pointers v null_cell).valid ≡ true) → AllValid (with_locals s t l)
+pub given_valid : (s : State) (t : ℕ) (l : Option Locals) → AllValid s → ((v : ℕ) → (get_or (unwrap_or l no_locals).pointers v null_cell).valid ≡ true) → AllValid (with_locals s t l)
 given_valid s t l all mine (at_shared i) = is_valid _ _ ((gives s t l).shared i) (all (at_shared i))
 given_valid s t l all mine (at_field a f) = is_valid _ _ ((gives s t l).fields a f) (all (at_field a f))
 given_valid s t l all mine (at_local u v) = elim (cases_eq u t) [
-  | inl e ↦ is_valid (at (with_locals s t l) (at_local u v)) (get_or (locals_or_none l).pointers v null_cell) (ap (λ u. at (with_locals s t l) (at_local u v)) e ∙ (gives s t l).pointers v) (mine v)
+  | inl e ↦ is_valid (at (with_locals s t l) (at_local u v)) (get_or (unwrap_or l no_locals).pointers v null_cell) (ap (λ u. at (with_locals s t l) (at_local u v)) e ∙ (gives s t l).pointers v) (mine v)
   | inr other ↦ is_valid (at (with_locals s t l) (at_local u v)) (at s (at_local u v)) ((gives s t l).others u v other) (all (at_local u v))
 ]
 

@@ -3,32 +3,30 @@ use Rattle.std.proofs.Common.{◌⊎◌, ◌≡◌, ℕ, ◌<◌, Bool, true, fa
 use Rattle.std.specs.List.{list_any}
 use Rattle.std.proofs.lemmas.Bool.{cases_eq, ne_eqb}
 use Rattle.std.proofs.lemmas.List.Folds.{list_any-append}
+use Rattle.std.specs.Option.{unwrap_or}
 use Rattle.plc_mem.specs.declared.cell.Cell.{Cell}
-use Rattle.plc_mem.specs.State.{State, Place, at_shared, at_local, at_field, Node, Locals, null_cell, locals_or_none, locals_of, with_locals, node_of, put_node, is_used, is_retired, at, put, value_at, put_value, field_value, put_field_value, fresh_node, with_node, with_retired, cut, cut_node, cut_locals, freed, fresh_state}
+use Rattle.plc_mem.specs.State.{State, Place, at_shared, at_local, at_field, Node, Locals, null_cell, locals_of, with_locals, node_of, put_node, is_used, is_retired, at, put, value_at, put_value, field_value, put_field_value, fresh_node, with_node, with_retired, cut, cut_node, cut_locals, freed, fresh_state, no_locals}
 use Rattle.plc_base.specs.Tables.{put_at}
 use Rattle.plc_mem.specs.Laws.{is_there, SameAddresses, Wrote, WroteLocal, WroteField, WasMade, WasRetired, WasFreed, HasLocals, MemoryLaws}
 use Rattle.plc_base.proofs.Tables.{get-put_same, get-put_other, get-map, get-replicate, any-without, any-map}
+use Rattle.plc_threads.proofs.Holding.{held-put_same, held-put_other}
 use Rattle.plc_mem.proofs.Nodes.{has_node, address-node_of, node-put_same, node-put_other, has-put, put-absent, node-absent, node-push_same, node-push_other, node-gone, node-stays}
 
 -- ---- locals
 
-pub locals-with_same : (s : State) (t : ℕ) (l : Option Locals) → locals_of (with_locals s t l) t ≡ locals_or_none l
+pub locals-with_same : (s : State) (t : ℕ) (l : Option Locals) → locals_of (with_locals s t l) t ≡ unwrap_or l no_locals
 unfolding locals_of with_locals
-locals-with_same s t l = ap locals_or_none (get-put_same None s.locals t l)
-
-pub locals-with_other : (s : State) (t : ℕ) (l : Option Locals) (u : ℕ) → (u ≡ t → ⊥) → locals_of (with_locals s t l) u ≡ locals_of s u
-unfolding locals_of with_locals
-locals-with_other s t l u ne = ap locals_or_none (get-put_other None s.locals t l u ne)
+locals-with_same s t l = held-put_same no_locals s.locals t l
 
 pub gives : (s : State) (t : ℕ) (l : Option Locals) → HasLocals s t l (with_locals s t l)
-unfolding at value_at field_value is_used is_retired with_locals
+unfolding at value_at field_value is_used is_retired with_locals locals_of
 gives s t l = record {
   pointers = λ v. ap (λ (m : Locals). get_or m.pointers v null_cell) (locals-with_same s t l);
   values = λ x. ap (λ (m : Locals). get_or m.values x 0) (locals-with_same s t l);
   shared = λ i. refl;
   fields = λ a f. refl;
-  others = λ u v ne. ap (λ (m : Locals). get_or m.pointers v null_cell) (locals-with_other s t l u ne);
-  other_values = λ u x ne. ap (λ (m : Locals). get_or m.values x 0) (locals-with_other s t l u ne);
+  others = λ u v ne. ap (λ (m : Locals). get_or m.pointers v null_cell) (held-put_other no_locals s.locals t l u ne);
+  other_values = λ u x ne. ap (λ (m : Locals). get_or m.values x 0) (held-put_other no_locals s.locals t l u ne);
   field_values = λ a f. refl;
   addresses = record { used = λ a. refl; retired = λ a. refl };
 }
@@ -136,7 +134,7 @@ writes_local s t x n =
             (λ ne. g.values y ∙ get-put_other 0 (locals_of s t).values x n y (λ e. ne (refl, e))) ne
         | inr other ↦ g.other_values u y other
       ];
-      fields = g.field_values;
+      others = g.field_values;
       pointers = elim [
         | at_shared j ↦ g.shared j
         | at_local u w ↦ elim (cases_eq u t) [
@@ -162,7 +160,7 @@ writes_field s a f v used =
             (λ ne. ap (λ (m : Node). get_or m.values g 0) there ∙ get-put_other 0 n.values f v g (λ e. ne (refl, e))) ne
         | inr other ↦ ap (λ (m : Node). get_or m.values g 0) (node-put_other s.nodes a m b same other)
       ];
-      locals = λ t x. refl;
+      others = λ t x. refl;
       pointers = elim [
         | at_shared j ↦ refl
         | at_local u w ↦ refl
@@ -239,11 +237,11 @@ zero_cut a pos = ap (λ b. record null_cell { valid = not b }) (ne_eqb 0 a (λ e
 cut_table : (a : ℕ) → 0 < a → (xs : List Cell) (i : ℕ) → get_or (map (cut a) xs) i null_cell ≡ cut a (get_or xs i null_cell)
 cut_table a pos xs i = ap (get_or (map (cut a) xs) i) (sym (zero_cut a pos)) ∙ get-map (cut a) xs i null_cell
 
-cut_pointers : (a : ℕ) → 0 < a → (l : Option Locals) (v : ℕ) → get_or (locals_or_none (cut_locals a l)).pointers v null_cell ≡ cut a (get_or (locals_or_none l).pointers v null_cell)
+cut_pointers : (a : ℕ) → 0 < a → (l : Option Locals) (v : ℕ) → get_or (unwrap_or (cut_locals a l) no_locals).pointers v null_cell ≡ cut a (get_or (unwrap_or l no_locals).pointers v null_cell)
 cut_pointers a pos None v = sym (zero_cut a pos)
 cut_pointers a pos (Some l) v = cut_table a pos l.pointers v
 
-cut_values : (a : ℕ) (l : Option Locals) → (locals_or_none (cut_locals a l)).values ≡ (locals_or_none l).values
+cut_values : (a : ℕ) (l : Option Locals) → (unwrap_or (cut_locals a l) no_locals).values ≡ (unwrap_or l no_locals).values
 cut_values a None = refl
 cut_values a (Some l) = refl
 
@@ -251,10 +249,10 @@ pub frees : (s : State) (a : ℕ) → 0 < a → WasFreed s a (freed s a)
 unfolding locals_of at value_at field_value is_used is_retired freed
 frees s a pos = record {
   shared = λ i. cut_table a pos s.shared i;
-  locals = λ t v. ap (λ l. get_or (locals_or_none l).pointers v null_cell) (get-map (cut_locals a) s.locals t None) ∙ cut_pointers a pos (get_or s.locals t None) v;
+  locals = λ t v. ap (λ l. get_or (unwrap_or l no_locals).pointers v null_cell) (get-map (cut_locals a) s.locals t None) ∙ cut_pointers a pos (get_or s.locals t None) v;
   fields = λ b f ne. ap (λ (n : Node). get_or n.cells f null_cell) (node-stays s.nodes a b ne) ∙ cut_table a pos (node_of s.nodes b).cells f;
   gone = λ f. ap (λ (n : Node). get_or n.cells f null_cell) (node-gone s.nodes a);
-  values = λ t x. ap (λ l. get_or (locals_or_none l).values x 0) (get-map (cut_locals a) s.locals t None) ∙ ap (λ (vs : List ℕ). get_or vs x 0) (cut_values a (get_or s.locals t None));
+  values = λ t x. ap (λ l. get_or (unwrap_or l no_locals).values x 0) (get-map (cut_locals a) s.locals t None) ∙ ap (λ (vs : List ℕ). get_or vs x 0) (cut_values a (get_or s.locals t None));
   field_values = λ b f ne. ap (λ (n : Node). get_or n.values f 0) (node-stays s.nodes a b ne);
   used = λ b. any-map (λ n. n.address) (cut_node a) (λ n. refl) (filter (λ n. not (n.address == a)) s.nodes) b ∙ any-without (λ n. n.address) s.nodes a b;
   retired = λ b. any-without (λ x. x) s.retired a b;
@@ -265,7 +263,7 @@ frees s a pos = record {
 pub fresh_is_null : (fields : List Bool) (shared threads : ℕ) (p : Place) → at (fresh_state fields shared threads) p ≡ null_cell
 unfolding locals_of at
 fresh_is_null fields shared threads (at_shared i) = get-replicate null_cell shared i
-fresh_is_null fields shared threads (at_local t v) = ap (λ l. get_or (locals_or_none l).pointers v null_cell) (get-replicate None threads t)
+fresh_is_null fields shared threads (at_local t v) = ap (λ l. get_or (unwrap_or l no_locals).pointers v null_cell) (get-replicate None threads t)
 fresh_is_null fields shared threads (at_field a f) = refl
 
 pub fresh_is_unused : (fields : List Bool) (shared threads a : ℕ) → is_used (fresh_state fields shared threads) a ≡ false

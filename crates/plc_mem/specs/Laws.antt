@@ -1,5 +1,6 @@
 -- What each change of memory leaves at each place, and which addresses stay used and retired.
 use Rattle.std.specs.Prelude.{◌≡◌, ℕ, Bool, true, false, not, ◌&&◌, ◌||◌, ◌==◌, ◌<◌, List, Option, Some, None, get_or}
+use Rattle.std.specs.Option.{unwrap_or}
 use Rattle.plc_lang.specs.declared.syntax.Primitive.{Primitive}
 use Rattle.plc_lang.specs.declared.syntax.Var.{Var}
 use Rattle.plc_lang.specs.Facts.{accessed, compared}
@@ -8,7 +9,7 @@ use Rattle.plc_flow.specs.Sides.{opposite}
 use Rattle.plc_mem.specs.declared.cell.Cell.{Cell}
 use Rattle.plc_mem.specs.State.{State, Place, at_shared, at_local, at_field, Locals, null_cell, is_null, cut, at, put}
 use Rattle.plc_mem.specs.State.{value_at, put_value, field_value, put_field_value, is_used, is_retired, with_node}
-use Rattle.plc_mem.specs.State.{with_retired, with_locals, locals_or_none, freed, fresh_state}
+use Rattle.plc_mem.specs.State.{with_retired, with_locals, freed, fresh_state, no_locals}
 use Rattle.plc_mem.specs.Primitives.{race_of, goes, after, event_of, access, comparison, cell_at}
 
 -- a field is there where its address is used; other places are always there
@@ -38,21 +39,21 @@ pub record Wrote (s : State) (p : Place) (c : Cell) (new : State) : Type 0 where
   pub data_kept : SameData s new
   pub addresses : SameAddresses s new
 
--- the number was written at this data local
-pub record WroteLocal (s : State) (t x n : ℕ) (new : State) : Type 0 where
-  pub here : value_at new t x ≡ n
-  pub elsewhere : (u y : ℕ) → (((u ≡ t) × (y ≡ x)) → ⊥) → value_at new u y ≡ value_at s u y
-  pub fields : (a f : ℕ) → field_value new a f ≡ field_value s a f
+-- the number was written at one data place, which `read` reads by two numbers; the data that `other` reads stays
+pub record WroteData (read other : State → ℕ → ℕ → ℕ) (s : State) (x y n : ℕ) (new : State) : Type 0 where
+  pub here : read new x y ≡ n
+  pub elsewhere : (u v : ℕ) → (((u ≡ x) × (v ≡ y)) → ⊥) → read new u v ≡ read s u v
+  pub others : (u v : ℕ) → other new u v ≡ other s u v
   pub pointers : SamePointers s new
   pub addresses : SameAddresses s new
 
--- the number was written at this data field
-pub record WroteField (s : State) (a f n : ℕ) (new : State) : Type 0 where
-  pub here : field_value new a f ≡ n
-  pub elsewhere : (b g : ℕ) → (((b ≡ a) × (g ≡ f)) → ⊥) → field_value new b g ≡ field_value s b g
-  pub locals : (t x : ℕ) → value_at new t x ≡ value_at s t x
-  pub pointers : SamePointers s new
-  pub addresses : SameAddresses s new
+-- the number was written at data local x of thread t
+abbrev pub WroteLocal : State → (t x n : ℕ) → State → Type 0
+WroteLocal = WroteData value_at field_value
+
+-- the number was written at data field f of the node at address a
+abbrev pub WroteField : State → (a f n : ℕ) → State → Type 0
+WroteField = WroteData field_value value_at
 
 -- an unused address is used now; its pointer fields are null, its data fields 0, and no place is changed
 pub record WasMade (s : State) (a : ℕ) (new : State) : Type 0 where
@@ -84,8 +85,8 @@ pub record WasFreed (s : State) (a : ℕ) (new : State) : Type 0 where
 
 -- thread t has these locals now, or none; all else stays
 pub record HasLocals (s : State) (t : ℕ) (l : Option Locals) (new : State) : Type 0 where
-  pub pointers : (v : ℕ) → at new (at_local t v) ≡ get_or (locals_or_none l).pointers v null_cell
-  pub values : (x : ℕ) → value_at new t x ≡ get_or (locals_or_none l).values x 0
+  pub pointers : (v : ℕ) → at new (at_local t v) ≡ get_or (unwrap_or l no_locals).pointers v null_cell
+  pub values : (x : ℕ) → value_at new t x ≡ get_or (unwrap_or l no_locals).values x 0
   pub shared : (i : ℕ) → at new (at_shared i) ≡ at s (at_shared i)
   pub fields : (a f : ℕ) → at new (at_field a f) ≡ at s (at_field a f)
   pub others : (u v : ℕ) → (u ≡ t → ⊥) → at new (at_local u v) ≡ at s (at_local u v)

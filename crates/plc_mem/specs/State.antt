@@ -2,6 +2,7 @@
 use Rattle.std.specs.Prelude.{ℕ, Bool, true, false, not, ◌&&◌, ◌==◌, nat_lt, if◌then◌else◌, List, [], ◌∷◌, ◌++◌, length}
 use Rattle.std.specs.Prelude.{get_or, map, filter, replicate, Option, Some, None}
 use Rattle.std.specs.List.{list_any}
+use Rattle.std.specs.Option.{unwrap_or}
 use Rattle.plc_base.specs.Tables.{put_at}
 use Rattle.plc_lang.specs.declared.syntax.Var.{Var}
 use Rattle.plc_lang.specs.declared.syntax.Var.TheVariants.{Shared, Local}
@@ -67,14 +68,9 @@ same_pointer c d = (c.number == d.number) && same_bool c.mark d.mark
 abbrev pub no_locals : Locals
 no_locals = record { pointers = []; values = [] }
 
--- the locals of a thread, none for an idle one
-abbrev pub locals_or_none : Option Locals → Locals
-locals_or_none None = no_locals
-locals_or_none (Some l) = l
-
--- the locals of thread t
+-- the locals of thread t, none for an idle one
 unfoldable pub locals_of : State → ℕ → Locals
-locals_of s t = locals_or_none (get_or s.locals t None)
+locals_of s t = unwrap_or (get_or s.locals t None) no_locals
 
 -- the state with the locals of thread t put in
 unfoldable pub with_locals : State → ℕ → Option Locals → State

@@ -2,8 +2,9 @@
 // thread takes its own out, so that a primitive writes them and the memory side by side.
 ghost use Rattle.std.specs.Prelude.{◌≡◌, ℕ, ◌<◌, get_or, set, map, length, nat_lt, if◌then◌else◌, IfOk};
 ghost use Rattle.std.specs.Prelude.{Some, None};
+ghost use Rattle.std.specs.Option.{unwrap_or};
 ghost use Rattle.plc_lang.specs.Locals.{parameters_of};
-ghost use Rattle.plc_mem.specs.State.{State, Locals, null_cell, no_locals, locals_or_none, starting, with_locals};
+ghost use Rattle.plc_mem.specs.State.{State, Locals, null_cell, no_locals, starting, with_locals};
 ghost use Rattle.plc_mem.specs.State.{value_at, number_of, cut_locals};
 
 use crate::cell::Cell;
@@ -123,7 +124,7 @@ impl Locals {
 
 /// A pointer local of a thread, if there is one of this number.
 pub fn local_of(locals: &[Option<Locals>], t: u32, v: u16) -> Option<Cell>
-    ensures { let l = locals_or_none (get_or locals.now t None)
+    ensures { let l = unwrap_or (get_or locals.now t None) no_locals
         in result ≡ (if nat_lt v (length l.pointers) then Some (get_or l.pointers v null_cell) else None) }
 {
     held(locals, t)?.find(v)

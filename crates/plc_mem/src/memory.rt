@@ -1,22 +1,22 @@
 // The memory that programs run on. What it is seen as is the state of the definitions, whatever index
 // its nodes have, and every read is total, so that nothing here rests on how an address came to be used.
-ghost use Rattle.std.specs.Prelude.{◌≡◌, ℕ, ◌<◌, ◌==◌, not, length, nat_lt, get_or, slice_set, filter, map, false};
+ghost use Rattle.std.specs.Prelude.{◌≡◌, ℕ, ◌<◌, ◌==◌, not, length, get_or, slice_set, filter, map, false};
 ghost use Rattle.std.specs.Prelude.{if◌then◌else◌, is_ok, IfOk, IfSome, Some, None};
 ghost use Rattle.std.specs.Option.{option_copied};
 ghost use Rattle.plc_lang.specs.Shape.{VarIn};
 ghost use Rattle.plc_lang.specs.Fields.{is_pointer_field};
-ghost use Rattle.plc_mem.specs.State.{State, null_cell, at, put, at_field, place, field_value, put_field_value};
-ghost use Rattle.plc_mem.specs.State.{with_node, with_retired, with_locals, is_used, is_retired, freed, fresh_state};
-ghost use Rattle.plc_mem.specs.State.{first_state, cell_of, number_at, valid_at, place_of};
+ghost use Rattle.plc_mem.specs.State.{State, at, put, at_shared, at_local, at_field, place, field_value};
+ghost use Rattle.plc_mem.specs.State.{put_field_value, with_node, with_retired, with_locals, is_used, is_retired};
+ghost use Rattle.plc_mem.specs.State.{freed, first_state, fresh_state, cell_of, number_at, valid_at, place_of};
 ghost use Rattle.plc_mem.specs.Primitives.{cell_at};
-ghost use Rattle.plc_mem.specs.Fit.{shape, NodesFit, Kept};
+ghost use Rattle.plc_mem.specs.Fit.{shape, NodesFit, Kept, with_entry};
 ghost use Rattle.plc_mem.specs.Coherence.{IsCoherent, LocalsCoherent};
 ghost use Rattle.plc_mem.specs.Undoing.{without_last_node, without_last_retired};
 
 use crate::cell::Cell;
 use crate::cells::{cell_or_null, cut_cells};
 use crate::locals::{Locals, cut_threads, local_of};
-use crate::node::Nodes;
+use crate::node::{Entry, Nodes};
 use plc_base::{FieldId, NoMemory};
 use plc_flow::Flow;
 use plc_lang::{Field, Var};
@@ -36,10 +36,6 @@ pub struct Memory {
 }
 
 impl Model for Memory {
-    ghost use Rattle.std.specs.Prelude.{length};
-    ghost use Rattle.plc_mem.specs.State.{State};
-    ghost use Rattle.plc_mem.specs.Fit.{NodesFit};
-
     ghost Value = { State };
 
     ghost view = { λ m. record {
@@ -175,14 +171,8 @@ impl Memory {
     {
         match *place {
             Place::Shared(i) => self.shared_pointer(i),
-            Place::Cell { a, f } => {
-                if self.used(a) && self.is_pointer(f) {
-                    Some(self.field(a, f))
-                } else {
-                    None
-                }
-            }
-            Place::Local { t, v } => local_of(&self.locals, t, v),
+            Place::Cell { a, f } => self.pointer_field(a, f),
+            Place::Local { t, v } => self.local_pointer(t, v),
         }
     }
 
@@ -215,11 +205,31 @@ impl Memory {
     }
 
     /// The shared pointer, if there is one of this number.
+    #[tactic(auto, unfolding(crate::specs::State::has_place, crate::specs::State::at))]
     fn shared_pointer(&self, i: u16) -> Option<Cell>
-        ensures { result
-            ≡ (if nat_lt i (length self.now.shared) then Some (get_or self.now.shared i null_cell) else None) }
+        ensures { result ≡ cell_of self.now (at_shared i) }
     {
         find_entry(&self.shared, i as usize)
+    }
+
+    /// The pointer field of a used address, if there is one of this number.
+    #[tactic(auto, unfolding(crate::specs::State::has_place))]
+    fn pointer_field(&self, a: u32, f: FieldId) -> Option<Cell>
+        ensures { result ≡ cell_of self.now (at_field a f.0) }
+    {
+        if self.used(a) && self.is_pointer(f) {
+            Some(self.field(a, f))
+        } else {
+            None
+        }
+    }
+
+    /// The pointer local of a busy thread, if there is one of this number.
+    #[tactic(auto, unfolding(crate::specs::State::has_place, crate::specs::State::at, crate::specs::State::locals_of))]
+    fn local_pointer(&self, t: u32, v: u16) -> Option<Cell>
+        ensures { result ≡ cell_of self.now (at_local t v) }
+    {
+        local_of(&self.locals, t, v)
     }
 
     /// Whether a field is a pointer field.
@@ -264,7 +274,7 @@ impl Memory {
         requires { f.0 < length self.old.fields }
         ensures { self.new ≡ put self.old (at_field a f.0) c }
     {
-        self.nodes.set_cell(a, f.0 as usize, c);
+        self.set_entry(a, f, Entry::Pointer(c));
     }
 
     /// The number of a data field of the node at an address, and 0 where no node stands there, or nodes have no such
@@ -280,7 +290,15 @@ impl Memory {
         requires { f.0 < length self.old.fields }
         ensures { self.new ≡ put_field_value self.old a f.0 n }
     {
-        self.nodes.set_value(a, f.0 as usize, n);
+        self.set_entry(a, f, Entry::Number(n));
+    }
+
+    /// Puts an entry into a field of a node.
+    fn set_entry(&mut self, a: u32, f: FieldId, entry: Entry)
+        requires { f.0 < length self.old.fields }
+        ensures { self.new ≡ with_entry self.old a f.0 entry }
+    {
+        self.nodes.set(a, f.0 as usize, entry);
     }
 
     /// A fresh node of an address that isn't used.

@@ -5,8 +5,7 @@ ghost use Rattle.std.specs.Prelude.{◌≡◌, ℕ, ◌==◌, ◌<◌, ◌++◌,
 ghost use Rattle.std.specs.Prelude.{◌-◌, if◌then◌else◌, length, take, IfOk};
 ghost use Rattle.std.specs.List.{list_any, position};
 ghost use Rattle.plc_mem.specs.State.{Node, null_cell, node_of, put_node, fresh_node, cut_node};
-ghost use Rattle.plc_base.specs.Tables.{put_at};
-ghost use Rattle.plc_mem.specs.Fit.{NodesFit};
+ghost use Rattle.plc_mem.specs.Fit.{NodesFit, FieldIn, node_with};
 
 use crate::cell::Cell;
 use crate::cells::{cell_or_null, cut_cells};
@@ -33,6 +32,15 @@ impl Model for Node {
     ghost view = { λ n. record { address = n.address; cells = n.cells.items; values = n.values.items } };
 }
 
+/// What is put into a field of a node.
+#[derive(Clone, Copy)]
+pub enum Entry {
+    /// A cell, into a pointer field.
+    Pointer(Cell),
+    /// A number, into a data field.
+    Number(u32),
+}
+
 impl Node {
     /// A node that was just allocated: pointer fields null, data fields 0.
     fn fresh(alloc: Global, fields: usize, a: u32) -> Result<Node, NoMemory>
@@ -56,6 +64,17 @@ impl Node {
             values: self.values.clone()?,
         })
     }
+
+    /// Puts an entry into a field.
+    fn set(&mut self, f: usize, entry: Entry)
+        requires { FieldIn self.old f }
+        ensures { self.new ≡ node_with self.old f entry }
+    {
+        match entry {
+            Entry::Pointer(c) => self.cells[f] = c,
+            Entry::Number(n) => self.values[f] = n,
+        }
+    }
 }
 
 /// Copies of nodes.
@@ -69,26 +88,13 @@ fn copy_nodes(alloc: Global, nodes: &[Node]) -> Result<Vec<Node>, NoMemory>
     Ok(copy)
 }
 
-/// Puts a cell into a field of the node at a place.
-fn put_cell(nodes: &mut Vec<Node>, i: usize, f: usize, c: Cell)
+/// Puts an entry into a field of the node at a place.
+fn put_entry(nodes: &mut Vec<Node>, i: usize, f: usize, entry: Entry)
     requires place { i < length nodes.old.items }
-    requires field { (n : Node) → f < length (get_or nodes.old.items i n).cells }
-    ensures { (n : Node) → nodes.new.items ≡ set nodes.old.items i
-        (record (get_or nodes.old.items i n) { cells = set (get_or nodes.old.items i n).cells f c }) }
+    requires field { (n : Node) → FieldIn (get_or nodes.old.items i n) f }
+    ensures { (n : Node) → nodes.new.items ≡ set nodes.old.items i (node_with (get_or nodes.old.items i n) f entry) }
 {
-    let node = &mut nodes[i];
-    node.cells[f] = c;
-}
-
-/// Puts a number into a field of the node at a place.
-fn put_value(nodes: &mut Vec<Node>, i: usize, f: usize, n: u32)
-    requires place { i < length nodes.old.items }
-    requires field { (m : Node) → f < length (get_or nodes.old.items i m).values }
-    ensures { (m : Node) → nodes.new.items ≡ set nodes.old.items i
-        (record (get_or nodes.old.items i m) { values = set (get_or nodes.old.items i m).values f n }) }
-{
-    let node = &mut nodes[i];
-    node.values[f] = n;
+    nodes[i].set(f, entry);
 }
 
 /// Makes the fields invalid that hold an address.
@@ -181,17 +187,6 @@ impl Nodes {
         }
     }
 
-    /// Puts a cell into a field; nothing where the address has no node.
-    pub fn set_cell(&mut self, a: u32, f: usize, c: Cell)
-        requires { (k : ℕ) × (f < k) × NodesFit k self.old }
-        ensures { self.new ≡ put_node self.old a
-            (record (node_of self.old a) { cells = put_at null_cell (node_of self.old a).cells f c }) }
-    {
-        if let Some(i) = self.find(a) {
-            put_cell(&mut self.nodes, i, f, c);
-        }
-    }
-
     /// The number of a data field; 0 where the address has no node.
     pub fn value(&self, a: u32, f: usize) -> u32
         ensures { result ≡ get_or (node_of self.now a).values f 0 }
@@ -205,14 +200,13 @@ impl Nodes {
         }
     }
 
-    /// Puts a number into a data field; nothing where the address has no node.
-    pub fn set_value(&mut self, a: u32, f: usize, n: u32)
+    /// Puts an entry into a field; nothing where the address has no node.
+    pub fn set(&mut self, a: u32, f: usize, entry: Entry)
         requires { (k : ℕ) × (f < k) × NodesFit k self.old }
-        ensures { self.new ≡ put_node self.old a
-            (record (node_of self.old a) { values = put_at 0 (node_of self.old a).values f n }) }
+        ensures { self.new ≡ put_node self.old a (node_with (node_of self.old a) f entry) }
     {
         if let Some(i) = self.find(a) {
-            put_value(&mut self.nodes, i, f, n);
+            put_entry(&mut self.nodes, i, f, entry);
         }
     }
 

@@ -19,9 +19,9 @@ use Rattle.plc_setting.specs.declared.setting.Setting.{Setting}
 use Rattle.plc_setting.specs.declared.obligations.Obligation.{Obligation}
 use Rattle.plc_setting.specs.declared.obligations.Obligation.TheVariants.{Start, Enter}
 use Rattle.plc_setting.specs.Parts.{acting_locals}
-use Rattle.plc_setting.specs.Setting.{variables_of, targets_of, pointer_fields_from}
+use Rattle.plc_setting.specs.Setting.{only_if, variables_of, targets_of, pointer_fields_from}
 use Rattle.plc_symbolic.specs.Terms.{Clauses, null}
-use Rattle.plc_items.specs.Items.{values_from, field_values, one_of_values, only_if, field_marks, mark_values}
+use Rattle.plc_items.specs.Items.{values_from, field_values, one_of_values, field_marks, mark_values}
 use Rattle.plc_items.specs.Items.{start_clauses, enter_clauses, beginning, is_other, no_field_leads}
 use Rattle.plc_items.specs.Items.{field_defaults_from, ghost_defaults_from, unretired, freshness}
 use Rattle.plc_lang.specs.Fields.{is_pointer_field}

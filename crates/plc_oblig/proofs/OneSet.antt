@@ -23,7 +23,7 @@ use Rattle.plc_setting.specs.Parts.{has_point, point_locals}
 use Rattle.plc_setting.specs.Points.{stands_at, clauses_at}
 use Rattle.plc_base.specs.Booleans.{same_bool}
 use Rattle.plc_base.proofs.Booleans.{same_if}
-use Rattle.plc_setting.specs.Setting.{setting_of}
+use Rattle.plc_setting.specs.Setting.{variables_of, bound_of, without_nodes, with_nodes, setting_of}
 use Rattle.plc_setting.specs.Sorts.{sort_of, local_sort}
 use Rattle.plc_items.specs.Items.{clauses_of}
 use Rattle.plc_oblig.specs.GroundSets.{ground_set, drafted, listed_first}
@@ -74,7 +74,11 @@ same_map f g same (x ∷ xs) = (let e = same x in let r = same_map f g same xs i
 same_setting : (flow : Flow) (outline : Outline) (k : StepId) (c : ℕ) (p q : PointId) → point_locals flow p.0 ≡ point_locals flow q.0
     → clauses_at flow outline p.0 ≡ clauses_at flow outline q.0
     → setting_of flow outline (Other k p c) ≡ setting_of flow outline (Other k q c)
-same_setting flow outline k c p q locals clauses = cc
+same_setting flow outline k c p q locals clauses = λ i. with_nodes flow outline
+    (record (without_nodes flow outline (Other k p c)) {
+      theirs = variables_of true (locals i);
+      bound = bound_of (slice_get (clauses i) c);
+    })
 
 same_items : (flow : Flow) (outline : Outline) (s : Setting) (k : StepId) (c : ℕ) (p q : PointId)
     → clauses_at flow outline p.0 ≡ clauses_at flow outline q.0

@@ -42,14 +42,14 @@ use Rattle.plc_setting.specs.declared.obligations.Obligation.TheVariants.{Start,
 use Rattle.plc_setting.specs.declared.setting.Setting.{Setting}
 use Rattle.plc_setting.specs.Acts.{pointer_symbol, mark_of}
 use Rattle.plc_setting.specs.Parts.{acting_locals}
-use Rattle.plc_setting.specs.Setting.{below, local_symbol}
+use Rattle.plc_setting.specs.Setting.{below, only_if, local_symbol}
 use Rattle.plc_setting.specs.Sorts.{field_sort, auxiliary_sort, local_sort, load_sort, loads_of, value_sort, map_sort, symbol_sort, sort_of}
 use Rattle.plc_setting.specs.WellSorted.{ActFits, NodesFit}
 use Rattle.plc_setting.proofs.ActSorts.{kind_at_place}
 use Rattle.plc_items.specs.declared.execution.Execution.{Execution}
 use Rattle.plc_items.specs.Execution.{start, current, version, held, after, after_all, not_null, update_at, if_checked, test_lit, act_clauses, executed_clauses}
 use Rattle.plc_items.specs.Items.{one_of_values, field_values, values_from, set_or_not, field_marks, mark_values}
-use Rattle.plc_items.specs.Items.{only_if, equals, unmarked, only_new, start_clauses, enter_clauses, beginning, is_other}
+use Rattle.plc_items.specs.Items.{equals, unmarked, only_new, start_clauses, enter_clauses, beginning, is_other}
 use Rattle.plc_items.specs.Items.{field_default, field_defaults_from, ghost_default, ghost_defaults_from, no_field_leads}
 use Rattle.plc_items.specs.Items.{unretired, default_is, unmarked_field, freshness, me, read_term, read_mark, read_literal}
 use Rattle.plc_items.specs.Items.{escapes, instance_at, tuples, instances, bound_nodes, denied_clause, denied_claim}

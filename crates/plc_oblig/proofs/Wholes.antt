@@ -25,7 +25,7 @@ use Rattle.plc_base.specs.declared.ids.PointId.{PointId}
 use Rattle.plc_setting.specs.Marks.{program_uses_marks}
 use Rattle.plc_setting.specs.Acts.{mark_of}
 use Rattle.plc_setting.specs.Setting.{mark_constants}
-use Rattle.plc_setting.specs.Setting.{nodes_of, targets_of, if_deep, if_made, node_constants, plain_constants, pointer_loads_from, setting_of, bound_of, below}
+use Rattle.plc_setting.specs.Setting.{nodes_of, targets_of, only_if, node_constants, plain_constants, pointer_loads_from, setting_of, bound_of, below}
 use Rattle.plc_items.specs.declared.execution.Execution.{Execution}
 use Rattle.plc_items.specs.Execution.{start, after_all, executed_clauses}
 use Rattle.plc_items.specs.Items.{tuples, instances, denied, denied_clause, denied_claim, values_from, mark_values, beginning, freshness, premises, clauses_of}
@@ -79,11 +79,11 @@ denied_by_conclusion flow outline s x o c is =
 
 -- ---- the setting
 
-deep_length : (deep : Bool) (ts : List NodeTerm) → length (if_deep deep ts) ≡ cond deep (length ts) 0
+deep_length : (deep : Bool) (ts : List NodeTerm) → length (only_if deep ts) ≡ cond deep (length ts) 0
 deep_length true ts = refl
 deep_length false ts = refl
 
-made_length : (made : Bool) → length (if_made made) ≡ cond made 1 0
+made_length : (made : Bool) → length (only_if made (symbols.New ∷ [])) ≡ cond made 1 0
 made_length true = refl
 made_length false = refl
 
@@ -92,7 +92,7 @@ plain_length ps bound ls = both ps _ (length ps) (bound + length ls) refl (both 
 
 constants_length : (ps : List Symbol) (made : Bool) (bound : ℕ) (ls : List Symbol) → length (node_constants ps made bound ls) ≡ 1 + (length ps + (cond made 1 0 + (bound + length ls)))
 constants_length ps made bound ls = one_more symbols.Null _ _ (both ps _ (length ps) _ refl
-    (both (if_made made) _ (cond made 1 0) _ (made_length made) (both _ ls bound (length ls) (length-map-range_with_len _ 0 bound) refl)))
+    (both (only_if made (symbols.New ∷ [])) _ (cond made 1 0) _ (made_length made) (both _ ls bound (length ls) (length-map-range_with_len _ 0 bound) refl)))
 
 nodes_length : (ss : List Symbol) (deep : Bool) (cs : List Symbol) (fs : List FieldId) → length (nodes_of ss deep cs fs) ≡ length ss + cond deep (length cs * length fs) 0
 nodes_length ss deep cs fs = both _ _ (length ss) _ (length-map ss _)

@@ -1,6 +1,7 @@
 -- what contracts of public calls say
 pub mod Obligations
 pub mod GroundSets
+pub mod Programs
 pub mod Outlines
 pub mod Walk
 pub mod Still
@@ -11,3 +12,4 @@ pub mod Finding
 pub mod Size
 pub mod Left
 pub mod Excess
+pub mod Drafting

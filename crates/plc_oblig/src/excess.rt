@@ -2,24 +2,22 @@
 // else, so no set is made, and no memory is taken: no list of obligations is gone over, but the operations, steps,
 // points and primitives that they are made of. The clauses of other threads are gone over point by point and not step
 // by step, so that what stands at a point is counted once for all steps.
-ghost use Rattle.std.specs.Prelude.{◌≡◌, ◌≤◌, ◌||◌, ◌++◌, MatchBool, length, map};
-ghost use Rattle.std.specs.List.{list_any};
+ghost use Rattle.std.specs.Prelude.{◌≡◌, ◌≤◌, ◌||◌, MatchBool, length};
 ghost use Rattle.plc_flow.specs.WellFormed.{most_step_primitives};
-ghost use Rattle.plc_setting.specs.Fit.{Fits};
-ghost use Rattle.plc_setting.specs.Marks.{program_uses_marks};
+ghost use Rattle.plc_setting.specs.declared.obligations.Obligation.TheVariants.{Other};
 ghost use Rattle.plc_setting.specs.Points.{count_at};
-ghost use Rattle.plc_setting.specs.Setting.{below};
+ghost use Rattle.plc_oblig.specs.Programs.{ProgramFits};
 ghost use Rattle.plc_oblig.specs.Obligations.{enters, owns, others, claims_in, claims};
 ghost use Rattle.plc_oblig.specs.Outlines.{HasSmallSets, HasLargeSet};
-ghost use Rattle.plc_oblig.specs.Excess.{numbered, others_of_point, is_large};
+ghost use Rattle.plc_oblig.specs.Excess.{numbered, numbered_below, others_of_point, is_large, any_large};
+ghost use Rattle.plc_oblig.specs.Excess.{from_enters, from_owns, from_others};
 
+use crate::annotated::Annotated;
 use crate::claims::is_claim;
 use crate::size::clauses_where;
 use plc_base::{OpId, PointId, StepId, What1};
-use plc_flow::Flow;
 use plc_lang::Prim;
-use plc_logic::Outline;
-use plc_setting::{Obligation, count_at, program_uses_marks};
+use plc_setting::{Obligation, count_at};
 
 /// Whether one of two is so.
 fn either(a: bool, b: bool) -> bool
@@ -29,12 +27,11 @@ fn either(a: bool, b: bool) -> bool
 }
 
 /// Whether the ground set of the obligation has more clauses than it may.
-fn is_large(marked: bool, flow: &Flow, outline: &Outline, o: &Obligation) -> bool
-    requires fits { Fits flow.now outline.now }
-    requires marked { marked ≡ program_uses_marks flow.now outline.now }
-    ensures { result ≡ is_large flow.now outline.now o.now }
+fn is_large(program: &Annotated<'_>, o: &Obligation) -> bool
+    requires fits { ProgramFits program.now }
+    ensures { result ≡ is_large program.now.flow.now program.now.outline.now o.now }
 {
-    clauses_where(marked, flow, outline, o) > What1::Clauses.most() as u64
+    clauses_where(program, o) > What1::Clauses.most() as u64
 }
 
 /// The obligation whose last number is this one, and which is the same else.
@@ -58,13 +55,12 @@ fn numbered(o: Obligation, number: u16) -> Obligation
 }
 
 /// Whether any is large of the obligations that are like this one but for their last number, which is below the count.
-fn any_numbered(marked: bool, flow: &Flow, outline: &Outline, o: Obligation, count: u16) -> bool
-    requires fits { Fits flow.now outline.now }
-    requires marked { marked ≡ program_uses_marks flow.now outline.now }
-    ensures { result ≡ list_any (is_large flow.now outline.now) (map (numbered o) (below count)) }
+fn any_numbered(program: &Annotated<'_>, o: Obligation, count: u16) -> bool
+    requires fits { ProgramFits program.now }
+    ensures { result ≡ any_large program.now (numbered_below o count) }
 {
     for number in 0..count {
-        if is_large(marked, flow, outline, &numbered(o, number)) {
+        if is_large(program, &numbered(o, number)) {
             return true;
         }
     }
@@ -72,18 +68,17 @@ fn any_numbered(marked: bool, flow: &Flow, outline: &Outline, o: Obligation, cou
 }
 
 /// Whether any on the entry of an operation is large.
-fn any_enter(marked: bool, flow: &Flow, outline: &Outline) -> bool
-    requires fits { Fits flow.now outline.now }
-    requires marked { marked ≡ program_uses_marks flow.now outline.now }
-    ensures { result ≡ list_any (is_large flow.now outline.now) (enters flow.now outline.now) }
+fn any_enter(program: &Annotated<'_>) -> bool
+    requires fits { ProgramFits program.now }
+    ensures { result ≡ any_large program.now (enters program.now.flow.now program.now.outline.now) }
 {
-    for (op, gate) in flow.gates.as_slice().iter().enumerate() {
+    for (op, gate) in program.flow.gates.as_slice().iter().enumerate() {
         let first = Obligation::Enter {
             op: OpId(op as u16),
             clause: 0,
         };
-        let count = count_at(flow, outline, gate.entry.0) as u16;
-        if any_numbered(marked, flow, outline, first, count) {
+        let count = count_at(program.flow, program.outline, gate.entry.0) as u16;
+        if any_numbered(program, first, count) {
             return true;
         }
     }
@@ -91,38 +86,45 @@ fn any_enter(marked: bool, flow: &Flow, outline: &Outline) -> bool
 }
 
 /// Whether any on what a step leads its own thread to is large.
-fn any_own(marked: bool, flow: &Flow, outline: &Outline) -> bool
-    requires fits { Fits flow.now outline.now }
-    requires marked { marked ≡ program_uses_marks flow.now outline.now }
-    ensures { result ≡ list_any (is_large flow.now outline.now) (owns flow.now outline.now) }
+fn any_own(program: &Annotated<'_>) -> bool
+    requires fits { ProgramFits program.now }
+    ensures { result ≡ any_large program.now (owns program.now.flow.now program.now.outline.now) }
 {
-    for (step, s) in flow.steps.as_slice().iter().enumerate() {
+    let invariants = program.outline.invariants.len();
+    for (step, s) in program.flow.steps.as_slice().iter().enumerate() {
         let first = Obligation::Own {
             step: StepId(step as u16),
             clause: 0,
         };
-        let count = (outline.invariants.len() + count_at(flow, outline, s.to.0)) as u16;
-        if any_numbered(marked, flow, outline, first, count) {
+        let count = (invariants + count_at(program.flow, program.outline, s.to.0)) as u16;
+        if any_numbered(program, first, count) {
             return true;
         }
     }
     false
 }
 
-/// Whether any on a clause of a point is large, of which there are so many, for any step of another thread.
-fn any_of_point(marked: bool, flow: &Flow, outline: &Outline, point: PointId, count: u16) -> bool
-    requires fits { Fits flow.now outline.now }
-    requires marked { marked ≡ program_uses_marks flow.now outline.now }
-    requires count { count ≡ count_at flow.now outline.now point.0 }
-    ensures { result ≡ list_any (is_large flow.now outline.now) (others_of_point flow.now outline.now point.0) }
+/// Whether any on a clause of a point is large, of which there are so many, for this step of another thread.
+fn any_of_step(program: &Annotated<'_>, step: StepId, point: PointId, count: u16) -> bool
+    requires fits { ProgramFits program.now }
+    ensures { result ≡ any_large program.now (numbered_below (Other step point 0) count) }
 {
-    for step in 0..flow.steps.len() {
-        let first = Obligation::Other {
-            step: StepId(step as u16),
-            point,
-            clause: 0,
-        };
-        if any_numbered(marked, flow, outline, first, count) {
+    let first = Obligation::Other {
+        step,
+        point,
+        clause: 0,
+    };
+    any_numbered(program, first, count)
+}
+
+/// Whether any on a clause of a point is large, of which there are so many, for any step of another thread.
+fn any_of_point(program: &Annotated<'_>, point: PointId, count: u16) -> bool
+    requires fits { ProgramFits program.now }
+    requires count { count ≡ count_at program.now.flow.now program.now.outline.now point.0 }
+    ensures { result ≡ any_large program.now (others_of_point program.now.flow.now program.now.outline.now point.0) }
+{
+    for step in 0..program.flow.steps.len() {
+        if any_of_step(program, StepId(step as u16), point, count) {
             return true;
         }
     }
@@ -130,14 +132,13 @@ fn any_of_point(marked: bool, flow: &Flow, outline: &Outline, point: PointId, co
 }
 
 /// Whether any on a clause of another thread is large.
-fn any_other(marked: bool, flow: &Flow, outline: &Outline) -> bool
-    requires fits { Fits flow.now outline.now }
-    requires marked { marked ≡ program_uses_marks flow.now outline.now }
-    ensures { result ≡ list_any (is_large flow.now outline.now) (others flow.now outline.now) }
+fn any_other(program: &Annotated<'_>) -> bool
+    requires fits { ProgramFits program.now }
+    ensures { result ≡ any_large program.now (others program.now.flow.now program.now.outline.now) }
 {
-    for p in 0..flow.points {
-        let count = count_at(flow, outline, p) as u16;
-        if any_of_point(marked, flow, outline, PointId(p), count) {
+    for p in 0..program.flow.points {
+        let count = count_at(program.flow, program.outline, p) as u16;
+        if any_of_point(program, PointId(p), count) {
             return true;
         }
     }
@@ -145,11 +146,10 @@ fn any_other(marked: bool, flow: &Flow, outline: &Outline) -> bool
 }
 
 /// Whether any on a claim of one step is large.
-fn any_claim_of(marked: bool, flow: &Flow, outline: &Outline, step: StepId, prims: &[Prim]) -> bool
-    requires fits { Fits flow.now outline.now }
-    requires marked { marked ≡ program_uses_marks flow.now outline.now }
+fn any_claim_of(program: &Annotated<'_>, step: StepId, prims: &[Prim]) -> bool
+    requires fits { ProgramFits program.now }
     requires short { length prims.now ≤ most_step_primitives }
-    ensures { result ≡ list_any (is_large flow.now outline.now) (claims_in step.0 0 prims.now) }
+    ensures { result ≡ any_large program.now (claims_in step.0 0 prims.now) }
 {
     for (k, prim) in prims.iter().enumerate() {
         if is_claim(prim) {
@@ -157,7 +157,7 @@ fn any_claim_of(marked: bool, flow: &Flow, outline: &Outline, step: StepId, prim
                 step,
                 prim: k as u16,
             };
-            if is_large(marked, flow, outline, &claim) {
+            if is_large(program, &claim) {
                 return true;
             }
         }
@@ -166,19 +166,12 @@ fn any_claim_of(marked: bool, flow: &Flow, outline: &Outline, step: StepId, prim
 }
 
 /// Whether any on a claim is large.
-fn any_claim(marked: bool, flow: &Flow, outline: &Outline) -> bool
-    requires fits { Fits flow.now outline.now }
-    requires marked { marked ≡ program_uses_marks flow.now outline.now }
-    ensures { result ≡ list_any (is_large flow.now outline.now) (claims flow.now) }
+fn any_claim(program: &Annotated<'_>) -> bool
+    requires fits { ProgramFits program.now }
+    ensures { result ≡ any_large program.now (claims program.now.flow.now) }
 {
-    for (step, s) in flow.steps.as_slice().iter().enumerate() {
-        if any_claim_of(
-            marked,
-            flow,
-            outline,
-            StepId(step as u16),
-            s.prims.as_slice(),
-        ) {
+    for (step, s) in program.flow.steps.as_slice().iter().enumerate() {
+        if any_claim_of(program, StepId(step as u16), s.prims.as_slice()) {
             return true;
         }
     }
@@ -186,50 +179,36 @@ fn any_claim(marked: bool, flow: &Flow, outline: &Outline) -> bool
 }
 
 /// Whether any on a clause of another thread or on a claim is large.
-fn any_from_other(marked: bool, flow: &Flow, outline: &Outline) -> bool
-    requires fits { Fits flow.now outline.now }
-    requires marked { marked ≡ program_uses_marks flow.now outline.now }
-    ensures { result ≡ list_any (is_large flow.now outline.now) (others flow.now outline.now ++ claims flow.now) }
+fn any_from_other(program: &Annotated<'_>) -> bool
+    requires fits { ProgramFits program.now }
+    ensures { result ≡ any_large program.now (from_others program.now.flow.now program.now.outline.now) }
 {
-    either(
-        any_other(marked, flow, outline),
-        any_claim(marked, flow, outline),
-    )
+    either(any_other(program), any_claim(program))
 }
 
 /// Whether any on what a step leads its own thread to, or on a later kind, is large.
-fn any_from_own(marked: bool, flow: &Flow, outline: &Outline) -> bool
-    requires fits { Fits flow.now outline.now }
-    requires marked { marked ≡ program_uses_marks flow.now outline.now }
-    ensures { result ≡ list_any (is_large flow.now outline.now)
-        (owns flow.now outline.now ++ (others flow.now outline.now ++ claims flow.now)) }
+fn any_from_own(program: &Annotated<'_>) -> bool
+    requires fits { ProgramFits program.now }
+    ensures { result ≡ any_large program.now (from_owns program.now.flow.now program.now.outline.now) }
 {
-    either(
-        any_own(marked, flow, outline),
-        any_from_other(marked, flow, outline),
-    )
+    either(any_own(program), any_from_other(program))
 }
 
 /// Whether any on the entry of an operation, or on a later kind, is large.
-fn any_from_enter(marked: bool, flow: &Flow, outline: &Outline) -> bool
-    requires fits { Fits flow.now outline.now }
-    requires marked { marked ≡ program_uses_marks flow.now outline.now }
-    ensures { result ≡ list_any (is_large flow.now outline.now) (enters flow.now outline.now
-        ++ (owns flow.now outline.now ++ (others flow.now outline.now ++ claims flow.now))) }
+fn any_from_enter(program: &Annotated<'_>) -> bool
+    requires fits { ProgramFits program.now }
+    ensures { result ≡ any_large program.now (from_enters program.now.flow.now program.now.outline.now) }
 {
-    either(
-        any_enter(marked, flow, outline),
-        any_from_own(marked, flow, outline),
-    )
+    either(any_enter(program), any_from_own(program))
 }
 
 /// Whether the ground set of any obligation has more clauses than it may. It takes no memory.
-pub fn has_large_set(flow: &Flow, outline: &Outline) -> bool
-    requires { Fits flow.now outline.now }
-    ensures { MatchBool result (HasLargeSet flow.now outline.now) (HasSmallSets flow.now outline.now) }
+pub fn has_large_set(program: &Annotated<'_>) -> bool
+    requires { ProgramFits program.now }
+    ensures { MatchBool result (HasLargeSet program.now.flow.now program.now.outline.now)
+        (HasSmallSets program.now.flow.now program.now.outline.now) }
 {
-    let marked = program_uses_marks(flow, outline);
-    let count = outline.invariants.len() as u16;
-    let start = any_numbered(marked, flow, outline, Obligation::Start { inv: 0 }, count);
-    either(start, any_from_enter(marked, flow, outline))
+    let count = program.outline.invariants.len() as u16;
+    let start = any_numbered(program, Obligation::Start { inv: 0 }, count);
+    either(start, any_from_enter(program))
 }

@@ -1,33 +1,28 @@
 // The ground set of an obligation: constants and nodes are listed, then the clauses are written item by item, and
 // each term that was listed has its sort. Whoever goes over many obligations makes their sets one after another
 // over the same memory.
-ghost use Rattle.std.specs.Prelude.{◌≡◌, ◌<◌, ◌≤◌, map, length, slice_get, Some, OnOk, IfOk};
+ghost use Rattle.std.specs.Prelude.{◌≡◌, ◌<◌, length, slice_get, Some, OnOk, IfOk};
 ghost use Rattle.plc_lang.specs.Fit.{FileFits};
 ghost use Rattle.plc_ground.specs.Fit.{IsWellFormed};
-ghost use Rattle.plc_symbolic.specs.declared.symbolic.SymbolicTerm.TheVariants.{Constant};
 ghost use Rattle.plc_symbolic.specs.Numbering.{blank, listed_all};
-ghost use Rattle.plc_symbolic.specs.Terms.{term_of};
-ghost use Rattle.plc_setting.specs.Acts.{most_acts};
 ghost use Rattle.plc_setting.specs.Fit.{Fits};
-ghost use Rattle.plc_setting.specs.Marks.{program_uses_marks};
-ghost use Rattle.plc_setting.specs.Sorts.{sort_of};
-ghost use Rattle.plc_setting.specs.Setting.{setting_of};
-ghost use Rattle.plc_oblig.specs.GroundSets.{drafted, ground_set};
+ghost use Rattle.plc_oblig.specs.Programs.{ProgramFits, set_of};
+ghost use Rattle.plc_oblig.specs.Drafting.{CanDraft};
+ghost use Rattle.plc_oblig.specs.GroundSets.{constant_terms, node_terms, sorts_of, drafted, ground_set};
 
+use crate::annotated::{Annotated, annotate};
 use plc_base::{Items, NoMemory};
 use plc_flow::Flow;
 use plc_ground::{GroundSet, Sort, Symbol};
 use plc_items::{Subject, push_items};
 use plc_logic::Outline;
-use plc_setting::{
-    Act, Obligation, Setting, constants_of, program_uses_marks, setting_of, sort_of,
-};
+use plc_setting::{Act, Obligation, Setting, constants_of, setting_of, sort_of};
 use plc_symbolic::{Draft, NodeTerm, SymbolicTerm, term_of};
 use std::alloc::Global;
 
 /// Lists constants.
 fn list_constants(symbols: &[Symbol], out: &mut Draft) -> Result<(), NoMemory>
-    ensures { OnOk result (out.new ≡ listed_all out.old (map Constant symbols.now)) }
+    ensures { OnOk result (out.new ≡ listed_all out.old (constant_terms symbols.now)) }
 {
     for symbol in symbols {
         out.note(SymbolicTerm::Constant(*symbol))?;
@@ -37,7 +32,7 @@ fn list_constants(symbols: &[Symbol], out: &mut Draft) -> Result<(), NoMemory>
 
 /// Lists nodes.
 fn list_nodes(nodes: &[NodeTerm], out: &mut Draft) -> Result<(), NoMemory>
-    ensures { OnOk result (out.new ≡ listed_all out.old (map term_of nodes.now)) }
+    ensures { OnOk result (out.new ≡ listed_all out.old (node_terms nodes.now)) }
 {
     for node in nodes {
         out.note(term_of(*node))?;
@@ -49,7 +44,7 @@ fn list_nodes(nodes: &[NodeTerm], out: &mut Draft) -> Result<(), NoMemory>
 fn sort_at(flow: &Flow, o: &Obligation, acts: &[Act], draft: &Draft, k: usize) -> Sort
     requires file { FileFits flow.now.file }
     requires listed { k < length draft.now.terms }
-    ensures { slice_get (map (sort_of flow.now o.now acts.now) draft.now.terms) k ≡ Some result }
+    ensures { slice_get (sorts_of flow.now o.now acts.now draft.now.terms) k ≡ Some result }
 {
     match draft.term(k) {
         None => unreachable!(),
@@ -66,7 +61,7 @@ fn sorts_of(
     draft: &Draft,
 ) -> Result<Items<Sort>, NoMemory>
     requires { FileFits flow.now.file }
-    ensures { IfOk result (λ sorts. sorts ≡ map (sort_of flow.now o.now acts.now) draft.now.terms) }
+    ensures { IfOk result (λ sorts. sorts ≡ sorts_of flow.now o.now acts.now draft.now.terms) }
 {
     let mut sorts = Vec::with_capacity(alloc, draft.len())?;
     for k in 0..draft.len() {
@@ -77,9 +72,7 @@ fn sorts_of(
 
 /// Writes the clauses of the set, after the terms that are listed first.
 fn write_draft(w: &Subject, draft: &mut Draft) -> Result<(), NoMemory>
-    requires fits { Fits w.now.flow.now w.now.outline.now }
-    requires setting { w.now.setting.now ≡ setting_of w.now.flow.now w.now.outline.now w.now.obligation.now }
-    requires few { length w.now.setting.now.acts ≤ most_acts }
+    requires ready { CanDraft w.now.flow.now w.now.outline.now w.now.setting.now w.now.obligation.now }
     requires blank { draft.old ≡ blank }
     ensures { OnOk result (draft.new
         ≡ drafted w.now.flow.now w.now.outline.now w.now.setting.now w.now.obligation.now) }
@@ -100,9 +93,7 @@ fn assemble(
     o: &Obligation,
     draft: &mut Draft,
 ) -> Result<GroundSet, NoMemory>
-    requires fits { Fits flow.now outline.now }
-    requires setting { s.now ≡ setting_of flow.now outline.now o.now }
-    requires few { length s.now.acts ≤ most_acts }
+    requires { CanDraft flow.now outline.now s.now o.now }
     ensures well { IfOk result (λ set. IsWellFormed set) }
     ensures set { IfOk result (λ set. set ≡ ground_set flow.now outline.now o.now) }
 {
@@ -123,7 +114,8 @@ fn assemble(
 /// Memory for ground sets that are made one after another.
 #[derive(Drop)]
 pub struct Grounding {
-    pub(crate) alloc: Global,
+    /// Where the memory comes from, for what is made beside the sets too.
+    pub alloc: Global,
     draft: Draft,
 }
 
@@ -136,21 +128,15 @@ impl Grounding {
         }
     }
 
-    /// The ground set of an obligation, as [`ground`] makes it. Whether marks are used is asked once for all of them,
-    /// by [`program_uses_marks`].
-    pub fn ground(
-        &mut self,
-        marked: bool,
-        flow: &Flow,
-        outline: &Outline,
-        o: &Obligation,
-    ) -> Result<GroundSet, NoMemory>
-        requires fits { Fits flow.now outline.now }
-        requires marked { marked ≡ program_uses_marks flow.now outline.now }
+    /// The ground set of an obligation, as [`ground`] makes it.
+    pub fn ground(&mut self, program: &Annotated<'_>, o: &Obligation) -> Result<GroundSet, NoMemory>
+        requires fits { ProgramFits program.now }
         ensures well { IfOk result (λ set. IsWellFormed set) }
-        ensures set { IfOk result (λ set. set ≡ ground_set flow.now outline.now o.now) }
+        ensures set { IfOk result (λ set. set ≡ set_of program.now o.now) }
     {
-        let s = setting_of(self.alloc, marked, flow, outline, o)?;
+        let flow = program.flow;
+        let outline = program.outline;
+        let s = setting_of(self.alloc, program.marked, flow, outline, o)?;
         let set = assemble(self.alloc, flow, outline, &s, o, &mut self.draft);
         drop(s);
         set
@@ -174,5 +160,5 @@ pub fn ground(
     ensures set { IfOk result (λ set. set ≡ ground_set flow.now outline.now o.now) }
     ensures well { IfOk result (λ set. IsWellFormed set) }
 {
-    Grounding::new(alloc).ground(program_uses_marks(flow, outline), flow, outline, o)
+    Grounding::new(alloc).ground(&annotate(flow, outline), o)
 }

@@ -8,6 +8,7 @@
 #![tactic(auto)]
 
 mod alike;
+mod annotated;
 mod claims;
 mod counting;
 mod excess;
@@ -20,6 +21,7 @@ mod trees;
 mod walk;
 
 pub use alike::{Noted, alike_obligations_have_one_set};
+pub use annotated::{Annotated, annotate};
 pub use counting::count;
 pub use excess::has_large_set;
 pub use finding::nth;

@@ -3,12 +3,11 @@
 ghost use Rattle.std.specs.Prelude.{◌≡◌, ◌≤◌, ◌+◌, ◌*◌, cond, List, length, count_by, sum_by, All};
 ghost use Rattle.plc_base.specs.Limits.{most, most_bound};
 ghost use Rattle.plc_base.specs.declared.limits.What1.TheVariants as limits;
-ghost use Rattle.plc_lang.specs.Locals.{is_pointer, is_other_data};
+ghost use Rattle.plc_lang.specs.Locals.{is_other_data};
 ghost use Rattle.plc_lang.specs.Fields.{is_pointer_field};
 ghost use Rattle.plc_lang.specs.Fit.{FileFits};
 ghost use Rattle.plc_flow.specs.WellFormed.{most_step_primitives};
 ghost use Rattle.plc_setting.specs.Fit.{Fits};
-ghost use Rattle.plc_setting.specs.Marks.{program_uses_marks};
 ghost use Rattle.plc_setting.specs.Points.{clauses_at};
 ghost use Rattle.plc_setting.specs.Parts.{acting_locals, owner_locals, executed, conclusion, claim_made, clauses_of};
 ghost use Rattle.plc_setting.specs.Setting.{setting_of, bound_of};
@@ -16,19 +15,21 @@ ghost use Rattle.plc_setting.specs.declared.setting.Setting.{Setting};
 ghost use Rattle.plc_symbolic.specs.declared.symbolic.NodeTerm.{NodeTerm};
 ghost use Rattle.plc_items.specs.declared.execution.Execution.{Execution};
 ghost use Rattle.plc_items.specs.Items.{values_from, mark_values, beginning, freshness, denied};
+ghost use Rattle.plc_oblig.specs.Programs.{ProgramFits, set_of};
 ghost use Rattle.plc_oblig.specs.GroundSets.{ground_set};
 ghost use Rattle.plc_oblig.specs.Size.{has_values, is_pointer_load, if_marked, store_size, test_size, call_size};
-ghost use Rattle.plc_oblig.specs.Size.{prim_size, clause_size};
+ghost use Rattle.plc_oblig.specs.Size.{pointer_count, prim_size, clause_size};
 ghost use Rattle.plc_oblig.specs.Size.{AreSizesOf, AreFew, most_constants, most_pointers, most_deep_nodes, most_nodes};
 ghost use Rattle.plc_oblig.specs.Size.{most_of_primitive, most_instances};
 
+use crate::annotated::{Annotated, annotate};
 use plc_base::PointId;
 use plc_flow::Flow;
 use plc_lang::{Arg, Field, File, Ghost, Local, Prim, Rel, has_new};
 use plc_logic::{Clause, Outline};
 use plc_setting::{
     Obligation, acting_locals, acting_point, bound_of, claim_made, conclusion, executed,
-    invariants_before, is_labelled, owner_locals, owner_point, program_uses_marks, stands_at,
+    invariants_before, is_labelled, owner_locals, owner_point, stands_at,
 };
 
 /// How many there are of what a set rests on.
@@ -55,7 +56,7 @@ pub struct Sizes {
 
 /// How many locals are pointers.
 fn count_pointers(locals: &[Local]) -> u64
-    ensures { result ≡ count_by is_pointer locals.now }
+    ensures { result ≡ pointer_count locals.now }
 {
     locals.iter().filter(|l| l.pointer).count() as u64
 }
@@ -177,7 +178,7 @@ fn one_if(made: bool) -> u64
 /// How many pointer locals the acting thread has.
 fn count_mine(flow: &Flow, o: &Obligation) -> u64
     requires { FileFits flow.now.file }
-    ensures count { result ≡ count_by is_pointer (acting_locals flow.now o.now) }
+    ensures count { result ≡ pointer_count (acting_locals flow.now o.now) }
     ensures few { result ≤ most limits.Locals }
 {
     count_pointers(acting_locals(flow, o))
@@ -186,7 +187,7 @@ fn count_mine(flow: &Flow, o: &Obligation) -> u64
 /// How many pointer locals the thread has whose clause is looked at, where that is another.
 fn count_theirs(flow: &Flow, o: &Obligation) -> u64
     requires { FileFits flow.now.file }
-    ensures count { result ≡ count_by is_pointer (owner_locals flow.now o.now) }
+    ensures count { result ≡ pointer_count (owner_locals flow.now o.now) }
     ensures few { result ≤ most limits.Locals }
 {
     count_pointers(owner_locals(flow, o))
@@ -219,13 +220,15 @@ fn count_bound(flow: &Flow, outline: &Outline, o: &Obligation) -> u64
     bound_of(conclusion(flow, outline, o)) as u64
 }
 
-/// The counts on which the number of clauses depends, where it is known whether marks are used.
-fn sizes_of(marked: bool, flow: &Flow, outline: &Outline, o: &Obligation) -> Sizes
-    requires fits { Fits flow.now outline.now }
-    requires marked { marked ≡ program_uses_marks flow.now outline.now }
-    ensures sizes { AreSizesOf (setting_of flow.now outline.now o.now) result }
+/// The counts on which the number of clauses depends.
+fn sizes_of(program: &Annotated<'_>, o: &Obligation) -> Sizes
+    requires fits { ProgramFits program.now }
+    ensures sizes { AreSizesOf (setting_of program.now.flow.now program.now.outline.now o.now) result }
     ensures few { AreFew result }
 {
+    let flow = program.flow;
+    let outline = program.outline;
+    let marked = program.marked;
     let mine = count_mine(flow, o);
     let pointers = flow.file.shared.len() as u64 + mine + count_theirs(flow, o);
     let fields = count_fields(&flow.file);
@@ -398,12 +401,13 @@ pub(crate) fn denied_size(flow: &Flow, outline: &Outline, o: &Obligation) -> u64
 }
 
 /// How many clauses the ground set of an obligation has, where it is known whether marks are used.
-pub(crate) fn clauses_where(marked: bool, flow: &Flow, outline: &Outline, o: &Obligation) -> u64
-    requires fits { Fits flow.now outline.now }
-    requires marked { marked ≡ program_uses_marks flow.now outline.now }
-    ensures { result ≡ length (ground_set flow.now outline.now o.now).clauses }
+pub(crate) fn clauses_where(program: &Annotated<'_>, o: &Obligation) -> u64
+    requires fits { ProgramFits program.now }
+    ensures { result ≡ length (set_of program.now o.now).clauses }
 {
-    let z = sizes_of(marked, flow, outline, o);
+    let flow = program.flow;
+    let outline = program.outline;
+    let z = sizes_of(program, o);
     values_size(flow.file.ghosts.as_slice(), z.nodes)
         + mark_values_size(z)
         + beginning_size(flow, z, o)
@@ -411,7 +415,7 @@ pub(crate) fn clauses_where(marked: bool, flow: &Flow, outline: &Outline, o: &Ob
         + premises_size(z.instances, invariants_before(outline, o))
         + standing_size(z.instances, flow, outline, acting_point(flow, o))
         + standing_size(z.instances, flow, outline, owner_point(o))
-        + executed_size(marked, z.nodes, executed(flow, o))
+        + executed_size(program.marked, z.nodes, executed(flow, o))
         + denied_size(flow, outline, o)
 }
 
@@ -420,5 +424,5 @@ pub fn clauses(flow: &Flow, outline: &Outline, o: &Obligation) -> u64
     requires { Fits flow.now outline.now }
     ensures { result ≡ length (ground_set flow.now outline.now o.now).clauses }
 {
-    clauses_where(program_uses_marks(flow, outline), flow, outline, o)
+    clauses_where(&annotate(flow, outline), o)
 }

@@ -6,7 +6,7 @@ use Rattle.plc_check.specs.declared.judged.LoadFault.{LoadFault}
 use Rattle.plc_check.specs.declared.verdict.Verdict.{Verdict}
 use Rattle.plc_check.specs.Verdicts.{IsVerdictOn}
 use Rattle.plc_cli.specs.Files.{IsAnswerTo}
-use Rattle.plc_cli.specs.Refusals.{load_text}
+use Rattle.plc_cli.specs.Refusals.{load_fault_text}
 use Rattle.plc_cli.specs.Statuses.{refused}
 use Rattle.plc_cli.specs.Verdicts.{verdict_status, verdict_text}
 use Rattle.plc_page.specs.declared.page.Page.{Page}
@@ -33,4 +33,4 @@ ShowsVerdict j page = (verdict : Verdict) × IsVerdictOn j verdict × SaysVerdic
 
 -- the page says why a file is refused
 abbrev pub SaysRefusal : LoadFault → Page → Type 0
-SaysRefusal fault page = ShowsAnswer refused (load_text fault) page
+SaysRefusal fault page = ShowsAnswer refused (load_fault_text fault) page

@@ -9,7 +9,7 @@ use plc_html::Html;
 use plc_logic::Outline;
 use plc_oblig::Obligation;
 use plc_picture::{Picture, before_and_after, push_svg, push_table};
-use plc_texts::unproved;
+use plc_texts::unproved_text;
 use plc_words::{ClauseId, clause_of, push_obligation};
 use std::alloc::Global;
 
@@ -81,7 +81,7 @@ fn push_states(html: &mut Html, shown: &Shown, open: &Counterexample) -> Written
 
 /// The answer and the model, as `plc check` writes them.
 fn push_model(html: &mut Html, shown: &Shown, open: &Counterexample) -> Written {
-    let text = unproved(
+    let text = unproved_text(
         html.alloc(),
         &shown.judged.flow,
         &open.obligation,

@@ -12,7 +12,7 @@ use plc_check::Judged;
 use plc_flow::Step;
 use plc_html::Html;
 use plc_suggest::{SuggestFault, Suggestion, suggest};
-use plc_texts::{insufficient, line_of, suggested, too_many_spots};
+use plc_texts::{FailedCondition, insufficient_text, line_of, spots_limit_text, suggested_text};
 use plc_type::Env;
 use plc_words::{advice, push_untyped};
 use plc_xfer::{TypeFault, apply};
@@ -79,11 +79,11 @@ fn suggestion(alloc: Global, judged: &Judged) -> Result<Vec<u8>, NoMemory>
 {
     let flow = &judged.flow;
     let text = match suggest(alloc, flow, &judged.observer) {
-        Ok(Suggestion::Found(spots)) => suggested(alloc, flow, spots.as_slice()),
+        Ok(Suggestion::Found(spots)) => suggested_text(alloc, flow, spots.as_slice()),
         Ok(Suggestion::Insufficient { step, prim, fault }) => {
-            insufficient(alloc, flow, step.0, prim, fault)
+            insufficient_text(alloc, flow, FailedCondition { step, prim, fault })
         }
-        Err(SuggestFault::TooMany { count }) => too_many_spots(alloc, count),
+        Err(SuggestFault::TooMany { count }) => spots_limit_text(alloc, count),
         Err(SuggestFault::Memory) => return Err(NoMemory),
     };
     Ok(text?)

@@ -121,7 +121,7 @@ parameters_read s at (p ∷ ps) rest =
     each_reads comma_name_of parameter_step comma_name_shrinks comma_name_then comma_name_reads (t, at + 1) ps (Symbol CloseParen ∷ rest) refl
     ∙ ap (λ r. r >>= λ u. Ok (u, Symbol CloseParen ∷ rest)) (others_steps t (at + 1) ps))
 
-locals_read : (s : Scope) (at : ℕ) (ls : List FieldTree) (rest : List TokenKind) → field_of rest ≡ None → locals_in (s, at) (each_then field_then ls rest) ≡ (locals_mean s at ls >>= λ r. Ok (r, rest))
+locals_read : (s : Scope) (at : ℕ) (ls : List FieldTree) (rest : List TokenKind) → field_of rest ≡ None → locals_in s at (each_then field_then ls rest) ≡ (locals_mean s at ls >>= λ r. Ok (r, rest))
 locals_read s at ls rest e =
     each_reads field_of local_step field_shrinks field_then field_reads (s, at) ls rest e ∙ ap (λ r. r >>= λ t. Ok (t, rest)) (locals_steps s at ls)
 
@@ -129,7 +129,7 @@ all_locals_read : (s : Scope) (at : ℕ) (ps : List Text) (ls : List FieldTree) 
     → all_locals_in s at (parameters_then ps (Symbol CloseParen ∷ Symbol OpenBrace ∷ each_then field_then ls rest)) ≡ (parameters_mean s at ps >>= λ p. locals_mean p.0 (p.1 + 2) ls >>= λ l. Ok (l, rest))
 unfolding all_locals_in
 all_locals_read s at ps ls rest e =
-    ap (λ r. r >>= λ p. wanted_at p.0.1 (opening_of p.1) >>= λ us. locals_in (p.0.0, p.0.1 + 2) us) (parameters_read s at ps (Symbol OpenBrace ∷ each_then field_then ls rest))
+    ap (λ r. r >>= λ p. wanted_at p.0.1 (opening_of p.1) >>= λ us. locals_in p.0.0 (p.0.1 + 2) us) (parameters_read s at ps (Symbol OpenBrace ∷ each_then field_then ls rest))
     ∙ bind_joins (parameters_mean s at ps) _ _
     ∙ bind_same (parameters_mean s at ps) _ _ (λ p. locals_read p.0 (p.1 + 2) ls rest e)
 

@@ -31,7 +31,7 @@ use Rattle.plc_parse.specs.Meaning.{counted, before, allocates, count_of, forms_
 use Rattle.plc_scope.proofs.Holds.{Has, has_along, weaker, next, any, unless, both_err}
 use Rattle.plc_parse.proofs.Holds.{OneHas, EachHas, one_name, each_has, Free}
 use Rattle.plc_parse.proofs.Upward.{Facts, GoesUp, PartsHave, PrimitiveHas, AtomicHas, CallHas, LabelRead, Read, statements_read}
-use Rattle.plc_parse.proofs.Reach.{BindingIn, RoleIn, Bound, Reaches, outside, inside, reaches_more, first_reaches, declared_reaches, label_reaches, local_bound, parameter_bound, PointerIn, ValueIn, FieldIn, NotRetire, any_in, pointer_in, pointer_local_in, value_in, pointer_field_in, data_field_in, hazard_in, epoch_in}
+use Rattle.plc_parse.proofs.Reach.{BindingIn, RoleIn, Bound, Reaches, outside, inside, reaches_more, first_reaches, declared_reaches, label_reaches, local_bound, parameter_bound, PointerIn, ValueIn, FieldIn, NotRetire, names_in}
 
 -- ---- primitives, conditions and calls in a scope
 
@@ -45,12 +45,12 @@ module _ (h : Shape) (s : Scope) (r : Reaches h s) where
   pointer_value_in p at NewValue is = is
   pointer_value_in p at (NumberValue n) is = tt
   pointer_value_in p at (MarkValue n) is =
-      next (VarIn h) (PrimitiveIn h) (pointer_at s n (at + 1)) _ (pointer_in h s r n (at + 1)) (λ q a. (is, a))
+      next (VarIn h) (PrimitiveIn h) (pointer_at s n (at + 1)) _ (names_in h s r n (at + 1)).pointer (λ q a. (is, a))
   pointer_value_in p at (UnmarkValue n) is =
-      next (VarIn h) (PrimitiveIn h) (pointer_at s n (at + 1)) _ (pointer_in h s r n (at + 1)) (λ q a. (is, a))
-  pointer_value_in p at (PlaceValue (PlaceOf n None)) is = next (VarIn h) (PrimitiveIn h) (pointer_at s n at) _ (pointer_in h s r n at) (λ q a. (is, a))
-  pointer_value_in p at (PlaceValue (PlaceOf n (Some f))) is = next (VarIn h) (PrimitiveIn h) (pointer_at s n at) _ (pointer_in h s r n at) (λ q a.
-      next (FieldIn h) (PrimitiveIn h) (pointer_field_at s f (at + 2)) _ (pointer_field_in h s r f (at + 2)) (λ g b. (is, a, b)))
+      next (VarIn h) (PrimitiveIn h) (pointer_at s n (at + 1)) _ (names_in h s r n (at + 1)).pointer (λ q a. (is, a))
+  pointer_value_in p at (PlaceValue (PlaceOf n None)) is = next (VarIn h) (PrimitiveIn h) (pointer_at s n at) _ (names_in h s r n at).pointer (λ q a. (is, a))
+  pointer_value_in p at (PlaceValue (PlaceOf n (Some f))) is = next (VarIn h) (PrimitiveIn h) (pointer_at s n at) _ (names_in h s r n at).pointer (λ q a.
+      next (FieldIn h) (PrimitiveIn h) (pointer_field_at s f (at + 2)) _ (names_in h s r f (at + 2)).pointer_field (λ g b. (is, a, b)))
 
   data_value_in : (x at : ℕ) (v : ValueTree) → ValueIn h x → Has (PrimitiveIn h) (data_value s x at v)
   data_value_in x at NullValue is = tt
@@ -58,9 +58,9 @@ module _ (h : Shape) (s : Scope) (r : Reaches h s) where
   data_value_in x at (NumberValue n) is = (is, tt)
   data_value_in x at (MarkValue n) is = tt
   data_value_in x at (UnmarkValue n) is = tt
-  data_value_in x at (PlaceValue (PlaceOf n None)) is = next (ValueIn h) (PrimitiveIn h) (data_at s n at) _ (value_in h s r n at) (λ y a. (is, a))
-  data_value_in x at (PlaceValue (PlaceOf n (Some f))) is = next (VarIn h) (PrimitiveIn h) (pointer_at s n at) _ (pointer_in h s r n at) (λ q a.
-      next (FieldIn h) (PrimitiveIn h) (data_field_at s f (at + 2)) _ (data_field_in h s r f (at + 2)) (λ g b. (is, a, b)))
+  data_value_in x at (PlaceValue (PlaceOf n None)) is = next (ValueIn h) (PrimitiveIn h) (data_at s n at) _ (names_in h s r n at).value (λ y a. (is, a))
+  data_value_in x at (PlaceValue (PlaceOf n (Some f))) is = next (VarIn h) (PrimitiveIn h) (pointer_at s n at) _ (names_in h s r n at).pointer (λ q a.
+      next (FieldIn h) (PrimitiveIn h) (data_field_at s f (at + 2)) _ (names_in h s r f (at + 2)).data_field (λ g b. (is, a, b)))
 
   value_into_in : (at : ℕ) (v : ValueTree) (left : Role) (place : ℕ) → RoleIn h left → Has (PrimitiveIn h) (value_into s at v left place)
   value_into_in at v (pointer_variable p) place is = pointer_value_in p at v is
@@ -70,12 +70,12 @@ module _ (h : Shape) (s : Scope) (r : Reaches h s) where
   pointer_atom_in : (p : Var) (f : FieldId) (at : ℕ) (a : AtomTree) → VarIn h p → FieldIn h f → Has (PrimitiveIn h) (pointer_atom s p f at a)
   pointer_atom_in p f at NullAtom is field = (is, field)
   pointer_atom_in p f at (NumberAtom n) is field = tt
-  pointer_atom_in p f at (NameAtom n) is field = next (VarIn h) (PrimitiveIn h) (pointer_at s n at) _ (pointer_in h s r n at) (λ q a. (is, field, a))
+  pointer_atom_in p f at (NameAtom n) is field = next (VarIn h) (PrimitiveIn h) (pointer_at s n at) _ (names_in h s r n at).pointer (λ q a. (is, field, a))
 
   data_atom_in : (p : Var) (f : FieldId) (at : ℕ) (a : AtomTree) → VarIn h p → FieldIn h f → Has (PrimitiveIn h) (data_atom s p f at a)
   data_atom_in p f at NullAtom is field = tt
   data_atom_in p f at (NumberAtom n) is field = (is, field, tt)
-  data_atom_in p f at (NameAtom n) is field = next (ValueIn h) (PrimitiveIn h) (data_at s n at) _ (value_in h s r n at) (λ y a. (is, field, a))
+  data_atom_in p f at (NameAtom n) is field = next (ValueIn h) (PrimitiveIn h) (data_at s n at) _ (names_in h s r n at).value (λ y a. (is, field, a))
 
   atom_into_in : (p : Var) (at : ℕ) (a : AtomTree) (field : Role) (place : ℕ) → VarIn h p → RoleIn h field → Has (PrimitiveIn h) (atom_into s p at a field place)
   atom_into_in p at a (pointer_field f) place is field = pointer_atom_in p f at a is field
@@ -84,37 +84,37 @@ module _ (h : Shape) (s : Scope) (r : Reaches h s) where
 
   set_in : (at : ℕ) (t : SetTree) → Has (PrimitiveIn h) (set_means s at t)
   unfolding set_means
-  set_in at (SetName n v) = next (RoleIn h) (PrimitiveIn h) (known at (role_of s n)) _ (any_in h s r n at) (λ left a. value_into_in (at + 2) v left at a)
-  set_in at (SetField n f a) = next (VarIn h) (PrimitiveIn h) (pointer_at s n at) _ (pointer_in h s r n at) (λ p is.
-      next (RoleIn h) (PrimitiveIn h) (known (at + 2) (role_of s f)) _ (any_in h s r f (at + 2)) (λ field b. atom_into_in p (at + 4) a field (at + 2) is b))
+  set_in at (SetName n v) = next (RoleIn h) (PrimitiveIn h) (known at (role_of s n)) _ (names_in h s r n at).any (λ left a. value_into_in (at + 2) v left at a)
+  set_in at (SetField n f a) = next (VarIn h) (PrimitiveIn h) (pointer_at s n at) _ (names_in h s r n at).pointer (λ p is.
+      next (RoleIn h) (PrimitiveIn h) (known (at + 2) (role_of s f)) _ (names_in h s r f (at + 2)).any (λ field b. atom_into_in p (at + 4) a field (at + 2) is b))
 
   refresh_from_in : (p at : ℕ) (place : PlaceTree) → PointerIn h p → Has (PrimitiveIn h) (refresh_from s p at place)
-  refresh_from_in p at (PlaceOf n None) is = next (VarIn h) (PrimitiveIn h) (pointer_at s n at) _ (pointer_in h s r n at) (λ q a. (is, a))
-  refresh_from_in p at (PlaceOf n (Some f)) is = next (VarIn h) (PrimitiveIn h) (pointer_at s n at) _ (pointer_in h s r n at) (λ q a.
-      next (FieldIn h) (PrimitiveIn h) (pointer_field_at s f (at + 2)) _ (pointer_field_in h s r f (at + 2)) (λ g b. (is, a, b)))
+  refresh_from_in p at (PlaceOf n None) is = next (VarIn h) (PrimitiveIn h) (pointer_at s n at) _ (names_in h s r n at).pointer (λ q a. (is, a))
+  refresh_from_in p at (PlaceOf n (Some f)) is = next (VarIn h) (PrimitiveIn h) (pointer_at s n at) _ (names_in h s r n at).pointer (λ q a.
+      next (FieldIn h) (PrimitiveIn h) (pointer_field_at s f (at + 2)) _ (names_in h s r f (at + 2)).pointer_field (λ g b. (is, a, b)))
 
   refresh_name_in : (at : ℕ) (n : Text) (place : PlaceTree) → Has (PrimitiveIn h) (refresh_name_means s at n place)
   unfolding refresh_name_means
-  refresh_name_in at n place = next (PointerIn h) (PrimitiveIn h) (pointer_local_at s n at) _ (pointer_local_in h s r n at) (λ p a. refresh_from_in p (at + 2) place a)
+  refresh_name_in at n place = next (PointerIn h) (PrimitiveIn h) (pointer_local_at s n at) _ (names_in h s r n at).pointer_local (λ p a. refresh_from_in p (at + 2) place a)
 
   refresh_in : (at : ℕ) (t : RefreshTree) → Has (PrimitiveIn h) (refresh_means s at t)
   unfolding refresh_means
   refresh_in at (RefreshName n place) = refresh_name_in at n place
-  refresh_in at (RefreshField n f m) = next (VarIn h) (PrimitiveIn h) (pointer_at s n at) _ (pointer_in h s r n at) (λ p a.
-      next (FieldIn h) (PrimitiveIn h) (pointer_field_at s f (at + 2)) _ (pointer_field_in h s r f (at + 2)) (λ g b.
-      next (VarIn h) (PrimitiveIn h) (pointer_at s m (at + 4)) _ (pointer_in h s r m (at + 4)) (λ q c. (a, b, c))))
+  refresh_in at (RefreshField n f m) = next (VarIn h) (PrimitiveIn h) (pointer_at s n at) _ (names_in h s r n at).pointer (λ p a.
+      next (FieldIn h) (PrimitiveIn h) (pointer_field_at s f (at + 2)) _ (names_in h s r f (at + 2)).pointer_field (λ g b.
+      next (VarIn h) (PrimitiveIn h) (pointer_at s m (at + 4)) _ (names_in h s r m (at + 4)).pointer (λ q c. (a, b, c))))
 
   ghost_set_in : (in_init : Bool) (at : ℕ) (t : GhostSetTree) → Has (PrimitiveIn h) (ghost_set_means s in_init at t)
   unfolding ghost_set_means
-  ghost_set_in in_init at (SetGhost n f v) = next (VarIn h) (PrimitiveIn h) (pointer_at s n (at + 1)) _ (pointer_in h s r n (at + 1)) (λ p a.
+  ghost_set_in in_init at (SetGhost n f v) = next (VarIn h) (PrimitiveIn h) (pointer_at s n (at + 1)) _ (names_in h s r n (at + 1)).pointer (λ p a.
       any (PrimitiveIn h) (auxiliary_at s f (at + 3)) _ (λ g. any (PrimitiveIn h) (ghost_value_means s in_init g.0 g.1 (at + 5) v) _ (λ w. a)))
 
   equality_in : (p : Var) (is_equal : Bool) (at : ℕ) (a : AtomTree) → VarIn h p → Has (PrimitiveIn h) (pointer_equality s p is_equal at a)
   equality_in p true at NullAtom is = is
   equality_in p false at NullAtom is = is
   equality_in p is_equal at (NumberAtom n) is = tt
-  equality_in p true at (NameAtom n) is = next (VarIn h) (PrimitiveIn h) (pointer_at s n at) _ (pointer_in h s r n at) (λ q a. (is, a))
-  equality_in p false at (NameAtom n) is = next (VarIn h) (PrimitiveIn h) (pointer_at s n at) _ (pointer_in h s r n at) (λ q a. (is, a))
+  equality_in p true at (NameAtom n) is = next (VarIn h) (PrimitiveIn h) (pointer_at s n at) _ (names_in h s r n at).pointer (λ q a. (is, a))
+  equality_in p false at (NameAtom n) is = next (VarIn h) (PrimitiveIn h) (pointer_at s n at) _ (names_in h s r n at).pointer (λ q a. (is, a))
 
   pointer_test_in : (p : Var) (at : ℕ) (c : Comparison) (a : AtomTree) → VarIn h p → Has (PrimitiveIn h) (pointer_test s p at c a)
   pointer_test_in p at SameAs a is = equality_in p true (at + 1) a is
@@ -125,7 +125,7 @@ module _ (h : Shape) (s : Scope) (r : Reaches h s) where
   data_test_in : (x : ℕ) (rel : Rel) (at : ℕ) (a : AtomTree) → ValueIn h x → Has (PrimitiveIn h) (data_test s x rel at a)
   data_test_in x rel at NullAtom is = tt
   data_test_in x rel at (NumberAtom n) is = (is, tt)
-  data_test_in x rel at (NameAtom n) is = next (ValueIn h) (PrimitiveIn h) (data_at s n at) _ (value_in h s r n at) (λ y a. (is, a))
+  data_test_in x rel at (NameAtom n) is = next (ValueIn h) (PrimitiveIn h) (data_at s n at) _ (names_in h s r n at).value (λ y a. (is, a))
 
   test_of_in : (at : ℕ) (c : Comparison) (a : AtomTree) (left : Role) → RoleIn h left → Has (PrimitiveIn h) (test_of s at c a left)
   test_of_in at c a (pointer_variable p) is = pointer_test_in p (at + 1) c a is
@@ -135,21 +135,21 @@ module _ (h : Shape) (s : Scope) (r : Reaches h s) where
   test_in : (at : ℕ) (t : TestTree) → Has (PrimitiveIn h) (test_means s at t)
   unfolding test_means
   test_in at (MarkedTest n) =
-      next (VarIn h) (PrimitiveIn h) (pointer_at s n (at + 1)) _ (pointer_in h s r n (at + 1)) (λ p a. a)
+      next (VarIn h) (PrimitiveIn h) (pointer_at s n (at + 1)) _ (names_in h s r n (at + 1)).pointer (λ p a. a)
   test_in at (UnmarkedTest n) =
-      next (VarIn h) (PrimitiveIn h) (pointer_at s n (at + 1)) _ (pointer_in h s r n (at + 1)) (λ p a. a)
-  test_in at (Compares n c a) = next (RoleIn h) (PrimitiveIn h) (known at (role_of s n)) _ (any_in h s r n at) (λ left b. test_of_in at c a left b)
+      next (VarIn h) (PrimitiveIn h) (pointer_at s n (at + 1)) _ (names_in h s r n (at + 1)).pointer (λ p a. a)
+  test_in at (Compares n c a) = next (RoleIn h) (PrimitiveIn h) (known at (role_of s n)) _ (names_in h s r n at).any (λ left b. test_of_in at c a left b)
 
   or_null_in : (at : ℕ) (n : Option Text) → Has (VarOrNullIn h) (pointer_or_null s at n)
   or_null_in at None = tt
-  or_null_in at (Some n) = next (VarIn h) (VarOrNullIn h) (pointer_at s n at) _ (pointer_in h s r n at) (λ q a. a)
+  or_null_in at (Some n) = next (VarIn h) (VarOrNullIn h) (pointer_at s n at) _ (names_in h s r n at).pointer (λ q a. a)
 
   condition_in : (at : ℕ) (c : ConditionTree) → Has (CondIn h) (condition_means s at c)
   unfolding condition_means
   condition_in at (TestCondition t) = next (PrimitiveIn h) (CondIn h) (test_means s at t) _ (test_in at t) (λ k a. a)
   condition_in at (RefreshCondition n place) = next (PrimitiveIn h) (CondIn h) (refresh_name_means s at n place) _ (refresh_name_in at n place) (λ k a. a)
   condition_in at (CasCondition is_active n old new) = let place : ℕ = at + 2 + word_size is_active in
-      next (VarIn h) (CondIn h) (pointer_at s n place) _ (pointer_in h s r n place) (λ p a.
+      next (VarIn h) (CondIn h) (pointer_at s n place) _ (names_in h s r n place).pointer (λ p a.
       next (VarOrNullIn h) (CondIn h) (pointer_or_null s (place + 2) old) _ (or_null_in (place + 2) old) (λ q b.
       next (VarOrNullIn h) (CondIn h) (pointer_or_null s (place + 4) new) _ (or_null_in (place + 4) new) (λ q c. (a, b, c))))
 
@@ -161,7 +161,7 @@ module _ (h : Shape) (s : Scope) (r : Reaches h s) where
   primitive_in at (SetPrimitive set) = some_in (set_means s at set) (set_in at set)
   primitive_in at (RefreshPrimitive refresh) = some_in (refresh_means s at refresh) (refresh_in at refresh)
   primitive_in at (GhostPrimitive set) = some_in (ghost_set_means s false at set) (ghost_set_in false at set)
-  primitive_in at (ActivePrimitive n) = next (VarIn h) (IfPrimitiveIn h) (pointer_at s n (at + 1)) _ (pointer_in h s r n (at + 1)) (λ p a. a)
+  primitive_in at (ActivePrimitive n) = next (VarIn h) (IfPrimitiveIn h) (pointer_at s n (at + 1)) _ (names_in h s r n (at + 1)).pointer (λ p a. a)
   primitive_in at (AssumePrimitive t) = some_in (test_means s (at + 1) t) (test_in (at + 1) t)
   primitive_in at SkipPrimitive = tt
 
@@ -178,8 +178,8 @@ module _ (h : Shape) (s : Scope) (r : Reaches h s) where
   argument_in f false at a = tt
   argument_in f true at NoArgument = tt
   argument_in f true at NullArgument = unless CallIn (is_retire f) _ _ (λ other. tt)
-  argument_in f true at (NameArgument n) = next (VarIn h) CallIn (pointer_at s n (at + 2)) _ (pointer_in h s r n (at + 2)) (λ p a. a)
-  argument_in f true at (ActiveArgument n) = next (VarIn h) CallIn (pointer_at s n (at + 3)) _ (pointer_in h s r n (at + 3)) (λ p a. a)
+  argument_in f true at (NameArgument n) = next (VarIn h) CallIn (pointer_at s n (at + 2)) _ (names_in h s r n (at + 2)).pointer (λ p a. a)
+  argument_in f true at (ActiveArgument n) = next (VarIn h) CallIn (pointer_at s n (at + 3)) _ (names_in h s r n (at + 3)).pointer (λ p a. a)
 
   call_in : (at : ℕ) (n : Text) (a : ArgumentTree) → Has CallIn (call_means s at n a)
   unfolding call_means
@@ -343,9 +343,9 @@ Watches o = is_well_formed o.0 ≡ true
 
 watch_in : (h : Shape) (s : Scope) (at : ℕ) (w : Option WatchTree) → Reaches h s → Has Watches (watch_means s at w)
 watch_in h s at None r = refl
-watch_in h s at (Some (UseHazard f)) r = next NotRetire Watches (protecting_at s f (at + 3)) _ (hazard_in h s r f (at + 3)) (λ g a. rw a refl)
-watch_in h s at (Some (UseEpoch e l)) r = next NotRetire Watches (without_pointer_at s e (at + 3)) _ (epoch_in h s r e (at + 3)) (λ f a.
-    next NotRetire Watches (without_pointer_at s l (at + 5)) _ (epoch_in h s r l (at + 5)) (λ g b. rw (a, b) refl))
+watch_in h s at (Some (UseHazard f)) r = next NotRetire Watches (protecting_at s f (at + 3)) _ (names_in h s r f (at + 3)).hazard (λ g a. rw a refl)
+watch_in h s at (Some (UseEpoch e l)) r = next NotRetire Watches (without_pointer_at s e (at + 3)) _ (names_in h s r e (at + 3)).epoch (λ f a.
+    next NotRetire Watches (without_pointer_at s l (at + 5)) _ (names_in h s r l (at + 5)).epoch (λ g b. rw (a, b) refl))
 
 starts_in : (h : Shape) (s : Scope) (at : ℕ) (starts : Option (List InitialTree)) → Reaches h s → Has (FormsIn h) (init_means s at starts)
 starts_in h s at None r = tt

@@ -222,34 +222,29 @@ without_pointer_in h (function f true) is = tt
 without_pointer_in h (function f false) is = ne_eqb f.0 0 (λ e. omega (arith, e, is refl))
 without_pointer_in h k is = tt
 
-module _ (h : Shape) (s : Scope) (r : Reaches h s) (n : Text) (at : ℕ) where
-  pub any_in : Has (RoleIn h) (known at (role_of s n))
-  any_in = known_has (RoleIn h) at (role_of s n) (role_in h s n r)
+-- what a name at a place is found to be is there, whatever is wanted
+pub record NamesIn (h : Shape) (s : Scope) (n : Text) (at : ℕ) : Type 0 where
+  pub any : Has (RoleIn h) (known at (role_of s n))
+  pub pointer : Has (VarIn h) (pointer_at s n at)
+  pub pointer_local : Has (PointerIn h) (pointer_local_at s n at)
+  pub value : Has (ValueIn h) (data_at s n at)
+  pub pointer_field : Has (FieldIn h) (pointer_field_at s n at)
+  pub data_field : Has (FieldIn h) (data_field_at s n at)
+  pub hazard : Has NotRetire (protecting_at s n at)
+  pub epoch : Has NotRetire (without_pointer_at s n at)
 
-  pub pointer_in : Has (VarIn h) (pointer_at s n at)
-  unfolding pointer_at
-  pointer_in = needed_in (RoleIn h) (VarIn h) as_pointer (pointers_in h) at (role_of s n) (role_in h s n r)
-
-  pub pointer_local_in : Has (PointerIn h) (pointer_local_at s n at)
-  unfolding pointer_local_at
-  pointer_local_in = needed_in (RoleIn h) (PointerIn h) as_pointer_local (pointer_locals_in h) at (role_of s n) (role_in h s n r)
-
-  pub value_in : Has (ValueIn h) (data_at s n at)
-  unfolding data_at
-  value_in = needed_in (RoleIn h) (ValueIn h) as_data (values_in h) at (role_of s n) (role_in h s n r)
-
-  pub pointer_field_in : Has (FieldIn h) (pointer_field_at s n at)
-  unfolding pointer_field_at
-  pointer_field_in = needed_in (RoleIn h) (FieldIn h) as_pointer_field (pointer_fields_in h) at (role_of s n) (role_in h s n r)
-
-  pub data_field_in : Has (FieldIn h) (data_field_at s n at)
-  unfolding data_field_at
-  data_field_in = needed_in (RoleIn h) (FieldIn h) as_data_field (data_fields_in h) at (role_of s n) (role_in h s n r)
-
-  pub hazard_in : Has NotRetire (protecting_at s n at)
-  unfolding protecting_at
-  hazard_in = needed_in (RoleIn h) NotRetire as_protecting (protecting_in h) at (role_of s n) (role_in h s n r)
-
-  pub epoch_in : Has NotRetire (without_pointer_at s n at)
-  unfolding without_pointer_at
-  epoch_in = needed_in (RoleIn h) NotRetire as_without_pointer (without_pointer_in h) at (role_of s n) (role_in h s n r)
+pub names_in : (h : Shape) (s : Scope) (r : Reaches h s) (n : Text) (at : ℕ) → NamesIn h s n at
+unfolding pointer_at pointer_local_at data_at pointer_field_at data_field_at protecting_at without_pointer_at
+names_in h s r n at =
+    let role = role_of s n in
+    let is = role_in h s n r in
+    record {
+      any = known_has (RoleIn h) at role is;
+      pointer = needed_in (RoleIn h) (VarIn h) as_pointer (pointers_in h) at role is;
+      pointer_local = needed_in (RoleIn h) (PointerIn h) as_pointer_local (pointer_locals_in h) at role is;
+      value = needed_in (RoleIn h) (ValueIn h) as_data (values_in h) at role is;
+      pointer_field = needed_in (RoleIn h) (FieldIn h) as_pointer_field (pointer_fields_in h) at role is;
+      data_field = needed_in (RoleIn h) (FieldIn h) as_data_field (data_fields_in h) at role is;
+      hazard = needed_in (RoleIn h) NotRetire as_protecting (protecting_in h) at role is;
+      epoch = needed_in (RoleIn h) NotRetire as_without_pointer (without_pointer_in h) at role is;
+    }

@@ -1,11 +1,15 @@
 -- What is left of the tokens, and how the names in reach grow.
-use Rattle.std.specs.Prelude.{◌≡◌, ◌+◌, ◌*◌, ◌≤◌, ℕ, [], length}
+use Rattle.std.specs.Prelude.{◌≡◌, ◌+◌, ◌*◌, ◌≤◌, ℕ, [], length, List, Result, IfOk}
 use Rattle.plc_base.specs.declared.limits.What1.TheVariants as limits
 use Rattle.plc_base.specs.Limits.{most}
+use Rattle.plc_lex.specs.declared.token.TokenKind.{TokenKind}
 use Rattle.plc_forms.specs.declared.rest.Rest.{Rest}
 use Rattle.plc_scope.specs.declared.scope.Scope.{Scope}
 use Rattle.plc_scope.specs.Scope.{most_locals}
-use Rattle.plc_scope.specs.Answers.{GrowsBy, GrowsByLocals, Within}
+use Rattle.plc_scope.specs.Answers.{Gives, GrowsBy, GrowsByLocals, Within}
+use Rattle.plc_scope.specs.Read.{ReadTo}
+use Rattle.plc_scope.specs.declared.fault.ParseFault.{ParseFault}
+use Rattle.plc_outparse.specs.Views.{read_with, kinds_left}
 
 -- of so many tokens, this is left
 pub record IsLeftOf (total : ℕ) (rest : Rest) : Type 0 where
@@ -35,6 +39,12 @@ pub record AddsLocals (old new : Scope) : Type 0 where
 pub record AddsLocalsWithin (old new : Scope) (before after : Rest) : Type 0 where
   pub declares : AddsLocals old new
   pub place : Within before after
+
+-- locals are read as is meant, and where they are read they were declared
+pub record ReadsLocals (meant : Scope → ℕ → List TokenKind → ReadTo (Scope × ℕ)) (old new : Scope) (start : Rest)
+    (answer : Result Rest ParseFault) : Type 0 where
+  pub read : Gives (read_with new) answer (meant old start.at (kinds_left start))
+  pub declares : IfOk answer (λ rest. AddsLocalsWithin old new start rest)
 
 -- the names that an auxiliary field declares: its own, its values, and the one past their limit
 abbrev pub ghost_names : ℕ

@@ -1,14 +1,18 @@
--- The kinds of declarations that are listed.
-use Rattle.std.specs.Prelude.{ℕ, List, Option}
+-- The kinds of declarations that are listed, and of forms that a step is made of.
+use Rattle.std.specs.Prelude.{ℕ, List, Option, Result}
 use Rattle.plc_base.specs.Limits.{most}
 use Rattle.plc_base.specs.declared.limits.What1.TheVariants as limits
 use Rattle.plc_lex.specs.declared.token.TokenKind.{TokenKind}
 use Rattle.plc_lang.specs.declared.syntax.Field.{Field}
 use Rattle.plc_lang.specs.declared.syntax.Func.{Func}
 use Rattle.plc_lang.specs.declared.syntax.Ghost.{Ghost}
-use Rattle.plc_syntax.specs.Trees.{Text, FieldTree, FunctionTree}
-use Rattle.plc_forms.specs.Forms.{field_of, shared_of, function_of, ghost_of}
+use Rattle.plc_lang.specs.declared.syntax.Primitive.{Primitive}
+use Rattle.plc_syntax.specs.Trees.{Text, FieldTree, FunctionTree, PrimitiveTree, InitialTree}
+use Rattle.plc_forms.specs.Forms.{field_of, shared_of, function_of, ghost_of, primitive_line_of, initial_line_of}
+use Rattle.plc_forms.specs.Sizes.{primitive_size, initial_size}
+use Rattle.plc_scope.specs.Primitives.{primitive_means, initial_means}
 use Rattle.plc_scope.specs.Read.{ReadTo}
+use Rattle.plc_scope.specs.declared.fault.ParseFault.{ParseFault}
 use Rattle.plc_scope.specs.declared.scope.Scope.{Scope}
 use Rattle.plc_parse.specs.Growth.{ghost_names}
 use Rattle.plc_parse.specs.Meaning.{field_means, shared_means, function_means}
@@ -50,3 +54,19 @@ auxiliary_fields = record {
   limit = most limits.Ghosts;
   names = ghost_names;
 }
+
+-- how a form and its semicolon are read, what the form means at its place, and how many tokens it has
+pub record FormKind : Type 1 where
+  pub Tree : Type 0
+  pub item : List TokenKind → Option (Tree × List TokenKind)
+  pub means : Scope → ℕ → Tree → Result (Option Primitive) ParseFault
+  pub size : Tree → ℕ
+
+-- the forms of an atomic block
+abbrev pub atomic_forms : FormKind
+atomic_forms =
+    record { Tree = PrimitiveTree; item = primitive_line_of; means = primitive_means; size = primitive_size }
+
+-- the forms of `init`
+abbrev pub initial_forms : FormKind
+initial_forms = record { Tree = InitialTree; item = initial_line_of; means = initial_means; size = initial_size }

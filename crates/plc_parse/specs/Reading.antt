@@ -1,7 +1,7 @@
 -- A file's meaning, read off its tokens from left to right: what the program does, as a function on lists. Where a
 -- file's tokens could not go on as they do the answer is a fault of syntax, which no contract rests on. The trees'
 -- meaning is what is read of their tokens (`proofs/Law.antt`).
-use Rattle.std.specs.Prelude.{◌≡◌, ◌+◌, ℕ, zero, suc, Bool, true, false, ◌||◌, Option, Some, None, Result, Ok, Err}
+use Rattle.std.specs.Prelude.{◌≡◌, ◌<◌, ◌+◌, ℕ, zero, suc, Bool, true, false, ◌||◌, Option, Some, None, Result, Ok, Err}
 use Rattle.std.specs.Prelude.{List, [], ◌∷◌, ◌++◌, length}
 use Rattle.plc_base.specs.declared.limits.What1.TheVariants as limits
 use Rattle.plc_base.specs.Limits.{most}
@@ -178,6 +178,10 @@ form_step means size s x = do
   k ← counted (length s.0) s.1 s.2 (means s.2 x)
   Ok (s.0 ++ before k [], s.1 || allocates k, s.2 + size x + 1)
 
+-- each form takes a token
+abbrev pub TakesTokens : {X : Type 0} → (List TokenKind → Option (X × List TokenKind)) → Type 0
+TakesTokens {X} item = (ts : List TokenKind) (x : X × List TokenKind) → item ts ≡ Some x → length x.1 < length ts
+
 -- forms and "}"
 abbrev pub forms_in : {X : Type 0} → (List TokenKind → Option (X × List TokenKind))
     → (ℕ → X → Result (Option Primitive) ParseFault) → (X → ℕ) → ℕ → List TokenKind → ReadTo (List Primitive × ℕ)
@@ -349,30 +353,30 @@ local_step s l = do
   Ok (t, s.1 + 3)
 
 -- the parameters after the first
-abbrev pub others_in : Scope × ℕ → List TokenKind → ReadTo (Scope × ℕ)
-others_in s ts = each comma_name_of parameter_step s ts
+abbrev pub others_in : Scope → ℕ → List TokenKind → ReadTo (Scope × ℕ)
+others_in s at ts = each comma_name_of parameter_step (s, at) ts
 
 -- none, or the first and those after it
 abbrev pub parameters_from : Scope → ℕ → List TokenKind → Option (Text × List TokenKind) → ReadTo (Scope × ℕ)
 parameters_from s at ts None = Ok ((s, at), ts)
 parameters_from s at ts (Some first) = do
   t ← declared_parameter s first.0 at
-  others_in (t, at + 1) first.1
+  others_in t (at + 1) first.1
 
 -- all parameters
 abbrev pub parameters_in : Scope → ℕ → List TokenKind → ReadTo (Scope × ℕ)
 parameters_in s at ts = parameters_from s at ts (name_of ts)
 
 -- the locals that are no parameters
-abbrev pub locals_in : Scope × ℕ → List TokenKind → ReadTo (Scope × ℕ)
-locals_in s ts = each field_of local_step s ts
+abbrev pub locals_in : Scope → ℕ → List TokenKind → ReadTo (Scope × ℕ)
+locals_in s at ts = each field_of local_step (s, at) ts
 
 -- parameters, and locals after ")" and "{"
 unfoldable pub all_locals_in : Scope → ℕ → List TokenKind → ReadTo (Scope × ℕ)
 all_locals_in s at ts = do
   p ← parameters_in s at ts
   after ← wanted_at p.0.1 (opening_of p.1)
-  locals_in (p.0.0, p.0.1 + 2) after
+  locals_in p.0.0 (p.0.1 + 2) after
 
 -- an operation after its name and "("; each statement takes a token
 unfoldable pub op_in : List ℕ → Scope → ℕ → ℕ → Text → List TokenKind → ReadTo (Op × Scope × ℕ)

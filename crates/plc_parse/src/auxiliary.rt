@@ -9,6 +9,7 @@ ghost use Rattle.plc_outparse.specs.Views.{kinds_left};
 ghost use Rattle.plc_parse.specs.Views.{read_in};
 
 use crate::declaration::declare;
+use crate::heading::Heading;
 use crate::lists::{Listed, Turn, read_listed};
 use plc_base::{Items, What1};
 use plc_forms::{Rest, comma_name_at, first_value_at, ghost_at, thread_at, values_end_at};
@@ -89,58 +90,56 @@ fn read_all_values<'a>(
     }
 }
 
-/// An auxiliary field that is one of its values, with so many fields before it.
+/// An auxiliary field that is one of its values, from after the name of the first one.
 #[tactic(auto, unfolding(crate::specs::Reading::of_values_in))]
 fn read_of_values<'a>(
     alloc: Global,
     scope: &mut Scope,
-    count: usize,
-    at: u32,
-    name: &[u8],
+    head: Heading,
     value: &[u8],
     start: Rest<'a>,
 ) -> Parsed<'a, Ghost>
-    requires limit { count < most What1.Ghosts }
+    requires limit { head.count < most What1.Ghosts }
     requires room { HasRoom scope.old ghost_names }
-    requires value { start.at ≡ at + 4 }
+    requires value { start.at ≡ head.at + 4 }
     ensures read { Gives (λ r. read_in r.0 scope.new r.1) result
-        (of_values_in scope.old count at name.now value.now (kinds_left start.entry)) }
+        (of_values_in scope.old head.entry.count head.entry.at head.entry.name.now value.now (kinds_left start.entry)) }
     ensures declares { IfOk result (λ r. AddsNamesWithin scope.old scope.new (most What1.Values + 1) start.entry r.1) }
 {
-    let name = declare(scope, name, at + 1, Binding::Auxiliary(count as u16, false))?;
-    let (values, rest) = read_all_values(alloc, scope, count, at + 3, value, start)?;
+    let binding = Binding::Auxiliary(head.count as u16, false);
+    let name = declare(scope, head.name, head.at + 1, binding)?;
+    let (values, rest) = read_all_values(alloc, scope, head.count, head.at + 3, value, start)?;
     Ok((Ghost { name, values }, rest))
 }
 
-/// An auxiliary field at a place, from after its name, with so many before it.
+/// An auxiliary field, from after its name.
 #[tactic(auto, unfolding(crate::specs::Reading::ghost_in, crate::specs::Reading::of_threads_in))]
 fn read_ghost<'a>(
     alloc: Global,
     scope: &mut Scope,
-    count: usize,
-    at: u32,
-    name: &[u8],
+    head: Heading,
     start: Rest<'a>,
 ) -> Parsed<'a, Ghost>
-    requires limit { count ≤ most What1.Ghosts }
+    requires limit { head.count ≤ most What1.Ghosts }
     requires room { HasRoom scope.old ghost_names }
-    requires name { start.at ≡ at + 2 }
-    ensures limit { IfOk result (λ _. count < most What1.Ghosts) }
+    requires name { start.at ≡ head.at + 2 }
+    ensures limit { IfOk result (λ _. head.entry.count < most What1.Ghosts) }
     ensures read { Gives (λ r. read_in r.0 scope.new r.1) result
-        (ghost_in scope.old count at name.now (kinds_left start.entry)) }
+        (ghost_in scope.old head.entry.count head.entry.at head.entry.name.now (kinds_left start.entry)) }
     ensures declares { IfOk result (λ r. AddsNamesWithin scope.old scope.new (most What1.Values + 1) start.entry r.1) }
 {
-    if count == What1::Ghosts.most() as usize {
+    if head.count == What1::Ghosts.most() as usize {
         return Err(ParseFault::past(What1::Ghosts));
     }
     if let Some(after) = thread_at(start) {
-        let name = declare(scope, name, at + 1, Binding::Auxiliary(count as u16, true))?;
+        let binding = Binding::Auxiliary(head.count as u16, true);
+        let name = declare(scope, head.name, head.at + 1, binding)?;
         let values = Items::new(alloc);
         return Ok((Ghost { name, values }, after));
     }
     match first_value_at(start) {
-        Some((value, after)) => read_of_values(alloc, scope, count, at, name, value, after),
-        None => Err(ParseFault::Syntax { at }),
+        Some((value, after)) => read_of_values(alloc, scope, head, value, after),
+        None => Err(ParseFault::Syntax { at: head.at }),
     }
 }
 
@@ -163,7 +162,12 @@ impl Listed for AuxiliaryFields {
         let Some((name, after)) = ghost_at(start) else {
             return Ok(None);
         };
-        let (item, end) = read_ghost(alloc, scope, count, start.at, name, after)?;
+        let head = Heading {
+            count,
+            at: start.at,
+            name,
+        };
+        let (item, end) = read_ghost(alloc, scope, head, after)?;
         Ok(Some((item, end)))
     }
 }

@@ -6,6 +6,7 @@
 mod auxiliary;
 mod block;
 mod declaration;
+mod heading;
 mod lines;
 mod lists;
 mod local;

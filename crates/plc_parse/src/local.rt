@@ -5,8 +5,7 @@ ghost use Rattle.plc_scope.specs.Answers.{Gives, HasRoomForLocals, GrowsByLocals
 ghost use Rattle.plc_scope.specs.Scope.{declared_parameter, declared_local};
 ghost use Rattle.plc_parse.specs.Meaning.{local_means};
 ghost use Rattle.plc_parse.specs.Reading.{others_in, parameters_in, locals_in, all_locals_in};
-ghost use Rattle.plc_parse.specs.Growth.{AddsLocals, AddsLocalsWithin};
-ghost use Rattle.plc_outparse.specs.Views.{read_with, kinds_left};
+ghost use Rattle.plc_parse.specs.Growth.{AddsLocals, ReadsLocals};
 
 use plc_forms::{Declaration, Rest, comma_name_at, declaration_at, name_at, opening_at};
 use plc_scope::{ParseFault, Scope};
@@ -25,9 +24,7 @@ fn declare_parameter(scope: &mut Scope, name: &[u8], at: u32) -> Result<(), Pars
 /// The parameters after the first.
 fn read_others<'a>(scope: &mut Scope, start: Rest<'a>) -> Result<Rest<'a>, ParseFault>
     requires { HasRoomForLocals scope.old }
-    ensures read { Gives (read_with scope.new) result
-        (others_in (scope.old, start.entry.at) (kinds_left start.entry)) }
-    ensures declares { IfOk result (λ r. AddsLocalsWithin scope.old scope.new start.entry r) }
+    ensures { ReadsLocals others_in scope.old scope.new start.entry result }
 {
     let mut rest = start;
     while let Some((name, after)) = comma_name_at(rest) {
@@ -40,9 +37,7 @@ fn read_others<'a>(scope: &mut Scope, start: Rest<'a>) -> Result<Rest<'a>, Parse
 /// The parameters, of which there may be none.
 fn read_parameters<'a>(scope: &mut Scope, start: Rest<'a>) -> Result<Rest<'a>, ParseFault>
     requires { HasRoomForLocals scope.old }
-    ensures read { Gives (read_with scope.new) result
-        (parameters_in scope.old start.entry.at (kinds_left start.entry)) }
-    ensures declares { IfOk result (λ r. AddsLocalsWithin scope.old scope.new start.entry r) }
+    ensures { ReadsLocals parameters_in scope.old scope.new start.entry result }
 {
     match name_at(start) {
         None => Ok(start),
@@ -80,9 +75,7 @@ fn declare_local(scope: &mut Scope, at: u32, declaration: Declaration) -> Result
 /// The declarations of locals.
 fn read_locals<'a>(scope: &mut Scope, start: Rest<'a>) -> Result<Rest<'a>, ParseFault>
     requires { HasRoomForLocals scope.old }
-    ensures read { Gives (read_with scope.new) result
-        (locals_in (scope.old, start.entry.at) (kinds_left start.entry)) }
-    ensures declares { IfOk result (λ r. AddsLocalsWithin scope.old scope.new start.entry r) }
+    ensures { ReadsLocals locals_in scope.old scope.new start.entry result }
 {
     let mut rest = start;
     while let Some((declaration, after)) = declaration_at(rest) {
@@ -96,9 +89,7 @@ fn read_locals<'a>(scope: &mut Scope, start: Rest<'a>) -> Result<Rest<'a>, Parse
 #[tactic(auto, unfolding(crate::specs::Reading::all_locals_in))]
 pub fn read_all_locals<'a>(scope: &mut Scope, start: Rest<'a>) -> Result<Rest<'a>, ParseFault>
     requires { HasRoomForLocals scope.old }
-    ensures read { Gives (read_with scope.new) result
-        (all_locals_in scope.old start.entry.at (kinds_left start.entry)) }
-    ensures declares { IfOk result (λ r. AddsLocalsWithin scope.old scope.new start.entry r) }
+    ensures { ReadsLocals all_locals_in scope.old scope.new start.entry result }
 {
     let rest = read_parameters(scope, start)?;
     match opening_at(rest) {

@@ -12,6 +12,7 @@ ghost use Rattle.plc_parse.specs.Views.{read_in};
 
 use crate::block::{Context, read_block};
 use crate::declaration::declare;
+use crate::heading::Heading;
 use crate::lines::line_at;
 use crate::local::read_all_locals;
 use plc_base::{Items, What1};
@@ -22,32 +23,31 @@ use plc_outparse::Parsed;
 use plc_scope::{Binding, ParseFault, Scope};
 use std::alloc::Global;
 
-/// An operation at a place, with so many before it, from after its name and `(`.
+/// An operation, from after its name and `(`.
 #[tactic(auto, unfolding(crate::specs::Reading::op_in))]
 fn read_op<'a>(
     alloc: Global,
     scope: &mut Scope,
     tokens: &[Token],
-    count: usize,
-    at: u32,
-    name: &[u8],
+    head: Heading,
     start: Rest<'a>,
 ) -> Parsed<'a, Op>
-    requires limit { count ≤ most What1.Ops }
+    requires limit { head.count ≤ most What1.Ops }
     requires room { CanOperate scope.old }
     requires place { IsLeftOf (length tokens.now) start }
-    requires head { start.at ≡ at + 3 }
-    ensures limit { IfOk result (λ _. count < most What1.Ops) }
+    requires head { start.at ≡ head.at + 3 }
+    ensures limit { IfOk result (λ _. head.entry.count < most What1.Ops) }
     ensures read { Gives (λ r. read_in r.0 scope.new r.1) result
-        (op_in (lines_of tokens.now) scope.old count at name.now (kinds_left start.entry)) }
+        (op_in (lines_of tokens.now) scope.old head.entry.count head.entry.at head.entry.name.now
+        (kinds_left start.entry)) }
     ensures grows { IfOk result (λ _. GrowsByOps scope.old scope.new op_names) }
     ensures locals { IfOk result (λ r. length r.0.locals ≤ most_locals) }
     ensures place { IfOk result (λ r. IsLeftOf (length tokens.now) r.1) }
 {
-    if count == What1::Ops.most() as usize {
+    if head.count == What1::Ops.most() as usize {
         return Err(ParseFault::past(What1::Ops));
     }
-    let number = declare(scope, name, at + 1, Binding::Taken)?;
+    let number = declare(scope, head.name, head.at + 1, Binding::Taken)?;
     let rest = read_all_locals(scope, start)?;
     let context = Context {
         alloc,
@@ -60,33 +60,34 @@ fn read_op<'a>(
         name: number,
         locals: scope.take_locals(alloc),
         body,
-        line: line_at(tokens, at),
+        line: line_at(tokens, head.at),
     };
     Ok((op, rest))
 }
 
-/// The operation at a place, from after its name and `(`, added to those before.
+/// An operation, from after its name and `(`, added to those before.
 fn read_next<'a>(
     alloc: Global,
     scope: &mut Scope,
     tokens: &[Token],
     ops: &mut Items<Op>,
-    at: u32,
-    name: &[u8],
+    head: Heading,
     start: Rest<'a>,
 ) -> Result<Rest<'a>, ParseFault>
     requires fit { OpsFit ops.old }
+    requires count { head.count ≡ length ops.old }
     requires room { CanOperate scope.old }
     requires place { IsLeftOf (length tokens.now) start }
-    requires head { start.at ≡ at + 3 }
+    requires head { start.at ≡ head.at + 3 }
     ensures read { Gives (read_in ops.new scope.new) result (added ops.old
-        (op_in (lines_of tokens.now) scope.old (length ops.old) at name.now (kinds_left start.entry))) }
+        (op_in (lines_of tokens.now) scope.old (length ops.old) head.entry.at head.entry.name.now
+        (kinds_left start.entry))) }
     ensures fit { IfOk result (λ _. OpsFit ops.new) }
     ensures one { IfOk result (λ _. length ops.new ≡ length ops.old + 1) }
     ensures grows { IfOk result (λ _. GrowsByOps scope.old scope.new op_names) }
     ensures place { IfOk result (λ r. IsLeftOf (length tokens.now) r) }
 {
-    let (op, end) = read_op(alloc, scope, tokens, ops.len(), at, name, start)?;
+    let (op, end) = read_op(alloc, scope, tokens, head, start)?;
     ops.push(op)?;
     Ok(end)
 }
@@ -110,7 +111,12 @@ pub fn read_ops<'a>(
     let mut ops = Items::new(alloc);
     let mut rest = start;
     while let Some((name, after)) = head_at(rest) {
-        rest = read_next(alloc, scope, tokens, &mut ops, rest.at, name, after)?;
+        let head = Heading {
+            count: ops.len(),
+            at: rest.at,
+            name,
+        };
+        rest = read_next(alloc, scope, tokens, &mut ops, head, after)?;
     }
     Ok((ops, rest))
 }

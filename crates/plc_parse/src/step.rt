@@ -9,12 +9,8 @@ ghost use Rattle.plc_scope.specs.declared.fault.ParseFault.{ParseFault};
 ghost use Rattle.plc_scope.specs.Answers.{Gives, Within};
 ghost use Rattle.plc_scope.specs.Scope.{most_locals};
 ghost use Rattle.plc_scope.specs.Limits.{stands_at};
-ghost use Rattle.plc_syntax.specs.Trees.{PrimitiveTree, InitialTree};
-ghost use Rattle.plc_forms.specs.Forms.{primitive_line_of, initial_line_of};
-ghost use Rattle.plc_forms.specs.Sizes.{primitive_size, initial_size};
-ghost use Rattle.plc_forms.proofs.Shrinks.{primitive_line_shrinks, initial_line_shrinks};
-ghost use Rattle.plc_scope.specs.Primitives.{primitive_means, initial_means};
-ghost use Rattle.plc_parse.specs.Reading.{with_form, forms_in, primitives_in, initials_in};
+ghost use Rattle.plc_parse.specs.Kinds.{atomic_forms, initial_forms};
+ghost use Rattle.plc_parse.specs.Reading.{with_form, TakesTokens, forms_in};
 ghost use Rattle.plc_outparse.specs.Views.{read_with, kinds_left};
 
 use plc_base::{Items, What1};
@@ -95,86 +91,59 @@ impl Step {
 }
 
 /// What a form means, and what is after it; none where no form stands.
-type FormAt<'a> = Option<(Result<Option<Prim>, ParseFault>, Rest<'a>)>;
+pub type FormAt<'a> = Option<(Result<Option<Prim>, ParseFault>, Rest<'a>)>;
 
 /// The forms that a step is made of, each with its semicolon.
-trait StepForms {
-    ghost use Rattle.std.specs.Prelude.{◌≡◌, ◌<◌, ◌≤◌, ℕ, List, Option, Some, None, Result, MatchOption, length};
-    ghost use Rattle.plc_lex.specs.declared.token.TokenKind.{TokenKind};
-    ghost use Rattle.plc_lang.specs.declared.syntax.Primitive.{Primitive};
+pub trait StepForms {
+    ghost use Rattle.std.specs.Prelude.{◌≡◌, ◌≤◌, None, MatchOption, length};
     ghost use Rattle.plc_syntax.specs.Syntax.{kinds};
-    ghost use Rattle.plc_scope.specs.declared.fault.ParseFault.{ParseFault};
-    ghost use Rattle.plc_scope.specs.declared.scope.Scope.{Scope};
     ghost use Rattle.plc_scope.specs.Scope.{most_locals};
+    ghost use Rattle.plc_parse.specs.Kinds.{FormKind};
     ghost use Rattle.plc_parse.specs.Reading.{FormRead};
 
-    ghost Tree: { Type 0 };
-
-    ghost item: { List TokenKind → Option (Tree × List TokenKind) };
-
-    ghost means: { Scope → ℕ → Tree → Result (Option Primitive) ParseFault };
-
-    ghost size: { Tree → ℕ };
+    ghost kind: { FormKind };
 
     /// The form at the front.
     fn next<'a>(scope: &Scope, start: Rest<'a>) -> FormAt<'a>
         requires { length scope.now.locals ≤ most_locals }
-        ensures { MatchOption result (item (kinds start.entry.tokens.now) ≡ None)
-            (λ r. FormRead item (means scope.now) size start.entry r.0 r.1) };
-
-    ghost shrinks: { (ts : List TokenKind) (x : Tree × List TokenKind)
-        → item ts ≡ Some x → length x.1 < length ts };
+        ensures { MatchOption result (kind.item (kinds start.entry.tokens.now) ≡ None)
+            (λ r. FormRead kind.item (kind.means scope.now) kind.size start.entry r.0 r.1) };
 }
 
 /// The forms of an atomic block.
-struct AtomicForms;
+pub struct AtomicForms;
+
+/// The forms of `init`.
+pub struct InitialForms;
 
 impl StepForms for AtomicForms {
-    ghost Tree = { PrimitiveTree };
-
-    ghost item = { primitive_line_of };
-
-    ghost means = { primitive_means };
-
-    ghost size = { primitive_size };
+    ghost kind = { atomic_forms };
 
     fn next<'a>(scope: &Scope, start: Rest<'a>) -> FormAt<'a> {
         let (form, after) = primitive_line_at(start)?;
         Some((primitive(scope, start.at, form), after))
     }
-
-    ghost shrinks = { primitive_line_shrinks };
 }
 
-/// The forms of `init`.
-struct InitialForms;
-
 impl StepForms for InitialForms {
-    ghost Tree = { InitialTree };
-
-    ghost item = { initial_line_of };
-
-    ghost means = { initial_means };
-
-    ghost size = { initial_size };
+    ghost kind = { initial_forms };
 
     fn next<'a>(scope: &Scope, start: Rest<'a>) -> FormAt<'a> {
         let (form, after) = initial_line_at(start)?;
         Some((initial(scope, start.at, form), after))
     }
-
-    ghost shrinks = { initial_line_shrinks };
 }
 
-/// Forms while there is one, and the closing brace.
-fn read_forms<'a, F: StepForms>(
+/// The primitives of a step, from after its brace: forms while there is one, and the closing brace.
+pub fn read_forms<'a, F: StepForms>(
     alloc: Global,
     scope: &Scope,
     start: Rest<'a>,
 ) -> Parsed<'a, Items<Prim>>
-    requires { length scope.now.locals ≤ most_locals }
+    requires locals { length scope.now.locals ≤ most_locals }
+    requires shrinks { TakesTokens F.kind.item }
     ensures read { Gives (λ r. read_with r.0 r.1) result
-        (forms_in F.item (F.means scope.now) F.size start.entry.at (kinds_left start.entry)) }
+        (forms_in F.kind.item (F.kind.means scope.now) F.kind.size start.entry.at (kinds_left start.entry)) }
     ensures place { IfOk result (λ r. Within start.entry r.1) }
 {
     let mut step = Step::new(alloc);
@@ -187,26 +156,4 @@ fn read_forms<'a, F: StepForms>(
         Some(after) => Ok((step.primitives, after)),
         None => Err(ParseFault::Syntax { at: rest.at }),
     }
-}
-
-/// The primitives of an atomic block, from after its brace, and its closing brace.
-#[tactic(auto, unfolding(crate::specs::Reading::primitives_in))]
-pub fn read_primitives<'a>(alloc: Global, scope: &Scope, start: Rest<'a>) -> Parsed<'a, Items<Prim>>
-    requires { length scope.now.locals ≤ most_locals }
-    ensures read { Gives (λ r. read_with r.0 r.1) result
-        (primitives_in scope.now start.entry.at (kinds_left start.entry)) }
-    ensures place { IfOk result (λ r. Within start.entry r.1) }
-{
-    read_forms::<AtomicForms>(alloc, scope, start)
-}
-
-/// The primitives of `init`, from after its brace, and its closing brace.
-#[tactic(auto, unfolding(crate::specs::Reading::initials_in))]
-pub fn read_initials<'a>(alloc: Global, scope: &Scope, start: Rest<'a>) -> Parsed<'a, Items<Prim>>
-    requires { length scope.now.locals ≤ most_locals }
-    ensures read { Gives (λ r. read_with r.0 r.1) result
-        (initials_in scope.now start.entry.at (kinds_left start.entry)) }
-    ensures place { IfOk result (λ r. Within start.entry r.1) }
-{
-    read_forms::<InitialForms>(alloc, scope, start)
 }

@@ -24,7 +24,7 @@ use Rattle.plc_lang.specs.Names.{name_at}
 use Rattle.plc_print.specs.Laws.{op_without_lines, SameUpToLines}
 use Rattle.plc_print.proofs.NormalTrees.{normal_starts, normal_op, normal_outline, normal_file}
 use Rattle.plc_print.proofs.Steps.{after}
-use Rattle.plc_print.proofs.SpelledNames.{Bound, IsBound, Ends, number_named, protecting_found, without_pointer_found}
+use Rattle.plc_print.proofs.SpelledNames.{Bound, IsBound, Ends, number_named, names_found}
 use Rattle.plc_print.proofs.SpelledPrimitives.{IsInitial, initial_found}
 use Rattle.plc_print.proofs.GrowingScopes.{ends_before, declared_found}
 use Rattle.plc_print.proofs.SpelledForms.{FormsRead, forms_found}
@@ -52,11 +52,11 @@ module _ (file : File) (s : Scope) (bound : Bound file s) where
   watch_found : (at : ℕ) (w : Option WatchTree) → Has (WatchRead w) (watch_means s at w)
   watch_found at None = record { tree = λ e. refl; again = λ a. (a, refl) }
   watch_found at (Some (UseHazard f)) =
-      next _ (WatchRead (Some (UseHazard f))) (protecting_at s f (at + 3)) _ (protecting_found file s f (at + 3) bound) (λ g h.
+      next _ (WatchRead (Some (UseHazard f))) (protecting_at s f (at + 3)) _ (names_found file s f (at + 3) bound).protecting (λ g h.
       record { tree = λ e. ap (λ n. Some (UseHazard n)) (h.named e); again = λ a. (a + watch_size (UseHazard f), after _ _ _ _ (h.again (a + 3)) refl) })
   watch_found at (Some (UseEpoch n m)) =
-      next _ (WatchRead (Some (UseEpoch n m))) (without_pointer_at s n (at + 3)) _ (without_pointer_found file s n (at + 3) bound) (λ f h.
-      next _ (WatchRead (Some (UseEpoch n m))) (without_pointer_at s m (at + 5)) _ (without_pointer_found file s m (at + 5) bound) (λ g k.
+      next _ (WatchRead (Some (UseEpoch n m))) (without_pointer_at s n (at + 3)) _ (names_found file s n (at + 3) bound).without_pointer (λ f h.
+      next _ (WatchRead (Some (UseEpoch n m))) (without_pointer_at s m (at + 5)) _ (names_found file s m (at + 5) bound).without_pointer (λ g k.
       record { tree = λ e. rw (h.named e, k.named e) refl; again = λ a. (a + watch_size (UseEpoch n m), after _ _ _ _ (h.again (a + 3)) (after _ _ _ _ (k.again (a + 5)) refl)) }))
 
   -- ---- `init`

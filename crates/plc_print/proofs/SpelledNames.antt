@@ -193,46 +193,35 @@ module _ (file : File) where
   as_value_is g locals n (value h v) f = of_field h g v n (h == g) refl f
   as_value_is g locals n _ f = tt
 
-  module _ (s : Scope) (n : Text) (at : ℕ) (bound : Bound s) where
-    pub any_found : Has (Found (λ r. Ends s → RoleIs s.locals n r) (λ p. known p (role_of s n))) (known at (role_of s n))
-    any_found = known_found (Ends s) (RoleIs s.locals n) (role_of s n) at (role_is s n bound)
+  -- what a name at a place is found to be, whatever is wanted, is spelled by the name
+  pub record NamesFound (s : Scope) (n : Text) (at : ℕ) : Type 0 where
+    pub any : Has (Found (λ r. Ends s → RoleIs s.locals n r) (λ p. known p (role_of s n))) (known at (role_of s n))
+    pub pointer : Has (Found (λ q. Ends s → variable_name file s.locals q ≡ n) (pointer_at s n)) (pointer_at s n at)
+    pub pointer_local : Has (Found (λ q. Ends s → pointer_name file s.locals q ≡ n) (pointer_local_at s n)) (pointer_local_at s n at)
+    pub data_local : Has (Found (λ x. Ends s → data_name file s.locals x ≡ n) (data_at s n)) (data_at s n at)
+    pub pointer_field : Has (Found (λ f. Ends s → field_name file f ≡ n) (pointer_field_at s n)) (pointer_field_at s n at)
+    pub data_field : Has (Found (λ f. Ends s → field_name file f ≡ n) (data_field_at s n)) (data_field_at s n at)
+    pub function : Has (Found (λ f. Ends s → function_name file f.0 ≡ n) (function_at s n)) (function_at s n at)
+    pub protecting : Has (Found (λ f. Ends s → function_name file f ≡ n) (protecting_at s n)) (protecting_at s n at)
+    pub without_pointer : Has (Found (λ f. Ends s → function_name file f ≡ n) (without_pointer_at s n)) (without_pointer_at s n at)
+    pub auxiliary : Has (Found (λ g. Ends s → auxiliary_name file g.0 ≡ n) (auxiliary_at s n)) (auxiliary_at s n at)
+    pub value : (g : ℕ) → Has (Found (λ v. Ends s → value_name file g v ≡ n) (value_at s g n)) (value_at s g n at)
 
-    pub pointer_found : Has (Found (λ q. Ends s → variable_name file s.locals q ≡ n) (pointer_at s n)) (pointer_at s n at)
-    unfolding pointer_at
-    pointer_found = needed_found as_pointer (Ends s) (RoleIs s.locals n) (λ q. variable_name file s.locals q ≡ n) (role_of s n) at (role_is s n bound) (as_pointer_is s.locals n)
-
-    pub pointer_local_found : Has (Found (λ q. Ends s → pointer_name file s.locals q ≡ n) (pointer_local_at s n)) (pointer_local_at s n at)
-    unfolding pointer_local_at
-    pointer_local_found = needed_found as_pointer_local (Ends s) (RoleIs s.locals n) (λ q. pointer_name file s.locals q ≡ n) (role_of s n) at (role_is s n bound) (as_pointer_local_is s.locals n)
-
-    pub data_found : Has (Found (λ x. Ends s → data_name file s.locals x ≡ n) (data_at s n)) (data_at s n at)
-    unfolding data_at
-    data_found = needed_found as_data (Ends s) (RoleIs s.locals n) (λ x. data_name file s.locals x ≡ n) (role_of s n) at (role_is s n bound) (as_data_is s.locals n)
-
-    pub pointer_field_found : Has (Found (λ f. Ends s → field_name file f ≡ n) (pointer_field_at s n)) (pointer_field_at s n at)
-    unfolding pointer_field_at
-    pointer_field_found = needed_found as_pointer_field (Ends s) (RoleIs s.locals n) (λ f. field_name file f ≡ n) (role_of s n) at (role_is s n bound) (as_pointer_field_is s.locals n)
-
-    pub data_field_found : Has (Found (λ f. Ends s → field_name file f ≡ n) (data_field_at s n)) (data_field_at s n at)
-    unfolding data_field_at
-    data_field_found = needed_found as_data_field (Ends s) (RoleIs s.locals n) (λ f. field_name file f ≡ n) (role_of s n) at (role_is s n bound) (as_data_field_is s.locals n)
-
-    pub function_found : Has (Found (λ f. Ends s → function_name file f.0 ≡ n) (function_at s n)) (function_at s n at)
-    unfolding function_at
-    function_found = needed_found as_function (Ends s) (RoleIs s.locals n) (λ f. function_name file f.0 ≡ n) (role_of s n) at (role_is s n bound) (as_function_is s.locals n)
-
-    pub protecting_found : Has (Found (λ f. Ends s → function_name file f ≡ n) (protecting_at s n)) (protecting_at s n at)
-    unfolding protecting_at
-    protecting_found = needed_found as_protecting (Ends s) (RoleIs s.locals n) (λ f. function_name file f ≡ n) (role_of s n) at (role_is s n bound) (as_protecting_is s.locals n)
-
-    pub without_pointer_found : Has (Found (λ f. Ends s → function_name file f ≡ n) (without_pointer_at s n)) (without_pointer_at s n at)
-    unfolding without_pointer_at
-    without_pointer_found = needed_found as_without_pointer (Ends s) (RoleIs s.locals n) (λ f. function_name file f ≡ n) (role_of s n) at (role_is s n bound) (as_without_pointer_is s.locals n)
-
-    pub auxiliary_found : Has (Found (λ g. Ends s → auxiliary_name file g.0 ≡ n) (auxiliary_at s n)) (auxiliary_at s n at)
-    unfolding auxiliary_at
-    auxiliary_found = needed_found as_auxiliary (Ends s) (RoleIs s.locals n) (λ g. auxiliary_name file g.0 ≡ n) (role_of s n) at (role_is s n bound) (as_auxiliary_is s.locals n)
-
-    pub value_found : (g : ℕ) → Has (Found (λ v. Ends s → value_name file g v ≡ n) (value_at s g n)) (value_at s g n at)
-    unfolding value_at
-    value_found g = needed_found (as_value_of g) (Ends s) (RoleIs s.locals n) (λ v. value_name file g v ≡ n) (role_of s n) at (role_is s n bound) (as_value_is g s.locals n)
+  pub names_found : (s : Scope) (n : Text) (at : ℕ) → Bound s → NamesFound s n at
+  unfolding pointer_at pointer_local_at data_at pointer_field_at data_field_at function_at protecting_at without_pointer_at auxiliary_at value_at
+  names_found s n at bound =
+      let role = role_of s n in
+      let is = role_is s n bound in
+      record {
+        any = known_found (Ends s) (RoleIs s.locals n) role at is;
+        pointer = needed_found as_pointer (Ends s) (RoleIs s.locals n) (λ q. variable_name file s.locals q ≡ n) role at is (as_pointer_is s.locals n);
+        pointer_local = needed_found as_pointer_local (Ends s) (RoleIs s.locals n) (λ q. pointer_name file s.locals q ≡ n) role at is (as_pointer_local_is s.locals n);
+        data_local = needed_found as_data (Ends s) (RoleIs s.locals n) (λ x. data_name file s.locals x ≡ n) role at is (as_data_is s.locals n);
+        pointer_field = needed_found as_pointer_field (Ends s) (RoleIs s.locals n) (λ f. field_name file f ≡ n) role at is (as_pointer_field_is s.locals n);
+        data_field = needed_found as_data_field (Ends s) (RoleIs s.locals n) (λ f. field_name file f ≡ n) role at is (as_data_field_is s.locals n);
+        function = needed_found as_function (Ends s) (RoleIs s.locals n) (λ f. function_name file f.0 ≡ n) role at is (as_function_is s.locals n);
+        protecting = needed_found as_protecting (Ends s) (RoleIs s.locals n) (λ f. function_name file f ≡ n) role at is (as_protecting_is s.locals n);
+        without_pointer = needed_found as_without_pointer (Ends s) (RoleIs s.locals n) (λ f. function_name file f ≡ n) role at is (as_without_pointer_is s.locals n);
+        auxiliary = needed_found as_auxiliary (Ends s) (RoleIs s.locals n) (λ g. auxiliary_name file g.0 ≡ n) role at is (as_auxiliary_is s.locals n);
+        value = λ g. needed_found (as_value_of g) (Ends s) (RoleIs s.locals n) (λ v. value_name file g v ≡ n) role at is (as_value_is g s.locals n);
+      }

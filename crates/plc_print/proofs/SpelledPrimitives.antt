@@ -26,7 +26,7 @@ use Rattle.plc_print.specs.Canonical.{set_tree, number_tree, ghost_value_tree, t
 use Rattle.plc_lang.specs.Names.{field_name, function_name, auxiliary_name, value_name, pointer_name, data_name, variable_name}
 use Rattle.plc_print.proofs.Steps.{within, after, Found}
 use Rattle.plc_print.proofs.NormalTrees.{stays}
-use Rattle.plc_print.proofs.SpelledNames.{Bound, Ends, RoleIs, any_found, pointer_found, pointer_local_found, data_found, pointer_field_found, data_field_found, function_found, auxiliary_found, value_found}
+use Rattle.plc_print.proofs.SpelledNames.{Bound, Ends, RoleIs, names_found}
 
 module _ (file : File) (s : Scope) (bound : Bound file s) where
   -- ---- names in turn
@@ -41,16 +41,16 @@ module _ (file : File) (s : Scope) (bound : Bound file s) where
   IsField n f = Ends file s → field_name file f ≡ n
 
   by_pointer : {B : Type 0} (n : Text) (at : ℕ) (Q : B → Type 0) (f : Var → Result B ParseFault) → ((q : Var) → Found (IsVariable n) (pointer_at s n) q → Has Q (f q)) → Has Q (pointer_at s n at >>= f)
-  by_pointer n at Q f k = next (Found (IsVariable n) (pointer_at s n)) Q (pointer_at s n at) f (pointer_found file s n at bound) k
+  by_pointer n at Q f k = next (Found (IsVariable n) (pointer_at s n)) Q (pointer_at s n at) f (names_found file s n at bound).pointer k
 
   by_data : {B : Type 0} (n : Text) (at : ℕ) (Q : B → Type 0) (f : ℕ → Result B ParseFault) → ((x : ℕ) → Found (IsData n) (data_at s n) x → Has Q (f x)) → Has Q (data_at s n at >>= f)
-  by_data n at Q f k = next (Found (IsData n) (data_at s n)) Q (data_at s n at) f (data_found file s n at bound) k
+  by_data n at Q f k = next (Found (IsData n) (data_at s n)) Q (data_at s n at) f (names_found file s n at bound).data_local k
 
   by_pointer_field : {B : Type 0} (n : Text) (at : ℕ) (Q : B → Type 0) (f : FieldId → Result B ParseFault) → ((x : FieldId) → Found (IsField n) (pointer_field_at s n) x → Has Q (f x)) → Has Q (pointer_field_at s n at >>= f)
-  by_pointer_field n at Q f k = next (Found (IsField n) (pointer_field_at s n)) Q (pointer_field_at s n at) f (pointer_field_found file s n at bound) k
+  by_pointer_field n at Q f k = next (Found (IsField n) (pointer_field_at s n)) Q (pointer_field_at s n at) f (names_found file s n at bound).pointer_field k
 
   by_data_field : {B : Type 0} (n : Text) (at : ℕ) (Q : B → Type 0) (f : FieldId → Result B ParseFault) → ((x : FieldId) → Found (IsField n) (data_field_at s n) x → Has Q (f x)) → Has Q (data_field_at s n at >>= f)
-  by_data_field n at Q f k = next (Found (IsField n) (data_field_at s n)) Q (data_field_at s n at) f (data_field_found file s n at bound) k
+  by_data_field n at Q f k = next (Found (IsField n) (data_field_at s n)) Q (data_field_at s n at) f (names_found file s n at bound).data_field k
 
   -- ---- assignments
 
@@ -113,11 +113,11 @@ module _ (file : File) (s : Scope) (bound : Bound file s) where
   set_found : (at : ℕ) (set : SetTree) → Has (Found (AsSet set) (λ a. set_means s a set)) (set_means s at set)
   unfolding set_means
   set_found at (SetName n v) =
-      next (Found (λ r. Ends file s → RoleIs file s.locals n r) (λ p. known p (role_of s n))) _ (known at (role_of s n)) _ (any_found file s n at bound) (λ r f.
+      next (Found (λ r. Ends file s → RoleIs file s.locals n r) (λ p. known p (role_of s n))) _ (known at (role_of s n)) _ (names_found file s n at bound).any (λ r f.
       weaker (Found (AsSet (SetName n v)) (λ a. value_into s (a + 2) v r a)) _ (value_into s (at + 2) v r at) (λ k g. record { named = g.named; again = λ a. after _ _ _ _ (f.again a) (g.again a) }) (value_into_found n (at + 2) at v r f.named))
   set_found at (SetField n m a) =
       by_pointer n at _ _ (λ p h.
-      next (Found (λ r. Ends file s → RoleIs file s.locals m r) (λ p. known p (role_of s m))) _ (known (at + 2) (role_of s m)) _ (any_found file s m (at + 2) bound) (λ r f.
+      next (Found (λ r. Ends file s → RoleIs file s.locals m r) (λ p. known p (role_of s m))) _ (known (at + 2) (role_of s m)) _ (names_found file s m (at + 2) bound).any (λ r f.
       weaker (Found (AsSet (SetField n m a)) (λ b. atom_into s p (b + 4) a r (b + 2))) _ (atom_into s p (at + 4) a r (at + 2)) (λ k g. record { named = g.named; again = λ b. after _ _ _ _ (h.again b) (after _ _ _ _ (f.again (b + 2)) (g.again b)) })
       (atom_into_found p n m (at + 4) (at + 2) a r h.named f.named)))
 
@@ -140,7 +140,7 @@ module _ (file : File) (s : Scope) (bound : Bound file s) where
   refresh_name_found : (at : ℕ) (n : Text) (place : PlaceTree) → Has (Found (AsRefresh n place) (λ a. refresh_name_means s a n place)) (refresh_name_means s at n place)
   unfolding refresh_name_means
   refresh_name_found at n place =
-      next (Found (IsPointerLocal n) (pointer_local_at s n)) _ (pointer_local_at s n at) _ (pointer_local_found file s n at bound) (λ p h.
+      next (Found (IsPointerLocal n) (pointer_local_at s n)) _ (pointer_local_at s n at) _ (names_found file s n at bound).pointer_local (λ p h.
       weaker (Found (AsRefresh n place) (λ a. refresh_from s p a place)) _ (refresh_from s p (at + 2) place) (λ k g. record { named = g.named; again = λ a. after _ _ _ _ (h.again a) (g.again (a + 2)) }) (refresh_from_found p n (at + 2) place h.named))
 
   -- the primitive is spelled by this tree
@@ -166,7 +166,7 @@ module _ (file : File) (s : Scope) (bound : Bound file s) where
   ghost_value_found : (in_init : Bool) (g : ℕ) (thread : Bool) (at : ℕ) (v : GhostValueTree) → Has (Found (IsGhostValue g v) (λ a. ghost_value_means s in_init g thread a v)) (ghost_value_means s in_init g thread at v)
   unfolding thread_at
   ghost_value_found in_init g false at (NameGhost n) =
-      next (Found (λ v. Ends file s → value_name file g v ≡ n) (value_at s g n)) _ (value_at s g n at) _ (value_found file s n at bound g) (λ v f. record { named = λ e. ap NameGhost (f.named e); again = λ a. after _ _ _ _ (f.again a) refl })
+      next (Found (λ v. Ends file s → value_name file g v ≡ n) (value_at s g n)) _ (value_at s g n at) _ ((names_found file s n at bound).value g) (λ v f. record { named = λ e. ap NameGhost (f.named e); again = λ a. after _ _ _ _ (f.again a) refl })
   ghost_value_found in_init g true at (NameGhost n) = no_thread (role_of s n) at _ _
   ghost_value_found in_init g false at MeGhost = tt
   ghost_value_found false g true at MeGhost = record { named = λ e. refl; again = λ a. refl }
@@ -182,7 +182,7 @@ module _ (file : File) (s : Scope) (bound : Bound file s) where
   ghost_set_found : (in_init : Bool) (at : ℕ) (set : GhostSetTree) → Has (Found (AsGhost set) (λ a. ghost_set_means s in_init a set)) (ghost_set_means s in_init at set)
   unfolding ghost_set_means
   ghost_set_found in_init at (SetGhost n f v) = by_pointer n (at + 1) _ _ (λ p h.
-      next (Found (λ g. Ends file s → auxiliary_name file g.0 ≡ f) (auxiliary_at s f)) _ (auxiliary_at s f (at + 3)) _ (auxiliary_found file s f (at + 3) bound) (λ g k.
+      next (Found (λ g. Ends file s → auxiliary_name file g.0 ≡ f) (auxiliary_at s f)) _ (auxiliary_at s f (at + 3)) _ (names_found file s f (at + 3) bound).auxiliary (λ g k.
       next (Found (IsGhostValue g.0 v) (λ a. ghost_value_means s in_init g.0 g.1 a v)) _ (ghost_value_means s in_init g.0 g.1 (at + 5) v) _ (ghost_value_found in_init g.0 g.1 (at + 5) v) (λ w m.
       record {
         named = record {
@@ -237,7 +237,7 @@ module _ (file : File) (s : Scope) (bound : Bound file s) where
   test_found at (UnmarkedTest n) = by_pointer n (at + 1) _ _ (λ p h.
       record { named = record { tree = λ e. rw (h.named e) refl; stands = refl }; again = λ b. after _ _ _ _ (h.again (b + 1)) refl })
   test_found at (Compares n c a) =
-      next (Found (λ r. Ends file s → RoleIs file s.locals n r) (λ p. known p (role_of s n))) _ (known at (role_of s n)) _ (any_found file s n at bound) (λ r f.
+      next (Found (λ r. Ends file s → RoleIs file s.locals n r) (λ p. known p (role_of s n))) _ (known at (role_of s n)) _ (names_found file s n at bound).any (λ r f.
       weaker (Found (AsTest (Compares n c a)) (λ b. test_of s b c a r)) _ (test_of s at c a r) (λ k g. record { named = g.named; again = λ b. after _ _ _ _ (f.again b) (g.again b) }) (test_of_found n at c a r f.named))
 
   -- ---- conditions
@@ -323,5 +323,5 @@ module _ (file : File) (s : Scope) (bound : Bound file s) where
   pub call_found : (at : ℕ) (n : Text) (a : ArgumentTree) → Has (Found (IsCall n a) (λ b. call_means s b n a)) (call_means s at n a)
   unfolding call_means
   call_found at n a =
-      next (Found (λ f. Ends file s → function_name file f.0 ≡ n) (function_at s n)) _ (function_at s n at) _ (function_found file s n at bound) (λ f g.
+      next (Found (λ f. Ends file s → function_name file f.0 ≡ n) (function_at s n)) _ (function_at s n at) _ (names_found file s n at bound).function (λ f g.
       weaker (Found (IsCall n a) (λ b. argument_means s f.0 f.1 b a)) _ (argument_means s f.0 f.1 at a) (λ c h. record { named = h.named; again = λ b. after _ _ _ _ (g.again b) (h.again b) }) (argument_found f.0 n f.1 at a g.named))

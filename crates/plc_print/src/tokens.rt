@@ -2,9 +2,9 @@
 // table of such lists, and what a form prints is seen at once.
 ghost use Rattle.std.specs.Prelude.{◌≡◌, ◌++◌, ◌∷◌, [], OnOk, decimal, map};
 ghost use Rattle.plc_print.specs.Pieces.{Prints, kind_of};
-ghost use Rattle.plc_print.specs.Text.{after_symbol, outline_word, symbol_text, word_text};
+ghost use Rattle.plc_print.specs.Text.{after_symbol};
 
-use plc_lex::{Keyword, Symbol};
+use plc_lex::{Keyword, Symbol, symbol_text, word_text};
 use std::alloc::{AllocError, Global};
 
 /// A token to print.
@@ -57,88 +57,6 @@ pub type Printed = Result<(), AllocError>;
 pub struct Printer {
     alloc: Global,
     pub text: Vec<u8>,
-}
-
-/// The letters of a keyword that stands in outlines alone.
-fn outline_word(word: Keyword) -> &'static [u8]
-    ensures { result.now ≡ outline_word word }
-{
-    match word {
-        Keyword::Outline => b"outline",
-        Keyword::Depth => b"depth",
-        Keyword::Inv => b"inv",
-        Keyword::Over => b"over",
-        Keyword::At => b"at",
-        Keyword::All => b"all",
-        Keyword::Not => b"not",
-        Keyword::Retired => b"retired",
-        _ => b"",
-    }
-}
-
-/// The letters of a keyword.
-fn word_text(word: Keyword) -> &'static [u8]
-    ensures { result.now ≡ word_text word }
-{
-    match word {
-        Keyword::Struct => b"struct",
-        Keyword::Ptr => b"ptr",
-        Keyword::Data => b"data",
-        Keyword::Shared => b"shared",
-        Keyword::Call => b"call",
-        Keyword::Use => b"use",
-        Keyword::Hazard => b"hazard",
-        Keyword::Epoch => b"epoch",
-        Keyword::Ghost => b"ghost",
-        Keyword::Thread => b"thread",
-        Keyword::Init => b"init",
-        Keyword::Op => b"op",
-        Keyword::Atomic => b"atomic",
-        Keyword::If => b"if",
-        Keyword::Else => b"else",
-        Keyword::Loop => b"loop",
-        Keyword::Break => b"break",
-        Keyword::Return => b"return",
-        Keyword::Skip => b"skip",
-        Keyword::Choose => b"choose",
-        Keyword::Or => b"or",
-        Keyword::Label => b"label",
-        Keyword::During => b"during",
-        Keyword::Active => b"active",
-        Keyword::Assume => b"assume",
-        Keyword::New => b"new",
-        Keyword::Null => b"null",
-        Keyword::Cas => b"cas",
-        Keyword::Me => b"me",
-        Keyword::None => b"none",
-        Keyword::Mark => b"mark",
-        Keyword::Unmark => b"unmark",
-        Keyword::Marked => b"marked",
-        Keyword::Unmarked => b"unmarked",
-        _ => outline_word(word),
-    }
-}
-
-/// The characters of a symbol.
-fn symbol_text(symbol: Symbol) -> &'static [u8]
-    ensures { result.now ≡ symbol_text symbol }
-{
-    match symbol {
-        Symbol::Assign => b":=",
-        Symbol::Refresh => b"?=",
-        Symbol::Equal => b"==",
-        Symbol::Unequal => b"!=",
-        Symbol::AtLeast => b">=",
-        Symbol::OpenBrace => b"{",
-        Symbol::CloseBrace => b"}",
-        Symbol::OpenParen => b"(",
-        Symbol::CloseParen => b")",
-        Symbol::Semicolon => b";",
-        Symbol::Comma => b",",
-        Symbol::Dot => b".",
-        Symbol::Colon => b":",
-        Symbol::Less => b"<",
-    }
 }
 
 /// What follows a symbol.

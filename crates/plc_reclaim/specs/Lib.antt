@@ -1,5 +1,6 @@
 -- what contracts of public calls say
 pub mod Histories
+pub mod Laws
 pub mod Lookup
 pub mod Meanings
 pub mod Rows

@@ -16,8 +16,8 @@ use plc_base::NoMemory;
 use std::alloc::Global;
 use std::marker::PhantomData;
 
-/// What a reclaimer serves that frees.
-pub trait Serves: Drop {
+/// How a reclaimer that frees watches threads: by the observers of the schemes that it serves; its name and its row.
+pub trait Watches: Drop {
     /// The observer of a scheme that is served.
     ghost observer: { Scheme → Option Observer };
 
@@ -42,42 +42,42 @@ pub trait Serves: Drop {
 
 /// A reclaimer that frees in the order of retirement what no thread keeps by the tables of these schemes.
 #[derive(Drop)]
-pub struct ByTables<S: Serves> {
+pub struct ByTables<W: Watches> {
     locations: Locations,
-    serves: PhantomData<S>,
+    watches: PhantomData<W>,
 }
 
-impl<S: Serves> ByTables<S> {
+impl<W: Watches> ByTables<W> {
     /// A reclaimer that was given no scheme and handed nothing yet. It acts as its row, and takes no memory.
     #[tactic(auto, using(crate::proofs::Numbers::begun_with_is))]
-    pub fn new(alloc: Global) -> ByTables<S>
-        ensures acts { ActsAs S.picks (⟦<ByTables<S> as Reclaimer>⟧.meanings result) }
-        ensures named { ⟦<ByTables<S> as Reclaimer>⟧.named result ≡ S.named }
-        ensures fresh { ⟦<ByTables<S> as Reclaimer>⟧.held result
-            ≡ (⟦<ByTables<S> as Reclaimer>⟧.meanings result).begun [] }
+    pub fn new(alloc: Global) -> ByTables<W>
+        ensures acts { ActsAs W.picks (⟦<ByTables<W> as Reclaimer>⟧.meanings result) }
+        ensures named { ⟦<ByTables<W> as Reclaimer>⟧.named result ≡ W.named }
+        ensures fresh { ⟦<ByTables<W> as Reclaimer>⟧.held result
+            ≡ (⟦<ByTables<W> as Reclaimer>⟧.meanings result).begun [] }
     {
-        S::acts_as_row();
+        W::acts_as_row();
         ByTables {
             locations: Locations::new(alloc),
-            serves: PhantomData,
+            watches: PhantomData,
         }
     }
 }
 
-impl<S: Serves> Reclaimer for ByTables<S> {
+impl<W: Watches> Reclaimer for ByTables<W> {
     ghost held = { λ r. numbers_of r.locations };
 
-    ghost meanings = { λ _. by_tables (filter_map S.observer) };
+    ghost meanings = { λ _. by_tables (filter_map W.observer) };
 
-    ghost named = { λ _. S.named };
+    ghost named = { λ _. W.named };
 
     fn name(&self) -> &str {
-        S::name()
+        W::name()
     }
 
     #[tactic(auto, using(crate::proofs::Numbers::begun_with_is))]
     fn begin(&mut self, schemes: &[Scheme]) -> Result<(), NoMemory> {
-        let observers = observers::<S>(self.locations.alloc(), schemes)?;
+        let observers = observers::<W>(self.locations.alloc(), schemes)?;
         self.locations = Locations::fresh(self.locations.alloc(), &observers)?;
         Ok(())
     }
@@ -94,13 +94,13 @@ impl<S: Serves> Reclaimer for ByTables<S> {
 }
 
 /// The observers of the schemes that are served.
-fn observers<S: Serves>(alloc: Global, schemes: &[Scheme]) -> Result<Vec<Observer>, NoMemory>
-    ensures { IfOk result (λ observers. observers.items ≡ filter_map S.observer schemes.now) }
+fn observers<W: Watches>(alloc: Global, schemes: &[Scheme]) -> Result<Vec<Observer>, NoMemory>
+    ensures { IfOk result (λ observers. observers.items ≡ filter_map W.observer schemes.now) }
 {
     Ok(
         schemes
             .iter()
-            .filter_map(|scheme| S::observer(scheme))
+            .filter_map(|scheme| W::observer(scheme))
             .collect(alloc)?,
     )
 }

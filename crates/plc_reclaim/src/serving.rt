@@ -5,14 +5,14 @@
 ghost use Rattle.std.specs.Prelude.{codes};
 ghost use Rattle.plc_reclaim.specs.Rows.{epoch_of, epoch_row, hazard_of, hazard_row, list_row, none_of};
 
-use crate::by_tables::{ByTables, Serves};
+use crate::by_tables::{ByTables, Watches};
 use plc_auto::{Observer, Scheme};
 
 /// No schemes.
 #[derive(Drop)]
 pub struct NoSchemes;
 
-impl Serves for NoSchemes {
+impl Watches for NoSchemes {
     ghost observer = { none_of };
 
     ghost named = { codes "list" };
@@ -34,7 +34,7 @@ impl Serves for NoSchemes {
 #[derive(Drop)]
 pub struct HazardSchemes;
 
-impl Serves for HazardSchemes {
+impl Watches for HazardSchemes {
     ghost observer = { hazard_of };
 
     ghost named = { codes "hazard" };
@@ -59,7 +59,7 @@ impl Serves for HazardSchemes {
 #[derive(Drop)]
 pub struct EpochSchemes;
 
-impl Serves for EpochSchemes {
+impl Watches for EpochSchemes {
     ghost observer = { epoch_of };
 
     ghost named = { codes "epoch" };

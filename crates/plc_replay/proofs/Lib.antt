@@ -1,6 +1,6 @@
 mod Growing
 mod Operations
-mod Taking
+pub mod Taking
 mod OneEnd
 mod Coming
 mod Speaking

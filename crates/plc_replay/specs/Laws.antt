@@ -1,10 +1,12 @@
 -- A schedule comes to one end, which is no forbidden free where the reclaimer serves the file's observer.
-use Rattle.std.specs.Prelude.{◌≡◌, ◌⊎◌, ℕ, true, List}
+use Rattle.std.specs.Prelude.{◌≡◌, ◌⊎◌, ◌<◌, ℕ, true, List, Ok}
 use Rattle.plc_auto.specs.declared.observer.Observer.{Observer}
 use Rattle.plc_auto.specs.declared.observer.Observer.TheVariants.{Plain, Hazard, Epoch}
 use Rattle.plc_auto.specs.Table.{is_well_formed}
 use Rattle.plc_flow.specs.declared.flow.Flow.{Flow}
+use Rattle.plc_flow.specs.WellFormed.{FlowFits}
 use Rattle.plc_flow.specs.WellSorted.{FlowIsWellSorted}
+use Rattle.plc_run.specs.Position.{Position, threads_of, IsOfRun, Starts}
 use Rattle.plc_auto.specs.declared.scheme.Scheme.{Scheme}
 use Rattle.plc_reclaim.specs.Meanings.{Meanings}
 use Rattle.plc_reclaim.specs.Rows.{ActsAs, hazard_row, epoch_row}
@@ -13,6 +15,7 @@ use Rattle.plc_sched.specs.declared.schedule.Schedule.{Schedule}
 use Rattle.plc_replay.specs.declared.end.End.{End}
 use Rattle.plc_replay.specs.declared.end.End.TheVariants.{ForbiddenFree}
 use Rattle.plc_replay.specs.Outcome.{ComesTo}
+use Rattle.plc_replay.specs.Stands.{StandsAt}
 
 -- whatever the meanings of the reclaimer are
 abbrev pub OneEnd : Flow → Observer → Meanings → List Scheme → Schedule → Type 0
@@ -40,3 +43,23 @@ IsAllowedEnd end = (a line : ℕ) → end ≡ ForbiddenFree a line → ⊥
 -- the schedule comes to no forbidden free
 abbrev pub NeverForbidden : Flow → Observer → Meanings → List Scheme → Schedule → Type 0
 NeverForbidden flow o m schemes s = (a line : ℕ) → ComesTo flow o m schemes s (ForbiddenFree a line) → ⊥
+
+-- ---- the laws, each for all that it speaks of
+
+-- a schedule comes to one end at most
+abbrev pub SchedulesComeToOneEnd : Type 0
+SchedulesComeToOneEnd =
+    (flow : Flow) (o : Observer) (reclaimer : Meanings) (schemes : List Scheme) (s : Schedule)
+    → OneEnd flow o reclaimer schemes s
+
+-- no schedule comes to a forbidden free where the reclaimer serves the file
+abbrev pub ServedReplaysForbidNothing : Type 0
+ServedReplaysForbidNothing =
+    (flow : Flow) (o : Observer) (schemes : List Scheme) (reclaimer : Meanings) (s : Schedule)
+    → IsServed flow o schemes reclaimer → NeverForbidden flow o reclaimer schemes s
+
+-- a start is line 1 of a schedule: from what it answers a replay may go on
+abbrev pub StartsStand : Type 0
+StartsStand =
+    (flow : Flow) → FlowFits flow → (o : Observer) (threads : ℕ) (p : Position) → 0 < threads
+    → Starts flow threads (Ok p) → IsOfRun flow o p → threads_of p ≡ threads → StandsAt flow o (threads_of p) 1 p

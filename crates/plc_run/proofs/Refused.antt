@@ -32,7 +32,7 @@ use Rattle.plc_run.specs.declared.refusal.Refusal.TheVariants as because
 use Rattle.plc_run.specs.Run.{Ending, Fine, Stuck, Raced, turn, recorded, execute, Configuration, point_of, taken}
 use Rattle.plc_run.specs.Reach.{Reached, Goes, Blocks, Forbids, Breaks, started, start_from, ended_as, step_leads, take_step, step_from, return_from, may_free, free_of, reach}
 use Rattle.plc_run.specs.Position.{Position, threads_of, IsOfRun, HasNone}
-use Rattle.plc_run.specs.Refusals.{blocked_turn, blocked_in, blocked_by, unstarted, untaken, start_refused, step_refused, return_refused, of_thread, move_refused, refusal_of}
+use Rattle.plc_run.specs.Refusals.{blocked_turn, blocked_in, blocked_by, unstarted, untaken, start_refused, step_refused, return_refused, of_thread, move_refused, refusal_of, IsNamedExactly}
 use Rattle.plc_run.proofs.Reaching.{LeadsTo, reach_leads}
 use Rattle.plc_run.proofs.Judged.{run_allowed}
 
@@ -201,13 +201,12 @@ refused_exact flow fits o p move run = go p.ended
 
 -- ---- what the code answers
 
-pub cause_exact : (flow : Flow) (p : Position) (move : Move) (r : Option Refusal) → FlowFits flow → r ≡ refusal_of flow p move
-    → (o : Observer) → IsOfRun flow o p → IsTrue (is_some r) ↔ ((p.ended ≡ true) ⊎ HasNone flow o (threads_of p) p.here move)
-cause_exact flow p move r fits is o run =
+pub cause_exact : (flow : Flow) (p : Position) (move : Move) (r : Option Refusal) → FlowFits flow → r ≡ refusal_of flow p move → IsNamedExactly flow p move r
+cause_exact flow p move r fits is = λ o run.
     subst (λ (r : Option Refusal). IsTrue (is_some r) ↔ ((p.ended ≡ true) ⊎ HasNone flow o (threads_of p) p.here move)) (sym is) (refused_exact flow fits o p move run)
 
 pub answer_exact : (flow : Flow) (p : Position) (move : Move) (r : Result (Option Refusal) NoMemory) → FlowFits flow → IfOk r (λ x. x ≡ refusal_of flow p move)
-    → IfOk r (λ x. (o : Observer) → IsOfRun flow o p → IsTrue (is_some x) ↔ ((p.ended ≡ true) ⊎ HasNone flow o (threads_of p) p.here move))
+    → IfOk r (IsNamedExactly flow p move)
 answer_exact flow p move (Ok x) fits is = cause_exact flow p move x fits is
 answer_exact flow p move (Err x) fits is = tt
 

@@ -1,5 +1,6 @@
 -- No primitive changes how many variables there are, or another thread's locals.
 use Rattle.std.proofs.Common.{◌≡◌, ℕ, ◌+◌, ◌<◌, Bool, true, false, List, [], ◌∷◌, Option, Some, None, length, get_or, refl, sym, ap, ◌∙◌, subst}
+use Rattle.std.specs.Option.{unwrap_or}
 use Rattle.plc_lang.specs.declared.syntax.Var.{Var}
 use Rattle.plc_lang.specs.declared.syntax.Var.TheVariants as vars
 use Rattle.plc_lang.specs.declared.syntax.Arg.{Arg}
@@ -12,7 +13,7 @@ use Rattle.plc_auto.specs.declared.event.Event.{Event}
 use Rattle.plc_base.specs.Functions.{is_retire}
 use Rattle.plc_mem.specs.declared.cell.Cell.{Cell}
 use Rattle.plc_mem.specs.declared.cell.RaceKind.{RaceKind}
-use Rattle.plc_mem.specs.State.{State, Locals, null_cell, locals_or_none, locals_of, with_locals, at_field, put, put_value, put_field_value, place, with_node, with_retired}
+use Rattle.plc_mem.specs.State.{State, Locals, null_cell, locals_of, with_locals, at_field, put, put_value, put_field_value, place, with_node, with_retired, no_locals}
 use Rattle.plc_base.specs.Tables.{put_at}
 use Rattle.plc_mem.specs.Primitives.{after_call, race_of, goes, after, event_of}
 use Rattle.plc_mem.specs.Fit.{shape}
@@ -53,7 +54,7 @@ given t s l m held p v = record {
 
 held_is : (s : State) (t : ℕ) (l : Locals) → get_or s.locals t None ≡ Some l → locals_of s t ≡ l
 unfolding locals_of
-held_is s t l held = ap locals_or_none held
+held_is s t l held = ap (λ o. unwrap_or o no_locals) held
 
 var_keeps : (t : ℕ) (s : State) (l : Locals) (v : Var) (c : Cell) → get_or s.locals t None ≡ Some l → VarIn (shape s l) v → Keeps t s l (put s (place t v) c)
 unfolding put

@@ -27,7 +27,7 @@ use Rattle.plc_mem.specs.Undoing.{TakesBack}
 use Rattle.plc_mem.specs.Outcomes.{address_or_null}
 use Rattle.plc_run.specs.declared.execute.Ended.{Ended}
 use Rattle.plc_run.specs.declared.execute.Ended.TheVariants as ends
-use Rattle.plc_run.specs.Ended.{ending}
+use Rattle.plc_run.specs.Ended.{ending, MayExecute, MayTry}
 use Rattle.plc_run.proofs.Executing.{given_back}
 use Rattle.plc_flow.specs.declared.points.Point.{Point}
 use Rattle.plc_run.specs.Run.{Ending, Fine, Stuck, Raced, turn, recorded, execute, Configuration, point_of, taken, Moves, Run, begin, more, beginning, initialised, first_configuration}
@@ -77,7 +77,7 @@ heard_end w new h g t a ps e ran = go e ∙ ap (with_history h) ran ∙ sym (exe
   where
     go : (e : Ended) → ending e new (h ++ g) ≡ with_history h (ending e new g)
     go ends.Fine = refl
-    go ends.Stuck = refl
+    go ends.Blocked = refl
     go (ends.Raced kind k) = refl
 
 -- where they didn't succeed, nothing is put after it
@@ -86,7 +86,7 @@ halted_end w new h g t a ps e halts ran = go e halts ∙ heard_end w new h g t a
   where
     go : (e : Ended) → is_fine e ≡ false → ending e new h ≡ ending e new (h ++ g)
     go ends.Fine halts = cc
-    go ends.Stuck halts = refl
+    go ends.Blocked halts = refl
     go (ends.Raced kind k) halts = refl
 
 -- ---- where runs begin
@@ -156,15 +156,15 @@ some_same : {A : Type 0} (x y : A) → Some x ≡ Some y → x ≡ y
 some_same x y e = cc
 
 -- a thread that is busy has locals to lend
-pub has_locals : (s : State) (t : ℕ) (ps : List Primitive) (B : Type 0) → (l : Locals) × (get_or s.locals t None ≡ Some l) × PrimitivesIn (shape s l) ps → None ≡ get_or s.locals t None → B
-has_locals s t ps B busy none = let e : None ≡ Some busy.0 = none ∙ busy.1 in cc
+pub has_locals : (s : State) (t : ℕ) (ps : List Primitive) (B : Type 0) → MayTry s t ps → None ≡ get_or s.locals t None → B
+has_locals s t ps B may none = let e : None ≡ Some may.locals = none ∙ may.held in cc
 
 -- primitives that fit the memory and the locals of a thread fit them while the locals are lent
-pub named_lent : (s lent : State) (t : ℕ) (me : Locals) (ps : List Primitive) → (l : Locals) × (get_or s.locals t None ≡ Some l) × PrimitivesIn (shape s l) ps → get_or s.locals t None ≡ Some me → lent ≡ record s { locals = set s.locals t None }
-    → PrimitivesIn (shape lent me) ps
-named_lent s lent t me ps busy held rest =
-    let same = some_same busy.0 me (sym busy.1 ∙ held) in
-    subst (λ (x : Shape). PrimitivesIn x ps) ((λ i. shape s (same i)) ∙ (λ i. shape (sym rest i) me)) busy.2
+pub named_lent : (s lent : State) (t : ℕ) (me : Locals) (ps : List Primitive) → MayTry s t ps → get_or s.locals t None ≡ Some me → lent ≡ record s { locals = set s.locals t None }
+    → MayExecute lent me ps
+named_lent s lent t me ps may held rest =
+    let same = some_same may.locals me (sym may.held ∙ held) in
+    record { fit = subst (λ (x : Shape). PrimitivesIn x ps) ((λ i. shape s (same i)) ∙ (λ i. shape (sym rest i) me)) may.fit; short = may.short }
 
 -- what primitives left, once the locals that they were lent were put back
 pub locals_back : (v q new : Position) (lent s : State) (t a : ℕ) (l m : Locals) (ps : List Primitive) (r : Result Ended NoMemory) → get_or v.here.state.locals t None ≡ Some l → lent ≡ record v.here.state { locals = set v.here.state.locals t None } → q ≡ new
@@ -212,7 +212,7 @@ concluded_leads p q t addr at to step e acts there = go e ∙ ap (ended_as p.her
   where
     go : (e : Ended) → concluded q.here t to e ≡ ended_as p.here t at step.to.0 (ending e q.here.state q.here.history)
     go ends.Fine = λ i. Goes (record q.here { points = put_at None (acts.points i) t (Some (there i)) })
-    go ends.Stuck = refl
+    go ends.Blocked = refl
     go (ends.Raced kind k) = refl
 
 pub concluded_answer : (p q : Position) (t : ℕ) (addr : Option ℕ) (at to : Point) (step : Step) (e : Ended) (r : Moved) → Acts t (address_or_null addr) step.prims p e q → to ≡ record at { at = step.to.0 }
@@ -222,7 +222,7 @@ concluded_answer p q t addr at to step e r acts there is = is ∙ ap answer (con
 -- and from where the step began
 from_before : (p q new : Position) (t : ℕ) (to : Point) (e : Ended) → q.ended ≡ p.ended → q.steps ≡ p.steps → (is_fine e ≡ false → q ≡ p) → Reaches (concluded q.here t to e) q new → Reaches (concluded q.here t to e) p new
 from_before p q new t to ends.Fine live same stayed reaches = (reaches.0, reaches.1 ∙ live, reaches.2 ∙ same)
-from_before p q new t to ends.Stuck live same stayed reaches = reaches ∙ stayed refl
+from_before p q new t to ends.Blocked live same stayed reaches = reaches ∙ stayed refl
 from_before p q new t to (ends.Raced kind k) live same stayed reaches = reaches ∙ ap (λ (p : Position). record p { ended = true }) (stayed refl)
 
 pub concluded_so : (p q new : Position) (t : ℕ) (addr : Option ℕ) (at to : Point) (step : Step) (e : Ended) → Acts t (address_or_null addr) step.prims p e q → to ≡ record at { at = step.to.0 }

@@ -23,6 +23,8 @@ use Rattle.plc_flow.specs.Points.{steps_from}
 use Rattle.plc_threads.specs.Fit.{ThreadFits}
 use Rattle.plc_threads.proofs.Fit.{put_is_new, thread_came, all_idle, idle_again}
 use Rattle.plc_run.specs.Fit.{LocalsFit, ConfigurationFits}
+use Rattle.plc_run.specs.Ended.{IsOfFlow}
+use Rattle.plc_run.specs.Position.{Position, threads_of, IsOfRun}
 use Rattle.plc_run.proofs.Busy.{IsBusyAt}
 use Rattle.plc_flow.proofs.Gates.{gate_from}
 use Rattle.plc_flow.proofs.Leaving.{stay_in_their_gate}
@@ -176,3 +178,10 @@ begun_fits flow fits threads some c e =
 pub run_fits : (flow : Flow) → FlowFits flow → (o : Observer) (threads : ℕ) → 0 < threads → (n : ℕ) (c : Configuration) → Run flow o threads n c → ConfigurationFits flow threads c
 run_fits flow fits o threads some n c (begin e) = begun_fits flow fits threads some c e
 run_fits flow fits o threads some n d (more {n = m} {c = c} run move moved) = move_fits flow fits o threads c d move moved (run_fits flow fits o threads some m c run)
+
+pub is_of_flow : (flow : Flow) (o : Observer) (p : Position) → FlowFits flow → 0 < threads_of p → IsOfRun flow o p → IsOfFlow flow p
+is_of_flow flow o p named some run = record {
+  named = named;
+  fits = run_fits flow named o (threads_of p) some run.moves p.here run.run;
+  indexed = run.indexed;
+}

@@ -6,9 +6,14 @@ use Rattle.plc_auto.specs.declared.event.Event.{Event}
 use Rattle.plc_mem.specs.declared.cell.Outcome.{Outcome}
 use Rattle.plc_mem.specs.declared.cell.Outcome.TheVariants.{Next, Blocked, Race}
 use Rattle.plc_flow.specs.declared.flow.Step.{Step}
+use Rattle.plc_flow.specs.declared.flow.Flow.{Flow}
+use Rattle.plc_flow.specs.StepsByPoint.{IsIndexOf, first_points}
+use Rattle.plc_flow.specs.WellFormed.{FlowFits}
 use Rattle.plc_flow.specs.declared.points.Point.{Point}
 use Rattle.plc_mem.specs.State.{State, Locals, with_locals, no_locals}
 use Rattle.plc_mem.specs.Fit.{shape}
+use Rattle.plc_run.specs.Fit.{ConfigurationFits}
+use Rattle.plc_run.specs.Position.{Position, threads_of}
 use Rattle.plc_run.specs.declared.execute.Ended.{Ended}
 use Rattle.plc_run.specs.declared.execute.Ended.TheVariants as ends
 use Rattle.plc_run.specs.Run.{Configuration, Ending, Fine, Stuck, Raced, execute, point_of, recorded}
@@ -22,7 +27,7 @@ heard h (Race kind) = h
 -- the answer with the state and the history that were left
 abbrev pub ending : Ended → State → List Event → Ending
 ending ends.Fine s h = Fine s h
-ending ends.Stuck s h = Stuck
+ending ends.Blocked s h = Stuck
 ending (ends.Raced kind k) s h = Raced kind k
 
 -- thread 0 took `init` without locals of its own: so it ended, in the state `new` with the events g
@@ -40,9 +45,21 @@ pub record IsReady (c : Configuration) (t : ℕ) (p : Point) (step : Step) : Typ
   pub fit : PrimitivesIn (shape c.state locals) step.prims
   pub short : length step.prims < 65536
 
+-- primitives fit this memory and these locals, and there are few of them
+pub record MayExecute (s : State) (l : Locals) (ps : List Primitive) : Type 0 where
+  pub fit : PrimitivesIn (shape s l) ps
+  pub short : length ps < 65536
+
 -- thread t holds locals to which these primitives fit, and there are few of them
 pub record MayTry (s : State) (t : ℕ) (ps : List Primitive) : Type 0 where
   pub locals : Locals
   pub held : get_or s.locals t None ≡ Some locals
   pub fit : PrimitivesIn (shape s locals) ps
   pub short : length ps < 65536
+
+-- what the code asks of a position before it looks for the step that a thread may take: the flow names what is there,
+-- each busy thread holds the locals of its operation, and the index is that of the flow's steps
+pub record IsOfFlow (flow : Flow) (p : Position) : Type 0 where
+  pub named : FlowFits flow
+  pub fits : ConfigurationFits flow (threads_of p) p.here
+  pub indexed : IsIndexOf (first_points flow) p.steps

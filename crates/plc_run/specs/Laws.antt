@@ -1,21 +1,27 @@
--- Runs begin and go on, each move leads to one configuration, and a race is the last move.
-use Rattle.std.specs.Prelude.{◌≡◌, ℕ, ◌<◌, ◌++◌, ◌∷◌, [], List, Option, Some, None, length, slice_get}
+-- Runs begin and go on, each move leads to one configuration, and a race is the last; and each law of runs in a word.
+use Rattle.std.specs.Prelude.{◌≡◌, ℕ, ◌<◌, true, ◌++◌, ◌∷◌, [], List, Option, Some, None, length, slice_get}
 use Rattle.plc_lang.specs.declared.syntax.Op.{Op}
 use Rattle.plc_lang.specs.Locals.{parameters_of}
 use Rattle.plc_auto.specs.declared.event.Event.{Event}
 use Rattle.plc_auto.specs.declared.event.Event.TheVariants.{Free as Freed}
 use Rattle.plc_auto.specs.declared.observer.Observer.{Observer}
 use Rattle.plc_auto.specs.Location.{Allowed}
+use Rattle.plc_auto.specs.Table.{is_well_formed}
 use Rattle.plc_base.specs.declared.ids.OpId.{OpId}
 use Rattle.plc_flow.specs.declared.flow.Step.{Step}
 use Rattle.plc_flow.specs.declared.flow.Gate.{Gate}
 use Rattle.plc_flow.specs.declared.flow.Flow.{Flow}
+use Rattle.plc_flow.specs.WellFormed.{FlowFits}
+use Rattle.plc_flow.specs.WellSorted.{FlowIsWellSorted}
 use Rattle.plc_threads.specs.declared.words.Move.{Move}
 use Rattle.plc_threads.specs.declared.words.Move.TheVariants.{Start, Step as Take, Return, Free}
 use Rattle.plc_mem.specs.declared.cell.RaceKind.{RaceKind}
 use Rattle.plc_mem.specs.State.{State}
 use Rattle.plc_flow.specs.declared.points.Point.{Point}
 use Rattle.plc_run.specs.Run.{Configuration, Run, Moves, Races, Fine, MayTake, taken, point_of, first_configuration}
+use Rattle.plc_run.specs.Fit.{ConfigurationFits}
+use Rattle.plc_run.specs.Observed.{RunsAreObserved}
+use Rattle.plc_run.specs.Quiet.{InitIsQuiet}
 
 -- some configuration is reached by the move
 abbrev pub MayMove : Flow → Observer → ℕ → Configuration → Move → Type 0
@@ -45,3 +51,23 @@ pub record RunLaws (flow : Flow) (o : Observer) (threads : ℕ) : Type 0 where
       → Moves flow o threads c move d → ⊥
   pub one_race : (c : Configuration) (move : Move) (kind other : RaceKind) (k n : ℕ)
       → Races flow threads c move kind k → Races flow threads c move other n → (kind ≡ other) × (k ≡ n)
+
+-- ---- the laws, each for all that it speaks of
+
+-- every flow's runs go on, by every observer and with any number of threads
+abbrev pub RunsGoOn : Type 0
+RunsGoOn = (flow : Flow) (o : Observer) (threads : ℕ) → RunLaws flow o threads
+
+-- every run is observed, by each observer for which `retire` belongs to no scheme
+abbrev pub EveryRunIsObserved : Type 0
+EveryRunIsObserved = (o : Observer) (threads : ℕ) → is_well_formed o ≡ true → RunsAreObserved o threads
+
+-- in every configuration of a run of a flow that names what is there each busy thread holds its operation's locals
+abbrev pub ThreadsHoldTheirLocals : Type 0
+ThreadsHoldTheirLocals =
+    (flow : Flow) (o : Observer) (threads n : ℕ) (c : Configuration)
+    → FlowFits flow → 0 < threads → Run flow o threads n c → ConfigurationFits flow threads c
+
+-- each `init` is quiet of a flow in which each thing stands where its kind may stand
+abbrev pub EveryInitIsQuiet : Type 0
+EveryInitIsQuiet = (flow : Flow) (threads : ℕ) → FlowIsWellSorted flow → InitIsQuiet flow threads

@@ -41,6 +41,10 @@ pub record IsOfRun (flow : Flow) (o : Observer) (p : Position) : Type 0 where
   pub follows : Follows o p
   pub indexed : IsIndexOf (first_points flow) p.steps
 
+-- by some observer it is of a run of this flow
+abbrev pub IsOfSomeRun : Flow → Position → Type 0
+IsOfSomeRun flow p = (o : Observer) × IsOfRun flow o p
+
 -- an address is freed that the observer keeps
 abbrev pub IsForbidden : Observer → ℕ → Configuration → Move → Type 0
 IsForbidden o threads c (Free a) = (0 < a) × (Allowed o threads (c.history ++ Freed a ∷ []) → ⊥)

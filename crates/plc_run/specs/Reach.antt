@@ -1,20 +1,22 @@
 -- What a move leads to, as a function: the code answers by it, and the law beside it says that it is what `Moves` and
 -- `Races` say.
 use Rattle.std.specs.Prelude.{◌≡◌, ℕ, zero, suc, Bool, true, false, ◌&&◌, ◌==◌, if◌then◌else◌, List, [], ◌∷◌, ◌++◌}
-use Rattle.std.specs.Prelude.{length, Option, Some, None, is_some, Result, Ok, Err, IfOk, OnOk, OnErr}
+use Rattle.std.specs.Prelude.{length, replicate, Option, Some, None, is_some, Result, Ok, Err, IfOk, OnOk, OnErr}
 use Rattle.plc_lang.specs.declared.syntax.Op.{Op}
 use Rattle.plc_lang.specs.declared.syntax.Primitive.{Primitive}
+use Rattle.plc_auto.specs.declared.event.Event.{Event}
 use Rattle.plc_auto.specs.declared.event.Event.TheVariants.{Free as Freed}
 use Rattle.plc_auto.specs.declared.observer.Observer.{Observer}
 use Rattle.plc_auto.specs.Location.{location, advance}
 use Rattle.plc_flow.specs.declared.flow.Step.{Step}
 use Rattle.plc_flow.specs.declared.flow.Flow.{Flow}
+use Rattle.plc_flow.specs.StepsByPoint.{IsIndexOf, first_points}
 use Rattle.plc_threads.specs.declared.words.Move.{Move}
 use Rattle.plc_threads.specs.declared.words.Move.TheVariants.{Start, Step as Take, Return, Free}
 use Rattle.plc_mem.specs.declared.cell.RaceKind.{RaceKind}
 use Rattle.plc_mem.specs.declared.undo.Undo.{Undo}
 use Rattle.plc_mem.specs.Undoing.{TakesBack}
-use Rattle.plc_mem.specs.State.{Locals, with_locals, freed, starting}
+use Rattle.plc_mem.specs.State.{State, Locals, with_locals, freed, starting}
 use Rattle.plc_base.specs.Tables.{put_at}
 use Rattle.plc_base.specs.declared.memory.NoMemory.{NoMemory}
 use Rattle.plc_flow.specs.declared.points.Point.{Point}
@@ -61,7 +63,7 @@ step_leads c t p step addr = ended_as c t p step.to.0 (taken c t addr step)
 -- what a step to this point leads to, from the configuration that its primitives left
 abbrev pub concluded : Configuration → ℕ → Point → Ended → Reached
 concluded c t to ends.Fine = Goes (record c { points = put_at None c.points t (Some to) })
-concluded c t to ends.Stuck = Blocks
+concluded c t to ends.Blocked = Blocks
 concluded c t to (ends.Raced kind k) = Breaks kind k
 
 -- thread t takes a step, if there is one that it may take, by a move that names an address or none
@@ -115,14 +117,32 @@ Reaches Blocks p q = q ≡ p
 Reaches (Forbids a) p q = q ≡ p
 Reaches (Breaks kind k) p q = q ≡ record p { ended = true }
 
+-- where the locations followed the history by some observer, they follow it still
+abbrev pub StillFollows : Position → Position → Type 0
+StillFollows p q = (o : Observer) → Follows o p → Follows o q
+
 -- what the code answers where a step leads to this, and the position after it, whose locations follow as before; where
 -- memory runs out the position is as it was
 pub record Comes (r : Reached) (p : Position) (result : Result Moved NoMemory) (q : Position)
     : Type 0 where
   pub says : IfOk result (λ m. m ≡ answer r)
   pub after : OnOk result (Reaches r p q)
-  pub follows : (o : Observer) → Follows o p → Follows o q
+  pub follows : StillFollows p q
   pub err : OnErr result (q ≡ p)
+
+-- a position with this state and history in which every thread is idle and no race has ended the run, with the index
+-- of the flow's steps; the locations follow the history
+pub record IsIdle (flow : Flow) (o : Observer) (threads : ℕ) (s : State) (h : List Event) (p : Position) : Type 0 where
+  pub here : p.here ≡ record { state = s; history = h; points = replicate threads None }
+  pub live : p.ended ≡ false
+  pub follows : Follows o p
+  pub indexed : IsIndexOf (first_points flow) p.steps
+
+-- events were put after the history, and nothing else but the locations is new
+pub record Hears (events : List Event) (p q : Position) : Type 0 where
+  pub here : q.here ≡ record p.here { history = p.here.history ++ events }
+  pub ended : q.ended ≡ p.ended
+  pub steps : q.steps ≡ p.steps
 
 -- a move of which the observer hears nothing
 pub record IsUnheard (p q : Position) : Type 0 where
@@ -135,7 +155,7 @@ pub record IsUnheard (p q : Position) : Type 0 where
 -- all primitives succeeded
 abbrev pub is_fine : Ended → Bool
 is_fine ends.Fine = true
-is_fine ends.Stuck = false
+is_fine ends.Blocked = false
 is_fine (ends.Raced kind k) = false
 
 -- all primitives succeeded, and memory didn't run out

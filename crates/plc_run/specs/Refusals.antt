@@ -1,9 +1,10 @@
 -- Why there is no such move: the first cause in the order in which a move is looked at.
 use Rattle.std.specs.Prelude.{ℕ, Bool, true, false, ◌==◌, ◌+◌, nat_lt, if◌then◌else◌, List, [], ◌∷◌, length, slice_get}
-use Rattle.std.specs.Prelude.{Option, Some, None, is_some, option_map}
+use Rattle.std.specs.Prelude.{◌≡◌, ◌↔◌, ◌⊎◌, Option, Some, None, is_some, option_map, IsTrue}
 use Rattle.plc_lang.specs.declared.syntax.Op.{Op}
 use Rattle.plc_lang.specs.declared.syntax.Primitive.{Primitive}
 use Rattle.plc_lang.specs.Locals.{parameters_of}
+use Rattle.plc_auto.specs.declared.observer.Observer.{Observer}
 use Rattle.plc_flow.specs.declared.flow.Step.{Step}
 use Rattle.plc_flow.specs.declared.flow.Flow.{Flow}
 use Rattle.plc_flow.specs.declared.points.Point.{Point}
@@ -18,7 +19,7 @@ use Rattle.plc_mem.specs.Outcomes.{address_or_null}
 use Rattle.plc_run.specs.declared.refusal.Refusal.{Refusal}
 use Rattle.plc_run.specs.declared.refusal.Refusal.TheVariants as because
 use Rattle.plc_run.specs.Run.{Configuration, point_of}
-use Rattle.plc_run.specs.Position.{Position, threads_of}
+use Rattle.plc_run.specs.Position.{Position, threads_of, IsOfRun, HasNone}
 
 -- a primitive that is a race ends the step, and isn't blocked
 abbrev pub blocked_turn : Option RaceKind → Bool → ℕ → Option ℕ → Option ℕ
@@ -78,3 +79,9 @@ move_refused flow threads c (Free a) = if a == 0 then Some because.Null else Non
 -- the cause, where there is no such move
 unfoldable pub refusal_of : Flow → Position → Move → Option Refusal
 refusal_of flow p move = if p.ended then Some because.Ended else move_refused flow (threads_of p) p.here move
+
+-- a cause is named exactly where a race has ended the run, and where there is no such move, whatever the observer
+abbrev pub IsNamedExactly : Flow → Position → Move → Option Refusal → Type 0
+IsNamedExactly flow p move cause =
+    (o : Observer) → IsOfRun flow o p
+    → IsTrue (is_some cause) ↔ ((p.ended ≡ true) ⊎ HasNone flow o (threads_of p) p.here move)

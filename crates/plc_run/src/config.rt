@@ -2,24 +2,18 @@
 // memory itself, and what takes them back is noted beside them: where one is blocked, is a race, or memory runs out,
 // also for what the observer hears of the step, they are taken back, and the configuration is as it was. The other
 // moves ask for their memory before they change anything.
-ghost use Rattle.std.specs.Prelude.{◌≡◌, ℕ, ◌<◌, ◌++◌, ◌∷◌, [], Option, IfOk, OnOk, OnErr, Some, None};
-ghost use Rattle.std.specs.Prelude.{get_or, length, replicate, false};
-ghost use Rattle.plc_lang.specs.Shape.{PrimitivesIn};
-ghost use Rattle.plc_auto.specs.declared.observer.Observer.{Observer};
-ghost use Rattle.plc_flow.specs.StepsByPoint.{IsIndexOf, first_points};
-ghost use Rattle.plc_flow.specs.WellFormed.{FlowFits, IsWellFormed};
-ghost use Rattle.plc_mem.specs.State.{Locals};
+ghost use Rattle.std.specs.Prelude.{◌≡◌, ◌<◌, [], IfOk, OnOk, OnErr};
+ghost use Rattle.plc_flow.specs.WellFormed.{FlowFits};
 ghost use Rattle.plc_mem.specs.Outcomes.{address_or_null};
-ghost use Rattle.plc_mem.specs.Fit.{shape, Kept};
+ghost use Rattle.plc_mem.specs.Fit.{Kept};
 ghost use Rattle.plc_run.specs.Run.{point_of};
-ghost use Rattle.plc_run.specs.Ended.{IsReady};
-ghost use Rattle.plc_run.specs.Fit.{ConfigurationFits};
-ghost use Rattle.plc_run.specs.Reach.{Breaks, concluded, came_about, Acts, ActsWith, Tries};
+ghost use Rattle.plc_run.specs.Ended.{IsReady, MayTry, MayExecute, IsOfFlow};
+ghost use Rattle.plc_run.specs.Reach.{Breaks, concluded, came_about, Acts, ActsWith, Tries, Hears, StillFollows};
 ghost use Rattle.plc_run.specs.Reach.{start_from, step_from, step_leads, return_from, free_of, reach};
-ghost use Rattle.plc_run.specs.Reach.{answer, Reaches, Comes, IsUnheard};
+ghost use Rattle.plc_run.specs.Reach.{answer, Reaches, Comes, IsUnheard, IsIdle};
 ghost use Rattle.plc_run.specs.Position.{threads_of, Follows, IsOfRun, Answers, Starts};
 
-use crate::execute::{Ended, execute, try_init};
+use crate::execute::{Actor, Ended, execute, try_init};
 use crate::moved::Moved;
 use plc_auto::{Event, Locations, Observer};
 use plc_base::{NoMemory, OpId};
@@ -89,7 +83,7 @@ impl Config {
                 let c = Config::idle(alloc, flow, observer, threads, tried.memory, tried.events)?;
                 Ok(c)
             }
-            Ended::Stuck => Err(StartFault::NoStart),
+            Ended::Blocked => Err(StartFault::NoStart),
             Ended::Raced { .. } => Err(StartFault::NoStart),
         }
     }
@@ -105,12 +99,8 @@ impl Config {
         history: Vec<Event>,
     ) -> Result<Config, NoMemory>
         requires some { 0 < threads }
-        requires well { IsWellFormed flow.now }
-        ensures here { IfOk result (λ c. c.here
-            ≡ record { state = memory; history = history.items; points = replicate threads None }) }
-        ensures live { IfOk result (λ c. c.ended ≡ false) }
-        ensures follows { IfOk result (λ c. Follows observer.now c) }
-        ensures indexed { IfOk result (λ c. IsIndexOf (first_points flow.now) c.steps) }
+        requires fits { FlowFits flow.now }
+        ensures { IfOk result (λ c. IsIdle flow.now observer.now threads memory history.items c) }
     {
         let points = none_held(alloc, threads as usize)?;
         let mut located = Locations::of_threads(alloc, *observer, threads)?;
@@ -125,6 +115,11 @@ impl Config {
             ended: false,
             steps,
         })
+    }
+
+    /// Where new lists are made.
+    pub fn alloc(&self) -> Global {
+        self.alloc
     }
 
     /// The events so far.
@@ -166,10 +161,8 @@ impl Config {
 
     /// One move of a run that no race has ended.
     fn advance(&mut self, flow: &Flow, observer: &Observer, m: &Move) -> Result<Moved, NoMemory>
-        requires flow { FlowFits flow.now }
-        requires fits { ConfigurationFits flow.now (threads_of self.old) self.old.here }
+        requires here { IsOfFlow flow.now self.old }
         requires follows { Follows observer.now self.old }
-        requires indexed { IsIndexOf (first_points flow.now) self.old.steps }
         ensures answer { IfOk result (λ r. r ≡ answer (reach flow.now observer.now self.old.here m.now)) }
         ensures after { OnOk result (Reaches (reach flow.now observer.now self.old.here m.now) self.old self.new) }
         ensures follows { Follows observer.now self.new }
@@ -185,7 +178,7 @@ impl Config {
 
     /// A start: the thread gets the locals of the operation.
     fn start_move(&mut self, flow: &Flow, t: u32, op: OpId, args: &[u32]) -> Result<Moved, NoMemory>
-        requires { ConfigurationFits flow.now (threads_of self.old) self.old.here }
+        requires { IsOfFlow flow.now self.old }
         ensures answer { IfOk result (λ r. r ≡ answer (start_from flow.now self.old.here t op.0 args.now)) }
         ensures after { OnOk result (Reaches (start_from flow.now self.old.here t op.0 args.now) self.old self.new) }
         ensures unheard { IsUnheard self.old self.new }
@@ -208,15 +201,9 @@ impl Config {
         nth: u16,
         addr: Option<u32>,
     ) -> Result<Moved, NoMemory>
-        requires flow { FlowFits flow.now }
-        requires fits { ConfigurationFits flow.now (threads_of self.old) self.old.here }
-        requires indexed { IsIndexOf (first_points flow.now) self.old.steps }
-        ensures answer { let to = step_from flow.now self.old.here t nth addr (point_of self.old.here t)
-            in IfOk result (λ r. r ≡ answer to) }
-        ensures after { let to = step_from flow.now self.old.here t nth addr (point_of self.old.here t)
-            in OnOk result (Reaches to self.old self.new) }
-        ensures follows { (o : Observer) → Follows o self.old → Follows o self.new }
-        ensures err { OnErr result (self.new ≡ self.old) }
+        requires { IsOfFlow flow.now self.old }
+        ensures { Comes (step_from flow.now self.old.here t nth addr (point_of self.old.here t))
+            self.old result self.new }
     {
         let Some((point, step)) = indexed_step_at(flow, &self.steps, &self.points, t, nth) else {
             return Ok(Moved::Blocked);
@@ -238,7 +225,7 @@ impl Config {
         requires { IsReady self.old.here t point step.now }
         ensures { Comes (step_leads self.old.here t point step.now addr) self.old result self.new }
     {
-        let ended = self.act(step.prims.as_slice(), t, addr)?;
+        let ended = self.act(step.prims.as_slice(), Actor { t, addr })?;
         Ok(self.conclude(ended, arrival(point, step), t))
     }
 
@@ -254,46 +241,37 @@ impl Config {
                 set_point(&mut self.points, t, Some(to));
                 Moved::Done
             }
-            Ended::Stuck => Moved::Blocked,
+            Ended::Blocked => Moved::Blocked,
             Ended::Raced { kind, prim } => self.race(kind, prim),
         }
     }
 
     /// Takes primitives of a thread in order. Its locals stand outside the memory meanwhile.
-    fn act(&mut self, prims: &[Prim], t: u32, addr: Option<u32>) -> Result<Ended, NoMemory>
-        requires busy { (l : Locals) × (get_or self.old.here.state.locals t None ≡ Some l)
-            × PrimitivesIn (shape self.old.here.state l) prims.now }
-        requires few { length prims.now < 65536 }
-        ensures acts { IfOk result (λ e. Acts t (address_or_null addr) prims.now self.old e self.new) }
-        ensures follows { (o : Observer) → Follows o self.old → Follows o self.new }
+    fn act(&mut self, prims: &[Prim], by: Actor) -> Result<Ended, NoMemory>
+        requires { MayTry self.old.here.state by.t prims.now }
+        ensures acts { IfOk result (λ e. Acts by.t (address_or_null by.addr) prims.now self.old e self.new) }
+        ensures follows { StillFollows self.old self.new }
         ensures err { OnErr result (self.new ≡ self.old) }
     {
-        let Some(mut me) = self.memory.take(t) else {
-            return Ok(Ended::Stuck);
+        let Some(mut me) = self.memory.take(by.t) else {
+            return Ok(Ended::Blocked);
         };
-        let ended = self.act_with(prims, &mut me, t, addr);
-        self.memory.put(t, me);
+        let ended = self.act_with(prims, &mut me, by);
+        self.memory.put(by.t, me);
         ended
     }
 
     /// Takes primitives of a thread with these locals, and takes them back unless all of them come about.
-    fn act_with(
-        &mut self,
-        prims: &[Prim],
-        me: &mut Locals,
-        t: u32,
-        addr: Option<u32>,
-    ) -> Result<Ended, NoMemory>
-        requires named { PrimitivesIn (shape self.old.here.state me.old) prims.now }
-        requires few { length prims.now < 65536 }
+    fn act_with(&mut self, prims: &[Prim], me: &mut Locals, by: Actor) -> Result<Ended, NoMemory>
+        requires { MayExecute self.old.here.state me.old prims.now }
         ensures acts { IfOk result (λ e.
-            ActsWith t (address_or_null addr) prims.now self.old me.old e self.new me.new) }
+            ActsWith by.t (address_or_null by.addr) prims.now self.old me.old e self.new me.new) }
         ensures kept { Kept self.old.here.state me.old self.new.here.state me.new }
-        ensures follows { (o : Observer) → Follows o self.old → Follows o self.new }
+        ensures follows { StillFollows self.old self.new }
         ensures err { OnErr result ((self.new ≡ self.old) × (me.new ≡ me.old)) }
     {
         let mut undos = Vec::new(self.alloc);
-        let ended = self.try_with(prims, me, &mut undos, t, addr);
+        let ended = self.try_with(prims, me, &mut undos, by);
         if came_about(&ended) {
             return ended;
         }
@@ -308,24 +286,22 @@ impl Config {
         prims: &[Prim],
         me: &mut Locals,
         undos: &mut Vec<Undo>,
-        t: u32,
-        addr: Option<u32>,
+        by: Actor,
     ) -> Result<Ended, NoMemory>
-        requires named { PrimitivesIn (shape self.old.here.state me.old) prims.now }
-        requires few { length prims.now < 65536 }
+        requires may { MayExecute self.old.here.state me.old prims.now }
         requires none { undos.old.items ≡ [] }
-        ensures tries { Tries t (address_or_null addr) prims.now self.old me.old result
+        ensures tries { Tries by.t (address_or_null by.addr) prims.now self.old me.old result
             self.new me.new undos.new.items }
-        ensures follows { (o : Observer) → Follows o self.old → Follows o self.new }
+        ensures follows { StillFollows self.old self.new }
     {
         let mut events = Vec::new(self.alloc);
-        let ended = execute(&mut self.memory, me, &mut events, undos, prims, t, addr)?;
+        let ended = execute(&mut self.memory, me, &mut events, undos, prims, by)?;
         match ended {
             Ended::Fine => {
                 self.hear(&events)?;
                 Ok(Ended::Fine)
             }
-            Ended::Stuck => Ok(Ended::Stuck),
+            Ended::Blocked => Ok(Ended::Blocked),
             Ended::Raced { kind, prim } => Ok(Ended::Raced { kind, prim }),
         }
     }
@@ -341,11 +317,8 @@ impl Config {
 
     /// Puts events after the history, and moves the locations by them. The history's places are made first.
     fn hear(&mut self, events: &[Event]) -> Result<(), NoMemory>
-        ensures here { OnOk result (self.new.here
-            ≡ record self.old.here { history = self.old.here.history ++ events.now }) }
-        ensures ended { self.new.ended ≡ self.old.ended }
-        ensures steps { self.new.steps ≡ self.old.steps }
-        ensures follows { (o : Observer) → Follows o self.old → Follows o self.new }
+        ensures ok { OnOk result (Hears events.now self.old self.new) }
+        ensures follows { StillFollows self.old self.new }
         ensures err { OnErr result (self.new ≡ self.old) }
     {
         self.history.reserve(events.len())?;
@@ -356,7 +329,7 @@ impl Config {
 
     /// A return: the thread loses its locals.
     fn return_move(&mut self, flow: &Flow, t: u32) -> Moved
-        requires { ConfigurationFits flow.now (threads_of self.old) self.old.here }
+        requires { IsOfFlow flow.now self.old }
         ensures answer { result ≡ answer (return_from flow.now self.old.here t (point_of self.old.here t)) }
         ensures after { Reaches (return_from flow.now self.old.here t (point_of self.old.here t)) self.old self.new }
         ensures unheard { IsUnheard self.old self.new }

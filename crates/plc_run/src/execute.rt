@@ -1,14 +1,14 @@
 // Primitives in order on the memory itself. Each notes what takes it back: the caller takes all of them back where the
 // list of them doesn't come about.
-ghost use Rattle.std.specs.Prelude.{◌≡◌, ◌<◌, length, IfOk, OnOk, Some, []};
-ghost use Rattle.plc_lang.specs.Shape.{PrimitiveIn, PrimitivesIn};
+ghost use Rattle.std.specs.Prelude.{◌≡◌, IfOk, OnOk, Some, []};
+ghost use Rattle.plc_lang.specs.Shape.{PrimitiveIn};
 ghost use Rattle.plc_flow.specs.WellFormed.{FlowFits};
 ghost use Rattle.plc_mem.specs.State.{State, Locals, with_locals, first_state, no_locals};
 ghost use Rattle.plc_mem.specs.Outcomes.{outcome_of, next_of, address_or_null};
 ghost use Rattle.plc_mem.specs.Fit.{shape, Kept};
 ghost use Rattle.plc_mem.specs.Undoing.{TakesBack};
 ghost use Rattle.plc_run.specs.Run.{execute};
-ghost use Rattle.plc_run.specs.Ended.{heard, ending, InitEnds};
+ghost use Rattle.plc_run.specs.Ended.{heard, ending, MayExecute, InitEnds};
 
 use plc_auto::Event;
 use plc_base::NoMemory;
@@ -17,13 +17,20 @@ use plc_lang::Prim;
 use plc_mem::{Locals, Memory, Outcome, RaceKind, Undo};
 use std::alloc::Global;
 
+/// Who takes primitives: a thread, and the address that a `new` of them takes, where the move names one.
+#[derive(Clone, Copy)]
+pub struct Actor {
+    pub t: u32,
+    pub addr: Option<u32>,
+}
+
 /// How primitives in order ended.
 #[derive(Clone, Copy)]
 pub enum Ended {
     /// All succeeded.
     Fine,
     /// One is blocked.
-    Stuck,
+    Blocked,
     /// This one is a race.
     Raced { kind: RaceKind, prim: u16 },
 }
@@ -43,20 +50,19 @@ fn one(
     events: &mut Vec<Event>,
     undos: &mut Vec<Undo>,
     prim: &Prim,
-    t: u32,
-    addr: Option<u32>,
+    by: Actor,
 ) -> Result<Outcome, NoMemory>
     requires { PrimitiveIn (shape memory.old me.old) prim.now }
     ensures kept { Kept memory.old me.old memory.new me.new }
-    ensures undoable { (s : State) (l : Locals) → TakesBack t s l undos.old.items memory.old me.old
-        → TakesBack t s l undos.new.items memory.new me.new }
+    ensures undoable { (s : State) (l : Locals) → TakesBack by.t s l undos.old.items memory.old me.old
+        → TakesBack by.t s l undos.new.items memory.new me.new }
     ensures events { IfOk result (λ o. events.new.items ≡ heard events.old.items o) }
     ensures outcome { IfOk result (λ o. o
-        ≡ outcome_of (with_locals memory.old t (Some me.old)) t (address_or_null addr) prim.now) }
-    ensures next { OnOk result (with_locals memory.new t (Some me.new)
-        ≡ next_of (with_locals memory.old t (Some me.old)) t (address_or_null addr) prim.now) }
+        ≡ outcome_of (with_locals memory.old by.t (Some me.old)) by.t (address_or_null by.addr) prim.now) }
+    ensures next { OnOk result (with_locals memory.new by.t (Some me.new)
+        ≡ next_of (with_locals memory.old by.t (Some me.old)) by.t (address_or_null by.addr) prim.now) }
 {
-    match memory.apply_undoably(prim, me, undos, t, addr)? {
+    match memory.apply_undoably(prim, me, undos, by.t, by.addr)? {
         Outcome::Next(Some(event)) => {
             events.push(event)?;
             Ok(Outcome::Next(Some(event)))
@@ -75,22 +81,21 @@ pub fn execute(
     events: &mut Vec<Event>,
     undos: &mut Vec<Undo>,
     prims: &[Prim],
-    t: u32,
-    addr: Option<u32>,
+    by: Actor,
 ) -> Result<Ended, NoMemory>
-    requires fit { PrimitivesIn (shape memory.old me.old) prims.now }
-    requires few { length prims.now < 65536 }
-    ensures ends { IfOk result (λ e. ending e (with_locals memory.new t (Some me.new)) events.new.items
-        ≡ execute (with_locals memory.old t (Some me.old)) events.old.items t (address_or_null addr) 0 prims.now) }
+    requires { MayExecute memory.old me.old prims.now }
+    ensures ends { IfOk result (λ e. ending e (with_locals memory.new by.t (Some me.new)) events.new.items
+        ≡ execute (with_locals memory.old by.t (Some me.old)) events.old.items by.t (address_or_null by.addr)
+        0 prims.now) }
     ensures kept { Kept memory.old me.old memory.new me.new }
-    ensures undoable { (s : State) (l : Locals) → TakesBack t s l undos.old.items memory.old me.old
-        → TakesBack t s l undos.new.items memory.new me.new }
+    ensures undoable { (s : State) (l : Locals) → TakesBack by.t s l undos.old.items memory.old me.old
+        → TakesBack by.t s l undos.new.items memory.new me.new }
 {
     for k in 0..prims.len() {
         let prim = &prims[k];
-        match one(memory, me, events, undos, prim, t, addr)? {
+        match one(memory, me, events, undos, prim, by)? {
             Outcome::Next(_) => {}
-            Outcome::Blocked => return Ok(Ended::Stuck),
+            Outcome::Blocked => return Ok(Ended::Blocked),
             Outcome::Race(kind) => return Ok(Ended::Raced {
                 kind,
                 prim: k as u16,
@@ -107,15 +112,18 @@ fn run_init(
     memory: &mut Memory,
     events: &mut Vec<Event>,
 ) -> Result<Ended, NoMemory>
-    requires fit { PrimitivesIn (shape memory.old no_locals) flow.now.file.init }
-    requires few { length flow.now.file.init < 65536 }
+    requires { MayExecute memory.old no_locals flow.now.file.init }
     ensures { IfOk result (λ e.
         InitEnds memory.old events.old.items flow.now.file.init e memory.new events.new.items) }
 {
     let mut me = Locals::none(alloc)?;
     let mut undos = Vec::new(alloc);
     let init = flow.file.init.as_slice();
-    execute(memory, &mut me, events, &mut undos, init, 0, Some(1))
+    let by = Actor {
+        t: 0,
+        addr: Some(1),
+    };
+    execute(memory, &mut me, events, &mut undos, init, by)
 }
 
 /// Tries `init` on a new memory for so many threads.

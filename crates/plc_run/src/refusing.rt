@@ -1,21 +1,15 @@
 // Why a move was blocked. A run needs no more than that it is, so `step` says nothing of it: who shows a run asks here,
 // once, about the move at which it ended. The causes are looked at in the order of the definition. Of a step the
 // primitives are taken on a copy of the memory, up to the one that is blocked, so that asking changes nothing.
-ghost use Rattle.std.specs.Prelude.{◌≡◌, ◌↔◌, ◌<◌, ◌⊎◌, length, slice_get, is_some, option_map, IfOk, IsTrue};
-ghost use Rattle.std.specs.Prelude.{Some, true};
-ghost use Rattle.plc_lang.specs.Shape.{PrimitivesIn};
-ghost use Rattle.plc_auto.specs.declared.observer.Observer.{Observer};
-ghost use Rattle.plc_flow.specs.StepsByPoint.{IsIndexOf, first_points};
+ghost use Rattle.std.specs.Prelude.{◌≡◌, Some, slice_get, option_map, IfOk};
 ghost use Rattle.plc_flow.specs.WellFormed.{FlowFits};
 ghost use Rattle.plc_mem.specs.State.{with_locals};
 ghost use Rattle.plc_mem.specs.Outcomes.{address_or_null};
-ghost use Rattle.plc_mem.specs.Fit.{shape};
 ghost use Rattle.plc_run.specs.Run.{point_of};
-ghost use Rattle.plc_run.specs.Ended.{MayTry};
-ghost use Rattle.plc_run.specs.Fit.{ConfigurationFits};
-ghost use Rattle.plc_run.specs.Position.{threads_of, IsOfRun, HasNone};
-ghost use Rattle.plc_run.specs.Refusals.{refusal_of, move_refused, of_thread, start_refused, step_refused};
-ghost use Rattle.plc_run.specs.Refusals.{return_refused, unstarted, untaken, blocked_in, blocked_by};
+ghost use Rattle.plc_run.specs.Ended.{MayTry, MayExecute, IsOfFlow};
+ghost use Rattle.plc_run.specs.Position.{threads_of, IsOfSomeRun};
+ghost use Rattle.plc_run.specs.Refusals.{refusal_of, IsNamedExactly, move_refused, of_thread, start_refused};
+ghost use Rattle.plc_run.specs.Refusals.{step_refused, return_refused, unstarted, untaken, blocked_in, blocked_by};
 
 use crate::config::Config;
 use crate::refusal::Refusal;
@@ -31,10 +25,9 @@ impl Config {
     /// observer forbids; after a race has ended the run there is none of these. The one error is that memory runs out.
     pub fn refusal(&self, flow: &Flow, m: &Move) -> Result<Option<Refusal>, NoMemory>
         requires fits { FlowFits flow.now }
-        requires of_run { (o : Observer) × IsOfRun flow.now o self.now }
+        requires of_run { IsOfSomeRun flow.now self.now }
         ensures cause { IfOk result (λ r. r ≡ refusal_of flow.now self.now m.now) }
-        ensures exact { IfOk result (λ r. (o : Observer) → IsOfRun flow.now o self.now → IsTrue (is_some r)
-            ↔ ((self.now.ended ≡ true) ⊎ HasNone flow.now o (threads_of self.now) self.now.here m.now)) }
+        ensures exact { IfOk result (λ r. IsNamedExactly flow.now self.now m.now r) }
     {
         if self.ended {
             return Ok(Some(Refusal::Ended));
@@ -44,9 +37,7 @@ impl Config {
 
     /// The cause in a run that no race has ended.
     fn move_refused(&self, flow: &Flow, m: &Move) -> Result<Option<Refusal>, NoMemory>
-        requires flow { FlowFits flow.now }
-        requires fits { ConfigurationFits flow.now (threads_of self.now) self.now.here }
-        requires indexed { IsIndexOf (first_points flow.now) self.now.steps }
+        requires { IsOfFlow flow.now self.now }
         ensures { IfOk result (λ r. r ≡ move_refused flow.now (threads_of self.now) self.now.here m.now) }
     {
         match m {
@@ -95,9 +86,7 @@ impl Config {
         nth: u16,
         addr: Option<u32>,
     ) -> Result<Option<Refusal>, NoMemory>
-        requires flow { FlowFits flow.now }
-        requires fits { ConfigurationFits flow.now (threads_of self.now) self.now.here }
-        requires indexed { IsIndexOf (first_points flow.now) self.now.steps }
+        requires { IsOfFlow flow.now self.now }
         ensures { IfOk result (λ r. r
             ≡ step_refused flow.now self.now.here t nth addr (point_of self.now.here t)) }
     {
@@ -187,8 +176,7 @@ fn first_blocked(
     t: u32,
     addr: Option<u32>,
 ) -> Result<Option<u16>, NoMemory>
-    requires fit { PrimitivesIn (shape memory.old me.old) prims.now }
-    requires few { length prims.now < 65536 }
+    requires { MayExecute memory.old me.old prims.now }
     ensures { IfOk result (λ k. k ≡ blocked_in (with_locals memory.old t (Some me.old)) t
         (address_or_null addr) 0 prims.now) }
 {

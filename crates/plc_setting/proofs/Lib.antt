@@ -1,5 +1,4 @@
 pub mod ActSorts
-pub mod Alike
 pub mod Ascent
 pub mod Fitting
 pub mod NodeSorts

@@ -24,8 +24,8 @@ use Rattle.plc_setting.specs.declared.acts.Act.TheVariants.{Assign, Make, Fetch,
 use Rattle.plc_setting.specs.declared.acts.Act.TheVariants.{Test, Differ, Skip}
 use Rattle.plc_setting.specs.declared.obligations.Obligation.{Obligation}
 use Rattle.plc_setting.specs.Parts.{acting_locals, owner_locals}
-use Rattle.plc_setting.specs.Setting.{below, local_symbol, variables_of, pointer_loads_from, if_made, node_constants}
-use Rattle.plc_setting.specs.Setting.{plain_constants, pointer_fields_from, fields_of, targets_of, if_deep, nodes_of}
+use Rattle.plc_setting.specs.Setting.{below, local_symbol, variables_of, pointer_loads_from, only_if, node_constants}
+use Rattle.plc_setting.specs.Setting.{plain_constants, pointer_fields_from, fields_of, targets_of, nodes_of}
 use Rattle.plc_setting.specs.Setting.{mark_constants, setting_of}
 use Rattle.plc_setting.specs.Acts.{mark_of}
 use Rattle.plc_setting.specs.Sorts.{field_sort, local_sort, load_sort, loads_of, map_sort, symbol_sort, sort_of}
@@ -116,7 +116,7 @@ module _ (flow : Flow) (o : Obligation) (acts : List Act) where
       All-map IsMark mark_of (pointers ++ loads) (λ i d less. mark_sort flow o acts (get_or (pointers ++ loads) i d))
   marks_fit false pointers loads = All-nil IsMark
 
-  made_fit : (b : Bool) → All IsNode (if_made b)
+  made_fit : (b : Bool) → All IsNode (only_if b (symbols.New ∷ []))
   made_fit true = All-cons IsNode symbols.New [] refl (All-nil IsNode)
   made_fit false = All-nil IsNode
 
@@ -137,10 +137,10 @@ module _ (flow : Flow) (o : Obligation) (acts : List Act) where
   constants_fit pointers makes bound loads p l =
       let rest = map symbols.Bound (below bound) ++ loads in
       let made =
-      All-append IsNode (if_made makes) rest (made_fit makes)
+      All-append IsNode (only_if makes (symbols.New ∷ [])) rest (made_fit makes)
       (All-append IsNode (map symbols.Bound (below bound)) loads (bound_fit bound) l) in
-      All-cons IsNode symbols.Null (pointers ++ (if_made makes ++ rest)) refl
-      (All-append IsNode pointers (if_made makes ++ rest) p made)
+      All-cons IsNode symbols.Null (pointers ++ (only_if makes (symbols.New ∷ []) ++ rest)) refl
+      (All-append IsNode pointers (only_if makes (symbols.New ∷ []) ++ rest) p made)
 
   -- pointer fields
   targets_fit : (fs : List FieldId) (cs : List Symbol) → All HoldsNodes fs → All IsTerm (targets_of fs cs)
@@ -149,14 +149,14 @@ module _ (flow : Flow) (o : Obligation) (acts : List Act) where
       All-append IsTerm (fields_of fs s) (targets_of fs cs) (All-map IsTerm (λ f. Target f s) fs h)
       (targets_fit fs cs h)
 
-  deep_fit : (deep : Bool) (ns : List NodeTerm) → All IsTerm ns → All IsTerm (if_deep deep ns)
+  deep_fit : (deep : Bool) (ns : List NodeTerm) → All IsTerm ns → All IsTerm (only_if deep ns)
   deep_fit true ns h = h
   deep_fit false ns h = All-nil IsTerm
 
   terms_fit : (ss : List Symbol) (deep : Bool) (cs : List Symbol) (fs : List FieldId) → All IsNode ss
       → All HoldsNodes fs → All IsTerm (nodes_of ss deep cs fs)
   terms_fit ss deep cs fs s h =
-      All-append IsTerm (map At ss) (if_deep deep (targets_of fs cs)) (All-map IsTerm At ss s)
+      All-append IsTerm (map At ss) (only_if deep (targets_of fs cs)) (All-map IsTerm At ss s)
       (deep_fit deep (targets_of fs cs) (targets_fit fs cs h))
 
   field_nodes : (k : ℕ) (fs : List Field) → ((j : ℕ) → slice_get flow.file.fields (k + j) ≡ slice_get fs j)

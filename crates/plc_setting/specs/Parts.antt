@@ -1,6 +1,6 @@
 -- The parts of an obligation: what is executed, whose locals it names, what holds before and what is to hold after.
-use Rattle.std.specs.Prelude.{ℕ, Bool, true, false, ◌&&◌, ◌++◌, nat_le, nat_lt, List, [], take}
-use Rattle.std.specs.Prelude.{Option, Some, None, slice_get}
+use Rattle.std.specs.Prelude.{ℕ, Bool, ◌&&◌, ◌++◌, nat_le, nat_lt, List, [], take}
+use Rattle.std.specs.Prelude.{Option, Some, None, is_some, slice_get}
 use Rattle.std.specs.List.{position}
 use Rattle.plc_base.specs.declared.ids.PointId.{PointId}
 use Rattle.plc_lang.specs.declared.syntax.Local.{Local}
@@ -45,6 +45,16 @@ locals_or_none flow (Some o) = locals_of flow.file.ops o
 abbrev pub point_locals : Flow → ℕ → List Local
 point_locals flow p = locals_or_none flow (position (has_point p) flow.gates)
 
+-- those of the thread that stands at the point, and none where no thread stands
+abbrev pub locals_at : Flow → Option PointId → List Local
+locals_at flow None = []
+locals_at flow (Some p) = point_locals flow p.0
+
+-- the clauses at a point, and none where no thread stands
+abbrev pub clauses_of : Flow → Outline → Option PointId → List Clause
+clauses_of flow outline None = []
+clauses_of flow outline (Some p) = clauses_at flow outline p.0
+
 -- the clauses of the first point of a step, of its last point, and of the entry of an operation
 abbrev pub clauses_before : Flow → Outline → Option Step → List Clause
 clauses_before flow outline None = []
@@ -76,21 +86,21 @@ acting_locals flow (Own k c) = step_locals flow k.0
 acting_locals flow (Other k p c) = step_locals flow k.0
 acting_locals flow (Claim k j) = step_locals flow k.0
 
--- whether the clause is that of a second thread, its owner
+-- the point at which the owner of the clause stands, where that is a second thread
+abbrev pub owner_point : Obligation → Option PointId
+owner_point (Start i) = None
+owner_point (Enter o c) = None
+owner_point (Own k c) = None
+owner_point (Other k p c) = Some p
+owner_point (Claim k j) = None
+
+-- whether the clause is such a thread's
 abbrev pub has_owner : Obligation → Bool
-has_owner (Start i) = false
-has_owner (Enter o c) = false
-has_owner (Own k c) = false
-has_owner (Other k p c) = true
-has_owner (Claim k j) = false
+has_owner o = is_some (owner_point o)
 
 -- the locals of the owner
 abbrev pub owner_locals : Flow → Obligation → List Local
-owner_locals flow (Start i) = []
-owner_locals flow (Enter o c) = []
-owner_locals flow (Own k c) = []
-owner_locals flow (Other k p c) = point_locals flow p.0
-owner_locals flow (Claim k j) = []
+owner_locals flow o = locals_at flow (owner_point o)
 
 -- what holds before and is read for the acting thread: the invariants, but not before `init`; then the clauses of the
 -- step's first point
@@ -104,11 +114,7 @@ acting_premises flow outline (Claim k j) = outline.invariants ++ clauses_before 
 
 -- what holds before and is read for the owner: the clauses of its point
 abbrev pub owner_premises : Flow → Outline → Obligation → List Clause
-owner_premises flow outline (Start i) = []
-owner_premises flow outline (Enter o c) = []
-owner_premises flow outline (Own k c) = []
-owner_premises flow outline (Other k p c) = clauses_at flow outline p.0
-owner_premises flow outline (Claim k j) = []
+owner_premises flow outline o = clauses_of flow outline (owner_point o)
 
 -- the conclusion, where it is a clause
 abbrev pub conclusion : Flow → Outline → Obligation → Option Clause
@@ -141,14 +147,6 @@ acting_point flow (Own k c) = first_point (slice_get flow.steps k.0)
 acting_point flow (Other k p c) = first_point (slice_get flow.steps k.0)
 acting_point flow (Claim k j) = first_point (slice_get flow.steps k.0)
 
--- the point at which the owner stands
-abbrev pub owner_point : Obligation → Option PointId
-owner_point (Start i) = None
-owner_point (Enter o c) = None
-owner_point (Own k c) = None
-owner_point (Other k p c) = Some p
-owner_point (Claim k j) = None
-
 -- the invariants, but not before `init`
 abbrev pub invariants_before : Outline → Obligation → List Clause
 invariants_before outline (Start i) = []
@@ -156,8 +154,3 @@ invariants_before outline (Enter o c) = outline.invariants
 invariants_before outline (Own k c) = outline.invariants
 invariants_before outline (Other k p c) = outline.invariants
 invariants_before outline (Claim k j) = outline.invariants
-
--- the clauses at a point, and none where no thread stands
-abbrev pub clauses_of : Flow → Outline → Option PointId → List Clause
-clauses_of flow outline None = []
-clauses_of flow outline (Some p) = clauses_at flow outline p.0

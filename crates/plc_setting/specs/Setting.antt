@@ -26,8 +26,6 @@ use Rattle.plc_logic.specs.declared.clause.Outline.{Outline}
 use Rattle.plc_ground.specs.declared.terms.Symbol.{Symbol}
 use Rattle.plc_ground.specs.declared.terms.Symbol.TheVariants as symbols
 use Rattle.plc_setting.specs.declared.acts.Act.{Act}
-use Rattle.plc_setting.specs.declared.acts.Act.TheVariants.{Assign, Make, Fetch, FetchMarked, Update}
-use Rattle.plc_setting.specs.declared.acts.Act.TheVariants.{Test, Differ, Skip}
 use Rattle.plc_setting.specs.declared.obligations.Obligation.{Obligation}
 use Rattle.plc_setting.specs.declared.setting.Setting.{Setting}
 use Rattle.plc_setting.specs.declared.setting.Variables.{Variables}
@@ -36,10 +34,16 @@ use Rattle.plc_symbolic.specs.declared.symbolic.NodeTerm.TheVariants.{At, Target
 use Rattle.plc_setting.specs.Acts.{acts_of, mark_of}
 use Rattle.plc_setting.specs.Marks.{program_uses_marks}
 use Rattle.plc_setting.specs.Parts.{executed, acting_locals, owner_locals, has_owner, conclusion}
+use Rattle.plc_setting.specs.Sorts.{loads_of}
 
 -- the numbers below n
 abbrev pub below : ℕ → List ℕ
 below n = range_with_len 0 n
+
+-- these where a condition holds, else none: that marks are used, a node is made, there is an owner, the depth is 1
+abbrev pub only_if : {A : Type 0} → Bool → List A → List A
+only_if true xs = xs
+only_if false xs = []
 
 -- ---- variables
 
@@ -59,39 +63,24 @@ variables_of owner ls = record {
 
 -- the constants of what is read, where k reads stand before
 abbrev pub loads_from : ℕ → List Act → List Symbol
-loads_from k [] = []
-loads_from k (Fetch p q f pointer ∷ more) = symbols.Loaded k ∷ loads_from (k + 1) more
-loads_from k (FetchMarked p q f ∷ more) = symbols.Loaded k ∷ loads_from (k + 1) more
-loads_from k (Assign p e ∷ more) = loads_from k more
-loads_from k (Make p ∷ more) = loads_from k more
-loads_from k (Update checked m p e ∷ more) = loads_from k more
-loads_from k (Test a b equal ∷ more) = loads_from k more
-loads_from k (Differ a b ∷ more) = loads_from k more
-loads_from k (Skip ∷ more) = loads_from k more
+loads_from k acts = map symbols.Loaded (range_with_len k (length (loads_of acts)))
 
--- those of them that are nodes, each by its number among all reads
+-- those that go into pointers, each by its number among all that is read
+abbrev pub nodes_read : ℕ → List Bool → List Symbol
+nodes_read k [] = []
+nodes_read k (true ∷ more) = symbols.Loaded k ∷ nodes_read (k + 1) more
+nodes_read k (false ∷ more) = nodes_read (k + 1) more
+
+-- the constants of the nodes that are read, where k reads stand before
 abbrev pub pointer_loads_from : ℕ → List Act → List Symbol
-pointer_loads_from k [] = []
-pointer_loads_from k (Fetch p q f true ∷ more) = symbols.Loaded k ∷ pointer_loads_from (k + 1) more
-pointer_loads_from k (Fetch p q f false ∷ more) = pointer_loads_from (k + 1) more
-pointer_loads_from k (FetchMarked p q f ∷ more) = symbols.Loaded k ∷ pointer_loads_from (k + 1) more
-pointer_loads_from k (Assign p e ∷ more) = pointer_loads_from k more
-pointer_loads_from k (Make p ∷ more) = pointer_loads_from k more
-pointer_loads_from k (Update checked m p e ∷ more) = pointer_loads_from k more
-pointer_loads_from k (Test a b equal ∷ more) = pointer_loads_from k more
-pointer_loads_from k (Differ a b ∷ more) = pointer_loads_from k more
-pointer_loads_from k (Skip ∷ more) = pointer_loads_from k more
+pointer_loads_from k acts = nodes_read k (loads_of acts)
 
 -- ---- nodes
-
-abbrev pub if_made : Bool → List Symbol
-if_made true = symbols.New ∷ []
-if_made false = []
 
 -- the constants that are nodes, in order, between null and the rest the pointer variables
 abbrev pub node_constants : List Symbol → Bool → ℕ → List Symbol → List Symbol
 node_constants pointers makes bound loads =
-    symbols.Null ∷ (pointers ++ (if_made makes ++ (map symbols.Bound (below bound) ++ loads)))
+    symbols.Null ∷ (pointers ++ (only_if makes (symbols.New ∷ []) ++ (map symbols.Bound (below bound) ++ loads)))
 
 -- the constants that are nodes, without null and `new`
 abbrev pub plain_constants : List Symbol → ℕ → List Symbol → List Symbol
@@ -111,23 +100,15 @@ fields_of fs s = map (λ f. Target f s) fs
 abbrev pub targets_of : List FieldId → List Symbol → List NodeTerm
 targets_of fs ss = flat_map (fields_of fs) ss
 
-abbrev pub if_deep : Bool → List NodeTerm → List NodeTerm
-if_deep true ns = ns
-if_deep false ns = []
-
 -- these constants and, at depth 1, the pointer fields of all node constants
 abbrev pub nodes_of : List Symbol → Bool → List Symbol → List FieldId → List NodeTerm
-nodes_of ss deep constants fs = map At ss ++ if_deep deep (targets_of fs constants)
+nodes_of ss deep constants fs = map At ss ++ only_if deep (targets_of fs constants)
 
 -- ---- marks
 
-abbrev pub if_marked : Bool → List Symbol → List Symbol
-if_marked true ss = ss
-if_marked false ss = []
-
 -- the constants of marks: those of the pointer variables and of the pointers that are read
 abbrev pub mark_constants : Bool → List Symbol → List Symbol → List Symbol
-mark_constants marked pointers loads = if_marked marked (map mark_of (pointers ++ loads))
+mark_constants marked pointers loads = only_if marked (map mark_of (pointers ++ loads))
 
 -- ---- the setting
 
@@ -138,34 +119,47 @@ bound_of (Some c) = length c.bound.names
 abbrev pub pointer_variables : ℕ → Variables → Variables → List Symbol
 pointer_variables shared mine theirs = map symbols.Shared (below shared) ++ (mine.pointers ++ theirs.pointers)
 
-abbrev pub setting_of : Flow → Outline → Obligation → Setting
-setting_of flow outline o =
+-- what is executed and by whom, and how many nodes the conclusion names; no nodes are listed yet
+abbrev pub without_nodes : Flow → Outline → Obligation → Setting
+without_nodes flow outline o =
     let marked = program_uses_marks flow outline in
     let mine = variables_of false (acting_locals flow o) in
-    let theirs = variables_of true (owner_locals flow o) in
-    let acts = acts_of marked flow.file.ghosts mine (executed flow o) in
-    let makes = list_any is_new (executed flow o) in
-    let bound = bound_of (conclusion flow outline o) in
-    let pointers = pointer_variables (length flow.file.shared) mine theirs in
-    let loads = pointer_loads_from 0 acts in
-    let constants = node_constants pointers makes bound loads in
-    let fields = pointer_fields_from 0 flow.file.fields in
-    let deep = outline.depth == 1 in
     record {
       marked = marked;
       mine = mine;
-      theirs = theirs;
+      theirs = variables_of true (owner_locals flow o);
       owned = has_owner o;
-      acts = acts;
-      makes = makes;
-      bound = bound;
+      acts = acts_of marked flow.file.ghosts mine (executed flow o);
+      makes = list_any is_new (executed flow o);
+      bound = bound_of (conclusion flow outline o);
+      pointers = [];
+      constants = [];
+      nodes = [];
+      instances = [];
+      fields = [];
+      marks = [];
+    }
+
+-- the same with its nodes, and with what they are found from: the pointer variables and the pointer fields
+abbrev pub with_nodes : Flow → Outline → Setting → Setting
+with_nodes flow outline s =
+    let pointers = pointer_variables (length flow.file.shared) s.mine s.theirs in
+    let loads = pointer_loads_from 0 s.acts in
+    let constants = node_constants pointers s.makes s.bound loads in
+    let fields = pointer_fields_from 0 flow.file.fields in
+    let deep = outline.depth == 1 in
+    record s {
       pointers = pointers;
       constants = constants;
       nodes = nodes_of constants deep constants fields;
-      instances = nodes_of (plain_constants pointers bound loads) deep constants fields;
+      instances = nodes_of (plain_constants pointers s.bound loads) deep constants fields;
       fields = fields;
-      marks = mark_constants marked pointers loads;
+      marks = mark_constants s.marked pointers loads;
     }
+
+-- the setting of an obligation
+abbrev pub setting_of : Flow → Outline → Obligation → Setting
+setting_of flow outline o = with_nodes flow outline (without_nodes flow outline o)
 
 -- ---- the constants, in order
 
@@ -215,19 +209,15 @@ with_numbers ks ns = fold (insert_key nat_cmp) ks ns
 abbrev pub numbers_of : Flow → Outline → List ℕ
 numbers_of flow outline = with_numbers [] (all_numbers flow outline)
 
-abbrev pub if_owned : Bool → List Symbol
-if_owned true = symbols.You ∷ []
-if_owned false = []
-
 abbrev pub constants_of : Flow → Outline → Setting → List Symbol
 constants_of flow outline s =
     symbols.Null ∷ (map symbols.Shared (below (length flow.file.shared))
     ++ (s.mine.pointers ++ (s.mine.values
     ++ (s.theirs.pointers ++ (s.theirs.values
-    ++ (if_made s.makes
+    ++ (only_if s.makes (symbols.New ∷ [])
     ++ (map symbols.Bound (below s.bound)
     ++ (loads_from 0 s.acts
-    ++ (symbols.Yes ∷ (if_marked s.marked (symbols.No ∷ [])
-    ++ (symbols.Nobody ∷ symbols.Me ∷ (if_owned s.owned
+    ++ (symbols.Yes ∷ (only_if s.marked (symbols.No ∷ [])
+    ++ (symbols.Nobody ∷ symbols.Me ∷ (only_if s.owned (symbols.You ∷ [])
     ++ (map symbols.Value (below (sum_by values_in flow.file.ghosts))
     ++ (map symbols.Number (numbers_of flow outline) ++ s.marks))))))))))))))

@@ -275,18 +275,6 @@ fn push_copy(acts: &mut Items<Act>, to: Symbol, from: Symbol) -> Result<(), NoMe
     push_assign(acts, to, from, mark_of(from))
 }
 
-/// A variable gets the node of another, and a mark that is set or isn't.
-fn push_with_mark(
-    acts: &mut Items<Act>,
-    to: Symbol,
-    from: Symbol,
-    is_set: bool,
-) -> Result<(), NoMemory>
-    ensures { OnOk result (acts.new ≡ acts.old ++ assign_marked to from (truth is_set)) }
-{
-    push_assign(acts, to, from, truth(is_set))
-}
-
 /// A variable gets the new node, which is unmarked.
 fn push_make(acts: &mut Items<Act>, to: Symbol) -> Result<(), NoMemory>
     ensures { OnOk result (acts.new ≡ acts.old ++ (Assign (mark_of to) symbols.No ∷ Make to ∷ [])) }
@@ -386,10 +374,15 @@ fn push_marked(
             push_fetch(acts, symbol_at(&v.pointers, p), pointer_symbol(v, q), f)
         }
         Prim::Mark { p, q } => {
-            push_with_mark(acts, pointer_symbol(v, p), pointer_symbol(v, q), true)
+            push_assign(
+                acts,
+                pointer_symbol(v, p),
+                pointer_symbol(v, q),
+                Symbol::Yes,
+            )
         }
         Prim::Unmark { p, q } => {
-            push_with_mark(acts, pointer_symbol(v, p), pointer_symbol(v, q), false)
+            push_assign(acts, pointer_symbol(v, p), pointer_symbol(v, q), Symbol::No)
         }
         Prim::MarkTest { p, yes } => push_marked_test(acts, pointer_symbol(v, p), yes),
         Prim::DataSet { .. } | Prim::DataLoad { .. } | Prim::DataStore { .. } => {

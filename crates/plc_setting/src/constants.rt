@@ -5,13 +5,11 @@ ghost use Rattle.plc_lang.specs.Numbering.{values_in};
 ghost use Rattle.plc_setting.specs.Acts.{most_acts};
 ghost use Rattle.plc_ground.specs.declared.terms.Symbol.TheVariants as symbols;
 ghost use Rattle.plc_setting.specs.Fit.{Fits};
-ghost use Rattle.plc_setting.specs.Setting.{if_owned, if_marked, constants_of};
+ghost use Rattle.plc_setting.specs.Setting.{only_if, constants_of};
 
 use crate::numbers::numbers_of;
 use crate::setting::Setting;
-use crate::symbols::{
-    push_all, push_bound, push_loads, push_made, push_owner, push_shared, push_unset, push_values,
-};
+use crate::symbols::{push_all, push_bound, push_if, push_loads, push_shared, push_values};
 use plc_base::{Items, NoMemory};
 use plc_flow::Flow;
 use plc_ground::Symbol;
@@ -59,14 +57,14 @@ fn push_truths_and_threads(
     marked: bool,
     owned: bool,
 ) -> Result<(), NoMemory>
-    ensures { OnOk result (list.new ≡ list.old ++ (symbols.Yes ∷ (if_marked marked (symbols.No ∷ [])
-        ++ (symbols.Nobody ∷ symbols.Me ∷ if_owned owned)))) }
+    ensures { OnOk result (list.new ≡ list.old ++ (symbols.Yes ∷ (only_if marked (symbols.No ∷ [])
+        ++ (symbols.Nobody ∷ symbols.Me ∷ only_if owned (symbols.You ∷ []))))) }
 {
     list.push(Symbol::Yes)?;
-    push_unset(list, marked)?;
+    push_if(list, marked, Symbol::No)?;
     list.push(Symbol::Nobody)?;
     list.push(Symbol::Me)?;
-    push_owner(list, owned)
+    push_if(list, owned, Symbol::You)
 }
 
 /// The constants of a setting, in order.
@@ -84,7 +82,7 @@ pub fn constants_of(
     list.push(Symbol::Null)?;
     push_shared(&mut list, flow.file.shared.len())?;
     push_variables(&mut list, s)?;
-    push_made(&mut list, s.makes)?;
+    push_if(&mut list, s.makes, Symbol::New)?;
     push_bound(&mut list, s.bound)?;
     push_loads(&mut list, s.acts.as_slice())?;
     push_truths_and_threads(&mut list, s.marked, s.owned)?;

@@ -2,14 +2,11 @@
 ghost use Rattle.plc_setting.specs.Numbers.{AllNumbersFit};
 ghost use Rattle.plc_setting.specs.WellSorted.{AllActsFit, AllNodesFit};
 
-/// The constants that an act names have the sorts that its row of the table asks.
-pub fn acts_fit()
-    ensures { AllActsFit }
-{}
-
-/// What a setting lists as nodes has the sort of nodes; the constants of data locals are numbers.
-pub fn nodes_fit()
-    ensures { AllNodesFit }
+/// The constants that an act names have the sorts that its row of the table asks. What a setting lists as nodes has
+/// the sort of nodes, and the constants of data locals are numbers.
+pub fn settings_are_well_sorted()
+    ensures acts { AllActsFit }
+    ensures nodes { AllNodesFit }
 {}
 
 /// The numbers of a file ascend, each once, and are those that stand in it.

@@ -17,7 +17,7 @@ mod symbols;
 
 pub use acts::{Act, mark_of, pointer_symbol};
 pub use constants::constants_of;
-pub use laws::{acts_fit, nodes_fit, numbers_fit};
+pub use laws::{numbers_fit, settings_are_well_sorted};
 pub use marks::program_uses_marks;
 pub use obligations::Obligation;
 pub use parts::{

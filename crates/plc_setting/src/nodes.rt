@@ -3,7 +3,7 @@ ghost use Rattle.std.specs.Prelude.{◌≡◌, ◌++◌, map, OnOk, IfOk};
 ghost use Rattle.plc_symbolic.specs.declared.symbolic.NodeTerm.TheVariants as nodes;
 ghost use Rattle.plc_setting.specs.Setting.{node_constants, plain_constants, fields_of, targets_of, nodes_of};
 
-use crate::symbols::{push_all, push_bound, push_made};
+use crate::symbols::{push_all, push_bound, push_if};
 use plc_base::{FieldId, Items, NoMemory};
 use plc_ground::Symbol;
 use plc_symbolic::NodeTerm;
@@ -23,7 +23,7 @@ pub fn node_constants(
     let mut list = Items::new(alloc);
     list.push(Symbol::Null)?;
     push_all(&mut list, pointers)?;
-    push_made(&mut list, makes)?;
+    push_if(&mut list, makes, Symbol::New)?;
     push_bound(&mut list, bound)?;
     push_all(&mut list, loaded)?;
     Ok(list)

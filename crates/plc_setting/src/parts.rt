@@ -110,9 +110,9 @@ fn point_locals(flow: &Flow, point: PointId) -> &[Local]
 pub fn owner_locals<'a>(flow: &'a Flow, o: &Obligation) -> &'a [Local]
     ensures { result.now ≡ owner_locals flow.now o.now }
 {
-    match *o {
-        Obligation::Other { point, .. } => point_locals(flow, point),
-        _ => &[],
+    match owner_point(o) {
+        None => &[],
+        Some(point) => point_locals(flow, point),
     }
 }
 
@@ -120,7 +120,7 @@ pub fn owner_locals<'a>(flow: &'a Flow, o: &Obligation) -> &'a [Local]
 pub fn has_owner(o: &Obligation) -> bool
     ensures { result ≡ has_owner o.now }
 {
-    matches!(o, Obligation::Other { .. })
+    owner_point(o).is_some()
 }
 
 /// The point from which a step goes.

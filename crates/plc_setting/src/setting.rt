@@ -1,16 +1,13 @@
 // What every item of a ground set rests on: the variables of the threads, what is executed, and the nodes.
-ghost use Rattle.std.specs.Prelude.{◌≡◌, ◌≤◌, ◌==◌, true, false, length, map, IfOk, option_copied};
+ghost use Rattle.std.specs.Prelude.{◌≡◌, ◌≤◌, length, map, IfOk, OnOk, option_copied};
 ghost use Rattle.plc_base.specs.Limits.{most};
 ghost use Rattle.plc_base.specs.declared.limits.What1.TheVariants as limits;
 ghost use Rattle.plc_lang.specs.Numbering.{places_from};
-ghost use Rattle.plc_logic.specs.declared.clause.Outline.{Outline as AnOutline};
 ghost use Rattle.plc_setting.specs.Fit.{Fits};
-ghost use Rattle.plc_setting.specs.Setting.{local_symbol, variables_of, pointer_fields_from, bound_of};
 ghost use Rattle.plc_setting.specs.Kinds.{is_kind};
-ghost use Rattle.plc_setting.specs.Setting.{pointer_variables, pointer_loads_from, setting_of};
-ghost use Rattle.plc_setting.specs.Setting.{node_constants, plain_constants, nodes_of, mark_constants};
-ghost use Rattle.plc_setting.specs.Parts.{executed, acting_locals, owner_locals};
-ghost use Rattle.plc_setting.specs.Acts.{acts_of, most_acts};
+ghost use Rattle.plc_setting.specs.Setting.{local_symbol, variables_of, pointer_fields_from, bound_of, setting_of};
+ghost use Rattle.plc_setting.specs.Setting.{pointer_variables, pointer_loads_from, mark_constants, with_nodes};
+ghost use Rattle.plc_setting.specs.Acts.{most_acts};
 ghost use Rattle.plc_setting.specs.Marks.{program_uses_marks};
 
 use crate::acts::{Act, acts_of};
@@ -166,68 +163,6 @@ fn loaded_pointers(alloc: Global, acts: &[Act]) -> Result<Items<Symbol>, NoMemor
     Ok(list)
 }
 
-/// What is executed, and the locals of the threads.
-#[derive(Drop)]
-struct Executed {
-    mine: Variables,
-    theirs: Variables,
-    acts: Items<Act>,
-}
-
-/// What an obligation executes, with the locals of its threads.
-fn executed_by(
-    alloc: Global,
-    marked: bool,
-    flow: &Flow,
-    o: &Obligation,
-) -> Result<Executed, NoMemory>
-    requires { (outline : AnOutline) × Fits flow.now outline }
-    ensures mine { IfOk result (λ run. run.mine ≡ variables_of false (acting_locals flow.now o.now)) }
-    ensures theirs { IfOk result (λ run. run.theirs ≡ variables_of true (owner_locals flow.now o.now)) }
-    ensures acts { IfOk result (λ run. run.acts
-        ≡ acts_of marked flow.now.file.ghosts run.mine (executed flow.now o.now)) }
-{
-    let mine = variables_of(alloc, acting_locals(flow, o), false)?;
-    let theirs = variables_of(alloc, owner_locals(flow, o), true)?;
-    let acts = acts_of(alloc, marked, &flow.file, &mine, executed(flow, o))?;
-    Ok(Executed { mine, theirs, acts })
-}
-
-/// The constants that are nodes, the nodes, and those at which premises are instantiated.
-#[derive(Drop)]
-struct NodeLists {
-    constants: Items<Symbol>,
-    nodes: Items<NodeTerm>,
-    instances: Items<NodeTerm>,
-}
-
-/// The nodes of these pointer variables, nodes that the conclusion names and nodes that are read.
-fn node_lists(
-    alloc: Global,
-    pointers: &[Symbol],
-    makes: bool,
-    bound: u16,
-    loaded: &[Symbol],
-    deep: bool,
-    fields: &[FieldId],
-) -> Result<NodeLists, NoMemory>
-    ensures constants { IfOk result (λ l. l.constants ≡ node_constants pointers.now makes bound loaded.now) }
-    ensures nodes { IfOk result (λ l. l.nodes ≡ nodes_of l.constants deep l.constants fields.now) }
-    ensures instances { IfOk result (λ l. l.instances
-        ≡ nodes_of (plain_constants pointers.now bound loaded.now) deep l.constants fields.now) }
-{
-    let constants = node_constants(alloc, pointers, makes, bound, loaded)?;
-    let plain = plain_constants(alloc, pointers, bound, loaded)?;
-    let roots = constants.as_slice();
-    let nodes = nodes_of(alloc, roots, deep, roots, fields)?;
-    let instances = nodes_of(alloc, plain.as_slice(), deep, roots, fields)?;
-    Ok(NodeLists {
-        constants,
-        nodes,
-        instances,
-    })
-}
-
 /// The marks of pointer variables and of pointers that are read, where the program uses marks.
 fn mark_constants(
     alloc: Global,
@@ -245,102 +180,29 @@ fn mark_constants(
     Ok(list)
 }
 
-/// The nodes of a setting, with the pointer variables and pointer fields through which they are found,
-/// and the marks of its pointers.
-#[derive(Drop)]
-struct Nodes {
-    pointers: Items<Symbol>,
-    fields: Items<FieldId>,
-    lists: NodeLists,
-    marks: Items<Symbol>,
-}
-
-/// The nodes of a setting, from what is executed and from how many nodes the conclusion names.
-fn setting_nodes(
+/// Lists the nodes of a setting, and what they are found from, where the rest of it is there.
+fn list_nodes(
     alloc: Global,
-    marked: bool,
     flow: &Flow,
     outline: &Outline,
-    run: &Executed,
-    makes: bool,
-    bound: u16,
-) -> Result<Nodes, NoMemory>
+    s: &mut Setting,
+) -> Result<(), NoMemory>
     requires fits { Fits flow.now outline.now }
-    requires few { length run.now.acts ≤ most_acts }
-    ensures pointers { IfOk result (λ nodes. nodes.pointers
-        ≡ pointer_variables (length flow.now.file.shared) run.now.mine run.now.theirs) }
-    ensures fields { IfOk result (λ nodes. nodes.fields ≡ pointer_fields_from 0 flow.now.file.fields) }
-    ensures constants { IfOk result (λ nodes. nodes.lists.constants
-        ≡ node_constants nodes.pointers makes bound (pointer_loads_from 0 run.now.acts)) }
-    ensures nodes { IfOk result (λ nodes. nodes.lists.nodes
-        ≡ nodes_of nodes.lists.constants (outline.now.depth == 1) nodes.lists.constants nodes.fields) }
-    ensures instances { IfOk result (λ nodes. nodes.lists.instances
-        ≡ nodes_of (plain_constants nodes.pointers bound (pointer_loads_from 0 run.now.acts))
-        (outline.now.depth == 1) nodes.lists.constants nodes.fields) }
-    ensures marks { IfOk result (λ nodes. nodes.marks
-        ≡ mark_constants marked nodes.pointers (pointer_loads_from 0 run.now.acts)) }
+    requires few { length s.old.acts ≤ most_acts }
+    ensures { OnOk result (s.new ≡ with_nodes flow.now outline.now s.old) }
 {
-    let pointers = pointer_variables(alloc, flow.file.shared.len(), &run.mine, &run.theirs)?;
-    let loaded = loaded_pointers(alloc, run.acts.as_slice())?;
-    let fields = pointer_fields(alloc, flow.file.fields.as_slice())?;
-    let lists = node_lists(
-        alloc,
-        pointers.as_slice(),
-        makes,
-        bound,
-        loaded.as_slice(),
-        outline.depth == 1,
-        fields.as_slice(),
-    )?;
-    let marks = mark_constants(alloc, marked, pointers.as_slice(), loaded.as_slice())?;
-    Ok(Nodes {
-        pointers,
-        fields,
-        lists,
-        marks,
-    })
-}
-
-/// The setting of which these are the parts.
-fn setting_from_parts(
-    marked: bool,
-    run: Executed,
-    owned: bool,
-    makes: bool,
-    bound: u16,
-    nodes: Nodes,
-) -> Setting
-    ensures { result ≡ record {
-      marked = marked;
-      mine = run.mine;
-      theirs = run.theirs;
-      owned = owned;
-      acts = run.acts;
-      makes = makes;
-      bound = bound;
-      pointers = nodes.pointers;
-      constants = nodes.lists.constants;
-      nodes = nodes.lists.nodes;
-      instances = nodes.lists.instances;
-      fields = nodes.fields;
-      marks = nodes.marks;
-    } }
-{
-    Setting {
-        marked,
-        mine: run.mine,
-        theirs: run.theirs,
-        owned,
-        acts: run.acts,
-        makes,
-        bound,
-        pointers: nodes.pointers,
-        constants: nodes.lists.constants,
-        nodes: nodes.lists.nodes,
-        instances: nodes.lists.instances,
-        fields: nodes.fields,
-        marks: nodes.marks,
-    }
+    let deep = outline.depth == 1;
+    let loaded = loaded_pointers(alloc, s.acts.as_slice())?;
+    s.pointers = pointer_variables(alloc, flow.file.shared.len(), &s.mine, &s.theirs)?;
+    s.fields = pointer_fields(alloc, flow.file.fields.as_slice())?;
+    let pointers = s.pointers.as_slice();
+    s.constants = node_constants(alloc, pointers, s.makes, s.bound, loaded.as_slice())?;
+    let plain = plain_constants(alloc, pointers, s.bound, loaded.as_slice())?;
+    let roots = s.constants.as_slice();
+    s.nodes = nodes_of(alloc, roots, deep, roots, s.fields.as_slice())?;
+    s.instances = nodes_of(alloc, plain.as_slice(), deep, roots, s.fields.as_slice())?;
+    s.marks = mark_constants(alloc, s.marked, pointers, loaded.as_slice())?;
+    Ok(())
 }
 
 /// The setting of an obligation, where it is known whether the program uses marks.
@@ -356,9 +218,24 @@ pub fn setting_of(
     ensures setting { IfOk result (λ s. s ≡ setting_of flow.now outline.now o.now) }
     ensures few { IfOk result (λ s. length s.acts ≤ most_acts) }
 {
-    let run = executed_by(alloc, marked, flow, o)?;
-    let makes = has_new(executed(flow, o));
-    let bound = bound_of(conclusion(flow, outline, o));
-    let nodes = setting_nodes(alloc, marked, flow, outline, &run, makes, bound)?;
-    Ok(setting_from_parts(marked, run, has_owner(o), makes, bound, nodes))
+    let mine = variables_of(alloc, acting_locals(flow, o), false)?;
+    let theirs = variables_of(alloc, owner_locals(flow, o), true)?;
+    let acts = acts_of(alloc, marked, &flow.file, &mine, executed(flow, o))?;
+    let mut s = Setting {
+        marked,
+        mine,
+        theirs,
+        owned: has_owner(o),
+        acts,
+        makes: has_new(executed(flow, o)),
+        bound: bound_of(conclusion(flow, outline, o)),
+        pointers: Items::new(alloc),
+        constants: Items::new(alloc),
+        nodes: Items::new(alloc),
+        instances: Items::new(alloc),
+        fields: Items::new(alloc),
+        marks: Items::new(alloc),
+    };
+    list_nodes(alloc, flow, outline, &mut s)?;
+    Ok(s)
 }

@@ -4,7 +4,7 @@ ghost use Rattle.std.specs.Prelude.{◌≡◌, ◌≤◌, ◌<◌, ◌++◌, ◌
 ghost use Rattle.plc_base.specs.Limits.{most};
 ghost use Rattle.plc_base.specs.declared.limits.What1.TheVariants as limits;
 ghost use Rattle.plc_ground.specs.declared.terms.Symbol.TheVariants as symbols;
-ghost use Rattle.plc_setting.specs.Setting.{below, if_made, if_owned, if_marked, loads_from, pointer_loads_from};
+ghost use Rattle.plc_setting.specs.Setting.{below, only_if, loads_from, pointer_loads_from};
 ghost use Rattle.plc_setting.specs.Acts.{mark_of};
 
 use crate::acts::{Act, mark_of};
@@ -52,22 +52,12 @@ pub fn push_values(list: &mut Items<Symbol>, count: u16) -> Result<(), NoMemory>
     Ok(())
 }
 
-/// Lists the new node, where one is made.
-pub fn push_made(list: &mut Items<Symbol>, makes: bool) -> Result<(), NoMemory>
-    ensures { OnOk result (list.new ≡ list.old ++ if_made makes) }
+/// Lists a constant, where the set has it.
+pub fn push_if(list: &mut Items<Symbol>, has: bool, symbol: Symbol) -> Result<(), NoMemory>
+    ensures { OnOk result (list.new ≡ list.old ++ only_if has (symbol ∷ [])) }
 {
-    if makes {
-        list.push(Symbol::New)?;
-    }
-    Ok(())
-}
-
-/// Lists the mark that isn't set, where marks are used.
-pub fn push_unset(list: &mut Items<Symbol>, marked: bool) -> Result<(), NoMemory>
-    ensures { OnOk result (list.new ≡ list.old ++ if_marked marked (symbols.No ∷ [])) }
-{
-    if marked {
-        list.push(Symbol::No)?;
+    if has {
+        list.push(symbol)?;
     }
     Ok(())
 }
@@ -78,16 +68,6 @@ pub fn push_marks(list: &mut Items<Symbol>, of: &[Symbol]) -> Result<(), NoMemor
 {
     for symbol in of {
         list.push(mark_of(*symbol))?;
-    }
-    Ok(())
-}
-
-/// Lists the owner, where there is one.
-pub fn push_owner(list: &mut Items<Symbol>, owned: bool) -> Result<(), NoMemory>
-    ensures { OnOk result (list.new ≡ list.old ++ if_owned owned) }
-{
-    if owned {
-        list.push(Symbol::You)?;
     }
     Ok(())
 }

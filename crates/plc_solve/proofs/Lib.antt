@@ -4,4 +4,5 @@ pub mod Stacking
 pub mod Grouping
 pub mod Places
 pub mod Turns
+pub mod Handing
 pub mod Answering

@@ -1,5 +1,5 @@
 -- Cores: a longer branch makes more equal, so nodes that close a core close each branch that holds it.
-use Rattle.std.proofs.Common.{◌≡◌, ◌≢◌, ◌<◌, ◌⊎◌, ℕ, zero, suc, true, List, [], ◌∷◌, ◌++◌, length, map, get_or, Some, inl, inr, refl, sym, ◌∙◌, subst, arith}
+use Rattle.std.proofs.Common.{◌≡◌, ◌≢◌, ◌<◌, ◌⊎◌, ℕ, zero, suc, true, List, [], ◌∷◌, ◌++◌, length, map, get_or, Some, inl, inr, refl, sym, ◌∙◌, ap, subst, arith}
 use Rattle.std.specs.Prelude.{Contains, slice_get}
 use Rattle.std.proofs.lemmas.List.Elements.{Contains-append_left, Contains-append_right, Contains-append_cases, Contains-get_or}
 use Rattle.plc_ground.specs.declared.terms.Lit.{Lit}
@@ -12,7 +12,7 @@ use Rattle.plc_ground.specs.Equality.{Same, HoldsUnequal, given, itself, back, a
 use Rattle.plc_ground.specs.Trees.{IsRight, Close}
 use Rattle.plc_ground.specs.Classes.{IsClosure}
 use Rattle.plc_ground.proofs.Joining.{literal_is}
-use Rattle.plc_solve.specs.Search.{IsWithin, TakesCore, PutsSome, Explains, Leads}
+use Rattle.plc_solve.specs.Search.{IsWithin, IsOfSome, TakesCore, PutsSome, Explains, Leads}
 
 -- what a branch makes equal every longer one does
 Same-more : (terms : List GroundTerm) (few many : List Lit) → IsWithin few many → (i j : ℕ) → Same terms few i j → Same terms many i j
@@ -179,6 +179,10 @@ takes_none core own = record { kept = λ m h. h; covered = λ m (k, lt, e). absu
 -- what stands at a place of a clause is one literal
 pub lacks_own : (ls core : List Lit) (n : ℕ) (own : Lit) → slice_get ls n ≡ Some own → (Contains core own → ⊥) → (l : Lit) → slice_get ls n ≡ Some l → Contains core l → ⊥
 lacks_own ls core n own is lacks l at h = lacks (subst (λ (m : Lit). Contains core m) (let same : l ≡ own = cc in same) h)
+
+-- a term of a set has a class in its table
+pub has_a_class : (s : GroundSet) (class found : List ℕ) (i : ℕ) → IsOfSome s class → found ≡ class → i < length s.terms → i < length found
+has_a_class s class found i of same within = let lengths = ap length same in let each = of.1.merged.one_each in omega (arith, within, each, lengths)
 
 -- the literals of a core that was put, with one more of the branch
 pub puts_more : (s : GroundSet) (branch core new : List Lit) (class : List ℕ) (k : ℕ) (d : Lit) → k < length branch → IsWithin core branch → new ≡ core ++ get_or branch k d ∷ [] →

@@ -10,6 +10,8 @@ use Rattle.plc_ground.specs.declared.terms.GroundTerm.{GroundTerm}
 use Rattle.plc_ground.specs.declared.terms.GroundTerm.TheVariants.{Const}
 use Rattle.plc_ground.specs.declared.terms.GroundSet.{GroundSet}
 use Rattle.plc_ground.specs.declared.apart.Family.TheVariants.{Free}
+use Rattle.plc_ground.specs.declared.table.Applications.{Applications}
+use Rattle.plc_solve.specs.declared.chain.Pair.{Pair}
 use Rattle.plc_solve.specs.declared.survey.Survey.{Survey}
 use Rattle.plc_solve.specs.declared.place.Place.{Place}
 use Rattle.plc_solve.specs.declared.frame.Frame.{Frame}
@@ -18,8 +20,8 @@ use Rattle.plc_solve.specs.declared.split.Descent.TheVariants.{Conflict, Longer}
 use Rattle.plc_solve.specs.declared.frame.Step.{Step}
 use Rattle.plc_solve.specs.declared.frame.Step.TheVariants.{Open, Closed, Deeper, Complete}
 use Rattle.plc_ground.specs.Model.{symbol_family, FailsIn, MustDiffer, IsModel, literals}
-use Rattle.plc_ground.specs.Fit.{IsInRange, LitFits}
-use Rattle.plc_ground.specs.Classes.{IsClosure, IsTable, AreApart}
+use Rattle.plc_ground.specs.Fit.{IsWellFormed, IsInRange, LitFits}
+use Rattle.plc_ground.specs.Classes.{IsClosure, IsNoLater, IsTable, AreApart}
 use Rattle.plc_ground.specs.Changes.{Extends, undone}
 use Rattle.plc_ground.specs.Trees.{Close, SplitsOnce}
 use Rattle.plc_ground.specs.Equality.{Same}
@@ -56,6 +58,12 @@ pub record IsSurvey (s : GroundSet) (v : Survey) : Type 0 where
   pub groups : AreGroups s v.groups
   pub units : All (IsInRange s.terms) v.units.items
 
+-- the set keeps its rules, and each of its terms has a class, named by a term that is no later
+pub record IsClassed (s : GroundSet) (class : List ℕ) : Type 0 where
+  pub well : IsWellFormed s
+  pub one_each : length class ≡ length s.terms
+  pub no_later : IsNoLater class
+
 -- two terms of one class that must differ
 pub record IsConflict (s : GroundSet) (class : List ℕ) (i j : ℕ) : Type 0 where
   pub first : i < length s.terms
@@ -88,6 +96,14 @@ IsWithin few many = (l : Lit) → Contains few l → Contains many l
 -- the classes are those of some branch
 abbrev pub IsOfSome : GroundSet → List ℕ → Type 0
 IsOfSome s class = (branch : List Lit) × IsClosure s.terms branch class
+
+-- two terms of a set that keeps its rules, of which a branch may say why they are equal, with the set's applications
+pub record CanExplain (s : GroundSet) (applications : Applications) (branch : List Lit) (p : Pair) : Type 0 where
+  pub well : IsWellFormed s
+  pub table : IsTable s.terms applications
+  pub fit : All (LitFits s) branch
+  pub first : p.a < length s.terms
+  pub second : p.b < length s.terms
 
 -- literals of a branch that make two terms equal
 pub record Explains (s : GroundSet) (branch : List Lit) (a b : ℕ) (core : List Lit) : Type 0 where
@@ -180,6 +196,13 @@ pub record IsNextChild (s : GroundSet) (f : OpenSplit) (child : OpenSplit) : Typ
   pub equal : literal.equal ≡ true
   pub longer : child.branch ≡ f.branch ++ literal ∷ []
 
+-- a set that keeps its rules and was surveyed, with a row of the one table for each clause, of the other for each term
+pub record CanSearch (s : GroundSet) (v : Survey) (by_clause by_class : List ℕ) : Type 0 where
+  pub well : IsWellFormed s
+  pub survey : IsSurvey s v
+  pub seen : length by_clause ≡ length s.clauses
+  pub last : length by_class ≡ length s.terms
+
 -- a split at this place, of which no child is closed yet
 pub record IsNew (s : GroundSet) (p : Place) (child : Frame) : Type 0 where
   pub sound : IsSound s (split_on p.branch.items p.equal.class child)
@@ -206,8 +229,8 @@ pub record Collide (s : GroundSet) (branch : List Lit) (a b : ℕ) : Type 0 wher
 
 -- two terms of one class that must differ, or the longer branch with its classes
 abbrev pub Descends : GroundSet → Place → Lit → Place → Descent → Type 0
-Descends s old l new (Conflict a b) =
-    Collide s new.branch.items a b × (new.branch.items ≡ old.branch.items ++ l ∷ [])
+Descends s old l new (Conflict pair) =
+    Collide s new.branch.items pair.a pair.b × (new.branch.items ≡ old.branch.items ++ l ∷ [])
 Descends s old l new Longer =
     IsPlace s new.branch.items new.equal.class × (new.branch.items ≡ old.branch.items ++ l ∷ [])
     × (slice_index old.equal.class l.left ≢ slice_index old.equal.class l.right

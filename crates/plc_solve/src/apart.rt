@@ -4,9 +4,10 @@
 // another pass or another group is told from a constant of this one by a look at both terms.
 ghost use Rattle.std.specs.Prelude.{◌≡◌, ◌<◌, ℕ, IsTrue, IfSome, IfNone, Contains, length};
 ghost use Rattle.plc_ground.specs.Fit.{IsWellFormed};
-ghost use Rattle.plc_ground.specs.Classes.{AreApart, IsNoLater};
-ghost use Rattle.plc_solve.specs.Search.{AreGroups, IsGroup, IsConflict};
+ghost use Rattle.plc_ground.specs.Classes.{AreApart};
+ghost use Rattle.plc_solve.specs.Search.{AreGroups, IsGroup, IsClassed, IsConflict};
 
+use crate::chain::Pair;
 use plc_base::Items;
 use plc_ground::{GroundSet, must_differ};
 
@@ -22,27 +23,23 @@ fn is_conflict(set: &GroundSet, class: &[u32], i: usize, j: usize) -> bool
 }
 
 /// Two constants of a group that share a class.
-fn conflict_in(
-    set: &GroundSet,
-    group: &[u32],
-    class: &[u32],
-    last: &mut [u32],
-) -> Option<(usize, usize)>
-    requires well { IsWellFormed set.now }
+fn conflict_in(set: &GroundSet, group: &[u32], class: &[u32], last: &mut [u32]) -> Option<Pair>
+    requires classed { IsClassed set.now class.now }
     requires group { IsGroup set.now group.now }
-    requires one_each { length class.now ≡ length set.now.terms }
-    requires no_later { IsNoLater class.now }
     requires last { length last.old ≡ length set.now.terms }
-    ensures some { IfSome result (λ p. IsConflict set.now class.now p.0 p.1) }
+    ensures some { IfSome result (λ p. IsConflict set.now class.now p.a p.b) }
     ensures none { IfNone result ((i j : ℕ) → Contains group.now i → Contains group.now j
         → AreApart set.now class.now i j) }
 {
     for k in 0..group.len() {
         let i = group[k] as usize;
         let own = class[i] as usize;
-        let j = last[own] as usize;
-        if is_conflict(set, class, i, j) {
-            return Some((i, j));
+        let seen = last[own];
+        if is_conflict(set, class, i, seen as usize) {
+            return Some(Pair {
+                a: group[k],
+                b: seen,
+            });
         }
         last[own] = group[k];
     }
@@ -56,13 +53,11 @@ pub(crate) fn conflict(
     groups: &[Items<u32>],
     class: &[u32],
     last: &mut [u32],
-) -> Option<(usize, usize)>
-    requires well { IsWellFormed set.now }
+) -> Option<Pair>
+    requires classed { IsClassed set.now class.now }
     requires groups { AreGroups set.now groups.now }
-    requires one_each { length class.now ≡ length set.now.terms }
-    requires no_later { IsNoLater class.now }
     requires last { length last.old ≡ length set.now.terms }
-    ensures some { IfSome result (λ p. IsConflict set.now class.now p.0 p.1) }
+    ensures some { IfSome result (λ p. IsConflict set.now class.now p.a p.b) }
     ensures none { IfNone result ((i j : ℕ) → AreApart set.now class.now i j) }
 {
     for group in groups {

@@ -15,9 +15,8 @@
 ghost use Rattle.std.specs.Prelude.{◌≡◌, ◌<◌, ◌⊎◌, ℕ, IsTrue, IfSome, IfNone, Some, All};
 ghost use Rattle.std.specs.Prelude.{Any, false, length, slice_index};
 ghost use Rattle.plc_ground.specs.Fit.{IsWellFormed, IsInRange};
-ghost use Rattle.plc_ground.specs.Classes.{IsNoLater};
 ghost use Rattle.plc_ground.specs.Model.{HoldsIn, literals};
-ghost use Rattle.plc_solve.specs.Search.{IsSurvey, IsFalse, AreFalse, AreInside};
+ghost use Rattle.plc_solve.specs.Search.{IsSurvey, IsClassed, IsFalse, AreFalse, AreInside};
 ghost use Rattle.plc_ground.specs.declared.terms.Lit.{Lit};
 
 use crate::survey::Survey;
@@ -97,9 +96,7 @@ fn class_of(class: &[u32], i: u32) -> u32
 
 /// Whether a false literal is open: an equation that nothing contradicts.
 fn is_open(set: &GroundSet, survey: &Survey, class: &[u32], l: Lit) -> bool
-    requires well { IsWellFormed set.now }
-    requires one_each { length class.now ≡ length set.now.terms }
-    requires no_later { IsNoLater class.now }
+    requires classed { IsClassed set.now class.now }
     requires survey { IsSurvey set.now survey.now }
     requires range { IsInRange set.now.terms l }
 {
@@ -113,9 +110,7 @@ fn is_open(set: &GroundSet, survey: &Survey, class: &[u32], l: Lit) -> bool
 
 /// How many literals of a false clause are open, counted up to `most`.
 fn open_count(set: &GroundSet, survey: &Survey, class: &[u32], c: usize, most: usize) -> usize
-    requires well { IsWellFormed set.now }
-    requires one_each { length class.now ≡ length set.now.terms }
-    requires no_later { IsNoLater class.now }
+    requires classed { IsClassed set.now class.now }
     requires survey { IsSurvey set.now survey.now }
     requires clause { c < length set.now.clauses }
 {
@@ -151,9 +146,7 @@ fn is_choice_of_mark(set: &GroundSet, c: usize) -> bool
 /// How many literals of a false clause are open, counted up to `most`. Of a mark of which nothing is known it is as
 /// many as may be.
 fn rated(set: &GroundSet, survey: &Survey, class: &[u32], c: usize, most: usize) -> usize
-    requires well { IsWellFormed set.now }
-    requires one_each { length class.now ≡ length set.now.terms }
-    requires no_later { IsNoLater class.now }
+    requires classed { IsClassed set.now class.now }
     requires survey { IsSurvey set.now survey.now }
     requires clause { c < length set.now.clauses }
 {
@@ -166,9 +159,7 @@ fn rated(set: &GroundSet, survey: &Survey, class: &[u32], c: usize, most: usize)
 
 /// The clause with fewer open literals, the earlier of two with as many.
 fn better(set: &GroundSet, survey: &Survey, class: &[u32], best: Option<Choice>, c: usize) -> Choice
-    requires well { IsWellFormed set.now }
-    requires one_each { length class.now ≡ length set.now.terms }
-    requires no_later { IsNoLater class.now }
+    requires classed { IsClassed set.now class.now }
     requires survey { IsSurvey set.now survey.now }
     requires clause { c < length set.now.clauses }
     ensures { (result.clause ≡ c) ⊎ (best ≡ Some result) }
@@ -187,9 +178,7 @@ fn better(set: &GroundSet, survey: &Survey, class: &[u32], best: Option<Choice>,
 /// A false clause with the fewest open literals. `seen` has for each clause where a literal was last
 /// seen true.
 fn choose(set: &GroundSet, survey: &Survey, class: &[u32], seen: &mut [usize]) -> Option<Choice>
-    requires well { IsWellFormed set.now }
-    requires one_each { length class.now ≡ length set.now.terms }
-    requires no_later { IsNoLater class.now }
+    requires classed { IsClassed set.now class.now }
     requires survey { IsSurvey set.now survey.now }
     requires seen { length seen.old ≡ length set.now.clauses }
     ensures some { IfSome result (λ b. (b.clause < length set.now.clauses) × IsFalse set.now class.now b.clause) }
@@ -216,9 +205,7 @@ pub(crate) fn pick(
     class: &[u32],
     seen: &mut [usize],
 ) -> Option<usize>
-    requires well { IsWellFormed set.now }
-    requires one_each { length class.now ≡ length set.now.terms }
-    requires no_later { IsNoLater class.now }
+    requires classed { IsClassed set.now class.now }
     requires survey { IsSurvey set.now survey.now }
     requires seen { length seen.old ≡ length set.now.clauses }
     ensures some { IfSome result (λ c. (c < length set.now.clauses) × IsFalse set.now class.now c) }

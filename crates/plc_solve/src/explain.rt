@@ -3,12 +3,10 @@
 // what was put before it. So it is put first in the next pass, which goes no further than to it; and so on,
 // until those that were needed are enough. The least list is not looked for, nor reasons kept with each
 // equality (as a proof forest would): sets have a hundred terms and branches a dozen literals.
-ghost use Rattle.std.specs.Prelude.{◌≡◌, ◌<◌, ◌≤◌, IsTrue, IfOk, OnOk, All, Ok, length, slice_index, true};
-ghost use Rattle.plc_ground.specs.Fit.{IsWellFormed, LitFits};
-ghost use Rattle.plc_ground.specs.Classes.{IsTable};
+ghost use Rattle.std.specs.Prelude.{◌≡◌, ◌<◌, ◌≤◌, IsTrue, IfOk, OnOk, Ok, length, slice_index, true};
 ghost use Rattle.plc_ground.specs.Changes.{IsBack};
 ghost use Rattle.plc_ground.specs.Equality.{Same};
-ghost use Rattle.plc_solve.specs.Search.{Explains, PutsSome, IsOfSome};
+ghost use Rattle.plc_solve.specs.Search.{CanExplain, Explains, PutsSome, IsOfSome};
 
 use crate::chain::{Forest, Pair, chain};
 use plc_ground::{
@@ -35,13 +33,9 @@ fn needed(
     equal: &mut Equalities,
     pair: Pair,
 ) -> Result<usize, AllocError>
-    requires well { IsWellFormed set.now }
-    requires table { IsTable set.now.terms table.now }
-    requires fit { All (LitFits set.now) branch.now }
+    requires asked { CanExplain set.now table.now branch.now pair }
     requires some { 0 < bound }
     requires bound { bound ≤ length branch.now }
-    requires first { pair.a < length set.now.terms }
-    requires second { pair.b < length set.now.terms }
     requires closure { IsOfSome set.now equal.old.class }
     ensures within { IfOk result (λ k. k < bound) }
     ensures back { OnOk result (IsBack equal.old equal.new) }
@@ -65,11 +59,7 @@ fn put_needed(
     pair: Pair,
     core: &mut Vec<Lit>,
 ) -> Result<bool, AllocError>
-    requires well { IsWellFormed set.now }
-    requires table { IsTable set.now.terms table.now }
-    requires fit { All (LitFits set.now) branch.now }
-    requires first { pair.a < length set.now.terms }
-    requires second { pair.b < length set.now.terms }
+    requires asked { CanExplain set.now table.now branch.now pair }
     requires closure { PutsSome set.now branch.now core.old.items equal.old.class }
     ensures { result ≡ Ok true → Explains set.now branch.now pair.a pair.b core.new.items }
 {
@@ -92,11 +82,7 @@ fn explain_by_puts(
     pair: Pair,
     way: &mut Vec<Lit>,
 ) -> Result<(), AllocError>
-    requires well { IsWellFormed set.now }
-    requires table { IsTable set.now.terms table.now }
-    requires fit { All (LitFits set.now) branch.now }
-    requires first { pair.a < length set.now.terms }
-    requires second { pair.b < length set.now.terms }
+    requires asked { CanExplain set.now table.now branch.now pair }
     requires same { Same set.now.terms branch.now pair.a pair.b }
     ensures { OnOk result (Explains set.now branch.now pair.a pair.b way.new.items) }
 {
@@ -122,11 +108,7 @@ pub(crate) fn explain(
     forest: &mut Forest,
     pair: Pair,
 ) -> Result<(), AllocError>
-    requires well { IsWellFormed set.now }
-    requires table { IsTable set.now.terms table.now }
-    requires fit { All (LitFits set.now) branch.now }
-    requires first { pair.a < length set.now.terms }
-    requires second { pair.b < length set.now.terms }
+    requires asked { CanExplain set.now table.now branch.now pair }
     requires same { Same set.now.terms branch.now pair.a pair.b }
     ensures { OnOk result (Explains set.now branch.now pair.a pair.b forest.new.way.items) }
 {

@@ -5,7 +5,7 @@
 ghost use Rattle.std.specs.Prelude.{◌≡◌, ◌↔◌, ◌<◌, [], IfOk, length, reverse, vec_len};
 ghost use Rattle.plc_ground.specs.Fit.{IsWellFormed};
 ghost use Rattle.plc_ground.specs.Trees.{HasModel};
-ghost use Rattle.plc_solve.specs.Search.{IsSurvey, IsPlace, Stands, Finds};
+ghost use Rattle.plc_solve.specs.Search.{CanSearch, IsPlace, Stands, Finds};
 ghost use Rattle.plc_solve.specs.Answers.{IsOpen, CarriesModel, CarriesTree};
 
 use crate::chain::cut;
@@ -13,7 +13,7 @@ use crate::frame::{Frame, Step};
 use crate::needless::hand_up;
 use crate::place::{Place, go_up};
 use crate::split::{enter, take_child};
-use crate::survey::{Survey, take_survey};
+use crate::survey::{Subject, take_survey};
 use crate::workspace::{Workspace, keep_lists};
 use plc_base::{Items, NoMemory};
 use plc_ground::{GroundModel, GroundSet, Node, Tree, all_apart, into_classes};
@@ -31,27 +31,22 @@ pub enum Answer {
 /// The nodes of a tree that closes the set, found from the splits of the place, or `None` where the
 /// classes of the place that the search comes to are a model.
 fn search(
-    alloc: Global,
-    set: &GroundSet,
-    survey: &Survey,
+    subject: &Subject<'_>,
     seen: &mut [usize],
     last: &mut [u32],
     work: &mut Workspace,
     frames: &mut Vec<Frame>,
     place: &mut Place,
 ) -> Result<Option<Vec<Node>>, AllocError>
-    requires well { IsWellFormed set.now }
-    requires survey { IsSurvey set.now survey.now }
-    requires seen { length seen.old ≡ length set.now.clauses }
-    requires last { length last.old ≡ length set.now.terms }
-    requires stands { Stands set.now place.old (reverse frames.old.items) }
+    requires asked { CanSearch subject.now.set.now subject.now.survey.now seen.old last.old }
+    requires stands { Stands subject.now.set.now place.old (reverse frames.old.items) }
     requires nonempty { 0 < vec_len frames.old }
-    ensures { IfOk result (Finds set.now place.new) }
+    ensures { IfOk result (Finds subject.now.set.now place.new) }
 {
     'search: while let Some(mut top) = frames.pop() {
         cut(&mut work.forest, &place.branch, top.depth);
         go_up(place, &top);
-        match take_child(alloc, set, survey, seen, last, work, &mut top, place)? {
+        match take_child(subject, seen, last, work, &mut top, place)? {
             Step::Open => return Ok(None),
             Step::Closed => frames.push(top)?,
             Step::Deeper(child) => {
@@ -59,7 +54,14 @@ fn search(
                 frames.push(child)?;
             }
             Step::Complete => {
-                if let Some(nodes) = hand_up(alloc, set, frames, place, &mut work.forest, &top)? {
+                if let Some(nodes) = hand_up(
+                    subject.alloc,
+                    subject.set,
+                    frames,
+                    place,
+                    &mut work.forest,
+                    &top,
+                )? {
                     return Ok(Some(nodes));
                 }
                 keep_lists(work, top)?;
@@ -72,28 +74,23 @@ fn search(
 /// The nodes of a tree that closes the set, found from a branch on which nothing is split yet, or `None`
 /// where the classes of the place that the search comes to are a model.
 fn search_from(
-    alloc: Global,
-    set: &GroundSet,
-    survey: &Survey,
+    subject: &Subject<'_>,
     seen: &mut [usize],
     last: &mut [u32],
     work: &mut Workspace,
     place: &mut Place,
 ) -> Result<Option<Vec<Node>>, AllocError>
-    requires well { IsWellFormed set.now }
-    requires survey { IsSurvey set.now survey.now }
-    requires seen { length seen.old ≡ length set.now.clauses }
-    requires last { length last.old ≡ length set.now.terms }
-    requires place { IsPlace set.now place.old.branch.items place.old.equal.class }
+    requires asked { CanSearch subject.now.set.now subject.now.survey.now seen.old last.old }
+    requires place { IsPlace subject.now.set.now place.old.branch.items place.old.equal.class }
     requires empty { place.old.branch.items ≡ [] }
-    ensures { IfOk result (Finds set.now place.new) }
+    ensures { IfOk result (Finds subject.now.set.now place.new) }
 {
-    match enter(alloc, set, survey, seen, work, place) {
+    match enter(subject, seen, work, place) {
         Step::Open => Ok(None),
         Step::Deeper(first) => {
-            let mut frames = Vec::new(alloc);
+            let mut frames = Vec::new(subject.alloc);
             frames.push(first)?;
-            search(alloc, set, survey, seen, last, work, &mut frames, place)
+            search(subject, seen, last, work, &mut frames, place)
         }
         _ => unreachable!(),
     }
@@ -111,7 +108,12 @@ fn find(alloc: Global, set: &GroundSet, place: &mut Place) -> Result<Option<Vec<
     let mut seen = vec![in alloc; 0usize; set.clauses.len()]?;
     let mut last = vec![in alloc; 0u32; set.terms.len()]?;
     let mut work = Workspace::new(alloc, set)?;
-    let found = search_from(alloc, set, &survey, &mut seen, &mut last, &mut work, place);
+    let subject = Subject {
+        alloc,
+        set,
+        survey: &survey,
+    };
+    let found = search_from(&subject, &mut seen, &mut last, &mut work, place);
     drop(survey);
     drop(seen);
     drop(last);

@@ -3,14 +3,14 @@
 // closed where two constants come together that must differ, else it is a longer branch. An
 // inequation is never needed below its own leaf, since a clause that it made true has it among its
 // literals and isn't split.
-ghost use Rattle.std.specs.Prelude.{◌≡◌, ◌<◌, ◌∷◌, [], List, All, IfOk, OnOk, length, true};
+ghost use Rattle.std.specs.Prelude.{◌≡◌, ◌<◌, ◌∷◌, [], List, IfOk, OnOk, length, true};
 ghost use Rattle.plc_ground.specs.Model.{literals};
 ghost use Rattle.plc_ground.specs.Equality.{Same};
 ghost use Rattle.plc_ground.specs.declared.terms.Lit.{Lit};
 ghost use Rattle.plc_ground.specs.declared.terms.Node.{Node};
 ghost use Rattle.plc_ground.specs.Fit.{IsWellFormed, LitFits};
-ghost use Rattle.plc_solve.specs.Search.{IsSurvey, IsPlace, IsSound, Enters, Descends, GoesOn, StepGives, split_on};
-ghost use Rattle.plc_solve.specs.Search.{Explains, TakesTree, TakesCore};
+ghost use Rattle.plc_solve.specs.Search.{IsSurvey, IsPlace, IsSound, Enters, Descends, GoesOn, StepGives};
+ghost use Rattle.plc_solve.specs.Search.{CanSearch, CanExplain, Explains, TakesTree, TakesCore, split_on};
 
 use crate::apart::conflict;
 use crate::chain::{Forest, Pair, grow};
@@ -18,7 +18,7 @@ use crate::choice::pick;
 use crate::explain::explain;
 use crate::frame::{Frame, Step, take_leaf};
 use crate::place::Place;
-use crate::survey::Survey;
+use crate::survey::{Subject, Survey};
 use crate::workspace::{Workspace, empty_lists};
 use plc_ground::{GroundSet, Lit, classes, clause, mark, put};
 use std::alloc::{AllocError, Global};
@@ -27,7 +27,7 @@ use std::alloc::{AllocError, Global};
 #[derive(Clone, Copy)]
 pub(crate) enum Descent {
     /// Two terms come into one class that must not.
-    Conflict(u32, u32),
+    Conflict(Pair),
     /// The branch is longer.
     Longer,
 }
@@ -54,22 +54,20 @@ fn begun(alloc: Global, work: &mut Workspace, clause: u32, place: &Place) -> Fra
 
 /// A branch on which nothing is split yet: its classes are a model, or a false clause is to be split.
 pub(crate) fn enter(
-    alloc: Global,
-    set: &GroundSet,
-    survey: &Survey,
+    subject: &Subject<'_>,
     seen: &mut [usize],
     work: &mut Workspace,
     place: &Place,
 ) -> Step
-    requires well { IsWellFormed set.now }
-    requires survey { IsSurvey set.now survey.now }
-    requires seen { length seen.old ≡ length set.now.clauses }
-    requires place { IsPlace set.now place.now.branch.items place.now.equal.class }
-    ensures { Enters set.now place.now result }
+    requires well { IsWellFormed subject.now.set.now }
+    requires survey { IsSurvey subject.now.set.now subject.now.survey.now }
+    requires seen { length seen.old ≡ length subject.now.set.now.clauses }
+    requires place { IsPlace subject.now.set.now place.now.branch.items place.now.equal.class }
+    ensures { Enters subject.now.set.now place.now result }
 {
-    match pick(set, survey, classes(&place.equal), seen) {
+    match pick(subject.set, subject.survey, classes(&place.equal), seen) {
         None => Step::Open,
-        Some(clause) => Step::Deeper(begun(alloc, work, clause as u32, place)),
+        Some(clause) => Step::Deeper(begun(subject.alloc, work, clause as u32, place)),
     }
 }
 
@@ -94,8 +92,8 @@ fn descend(
     put(set, &survey.table, &mut place.equal, l)?;
     place.branch.push(l)?;
     grow(forest, &place.branch);
-    if let Some((a, b)) = conflict(set, survey.groups.as_slice(), classes(&place.equal), last) {
-        return Ok(Descent::Conflict(a as u32, b as u32));
+    if let Some(pair) = conflict(set, survey.groups.as_slice(), classes(&place.equal), last) {
+        return Ok(Descent::Conflict(pair));
     }
     Ok(Descent::Longer)
 }
@@ -103,52 +101,50 @@ fn descend(
 /// Closes the next child of a split, on its own literal, by two terms that the branch of the place makes
 /// equal.
 fn close_child(
-    alloc: Global,
-    set: &GroundSet,
-    survey: &Survey,
+    subject: &Subject<'_>,
     forest: &mut Forest,
     top: &mut Frame,
     place: &Place,
     own: Lit,
     pair: Pair,
 ) -> Result<(), AllocError>
-    requires well { IsWellFormed set.now }
-    requires survey { IsSurvey set.now survey.now }
-    requires known { top.old.clause < length set.now.clauses }
-    requires child { top.old.next < length (literals set.now top.old.clause) }
-    requires fit { All (LitFits set.now) place.now.branch.items }
-    requires first { pair.a < length set.now.terms }
-    requires second { pair.b < length set.now.terms }
-    requires same { Same set.now.terms place.now.branch.items pair.a pair.b }
+    requires known { top.old.clause < length subject.now.set.now.clauses }
+    requires child { top.old.next < length (literals subject.now.set.now top.old.clause) }
+    requires asked { CanExplain subject.now.set.now subject.now.survey.now.table place.now.branch.items pair }
+    requires same { Same subject.now.set.now.terms place.now.branch.items pair.a pair.b }
     ensures tree { OnOk result (TakesTree top.old top.new (Node.Leaf pair.a pair.b ∷ [])) }
-    ensures core { OnOk result ((core : List Lit) × Explains set.now place.now.branch.items pair.a pair.b core
+    ensures core { OnOk result ((core : List Lit)
+        × Explains subject.now.set.now place.now.branch.items pair.a pair.b core
         × TakesCore top.old.core.items top.new.core.items own core) }
 {
-    explain(alloc, set, &survey.table, &place.branch, forest, pair)?;
-    take_leaf(set, top, own, pair.a, pair.b, &forest.way)?;
+    let table = &subject.survey.table;
+    explain(
+        subject.alloc,
+        subject.set,
+        table,
+        &place.branch,
+        forest,
+        pair,
+    )?;
+    take_leaf(subject.set, top, own, pair.a, pair.b, &forest.way)?;
     Ok(())
 }
 
 /// Takes the next child of a split. The place is that of the split, and then that of the child.
 pub(crate) fn take_child(
-    alloc: Global,
-    set: &GroundSet,
-    survey: &Survey,
+    subject: &Subject<'_>,
     seen: &mut [usize],
     last: &mut [u32],
     work: &mut Workspace,
     top: &mut Frame,
     place: &mut Place,
 ) -> Result<Step, AllocError>
-    requires well { IsWellFormed set.now }
-    requires survey { IsSurvey set.now survey.now }
-    requires seen { length seen.old ≡ length set.now.clauses }
-    requires last { length last.old ≡ length set.now.terms }
-    requires sound { IsSound set.now (split_on place.old.branch.items place.old.equal.class top.old) }
-    ensures gives { IfOk result (StepGives set.now place.old top.old top.new place.new) }
+    requires asked { CanSearch subject.now.set.now subject.now.survey.now seen.old last.old }
+    requires sound { IsSound subject.now.set.now (split_on place.old.branch.items place.old.equal.class top.old) }
+    ensures gives { IfOk result (StepGives subject.now.set.now place.old top.old top.new place.new) }
     ensures goes_on { OnOk result (GoesOn place.old place.new) }
 {
-    let literals = clause(set, top.clause as usize);
+    let literals = clause(subject.set, top.clause as usize);
     if top.next == literals.len() {
         return Ok(Step::Complete);
     }
@@ -158,15 +154,21 @@ pub(crate) fn take_child(
             a: l.left,
             b: l.right,
         };
-        close_child(alloc, set, survey, &mut work.forest, top, place, l, pair)?;
+        close_child(subject, &mut work.forest, top, place, l, pair)?;
         return Ok(Step::Closed);
     }
-    match descend(set, survey, last, &mut work.forest, place, l)? {
-        Descent::Conflict(a, b) => {
-            let pair = Pair { a, b };
-            close_child(alloc, set, survey, &mut work.forest, top, place, l, pair)?;
+    match descend(
+        subject.set,
+        subject.survey,
+        last,
+        &mut work.forest,
+        place,
+        l,
+    )? {
+        Descent::Conflict(pair) => {
+            close_child(subject, &mut work.forest, top, place, l, pair)?;
             Ok(Step::Closed)
         }
-        Descent::Longer => Ok(enter(alloc, set, survey, seen, work, place)),
+        Descent::Longer => Ok(enter(subject, seen, work, place)),
     }
 }

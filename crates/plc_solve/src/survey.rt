@@ -25,6 +25,14 @@ pub(crate) struct Survey {
     pub units: Vec<Lit>,
 }
 
+/// What the search speaks of throughout: a set, with its survey.
+#[derive(Clone, Copy)]
+pub(crate) struct Subject<'a> {
+    pub alloc: Global,
+    pub set: &'a GroundSet,
+    pub survey: &'a Survey,
+}
+
 /// Whether the term is a constant that differs from others by the rule alone.
 fn is_constant(set: &GroundSet, i: usize) -> bool
     requires { i < length set.now.terms }

@@ -4,9 +4,8 @@ use Rattle.plc_auto.specs.declared.observer.Observer.{Observer}
 use Rattle.plc_flow.specs.declared.flow.Flow.{Flow}
 use Rattle.plc_run.specs.Run.{Configuration, Run, begin, more}
 use Rattle.plc_type.specs.declared.env.Env.{Env}
-use Rattle.plc_typesound.specs.Laws.{AllMeet, TypesAreSound}
-use Rattle.plc_typesound.proofs.Moves.{sound}
-use Rattle.plc_sound.specs.Laws.{ClaimsHold, TrueClaimsSuffice}
+use Rattle.plc_sound.proofs.Moves.{sound}
+use Rattle.plc_sound.specs.Laws.{AllMeet, TypesAreSound, ClaimsHold, TrueClaimsSuffice}
 
 -- in every configuration of a run each busy thread meets an environment of its point
 all_meet : (flow : Flow) (o : Observer) (threads : ℕ) (envs : List Env) → 0 < threads → TypesAreSound flow o threads envs → ClaimsHold flow o

@@ -1,7 +1,8 @@
-//! The law of types for whole runs, over the definitions alone: no run of a flow with a typing races in which each
-//! claim that is reached is true. `plc_joint` cites it.
+//! The law of types, over the definitions of memory, runs and typings alone: under a typing no step whose claims are
+//! true is a pointer race or a second retire, and so no run is in which each claim that it reaches is true.
+//! `plc_joint` cites it.
 #![tactic(auto)]
 
 mod laws;
 
-pub use laws::true_claims_suffice;
+pub use laws::{true_claims_suffice, types_are_sound};

@@ -10,7 +10,7 @@ use Rattle.plc_xfer.specs.Typings.{fault_in, IsTyping, IsStrongest}
 use Rattle.plc_infer.specs.Resuming.{StepIsTyped, IsBegun}
 use Rattle.plc_suggest.specs.declared.spot.Spot.{Spot}
 use Rattle.plc_suggest.specs.Spots.{claims_at, with_claims, marked}
-use Rattle.plc_suggest.specs.Claims.{HasFewerClaims}
+use Rattle.plc_suggest.proofs.Claims.{HasFewerClaims}
 use Rattle.plc_suggest.proofs.Marked.{marked_step, marked_count, pretyping_stays}
 
 -- with the same claims it's the same step

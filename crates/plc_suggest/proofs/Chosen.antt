@@ -10,7 +10,7 @@ use Rattle.plc_lang.specs.declared.syntax.Primitive.TheVariants.{Active}
 use Rattle.plc_suggest.specs.declared.spot.Spot.{Spot}
 use Rattle.plc_suggest.specs.Spots.{claims_at}
 use Rattle.plc_suggest.specs.Needed.{chosen, tried}
-use Rattle.plc_suggest.specs.Claims.{IsPart, HasFewerClaims}
+use Rattle.plc_suggest.proofs.Claims.{IsPart, HasFewerClaims}
 
 -- ---- parts of lists
 

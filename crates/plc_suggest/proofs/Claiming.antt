@@ -5,7 +5,7 @@ use Rattle.std.proofs.Common.{arith, inl, inr, get_or-set_same, get_or-set_other
 use Rattle.std.specs.Prelude.{◌⊎◌, ◌==◌, if◌then◌else◌, count_by}
 use Rattle.std.proofs.lemmas.Bool.{cases_eq, eq-eqb, ne_eqb}
 use Rattle.std.proofs.lemmas.List.Recursion.{is_count_by}
-use Rattle.std.proofs.lemmas.List.{append-nil, drop_more, ext_get_or, get_or-replicate, get_or_read, length-replicate}
+use Rattle.std.proofs.lemmas.List.{append-nil, drop_more, ext_get_or, get_or-replicate, get_or_read, length-replicate, get_or-map}
 use Rattle.std.proofs.lemmas.List.{map_push, take_more}
 use Rattle.plc_lang.specs.declared.syntax.Primitive.{Primitive}
 use Rattle.plc_lang.specs.declared.syntax.Primitive.TheVariants.{Active}
@@ -17,7 +17,8 @@ use Rattle.plc_infer.specs.declared.program.Edge.{Edge}
 use Rattle.plc_infer.specs.Programs.{edge_of}
 use Rattle.plc_suggest.specs.declared.spot.Spot.{Spot}
 use Rattle.plc_suggest.specs.Spots.{claims_at, marked_from}
-use Rattle.plc_suggest.specs.Marking.{no_step, prims_at, lists_of, with_lists}
+use Rattle.plc_suggest.specs.Marking.{HasClaims, prims_at, lists_of, with_lists}
+use Rattle.plc_suggest.proofs.Defaults.{no_step}
 use Rattle.plc_suggest.proofs.Chosen.{claims_append}
 
 -- ---- the claims of a list of spots
@@ -52,11 +53,6 @@ single_other : (x : Spot) (k : ℕ) → k ≢ x.step.0 → claims_at (x ∷ []) 
 single_other x k ne = ap (λ (b : Bool). added b x []) (ne_eqb x.step.0 k (λ (e : x.step.0 ≡ k). ne (sym e)))
 
 -- ---- claims are put into lists
-
--- the lists with the claims of spots put at their ends
-pub record HasClaims (old new : List (List Primitive)) (spots : List Spot) : Type 0 where
-  pub count : length new ≡ length old
-  pub each : (k : ℕ) → k < length old → get_or new k [] ≡ get_or old k [] ++ claims_at spots k
 
 pub no_claims : (old : List (List Primitive)) (spots : List Spot) → HasClaims old old (take 0 spots)
 no_claims old spots = record { count = refl; each = λ k small. sym (append-nil (get_or old k [])) }
@@ -151,6 +147,10 @@ lists_at spots k (x ∷ xs) (suc i) small =
     let same : k + 1 + i ≡ k + suc i = omega arith in
     lists_at spots (k + 1) xs i (omega arith) ∙ ap (λ (n : ℕ). claims_at spots n ++ (get_or xs i no_step).prims) same
 
+-- the primitives of a step
+pub prims_are : (flow : Flow) (k : ℕ) → k < length flow.steps → prims_at flow k ≡ (get_or flow.steps k no_step).prims
+prims_are flow k small = get_or-map (λ (x : Step). x.prims) flow.steps k no_step [] small
+
 pub lists_made : (flow : Flow) (first rest : List Spot) (none some all lists : List (List Primitive))
     → none ≡ replicate (length flow.steps) [] → HasClaims none some first → HasClaims some all rest
     → length lists ≡ length all → ((k : ℕ) → k < length all → get_or lists k [] ≡ get_or all k [] ++ prims_at flow k)
@@ -180,6 +180,7 @@ lists_made flow first rest none some all lists are_none a b count prims =
         small))
         ∙ sym (claims_append first rest k)
         ∙ ap (claims_at (first ++ rest)) same)
+        ∙ ap (λ (ps : List Primitive). claims_at (first ++ rest) (0 + k) ++ ps) (prims_are flow k small)
         ∙ sym (lists_at (first ++ rest) 0 flow.steps k small)
 
 -- with them the steps are those of the marked program

@@ -9,7 +9,8 @@ use Rattle.plc_auto.specs.declared.observer.Observer.{Observer}
 use Rattle.plc_suggest.specs.declared.spot.Spot.{Spot}
 use Rattle.plc_suggest.specs.Spots.{spots_of, claims_at}
 use Rattle.plc_suggest.specs.Needed.{chosen, tried, IsTypable}
-use Rattle.plc_suggest.specs.Marking.{steps_of, some_spot}
+use Rattle.plc_suggest.specs.Marking.{steps_of}
+use Rattle.plc_suggest.proofs.Defaults.{some_spot}
 use Rattle.plc_suggest.specs.Trials.{AreKept}
 use Rattle.plc_suggest.proofs.Chosen.{claims_without, row_fewer, tried_longer}
 use Rattle.plc_suggest.proofs.Marked.{typable_stays}

@@ -1,3 +1,5 @@
+pub mod Claims
+pub mod Defaults
 pub mod Order
 pub mod Marked
 pub mod Begun

@@ -14,12 +14,13 @@ use Rattle.plc_flow.specs.declared.flow.Flow.{Flow}
 use Rattle.plc_flow.specs.WellFormed.{IsWellFormed}
 use Rattle.plc_flow.specs.Skeleton.{skeleton_of, passage_of, pointers_by_point}
 use Rattle.plc_xfer.specs.Rules.{table}
-use Rattle.plc_infer.proofs.Flows.{ends_of}
+use Rattle.plc_flow.proofs.Ends.{ends_of}
 use Rattle.plc_infer.proofs.Lists.{table_push, table_length}
 use Rattle.plc_suggest.specs.declared.spot.Spot.{Spot}
 use Rattle.plc_suggest.specs.Spots.{spot, spots_before, spots_of_step, spots_from, spots_of}
 use Rattle.plc_suggest.specs.Suggestions.{most_spots}
-use Rattle.plc_suggest.specs.Marking.{no_step, IsOfStep}
+use Rattle.plc_suggest.specs.Marking.{IsOfStep}
+use Rattle.plc_suggest.proofs.Defaults.{no_step}
 
 -- ---- the pointers of one step
 
@@ -40,6 +41,16 @@ pointers_counted shared locals k =
       a,
       b,
     )
+
+pub spots_are : (shared locals k : ℕ) (prims : List Primitive) → false ≡ (length prims == 0)
+    → spots_before k shared locals ≡ spots_of_step shared locals k prims
+spots_are shared locals k [] e = absurd cc
+spots_are shared locals k (p ∷ ps) e = refl
+
+-- first some are added, and then others
+pub all_added : {A : Type 0} (old a b some all : List A) → some ≡ old ++ a → all ≡ some ++ b → all ≡ old ++ (a ++ b)
+all_added {A = A} old a b some all first second =
+    second ∙ ap (λ (xs : List A). xs ++ b) first ∙ append_assoc old a b
 
 pub spots_counted : (shared locals k : ℕ) (prims : List Primitive) → false ≡ (length prims == 0)
     → length (spots_of_step shared locals k prims) ≡ shared + locals

@@ -18,7 +18,7 @@ use Rattle.plc_xfer.proofs.Keeps.{interfered_below}
 use Rattle.plc_suggest.specs.declared.spot.Spot.{Spot}
 use Rattle.plc_suggest.specs.Spots.{claims_at, with_claims, marked_from, marked}
 use Rattle.plc_suggest.specs.Needed.{IsTypable}
-use Rattle.plc_suggest.specs.Claims.{IsPart, HasFewerClaims, AreClaims}
+use Rattle.plc_suggest.proofs.Claims.{IsPart, HasFewerClaims, AreClaims}
 use Rattle.plc_suggest.proofs.Order.{IsLower, claims_lead_lower, claims_hold, fault_past}
 
 -- ---- the steps of a marked program

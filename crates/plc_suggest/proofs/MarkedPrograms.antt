@@ -4,6 +4,8 @@ use Rattle.std.proofs.Common.{sym, ap, subst, ◌∙◌, arith, length-append}
 use Rattle.std.proofs.lemmas.List.{length-map}
 use Rattle.std.proofs.lemmas.Option.{slice_get-get_or}
 use Rattle.plc_base.specs.declared.ids.PointId.{PointId}
+use Rattle.std.specs.Prelude.{All}
+use Rattle.plc_type.specs.declared.env.Env.{Env}
 use Rattle.plc_lang.specs.declared.syntax.Primitive.{Primitive}
 use Rattle.plc_lang.specs.Skeleton.{Skeleton, Passage, locals_at}
 use Rattle.plc_flow.specs.declared.flow.Step.{Step}
@@ -11,17 +13,18 @@ use Rattle.plc_flow.specs.declared.flow.Gate.{Gate}
 use Rattle.plc_flow.specs.declared.flow.Flow.{Flow}
 use Rattle.plc_flow.specs.WellFormed.{IsWellFormed}
 use Rattle.plc_flow.specs.Skeleton.{skeleton_of, passage_of, pointers_by_point}
-use Rattle.plc_flow.specs.StepsByPoint.{first_points as firsts_of}
+use Rattle.plc_flow.specs.StepsByPoint.{IsIndexOf, first_points as firsts_of}
 use Rattle.plc_infer.specs.declared.program.Edge.{Edge}
 use Rattle.plc_infer.specs.declared.program.Program.{Program}
 use Rattle.plc_infer.specs.Programs.{edge_of, program_of, first_points, passage_at, some_passage, number_of, IsProgram}
+use Rattle.plc_infer.specs.Resuming.{IsBegun, CanResume}
 use Rattle.plc_infer.proofs.Flows.{flow_is_program, passage_is}
 use Rattle.plc_suggest.specs.declared.spot.Spot.{Spot}
 use Rattle.plc_suggest.specs.declared.parts.Parts.{Parts}
 use Rattle.plc_suggest.specs.Spots.{claims_at, with_claims, marked_from, marked}
 use Rattle.plc_suggest.specs.Suggestions.{most_spots}
-use Rattle.plc_suggest.specs.Marking.{lists_of, with_lists}
-use Rattle.plc_suggest.specs.Trials.{AreParts}
+use Rattle.plc_suggest.specs.Marking.{lists_of, with_lists, AreMarked}
+use Rattle.plc_suggest.specs.Trials.{AreParts, IsMarkedProgram}
 use Rattle.plc_suggest.proofs.Listing.{flow_step}
 use Rattle.plc_suggest.proofs.Claiming.{claims_few, marked_with}
 use Rattle.plc_suggest.proofs.Marked.{marked_count}
@@ -100,31 +103,16 @@ same_parts : (a b : ℕ) (c d e f : List ℕ) (x y : List Passage) → a ≡ b �
     { shared = b; locals = d; entries = f; passages = y }
 same_parts a b c d e f x y g h i j = cc
 
--- steps with the lists of a marked program
-record AreMarked (p : Parts) (spots : List Spot) (edges : List Edge) : Type 0 where
-  pub lists : List (List Primitive)
-  pub made : lists ≡ lists_of spots 0 p.flow.now.steps
-  pub are : map edge_of edges ≡ with_lists lists p.flow.now.steps
-
--- they are, of edges and lists that the code reads again
-are_marked : (p : Parts) (spots : List Spot) (lists read : List (List Primitive)) (edges borrowed : List Edge)
-    → lists ≡ lists_of spots 0 p.flow.now.steps → read ≡ lists → map edge_of edges ≡ with_lists read p.flow.now.steps
-    → borrowed ≡ edges
-    → AreMarked p spots borrowed
-are_marked p spots lists read edges borrowed made same are again = record {
-  lists = read;
-  made = same ∙ made;
-  are = ap (map edge_of) again ∙ are;
-}
-
-passages_are : (p : Parts) (spots : List Spot) (edges : List Edge) → AreMarked p spots edges
-    → map edge_of edges ≡ marked_from spots 0 (map passage_of p.flow.now.steps)
-passages_are p spots edges h =
-    h.are ∙ ap (λ (ls : List (List Primitive)). with_lists ls p.flow.now.steps) h.made
-    ∙ marked_with spots 0 p.flow.now.steps
+-- the steps that are made are marked, of lists and steps that the code reads again
+pub steps_marked : {lists read : List (List Primitive)} {edges : List Edge} (flow : Flow) (spots : List Spot)
+    (steps : List Edge) → lists ≡ lists_of spots 0 flow.steps → read ≡ lists
+    → map edge_of edges ≡ with_lists read flow.steps → steps ≡ edges → AreMarked flow spots steps
+steps_marked flow spots steps made same are again =
+    ap (map edge_of) again ∙ are ∙ ap (λ (ls : List (List Primitive)). with_lists ls flow.steps) (same ∙ made)
+    ∙ marked_with spots 0 flow.steps
 
 program_is_marked : (p : Parts) (spots : List Spot) (program : Program) → AreParts p → program.shared ≡ p.shared
-    → program.locals.now ≡ p.locals.now → program.entries.now ≡ p.entries.now → AreMarked p spots program.steps.now
+    → program.locals.now ≡ p.locals.now → program.entries.now ≡ p.entries.now → AreMarked p.flow.now spots program.steps.now
     → program_of program ≡ marked spots (skeleton_of p.flow.now)
 unfolding marked
 program_is_marked p spots program parts shared locals entries steps =
@@ -134,13 +122,13 @@ program_is_marked p spots program parts shared locals entries steps =
     (map edge_of program.steps.now) (marked_from spots 0 (map passage_of p.flow.now.steps))
     (shared ∙ parts.shared) (locals ∙ parts.locals)
     (ap (map number_of) (entries ∙ parts.entries) ∙ entry_points p.flow.now.gates)
-    (passages_are p spots program.steps.now steps)
+    steps
 
-edges_count : (p : Parts) (spots : List Spot) (edges : List Edge) → AreMarked p spots edges
+edges_count : (p : Parts) (spots : List Spot) (edges : List Edge) → AreMarked p.flow.now spots edges
     → length edges ≡ length p.flow.now.steps
 unfolding marked
 edges_count p spots edges h =
-    sym (length-map edges edge_of) ∙ ap length (passages_are p spots edges h) ∙ marked_count (skeleton_of p.flow.now)
+    sym (length-map edges edge_of) ∙ ap length h ∙ marked_count (skeleton_of p.flow.now)
     spots
     ∙ length-map p.flow.now.steps passage_of
 
@@ -158,30 +146,31 @@ firsts_from spots k (x ∷ xs) (y ∷ ys) e =
     ap (λ (q : PointId). q ∷ map (λ (e : Edge). e.from) ys) from
     ∙ ap (λ (qs : List PointId). x.from ∷ qs) (firsts_from spots (k + 1) xs ys rest)
 
-firsts_are : (p : Parts) (spots : List Spot) (program : Program) → AreMarked p spots program.steps.now
+firsts_are : (p : Parts) (spots : List Spot) (program : Program) → AreMarked p.flow.now spots program.steps.now
     → first_points program ≡ firsts_of p.flow.now
-firsts_are p spots program h = firsts_from spots 0 p.flow.now.steps program.steps.now
-    (passages_are p spots program.steps.now h)
+firsts_are p spots program h = firsts_from spots 0 p.flow.now.steps program.steps.now h
 
--- the program that is handed to inference, with these steps
-abbrev pub handed : Parts → Bor (List Edge) → Program
-handed p steps = record { shared = p.shared; locals = p.locals; entries = p.entries; steps = steps }
-
--- it is the flow's, marked by the spots
-pub record IsHanded (p : Parts) (spots : List Spot) (steps : Bor (List Edge)) : Type 0 where
-  pub is : program_of (handed p steps) ≡ marked spots (skeleton_of p.flow.now)
-  pub firsts : first_points (handed p steps) ≡ firsts_of p.flow.now
-  pub count : length steps.now ≡ length p.flow.now.steps
-
-pub handed_over : {lists read : List (List Primitive)} {edges : List Edge} (p : Parts) (spots : List Spot)
-    (steps : Bor (List Edge))
-    → AreParts p → lists ≡ lists_of spots 0 p.flow.now.steps → read ≡ lists → map edge_of edges ≡ with_lists read
-    p.flow.now.steps
-    → steps.now ≡ edges → IsHanded p spots steps
-handed_over {lists = lists} {read = read} {edges = edges} p spots steps parts made same are again =
-    let marks = are_marked p spots lists read edges steps.now made same are again in
+-- the program that is handed to inference is marked
+pub program_marked : (p : Parts) (spots : List Spot) (steps : Bor (List Edge)) → AreParts p
+    → AreMarked p.flow.now spots steps.now
+    → IsMarkedProgram p spots (record { shared = p.shared; locals = p.locals; entries = p.entries; steps = steps })
+program_marked p spots steps parts marks =
+    let program : Program = record { shared = p.shared; locals = p.locals; entries = p.entries; steps = steps } in
     record {
-      is = program_is_marked p spots (handed p steps) parts refl refl refl marks;
-      firsts = firsts_are p spots (handed p steps) marks;
+      is = program_is_marked p spots program parts refl refl refl marks;
+      firsts = firsts_are p spots program marks;
       count = edges_count p spots steps.now marks;
     }
+
+-- and inference may go on with it
+pub can_resume : (p : Parts) (spots : List Spot) (program : Program) (changed : List ℕ) (envs : List Env) → AreParts p
+    → length spots ≤ most_spots → IsMarkedProgram p spots program
+    → All (λ (k : ℕ). k < length p.flow.now.steps) changed
+    → IsBegun p.observer.now (marked spots (skeleton_of p.flow.now)) envs changed
+    → CanResume p.observer.now program p.index.now changed envs
+can_resume p spots program changed envs parts few h known begun = record {
+  program = subst IsProgram (sym h.is) (marked_is_program p.flow.now spots parts.well few);
+  index = subst (λ (ps : List PointId). IsIndexOf ps p.index.now) (sym h.firsts) parts.index;
+  known = λ k d small. subst (λ (n : ℕ). get_or changed k d < n) (sym h.count) (known k d small);
+  begun = subst (λ (s : Skeleton). IsBegun p.observer.now s envs changed) (sym h.is) begun;
+}

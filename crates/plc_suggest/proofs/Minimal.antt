@@ -8,7 +8,7 @@ use Rattle.plc_lang.specs.Skeleton.{Skeleton}
 use Rattle.plc_suggest.specs.declared.spot.Spot.{Spot}
 use Rattle.plc_suggest.specs.Spots.{spots_of}
 use Rattle.plc_suggest.specs.Needed.{chosen, tried, IsTypable, AreNeeded, IsLeastTypable, IsNeverTypable}
-use Rattle.plc_suggest.specs.Claims.{IsPart}
+use Rattle.plc_suggest.proofs.Claims.{IsPart}
 use Rattle.plc_suggest.proofs.Marked.{typable_stays}
 use Rattle.plc_suggest.proofs.Chosen.{part_more, part_trans, part_fewer, chosen_part}
 

@@ -22,7 +22,7 @@ use Rattle.plc_xfer.specs.Rules.{fault_of}
 use Rattle.plc_xfer.specs.Typings.{fault_at}
 use Rattle.plc_xfer.proofs.Rows.{after_ne}
 use Rattle.plc_xfer.proofs.Keeps.{after_shape, after_below, after_all_below, at_sooner}
-use Rattle.plc_suggest.specs.Claims.{IsPart, AreClaims}
+use Rattle.plc_suggest.proofs.Claims.{IsPart, AreClaims}
 
 -- ---- one claim
 

@@ -8,12 +8,15 @@ use Rattle.plc_auto.specs.declared.observer.Observer.{Observer}
 use Rattle.plc_type.specs.declared.env.Env.{Env}
 use Rattle.plc_flow.specs.Skeleton.{skeleton_of}
 use Rattle.plc_xfer.specs.declared.fault.TypeFault.{TypeFault}
-use Rattle.plc_xfer.specs.Typings.{IsTyping, IsStrongest, IsStuckAt, HasTyping}
+use Rattle.plc_xfer.specs.Typings.{IsTyping, IsStrongest, IsStuckAt}
+use Rattle.plc_infer.specs.declared.typing.Typing.{Typing}
+use Rattle.plc_infer.specs.declared.typing.InferFault.{InferFault}
+use Rattle.plc_infer.specs.Resuming as resuming
 use Rattle.plc_suggest.specs.declared.spot.Spot.{Spot}
 use Rattle.plc_suggest.specs.declared.parts.Parts.{Parts}
 use Rattle.plc_suggest.specs.Spots.{spots_of, claims_at, marked}
 use Rattle.plc_suggest.specs.Needed.{IsTypable}
-use Rattle.plc_suggest.specs.Marking.{some_spot}
+use Rattle.plc_suggest.proofs.Defaults.{some_spot}
 use Rattle.plc_suggest.specs.Trials.{AreParts, IsReached, IsTrialOf, AreKept}
 use Rattle.plc_suggest.proofs.Marked.{fault_past_claims}
 use Rattle.plc_suggest.proofs.Claiming.{claims_counted}
@@ -21,19 +24,12 @@ use Rattle.plc_suggest.proofs.Deciding.{decide, skip_row}
 
 -- ---- what inference reached
 
-pub reached_from : (p : Parts) (spots : List Spot) (s : Skeleton) (env envs : List Env)
-    → s ≡ marked spots (skeleton_of p.flow.now) → envs ≡ env
-    → IsTyping p.observer.now s env → IsStrongest p.observer.now s env → IsReached p spots envs
-reached_from p spots s env envs is same typing strongest = record {
-  typing = subst (λ (t : Skeleton). IsTyping p.observer.now t envs) is
-      (subst (IsTyping p.observer.now s) (sym same) typing);
-  strongest = subst (λ (t : Skeleton). IsStrongest p.observer.now t envs) is
-      (subst (IsStrongest p.observer.now s) (sym same) strongest);
-}
-
-pub trial_none : (p : Parts) (spots : List Spot) (s : Skeleton) → s ≡ marked spots (skeleton_of p.flow.now)
-    → (HasTyping p.observer.now s → ⊥) → IsTypable p.observer.now (skeleton_of p.flow.now) spots → ⊥
-trial_none p spots s is none typable = none (subst (HasTyping p.observer.now) (sym is) typable)
+pub reached_if : (r : Result Typing InferFault) (o : Observer) {s t : Skeleton} → s ≡ t
+    → IfOk r (λ typing. IsTyping o s typing.env) → IfOk r (λ typing. IsStrongest o s typing.env)
+    → IfOk r (λ typing. resuming.IsReached o t typing.env)
+reached_if (Ok x) o is typing strongest =
+    subst (λ (u : Skeleton). resuming.IsReached o u x.env) is (record { typing = typing; strongest = strongest })
+reached_if (Err e) o is typing strongest = tt
 
 -- ---- the answer of a trial
 

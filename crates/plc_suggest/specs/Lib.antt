@@ -3,6 +3,5 @@ pub mod Spots
 pub mod Needed
 pub mod Suggestions
 -- words of private functions alone
-pub mod Claims
 pub mod Marking
 pub mod Trials

@@ -1,5 +1,5 @@
 -- Where a claim may be put, and a program with claims put in front of its steps.
-use Rattle.std.specs.Prelude.{ℕ, ◌+◌, ◌==◌, if◌then◌else◌, List, [], ◌∷◌, ◌++◌}
+use Rattle.std.specs.Prelude.{ℕ, ◌+◌, ◌==◌, Bool, true, false, if◌then◌else◌, List, [], ◌∷◌, ◌++◌}
 use Rattle.plc_lang.specs.declared.syntax.Primitive.{Primitive}
 use Rattle.plc_lang.specs.declared.syntax.Primitive.TheVariants.{Active}
 use Rattle.plc_lang.specs.declared.syntax.Var.{Var}
@@ -11,6 +11,11 @@ use Rattle.plc_suggest.specs.declared.spot.Spot.{Spot}
 -- the spot of a pointer in front of step k
 abbrev pub spot : ℕ → Var → Spot
 spot k v = record { step = record { 0 = k }; var = v }
+
+-- the shared pointer, or the pointer local, of a number
+abbrev pub pointer : Bool → ℕ → Var
+pointer true i = Shared i
+pointer false i = Local i
 
 -- those in front of step k: the shared pointers, then the pointer locals
 abbrev pub spots_before : ℕ → ℕ → ℕ → List Spot

@@ -1,11 +1,8 @@
 // A flow marked by spots: each step has a list of its own, the claims in front of its primitives. The claims are put
 // into the lists in one walk over the spots; then the primitives, in one walk over the steps. So marking costs no more
 // than spots and steps together.
-ghost use Rattle.std.specs.Prelude.{◌≡◌, ◌<◌, ◌++◌, [], ℕ, IfOk, OnOk, length, map, replicate, get_or};
-ghost use Rattle.std.specs.List.{All};
-ghost use Rattle.plc_infer.specs.Programs.{edge_of};
-ghost use Rattle.plc_suggest.specs.Spots.{claims_at};
-ghost use Rattle.plc_suggest.specs.Marking.{IsOfStep, lists_of, prims_at, with_lists};
+ghost use Rattle.std.specs.Prelude.{◌≡◌, ◌<◌, ◌++◌, [], ℕ, All, IfOk, OnOk, length, replicate, get_or};
+ghost use Rattle.plc_suggest.specs.Marking.{HasClaims, HaveLists, IsOfStep, lists_of, prims_at};
 
 use crate::spot::Spot;
 use plc_base::{Items, NoMemory};
@@ -46,9 +43,7 @@ fn empty_lists(alloc: Global, count: usize) -> Result<Vec<Items<Prim>>, NoMemory
 /// Puts the claim of each spot at the end of the list of its step.
 fn put_claims(spots: &[Spot], lists: &mut Vec<Items<Prim>>) -> Result<(), NoMemory>
     requires { All (IsOfStep (length lists.old.items)) spots.now }
-    ensures count { OnOk result (length lists.new.items ≡ length lists.old.items) }
-    ensures claims { OnOk result ((k : ℕ) → k < length lists.old.items
-        → get_or lists.new.items k [] ≡ get_or lists.old.items k [] ++ claims_at spots.now k) }
+    ensures { OnOk result (HasClaims lists.old.items lists.new.items spots.now) }
 {
     for spot in spots {
         lists[spot.step.0 as usize].push(Prim::Active { p: spot.var })?;
@@ -88,7 +83,7 @@ pub(crate) fn marked_edges<'a>(
     lists: &'a [Items<Prim>],
 ) -> Result<Vec<Edge<'a>>, NoMemory>
     requires { length lists.now ≡ length flow.now.steps }
-    ensures { IfOk result (λ edges. map edge_of edges.items ≡ with_lists lists.now flow.now.steps) }
+    ensures { IfOk result (λ edges. HaveLists flow.now lists.now edges.items) }
 {
     let steps = flow.steps.as_slice();
     let mut edges = Vec::new(alloc);

@@ -3,7 +3,6 @@
 // that can't is halved, down to the spot that is needed, so that a needed spot costs a logarithm of trials.
 ghost use Rattle.std.specs.Prelude.{◌≤◌, ◌<◌, IfOk};
 ghost use Rattle.plc_flow.specs.Skeleton.{skeleton_of};
-ghost use Rattle.plc_flow.specs.StepsByPoint.{IsIndexOf, first_points};
 ghost use Rattle.plc_suggest.specs.Needed.{AreNeeded};
 ghost use Rattle.plc_suggest.specs.Trials.{AreParts, IsReached};
 
@@ -11,7 +10,6 @@ use crate::parts::Parts;
 use crate::spot::Spot;
 use crate::trial::try_without;
 use plc_base::NoMemory;
-use plc_flow::StepsByPoint;
 use plc_type::Env;
 use std::alloc::Global;
 
@@ -22,11 +20,9 @@ const LONGEST_ROW: usize = 4096;
 pub(crate) fn needed_spots(
     alloc: Global,
     parts: &Parts,
-    index: &StepsByPoint,
     mut envs: Vec<Env>,
 ) -> Result<Vec<Spot>, NoMemory>
     requires parts { AreParts parts.now }
-    requires index { IsIndexOf (first_points parts.now.flow.now) index.now }
     requires reached { IsReached parts.now parts.now.spots.now envs.items }
     ensures { IfOk result (λ spots. AreNeeded parts.now.observer.now (skeleton_of parts.now.flow.now) spots.items) }
 {
@@ -37,7 +33,7 @@ pub(crate) fn needed_spots(
     let mut grows = true;
     while at < spots.len() {
         let count = fitting(row, spots.len() - at);
-        if try_without(alloc, parts, index, &kept, at, at + count, &mut envs)? {
+        if try_without(alloc, parts, &kept, at, at + count, &mut envs)? {
             at += count;
             row = next_row(row, grows);
         } else if count == 1 {
@@ -64,7 +60,8 @@ fn fitting(row: usize, left: usize) -> usize
 
 /// The row after one that could go: a longer one, unless a needed spot is known to be near.
 fn next_row(row: usize, grows: bool) -> usize
-    requires { row ≤ 4096 }
+    requires few { row ≤ 4096 }
+    requires some { 1 ≤ row }
     ensures some { 1 ≤ result }
     ensures most { result ≤ 4096 }
 {
@@ -73,11 +70,12 @@ fn next_row(row: usize, grows: bool) -> usize
 
 /// The row after one that could go, while no needed spot is known to be near.
 fn longer(row: usize) -> usize
-    requires { row ≤ 4096 }
+    requires few { row ≤ 4096 }
+    requires some { 1 ≤ row }
     ensures some { 1 ≤ result }
     ensures most { result ≤ 4096 }
 {
-    (row * 2).min(LONGEST_ROW).max(1)
+    (row * 2).min(LONGEST_ROW)
 }
 
 /// Half a row, but one spot at least.

@@ -5,9 +5,8 @@ ghost use Rattle.std.specs.Prelude.{◌≡◌, ◌<◌, ◌≤◌, ◌+◌, ◌+
 ghost use Rattle.plc_lang.specs.Fit.{FileFits};
 ghost use Rattle.plc_flow.specs.WellFormed.{IsWellFormed};
 ghost use Rattle.plc_flow.specs.Skeleton.{skeleton_of, pointers_by_point};
-ghost use Rattle.plc_lang.specs.declared.syntax.Var.TheVariants.{Shared, Local};
 ghost use Rattle.plc_xfer.specs.Rules.{table};
-ghost use Rattle.plc_suggest.specs.Spots.{spot, spots_of, spots_of_step, spots_before};
+ghost use Rattle.plc_suggest.specs.Spots.{pointer, spot, spots_of, spots_of_step};
 ghost use Rattle.plc_suggest.specs.Suggestions.{most_spots};
 
 use crate::spot::Spot;
@@ -51,7 +50,7 @@ pub(crate) fn all_spots(
     Ok(spots)
 }
 
-/// Adds the spots of a step at the end: none where it has no primitive.
+/// Adds the spots of a step at the end, shared pointers before pointer locals: none where it has no primitive.
 fn add_spots(
     step: StepId,
     prims: &[Prim],
@@ -73,46 +72,36 @@ fn add_spots(
             count: MOST_SPOTS as u32 + 1,
         });
     }
-    add_pointers(step, shared, locals, spots)?;
+    add_numbered(step, true, shared, spots)?;
+    add_numbered(step, false, locals, spots)?;
     Ok(())
 }
 
-/// Adds the pointers in front of a step at the end: the shared pointers, then the pointer locals.
-fn add_pointers(
+/// Adds so many pointers in front of a step, which are shared or local, from number 0.
+fn add_numbered(
     step: StepId,
-    shared: u16,
-    locals: u16,
+    shared: bool,
+    count: u16,
     spots: &mut Vec<Spot>,
 ) -> Result<(), NoMemory>
-    ensures { OnOk result (spots.new.items ≡ spots.old.items ++ spots_before step.0 shared locals) }
+    ensures { OnOk result (spots.new.items ≡ spots.old.items ++ table 0 count (λ i. spot step.0 (pointer shared i))) }
 {
-    add_shared(step, shared, spots)?;
-    add_locals(step, locals, spots)?;
-    Ok(())
-}
-
-/// Adds so many shared pointers in front of a step.
-fn add_shared(step: StepId, count: u16, spots: &mut Vec<Spot>) -> Result<(), NoMemory>
-    ensures { OnOk result (spots.new.items ≡ spots.old.items ++ table 0 count (λ i. spot step.0 (Shared i))) }
-{
-    for i in 0..count {
+    for number in 0..count {
         spots.push(Spot {
             step,
-            var: Var::Shared(i),
+            var: pointer(shared, number),
         })?;
     }
     Ok(())
 }
 
-/// Adds so many pointer locals in front of a step.
-fn add_locals(step: StepId, count: u16, spots: &mut Vec<Spot>) -> Result<(), NoMemory>
-    ensures { OnOk result (spots.new.items ≡ spots.old.items ++ table 0 count (λ i. spot step.0 (Local i))) }
+/// The shared pointer, or the pointer local, of a number.
+fn pointer(shared: bool, number: u16) -> Var
+    ensures { result ≡ pointer shared number }
 {
-    for i in 0..count {
-        spots.push(Spot {
-            step,
-            var: Var::Local(i),
-        })?;
+    if shared {
+        Var::Shared(number)
+    } else {
+        Var::Local(number)
     }
-    Ok(())
 }

@@ -11,18 +11,18 @@ ghost use Rattle.plc_xfer.specs.Typings.{IsStuckAt};
 ghost use Rattle.plc_suggest.specs.declared.spot.Spot.{Spot as ASpot};
 ghost use Rattle.plc_suggest.specs.Spots.{spots_of, marked};
 ghost use Rattle.plc_suggest.specs.Suggestions.{IsSuggestion, most_spots};
-ghost use Rattle.plc_suggest.specs.Trials.{AreParts};
+ghost use Rattle.plc_suggest.specs.Trials.{AreParts, IsReached};
 
 use crate::marking::{marked_edges, marked_lists};
-use crate::parts::Parts;
+use crate::parts::{Parts, marked_program};
 use crate::search::needed_spots;
 use crate::spot::Spot;
 use crate::spots::all_spots;
 use crate::suggestion::{SuggestFault, Suggestion};
 use plc_auto::Observer;
 use plc_base::{Items, StepId};
-use plc_flow::Flow;
-use plc_infer::{InferFault, Program, entries, infer_program, pointers_by_point, steps_by_point};
+use plc_flow::{Flow, StepsByPoint};
+use plc_infer::{InferFault, Typing, entries, infer_program, pointers_by_point};
 use std::alloc::Global;
 
 /// The claims in front of steps that a flow needs, or the primitive whose condition fails whatever claims stand there.
@@ -43,12 +43,14 @@ pub fn suggest(alloc: Global, flow: &Flow, observer: &Observer) -> Result<Sugges
     let locals = pointers_by_point(alloc, flow)?;
     let entries = entries(alloc, flow)?;
     let spots = all_spots(alloc, flow, &locals)?;
+    let index = StepsByPoint::of_flow(alloc, flow)?;
     let parts = Parts {
         flow,
         observer,
         shared: flow.file.shared.len() as u16,
         locals: locals.as_slice(),
         entries: entries.as_slice(),
+        index: &index,
         spots: spots.as_slice(),
     };
     suggest_among(alloc, &parts)
@@ -60,22 +62,26 @@ fn suggest_among(alloc: Global, parts: &Parts) -> Result<Suggestion, SuggestFaul
     ensures suggested { IfOk result (IsSuggestion parts.now.observer.now (skeleton_of parts.now.flow.now)) }
     ensures memory { (count : ℕ) → result ≡ Err (SuggestFault.TooMany count) → ⊥ }
 {
-    let lists = marked_lists(alloc, parts.flow, &[], parts.spots)?;
-    let marked = marked_edges(alloc, parts.flow, &lists)?;
-    let program = Program {
-        shared: parts.shared,
-        locals: parts.locals,
-        entries: parts.entries,
-        steps: marked.as_slice(),
-    };
-    match infer_program(alloc, &program, parts.observer) {
+    match infer_marked(alloc, parts) {
         Ok(typing) => {
-            let index = steps_by_point(alloc, &program)?;
-            let kept = needed_spots(alloc, parts, &index, typing.env.into_vec())?;
+            let kept = needed_spots(alloc, parts, typing.env.into_vec())?;
             Ok(Suggestion::Found(Items::from_vec(kept)))
         }
         Err(fault) => insufficient(parts, fault),
     }
+}
+
+/// The strongest typing of the program with a claim at every spot, or where that is stuck.
+fn infer_marked(alloc: Global, parts: &Parts) -> Result<Typing, InferFault>
+    requires { AreParts parts.now }
+    ensures reached { IfOk result (λ typing. IsReached parts.now parts.now.spots.now typing.env) }
+    ensures stuck { (k : Number) (i : ℕ) (why : AFault) → result ≡ Err (InferFault.Stuck k i why)
+        → IsStuckAt parts.now.observer.now (marked parts.now.spots.now (skeleton_of parts.now.flow.now)) k.0 i why }
+{
+    let lists = marked_lists(alloc, parts.flow, &[], parts.spots)?;
+    let edges = marked_edges(alloc, parts.flow, &lists)?;
+    let program = marked_program(parts, &edges);
+    infer_program(alloc, &program, parts.observer)
 }
 
 /// That no claims are enough, by the fault of the program with a claim at every spot.

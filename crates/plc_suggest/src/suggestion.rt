@@ -5,7 +5,6 @@ ghost use Rattle.plc_suggest.specs.declared.suggestion.SuggestFault.TheVariants.
 use crate::spot::Spot;
 use plc_base::{Items, NoMemory, StepId};
 use plc_xfer::TypeFault;
-use std::alloc::AllocError;
 
 /// The claims that a program needs.
 #[derive(Drop)]
@@ -29,14 +28,6 @@ pub enum SuggestFault {
     TooMany { count: u32 },
     /// Memory ran out.
     Memory,
-}
-
-impl From<AllocError> for SuggestFault {
-    ghost from_gives = { λ _ e. e ≡ Memory };
-
-    fn from(_error: AllocError) -> Self {
-        Self::Memory
-    }
 }
 
 impl From<NoMemory> for SuggestFault {

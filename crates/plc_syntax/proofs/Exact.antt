@@ -11,7 +11,8 @@ use Rattle.plc_syntax.specs.declared.expected.Expected.{Expected}
 use Rattle.plc_syntax.specs.declared.expected.Expected.TheVariants as expected
 use Rattle.plc_syntax.specs.declared.expected.Part.TheVariants as parts
 use Rattle.plc_syntax.specs.Trees.{NoArgument, NoStatement, NoElse, NoOr, NoBound}
-use Rattle.plc_syntax.specs.Table.{after_expected, may_be_empty, same_punctuation}
+use Rattle.plc_lex.specs.Characters.{same_symbol}
+use Rattle.plc_syntax.specs.Table.{after_expected, may_be_empty}
 use Rattle.plc_syntax.specs.declared.expected.Part.{Part as PartName}
 use Rattle.plc_syntax.specs.Machine.{left_of}
 use Rattle.plc_syntax.specs.Syntax.{AreWhole, Begin}
@@ -24,7 +25,7 @@ use Rattle.plc_syntax.proofs.Again.{go}
 abbrev Row : Expected → TokenKind → Option (List Expected) → Type 0
 Row x t o = RowIs Expected TokenKind after_expected may_be_empty Tree spell x t o
 
-same_is : (k j : Punctuation) → same_punctuation k j ≡ true → k ≡ j
+same_is : (k j : Punctuation) → same_symbol k j ≡ true → k ≡ j
 same_is k j h = same_true punctuation.the_type (search rules) _ _ h
 
 symbol_row : (k j : Punctuation) (b : Bool) → (b ≡ true → k ≡ j) → Row (expected.Symbol k) (Symbol j) (cond b (Some []) None)
@@ -34,7 +35,7 @@ symbol_row k j false h = tt
 rows : (x : Expected) (t : TokenKind) → Row x t (after_expected x t)
 rows expected.Name (Name n) = λ p. (n, λ rest. refl)
 rows expected.Number (Number n) = λ p. (n, λ rest. refl)
-rows (expected.Symbol k) (Symbol j) = symbol_row k j (same_punctuation k j) (same_is k j)
+rows (expected.Symbol k) (Symbol j) = symbol_row k j (same_symbol k j) (same_is k j)
 rows (expected.Part p) t = part_rows p t
 rows _ _ = tt
 

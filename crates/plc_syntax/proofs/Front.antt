@@ -14,7 +14,8 @@ use Rattle.plc_syntax.specs.declared.expected.Expected.{Expected}
 use Rattle.plc_syntax.specs.declared.expected.Expected.TheVariants as expected
 use Rattle.plc_syntax.specs.declared.expected.Part.TheVariants as parts
 use Rattle.plc_syntax.specs.Trees.{OutlineTree, outline_then}
-use Rattle.plc_syntax.specs.Table.{after_expected, may_be_empty, same_punctuation}
+use Rattle.plc_lex.specs.Characters.{same_symbol}
+use Rattle.plc_syntax.specs.Table.{after_expected, may_be_empty}
 use Rattle.plc_syntax.specs.Machine.{chosen, after_token, left_of, and_then, or_here, stuck_at, outline_stuck_at}
 use Rattle.plc_syntax.specs.Syntax.{kinds, Begin, StopAt, HasOutline, OutlineFaultAt}
 use Rattle.plc_syntax.proofs.Laws.{run_one, goes_well}
@@ -56,7 +57,7 @@ closed_symbol true = refl
 closed_symbol false = tt
 
 closed_last : (x : Expected) (t : TokenKind) → is_solid x ≡ true → IsClosed (after_token (x ∷ []) t)
-closed_last (expected.Symbol k) (Symbol j) h = closed_symbol (same_punctuation k j)
+closed_last (expected.Symbol k) (Symbol j) h = closed_symbol (same_symbol k j)
 closed_last (expected.Symbol k) t h = tt
 closed_last (expected.Part parts.WholeOutline) (Word words.Outline) h = refl
 closed_last (expected.Part parts.WholeOutline) t h = tt

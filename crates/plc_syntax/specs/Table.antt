@@ -4,12 +4,10 @@
 -- it is a part of its own.
 use Rattle.std.specs.Prelude.{◌≡◌, cond, Bool, true, false, Option, Some, None, MatchOption, List, [], ◌∷◌}
 use Rattle.std.specs.Borrow.{Bor}
-use denote.Enum.Bare.{sameb}
-use Rattle.plc_lex.specs.contracts.token.Symbol as punctuation
+use Rattle.plc_lex.specs.Characters.{same_symbol}
 use Rattle.plc_lex.specs.declared.token.TokenKind.{TokenKind}
 use Rattle.plc_lex.specs.declared.token.TokenKind.TheVariants as kinds
 use Rattle.plc_lex.specs.declared.token.Keyword.TheVariants as words
-use Rattle.plc_lex.specs.declared.token.Symbol.{Symbol as Punctuation}
 use Rattle.plc_lex.specs.declared.token.Symbol.TheVariants.{Assign, Refresh, Equal, Unequal, AtLeast, OpenBrace}
 use Rattle.plc_lex.specs.declared.token.Symbol.TheVariants.{CloseBrace, OpenParen, CloseParen, Semicolon, Comma, Dot}
 use Rattle.plc_lex.specs.declared.token.Symbol.TheVariants.{Colon, Less}
@@ -417,14 +415,10 @@ may_be_empty (Part SecondName) = true
 may_be_empty (Part OrLiterals) = true
 may_be_empty _ = false
 
--- whether two symbols are one
-abbrev pub same_punctuation : Punctuation → Punctuation → Bool
-same_punctuation a b = sameb punctuation.the_type a b
-
 -- what is still to come after a token
 abbrev pub after_expected : Expected → TokenKind → Option (List Expected)
 after_expected Name (kinds.Name n) = Some []
 after_expected Number (kinds.Number n) = Some []
-after_expected (Symbol wanted) (kinds.Symbol found) = cond (same_punctuation wanted found) (Some []) None
+after_expected (Symbol wanted) (kinds.Symbol found) = cond (same_symbol wanted found) (Some []) None
 after_expected (Part part) t = after_part part t
 after_expected _ _ = None

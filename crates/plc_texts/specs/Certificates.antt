@@ -18,7 +18,7 @@ use Rattle.plc_verify.specs.declared.fault.VerifyFault.TheVariants.{EnvCount, En
 use Rattle.plc_verify.specs.declared.fault.VerifyFault.TheVariants.{TreeCount, TreeAt, Memory}
 use Rattle.plc_texts.specs.Counts.{counts_text}
 use Rattle.plc_texts.specs.Names.{variable_in}
-use Rattle.plc_texts.specs.Untyped.{step_operation}
+use Rattle.plc_texts.specs.Steps.{step_operation}
 
 -- the certificate
 abbrev pub certificate_line : Cert → List ℕ
@@ -28,14 +28,14 @@ certificate_line cert = written.text cert ++ codes "\n"
 
 -- refused certificate json; refused certificate field NAME, of each part; refused certificate version N; running out
 -- of memory has no text
-abbrev pub certificate_text : CertFault → List ℕ
-certificate_text cert.NotJson = codes "refused certificate json\n"
-certificate_text (cert.Shape Root) = codes "refused certificate field root\n"
-certificate_text (cert.Shape Version) = codes "refused certificate field version\n"
-certificate_text (cert.Shape Env) = codes "refused certificate field env\n"
-certificate_text (cert.Shape Trees) = codes "refused certificate field trees\n"
-certificate_text (cert.Version n) = codes "refused certificate version " ++ decimal n ++ codes "\n"
-certificate_text cert.Memory = []
+abbrev pub certificate_fault_text : CertFault → List ℕ
+certificate_fault_text cert.NotJson = codes "refused certificate json\n"
+certificate_fault_text (cert.Shape Root) = codes "refused certificate field root\n"
+certificate_fault_text (cert.Shape Version) = codes "refused certificate field version\n"
+certificate_fault_text (cert.Shape Env) = codes "refused certificate field env\n"
+certificate_fault_text (cert.Shape Trees) = codes "refused certificate field trees\n"
+certificate_fault_text (cert.Version n) = codes "refused certificate version " ++ decimal n ++ codes "\n"
+certificate_fault_text cert.Memory = []
 
 -- ---- certificates that are judged
 

@@ -4,8 +4,8 @@ use Rattle.std.specs.Prelude.{ℕ, List, ◌++◌, codes, decimal}
 use Rattle.plc_texts.specs.Certificates.{pair_text}
 
 -- refused claim token K
-abbrev pub claim_text : ℕ → List ℕ
-claim_text at = codes "refused claim token " ++ decimal at ++ codes "\n"
+abbrev pub claim_fault_text : ℕ → List ℕ
+claim_fault_text at = codes "refused claim token " ++ decimal at ++ codes "\n"
 
 -- unlocated claim I
 abbrev pub unlocated_text : ℕ → List ℕ

@@ -6,6 +6,7 @@ pub mod Names
 pub mod Refusals
 pub mod Replays
 pub mod Samples
+pub mod Steps
 pub mod Suggestions
 pub mod Typings
 pub mod Untyped

@@ -27,7 +27,7 @@ end_text (Impossible line) = codes "impossible line " ++ decimal line ++ codes "
 end_text (ForbiddenFree a line) = codes "forbidden free " ++ decimal a ++ codes " line " ++ decimal line ++ codes "\n"
 
 -- refused schedule line N; refused limit lines N; running out of memory has no text
-abbrev pub schedule_text : SchedFault → List ℕ
-schedule_text (Line n) = codes "refused schedule line " ++ decimal n ++ codes "\n"
-schedule_text (Limit count) = limit_text limits.Lines count
-schedule_text Memory = []
+abbrev pub schedule_fault_text : SchedFault → List ℕ
+schedule_fault_text (Line n) = codes "refused schedule line " ++ decimal n ++ codes "\n"
+schedule_fault_text (Limit count) = limit_text limits.Lines count
+schedule_fault_text Memory = []

@@ -5,7 +5,8 @@ use Rattle.plc_flow.specs.declared.flow.Flow.{Flow}
 use Rattle.plc_xfer.specs.declared.fault.TypeFault.{TypeFault}
 use Rattle.plc_suggest.specs.declared.spot.Spot.{Spot}
 use Rattle.plc_texts.specs.Names.{variable_in}
-use Rattle.plc_texts.specs.Untyped.{step_line, step_operation, condition_text}
+use Rattle.plc_texts.specs.Steps.{step_line, step_operation}
+use Rattle.plc_texts.specs.Untyped.{condition_text}
 
 -- active VAR step S line N
 abbrev pub spot_line : Flow → Spot → List ℕ
@@ -28,5 +29,5 @@ abbrev pub insufficient_text : Flow → ℕ → ℕ → TypeFault → List ℕ
 insufficient_text flow k i fault = condition_text (codes "insufficient") flow k i fault
 
 -- refused limit places COUNT
-abbrev pub spots_text : ℕ → List ℕ
-spots_text count = codes "refused limit places " ++ decimal count ++ codes "\n"
+abbrev pub spots_limit_text : ℕ → List ℕ
+spots_limit_text count = codes "refused limit places " ++ decimal count ++ codes "\n"

@@ -19,7 +19,7 @@ use Rattle.plc_ground.specs.declared.terms.GroundSet.{GroundSet}
 use Rattle.plc_setting.specs.declared.obligations.Obligation.{Obligation}
 use Rattle.plc_setting.specs.declared.obligations.Obligation.TheVariants.{Start, Enter, Own, Other, Claim}
 use Rattle.plc_setting.specs.Parts.{acting_locals, owner_locals}
-use Rattle.plc_texts.specs.Untyped.{step_line}
+use Rattle.plc_texts.specs.Steps.{step_line}
 
 -- ---- the obligation
 

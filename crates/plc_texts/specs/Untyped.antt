@@ -1,11 +1,11 @@
 -- The text of an untyped file.
-use Rattle.std.specs.Prelude.{ℕ, List, ◌++◌, codes, decimal, Option, Some, None, slice_get}
+use Rattle.std.specs.Prelude.{ℕ, List, ◌++◌, codes, decimal, slice_get}
 use Rattle.plc_lang.specs.declared.syntax.Var.{Var}
-use Rattle.plc_flow.specs.declared.flow.Step.{Step}
 use Rattle.plc_flow.specs.declared.flow.Flow.{Flow}
 use Rattle.plc_xfer.specs.declared.fault.TypeFault.{TypeFault}
 use Rattle.plc_xfer.specs.declared.fault.TypeFault.TheVariants.{DerefNotSafe, CompareNotSafe, RetireNotActive}
 use Rattle.plc_texts.specs.Names.{variable_in}
+use Rattle.plc_texts.specs.Steps.{step_line, step_operation}
 
 -- KIND
 abbrev pub fault_word : TypeFault → List ℕ
@@ -18,16 +18,6 @@ abbrev pub fault_variable : TypeFault → Var
 fault_variable (DerefNotSafe var) = var
 fault_variable (CompareNotSafe var) = var
 fault_variable (RetireNotActive var) = var
-
--- the line of a step
-abbrev pub step_line : Option Step → ℕ
-step_line None = 0
-step_line (Some s) = s.line
-
--- the operation of a step
-abbrev pub step_operation : Option Step → ℕ
-step_operation None = 0
-step_operation (Some s) = s.op.0
 
 -- WORD step S prim K line N KIND VAR
 abbrev pub condition_text : List ℕ → Flow → ℕ → ℕ → TypeFault → List ℕ

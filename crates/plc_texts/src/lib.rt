@@ -5,8 +5,6 @@
 mod certificates;
 mod claims;
 mod counts;
-mod failing;
-mod models;
 mod names;
 mod pieces;
 mod refusals;
@@ -14,17 +12,22 @@ mod replays;
 mod samples;
 mod steps;
 mod suggestions;
-mod typing;
+mod typings;
+mod unproved;
+mod untyped;
 
-pub use certificates::{certified, invalid, uncertified, verified};
-pub use claims::{located, no_claim, unlocated};
-pub use failing::untyped;
-pub use models::{unproved, value_text};
+pub use certificates::{certificate_fault_text, certificate_line, invalid_text, verified_text};
+pub use claims::{claim_fault_text, located_text, unlocated_text};
 pub use names::variable_in;
 pub use pieces::{push, push_bytes, push_number, push_numbered};
-pub use refusals::{lexical, limit, parsed, read_failed, read_too_long, words_refused};
-pub use replays::{ended, unscheduled};
-pub use samples::sampled;
+pub use refusals::{
+    lex_fault_text, limit_text, parse_fault_text, read_failed_text, read_too_long_text,
+    words_refused_text,
+};
+pub use replays::{end_text, schedule_fault_text};
+pub use samples::summary_text;
 pub use steps::line_of;
-pub use suggestions::{insufficient, suggested, too_many_spots};
-pub use typing::safe;
+pub use suggestions::{insufficient_text, spots_limit_text, suggested_text};
+pub use typings::safe_text;
+pub use unproved::{unproved_text, value_text};
+pub use untyped::{FailedCondition, untyped_text};

@@ -1,9 +1,9 @@
 // What a schedule leads to, and why bytes are no schedule, as texts.
 ghost use Rattle.std.specs.Prelude.{◌≡◌, ◌++◌, IfOk, codes, decimal};
-ghost use Rattle.plc_texts.specs.Replays.{end_text, race_name, schedule_text};
+ghost use Rattle.plc_texts.specs.Replays.{end_text, race_name, schedule_fault_text};
 
 use crate::pieces::{push, push_numbered};
-use crate::refusals::{fixed, limit, numbered};
+use crate::refusals::{fixed_text, limit_text, numbered_text};
 use plc_base::What1;
 use plc_mem::RaceKind;
 use plc_replay::End;
@@ -23,7 +23,7 @@ fn race_name(kind: RaceKind) -> &'static str
 }
 
 /// The schedule was followed to its end.
-fn followed(alloc: Global, lines: u32, events: u32, freed: u32) -> Result<Vec<u8>, AllocError>
+fn followed_text(alloc: Global, lines: u32, events: u32, freed: u32) -> Result<Vec<u8>, AllocError>
     ensures { IfOk result (λ v. v.items ≡ codes "end lines " ++ decimal lines ++ codes " events " ++ decimal events
         ++ codes " freed " ++ decimal freed ++ codes "\n") }
 {
@@ -36,11 +36,11 @@ fn followed(alloc: Global, lines: u32, events: u32, freed: u32) -> Result<Vec<u8
 }
 
 /// A race of a primitive.
-fn raced(alloc: Global, kind: RaceKind, line: u32, prim: u16) -> Result<Vec<u8>, AllocError>
+fn race_text(alloc: Global, kind: RaceKind, line: u32, prim: u16) -> Result<Vec<u8>, AllocError>
     ensures { IfOk result (λ v. v.items ≡ codes "race " ++ race_name kind ++ codes " line " ++ decimal line
         ++ codes " prim " ++ decimal prim ++ codes "\n") }
 {
-    let mut out = fixed(alloc, "race ")?;
+    let mut out = fixed_text(alloc, "race ")?;
     push(&mut out, race_name(kind))?;
     push_numbered(&mut out, " line ", line)?;
     push_numbered(&mut out, " prim ", u32::from(prim))?;
@@ -49,7 +49,7 @@ fn raced(alloc: Global, kind: RaceKind, line: u32, prim: u16) -> Result<Vec<u8>,
 }
 
 /// A free that isn't allowed.
-fn forbidden(alloc: Global, a: u32, line: u32) -> Result<Vec<u8>, AllocError>
+fn forbidden_text(alloc: Global, a: u32, line: u32) -> Result<Vec<u8>, AllocError>
     ensures { IfOk result (λ v. v.items ≡ codes "forbidden free " ++ decimal a
         ++ codes " line " ++ decimal line ++ codes "\n") }
 {
@@ -61,7 +61,7 @@ fn forbidden(alloc: Global, a: u32, line: u32) -> Result<Vec<u8>, AllocError>
 }
 
 /// What a schedule leads to.
-pub fn ended(alloc: Global, end: &End) -> Result<Vec<u8>, AllocError>
+pub fn end_text(alloc: Global, end: &End) -> Result<Vec<u8>, AllocError>
     ensures { IfOk result (λ v. v.items ≡ end_text end.now) }
 {
     match *end {
@@ -69,20 +69,20 @@ pub fn ended(alloc: Global, end: &End) -> Result<Vec<u8>, AllocError>
             lines,
             events,
             freed,
-        } => followed(alloc, lines, events, freed),
-        End::Race { kind, line, prim } => raced(alloc, kind, line, prim),
-        End::Impossible { line } => numbered(alloc, "impossible line ", line),
-        End::ForbiddenFree { a, line } => forbidden(alloc, a, line),
+        } => followed_text(alloc, lines, events, freed),
+        End::Race { kind, line, prim } => race_text(alloc, kind, line, prim),
+        End::Impossible { line } => numbered_text(alloc, "impossible line ", line),
+        End::ForbiddenFree { a, line } => forbidden_text(alloc, a, line),
     }
 }
 
 /// Bytes that spell no schedule: the line. Running out of memory has no text.
-pub fn unscheduled(alloc: Global, fault: SchedFault) -> Result<Vec<u8>, AllocError>
-    ensures { IfOk result (λ v. v.items ≡ schedule_text fault) }
+pub fn schedule_fault_text(alloc: Global, fault: SchedFault) -> Result<Vec<u8>, AllocError>
+    ensures { IfOk result (λ v. v.items ≡ schedule_fault_text fault) }
 {
     match fault {
-        SchedFault::Line { n } => numbered(alloc, "refused schedule line ", n),
-        SchedFault::Limit { count } => limit(alloc, What1::Lines, count),
+        SchedFault::Line { n } => numbered_text(alloc, "refused schedule line ", n),
+        SchedFault::Limit { count } => limit_text(alloc, What1::Lines, count),
         SchedFault::Memory => Ok(Vec::new(alloc)),
     }
 }

@@ -8,7 +8,7 @@ use plc_flow::Flow;
 use std::alloc::{AllocError, Global};
 
 /// One line on the sample with `k` copies without line `n`: how many points, steps and obligations it has.
-pub fn sampled(
+pub fn summary_text(
     alloc: Global,
     k: u8,
     n: u16,

@@ -1,6 +1,6 @@
 // The line and the operation of a step, by which answers name what stands in it.
 ghost use Rattle.std.specs.Prelude.{◌≡◌, slice_get};
-ghost use Rattle.plc_texts.specs.Untyped.{step_line, step_operation};
+ghost use Rattle.plc_texts.specs.Steps.{step_line, step_operation};
 
 use plc_flow::Flow;
 

@@ -1,16 +1,16 @@
 // The texts of suggested claims: the spots in their order, then how many there are; or the condition that no claims in
 // front of steps make hold; or that there are too many places to put claims.
 ghost use Rattle.std.specs.Prelude.{◌≡◌, ◌++◌, IfOk, OnOk};
-ghost use Rattle.plc_texts.specs.Suggestions.{spot_line, spot_lines, suggested_text, insufficient_text, spots_text};
+ghost use Rattle.plc_texts.specs.Suggestions.{spot_line, spot_lines, suggested_text};
+ghost use Rattle.plc_texts.specs.Suggestions.{insufficient_text, spots_limit_text};
 
-use crate::failing::condition;
 use crate::names::variable_in;
 use crate::pieces::{push, push_bytes, push_number, push_numbered};
-use crate::refusals::numbered;
+use crate::refusals::numbered_text;
 use crate::steps::{line_of, operation_of};
+use crate::untyped::{FailedCondition, condition_text};
 use plc_flow::Flow;
 use plc_suggest::Spot;
-use plc_xfer::TypeFault;
 use std::alloc::{AllocError, Global};
 
 /// The line of a spot: its pointer, the step in front of which the claim would stand, and that step's line.
@@ -39,7 +39,7 @@ fn push_spots(out: &mut Vec<u8>, flow: &Flow, spots: &[Spot]) -> Result<(), Allo
 }
 
 /// The claims that a file needs, each in front of the step that it names, and how many they are.
-pub fn suggested(alloc: Global, flow: &Flow, spots: &[Spot]) -> Result<Vec<u8>, AllocError>
+pub fn suggested_text(alloc: Global, flow: &Flow, spots: &[Spot]) -> Result<Vec<u8>, AllocError>
     ensures { IfOk result (λ v. v.items ≡ suggested_text flow.now spots.now) }
 {
     let mut out = Vec::new(alloc);
@@ -52,21 +52,19 @@ pub fn suggested(alloc: Global, flow: &Flow, spots: &[Spot]) -> Result<Vec<u8>, 
 
 /// The text of a file that no claims in front of steps make typable: the step and primitive whose condition fails, its
 /// line, and the variable that lacks what is asked.
-pub fn insufficient(
+pub fn insufficient_text(
     alloc: Global,
     flow: &Flow,
-    step: u16,
-    prim: u16,
-    fault: TypeFault,
+    failed: FailedCondition,
 ) -> Result<Vec<u8>, AllocError>
-    ensures { IfOk result (λ v. v.items ≡ insufficient_text flow.now step prim fault) }
+    ensures { IfOk result (λ v. v.items ≡ insufficient_text flow.now failed.step.0 failed.prim failed.fault) }
 {
-    condition(alloc, "insufficient", flow, step, prim, fault)
+    condition_text(alloc, "insufficient", flow, failed)
 }
 
 /// More places for claims than are tried, with the limit plus one.
-pub fn too_many_spots(alloc: Global, count: u32) -> Result<Vec<u8>, AllocError>
-    ensures { IfOk result (λ v. v.items ≡ spots_text count) }
+pub fn spots_limit_text(alloc: Global, count: u32) -> Result<Vec<u8>, AllocError>
+    ensures { IfOk result (λ v. v.items ≡ spots_limit_text count) }
 {
-    numbered(alloc, "refused limit places ", count)
+    numbered_text(alloc, "refused limit places ", count)
 }

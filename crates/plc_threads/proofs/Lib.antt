@@ -1,3 +1,4 @@
+pub mod Holding
 pub mod Places
 pub mod Moves
 pub mod Fit

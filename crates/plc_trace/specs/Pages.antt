@@ -4,7 +4,7 @@ use Rattle.plc_sched.specs.declared.schedule.Schedule.{Schedule}
 use Rattle.plc_reclaim.specs.Meanings.{Meanings}
 use Rattle.plc_check.specs.declared.judged.Judged.{Judged}
 use Rattle.plc_sched.specs.declared.fault.SchedFault.{SchedFault}
-use Rattle.plc_texts.specs.Replays.{schedule_text}
+use Rattle.plc_texts.specs.Replays.{schedule_fault_text}
 use Rattle.plc_cli.specs.Statuses.{refused}
 use Rattle.plc_cli.specs.Answer.{IsReplayOf, IsScheduleAnswered, IsEndOf}
 use Rattle.plc_page.specs.declared.page.Page.{Page}
@@ -31,4 +31,4 @@ ShowsEnd j reclaimer schedule = ShowsDue (IsEndOf j reclaimer schedule)
 
 -- the page says why the bytes are no schedule
 abbrev pub SaysUnscheduled : SchedFault → Page → Type 0
-SaysUnscheduled fault page = ShowsAnswer refused (schedule_text fault) page
+SaysUnscheduled fault page = ShowsAnswer refused (schedule_fault_text fault) page

@@ -14,7 +14,7 @@ use plc_html::{Html, whole_page};
 use plc_page::{Page, push_file, push_numbered_lines, refused_page};
 use plc_reclaim::Reclaimer;
 use plc_sched::{SchedFault, Schedule, read_schedule};
-use plc_texts::unscheduled;
+use plc_texts::schedule_fault_text;
 use std::alloc::Global;
 
 /// What follows the answer to a schedule.
@@ -80,7 +80,7 @@ fn unscheduled_page(
 ) -> Result<Page, NoMemory>
     ensures { IfOk result (SaysUnscheduled fault) }
 {
-    let text = unscheduled(alloc, fault)?;
+    let text = schedule_fault_text(alloc, fault)?;
     let mut rest = Html::new(alloc);
     rest.markup("<h2>The schedule</h2>\n")?;
     push_numbered_lines(&mut rest, second, line_of_refusal(fault))?;

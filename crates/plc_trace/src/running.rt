@@ -13,7 +13,7 @@ use plc_flow::{Flow, StepsByPoint};
 use plc_html::Html;
 use plc_mem::Memory;
 use plc_reclaim::Reclaimer;
-use plc_replay::{End, begin_reclaimer, begin_run, replay};
+use plc_replay::{End, begin_reclaimer, replay};
 use plc_rows::{Traced, Written, push_first, push_heads, push_standing};
 use plc_run::Config;
 use plc_sched::{Entry, Schedule};
@@ -110,7 +110,7 @@ fn run(
     let entries = schedule.entries.as_slice();
     let untold = untold.min(entries.len());
     begin_reclaimer(reclaimer, schemes)?;
-    match begin_run(
+    match Config::start(
         log.rows.alloc(),
         traced.flow,
         traced.observer,

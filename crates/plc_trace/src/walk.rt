@@ -133,9 +133,7 @@ fn take_untold(
     requires stands { GoesOnFrom traced.now.flow.now traced.now.observer.now lines config.old }
     ensures stands { IfOk result (λ r. GoesOn traced.now.flow.now traced.now.observer.now (lines + 1) r config.new) }
 {
-    let alloc = log.rows.alloc();
     let end = take_line(
-        alloc,
         traced.flow,
         traced.observer,
         config,

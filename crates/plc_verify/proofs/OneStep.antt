@@ -1,5 +1,5 @@
 -- What is known while one step is judged, from what the code reads of the flow and of the environments.
-use Rattle.std.proofs.Common.{◌≡◌, ℕ, ◌<◌, ◌≤◌, List, length, get_or, Some, Ok, Err, ap, sym, subst, ◌∙◌, arith}
+use Rattle.std.proofs.Common.{◌≡◌, ℕ, ◌<◌, ◌≤◌, List, length, get_or, Some, ap, sym, subst, ◌∙◌, arith}
 use Rattle.std.specs.Prelude.{slice_get}
 use Rattle.plc_lang.specs.declared.syntax.Primitive.{Primitive}
 use Rattle.plc_lang.specs.Fit.{FileFits}
@@ -13,6 +13,7 @@ use Rattle.plc_flow.specs.Skeleton.{skeleton_of}
 use Rattle.plc_flow.specs.WellFormed.{IsWellFormed}
 use Rattle.plc_verify.specs.declared.fault.Slot.{Slot}
 use Rattle.plc_verify.specs.Environments.{EntriesHold, StepHolds, IsFirstAbove, FailsInStep, FailsAfterStep}
+use Rattle.plc_verify.specs.declared.steps.Outcome.TheVariants.{LeadsTo, FailsAt}
 use Rattle.plc_verify.specs.Tests.{NoneAbove, IsRun}
 use Rattle.plc_verify.proofs.Points.{read_item}
 use Rattle.plc_verify.proofs.Passages.{Ends, ends, env_read, env_fits_observer, in_step, after_step, ran, same_locals, few_locals, step_holds}
@@ -38,15 +39,15 @@ module _ (o : Observer) (flow : Flow) (envs : List Env) (k : ℕ) (s : Step) (st
 
     -- the primitives
     module _ (prims : List Primitive) (prims_are : prims ≡ s.prims) where
-      pub fails_there : ((l : ℕ) → l < k → StepHolds o (skeleton_of flow) envs l) → (i : ℕ) → IsRun o from prims (Err i) → FailsInStep o (skeleton_of flow) envs k i
+      pub fails_there : ((l : ℕ) → l < k → StepHolds o (skeleton_of flow) envs l) → (i : ℕ) → IsRun o from prims (FailsAt i) → FailsInStep o (skeleton_of flow) envs k i
       fails_there before i stopped =
-          let run = ran o flow envs k s w file entries step_is from prims (Err i) from_is prims_are stopped in
+          let run = ran o flow envs k s w file entries step_is from prims (FailsAt i) from_is prims_are stopped in
           in_step o flow envs k s w file entries step_is i before run.0 run.1
 
       -- the environment to which they lead
-      module _ (reached : Env) (arrived : IsRun o from prims (Ok reached)) where
-        run : IsRun o (env_at envs s.from.0) s.prims (Ok reached)
-        run = ran o flow envs k s w file entries step_is from prims (Ok reached) from_is prims_are arrived
+      module _ (reached : Env) (arrived : IsRun o from prims (LeadsTo reached)) where
+        run : IsRun o (env_at envs s.from.0) s.prims (LeadsTo reached)
+        run = ran o flow envs k s w file entries step_is from prims (LeadsTo reached) from_is prims_are arrived
 
         pub few_reached : length reached.locals ≤ 65536
         few_reached = subst (λ (e : Env). length e.locals ≤ 65536) (sym run.0) (few_locals o flow envs k s w file entries step_is)

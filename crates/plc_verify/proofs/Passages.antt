@@ -33,6 +33,7 @@ use Rattle.plc_flow.specs.WellFormed.{IsWellFormed}
 use Rattle.plc_verify.specs.declared.fault.Slot.{Slot}
 use Rattle.plc_verify.specs.Environments.{PointsHold, EntryHolds, EntriesHold, StepHolds, LocalBelow, IsFirstAbove, FailsInStep, FailsAfterStep}
 use Rattle.plc_verify.specs.declared.fault.VerifyFault.{VerifyFault}
+use Rattle.plc_verify.specs.declared.steps.Outcome.{Outcome}
 use Rattle.plc_verify.specs.Tests.{NoneAbove, IsRun, MayFail}
 use Rattle.plc_verify.proofs.Points.{no_gate, read_gate, there, entry_point}
 use Rattle.plc_flow.proofs.Gates.{point_count}
@@ -165,7 +166,7 @@ module _ (o : Observer) (flow : Flow) (envs : List Env) (k : ℕ) (s : Step) (w 
   }
 
   -- what the code has run is the step from the environment of its first point
-  pub ran : (e : Env) (ps : List Primitive) (r : Result Env ℕ) → e ≡ env_at envs s.from.0 → ps ≡ s.prims → IsRun o e ps r → IsRun o (env_at envs s.from.0) s.prims r
+  pub ran : (e : Env) (ps : List Primitive) (r : Outcome) → e ≡ env_at envs s.from.0 → ps ≡ s.prims → IsRun o e ps r → IsRun o (env_at envs s.from.0) s.prims r
   ran e ps r env prims run = subst (λ (x : Env). IsRun o x s.prims r) env (subst (λ (ks : List Primitive). IsRun o e ks r) prims run)
 
   pub same_locals : length (led o (env_at envs s.from.0) s.prims).locals ≡ length (env_at envs s.to.0).locals

@@ -4,3 +4,5 @@ pub mod Trees
 pub mod Validity
 -- words of private functions alone
 pub mod Tests
+pub mod Evidence
+pub mod Candidate

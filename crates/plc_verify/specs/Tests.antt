@@ -1,6 +1,6 @@
 -- What private functions test and hand on.
 use Rattle.std.specs.Prelude.{◌≡◌, ◌&&◌, ◌==◌, ◌<◌, ◌≤◌, ℕ, [], Contains, slice_get}
-use Rattle.std.specs.Prelude.{Bool, true, false, List, length, Option, None, Some, IfSome, Result, Ok, Err}
+use Rattle.std.specs.Prelude.{Bool, true, false, List, length, Option, None, Some, IfSome}
 use Rattle.plc_base.specs.Mask.{within}
 use Rattle.plc_lang.specs.declared.syntax.Primitive.{Primitive}
 use Rattle.plc_lang.specs.Skeleton.{Skeleton}
@@ -17,6 +17,8 @@ use Rattle.plc_oblig.specs.GroundSets.{ground_set}
 use Rattle.plc_verify.specs.declared.fault.VerifyFault.{VerifyFault}
 use Rattle.plc_verify.specs.declared.fault.VerifyFault.TheVariants.{Version, EnvCount, EnvAt, EntryAt, TypeAt, FlowAt}
 use Rattle.plc_verify.specs.declared.fault.VerifyFault.TheVariants.{TreeCount, TreeAt, Memory}
+use Rattle.plc_verify.specs.declared.steps.Outcome.{Outcome}
+use Rattle.plc_verify.specs.declared.steps.Outcome.TheVariants.{LeadsTo, FailsAt}
 use Rattle.plc_verify.specs.Environments.{IsTypingFault, LocalBelow}
 use Rattle.plc_verify.specs.Trees.{IsTreeFault}
 
@@ -37,38 +39,34 @@ abbrev pub AllFit : Observer → ℕ → List Env → ℕ → ℕ → Type 0
 AllFit o locals envs first after = (p : ℕ) → first ≤ p → p < after → env_fits o locals (env_at envs p) ≡ true
 
 -- where a step leads whose conditions hold; else the first primitive whose condition fails
-abbrev pub IsRun : Observer → Env → List Primitive → Result Env ℕ → Type 0
-IsRun o e prims (Ok reached) = (reached ≡ led o e prims) × ((i : ℕ) → fault_at o e prims i ≡ None)
-IsRun o e prims (Err i) =
+abbrev pub IsRun : Observer → Env → List Primitive → Outcome → Type 0
+IsRun o e prims (LeadsTo reached) = (reached ≡ led o e prims) × ((i : ℕ) → fault_at o e prims i ≡ None)
+IsRun o e prims (FailsAt i) =
     ((j : ℕ) → j < i → fault_at o e prims j ≡ None) × (fault_at o e prims i ≡ None → ⊥)
 
 -- no part of an environment is above that of another
 abbrev pub NoneAbove : Env → Env → Type 0
 NoneAbove a b = (within a.w b.w ≡ true) × ((v : ℕ) → LocalBelow a b v)
 
+-- a fault of some kind, or memory that runs out
+abbrev pub OrMemory : (VerifyFault → Type 0) → VerifyFault → Type 0
+OrMemory IsFault (Version have want) = IsFault (Version have want)
+OrMemory IsFault (EnvCount have want) = IsFault (EnvCount have want)
+OrMemory IsFault (EnvAt point) = IsFault (EnvAt point)
+OrMemory IsFault (EntryAt op var) = IsFault (EntryAt op var)
+OrMemory IsFault (TypeAt step prim) = IsFault (TypeAt step prim)
+OrMemory IsFault (FlowAt step var) = IsFault (FlowAt step var)
+OrMemory IsFault (TreeCount have want) = IsFault (TreeCount have want)
+OrMemory IsFault (TreeAt obligation node) = IsFault (TreeAt obligation node)
+OrMemory IsFault Memory = Unit {0}
+
 -- an item of the environments that fails, or memory that runs out
 abbrev pub MayFail : Observer → Skeleton → List Env → VerifyFault → Type 0
-MayFail o s envs (Version have want) = ⊥
-MayFail o s envs (EnvCount have want) = IsTypingFault o s envs (EnvCount have want)
-MayFail o s envs (EnvAt point) = IsTypingFault o s envs (EnvAt point)
-MayFail o s envs (EntryAt op var) = IsTypingFault o s envs (EntryAt op var)
-MayFail o s envs (TypeAt step prim) = IsTypingFault o s envs (TypeAt step prim)
-MayFail o s envs (FlowAt step var) = IsTypingFault o s envs (FlowAt step var)
-MayFail o s envs (TreeCount have want) = ⊥
-MayFail o s envs (TreeAt obligation node) = ⊥
-MayFail o s envs Memory = Unit {0}
+MayFail o s envs = OrMemory (IsTypingFault o s envs)
 
 -- an item of the trees that fails, or memory that runs out
 abbrev pub MayNotClose : Flow → Outline → List Tree → VerifyFault → Type 0
-MayNotClose flow outline trees (TreeCount have want) = IsTreeFault flow outline trees (TreeCount have want)
-MayNotClose flow outline trees (TreeAt obligation node) = IsTreeFault flow outline trees (TreeAt obligation node)
-MayNotClose flow outline trees (Version have want) = ⊥
-MayNotClose flow outline trees (EnvCount have want) = ⊥
-MayNotClose flow outline trees (EnvAt point) = ⊥
-MayNotClose flow outline trees (EntryAt op var) = ⊥
-MayNotClose flow outline trees (TypeAt step prim) = ⊥
-MayNotClose flow outline trees (FlowAt step var) = ⊥
-MayNotClose flow outline trees Memory = Unit {0}
+MayNotClose flow outline trees = OrMemory (IsTreeFault flow outline trees)
 
 -- each obligation that is noted has the tree with its number, which closes its ground set
 abbrev pub NotedClose : Flow → Outline → List Tree → List (Obligation × ℕ) → Type 0

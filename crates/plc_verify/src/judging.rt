@@ -1,7 +1,7 @@
 // The judge of certificates: first the version, then the environments, then the trees.
 ghost use Rattle.std.specs.Prelude.{◌≡◌, MatchResult};
 ghost use Rattle.plc_setting.specs.Fit.{Fits};
-ghost use Rattle.plc_verify.specs.Validity.{certificate_version, IsValid, IsRefused};
+ghost use Rattle.plc_verify.specs.Validity.{IsValid, IsRefused};
 
 use crate::fault::VerifyFault;
 use crate::trees::verify_trees;
@@ -12,23 +12,6 @@ use plc_cert::Cert;
 use plc_flow::Flow;
 use plc_logic::Outline;
 use std::alloc::Global;
-
-/// What is judged after the version: the environments, and then the trees.
-fn verify_parts(
-    alloc: Global,
-    flow: &Flow,
-    observer: &Observer,
-    outline: &Outline,
-    cert: &Cert,
-) -> Result<(), VerifyFault>
-    requires fits { Fits flow.now outline.now }
-    requires version { cert.now.version ≡ certificate_version flow.now outline.now }
-    ensures { MatchResult result (λ _. IsValid flow.now observer.now outline.now cert.now)
-        (λ fault. IsRefused flow.now observer.now outline.now cert.now fault) }
-{
-    verify_typing(alloc, flow, observer, cert.env.as_slice())?;
-    verify_trees(alloc, flow, outline, cert.trees.as_slice())
-}
 
 /// Ok exactly where the certificate is valid: its version is that of the file ([`certificate_version`]), its
 /// environments, with the type that guarantees nothing for each shared pointer, are a typing of the flow, and there
@@ -53,5 +36,6 @@ pub fn verify(
     if have != want {
         return Err(VerifyFault::Version { have, want });
     }
-    verify_parts(alloc, flow, observer, outline, cert)
+    verify_typing(alloc, flow, observer, cert.env.as_slice())?;
+    verify_trees(alloc, flow, outline, cert.trees.as_slice())
 }

@@ -1,12 +1,10 @@
 // The steps of a flow: each is run once from the environment of its first point, and what it leads to is
 // compared with that of its last point.
 ghost use Rattle.std.specs.Prelude.{◌≡◌, ◌<◌, ◌≤◌, ℕ, IfOk, MatchOption, MatchResult, length};
-ghost use Rattle.plc_lang.specs.Fit.{FileFits};
-ghost use Rattle.plc_flow.specs.WellFormed.{IsWellFormed};
-ghost use Rattle.plc_flow.specs.Skeleton.{skeleton_of};
 ghost use Rattle.plc_xfer.specs.Rules.{FitsObserver};
-ghost use Rattle.plc_verify.specs.Environments.{EntriesHold, StepHolds, IsFirstAbove};
-ghost use Rattle.plc_verify.specs.Tests.{IsRun, NoneAbove, MayFail};
+ghost use Rattle.plc_verify.specs.Environments.{IsFirstAbove};
+ghost use Rattle.plc_verify.specs.Tests.{IsRun, NoneAbove};
+ghost use Rattle.plc_verify.specs.Candidate.{CanTakeSteps, StepHoldsOf, MayFailOf};
 
 use crate::fault::{Slot, VerifyFault};
 use plc_auto::Observer;
@@ -17,14 +15,25 @@ use plc_type::{Env, below};
 use plc_xfer::{apply, condition, interfere};
 use std::alloc::Global;
 
-/// What the primitives of a step and then interference make of an environment; or the first primitive whose
-/// condition fails.
-fn run(
-    alloc: Global,
-    env: &Env,
-    prims: &[Prim],
-    observer: &Observer,
-) -> Result<Result<Env, u16>, NoMemory>
+/// What the primitives of a step and then interference make of an environment.
+#[derive(Drop)]
+pub(crate) enum Outcome {
+    /// Each condition holds, and it leads to this.
+    LeadsTo(Env),
+    /// The first condition that fails is that of the primitive with this number.
+    FailsAt(u16),
+}
+
+/// Environments that are said to be those of the points of a flow, under an observer.
+#[derive(Clone, Copy)]
+pub(crate) struct Candidate<'a> {
+    pub flow: &'a Flow,
+    pub observer: &'a Observer,
+    pub envs: &'a [Env],
+}
+
+/// Runs the primitives of a step, and then interference, from an environment.
+fn run(alloc: Global, env: &Env, prims: &[Prim], observer: &Observer) -> Result<Outcome, NoMemory>
     requires short { length prims.now < 65536 }
     requires fits { FitsObserver observer.now env.now }
     ensures { IfOk result (λ run. IsRun observer.now env.now prims.now run) }
@@ -32,12 +41,12 @@ fn run(
     let mut reached = env.copy(alloc)?;
     for (i, prim) in prims.iter().enumerate() {
         if let Err(_) = condition(&reached, prim, observer) {
-            return Ok(Err(i as u16));
+            return Ok(Outcome::FailsAt(i as u16));
         }
         apply(&mut reached, prim, observer);
     }
     interfere(&mut reached, observer);
-    Ok(Ok(reached))
+    Ok(Outcome::LeadsTo(reached))
 }
 
 /// The first part of an environment that isn't below that of another.
@@ -60,28 +69,20 @@ fn first_above(a: &Env, b: &Env) -> Option<Slot>
 }
 
 /// Judges a step, where those before it hold.
-fn verify_step(
-    alloc: Global,
-    flow: &Flow,
-    observer: &Observer,
-    envs: &[Env],
-    k: usize,
-) -> Result<(), VerifyFault>
-    requires flow { IsWellFormed flow.now }
-    requires file { FileFits flow.now.file }
-    requires known { k < length flow.now.steps }
-    requires entries { EntriesHold observer.now (skeleton_of flow.now) envs.now }
-    requires before { (l : ℕ) → l < k → StepHolds observer.now (skeleton_of flow.now) envs.now l }
-    ensures { MatchResult result (λ _. StepHolds observer.now (skeleton_of flow.now) envs.now k)
-        (λ fault. MayFail observer.now (skeleton_of flow.now) envs.now fault) }
+fn verify_step(alloc: Global, candidate: &Candidate<'_>, k: usize) -> Result<(), VerifyFault>
+    requires ready { CanTakeSteps candidate.now }
+    requires known { k < length candidate.now.flow.now.steps }
+    requires before { (l : ℕ) → l < k → StepHoldsOf candidate.now l }
+    ensures { MatchResult result (λ _. StepHoldsOf candidate.now k) (λ fault. MayFailOf candidate.now fault) }
 {
-    let step = &flow.steps.as_slice()[k];
+    let envs = candidate.envs;
+    let step = &candidate.flow.steps.as_slice()[k];
     let from = &envs[step.from.0 as usize];
     let to = &envs[step.to.0 as usize];
     let id = StepId(k as u16);
-    match run(alloc, from, step.prims.as_slice(), observer)? {
-        Err(prim) => Err(VerifyFault::TypeAt { step: id, prim }),
-        Ok(reached) => match first_above(&reached, to) {
+    match run(alloc, from, step.prims.as_slice(), candidate.observer)? {
+        Outcome::FailsAt(prim) => Err(VerifyFault::TypeAt { step: id, prim }),
+        Outcome::LeadsTo(reached) => match first_above(&reached, to) {
             Some(var) => Err(VerifyFault::FlowAt { step: id, var }),
             None => Ok(()),
         },
@@ -89,21 +90,13 @@ fn verify_step(
 }
 
 /// Judges the steps in order, each by its conditions and then by what it leads to.
-pub(crate) fn verify_steps(
-    alloc: Global,
-    flow: &Flow,
-    observer: &Observer,
-    envs: &[Env],
-) -> Result<(), VerifyFault>
-    requires flow { IsWellFormed flow.now }
-    requires file { FileFits flow.now.file }
-    requires entries { EntriesHold observer.now (skeleton_of flow.now) envs.now }
-    ensures { MatchResult result
-        (λ _. (k : ℕ) → k < length flow.now.steps → StepHolds observer.now (skeleton_of flow.now) envs.now k)
-        (λ fault. MayFail observer.now (skeleton_of flow.now) envs.now fault) }
+pub(crate) fn verify_steps(alloc: Global, candidate: &Candidate<'_>) -> Result<(), VerifyFault>
+    requires { CanTakeSteps candidate.now }
+    ensures { MatchResult result (λ _. (k : ℕ) → k < length candidate.now.flow.now.steps → StepHoldsOf candidate.now k)
+        (λ fault. MayFailOf candidate.now fault) }
 {
-    for k in 0..flow.steps.len() {
-        verify_step(alloc, flow, observer, envs, k)?;
+    for k in 0..candidate.flow.steps.len() {
+        verify_step(alloc, candidate, k)?;
     }
     Ok(())
 }

@@ -1,32 +1,27 @@
 // Whether trees close the ground sets of the obligations, one for each in order. The obligations are walked over
 // and one ground set is made at a time, so that no list of either is held. Obligations that are alike have one set, and
 // mostly one tree too: then the tree is tried once.
-ghost use Rattle.std.specs.Prelude.{◌≡◌, ◌<◌, [], IsTrue, IfOk, OnOk, MatchResult, length};
-ghost use Rattle.plc_ground.specs.Trees.{Closes, IsVerdict};
+ghost use Rattle.std.specs.Prelude.{◌≡◌, ◌<◌, IsTrue, IfOk, OnOk, MatchResult, length};
 ghost use Rattle.plc_setting.specs.Fit.{Fits};
-ghost use Rattle.plc_setting.specs.Marks.{program_uses_marks};
-ghost use Rattle.plc_oblig.specs.Obligations.{obligations};
-ghost use Rattle.plc_oblig.specs.GroundSets.{ground_set};
+ghost use Rattle.plc_oblig.specs.Programs.{ProgramFits, obligations_of};
 ghost use Rattle.plc_verify.specs.Trees.{TreesClose};
-ghost use Rattle.plc_verify.specs.Tests.{MayNotClose, NotedClose, IsVerdictAt};
+ghost use Rattle.plc_verify.specs.Tests.{MayNotClose};
+ghost use Rattle.plc_verify.specs.Evidence.{ClosesSetOf, IsVerdictOn, IsVerdictOf};
+ghost use Rattle.plc_verify.specs.Evidence.{IsComplete, TriedClose, Proves, MayNotProve};
 
 use crate::fault::VerifyFault;
 use plc_base::NoMemory;
 use plc_flow::Flow;
 use plc_ground::{Node, Tree, closes};
 use plc_logic::Outline;
-use plc_oblig::{Grounding, Noted, Obligation, Walk, count, program_uses_marks};
+use plc_oblig::{Annotated, Grounding, Noted, Obligation, Walk, annotate, count};
 use std::alloc::Global;
 
-/// What is said to show that the outline of a flow holds: trees, one for each of its obligations in order.
+/// What is said to show that the outline of a program holds: trees, one for each of its obligations in order.
 #[derive(Clone, Copy)]
 struct Evidence<'a> {
-    flow: &'a Flow,
-    outline: &'a Outline,
+    program: Annotated<'a>,
     trees: &'a [Tree],
-    /// Whether marks are used, asked once for all ground sets.
-    marked: bool,
-    ghost asked: { marked ≡ program_uses_marks flow.now outline.now },
 }
 
 /// Whether two trees have the same nodes.
@@ -38,11 +33,10 @@ fn are_same(a: &[Node], b: &[Node]) -> bool
 
 /// Whether this tree was found to close the set of an obligation that is alike.
 fn is_tried(evidence: &Evidence, tried: &Noted, o: &Obligation, tree: &Tree) -> bool
-    requires { NotedClose evidence.now.flow.now evidence.now.outline.now evidence.now.trees.now tried.now }
-    ensures { IsTrue result
-        → Closes (ground_set evidence.now.flow.now evidence.now.outline.now o.now) tree.now.nodes }
+    requires { TriedClose evidence.now tried.now }
+    ensures { IsTrue result → ClosesSetOf evidence.now o.now tree.now.nodes }
 {
-    let Some(at) = tried.find(evidence.flow, evidence.outline, o) else {
+    let Some(at) = tried.find(evidence.program.flow, evidence.program.outline, o) else {
         return false;
     };
     match evidence.trees.get(at) {
@@ -53,20 +47,16 @@ fn is_tried(evidence: &Evidence, tried: &Noted, o: &Obligation, tree: &Tree) -> 
 
 /// None where the tree closes the ground set of the obligation, else its first bad node.
 fn first_bad_node(
-    alloc: Global,
     memory: &mut Grounding,
-    marked: bool,
-    flow: &Flow,
-    outline: &Outline,
+    evidence: &Evidence,
     o: &Obligation,
     tree: &Tree,
 ) -> Result<Option<u64>, NoMemory>
-    requires fits { Fits flow.now outline.now }
-    requires marked { marked ≡ program_uses_marks flow.now outline.now }
-    ensures { IfOk result (λ bad. IsVerdict (ground_set flow.now outline.now o.now) [] tree.now.nodes bad) }
+    requires { ProgramFits evidence.now.program }
+    ensures { IfOk result (IsVerdictOn evidence.now o.now tree.now.nodes) }
 {
-    let set = memory.ground(marked, flow, outline, o)?;
-    let bad = closes(alloc, &set, tree)?;
+    let set = memory.ground(&evidence.program, o)?;
+    let bad = closes(memory.alloc, &set, tree)?;
     memory.reuse(set);
     Ok(bad)
 }
@@ -74,34 +64,23 @@ fn first_bad_node(
 /// None where the tree with this number closes the ground set of the obligation, which is then noted; else the
 /// tree's first bad node.
 fn try_tree(
-    alloc: Global,
     memory: &mut Grounding,
     tried: &mut Noted,
     evidence: &Evidence,
     o: &Obligation,
     at: usize,
 ) -> Result<Option<u64>, NoMemory>
-    requires fits { Fits evidence.now.flow.now evidence.now.outline.now }
+    requires fits { ProgramFits evidence.now.program }
     requires there { at < length evidence.now.trees.now }
-    requires tried { NotedClose evidence.now.flow.now evidence.now.outline.now evidence.now.trees.now tried.old }
-    ensures bad { IfOk result
-        (IsVerdictAt evidence.now.flow.now evidence.now.outline.now evidence.now.trees.now at o.now) }
-    ensures tried { OnOk result
-        (NotedClose evidence.now.flow.now evidence.now.outline.now evidence.now.trees.now tried.new) }
+    requires tried { TriedClose evidence.now tried.old }
+    ensures bad { IfOk result (IsVerdictOf evidence.now at o.now) }
+    ensures tried { OnOk result (TriedClose evidence.now tried.new) }
 {
     let tree = &evidence.trees[at];
     if is_tried(evidence, tried, o, tree) {
         return Ok(None);
     }
-    let bad = first_bad_node(
-        alloc,
-        memory,
-        evidence.marked,
-        evidence.flow,
-        evidence.outline,
-        o,
-        tree,
-    )?;
+    let bad = first_bad_node(memory, evidence, o, tree)?;
     if bad.is_none() {
         tried.note(o, at)?;
     }
@@ -110,26 +89,21 @@ fn try_tree(
 
 /// Tries each tree in order, over the walk from the first obligation on.
 fn try_each(
-    alloc: Global,
     memory: &mut Grounding,
     tried: &mut Noted,
     walk: &mut Walk,
     evidence: &Evidence,
 ) -> Result<(), VerifyFault>
-    requires fits { Fits evidence.now.flow.now evidence.now.outline.now }
-    requires one_each { length evidence.now.trees.now
-        ≡ length (obligations evidence.now.flow.now evidence.now.outline.now) }
-    requires tried { NotedClose evidence.now.flow.now evidence.now.outline.now evidence.now.trees.now tried.old }
-    requires first { walk.old ≡ obligations evidence.now.flow.now evidence.now.outline.now }
-    ensures { MatchResult result
-        (λ _. TreesClose evidence.now.flow.now evidence.now.outline.now evidence.now.trees.now)
-        (λ fault. MayNotClose evidence.now.flow.now evidence.now.outline.now evidence.now.trees.now fault) }
+    requires complete { IsComplete evidence.now }
+    requires tried { TriedClose evidence.now tried.old }
+    requires first { walk.old ≡ obligations_of evidence.now.program }
+    ensures { MatchResult result (λ _. Proves evidence.now) (λ fault. MayNotProve evidence.now fault) }
 {
     for i in 0..evidence.trees.len() {
         let Some(o) = walk.next() else {
             unreachable!();
         };
-        let bad = try_tree(alloc, memory, tried, evidence, &o, i)?;
+        let bad = try_tree(memory, tried, evidence, &o, i)?;
         if let Some(node) = bad {
             return Err(VerifyFault::TreeAt {
                 obligation: i as u64,
@@ -142,17 +116,13 @@ fn try_each(
 
 /// Tries each tree, where there is one for each obligation.
 fn try_trees(alloc: Global, evidence: &Evidence) -> Result<(), VerifyFault>
-    requires fits { Fits evidence.now.flow.now evidence.now.outline.now }
-    requires one_each { length evidence.now.trees.now
-        ≡ length (obligations evidence.now.flow.now evidence.now.outline.now) }
-    ensures { MatchResult result
-        (λ _. TreesClose evidence.now.flow.now evidence.now.outline.now evidence.now.trees.now)
-        (λ fault. MayNotClose evidence.now.flow.now evidence.now.outline.now evidence.now.trees.now fault) }
+    requires complete { IsComplete evidence.now }
+    ensures { MatchResult result (λ _. Proves evidence.now) (λ fault. MayNotProve evidence.now fault) }
 {
-    let mut walk = Walk::new(alloc, evidence.flow, evidence.outline)?;
+    let mut walk = Walk::new(alloc, evidence.program.flow, evidence.program.outline)?;
     let mut memory = Grounding::new(alloc);
     let mut tried = Noted::new(alloc);
-    try_each(alloc, &mut memory, &mut tried, &mut walk, evidence)
+    try_each(&mut memory, &mut tried, &mut walk, evidence)
 }
 
 /// Ok exactly where there is one tree for each obligation, which closes its ground set.
@@ -172,10 +142,8 @@ pub(crate) fn verify_trees(
         return Err(VerifyFault::TreeCount { have, want });
     }
     let evidence = Evidence {
-        flow,
-        outline,
+        program: annotate(flow, outline),
         trees,
-        marked: program_uses_marks(flow, outline),
     };
     try_trees(alloc, &evidence)
 }

@@ -10,7 +10,7 @@ ghost use Rattle.plc_verify.specs.Tests.{MayFail};
 
 use crate::environments::{completed, first_bad_point};
 use crate::fault::{Slot, VerifyFault};
-use crate::steps::verify_steps;
+use crate::steps::{Candidate, verify_steps};
 use plc_auto::Observer;
 use plc_base::OpId;
 use plc_flow::Flow;
@@ -61,5 +61,10 @@ pub(crate) fn verify_typing(
     if let Some(op) = first_narrow_entry(flow, observer, &envs) {
         return Err(VerifyFault::EntryAt { op, var: Slot::W });
     }
-    verify_steps(alloc, flow, observer, &envs)
+    let candidate = Candidate {
+        flow,
+        observer,
+        envs: &envs,
+    };
+    verify_steps(alloc, &candidate)
 }

@@ -7,7 +7,7 @@ ghost use Rattle.plc_base.specs.Limits.{largest_file};
 use plc_base::{LARGEST_FILE, LARGEST_SCHEDULE, NoMemory};
 use plc_cli::{
     Answer, ByList, Content, Contents, Epoch, Files, Hazard, Leak, NO_MEMORY, Reclaimer, Sink,
-    SinkFault, UNWRITTEN, read, read_both, refused_words, write_text,
+    SinkFault, UNWRITTEN, read, read_both, words_refusal, write_text,
 };
 use plc_page::{Page, file_page, plain_lines};
 use plc_trace::replay_page;
@@ -102,7 +102,7 @@ fn show_run_under<F: Files>(alloc: Global, files: &mut F, run: Run) -> Result<An
         "list" => show_run(alloc, files, run, Box::new(alloc, ByList::new(alloc))?),
         "hazard" => show_run(alloc, files, run, Box::new(alloc, Hazard::new(alloc))?),
         "epoch" => show_run(alloc, files, run, Box::new(alloc, Epoch::new(alloc))?),
-        _ => Ok(refused_words(alloc)?),
+        _ => Ok(words_refusal(alloc)?),
     }
 }
 
@@ -119,7 +119,7 @@ fn answer_to<F: Files>(alloc: Global, words: &[String], files: &mut F) -> Result
             };
             show_run_under(alloc, files, run)
         }
-        _ => Ok(refused_words(alloc)?),
+        _ => Ok(words_refusal(alloc)?),
     }
 }
 

@@ -1,7 +1,7 @@
 // What a primitive asks of the environment before it, a row for each, in the table's order.
-ghost use Rattle.std.specs.Prelude.{◌≡◌};
+ghost use Rattle.std.specs.Prelude.{◌≡◌, if◌then◌else◌, Some, None};
 ghost use Rattle.std.specs.Result.{result_err};
-ghost use Rattle.plc_xfer.specs.Rules.{access_fault, compare_fault, retire_fault, call_fault, fault_of};
+ghost use Rattle.plc_xfer.specs.Rules.{access_fault, compare_fault, call_fault, fault_of};
 
 use crate::fault::TypeFault;
 use crate::types::type_of;
@@ -10,47 +10,46 @@ use plc_base::FuncId;
 use plc_lang::{Arg, Prim, Var};
 use plc_type::Env;
 
+/// Nothing where what is asked holds, and else this fault.
+fn ask(holds: bool, fault: TypeFault) -> Result<(), TypeFault>
+    ensures { result_err result ≡ if holds then None else Some fault }
+{
+    if holds { Ok(()) } else { Err(fault) }
+}
+
 /// An access asks that the pointer is safe.
 fn access(env: &Env, var: Var) -> Result<(), TypeFault>
     ensures { result_err result ≡ access_fault env.now var }
 {
-    if type_of(env, var).g.is_safe() {
-        Ok(())
-    } else {
-        Err(TypeFault::DerefNotSafe { var })
-    }
+    ask(
+        type_of(env, var).g.is_safe(),
+        TypeFault::DerefNotSafe { var },
+    )
 }
 
 /// A comparison asks that both pointers are safe.
 fn compare(env: &Env, p: Var, q: Var) -> Result<(), TypeFault>
     ensures { result_err result ≡ compare_fault env.now p q }
 {
-    if !type_of(env, p).g.is_safe() {
-        return Err(TypeFault::CompareNotSafe { var: p });
-    }
-    if !type_of(env, q).g.is_safe() {
-        return Err(TypeFault::CompareNotSafe { var: q });
-    }
-    Ok(())
+    ask(
+        type_of(env, p).g.is_safe(),
+        TypeFault::CompareNotSafe { var: p },
+    )?;
+    ask(
+        type_of(env, q).g.is_safe(),
+        TypeFault::CompareNotSafe { var: q },
+    )
 }
 
-/// A retirement asks that the pointer is active.
-fn retire(env: &Env, var: Var) -> Result<(), TypeFault>
-    ensures { result_err result ≡ retire_fault env.now var }
-{
-    if type_of(env, var).g.is_active() {
-        Ok(())
-    } else {
-        Err(TypeFault::RetireNotActive { var })
-    }
-}
-
-/// Of calls only a retirement of a pointer asks anything.
+/// Of calls only a retirement of a pointer asks anything: that the pointer is active.
 fn call(env: &Env, func: FuncId, arg: Arg) -> Result<(), TypeFault>
     ensures { result_err result ≡ call_fault env.now func arg }
 {
     match arg {
-        Arg::Var(p) if func.is_retire() => retire(env, p),
+        Arg::Var(p) if func.is_retire() => ask(
+            type_of(env, p).g.is_active(),
+            TypeFault::RetireNotActive { var: p },
+        ),
         _ => Ok(()),
     }
 }

@@ -12,7 +12,7 @@ use plc_check::{Judged, load};
 use plc_cli::MemFiles;
 use plc_ground::{GroundModel, GroundSet, is_model};
 use plc_oblig::{Obligation, count, ground, nth};
-use plc_texts::unproved;
+use plc_texts::unproved_text;
 use std::alloc::{AllocError, Global};
 
 pub(crate) fn loaded(alloc: Global, text: &str) -> Result<Judged, NoMemory>
@@ -50,7 +50,7 @@ fn line_of(alloc: Global, judged: &Judged, o: &Obligation) -> Result<String, All
         sorts: Items::from_vec(Vec::new(alloc)),
         clauses: Items::from_vec(Vec::new(alloc)),
     };
-    let text = unproved(alloc, &judged.flow, o, &set, &[])?;
+    let text = unproved_text(alloc, &judged.flow, o, &set, &[])?;
     String::from_str(alloc, str::from_utf8(&text).unwrap_or("?"))
 }
 

@@ -9,5 +9,5 @@ overflow_cast-result c =
     let flow = c.args.flow.now in
     let claim = c.args.claim.now in
     let e : Some c.in-Some.place ≡ pointer_place (locals_by_label flow claim.label) claim.local =
-    c.in-Some.ensures ∙ ap (λ ls. pointer_place ls claim.local) c.locals_at.ensures in
+    c.in-Some.ensures ∙ ap (λ ls. pointer_place ls claim.local) c.locals_of_label.ensures in
     omega (arith, place_is_short flow claim.label claim.local c.in-Some.place c.requires.file e)

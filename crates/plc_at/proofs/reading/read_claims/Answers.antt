@@ -1,6 +1,6 @@
 use Rattle.std.proofs.Common.{◌≡◌, ◌+◌, ◌≤◌, List, length, slice_get, Some, sym, subst, arith}
 use Rattle.plc_syntax.specs.Syntax.{kinds}
-use Rattle.plc_at.specs.declared.located.Located.{Located}
+use Rattle.plc_at.specs.declared.claim.LocationClaim.{LocationClaim}
 use Rattle.plc_at.specs.declared.reading.Due.{Due}
 use Rattle.plc_at.specs.Claims.{ClaimsStopAt}
 use Rattle.plc_at.specs.Reading.{IsStep}
@@ -26,7 +26,7 @@ loop-at-preserved c =
     let o = c.args.observer.now in
     let ts = kinds c.args.tokens.now in
     let here = kind_there c.args.tokens.now c.loop-at.at _ c.loop-at-test.true in
-    subst (λ (cs : List Located). ReadTo f o ts (c.loop-at.at + 1) c.in-Some.next cs) (sym c.in_ok-note.ensures)
+    subst (λ (cs : List LocationClaim). ReadTo f o ts (c.loop-at.at + 1) c.in-Some.next cs) (sym c.in_ok-note.ensures)
     (read_more f o ts c.loop-at.at c.loop-at.due c.in-Some.next c.index-tokens-at.result.kind c.loop-at.claims.items
     (subst (λ t. slice_get ts c.loop-at.at ≡ Some t.kind) (sym c.index-tokens-at.is) here) c.loop-at.invariant
     (subst (λ r. IsStep f o c.loop-at.due c.index-tokens-at.result.kind r) c.in-Some.is c.step.ensures))

@@ -30,15 +30,15 @@ returns-in-Location c =
     (c.within_braces.ensures c.args.flow.now
     (subst (λ d. DueFits c.args.flow.now c.args.observer.now d) c.in-Location.is c.requires.due))
 
-pub returns-in-Point : goal.returns-in-Point
-returns-in-Point c =
-    subst (λ d. IsStep c.args.flow.now c.args.observer.now d c.args.kind.now c.before_point.result) (sym c.in-Point.is)
-    (c.before_point.ensures c.args.flow.now c.args.observer.now
-    (subst (λ d. DueFits c.args.flow.now c.args.observer.now d) c.in-Point.is c.requires.due).0
-    (subst (λ d. DueFits c.args.flow.now c.args.observer.now d) c.in-Point.is c.requires.due).1)
+pub returns-in-Dot : goal.returns-in-Dot
+returns-in-Dot c =
+    subst (λ d. IsStep c.args.flow.now c.args.observer.now d c.args.kind.now c.before_dot.result) (sym c.in-Dot.is)
+    (c.before_dot.ensures c.args.flow.now c.args.observer.now
+    (subst (λ d. DueFits c.args.flow.now c.args.observer.now d) c.in-Dot.is c.requires.due).0
+    (subst (λ d. DueFits c.args.flow.now c.args.observer.now d) c.in-Dot.is c.requires.due).1)
 
 pub returns-in-Part : goal.returns-in-Part
 returns-in-Part c =
-    subst (λ d. IsStep c.args.flow.now c.args.observer.now d c.args.kind.now c.after_point.result) (sym c.in-Part.is)
-    (c.after_point.ensures c.args.flow.now
+    subst (λ d. IsStep c.args.flow.now c.args.observer.now d c.args.kind.now c.after_dot.result) (sym c.in-Part.is)
+    (c.after_dot.ensures c.args.flow.now
     (subst (λ d. DueFits c.args.flow.now c.args.observer.now d) c.in-Part.is c.requires.due).0)

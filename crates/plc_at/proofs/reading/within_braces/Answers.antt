@@ -2,7 +2,7 @@ use Rattle.std.proofs.Common.{Some, sym, subst}
 use Rattle.plc_at.specs.declared.reading.Due.TheVariants as due
 use Rattle.plc_at.specs.Claims.{before_dot}
 use Rattle.plc_at.specs.Reading.{location_name, IsStep, Advances}
-use Rattle.plc_at.proofs.ReadingSteps.{close_read, place_due, closes, names}
+use Rattle.plc_at.proofs.ReadingSteps.{close_read, location_due, closes, names}
 use Rattle.plc_at.proofs.reading.within_braces.Goals as goal
 
 pub returns-then-is_symbol : goal.returns-then-is_symbol
@@ -14,7 +14,7 @@ pub returns-in_err-name : goal.returns-in_err-name
 returns-in_err-name c = λ flow f.
     subst (λ r. IsStep flow c.args.observer.now (due.Location c.args.claim) c.args.kind.now r)
     (sym c.from_residual.ensures)
-    (λ ts g. elim (place_due flow c.args.observer.now c.args.claim c.args.kind.now ts g.0 g.1) [
+    (λ ts g. elim (location_due flow c.args.observer.now c.args.claim c.args.kind.now ts g.0 g.1) [
       | closes e ↦
           let yes = c.is_symbol.ensures.1 e in
           let none = c.if-is_symbol.false in

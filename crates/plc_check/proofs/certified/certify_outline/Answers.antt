@@ -9,5 +9,5 @@ returns-in-Ok c =
     let j = c.args.judged.now in
     let version = c.certificate_version-version.result in
     let cert : Cert = record { version = version; env = c.args.typing.env; trees = c.in-Ok.trees } in
-    certificate j cert c.certificate_version-version.ensures c.requires.typing.0 c.requires.typing.1
+    certificate j cert c.certificate_version-version.ensures c.requires.typing
     (subst (AreTreesOrBroken j.flow j.unit_outline) c.in-Ok.is c.in_ok-trees.ensures)

@@ -8,12 +8,12 @@ use Rattle.plc_check.proofs.counterexample.counterexample_at.Goals as goal
 
 pub returns-in_default-clause-found : goal.returns-in_default-clause-found
 returns-in_default-clause-found c =
-    let tree = subst (IsTreeAt c.args.judged.now.flow c.args.judged.now.unit_outline c.args.obligation) c.in_default.is c.in_ok-found.ensures in
-    closed_has_no_model (ground_set c.args.judged.now.flow c.args.judged.now.unit_outline c.args.obligation) _ tree.closes
+    let tree = subst (IsTreeAt c.args.program.now.flow.now c.args.program.now.outline.now c.args.obligation) c.in_default.is c.in_ok-found.ensures in
+    closed_has_no_model (ground_set c.args.program.now.flow.now c.args.program.now.outline.now c.args.obligation) _ tree.closes
 
 pub returns-in_default-clause-kept : goal.returns-in_default-clause-kept
 returns-in_default-clause-kept c =
-    let tree = subst (IsTreeAt c.args.judged.now.flow c.args.judged.now.unit_outline c.args.obligation) c.in_default.is c.in_ok-found.ensures in
-    let kept : IsKept c.args.judged.now.flow c.args.judged.now.unit_outline c.args.obligation =
-    closed_has_no_model (ground_set c.args.judged.now.flow c.args.judged.now.unit_outline c.args.obligation) _ tree.closes in
-    kept_noted c.args.judged.now.flow c.args.judged.now.unit_outline c.args.kept.now c.note.new.self c.args.obligation 0 c.requires.kept kept c.in_ok-note.ensures
+    let tree = subst (IsTreeAt c.args.program.now.flow.now c.args.program.now.outline.now c.args.obligation) c.in_default.is c.in_ok-found.ensures in
+    let kept : IsKept c.args.program.now.flow.now c.args.program.now.outline.now c.args.obligation =
+    closed_has_no_model (ground_set c.args.program.now.flow.now c.args.program.now.outline.now c.args.obligation) _ tree.closes in
+    kept_noted c.args.program.now.flow.now c.args.program.now.outline.now c.args.kept.now c.note.new.self c.args.obligation 0 c.requires.kept kept c.in_ok-note.ensures

@@ -5,8 +5,8 @@ use Rattle.plc_check.proofs.open.find_on_walk.Given as goal
 
 abbrev pub invariant-obligations : goal.invariant-obligations
 invariant-obligations l = record {
-  so_far : FoundSoFar l.judged.flow l.judged.unit_outline l.walk l.found;
-  noted : NotedAreKept l.judged.flow l.judged.unit_outline l.kept;
+  so_far : FoundSoFar l.program.flow.now l.program.outline.now l.walk l.found;
+  noted : NotedAreKept l.program.flow.now l.program.outline.now l.kept;
   few : length l.found ≤ l.most;
 }
 

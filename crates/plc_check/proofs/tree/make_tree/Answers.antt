@@ -5,7 +5,7 @@ use Rattle.plc_check.proofs.tree.make_tree.Goals as goal
 
 pub returns-in-Some : goal.returns-in-Some
 returns-in-Some c =
-    let set = ground_set c.args.judged.now.flow c.args.judged.now.unit_outline c.args.obligation in
+    let set = ground_set c.args.program.now.flow.now c.args.program.now.outline.now c.args.obligation in
     let tree = rw c.in-Some.is at c.in_ok-tree.ensures.tree in
     record {
       closes = tree.closes;

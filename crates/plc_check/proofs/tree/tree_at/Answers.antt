@@ -5,16 +5,16 @@ use Rattle.plc_check.proofs.tree.tree_at.Goals as goal
 
 pub copy_of-requires : goal.copy_of-requires
 copy_of-requires c =
-    tree_within c.args.judged.now.flow c.args.judged.now.unit_outline c.args.noted.now c.args.obligation c.in-Some.at c.in-Some.ensures c.args.trees.now c.requires.noted
+    tree_within c.args.program.now.flow.now c.args.program.now.outline.now c.args.noted.now c.args.obligation c.in-Some.at c.in-Some.ensures c.args.trees.now c.requires.noted
 
 pub returns-in-Some : goal.returns-in-Some
 returns-in-Some c =
     let t = c.in_ok-copy_of.field-0 in (
-      alike_tree c.args.judged.now.flow c.args.judged.now.unit_outline c.args.noted.now c.args.obligation c.in-Some.at c.in-Some.ensures c.args.trees.now t c.requires.noted c.in_ok-copy_of.ensures,
-      tree_more c.args.judged.now.flow c.args.judged.now.unit_outline c.args.trees.now t c.args.noted.now c.requires.noted,
+      alike_tree c.args.program.now.flow.now c.args.program.now.outline.now c.args.noted.now c.args.obligation c.in-Some.at c.in-Some.ensures c.args.trees.now t c.requires.noted c.in_ok-copy_of.ensures,
+      tree_more c.args.program.now.flow.now c.args.program.now.outline.now c.args.trees.now t c.args.noted.now c.requires.noted,
     )
 
 pub returns-in_ok-note-in-Ok : goal.returns-in_ok-note-in-Ok
 returns-in_ok-note-in-Ok c =
-    let this = subst (IsTreeAt c.args.judged.now.flow c.args.judged.now.unit_outline c.args.obligation) c.in-Ok.is c.in_ok-tree.ensures in
-    (this, tree_noted c.args.judged.now.flow c.args.judged.now.unit_outline c.args.trees.now c.in-Ok.tree c.args.noted.now c.note.new.self c.args.obligation c.requires.noted this c.in_ok-note-in-Ok.ensures)
+    let this = subst (IsTreeAt c.args.program.now.flow.now c.args.program.now.outline.now c.args.obligation) c.in-Ok.is c.in_ok-tree.ensures in
+    (this, tree_noted c.args.program.now.flow.now c.args.program.now.outline.now c.args.trees.now c.in-Ok.tree c.args.noted.now c.note.new.self c.args.obligation c.requires.noted this c.in_ok-note-in-Ok.ensures)

@@ -11,8 +11,8 @@ use Rattle.plc_check.proofs.tree.trees_on_walk.Goals as goal
 
 pub loop-obligation-init : goal.loop-obligation-init
 loop-obligation-init c =
-    let flow = c.args.judged.now.flow in
-    let outline = c.args.judged.now.unit_outline in
+    let flow = c.args.program.now.flow.now in
+    let outline = c.args.program.now.outline.now in
     let none = subst (λ (os : List Obligation). TreesSoFar flow outline os []) (sym c.requires.begun) (no_trees flow outline) in (
       subst (TreesSoFar flow outline c.args.walk.now) (sym c.new-trees.ensures) none,
       subst (NotedHaveTrees flow outline c.new-trees.result) (sym c.requires.none_noted) (none_have flow outline c.new-trees.result),
@@ -20,8 +20,8 @@ loop-obligation-init c =
 
 pub loop-obligation-preserved : goal.loop-obligation-preserved
 loop-obligation-preserved c =
-    let flow = c.args.judged.now.flow in
-    let outline = c.args.judged.now.unit_outline in
+    let flow = c.args.program.now.flow.now in
+    let outline = c.args.program.now.outline.now in
     let added = subst (AddsTreeAt flow outline c.in-Some.obligation c.as_slice.result.now c.tree_at.new.noted) c.in-Ok.is c.in_ok-tree.ensures in
     let have = subst (λ (ts : List Tree). NotedHaveTrees flow outline (ts ++ c.in-Ok.tree ∷ []) c.tree_at.new.noted) c.as_slice.ensures added.1 in (
       subst (TreesSoFar flow outline c.next.new.self) (sym c.in_ok-push-in-Ok.ensures.ok)
@@ -32,17 +32,17 @@ loop-obligation-preserved c =
 
 pub returns-in-Err : goal.returns-in-Err
 returns-in-Err c =
-    let broken = subst (AddsTreeAt c.args.judged.now.flow c.args.judged.now.unit_outline c.in-Some.obligation c.as_slice.result.now c.tree_at.new.noted) c.in-Err.is c.in_ok-tree.ensures in
-    least_broken c.args.judged.now.flow c.args.judged.now.unit_outline c.loop-obligation.walk c.next.new.self c.in-Some.obligation c.in-Err.found
-    (kept_so_far c.args.judged.now.flow c.args.judged.now.unit_outline c.loop-obligation.walk c.loop-obligation.trees c.loop-obligation.invariant.0)
+    let broken = subst (AddsTreeAt c.args.program.now.flow.now c.args.program.now.outline.now c.in-Some.obligation c.as_slice.result.now c.tree_at.new.noted) c.in-Err.is c.in_ok-tree.ensures in
+    least_broken c.args.program.now.flow.now c.args.program.now.outline.now c.loop-obligation.walk c.next.new.self c.in-Some.obligation c.in-Err.found
+    (kept_so_far c.args.program.now.flow.now c.args.program.now.outline.now c.loop-obligation.walk c.loop-obligation.trees c.loop-obligation.invariant.0)
     c.in-Some.ensures broken
 
 pub tree_at-requires-clause-there : goal.tree_at-requires-clause-there
 tree_at-requires-clause-there c =
     let so_far = c.loop-obligation.invariant.0 in
-    is_listed (obligations c.args.judged.now.flow c.args.judged.now.unit_outline) so_far.before
+    is_listed (obligations c.args.program.now.flow.now c.args.program.now.outline.now) so_far.before
     c.loop-obligation.walk c.next.new.self c.in-Some.obligation so_far.listed c.in-Some.ensures
 
 pub tree_at-requires-clause-noted : goal.tree_at-requires-clause-noted
 tree_at-requires-clause-noted c =
-    subst (λ (ts : List Tree). NotedHaveTrees c.args.judged.now.flow c.args.judged.now.unit_outline ts c.loop-obligation.noted) (sym c.as_slice.ensures) c.loop-obligation.invariant.1
+    subst (λ (ts : List Tree). NotedHaveTrees c.args.program.now.flow.now c.args.program.now.outline.now ts c.loop-obligation.noted) (sym c.as_slice.ensures) c.loop-obligation.invariant.1

@@ -6,4 +6,4 @@ use Rattle.plc_check.proofs.verdict.judge_outline.Goals as goal
 pub returns-in-Some : goal.returns-in-Some
 returns-in-Some c =
     let first = subst (IsFirstCounterexample c.args.judged.now.flow c.args.judged.now.unit_outline) c.in-Some.is c.in_ok-first_counterexample.ensures in
-    subst (IsVerdictOn c.args.judged.now) (sym c.unproved.ensures) ((c.args.typing.env, c.requires.typing.0), first.0, first.1.set_is, first.1.model)
+    subst (IsVerdictOn c.args.judged.now) (sym c.unproved_verdict.ensures) ((c.args.typing.env, c.requires.typing.typed), first.0, first.1.set_is, first.1.model)

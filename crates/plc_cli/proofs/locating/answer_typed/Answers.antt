@@ -29,7 +29,7 @@ returns-in-Ok c =
 
 pub returns-in-Err-Unlocated : goal.returns-in-Err-Unlocated
 returns-in-Err-Unlocated c =
-    if_ok_from c.unplaced.result _ _
+    if_ok_from c.unlocated_answer.result _ _
     (λ answer h. inr (inl (record {
       typing = c.args.typing.now;
       strongest = c.requires.typing;
@@ -39,4 +39,4 @@ returns-in-Err-Unlocated c =
       status_is = h.0;
       text_is = h.1;
     })))
-    c.unplaced.ensures
+    c.unlocated_answer.ensures

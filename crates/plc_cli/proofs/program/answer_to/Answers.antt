@@ -25,9 +25,9 @@ returns-in-None-clause-untouched g c = λ e. refl
 
 pub returns-in-None-clause-due : goal.returns-in-None-clause-due
 returns-in-None-clause-due g c =
-    if_ok_from c.refused_words.result _ _
+    if_ok_from c.words_refusal.result _ _
     (λ answer told. subst
     (λ (r : Option Request). IsDueFor (map (λ b. (goal.Reclaimer-dyn g (b.vtable, b.value)).meanings b.value) c.args.reclaimers.now) r (g.F.Files.known c.args.files.now) (g.F.Files.known c.args.files.now) answer.status answer.text.items)
     c.in-None.ensures.asks
     (record { untouched = returns-in-None-clause-untouched g c (ap asks_for_files (sym c.in-None.ensures.asks)); status_is = told.0; text_is = told.1 }))
-    c.refused_words.ensures
+    c.words_refusal.ensures

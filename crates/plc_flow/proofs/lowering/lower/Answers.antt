@@ -1,11 +1,9 @@
-use Rattle.std.proofs.Common.{◌≡◌, [], List, Result, Ok, Err, arith}
-use Rattle.plc_base.specs.declared.ids.PointId.{PointId}
+use Rattle.std.proofs.Common.{◌≡◌, [], List, Result, Ok, Err, refl, arith}
 use Rattle.plc_lang.specs.declared.syntax.File.{File}
 use Rattle.plc_lang.specs.declared.syntax.Op.{Op}
 use Rattle.plc_flow.specs.declared.builder.Builder.{Builder}
 use Rattle.plc_flow.specs.declared.flow.Flow.{Flow}
 use Rattle.plc_flow.specs.declared.flow.Gate.{Gate}
-use Rattle.plc_flow.specs.declared.flow.Step.{Step}
 use Rattle.plc_flow.specs.declared.flow.FlowFault.{FlowFault}
 use Rattle.plc_flow.specs.declared.flow.FlowFault.TheVariants as faults
 use Rattle.plc_flow.specs.Lowering.{made_of, ops_made, IsLowered}
@@ -14,22 +12,22 @@ use Rattle.plc_flow.proofs.Fitting.{lowered_is_well_formed, lowered_fits, lowere
 use Rattle.plc_flow.proofs.lowering.lower.Goals as goal
 
 -- where nothing was made before, what the operations make is the file's flow
-finished_is_lowered : (file : File) (gates : Result (List Gate) FlowFault) (steps : List Step) (labels : List PointId) (out : Builder) → steps ≡ [] → labels ≡ [] → MakesGates (record { points = 0; steps = steps; labels = labels }) out gates (made_of file) → IsLowered file (finished file gates out)
-finished_is_lowered file (Ok gates) steps labels out no_steps no_labels made =
-    let points : out.points ≡ (made_of file).points = omega (arith, made.0.points) in
+finished_is_lowered : (file : File) (gates : Result (List Gate) FlowFault) (start out : Builder) → start.points ≡ 0 → start.steps ≡ [] → start.labels ≡ [] → MakesGates start out gates (made_of file) → IsLowered file (finished file gates out)
+finished_is_lowered file (Ok gates) start out no_points no_steps no_labels made =
+    let points : out.points ≡ (made_of file).points = omega (arith, made.0.points, no_points) in
     let steps_made : out.steps ≡ (made_of file).steps = rw no_steps at made.0.steps in
     let labels_made : out.labels ≡ (made_of file).labels = rw no_labels at made.0.labels in
     let gates_made : gates ≡ (made_of file).gates = made.1 in
     (cc, omega (arith, made.0.few, points))
-finished_is_lowered file (Err (faults.TooManyPoints count)) steps labels out no_steps no_labels made = (made.0, omega (arith, made.1))
-finished_is_lowered file (Err faults.Memory) steps labels out no_steps no_labels made = tt
+finished_is_lowered file (Err (faults.TooManyPoints count)) start out no_points no_steps no_labels made = (made.0, omega (arith, made.1, no_points))
+finished_is_lowered file (Err faults.Memory) start out no_points no_steps no_labels made = tt
 
-the_answer : (file : File) (ops : List Op) (gates : Result (List Gate) FlowFault) (steps : List Step) (labels : List PointId) (out : Builder) (r : Result Flow FlowFault) → ops ≡ file.ops → steps ≡ [] → labels ≡ [] → MakesGates (record { points = 0; steps = steps; labels = labels }) out gates (ops_made 0 ops 0) → r ≡ finished file gates out → IsLowered file r
-the_answer file ops gates steps labels out r all no_steps no_labels made is =
-    rw is (finished_is_lowered file gates steps labels out no_steps no_labels (rw all at made))
+the_answer : (file : File) (ops : List Op) (gates : Result (List Gate) FlowFault) (start out : Builder) (r : Result Flow FlowFault) → ops ≡ file.ops → start.points ≡ 0 → start.steps ≡ [] → start.labels ≡ [] → MakesGates start out gates (ops_made 0 ops 0) → r ≡ finished file gates out → IsLowered file r
+the_answer file ops gates start out r all no_points no_steps no_labels made is =
+    rw is (finished_is_lowered file gates start out no_points no_steps no_labels (rw all at made))
 
 lowered : (c : goal.After-finish) → IsLowered c.args.file c.finish.result
-lowered c = the_answer c.args.file c.as_slice.result.now c.lower_ops-gates.result c.new.result c.new-2.result c.lower_ops-gates.new.out c.finish.result c.as_slice.ensures c.new.ensures c.new-2.ensures c.lower_ops-gates.ensures c.finish.ensures
+lowered c = the_answer c.args.file c.as_slice.result.now c.lower_ops-gates.result _ c.lower_ops-gates.new.out c.finish.result c.as_slice.ensures refl c.new.ensures c.new-2.ensures c.lower_ops-gates.ensures c.finish.ensures
 
 pub returns-clause-lowered : goal.returns-clause-lowered
 returns-clause-lowered c = lowered c

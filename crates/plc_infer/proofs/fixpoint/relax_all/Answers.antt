@@ -6,14 +6,15 @@ use Rattle.plc_infer.specs.Starts.{starts_of}
 use Rattle.plc_infer.specs.WorkLists.{UnderWay, Unasked}
 use Rattle.plc_infer.proofs.Lists.{among_drop}
 use Rattle.plc_infer.proofs.Listed.{looked, gains, gains_more}
-use Rattle.plc_infer.proofs.Programs.{steps_length, program_laws, program_starts}
+use Rattle.plc_infer.proofs.Leaving.{may_run}
+use Rattle.plc_infer.proofs.Programs.{program_laws, program_starts}
 use Rattle.plc_infer.proofs.fixpoint.relax_all.Goals as goal
 
-pub relax_listed-requires-clause-known : goal.relax_listed-requires-clause-known
-relax_listed-requires-clause-known c =
-    let inside : c.loop-k.k-index < length c.args.steps.now = omega arith in
-    let h = c.loop-k.invariant.under_way.steps (get_or c.args.steps.now c.loop-k.k-index 0) (among_drop c.args.steps.now c.loop-k.k-index inside) in
-    subst (λ (n : ℕ). get_or c.args.steps.now c.loop-k.k-index 0 < n) (steps_length c.args.program.now) h
+pub relax_listed-requires-clause-run : goal.relax_listed-requires-clause-run
+relax_listed-requires-clause-run c =
+    may_run c.args.observer.now c.args.program.now Unasked c.loop-k.envs.items c.loop-k.list.queue.items
+    c.loop-k.list.marks.items c.args.steps.now c.loop-k.k-index c.requires.program (omega arith)
+    c.loop-k.invariant.under_way
 
 pub loop-k-preserved : goal.loop-k-preserved
 loop-k-preserved c =

@@ -17,10 +17,14 @@ loop-point-init c =
     rw c.in_ok-envs.ensures
     (begun (graph_of o s) (program_laws o s c.requires) (starts_of o s) c.in_ok-list.list.queue.items c.in_ok-list.list.marks.items (program_starts o s c.requires) c.in_ok-list.ensures.0 c.in_ok-list.ensures.1)
 
-pub relax_all-requires-clause-under_way : goal.relax_all-requires-clause-under_way
-relax_all-requires-clause-under_way c =
-    leaving_taken c.args.observer.now c.args.program.now c.requires Unasked c.loop-point.envs.items c.in-Some.point c.loop-point.list.queue.items c.take.new.self.queue.items c.leaving-steps.result.now c.loop-point.list.marks.items c.take.new.self.marks.items
-    c.loop-point.invariant c.in-Some.ensures.0 c.in-Some.ensures.1 (c.leaving-steps.ensures ∙ c.in_ok-index.ensures c.in-Some.point)
+pub relax_all-requires : goal.relax_all-requires
+relax_all-requires c = record {
+  program = c.requires;
+  under_way = leaving_taken c.args.observer.now c.args.program.now c.requires Unasked c.loop-point.envs.items c.in-Some.point
+      c.loop-point.list.queue.items c.take.new.self.queue.items c.leaving-steps.result.now
+      c.loop-point.list.marks.items c.take.new.self.marks.items c.loop-point.invariant c.in-Some.ensures.0
+      c.in-Some.ensures.1 (c.leaving-steps.ensures ∙ c.in_ok-index.ensures c.in-Some.point);
+}
 
 pub loop-point-smaller : goal.loop-point-smaller
 loop-point-smaller c =

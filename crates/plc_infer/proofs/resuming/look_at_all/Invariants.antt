@@ -13,5 +13,5 @@ invariant-loop-k l =
       under_way : UnderWay graph (MeetsAll graph) (starts_of l.observer (program_of l.program)) l.envs.items
           l.work.list.queue.items l.work.list.marks.items (drop l.k-index l.steps);
       gains : Gains graph l.fn.envs.items l.envs.items l.fn.work.list.queue.items l.work.list.queue.items;
-      noted : IsNoted l.fn.envs.items l.envs.items l.fn.replaced.items l.replaced.items;
+      noted : IsNoted l.fn.envs.items l.envs.items l.fn.work.replaced.items l.work.replaced.items;
     }

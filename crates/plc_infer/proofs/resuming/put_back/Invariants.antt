@@ -1,5 +1,5 @@
 use Rattle.std.proofs.Common.{◌≡◌, length}
-use Rattle.plc_infer.specs.Resuming.{AreWithin, put_back}
+use Rattle.plc_infer.specs.Trials.{AreWithin, put_back}
 use Rattle.plc_infer.proofs.resuming.put_back.Given as goal
 
 abbrev pub invariant-loop-last : goal.invariant-loop-last

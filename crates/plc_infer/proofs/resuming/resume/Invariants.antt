@@ -13,7 +13,7 @@ invariant-loop-point l =
     record {
       under_way : UnderWay graph (MeetsAll graph) (starts_of l.observer (program_of l.program)) l.envs.items
           l.work.list.queue.items l.work.list.marks.items [];
-      noted : IsNoted l.fn.envs.items l.envs.items l.fn.replaced.items l.replaced.items;
+      noted : IsNoted l.fn.envs.items l.envs.items [] l.work.replaced.items;
     }
 
 abbrev pub decreases-loop-point : goal.decreases-loop-point

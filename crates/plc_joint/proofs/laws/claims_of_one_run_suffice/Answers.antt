@@ -1,4 +1,4 @@
-use Rattle.plc_typesound.proofs.Moves.{sound}
+use Rattle.plc_sound.proofs.Moves.{sound}
 use Rattle.plc_erasure.proofs.Runs.{erasure, run_claims}
 use Rattle.plc_joint.proofs.ByRun.{one_run_suffices}
 use Rattle.plc_joint.proofs.laws.claims_of_one_run_suffice.Goals as goal

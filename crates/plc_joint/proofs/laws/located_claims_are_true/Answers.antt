@@ -1,5 +1,5 @@
 use Rattle.plc_run.proofs.Observed.{observed}
-use Rattle.plc_typesound.proofs.Moves.{sound}
+use Rattle.plc_sound.proofs.Moves.{sound}
 use Rattle.plc_erasure.proofs.Runs.{erasure, true_claims}
 use Rattle.plc_held.proofs.Kept.{held_outlines}
 use Rattle.plc_joint.proofs.Located.{located_claims}

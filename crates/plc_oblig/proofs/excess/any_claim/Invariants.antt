@@ -6,5 +6,5 @@ use Rattle.plc_oblig.proofs.excess.any_claim.Given as goal
 
 abbrev pub invariant-loop-step : goal.invariant-loop-step
 invariant-loop-step l =
-    list_any (is_large l.flow l.outline) (parts_from claims_of l.step (drop l.step l.flow.steps))
-    ≡ list_any (is_large l.flow l.outline) (claims l.flow)
+    list_any (is_large l.program.flow.now l.program.outline.now) (parts_from claims_of l.step (drop l.step l.program.flow.now.steps))
+    ≡ list_any (is_large l.program.flow.now l.program.outline.now) (claims l.program.flow.now)

@@ -13,9 +13,9 @@ pub returns-then-any_numbered : goal.returns-then-any_numbered
 returns-then-any_numbered c =
     let items = c.as_slice-gate-items.result.now in
     let gate : Gate = get_or items c.loop-op.op no_gate in
-    let large = is_large c.args.flow.now c.args.outline.now in
+    let large = is_large c.args.program.now.flow.now c.args.program.now.outline.now in
     sym (sym c.loop-op.invariant
-    ∙ any_part large (enters_of c.args.flow.now c.args.outline.now) c.loop-op.op c.loop-op.op c.args.flow.now.gates items gate true
+    ∙ any_part large (enters_of c.args.program.now.flow.now c.args.program.now.outline.now) c.loop-op.op c.loop-op.op c.args.program.now.flow.now.gates items gate true
     c.as_slice-gate-items.ensures c.loop-op-test.true (any_default items c.loop-op.op no_gate gate c.loop-op-test.true)
     (sym c.if-any_numbered.true ∙ c.any_numbered.ensures ∙ ap (λ n. list_any large (map (Enter (op_id c.loop-op.op)) (below n))) c.count_at-count.ensures.count))
 
@@ -23,13 +23,13 @@ pub loop-op-preserved : goal.loop-op-preserved
 loop-op-preserved c =
     let items = c.as_slice-gate-items.result.now in
     let gate : Gate = get_or items c.loop-op.op no_gate in
-    let large = is_large c.args.flow.now c.args.outline.now in
-    sym (any_part large (enters_of c.args.flow.now c.args.outline.now) c.loop-op.op c.loop-op.op c.args.flow.now.gates items gate false
+    let large = is_large c.args.program.now.flow.now c.args.program.now.outline.now in
+    sym (any_part large (enters_of c.args.program.now.flow.now c.args.program.now.outline.now) c.loop-op.op c.loop-op.op c.args.program.now.flow.now.gates items gate false
     c.as_slice-gate-items.ensures c.loop-op-test.true (any_default items c.loop-op.op no_gate gate c.loop-op-test.true)
     (sym c.if-any_numbered.false ∙ c.any_numbered.ensures ∙ ap (λ n. list_any large (map (Enter (op_id c.loop-op.op)) (below n))) c.count_at-count.ensures.count))
     ∙ c.loop-op.invariant
 
 pub returns : goal.returns
 returns c =
-    none_passes (is_large c.args.flow.now c.args.outline.now) (enters_of c.args.flow.now c.args.outline.now)
-    c.loop-op.op c.loop-op.op c.args.flow.now.gates _ c.loop-op.invariant (omega (arith, ap length c.as_slice-gate-items.ensures, c.loop-op-test.false))
+    none_passes (is_large c.args.program.now.flow.now c.args.program.now.outline.now) (enters_of c.args.program.now.flow.now c.args.program.now.outline.now)
+    c.loop-op.op c.loop-op.op c.args.program.now.flow.now.gates _ c.loop-op.invariant (omega (arith, ap length c.as_slice-gate-items.ensures, c.loop-op-test.false))

@@ -6,5 +6,5 @@ use Rattle.plc_oblig.proofs.excess.any_enter.Given as goal
 
 abbrev pub invariant-loop-op : goal.invariant-loop-op
 invariant-loop-op l =
-    list_any (is_large l.flow l.outline) (parts_from (enters_of l.flow l.outline) l.op (drop l.op l.flow.gates))
-    ≡ list_any (is_large l.flow l.outline) (enters l.flow l.outline)
+    list_any (is_large l.program.flow.now l.program.outline.now) (parts_from (enters_of l.program.flow.now l.program.outline.now) l.op (drop l.op l.program.flow.now.gates))
+    ≡ list_any (is_large l.program.flow.now l.program.outline.now) (enters l.program.flow.now l.program.outline.now)

@@ -6,6 +6,6 @@ use Rattle.plc_oblig.proofs.excess.any_from_other.Goals as goal
 
 pub returns : goal.returns
 returns c =
-    let flow = c.args.flow.now in
-    let outline = c.args.outline.now in
+    let flow = c.args.program.now.flow.now in
+    let outline = c.args.program.now.outline.now in
     rw (c.either.ensures, c.any_other.ensures, c.any_claim.ensures) (sym (list_any-append (is_large flow outline) (others flow outline) (claims flow)))

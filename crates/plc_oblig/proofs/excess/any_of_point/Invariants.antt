@@ -6,5 +6,5 @@ use Rattle.plc_oblig.proofs.excess.any_of_point.Given as goal
 
 abbrev pub invariant-loop-step : goal.invariant-loop-step
 invariant-loop-step l =
-    list_any (is_large l.flow l.outline) (parts_from (λ k s. others_at l.flow l.outline k 0 l.point.0) l.step (drop l.step l.flow.steps))
-    ≡ list_any (is_large l.flow l.outline) (others_of_point l.flow l.outline l.point.0)
+    list_any (is_large l.program.flow.now l.program.outline.now) (parts_from (λ k s. others_at l.program.flow.now l.program.outline.now k 0 l.point.0) l.step (drop l.step l.program.flow.now.steps))
+    ≡ list_any (is_large l.program.flow.now l.program.outline.now) (others_of_point l.program.flow.now l.program.outline.now l.point.0)

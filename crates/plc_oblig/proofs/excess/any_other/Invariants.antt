@@ -8,5 +8,5 @@ use Rattle.plc_oblig.proofs.excess.any_other.Given as goal
 
 abbrev pub invariant-loop-p : goal.invariant-loop-p
 invariant-loop-p l =
-    list_any (is_large l.flow l.outline) (parts_from (λ place p. others_of_point l.flow l.outline p) l.p (drop l.p (below l.flow.points)))
-    ≡ list_any (is_large l.flow l.outline) (by_points l.flow l.outline)
+    list_any (is_large l.program.flow.now l.program.outline.now) (parts_from (λ place p. others_of_point l.program.flow.now l.program.outline.now p) l.p (drop l.p (below l.program.flow.now.points)))
+    ≡ list_any (is_large l.program.flow.now l.program.outline.now) (by_points l.program.flow.now l.program.outline.now)

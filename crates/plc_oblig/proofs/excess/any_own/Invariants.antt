@@ -6,5 +6,5 @@ use Rattle.plc_oblig.proofs.excess.any_own.Given as goal
 
 abbrev pub invariant-loop-step : goal.invariant-loop-step
 invariant-loop-step l =
-    list_any (is_large l.flow l.outline) (parts_from (owns_of l.flow l.outline) l.step (drop l.step l.flow.steps))
-    ≡ list_any (is_large l.flow l.outline) (owns l.flow l.outline)
+    list_any (is_large l.program.flow.now l.program.outline.now) (parts_from (owns_of l.program.flow.now l.program.outline.now) l.step (drop l.step l.program.flow.now.steps))
+    ≡ list_any (is_large l.program.flow.now l.program.outline.now) (owns l.program.flow.now l.program.outline.now)

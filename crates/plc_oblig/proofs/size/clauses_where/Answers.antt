@@ -11,8 +11,8 @@ use Rattle.plc_oblig.proofs.size.clauses_where.Goals as goal
 pub returns : goal.returns
 returns c =
     let z = c.sizes_of-z.ensures.sizes in
-    let flow = c.args.flow.now in
-    let outline = c.args.outline.now in
+    let flow = c.args.program.now.flow.now in
+    let outline = c.args.program.now.outline.now in
     let o = c.args.o.now in
     let s = setting_of flow outline o in
     whole_length flow outline o s c.acting_point.result c.owner_point.result c.sizes_of-z.result.instances _ _ _ _ _ _ _ _ _
@@ -21,9 +21,9 @@ returns c =
     (c.mark_values_size.ensures.size s z) (c.beginning_size.ensures.size s z) (c.freshness_size.ensures.size s z)
     (c.premises_size.ensures.size ∙ ap (sum_by (clause_size c.sizes_of-z.result.instances)) c.invariants_before.ensures)
     c.standing_size.ensures.size c.standing_size-2.ensures.size
-    (c.executed_size.ensures.size ∙ ap (sum_by (prim_size c.args.marked c.sizes_of-z.result.nodes)) c.executed.ensures
-    ∙ ap (λ n. sum_by (prim_size c.args.marked n) (executed_of flow o)) z.nodes
-    ∙ ap (λ b. sum_by (prim_size b (length s.nodes)) (executed_of flow o)) c.requires.marked
+    (c.executed_size.ensures.size ∙ ap (sum_by (prim_size c.args.program.now.marked c.sizes_of-z.result.nodes)) c.executed.ensures
+    ∙ ap (λ n. sum_by (prim_size c.args.program.now.marked n) (executed_of flow o)) z.nodes
+    ∙ ap (λ b. sum_by (prim_size b (length s.nodes)) (executed_of flow o)) c.args.program.now.asked
     ∙ sym (executed_length s.marked flow.file.ghosts s.mine s.nodes start (executed_of flow o)))
     (c.denied_size.ensures.size s (after_all start s.acts))
     ∙ set_length flow outline o

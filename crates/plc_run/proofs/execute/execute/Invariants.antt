@@ -8,7 +8,7 @@ use Rattle.plc_run.proofs.execute.execute.Given as goal
 
 abbrev pub invariant-loop-k : goal.invariant-loop-k
 invariant-loop-k l = record {
-  same : execute (with_locals l.memory l.t (Some l.me)) l.events.items l.t (address_or_null l.addr) l.k (drop l.k l.prims) ≡ execute (with_locals l.fn.memory l.t (Some l.fn.me)) l.fn.events.items l.t (address_or_null l.addr) 0 l.prims;
+  same : execute (with_locals l.memory l.by.t (Some l.me)) l.events.items l.by.t (address_or_null l.by.addr) l.k (drop l.k l.prims) ≡ execute (with_locals l.fn.memory l.by.t (Some l.fn.me)) l.fn.events.items l.by.t (address_or_null l.by.addr) 0 l.prims;
   kept : Kept l.fn.memory l.fn.me l.memory l.me;
-  undoable : (s : State) (m : Locals) → TakesBack l.t s m l.fn.undos.items l.fn.memory l.fn.me → TakesBack l.t s m l.undos.items l.memory l.me;
+  undoable : (s : State) (m : Locals) → TakesBack l.by.t s m l.fn.undos.items l.fn.memory l.fn.me → TakesBack l.by.t s m l.undos.items l.memory l.me;
 }

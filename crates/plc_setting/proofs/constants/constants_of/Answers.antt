@@ -3,7 +3,7 @@ use Rattle.std.specs.List.{sum_by}
 use Rattle.plc_lang.specs.Numbering.{values_in}
 use Rattle.plc_ground.specs.declared.terms.Symbol.{Symbol}
 use Rattle.plc_ground.specs.declared.terms.Symbol.TheVariants as symbols
-use Rattle.plc_setting.specs.Setting.{below, loads_from, if_made, if_owned, if_marked}
+use Rattle.plc_setting.specs.Setting.{below, loads_from, only_if}
 use Rattle.plc_setting.proofs.Fitting.{values_few}
 use Rattle.plc_setting.proofs.Runs.{follows, nine_runs}
 use Rattle.plc_setting.proofs.constants.constants_of.Goals as goal
@@ -20,7 +20,7 @@ returns c =
     let shared =
     follows _ _ _ _ _ c.in_ok-push_shared.ensures (ap (λ n. map symbols.Shared (below n)) c.len.ensures) null in
     let variables = follows _ _ _ _ _ c.in_ok-push_variables.ensures refl shared in
-    let made = follows _ _ _ _ _ c.in_ok-push_made.ensures refl variables in
+    let made = follows _ _ _ _ _ c.in_ok-push_if.ensures refl variables in
     let bound = follows _ _ _ _ _ c.in_ok-push_bound.ensures refl made in
     let loads = follows _ _ _ _ _ c.in_ok-push_loads.ensures (ap (loads_from 0) c.as_slice.ensures) bound in
     let threads = follows _ _ _ _ _ c.in_ok-push_truths_and_threads.ensures refl loads in
@@ -29,7 +29,7 @@ returns c =
     let numbers =
     follows _ _ _ _ _ c.in_ok-push_numbers.ensures (ap (map symbols.Number) c.in_ok-numbers.ensures) enumerated in
     let all = follows _ _ _ _ _ c.in_ok-push_all.ensures c.as_slice-3.ensures numbers in
-    let truths = symbols.Yes ∷ if_marked s.marked (symbols.No ∷ []) in
-    let people = symbols.Nobody ∷ symbols.Me ∷ if_owned s.owned in
+    let truths = symbols.Yes ∷ only_if s.marked (symbols.No ∷ []) in
+    let people = symbols.Nobody ∷ symbols.Me ∷ only_if s.owned (symbols.You ∷ []) in
     all ∙ nine_runs (symbols.Null ∷ []) _ s.mine.pointers s.mine.values s.theirs.pointers s.theirs.values
-    (if_made s.makes) _ _ truths people _ _ _
+    (only_if s.makes (symbols.New ∷ [])) _ _ truths people _ _ _

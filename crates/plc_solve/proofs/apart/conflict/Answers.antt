@@ -24,4 +24,4 @@ loop-group-preserved c =
     }
 
 pub returns-clause-none : goal.returns-clause-none
-returns-clause-none c = apart_from_groups c.args.set.now c.requires.well c.args.class.now c.args.groups.now c.requires.groups (λ n nl. c.loop-group.invariant.apart n (omega arith))
+returns-clause-none c = apart_from_groups c.args.set.now c.requires.classed.well c.args.class.now c.args.groups.now c.requires.groups (λ n nl. c.loop-group.invariant.apart n (omega arith))

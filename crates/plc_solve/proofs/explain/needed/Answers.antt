@@ -1,6 +1,7 @@
-use Rattle.std.proofs.Common.{arith, ◌≡◌, ◌∙◌, length, take, drop, ap, sym, subst, refl}
+use Rattle.std.proofs.Common.{arith, ◌≡◌, ◌∙◌, take, drop, sym, subst, refl}
 use Rattle.plc_ground.specs.Changes.{undone}
 use Rattle.plc_ground.proofs.Changing.{extends_same, extends_more, extends_back, extends_front}
+use Rattle.plc_solve.proofs.Needing.{has_a_class}
 use Rattle.plc_solve.proofs.explain.needed.Goals as goal
 
 pub put-init : goal.put-init
@@ -12,22 +13,10 @@ put-init c = record {
 }
 
 pub are_together-requires-clause-first : goal.are_together-requires-clause-first
-are_together-requires-clause-first c =
-    let same = ap length c.classes.ensures in omega (
-      arith,
-      c.requires.first,
-      c.put.invariant.closure.1.merged.one_each,
-      same,
-    )
+are_together-requires-clause-first c = has_a_class c.args.set.now _ _ _ c.put.invariant.closure c.classes.ensures c.requires.asked.first
 
 pub are_together-requires-clause-second : goal.are_together-requires-clause-second
-are_together-requires-clause-second c =
-    let same = ap length c.classes.ensures in omega (
-      arith,
-      c.requires.second,
-      c.put.invariant.closure.1.merged.one_each,
-      same,
-    )
+are_together-requires-clause-second c = has_a_class c.args.set.now _ _ _ c.put.invariant.closure c.classes.ensures c.requires.asked.second
 
 pub put-requires-clause-one_each : goal.put-requires-clause-one_each
 put-requires-clause-one_each c = c.put.invariant.closure.1.merged.one_each
@@ -36,7 +25,7 @@ pub put-requires-clause-congruent : goal.put-requires-clause-congruent
 put-requires-clause-congruent c = c.put.invariant.closure.1.congruent
 
 pub put-requires-clause-range : goal.put-requires-clause-range
-put-requires-clause-range c = (c.requires.fit c.put.k _ (omega arith)).range
+put-requires-clause-range c = (c.requires.asked.fit c.put.k _ (omega arith)).range
 
 pub put-preserved : goal.put-preserved
 put-preserved c = record {

@@ -5,20 +5,21 @@ use Rattle.plc_solve.specs.Search.{IsPlace, IsConflict, Collide}
 use Rattle.plc_solve.proofs.Searching.{conflict_collides, fit_longer, place_longer}
 use Rattle.plc_solve.proofs.split.descend.Goals as goal
 
-pub conflict-requires-clause-one_each : goal.conflict-requires-clause-one_each
-conflict-requires-clause-one_each c =
-    ap length c.classes.ensures ∙ (c.in_ok-put.ensures.closure c.args.place.now.branch.items c.requires.place.closure).merged.one_each
-
-pub conflict-requires-clause-no_later : goal.conflict-requires-clause-no_later
-conflict-requires-clause-no_later c =
-    subst IsNoLater (sym c.classes.ensures) (c.in_ok-put.ensures.closure c.args.place.now.branch.items c.requires.place.closure).merged.no_later
+pub conflict-requires-clause-classed : goal.conflict-requires-clause-classed
+conflict-requires-clause-classed c =
+    let merged = (c.in_ok-put.ensures.closure c.args.place.now.branch.items c.requires.place.closure).merged in
+    record {
+      well = c.requires.well;
+      one_each = ap length c.classes.ensures ∙ merged.one_each;
+      no_later = subst IsNoLater (sym c.classes.ensures) merged.no_later;
+    }
 
 pub returns-in-Some-clause-descends : goal.returns-in-Some-clause-descends
 returns-in-Some-clause-descends c =
-    let hit : IsConflict c.args.set.now c.put.new.equal.class c.in-Some.a c.in-Some.b = rw c.classes.ensures at c.in-Some.ensures.some in (
-      subst (λ (xs : List Lit). Collide c.args.set.now xs c.in-Some.a c.in-Some.b) (sym c.in_ok-push.ensures.items)
+    let hit : IsConflict c.args.set.now c.put.new.equal.class c.in-Some.pair.a c.in-Some.pair.b = rw c.classes.ensures at c.in-Some.ensures.some in (
+      subst (λ (xs : List Lit). Collide c.args.set.now xs c.in-Some.pair.a c.in-Some.pair.b) (sym c.in_ok-push.ensures.items)
           (conflict_collides c.args.set.now _ c.put.new.equal.class (c.in_ok-put.ensures.closure c.args.place.now.branch.items c.requires.place.closure)
-          (fit_longer c.args.set.now c.args.place.now.branch.items c.args.l c.requires.place.fit c.requires.fit) c.in-Some.a c.in-Some.b hit),
+          (fit_longer c.args.set.now c.args.place.now.branch.items c.args.l c.requires.place.fit c.requires.fit) c.in-Some.pair.a c.in-Some.pair.b hit),
       c.in_ok-push.ensures.items,
     )
 

@@ -7,6 +7,5 @@ returns c =
     lists_made c.args.flow.now c.args.first.now c.args.rest.now c.in_ok-lists.lists.items c.put_claims.new.lists.items
     c.put_claims-2.new.lists.items c.put_prims.new.lists.items
     (c.in_ok-lists.ensures ∙ ap (λ (n : ℕ). replicate n []) c.len.ensures)
-    (record { count = c.in_ok-put_claims.ensures.count; each = c.in_ok-put_claims.ensures.claims })
-    (record { count = c.in_ok-put_claims-2.ensures.count; each = c.in_ok-put_claims-2.ensures.claims })
+    c.in_ok-put_claims.ensures c.in_ok-put_claims-2.ensures
     c.in_ok-put_prims.ensures.count c.in_ok-put_prims.ensures.prims

@@ -2,7 +2,7 @@ use Rattle.std.proofs.Common.{List, [], ◌++◌, get_or, ap, ◌∙◌, arith}
 use Rattle.std.proofs.lemmas.List.{take_all, get_or_default}
 use Rattle.plc_suggest.specs.declared.spot.Spot.{Spot}
 use Rattle.plc_suggest.specs.Spots.{claims_at}
-use Rattle.plc_suggest.specs.Marking.{some_spot}
+use Rattle.plc_suggest.proofs.Defaults.{some_spot}
 use Rattle.plc_suggest.proofs.Claiming.{no_claims, claims_put}
 use Rattle.plc_suggest.proofs.marking.put_claims.Goals as goal
 
@@ -24,8 +24,10 @@ loop-spot-preserved c =
     (c.requires i some_spot c.loop-spot-test.true) c.loop-spot.invariant c.index_mut.ensures.value
     c.in_ok-push.ensures.ok
 
-pub returns-clause-claims : goal.returns-clause-claims
-returns-clause-claims c = λ k small.
-    c.loop-spot.invariant.each k small
-    ∙ ap (λ (xs : List Spot). get_or c.args.lists.now.items k [] ++ claims_at xs k)
-    (take_all c.loop-spot.spot-index c.args.spots.now (omega arith))
+pub returns : goal.returns
+returns c = record {
+  count = c.loop-spot.invariant.count;
+  each = λ k small. c.loop-spot.invariant.each k small
+      ∙ ap (λ (xs : List Spot). get_or c.args.lists.now.items k [] ++ claims_at xs k)
+      (take_all c.loop-spot.spot-index c.args.spots.now (omega arith));
+}

@@ -1,5 +1,5 @@
 use Rattle.std.proofs.Common.{take}
-use Rattle.plc_suggest.proofs.Claiming.{HasClaims}
+use Rattle.plc_suggest.specs.Marking.{HasClaims}
 use Rattle.plc_suggest.proofs.marking.put_claims.Given as goal
 
 abbrev pub invariant-loop-spot : goal.invariant-loop-spot

@@ -3,11 +3,28 @@ use Rattle.std.proofs.Common.{length-append}
 use Rattle.std.proofs.lemmas.List.Elements.{All-push, All-same}
 use Rattle.plc_flow.specs.Skeleton.{skeleton_of}
 use Rattle.plc_suggest.specs.declared.spot.Spot.{Spot}
-use Rattle.plc_suggest.specs.Marking.{IsOfStep, some_spot}
-use Rattle.plc_suggest.specs.Trials.{AreKept}
+use Rattle.plc_suggest.specs.Marking.{IsOfStep}
+use Rattle.plc_suggest.proofs.Defaults.{some_spot}
+use Rattle.plc_suggest.specs.Trials.{AreKept, CanTry}
 use Rattle.plc_suggest.proofs.Listing.{spots_known}
 use Rattle.plc_suggest.proofs.Trying.{trial_held, trial_failed, row_goes, spot_stays, reached_again}
 use Rattle.plc_suggest.proofs.search.needed_spots.Goals as goal
+
+pub try_without-requires : goal.try_without-requires
+try_without-requires c =
+    let p = c.args.parts.now in
+    let at = c.loop-at.at in
+    let n = c.fitting-count.result in
+    subst (λ (kept : List Spot). CanTry p kept at (at + n) c.loop-at.envs.items) (sym c.deref.ensures.value)
+    (record {
+      parts = c.requires.parts;
+      known = c.loop-at.invariant.known;
+      few = c.loop-at.invariant.few;
+      order = omega arith;
+      within = let most = c.fitting-count.ensures.most in let below = c.loop-at.invariant.within in omega
+          (arith, most, below);
+      reached = c.loop-at.invariant.reached;
+    })
 
 pub loop-at-preserved-then-branch : goal.loop-at-preserved-then-branch
 loop-at-preserved-then-branch c =

@@ -11,6 +11,7 @@ suggest_among-requires c = record {
   shared = c.len.ensures;
   locals = c.as_slice.ensures.value ∙ c.in_ok-locals.ensures;
   entries = c.as_slice-2.ensures.value ∙ c.in_ok-entries.ensures;
+  index = c.in_ok-index.ensures;
   spots = c.as_slice-3.ensures.value ∙ c.in_ok-spots.ensures.spots;
   few = let count = ap length c.as_slice-3.ensures.value in let few = c.in_ok-spots.ensures.few in omega
       (arith, count, few);

@@ -4,4 +4,4 @@ use Rattle.plc_verify.specs.Environments.{StepHolds}
 use Rattle.plc_verify.proofs.steps.verify_steps.Given as goal
 
 abbrev pub invariant-loop-k : goal.invariant-loop-k
-invariant-loop-k l = (j : ℕ) → j < l.k → StepHolds l.observer (skeleton_of l.flow) l.envs j
+invariant-loop-k l = (j : ℕ) → j < l.k → StepHolds l.candidate.observer.now (skeleton_of l.candidate.flow.now) l.candidate.envs.now j

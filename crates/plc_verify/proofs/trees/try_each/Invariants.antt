@@ -4,4 +4,4 @@ use Rattle.plc_verify.proofs.trees.try_each.Given as goal
 
 abbrev pub invariant-loop-i : goal.invariant-loop-i
 invariant-loop-i l =
-    IsAt l.evidence.flow.now l.evidence.outline.now l.evidence.trees.now l.i l.walk × NotedClose l.evidence.flow.now l.evidence.outline.now l.evidence.trees.now l.tried
+    IsAt l.evidence.program.flow.now l.evidence.program.outline.now l.evidence.trees.now l.i l.walk × NotedClose l.evidence.program.flow.now l.evidence.program.outline.now l.evidence.trees.now l.tried

@@ -10,17 +10,14 @@ returns-then-is_tried-clause-bad c =
     let e = c.args.evidence.now in
     let t = get_or e.trees.now c.args.at c.index-evidence-at.result in
     let is = slice_get-get_or e.trees.now c.args.at c.index-evidence-at.result c.requires.there in
-    verdict_at e.flow.now e.outline.now e.trees.now c.args.at c.args.o.now t None is (c.if-is_tried.ensures refl)
+    verdict_at e.program.flow.now e.program.outline.now e.trees.now c.args.at c.args.o.now t None is (c.if-is_tried.ensures refl)
 
 pub returns-in_ok-note-clause-tried : goal.returns-in_ok-note-clause-tried
 returns-in_ok-note-clause-tried c =
     let e = c.args.evidence.now in
     let t = get_or e.trees.now c.args.at c.index-evidence-at.result in
-    let set = ground_set e.flow.now e.outline.now c.args.o.now in
+    let set = ground_set e.program.flow.now e.program.outline.now c.args.o.now in
     let is = slice_get-get_or e.trees.now c.args.at c.index-evidence-at.result c.requires.there in
     let none : is_some c.in_ok-bad.bad ≡ false = (let e = c.is_none.ensures in let h = c.if-is_none.true in cc) in
-    more_tried e.flow.now e.outline.now e.trees.now c.args.tried.now c.args.o.now c.args.at c.requires.tried c.note.new.self
+    more_tried e.program.flow.now e.program.outline.now e.trees.now c.args.tried.now c.args.o.now c.args.at c.requires.tried c.note.new.self
     t is (closes_if_none set t.nodes c.in_ok-bad.bad c.in_ok-bad.ensures none) c.in_ok-note.ensures
-
-pub first_bad_node-requires-clause-marked : goal.first_bad_node-requires-clause-marked
-first_bad_node-requires-clause-marked c = c.args.evidence.now.asked

@@ -23,11 +23,14 @@ returns-in-Some-first_narrow_entry c = (
   refl,
 )
 
-pub verify_steps-requires-clause-entries : goal.verify_steps-requires-clause-entries
-verify_steps-requires-clause-entries c =
-    subst (λ (es : List Env). EntriesHold c.args.observer.now (skeleton_of c.args.flow.now) es) (sym (c.deref-2.ensures.value ∙ c.in_ok-envs.ensures))
-    (entries_hold c.args.flow.now c.requires.flow c.args.observer.now c.args.envs.now c.if-envs-flow.false c.deref.result.now _
-    c.deref.ensures.value c.in_ok-envs.ensures c.in_default.ensures c.in_default-first_narrow_entry.ensures)
+pub verify_steps-requires : goal.verify_steps-requires
+verify_steps-requires c = record {
+  flow = c.requires.flow;
+  file = c.requires.file;
+  entries = subst (λ (es : List Env). EntriesHold c.args.observer.now (skeleton_of c.args.flow.now) es) (sym (c.deref-2.ensures.value ∙ c.in_ok-envs.ensures))
+      (entries_hold c.args.flow.now c.requires.flow c.args.observer.now c.args.envs.now c.if-envs-flow.false c.deref.result.now _
+      c.deref.ensures.value c.in_ok-envs.ensures c.in_default.ensures c.in_default-first_narrow_entry.ensures);
+}
 
 pub returns : goal.returns
 returns c =

@@ -7,5 +7,5 @@ use Rattle.plc_cli.proofs.certifying.ForCertificateQuestion.answer.Goals as goal
 
 pub returns-in-Ok-No : goal.returns-in-Ok-No
 returns-in-Ok-No c =
-    if_told c.told.result (IsCertified c.args.judged.now) certified_status (certified_text c.args.judged.now) (No c.in-Ok-No.verdict)
-    (subst (IsCertified c.args.judged.now) c.in-Ok-No.field-0-is c.in-Ok-No.ensures) c.told.ensures
+    if_told c.verdict_answer.result (IsCertified c.args.judged.now) certified_status (certified_text c.args.judged.now) (No c.in-Ok-No.verdict)
+    (subst (IsCertified c.args.judged.now) c.in-Ok-No.field-0-is c.in-Ok-No.ensures) c.verdict_answer.ensures

@@ -5,4 +5,4 @@ use Rattle.plc_cli.proofs.checking.ForVerdictQuestion.answer.Goals as goal
 
 pub returns-in-Ok : goal.returns-in-Ok
 returns-in-Ok c =
-    if_told c.told.result (IsVerdictOn c.args.judged.now) verdict_status (verdict_text c.args.judged.now) c.in-Ok.verdict c.in-Ok.ensures c.told.ensures
+    if_told c.verdict_answer.result (IsVerdictOn c.args.judged.now) verdict_status (verdict_text c.args.judged.now) c.in-Ok.verdict c.in-Ok.ensures c.verdict_answer.ensures

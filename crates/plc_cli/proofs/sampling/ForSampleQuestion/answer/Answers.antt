@@ -6,5 +6,5 @@ use Rattle.plc_cli.proofs.sampling.ForSampleQuestion.answer.Goals as goal
 
 pub returns-in-Ok : goal.returns-in-Ok
 returns-in-Ok c =
-    if_told c.told_sample.result (IsVerdictOn c.args.judged.now) verdict_status (sampled_text c.args.self.now.copies c.args.self.now.line c.args.judged.now)
-    c.in-Ok.verdict c.in-Ok.ensures c.told_sample.ensures
+    if_told c.sample_answer.result (IsVerdictOn c.args.judged.now) verdict_status (sampled_text c.args.self.now.copies c.args.self.now.line c.args.judged.now)
+    c.in-Ok.verdict c.in-Ok.ensures c.sample_answer.ensures

@@ -1,7 +1,5 @@
-use Rattle.std.proofs.Common.{sym, ap, refl}
-use Rattle.plc_gc.specs.State.{put, with_locals, locals_of, null_pointer}
-use Rattle.plc_base.proofs.Tables.{put_is_set}
-use Rattle.plc_gc.specs.contracts.state.State.{the_view}
+use Rattle.std.proofs.Common.{refl}
+use Rattle.plc_gc.specs.State.{put, with_locals, locals_of}
 use Rattle.plc_gc.proofs.state.State.put.Goals as goal
 
 pub put_pointer-requires : goal.put_pointer-requires
@@ -18,25 +16,11 @@ put_value-requires c = rw (c.in-Data.is, ← c.self.view_is) at c.requires
 
 pub returns-in-Shared : goal.returns-in-Shared
 unfolding put
-returns-in-Shared c =
-    let h = rw (c.in-Shared.is, ← c.self.view_is) at c.requires in
-    rw (c.in-Shared.is, c.with_node.ensures, c.pointer_at.ensures, c.deref.ensures.value, ← c.self.view_is)
-    (ap (λ xs. record (the_view c.self.inside) { shared = xs })
-    (sym (put_is_set null_pointer c.self.inside.shared.items c.in-Shared.i _ h)))
+returns-in-Shared c = rw (c.in-Shared.is, c.put_node.ensures, ← c.self.view_is) refl
 
 pub returns-in-SharedMark : goal.returns-in-SharedMark
 unfolding put
-returns-in-SharedMark c =
-    let h = rw (c.in-SharedMark.is, ← c.self.view_is) at c.requires in
-    rw (
-      c.in-SharedMark.is,
-      c.with_mark.ensures,
-      c.pointer_at-in-SharedMark.ensures,
-      c.deref-in-SharedMark.ensures.value,
-      ← c.self.view_is,
-    )
-    (ap (λ xs. record (the_view c.self.inside) { shared = xs })
-    (sym (put_is_set null_pointer c.self.inside.shared.items c.in-SharedMark.i _ h)))
+returns-in-SharedMark c = rw (c.in-SharedMark.is, c.put_mark.ensures, ← c.self.view_is) refl
 
 pub returns-in-Local : goal.returns-in-Local
 unfolding put with_locals locals_of

@@ -1,16 +1,6 @@
-use Rattle.std.proofs.Common.{refl, length}
 use Rattle.plc_mem.specs.State.{put}
-use Rattle.plc_mem.proofs.Places.{nodes_fit_put}
 use Rattle.plc_mem.proofs.memory.Memory.set_field.Goals as goal
-
-pub set_cell-requires : goal.set_cell-requires
-set_cell-requires c = let h = rw (← c.self.view_is) at c.requires in (length c.self.inside.fields.items, h, c.self.invariant)
-
-pub invariant_of-self : goal.invariant_of-self
-invariant_of-self c =
-    let h = rw (← c.self.view_is) at c.requires in
-    rw c.set_cell.ensures (nodes_fit_put (length c.self.inside.fields.items) c.self.inside.nodes c.args.a c.args.f.0 c.args.c c.self.invariant h)
 
 pub returns : goal.returns
 unfolding put
-returns c = rw (c.set_cell.ensures, ← c.self.view_is) refl
+returns c = c.set_entry.ensures

@@ -12,8 +12,8 @@ use Rattle.plc_oblig.proofs.grounding.Grounding.tree_of_still.Goals as goal
 
 pub unreachable-requires : goal.unreachable-requires
 unreachable-requires c =
-    let flow = c.args.flow.now in
-    let outline = c.args.outline.now in
+    let flow = c.args.program.now.flow.now in
+    let outline = c.args.program.now.outline.now in
     let o = c.args.o.now in
     let s = setting_of flow outline o in
     let counted = c.denied_size-count.ensures.size s (after_all start s.acts) in
@@ -24,8 +24,8 @@ unreachable-requires c =
 
 pub returns : goal.returns
 returns c =
-    let flow = c.args.flow.now in
-    let outline = c.args.outline.now in
+    let flow = c.args.program.now.flow.now in
+    let outline = c.args.program.now.outline.now in
     let o = c.args.o.now in
     let s = setting_of flow outline o in
     let place = c.in-Some.c in

@@ -11,7 +11,7 @@ pub returns-in-Start-clause-after : goal.returns-in-Start-clause-after
 returns-in-Start-clause-after c = subst (λ (x : Reached). OnOk c.start_move.result (Reaches x c.args.self.now c.start_move.new.self)) (sym (ap (reach c.args.flow.now c.args.observer.now c.args.self.now.here) c.in-Start.is ∙ reach_start c.args.flow.now c.args.observer.now c.args.self.now.here c.in-Start.t c.in-Start.op c.in-Start.args ∙ ap (start_from c.args.flow.now c.args.self.now.here c.in-Start.t c.in-Start.op.0) (sym c.as_slice.ensures))) c.start_move.ensures.after
 
 pub returns-in-Step-clause-answer : goal.returns-in-Step-clause-answer
-returns-in-Step-clause-answer c = subst (λ (x : Reached). IfOk c.step_move.result (λ r. r ≡ answer x)) (sym (ap (reach c.args.flow.now c.args.observer.now c.args.self.now.here) c.in-Step.is ∙ reach_take c.args.flow.now c.args.observer.now c.args.self.now.here c.in-Step.t c.in-Step.nth c.in-Step.addr)) c.step_move.ensures.answer
+returns-in-Step-clause-answer c = subst (λ (x : Reached). IfOk c.step_move.result (λ r. r ≡ answer x)) (sym (ap (reach c.args.flow.now c.args.observer.now c.args.self.now.here) c.in-Step.is ∙ reach_take c.args.flow.now c.args.observer.now c.args.self.now.here c.in-Step.t c.in-Step.nth c.in-Step.addr)) c.step_move.ensures.says
 
 pub returns-in-Step-clause-after : goal.returns-in-Step-clause-after
 returns-in-Step-clause-after c = subst (λ (x : Reached). OnOk c.step_move.result (Reaches x c.args.self.now c.step_move.new.self)) (sym (ap (reach c.args.flow.now c.args.observer.now c.args.self.now.here) c.in-Step.is ∙ reach_take c.args.flow.now c.args.observer.now c.args.self.now.here c.in-Step.t c.in-Step.nth c.in-Step.addr)) c.step_move.ensures.after

@@ -37,7 +37,7 @@ returns-clause-after c =
     let p = c.args.self.now in
     let frees = sym c.may_free.ensures ∙ c.if-not-may_free.false in
     let may = subst (λ (p : Position). may_free p.located a ≡ true) c.self.view_is frees in
-    let here = ap (λ (q : Position). q.here) c.self-2.view_is ∙ c.in_ok-hear.ensures.here in
+    let here = ap (λ (q : Position). q.here) c.self-2.view_is ∙ c.in_ok-hear.ensures.ok.here in
     let q : Position = record (the_view c.self-2.inside) { here = record (the_view c.self-2.inside).here { state = c.free.new.self } } in
     let state = c.free.ensures.freed ∙ ap (λ (x : Configuration). freed x.state a) here in
-    free_done o p q a c.requires.follows c.if-a-eq0.false may state (ap (λ (x : Configuration). x.history) here) (ap (λ (x : Configuration). x.points) here) (ap (λ (q : Position). q.ended) c.self-2.view_is ∙ c.hear.ensures.ended) (ap (λ (q : Position). q.steps) c.self-2.view_is ∙ c.hear.ensures.steps)
+    free_done o p q a c.requires.follows c.if-a-eq0.false may state (ap (λ (x : Configuration). x.history) here) (ap (λ (x : Configuration). x.points) here) (ap (λ (q : Position). q.ended) c.self-2.view_is ∙ c.in_ok-hear.ensures.ok.ended) (ap (λ (q : Position). q.steps) c.self-2.view_is ∙ c.in_ok-hear.ensures.ok.steps)

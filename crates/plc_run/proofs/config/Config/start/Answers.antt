@@ -14,8 +14,8 @@ pub returns-in_ok-c-in-Fine-clause-of_run : goal.returns-in_ok-c-in-Fine-clause-
 returns-in_ok-c-in-Fine-clause-of_run c =
     begun_run c.args.flow.now c.args.observer.now c.args.threads c.in_ok-c-in-Fine.c (returns-in_ok-c-in-Fine-clause-starts c).1 c.in_ok-c-in-Fine.ensures.follows c.in_ok-c-in-Fine.ensures.indexed
 
-pub returns-in-Stuck-clause-starts : goal.returns-in-Stuck-clause-starts
-returns-in-Stuck-clause-starts c = sym (ap (beginning c.args.threads) (rw c.in-Stuck.is at c.in_ok-tried.ensures.ends))
+pub returns-in-Blocked-clause-starts : goal.returns-in-Blocked-clause-starts
+returns-in-Blocked-clause-starts c = sym (ap (beginning c.args.threads) (rw c.in-Blocked.is at c.in_ok-tried.ensures.ends))
 
 pub returns-in-Raced-clause-starts : goal.returns-in-Raced-clause-starts
 returns-in-Raced-clause-starts c = sym (ap (beginning c.args.threads) (rw c.in-Raced.is at c.in_ok-tried.ensures.ends))

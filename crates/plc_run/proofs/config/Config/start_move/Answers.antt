@@ -12,7 +12,7 @@ use Rattle.plc_run.proofs.config.Config.start_move.Goals as goal
 pub put-requires : goal.put-requires
 put-requires c =
     let v = the_view c.self.inside in
-    let fits = rw (← c.self.view_is) at c.requires in
+    let fits = rw (← c.self.view_is) at c.requires.fits in
     let begins = sym (c.begun.ensures ∙ ap (λ ps. begun c.args.flow.now ps c.args.t c.args.op.0 c.args.args.now) c.deref.ensures.value) ∙ ap (option_map (λ r. (r.0.now, r.1))) c.in-Some.is in
     let b = (begun_so c.args.flow.now v.here.points c.args.t c.args.op.0 c.args.args.now c.in-Some.operation.now c.in-Some.entry begins).1 in
     record {

@@ -1,14 +1,14 @@
 use Rattle.std.proofs.Common.{◌<◌, length, ap, sym, ◌∙◌, subst}
-use Rattle.plc_run.specs.Position.{Position, threads_of}
-use Rattle.plc_run.proofs.Threads.{run_fits}
+use Rattle.plc_run.specs.Position.{Position}
+use Rattle.plc_run.proofs.Threads.{is_of_flow}
 use Rattle.plc_run.proofs.Stepping.{step_answers, step_run}
 use Rattle.plc_run.proofs.config.Config.step.Goals as goal
 
-pub advance-requires-clause-fits : goal.advance-requires-clause-fits
-advance-requires-clause-fits c =
+pub advance-requires-clause-here : goal.advance-requires-clause-here
+advance-requires-clause-here c =
     let p = c.args.self.now in
     let some = subst (λ (p : Position). 0 < length p.here.points) c.self.view_is c.self.invariant.0 in
-    run_fits c.args.flow.now c.requires.fits c.args.observer.now (threads_of p) some c.requires.of_run.moves p.here c.requires.of_run.run
+    is_of_flow c.args.flow.now c.args.observer.now p c.requires.fits some c.requires.of_run
 
 pub returns-clause-answers : goal.returns-clause-answers
 returns-clause-answers c =

@@ -9,13 +9,15 @@ use Rattle.plc_run.proofs.Follow.{unheard}
 use Rattle.plc_run.proofs.Stepping.{concluded_answer, concluded_so}
 use Rattle.plc_run.proofs.config.Config.take.Goals as goal
 
-pub act-requires-clause-busy : goal.act-requires-clause-busy
-act-requires-clause-busy c =
+pub act-requires : goal.act-requires
+act-requires c =
     let r = c.requires in
-    (r.locals, r.held, subst (PrimitivesIn (shape c.args.self.now.here.state r.locals)) (sym c.as_slice.ensures) r.fit)
-
-pub act-requires-clause-few : goal.act-requires-clause-few
-act-requires-clause-few c = omega (arith, c.requires.short, ap length c.as_slice.ensures)
+    record {
+      locals = r.locals;
+      held = r.held;
+      fit = subst (PrimitivesIn (shape c.args.self.now.here.state r.locals)) (sym c.as_slice.ensures) r.fit;
+      short = omega (arith, r.short, ap length c.as_slice.ensures);
+    }
 
 pub conclude-requires : goal.conclude-requires
 conclude-requires c = omega (arith, held_below c.args.self.now.here.points c.args.t c.args.point c.requires.stands, ap length c.in_ok-ended.ensures.acts.points)

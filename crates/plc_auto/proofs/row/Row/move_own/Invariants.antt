@@ -1,6 +1,0 @@
-use Rattle.std.proofs.Common.{◌≡◌, false, take}
-use Rattle.plc_auto.specs.Moves.{with_all}
-use Rattle.plc_auto.proofs.row.Row.move_own.Given as goal
-
-abbrev pub invariant-loop-i : goal.invariant-loop-i
-invariant-loop-i l = l.self ≡ with_all l.e false (take l.i l.watchers) l.fn.self

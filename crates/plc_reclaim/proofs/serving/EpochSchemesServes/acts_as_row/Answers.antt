@@ -1,6 +1,0 @@
-use Rattle.plc_reclaim.specs.Rows.{epochs}
-use Rattle.plc_reclaim.proofs.Watching.{acts_by_tables}
-use Rattle.plc_reclaim.proofs.serving.EpochSchemesServes.acts_as_row.Goals as goal
-
-pub returns : goal.returns
-returns c = acts_by_tables epochs
