@@ -8,7 +8,10 @@ use std::process::ExitCode;
 
 fn main(rt: HostRuntime) -> ExitCode {
     ExitCode::from(match host_of(&rt) {
-        Ok(mut host) => run_with_own(rt.alloc(), &host.words, &mut host.files, &mut host.out),
+        Ok(mut host) => {
+            let host = &mut host;
+            run_with_own(rt.alloc(), &host.words, &mut host.files, &mut host.out)
+        }
         Err(fault) => words_status(fault),
     })
 }

@@ -10,13 +10,16 @@ use std::process::ExitCode;
 fn main(rt: HostRuntime) -> ExitCode {
     let mut said = OutSink::new(rt.stderr());
     ExitCode::from(match host_of(&rt) {
-        Ok(mut host) => hunt(
-            rt.alloc(),
-            &host.words,
-            &mut host.files,
-            &mut host.out,
-            &mut said,
-        ),
+        Ok(mut host) => {
+            let host = &mut host;
+            hunt(
+                rt.alloc(),
+                &host.words,
+                &mut host.files,
+                &mut host.out,
+                &mut said,
+            )
+        }
         Err(fault) => words_status(fault),
     })
 }
