@@ -92,8 +92,8 @@ pub use checking::{verdict_status, verdict_text};
 pub use laws::honest_runs_are_answered;
 pub use own::run_with_own;
 pub use plc_outside::{
-    FailSink, FileFault, Files, FixedSink, HonestFiles, MemFiles, OutSink, RealFiles, Sink,
-    SinkFault, VecSink, WordsFault, program_words, write_text,
+    FailSink, FileFault, Files, FixedSink, HonestFiles, Host, MemFiles, OutSink, RealFiles, Sink,
+    SinkFault, VecSink, WordsFault, host_of, write_text,
 };
 pub use plc_reclaim::{ByList, Epoch, Hazard, Leak, Reclaimer};
 pub use program::run;

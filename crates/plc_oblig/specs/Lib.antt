@@ -1,6 +1,7 @@
 -- what contracts of public calls say
 pub mod Obligations
 pub mod GroundSets
+pub mod Programs
 pub mod Outlines
 pub mod Walk
 pub mod Still

@@ -1,12 +1,13 @@
 -- How many clauses each part of a ground set has.
 use Rattle.std.specs.Prelude.{◌≡◌, ◌≤◌, ◌==◌, ℕ, ◌+◌, ◌*◌, ◌^◌}
-use Rattle.std.specs.Prelude.{Bool, true, false, not, length}
+use Rattle.std.specs.Prelude.{Bool, true, false, not, List, length, count_by}
 use Rattle.plc_base.specs.Limits.{most, most_bound}
 use Rattle.plc_base.specs.declared.limits.What1.TheVariants as limits
 use Rattle.plc_base.specs.Functions.{is_retire}
 use Rattle.plc_lang.specs.declared.syntax.Arg.{Arg}
 use Rattle.plc_lang.specs.declared.syntax.Arg.TheVariants as args
 use Rattle.plc_lang.specs.declared.syntax.Ghost.{Ghost as AuxiliaryField}
+use Rattle.plc_lang.specs.declared.syntax.Local.{Local}
 use Rattle.plc_lang.specs.declared.syntax.Rel.{Rel}
 use Rattle.plc_lang.specs.declared.syntax.Rel.TheVariants as rels
 use Rattle.plc_lang.specs.declared.syntax.Primitive.{Primitive}
@@ -14,6 +15,7 @@ use Rattle.plc_lang.specs.declared.syntax.Primitive.TheVariants.{Null, Copy, New
 use Rattle.plc_lang.specs.declared.syntax.Primitive.TheVariants.{DataLoad, DataStore, Eq, Ne, IsNull, NotNull, DataTest}
 use Rattle.plc_lang.specs.declared.syntax.Primitive.TheVariants.{Refresh, RefreshLoad, RefreshStore, Mark, Unmark}
 use Rattle.plc_lang.specs.declared.syntax.Primitive.TheVariants.{MarkTest, Call, Done, Active, Ghost}
+use Rattle.plc_lang.specs.Locals.{is_pointer}
 use Rattle.plc_flow.specs.WellFormed.{most_step_primitives}
 use Rattle.plc_logic.specs.declared.clause.Clause.{Clause}
 use Rattle.plc_setting.specs.declared.setting.Setting.{Setting}
@@ -23,32 +25,16 @@ use Rattle.plc_oblig.specs.declared.size.Sizes.{Sizes}
 abbrev pub has_values : AuxiliaryField → Bool
 has_values g = not (length g.values == 0)
 
--- a primitive that reads a node from a field
+-- how many locals are pointers
+abbrev pub pointer_count : List Local → ℕ
+pointer_count locals = count_by is_pointer locals
+
+-- a primitive that reads a node from a field; a row of a load that is missing is refused, since the pointers that a
+-- setting says are read are as many as these primitives
 abbrev pub is_pointer_load : Primitive → Bool
-is_pointer_load (Null p) = false
-is_pointer_load (Copy p q) = false
-is_pointer_load (New p) = false
 is_pointer_load (Load p q f) = true
-is_pointer_load (Store p f q) = false
-is_pointer_load (StoreNull p f) = false
-is_pointer_load (DataSet x e) = false
-is_pointer_load (DataLoad x q f) = false
-is_pointer_load (DataStore p f e) = false
-is_pointer_load (Eq p q) = false
-is_pointer_load (Ne p q) = false
-is_pointer_load (IsNull p) = false
-is_pointer_load (NotNull p) = false
-is_pointer_load (DataTest r x e) = false
-is_pointer_load (Refresh p q) = false
 is_pointer_load (RefreshLoad p q f) = true
-is_pointer_load (RefreshStore p f q) = false
-is_pointer_load (Mark p q) = false
-is_pointer_load (Unmark p q) = false
-is_pointer_load (MarkTest p m) = false
-is_pointer_load (Call f a) = false
-is_pointer_load (Done f) = false
-is_pointer_load (Active p) = false
-is_pointer_load (Ghost p g e) = false
+is_pointer_load k = false
 
 -- ---- what a set rests on
 

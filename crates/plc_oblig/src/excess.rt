@@ -4,8 +4,9 @@
 // by step, so that what stands at a point is counted once for all steps.
 ghost use Rattle.std.specs.Prelude.{◌≡◌, ◌≤◌, ◌||◌, MatchBool, length};
 ghost use Rattle.plc_flow.specs.WellFormed.{most_step_primitives};
-ghost use Rattle.plc_setting.specs.Fit.{Fits};
+ghost use Rattle.plc_setting.specs.declared.obligations.Obligation.TheVariants.{Other};
 ghost use Rattle.plc_setting.specs.Points.{count_at};
+ghost use Rattle.plc_oblig.specs.Programs.{ProgramFits};
 ghost use Rattle.plc_oblig.specs.Obligations.{enters, owns, others, claims_in, claims};
 ghost use Rattle.plc_oblig.specs.Outlines.{HasSmallSets, HasLargeSet};
 ghost use Rattle.plc_oblig.specs.Excess.{numbered, numbered_below, others_of_point, is_large, any_large};
@@ -27,7 +28,7 @@ fn either(a: bool, b: bool) -> bool
 
 /// Whether the ground set of the obligation has more clauses than it may.
 fn is_large(program: &Annotated<'_>, o: &Obligation) -> bool
-    requires fits { Fits program.now.flow.now program.now.outline.now }
+    requires fits { ProgramFits program.now }
     ensures { result ≡ is_large program.now.flow.now program.now.outline.now o.now }
 {
     clauses_where(program, o) > What1::Clauses.most() as u64
@@ -55,7 +56,7 @@ fn numbered(o: Obligation, number: u16) -> Obligation
 
 /// Whether any is large of the obligations that are like this one but for their last number, which is below the count.
 fn any_numbered(program: &Annotated<'_>, o: Obligation, count: u16) -> bool
-    requires fits { Fits program.now.flow.now program.now.outline.now }
+    requires fits { ProgramFits program.now }
     ensures { result ≡ any_large program.now (numbered_below o count) }
 {
     for number in 0..count {
@@ -68,7 +69,7 @@ fn any_numbered(program: &Annotated<'_>, o: Obligation, count: u16) -> bool
 
 /// Whether any on the entry of an operation is large.
 fn any_enter(program: &Annotated<'_>) -> bool
-    requires fits { Fits program.now.flow.now program.now.outline.now }
+    requires fits { ProgramFits program.now }
     ensures { result ≡ any_large program.now (enters program.now.flow.now program.now.outline.now) }
 {
     for (op, gate) in program.flow.gates.as_slice().iter().enumerate() {
@@ -86,7 +87,7 @@ fn any_enter(program: &Annotated<'_>) -> bool
 
 /// Whether any on what a step leads its own thread to is large.
 fn any_own(program: &Annotated<'_>) -> bool
-    requires fits { Fits program.now.flow.now program.now.outline.now }
+    requires fits { ProgramFits program.now }
     ensures { result ≡ any_large program.now (owns program.now.flow.now program.now.outline.now) }
 {
     let invariants = program.outline.invariants.len();
@@ -103,19 +104,27 @@ fn any_own(program: &Annotated<'_>) -> bool
     false
 }
 
+/// Whether any on a clause of a point is large, of which there are so many, for this step of another thread.
+fn any_of_step(program: &Annotated<'_>, step: StepId, point: PointId, count: u16) -> bool
+    requires fits { ProgramFits program.now }
+    ensures { result ≡ any_large program.now (numbered_below (Other step point 0) count) }
+{
+    let first = Obligation::Other {
+        step,
+        point,
+        clause: 0,
+    };
+    any_numbered(program, first, count)
+}
+
 /// Whether any on a clause of a point is large, of which there are so many, for any step of another thread.
 fn any_of_point(program: &Annotated<'_>, point: PointId, count: u16) -> bool
-    requires fits { Fits program.now.flow.now program.now.outline.now }
+    requires fits { ProgramFits program.now }
     requires count { count ≡ count_at program.now.flow.now program.now.outline.now point.0 }
     ensures { result ≡ any_large program.now (others_of_point program.now.flow.now program.now.outline.now point.0) }
 {
     for step in 0..program.flow.steps.len() {
-        let first = Obligation::Other {
-            step: StepId(step as u16),
-            point,
-            clause: 0,
-        };
-        if any_numbered(program, first, count) {
+        if any_of_step(program, StepId(step as u16), point, count) {
             return true;
         }
     }
@@ -124,7 +133,7 @@ fn any_of_point(program: &Annotated<'_>, point: PointId, count: u16) -> bool
 
 /// Whether any on a clause of another thread is large.
 fn any_other(program: &Annotated<'_>) -> bool
-    requires fits { Fits program.now.flow.now program.now.outline.now }
+    requires fits { ProgramFits program.now }
     ensures { result ≡ any_large program.now (others program.now.flow.now program.now.outline.now) }
 {
     for p in 0..program.flow.points {
@@ -138,7 +147,7 @@ fn any_other(program: &Annotated<'_>) -> bool
 
 /// Whether any on a claim of one step is large.
 fn any_claim_of(program: &Annotated<'_>, step: StepId, prims: &[Prim]) -> bool
-    requires fits { Fits program.now.flow.now program.now.outline.now }
+    requires fits { ProgramFits program.now }
     requires short { length prims.now ≤ most_step_primitives }
     ensures { result ≡ any_large program.now (claims_in step.0 0 prims.now) }
 {
@@ -158,7 +167,7 @@ fn any_claim_of(program: &Annotated<'_>, step: StepId, prims: &[Prim]) -> bool
 
 /// Whether any on a claim is large.
 fn any_claim(program: &Annotated<'_>) -> bool
-    requires fits { Fits program.now.flow.now program.now.outline.now }
+    requires fits { ProgramFits program.now }
     ensures { result ≡ any_large program.now (claims program.now.flow.now) }
 {
     for (step, s) in program.flow.steps.as_slice().iter().enumerate() {
@@ -171,7 +180,7 @@ fn any_claim(program: &Annotated<'_>) -> bool
 
 /// Whether any on a clause of another thread or on a claim is large.
 fn any_from_other(program: &Annotated<'_>) -> bool
-    requires fits { Fits program.now.flow.now program.now.outline.now }
+    requires fits { ProgramFits program.now }
     ensures { result ≡ any_large program.now (from_others program.now.flow.now program.now.outline.now) }
 {
     either(any_other(program), any_claim(program))
@@ -179,7 +188,7 @@ fn any_from_other(program: &Annotated<'_>) -> bool
 
 /// Whether any on what a step leads its own thread to, or on a later kind, is large.
 fn any_from_own(program: &Annotated<'_>) -> bool
-    requires fits { Fits program.now.flow.now program.now.outline.now }
+    requires fits { ProgramFits program.now }
     ensures { result ≡ any_large program.now (from_owns program.now.flow.now program.now.outline.now) }
 {
     either(any_own(program), any_from_other(program))
@@ -187,7 +196,7 @@ fn any_from_own(program: &Annotated<'_>) -> bool
 
 /// Whether any on the entry of an operation, or on a later kind, is large.
 fn any_from_enter(program: &Annotated<'_>) -> bool
-    requires fits { Fits program.now.flow.now program.now.outline.now }
+    requires fits { ProgramFits program.now }
     ensures { result ≡ any_large program.now (from_enters program.now.flow.now program.now.outline.now) }
 {
     either(any_enter(program), any_from_own(program))
@@ -195,7 +204,7 @@ fn any_from_enter(program: &Annotated<'_>) -> bool
 
 /// Whether the ground set of any obligation has more clauses than it may. It takes no memory.
 pub fn has_large_set(program: &Annotated<'_>) -> bool
-    requires { Fits program.now.flow.now program.now.outline.now }
+    requires { ProgramFits program.now }
     ensures { MatchBool result (HasLargeSet program.now.flow.now program.now.outline.now)
         (HasSmallSets program.now.flow.now program.now.outline.now) }
 {

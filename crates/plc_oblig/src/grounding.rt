@@ -1,16 +1,14 @@
 // The ground set of an obligation: constants and nodes are listed, then the clauses are written item by item, and
 // each term that was listed has its sort. Whoever goes over many obligations makes their sets one after another
 // over the same memory.
-ghost use Rattle.std.specs.Prelude.{◌≡◌, ◌<◌, map, length, slice_get, Some, OnOk, IfOk};
+ghost use Rattle.std.specs.Prelude.{◌≡◌, ◌<◌, length, slice_get, Some, OnOk, IfOk};
 ghost use Rattle.plc_lang.specs.Fit.{FileFits};
 ghost use Rattle.plc_ground.specs.Fit.{IsWellFormed};
-ghost use Rattle.plc_symbolic.specs.declared.symbolic.SymbolicTerm.TheVariants.{Constant};
 ghost use Rattle.plc_symbolic.specs.Numbering.{blank, listed_all};
-ghost use Rattle.plc_symbolic.specs.Terms.{term_of};
 ghost use Rattle.plc_setting.specs.Fit.{Fits};
-ghost use Rattle.plc_setting.specs.Sorts.{sort_of};
+ghost use Rattle.plc_oblig.specs.Programs.{ProgramFits, set_of};
 ghost use Rattle.plc_oblig.specs.Drafting.{CanDraft};
-ghost use Rattle.plc_oblig.specs.GroundSets.{drafted, ground_set};
+ghost use Rattle.plc_oblig.specs.GroundSets.{constant_terms, node_terms, sorts_of, drafted, ground_set};
 
 use crate::annotated::{Annotated, annotate};
 use plc_base::{Items, NoMemory};
@@ -24,7 +22,7 @@ use std::alloc::Global;
 
 /// Lists constants.
 fn list_constants(symbols: &[Symbol], out: &mut Draft) -> Result<(), NoMemory>
-    ensures { OnOk result (out.new ≡ listed_all out.old (map Constant symbols.now)) }
+    ensures { OnOk result (out.new ≡ listed_all out.old (constant_terms symbols.now)) }
 {
     for symbol in symbols {
         out.note(SymbolicTerm::Constant(*symbol))?;
@@ -34,7 +32,7 @@ fn list_constants(symbols: &[Symbol], out: &mut Draft) -> Result<(), NoMemory>
 
 /// Lists nodes.
 fn list_nodes(nodes: &[NodeTerm], out: &mut Draft) -> Result<(), NoMemory>
-    ensures { OnOk result (out.new ≡ listed_all out.old (map term_of nodes.now)) }
+    ensures { OnOk result (out.new ≡ listed_all out.old (node_terms nodes.now)) }
 {
     for node in nodes {
         out.note(term_of(*node))?;
@@ -46,7 +44,7 @@ fn list_nodes(nodes: &[NodeTerm], out: &mut Draft) -> Result<(), NoMemory>
 fn sort_at(flow: &Flow, o: &Obligation, acts: &[Act], draft: &Draft, k: usize) -> Sort
     requires file { FileFits flow.now.file }
     requires listed { k < length draft.now.terms }
-    ensures { slice_get (map (sort_of flow.now o.now acts.now) draft.now.terms) k ≡ Some result }
+    ensures { slice_get (sorts_of flow.now o.now acts.now draft.now.terms) k ≡ Some result }
 {
     match draft.term(k) {
         None => unreachable!(),
@@ -63,7 +61,7 @@ fn sorts_of(
     draft: &Draft,
 ) -> Result<Items<Sort>, NoMemory>
     requires { FileFits flow.now.file }
-    ensures { IfOk result (λ sorts. sorts ≡ map (sort_of flow.now o.now acts.now) draft.now.terms) }
+    ensures { IfOk result (λ sorts. sorts ≡ sorts_of flow.now o.now acts.now draft.now.terms) }
 {
     let mut sorts = Vec::with_capacity(alloc, draft.len())?;
     for k in 0..draft.len() {
@@ -116,7 +114,8 @@ fn assemble(
 /// Memory for ground sets that are made one after another.
 #[derive(Drop)]
 pub struct Grounding {
-    pub(crate) alloc: Global,
+    /// Where the memory comes from, for what is made beside the sets too.
+    pub alloc: Global,
     draft: Draft,
 }
 
@@ -131,9 +130,9 @@ impl Grounding {
 
     /// The ground set of an obligation, as [`ground`] makes it.
     pub fn ground(&mut self, program: &Annotated<'_>, o: &Obligation) -> Result<GroundSet, NoMemory>
-        requires fits { Fits program.now.flow.now program.now.outline.now }
+        requires fits { ProgramFits program.now }
         ensures well { IfOk result (λ set. IsWellFormed set) }
-        ensures set { IfOk result (λ set. set ≡ ground_set program.now.flow.now program.now.outline.now o.now) }
+        ensures set { IfOk result (λ set. set ≡ set_of program.now o.now) }
     {
         let flow = program.flow;
         let outline = program.outline;

@@ -3,7 +3,7 @@
 ghost use Rattle.std.specs.Prelude.{◌≡◌, ◌≤◌, ◌+◌, ◌*◌, cond, List, length, count_by, sum_by, All};
 ghost use Rattle.plc_base.specs.Limits.{most, most_bound};
 ghost use Rattle.plc_base.specs.declared.limits.What1.TheVariants as limits;
-ghost use Rattle.plc_lang.specs.Locals.{is_pointer, is_other_data};
+ghost use Rattle.plc_lang.specs.Locals.{is_other_data};
 ghost use Rattle.plc_lang.specs.Fields.{is_pointer_field};
 ghost use Rattle.plc_lang.specs.Fit.{FileFits};
 ghost use Rattle.plc_flow.specs.WellFormed.{most_step_primitives};
@@ -15,9 +15,10 @@ ghost use Rattle.plc_setting.specs.declared.setting.Setting.{Setting};
 ghost use Rattle.plc_symbolic.specs.declared.symbolic.NodeTerm.{NodeTerm};
 ghost use Rattle.plc_items.specs.declared.execution.Execution.{Execution};
 ghost use Rattle.plc_items.specs.Items.{values_from, mark_values, beginning, freshness, denied};
+ghost use Rattle.plc_oblig.specs.Programs.{ProgramFits, set_of};
 ghost use Rattle.plc_oblig.specs.GroundSets.{ground_set};
 ghost use Rattle.plc_oblig.specs.Size.{has_values, is_pointer_load, if_marked, store_size, test_size, call_size};
-ghost use Rattle.plc_oblig.specs.Size.{prim_size, clause_size};
+ghost use Rattle.plc_oblig.specs.Size.{pointer_count, prim_size, clause_size};
 ghost use Rattle.plc_oblig.specs.Size.{AreSizesOf, AreFew, most_constants, most_pointers, most_deep_nodes, most_nodes};
 ghost use Rattle.plc_oblig.specs.Size.{most_of_primitive, most_instances};
 
@@ -55,7 +56,7 @@ pub struct Sizes {
 
 /// How many locals are pointers.
 fn count_pointers(locals: &[Local]) -> u64
-    ensures { result ≡ count_by is_pointer locals.now }
+    ensures { result ≡ pointer_count locals.now }
 {
     locals.iter().filter(|l| l.pointer).count() as u64
 }
@@ -177,7 +178,7 @@ fn one_if(made: bool) -> u64
 /// How many pointer locals the acting thread has.
 fn count_mine(flow: &Flow, o: &Obligation) -> u64
     requires { FileFits flow.now.file }
-    ensures count { result ≡ count_by is_pointer (acting_locals flow.now o.now) }
+    ensures count { result ≡ pointer_count (acting_locals flow.now o.now) }
     ensures few { result ≤ most limits.Locals }
 {
     count_pointers(acting_locals(flow, o))
@@ -186,7 +187,7 @@ fn count_mine(flow: &Flow, o: &Obligation) -> u64
 /// How many pointer locals the thread has whose clause is looked at, where that is another.
 fn count_theirs(flow: &Flow, o: &Obligation) -> u64
     requires { FileFits flow.now.file }
-    ensures count { result ≡ count_by is_pointer (owner_locals flow.now o.now) }
+    ensures count { result ≡ pointer_count (owner_locals flow.now o.now) }
     ensures few { result ≤ most limits.Locals }
 {
     count_pointers(owner_locals(flow, o))
@@ -221,7 +222,7 @@ fn count_bound(flow: &Flow, outline: &Outline, o: &Obligation) -> u64
 
 /// The counts on which the number of clauses depends.
 fn sizes_of(program: &Annotated<'_>, o: &Obligation) -> Sizes
-    requires fits { Fits program.now.flow.now program.now.outline.now }
+    requires fits { ProgramFits program.now }
     ensures sizes { AreSizesOf (setting_of program.now.flow.now program.now.outline.now o.now) result }
     ensures few { AreFew result }
 {
@@ -401,8 +402,8 @@ pub(crate) fn denied_size(flow: &Flow, outline: &Outline, o: &Obligation) -> u64
 
 /// How many clauses the ground set of an obligation has, where it is known whether marks are used.
 pub(crate) fn clauses_where(program: &Annotated<'_>, o: &Obligation) -> u64
-    requires fits { Fits program.now.flow.now program.now.outline.now }
-    ensures { result ≡ length (ground_set program.now.flow.now program.now.outline.now o.now).clauses }
+    requires fits { ProgramFits program.now }
+    ensures { result ≡ length (set_of program.now o.now).clauses }
 {
     let flow = program.flow;
     let outline = program.outline;

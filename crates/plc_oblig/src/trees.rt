@@ -1,27 +1,24 @@
 // The tree of an obligation, where it is still.
 ghost use Rattle.std.specs.Prelude.{◌≡◌, true, is_some, IfOk, IfSome, Contains};
-ghost use Rattle.plc_setting.specs.Fit.{Fits};
-ghost use Rattle.plc_oblig.specs.Obligations.{obligations};
+ghost use Rattle.plc_oblig.specs.Programs.{ProgramFits, obligations_of};
 ghost use Rattle.plc_oblig.specs.Still.{is_still};
 ghost use Rattle.plc_oblig.specs.Direct.{IsDirectTree};
 
-use crate::annotated::{Annotated, annotate};
+use crate::annotated::Annotated;
 use crate::grounding::Grounding;
 use crate::refuted::{find_refuted, tree_of};
 use crate::size::denied_size;
 use crate::stillness::still;
 use plc_base::NoMemory;
-use plc_flow::Flow;
 use plc_ground::Tree;
-use plc_logic::Outline;
 use plc_setting::Obligation;
 use std::alloc::Global;
 
 impl Grounding {
     /// The tree of a still obligation.
     fn tree_of_still(&mut self, program: &Annotated<'_>, o: &Obligation) -> Result<Tree, NoMemory>
-        requires fits { Fits program.now.flow.now program.now.outline.now }
-        requires there { Contains (obligations program.now.flow.now program.now.outline.now) o.now }
+        requires fits { ProgramFits program.now }
+        requires there { Contains (obligations_of program.now) o.now }
         requires still { is_still program.now.flow.now program.now.outline.now o.now ≡ true }
         ensures { IfOk result (λ tree. IsDirectTree program.now.flow.now program.now.outline.now o.now tree.nodes) }
     {
@@ -43,8 +40,8 @@ impl Grounding {
         program: &Annotated<'_>,
         o: &Obligation,
     ) -> Result<Option<Tree>, NoMemory>
-        requires there { Contains (obligations program.now.flow.now program.now.outline.now) o.now }
-        requires fits { Fits program.now.flow.now program.now.outline.now }
+        requires there { Contains (obligations_of program.now) o.now }
+        requires fits { ProgramFits program.now }
         ensures still { IfOk result (λ tree. is_some tree
             ≡ is_still program.now.flow.now program.now.outline.now o.now) }
         ensures tree { IfOk result (λ tree. IfSome tree
@@ -65,14 +62,14 @@ impl Grounding {
 /// 2^32 terms or clauses count as.
 pub fn direct(
     alloc: Global,
-    flow: &Flow,
-    outline: &Outline,
+    program: &Annotated<'_>,
     o: &Obligation,
 ) -> Result<Option<Tree>, NoMemory>
-    requires fits { Fits flow.now outline.now }
-    requires there { Contains (obligations flow.now outline.now) o.now }
-    ensures still { IfOk result (λ tree. is_some tree ≡ is_still flow.now outline.now o.now) }
-    ensures tree { IfOk result (λ tree. IfSome tree (λ t. IsDirectTree flow.now outline.now o.now t.nodes)) }
+    requires fits { ProgramFits program.now }
+    requires there { Contains (obligations_of program.now) o.now }
+    ensures still { IfOk result (λ tree. is_some tree ≡ is_still program.now.flow.now program.now.outline.now o.now) }
+    ensures tree { IfOk result (λ tree. IfSome tree
+        (λ t. IsDirectTree program.now.flow.now program.now.outline.now o.now t.nodes)) }
 {
-    Grounding::new(alloc).direct(&annotate(flow, outline), o)
+    Grounding::new(alloc).direct(program, o)
 }

@@ -1,5 +1,5 @@
 -- Parameters and locals are read in one way: each form declares a local, so one invariant and one turn serve both loops.
-use Rattle.std.proofs.Common.{◌≡◌, ◌+◌, ℕ, ◌<◌, List, length, Option, Some, Result, Ok, sym, ◌∙◌}
+use Rattle.std.proofs.Common.{◌≡◌, ◌+◌, ℕ, ◌<◌, List, length, Option, Some, None, Result, Ok, sym, ◌∙◌}
 use Rattle.plc_lex.specs.declared.token.TokenKind.{TokenKind}
 use Rattle.plc_syntax.specs.Syntax.{kinds}
 use Rattle.plc_forms.specs.declared.rest.Rest.{Rest}
@@ -8,7 +8,9 @@ use Rattle.plc_scope.specs.declared.fault.ParseFault.{ParseFault}
 use Rattle.plc_scope.specs.declared.scope.Scope.{Scope}
 use Rattle.plc_scope.specs.Answers.{GrowsByLocals, Within}
 use Rattle.plc_scope.specs.Read.{ReadTo}
+use Rattle.plc_parse.specs.Growth.{ReadsLocals}
 use Rattle.plc_parse.specs.Reading.{each}
+use Rattle.plc_parse.proofs.Loop.{each_ends}
 use Rattle.plc_parse.proofs.Stops.{each_turns}
 use Rattle.plc_parse.proofs.Growth.{locals_then, within_then}
 
@@ -30,4 +32,12 @@ module _ {X : Type 0} (item : List TokenKind → Option (X × List TokenKind)) (
     labels = labels ∙ h.labels;
     place = within_then _ _ _ size h.place b;
     read = rw b.at (sym (each_turns item step shrinks (now, rest.at) (later, rest.at + size) (kinds rest.tokens.now) (form, kinds after.tokens.now) is turns) ∙ h.read);
+  }
+
+  -- where no further form stands, all were read
+  pub locals_end : (old now : Scope) (start rest : Rest) → LocalsRead (each item step) old start now rest → item (kinds rest.tokens.now) ≡ None
+      → ReadsLocals (λ s at ts. each item step (s, at) ts) old now start (Ok rest)
+  locals_end old now start rest h none = record {
+    read = sym h.read ∙ each_ends item step shrinks _ _ none;
+    declares = record { declares = record { names = h.names; labels = h.labels }; place = h.place };
   }

@@ -2,14 +2,12 @@
 // closing one. Each statement takes a token, so fewer statements stand after and within one another
 // than there are tokens: `most` is that number, which ends the recursion. Blocks are nested 64 deep at
 // most, since the syntax was judged before.
-ghost use Rattle.std.specs.Prelude.{IfOk, length};
+ghost use Rattle.std.specs.Prelude.{length};
 ghost use Rattle.plc_lang.specs.Views.{statement_of, blocks_of};
-ghost use Rattle.plc_scope.specs.Answers.{Gives};
-ghost use Rattle.plc_parse.specs.Growth.{ReadsBlock, CanReadBlock};
+ghost use Rattle.plc_parse.specs.Growth.{CanReadBlock};
 ghost use Rattle.plc_parse.specs.Reading.{loop_in, else_in, branches_in, if_in, blocks_in};
 ghost use Rattle.plc_parse.specs.Reading.{choose_in, statement_in};
-ghost use Rattle.plc_outparse.specs.Views.{kinds_left};
-ghost use Rattle.plc_parse.specs.Views.{read_in, blocks_within, here};
+ghost use Rattle.plc_parse.specs.Views.{ReadsHere};
 
 use crate::lines::line_at;
 use crate::statement::read_flat;
@@ -36,9 +34,8 @@ pub struct Context<'a> {
 #[tactic(auto, unfolding(crate::specs::Reading::loop_in))]
 fn read_loop<'a>(context: Context, scope: &mut Scope, start: Rest<'a>) -> Parsed<'a, Stmt>
     requires { CanReadBlock (length context.tokens.now) scope.old start }
-    ensures read { Gives (λ r. read_in (statement_of r.0) scope.new r.1) result
-        (loop_in (blocks_within context.entry) scope.old start.entry.at (kinds_left start.entry)) }
-    ensures labels { IfOk result (λ r. ReadsBlock (length context.entry.tokens.now) scope.old scope.new r.1) }
+    ensures { ReadsHere statement_of (λ block _ s _. loop_in block s) context.entry scope.old scope.new start.entry
+        result }
 {
     let body = Context {
         in_loop: true,
@@ -53,10 +50,7 @@ fn read_loop<'a>(context: Context, scope: &mut Scope, start: Rest<'a>) -> Parsed
 #[tactic(auto, unfolding(crate::specs::Reading::else_in))]
 fn read_else<'a>(context: Context, scope: &mut Scope, start: Rest<'a>) -> Parsed<'a, Block>
     requires { CanReadBlock (length context.tokens.now) scope.old start }
-    ensures read { Gives (λ r. read_in r.0 scope.new r.1) result
-        (else_in (blocks_within context.entry) scope.old context.entry.in_loop start.entry.at
-        (kinds_left start.entry)) }
-    ensures labels { IfOk result (λ r. ReadsBlock (length context.entry.tokens.now) scope.old scope.new r.1) }
+    ensures { ReadsHere (λ b. b) (λ block _. else_in block) context.entry scope.old scope.new start.entry result }
 {
     match word_symbol_at(start, Keyword::Else, Symbol::OpenBrace) {
         Some(after) => read_block(context, scope, after),
@@ -71,16 +65,14 @@ fn read_branches<'a>(
     context: Context,
     scope: &mut Scope,
     start: Rest<'a>,
-) -> Result<(Block, Block, Rest<'a>), ParseFault>
+) -> Parsed<'a, (Block, Block)>
     requires { CanReadBlock (length context.tokens.now) scope.old start }
-    ensures read { Gives (λ r. read_in (r.0, r.1) scope.new r.2) result
-        (branches_in (blocks_within context.entry) scope.old context.entry.in_loop start.entry.at
-        (kinds_left start.entry)) }
-    ensures labels { IfOk result (λ r. ReadsBlock (length context.entry.tokens.now) scope.old scope.new r.2) }
+    ensures { ReadsHere (λ both. both) (λ block _. branches_in block) context.entry scope.old scope.new start.entry
+        result }
 {
     let (yes, rest) = read_block(context, scope, start)?;
     let (no, rest) = read_else(context, scope, rest)?;
-    Ok((yes, no, rest))
+    Ok(((yes, no), rest))
 }
 
 /// An `if`, from after its parenthesis.
@@ -88,9 +80,7 @@ fn read_branches<'a>(
 #[tactic(auto, unfolding(crate::specs::Reading::if_in))]
 fn read_if<'a>(context: Context, scope: &mut Scope, start: Rest<'a>) -> Parsed<'a, Stmt>
     requires { CanReadBlock (length context.tokens.now) scope.old start }
-    ensures read { Gives (λ r. read_in (statement_of r.0) scope.new r.1) result
-        (if_in (blocks_within context.entry) scope.old context.entry.in_loop start.entry.at (kinds_left start.entry)) }
-    ensures labels { IfOk result (λ r. ReadsBlock (length context.entry.tokens.now) scope.old scope.new r.1) }
+    ensures { ReadsHere statement_of (λ block _. if_in block) context.entry scope.old scope.new start.entry result }
 {
     let Some((form, rest)) = condition_at(start) else {
         return Err(ParseFault::Syntax { at: start.at });
@@ -99,7 +89,7 @@ fn read_if<'a>(context: Context, scope: &mut Scope, start: Rest<'a>) -> Parsed<'
     let Some(rest) = opening_at(rest) else {
         return Err(ParseFault::Syntax { at: rest.at });
     };
-    let (yes, no, rest) = read_branches(context, scope, rest)?;
+    let ((yes, no), rest) = read_branches(context, scope, rest)?;
     Ok((Stmt::If { cond, yes, no }, rest))
 }
 
@@ -113,10 +103,8 @@ fn read_blocks<'a>(
     start: Rest<'a>,
 ) -> Parsed<'a, Vec<Block>>
     requires { CanReadBlock (length context.tokens.now) scope.old start }
-    ensures read { Gives (λ r. read_in (blocks_of r.0.items) scope.new r.1) result
-        (blocks_in (blocks_within context.entry) context.entry.most first scope.old context.entry.in_loop start.entry.at
-        (kinds_left start.entry)) }
-    ensures labels { IfOk result (λ r. ReadsBlock (length context.entry.tokens.now) scope.old scope.new r.1) }
+    ensures { ReadsHere (λ bs. blocks_of bs.items) (λ block n. blocks_in block n first) context.entry scope.old
+        scope.new start.entry result }
 {
     let mut choices = Vec::new(context.alloc);
     choices.push(first)?;
@@ -137,9 +125,7 @@ fn read_blocks<'a>(
 #[tactic(auto, unfolding(crate::specs::Reading::choose_in))]
 fn read_choose<'a>(context: Context, scope: &mut Scope, start: Rest<'a>) -> Parsed<'a, Stmt>
     requires { CanReadBlock (length context.tokens.now) scope.old start }
-    ensures read { Gives (λ r. read_in (statement_of r.0) scope.new r.1) result
-        (here choose_in context.entry scope.old start.entry) }
-    ensures labels { IfOk result (λ r. ReadsBlock (length context.entry.tokens.now) scope.old scope.new r.1) }
+    ensures { ReadsHere statement_of choose_in context.entry scope.old scope.new start.entry result }
 {
     let (first, rest) = read_block(context, scope, start)?;
     let (blocks, rest) = read_blocks(context, scope, first, rest)?;
@@ -151,9 +137,7 @@ fn read_choose<'a>(context: Context, scope: &mut Scope, start: Rest<'a>) -> Pars
 #[tactic(auto, unfolding(crate::specs::Reading::statement_in))]
 fn read_statement<'a>(context: Context, scope: &mut Scope, start: Rest<'a>) -> Parsed<'a, Stmt>
     requires { CanReadBlock (length context.tokens.now) scope.old start }
-    ensures read { Gives (λ r. read_in (statement_of r.0) scope.new r.1) result
-        (here statement_in context.entry scope.old start.entry) }
-    ensures labels { IfOk result (λ r. ReadsBlock (length context.entry.tokens.now) scope.old scope.new r.1) }
+    ensures { ReadsHere statement_of statement_in context.entry scope.old scope.new start.entry result }
 {
     if let Some(after) = word_symbol_at(start, Keyword::Loop, Symbol::OpenBrace) {
         return read_loop(context, scope, after);
@@ -172,9 +156,7 @@ fn read_statement<'a>(context: Context, scope: &mut Scope, start: Rest<'a>) -> P
 #[cycle(block)]
 pub fn read_block<'a>(context: Context, scope: &mut Scope, start: Rest<'a>) -> Parsed<'a, Block>
     requires { CanReadBlock (length context.tokens.now) scope.old start }
-    ensures read { Gives (λ r. read_in r.0 scope.new r.1) result
-        (blocks_within context.entry scope.old context.entry.in_loop start.entry.at (kinds_left start.entry)) }
-    ensures labels { IfOk result (λ r. ReadsBlock (length context.entry.tokens.now) scope.old scope.new r.1) }
+    ensures { ReadsHere (λ b. b) (λ block _. block) context.entry scope.old scope.new start.entry result }
 {
     let mut lines = Vec::new(context.alloc);
     let mut rest = start;

@@ -27,7 +27,7 @@ use crate::auxiliary::read_ghosts;
 use crate::declaration::{Fields, Functions, SharedPointers, declare};
 use crate::lists::read_listed;
 use crate::operation::read_ops;
-use crate::step::read_initials;
+use crate::step::{InitialForms, read_forms};
 use crate::unit::Unit;
 use plc_auto::Observer;
 use plc_base::{Items, What1};
@@ -133,7 +133,7 @@ fn read_watch<'a>(scope: &Scope, start: Rest<'a>) -> Parsed<'a, Observer>
 }
 
 /// The primitives of `init`, which may be left out.
-#[tactic(auto, unfolding(crate::specs::Reading::init_in))]
+#[tactic(auto, using(plc_forms::proofs::Shrinks::initial_line_shrinks), unfolding(crate::specs::Reading::init_in, crate::specs::Reading::initials_in))]
 fn read_init<'a>(alloc: Global, scope: &Scope, start: Rest<'a>) -> Parsed<'a, Items<Prim>>
     requires { length scope.now.locals ≤ most_locals }
     ensures read { Gives (λ r. read_with r.0 r.1) result
@@ -141,7 +141,7 @@ fn read_init<'a>(alloc: Global, scope: &Scope, start: Rest<'a>) -> Parsed<'a, It
     ensures place { IfOk result (λ r. Within start.entry r.1) }
 {
     match init_at(start) {
-        Some(after) => read_initials(alloc, scope, after),
+        Some(after) => read_forms::<InitialForms>(alloc, scope, after),
         None => Ok((Items::new(alloc), start)),
     }
 }

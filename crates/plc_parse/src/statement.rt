@@ -11,7 +11,7 @@ ghost use Rattle.plc_parse.specs.Reading.{break_in, label_in, atomic_in, called_
 ghost use Rattle.plc_outparse.specs.Views.{kinds_left};
 ghost use Rattle.plc_parse.specs.Views.{read_in};
 
-use crate::step::read_primitives;
+use crate::step::{AtomicForms, read_forms};
 use plc_base::What1;
 use plc_forms::{
     Call, Primitive, Rest, call_at, during_at, label_at, primitive_line_at, semicolon_at,
@@ -86,6 +86,7 @@ fn read_break<'a>(in_loop: bool, at: u32, start: Rest<'a>) -> Parsed<'a, Stmt>
 }
 
 /// An atomic block, from after its brace.
+#[tactic(auto, using(plc_forms::proofs::Shrinks::primitive_line_shrinks), unfolding(crate::specs::Reading::primitives_in))]
 fn read_atomic<'a>(alloc: Global, scope: &Scope, at: u32, start: Rest<'a>) -> Parsed<'a, Stmt>
     requires locals { length scope.now.locals ≤ most_locals }
     requires word { start.at ≡ at + 2 }
@@ -93,7 +94,7 @@ fn read_atomic<'a>(alloc: Global, scope: &Scope, at: u32, start: Rest<'a>) -> Pa
         (atomic_in scope.now at (kinds_left start.entry)) }
     ensures place { IfOk result (λ r. Within start.entry r.1) }
 {
-    let (primitives, rest) = read_primitives(alloc, scope, start)?;
+    let (primitives, rest) = read_forms::<AtomicForms>(alloc, scope, start)?;
     Ok((Stmt::Atomic(primitives), rest))
 }
 

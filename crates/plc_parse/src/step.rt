@@ -10,7 +10,7 @@ ghost use Rattle.plc_scope.specs.Answers.{Gives, Within};
 ghost use Rattle.plc_scope.specs.Scope.{most_locals};
 ghost use Rattle.plc_scope.specs.Limits.{stands_at};
 ghost use Rattle.plc_parse.specs.Kinds.{atomic_forms, initial_forms};
-ghost use Rattle.plc_parse.specs.Reading.{with_form, TakesTokens, forms_in, primitives_in, initials_in};
+ghost use Rattle.plc_parse.specs.Reading.{with_form, TakesTokens, forms_in};
 ghost use Rattle.plc_outparse.specs.Views.{read_with, kinds_left};
 
 use plc_base::{Items, What1};
@@ -91,10 +91,10 @@ impl Step {
 }
 
 /// What a form means, and what is after it; none where no form stands.
-type FormAt<'a> = Option<(Result<Option<Prim>, ParseFault>, Rest<'a>)>;
+pub type FormAt<'a> = Option<(Result<Option<Prim>, ParseFault>, Rest<'a>)>;
 
 /// The forms that a step is made of, each with its semicolon.
-trait StepForms {
+pub trait StepForms {
     ghost use Rattle.std.specs.Prelude.{◌≡◌, ◌≤◌, None, MatchOption, length};
     ghost use Rattle.plc_syntax.specs.Syntax.{kinds};
     ghost use Rattle.plc_scope.specs.Scope.{most_locals};
@@ -111,10 +111,10 @@ trait StepForms {
 }
 
 /// The forms of an atomic block.
-struct AtomicForms;
+pub struct AtomicForms;
 
 /// The forms of `init`.
-struct InitialForms;
+pub struct InitialForms;
 
 impl StepForms for AtomicForms {
     ghost kind = { atomic_forms };
@@ -134,8 +134,8 @@ impl StepForms for InitialForms {
     }
 }
 
-/// Forms while there is one, and the closing brace.
-fn read_forms<'a, F: StepForms>(
+/// The primitives of a step, from after its brace: forms while there is one, and the closing brace.
+pub fn read_forms<'a, F: StepForms>(
     alloc: Global,
     scope: &Scope,
     start: Rest<'a>,
@@ -156,26 +156,4 @@ fn read_forms<'a, F: StepForms>(
         Some(after) => Ok((step.primitives, after)),
         None => Err(ParseFault::Syntax { at: rest.at }),
     }
-}
-
-/// The primitives of an atomic block, from after its brace, and its closing brace.
-#[tactic(auto, using(plc_forms::proofs::Shrinks::primitive_line_shrinks), unfolding(crate::specs::Reading::primitives_in))]
-pub fn read_primitives<'a>(alloc: Global, scope: &Scope, start: Rest<'a>) -> Parsed<'a, Items<Prim>>
-    requires { length scope.now.locals ≤ most_locals }
-    ensures read { Gives (λ r. read_with r.0 r.1) result
-        (primitives_in scope.now start.entry.at (kinds_left start.entry)) }
-    ensures place { IfOk result (λ r. Within start.entry r.1) }
-{
-    read_forms::<AtomicForms>(alloc, scope, start)
-}
-
-/// The primitives of `init`, from after its brace, and its closing brace.
-#[tactic(auto, using(plc_forms::proofs::Shrinks::initial_line_shrinks), unfolding(crate::specs::Reading::initials_in))]
-pub fn read_initials<'a>(alloc: Global, scope: &Scope, start: Rest<'a>) -> Parsed<'a, Items<Prim>>
-    requires { length scope.now.locals ≤ most_locals }
-    ensures read { Gives (λ r. read_with r.0 r.1) result
-        (initials_in scope.now start.entry.at (kinds_left start.entry)) }
-    ensures place { IfOk result (λ r. Within start.entry r.1) }
-{
-    read_forms::<InitialForms>(alloc, scope, start)
 }

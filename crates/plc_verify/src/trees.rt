@@ -1,14 +1,13 @@
 // Whether trees close the ground sets of the obligations, one for each in order. The obligations are walked over
 // and one ground set is made at a time, so that no list of either is held. Obligations that are alike have one set, and
 // mostly one tree too: then the tree is tried once.
-ghost use Rattle.std.specs.Prelude.{◌≡◌, ◌<◌, [], IsTrue, IfOk, OnOk, MatchResult, length};
-ghost use Rattle.plc_ground.specs.Trees.{Closes, IsVerdict};
+ghost use Rattle.std.specs.Prelude.{◌≡◌, ◌<◌, IsTrue, IfOk, OnOk, MatchResult, length};
 ghost use Rattle.plc_setting.specs.Fit.{Fits};
-ghost use Rattle.plc_oblig.specs.Obligations.{obligations};
-ghost use Rattle.plc_oblig.specs.GroundSets.{ground_set};
+ghost use Rattle.plc_oblig.specs.Programs.{ProgramFits, obligations_of};
 ghost use Rattle.plc_verify.specs.Trees.{TreesClose};
 ghost use Rattle.plc_verify.specs.Tests.{MayNotClose};
-ghost use Rattle.plc_verify.specs.Evidence.{IsComplete, TriedClose, IsVerdictOf, Proves, MayNotProve};
+ghost use Rattle.plc_verify.specs.Evidence.{ClosesSetOf, IsVerdictOn, IsVerdictOf};
+ghost use Rattle.plc_verify.specs.Evidence.{IsComplete, TriedClose, Proves, MayNotProve};
 
 use crate::fault::VerifyFault;
 use plc_base::NoMemory;
@@ -35,8 +34,7 @@ fn are_same(a: &[Node], b: &[Node]) -> bool
 /// Whether this tree was found to close the set of an obligation that is alike.
 fn is_tried(evidence: &Evidence, tried: &Noted, o: &Obligation, tree: &Tree) -> bool
     requires { TriedClose evidence.now tried.now }
-    ensures { IsTrue result
-        → Closes (ground_set evidence.now.program.flow.now evidence.now.program.outline.now o.now) tree.now.nodes }
+    ensures { IsTrue result → ClosesSetOf evidence.now o.now tree.now.nodes }
 {
     let Some(at) = tried.find(evidence.program.flow, evidence.program.outline, o) else {
         return false;
@@ -49,18 +47,16 @@ fn is_tried(evidence: &Evidence, tried: &Noted, o: &Obligation, tree: &Tree) -> 
 
 /// None where the tree closes the ground set of the obligation, else its first bad node.
 fn first_bad_node(
-    alloc: Global,
     memory: &mut Grounding,
-    program: &Annotated<'_>,
+    evidence: &Evidence,
     o: &Obligation,
     tree: &Tree,
 ) -> Result<Option<u64>, NoMemory>
-    requires { Fits program.now.flow.now program.now.outline.now }
-    ensures { IfOk result (λ bad.
-        IsVerdict (ground_set program.now.flow.now program.now.outline.now o.now) [] tree.now.nodes bad) }
+    requires { ProgramFits evidence.now.program }
+    ensures { IfOk result (IsVerdictOn evidence.now o.now tree.now.nodes) }
 {
-    let set = memory.ground(program, o)?;
-    let bad = closes(alloc, &set, tree)?;
+    let set = memory.ground(&evidence.program, o)?;
+    let bad = closes(memory.alloc, &set, tree)?;
     memory.reuse(set);
     Ok(bad)
 }
@@ -68,14 +64,13 @@ fn first_bad_node(
 /// None where the tree with this number closes the ground set of the obligation, which is then noted; else the
 /// tree's first bad node.
 fn try_tree(
-    alloc: Global,
     memory: &mut Grounding,
     tried: &mut Noted,
     evidence: &Evidence,
     o: &Obligation,
     at: usize,
 ) -> Result<Option<u64>, NoMemory>
-    requires fits { Fits evidence.now.program.flow.now evidence.now.program.outline.now }
+    requires fits { ProgramFits evidence.now.program }
     requires there { at < length evidence.now.trees.now }
     requires tried { TriedClose evidence.now tried.old }
     ensures bad { IfOk result (IsVerdictOf evidence.now at o.now) }
@@ -85,7 +80,7 @@ fn try_tree(
     if is_tried(evidence, tried, o, tree) {
         return Ok(None);
     }
-    let bad = first_bad_node(alloc, memory, &evidence.program, o, tree)?;
+    let bad = first_bad_node(memory, evidence, o, tree)?;
     if bad.is_none() {
         tried.note(o, at)?;
     }
@@ -94,7 +89,6 @@ fn try_tree(
 
 /// Tries each tree in order, over the walk from the first obligation on.
 fn try_each(
-    alloc: Global,
     memory: &mut Grounding,
     tried: &mut Noted,
     walk: &mut Walk,
@@ -102,14 +96,14 @@ fn try_each(
 ) -> Result<(), VerifyFault>
     requires complete { IsComplete evidence.now }
     requires tried { TriedClose evidence.now tried.old }
-    requires first { walk.old ≡ obligations evidence.now.program.flow.now evidence.now.program.outline.now }
+    requires first { walk.old ≡ obligations_of evidence.now.program }
     ensures { MatchResult result (λ _. Proves evidence.now) (λ fault. MayNotProve evidence.now fault) }
 {
     for i in 0..evidence.trees.len() {
         let Some(o) = walk.next() else {
             unreachable!();
         };
-        let bad = try_tree(alloc, memory, tried, evidence, &o, i)?;
+        let bad = try_tree(memory, tried, evidence, &o, i)?;
         if let Some(node) = bad {
             return Err(VerifyFault::TreeAt {
                 obligation: i as u64,
@@ -128,7 +122,7 @@ fn try_trees(alloc: Global, evidence: &Evidence) -> Result<(), VerifyFault>
     let mut walk = Walk::new(alloc, evidence.program.flow, evidence.program.outline)?;
     let mut memory = Grounding::new(alloc);
     let mut tried = Noted::new(alloc);
-    try_each(alloc, &mut memory, &mut tried, &mut walk, evidence)
+    try_each(&mut memory, &mut tried, &mut walk, evidence)
 }
 
 /// Ok exactly where there is one tree for each obligation, which closes its ground set.

@@ -12,6 +12,7 @@ use plc_run::{Config, Moved};
 use plc_testing::{loaded, put, text_is};
 use plc_threads::{Move, Place};
 use std::alloc::{AllocError, Global};
+use std::process::Abort;
 
 pub(crate) fn number(word: &str) -> u32 {
     word.parse::<u32>().unwrap_or(9999)
@@ -293,13 +294,16 @@ why step 0 0 => Blocked { prim: 1 }
 places => Top=0 p=0 
 ";
 
-// Moves from the beginning to the free of a node that two threads have taken, of which one has retired it.
-const FREED: &str = "start 0 0 7 => Done
+// Moves from the beginning by which a thread puts a node.
+const PUT: &str = "start 0 0 7 => Done
 step 0 0 1 => Done
 step 0 0 => Done
 step 0 0 => Done
 return 0 => Done
-start 0 1 => Done
+";
+
+// Moves after those to the free of the node, which two threads have taken and of which one has retired it.
+const FREED: &str = "start 0 1 => Done
 start 1 1 => Done
 step 0 0 => Done
 step 1 0 => Done
@@ -320,13 +324,8 @@ why step 0 0 => Ended
 why free 0 => Ended
 ";
 
-// Moves from the beginning to the call by which a reader protects the node of `Top`.
-const PROTECT: &str = "start 0 0 7 => Done
-step 0 0 1 => Done
-step 0 0 => Done
-step 0 0 => Done
-return 0 => Done
-start 1 2 => Done
+// Moves after the put to the call by which a reader protects the node of `Top`.
+const PROTECT: &str = "start 1 2 => Done
 step 1 0 => Done
 step 1 0 => Done, 1 calls 1 with 1
 ";
@@ -351,19 +350,32 @@ free 1 => Forbidden { a: 1 }
 places => Top=0 p=1 r=1 1.next=0 used 1 retired 1 
 ";
 
+// Fails a test where moves of the stack after two texts of other moves have other answers.
+fn rows_are_answered(
+    rt: &impl Abort,
+    alloc: Global,
+    before: [&str; 2],
+    rows: &str,
+) -> Result<(), NoMemory> {
+    let before = before.concat(alloc)?;
+    for row in rows.split("# ") {
+        text_is(rt, ran(alloc, STACK, before.as_str(), row), row)?;
+    }
+    Ok(())
+}
+
 #[test]
 fn moves_have_their_answers(rt: HostRuntime) -> Result<(), NoMemory> {
-    for (before, rows) in [
-        ("", MOVES),
-        ("", WHYS),
-        ("", FREED),
-        (FREED, RACED),
-        ("", PROTECT),
-        (PROTECT, PROTECTED),
+    for (first, second, rows) in [
+        ("", "", MOVES),
+        ("", "", WHYS),
+        ("", "", PUT),
+        (PUT, "", FREED),
+        (PUT, FREED, RACED),
+        (PUT, "", PROTECT),
+        (PUT, PROTECT, PROTECTED),
     ] {
-        for row in rows.split("# ") {
-            text_is(&rt, ran(rt.alloc(), STACK, before, row), row)?;
-        }
+        rows_are_answered(&rt, rt.alloc(), [first, second], rows)?;
     }
     Ok(())
 }

@@ -9,17 +9,20 @@ use Rattle.plc_parse.proofs.BlockLoop.{lines_before, block_out, block_end, block
 use Rattle.plc_parse.proofs.Growth.{labels_then, can_still_label}
 use Rattle.plc_parse.proofs.block.+block.Goals as goal
 
-pub read_block-returns-in-Some-clause-read : goal.read_block-returns-in-Some-clause-read
-read_block-returns-in-Some-clause-read t c =
+pub read_block-returns-in-Some : goal.read_block-returns-in-Some
+read_block-returns-in-Some t c =
     let more : c.args.context.most - c.loop-i.i ≡ suc (c.args.context.most - 1 - c.loop-i.i) = omega (arith, c.loop-i-test.true) in
-    block_end (lines_of c.args.context.tokens.now) c.args.context.in_loop (c.args.context.most - c.loop-i.i) (c.args.context.most - 1 - c.loop-i.i) c.loop-i.lines.items c.new.result c.loop-i.scope c.loop-i.rest.at c.in-Some.after.at _ (kinds c.in-Some.after.tokens.now) _ more c.in-Some.ensures.read
-    c.new.ensures c.in-Some.ensures.after.at c.loop-i.invariant.read
+    record {
+      read = block_end (lines_of c.args.context.tokens.now) c.args.context.in_loop (c.args.context.most - c.loop-i.i) (c.args.context.most - 1 - c.loop-i.i) c.loop-i.lines.items c.new.result c.loop-i.scope c.loop-i.rest.at c.in-Some.after.at _ (kinds c.in-Some.after.tokens.now) _ more c.in-Some.ensures.read
+          c.new.ensures c.in-Some.ensures.after.at c.loop-i.invariant.read;
+      labels = record { grows = c.loop-i.invariant.grows; place = record { end = omega (arith, c.in-Some.ensures.after.at, c.in-Some.ensures.after.tokens, c.loop-i.invariant.place.end) } };
+    }
 
-pub read_block-returns-in_err-stmt-clause-read : goal.read_block-returns-in_err-stmt-clause-read
-read_block-returns-in_err-stmt-clause-read t c =
+pub read_block-returns-in_err-stmt : goal.read_block-returns-in_err-stmt
+read_block-returns-in_err-stmt t c =
     let p = err_from_is_err_and c.from_residual.result c.from_residual.ensures.1 in
     let more : c.args.context.most - c.loop-i.i ≡ suc (c.args.context.most - 1 - c.loop-i.i) = omega (arith, c.loop-i-test.true) in
-    rw (p.1, p.2) (block_stop (lines_of c.args.context.tokens.now) c.args.context.in_loop _ (c.args.context.most - c.loop-i.i) (c.args.context.most - 1 - c.loop-i.i) c.loop-i.lines.items c.loop-i.scope c.loop-i.rest.at _ _ more c.in_default.ensures.read c.in_err-stmt.ensures.read c.loop-i.invariant.read)
+    rw (p.1, p.2) (record { labels = tt; read = block_stop (lines_of c.args.context.tokens.now) c.args.context.in_loop _ (c.args.context.most - c.loop-i.i) (c.args.context.most - 1 - c.loop-i.i) c.loop-i.lines.items c.loop-i.scope c.loop-i.rest.at _ _ more c.in_default.ensures.read c.in_err-stmt.ensures.read c.loop-i.invariant.read })
 
 pub read_block-loop-i-preserved : goal.read_block-loop-i-preserved
 read_block-loop-i-preserved t c =
@@ -37,23 +40,25 @@ read_block-loop-i-preserved t c =
           ∙ c.loop-i.invariant.read;
     }
 
-pub read_block-returns-clause-read : goal.read_block-returns-clause-read
-read_block-returns-clause-read t c =
+pub read_block-returns : goal.read_block-returns
+read_block-returns t c =
     let none : c.args.context.most - c.loop-i.i ≡ 0 = omega (arith, c.loop-i-test.false) in
-    block_out (lines_of c.args.context.tokens.now) c.args.context.in_loop (c.args.context.most - c.loop-i.i) c.loop-i.lines.items c.loop-i.scope c.loop-i.rest.at _ _ none c.loop-i.invariant.read
+    record { labels = tt; read = block_out (lines_of c.args.context.tokens.now) c.args.context.in_loop (c.args.context.most - c.loop-i.i) c.loop-i.lines.items c.loop-i.scope c.loop-i.rest.at _ _ none c.loop-i.invariant.read }
 
-pub read_blocks-returns-in_default-clause-read : goal.read_blocks-returns-in_default-clause-read
-read_blocks-returns-in_default-clause-read t c =
+pub read_blocks-returns-in_default : goal.read_blocks-returns-in_default
+read_blocks-returns-in_default t c =
     let more : c.args.context.most - c.loop.counter ≡ suc (c.args.context.most - (c.loop.counter + 1)) = omega (arith, c.loop-test.true) in
-    ors_end (block_in (lines_of c.args.context.tokens.now) c.args.context.most) c.args.context.in_loop (c.args.context.most - c.loop.counter) (c.args.context.most - (c.loop.counter + 1)) c.loop.choices.items c.loop.scope c.loop.rest.at _ _ more c.in_default.ensures.read c.loop.invariant.read
+    record { labels = record { grows = c.loop.invariant.grows; place = c.loop.invariant.place }; read = ors_end (block_in (lines_of c.args.context.tokens.now) c.args.context.most) c.args.context.in_loop (c.args.context.most - c.loop.counter) (c.args.context.most - (c.loop.counter + 1)) c.loop.choices.items c.loop.scope c.loop.rest.at _ _ more c.in_default.ensures.read c.loop.invariant.read }
 
-pub read_blocks-returns-in_err-block-clause-read :
-    goal.read_blocks-returns-in_err-block-clause-read
-read_blocks-returns-in_err-block-clause-read t c =
+pub read_blocks-returns-in_err-block : goal.read_blocks-returns-in_err-block
+read_blocks-returns-in_err-block t c =
     let p = err_from_is_err_and c.from_residual-in_err-block.result c.from_residual-in_err-block.ensures.1 in
     let more : c.args.context.most - c.loop.counter ≡ suc (c.args.context.most - (c.loop.counter + 1)) = omega (arith, c.loop-test.true) in
-    rw (p.1, p.2) (ors_stop (block_in (lines_of c.args.context.tokens.now) c.args.context.most) c.args.context.in_loop _ (c.args.context.most - c.loop.counter) (c.args.context.most - (c.loop.counter + 1)) c.loop.choices.items c.loop.scope c.loop.rest.at _ (kinds c.in-Some.after.tokens.now) _ more c.in-Some.ensures.read
-    (rw c.in-Some.ensures.after.at at c.in_err-block.ensures.read) c.loop.invariant.read)
+    rw (p.1, p.2) (record {
+      labels = tt;
+      read = ors_stop (block_in (lines_of c.args.context.tokens.now) c.args.context.most) c.args.context.in_loop _ (c.args.context.most - c.loop.counter) (c.args.context.most - (c.loop.counter + 1)) c.loop.choices.items c.loop.scope c.loop.rest.at _ (kinds c.in-Some.after.tokens.now) _ more c.in-Some.ensures.read
+          (rw c.in-Some.ensures.after.at at c.in_err-block.ensures.read) c.loop.invariant.read;
+    })
 
 pub read_blocks-loop-preserved : goal.read_blocks-loop-preserved
 read_blocks-loop-preserved t c =
@@ -68,7 +73,7 @@ read_blocks-loop-preserved t c =
           ∙ c.loop.invariant.read;
     }
 
-pub read_blocks-returns-clause-read : goal.read_blocks-returns-clause-read
-read_blocks-returns-clause-read t c =
+pub read_blocks-returns : goal.read_blocks-returns
+read_blocks-returns t c =
     let none : c.args.context.most - c.loop.counter ≡ 0 = omega (arith, c.loop-test.false) in
-    ors_out (block_in (lines_of c.args.context.tokens.now) c.args.context.most) c.args.context.in_loop (c.args.context.most - c.loop.counter) c.loop.choices.items c.loop.scope c.loop.rest.at _ _ none c.loop.invariant.read
+    record { labels = tt; read = ors_out (block_in (lines_of c.args.context.tokens.now) c.args.context.most) c.args.context.in_loop (c.args.context.most - c.loop.counter) c.loop.choices.items c.loop.scope c.loop.rest.at _ _ none c.loop.invariant.read }

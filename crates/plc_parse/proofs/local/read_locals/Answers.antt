@@ -1,4 +1,4 @@
-use Rattle.std.proofs.Common.{◌∙◌, ◌+◌, Result, Ok, refl, sym, ap}
+use Rattle.std.proofs.Common.{◌+◌, Result, Ok, refl, ap}
 use Rattle.std.proofs.lemmas.Result.{err_from_is_err_and}
 use Rattle.plc_syntax.specs.Syntax.{kinds}
 use Rattle.plc_forms.specs.Forms.{field_of}
@@ -9,9 +9,8 @@ use Rattle.plc_scope.specs.declared.scope.Scope.{Scope}
 use Rattle.plc_scope.specs.Scope.{◌>>=◌}
 use Rattle.plc_parse.specs.Meaning.{local_means}
 use Rattle.plc_parse.specs.Reading.{local_step}
-use Rattle.plc_parse.proofs.Loop.{each_ends}
 use Rattle.plc_parse.proofs.Stops.{each_fails}
-use Rattle.plc_parse.proofs.LocalLoop.{locals_turn}
+use Rattle.plc_parse.proofs.LocalLoop.{locals_turn, locals_end}
 use Rattle.plc_parse.proofs.local.read_locals.Goals as goal
 
 pub returns-in_err-declare_local : goal.returns-in_err-declare_local
@@ -28,9 +27,4 @@ loop-declaration-preserved c = locals_turn field_of local_step field_shrinks _ _
     (ap (λ (r : Result Scope ParseFault). r >>= λ t. Ok (t, c.loop-declaration.rest.at + 3)) c.in_ok-declare_local.ensures.read) c.in_ok-declare_local.ensures.declares.names c.in_ok-declare_local.ensures.declares.labels
 
 pub returns : goal.returns
-returns c =
-    let so_far = c.loop-declaration.invariant in
-    record {
-      read = sym so_far.read ∙ each_ends field_of local_step field_shrinks _ _ c.in_default.ensures.read;
-      declares = record { declares = record { names = so_far.names; labels = so_far.labels }; place = so_far.place };
-    }
+returns c = locals_end field_of local_step field_shrinks _ _ _ _ c.loop-declaration.invariant c.in_default.ensures.read

@@ -1,4 +1,4 @@
-use Rattle.std.proofs.Common.{◌∙◌, ◌+◌, Result, Ok, refl, sym, ap}
+use Rattle.std.proofs.Common.{◌+◌, Result, Ok, refl, ap}
 use Rattle.std.proofs.lemmas.Result.{err_from_is_err_and}
 use Rattle.plc_syntax.specs.Syntax.{kinds}
 use Rattle.plc_forms.specs.Forms.{comma_name_of}
@@ -7,9 +7,8 @@ use Rattle.plc_scope.specs.declared.fault.ParseFault.{ParseFault}
 use Rattle.plc_scope.specs.declared.scope.Scope.{Scope}
 use Rattle.plc_scope.specs.Scope.{◌>>=◌, declared_parameter}
 use Rattle.plc_parse.specs.Reading.{parameter_step}
-use Rattle.plc_parse.proofs.Loop.{each_ends}
 use Rattle.plc_parse.proofs.Stops.{each_fails}
-use Rattle.plc_parse.proofs.LocalLoop.{locals_turn}
+use Rattle.plc_parse.proofs.LocalLoop.{locals_turn, locals_end}
 use Rattle.plc_parse.proofs.local.read_others.Goals as goal
 
 pub returns-in_err-declare_parameter : goal.returns-in_err-declare_parameter
@@ -26,9 +25,4 @@ loop-name-preserved c = locals_turn comma_name_of parameter_step comma_name_shri
     (ap (λ (r : Result Scope ParseFault). r >>= λ t. Ok (t, c.loop-name.rest.at + 2)) c.in_ok-declare_parameter.ensures.read) c.in_ok-declare_parameter.ensures.names c.in_ok-declare_parameter.ensures.labels
 
 pub returns : goal.returns
-returns c =
-    let so_far = c.loop-name.invariant in
-    record {
-      read = sym so_far.read ∙ each_ends comma_name_of parameter_step comma_name_shrinks _ _ c.in_default.ensures.read;
-      declares = record { declares = record { names = so_far.names; labels = so_far.labels }; place = so_far.place };
-    }
+returns c = locals_end comma_name_of parameter_step comma_name_shrinks _ _ _ _ c.loop-name.invariant c.in_default.ensures.read
