@@ -2,8 +2,7 @@
 // set. Of each other the ground set is made and given to the solver, which closes it or finds a model: the state in
 // which the step breaks the clause.
 ghost use Rattle.std.specs.Prelude.{◌≡◌, IfOk, OnOk, IsTrue, Contains};
-ghost use Rattle.plc_setting.specs.Fit.{Fits};
-ghost use Rattle.plc_oblig.specs.Obligations.{obligations};
+ghost use Rattle.plc_oblig.specs.Programs.{ProgramFits, obligations_of};
 ghost use Rattle.plc_oblig.specs.Outlines.{IsKept};
 ghost use Rattle.plc_check.specs.Counterexamples.{IsCounterexampleAt, NotedAreKept};
 
@@ -11,7 +10,6 @@ use crate::tree::solve_at;
 use plc_base::NoMemory;
 use plc_ground::{GroundModel, GroundSet};
 use plc_oblig::{Annotated, Grounding, Noted, Obligation, still};
-use std::alloc::Global;
 
 /// An obligation that isn't kept, with its ground set and a model of it.
 #[derive(Drop)]
@@ -26,8 +24,8 @@ pub struct Counterexample {
 /// Whether the obligation is known to be kept before its set is made: it is still, or one that is alike was found to be
 /// kept, which has the same set.
 fn is_known_kept(program: &Annotated<'_>, kept: &Noted, o: &Obligation) -> bool
-    requires fits { Fits program.now.flow.now program.now.outline.now }
-    requires there { Contains (obligations program.now.flow.now program.now.outline.now) o.now }
+    requires fits { ProgramFits program.now }
+    requires there { Contains (obligations_of program.now) o.now }
     requires kept { NotedAreKept program.now.flow.now program.now.outline.now kept.now }
     ensures { IsTrue result → IsKept program.now.flow.now program.now.outline.now o.now }
 {
@@ -42,14 +40,13 @@ fn is_known_kept(program: &Annotated<'_>, kept: &Noted, o: &Obligation) -> bool
 
 /// What breaks one obligation, if it isn't kept. One that is kept is noted.
 pub(crate) fn counterexample_at(
-    alloc: Global,
     memory: &mut Grounding,
     program: &Annotated<'_>,
     kept: &mut Noted,
     obligation: Obligation,
 ) -> Result<Option<Counterexample>, NoMemory>
-    requires fits { Fits program.now.flow.now program.now.outline.now }
-    requires there { Contains (obligations program.now.flow.now program.now.outline.now) obligation }
+    requires fits { ProgramFits program.now }
+    requires there { Contains (obligations_of program.now) obligation }
     requires kept { NotedAreKept program.now.flow.now program.now.outline.now kept.old }
     ensures found { IfOk result (IsCounterexampleAt program.now.flow.now program.now.outline.now obligation) }
     ensures kept { OnOk result (NotedAreKept program.now.flow.now program.now.outline.now kept.new) }
@@ -57,7 +54,7 @@ pub(crate) fn counterexample_at(
     if is_known_kept(program, kept, &obligation) {
         return Ok(None);
     }
-    let Err(found) = solve_at(alloc, memory, program, obligation)? else {
+    let Err(found) = solve_at(memory, program, obligation)? else {
         // Only that it is found counts here, so it may have any number.
         kept.note(&obligation, 0)?;
         return Ok(None);

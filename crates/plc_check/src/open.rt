@@ -3,7 +3,7 @@
 // that the caller owns, so that the loop owns nothing large.
 ghost use Rattle.std.specs.Prelude.{◌≡◌, [], IfOk};
 ghost use Rattle.plc_setting.specs.Fit.{Fits};
-ghost use Rattle.plc_oblig.specs.Obligations.{obligations};
+ghost use Rattle.plc_oblig.specs.Programs.{ProgramFits, obligations_of};
 ghost use Rattle.plc_check.specs.Counterexamples.{IsFirstCounterexample};
 ghost use Rattle.plc_check.specs.Open.{AreOpen};
 
@@ -25,7 +25,6 @@ pub struct OpenObligations {
 /// Puts what breaks the obligations that a walk hands out into a list, until there is as much as is asked for, and
 /// answers whether all were looked at. The walk stands at its beginning, and nothing is noted or found yet.
 fn find_on_walk(
-    alloc: Global,
     memory: &mut Grounding,
     program: &Annotated<'_>,
     kept: &mut Noted,
@@ -33,8 +32,8 @@ fn find_on_walk(
     most: usize,
     found: &mut Items<Counterexample>,
 ) -> Result<bool, NoMemory>
-    requires fits { Fits program.now.flow.now program.now.outline.now }
-    requires begun { walk.old ≡ obligations program.now.flow.now program.now.outline.now }
+    requires fits { ProgramFits program.now }
+    requires begun { walk.old ≡ obligations_of program.now }
     requires none_noted { kept.old ≡ [] }
     requires none_found { found.old ≡ [] }
     ensures { IfOk result (λ all. AreOpen program.now.flow.now program.now.outline.now most
@@ -44,7 +43,7 @@ fn find_on_walk(
         let Some(obligation) = walk.next() else {
             return Ok(true);
         };
-        let broken = counterexample_at(alloc, memory, program, kept, obligation)?;
+        let broken = counterexample_at(memory, program, kept, obligation)?;
         let Some(broken) = broken else {
             continue;
         };
@@ -71,7 +70,6 @@ pub fn open_obligations(
     let mut kept = Noted::new(alloc);
     let mut found = Items::new(alloc);
     let all = find_on_walk(
-        alloc,
         &mut memory,
         &program,
         &mut kept,

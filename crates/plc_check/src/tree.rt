@@ -3,7 +3,7 @@
 // same memory.
 ghost use Rattle.std.specs.Prelude.{◌≡◌, ◌<◌, [], IfOk, Contains, Some, length, slice_get};
 ghost use Rattle.plc_setting.specs.Fit.{Fits};
-ghost use Rattle.plc_oblig.specs.Obligations.{obligations};
+ghost use Rattle.plc_oblig.specs.Programs.{ProgramFits, obligations_of};
 ghost use Rattle.plc_check.specs.Counterexamples.{IsTreeAt, NotedHaveTrees, AddsTreeAt, AreTreesOrBroken};
 
 use crate::counterexample::Counterexample;
@@ -16,16 +16,15 @@ use std::alloc::Global;
 
 /// A tree that closes the ground set of an obligation, or what breaks the obligation, as the solver answers.
 pub(crate) fn solve_at(
-    alloc: Global,
     memory: &mut Grounding,
     program: &Annotated<'_>,
     obligation: Obligation,
 ) -> Result<Result<Tree, Counterexample>, NoMemory>
-    requires fits { Fits program.now.flow.now program.now.outline.now }
+    requires fits { ProgramFits program.now }
     ensures { IfOk result (IsTreeAt program.now.flow.now program.now.outline.now obligation) }
 {
     let set = memory.ground(program, &obligation)?;
-    match refute(alloc, &set) {
+    match refute(memory.alloc, &set) {
         Ok(Answer::Closed(tree)) => {
             memory.reuse(set);
             Ok(Ok(tree))
@@ -42,18 +41,17 @@ pub(crate) fn solve_at(
 /// A tree that closes the ground set of an obligation, or what breaks it; of a still obligation the solver isn't
 /// asked.
 fn make_tree(
-    alloc: Global,
     memory: &mut Grounding,
     program: &Annotated<'_>,
     obligation: Obligation,
 ) -> Result<Result<Tree, Counterexample>, NoMemory>
-    requires fits { Fits program.now.flow.now program.now.outline.now }
-    requires there { Contains (obligations program.now.flow.now program.now.outline.now) obligation }
+    requires fits { ProgramFits program.now }
+    requires there { Contains (obligations_of program.now) obligation }
     ensures { IfOk result (IsTreeAt program.now.flow.now program.now.outline.now obligation) }
 {
     match memory.direct(program, &obligation)? {
         Some(tree) => Ok(Ok(tree)),
-        None => solve_at(alloc, memory, program, obligation),
+        None => solve_at(memory, program, obligation),
     }
 }
 
@@ -70,22 +68,21 @@ fn copy_of(alloc: Global, trees: &[Tree], at: usize) -> Result<Tree, NoMemory>
 
 /// A tree for one more obligation: that of one which is alike, or one that is made and noted.
 fn tree_at(
-    alloc: Global,
     memory: &mut Grounding,
     program: &Annotated<'_>,
     noted: &mut Noted,
     trees: &[Tree],
     obligation: Obligation,
 ) -> Result<Result<Tree, Counterexample>, NoMemory>
-    requires fits { Fits program.now.flow.now program.now.outline.now }
-    requires there { Contains (obligations program.now.flow.now program.now.outline.now) obligation }
+    requires fits { ProgramFits program.now }
+    requires there { Contains (obligations_of program.now) obligation }
     requires noted { NotedHaveTrees program.now.flow.now program.now.outline.now trees.now noted.old }
     ensures { IfOk result (AddsTreeAt program.now.flow.now program.now.outline.now obligation trees.now noted.new) }
 {
     if let Some(at) = noted.find(program.flow, program.outline, &obligation) {
-        return Ok(Ok(copy_of(alloc, trees, at)?));
+        return Ok(Ok(copy_of(memory.alloc, trees, at)?));
     }
-    match make_tree(alloc, memory, program, obligation)? {
+    match make_tree(memory, program, obligation)? {
         Ok(tree) => {
             noted.note(&obligation, trees.len())?;
             Ok(Ok(tree))
@@ -97,20 +94,19 @@ fn tree_at(
 /// A tree for each obligation that a walk hands out, or what breaks the first that isn't kept. The walk stands at its
 /// beginning, and nothing is noted yet.
 fn trees_on_walk(
-    alloc: Global,
     memory: &mut Grounding,
     program: &Annotated<'_>,
     noted: &mut Noted,
     walk: &mut Walk<'_>,
 ) -> Result<Result<Items<Tree>, Counterexample>, NoMemory>
-    requires fits { Fits program.now.flow.now program.now.outline.now }
-    requires begun { walk.old ≡ obligations program.now.flow.now program.now.outline.now }
+    requires fits { ProgramFits program.now }
+    requires begun { walk.old ≡ obligations_of program.now }
     requires none_noted { noted.old ≡ [] }
     ensures { IfOk result (AreTreesOrBroken program.now.flow.now program.now.outline.now) }
 {
-    let mut trees = Items::new(alloc);
+    let mut trees = Items::new(memory.alloc);
     while let Some(obligation) = walk.next() {
-        let tree = tree_at(alloc, memory, program, noted, trees.as_slice(), obligation)?;
+        let tree = tree_at(memory, program, noted, trees.as_slice(), obligation)?;
         match tree {
             Ok(tree) => trees.push(tree)?,
             Err(found) => return Ok(Err(found)),
@@ -131,7 +127,7 @@ pub(crate) fn trees_of(
     let mut walk = Walk::new(alloc, &judged.flow, &judged.unit_outline)?;
     let mut memory = Grounding::new(alloc);
     let mut noted = Noted::new(alloc);
-    let trees = trees_on_walk(alloc, &mut memory, &program, &mut noted, &mut walk);
+    let trees = trees_on_walk(&mut memory, &program, &mut noted, &mut walk);
     drop(walk);
     drop(memory);
     drop(noted);
