@@ -3,17 +3,17 @@
 ghost use Rattle.std.specs.Prelude.{◌≤◌, IfOk, length};
 ghost use Rattle.plc_base.specs.Limits.{largest_file};
 ghost use Rattle.plc_flow.specs.WellFormed.{FlowFits};
-ghost use Rattle.plc_sched.specs.Schedules.{IsWithinLimits};
+ghost use Rattle.plc_cli.specs.Answer.{CanBeReplayed};
 ghost use Rattle.plc_trace.specs.Pages.{ShowsReplay, ShowsSchedule, ShowsEnd, SaysUnscheduled};
 
 use crate::running::trace;
 use plc_base::{Items, NoMemory};
 use plc_check::{Judged, LoadFault, load};
-use plc_cli::{REFUSED, answer_schedule};
+use plc_cli::{REFUSED, Recorded, answer_schedule};
 use plc_html::{Html, whole_page};
 use plc_page::{Page, push_file, push_numbered_lines, refused_page};
 use plc_reclaim::Reclaimer;
-use plc_sched::{SchedFault, Schedule, read_schedule};
+use plc_sched::{SchedFault, read_schedule};
 use plc_texts::schedule_fault_text;
 use std::alloc::Global;
 
@@ -21,20 +21,19 @@ use std::alloc::Global;
 fn rest_of(
     alloc: Global,
     bytes: &[u8],
-    judged: &Judged,
-    schedule: &Schedule,
+    recorded: Recorded,
     reclaimer: &mut Box<dyn Reclaimer>,
 ) -> Result<Html, NoMemory>
-    requires fits { FlowFits judged.now.flow }
-    requires within { IsWithinLimits schedule.now }
+    requires { CanBeReplayed recorded.judged.now recorded.schedule.now }
 {
+    let judged = recorded.judged;
     let schemes = judged.schemes.as_slice();
     let (mut html, here) = trace(
         alloc,
         &judged.flow,
         &judged.observer,
         schemes,
-        schedule,
+        recorded.schedule,
         reclaimer,
     )?;
     push_file(&mut html, bytes, here)?;
@@ -46,16 +45,14 @@ fn ended_page(
     alloc: Global,
     name: &[u8],
     bytes: &[u8],
-    judged: &Judged,
-    schedule: &Schedule,
+    recorded: Recorded,
     reclaimer: &mut Box<dyn Reclaimer>,
 ) -> Result<Page, NoMemory>
-    requires fits { FlowFits judged.now.flow }
-    requires within { IsWithinLimits schedule.now }
-    ensures { IfOk result (ShowsEnd judged.now (meanings reclaimer.old) schedule.now) }
+    requires { CanBeReplayed recorded.judged.now recorded.schedule.now }
+    ensures { IfOk result (ShowsEnd recorded.judged.now (meanings reclaimer.old) recorded.schedule.now) }
 {
-    let answer = answer_schedule(alloc, judged, schedule, reclaimer)?;
-    let rest = rest_of(alloc, bytes, judged, schedule, reclaimer)?;
+    let answer = answer_schedule(alloc, recorded, reclaimer)?;
+    let rest = rest_of(alloc, bytes, recorded, reclaimer)?;
     let page = whole_page(alloc, name, &answer.text, rest)?;
     Ok(Page {
         status: answer.status,
@@ -104,7 +101,13 @@ fn scheduled_page(
     ensures { IfOk result (ShowsSchedule judged.now (meanings reclaimer.old) second.now) }
 {
     match read_schedule(alloc, second) {
-        Ok(schedule) => ended_page(alloc, name, bytes, judged, &schedule, reclaimer),
+        Ok(schedule) => {
+            let recorded = Recorded {
+                judged,
+                schedule: &schedule,
+            };
+            ended_page(alloc, name, bytes, recorded, reclaimer)
+        }
         Err(SchedFault::Memory) => Err(NoMemory),
         Err(fault) => unscheduled_page(alloc, name, second, fault),
     }
