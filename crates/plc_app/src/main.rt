@@ -3,21 +3,12 @@
 //! nothing is written.
 #![tactic(auto)]
 
-use plc_cli::{NO_MEMORY, OutSink, RealFiles, program_words, run_with_own, words_status};
-use std::io;
+use plc_cli::{host_of, run_with_own, words_status};
 use std::process::ExitCode;
 
 fn main(rt: HostRuntime) -> ExitCode {
-    let alloc = rt.alloc();
-    let words = match program_words(&rt) {
-        Ok(words) => words,
-        Err(fault) => return ExitCode::from(words_status(fault)),
-    };
-    let host = match rt.clone() {
-        Ok(host) => host,
-        Err(_) => return ExitCode::from(NO_MEMORY),
-    };
-    let mut out = OutSink::new(io::writer(&rt));
-    let mut files = RealFiles::new(alloc, host);
-    ExitCode::from(run_with_own(alloc, &words, &mut files, &mut out))
+    ExitCode::from(match host_of(&rt) {
+        Ok(mut host) => run_with_own(rt.alloc(), &host.words, &mut host.files, &mut host.out),
+        Err(fault) => words_status(fault),
+    })
 }

@@ -92,11 +92,11 @@ pub use checking::{verdict_status, verdict_text};
 pub use laws::honest_runs_are_answered;
 pub use own::run_with_own;
 pub use plc_outside::{
-    FailSink, FileFault, Files, FixedSink, HonestFiles, MemFiles, OutSink, RealFiles, Sink,
-    SinkFault, VecSink, WordsFault, program_words, write_text,
+    FailSink, FileFault, Files, FixedSink, HonestFiles, Host, MemFiles, OutSink, RealFiles, Sink,
+    SinkFault, VecSink, WordsFault, host_of, write_text,
 };
 pub use plc_reclaim::{ByList, Epoch, Hazard, Leak, Reclaimer};
 pub use program::run;
 pub use reading::{Content, Contents, read, read_both};
-pub use replaying::answer_schedule;
+pub use replaying::{Recorded, answer_schedule, end_of};
 pub use status::{NO_MEMORY, NOT_UTF8, REFUSED, UNWRITTEN, words_status};

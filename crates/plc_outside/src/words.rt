@@ -12,7 +12,7 @@ pub enum WordsFault {
 }
 
 /// The words after the program's name. `NotUtf8` comes where one of them isn't UTF-8.
-pub fn program_words(host: &HostRuntime) -> Result<Vec<String>, WordsFault> {
+pub(crate) fn program_words(host: &HostRuntime) -> Result<Vec<String>, WordsFault> {
     let mut words = Vec::new(host.alloc());
     let args = match env::args(host) {
         Ok(args) => args,

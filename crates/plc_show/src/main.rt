@@ -2,22 +2,13 @@
 //! It ends with 6 where memory runs out for the words, and with 7 where a word isn't UTF-8; then nothing is written.
 #![tactic(auto)]
 
-use plc_cli::{NO_MEMORY, OutSink, RealFiles, program_words, words_status};
+use plc_cli::{host_of, words_status};
 use plc_view::show;
-use std::io;
 use std::process::ExitCode;
 
 fn main(rt: HostRuntime) -> ExitCode {
-    let alloc = rt.alloc();
-    let words = match program_words(&rt) {
-        Ok(words) => words,
-        Err(fault) => return ExitCode::from(words_status(fault)),
-    };
-    let host = match rt.clone() {
-        Ok(host) => host,
-        Err(_) => return ExitCode::from(NO_MEMORY),
-    };
-    let mut out = OutSink::new(io::writer(&rt));
-    let mut files = RealFiles::new(alloc, host);
-    ExitCode::from(show(alloc, &words, &mut files, &mut out))
+    ExitCode::from(match host_of(&rt) {
+        Ok(mut host) => show(rt.alloc(), &host.words, &mut host.files, &mut host.out),
+        Err(fault) => words_status(fault),
+    })
 }
