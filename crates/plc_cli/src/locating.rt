@@ -10,6 +10,7 @@ ghost use Rattle.plc_check.specs.Strongest.{IsStrongestTyping};
 ghost use Rattle.plc_check.specs.Verdicts.{IsVerdictOn};
 ghost use Rattle.plc_texts.specs.Claims.{unlocated_text};
 ghost use Rattle.plc_texts.specs.Refusals.{limit_text};
+ghost use Rattle.plc_texts.specs.Untyped.{untyped_text};
 ghost use Rattle.plc_cli.specs.Files.{IsTold};
 ghost use Rattle.plc_cli.specs.Locations.{located_verdict_text, IsAnsweredWith, AreClaimsAnswered, IsLocationAnswered};
 ghost use Rattle.plc_cli.specs.Statuses.{fails, refused};
@@ -162,7 +163,11 @@ fn untyped_answer(
 }
 
 /// The answer to claims that were read.
-fn answer_claims(alloc: Global, judged: Judged, claims: &[LocationClaim]) -> Result<Answer, NoMemory>
+fn answer_claims(
+    alloc: Global,
+    judged: Judged,
+    claims: &[LocationClaim],
+) -> Result<Answer, NoMemory>
     requires fits { Fits judged.flow judged.unit_outline }
     requires claims { All (ClaimFits judged.flow) claims.now }
     ensures { IfOk result (λ answer.

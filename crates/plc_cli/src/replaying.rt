@@ -43,8 +43,8 @@ pub fn end_of(
     reclaimer: &mut Box<dyn Reclaimer>,
 ) -> Result<End, NoMemory>
     requires { CanBeReplayed recorded.judged.now recorded.schedule.now }
-    ensures { IfOk result (ComesTo recorded.judged.now.flow recorded.judged.now.observer (meanings reclaimer.old)
-        recorded.judged.now.schemes recorded.schedule.now) }
+    ensures { IfOk result (ComesTo recorded.entry.judged.now.flow recorded.entry.judged.now.observer
+        (meanings reclaimer.old) recorded.entry.judged.now.schemes recorded.entry.schedule.now) }
 {
     let judged = recorded.judged;
     let schemes = judged.schemes.as_slice();
@@ -65,8 +65,8 @@ pub fn answer_schedule(
     reclaimer: &mut Box<dyn Reclaimer>,
 ) -> Result<Answer, NoMemory>
     requires { CanBeReplayed recorded.judged.now recorded.schedule.now }
-    ensures { IfOk result (λ answer. IsEndOf recorded.judged.now (meanings reclaimer.old) recorded.schedule.now
-        answer.status answer.text.items) }
+    ensures { IfOk result (λ answer. IsEndOf recorded.entry.judged.now (meanings reclaimer.old)
+        recorded.entry.schedule.now answer.status answer.text.items) }
 {
     let end = end_of(alloc, recorded, reclaimer)?;
     Ok(Answer {

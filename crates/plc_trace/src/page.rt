@@ -33,7 +33,7 @@ fn ended_page(
     reclaimer: &mut Box<dyn Reclaimer>,
 ) -> Result<Page, NoMemory>
     requires { CanBeReplayed recorded.judged.now recorded.schedule.now }
-    ensures { IfOk result (ShowsEnd recorded.judged.now (meanings reclaimer.old) recorded.schedule.now) }
+    ensures { IfOk result (ShowsEnd recorded.entry.judged.now (meanings reclaimer.old) recorded.entry.schedule.now) }
 {
     let answer = answer_schedule(alloc, recorded, reclaimer)?;
     let (mut rest, here) = trace(alloc, recorded, reclaimer)?;
@@ -76,7 +76,7 @@ fn scheduled_page(
     reclaimer: &mut Box<dyn Reclaimer>,
 ) -> Result<Page, NoMemory>
     requires fits { FlowFits judged.now.flow }
-    ensures { IfOk result (ShowsSchedule judged.now (meanings reclaimer.old) pair.schedule.now) }
+    ensures { IfOk result (ShowsSchedule judged.now (meanings reclaimer.old) pair.entry.schedule.now) }
 {
     let schedule = match read_schedule(alloc, pair.schedule) {
         Ok(schedule) => schedule,
@@ -98,7 +98,7 @@ fn loaded_page(
     reclaimer: &mut Box<dyn Reclaimer>,
 ) -> Result<Page, NoMemory>
     requires fits { FlowFits judged.flow }
-    ensures { IfOk result (ShowsSchedule judged (meanings reclaimer.old) pair.schedule.now) }
+    ensures { IfOk result (ShowsSchedule judged (meanings reclaimer.old) pair.entry.schedule.now) }
 {
     let page = scheduled_page(alloc, pair, &judged, reclaimer);
     drop(judged);
