@@ -1,34 +1,61 @@
 // The program with its own reclaimers. They are made in the call that hands them to `run`, since no
 // function may hand out a value of a trait: so that they are the four, in their order, is promised by this
 // call and not by one that makes them.
-ghost use Rattle.std.specs.Prelude.{◌≡◌, map, string_bytes, IfOk, OnErr};
+ghost use Rattle.std.specs.Prelude.{◌≡◌, codes, map, string_bytes, IfOk, OnErr};
+ghost use Rattle.plc_reclaim.specs.Rows.{ActsAs, leak_row, list_row, hazard_row, epoch_row};
 ghost use Rattle.plc_cli.specs.Program.{RunsWithOwn, IsProgram};
 
 use crate::program::run;
 use crate::status::NO_MEMORY;
-use plc_base::NoMemory;
 use plc_outside::{Files, Sink};
 use plc_reclaim::{ByList, Epoch, Hazard, Leak, Reclaimer};
-use std::alloc::Global;
+use std::alloc::{AllocError, Global};
 
-/// `run` with plc's own reclaimers, where there is memory for the four.
-fn try_with_own<F: Files, S: Sink>(
+/// The status of `run` under these four.
+fn run_under<F: Files, S: Sink>(
     alloc: Global,
     words: &[String],
     files: &mut F,
     out: &mut S,
-) -> Result<u8, NoMemory>
+    leak: Box<dyn Reclaimer>,
+    list: Box<dyn Reclaimer>,
+    hazard: Box<dyn Reclaimer>,
+    epoch: Box<dyn Reclaimer>,
+) -> Result<u8, AllocError>
+    requires leak { ActsAs leak_row (meanings leak) }
+    requires leak_named { named leak ≡ codes "leak" }
+    requires list { ActsAs list_row (meanings list) }
+    requires list_named { named list ≡ codes "list" }
+    requires hazard { ActsAs hazard_row (meanings hazard) }
+    requires hazard_named { named hazard ≡ codes "hazard" }
+    requires epoch { ActsAs epoch_row (meanings epoch) }
+    requires epoch_named { named epoch ≡ codes "epoch" }
     ensures ok { IfOk result (RunsWithOwn (map string_bytes words.now)
         (F.known files.old) (F.known files.new) (S.known out.old) (S.known out.new)) }
     ensures unread { OnErr result (F.known files.new ≡ F.known files.old) }
     ensures unwritten { OnErr result (S.known out.new ≡ S.known out.old) }
 {
-    let leak: Box<dyn Reclaimer> = Box::new(alloc, Leak::new(alloc))?;
-    let list: Box<dyn Reclaimer> = Box::new(alloc, ByList::new(alloc))?;
-    let hazard: Box<dyn Reclaimer> = Box::new(alloc, Hazard::new(alloc))?;
-    let epoch: Box<dyn Reclaimer> = Box::new(alloc, Epoch::new(alloc))?;
     let reclaimers = vec![in alloc; leak, list, hazard, epoch]?;
     Ok(run(alloc, words, files, out, reclaimers))
+}
+
+/// `run` with plc's own reclaimers, where there is memory for the four.
+fn run_made<F: Files, S: Sink>(
+    alloc: Global,
+    words: &[String],
+    files: &mut F,
+    out: &mut S,
+) -> Result<u8, AllocError>
+    ensures ok { IfOk result (RunsWithOwn (map string_bytes words.now)
+        (F.known files.old) (F.known files.new) (S.known out.old) (S.known out.new)) }
+    ensures unread { OnErr result (F.known files.new ≡ F.known files.old) }
+    ensures unwritten { OnErr result (S.known out.new ≡ S.known out.old) }
+{
+    let leak = Box::new(alloc, Leak::new(alloc))?;
+    let list = Box::new(alloc, ByList::new(alloc))?;
+    let hazard = Box::new(alloc, Hazard::new(alloc))?;
+    let epoch = Box::new(alloc, Epoch::new(alloc))?;
+    run_under(alloc, words, files, out, leak, list, hazard, epoch)
 }
 
 /// `run` with the reclaimers of the program: `leak`, `list`, `hazard` and `epoch`, in this order, each of
@@ -42,8 +69,8 @@ pub fn run_with_own<F: Files, S: Sink>(
     ensures { IsProgram (map string_bytes words.now)
         (F.known files.old) (F.known files.new) (S.known out.old) (S.known out.new) result }
 {
-    match try_with_own(alloc, words, files, out) {
+    match run_made(alloc, words, files, out) {
         Ok(status) => status,
-        Err(NoMemory) => NO_MEMORY,
+        Err(AllocError) => NO_MEMORY,
     }
 }
