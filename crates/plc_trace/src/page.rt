@@ -3,13 +3,13 @@
 ghost use Rattle.std.specs.Prelude.{◌≤◌, IfOk, length};
 ghost use Rattle.plc_base.specs.Limits.{largest_file};
 ghost use Rattle.plc_flow.specs.WellFormed.{FlowFits};
-ghost use Rattle.plc_sched.specs.Schedules.{IsWithinLimits};
+ghost use Rattle.plc_cli.specs.Answer.{CanBeReplayed};
 ghost use Rattle.plc_trace.specs.Pages.{ShowsReplay, ShowsSchedule, ShowsEnd, SaysUnscheduled};
 
-use crate::running::{Recorded, trace};
+use crate::running::trace;
 use plc_base::{Items, NoMemory};
 use plc_check::{Judged, LoadFault, load};
-use plc_cli::{REFUSED, answer_schedule};
+use plc_cli::{REFUSED, Recorded, answer_schedule};
 use plc_html::{Html, whole_page};
 use plc_page::{Page, push_file, push_numbered_lines, refused_page};
 use plc_reclaim::Reclaimer;
@@ -32,11 +32,10 @@ fn ended_page(
     recorded: Recorded,
     reclaimer: &mut Box<dyn Reclaimer>,
 ) -> Result<Page, NoMemory>
-    requires fits { FlowFits recorded.judged.now.flow }
-    requires within { IsWithinLimits recorded.schedule.now }
+    requires { CanBeReplayed recorded.judged.now recorded.schedule.now }
     ensures { IfOk result (ShowsEnd recorded.entry.judged.now (meanings reclaimer.old) recorded.entry.schedule.now) }
 {
-    let answer = answer_schedule(alloc, recorded.judged, recorded.schedule, reclaimer)?;
+    let answer = answer_schedule(alloc, recorded, reclaimer)?;
     let (mut rest, here) = trace(alloc, recorded, reclaimer)?;
     push_file(&mut rest, pair.file, here)?;
     let page = whole_page(alloc, pair.title, &answer.text, rest)?;

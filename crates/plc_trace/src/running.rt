@@ -3,29 +3,23 @@
 ghost use Rattle.std.specs.Prelude.{◌≡◌, ◌+◌, ◌<◌, ◌≤◌, length};
 ghost use Rattle.plc_flow.specs.WellFormed.{FlowFits};
 ghost use Rattle.plc_sched.specs.Schedules.{IsWithinLimits, line_limit};
+ghost use Rattle.plc_cli.specs.Answer.{CanBeReplayed};
 ghost use Rattle.plc_trace.specs.Going.{GoesOnFrom};
 
 use crate::log::Log;
 use crate::walk::{Walk, take_all};
 use plc_base::NoMemory;
-use plc_check::Judged;
+use plc_cli::{Recorded, end_of};
 use plc_flow::StepsByPoint;
 use plc_html::Html;
 use plc_mem::Memory;
 use plc_reclaim::Reclaimer;
-use plc_replay::{End, begin_reclaimer, replay};
+use plc_replay::{End, begin_reclaimer};
 use plc_rows::{Traced, Written, push_first, push_heads, push_standing};
 use plc_run::Config;
-use plc_sched::{Entry, Schedule};
+use plc_sched::Entry;
 use plc_threads::StartFault;
 use std::alloc::Global;
-
-/// A schedule, and the file of whose program it records a run.
-#[derive(Clone, Copy)]
-pub(crate) struct Recorded<'a> {
-    pub(crate) judged: &'a Judged,
-    pub(crate) schedule: &'a Schedule,
-}
 
 /// How many lines of a schedule a page shows at most.
 const MOST_LINES: usize = 300;
@@ -159,13 +153,11 @@ pub(crate) fn trace(
     recorded: Recorded,
     reclaimer: &mut Box<dyn Reclaimer>,
 ) -> Result<(Html, u32), NoMemory>
-    requires fits { FlowFits recorded.judged.now.flow }
-    requires within { IsWithinLimits recorded.schedule.now }
+    requires { CanBeReplayed recorded.judged.now recorded.schedule.now }
 {
+    let end = end_of(alloc, recorded, reclaimer)?;
     let Recorded { judged, schedule } = recorded;
     let (flow, observer) = (&judged.flow, &judged.observer);
-    let schemes = judged.schemes.as_slice();
-    let end = replay(alloc, flow, observer, schemes, schedule, reclaimer)?;
     let untold = left_out(&end);
     let steps = StepsByPoint::of_flow(alloc, flow)?;
     let traced = Traced {
