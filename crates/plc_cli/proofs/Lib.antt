@@ -1,11 +1,11 @@
 pub mod Accepted
 pub mod Answering
 pub mod Completing
-pub mod Extending
 pub mod Judging
 pub mod Located
 pub mod Numbers
 pub mod Racing
+pub mod Running
 pub mod Serving
 pub mod Statuses
 pub mod Suggested

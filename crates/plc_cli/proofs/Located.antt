@@ -30,7 +30,8 @@ use Rattle.plc_check.specs.Outlined.{outlined}
 use Rattle.plc_check.specs.Verdicts.{IsVerdictOn}
 use Rattle.plc_check.proofs.Fitting.{all_files_fit}
 use Rattle.plc_cli.specs.Answer.{IsDueFor, IsWritten, Outcome}
-use Rattle.plc_cli.specs.Locations.{AreClaimsAnswered, IsLocationAnswered, IsLocationOf, AreExtended, extended_of}
+use Rattle.plc_cli.specs.Locations.{AreClaimsAnswered, IsAnsweredWith, IsLocationAnswered, IsLocationOf, AreExtended}
+use Rattle.plc_cli.specs.Locations.{extended_of}
 use Rattle.plc_cli.specs.Locations.{IsLocatedProgram, IsLocatedPair, LocatedRuns}
 use Rattle.plc_cli.specs.Reads.{IsDueForPair}
 use Rattle.plc_cli.specs.Requests.{Request, Locate}
@@ -81,13 +82,16 @@ module _ (status : ℕ) (text : List ℕ) (zero : status ≡ holds) where
       safe (Untyped step prim fault) right status_is = absurd (omega (arith, status_is, zero))
       safe (Unproved o set model) right status_is = absurd (omega (arith, status_is, zero))
 
+      extended_safe : IsAnsweredWith (judged_of u) (extended_of (judged_of u) typing claims) claims status text
+          → IsLocatedSafely
+      extended_safe (inl large) = absurd (omega (arith, large.status_is, zero))
+      extended_safe (inr told) = safe told.answer.what told.answer.right told.answer.status_is
+
     claims_safe : AreClaimsAnswered (judged_of u) claims status text → IsLocatedSafely
     claims_safe (inl untyped) = absurd (omega (arith, untyped.status_is, zero))
     claims_safe (inr (inl unlocated)) = absurd (omega (arith, unlocated.status_is, zero))
     claims_safe (inr (inr (inl many))) = absurd (omega (arith, many.status_is, zero))
-    claims_safe (inr (inr (inr (inl large)))) = absurd (omega (arith, large.status_is, zero))
-    claims_safe (inr (inr (inr (inr proved)))) =
-        safe proved.typing proved.extends proved.answer.what proved.answer.right proved.answer.status_is
+    claims_safe (inr (inr (inr extended))) = extended_safe extended.typing extended.extends extended.answer
 
   module _ (bytes second : List ℕ) where
     second_safe : (u : FileUnit) → IsFileOf bytes u → IsLocationAnswered (judged_of u) second status text

@@ -1,6 +1,6 @@
 -- The status that is due is never one that says how the writing went, and that of an answer never one that says how
 -- a read went.
-use Rattle.std.proofs.Common.{◌≤◌, inl, inr, ℕ, List, Option, Some, None, refl, arith}
+use Rattle.std.proofs.Common.{◌≡◌, ◌≤◌, inl, inr, ℕ, List, [], Option, Some, None, refl, sym, ap, arith, append-nil}
 use Rattle.plc_outside.specs.Known.{KnownFiles, KnownSink}
 use Rattle.plc_outside.specs.Outside.{Appends, AppendsPart}
 use Rattle.plc_reclaim.specs.Meanings.{Meanings}
@@ -21,7 +21,8 @@ use Rattle.plc_cli.specs.Certificates.{IsCertifiedAs, IsCertificateOf, IsCertifi
 use Rattle.plc_cli.specs.Files.{IsAnsweredFile, IsTold, IsJudgedAs, IsAnswerTo, IsPrintedAs, IsPrintOf}
 use Rattle.plc_cli.specs.Samples.{IsSampledAs, IsSampleAnswer}
 use Rattle.plc_sample.specs.Sample.{sample_text}
-use Rattle.plc_cli.specs.Locations.{AreClaimsAnswered, IsLocationAnswered, IsLocationOf}
+use Rattle.plc_logic.specs.declared.clause.Outline.{Outline}
+use Rattle.plc_cli.specs.Locations.{AreClaimsAnswered, IsAnsweredWith, IsLocationAnswered, IsLocationOf}
 use Rattle.plc_cli.specs.Requests.{Request, Check, Certify, Print, Verify, Replay, Sample, Suggest, Locate}
 use Rattle.plc_cli.specs.Reads.{IsDueForFile, IsDueForPair}
 use Rattle.plc_cli.specs.Answer.{IsScheduleAnswered, IsReplayOf, IsDueFor, IsUnwritten, Ends, Outcome}
@@ -99,12 +100,16 @@ module _ (status : ℕ) (text : List ℕ) where
   pub suggest_low : (bytes : List ℕ) → IsSuggestionOf bytes status text → status ≤ 3
   suggest_low bytes = answered_low (λ u. IsSuggestionAnswered (judged_of u)) (λ u. suggested_low (judged_of u)) bytes
 
+  extended_low : (j : Judged) (outline : Outline) (claims : List LocationClaim)
+      → IsAnsweredWith j outline claims status text → status ≤ 3
+  extended_low j outline claims (inl large) = omega (arith, large.status_is)
+  extended_low j outline claims (inr told) = told_low _ _ _ verdict_low told.answer
+
   claims_low : (j : Judged) (claims : List LocationClaim) → AreClaimsAnswered j claims status text → status ≤ 3
   claims_low j claims (inl untyped) = omega (arith, untyped.status_is)
   claims_low j claims (inr (inl unlocated)) = omega (arith, unlocated.status_is)
   claims_low j claims (inr (inr (inl many))) = omega (arith, many.status_is)
-  claims_low j claims (inr (inr (inr (inl large)))) = omega (arith, large.status_is)
-  claims_low j claims (inr (inr (inr (inr located)))) = told_low _ _ _ verdict_low located.answer
+  claims_low j claims (inr (inr (inr extended))) = extended_low j _ claims extended.answer
 
   location_low : (j : Judged) (second : List ℕ) → IsLocationAnswered j second status text → status ≤ 3
   location_low j second (inl none) = omega (arith, none.status_is)
@@ -171,3 +176,8 @@ module _ (status : ℕ) (text : List ℕ) where
       failed = λ e. absurd (omega (arith, e));
       memory = λ e. a;
     })
+
+-- a sink to which nothing was written
+pub nothing_written : (written : Option (List ℕ)) → Appends written written []
+nothing_written None = tt
+nothing_written (Some bytes) = ap Some (sym (append-nil bytes))

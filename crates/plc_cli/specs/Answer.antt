@@ -6,10 +6,11 @@ use Rattle.plc_outside.specs.Known.{KnownFiles, KnownSink}
 use Rattle.plc_outside.specs.Outside.{Rose, Appends, AppendsPart}
 use Rattle.plc_check.specs.declared.judged.Judged.{Judged}
 use Rattle.plc_check.specs.Loading.{judged_of}
+use Rattle.plc_flow.specs.WellFormed.{FlowFits}
 use Rattle.plc_sched.specs.declared.schedule.Schedule.{Schedule}
 use Rattle.plc_sched.specs.declared.fault.SchedFault.{SchedFault}
 use Rattle.plc_sched.specs.declared.fault.SchedFault.TheVariants as sched
-use Rattle.plc_sched.specs.Schedules.{IsScheduleOf, IsScheduleFault}
+use Rattle.plc_sched.specs.Schedules.{IsScheduleOf, IsScheduleFault, IsWithinLimits}
 use Rattle.plc_reclaim.specs.Meanings.{Meanings}
 use Rattle.plc_replay.specs.Outcome.{ComesTo}
 use Rattle.plc_texts.specs.Refusals.{words_refused_text}
@@ -32,6 +33,11 @@ pub record IsRefusedSchedule (bytes : List ℕ) (status : ℕ) (text : List ℕ)
   pub told : fault ≢ sched.Memory
   pub status_is : status ≡ refused
   pub text_is : text ≡ schedule_fault_text fault
+
+-- the file has a flow that can be run, and the schedule is within its limits
+pub record CanBeReplayed (j : Judged) (schedule : Schedule) : Type 0 where
+  pub flow : FlowFits j.flow
+  pub schedule_fits : IsWithinLimits schedule
 
 -- what the schedule leads to under a reclaimer
 abbrev pub IsEndOf : Judged → Meanings → Schedule → ℕ → List ℕ → Type 0

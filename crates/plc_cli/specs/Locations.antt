@@ -9,12 +9,13 @@ use Rattle.plc_lex.specs.declared.fault.LexFault.{LexFault}
 use Rattle.plc_lex.specs.Spelling.{AreTokensOf}
 use Rattle.plc_syntax.specs.Syntax.{kinds}
 use Rattle.plc_parse.specs.declared.unit.Unit.{Unit as FileUnit}
+use Rattle.plc_flow.specs.declared.flow.Flow.{Flow}
 use Rattle.plc_flow.specs.Lowering.{flow_of}
 use Rattle.plc_flow.specs.Skeleton.{skeleton_of}
 use Rattle.plc_logic.specs.declared.clause.Outline.{Outline}
 use Rattle.plc_type.specs.declared.env.Env.{Env}
 use Rattle.plc_xfer.specs.declared.fault.TypeFault.{TypeFault}
-use Rattle.plc_xfer.specs.Typings.{IsTyping, IsStrongest, IsStuckAt}
+use Rattle.plc_xfer.specs.Typings.{IsStuckAt}
 use Rattle.plc_oblig.specs.Outlines.{HasFewObligations, HasSmallSets}
 use Rattle.plc_run.specs.Run.{NeverRaces}
 use Rattle.plc_joint.specs.Located.{ClaimsAreTrue}
@@ -26,6 +27,7 @@ use Rattle.plc_check.specs.declared.verdict.Verdict.{Verdict}
 use Rattle.plc_check.specs.declared.verdict.Verdict.TheVariants.{Safe, Untyped, Unproved}
 use Rattle.plc_check.specs.Loading.{IsFileOf, HasLexFault, judged_of}
 use Rattle.plc_check.specs.Outlined.{outlined, IsOutlineLimit}
+use Rattle.plc_check.specs.Strongest.{IsStrongestTyping}
 use Rattle.plc_check.specs.Verdicts.{IsVerdictOn}
 use Rattle.plc_texts.specs.Claims.{claim_fault_text, unlocated_text, located_text}
 use Rattle.plc_texts.specs.Refusals.{lex_fault_text, limit_text}
@@ -47,15 +49,10 @@ pub record IsUntypedAs (j : Judged) (status : ℕ) (text : List ℕ) : Type 0 wh
   pub status_is : status ≡ fails
   pub text_is : text ≡ untyped_text j.flow step prim fault
 
--- the strongest typing of the file
-pub record IsStrongestTypingOf (j : Judged) (typing : List Env) : Type 0 where
-  pub typed : IsTyping j.observer (skeleton_of j.flow) typing
-  pub strongest : IsStrongest j.observer (skeleton_of j.flow) typing
-
--- the first claim that isn't located under it
+-- the first claim that isn't located under the strongest typing
 pub record IsUnlocatedAs (j : Judged) (claims : List LocationClaim) (status : ℕ) (text : List ℕ) : Type 0 where
   pub typing : List Env
-  pub strongest : IsStrongestTypingOf j typing
+  pub strongest : IsStrongestTyping j typing
   pub claim : ℕ
   pub first : IsFirstUnlocated j.flow j.observer typing claims claim
   pub status_is : status ≡ fails
@@ -68,7 +65,7 @@ extended_of j typing claims = extended j.flow j.observer typing claims j.unit_ou
 -- each claim is located, and the extended outline has more items than it may have
 pub record HasTooManyItems (j : Judged) (claims : List LocationClaim) (status : ℕ) (text : List ℕ) : Type 0 where
   pub typing : List Env
-  pub strongest : IsStrongestTypingOf j typing
+  pub strongest : IsStrongestTyping j typing
   pub located : AreLocated j.flow j.observer typing claims
   pub many : most_items < length (extended_of j typing claims).items
   pub status_is : status ≡ refused
@@ -76,19 +73,9 @@ pub record HasTooManyItems (j : Judged) (claims : List LocationClaim) (status : 
 
 -- each claim is located, and the extended outline has no more items than it may have
 pub record AreExtended (j : Judged) (claims : List LocationClaim) (typing : List Env) : Type 0 where
-  pub strongest : IsStrongestTypingOf j typing
+  pub strongest : IsStrongestTyping j typing
   pub located : AreLocated j.flow j.observer typing claims
   pub few : length (extended_of j typing claims).items ≤ most_items
-
--- the extended outline passes a limit
-pub record HasLargeOutline (j : Judged) (claims : List LocationClaim) (status : ℕ) (text : List ℕ) : Type 0 where
-  pub typing : List Env
-  pub extends : AreExtended j claims typing
-  pub what : What1
-  pub count : ℕ
-  pub limit : IsOutlineLimit j.flow (extended_of j typing claims) what count
-  pub status_is : status ≡ refused
-  pub text_is : text ≡ limit_text what count
 
 -- the line of claims that are proved, or the verdict's text
 abbrev pub located_verdict_text : Judged → List LocationClaim → Verdict → List ℕ
@@ -96,20 +83,36 @@ located_verdict_text j claims (Safe typing count) = located_text (length claims)
 located_verdict_text j claims (Untyped step prim fault) = verdict_text j (Untyped step prim fault)
 located_verdict_text j claims (Unproved obligation set model) = verdict_text j (Unproved obligation set model)
 
--- any verdict that is right on the file with the extended outline, which is within its limits
+-- an outline passes a limit, which is told
+pub record IsOutlineLimitTold (flow : Flow) (outline : Outline) (status : ℕ) (text : List ℕ) : Type 0 where
+  pub what : What1
+  pub count : ℕ
+  pub limit : IsOutlineLimit flow outline what count
+  pub status_is : status ≡ refused
+  pub text_is : text ≡ limit_text what count
+
+-- the outline of a file is within its limits, and any verdict is told that is right on the file
+pub record IsVerdictTold (j : Judged) (claims : List LocationClaim) (status : ℕ) (text : List ℕ) : Type 0 where
+  pub few : HasFewObligations j.flow j.unit_outline
+  pub small : HasSmallSets j.flow j.unit_outline
+  pub answer : IsTold (IsVerdictOn j) verdict_status (located_verdict_text j claims) status text
+
+-- what is answered to claims by an outline that says what they need
+abbrev pub IsAnsweredWith : Judged → Outline → List LocationClaim → ℕ → List ℕ → Type 0
+IsAnsweredWith j outline claims status text =
+    IsOutlineLimitTold j.flow outline status text ⊎ IsVerdictTold (outlined j outline) claims status text
+
+-- the outline that is extended by the claims under the strongest typing answers them
 pub record IsLocatedAs (j : Judged) (claims : List LocationClaim) (status : ℕ) (text : List ℕ) : Type 0 where
   pub typing : List Env
   pub extends : AreExtended j claims typing
-  pub few : HasFewObligations j.flow (extended_of j typing claims)
-  pub small : HasSmallSets j.flow (extended_of j typing claims)
-  pub answer : IsTold (IsVerdictOn (outlined j (extended_of j typing claims))) verdict_status
-      (located_verdict_text (outlined j (extended_of j typing claims)) claims) status text
+  pub answer : IsAnsweredWith j (extended_of j typing claims) claims status text
 
 -- what is answered to claims: the first of these
 abbrev pub AreClaimsAnswered : Judged → List LocationClaim → ℕ → List ℕ → Type 0
 AreClaimsAnswered j claims status text =
     IsUntypedAs j status text ⊎ IsUnlocatedAs j claims status text ⊎ HasTooManyItems j claims status text
-    ⊎ HasLargeOutline j claims status text ⊎ IsLocatedAs j claims status text
+    ⊎ IsLocatedAs j claims status text
 
 -- ---- the bytes of claims
 

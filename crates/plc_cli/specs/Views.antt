@@ -1,30 +1,22 @@
 -- What the program's requests and a file that was loaded stand for.
-use Rattle.std.specs.Prelude.{◌≡◌, ◌⊎◌, ℕ, ◌<◌, ◌≤◌, List, [], ◌∷◌, All, Result, Ok, Err}
-use Rattle.plc_base.specs.declared.limits.What1.{What1}
+use Rattle.std.specs.Prelude.{◌≡◌, ◌⊎◌, ℕ, ◌<◌, ◌≤◌, List, [], ◌∷◌, All}
 use Rattle.plc_base.specs.Limits.{most_copies}
 use Rattle.plc_lex.specs.declared.token.Token.{Token}
 use Rattle.plc_lex.specs.Spelling.{AreTokensOf}
 use Rattle.plc_syntax.specs.Syntax.{kinds}
-use Rattle.plc_logic.specs.declared.clause.Outline.{Outline}
-use Rattle.plc_infer.specs.declared.typing.Typing.{Typing}
-use Rattle.plc_oblig.specs.Outlines.{HasFewObligations, HasSmallSets}
 use Rattle.plc_at.specs.declared.claim.LocationClaim.{LocationClaim}
 use Rattle.plc_at.specs.Claims.{SpellClaims, ClaimsStopAt, ClaimFits}
 use Rattle.plc_parse.specs.declared.unit.Unit.{Unit as FileUnit}
 use Rattle.plc_check.specs.declared.judged.Judged.{Judged}
-use Rattle.plc_check.specs.Outlined.{outlined, IsOutlineLimit}
-use Rattle.plc_check.specs.Verdicts.{IsVerdictOn}
 use Rattle.plc_texts.specs.Claims.{claim_fault_text}
-use Rattle.plc_texts.specs.Refusals.{limit_text}
 use Rattle.plc_sample.specs.Numbers.{sample_lines}
-use Rattle.plc_cli.specs.declared.answer.Answer.{Answer}
+use Rattle.plc_cli.specs.declared.locating.ReadClaims.{ReadClaims}
+use Rattle.plc_cli.specs.declared.locating.ReadClaims.TheVariants.{Claims, Refused}
 use Rattle.plc_cli.specs.declared.words.Request.{Request as Asked}
 use Rattle.plc_cli.specs.declared.words.Request.TheVariants as asked
-use Rattle.plc_cli.specs.Files.{IsTold}
-use Rattle.plc_cli.specs.Locations.{AreNoTokens, AreNoClaims, IsUntypedAs, IsStrongestTypingOf, located_verdict_text}
+use Rattle.plc_cli.specs.Locations.{AreNoTokens, AreNoClaims}
 use Rattle.plc_cli.specs.Requests.{Request, Check, Certify, Print, Verify, Replay, Sample, Suggest, Locate}
 use Rattle.plc_cli.specs.Statuses.{refused}
-use Rattle.plc_cli.specs.Verdicts.{verdict_status}
 
 -- a request, with the bytes of its names
 abbrev pub request_view : Asked → Request
@@ -62,10 +54,10 @@ pub record AreNoClaimsIn (j : Judged) (ts : List Token) (status : ℕ) (text : L
   pub text_is : text ≡ claim_fault_text place
 
 -- the claims that tokens spell, or the answer where they spell none
-abbrev pub AreReadTokens : Judged → List Token → Result (List LocationClaim) Answer → Type 0
-AreReadTokens j ts (Ok claims) =
+abbrev pub AreReadTokens : Judged → List Token → ReadClaims → Type 0
+AreReadTokens j ts (Claims claims) =
     SpellClaims j.flow j.observer (kinds ts) claims × All (ClaimFits j.flow) claims
-AreReadTokens j ts (Err answer) = AreNoClaimsIn j ts answer.status answer.text.items
+AreReadTokens j ts (Refused answer) = AreNoClaimsIn j ts answer.status answer.text.items
 
 -- the bytes spell tokens, which spell these claims
 pub record SpellFittingClaims (j : Judged) (second : List ℕ) (claims : List LocationClaim) : Type 0 where
@@ -75,33 +67,7 @@ pub record SpellFittingClaims (j : Judged) (second : List ℕ) (claims : List Lo
   pub fit : All (ClaimFits j.flow) claims
 
 -- the claims that bytes spell, or the answer where they spell none
-abbrev pub AreReadClaims : Judged → List ℕ → Result (List LocationClaim) Answer → Type 0
-AreReadClaims j second (Ok claims) = SpellFittingClaims j second claims
-AreReadClaims j second (Err answer) =
+abbrev pub AreReadClaims : Judged → List ℕ → ReadClaims → Type 0
+AreReadClaims j second (Claims claims) = SpellFittingClaims j second claims
+AreReadClaims j second (Refused answer) =
     AreNoTokens second answer.status answer.text.items ⊎ AreNoClaims j second answer.status answer.text.items
-
--- the strongest typing, or the answer where there is none
-abbrev pub IsTypedOrTold : Judged → Result Typing Answer → Type 0
-IsTypedOrTold j (Ok typing) = IsStrongestTypingOf j typing.env
-IsTypedOrTold j (Err answer) = IsUntypedAs j answer.status answer.text.items
-
--- the outline passes a limit, which is told
-pub record IsOutlineLimitTold (j : Judged) (outline : Outline) (status : ℕ) (text : List ℕ) : Type 0 where
-  pub what : What1
-  pub count : ℕ
-  pub limit : IsOutlineLimit j.flow outline what count
-  pub status_is : status ≡ refused
-  pub text_is : text ≡ limit_text what count
-
--- it is within its limits, and any verdict is told that is right on the file with it
-pub record IsVerdictTold (j : Judged) (outline : Outline) (claims : List LocationClaim) (status : ℕ) (text : List ℕ)
-    : Type 0 where
-  pub few : HasFewObligations j.flow outline
-  pub small : HasSmallSets j.flow outline
-  pub answer : IsTold (IsVerdictOn (outlined j outline)) verdict_status
-      (located_verdict_text (outlined j outline) claims) status text
-
--- what is answered to claims by an outline that says what they need
-abbrev pub IsAnsweredWith : Judged → Outline → List LocationClaim → ℕ → List ℕ → Type 0
-IsAnsweredWith j outline claims status text =
-    IsOutlineLimitTold j outline status text ⊎ IsVerdictTold j outline claims status text

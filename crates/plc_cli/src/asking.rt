@@ -1,19 +1,19 @@
 // What is asked of a file, and the way from a question to its answer: the file is read, its bytes are loaded, and
 // where they are refused that is the answer. So a question says no more than what is due for a file that was loaded.
 // `replay` loads its file itself, since a reclaimer is lent to it meanwhile.
-ghost use Rattle.std.specs.Prelude.{◌≤◌, IfOk, length};
+ghost use Rattle.std.specs.Prelude.{◌≡◌, ◌≤◌, IfOk, length};
 ghost use Rattle.plc_base.specs.Limits.{largest_file};
 ghost use Rattle.plc_setting.specs.Fit.{Fits};
 ghost use Rattle.plc_check.specs.Loading.{judged_of};
 ghost use Rattle.plc_cli.specs.Files.{IsAnsweredFile};
-ghost use Rattle.plc_cli.specs.Reads.{FilesAreKept, IsDueForFile};
+ghost use Rattle.plc_cli.specs.Reads.{FilesAreKept, IsDueForFile, IsDueForPair};
 
 use crate::answer::{Answer, refusal};
-use crate::reading::{Content, read};
-use plc_base::LARGEST_FILE;
-use plc_check::{Judged, LoadFault, load};
+use crate::reading::{Content, Contents, read, read_both};
+use plc_base::{LARGEST_FILE, NoMemory};
+use plc_check::{Judged, load};
 use plc_outside::Files;
-use std::alloc::{AllocError, Global};
+use std::alloc::Global;
 
 /// What is asked of a file.
 pub(crate) trait Question: Drop {
@@ -24,9 +24,36 @@ pub(crate) trait Question: Drop {
     ghost due: { Self → AJudged → ℕ → List ℕ → Type 0 };
 
     /// The answer to a file that was loaded.
-    fn answer(&self, alloc: Global, judged: &Judged) -> Result<Answer, AllocError>
+    fn answer(&self, alloc: Global, judged: &Judged) -> Result<Answer, NoMemory>
         requires { Fits judged.now.flow judged.now.unit_outline }
         ensures { IfOk result (λ answer. due self.now judged.now answer.status answer.text.items) };
+}
+
+/// What is asked of a file and of a second one that says something of it.
+pub(crate) trait PairQuestion {
+    ghost use Rattle.std.specs.Prelude.{ℕ, List};
+    ghost use Rattle.plc_check.specs.declared.judged.Judged.{Judged as AJudged};
+
+    /// The most bytes that the second file may have.
+    ghost limit: { Self → ℕ };
+
+    /// Whether a status and a text are due for a file that was loaded and the bytes of the second.
+    ghost due: { Self → AJudged → List ℕ → ℕ → List ℕ → Type 0 };
+
+    /// The most bytes that the second file may have.
+    fn most(&self) -> usize
+        ensures { result ≡ limit self.now };
+
+    /// The answer to a file that was loaded and the bytes of the second.
+    fn answer_second(
+        &self,
+        alloc: Global,
+        judged: Judged,
+        second: &[u8],
+    ) -> Result<Answer, NoMemory>
+        requires fits { Fits judged.flow judged.unit_outline }
+        requires short { length second.now ≤ limit self.now }
+        ensures { IfOk result (λ answer. due self.now judged second.now answer.status answer.text.items) };
 }
 
 /// The answer to a file that was loaded.
@@ -34,7 +61,7 @@ fn answer_loaded<Q: Question>(
     alloc: Global,
     judged: Judged,
     question: &Q,
-) -> Result<Answer, AllocError>
+) -> Result<Answer, NoMemory>
     requires { Fits judged.flow judged.unit_outline }
     ensures { IfOk result (λ answer. Q.due question.now judged answer.status answer.text.items) }
 {
@@ -48,14 +75,13 @@ pub(crate) fn answer_bytes<Q: Question>(
     alloc: Global,
     bytes: &[u8],
     question: &Q,
-) -> Result<Answer, AllocError>
+) -> Result<Answer, NoMemory>
     requires { length bytes.now ≤ largest_file }
     ensures { IfOk result (λ answer.
         IsAnsweredFile (λ u. Q.due question.now (judged_of u)) bytes.now answer.status answer.text.items) }
 {
     match load(alloc, bytes) {
         Ok(judged) => answer_loaded(alloc, judged, question),
-        Err(LoadFault::Memory) => Err(AllocError),
         Err(fault) => refusal(alloc, &fault),
     }
 }
@@ -66,7 +92,7 @@ pub(crate) fn answer_file<F: Files, Q: Question>(
     files: &mut F,
     file: &str,
     question: Q,
-) -> Result<Answer, AllocError>
+) -> Result<Answer, NoMemory>
     ensures kept { FilesAreKept (F.known files.old) (F.known files.new) }
     ensures due { IfOk result (λ answer. IsDueForFile (F.known files.old) (F.known files.new) file.now
         (λ bytes. IsAnsweredFile (λ u. Q.due question (judged_of u)) bytes answer.status answer.text.items)
@@ -75,5 +101,43 @@ pub(crate) fn answer_file<F: Files, Q: Question>(
     match read(alloc, files, file, LARGEST_FILE)? {
         Content::Read(bytes) => answer_bytes(alloc, &bytes, &question),
         Content::Unread(answer) => Ok(answer),
+    }
+}
+
+/// The answer to the bytes of two files; the first file's refusals go first.
+fn answer_both<Q: PairQuestion>(
+    alloc: Global,
+    bytes: &[u8],
+    second: &[u8],
+    question: &Q,
+) -> Result<Answer, NoMemory>
+    requires bytes { length bytes.now ≤ largest_file }
+    requires second { length second.now ≤ Q.limit question.now }
+    ensures { IfOk result (λ answer. IsAnsweredFile (λ u. Q.due question.now (judged_of u) second.now)
+        bytes.now answer.status answer.text.items) }
+{
+    match load(alloc, bytes) {
+        Ok(judged) => question.answer_second(alloc, judged, second),
+        Err(fault) => refusal(alloc, &fault),
+    }
+}
+
+/// The answer to a command with two files.
+pub(crate) fn answer_pair<F: Files, Q: PairQuestion>(
+    alloc: Global,
+    files: &mut F,
+    file: &str,
+    second: &str,
+    question: &Q,
+) -> Result<Answer, NoMemory>
+    ensures kept { FilesAreKept (F.known files.old) (F.known files.new) }
+    ensures due { IfOk result (λ answer. IsDueForPair (F.known files.old) (F.known files.new)
+        file.now second.now (Q.limit question.now)
+        (λ bytes more. IsAnsweredFile (λ u. Q.due question.now (judged_of u) more)
+        bytes answer.status answer.text.items) answer.status answer.text.items) }
+{
+    match read_both(alloc, files, file, second, question.most())? {
+        Contents::Read(bytes, more) => answer_both(alloc, &bytes, &more, question),
+        Contents::Unread(answer) => Ok(answer),
     }
 }

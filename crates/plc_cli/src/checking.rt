@@ -18,11 +18,11 @@ pub(crate) struct ForVerdict;
 impl Question for ForVerdict {
     ghost due = { λ _ judged. IsJudgedAs judged };
 
-    fn answer(&self, alloc: Global, judged: &Judged) -> Result<Answer, AllocError> {
-        match check(alloc, judged) {
-            Ok(verdict) => verdict_answer(alloc, judged, verdict),
-            Err(NoMemory) => Err(AllocError),
-        }
+    fn answer(&self, alloc: Global, judged: &Judged) -> Result<Answer, NoMemory> {
+        let verdict = check(alloc, judged)?;
+        let answer = verdict_answer(alloc, judged, &verdict);
+        drop(verdict);
+        answer
     }
 }
 
@@ -77,16 +77,13 @@ pub fn verdict_text(
 pub(crate) fn verdict_answer(
     alloc: Global,
     judged: &Judged,
-    verdict: Verdict,
-) -> Result<Answer, AllocError>
-    ensures { IfOk result (λ answer. (answer.status ≡ verdict_status verdict)
-        × (answer.text.items ≡ verdict_text judged.now verdict)) }
+    verdict: &Verdict,
+) -> Result<Answer, NoMemory>
+    ensures { IfOk result (λ answer. (answer.status ≡ verdict_status verdict.now)
+        × (answer.text.items ≡ verdict_text judged.now verdict.now)) }
 {
-    let status = verdict_status(&verdict);
-    let text = verdict_text(alloc, judged, &verdict);
-    drop(verdict);
     Ok(Answer {
-        status,
-        text: text?,
+        status: verdict_status(verdict),
+        text: verdict_text(alloc, judged, verdict)?,
     })
 }

@@ -98,5 +98,5 @@ pub use plc_outside::{
 pub use plc_reclaim::{ByList, Epoch, Hazard, Leak, Reclaimer};
 pub use program::run;
 pub use reading::{Content, Contents, read, read_both};
-pub use replaying::answer_schedule;
+pub use replaying::{Recorded, answer_schedule, end_of};
 pub use status::{NO_MEMORY, NOT_UTF8, REFUSED, UNWRITTEN, words_status};

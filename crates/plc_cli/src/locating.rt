@@ -6,28 +6,27 @@ ghost use Rattle.std.specs.Prelude.{◌≡◌, ◌<◌, ◌≤◌, ◌^◌, IfOk
 ghost use Rattle.plc_base.specs.Limits.{largest_file};
 ghost use Rattle.plc_setting.specs.Fit.{Fits};
 ghost use Rattle.plc_at.specs.Claims.{ClaimFits};
+ghost use Rattle.plc_check.specs.Strongest.{IsStrongestTyping};
 ghost use Rattle.plc_check.specs.Verdicts.{IsVerdictOn};
 ghost use Rattle.plc_texts.specs.Claims.{unlocated_text};
 ghost use Rattle.plc_texts.specs.Refusals.{limit_text};
+ghost use Rattle.plc_texts.specs.Untyped.{untyped_text};
 ghost use Rattle.plc_cli.specs.Files.{IsTold};
-ghost use Rattle.plc_cli.specs.Locations.{located_verdict_text, AreClaimsAnswered, IsLocationAnswered, IsLocationOf};
-ghost use Rattle.plc_cli.specs.Locations.{IsStrongestTypingOf};
-ghost use Rattle.plc_cli.specs.Reads.{FilesAreKept, IsDueForPair};
+ghost use Rattle.plc_cli.specs.Locations.{located_verdict_text, IsAnsweredWith, AreClaimsAnswered, IsLocationAnswered};
 ghost use Rattle.plc_cli.specs.Statuses.{fails, refused};
 ghost use Rattle.plc_cli.specs.Verdicts.{verdict_status};
-ghost use Rattle.plc_cli.specs.Views.{AreReadClaims, AreReadTokens, IsTypedOrTold, IsAnsweredWith};
+ghost use Rattle.plc_cli.specs.Views.{AreReadClaims, AreReadTokens};
+ghost use Rattle.plc_cli.specs.declared.locating.ReadClaims.TheVariants.{Refused};
 
-use crate::answer::{Answer, refusal};
+use crate::answer::Answer;
+use crate::asking::PairQuestion;
 use crate::checking::{verdict_status, verdict_text};
-use crate::reading::{Contents, read_both};
 use crate::status::{FAILS, REFUSED};
 use plc_at::{AtFault, ClaimFault, LocationClaim, extend, read_claims};
 use plc_base::{Items, LARGEST_FILE, NoMemory, What1};
-use plc_check::{Judged, LoadFault, OutlineFault, Verdict, check, load, with_outline};
-use plc_infer::{InferFault, Typing, infer};
+use plc_check::{Judged, OutlineFault, Typed, Verdict, check, strongest_typing, with_outline};
 use plc_lex::{LexFault, Token, tokens};
 use plc_logic::Outline;
-use plc_outside::Files;
 use plc_texts::{
     FailedCondition, claim_fault_text, lex_fault_text, limit_text, located_text, unlocated_text,
     untyped_text,
@@ -56,53 +55,32 @@ fn located_answer(
     alloc: Global,
     judged: &Judged,
     claims: &[LocationClaim],
-    verdict: Verdict,
-) -> Result<Answer, AllocError>
-    ensures { IfOk result (λ answer. (answer.status ≡ verdict_status verdict)
-        × (answer.text.items ≡ located_verdict_text judged.now claims.now verdict)) }
+    verdict: &Verdict,
+) -> Result<Answer, NoMemory>
+    ensures { IfOk result (λ answer. (answer.status ≡ verdict_status verdict.now)
+        × (answer.text.items ≡ located_verdict_text judged.now claims.now verdict.now)) }
 {
-    let status = verdict_status(&verdict);
-    let text = located_verdict_text(alloc, judged, claims, &verdict);
-    drop(verdict);
     Ok(Answer {
-        status,
-        text: text?,
+        status: verdict_status(verdict),
+        text: located_verdict_text(alloc, judged, claims, verdict)?,
     })
 }
 
 /// The answer to claims for a file with an outline that says what they need.
-fn judge_claims(
-    alloc: Global,
-    judged: &Judged,
-    claims: &[LocationClaim],
-) -> Result<Answer, AllocError>
-    requires { Fits judged.now.flow judged.now.unit_outline }
-    ensures { IfOk result (λ answer. IsTold (IsVerdictOn judged.now) verdict_status
-        (located_verdict_text judged.now claims.now) answer.status answer.text.items) }
-{
-    match check(alloc, judged) {
-        Ok(verdict) => located_answer(alloc, judged, claims, verdict),
-        Err(NoMemory) => Err(AllocError),
-    }
-}
-
-/// The same, after which what is judged ends.
-fn judge_claims_once(
-    alloc: Global,
-    judged: Judged,
-    claims: &[LocationClaim],
-) -> Result<Answer, AllocError>
+fn judge_claims(alloc: Global, judged: Judged, claims: &[LocationClaim]) -> Result<Answer, NoMemory>
     requires { Fits judged.flow judged.unit_outline }
     ensures { IfOk result (λ answer. IsTold (IsVerdictOn judged) verdict_status
         (located_verdict_text judged claims.now) answer.status answer.text.items) }
 {
-    let answer = judge_claims(alloc, &judged, claims);
+    let verdict = check(alloc, &judged)?;
+    let answer = located_answer(alloc, &judged, claims, &verdict);
+    drop(verdict);
     drop(judged);
     answer
 }
 
 /// The answer where a limit is passed.
-fn limit_answer(alloc: Global, what: What1, count: u32) -> Result<Answer, AllocError>
+fn limit_answer(alloc: Global, what: What1, count: u32) -> Result<Answer, NoMemory>
     ensures { IfOk result (λ answer. (answer.status ≡ refused) × (answer.text.items ≡ limit_text what count)) }
 {
     Ok(Answer {
@@ -112,7 +90,7 @@ fn limit_answer(alloc: Global, what: What1, count: u32) -> Result<Answer, AllocE
 }
 
 /// The answer where a claim isn't located.
-fn unlocated_answer(alloc: Global, claim: u32) -> Result<Answer, AllocError>
+fn unlocated_answer(alloc: Global, claim: u32) -> Result<Answer, NoMemory>
     ensures { IfOk result (λ answer. (answer.status ≡ fails) × (answer.text.items ≡ unlocated_text claim)) }
 {
     Ok(Answer {
@@ -127,13 +105,13 @@ fn answer_with(
     judged: Judged,
     outline: Outline,
     claims: &[LocationClaim],
-) -> Result<Answer, AllocError>
+) -> Result<Answer, NoMemory>
     requires { Fits judged.flow outline }
     ensures { IfOk result (λ answer.
         IsAnsweredWith judged outline claims.now answer.status answer.text.items) }
 {
     match with_outline(judged, outline) {
-        Ok(judged) => judge_claims_once(alloc, judged, claims),
+        Ok(judged) => judge_claims(alloc, judged, claims),
         Err(OutlineFault::Limit { what, count }) => limit_answer(alloc, what, count),
     }
 }
@@ -153,10 +131,10 @@ fn answer_typed(
     mut judged: Judged,
     claims: &[LocationClaim],
     typing: &[Env],
-) -> Result<Answer, AllocError>
+) -> Result<Answer, NoMemory>
     requires fits { Fits judged.flow judged.unit_outline }
     requires claims { All (ClaimFits judged.flow) claims.now }
-    requires typing { IsStrongestTypingOf judged typing.now }
+    requires typing { IsStrongestTyping judged typing.now }
     ensures { IfOk result (λ answer.
         AreClaimsAnswered judged claims.now answer.status answer.text.items) }
 {
@@ -165,23 +143,23 @@ fn answer_typed(
         Ok(outline) => answer_with(alloc, judged, outline, claims),
         Err(AtFault::Unlocated { claim }) => unlocated_answer(alloc, claim),
         Err(AtFault::Items { count }) => limit_answer(alloc, What1::Items, count),
-        Err(AtFault::Memory) => Err(AllocError),
+        Err(AtFault::Memory) => Err(NoMemory),
     }
 }
 
-/// The strongest typing, or the answer where there is none.
-fn typing_of(alloc: Global, judged: &Judged) -> Result<Result<Typing, Answer>, AllocError>
-    requires { Fits judged.now.flow judged.now.unit_outline }
-    ensures { IfOk result (IsTypedOrTold judged.now) }
+/// The answer to a file that has no typing.
+fn untyped_answer(
+    alloc: Global,
+    judged: &Judged,
+    failed: FailedCondition,
+) -> Result<Answer, NoMemory>
+    ensures { IfOk result (λ answer. (answer.status ≡ fails)
+        × (answer.text.items ≡ untyped_text judged.now.flow failed.step.0 failed.prim failed.fault)) }
 {
-    match infer(alloc, &judged.flow, &judged.observer) {
-        Ok(typing) => Ok(Ok(typing)),
-        Err(InferFault::Stuck { step, prim, fault }) => Ok(Err(Answer {
-            status: FAILS,
-            text: untyped_text(alloc, &judged.flow, FailedCondition { step, prim, fault })?,
-        })),
-        Err(InferFault::Memory) => Err(AllocError),
-    }
+    Ok(Answer {
+        status: FAILS,
+        text: untyped_text(alloc, &judged.flow, failed)?,
+    })
 }
 
 /// The answer to claims that were read.
@@ -189,102 +167,86 @@ fn answer_claims(
     alloc: Global,
     judged: Judged,
     claims: &[LocationClaim],
-) -> Result<Answer, AllocError>
+) -> Result<Answer, NoMemory>
     requires fits { Fits judged.flow judged.unit_outline }
     requires claims { All (ClaimFits judged.flow) claims.now }
     ensures { IfOk result (λ answer.
         AreClaimsAnswered judged claims.now answer.status answer.text.items) }
 {
-    match typing_of(alloc, &judged) {
-        Ok(Ok(typing)) => answer_typed(alloc, judged, claims, typing.env.as_slice()),
-        Ok(Err(failure)) => Ok(failure),
-        Err(AllocError) => Err(AllocError),
+    match strongest_typing(alloc, &judged)? {
+        Typed::Typing(typing) => answer_typed(alloc, judged, claims, typing.env.as_slice()),
+        Typed::Untyped { step, prim, fault } => {
+            untyped_answer(alloc, &judged, FailedCondition { step, prim, fault })
+        }
     }
 }
 
-/// The claims that tokens spell, or the answer where they spell none.
-fn claims_in(
-    alloc: Global,
-    judged: &Judged,
-    found: &[Token],
-) -> Result<Result<Items<LocationClaim>, Answer>, AllocError>
+/// What bytes are read as: claims, or the answer where they spell none.
+#[derive(Drop)]
+enum ReadClaims {
+    /// The claims that they spell.
+    Claims(Items<LocationClaim>),
+    /// The answer to bytes that spell none.
+    Refused(Answer),
+}
+
+/// The answer to bytes that spell no claims.
+fn refuse_claims(text: Vec<u8>) -> ReadClaims
+    ensures { result ≡ Refused (record { status = refused; text = text }) }
+{
+    ReadClaims::Refused(Answer {
+        status: REFUSED,
+        text,
+    })
+}
+
+/// The claims that tokens spell.
+fn claims_in(alloc: Global, judged: &Judged, found: &[Token]) -> Result<ReadClaims, NoMemory>
     requires fits { Fits judged.now.flow judged.now.unit_outline }
     requires few { length found.now < 2 ^ 32 }
     ensures { IfOk result (AreReadTokens judged.now found.now) }
 {
     match read_claims(alloc, found, &judged.flow, &judged.observer) {
-        Ok(claims) => Ok(Ok(Items::from_vec(claims))),
-        Err(ClaimFault::Token { at }) => Ok(Err(Answer {
-            status: REFUSED,
-            text: claim_fault_text(alloc, at)?,
-        })),
-        Err(ClaimFault::Memory) => Err(AllocError),
+        Ok(claims) => Ok(ReadClaims::Claims(Items::from_vec(claims))),
+        Err(ClaimFault::Token { at }) => Ok(refuse_claims(claim_fault_text(alloc, at)?)),
+        Err(ClaimFault::Memory) => Err(NoMemory),
     }
 }
 
-/// The claims that bytes spell, or the answer where they spell none.
-fn claims_of(
-    alloc: Global,
-    judged: &Judged,
-    bytes: &[u8],
-) -> Result<Result<Items<LocationClaim>, Answer>, AllocError>
+/// The claims that bytes spell.
+fn claims_of(alloc: Global, judged: &Judged, bytes: &[u8]) -> Result<ReadClaims, NoMemory>
     requires fits { Fits judged.now.flow judged.now.unit_outline }
     requires short { length bytes.now ≤ largest_file }
     ensures { IfOk result (AreReadClaims judged.now bytes.now) }
 {
     match tokens(alloc, bytes) {
         Ok(found) => claims_in(alloc, judged, &found),
-        Err(LexFault::Memory) => Err(AllocError),
-        Err(fault) => Ok(Err(Answer {
-            status: REFUSED,
-            text: lex_fault_text(alloc, fault)?,
-        })),
+        Err(LexFault::Memory) => Err(NoMemory),
+        Err(fault) => Ok(refuse_claims(lex_fault_text(alloc, fault)?)),
     }
 }
 
-/// The answer to the bytes of claims for a file that was loaded.
-fn answer_second(alloc: Global, judged: Judged, bytes: &[u8]) -> Result<Answer, AllocError>
-    requires fits { Fits judged.flow judged.unit_outline }
-    requires short { length bytes.now ≤ largest_file }
-    ensures { IfOk result (λ answer.
-        IsLocationAnswered judged bytes.now answer.status answer.text.items) }
-{
-    match claims_of(alloc, &judged, bytes) {
-        Ok(Ok(claims)) => answer_claims(alloc, judged, claims.as_slice()),
-        Ok(Err(answer)) => Ok(answer),
-        Err(AllocError) => Err(AllocError),
-    }
-}
+/// The question whether the bytes of a second file are claims that are true for a file.
+pub(crate) struct ForLocations;
 
-/// The answer to the bytes of a file and of claims; the file's refusals go first. It is no `Question`, since another
-/// outline takes the place of the file's.
-fn locate(alloc: Global, bytes: &[u8], second: &[u8]) -> Result<Answer, AllocError>
-    requires bytes { length bytes.now ≤ largest_file }
-    requires second { length second.now ≤ largest_file }
-    ensures { IfOk result (λ answer. IsLocationOf bytes.now second.now answer.status answer.text.items) }
-{
-    match load(alloc, bytes) {
-        Ok(judged) => answer_second(alloc, judged, second),
-        Err(LoadFault::Memory) => Err(AllocError),
-        Err(fault) => refusal(alloc, &fault),
-    }
-}
+impl PairQuestion for ForLocations {
+    ghost limit = { λ _. largest_file };
 
-/// The answer to `locate FILE CLAIMS`.
-pub(crate) fn locate_file<F: Files>(
-    alloc: Global,
-    files: &mut F,
-    file: &str,
-    claims: &str,
-) -> Result<Answer, AllocError>
-    ensures kept { FilesAreKept (F.known files.old) (F.known files.new) }
-    ensures due { IfOk result (λ answer. IsDueForPair (F.known files.old) (F.known files.new)
-        file.now claims.now largest_file
-        (λ bytes second. IsLocationOf bytes second answer.status answer.text.items)
-        answer.status answer.text.items) }
-{
-    match read_both(alloc, files, file, claims, LARGEST_FILE)? {
-        Contents::Read(bytes, second) => locate(alloc, &bytes, &second),
-        Contents::Unread(answer) => Ok(answer),
+    ghost due = { λ _ judged second. IsLocationAnswered judged second };
+
+    fn most(&self) -> usize {
+        LARGEST_FILE
+    }
+
+    fn answer_second(
+        &self,
+        alloc: Global,
+        judged: Judged,
+        second: &[u8],
+    ) -> Result<Answer, NoMemory> {
+        match claims_of(alloc, &judged, second)? {
+            ReadClaims::Claims(claims) => answer_claims(alloc, judged, claims.as_slice()),
+            ReadClaims::Refused(answer) => Ok(answer),
+        }
     }
 }

@@ -8,7 +8,7 @@ use crate::status::HOLDS;
 use plc_base::NoMemory;
 use plc_check::Judged;
 use plc_print::print_parts;
-use std::alloc::{AllocError, Global};
+use std::alloc::Global;
 
 /// The question for the canonical text of a file.
 #[derive(Drop)]
@@ -17,14 +17,11 @@ pub(crate) struct ForText;
 impl Question for ForText {
     ghost due = { λ _ judged. IsPrintedAs (unit_of judged) };
 
-    fn answer(&self, alloc: Global, judged: &Judged) -> Result<Answer, AllocError> {
+    fn answer(&self, alloc: Global, judged: &Judged) -> Result<Answer, NoMemory> {
         let file = &judged.flow.file;
-        match print_parts(alloc, file, judged.observer, &judged.unit_outline) {
-            Ok(text) => Ok(Answer {
-                status: HOLDS,
-                text,
-            }),
-            Err(NoMemory) => Err(AllocError),
-        }
+        Ok(Answer {
+            status: HOLDS,
+            text: print_parts(alloc, file, judged.observer, &judged.unit_outline)?,
+        })
     }
 }

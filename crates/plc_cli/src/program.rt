@@ -1,30 +1,27 @@
 // One way through the program: words, reads, answer, write. Nothing is written before the whole text
 // is there, so running out of memory before that leaves the output as it was.
-ghost use Rattle.std.specs.Prelude.{◌≡◌, ◌≤◌, false, IfOk, map, string_bytes};
+ghost use Rattle.std.specs.Prelude.{◌≡◌, false, IfOk, map, string_bytes};
 ghost use Rattle.plc_cli.specs.Requests.{asks_for_files, request_of};
 ghost use Rattle.plc_cli.specs.Reads.{FilesAreKept};
-ghost use Rattle.plc_cli.specs.Answer.{IsDueFor, Outcome};
-ghost use Rattle.plc_cli.specs.Completeness.{Completeness};
-ghost use Rattle.plc_cli.specs.Headline.{Headline};
-ghost use Rattle.plc_cli.specs.Locations.{LocatedRuns};
-ghost use Rattle.plc_cli.specs.Served.{ServedReplays};
-ghost use Rattle.plc_cli.specs.Suggestions.{Suggested};
+ghost use Rattle.plc_cli.specs.Answer.{IsDueFor};
+ghost use Rattle.plc_cli.specs.Program.{Runs};
 
 use crate::answer::{Answer, words_refusal};
-use crate::asking::answer_file;
+use crate::asking::{answer_file, answer_pair};
 use crate::certifying::ForCertificate;
 use crate::checking::ForVerdict;
-use crate::locating::locate_file;
+use crate::locating::ForLocations;
 use crate::printing::ForText;
 use crate::replaying::replay_file;
 use crate::sampling::judge_sample;
 use crate::status::{NO_MEMORY, UNWRITTEN};
 use crate::suggesting::ForSuggestions;
-use crate::verifying::verify_file;
+use crate::verifying::ForValidity;
 use crate::words::{Request, request_of};
+use plc_base::NoMemory;
 use plc_outside::{Files, Sink, SinkFault, write_text};
 use plc_reclaim::Reclaimer;
-use std::alloc::{AllocError, Global};
+use std::alloc::Global;
 
 /// The answer to the words.
 fn answer_to<F: Files>(
@@ -32,7 +29,7 @@ fn answer_to<F: Files>(
     words: &[String],
     files: &mut F,
     reclaimers: &mut [Box<dyn Reclaimer>],
-) -> Result<Answer, AllocError>
+) -> Result<Answer, NoMemory>
     ensures kept { FilesAreKept (F.known files.old) (F.known files.new) }
     ensures untouched { asks_for_files (request_of (map named reclaimers.old) (map string_bytes words.now)) ≡ false
         → F.known files.new ≡ F.known files.old }
@@ -45,7 +42,7 @@ fn answer_to<F: Files>(
         Some(Request::Certify { file }) => answer_file(alloc, files, file, ForCertificate),
         Some(Request::Print { file }) => answer_file(alloc, files, file, ForText),
         Some(Request::Verify { file, certificate }) => {
-            verify_file(alloc, files, file, certificate)
+            answer_pair(alloc, files, file, certificate, &ForValidity)
         }
         Some(
             Request::Replay {
@@ -56,7 +53,9 @@ fn answer_to<F: Files>(
         ) => replay_file(alloc, files, file, schedule, &mut reclaimers[reclaimer]),
         Some(Request::Sample { copies, line }) => judge_sample(alloc, copies, line),
         Some(Request::Suggest { file }) => answer_file(alloc, files, file, ForSuggestions),
-        Some(Request::Locate { file, claims }) => locate_file(alloc, files, file, claims),
+        Some(Request::Locate { file, claims }) => {
+            answer_pair(alloc, files, file, claims, &ForLocations)
+        }
         None => words_refusal(alloc),
     }
 }
@@ -74,28 +73,12 @@ pub fn run<F: Files, S: Sink>(
     out: &mut S,
     mut reclaimers: Vec<Box<dyn Reclaimer>>,
 ) -> u8
-    ensures outcome { Outcome (map meanings reclaimers.items)
+    ensures { Runs (map meanings reclaimers.items)
         (request_of (map named reclaimers.items) (map string_bytes words.now))
         (F.known files.old) (F.known files.new) (S.known out.old) (S.known out.new) result }
-    ensures headline { Headline (request_of (map named reclaimers.items) (map string_bytes words.now))
-        (F.known files.old) (F.known files.new) result }
-    ensures completeness { Completeness (map meanings reclaimers.items)
-        (request_of (map named reclaimers.items) (map string_bytes words.now))
-        (F.known files.old) (F.known files.new) (S.known out.old) (S.known out.new) result }
-    ensures served { ServedReplays (map meanings reclaimers.items)
-        (request_of (map named reclaimers.items) (map string_bytes words.now))
-        (F.known files.old) (F.known files.new) (S.known out.old) (S.known out.new) result }
-    ensures suggested { Suggested (request_of (map named reclaimers.items) (map string_bytes words.now))
-        (F.known files.old) (F.known files.new) (S.known out.old) (S.known out.new) result }
-    ensures located { LocatedRuns (request_of (map named reclaimers.items) (map string_bytes words.now))
-        (F.known files.old) (F.known files.new) result }
-    ensures untouched { asks_for_files (request_of (map named reclaimers.items) (map string_bytes words.now)) ≡ false
-        → F.known files.new ≡ F.known files.old }
-    ensures files_kept { FilesAreKept (F.known files.old) (F.known files.new) }
-    ensures count_kept { (S.known out.old).faults ≤ (S.known out.new).faults }
 {
     match answer_to(alloc, words, files, &mut reclaimers) {
-        Err(AllocError) => NO_MEMORY,
+        Err(NoMemory) => NO_MEMORY,
         Ok(answer) => match write_text(out, &answer.text) {
             Ok(()) => answer.status,
             Err(SinkFault::Failed) => UNWRITTEN,

@@ -5,10 +5,10 @@ ghost use Rattle.plc_cli.specs.Reads.{FilesAreKept, IsContentOf, AreContentsOf};
 
 use crate::answer::Answer;
 use crate::status::UNREAD;
-use plc_base::LARGEST_FILE;
+use plc_base::{LARGEST_FILE, NoMemory};
 use plc_outside::{FileFault, Files};
 use plc_texts::{read_failed_text, read_too_long_text};
-use std::alloc::{AllocError, Global};
+use std::alloc::Global;
 
 /// What a read came to.
 #[derive(Drop)]
@@ -35,7 +35,7 @@ pub fn read<F: Files>(
     files: &mut F,
     name: &str,
     most: usize,
-) -> Result<Content, AllocError>
+) -> Result<Content, NoMemory>
     ensures kept { FilesAreKept (F.known files.old) (F.known files.new) }
     ensures others { (other : List ℕ) → other ≢ name.now →
         (F.known files.new).faults other ≡ (F.known files.old).faults other }
@@ -51,7 +51,7 @@ pub fn read<F: Files>(
             status: UNREAD,
             text: read_too_long_text(alloc)?,
         })),
-        Err(FileFault::Memory) => Err(AllocError),
+        Err(FileFault::Memory) => Err(NoMemory),
     }
 }
 
@@ -63,7 +63,7 @@ pub fn read_both<F: Files>(
     first: &str,
     second: &str,
     most: usize,
-) -> Result<Contents, AllocError>
+) -> Result<Contents, NoMemory>
     ensures kept { FilesAreKept (F.known files.old) (F.known files.new) }
     ensures read { IfOk result (AreContentsOf (F.known files.old) (F.known files.new) first.now second.now most) }
 {

@@ -2,8 +2,8 @@
 ghost use Rattle.std.specs.Prelude.{◌≡◌, ◌≤◌, IfOk, length};
 ghost use Rattle.plc_base.specs.Limits.{largest_file, largest_schedule};
 ghost use Rattle.plc_flow.specs.WellFormed.{FlowFits};
-ghost use Rattle.plc_sched.specs.Schedules.{IsWithinLimits};
-ghost use Rattle.plc_cli.specs.Answer.{IsReplayOf, IsScheduleAnswered, IsEndOf};
+ghost use Rattle.plc_replay.specs.Outcome.{ComesTo};
+ghost use Rattle.plc_cli.specs.Answer.{IsReplayOf, IsScheduleAnswered, IsEndOf, CanBeReplayed};
 ghost use Rattle.plc_cli.specs.Reads.{FilesAreKept, IsDueForPair};
 ghost use Rattle.plc_cli.specs.Statuses.{end_status};
 
@@ -11,13 +11,13 @@ use crate::answer::{Answer, refusal};
 use crate::reading::{Contents, read_both};
 use crate::status::{FAILS, HOLDS, REFUSED};
 use plc_base::{LARGEST_SCHEDULE, NoMemory};
-use plc_check::{Judged, LoadFault, load};
+use plc_check::{Judged, load};
 use plc_outside::Files;
 use plc_reclaim::Reclaimer;
 use plc_replay::{End, replay};
 use plc_sched::{SchedFault, Schedule, read_schedule};
 use plc_texts::{end_text, schedule_fault_text};
-use std::alloc::{AllocError, Global};
+use std::alloc::Global;
 
 /// The status of an end: that of a failure where it isn't the end of the schedule.
 fn end_status(end: &End) -> u8
@@ -29,33 +29,50 @@ fn end_status(end: &End) -> u8
     }
 }
 
-/// The answer of `replay` to a schedule that was read. The one error is that memory runs out.
-pub fn answer_schedule(
+/// A schedule that was read for a file that was loaded: what it leads to is a matter of the reclaimer alone.
+#[derive(Clone, Copy)]
+pub struct Recorded<'a> {
+    pub judged: &'a Judged,
+    pub schedule: &'a Schedule,
+}
+
+/// What a schedule leads to under a reclaimer. The one error is that memory runs out.
+pub fn end_of(
     alloc: Global,
-    judged: &Judged,
-    schedule: &Schedule,
+    recorded: Recorded,
     reclaimer: &mut Box<dyn Reclaimer>,
-) -> Result<Answer, AllocError>
-    requires flow { FlowFits judged.now.flow }
-    requires schedule { IsWithinLimits schedule.now }
-    ensures { IfOk result (λ answer.
-        IsEndOf judged.now (meanings reclaimer.old) schedule.now answer.status answer.text.items) }
+) -> Result<End, NoMemory>
+    requires { CanBeReplayed recorded.judged.now recorded.schedule.now }
+    ensures { IfOk result (ComesTo recorded.entry.judged.now.flow recorded.entry.judged.now.observer
+        (meanings reclaimer.old) recorded.entry.judged.now.schemes recorded.entry.schedule.now) }
 {
+    let judged = recorded.judged;
     let schemes = judged.schemes.as_slice();
-    match replay(
+    replay(
         alloc,
         &judged.flow,
         &judged.observer,
         schemes,
-        schedule,
+        recorded.schedule,
         reclaimer,
-    ) {
-        Ok(end) => Ok(Answer {
-            status: end_status(&end),
-            text: end_text(alloc, &end)?,
-        }),
-        Err(NoMemory) => Err(AllocError),
-    }
+    )
+}
+
+/// The answer of `replay` to a schedule that was read. The one error is that memory runs out.
+pub fn answer_schedule(
+    alloc: Global,
+    recorded: Recorded,
+    reclaimer: &mut Box<dyn Reclaimer>,
+) -> Result<Answer, NoMemory>
+    requires { CanBeReplayed recorded.judged.now recorded.schedule.now }
+    ensures { IfOk result (λ answer. IsEndOf recorded.entry.judged.now (meanings reclaimer.old)
+        recorded.entry.schedule.now answer.status answer.text.items) }
+{
+    let end = end_of(alloc, recorded, reclaimer)?;
+    Ok(Answer {
+        status: end_status(&end),
+        text: end_text(alloc, &end)?,
+    })
 }
 
 /// The answer to the bytes of a schedule.
@@ -64,14 +81,20 @@ fn answer_schedule_bytes(
     judged: &Judged,
     bytes: &[u8],
     reclaimer: &mut Box<dyn Reclaimer>,
-) -> Result<Answer, AllocError>
+) -> Result<Answer, NoMemory>
     requires flow { FlowFits judged.now.flow }
     ensures { IfOk result (λ answer.
         IsScheduleAnswered judged.now (meanings reclaimer.old) bytes.now answer.status answer.text.items) }
 {
     match read_schedule(alloc, bytes) {
-        Ok(schedule) => answer_schedule(alloc, judged, &schedule, reclaimer),
-        Err(SchedFault::Memory) => Err(AllocError),
+        Ok(schedule) => {
+            let recorded = Recorded {
+                judged,
+                schedule: &schedule,
+            };
+            answer_schedule(alloc, recorded, reclaimer)
+        }
+        Err(SchedFault::Memory) => Err(NoMemory),
         Err(fault) => Ok(Answer {
             status: REFUSED,
             text: schedule_fault_text(alloc, fault)?,
@@ -85,7 +108,7 @@ fn answer_second(
     judged: Judged,
     bytes: &[u8],
     reclaimer: &mut Box<dyn Reclaimer>,
-) -> Result<Answer, AllocError>
+) -> Result<Answer, NoMemory>
     requires flow { FlowFits judged.flow }
     ensures { IfOk result (λ answer.
         IsScheduleAnswered judged (meanings reclaimer.old) bytes.now answer.status answer.text.items) }
@@ -102,14 +125,13 @@ fn replay_bytes(
     bytes: &[u8],
     second: &[u8],
     reclaimer: &mut Box<dyn Reclaimer>,
-) -> Result<Answer, AllocError>
+) -> Result<Answer, NoMemory>
     requires { length bytes.now ≤ largest_file }
     ensures { IfOk result (λ answer.
         IsReplayOf (meanings reclaimer.old) bytes.now second.now answer.status answer.text.items) }
 {
     match load(alloc, bytes) {
         Ok(judged) => answer_second(alloc, judged, second, reclaimer),
-        Err(LoadFault::Memory) => Err(AllocError),
         Err(fault) => refusal(alloc, &fault),
     }
 }
@@ -121,7 +143,7 @@ pub(crate) fn replay_file<F: Files>(
     file: &str,
     schedule: &str,
     reclaimer: &mut Box<dyn Reclaimer>,
-) -> Result<Answer, AllocError>
+) -> Result<Answer, NoMemory>
     ensures kept { FilesAreKept (F.known files.old) (F.known files.new) }
     ensures due { IfOk result (λ answer. IsDueForPair (F.known files.old) (F.known files.new)
         file.now schedule.now largest_schedule

@@ -39,7 +39,7 @@ fn sample_answer(
     line: u16,
     judged: &Judged,
     verdict: &Verdict,
-) -> Result<Answer, AllocError>
+) -> Result<Answer, NoMemory>
     ensures { IfOk result (λ answer. (answer.status ≡ verdict_status verdict.now)
         × (answer.text.items ≡ sampled_text copies line judged.now verdict.now)) }
 {
@@ -59,22 +59,20 @@ struct ForSample {
 impl Question for ForSample {
     ghost due = { λ sample judged. IsSampledAs sample.copies sample.line judged };
 
-    fn answer(&self, alloc: Global, judged: &Judged) -> Result<Answer, AllocError> {
-        match check(alloc, judged) {
-            Ok(verdict) => sample_answer(alloc, self.copies, self.line, judged, &verdict),
-            Err(NoMemory) => Err(AllocError),
-        }
+    fn answer(&self, alloc: Global, judged: &Judged) -> Result<Answer, NoMemory> {
+        let verdict = check(alloc, judged)?;
+        let answer = sample_answer(alloc, self.copies, self.line, judged, &verdict);
+        drop(verdict);
+        answer
     }
 }
 
 /// The answer to `sample K N`: `copies` is K, and `line` is N.
-pub(crate) fn judge_sample(alloc: Global, copies: u8, line: u16) -> Result<Answer, AllocError>
+pub(crate) fn judge_sample(alloc: Global, copies: u8, line: u16) -> Result<Answer, NoMemory>
     requires copies { (1 ≤ copies) × (copies ≤ most_copies) }
     requires line { line ≤ sample_lines copies }
     ensures { IfOk result (λ answer. IsSampleAnswer copies line answer.status answer.text.items) }
 {
-    match text(alloc, copies, line) {
-        Ok(bytes) => answer_bytes(alloc, &bytes, &ForSample { copies, line }),
-        Err(NoMemory) => Err(AllocError),
-    }
+    let bytes = text(alloc, copies, line)?;
+    answer_bytes(alloc, &bytes, &ForSample { copies, line })
 }

@@ -6,6 +6,7 @@ ghost use Rattle.plc_cli.specs.Suggestions.{IsSuggestionAnswered, suggestion_sta
 use crate::answer::Answer;
 use crate::asking::Question;
 use crate::status::{FAILS, HOLDS, REFUSED};
+use plc_base::NoMemory;
 use plc_check::Judged;
 use plc_suggest::{SuggestFault, Suggestion, suggest};
 use plc_texts::{FailedCondition, insufficient_text, spots_limit_text, suggested_text};
@@ -46,17 +47,14 @@ fn suggestion_text(
 fn suggestion_answer(
     alloc: Global,
     judged: &Judged,
-    suggestion: Suggestion,
-) -> Result<Answer, AllocError>
-    ensures { IfOk result (λ answer. (answer.status ≡ suggestion_status suggestion)
-        × (answer.text.items ≡ suggestion_text judged.now suggestion)) }
+    suggestion: &Suggestion,
+) -> Result<Answer, NoMemory>
+    ensures { IfOk result (λ answer. (answer.status ≡ suggestion_status suggestion.now)
+        × (answer.text.items ≡ suggestion_text judged.now suggestion.now)) }
 {
-    let status = suggestion_status(&suggestion);
-    let text = suggestion_text(alloc, judged, &suggestion);
-    drop(suggestion);
     Ok(Answer {
-        status,
-        text: text?,
+        status: suggestion_status(suggestion),
+        text: suggestion_text(alloc, judged, suggestion)?,
     })
 }
 
@@ -67,14 +65,18 @@ pub(crate) struct ForSuggestions;
 impl Question for ForSuggestions {
     ghost due = { λ _ judged. IsSuggestionAnswered judged };
 
-    fn answer(&self, alloc: Global, judged: &Judged) -> Result<Answer, AllocError> {
+    fn answer(&self, alloc: Global, judged: &Judged) -> Result<Answer, NoMemory> {
         match suggest(alloc, &judged.flow, &judged.observer) {
-            Ok(suggestion) => suggestion_answer(alloc, judged, suggestion),
+            Ok(suggestion) => {
+                let answer = suggestion_answer(alloc, judged, &suggestion);
+                drop(suggestion);
+                answer
+            }
             Err(SuggestFault::TooMany { count }) => Ok(Answer {
                 status: REFUSED,
                 text: spots_limit_text(alloc, count)?,
             }),
-            Err(SuggestFault::Memory) => Err(AllocError),
+            Err(SuggestFault::Memory) => Err(NoMemory),
         }
     }
 }

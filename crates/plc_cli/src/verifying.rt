@@ -2,23 +2,20 @@
 ghost use Rattle.std.specs.Prelude.{IfOk};
 ghost use Rattle.plc_base.specs.Limits.{largest_certificate};
 ghost use Rattle.plc_setting.specs.Fit.{Fits};
-ghost use Rattle.plc_cli.specs.Certificates.{IsVerificationOf, IsCertificateAnswered, IsCertificateJudged};
-ghost use Rattle.plc_cli.specs.Reads.{FilesAreKept, IsDueForPair};
+ghost use Rattle.plc_cli.specs.Certificates.{IsCertificateAnswered, IsCertificateJudged};
 
 use crate::answer::Answer;
-use crate::asking::{Question, answer_bytes};
-use crate::reading::{Contents, read_both};
+use crate::asking::PairQuestion;
 use crate::status::{FAILS, HOLDS, REFUSED};
-use plc_base::LARGEST_CERTIFICATE;
+use plc_base::{LARGEST_CERTIFICATE, NoMemory};
 use plc_cert::{Cert, CertFault, read};
 use plc_check::Judged;
-use plc_outside::Files;
 use plc_texts::{certificate_fault_text, invalid_text, verified_text};
 use plc_verify::{VerifyFault, verify};
-use std::alloc::{AllocError, Global};
+use std::alloc::Global;
 
 /// The answer to a certificate that was read.
-fn judge_certificate(alloc: Global, judged: &Judged, cert: &Cert) -> Result<Answer, AllocError>
+fn judge_certificate(alloc: Global, judged: &Judged, cert: &Cert) -> Result<Answer, NoMemory>
     requires { Fits judged.now.flow judged.now.unit_outline }
     ensures { IfOk result (λ answer.
         IsCertificateJudged judged.now cert.now answer.status answer.text.items) }
@@ -35,7 +32,7 @@ fn judge_certificate(alloc: Global, judged: &Judged, cert: &Cert) -> Result<Answ
             status: HOLDS,
             text: verified_text(alloc, &judged.flow, cert.trees.len() as u64)?,
         }),
-        Err(VerifyFault::Memory) => Err(AllocError),
+        Err(VerifyFault::Memory) => Err(NoMemory),
         Err(fault) => Ok(Answer {
             status: FAILS,
             text: invalid_text(alloc, &judged.flow, fault)?,
@@ -44,14 +41,14 @@ fn judge_certificate(alloc: Global, judged: &Judged, cert: &Cert) -> Result<Answ
 }
 
 /// The answer to the bytes of a certificate.
-fn answer_certificate(alloc: Global, judged: &Judged, bytes: &[u8]) -> Result<Answer, AllocError>
+fn answer_certificate(alloc: Global, judged: &Judged, bytes: &[u8]) -> Result<Answer, NoMemory>
     requires { Fits judged.now.flow judged.now.unit_outline }
     ensures { IfOk result (λ answer.
         IsCertificateAnswered judged.now bytes.now answer.status answer.text.items) }
 {
     match read(alloc, bytes) {
         Ok(cert) => judge_certificate(alloc, judged, &cert),
-        Err(CertFault::Memory) => Err(AllocError),
+        Err(CertFault::Memory) => Err(NoMemory),
         Err(fault) => Ok(Answer {
             status: REFUSED,
             text: certificate_fault_text(alloc, fault)?,
@@ -59,41 +56,26 @@ fn answer_certificate(alloc: Global, judged: &Judged, bytes: &[u8]) -> Result<An
     }
 }
 
-/// The question whether these bytes are a certificate that is valid for a file.
-#[derive(Drop)]
-struct ForValidity<'a> {
-    certificate: &'a [u8],
-}
+/// The question whether the bytes of a second file are a certificate that is valid for a file.
+pub(crate) struct ForValidity;
 
-impl<'a> Question for ForValidity<'a> {
-    ghost due = { λ question judged. IsCertificateAnswered judged question.certificate.now };
+impl PairQuestion for ForValidity {
+    ghost limit = { λ _. largest_certificate };
 
-    fn answer(&self, alloc: Global, judged: &Judged) -> Result<Answer, AllocError> {
-        answer_certificate(alloc, judged, self.certificate)
+    ghost due = { λ _ judged second. IsCertificateAnswered judged second };
+
+    fn most(&self) -> usize {
+        LARGEST_CERTIFICATE
     }
-}
 
-/// The answer to `verify FILE CERTIFICATE`.
-pub(crate) fn verify_file<F: Files>(
-    alloc: Global,
-    files: &mut F,
-    file: &str,
-    certificate: &str,
-) -> Result<Answer, AllocError>
-    ensures kept { FilesAreKept (F.known files.old) (F.known files.new) }
-    ensures due { IfOk result (λ answer. IsDueForPair (F.known files.old) (F.known files.new)
-        file.now certificate.now largest_certificate
-        (λ bytes second. IsVerificationOf bytes second answer.status answer.text.items)
-        answer.status answer.text.items) }
-{
-    match read_both(alloc, files, file, certificate, LARGEST_CERTIFICATE)? {
-        Contents::Read(bytes, second) => answer_bytes(
-            alloc,
-            &bytes,
-            &ForValidity {
-                certificate: &second,
-            },
-        ),
-        Contents::Unread(answer) => Ok(answer),
+    fn answer_second(
+        &self,
+        alloc: Global,
+        judged: Judged,
+        second: &[u8],
+    ) -> Result<Answer, NoMemory> {
+        let answer = answer_certificate(alloc, &judged, second);
+        drop(judged);
+        answer
     }
 }

@@ -1,0 +1,2 @@
+-- what contracts say for the crates above alone
+pub mod Running

@@ -1,13 +1,11 @@
 // What can be told of a race: through which pointer it goes, where its node was retired and where it was freed, each by
 // the line of the schedule and by that of the file. The run is followed once more for it; no answer rests on it.
-ghost use Rattle.plc_flow.specs.StepsByPoint.{IsIndexOf, first_points};
-ghost use Rattle.plc_flow.specs.WellFormed.{FlowFits};
-ghost use Rattle.plc_run.specs.Position.{IsOfRun};
+ghost use Rattle.plc_explore.specs.Running.{IsIndexed, IsRunOf};
 
-use crate::follow::mover;
 use crate::frees::Frees;
 use crate::pointers::Seen;
 use crate::program::Program;
+use crate::running::{Running, mover, step_of};
 use crate::trail::Trail;
 use plc_auto::Event;
 use plc_base::NoMemory;
@@ -15,14 +13,14 @@ use plc_flow::Step;
 use plc_lang::Var;
 use plc_mem::RaceKind;
 use plc_run::{Config, Moved};
-use plc_threads::{Move, StartFault};
+use plc_threads::Move;
 use std::alloc::Global;
 
-/// A line of the schedule, and the line of the file whose step it takes; 0 where it takes none.
+/// A line of the schedule, and the line of the file whose step it takes, if it takes one.
 #[derive(Clone, Copy)]
 pub struct Lines {
     pub schedule: u32,
-    pub file: u32,
+    pub file: Option<u32>,
 }
 
 /// An event that is told: what happened to an address, and where.
@@ -87,53 +85,12 @@ fn last_before(happened: &[Happened], a: u32, line: u32) -> Option<Lines> {
     last
 }
 
-/// The step that a move takes, if it takes one.
-fn step_of<'a>(program: &Program<'a>, config: &Config, m: &Move) -> Option<&'a Step>
-    requires { IsIndexOf (first_points program.now.flow.now) program.now.steps.now }
-{
-    let Move::Step { t, nth, .. } = m else {
-        return None;
-    };
-    let point = config.point(*t)?;
-    program.steps.nth_step(program.flow, point.at, *nth)
-}
-
-/// The line of a step in the file.
-fn line_of(step: Option<&Step>) -> u32 {
-    match step {
-        Some(step) => step.line,
-        None => 0,
-    }
-}
-
-/// The move that is made: a free where a reclaimer is asked is that of what it picks.
-fn asked(frees: &mut Frees, m: &Move) -> Option<u32> {
+/// The free that is made where a move is one and a reclaimer is asked: that of what it picks.
+fn asked(frees: &mut Frees, m: &Move) -> Option<Move> {
     match m {
-        Move::Free { a } => frees.again(*a),
+        Move::Free { a } => frees.again(*a).map(|a| Move::Free { a }),
         _ => None,
     }
-}
-
-/// Makes a move, and hands its events over.
-fn make(
-    program: &Program,
-    config: &mut Config,
-    frees: &mut Frees,
-    m: &Move,
-) -> Result<Moved, NoMemory>
-    requires fits { FlowFits program.now.flow.now }
-    requires of_run { IsOfRun program.now.flow.now program.now.observer.now config.old }
-    ensures of_run { IsOfRun program.now.flow.now program.now.observer.now config.new }
-{
-    let before = config.history().len();
-    let moved = match asked(frees, m) {
-        Some(a) => config.step(program.flow, program.observer, &Move::Free { a })?,
-        None => config.step(program.flow, program.observer, m)?,
-    };
-    for event in config.history().iter().skip(before) {
-        frees.hear(event)?;
-    }
-    Ok(moved)
 }
 
 /// Notes where the node at an address was freed last, and where it was retired before that; of one that is retired a
@@ -206,30 +163,29 @@ fn account_of(
 /// Follows moves to their race, and says what is known of it.
 fn account_from(
     program: &Program,
-    config: &mut Config,
-    frees: &mut Frees,
+    run: &mut Running,
     notes: &mut Notes,
     moves: &[Move],
 ) -> Result<Option<Account>, NoMemory>
-    requires fits { FlowFits program.now.flow.now }
-    requires indexed { IsIndexOf (first_points program.now.flow.now) program.now.steps.now }
-    requires of_run { IsOfRun program.now.flow.now program.now.observer.now config.old }
+    requires indexed { IsIndexed program.now }
+    requires of_run { IsRunOf program.now run.old.config }
 {
     let mut line = 1u32;
     for m in moves {
         line = line.saturating_add(1);
-        let before = config.history().len();
-        let step = step_of(program, config, m);
+        let before = run.config.history().len();
+        let step = step_of(program, &run.config, m);
         let at = Lines {
             schedule: line,
-            file: line_of(step),
+            file: step.map(|step| step.line),
         };
-        match make(program, config, frees, m)? {
+        let free = asked(run.frees, m);
+        match run.make(program, free.as_ref().unwrap_or(m))? {
             Moved::Race { kind, prim } => {
                 let race = Race { at, kind, prim };
-                return Ok(Some(account_of(config, notes, mover(m), step, race)));
+                return Ok(Some(account_of(&run.config, notes, mover(m), step, race)));
             }
-            Moved::Done => notes.note(config.history(), before, at)?,
+            Moved::Done => notes.note(run.config.history(), before, at)?,
             Moved::Blocked | Moved::Forbidden { .. } => {}
         }
     }
@@ -243,18 +199,14 @@ pub fn follow_to_race(
     frees: &mut Frees,
     trail: &Trail,
 ) -> Result<Option<Account>, NoMemory>
-    requires fits { FlowFits program.now.flow.now }
-    requires indexed { IsIndexOf (first_points program.now.flow.now) program.now.steps.now }
+    requires { IsIndexed program.now }
 {
-    frees.begin(program.schemes)?;
     let mut notes = Notes {
         retired: Vec::new(alloc),
         freed: Vec::new(alloc),
     };
-    let moves = trail.moves.as_slice();
-    match Config::start(alloc, program.flow, program.observer, trail.threads.max(1)) {
-        Ok(mut config) => account_from(program, &mut config, frees, &mut notes, moves),
-        Err(StartFault::NoStart) => Ok(None),
-        Err(StartFault::Memory) => Err(NoMemory),
+    match Running::begin(alloc, program, frees, trail.threads.max(1))? {
+        Some(mut run) => account_from(program, &mut run, &mut notes, trail.moves.as_slice()),
+        None => Ok(None),
     }
 }

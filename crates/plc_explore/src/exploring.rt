@@ -1,16 +1,13 @@
 // Runs are drawn one after the other, until one races or as many moves were made as there may be.
-ghost use Rattle.std.specs.Prelude.{◌≡◌, ◌<◌, IfOk, IfSome};
-ghost use Rattle.plc_flow.specs.StepsByPoint.{IsIndexOf, first_points};
-ghost use Rattle.plc_flow.specs.WellFormed.{FlowFits};
+ghost use Rattle.plc_explore.specs.Running.{IsIndexed};
 
 use crate::frees::Frees;
 use crate::program::Program;
 use crate::random::Random;
+use crate::running::Running;
 use crate::trail::Trail;
 use crate::walker::Walker;
-use plc_base::{Items, NoMemory};
-use plc_run::Config;
-use plc_threads::StartFault;
+use plc_base::NoMemory;
 use std::alloc::Global;
 
 /// What came of drawing runs: the run that races, if there is one, and how many runs and moves were made, frees among
@@ -36,26 +33,18 @@ fn draw(
     frees: &mut Frees,
     random: &mut Random,
 ) -> Result<Option<Drawn>, NoMemory>
-    requires fits { FlowFits program.now.flow.now }
-    requires indexed { IsIndexOf (first_points program.now.flow.now) program.now.steps.now }
+    requires { IsIndexed program.now }
 {
     if program.flow.file.ops.is_empty() {
         return Ok(None);
     }
-    let mut walker = Walker::new(alloc, program, random, frees)?;
-    let threads = walker.threads();
-    let mut config = match Config::start(alloc, program.flow, program.observer, threads) {
-        Ok(config) => config,
-        Err(StartFault::NoStart) => return Ok(None),
-        Err(StartFault::Memory) => return Err(NoMemory),
+    let mut walker = Walker::new(alloc, random)?;
+    let Some(mut run) = Running::begin(alloc, program, frees, walker.threads())? else {
+        return Ok(None);
     };
-    let races = walker.walk(program, &mut config)?;
-    drop(config);
+    let races = walker.walk(program, &mut run)?;
     let moves = walker.count();
-    let trail = races.then(|| Trail {
-        threads,
-        moves: Items::from_vec(walker.into_moves()),
-    });
+    let trail = races.then(|| walker.into_trail());
     Ok(Some(Drawn { trail, moves }))
 }
 
@@ -68,8 +57,7 @@ pub fn explore(
     random: &mut Random,
     most: u64,
 ) -> Result<Explored, NoMemory>
-    requires fits { FlowFits program.now.flow.now }
-    requires indexed { IsIndexOf (first_points program.now.flow.now) program.now.steps.now }
+    requires { IsIndexed program.now }
 {
     let mut explored = Explored {
         trail: None,

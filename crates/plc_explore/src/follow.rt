@@ -1,15 +1,21 @@
 // A recorded run with some of its moves left out: whether it still races, and where its threads stand on the way.
-ghost use Rattle.std.specs.Prelude.{◌<◌};
-ghost use Rattle.plc_flow.specs.WellFormed.{FlowFits};
-ghost use Rattle.plc_run.specs.Position.{IsOfRun};
+ghost use Rattle.plc_explore.specs.Running.{IsRunOf, MayRun};
 
 use crate::frees::Frees;
 use crate::program::Program;
-use plc_auto::Event;
+use crate::running::{Running, mover};
 use plc_base::NoMemory;
 use plc_run::{Config, Moved};
-use plc_threads::{Move, StartFault};
+use plc_threads::Move;
 use std::alloc::Global;
+
+/// A recorded run among so many threads, and which of its moves are kept.
+#[derive(Drop)]
+pub struct Recorded {
+    pub threads: u32,
+    pub moves: Vec<Move>,
+    pub kept: Vec<bool>,
+}
 
 /// Where a thread stood before a move of its own: the number of the move, the thread, and the point, if it was in an
 /// operation.
@@ -30,7 +36,7 @@ pub struct Way {
 }
 
 /// What came of one move.
-#[derive(Clone, Copy, PartialEq, Eq)]
+#[derive(Clone, Copy)]
 enum Met {
     /// It leads on.
     Goes,
@@ -40,14 +46,6 @@ enum Met {
     None,
     /// It is a free, and nothing is freed.
     Idle,
-}
-
-/// The thread that makes a move.
-pub fn mover(m: &Move) -> Option<u32> {
-    match m {
-        Move::Start { t, .. } | Move::Step { t, .. } | Move::Return { t } => Some(*t),
-        Move::Free { .. } => None,
-    }
 }
 
 /// Where the thread of a move stands before it.
@@ -60,80 +58,50 @@ fn stand_of(config: &Config, number: usize, m: &Move) -> Option<Stand> {
     Some(Stand { number, t, at })
 }
 
-/// Hands over the events after so many.
-fn hear(frees: &mut Frees, history: &[Event], before: usize) -> Result<(), NoMemory> {
-    for event in history.iter().skip(before) {
-        frees.hear(event)?;
-    }
-    Ok(())
-}
-
-/// Makes a move.
-fn make(
-    program: &Program,
-    config: &mut Config,
-    frees: &mut Frees,
-    m: &Move,
-) -> Result<Met, NoMemory>
-    requires fits { FlowFits program.now.flow.now }
-    requires of_run { IsOfRun program.now.flow.now program.now.observer.now config.old }
-    ensures of_run { IsOfRun program.now.flow.now program.now.observer.now config.new }
+/// Makes a move, of which this is said where there is none.
+fn make_or(program: &Program, run: &mut Running, m: &Move, otherwise: Met) -> Result<Met, NoMemory>
+    requires { IsRunOf program.now run.old.config }
+    ensures { IsRunOf program.now run.new.config }
 {
-    let before = config.history().len();
-    match config.step(program.flow, program.observer, m)? {
-        Moved::Done => {
-            hear(frees, config.history(), before)?;
-            Ok(Met::Goes)
-        }
-        Moved::Race { .. } => Ok(Met::Races),
-        Moved::Blocked | Moved::Forbidden { .. } => Ok(Met::None),
-    }
+    Ok(match run.make(program, m)? {
+        Moved::Done => Met::Goes,
+        Moved::Race { .. } => Met::Races,
+        Moved::Blocked | Moved::Forbidden { .. } => otherwise,
+    })
 }
 
 /// Makes a move again. A free is that of the address that is to be freed now; where there is none, or it may not be
 /// freed now, nothing happens.
-fn make_again(
-    program: &Program,
-    config: &mut Config,
-    frees: &mut Frees,
-    m: &Move,
-) -> Result<Met, NoMemory>
-    requires fits { FlowFits program.now.flow.now }
-    requires of_run { IsOfRun program.now.flow.now program.now.observer.now config.old }
-    ensures of_run { IsOfRun program.now.flow.now program.now.observer.now config.new }
+fn make_again(program: &Program, run: &mut Running, m: &Move) -> Result<Met, NoMemory>
+    requires { IsRunOf program.now run.old.config }
+    ensures { IsRunOf program.now run.new.config }
 {
     match m {
-        Move::Free { a } => {
-            let Some(a) = frees.again(*a) else {
-                return Ok(Met::Idle);
-            };
-            let met = make(program, config, frees, &Move::Free { a })?;
-            Ok(if met == Met::None { Met::Idle } else { met })
-        }
-        _ => make(program, config, frees, m),
+        Move::Free { a } => match run.frees.again(*a) {
+            Some(a) => make_or(program, run, &Move::Free { a }, Met::Idle),
+            None => Ok(Met::Idle),
+        },
+        _ => make_or(program, run, m, Met::None),
     }
 }
 
 /// Follows the moves that are kept, and answers how many of all moves there are up to the race, if one races.
 fn follow_from(
     program: &Program,
-    config: &mut Config,
-    frees: &mut Frees,
-    moves: &[Move],
-    kept: &[bool],
+    run: &mut Running,
+    recorded: &Recorded,
     way: &mut Way,
 ) -> Result<Option<usize>, NoMemory>
-    requires fits { FlowFits program.now.flow.now }
-    requires of_run { IsOfRun program.now.flow.now program.now.observer.now config.old }
+    requires { IsRunOf program.now run.old.config }
 {
-    for (number, m) in moves.iter().enumerate() {
-        if !kept.get(number).copied().unwrap_or(false) {
+    for (number, m) in recorded.moves.iter().enumerate() {
+        if !recorded.kept.get(number).copied().unwrap_or(false) {
             continue;
         }
-        if let Some(stand) = stand_of(config, number, m) {
+        if let Some(stand) = stand_of(&run.config, number, m) {
             way.stands.push(stand)?;
         }
-        match make_again(program, config, frees, m)? {
+        match make_again(program, run, m)? {
             Met::Goes => {}
             Met::Idle => way.idle.push(number)?,
             Met::Races => return Ok(Some(number.saturating_add(1))),
@@ -143,26 +111,21 @@ fn follow_from(
     Ok(None)
 }
 
-/// Follows the moves that are kept, from where runs begin among so many threads, and answers how many of all moves
-/// there are up to the race, if one races. `way` says what was seen of them.
+/// Follows the moves that are kept, from where runs begin, and answers how many of all moves there are up to the race,
+/// if one races. `way` says what was seen of them.
 pub fn follow(
     alloc: Global,
     program: &Program,
     frees: &mut Frees,
-    threads: u32,
-    moves: &[Move],
-    kept: &[bool],
+    recorded: &Recorded,
     way: &mut Way,
 ) -> Result<Option<usize>, NoMemory>
-    requires fits { FlowFits program.now.flow.now }
-    requires some { 0 < threads }
+    requires { MayRun program.now }
 {
-    frees.begin(program.schemes)?;
     way.stands.clear();
     way.idle.clear();
-    match Config::start(alloc, program.flow, program.observer, threads) {
-        Ok(mut config) => follow_from(program, &mut config, frees, moves, kept, way),
-        Err(StartFault::NoStart) => Ok(None),
-        Err(StartFault::Memory) => Err(NoMemory),
+    match Running::begin(alloc, program, frees, recorded.threads.max(1))? {
+        Some(mut run) => follow_from(program, &mut run, recorded, way),
+        None => Ok(None),
     }
 }

@@ -16,6 +16,7 @@ mod plan;
 mod pointers;
 mod program;
 mod random;
+mod running;
 mod shortening;
 mod trail;
 mod walker;

@@ -2,7 +2,7 @@
 // that took it can't go back, so whoever draws runs looks at what comes after it first. This is a guess, on which no
 // answer rests: of a block it asks the primitives up to the first that changes what the next ones see.
 use plc_flow::{Flow, Step, StepsByPoint};
-use plc_lang::Prim;
+use plc_lang::{Prim, is_test};
 use plc_mem::{Locals, Memory, Outcome};
 
 /// An address that no node has, for a look at a step that makes one.
@@ -18,20 +18,15 @@ pub struct Outlook<'a> {
 
 /// Whether a primitive leaves all numbers and marks as they are.
 fn only_asks(prim: &Prim) -> bool {
-    matches!(
-        prim,
-        Prim::Eq { .. }
-            | Prim::Ne { .. }
-            | Prim::IsNull { .. }
-            | Prim::NotNull { .. }
-            | Prim::DataTest { .. }
-            | Prim::MarkTest { .. }
-            | Prim::Refresh { .. }
-            | Prim::RefreshLoad { .. }
-            | Prim::RefreshStore { .. }
-            | Prim::Active { .. }
-            | Prim::Ghost { .. }
-    )
+    is_test(prim)
+        || matches!(
+            prim,
+            Prim::Refresh { .. }
+                | Prim::RefreshLoad { .. }
+                | Prim::RefreshStore { .. }
+                | Prim::Active { .. }
+                | Prim::Ghost { .. }
+        )
 }
 
 impl Outlook<'_> {

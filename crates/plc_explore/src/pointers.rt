@@ -1,6 +1,7 @@
 // Which pointer a race is about, and what it holds. The racing primitive may stand in a block after others that assign
 // the pointer; then its value is looked for there, as far as it was copied or loaded.
-use plc_lang::{Arg, Prim, Var};
+use plc_base::FieldId;
+use plc_lang::{Prim, Var, assigned, risked};
 use plc_mem::{Cell, Memory};
 use plc_threads::Place;
 
@@ -13,44 +14,11 @@ pub struct Seen<'a> {
     pub prim: u16,
 }
 
-/// The pointers that a primitive goes through, compares or retires.
-fn pointers_of(prim: &Prim) -> (Option<Var>, Option<Var>) {
-    match *prim {
-        Prim::Load { q, .. } | Prim::DataLoad { q, .. } | Prim::RefreshLoad { q, .. } => (
-            Some(q),
-            None,
-        ),
-        Prim::Store { p, .. }
-        | Prim::StoreNull { p, .. }
-        | Prim::DataStore { p, .. }
-        | Prim::RefreshStore { p, .. } => (Some(p), None),
-        Prim::Eq { p, q } | Prim::Ne { p, q } => (Some(p), Some(q)),
-        Prim::Call {
-            arg: Arg::Var(p),
-            ..
-        } => (Some(p), None),
-        _ => (None, None),
-    }
-}
-
-/// The pointer to which a primitive assigns, and the one that it copies, or through which it loads.
-fn assigned(prim: &Prim) -> Option<(Var, Option<Var>)> {
-    match *prim {
-        Prim::Copy { p, q }
-        | Prim::Mark { p, q }
-        | Prim::Unmark { p, q }
-        | Prim::Load { p, q, .. } => Some((p, Some(q))),
-        Prim::Refresh { p, q } | Prim::RefreshLoad { p, q, .. } => Some((Var::Local(p), Some(q))),
-        Prim::Null { p } | Prim::New { p } => Some((p, None)),
-        _ => None,
-    }
-}
-
 impl Seen<'_> {
     /// The pointers that the race may be about.
     pub fn racing_pointers(&self) -> (Option<Var>, Option<Var>) {
         match self.prims.get(self.prim as usize) {
-            Some(prim) => pointers_of(prim),
+            Some(prim) => risked(prim),
             None => (None, None),
         }
     }
@@ -64,14 +32,21 @@ impl Seen<'_> {
         self.memory.cell(&place)
     }
 
-    /// What a primitive of the step before the race gives to the pointer that it assigns.
-    fn given(&self, prim: &Prim, from: Option<Var>) -> Option<Cell> {
-        let cell = self.value(from?)?;
+    /// What a field of the node of a pointer holds before the step.
+    fn loaded(&self, var: Var, f: FieldId) -> Option<Cell> {
+        let cell = self.value(var)?;
+        self.memory.cell(&Place::Cell { a: cell.number, f })
+    }
+
+    /// What a primitive of the step before the race gives to the pointer that it assigns, if it copies or loads it.
+    fn given(&self, prim: &Prim) -> Option<Cell> {
         match *prim {
-            Prim::Load { f, .. } | Prim::RefreshLoad { f, .. } => self
-                .memory
-                .cell(&Place::Cell { a: cell.number, f }),
-            _ => Some(cell),
+            Prim::Copy { q, .. }
+            | Prim::Mark { q, .. }
+            | Prim::Unmark { q, .. }
+            | Prim::Refresh { q, .. } => self.value(q),
+            Prim::Load { q, f, .. } | Prim::RefreshLoad { q, f, .. } => self.loaded(q, f),
+            _ => None,
         }
     }
 
@@ -79,10 +54,8 @@ impl Seen<'_> {
     pub fn value_before(&self, var: Var) -> Option<Cell> {
         let mut held = self.value(var);
         for prim in self.prims.iter().take(self.prim as usize) {
-            if let Some((to, from)) = assigned(prim) {
-                if to == var {
-                    held = self.given(prim, from);
-                }
+            if assigned(prim) == Some(var) {
+                held = self.given(prim);
             }
         }
         held

@@ -2,12 +2,12 @@
 // of one thread between two moments at which it stands at the same point, or from one moment on; so a whole operation,
 // a turn of a loop, and all that a thread does are among them. The longest are tried first. Each attempt is followed
 // from the beginning (delta debugging, Zeller 1999).
-ghost use Rattle.std.specs.Prelude.{◌<◌};
-ghost use Rattle.plc_flow.specs.WellFormed.{FlowFits};
+ghost use Rattle.plc_explore.specs.Running.{MayRun};
 
-use crate::follow::{Stand, Way, follow, mover};
+use crate::follow::{Recorded, Stand, Way, follow};
 use crate::frees::Frees;
 use crate::program::Program;
+use crate::running::mover;
 use crate::trail::Trail;
 use plc_base::{Items, NoMemory};
 use plc_threads::Move;
@@ -17,35 +17,24 @@ use std::alloc::Global;
 #[derive(Drop)]
 struct Shortening {
     alloc: Global,
-    threads: u32,
-    moves: Vec<Move>,
-    kept: Vec<bool>,
+    run: Recorded,
     way: Way,
 }
 
 impl Shortening {
     /// Follows the moves that are kept, and keeps none after the race, and no free that did nothing.
     fn races(&mut self, program: &Program, frees: &mut Frees) -> Result<bool, NoMemory>
-        requires { FlowFits program.now.flow.now }
+        requires { MayRun program.now }
     {
-        let threads = self.threads.max(1);
-        let all = follow(
-            self.alloc,
-            program,
-            frees,
-            threads,
-            &self.moves,
-            &self.kept,
-            &mut self.way,
-        )?;
+        let all = follow(self.alloc, program, frees, &self.run, &mut self.way)?;
         let Some(count) = all else {
             return Ok(false);
         };
-        for (number, kept) in self.kept.iter_mut().enumerate() {
+        for (number, kept) in self.run.kept.iter_mut().enumerate() {
             *kept = *kept && number < count;
         }
         for number in &self.way.idle {
-            if let Some(kept) = self.kept.get_mut(*number) {
+            if let Some(kept) = self.run.kept.get_mut(*number) {
                 *kept = false;
             }
         }
@@ -55,7 +44,7 @@ impl Shortening {
     /// Leaves out the moves of these numbers.
     fn leave_out(&mut self, numbers: &[usize]) {
         for number in numbers {
-            if let Some(kept) = self.kept.get_mut(*number) {
+            if let Some(kept) = self.run.kept.get_mut(*number) {
                 *kept = false;
             }
         }
@@ -68,13 +57,13 @@ impl Shortening {
         frees: &mut Frees,
         numbers: &[usize],
     ) -> Result<bool, NoMemory>
-        requires { FlowFits program.now.flow.now }
+        requires { MayRun program.now }
     {
-        let before = Vec::from_slice(self.alloc, &self.kept)?;
+        let before = Vec::from_slice(self.alloc, &self.run.kept)?;
         self.leave_out(numbers);
         let races = self.races(program, frees)?;
         if !races {
-            self.kept = before;
+            self.run.kept = before;
         }
         Ok(races)
     }
@@ -125,7 +114,7 @@ fn leave_round(
     own: &[Stand],
     length: usize,
 ) -> Result<bool, NoMemory>
-    requires { FlowFits program.now.flow.now }
+    requires { MayRun program.now }
 {
     for from in 0..own.len() {
         if is_round(own, from, length) {
@@ -145,7 +134,7 @@ fn leave_some(
     frees: &mut Frees,
     t: u32,
 ) -> Result<bool, NoMemory>
-    requires { FlowFits program.now.flow.now }
+    requires { MayRun program.now }
 {
     let own = s.moves_of(t)?;
     for k in 0..own.len() {
@@ -159,12 +148,12 @@ fn leave_some(
 
 /// Leaves out one free, if there is one that isn't needed.
 fn leave_free(s: &mut Shortening, program: &Program, frees: &mut Frees) -> Result<bool, NoMemory>
-    requires { FlowFits program.now.flow.now }
+    requires { MayRun program.now }
 {
-    for number in 0..s.moves.len() {
-        let is_free = s.moves.get(number).is_some_and(|m| mover(m).is_none());
+    for number in 0..s.run.moves.len() {
+        let is_free = s.run.moves.get(number).is_some_and(|m| mover(m).is_none());
         if is_free
-            && s.kept.get(number) == Some(&true)
+            && s.run.kept.get(number) == Some(&true)
             && s.tries_without(program, frees, &[number])?
         {
             return Ok(true);
@@ -175,10 +164,10 @@ fn leave_free(s: &mut Shortening, program: &Program, frees: &mut Frees) -> Resul
 
 /// Leaves out some moves, if there are any that aren't needed.
 fn leave_any(s: &mut Shortening, program: &Program, frees: &mut Frees) -> Result<bool, NoMemory>
-    requires { FlowFits program.now.flow.now }
+    requires { MayRun program.now }
 {
     // An attempt that failed has followed other moves, so what is kept is followed again.
-    for t in 0..s.threads {
+    for t in 0..s.run.threads {
         if !s.races(program, frees)? {
             return Ok(false);
         }
@@ -222,10 +211,10 @@ fn renumbered(met: &mut Vec<u32>, m: Move) -> Result<Move, NoMemory> {
 }
 
 /// The moves that are kept, with threads numbered in the order in which they move first.
-fn kept_moves(s: Shortening) -> Result<Trail, NoMemory> {
-    let mut met = Vec::new(s.alloc);
-    let mut moves = Items::new(s.alloc);
-    for (m, kept) in s.moves.into_iter().zip(s.kept.into_iter()) {
+fn kept_moves(alloc: Global, run: Recorded) -> Result<Trail, NoMemory> {
+    let mut met = Vec::new(alloc);
+    let mut moves = Items::new(alloc);
+    for (m, kept) in run.moves.into_iter().zip(run.kept.into_iter()) {
         if kept {
             moves.push(renumbered(&mut met, m)?)?;
         }
@@ -244,23 +233,25 @@ pub fn shorten(
     frees: &mut Frees,
     trail: Trail,
 ) -> Result<Trail, NoMemory>
-    requires { FlowFits program.now.flow.now }
+    requires { MayRun program.now }
 {
     let moves = trail.moves.into_vec();
     let mut s = Shortening {
         alloc,
-        threads: trail.threads,
-        kept: vec![in alloc; true; moves.len()]?,
-        moves,
+        run: Recorded {
+            threads: trail.threads,
+            kept: vec![in alloc; true; moves.len()]?,
+            moves,
+        },
         way: Way {
             stands: Vec::new(alloc),
             idle: Vec::new(alloc),
         },
     };
-    for _ in 0..s.moves.len() {
+    for _ in 0..s.run.moves.len() {
         if !leave_any(&mut s, program, frees)? {
             break;
         }
     }
-    kept_moves(s)
+    kept_moves(alloc, s.run)
 }

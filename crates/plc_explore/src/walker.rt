@@ -2,20 +2,19 @@
 // it has, and after each move what may be freed is freed. The run ends at the first race, where no thread can move, or
 // where it grows too long.
 ghost use Rattle.std.specs.Prelude.{◌<◌};
-ghost use Rattle.plc_flow.specs.StepsByPoint.{IsIndexOf, first_points};
-ghost use Rattle.plc_flow.specs.WellFormed.{FlowFits};
-ghost use Rattle.plc_run.specs.Position.{IsOfRun};
+ghost use Rattle.plc_explore.specs.Running.{IsIndexed, IsRunOf};
 
-use crate::frees::Frees;
 use crate::order::Order;
 use crate::outlook::Outlook;
 use crate::plan::Plan;
 use crate::program::Program;
 use crate::random::Random;
+use crate::running::Running;
+use crate::trail::Trail;
 use plc_auto::Event;
-use plc_base::{NoMemory, OpId};
+use plc_base::{Items, NoMemory, OpId};
 use plc_flow::{Point, Step};
-use plc_lang::{Prim, Var, count_parameters, has_new};
+use plc_lang::{Prim, Var, assigned, count_parameters, has_new};
 use plc_run::{Config, Moved};
 use plc_threads::Move;
 use std::alloc::Global;
@@ -45,7 +44,6 @@ pub enum Turn {
 #[derive(Drop)]
 pub struct Walker<'a> {
     random: &'a mut Random,
-    frees: &'a mut Frees,
     plan: Plan,
     order: Order,
     moves: Vec<Move>,
@@ -61,18 +59,11 @@ fn is_exit(program: &Program, point: Point) -> bool {
 
 impl<'a> Walker<'a> {
     /// Who draws a run, with what is drawn before its first move.
-    pub fn new(
-        alloc: Global,
-        program: &Program,
-        random: &'a mut Random,
-        frees: &'a mut Frees,
-    ) -> Result<Walker<'a>, NoMemory> {
-        frees.begin(program.schemes)?;
+    pub fn new(alloc: Global, random: &'a mut Random) -> Result<Walker<'a>, NoMemory> {
         let plan = Plan::draw(alloc, random)?;
         let order = Order::draw(alloc, random, plan.threads())?;
         Ok(Walker {
             random,
-            frees,
             plan,
             order,
             moves: Vec::new(alloc),
@@ -86,9 +77,12 @@ impl<'a> Walker<'a> {
         self.plan.threads()
     }
 
-    /// The moves that were made.
-    pub fn into_moves(self) -> Vec<Move> {
-        self.moves
+    /// The run that was drawn.
+    pub fn into_trail(self) -> Trail {
+        Trail {
+            threads: self.plan.threads(),
+            moves: Items::from_vec(self.moves),
+        }
     }
 
     /// How many moves were made.
@@ -97,13 +91,12 @@ impl<'a> Walker<'a> {
     }
 
     /// Moves, from where runs begin, until the run races or ends.
-    pub fn walk(&mut self, program: &Program, config: &mut Config) -> Result<bool, NoMemory>
-        requires fits { FlowFits program.now.flow.now }
-        requires indexed { IsIndexOf (first_points program.now.flow.now) program.now.steps.now }
-        requires of_run { IsOfRun program.now.flow.now program.now.observer.now config.old }
+    pub fn walk(&mut self, program: &Program, run: &mut Running) -> Result<bool, NoMemory>
+        requires indexed { IsIndexed program.now }
+        requires of_run { IsRunOf program.now run.old.config }
     {
         for _ in 0..LONGEST {
-            match self.go(program, config)? {
+            match self.go(program, run)? {
                 Turn::Went | Turn::Passed | Turn::Waits => {}
                 Turn::Raced => return Ok(true),
                 Turn::Stuck => return Ok(false),
@@ -113,15 +106,14 @@ impl<'a> Walker<'a> {
     }
 
     /// Lets the first thread move that can.
-    fn go(&mut self, program: &Program, config: &mut Config) -> Result<Turn, NoMemory>
-        requires fits { FlowFits program.now.flow.now }
-        requires indexed { IsIndexOf (first_points program.now.flow.now) program.now.steps.now }
-        requires of_run { IsOfRun program.now.flow.now program.now.observer.now config.old }
-        ensures of_run { IsOfRun program.now.flow.now program.now.observer.now config.new }
+    fn go(&mut self, program: &Program, run: &mut Running) -> Result<Turn, NoMemory>
+        requires indexed { IsIndexed program.now }
+        requires of_run { IsRunOf program.now run.old.config }
+        ensures of_run { IsRunOf program.now run.new.config }
     {
         for k in 0..self.order.len() {
             let t = self.order.at(k);
-            match self.turn(program, config, t)? {
+            match self.turn(program, run, t)? {
                 Turn::Went => {
                     self.order.moved(k, self.random)?;
                     return Ok(Turn::Went);
@@ -142,26 +134,24 @@ impl<'a> Walker<'a> {
     }
 
     /// Lets a thread move: an idle one begins an operation, one at the exit returns, another takes a step.
-    fn turn(&mut self, program: &Program, config: &mut Config, t: u32) -> Result<Turn, NoMemory>
-        requires fits { FlowFits program.now.flow.now }
-        requires indexed { IsIndexOf (first_points program.now.flow.now) program.now.steps.now }
-        requires of_run { IsOfRun program.now.flow.now program.now.observer.now config.old }
-        ensures of_run { IsOfRun program.now.flow.now program.now.observer.now config.new }
+    fn turn(&mut self, program: &Program, run: &mut Running, t: u32) -> Result<Turn, NoMemory>
+        requires indexed { IsIndexed program.now }
+        requires of_run { IsRunOf program.now run.old.config }
+        ensures of_run { IsRunOf program.now run.new.config }
     {
-        match config.point(t) {
-            None => self.begin(program, config, t),
+        match run.config.point(t) {
+            None => self.begin(program, run, t),
             Some(point) if is_exit(program, point) => {
-                self.make(program, config, Move::Return { t })
+                self.make(program, run, Move::Return { t })
             }
-            Some(point) => self.step(program, config, t, point.at),
+            Some(point) => self.step(program, run, t, point.at),
         }
     }
 
     /// Lets an idle thread begin an operation that is drawn.
-    fn begin(&mut self, program: &Program, config: &mut Config, t: u32) -> Result<Turn, NoMemory>
-        requires fits { FlowFits program.now.flow.now }
-        requires of_run { IsOfRun program.now.flow.now program.now.observer.now config.old }
-        ensures of_run { IsOfRun program.now.flow.now program.now.observer.now config.new }
+    fn begin(&mut self, program: &Program, run: &mut Running, t: u32) -> Result<Turn, NoMemory>
+        requires { IsRunOf program.now run.old.config }
+        ensures { IsRunOf program.now run.new.config }
     {
         let ops = program.flow.file.ops.as_slice();
         let op = self.random.below(ops.len().min(65_535) as u32) as u16;
@@ -174,15 +164,8 @@ impl<'a> Walker<'a> {
         self.plan.began(t);
         let count = count_parameters(operation);
         let args = self.plan.arguments(self.random, program.numbers, count)?;
-        self.make(
-            program,
-            config,
-            Move::Start {
-                t,
-                op: OpId(op),
-                args,
-            },
-        )
+        let op = OpId(op);
+        self.make(program, run, Move::Start { t, op, args })
     }
 
     /// Lets a thread take one of the steps that leave its point: of several the first, from one that is drawn on, that
@@ -190,14 +173,13 @@ impl<'a> Walker<'a> {
     fn step(
         &mut self,
         program: &Program,
-        config: &mut Config,
+        run: &mut Running,
         t: u32,
         at: u16,
     ) -> Result<Turn, NoMemory>
-        requires fits { FlowFits program.now.flow.now }
-        requires indexed { IsIndexOf (first_points program.now.flow.now) program.now.steps.now }
-        requires of_run { IsOfRun program.now.flow.now program.now.observer.now config.old }
-        ensures of_run { IsOfRun program.now.flow.now program.now.observer.now config.new }
+        requires indexed { IsIndexed program.now }
+        requires of_run { IsRunOf program.now run.old.config }
+        ensures of_run { IsRunOf program.now run.new.config }
     {
         let count = program.steps.leaving(at).len().min(65_535) as u32;
         let first = self.random.below(count);
@@ -206,10 +188,10 @@ impl<'a> Walker<'a> {
             let Some(step) = program.steps.nth_step(program.flow, at, nth) else {
                 continue;
             };
-            if count > 1 && !looks_open(program, config, t, step) {
+            if count > 1 && !looks_open(program, &run.config, t, step) {
                 continue;
             }
-            let turn = self.take(program, config, t, nth, step)?;
+            let turn = self.take(program, run, t, nth, step)?;
             if turn != Turn::Stuck {
                 return Ok(turn);
             }
@@ -221,33 +203,25 @@ impl<'a> Walker<'a> {
     fn take(
         &mut self,
         program: &Program,
-        config: &mut Config,
+        run: &mut Running,
         t: u32,
         nth: u16,
         step: &Step,
     ) -> Result<Turn, NoMemory>
-        requires fits { FlowFits program.now.flow.now }
-        requires of_run { IsOfRun program.now.flow.now program.now.observer.now config.old }
-        ensures of_run { IsOfRun program.now.flow.now program.now.observer.now config.new }
+        requires { IsRunOf program.now run.old.config }
+        ensures { IsRunOf program.now run.new.config }
     {
         if writes(step.prims.as_slice()) && self.order.waits(self.random) {
             return Ok(Turn::Waits);
         }
         if !has_new(step.prims.as_slice()) {
-            let turn = self.make(program, config, Move::Step { t, nth, addr: None })?;
+            let turn = self.make(program, run, Move::Step { t, nth, addr: None })?;
             let passed = turn == Turn::Went && step.prims.is_empty();
             return Ok(if passed { Turn::Passed } else { turn });
         }
         let a = self.plan.address(self.random);
-        let turn = self.make(
-            program,
-            config,
-            Move::Step {
-                t,
-                nth,
-                addr: Some(a),
-            },
-        )?;
+        let addr = Some(a);
+        let turn = self.make(program, run, Move::Step { t, nth, addr })?;
         if turn == Turn::Went {
             self.plan.used(a);
         }
@@ -255,17 +229,16 @@ impl<'a> Walker<'a> {
     }
 
     /// Makes a move, if there is one, and frees what may be freed after it.
-    fn make(&mut self, program: &Program, config: &mut Config, m: Move) -> Result<Turn, NoMemory>
-        requires fits { FlowFits program.now.flow.now }
-        requires of_run { IsOfRun program.now.flow.now program.now.observer.now config.old }
-        ensures of_run { IsOfRun program.now.flow.now program.now.observer.now config.new }
+    fn make(&mut self, program: &Program, run: &mut Running, m: Move) -> Result<Turn, NoMemory>
+        requires { IsRunOf program.now run.old.config }
+        ensures { IsRunOf program.now run.new.config }
     {
-        let before = config.history().len();
-        match config.step(program.flow, program.observer, &m)? {
+        let before = run.config.history().len();
+        match run.make(program, &m)? {
             Moved::Done => {
                 self.moves.push(m)?;
-                self.hear(config, before)?;
-                self.free(program, config)?;
+                self.note_retired(&run.config, before)?;
+                self.free(program, run)?;
                 Ok(Turn::Went)
             }
             Moved::Race { .. } => {
@@ -276,10 +249,9 @@ impl<'a> Walker<'a> {
         }
     }
 
-    /// Hears the events after so many.
-    fn hear(&mut self, config: &Config, before: usize) -> Result<(), NoMemory> {
+    /// Notes what the events after so many retire.
+    fn note_retired(&mut self, config: &Config, before: usize) -> Result<(), NoMemory> {
         for event in config.history().iter().skip(before) {
-            self.frees.hear(event)?;
             if let Event::Call { f, a: Some(a), .. } = event {
                 if f.is_retire() {
                     self.plan.retire(*a)?;
@@ -290,55 +262,40 @@ impl<'a> Walker<'a> {
     }
 
     /// Frees what may be freed.
-    fn free(&mut self, program: &Program, config: &mut Config) -> Result<(), NoMemory>
-        requires fits { FlowFits program.now.flow.now }
-        requires of_run { IsOfRun program.now.flow.now program.now.observer.now config.old }
-        ensures of_run { IsOfRun program.now.flow.now program.now.observer.now config.new }
+    fn free(&mut self, program: &Program, run: &mut Running) -> Result<(), NoMemory>
+        requires { IsRunOf program.now run.old.config }
+        ensures { IsRunOf program.now run.new.config }
     {
         for _ in 0..MOST_FREES {
             if self.plan.retired().is_empty() {
                 return Ok(());
             }
-            let Some(a) = self.frees.next(self.plan.retired(), self.random) else {
+            let Some(a) = run.frees.next(self.plan.retired(), self.random) else {
                 return Ok(());
             };
             let m = Move::Free { a };
-            if config.step(program.flow, program.observer, &m)? != Moved::Done {
+            if run.make(program, &m)? != Moved::Done {
                 return Ok(());
             }
             self.moves.push(m)?;
             self.plan.free(a)?;
-            self.frees.hear(&Event::Free { a })?;
         }
         Ok(())
     }
 }
 
+/// Whether a primitive copies or loads into a shared pointer, or writes a pointer field.
+fn writes_shared(prim: &Prim) -> bool {
+    match prim {
+        Prim::New { .. } => false,
+        Prim::Store { .. } | Prim::StoreNull { .. } => true,
+        _ => matches!(assigned(prim), Some(Var::Shared(_))),
+    }
+}
+
 /// Whether one of these primitives writes a pointer that other threads may read.
 fn writes(prims: &[Prim]) -> bool {
-    prims.iter().any(|prim| {
-        matches!(
-            prim,
-            Prim::Copy {
-                p: Var::Shared(_),
-                ..
-            } | Prim::Null { p: Var::Shared(_) }
-                | Prim::Mark {
-                    p: Var::Shared(_),
-                    ..
-                }
-                | Prim::Unmark {
-                    p: Var::Shared(_),
-                    ..
-                }
-                | Prim::Load {
-                    p: Var::Shared(_),
-                    ..
-                }
-                | Prim::Store { .. }
-                | Prim::StoreNull { .. }
-        )
-    })
+    prims.iter().any(|prim| writes_shared(prim))
 }
 
 /// Whether a step of a thread looks as if it led on.

@@ -65,6 +65,14 @@ impl Html {
         Ok(())
     }
 
+    /// Adds markup and a number after it. The one error is that memory runs out.
+    pub fn numbered(&mut self, piece: &'static str, number: u64) -> Result<(), NoMemory>
+        ensures { OnOk result (self.new ≡ self.old ++ piece.now ++ decimal number) }
+    {
+        self.markup(piece)?;
+        self.number(number)
+    }
+
     /// Adds what was written of another page. The one error is that memory runs out.
     pub fn append(&mut self, other: Html) -> Result<(), NoMemory>
         ensures { OnOk result (self.new ≡ self.old ++ other) }

@@ -1,8 +1,7 @@
 -- How a run is written: a line for the number of threads, and then one for each move. A schedule has a tick where the
 -- reclaimer is asked what to free; elsewhere a free is written with its address.
-use Rattle.std.specs.Prelude.{ℕ, Bool, List, [], ◌∷◌, ◌++◌, codes, decimal, get_or, if◌then◌else◌, Option, Some, None}
-use Rattle.std.specs.Prelude.{slice_get}
-use Rattle.plc_lang.specs.declared.syntax.Op.{Op}
+use Rattle.std.specs.Prelude.{ℕ, Bool, List, [], ◌∷◌, ◌++◌, codes, decimal, if◌then◌else◌, Option, Some, None}
+use Rattle.plc_lang.specs.Names.{operation_name}
 use Rattle.plc_flow.specs.declared.flow.Flow.{Flow}
 use Rattle.plc_threads.specs.declared.words.Move.{Move}
 use Rattle.plc_threads.specs.declared.words.Move.TheVariants.{Start, Step, Return, Free}
@@ -11,11 +10,6 @@ use Rattle.plc_threads.specs.declared.words.Move.TheVariants.{Start, Step, Retur
 abbrev pub numbers_text : List ℕ → List ℕ
 numbers_text [] = []
 numbers_text (n ∷ ns) = codes " " ++ decimal n ++ numbers_text ns
-
--- the name of an operation
-abbrev pub name_of : Flow → Option Op → List ℕ
-name_of flow None = []
-name_of flow (Some op) = get_or flow.file.names.names op.name []
 
 -- the address that a step names, a space before it
 abbrev pub address_text : Option ℕ → List ℕ
@@ -29,7 +23,7 @@ free_text ticks a = if ticks then codes "tick" else codes "free " ++ decimal a
 -- a move, without the line feed that ends its line
 abbrev pub move_text : Flow → Bool → Move → List ℕ
 move_text flow ticks (Start t op args) =
-    codes "start " ++ decimal t ++ codes " " ++ name_of flow (slice_get flow.file.ops op.0) ++ numbers_text args
+    codes "start " ++ decimal t ++ codes " " ++ operation_name flow.file op ++ numbers_text args
 move_text flow ticks (Step t nth addr) =
     codes "step " ++ decimal t ++ codes " " ++ decimal nth ++ address_text addr
 move_text flow ticks (Return t) = codes "return " ++ decimal t

@@ -15,17 +15,26 @@ fn race_words(kind: RaceKind) -> &'static str {
     }
 }
 
+/// Adds a line of the schedule after words, and then the line of the file whose step it takes, if it takes one.
+fn push_lines(out: &mut Vec<u8>, words: &str, at: Lines, then: &str) -> Result<(), AllocError> {
+    push_numbered(out, words, at.schedule)?;
+    push(out, " of the schedule")?;
+    match at.file {
+        Some(line) => {
+            push_numbered(out, then, line)?;
+            push(out, " of the file")
+        }
+        None => Ok(()),
+    }
+}
+
 /// Adds where something happened, if it did.
 fn push_place(out: &mut Vec<u8>, words: &str, place: Option<Lines>) -> Result<(), AllocError> {
     let Some(place) = place else {
         return Ok(());
     };
-    push_numbered(out, words, place.schedule)?;
-    if place.file > 0 {
-        push_numbered(out, " of the schedule, line ", place.file)?;
-        return push(out, " of the file\n");
-    }
-    push(out, " of the schedule\n")
+    push_lines(out, words, place, ", line ")?;
+    push(out, "\n")
 }
 
 /// Adds the pointer of a race.
@@ -38,9 +47,7 @@ fn push_pointer(out: &mut Vec<u8>, file: &File, account: &Account) -> Result<(),
 
 /// Adds what is known of a race, line by line. The one error is that memory runs out.
 pub fn push_account(out: &mut Vec<u8>, file: &File, account: &Account) -> Result<(), AllocError> {
-    push_numbered(out, "race: line ", account.at.schedule)?;
-    push_numbered(out, " of the schedule takes line ", account.at.file)?;
-    push(out, " of the file")?;
+    push_lines(out, "race: line ", account.at, " takes line ")?;
     push(out, race_words(account.kind))?;
     push_pointer(out, file, account)?;
     push(out, "\n")?;

@@ -1,31 +1,25 @@
-// A hunt in the bytes of a file: the runs of its program are drawn, and the first that races is made short, written,
-// and followed once more as it is written.
+// A hunt in the bytes of a file: a short run of its program that races (quarry.rt) is written, and followed once more
+// as it is written. The answer rests on that alone.
 ghost use Rattle.std.specs.Prelude.{◌≡◌, ◌≤◌, [], false, IfOk, IfSome, IsTrue, length};
+ghost use Rattle.plc_base.specs.Limits.{largest_file};
+ghost use Rattle.plc_flow.specs.WellFormed.{FlowFits};
 ghost use Rattle.plc_cli.specs.Refusals.{load_fault_text};
 ghost use Rattle.plc_cli.specs.Statuses.{holds, fails, refused};
 ghost use Rattle.plc_hunting.specs.Texts.{run_text};
 ghost use Rattle.plc_hunting.specs.Trails.{TrailRaces};
-ghost use Rattle.plc_base.specs.Limits.{largest_file};
-ghost use Rattle.plc_flow.specs.StepsByPoint.{IsIndexOf, first_points};
-ghost use Rattle.plc_flow.specs.WellFormed.{FlowFits};
 ghost use Rattle.plc_hunting.specs.Racing.{IsHuntedBy, IsHuntUnder, IsHuntedFreely, IsFreeHunt};
 
 use crate::account::push_account;
+use crate::quarry::{Quarry, hunt_judged};
 use crate::racing::{run_races, schedule_races};
 use crate::writing::run_text;
 use plc_base::NoMemory;
 use plc_check::{Judged, LoadFault, load};
 use plc_cli::refusal;
-use plc_explore::{
-    Account, Frees, Program, Random, Trail, explore, follow_to_race, numbers_in, shorten,
-};
-use plc_flow::StepsByPoint;
+use plc_explore::{Frees, Trail};
 use plc_reclaim::Reclaimer;
 use plc_texts::{push, push_number, push_numbered};
 use std::alloc::{AllocError, Global};
-
-/// How many moves are made at most, over all runs of a hunt.
-const MOST_MOVES: u64 = 40_000_000;
 
 /// What was asked is there.
 const FOUND: u8 = 0;
@@ -39,77 +33,6 @@ pub struct Hunted {
     pub status: u8,
     pub text: Vec<u8>,
     pub said: Vec<u8>,
-}
-
-/// A run that was found, if one was, what is known of its race, and how much was tried.
-#[derive(Drop)]
-struct Quarry {
-    trail: Option<Trail>,
-    account: Option<Account>,
-    seed: u32,
-    runs: u64,
-    moves: u64,
-}
-
-/// Makes a run short, and finds out what can be said of its race.
-fn shortened(
-    alloc: Global,
-    program: &Program,
-    frees: &mut Frees,
-    trail: Option<Trail>,
-) -> Result<(Option<Trail>, Option<Account>), NoMemory>
-    requires fits { FlowFits program.now.flow.now }
-    requires indexed { IsIndexOf (first_points program.now.flow.now) program.now.steps.now }
-{
-    let Some(trail) = trail else {
-        return Ok((None, None));
-    };
-    let trail = shorten(alloc, program, frees, trail)?;
-    let account = follow_to_race(alloc, program, frees, &trail)?;
-    Ok((Some(trail), account))
-}
-
-/// Draws runs until one races, and makes that short.
-fn hunt_program(
-    alloc: Global,
-    program: &Program,
-    frees: &mut Frees,
-    seed: u32,
-) -> Result<Quarry, NoMemory>
-    requires fits { FlowFits program.now.flow.now }
-    requires indexed { IsIndexOf (first_points program.now.flow.now) program.now.steps.now }
-{
-    let mut random = Random::new(u64::from(seed));
-    let explored = explore(alloc, program, frees, &mut random, MOST_MOVES)?;
-    let (trail, account) = shortened(alloc, program, frees, explored.trail)?;
-    Ok(Quarry {
-        trail,
-        account,
-        seed,
-        runs: explored.runs,
-        moves: explored.moves,
-    })
-}
-
-/// The same in a file that was loaded.
-fn hunt_judged(
-    alloc: Global,
-    judged: &Judged,
-    mut frees: Frees,
-    seed: u32,
-) -> Result<Quarry, NoMemory>
-    requires fits { FlowFits judged.now.flow }
-{
-    let steps = StepsByPoint::of_flow(alloc, &judged.flow)?;
-    let numbers = numbers_in(alloc, &judged.flow)?;
-    let program = Program {
-        flow: &judged.flow,
-        steps: &steps,
-        numbers: &numbers,
-        observer: &judged.observer,
-        schemes: judged.schemes.as_slice(),
-    };
-    hunt_program(alloc, &program, &mut frees, seed)
 }
 
 /// What is said of a hunt: of the race, if one was found, and how much was tried.

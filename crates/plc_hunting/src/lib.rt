@@ -6,6 +6,7 @@
 mod account;
 mod asking;
 mod hunting;
+mod quarry;
 mod racing;
 mod writing;
 

@@ -7,9 +7,10 @@ ghost use Rattle.plc_hunting.specs.Racing.{IsRacingSchedule, LeadsToRace, IsRaci
 use plc_auto::Observer;
 use plc_base::NoMemory;
 use plc_check::Judged;
+use plc_cli::{Recorded, end_of};
 use plc_flow::Flow;
 use plc_reclaim::Reclaimer;
-use plc_replay::{End, replay};
+use plc_replay::End;
 use plc_run::{Config, Moved};
 use plc_sched::{SchedFault, Schedule, read_schedule};
 use plc_threads::{Move, StartFault};
@@ -31,15 +32,11 @@ pub fn schedule_races(
         Err(SchedFault::Memory) => return Err(NoMemory),
         Err(_) => return Ok(false),
     };
-    let schemes = judged.schemes.as_slice();
-    match replay(
-        alloc,
-        &judged.flow,
-        &judged.observer,
-        schemes,
-        &schedule,
-        reclaimer,
-    )? {
+    let recorded = Recorded {
+        judged,
+        schedule: &schedule,
+    };
+    match end_of(alloc, recorded, reclaimer)? {
         End::Race { .. } => Ok(true),
         _ => Ok(false),
     }

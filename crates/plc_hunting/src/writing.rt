@@ -1,11 +1,11 @@
 // A run as text: that of a schedule, or, where frees are written with their addresses, a form of its own.
-ghost use Rattle.std.specs.Prelude.{◌≡◌, ◌++◌, IfOk, OnOk, codes, decimal, slice_get};
-ghost use Rattle.plc_hunting.specs.Texts.{numbers_text, name_of, address_text, free_text, move_text};
+ghost use Rattle.std.specs.Prelude.{◌≡◌, ◌++◌, IfOk, OnOk};
+ghost use Rattle.plc_hunting.specs.Texts.{numbers_text, address_text, free_text, move_text};
 ghost use Rattle.plc_hunting.specs.Texts.{moves_text, run_text};
 
-use plc_base::OpId;
 use plc_flow::Flow;
-use plc_texts::{push, push_bytes, push_number, push_numbered};
+use plc_lang::operation_name;
+use plc_texts::{push, push_bytes, push_numbered};
 use plc_threads::Move;
 use std::alloc::{AllocError, Global};
 
@@ -17,16 +17,6 @@ fn push_numbers(out: &mut Vec<u8>, numbers: &[u32]) -> Result<(), AllocError>
         push_numbered(out, " ", *n)?;
     }
     Ok(())
-}
-
-/// The name of an operation; empty where there is none.
-fn name_of(flow: &Flow, op: OpId) -> &[u8]
-    ensures { result.now ≡ name_of flow.now (slice_get flow.now.file.ops op.0) }
-{
-    match flow.file.ops.get(op.0 as usize) {
-        Some(op) if op.name < flow.file.names.len() => flow.file.names.get(op.name),
-        _ => &[],
-    }
 }
 
 /// Adds the address that a step names, a space before it.
@@ -50,41 +40,22 @@ fn push_free(out: &mut Vec<u8>, ticks: bool, a: u32) -> Result<(), AllocError>
     }
 }
 
-/// Adds a start.
-fn push_start(
-    out: &mut Vec<u8>,
-    flow: &Flow,
-    t: u32,
-    op: OpId,
-    args: &[u32],
-) -> Result<(), AllocError>
-    ensures { OnOk result (out.new.items ≡ out.old.items ++ codes "start " ++ decimal t ++ codes " "
-        ++ name_of flow.now (slice_get flow.now.file.ops op.0) ++ numbers_text args.now) }
-{
-    push_numbered(out, "start ", t)?;
-    push(out, " ")?;
-    push_bytes(out, name_of(flow, op))?;
-    push_numbers(out, args)
-}
-
-/// Adds a step.
-fn push_step(out: &mut Vec<u8>, t: u32, nth: u16, addr: Option<u32>) -> Result<(), AllocError>
-    ensures { OnOk result (out.new.items ≡ out.old.items ++ codes "step " ++ decimal t ++ codes " "
-        ++ decimal nth ++ address_text addr) }
-{
-    push_numbered(out, "step ", t)?;
-    push(out, " ")?;
-    push_number(out, u64::from(nth))?;
-    push_address(out, addr)
-}
-
 /// Adds a move.
 fn push_move(out: &mut Vec<u8>, flow: &Flow, ticks: bool, m: &Move) -> Result<(), AllocError>
     ensures { OnOk result (out.new.items ≡ out.old.items ++ move_text flow.now ticks m.now) }
 {
     match m {
-        Move::Start { t, op, args } => push_start(out, flow, *t, *op, args.as_slice()),
-        Move::Step { t, nth, addr } => push_step(out, *t, *nth, *addr),
+        Move::Start { t, op, args } => {
+            push_numbered(out, "start ", *t)?;
+            push(out, " ")?;
+            push_bytes(out, operation_name(&flow.file, *op))?;
+            push_numbers(out, args.as_slice())
+        }
+        Move::Step { t, nth, addr } => {
+            push_numbered(out, "step ", *t)?;
+            push_numbered(out, " ", u32::from(*nth))?;
+            push_address(out, *addr)
+        }
         Move::Return { t } => push_numbered(out, "return ", *t),
         Move::Free { a } => push_free(out, ticks, *a),
     }

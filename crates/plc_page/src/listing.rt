@@ -1,6 +1,6 @@
 // The file line by line, with the steps that each line makes. Steps are sorted by their lines first, so that each line
 // takes those that come next.
-use crate::shown::{Shown, Written};
+use crate::shown::{Shown, Written, push_link};
 use plc_base::{NoMemory, StepId};
 use plc_flow::{Flow, Step};
 use plc_html::Html;
@@ -21,18 +21,11 @@ fn steps_by_line(alloc: Global, flow: &Flow) -> Result<Vec<(u32, u16)>, NoMemory
 
 /// A step: its number, by which number a schedule takes it, and where it leads.
 fn push_step(html: &mut Html, flow: &Flow, number: u16, step: &Step) -> Written {
-    html.markup("<a href=\"#p")?;
-    html.number(u64::from(step.from.0))?;
-    html.markup("\">")?;
-    html.number(u64::from(step.from.0))?;
-    html.markup("</a> &rarr; <a href=\"#p")?;
-    html.number(u64::from(step.to.0))?;
-    html.markup("\">")?;
-    html.number(u64::from(step.to.0))?;
-    html.markup("</a> (step ")?;
-    html.number(u64::from(number))?;
-    html.markup(", K ")?;
-    html.number(u64::from(nth_of(flow, StepId(number))))?;
+    push_link(html, "p", "", u32::from(step.from.0))?;
+    html.markup(" &rarr; ")?;
+    push_link(html, "p", "", u32::from(step.to.0))?;
+    html.numbered(" (step ", u64::from(number))?;
+    html.numbered(", K ", u64::from(nth_of(flow, StepId(number))))?;
     html.markup(")")
 }
 
@@ -71,14 +64,13 @@ fn push_line(
     text: &[u8],
     here: bool,
 ) -> Result<usize, NoMemory> {
-    html.markup(if here {
+    let row = if here {
         "<tr class=\"here\" id=\"L"
     } else {
         "<tr id=\"L"
-    })?;
-    html.number(u64::from(line))?;
-    html.markup("\"><td>")?;
-    html.number(u64::from(line))?;
+    };
+    html.numbered(row, u64::from(line))?;
+    html.numbered("\"><td>", u64::from(line))?;
     html.markup("</td><td>")?;
     html.text(text.strip_suffix(b"\r").unwrap_or(text))?;
     html.markup("</td><td class=\"steps\">")?;
@@ -112,7 +104,8 @@ pub(crate) fn push_listing(html: &mut Html, shown: &Shown, here: u32) -> Written
     let flow = &shown.judged.flow;
     let steps = steps_by_line(html.alloc(), flow)?;
     html.markup(
-        "<h2 id=\"file\">The file</h2>\n<p>Beside each line stand the steps that it makes: from which point to which, and by which number K a schedule takes the step (<code>step T K</code>).</p>\n",
+        "<h2 id=\"file\">The file</h2>\n<p>Beside each line stand the steps that it makes: from which point to which, \
+         and by which number K a schedule takes the step (<code>step T K</code>).</p>\n",
     )?;
     push_lines(html, shown.bytes, Some(flow), &steps, here)
 }

@@ -76,46 +76,44 @@ pub(crate) fn clauses_in(alloc: Global, bytes: &[u8]) -> Result<Clauses, NoMemor
     }
 }
 
+/// A file that was loaded, by its bytes, with the verdict on it.
+#[derive(Clone, Copy)]
+struct Answered<'a> {
+    bytes: &'a [u8],
+    judged: &'a Judged,
+    verdict: &'a Verdict,
+}
+
 /// What follows the answer.
-fn rest_of(
-    alloc: Global,
-    bytes: &[u8],
-    judged: &Judged,
-    verdict: &Verdict,
-) -> Result<Html, NoMemory>
-    requires short { length bytes.now ≤ largest_file }
-    requires fits { Fits judged.now.flow judged.now.unit_outline }
+fn rest_of(alloc: Global, answered: Answered) -> Result<Html, NoMemory>
+    requires short { length answered.bytes.now ≤ largest_file }
+    requires fits { Fits answered.judged.now.flow answered.judged.now.unit_outline }
 {
-    let clauses = clauses_in(alloc, bytes)?;
+    let judged = answered.judged;
+    let clauses = clauses_in(alloc, answered.bytes)?;
     let typing = pretyping(alloc, &judged.flow, &judged.observer)?;
     let shown = Shown {
-        bytes,
+        bytes: answered.bytes,
         judged,
         clauses: &clauses,
         typing: &typing,
     };
     let mut html = Html::new(alloc);
-    push_all(&mut html, &shown, verdict)?;
+    push_all(&mut html, &shown, answered.verdict)?;
     Ok(html)
 }
 
 /// The page that says a verdict.
-fn verdict_page(
-    alloc: Global,
-    name: &[u8],
-    bytes: &[u8],
-    judged: &Judged,
-    verdict: &Verdict,
-) -> Result<Page, NoMemory>
-    requires short { length bytes.now ≤ largest_file }
-    requires fits { Fits judged.now.flow judged.now.unit_outline }
-    ensures { IfOk result (SaysVerdict judged.now verdict.now) }
+fn verdict_page(alloc: Global, name: &[u8], answered: Answered) -> Result<Page, NoMemory>
+    requires short { length answered.bytes.now ≤ largest_file }
+    requires fits { Fits answered.judged.now.flow answered.judged.now.unit_outline }
+    ensures { IfOk result (SaysVerdict answered.entry.judged.now answered.entry.verdict.now) }
 {
-    let text = verdict_text(alloc, judged, verdict)?;
-    let rest = rest_of(alloc, bytes, judged, verdict)?;
+    let text = verdict_text(alloc, answered.judged, answered.verdict)?;
+    let rest = rest_of(alloc, answered)?;
     let page = whole_page(alloc, name, &text, rest)?;
     Ok(Page {
-        status: verdict_status(verdict),
+        status: verdict_status(answered.verdict),
         bytes: Items::from_vec(page),
     })
 }
@@ -127,7 +125,12 @@ fn judged_page(alloc: Global, name: &[u8], bytes: &[u8], judged: &Judged) -> Res
     ensures { IfOk result (ShowsVerdict judged.now) }
 {
     let verdict = check(alloc, judged)?;
-    let page = verdict_page(alloc, name, bytes, judged, &verdict);
+    let answered = Answered {
+        bytes,
+        judged,
+        verdict: &verdict,
+    };
+    let page = verdict_page(alloc, name, answered);
     drop(verdict);
     page
 }

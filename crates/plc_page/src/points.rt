@@ -1,5 +1,5 @@
 // Each point of each operation: where it is, which steps leave it, what is known there, and what the outline says.
-use crate::shown::{Shown, Written, push_sentence};
+use crate::shown::{Shown, Written, push_link, push_sentence};
 use crate::types::push_types;
 use plc_base::{OpId, PointId, StepId};
 use plc_flow::{Flow, Gate, Step};
@@ -11,15 +11,12 @@ use plc_words::{ClauseId, clauses_at, nth_of, push_point, push_source, push_step
 fn push_leaving(html: &mut Html, flow: &Flow, id: StepId, step: &Step) -> Written {
     let mut words = Vec::new(html.alloc());
     push_step(&mut words, flow, id)?;
-    html.markup("<li>K ")?;
-    html.number(u64::from(nth_of(flow, id)))?;
+    html.numbered("<li>K ", u64::from(nth_of(flow, id)))?;
     html.markup(": <code>")?;
     html.text(&words)?;
-    html.markup("</code> &rarr; <a href=\"#p")?;
-    html.number(u64::from(step.to.0))?;
-    html.markup("\">")?;
-    html.number(u64::from(step.to.0))?;
-    html.markup("</a></li>\n")
+    html.markup("</code> &rarr; ")?;
+    push_link(html, "p", "", u32::from(step.to.0))?;
+    html.markup("</li>\n")
 }
 
 /// The steps that leave a point.
@@ -44,11 +41,9 @@ pub(crate) fn push_clause(html: &mut Html, shown: &Shown, id: ClauseId) -> Writt
     push_source(&mut text, shown.bytes, placed.span)?;
     html.markup("<code>")?;
     html.text(&text)?;
-    html.markup("</code> (<a href=\"#L")?;
-    html.number(u64::from(placed.line))?;
-    html.markup("\">line ")?;
-    html.number(u64::from(placed.line))?;
-    html.markup("</a>)")
+    html.markup("</code> (")?;
+    push_link(html, "L", "line ", placed.line)?;
+    html.markup(")")
 }
 
 /// The clauses that the outline puts at a point.
@@ -72,10 +67,8 @@ fn push_one(html: &mut Html, shown: &Shown, op: usize, point: u16) -> Written {
     let judged = shown.judged;
     let mut words = Vec::new(html.alloc());
     push_point(&mut words, &judged.flow, PointId(point))?;
-    html.markup("<details id=\"p")?;
-    html.number(u64::from(point))?;
-    html.markup("\"><summary>point ")?;
-    html.number(u64::from(point))?;
+    html.numbered("<details id=\"p", u64::from(point))?;
+    html.numbered("\"><summary>point ", u64::from(point))?;
     html.markup(": ")?;
     push_sentence(html, &words)?;
     html.markup("</summary>\n")?;
@@ -103,7 +96,8 @@ fn push_operation(html: &mut Html, shown: &Shown, op: usize, gate: Gate) -> Writ
 /// The points of all operations.
 pub(crate) fn push_points(html: &mut Html, shown: &Shown) -> Written {
     html.markup(
-        "<h2 id=\"points\">The points</h2>\n<p>A thread stands at a point between two steps. Open one to see which steps leave it, what the types know there, and what the outline says of it.</p>\n",
+        "<h2 id=\"points\">The points</h2>\n<p>A thread stands at a point between two steps. Open one to see which \
+         steps leave it, what the types know there, and what the outline says of it.</p>\n",
     )?;
     for (op, gate) in shown.judged.flow.gates.as_slice().iter().enumerate() {
         push_operation(html, shown, op, *gate)?;

@@ -32,3 +32,17 @@ pub(crate) fn push_sentence(html: &mut Html, words: &[u8]) -> Written {
     }
     Ok(())
 }
+
+/// Adds a link to what has a number: its kind is told by a letter, as `L` for a line and `p` for a point.
+pub(crate) fn push_link(
+    html: &mut Html,
+    letter: &'static str,
+    words: &'static str,
+    number: u32,
+) -> Written {
+    html.markup("<a href=\"#")?;
+    html.numbered(letter, u64::from(number))?;
+    html.markup("\">")?;
+    html.numbered(words, u64::from(number))?;
+    html.markup("</a>")
+}

@@ -179,8 +179,7 @@ fn push_groups(html: &mut Html, shown: &Shown, found: &Items<Counterexample>) ->
 /// How many obligations stay open, as far as they were looked for.
 fn push_count(html: &mut Html, open: &OpenObligations) -> Written {
     let count = open.found.len();
-    html.markup("<h2>Unproved</h2>\n<p>")?;
-    html.number(count as u64)?;
+    html.numbered("<h2>Unproved</h2>\n<p>", count as u64)?;
     html.markup(if count == 1 {
         " obligation of the outline stays open"
     } else {
@@ -190,7 +189,9 @@ fn push_count(html: &mut Html, open: &OpenObligations) -> Written {
         html.markup("; the search ended there, so there may be more")?;
     }
     html.markup(
-        ". For each there is a state that the outline allows, in which a claim may be wrong, or after which a clause may be. Ask of each: can this state happen? If it can, the program is wrong. If it can't, a clause is missing that says why.</p>\n",
+        ". For each there is a state that the outline allows, in which a claim may be wrong, or after which a clause \
+         may be. Ask of each: can this state happen? If it can, the program is wrong. If it can't, a clause is missing \
+         that says why.</p>\n",
     )
 }
 

@@ -5,7 +5,7 @@ ghost use Rattle.plc_setting.specs.Fit.{Fits};
 ghost use Rattle.plc_xfer.specs.Rules.{FitsObserver};
 ghost use Rattle.plc_xfer.specs.Typings.{IsStrongest};
 
-use crate::shown::{Shown, Written, push_sentence};
+use crate::shown::{Shown, Written, push_link, push_sentence};
 use crate::types::push_types;
 use plc_base::{NoMemory, StepId};
 use plc_check::Judged;
@@ -61,7 +61,8 @@ fn push_before(html: &mut Html, shown: &Shown, id: StepId, prim: u16) -> Written
 /// What to ask, and what to write then.
 fn push_advice(html: &mut Html, fault: TypeFault) -> Written {
     html.markup(
-        "<p>What would make it typed (v is the variable that is named):</p>\n<div class=\"wide\"><table>\n<tr><th>ask yourself</th><th>and write</th></tr>\n",
+        "<p>What would make it typed (v is the variable that is named):</p>\n<div class=\"wide\"><table>\n\
+         <tr><th>ask yourself</th><th>and write</th></tr>\n",
     )?;
     for (question, remedy) in advice(fault) {
         html.markup("<tr><td>")?;
@@ -95,7 +96,8 @@ fn push_suggestion(html: &mut Html, judged: &Judged) -> Written
 {
     let text = suggestion(html.alloc(), judged)?;
     html.markup(
-        "<p>What <code>plc suggest</code> answers, claims that would be enough for the types where there are such. Whether a claim is true is for the outline to show.</p>\n<pre>",
+        "<p>What <code>plc suggest</code> answers, claims that would be enough for the types where there are such. \
+         Whether a claim is true is for the outline to show.</p>\n<pre>",
     )?;
     html.text(&text)?;
     html.markup("</pre>\n")
@@ -116,11 +118,9 @@ pub(crate) fn push_failure(
     let line = line_of(&shown.judged.flow, step.0);
     let mut words = Vec::new(html.alloc());
     push_untyped(&mut words, &shown.judged.flow, step, prim, fault)?;
-    html.markup("<h2>No typing</h2>\n<p>Line <a href=\"#L")?;
-    html.number(u64::from(line))?;
-    html.markup("\">")?;
-    html.number(u64::from(line))?;
-    html.markup("</a>: ")?;
+    html.markup("<h2>No typing</h2>\n<p>Line ")?;
+    push_link(html, "L", "", line)?;
+    html.markup(": ")?;
     push_sentence(html, &words)?;
     html.markup("</p>\n")?;
     push_before(html, shown, step, prim)?;

@@ -1,6 +1,6 @@
 // The boxes of a picture, and the rows in them.
+use crate::applications::{Application, Column, applications_at, class_in, mark_in};
 use crate::called::Called;
-use crate::cells::{Cell, Column, cells_at, class_in, mark_in};
 use crate::picture::{Name, NodeBox, Row, Value};
 use crate::pointers::{is_yes, push_names};
 use crate::scene::Scene;
@@ -48,20 +48,20 @@ fn shown_value(value: Option<Value>, marked: bool) -> Option<Value> {
 }
 
 /// Whether a map gives something else than before the step, or another mark.
-fn is_changed(cells: &[Cell], column: Column) -> bool {
-    class_in(cells, column.map, column.version) != class_in(cells, column.map, 0)
-        || mark_in(cells, column.map, column.mark_version) != mark_in(cells, column.map, 0)
+fn is_changed(found: &[Application], column: Column) -> bool {
+    class_in(found, column.map, column.version) != class_in(found, column.map, 0)
+        || mark_in(found, column.map, column.mark_version) != mark_in(found, column.map, 0)
 }
 
 /// The row of a map, if it has one.
 fn row_of(
     scene: &Scene,
     state: &State,
-    cells: &[Cell],
+    found: &[Application],
     column: Column,
 ) -> Result<Option<Row>, NoMemory> {
-    let class = class_in(cells, column.map, column.version);
-    let mark = mark_in(cells, column.map, column.mark_version);
+    let class = class_in(found, column.map, column.version);
+    let mark = mark_in(found, column.map, column.mark_version);
     let marked = is_yes(mark, state.yes);
     let field = map_text(scene, column.map)?;
     match shown_value(value_of(scene, state, column.map, class)?, marked) {
@@ -70,16 +70,16 @@ fn row_of(
             field,
             value,
             marked,
-            changed: is_changed(cells, column),
+            changed: is_changed(found, column),
         })),
     }
 }
 
 /// The rows of a node of which this is said.
-fn rows_from(scene: &Scene, state: &State, cells: &[Cell]) -> Result<Items<Row>, NoMemory> {
+fn rows_from(scene: &Scene, state: &State, found: &[Application]) -> Result<Items<Row>, NoMemory> {
     let mut rows = Items::new(scene.alloc);
     for column in state.columns.as_slice() {
-        if let Some(row) = row_of(scene, state, cells, *column)? {
+        if let Some(row) = row_of(scene, state, found, *column)? {
             rows.push(row)?;
         }
     }
@@ -88,8 +88,8 @@ fn rows_from(scene: &Scene, state: &State, cells: &[Cell]) -> Result<Items<Row>,
 
 /// The rows of the nodes of a class.
 fn rows_of(scene: &Scene, state: &State, class: u32) -> Result<Items<Row>, NoMemory> {
-    let cells = cells_at(scene, class)?;
-    rows_from(scene, state, cells.as_slice())
+    let found = applications_at(scene, class)?;
+    rows_from(scene, state, found.as_slice())
 }
 
 /// The names of what leads to a class: what is read is named only where nothing else is.

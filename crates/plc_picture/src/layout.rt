@@ -64,6 +64,13 @@ fn after(start: u64, count: u64, each: u64) -> u64 {
     start.saturating_add(count.saturating_mul(each))
 }
 
+/// A count before it goes up by one.
+fn counted(count: &mut u64) -> u64 {
+    let before = *count;
+    *count = before.saturating_add(1);
+    before
+}
+
 /// The width of so many characters: 7.2 pixels for each.
 fn text_width(characters: u64) -> u64 {
     after(0, characters, 36) / 5
@@ -130,39 +137,19 @@ impl Layout {
         after(self.lane_at(self.lanes), 1, EDGE)
     }
 
-    /// The number of a further arrow that goes down beside a box.
-    fn next_down(&mut self, number: usize) -> u64 {
-        match self.places.get_mut(number) {
-            None => 0,
-            Some(place) => {
-                let down = place.leaving;
-                place.leaving = down.saturating_add(1);
-                down
-            }
-        }
-    }
-
-    /// The number of a further arrow that comes up to a box.
-    fn next_up(&mut self, number: usize) -> u64 {
-        match self.places.get_mut(number) {
-            None => 0,
-            Some(place) => {
-                let up = place.arriving;
-                place.arriving = up.saturating_add(1);
-                up
-            }
-        }
-    }
-
     /// The way of a further arrow.
     fn next_way(&mut self, from: usize, to: usize) -> Way {
         if to > from && to - from == 1 {
             return Way::Straight;
         }
-        let lane = self.lanes;
-        self.lanes = lane.saturating_add(1);
-        let down = self.next_down(from);
-        let up = self.next_up(to);
+        let lane = counted(&mut self.lanes);
+        let (mut down, mut up) = (0, 0);
+        if let Some(place) = self.places.get_mut(from) {
+            down = counted(&mut place.leaving);
+        }
+        if let Some(place) = self.places.get_mut(to) {
+            up = counted(&mut place.arriving);
+        }
         Way::Around { lane, down, up }
     }
 

@@ -3,9 +3,9 @@
 //! what a picture shows are the classes that the model gives to terms.
 #![tactic(auto)]
 
+mod applications;
 mod boxes;
 mod called;
-mod cells;
 mod layout;
 mod nodes;
 mod picture;

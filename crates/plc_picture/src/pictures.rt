@@ -1,8 +1,7 @@
 // A model speaks of two states in one list of terms: version 0 of each map and the constants of the variables are what
 // was there before the step, and what is executed says which versions and constants are there after it. So both
 // pictures are made by one way of reading, over what was executed: nothing, or all.
-ghost use Rattle.std.specs.Prelude.{◌<◌, length, IfOk};
-ghost use Rattle.plc_lang.specs.Fit.{FileFits};
+ghost use Rattle.std.specs.Prelude.{◌<◌, length};
 ghost use Rattle.plc_setting.specs.Fit.{Fits};
 
 use crate::boxes::{boxes_of, nulls_of};
@@ -28,26 +27,10 @@ fn picture_in(scene: &Scene, state: &State) -> Result<Picture, NoMemory> {
 
 /// The picture of the state in which this was executed.
 fn picture_after(scene: &Scene, execution: &Execution) -> Result<Picture, NoMemory>
-    requires fits { FileFits scene.now.file.now }
-    requires versions { length execution.now.written < 65536 }
+    requires { length execution.now.written < 65536 }
 {
     let state = state_of(scene, execution)?;
     picture_in(scene, &state)
-}
-
-/// What an obligation executes.
-fn executed_by(
-    alloc: Global,
-    flow: &Flow,
-    outline: &Outline,
-    o: &Obligation,
-) -> Result<Execution, NoMemory>
-    requires { Fits flow.now outline.now }
-    ensures { IfOk result (λ x. length x.written < 65536) }
-{
-    let marked = program_uses_marks(flow, outline);
-    let setting = setting_of(alloc, marked, flow, outline, o)?;
-    execution_of(alloc, setting.acts.as_slice())
 }
 
 /// The state before the step of an obligation and the state after it, in a model of the obligation's ground set. In
@@ -73,7 +56,9 @@ pub fn before_and_after(
         sorts: set.sorts.as_slice(),
         class: model.class.as_slice(),
     };
-    let executed = executed_by(alloc, flow, outline, o)?;
+    let marked = program_uses_marks(flow, outline);
+    let setting = setting_of(alloc, marked, flow, outline, o)?;
+    let executed = execution_of(alloc, setting.acts.as_slice())?;
     let before = picture_after(&scene, &Execution::new(alloc))?;
     let after = picture_after(&scene, &executed)?;
     Ok((before, after))

@@ -1,9 +1,8 @@
 // What the terms of a model say in one of its two states, in tables that are made once and asked for each box.
 ghost use Rattle.std.specs.Prelude.{◌<◌, length};
-ghost use Rattle.plc_lang.specs.Fit.{FileFits};
 
+use crate::applications::{Column, columns_of};
 use crate::called::{Called, called_classes};
-use crate::cells::{Column, columns_of};
 use crate::nodes::node_classes;
 use crate::pointers::{Pointer, pointers_of};
 use crate::scene::{Scene, class_of};
@@ -27,8 +26,7 @@ pub(crate) struct State {
 
 /// What the terms say where this was executed.
 pub(crate) fn state_of(scene: &Scene, execution: &Execution) -> Result<State, NoMemory>
-    requires fits { FileFits scene.now.file.now }
-    requires versions { length execution.now.written < 65536 }
+    requires { length execution.now.written < 65536 }
 {
     let yes = class_of(scene, Symbol::Yes);
     let nodes = node_classes(scene)?;

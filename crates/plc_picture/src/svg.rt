@@ -7,30 +7,24 @@ use crate::layout::{
 };
 use crate::picture::{Name, NodeBox, Picture, Row};
 use crate::pieces::{push_box_number, push_mark, push_value};
-use crate::table::push_names;
+use crate::table::push_names_within;
 use plc_base::NoMemory;
 use plc_html::Html;
 
-/// Adds a number after markup.
-fn push_at(html: &mut Html, before: &'static str, number: u64) -> Result<(), NoMemory> {
-    html.markup(before)?;
-    html.number(number)
-}
-
 /// Adds the rectangle of a box.
 fn push_frame(html: &mut Html, layout: &Layout, place: Place) -> Result<(), NoMemory> {
-    push_at(html, "<rect class=\"box\" x=\"", place.left)?;
-    push_at(html, "\" y=\"", line_top(0))?;
-    push_at(html, "\" width=\"", place.width)?;
-    push_at(html, "\" height=\"", layout.box_height())?;
+    html.numbered("<rect class=\"box\" x=\"", place.left)?;
+    html.numbered("\" y=\"", line_top(0))?;
+    html.numbered("\" width=\"", place.width)?;
+    html.numbered("\" height=\"", layout.box_height())?;
     html.markup("\" fill=\"none\" stroke=\"currentColor\"/>\n")
 }
 
 /// Adds the line below the names of a box.
 fn push_rule(html: &mut Html, place: Place, line: u64) -> Result<(), NoMemory> {
-    push_at(html, "<path class=\"box\" d=\"M", place.left)?;
-    push_at(html, " ", line_top(line))?;
-    push_at(html, "H", right_of(place))?;
+    html.numbered("<path class=\"box\" d=\"M", place.left)?;
+    html.numbered(" ", line_top(line))?;
+    html.numbered("H", right_of(place))?;
     html.markup("\" fill=\"none\" stroke=\"currentColor\"/>\n")
 }
 
@@ -52,8 +46,8 @@ fn open_line(
     line: u64,
 ) -> Result<(), NoMemory> {
     begin(html, element, changed)?;
-    push_at(html, " x=\"", text_left(place))?;
-    push_at(html, "\" y=\"", baseline(line))?;
+    html.numbered(" x=\"", text_left(place))?;
+    html.numbered("\" y=\"", baseline(line))?;
     html.markup("\">")
 }
 
@@ -123,46 +117,46 @@ fn push_boxes(html: &mut Html, boxes: &[NodeBox], layout: &Layout) -> Result<(),
 /// Begins the line of an arrow, on the right side of its box.
 fn open_arrow(html: &mut Html, arrow: &Arrow, from: Place) -> Result<(), NoMemory> {
     begin(html, "<path class=\"arrow", arrow.changed)?;
-    push_at(
-        html,
+    html.numbered(
         " fill=\"none\" stroke=\"currentColor\" d=\"M",
         right_of(from),
     )?;
-    push_at(html, " ", line_middle(arrow.line))
+    html.numbered(" ", line_middle(arrow.line))
 }
 
 /// Ends the line of an arrow and begins its head, whose tip is here.
 fn open_head(html: &mut Html, arrow: &Arrow, across: u64, down: u64) -> Result<(), NoMemory> {
     html.markup("\"/>\n")?;
     begin(html, "<path class=\"arrowhead", arrow.changed)?;
-    push_at(html, " d=\"M", across)?;
-    push_at(html, " ", down)
+    html.numbered(" d=\"M", across)?;
+    html.numbered(" ", down)
 }
 
 /// Adds an arrow to the next box.
 fn push_straight(html: &mut Html, arrow: &Arrow, from: Place, to: Place) -> Result<(), NoMemory> {
     open_arrow(html, arrow, from)?;
-    push_at(html, "H", to.left)?;
+    html.numbered("H", to.left)?;
     open_head(html, arrow, to.left, line_middle(arrow.line))?;
     html.markup("l-8 -4v8z\"/>\n")
 }
 
-/// Adds an arrow that goes around the boxes: down at `down`, along at `lane`, up at `up`.
-fn push_around(
-    html: &mut Html,
-    arrow: &Arrow,
-    from: Place,
+/// Where an arrow goes around the boxes: down at `down`, along at `lane`, and up at `up` to the bottom of a box.
+#[derive(Clone, Copy)]
+struct Detour {
     down: u64,
     lane: u64,
     up: u64,
     bottom: u64,
-) -> Result<(), NoMemory> {
+}
+
+/// Adds an arrow that goes around the boxes.
+fn push_around(html: &mut Html, arrow: &Arrow, from: Place, by: Detour) -> Result<(), NoMemory> {
     open_arrow(html, arrow, from)?;
-    push_at(html, "H", down)?;
-    push_at(html, "V", lane)?;
-    push_at(html, "H", up)?;
-    push_at(html, "V", bottom)?;
-    open_head(html, arrow, up, bottom)?;
+    html.numbered("H", by.down)?;
+    html.numbered("V", by.lane)?;
+    html.numbered("H", by.up)?;
+    html.numbered("V", by.bottom)?;
+    open_head(html, arrow, by.up, by.bottom)?;
     html.markup("l-4 8h8z\"/>\n")
 }
 
@@ -176,15 +170,15 @@ fn push_arrow(
 ) -> Result<(), NoMemory> {
     match arrow.way {
         Way::Straight => push_straight(html, arrow, from, to),
-        Way::Around { lane, down, up } => push_around(
-            html,
-            arrow,
-            from,
-            down_at(from, down),
-            layout.lane_at(lane),
-            up_at(to, up),
-            layout.bottom(),
-        ),
+        Way::Around { lane, down, up } => {
+            let by = Detour {
+                down: down_at(from, down),
+                lane: layout.lane_at(lane),
+                up: up_at(to, up),
+                bottom: layout.bottom(),
+            };
+            push_around(html, arrow, from, by)
+        }
     }
 }
 
@@ -202,14 +196,13 @@ fn push_arrows(html: &mut Html, layout: &Layout) -> Result<(), NoMemory> {
 
 /// Adds the drawing of boxes.
 fn push_drawing(html: &mut Html, boxes: &[NodeBox], layout: &Layout) -> Result<(), NoMemory> {
-    push_at(
-        html,
+    html.numbered(
         "<svg class=\"picture\" fill=\"currentColor\" width=\"",
         layout.width,
     )?;
-    push_at(html, "\" height=\"", layout.height())?;
-    push_at(html, "\" viewBox=\"0 0 ", layout.width)?;
-    push_at(html, " ", layout.height())?;
+    html.numbered("\" height=\"", layout.height())?;
+    html.numbered("\" viewBox=\"0 0 ", layout.width)?;
+    html.numbered(" ", layout.height())?;
     html.markup("\">\n")?;
     push_boxes(html, boxes, layout)?;
     push_arrows(html, layout)?;
@@ -230,16 +223,6 @@ fn push_legend(html: &mut Html, boxes: &[NodeBox]) -> Result<(), NoMemory> {
     Ok(())
 }
 
-/// Adds which pointers are null.
-fn push_nulls(html: &mut Html, nulls: &[Name]) -> Result<(), NoMemory> {
-    if nulls.is_empty() {
-        return Ok(());
-    }
-    html.markup("<p class=\"nulls\">null: ")?;
-    push_names(html, nulls, true)?;
-    html.markup("</p>\n")
-}
-
 /// Adds a picture as inline SVG: a box for each node with its names and what its fields hold, arrows where these are
 /// nodes, and below the drawing the pointers that are null. What changed has the class `changed` and a sign. The one
 /// error is that memory runs out.
@@ -250,5 +233,6 @@ pub fn push_svg(html: &mut Html, picture: &Picture) -> Result<(), NoMemory> {
         push_drawing(html, boxes, &layout)?;
     }
     push_legend(html, boxes)?;
-    push_nulls(html, picture.nulls.as_slice())
+    let nulls = picture.nulls.as_slice();
+    push_names_within(html, nulls, true, "<p class=\"nulls\">null: ", "</p>\n")
 }

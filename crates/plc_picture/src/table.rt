@@ -29,7 +29,7 @@ fn push_name(html: &mut Html, name: &Name, changed: bool) -> Result<(), NoMemory
 }
 
 /// Adds names one after another. Where `told`, what changed has the class `changed` and that word.
-pub(crate) fn push_names(html: &mut Html, names: &[Name], told: bool) -> Result<(), NoMemory> {
+fn push_names(html: &mut Html, names: &[Name], told: bool) -> Result<(), NoMemory> {
     for (number, name) in names.iter().enumerate() {
         if number > 0 {
             html.markup(", ")?;
@@ -39,14 +39,20 @@ pub(crate) fn push_names(html: &mut Html, names: &[Name], told: bool) -> Result<
     Ok(())
 }
 
-/// Adds the names of a box in parentheses, where it has any.
-fn push_names_of(html: &mut Html, names: &[Name]) -> Result<(), NoMemory> {
+/// Adds names with markup before and after them, where there are any.
+pub(crate) fn push_names_within(
+    html: &mut Html,
+    names: &[Name],
+    told: bool,
+    before: &'static str,
+    after: &'static str,
+) -> Result<(), NoMemory> {
     if names.is_empty() {
         return Ok(());
     }
-    html.markup(" (")?;
-    push_names(html, names, false)?;
-    html.markup(")")
+    html.markup(before)?;
+    push_names(html, names, told)?;
+    html.markup(after)
 }
 
 /// Adds to which box a field leads.
@@ -55,7 +61,7 @@ fn push_target(html: &mut Html, boxes: &[NodeBox], to: usize) -> Result<(), NoMe
     push_box_number(html, to)?;
     match boxes.get(to) {
         None => Ok(()),
-        Some(node) => push_names_of(html, node.names.as_slice()),
+        Some(node) => push_names_within(html, node.names.as_slice(), false, " (", ")"),
     }
 }
 
@@ -106,16 +112,6 @@ fn push_boxes(html: &mut Html, boxes: &[NodeBox]) -> Result<(), NoMemory> {
     Ok(())
 }
 
-/// Adds the row of the pointers that are null, where there are any.
-fn push_nulls(html: &mut Html, nulls: &[Name]) -> Result<(), NoMemory> {
-    if nulls.is_empty() {
-        return Ok(());
-    }
-    html.markup("<tr><th>null</th><td>")?;
-    push_names(html, nulls, true)?;
-    html.markup("</td><td></td></tr>\n")
-}
-
 /// Adds a picture as a table: for each node the number of its box, what points to it, and what its fields hold, and at
 /// the end the pointers that are null. What changed has the class `changed` and that word. The one error is that memory
 /// runs out.
@@ -123,6 +119,13 @@ pub fn push_table(html: &mut Html, picture: &Picture) -> Result<(), NoMemory> {
     html.markup("<table class=\"picture\">\n")?;
     html.markup("<tr><th>node</th><th>pointers to it</th><th>fields</th></tr>\n")?;
     push_boxes(html, picture.boxes.as_slice())?;
-    push_nulls(html, picture.nulls.as_slice())?;
+    let nulls = picture.nulls.as_slice();
+    push_names_within(
+        html,
+        nulls,
+        true,
+        "<tr><th>null</th><td>",
+        "</td><td></td></tr>\n",
+    )?;
     html.markup("</table>\n")
 }

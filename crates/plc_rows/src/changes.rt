@@ -33,6 +33,17 @@ fn is_same(before: Cell, after: Cell) -> bool {
     before.same_pointer(after) && same_bool(before.valid, after.valid)
 }
 
+/// What a place held and what it holds, where that is otherwise.
+fn changed_at(change: &Change, place: &Place) -> Option<(Cell, Cell)> {
+    let before = cell_at(change.before, place);
+    let after = cell_at(change.after, place);
+    if is_same(before, after) {
+        None
+    } else {
+        Some((before, after))
+    }
+}
+
 /// What became of a pointer.
 fn push_became(html: &mut Html, before: Cell, after: Cell) -> Written {
     if before.same_pointer(after) && !after.valid {
@@ -56,10 +67,7 @@ fn push_number_became(html: &mut Html, before: u32, after: u32) -> Written {
 fn push_shared(html: &mut Html, change: &Change) -> Written {
     for (number, name) in change.file.shared.as_slice().iter().enumerate() {
         if let Ok(number) = u16::try_from(number) {
-            let place = Place::Shared(number);
-            let before = cell_at(change.before, &place);
-            let after = cell_at(change.after, &place);
-            if !is_same(before, after) {
+            if let Some((before, after)) = changed_at(change, &Place::Shared(number)) {
                 html.markup("<div>")?;
                 push_name(html, name_at(change.file, *name))?;
                 push_became(html, before, after)?;
@@ -87,10 +95,7 @@ fn push_field_change(
     field: &Field,
 ) -> Written {
     if field.pointer {
-        let place = Place::Cell { a, f };
-        let before = cell_at(change.before, &place);
-        let after = cell_at(change.after, &place);
-        if !is_same(before, after) {
+        if let Some((before, after)) = changed_at(change, &Place::Cell { a, f }) {
             push_field(html, change.file, a, field)?;
             push_became(html, before, after)?;
         }
@@ -151,10 +156,7 @@ fn push_local(html: &mut Html, file: &File, t: u32, local: &Local) -> Written {
 
 /// What became of a pointer local, by its number among the pointer locals.
 fn push_pointer(html: &mut Html, change: &Change, t: u32, v: u16, local: &Local) -> Written {
-    let place = Place::Local { t, v };
-    let before = cell_at(change.before, &place);
-    let after = cell_at(change.after, &place);
-    if !is_same(before, after) {
+    if let Some((before, after)) = changed_at(change, &Place::Local { t, v }) {
         push_local(html, change.file, t, local)?;
         push_became(html, before, after)?;
     }

@@ -10,8 +10,7 @@ use plc_words::{push_point, push_primitive, push_step};
 
 /// A word and a number.
 pub fn push_numbered(html: &mut Html, word: &'static str, number: u32) -> Written {
-    html.markup(word)?;
-    html.number(u64::from(number))
+    html.numbered(word, u64::from(number))
 }
 
 /// A name of the file.

@@ -5,7 +5,7 @@ use crate::events::push_events;
 use crate::history::concerned;
 use crate::pieces::push_numbered;
 use crate::taken::{Taken, push_entry, push_taken, thread_of};
-use crate::traced::{Traced, Written};
+use crate::traced::{MOST_COLUMNS, Traced, Written};
 use crate::watching::push_watchers;
 use plc_auto::{Event, Observer};
 use plc_html::Html;
@@ -13,9 +13,6 @@ use plc_mem::Memory;
 use plc_replay::End;
 use plc_run::Config;
 use plc_sched::Entry;
-
-/// How many threads have a column of their own.
-const MOST_COLUMNS: u32 = 8;
 
 /// For how many retired addresses a row says where the observer stands, at an event of an epoch.
 const MOST_KEPT: u32 = 4;
@@ -103,8 +100,7 @@ fn push_address(html: &mut Html, traced: &Traced, config: &Config, a: u32) -> Wr
     if a == 0 {
         return Ok(());
     }
-    let threads = traced.threads.min(MOST_COLUMNS);
-    push_watchers(html, traced.observer, config.history(), threads, a)
+    push_watchers(html, traced, config.history(), a)
 }
 
 /// Where the observer stands for the first addresses that are retired.

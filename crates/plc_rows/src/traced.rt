@@ -6,6 +6,9 @@ use plc_flow::{Flow, StepsByPoint};
 /// What writing a part of a page answers: nothing, or that memory runs out.
 pub type Written = Result<(), NoMemory>;
 
+/// How many threads have a column of their own.
+pub(crate) const MOST_COLUMNS: u32 = 8;
+
 /// A program whose run is shown.
 #[derive(Clone, Copy)]
 pub struct Traced<'a> {

@@ -1,7 +1,7 @@
 // Where the observer stands for a thread and an address: the location to which the history leads, event by event, and
 // its words.
 use crate::pieces::{push_name, push_numbered};
-use crate::traced::Written;
+use crate::traced::{MOST_COLUMNS, Traced, Written};
 use plc_auto::{EvKind, Event, Observer};
 use plc_base::{LocId, Mask};
 use plc_html::Html;
@@ -61,39 +61,32 @@ fn push_watcher(html: &mut Html, t: u32, observer: &Observer, at: LocId) -> Writ
     push_location(html, observer, at)
 }
 
-/// Where the threads stand for an address: the first ones, so many.
+/// Where the threads stand for an address, the first ones, as many as have columns.
 pub(crate) fn push_watchers(
     html: &mut Html,
-    observer: &Observer,
+    traced: &Traced,
     history: &[Event],
-    threads: u32,
     a: u32,
 ) -> Written {
     push_numbered(html, "<div>for node ", a)?;
     html.markup(": ")?;
-    for t in 0..threads {
-        if let Some(at) = location_of(observer, history, t, a) {
+    for t in 0..traced.threads.min(MOST_COLUMNS) {
+        if let Some(at) = location_of(traced.observer, history, t, a) {
             html.markup(if t == 0 { "" } else { ", " })?;
-            push_watcher(html, t, observer, at)?;
+            push_watcher(html, t, traced.observer, at)?;
         }
     }
     html.markup("</div>")
 }
 
 /// The threads that forbid to free an address, each with where it stands.
-pub fn push_forbidding(
-    html: &mut Html,
-    observer: &Observer,
-    history: &[Event],
-    threads: u32,
-    a: u32,
-) -> Written {
+pub fn push_forbidding(html: &mut Html, traced: &Traced, history: &[Event], a: u32) -> Written {
     html.markup("<ul>\n")?;
-    for t in 0..threads {
-        if let Some(at) = location_of(observer, history, t, a) {
-            if !bears_free(observer, at) {
+    for t in 0..traced.threads {
+        if let Some(at) = location_of(traced.observer, history, t, a) {
+            if !bears_free(traced.observer, at) {
                 html.markup("<li>")?;
-                push_watcher(html, t, observer, at)?;
+                push_watcher(html, t, traced.observer, at)?;
                 html.markup("</li>\n")?;
             }
         }

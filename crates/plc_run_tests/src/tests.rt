@@ -8,6 +8,5 @@ mod reclaimers;
 mod replays;
 mod schedules;
 mod suggestions;
-mod texts;
 mod types;
 mod typings;

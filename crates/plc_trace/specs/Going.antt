@@ -1,15 +1,20 @@
 -- Where a run stands between two lines of its schedule.
-use Rattle.std.specs.Prelude.{ℕ, Option}
-use Rattle.plc_auto.specs.declared.observer.Observer.{Observer}
-use Rattle.plc_flow.specs.declared.flow.Flow.{Flow}
+use Rattle.std.specs.Prelude.{ℕ, ◌<◌, Option}
+use Rattle.plc_flow.specs.WellFormed.{FlowFits}
+use Rattle.plc_sched.specs.Schedules.{line_limit}
 use Rattle.plc_run.specs.Position.{Position, threads_of}
 use Rattle.plc_replay.specs.declared.end.End.{End}
 use Rattle.plc_replay.specs.Stands.{StandsAt, StandsAfter}
+use Rattle.plc_rows.specs.declared.traced.Traced.{Traced}
 
 -- the run goes on from there, after so many lines
-abbrev pub GoesOnFrom : Flow → Observer → ℕ → Position → Type 0
-GoesOnFrom flow o lines p = StandsAt flow o (threads_of p) lines p
+abbrev pub GoesOnFrom : Traced → ℕ → Position → Type 0
+GoesOnFrom traced lines p = StandsAt traced.flow.now traced.observer.now (threads_of p) lines p
+
+-- a line more may be taken there
+abbrev pub MayTake : Traced → ℕ → Position → Type 0
+MayTake traced lines p = FlowFits traced.flow.now × (lines < line_limit) × GoesOnFrom traced lines p
 
 -- the run goes on from there, or an end has come
-abbrev pub GoesOn : Flow → Observer → ℕ → Option End → Position → Type 0
-GoesOn flow o lines end p = StandsAfter flow o (threads_of p) lines end p
+abbrev pub GoesOn : Traced → ℕ → Option End → Position → Type 0
+GoesOn traced lines end p = StandsAfter traced.flow.now traced.observer.now (threads_of p) lines end p

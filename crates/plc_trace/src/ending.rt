@@ -4,7 +4,6 @@ ghost use Rattle.plc_run.specs.Position.{IsOfRun};
 
 use crate::racing::push_race;
 use crate::refused::push_refusal;
-use plc_auto::Observer;
 use plc_html::Html;
 use plc_mem::RaceKind;
 use plc_replay::End;
@@ -12,6 +11,16 @@ use plc_rows::{Traced, Written, push_forbidding, push_name, push_numbered, step_
 use plc_run::Config;
 use plc_sched::Entry;
 use plc_threads::Move;
+
+/// A run up to its last line.
+#[derive(Clone, Copy)]
+pub(crate) struct Reached<'a, 't> {
+    pub(crate) traced: &'a Traced<'t>,
+    /// What is there before the line.
+    pub(crate) config: &'a Config,
+    /// By which line of the schedule each event was heard.
+    pub(crate) heard: &'a [u32],
+}
 
 /// The line of which is spoken.
 fn push_line(html: &mut Html, line: u32) -> Written {
@@ -21,18 +30,10 @@ fn push_line(html: &mut Html, line: u32) -> Written {
 }
 
 /// A step that is a race.
-fn push_race_of(
-    html: &mut Html,
-    traced: &Traced,
-    config: &Config,
-    heard: &[u32],
-    m: &Move,
-    kind: RaceKind,
-    prim: u16,
-) -> Written {
+fn push_race_of(html: &mut Html, reached: Reached, m: &Move, kind: RaceKind, prim: u16) -> Written {
     if let Move::Step { t, nth, .. } = m {
-        if let Some(id) = step_of(traced, config, *t, *nth) {
-            return push_race(html, traced, config, heard, *t, id, kind, prim);
+        if let Some(id) = step_of(reached.traced, reached.config, *t, *nth) {
+            return push_race(html, reached, *t, id, kind, prim);
         }
     }
     html.markup(" is a race.</p>\n")
@@ -43,53 +44,39 @@ fn push_forbidden(html: &mut Html, traced: &Traced, config: &Config, a: u32) -> 
     push_numbered(html, " is a forbidden free: the reclaimer picks ", a)?;
     html.markup(", which the observer forbids, since it stands so:")?;
     html.markup("</p>\n")?;
-    let observer = traced.observer;
-    push_forbidding(html, observer, config.history(), traced.threads, a)
+    push_forbidding(html, traced, config.history(), a)
 }
 
 /// A line that is impossible.
-fn push_impossible(
-    html: &mut Html,
-    traced: &Traced,
-    observer: &Observer,
-    config: &Config,
-    m: &Move,
-) -> Written
-    requires fits { FlowFits traced.now.flow.now }
-    requires of_run { IsOfRun traced.now.flow.now observer.now config.now }
+fn push_impossible(html: &mut Html, reached: Reached, m: &Move) -> Written
+    requires fits { FlowFits reached.traced.now.flow.now }
+    requires of_run { IsOfRun reached.traced.now.flow.now reached.traced.now.observer.now reached.config.now }
 {
     html.markup(" is impossible: ")?;
-    if let Some(refusal) = config.refusal(traced.flow, m)? {
-        push_refusal(html, traced, config, m, refusal)?;
+    if let Some(refusal) = reached.config.refusal(reached.traced.flow, m)? {
+        push_refusal(html, reached.traced, reached.config, m, refusal)?;
     }
     html.markup(".</p>\n")
 }
 
 /// What is said of a move that is the last.
-pub(crate) fn push_ending(
-    html: &mut Html,
-    traced: &Traced,
-    config: &Config,
-    heard: &[u32],
-    m: &Move,
-    end: &End,
-) -> Written
-    requires fits { FlowFits traced.now.flow.now }
-    requires of_run { IsOfRun traced.now.flow.now traced.now.observer.now config.now }
+pub(crate) fn push_ending(html: &mut Html, reached: Reached, m: &Move, end: &End) -> Written
+    requires fits { FlowFits reached.traced.now.flow.now }
+    requires of_run { IsOfRun reached.traced.now.flow.now reached.traced.now.observer.now reached.config.now }
 {
     match *end {
         End::Ended { .. } => Ok(()),
         End::Race { kind, line, prim } => {
             push_line(html, line)?;
-            push_race_of(html, traced, config, heard, m, kind, prim)
+            push_race_of(html, reached, m, kind, prim)
         }
         End::Impossible { line } => {
             push_line(html, line)?;
-            push_impossible(html, traced, traced.observer, config, m)
+            push_impossible(html, reached, m)
         }
         End::ForbiddenFree { a, line } => {
             push_line(html, line)?;
-            push_forbidden(html, traced, config, a)
+            push_forbidden(html, reached.traced, reached.config, a)
         }
     }
 }

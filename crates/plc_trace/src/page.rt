@@ -3,60 +3,42 @@
 ghost use Rattle.std.specs.Prelude.{◌≤◌, IfOk, length};
 ghost use Rattle.plc_base.specs.Limits.{largest_file};
 ghost use Rattle.plc_flow.specs.WellFormed.{FlowFits};
-ghost use Rattle.plc_sched.specs.Schedules.{IsWithinLimits};
+ghost use Rattle.plc_cli.specs.Answer.{CanBeReplayed};
 ghost use Rattle.plc_trace.specs.Pages.{ShowsReplay, ShowsSchedule, ShowsEnd, SaysUnscheduled};
 
 use crate::running::trace;
 use plc_base::{Items, NoMemory};
 use plc_check::{Judged, LoadFault, load};
-use plc_cli::{REFUSED, answer_schedule};
+use plc_cli::{REFUSED, Recorded, answer_schedule};
 use plc_html::{Html, whole_page};
 use plc_page::{Page, push_file, push_numbered_lines, refused_page};
 use plc_reclaim::Reclaimer;
-use plc_sched::{SchedFault, Schedule, read_schedule};
+use plc_sched::{SchedFault, read_schedule};
 use plc_texts::schedule_fault_text;
 use std::alloc::Global;
 
-/// What follows the answer to a schedule.
-fn rest_of(
-    alloc: Global,
-    bytes: &[u8],
-    judged: &Judged,
-    schedule: &Schedule,
-    reclaimer: &mut Box<dyn Reclaimer>,
-) -> Result<Html, NoMemory>
-    requires fits { FlowFits judged.now.flow }
-    requires within { IsWithinLimits schedule.now }
-{
-    let schemes = judged.schemes.as_slice();
-    let (mut html, here) = trace(
-        alloc,
-        &judged.flow,
-        &judged.observer,
-        schemes,
-        schedule,
-        reclaimer,
-    )?;
-    push_file(&mut html, bytes, here)?;
-    Ok(html)
+/// The bytes of a file and those of a schedule, and the title of their page.
+#[derive(Clone, Copy)]
+struct Pair<'a> {
+    title: &'a [u8],
+    file: &'a [u8],
+    schedule: &'a [u8],
 }
 
 /// The page of a schedule that was read.
 fn ended_page(
     alloc: Global,
-    name: &[u8],
-    bytes: &[u8],
-    judged: &Judged,
-    schedule: &Schedule,
+    pair: Pair,
+    recorded: Recorded,
     reclaimer: &mut Box<dyn Reclaimer>,
 ) -> Result<Page, NoMemory>
-    requires fits { FlowFits judged.now.flow }
-    requires within { IsWithinLimits schedule.now }
-    ensures { IfOk result (ShowsEnd judged.now (meanings reclaimer.old) schedule.now) }
+    requires { CanBeReplayed recorded.judged.now recorded.schedule.now }
+    ensures { IfOk result (ShowsEnd recorded.entry.judged.now (meanings reclaimer.old) recorded.entry.schedule.now) }
 {
-    let answer = answer_schedule(alloc, judged, schedule, reclaimer)?;
-    let rest = rest_of(alloc, bytes, judged, schedule, reclaimer)?;
-    let page = whole_page(alloc, name, &answer.text, rest)?;
+    let answer = answer_schedule(alloc, recorded, reclaimer)?;
+    let (mut rest, here) = trace(alloc, recorded, reclaimer)?;
+    push_file(&mut rest, pair.file, here)?;
+    let page = whole_page(alloc, pair.title, &answer.text, rest)?;
     Ok(Page {
         status: answer.status,
         bytes: Items::from_vec(page),
@@ -72,19 +54,14 @@ fn line_of_refusal(fault: SchedFault) -> u32 {
 }
 
 /// The page of a schedule that is refused.
-fn unscheduled_page(
-    alloc: Global,
-    name: &[u8],
-    second: &[u8],
-    fault: SchedFault,
-) -> Result<Page, NoMemory>
+fn unscheduled_page(alloc: Global, pair: Pair, fault: SchedFault) -> Result<Page, NoMemory>
     ensures { IfOk result (SaysUnscheduled fault) }
 {
     let text = schedule_fault_text(alloc, fault)?;
     let mut rest = Html::new(alloc);
     rest.markup("<h2>The schedule</h2>\n")?;
-    push_numbered_lines(&mut rest, second, line_of_refusal(fault))?;
-    let page = whole_page(alloc, name, &text, rest)?;
+    push_numbered_lines(&mut rest, pair.schedule, line_of_refusal(fault))?;
+    let page = whole_page(alloc, pair.title, &text, rest)?;
     Ok(Page {
         status: REFUSED,
         bytes: Items::from_vec(page),
@@ -94,37 +71,23 @@ fn unscheduled_page(
 /// The page of a schedule for a file that was loaded.
 fn scheduled_page(
     alloc: Global,
-    name: &[u8],
-    bytes: &[u8],
-    second: &[u8],
+    pair: Pair,
     judged: &Judged,
     reclaimer: &mut Box<dyn Reclaimer>,
 ) -> Result<Page, NoMemory>
     requires fits { FlowFits judged.now.flow }
-    ensures { IfOk result (ShowsSchedule judged.now (meanings reclaimer.old) second.now) }
+    ensures { IfOk result (ShowsSchedule judged.now (meanings reclaimer.old) pair.entry.schedule.now) }
 {
-    match read_schedule(alloc, second) {
-        Ok(schedule) => ended_page(alloc, name, bytes, judged, &schedule, reclaimer),
-        Err(SchedFault::Memory) => Err(NoMemory),
-        Err(fault) => unscheduled_page(alloc, name, second, fault),
-    }
-}
-
-/// The page of a schedule for a file that was loaded, which ends here.
-fn loaded_page(
-    alloc: Global,
-    name: &[u8],
-    bytes: &[u8],
-    second: &[u8],
-    judged: Judged,
-    reclaimer: &mut Box<dyn Reclaimer>,
-) -> Result<Page, NoMemory>
-    requires fits { FlowFits judged.flow }
-    ensures { IfOk result (ShowsSchedule judged (meanings reclaimer.old) second.now) }
-{
-    let page = scheduled_page(alloc, name, bytes, second, &judged, reclaimer);
-    drop(judged);
-    page
+    let schedule = match read_schedule(alloc, pair.schedule) {
+        Ok(schedule) => schedule,
+        Err(SchedFault::Memory) => return Err(NoMemory),
+        Err(fault) => return unscheduled_page(alloc, pair, fault),
+    };
+    let recorded = Recorded {
+        judged,
+        schedule: &schedule,
+    };
+    ended_page(alloc, pair, recorded, reclaimer)
 }
 
 /// The page of a recorded run, by the bytes of a file and of a schedule: the answer of `replay` under this reclaimer,
@@ -140,8 +103,13 @@ pub fn replay_page(
     requires { length bytes.now ≤ largest_file }
     ensures { IfOk result (ShowsReplay (meanings reclaimer.old) bytes.now second.now) }
 {
+    let pair = Pair {
+        title: name,
+        file: bytes,
+        schedule: second,
+    };
     match load(alloc, bytes) {
-        Ok(judged) => loaded_page(alloc, name, bytes, second, judged, reclaimer),
+        Ok(judged) => scheduled_page(alloc, pair, &judged, reclaimer),
         Err(LoadFault::Memory) => Err(NoMemory),
         Err(fault) => refused_page(alloc, name, bytes, &fault),
     }

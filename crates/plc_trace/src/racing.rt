@@ -1,57 +1,22 @@
 // Why the last line is a race: which primitive of the step is one, by which pointer, and when that pointer's node was
 // retired and freed.
-use plc_auto::Event;
+use crate::ending::Reached;
 use plc_base::StepId;
 use plc_flow::Step;
 use plc_html::Html;
-use plc_lang::{Arg, Prim, Var};
+use plc_lang::{Prim, Var, assigned, risked};
 use plc_mem::{Cell, RaceKind};
 use plc_rows::{
     Traced, Written, last_free, last_retirement, push_cell, push_line_of, push_name, push_numbered,
     push_prim, push_taken_step,
 };
-use plc_run::Config;
 use plc_texts::variable_in;
 use plc_threads::Place;
-
-/// The pointers by which a primitive may be a race: the one through which it goes, the two that it compares, or the one
-/// that it hands over.
-fn risked(prim: Prim) -> [Option<Var>; 2] {
-    match prim {
-        Prim::Load { q, .. } | Prim::DataLoad { q, .. } | Prim::RefreshLoad { q, .. } => {
-            [Some(q), None]
-        }
-        Prim::Store { p, .. }
-        | Prim::StoreNull { p, .. }
-        | Prim::DataStore { p, .. }
-        | Prim::RefreshStore { p, .. } => [Some(p), None],
-        Prim::Eq { p, q } | Prim::Ne { p, q } => [Some(p), Some(q)],
-        Prim::Call {
-            arg: Arg::Var(p),
-            ..
-        } => [Some(p), None],
-        _ => [None, None],
-    }
-}
-
-/// The variable that a primitive assigns.
-fn assigned(prim: Prim) -> Option<Var> {
-    match prim {
-        Prim::Null { p }
-        | Prim::Copy { p, .. }
-        | Prim::New { p }
-        | Prim::Load { p, .. }
-        | Prim::Mark { p, .. }
-        | Prim::Unmark { p, .. } => Some(p),
-        Prim::Refresh { p, .. } | Prim::RefreshLoad { p, .. } => Some(Var::Local(p)),
-        _ => None,
-    }
-}
 
 /// Whether one of these primitives assigns the variable.
 fn is_assigned(prims: &[Prim], var: Var) -> bool {
     for prim in prims {
-        if assigned(*prim) == Some(var) {
+        if assigned(prim) == Some(var) {
             return true;
         }
     }
@@ -66,94 +31,74 @@ fn place_of(t: u32, var: Var) -> Place {
     }
 }
 
-/// The retirement of an address before an event.
-fn push_retired_before(
+/// That something happened to an address by an event: these words say what.
+fn push_happened(
     html: &mut Html,
-    history: &[Event],
     heard: &[u32],
-    place: usize,
     a: u32,
+    words: &'static str,
+    place: usize,
 ) -> Written {
-    let earlier = history.get(..place).unwrap_or(&[]);
+    push_numbered(html, "; node ", a)?;
+    html.markup(words)?;
+    push_line_of(html, heard, place)
+}
+
+/// That an address was freed by an event, and when it had been retired.
+fn push_freed(html: &mut Html, reached: Reached, a: u32, place: usize) -> Written {
+    push_happened(html, reached.heard, a, " was last freed by ", place)?;
+    let earlier = reached.config.history().get(..place).unwrap_or(&[]);
     if let Some(place) = last_retirement(earlier, a) {
         html.markup(", after ")?;
-        push_line_of(html, heard, place)?;
+        push_line_of(html, reached.heard, place)?;
         html.markup(" had retired it")?;
     }
     Ok(())
 }
 
-/// When an address was freed last.
-fn push_freed(html: &mut Html, history: &[Event], heard: &[u32], a: u32) -> Written {
-    if let Some(place) = last_free(history, a) {
-        push_numbered(html, "; node ", a)?;
-        html.markup(" was last freed by ")?;
-        push_line_of(html, heard, place)?;
-        push_retired_before(html, history, heard, place, a)?;
-    }
-    Ok(())
-}
-
-/// When an address was retired last.
-fn push_retired(html: &mut Html, history: &[Event], heard: &[u32], a: u32) -> Written {
-    if let Some(place) = last_retirement(history, a) {
-        push_numbered(html, "; node ", a)?;
-        html.markup(" was retired by ")?;
-        push_line_of(html, heard, place)?;
-    }
-    Ok(())
-}
-
 /// What a pointer holds by which the step is a race, and what became of its node.
-fn push_fate(html: &mut Html, config: &Config, heard: &[u32], cell: Cell) -> Written {
+fn push_fate(html: &mut Html, reached: Reached, cell: Cell) -> Written {
     html.markup(" holds ")?;
     push_cell(html, cell)?;
-    if cell.valid {
-        push_retired(html, config.history(), heard, cell.number)
-    } else {
-        push_freed(html, config.history(), heard, cell.number)
+    let history = reached.config.history();
+    let a = cell.number;
+    if !cell.valid {
+        return match last_free(history, a) {
+            Some(place) => push_freed(html, reached, a, place),
+            None => Ok(()),
+        };
     }
-}
-
-/// A pointer by which a primitive may be a race, after the primitives before it.
-fn push_risked(
-    html: &mut Html,
-    config: &Config,
-    heard: &[u32],
-    before: &[Prim],
-    t: u32,
-    var: Var,
-) -> Written {
-    if is_assigned(before, var) {
-        return html.markup(" is assigned earlier in the same step");
-    }
-    match config.memory().cell(&place_of(t, var)) {
-        Some(cell) => push_fate(html, config, heard, cell),
+    match last_retirement(history, a) {
+        Some(place) => push_happened(html, reached.heard, a, " was retired by ", place),
         None => Ok(()),
     }
 }
 
-/// The pointers by which a primitive may be a race.
-fn push_pointers(
-    html: &mut Html,
-    traced: &Traced,
-    config: &Config,
-    heard: &[u32],
-    t: u32,
-    step: &Step,
-    prim: u16,
-) -> Written {
+/// A pointer by which a primitive may be a race, after the primitives before it.
+fn push_risked(html: &mut Html, reached: Reached, before: &[Prim], t: u32, var: Var) -> Written {
+    if is_assigned(before, var) {
+        return html.markup(" is assigned earlier in the same step");
+    }
+    match reached.config.memory().cell(&place_of(t, var)) {
+        Some(cell) => push_fate(html, reached, cell),
+        None => Ok(()),
+    }
+}
+
+/// The pointers by which a primitive of a thread's step may be a race.
+fn push_pointers(html: &mut Html, reached: Reached, t: u32, step: &Step, prim: u16) -> Written {
     let prims = step.prims.as_slice();
     let Some(racing) = prims.get(prim as usize) else {
         return Ok(());
     };
     let before = prims.get(..prim as usize).unwrap_or(&[]);
+    let (first, second) = risked(racing);
     html.markup("<ul>\n")?;
-    for var in risked(*racing) {
+    for var in [first, second] {
         if let Some(var) = var {
             html.markup("<li>")?;
-            push_name(html, variable_in(&traced.flow.file, step.op.0, var))?;
-            push_risked(html, config, heard, before, t, var)?;
+            push_name(html, variable_in(&reached.traced.flow.file, step.op.0, var))?;
+            push_risked(html, reached, before, t, var)?;
             html.markup(".</li>\n")?;
         }
     }
@@ -189,21 +134,20 @@ fn push_racing(
 /// Why a step of a thread is a race, by this primitive of it, in the configuration before it.
 pub(crate) fn push_race(
     html: &mut Html,
-    traced: &Traced,
-    config: &Config,
-    heard: &[u32],
+    reached: Reached,
     t: u32,
     id: StepId,
     kind: RaceKind,
     prim: u16,
 ) -> Written {
+    let flow = reached.traced.flow;
     push_numbered(html, " is a race. Thread ", t)?;
     html.markup(" takes ")?;
-    push_taken_step(html, traced.flow, id)?;
-    match traced.flow.steps.get(id.0 as usize) {
+    push_taken_step(html, flow, id)?;
+    match flow.steps.get(id.0 as usize) {
         Some(step) => {
-            push_racing(html, traced, step, prim, kind)?;
-            push_pointers(html, traced, config, heard, t, step, prim)
+            push_racing(html, reached.traced, step, prim, kind)?;
+            push_pointers(html, reached, t, step, prim)
         }
         None => html.markup("</p>\n"),
     }

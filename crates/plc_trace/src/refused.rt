@@ -2,25 +2,21 @@
 use plc_base::OpId;
 use plc_flow::{Flow, Point, Step};
 use plc_html::Html;
-use plc_lang::{Prim, count_parameters, operation_name};
+use plc_lang::{Prim, accessed, count_parameters, operation_name};
 use plc_rows::{Traced, Written, push_name, push_numbered, push_place, push_prim, step_of};
 use plc_run::{Config, Refusal};
 use plc_threads::Move;
 
 /// Why a primitive is blocked.
-fn why_blocked(prim: Prim) -> &'static str {
+fn why_blocked(prim: &Prim) -> &'static str {
     match prim {
         Prim::New { .. } => ", since its address is in use",
-        Prim::Load { .. }
-        | Prim::Store { .. }
-        | Prim::StoreNull { .. }
-        | Prim::DataLoad { .. }
-        | Prim::DataStore { .. } => ", since it goes through null",
         Prim::Call { .. } => ", since the pointer is null",
         Prim::Refresh { .. } => ", since the two aren't the same",
         Prim::RefreshLoad { .. } | Prim::RefreshStore { .. } => {
             ", since it goes through null, or the two aren't the same"
         }
+        _ if accessed(prim).is_some() => ", since it goes through null",
         _ => ", since it isn't so",
     }
 }
@@ -32,7 +28,7 @@ fn push_blocked(html: &mut Html, flow: &Flow, step: &Step, prim: u16) -> Written
             html.markup("its primitive ")?;
             push_prim(html, flow, step, prim)?;
             html.markup(" is blocked")?;
-            html.markup(why_blocked(*prim))
+            html.markup(why_blocked(prim))
         }
         None => html.markup("it is blocked"),
     }

@@ -3,20 +3,21 @@
 ghost use Rattle.std.specs.Prelude.{◌≡◌, ◌+◌, ◌<◌, ◌≤◌, length};
 ghost use Rattle.plc_flow.specs.WellFormed.{FlowFits};
 ghost use Rattle.plc_sched.specs.Schedules.{IsWithinLimits, line_limit};
+ghost use Rattle.plc_cli.specs.Answer.{CanBeReplayed};
 ghost use Rattle.plc_trace.specs.Going.{GoesOnFrom};
 
 use crate::log::Log;
-use crate::walk::take_all;
-use plc_auto::{Observer, Scheme};
+use crate::walk::{Walk, take_all};
 use plc_base::NoMemory;
-use plc_flow::{Flow, StepsByPoint};
+use plc_cli::{Recorded, end_of};
+use plc_flow::StepsByPoint;
 use plc_html::Html;
 use plc_mem::Memory;
 use plc_reclaim::Reclaimer;
-use plc_replay::{End, begin_reclaimer, replay};
+use plc_replay::{End, begin_reclaimer};
 use plc_rows::{Traced, Written, push_first, push_heads, push_standing};
 use plc_run::Config;
-use plc_sched::{Entry, Schedule};
+use plc_sched::Entry;
 use plc_threads::StartFault;
 use std::alloc::Global;
 
@@ -55,71 +56,65 @@ fn push_taken_all(log: &mut Log, end: &Option<End>) -> Written {
 }
 
 /// The lines that are shown, after so many others.
-fn show(
-    log: &mut Log,
-    traced: &Traced,
-    config: &mut Config,
-    reclaimer: &mut Box<dyn Reclaimer>,
-    entries: &[Entry],
-    lines: u32,
-) -> Written
+fn show(traced: &Traced, walk: &mut Walk, entries: &[Entry], lines: u32) -> Written
     requires fits { FlowFits traced.now.flow.now }
     requires few { lines + length entries.now ≤ line_limit }
-    requires stands { GoesOnFrom traced.now.flow.now traced.now.observer.now lines config.old }
+    requires stands { GoesOnFrom traced.now lines walk.old.config }
 {
-    push_begun(log, traced, config, lines)?;
-    let end = take_all(log, traced, config, reclaimer, entries, lines, true)?;
-    push_taken_all(log, &end)?;
-    push_standing(&mut log.after, traced, config)
+    push_begun(&mut walk.log, traced, &walk.config, lines)?;
+    let end = take_all(traced, walk, entries, lines, true)?;
+    push_taken_all(&mut walk.log, &end)?;
+    push_standing(&mut walk.log.after, traced, &walk.config)
 }
 
 /// All lines: the first ones, so many, are taken without a row.
-fn follow(
-    log: &mut Log,
-    traced: &Traced,
-    config: &mut Config,
-    reclaimer: &mut Box<dyn Reclaimer>,
-    entries: &[Entry],
-    untold: usize,
-) -> Written
+fn follow(traced: &Traced, walk: &mut Walk, entries: &[Entry], untold: usize) -> Written
     requires fits { FlowFits traced.now.flow.now }
     requires few { length entries.now < line_limit }
     requires untold { untold ≤ length entries.now }
-    requires stands { GoesOnFrom traced.now.flow.now traced.now.observer.now 1 config.old }
+    requires stands { GoesOnFrom traced.now 1 walk.old.config }
 {
     let first = &entries[..untold];
     let others = &entries[untold..];
-    match take_all(log, traced, config, reclaimer, first, 1, false)? {
+    match take_all(traced, walk, first, 1, false)? {
         Some(_) => Ok(()),
-        None => show(log, traced, config, reclaimer, others, 1 + untold as u32),
+        None => show(traced, walk, others, 1 + untold as u32),
     }
 }
 
-/// The run of a schedule, from its start.
+/// What is written of the run of a schedule, from its start.
 fn run(
-    log: &mut Log,
+    alloc: Global,
     traced: &Traced,
-    schemes: &[Scheme],
-    schedule: &Schedule,
+    recorded: Recorded,
     reclaimer: &mut Box<dyn Reclaimer>,
     untold: usize,
-) -> Written
+) -> Result<Log, NoMemory>
     requires fits { FlowFits traced.now.flow.now }
-    requires within { IsWithinLimits schedule.now }
+    requires within { IsWithinLimits recorded.schedule.now }
 {
+    let Recorded { judged, schedule } = recorded;
     let entries = schedule.entries.as_slice();
     let untold = untold.min(entries.len());
-    begin_reclaimer(reclaimer, schemes)?;
-    match Config::start(
-        log.rows.alloc(),
-        traced.flow,
-        traced.observer,
-        schedule.threads,
-    ) {
-        Ok(mut config) => follow(log, traced, &mut config, reclaimer, entries, untold),
-        Err(StartFault::NoStart) => log.ending.markup(
-            "<p>Line 1 of the schedule is impossible: <code>init</code> is blocked, so that the program has no start.</p>\n",
-        ),
+    let mut log = Log::new(alloc);
+    begin_reclaimer(reclaimer, judged.schemes.as_slice())?;
+    match Config::start(alloc, traced.flow, traced.observer, schedule.threads) {
+        Ok(config) => {
+            let mut walk = Walk {
+                log,
+                config,
+                reclaimer,
+            };
+            follow(traced, &mut walk, entries, untold)?;
+            Ok(walk.log)
+        }
+        Err(StartFault::NoStart) => {
+            log.ending.markup(
+                "<p>Line 1 of the schedule is impossible: <code>init</code> is blocked, so that the program has no \
+                 start.</p>\n",
+            )?;
+            Ok(log)
+        }
         Err(StartFault::Memory) => Err(NoMemory),
     }
 }
@@ -127,7 +122,9 @@ fn run(
 /// The sentences in front of the table.
 fn push_introduction(html: &mut Html, untold: usize) -> Written {
     html.markup(
-        "<h2 id=\"run\">The run</h2>\n<p>A row for each line of the schedule: what its thread did, what the reclaimer did, what that changed, where the observer then stands for the address of each event, and which nodes are retired and not freed.</p>\n",
+        "<h2 id=\"run\">The run</h2>\n<p>A row for each line of the schedule: what its thread did, what the reclaimer \
+         did, what that changed, where the observer then stands for the address of each event, and which nodes are \
+         retired and not freed.</p>\n",
     )?;
     if untold > 0 {
         html.markup("<p>Only the last lines are shown, ")?;
@@ -153,16 +150,14 @@ fn put_together(log: Log, threads: u32, untold: usize) -> Result<Html, NoMemory>
 /// runs out.
 pub(crate) fn trace(
     alloc: Global,
-    flow: &Flow,
-    observer: &Observer,
-    schemes: &[Scheme],
-    schedule: &Schedule,
+    recorded: Recorded,
     reclaimer: &mut Box<dyn Reclaimer>,
 ) -> Result<(Html, u32), NoMemory>
-    requires fits { FlowFits flow.now }
-    requires within { IsWithinLimits schedule.now }
+    requires { CanBeReplayed recorded.judged.now recorded.schedule.now }
 {
-    let end = replay(alloc, flow, observer, schemes, schedule, reclaimer)?;
+    let end = end_of(alloc, recorded, reclaimer)?;
+    let Recorded { judged, schedule } = recorded;
+    let (flow, observer) = (&judged.flow, &judged.observer);
     let untold = left_out(&end);
     let steps = StepsByPoint::of_flow(alloc, flow)?;
     let traced = Traced {
@@ -171,8 +166,7 @@ pub(crate) fn trace(
         steps: &steps,
         threads: schedule.threads,
     };
-    let mut log = Log::new(alloc);
-    run(&mut log, &traced, schemes, schedule, reclaimer, untold)?;
+    let log = run(alloc, &traced, recorded, reclaimer, untold)?;
     let here = log.here;
     let html = put_together(log, schedule.threads, untold)?;
     Ok((html, here))

@@ -1,12 +1,12 @@
 // The lines of a schedule, taken one by one as `replay` takes them, with a row for each that is shown. A line that
 // isn't shown is taken alike, so that memory and history are those of the whole run.
-ghost use Rattle.std.specs.Prelude.{◌≡◌, ◌+◌, ◌<◌, ◌≤◌, length, IfOk};
+ghost use Rattle.std.specs.Prelude.{◌+◌, ◌≤◌, length, IfOk};
 ghost use Rattle.plc_flow.specs.WellFormed.{FlowFits};
 ghost use Rattle.plc_run.specs.Position.{IsOfRun};
 ghost use Rattle.plc_sched.specs.Schedules.{line_limit};
-ghost use Rattle.plc_trace.specs.Going.{GoesOnFrom, GoesOn};
+ghost use Rattle.plc_trace.specs.Going.{GoesOnFrom, MayTake, GoesOn};
 
-use crate::ending::{push_ending, push_unknown};
+use crate::ending::{Reached, push_ending, push_unknown};
 use crate::log::Log;
 use plc_base::NoMemory;
 use plc_mem::Memory;
@@ -18,6 +18,14 @@ use plc_sched::Entry;
 use plc_texts::line_of;
 use plc_threads::Move;
 
+/// A run while its lines are taken, and what is written of it.
+#[derive(Drop)]
+pub(crate) struct Walk<'a> {
+    pub(crate) log: Log,
+    pub(crate) config: Config,
+    pub(crate) reclaimer: &'a mut Box<dyn Reclaimer>,
+}
+
 /// Writes the row of a move, and what is said of it where it is the last.
 fn tell(log: &mut Log, traced: &Traced, row: &Row, config: &Config, m: &Move) -> Written
     requires fits { FlowFits traced.now.flow.now }
@@ -27,33 +35,41 @@ fn tell(log: &mut Log, traced: &Traced, row: &Row, config: &Config, m: &Move) ->
     if let Taken::Step(id) = row.taken {
         log.here = line_of(traced.flow, id.0);
     }
-    match &row.end {
-        Some(end) => push_ending(&mut log.ending, traced, config, &log.heard, m, end),
-        None => Ok(()),
-    }
+    let Some(end) = &row.end else {
+        return Ok(());
+    };
+    let reached = Reached {
+        traced,
+        config,
+        heard: &log.heard,
+    };
+    push_ending(&mut log.ending, reached, m, end)
 }
 
 /// Takes a move, by a line after so many others, and writes its row.
 fn take_shown(
-    log: &mut Log,
     traced: &Traced,
-    config: &mut Config,
-    reclaimer: &mut Box<dyn Reclaimer>,
+    walk: &mut Walk,
     before: &Memory,
     entry: &Entry,
     m: &Move,
     lines: u32,
 ) -> Result<Option<End>, NoMemory>
-    requires fits { FlowFits traced.now.flow.now }
-    requires few { lines < line_limit }
-    requires stands { GoesOnFrom traced.now.flow.now traced.now.observer.now lines config.old }
-    ensures stands { IfOk result (λ r. GoesOn traced.now.flow.now traced.now.observer.now (lines + 1) r config.new) }
+    requires { MayTake traced.now lines walk.old.config }
+    ensures { IfOk result (λ r. GoesOn traced.now (lines + 1) r walk.new.config) }
 {
-    let heard = config.history().len();
-    let taken = taken_by(traced, config, entry);
-    let end = take_move(traced.flow, traced.observer, m, config, reclaimer, lines)?;
+    let heard = walk.config.history().len();
+    let taken = taken_by(traced, &walk.config, entry);
+    let end = take_move(
+        traced.flow,
+        traced.observer,
+        m,
+        &mut walk.config,
+        walk.reclaimer,
+        lines,
+    )?;
     let line = lines + 1;
-    note(&mut log.heard, config.history().len(), line)?;
+    note(&mut walk.log.heard, walk.config.history().len(), line)?;
     let row = Row {
         line,
         entry,
@@ -62,7 +78,7 @@ fn take_shown(
         heard,
         end,
     };
-    tell(log, traced, &row, config, m)?;
+    tell(&mut walk.log, traced, &row, &walk.config, m)?;
     Ok(end)
 }
 
@@ -88,104 +104,75 @@ fn push_still(
 
 /// Takes a line after so many others, and writes its row.
 fn take_told(
-    log: &mut Log,
     traced: &Traced,
-    config: &mut Config,
-    reclaimer: &mut Box<dyn Reclaimer>,
+    walk: &mut Walk,
     entry: &Entry,
     lines: u32,
 ) -> Result<Option<End>, NoMemory>
-    requires fits { FlowFits traced.now.flow.now }
-    requires few { lines < line_limit }
-    requires stands { GoesOnFrom traced.now.flow.now traced.now.observer.now lines config.old }
-    ensures stands { IfOk result (λ r. GoesOn traced.now.flow.now traced.now.observer.now (lines + 1) r config.new) }
+    requires { MayTake traced.now lines walk.old.config }
+    ensures { IfOk result (λ r. GoesOn traced.now (lines + 1) r walk.new.config) }
 {
     let line = lines + 1;
-    match ask(log.rows.alloc(), traced.flow, reclaimer, entry)? {
+    match ask(walk.log.rows.alloc(), traced.flow, walk.reclaimer, entry)? {
         Wanted::Move(m) => {
-            let before = config.memory().copy()?;
-            take_shown(log, traced, config, reclaimer, &before, entry, &m, lines)
+            let before = walk.config.memory().copy()?;
+            take_shown(traced, walk, &before, entry, &m, lines)
         }
         Wanted::Quiet => {
-            push_still(log, traced, config, entry, line, None)?;
+            push_still(&mut walk.log, traced, &walk.config, entry, line, None)?;
             Ok(None)
         }
         Wanted::Unknown => {
             let end = Some(End::Impossible { line });
-            push_still(log, traced, config, entry, line, end)?;
-            push_unknown(&mut log.ending, entry, line)?;
+            push_still(&mut walk.log, traced, &walk.config, entry, line, end)?;
+            push_unknown(&mut walk.log.ending, entry, line)?;
             Ok(end)
         }
     }
 }
 
-/// Takes a line after so many others, and writes nothing of it.
-fn take_untold(
-    log: &mut Log,
-    traced: &Traced,
-    config: &mut Config,
-    reclaimer: &mut Box<dyn Reclaimer>,
-    entry: &Entry,
-    lines: u32,
-) -> Result<Option<End>, NoMemory>
-    requires fits { FlowFits traced.now.flow.now }
-    requires few { lines < line_limit }
-    requires stands { GoesOnFrom traced.now.flow.now traced.now.observer.now lines config.old }
-    ensures stands { IfOk result (λ r. GoesOn traced.now.flow.now traced.now.observer.now (lines + 1) r config.new) }
-{
-    let end = take_line(
-        traced.flow,
-        traced.observer,
-        config,
-        reclaimer,
-        entry,
-        lines,
-    )?;
-    note(&mut log.heard, config.history().len(), lines + 1)?;
-    Ok(end)
-}
-
-/// Takes a line after so many others.
+/// Takes a line after so many others. Where it isn't shown, nothing is written of it.
 fn take_one(
-    log: &mut Log,
     traced: &Traced,
-    config: &mut Config,
-    reclaimer: &mut Box<dyn Reclaimer>,
+    walk: &mut Walk,
     entry: &Entry,
     lines: u32,
     shown: bool,
 ) -> Result<Option<End>, NoMemory>
-    requires fits { FlowFits traced.now.flow.now }
-    requires few { lines < line_limit }
-    requires stands { GoesOnFrom traced.now.flow.now traced.now.observer.now lines config.old }
-    ensures stands { IfOk result (λ r. GoesOn traced.now.flow.now traced.now.observer.now (lines + 1) r config.new) }
+    requires { MayTake traced.now lines walk.old.config }
+    ensures { IfOk result (λ r. GoesOn traced.now (lines + 1) r walk.new.config) }
 {
     if shown {
-        take_told(log, traced, config, reclaimer, entry, lines)
-    } else {
-        take_untold(log, traced, config, reclaimer, entry, lines)
+        return take_told(traced, walk, entry, lines);
     }
+    let end = take_line(
+        traced.flow,
+        traced.observer,
+        &mut walk.config,
+        walk.reclaimer,
+        entry,
+        lines,
+    )?;
+    note(&mut walk.log.heard, walk.config.history().len(), lines + 1)?;
+    Ok(end)
 }
 
 /// Takes lines after so many others, until one of them is the last; a row is written for each where they are shown.
 pub(crate) fn take_all(
-    log: &mut Log,
     traced: &Traced,
-    config: &mut Config,
-    reclaimer: &mut Box<dyn Reclaimer>,
+    walk: &mut Walk,
     entries: &[Entry],
     taken: u32,
     shown: bool,
 ) -> Result<Option<End>, NoMemory>
     requires fits { FlowFits traced.now.flow.now }
     requires few { taken + length entries.now ≤ line_limit }
-    requires stands { GoesOnFrom traced.now.flow.now traced.now.observer.now taken config.old }
-    ensures stands { IfOk result (λ r.
-        GoesOn traced.now.flow.now traced.now.observer.now (taken + length entries.now) r config.new) }
+    requires stands { GoesOnFrom traced.now taken walk.old.config }
+    ensures stands { IfOk result (λ r. GoesOn traced.now (taken + length entries.now) r walk.new.config) }
 {
     let mut lines = taken;
     for entry in entries {
-        match take_one(log, traced, config, reclaimer, entry, lines, shown)? {
+        match take_one(traced, walk, entry, lines, shown)? {
             Some(end) => return Ok(Some(end)),
             None => lines += 1,
         }

@@ -1,8 +1,7 @@
 -- The points of a flow, operation by operation.
-use Rattle.std.proofs.Common.{◌≡◌, ℕ, zero, suc, ◌+◌, ◌-◌, ◌<◌, ◌≤◌, List, [], ◌∷◌, length, get_or, drop, replicate, Some, sym, ap, subst, ◌∙◌, arith, refl}
+use Rattle.std.proofs.Common.{◌≡◌, ℕ, zero, suc, ◌+◌, ◌-◌, ◌<◌, ◌≤◌, List, [], ◌∷◌, length, get_or, drop, Some, sym, ap, subst, ◌∙◌, arith, refl}
 use Rattle.std.specs.Prelude.{slice_get}
 use Rattle.std.proofs.lemmas.Option.{slice_get-get_or, slice_get_read}
-use Rattle.std.proofs.lemmas.List.{get_or-append_right, get_or_append_left, get_or-replicate, length-replicate}
 use Rattle.plc_lang.specs.declared.syntax.Op.{Op}
 use Rattle.plc_lang.specs.Locals.{pointers_of}
 use Rattle.plc_lang.specs.Skeleton.{locals_at}
@@ -11,6 +10,7 @@ use Rattle.plc_flow.specs.declared.flow.Flow.{Flow}
 use Rattle.plc_flow.specs.WellFormed.{GatesFrom, IsPointOf, IsWellFormed}
 use Rattle.plc_flow.specs.Skeleton.{pointers_by_point, skeleton_of}
 use Rattle.plc_flow.proofs.Gates.{ends_after}
+use Rattle.plc_flow.proofs.Ends.{locals_there}
 
 -- what the code reads at a place
 pub read_item : {A : Type 0} (xs ys : List A) (k : ℕ) (x : A) → xs ≡ ys → k < length ys → x ≡ get_or xs k x → slice_get ys k ≡ Some x
@@ -25,32 +25,13 @@ pub read_gate : (gs hs : List Gate) (k : ℕ) → gs ≡ hs → k < length hs �
 read_gate gs hs k same small =
     slice_get-get_or hs k no_gate small ∙ ap (λ (xs : List Gate). Some (get_or xs k no_gate)) (sym same)
 
--- the points of gate k have the locals of operation k
-pointers_there : (n : ℕ) (os : List Op) (gs : List Gate) (end k p : ℕ) (g : Gate) (o : Op) → GatesFrom n gs end → slice_get gs k ≡ Some g
-    → slice_get os k ≡ Some o → IsPointOf g p → (n ≤ p) × (p < end) × (get_or (pointers_by_point os gs) (p - n) 0 ≡ pointers_of o)
-pointers_there n [] gs end k p g o h e f at = absurd cc
-pointers_there n (x ∷ os) [] end k p g o h e f at = absurd cc
-pointers_there n (x ∷ os) (y ∷ gs) end zero p g o (first, entry_is, exit_is, wide, rest) e f at =
-    let is : y ≡ g = cc in
-    let op : x ≡ o = cc in
-    let low : y.first ≤ p = subst (λ (z : Gate). z.first ≤ p) (sym is) at.0 in
-    let high : p < y.after = subst (λ (z : Gate). p < z.after) (sym is) at.1 in
-    let r = ends_after y.after gs end rest in
-    let long = length-replicate (y.after - y.first) (pointers_of x) in (
-      omega arith,
-      omega arith,
-      get_or_append_left (replicate (y.after - y.first) (pointers_of x)) (pointers_by_point os gs) 0 (p - n) (omega arith)
-          ∙ get_or-replicate (y.after - y.first) (p - n) (pointers_of x) 0 (omega arith) ∙ ap pointers_of op,
-    )
-pointers_there n (x ∷ os) (y ∷ gs) end (suc k) p g o (first, entry_is, exit_is, wide, rest) e f at =
-    let r = pointers_there y.after os gs end k p g o rest e f at in
-    let long = length-replicate (y.after - y.first) (pointers_of x) in
-    let there : p - n - (y.after - y.first) ≡ p - y.after = let l = r.0 in omega arith in (
-      let l = r.0 in omega arith,
-      r.1,
-      get_or-append_right (replicate (y.after - y.first) (pointers_of x)) (pointers_by_point os gs) (y.after - y.first) (p - n) 0 long (let l = r.0 in omega arith)
-          ∙ ap (λ (i : ℕ). get_or (pointers_by_point os gs) i 0) there ∙ r.2,
-    )
+-- what a function gives of a list of operations and a number, where it gives the pointer locals of the first for 0 and
+-- goes on in the rest for more; `locals_there` has one of these
+by_number : (f : List Op → ℕ → ℕ) (os : List Op) (k : ℕ) (o : Op) → ((o : Op) (os : List Op) → f (o ∷ os) 0 ≡ pointers_of o)
+    → ((o : Op) (os : List Op) (k : ℕ) → f (o ∷ os) (suc k) ≡ f os k) → slice_get os k ≡ Some o → f os k ≡ pointers_of o
+by_number f [] k o first next e = absurd cc
+by_number f (x ∷ os) zero o first next e = let is : x ≡ o = cc in first x os ∙ ap pointers_of is
+by_number f (x ∷ os) (suc k) o first next e = next x os k ∙ by_number f os k o first next e
 
 -- a point of gate k
 pub record There (flow : Flow) (o : Op) (p : ℕ) : Type 0 where
@@ -60,9 +41,10 @@ pub record There (flow : Flow) (o : Op) (p : ℕ) : Type 0 where
 pub there : (flow : Flow) (k p : ℕ) (g : Gate) (o : Op) → IsWellFormed flow → slice_get flow.gates k ≡ Some g → slice_get flow.file.ops k ≡ Some o
     → IsPointOf g p → There flow o p
 there flow k p g o w e f at =
-    let r = pointers_there 0 flow.file.ops flow.gates flow.points k p g o w.ranges e f at in
+    let r = locals_there 0 flow.file.ops flow.gates flow.points k p g (sym w.gates) w.ranges e at in
     let same : p - 0 ≡ p = omega arith in
-    record { point = r.1; locals = ap (λ (i : ℕ). get_or (pointers_by_point flow.file.ops flow.gates) i 0) (sym same) ∙ r.2 }
+    let locals = r.2.1 ∙ by_number _ flow.file.ops k o (λ o os. refl) (λ o os k. refl) f in
+    record { point = r.1; locals = ap (λ (i : ℕ). get_or (pointers_by_point flow.file.ops flow.gates) i 0) (sym same) ∙ locals }
 
 -- entries are points
 entry_within : (n : ℕ) (gs : List Gate) (end k : ℕ) (g : Gate) → GatesFrom n gs end → slice_get gs k ≡ Some g → g.entry.0 < end

@@ -1,9 +1,6 @@
 // What words ask for: the page of a file, the page of a run, or lines for editors. What can't be read or asked is
 // answered as `plc` answers it. A reclaimer is made in the call that hands it on, since no function may hand out a
 // value of a trait.
-ghost use Rattle.std.specs.Prelude.{◌≤◌, length};
-ghost use Rattle.plc_base.specs.Limits.{largest_file};
-
 use plc_base::{LARGEST_FILE, LARGEST_SCHEDULE, NoMemory};
 use plc_cli::{
     Answer, ByList, Content, Contents, Epoch, Files, Hazard, Leak, NO_MEMORY, Reclaimer, Sink,
@@ -62,22 +59,6 @@ fn title_of(alloc: Global, run: Run) -> Result<Vec<u8>, NoMemory> {
     Ok(title)
 }
 
-/// The page of a run, by the bytes of both files.
-fn run_page(
-    alloc: Global,
-    run: Run,
-    bytes: &[u8],
-    second: &[u8],
-    reclaimer: &mut Box<dyn Reclaimer>,
-) -> Result<Page, NoMemory>
-    requires { length bytes.now ≤ largest_file }
-{
-    let title = title_of(alloc, run)?;
-    let page = replay_page(alloc, &title, bytes, second, reclaimer);
-    drop(title);
-    page
-}
-
 /// The page of a run under this reclaimer.
 fn show_run<F: Files>(
     alloc: Global,
@@ -88,7 +69,8 @@ fn show_run<F: Files>(
     let mut reclaimer = reclaimer;
     match read_both(alloc, files, run.file, run.schedule, LARGEST_SCHEDULE)? {
         Contents::Read(bytes, second) => {
-            let page = run_page(alloc, run, &bytes, &second, &mut reclaimer)?;
+            let title = title_of(alloc, run)?;
+            let page = replay_page(alloc, &title, &bytes, &second, &mut reclaimer)?;
             Ok(answer_of(page))
         }
         Contents::Unread(answer) => Ok(answer),

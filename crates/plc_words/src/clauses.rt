@@ -140,7 +140,7 @@ impl Clauses {
 }
 
 /// A place in a list as a number; the greatest where it is past that.
-fn number(place: usize) -> u16
+pub(crate) fn number(place: usize) -> u16
     ensures { place < most_items → result ≡ place }
 {
     if place < 65536 {

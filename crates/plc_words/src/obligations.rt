@@ -14,6 +14,9 @@ use plc_setting::{Obligation, count_at, is_labelled, stands_at};
 use plc_texts::{push, push_bytes, push_numbered};
 use std::alloc::AllocError;
 
+/// What writing a part of a sentence answers: nothing, or that memory runs out.
+type Written = Result<(), AllocError>;
+
 /// What sentences are about.
 #[derive(Clone, Copy)]
 struct Subject<'a> {
@@ -24,7 +27,7 @@ struct Subject<'a> {
 }
 
 /// The line of a clause, and its text.
-fn push_placed(out: &mut Vec<u8>, about: &Subject, id: ClauseId) -> Result<(), AllocError> {
+fn push_placed(out: &mut Vec<u8>, about: &Subject, id: ClauseId) -> Written {
     match about.clauses.placed(id) {
         Some(placed) => {
             push_numbered(out, " in line ", placed.line)?;
@@ -42,7 +45,7 @@ fn push_clause(
     about: &Subject,
     operation: &[u8],
     id: Option<ClauseId>,
-) -> Result<(), AllocError> {
+) -> Written {
     match id {
         None => push(out, "a clause"),
         Some(ClauseId::Invariant(_)) => push(out, "the invariant"),
@@ -57,59 +60,21 @@ fn push_clause(
     }
 }
 
-/// A step with its line and what it does; primitives stand between backquotes.
-fn push_named_step(
-    out: &mut Vec<u8>,
-    flow: &Flow,
-    id: StepId,
-    step: &Step,
-) -> Result<(), AllocError> {
-    let quote = if step.prims.is_empty() { "" } else { "`" };
-    push_numbered(out, "step ", u32::from(id.0))?;
-    push_numbered(out, ", line ", step.line)?;
-    push(out, " (")?;
-    push(out, quote)?;
-    push_deeds(out, flow, step)?;
-    push(out, quote)?;
-    push(out, ")")
-}
-
 /// An invariant that may be wrong where a run begins.
-fn push_start(out: &mut Vec<u8>, about: &Subject, id: Option<ClauseId>) -> Result<(), AllocError> {
+fn push_start(out: &mut Vec<u8>, about: &Subject, id: Option<ClauseId>) -> Written {
     push(out, "where a run begins, ")?;
     push_clause(out, about, &[], id)?;
     push(out, " may be wrong")
 }
 
 /// A clause that may be wrong where an operation begins.
-fn push_enter(
-    out: &mut Vec<u8>,
-    about: &Subject,
-    op: OpId,
-    id: Option<ClauseId>,
-) -> Result<(), AllocError> {
+fn push_enter(out: &mut Vec<u8>, about: &Subject, op: OpId, id: Option<ClauseId>) -> Written {
     let operation = operation_name(&about.flow.file, op);
     push(out, "where ")?;
     push_bytes(out, operation)?;
     push(out, " begins, with all its pointers null, ")?;
     push_clause(out, about, operation, id)?;
     push(out, " may be wrong")
-}
-
-/// That something is missing at the point before a step: these words say what.
-fn push_missing(
-    out: &mut Vec<u8>,
-    flow: &Flow,
-    from: PointId,
-    words: &str,
-) -> Result<(), AllocError> {
-    push(out, words)?;
-    push(out, " at the point before this step")?;
-    if !is_labelled(flow, from.0) {
-        push(out, ", which has no label")?;
-    }
-    push(out, ": ")?;
-    push_point(out, flow, from)
 }
 
 /// Whether the clause of this step's last point stands at its first point, too. An invariant stands everywhere.
@@ -150,28 +115,22 @@ fn missing(about: &Subject, from: PointId, stands: bool) -> Option<&'static str>
 }
 
 /// What is missing at the point before a step, if something is.
-fn push_before(
-    out: &mut Vec<u8>,
-    about: &Subject,
-    from: PointId,
-    stands: bool,
-) -> Result<(), AllocError> {
-    match missing(about, from, stands) {
-        Some(words) => push_missing(out, about.flow, from, words),
-        None => Ok(()),
+fn push_before(out: &mut Vec<u8>, about: &Subject, from: PointId, stands: bool) -> Written {
+    let Some(words) = missing(about, from, stands) else {
+        return Ok(());
+    };
+    push(out, words)?;
+    push(out, " at the point before this step")?;
+    if !is_labelled(about.flow, from.0) {
+        push(out, ", which has no label")?;
     }
+    push(out, ": ")?;
+    push_point(out, about.flow, from)
 }
 
-/// A clause that a step of the same thread may break, or to which it doesn't lead.
-fn push_own(
-    out: &mut Vec<u8>,
-    about: &Subject,
-    number: StepId,
-    step: &Step,
-    id: Option<ClauseId>,
-) -> Result<(), AllocError> {
+/// That a step may break a clause of its own thread, or doesn't lead to it.
+fn push_own(out: &mut Vec<u8>, about: &Subject, step: &Step, id: Option<ClauseId>) -> Written {
     let stands = stands_before(about, step.from, id);
-    push_named_step(out, about.flow, number, step)?;
     push(
         out,
         if stands {
@@ -184,41 +143,25 @@ fn push_own(
     push_before(out, about, step.from, stands)
 }
 
-/// A clause of a thread that a step of another may break.
-fn push_other(
-    out: &mut Vec<u8>,
-    about: &Subject,
-    number: StepId,
-    step: &Step,
-    point: PointId,
-    id: Option<ClauseId>,
-) -> Result<(), AllocError> {
-    push_named_step(out, about.flow, number, step)?;
+/// That a step may break a clause of another thread, which stands at a point.
+fn push_other(out: &mut Vec<u8>, about: &Subject, id: Option<ClauseId>, point: PointId) -> Written {
     push(out, " of another thread may break ")?;
     push_clause(out, about, operation_of(about.flow, point), id)?;
     push(out, ", for a thread that stands here: ")?;
     push_point(out, about.flow, point)
 }
 
-/// The primitive that makes a claim.
-fn push_claimed(out: &mut Vec<u8>, flow: &Flow, step: &Step, prim: u16) -> Result<(), AllocError> {
-    match step.prims.get(prim as usize) {
-        Some(prim) => push_primitive(out, &flow.file, locals_of_step(flow, step), prim),
-        None => Ok(()),
-    }
-}
-
-/// A claim of which the outline doesn't say why it is true.
-fn push_claim(
-    out: &mut Vec<u8>,
-    about: &Subject,
-    number: StepId,
-    step: &Step,
-    prim: u16,
-) -> Result<(), AllocError> {
-    push_named_step(out, about.flow, number, step)?;
+/// That a step makes a claim by a primitive, of which the outline doesn't say why it is true.
+fn push_claim(out: &mut Vec<u8>, about: &Subject, step: &Step, prim: u16) -> Written {
     push(out, " claims `")?;
-    push_claimed(out, about.flow, step, prim)?;
+    if let Some(prim) = step.prims.get(prim as usize) {
+        push_primitive(
+            out,
+            &about.flow.file,
+            locals_of_step(about.flow, step),
+            prim,
+        )?;
+    }
     push(
         out,
         "`, and the outline doesn't say why that node isn't retired",
@@ -226,21 +169,25 @@ fn push_claim(
     push_before(out, about, step.from, true)
 }
 
-/// The sentence on an obligation of a step.
-fn push_of_step(
-    out: &mut Vec<u8>,
-    about: &Subject,
-    number: StepId,
-    o: &Obligation,
-) -> Result<(), AllocError> {
+/// The sentence on an obligation of a step: the step with its line and what it does, primitives between backquotes,
+/// and then what may be wrong of it.
+fn push_of_step(out: &mut Vec<u8>, about: &Subject, number: StepId, o: &Obligation) -> Written {
     let Some(step) = about.flow.steps.get(number.0 as usize) else {
         return Ok(());
     };
+    let quote = if step.prims.is_empty() { "" } else { "`" };
+    push_numbered(out, "step ", u32::from(number.0))?;
+    push_numbered(out, ", line ", step.line)?;
+    push(out, " (")?;
+    push(out, quote)?;
+    push_deeds(out, about.flow, step)?;
+    push(out, quote)?;
+    push(out, ")")?;
     let id = clause_of(about.flow, about.outline, o);
     match *o {
-        Obligation::Other { point, .. } => push_other(out, about, number, step, point, id),
-        Obligation::Claim { prim, .. } => push_claim(out, about, number, step, prim),
-        _ => push_own(out, about, number, step, id),
+        Obligation::Other { point, .. } => push_other(out, about, id, point),
+        Obligation::Claim { prim, .. } => push_claim(out, about, step, prim),
+        _ => push_own(out, about, step, id),
     }
 }
 

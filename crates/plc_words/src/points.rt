@@ -6,11 +6,12 @@
 //   place where the sides of an `if` or of a `choose` come together;
 // - no step leads to the point after a `return` or a `break`, and after a loop that has no `break`;
 // - a step without primitives and of an earlier line leaves the end of a block, which begins in that line.
+use crate::clauses::number;
 use crate::primitives::push_primitive;
 use crate::steps::{count_leaving, first_steps, locals_of_step};
-use plc_base::{FuncId, PointId};
+use plc_base::{FuncId, OpId, PointId};
 use plc_flow::{Flow, Step};
-use plc_lang::{Prim, function_name, name_at};
+use plc_lang::{Prim, function_name, is_test, label_name, operation_name};
 use plc_setting::has_point;
 use plc_texts::{push, push_bytes, push_number, push_numbered};
 use std::alloc::AllocError;
@@ -31,36 +32,20 @@ struct Arrivals {
     back: bool,
 }
 
-/// The name of an operation.
-fn operation(flow: &Flow, op: usize) -> &[u8] {
-    match flow.file.ops.get(op) {
-        Some(op) => name_at(&flow.file, op.name),
-        None => &[],
-    }
-}
-
 /// The name of the operation that has a point.
 pub(crate) fn operation_of(flow: &Flow, point: PointId) -> &[u8] {
     for (op, gate) in flow.gates.as_slice().iter().enumerate() {
         if has_point(gate, point.0) {
-            return operation(flow, op);
+            return operation_name(&flow.file, OpId(number(op)));
         }
     }
     &[]
 }
 
-/// The name of a label.
-fn label(flow: &Flow, label: usize) -> &[u8] {
-    match flow.file.labels.get(label) {
-        Some(name) => name_at(&flow.file, *name),
-        None => &[],
-    }
-}
-
 /// Words with the name of an operation.
 fn push_of(out: &mut Vec<u8>, words: &str, flow: &Flow, op: usize) -> Result<bool, AllocError> {
     push(out, words)?;
-    push_bytes(out, operation(flow, op))?;
+    push_bytes(out, operation_name(&flow.file, OpId(number(op))))?;
     Ok(true)
 }
 
@@ -87,7 +72,7 @@ fn push_labels(
     for (k, at) in flow.labels.as_slice().iter().enumerate() {
         if at.0 == point.0 {
             push(out, if named { ", label " } else { "label " })?;
-            push_bytes(out, label(flow, k))?;
+            push_bytes(out, label_name(&flow.file, number(k)))?;
             named = true;
         }
     }
@@ -130,24 +115,11 @@ fn arrivals_at(flow: &Flow, point: PointId) -> Arrivals {
     found
 }
 
-/// Whether a primitive goes on only where something is so.
-fn is_test(prim: Prim) -> bool {
-    matches!(
-        prim,
-        Prim::Eq { .. }
-            | Prim::Ne { .. }
-            | Prim::IsNull { .. }
-            | Prim::NotNull { .. }
-            | Prim::DataTest { .. }
-            | Prim::MarkTest { .. }
-    )
-}
-
 /// The test with which primitives begin, after claims.
 fn first_test(prims: &[Prim]) -> Option<Prim> {
     for prim in prims {
         if !matches!(prim, Prim::Active { .. }) {
-            return if is_test(*prim) { Some(*prim) } else { None };
+            return if is_test(prim) { Some(*prim) } else { None };
         }
     }
     None

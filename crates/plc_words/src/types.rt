@@ -56,6 +56,15 @@ const EPOCH: [Pair; 3] = [
 /// `r.kept` under epochs.
 const EPOCH_KEPT: &str = "kept since it was retired while the thread was inside";
 
+/// The locations under `plain`, by their numbers in its table: `u` and `r`.
+const PLAIN_AT: [LocId; 2] = [LocId(0), LocId(1)];
+
+/// Where a thread protects nodes, the locations of nodes that aren't retired, in the order of the pairs.
+const UNRETIRED_AT: [LocId; 3] = [LocId(0), LocId(1), LocId(2)];
+
+/// The locations of retired nodes, in the same order; `r.kept` is another.
+const RETIRED_AT: [LocId; 3] = [LocId(3), LocId(4), LocId(5)];
+
 /// The words of a pair for a node that may stand in these of its locations.
 fn chosen(pair: &Pair, unretired: bool, retired: bool) -> Option<&'static str> {
     let [not_retired, only_retired, either] = pair;
@@ -72,17 +81,20 @@ type Phrases = [Option<&'static str>; 4];
 
 /// The phrases under `plain`.
 fn plain_phrases(set: Mask) -> Phrases {
-    let at = chosen(&PLAIN, set.has(LocId(0)), set.has(LocId(1)));
+    let [u, r] = PLAIN_AT;
+    let at = chosen(&PLAIN, set.has(u), set.has(r));
     [at, None, None, None]
 }
 
-/// The phrases where a thread protects nodes. The locations of nodes that aren't retired stand first.
+/// The phrases where a thread protects nodes.
 fn protected_phrases(table: &[Pair; 3], kept: &'static str, set: Mask) -> Phrases {
     let [unprotected, asked, granted] = table;
+    let [u_none, u_asked, u_granted] = UNRETIRED_AT;
+    let [r_none, r_asked, r_granted] = RETIRED_AT;
     [
-        chosen(unprotected, set.has(LocId(0)), set.has(LocId(3))),
-        chosen(asked, set.has(LocId(1)), set.has(LocId(4))),
-        chosen(granted, set.has(LocId(2)), set.has(LocId(5))),
+        chosen(unprotected, set.has(u_none), set.has(r_none)),
+        chosen(asked, set.has(u_asked), set.has(r_asked)),
+        chosen(granted, set.has(u_granted), set.has(r_granted)),
         if set.has(LocId(R_KEPT)) {
             Some(kept)
         } else {

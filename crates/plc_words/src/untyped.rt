@@ -63,20 +63,6 @@ fn push_condition(
     push(out, asked.asks)
 }
 
-/// A primitive whose condition fails, by the step that has it.
-fn push_failing(
-    out: &mut Vec<u8>,
-    flow: &Flow,
-    step: &Step,
-    prim: u16,
-    fault: TypeFault,
-) -> Result<(), AllocError> {
-    match step.prims.get(prim as usize) {
-        Some(prim) => push_condition(out, flow, step, *prim, fault),
-        None => Ok(()),
-    }
-}
-
 /// A primitive whose condition fails: what it does with which variable, and what has to be known of that.
 /// `s := t.next looks through t, which has to be safe here`. Nothing where there is no such step. The one
 /// error is that memory runs out.
@@ -87,8 +73,11 @@ pub fn push_untyped(
     prim: u16,
     fault: TypeFault,
 ) -> Result<(), AllocError> {
-    match flow.steps.get(step.0 as usize) {
-        Some(step) => push_failing(out, flow, step, prim, fault),
+    let Some(step) = flow.steps.get(step.0 as usize) else {
+        return Ok(());
+    };
+    match step.prims.get(prim as usize) {
+        Some(prim) => push_condition(out, flow, step, *prim, fault),
         None => Ok(()),
     }
 }

@@ -3,7 +3,7 @@ use plc_base::{Items, Mask, NoMemory};
 use plc_cert::{Cert, CertFault, CertField, read, write};
 use plc_ground::{Node, Tree};
 use plc_type::Env;
-use std::alloc::Global;
+use std::alloc::{AllocError, Global};
 
 // What is read of a text, written again.
 fn again(alloc: Global, text: &str) -> Result<Vec<u8>, CertFault> {
@@ -52,7 +52,7 @@ fn what_is_written_is_read(rt: HostRuntime) {
     }
 }
 
-// Texts that are no JSON, and those whose part is the first that is at fault.
+// Texts that are no JSON.
 const NOT_JSON: &[&str] = &[
     "",
     "{",
@@ -60,67 +60,74 @@ const NOT_JSON: &[&str] = &[
     r#"{"env":[],"trees":[],"version":2"#,
 ];
 
-const BAD_ROOTS: &[&str] = &[
-    "{}",
-    "[[],[],1]",
-    r#"{"env":7,"trees":7,"version":2,"x":0}"#,
-    r#"{"env":7,"tree":7,"version":2}"#,
-];
+// Parts of a certificate with texts in which the part is the first at fault.
+const BAD_PARTS: &str = r#"root => {}
+root => [[],[],1]
+root => {"env":7,"trees":7,"version":2,"x":0}
+root => {"env":7,"tree":7,"version":2}
+env => {"env":7,"trees":7,"version":1}
+env => {"env":7,"trees":7,"version":2}
+env => {"env":[[[1,0],[]]],"trees":7,"version":1}
+env => {"env":[[[8],[]]],"trees":7,"version":1}
+env => {"env":[[[],[[2,[]]]]],"trees":7,"version":1}
+trees => {"env":[],"trees":7,"version":1}
+trees => {"env":[],"trees":7,"version":2}
+trees => {"env":[],"trees":[[[1,0]]],"version":1}
+trees => {"env":[],"trees":[[[0,4294967296]]],"version":1}
+"#;
 
-const BAD_VERSIONS: &[&str] = &[
-    r#"{"env":7,"trees":7,"version":1.0}"#,
-    r#"{"env":7,"trees":7,"version":2.0}"#,
-    r#"{"env":7,"trees":7,"version":-1}"#,
-    r#"{"env":7,"trees":7,"version":18446744073709551616}"#,
-];
-
-const OTHER_VERSION: &[&str] = &[r#"{"env":7,"trees":7,"version":3}"#];
-
-const NO_VERSION: &[&str] = &[r#"{"env":7,"trees":7,"version":0}"#];
-
-const LAST_VERSION: &[&str] = &[r#"{"env":7,"trees":7,"version":18446744073709551615}"#];
-
-const BAD_ENVS: &[&str] = &[
-    r#"{"env":7,"trees":7,"version":1}"#,
-    r#"{"env":7,"trees":7,"version":2}"#,
-    r#"{"env":[[[1,0],[]]],"trees":7,"version":1}"#,
-    r#"{"env":[[[8],[]]],"trees":7,"version":1}"#,
-    r#"{"env":[[[],[[2,[]]]]],"trees":7,"version":1}"#,
-];
-
-const BAD_TREES: &[&str] = &[
-    r#"{"env":[],"trees":7,"version":1}"#,
-    r#"{"env":[],"trees":7,"version":2}"#,
-    r#"{"env":[],"trees":[[[1,0]]],"version":1}"#,
-    r#"{"env":[],"trees":[[[0,4294967296]]],"version":1}"#,
-];
-
-// The first of these texts that isn't refused so.
-fn other_refusal(alloc: Global, texts: &[&'static str], fault: CertFault) -> Option<&'static str> {
-    for text in texts {
-        if !is_answered(alloc, *text, Err(fault)) {
-            return Some(*text);
-        }
+// The part that a word names.
+fn part(word: &str) -> CertField {
+    match word {
+        "root" => CertField::Root,
+        "env" => CertField::Env,
+        _ => CertField::Trees,
     }
-    None
 }
 
 #[test]
 fn each_refusal_comes_in_its_order(rt: HostRuntime) {
-    let shape = |field| CertFault::Shape { field };
-    for row in &[
-        (NOT_JSON, CertFault::NotJson),
-        (BAD_ROOTS, shape(CertField::Root)),
-        (BAD_VERSIONS, shape(CertField::Version)),
-        (OTHER_VERSION, CertFault::Version { n: 3 }),
-        (NO_VERSION, CertFault::Version { n: 0 }),
-        (LAST_VERSION, CertFault::Version { n: u64::MAX }),
-        (BAD_ENVS, shape(CertField::Env)),
-        (BAD_TREES, shape(CertField::Trees)),
-    ] {
-        let (texts, fault) = *row;
-        assert_eq!(rt; other_refusal(rt.alloc(), texts, fault), None);
+    for text in NOT_JSON {
+        assert!(rt;
+            is_answered(rt.alloc(), *text, Err(CertFault::NotJson)),
+            "{text}"
+        );
     }
+    for row in BAD_PARTS.lines() {
+        let (word, text) = row.split_once(" => ").unwrap_or(("", row));
+        let fault = CertFault::Shape { field: part(word) };
+        assert!(rt; is_answered(rt.alloc(), text, Err(fault)), "{row}");
+    }
+}
+
+// Whether a text with this version, whose other parts are at fault too, is refused so.
+fn version_is_refused(alloc: Global, version: &str, fault: CertFault) -> Result<bool, AllocError> {
+    let text = format!(in alloc; "{{\"env\":7,\"trees\":7,\"version\":{version}}}")?;
+    Ok(is_answered(alloc, text.as_str(), Err(fault)))
+}
+
+// The version is judged before the environments and the trees.
+#[test]
+fn versions_are_refused(rt: HostRuntime) -> Result<(), AllocError> {
+    let shape = CertFault::Shape {
+        field: CertField::Version,
+    };
+    for row in &[
+        ("1.0", shape),
+        ("2.0", shape),
+        ("-1", shape),
+        ("18446744073709551616", shape),
+        ("3", CertFault::Version { n: 3 }),
+        ("0", CertFault::Version { n: 0 }),
+        ("18446744073709551615", CertFault::Version { n: u64::MAX }),
+    ] {
+        let (version, fault) = *row;
+        assert!(rt;
+            version_is_refused(rt.alloc(), version, fault)?,
+            "{version}"
+        );
+    }
+    Ok(())
 }
 
 // One environment with a shared pointer and two locals, and one tree of a split and a leaf.

@@ -4,13 +4,13 @@ ghost use Rattle.plc_flow.specs.WellFormed.{FlowFits};
 ghost use Rattle.plc_flow.specs.WellSorted.{FlowIsWellSorted};
 ghost use Rattle.plc_gc.specs.Position.{IsOfRun};
 
-use crate::tests::loading::{Asked, answered, put, text_is};
+use crate::tests::loading::{Asked, answered};
 use plc_base::{FieldId, Items, NoMemory, OpId};
 use plc_check::Judged;
 use plc_flow::Flow;
 use plc_gc::{GcConfig, holds};
 use plc_logic::{Clause, Item, Outline};
-use plc_stacks::HAZARDS;
+use plc_testing::{HAZARDS, put, text_is};
 use plc_threads::{Move, Place, StartFault};
 use std::alloc::{AllocError, Global};
 
@@ -150,14 +150,14 @@ fn claims_text(
     alloc: Global,
     flow: &Flow,
     config: &GcConfig,
-    line: &str,
+    t: u32,
+    nth: u16,
 ) -> Result<String, NoMemory>
     requires of_run { IsOfRun flow.now config.now }
     requires fits { FlowFits flow.now }
     requires sorted { FlowIsWellSorted flow.now }
 {
-    let (t, nth, _) = three(line);
-    let truths = config.claims(flow, t, (nth % 65536) as u16)?;
+    let truths = config.claims(flow, t, nth)?;
     Ok(truths_text(alloc, &truths)?)
 }
 
@@ -177,7 +177,8 @@ fn answer(
         return Ok(places_text(alloc, config)?);
     }
     if line.starts_with("claims") {
-        return claims_text(alloc, &judged.flow, config, line);
+        let (t, nth, _) = three(line);
+        return claims_text(alloc, &judged.flow, config, t, (nth % 65536) as u16);
     }
     if line.starts_with("invariants") || line.starts_with("p") {
         return Ok(outline_text(alloc, judged, config, line)?);

@@ -1,7 +1,7 @@
 // A garbage-collected run that speaks of marks, beside the run in memory.
 use crate::tests::erased::ran;
-use crate::tests::loading::text_is;
 use plc_base::NoMemory;
+use plc_testing::text_is;
 
 // `carry` hands a mark on, `empty` marks null, and `renew` refreshes.
 const MARKED: &str = "struct Node { ptr next; }

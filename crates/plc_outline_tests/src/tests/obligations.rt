@@ -4,13 +4,13 @@
 ghost use Rattle.plc_setting.specs.Fit.{Fits};
 
 use crate::tests::deep::DEEP;
-use crate::tests::loading::{Asked, answered, put, text_is};
+use crate::tests::loading::{Asked, answered};
 use plc_base::NoMemory;
 use plc_check::Judged;
 use plc_flow::Flow;
 use plc_logic::Outline;
 use plc_oblig::{Obligation, count, nth};
-use plc_stacks::{EPOCHS, HAZARDS};
+use plc_testing::{EPOCHS, HAZARDS, put, text_is};
 use std::alloc::{AllocError, Global};
 
 fn obligation_text(alloc: Global, o: Obligation) -> Result<String, AllocError> {

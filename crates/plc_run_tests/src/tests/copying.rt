@@ -1,12 +1,12 @@
 // Copies of memories and of locals are equal to what was copied, and go on apart from it.
 ghost use Rattle.plc_flow.specs.WellFormed.{FlowFits};
 
-use crate::tests::moves::{config_of, loaded, places_text};
-use crate::tests::texts::{put, text_is};
+use crate::tests::moves::{config_of, places_text};
 use plc_base::NoMemory;
 use plc_check::Judged;
 use plc_flow::Flow;
 use plc_mem::{Locals, Memory};
+use plc_testing::{loaded, put, text_is};
 use std::alloc::{AllocError, Global};
 
 const LINKED: &str =

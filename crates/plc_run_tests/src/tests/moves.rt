@@ -1,32 +1,18 @@
 // The moves of runs with their answers: a text has a move a line, and so has its transcript.
 ghost use Rattle.std.specs.Prelude.{IfOk};
-ghost use Rattle.plc_lang.specs.Fit.{FileFits};
 ghost use Rattle.plc_flow.specs.WellFormed.{FlowFits};
 ghost use Rattle.plc_run.specs.Position.{IsOfRun};
 
-use crate::tests::texts::{put, text_is};
 use plc_auto::{Event, Observer};
-use plc_base::{FieldId, Items, LARGEST_FILE, NoMemory, OpId};
-use plc_check::{Judged, load};
+use plc_base::{FieldId, Items, NoMemory, OpId};
+use plc_check::Judged;
 use plc_flow::Flow;
 use plc_mem::Memory;
 use plc_run::{Config, Moved};
+use plc_testing::{loaded, put, text_is};
 use plc_threads::{Move, Place};
 use std::alloc::{AllocError, Global};
-
-// A file with its flow.
-pub(crate) fn loaded(alloc: Global, text: &str) -> Result<Judged, NoMemory>
-    ensures flow { IfOk result (λ judged. FlowFits judged.flow) }
-    ensures file { IfOk result (λ judged. FileFits judged.flow.file) }
-{
-    if text.len() > LARGEST_FILE {
-        return Err(NoMemory);
-    }
-    match load(alloc, text.as_bytes()) {
-        Ok(judged) => Ok(judged),
-        Err(_) => Err(NoMemory),
-    }
-}
+use std::process::Abort;
 
 pub(crate) fn number(word: &str) -> u32 {
     word.parse::<u32>().unwrap_or(9999)
@@ -280,23 +266,6 @@ start 0 0 7 => Done
 step 0 0 1 => Done
 free 1 => Forbidden { a: 1 }
 places => Top=0 p=1 1.next=0 used 1 
-# start 0 0 7 => Done
-step 0 0 1 => Done
-step 0 0 => Done
-step 0 0 => Done
-return 0 => Done
-start 0 1 => Done
-start 1 1 => Done
-step 0 0 => Done
-step 1 0 => Done
-step 0 0 => Done
-step 1 0 => Done
-step 0 0 => Done, 0 calls 0 with 1
-free 1 => Done, 1 is freed
-step 1 0 => Pass 0
-step 0 0 => Blocked
-free 1 => Blocked
-places => Top=0 p=1? r=1? 
 ";
 
 // Why moves are blocked, or not, where nothing happens of the asking.
@@ -323,12 +292,18 @@ why return 0 => None
 # start 0 3 => Done
 why step 0 0 => Blocked { prim: 1 }
 places => Top=0 p=0 
-# start 0 0 7 => Done
+";
+
+// Moves from the beginning by which a thread puts a node.
+const PUT: &str = "start 0 0 7 => Done
 step 0 0 1 => Done
 step 0 0 => Done
 step 0 0 => Done
 return 0 => Done
-start 0 1 => Done
+";
+
+// Moves after those to the free of the node, which two threads have taken and of which one has retired it.
+const FREED: &str = "start 0 1 => Done
 start 1 1 => Done
 step 0 0 => Done
 step 1 0 => Done
@@ -336,19 +311,21 @@ step 0 0 => Done
 step 1 0 => Done
 step 0 0 => Done, 0 calls 0 with 1
 free 1 => Done, 1 is freed
-why step 1 0 => None
+";
+
+// Moves after those: the other thread retires the node, which is a race.
+const RACED: &str = "# step 1 0 => Pass 0
+step 0 0 => Blocked
+free 1 => Blocked
+places => Top=0 p=1? r=1? 
+# why step 1 0 => None
 step 1 0 => Pass 0
 why step 0 0 => Ended
 why free 0 => Ended
 ";
 
-// Moves from the beginning to the call by which a reader protects the node of `Top`.
-const PROTECT: &str = "start 0 0 7 => Done
-step 0 0 1 => Done
-step 0 0 => Done
-step 0 0 => Done
-return 0 => Done
-start 1 2 => Done
+// Moves after the put to the call by which a reader protects the node of `Top`.
+const PROTECT: &str = "start 1 2 => Done
 step 1 0 => Done
 step 1 0 => Done, 1 calls 1 with 1
 ";
@@ -373,12 +350,32 @@ free 1 => Forbidden { a: 1 }
 places => Top=0 p=1 r=1 1.next=0 used 1 retired 1 
 ";
 
+// Fails a test where moves of the stack after two texts of other moves have other answers.
+fn rows_are_answered(
+    rt: &impl Abort,
+    alloc: Global,
+    before: [&str; 2],
+    rows: &str,
+) -> Result<(), NoMemory> {
+    let before = before.concat(alloc)?;
+    for row in rows.split("# ") {
+        text_is(rt, ran(alloc, STACK, before.as_str(), row), row)?;
+    }
+    Ok(())
+}
+
 #[test]
 fn moves_have_their_answers(rt: HostRuntime) -> Result<(), NoMemory> {
-    for (before, rows) in [("", MOVES), ("", WHYS), ("", PROTECT), (PROTECT, PROTECTED)] {
-        for row in rows.split("# ") {
-            text_is(&rt, ran(rt.alloc(), STACK, before, row), row)?;
-        }
+    for (first, second, rows) in [
+        ("", "", MOVES),
+        ("", "", WHYS),
+        ("", "", PUT),
+        (PUT, "", FREED),
+        (PUT, FREED, RACED),
+        (PUT, "", PROTECT),
+        (PUT, PROTECT, PROTECTED),
+    ] {
+        rows_are_answered(&rt, rt.alloc(), [first, second], rows)?;
     }
     Ok(())
 }

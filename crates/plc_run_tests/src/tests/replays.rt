@@ -1,15 +1,15 @@
 // What schedules come to under reclaimers, each as the whole end of its replay.
 ghost use Rattle.plc_flow.specs.WellFormed.{FlowFits};
 
-use crate::tests::moves::{loaded, numbers};
+use crate::tests::moves::numbers;
 use crate::tests::reclaimers::Listed;
 use crate::tests::schedules::read;
-use crate::tests::texts::{row_is, text_is};
 use plc_base::{MOST_THREADS, NoMemory, What1};
 use plc_check::Judged;
 use plc_reclaim::{ByList, Leak, Reclaimer};
 use plc_replay::replay;
 use plc_sched::Schedule;
+use plc_testing::{loaded, row_is, text_is};
 use std::alloc::Global;
 
 // What a schedule comes to under a reclaimer.

@@ -2,11 +2,11 @@
 ghost use Rattle.plc_lang.specs.Fit.{FileFits};
 ghost use Rattle.plc_flow.specs.WellFormed.{FlowFits};
 
-use crate::tests::moves::loaded;
 use crate::tests::types::push_env;
 use plc_base::NoMemory;
 use plc_check::Judged;
 use plc_infer::infer;
+use plc_testing::loaded;
 use plc_type::Env;
 use std::alloc::{AllocError, Global};
 

@@ -128,34 +128,32 @@ fn certificates_from_elsewhere_are_judged(rt: HostRuntime) -> Result<(), AllocEr
     Ok(())
 }
 
-// Changes of a certificate of `hazards`: the first place where a text stands has another one; then the answer.
-const TEXT_CHANGES: &str = r#"{"env": => "env": => 2 refused certificate json
+// Changes of any certificate: the first place where a text stands has another one; then the answer.
+const ANY_CHANGES: &str = r#"{"env": => "env": => 2 refused certificate json
 "version" => "versions" => 2 refused certificate field root
-"version":1 => "version":true => 2 refused certificate field version
-"version":1 => "version":3 => 2 refused certificate version 3
-"version":1 => "version":2 => 1 invalid version 2 1
 {"env":[ => {"env":[[], => 2 refused certificate field env
 "trees":[ => "trees":[[[2,0,0]], => 2 refused certificate field trees
-{"env":[ => {"env":[[[],[]], => 1 invalid envs 38 37
-"trees":[ => "trees":[[], => 1 invalid trees 2846 2845
 "trees":[[ => "trees":[[[0,4294967295], => 1 invalid tree 0 node 0
 "#;
 
-// The same of `marked-shared`. Its first environments are those of the entry and the exit of `g`, its last step is
-// the one to the exit.
-const MARKED_CHANGES: &str = r#"{"env": => "env": => 2 refused certificate json
-"version" => "versions" => 2 refused certificate field root
-"version":2 => "version":true => 2 refused certificate field version
-"version":2 => "version":3 => 2 refused certificate version 3
-"version":2 => "version":1 => 1 invalid version 1 2
-{"env":[ => {"env":[[], => 2 refused certificate field env
-"trees":[ => "trees":[[[2,0,0]], => 2 refused certificate field trees
-{"env":[ => {"env":[[[],[]], => 1 invalid envs 6 5
+// Changes of that of `hazards`.
+const TEXT_CHANGES: &str = r#"{"env":[ => {"env":[[[],[]], => 1 invalid envs 38 37
+"trees":[ => "trees":[[], => 1 invalid trees 2846 2845
+"version":1 => "version":true => 2 refused certificate field version
+"version":1 => "version":3 => 2 refused certificate version 3
+"version":1 => "version":2 => 1 invalid version 2 1
+"#;
+
+// Changes of that of `marked-shared`. Its first environments are those of the entry and the exit of `g`, its last step
+// is the one to the exit.
+const MARKED_CHANGES: &str = r#"{"env":[ => {"env":[[[],[]], => 1 invalid envs 6 5
+"trees":[ => "trees":[[], => 1 invalid trees 11 10
 {"env":[[[0,1],[[7,[]]]] => {"env":[[[0,1],[]] => 1 invalid env 0
 {"env":[[[0,1], => {"env":[[[0], => 1 invalid entry g W
 [[0,[0,1]]]],[[0,1],[[7, => [[0,[0]]]],[[0,1],[[7, => 1 invalid flow step 3 p
-"trees":[ => "trees":[[], => 1 invalid trees 11 10
-"trees":[[ => "trees":[[[0,4294967295], => 1 invalid tree 0 node 0
+"version":2 => "version":true => 2 refused certificate field version
+"version":2 => "version":3 => 2 refused certificate version 3
+"version":2 => "version":1 => 1 invalid version 1 2
 "#;
 
 fn with_text(
@@ -199,9 +197,11 @@ fn wrong_text(
 fn a_certificate_with_another_text_has_its_answer(rt: HostRuntime) -> Result<(), AllocError> {
     for (name, changes) in [("hazards", TEXT_CHANGES), ("marked-shared", MARKED_CHANGES)] {
         let certificate = certificate_of(rt.alloc(), name)?;
-        for row in changes.lines() {
-            let wrong = wrong_text(rt.alloc(), name, certificate.as_str(), row)?;
-            assert_eq!(rt; wrong.as_str(), "", "{row}");
+        for rows in [ANY_CHANGES, changes] {
+            for row in rows.lines() {
+                let wrong = wrong_text(rt.alloc(), name, certificate.as_str(), row)?;
+                assert_eq!(rt; wrong.as_str(), "", "{row}");
+            }
         }
     }
     Ok(())

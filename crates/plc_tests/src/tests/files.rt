@@ -1,6 +1,6 @@
 // Files and schedules. A file is a section of a text: its name stands after `#`, its lines are the file. A schedule is
 // a name and the pieces of its text. Some files differ from others in a few lines, and some are made.
-use plc_stacks::{EPOCHS, HAZARDS};
+use plc_testing::{EPOCHS, HAZARDS};
 use std::alloc::{AllocError, Global};
 
 // `dead` and `endless`: no step leads to the statements after a `return`, or after a loop without a

@@ -267,15 +267,17 @@ fn wrong_in_rows(alloc: Global, rows: &str) -> Result<String, AllocError> {
 
 #[test]
 fn parts_have_limits(rt: HostRuntime) -> Result<(), AllocError> {
-    for rows in [PARTS, CLAUSES] {
+    for rows in [
+        PARTS,
+        CLAUSES,
+        POINTS_AND_LINES,
+        OBLIGATIONS,
+        EXTENDED,
+        SPOTS,
+        MOST_OBLIGATIONS,
+    ] {
         assert_eq!(rt; wrong_in_rows(rt.alloc(), rows)?.as_str(), "");
     }
-    Ok(())
-}
-
-#[test]
-fn points_and_lines_have_limits(rt: HostRuntime) -> Result<(), AllocError> {
-    assert_eq!(rt; wrong_in_rows(rt.alloc(), POINTS_AND_LINES)?.as_str(), "");
     Ok(())
 }
 
@@ -303,24 +305,6 @@ fn files_have_sizes(rt: HostRuntime) -> Result<(), AllocError> {
 }
 
 #[test]
-fn obligations_have_a_limit(rt: HostRuntime) -> Result<(), AllocError> {
-    assert_eq!(rt; wrong_in_rows(rt.alloc(), OBLIGATIONS)?.as_str(), "");
-    Ok(())
-}
-
-#[test]
-fn extended_outlines_have_limits(rt: HostRuntime) -> Result<(), AllocError> {
-    assert_eq!(rt; wrong_in_rows(rt.alloc(), EXTENDED)?.as_str(), "");
-    Ok(())
-}
-
-#[test]
-fn spots_have_a_limit(rt: HostRuntime) -> Result<(), AllocError> {
-    assert_eq!(rt; wrong_in_rows(rt.alloc(), SPOTS)?.as_str(), "");
-    Ok(())
-}
-
-#[test]
 fn numbers_have_limits(rt: HostRuntime) -> Result<(), AllocError> {
     for row in NUMBERS {
         let (words, made, want) = *row;
@@ -329,11 +313,5 @@ fn numbers_have_limits(rt: HostRuntime) -> Result<(), AllocError> {
             ""
         );
     }
-    Ok(())
-}
-
-#[test]
-fn a_million_obligations_are_judged(rt: HostRuntime) -> Result<(), AllocError> {
-    assert_eq!(rt; wrong_in_rows(rt.alloc(), MOST_OBLIGATIONS)?.as_str(), "");
     Ok(())
 }

@@ -6,7 +6,6 @@ ghost use Rattle.plc_flow.specs.WellFormed.{FlowFits};
 ghost use Rattle.plc_run.specs.Position.{IsOfRun};
 
 use crate::tests::locations::{answer, file_text};
-use crate::tests::outlines::loaded;
 use crate::tests::reclaimers::drawn_after;
 use plc_auto::{Event, Observer};
 use plc_base::{Items, LocId, NoMemory, OpId};
@@ -14,6 +13,7 @@ use plc_check::Judged;
 use plc_flow::{Flow, Point, names_rightly};
 use plc_lang::count_parameters;
 use plc_run::{Config, Moved};
+use plc_testing::loaded;
 use plc_threads::{Move, Place, arrival, at_exit, begun, point_at, step_at};
 use std::alloc::{AllocError, Global};
 

@@ -1,32 +1,18 @@
 // Outlines that don't hold: the first line of the answer, and that the classes which it prints are a model of the
 // ground set of the obligation that it tells. Which model is printed is left open, so no row has it. Beside them a
 // few samples that are larger than any file here.
-ghost use Rattle.std.specs.Prelude.{IfOk};
-ghost use Rattle.plc_flow.specs.WellFormed.{FlowFits};
 ghost use Rattle.plc_setting.specs.Fit.{Fits};
 
 use crate::tests::files::{CHANGED, changed};
 use crate::tests::program::{answered, head, words_of};
-use plc_base::{Items, LARGEST_FILE, NoMemory};
-use plc_check::{Judged, load};
+use plc_base::{Items, NoMemory};
+use plc_check::Judged;
 use plc_cli::MemFiles;
 use plc_ground::{GroundModel, GroundSet, is_model};
 use plc_oblig::{Obligation, count, ground, nth};
+use plc_testing::loaded;
 use plc_texts::unproved_text;
 use std::alloc::{AllocError, Global};
-
-pub(crate) fn loaded(alloc: Global, text: &str) -> Result<Judged, NoMemory>
-    ensures fits { IfOk result (λ judged. Fits judged.flow judged.unit_outline) }
-    ensures flow { IfOk result (λ judged. FlowFits judged.flow) }
-{
-    if text.len() > LARGEST_FILE {
-        return Err(NoMemory);
-    }
-    match load(alloc, text.as_bytes()) {
-        Ok(judged) => Ok(judged),
-        Err(_) => Err(NoMemory),
-    }
-}
 
 // The classes that an answer prints, each at the end of a term's line.
 fn classes(alloc: Global, answer: &str) -> Result<GroundModel, AllocError> {

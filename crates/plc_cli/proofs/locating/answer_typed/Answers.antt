@@ -1,10 +1,9 @@
-use Rattle.std.proofs.Common.{◌≡◌, inl, inr, ap, Err, ◌∙◌, length}
+use Rattle.std.proofs.Common.{◌≡◌, inl, inr, ap, Err, ◌∙◌, length, subst}
 use Rattle.plc_flow.proofs.Gates.{point_count}
 use Rattle.plc_logic.specs.declared.clause.Outline.{Outline}
 use Rattle.plc_at.specs.Extended.{extended}
-use Rattle.plc_cli.specs.Locations.{AreExtended, extended_of}
+use Rattle.plc_cli.specs.Locations.{AreExtended, IsAnsweredWith, extended_of}
 use Rattle.plc_cli.proofs.Answering.{if_ok_from}
-use Rattle.plc_cli.proofs.Extending.{answered_with}
 use Rattle.plc_cli.proofs.locating.answer_typed.Goals as goal
 
 pub extend-requires-clause-typing : goal.extend-requires-clause-typing
@@ -24,7 +23,11 @@ returns-in-Ok c =
       few = rw (ap (λ (x : Outline). length x.items) is) at c.in-Ok.ensures.fits.items;
     } in
     if_ok_from c.answer_with.result _ _
-    (λ answer h. answered_with j _ claims typing extends answer.status answer.text.items c.in-Ok.outline is h)
+    (λ answer h. inr (inr (inr (record {
+      typing = typing;
+      extends = extends;
+      answer = subst (λ (x : Outline). IsAnsweredWith j x claims answer.status answer.text.items) is h;
+    }))))
     c.answer_with.ensures
 
 pub returns-in-Err-Unlocated : goal.returns-in-Err-Unlocated

@@ -20,13 +20,5 @@ returns-clause-ok g c =
         hazard_acts = c.requires.hazard;
         epoch_acts = c.requires.epoch;
       };
-      outcome = rw names at c.run.ensures.outcome;
-      headline = rw names at c.run.ensures.headline;
-      completeness = rw names at c.run.ensures.completeness;
-      served = rw names at c.run.ensures.served;
-      suggested = rw names at c.run.ensures.suggested;
-      located = rw names at c.run.ensures.located;
-      untouched = rw names at c.run.ensures.untouched;
-      files_kept = c.run.ensures.files_kept;
-      count_kept = c.run.ensures.count_kept;
+      runs = rw names at c.run.ensures;
     }

@@ -4,5 +4,5 @@ use Rattle.plc_trace.proofs.running.run.Goals as goal
 
 pub follow-requires-clause-stands : goal.follow-requires-clause-stands
 follow-requires-clause-stands g c =
-    start_stands c.args.traced.now.flow.now c.requires.fits c.args.traced.now.observer.now c.args.schedule.now.threads c.in-Ok.config
+    start_stands c.args.traced.now.flow.now c.requires.fits c.args.traced.now.observer.now c.args.recorded.schedule.now.threads c.in-Ok.config
     (omega (arith, c.requires.within.threads.0)) c.in-Ok.ensures.starts c.in-Ok.ensures.of_run.0 c.in-Ok.ensures.of_run.1

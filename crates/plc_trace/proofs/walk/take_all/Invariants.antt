@@ -5,5 +5,5 @@ use Rattle.plc_trace.proofs.walk.take_all.Given as goal
 abbrev pub invariant-loop-entry : goal.invariant-loop-entry
 invariant-loop-entry g l = record {
   counted : l.lines ≡ l.entry-index + l.taken;
-  stands : GoesOnFrom l.traced.flow.now l.traced.observer.now l.lines l.config;
+  stands : GoesOnFrom l.traced l.lines l.walk.config;
 }

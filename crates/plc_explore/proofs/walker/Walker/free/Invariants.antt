@@ -1,5 +1,5 @@
-use Rattle.plc_run.specs.Position.{IsOfRun}
+use Rattle.plc_explore.specs.Running.{IsRunOf}
 use Rattle.plc_explore.proofs.walker.Walker.free.Given as goal
 
 abbrev pub invariant-loop : goal.invariant-loop
-invariant-loop g l = IsOfRun l.program.flow.now l.program.observer.now l.config
+invariant-loop g l = IsRunOf l.program l.run.config

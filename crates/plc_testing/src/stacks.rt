@@ -1,7 +1,5 @@
-//! A lock-free stack in two spellings, for the tests of several crates: hazard pointers protect its nodes, or epochs
-//! do. Each is a list of pieces, of which most stand in both: they differ in their observer and in how a node is
-//! taken.
-#![tactic(auto)]
+// A lock-free stack in two spellings: hazard pointers protect its nodes, or epochs do. Each is a list of pieces, of
+// which most stand in both: they differ in their observer and in how a node is taken.
 
 const NODES: &str = "struct Node { ptr next; data val; }
 shared Top;

@@ -1,0 +1,79 @@
+// A run as it goes on. Whoever draws one, makes one short or tells of its race makes its moves here, so that whoever says
+// what is freed hears all that happens.
+ghost use Rattle.std.specs.Prelude.{◌<◌, IfOk, IfSome};
+ghost use Rattle.plc_explore.specs.Running.{IsIndexed, IsRunOf, MayRun};
+
+use crate::frees::Frees;
+use crate::program::Program;
+use plc_auto::Event;
+use plc_base::NoMemory;
+use plc_flow::Step;
+use plc_run::{Config, Moved};
+use plc_threads::{Move, StartFault};
+use std::alloc::Global;
+
+/// Where a run stands, and who says what is freed in it.
+#[derive(Drop)]
+pub struct Running<'a> {
+    pub config: Config,
+    pub frees: &'a mut Frees,
+}
+
+/// The thread that makes a move.
+pub fn mover(m: &Move) -> Option<u32> {
+    match m {
+        Move::Start { t, .. } | Move::Step { t, .. } | Move::Return { t } => Some(*t),
+        Move::Free { .. } => None,
+    }
+}
+
+/// Hands over the events after so many.
+fn hear(frees: &mut Frees, history: &[Event], before: usize) -> Result<(), NoMemory> {
+    for event in history.iter().skip(before) {
+        frees.hear(event)?;
+    }
+    Ok(())
+}
+
+impl<'a> Running<'a> {
+    /// A run among so many threads, before its first move; `None` where the program has none.
+    pub fn begin(
+        alloc: Global,
+        program: &Program,
+        frees: &'a mut Frees,
+        threads: u32,
+    ) -> Result<Option<Running<'a>>, NoMemory>
+        requires may { MayRun program.now }
+        requires some { 0 < threads }
+        ensures of_run { IfOk result (λ begun. IfSome begun (λ run. IsRunOf program.now run.config)) }
+    {
+        frees.begin(program.schemes)?;
+        match Config::start(alloc, program.flow, program.observer, threads) {
+            Ok(config) => Ok(Some(Running { config, frees })),
+            Err(StartFault::NoStart) => Ok(None),
+            Err(StartFault::Memory) => Err(NoMemory),
+        }
+    }
+
+    /// Makes a move, and hands its events over.
+    pub fn make(&mut self, program: &Program, m: &Move) -> Result<Moved, NoMemory>
+        requires { IsRunOf program.now self.old.config }
+        ensures { IsRunOf program.now self.new.config }
+    {
+        let before = self.config.history().len();
+        let moved = self.config.step(program.flow, program.observer, m)?;
+        hear(self.frees, self.config.history(), before)?;
+        Ok(moved)
+    }
+}
+
+/// The step that a move takes, if it takes one.
+pub fn step_of<'a>(program: &Program<'a>, config: &Config, m: &Move) -> Option<&'a Step>
+    requires { IsIndexed program.now }
+{
+    let Move::Step { t, nth, .. } = m else {
+        return None;
+    };
+    let point = config.point(*t)?;
+    program.steps.nth_step(program.flow, point.at, *nth)
+}

@@ -1,0 +1,11 @@
+//! What several crates of tests share: the texts of two stacks, files that are loaded, and whether a text is the one that
+//! is wanted. It has no tests of its own.
+#![tactic(auto)]
+
+mod loading;
+mod stacks;
+mod texts;
+
+pub use loading::loaded;
+pub use stacks::{EPOCHS, HAZARDS};
+pub use texts::{put, row_is, text_is};
