@@ -24,7 +24,7 @@ fn count_of(text: &str, piece: &str) -> usize {
 }
 
 /// The first line of an answer that doesn't tell the types at a label.
-fn told(text: &str) -> &str {
+fn first_line_of(text: &str) -> &str {
     for line in text.lines() {
         if !line.starts_with("at ") {
             return line;
@@ -129,7 +129,11 @@ fn certified_answer(
 }
 
 /// The answer of `replay` under a reclaimer to a file and a schedule.
-fn replayed(alloc: Global, both: Entries, reclaimer: &str) -> Result<(u8, Vec<u8>), AllocError> {
+fn replay_answer(
+    alloc: Global,
+    both: Entries,
+    reclaimer: &str,
+) -> Result<(u8, Vec<u8>), AllocError> {
     let mut files = MemFiles::new(alloc, both, Vec::new(alloc));
     let answer = match format!(in alloc; "replay file schedule {reclaimer}") {
         Ok(line) => answer(alloc, line.as_str(), &mut files),
@@ -153,7 +157,7 @@ fn hunted_answer(
     let mut both = Vec::new(alloc);
     put(alloc, &mut both, "schedule", answer(alloc, line, files)?.1)?;
     put_file(alloc, files, name, &mut both)?;
-    replayed(alloc, both, reclaimer)
+    replay_answer(alloc, both, reclaimer)
 }
 
 /// The answer to a command; to `certify FILE, verify` that of `verify` to what `certify` writes, and to `hunt FILE
@@ -189,7 +193,7 @@ fn text_of(alloc: Global, line: &str, status: u8, text: &str) -> Result<String, 
             "{line} => a page of {parts} parts and {drawings} drawings, {status}"
         );
     }
-    let text = told(text);
+    let text = first_line_of(text);
     format!(in alloc; "{line} => {text}, {status}")
 }
 
@@ -202,7 +206,7 @@ fn line_of(alloc: Global, line: &str, status: u8, written: &[u8]) -> Result<Stri
 }
 
 /// A command with its answer, over files that are lent.
-fn answered_over(
+fn line_over(
     alloc: Global,
     files: &mut RealFiles<HostRuntime>,
     line: &str,
@@ -214,9 +218,9 @@ fn answered_over(
 }
 
 /// The command with the line that tells its answer, and the status.
-pub(crate) fn answered(rt: &HostRuntime, line: &str) -> io::Result<String> {
+pub(crate) fn line_with_answer(rt: &HostRuntime, line: &str) -> io::Result<String> {
     let mut files = RealFiles::new(rt.alloc(), rt.clone()?);
-    let text = answered_over(rt.alloc(), &mut files, line);
+    let text = line_over(rt.alloc(), &mut files, line);
     drop(files);
     Ok(text?)
 }

@@ -4,12 +4,12 @@
 
 mod answers;
 
-use answers::answered;
+use answers::line_with_answer;
 use std::io;
 
 /// Prints a command with its answer.
 fn print_answer(rt: &HostRuntime, line: &str) -> io::Result<()> {
-    let text = answered(rt, line)?;
+    let text = line_with_answer(rt, line)?;
     let printed = println!(rt; "{text}");
     drop(text);
     printed

@@ -51,7 +51,7 @@ const END: &str = "</body>
 ";
 
 /// What stands before the answer.
-fn begun(alloc: Global, title: &[u8]) -> Result<Html, NoMemory> {
+fn before_answer(alloc: Global, title: &[u8]) -> Result<Html, NoMemory> {
     let mut page = Html::new(alloc);
     page.markup(HEAD)?;
     page.text(title)?;
@@ -62,7 +62,7 @@ fn begun(alloc: Global, title: &[u8]) -> Result<Html, NoMemory> {
 }
 
 /// What stands after the answer.
-fn ended(alloc: Global, rest: Html) -> Result<Html, NoMemory> {
+fn after_answer(alloc: Global, rest: Html) -> Result<Html, NoMemory> {
     let mut page = Html::new(alloc);
     page.markup("</pre>\n")?;
     page.append(rest)?;
@@ -80,8 +80,8 @@ pub fn whole_page(
 ) -> Result<Vec<u8>, NoMemory>
     ensures { IfOk result (λ page. Shows answer.now page.items) }
 {
-    let after = ended(alloc, rest)?;
-    let mut page = begun(alloc, title)?;
+    let after = after_answer(alloc, rest)?;
+    let mut page = before_answer(alloc, title)?;
     page.text(answer)?;
     page.append(after)?;
     Ok(page.into_bytes())

@@ -49,7 +49,7 @@ struct OpenItem {
 }
 
 /// An item that begins with this token.
-fn begun(token: &Token, invariant: bool) -> Option<OpenItem> {
+fn item_from(token: &Token, invariant: bool) -> Option<OpenItem> {
     Some(OpenItem {
         invariant,
         placed: Placed {
@@ -60,10 +60,10 @@ fn begun(token: &Token, invariant: bool) -> Option<OpenItem> {
 }
 
 /// The item that begins with this token, if one does. The three words stand nowhere but there.
-fn begun_by(token: &Token) -> Option<OpenItem> {
+fn item_begun_by(token: &Token) -> Option<OpenItem> {
     match token.kind {
-        TokenKind::Word(Keyword::Inv) => begun(token, true),
-        TokenKind::Word(Keyword::Over | Keyword::At) => begun(token, false),
+        TokenKind::Word(Keyword::Inv) => item_from(token, true),
+        TokenKind::Word(Keyword::Over | Keyword::At) => item_from(token, false),
         _ => None,
     }
 }
@@ -111,7 +111,7 @@ impl Clauses {
         token: &Token,
     ) -> Result<Option<OpenItem>, NoMemory> {
         let Some(item) = item else {
-            return Ok(begun_by(token));
+            return Ok(item_begun_by(token));
         };
         if !matches!(token.kind, TokenKind::Symbol(Symbol::Semicolon)) {
             return Ok(Some(lengthened(item, token)));
