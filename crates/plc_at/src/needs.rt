@@ -4,7 +4,7 @@
 // whether each claim is located before any item is made.
 ghost use Rattle.std.specs.Prelude.{◌≡◌, ◌≤◌, ◌↔◌, IsTrue, Some, length};
 ghost use Rattle.plc_flow.specs.declared.flow.Flow.{Flow as AFlow};
-ghost use Rattle.plc_at.specs.declared.claim.LocationClaim.{LocationClaim as ALocated};
+ghost use Rattle.plc_at.specs.declared.claim.LocationClaim.{LocationClaim as AClaim};
 ghost use Rattle.plc_at.specs.Extended.{local_type, env_of, claimed_type, need, need_of, items_for, IsLocated};
 ghost use Rattle.plc_at.specs.Needs.{answered};
 
@@ -103,7 +103,7 @@ pub(crate) fn is_located(
 
 /// How many items it takes to give a claim what it needs.
 pub(crate) fn count_for(need: Need) -> usize
-    ensures count { (flow : AFlow) (claim : ALocated) → result ≡ length (items_for flow claim (answered need)) }
+    ensures count { (flow : AFlow) (claim : AClaim) → result ≡ length (items_for flow claim (answered need)) }
     ensures few { result ≤ 1 }
 {
     match need {

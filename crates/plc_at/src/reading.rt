@@ -283,7 +283,7 @@ pub fn read_claims(
     Ok(claims)
 }
 
-/// Tokens stop being claims at one location, and tokens that stop at one spell no claims.
+/// Tokens stop being claims at one place, and tokens that stop at one spell no claims.
 pub fn claim_faults_are_one()
     ensures one { (flow : AFlow) (observer : AnObserver) (ts : List AKind) (a b : ℕ)
         → ClaimsStopAt flow observer ts a → ClaimsStopAt flow observer ts b → a ≡ b }

@@ -1,5 +1,5 @@
 -- What breaks obligations, and what shows that they are kept.
-use Rattle.std.specs.Prelude.{◌≡◌, ◌++◌, ℕ, List, [], ◌∷◌, Option, Some, None, Result, Ok, Err, Contains, slice_get}
+use Rattle.std.specs.Prelude.{◌≡◌, ◌++◌, ℕ, List, [], ◌∷◌, Option, Some, None, Contains, slice_get}
 use Rattle.plc_flow.specs.declared.flow.Flow.{Flow}
 use Rattle.plc_logic.specs.declared.clause.Outline.{Outline}
 use Rattle.plc_setting.specs.declared.obligations.Obligation.{Obligation}
@@ -10,6 +10,10 @@ use Rattle.plc_oblig.specs.GroundSets.{ground_set}
 use Rattle.plc_oblig.specs.Outlines.{IsKept, OutlineHolds, IsLeastOpen}
 use Rattle.plc_cert.specs.Fits.{TreeFits}
 use Rattle.plc_check.specs.declared.counterexample.Counterexample.{Counterexample}
+use Rattle.plc_check.specs.declared.tree.Shown.{Shown}
+use Rattle.plc_check.specs.declared.tree.Shown.TheVariants as shown
+use Rattle.plc_check.specs.declared.tree.AllShown.{AllShown}
+use Rattle.plc_check.specs.declared.tree.AllShown.TheVariants as all_shown
 use Rattle.plc_check.specs.Open.{IsCounterexample}
 
 -- what breaks this obligation, or none where it is kept
@@ -34,9 +38,9 @@ pub record IsTreeOf (flow : Flow) (outline : Outline) (o : Obligation) (t : Tree
   pub fits : TreeFits t
 
 -- such a tree, or what breaks the obligation
-abbrev pub IsTreeAt : Flow → Outline → Obligation → Result Tree Counterexample → Type 0
-IsTreeAt flow outline o (Ok t) = IsTreeOf flow outline o t
-IsTreeAt flow outline o (Err x) = (x.obligation ≡ o) × IsCounterexample flow outline x
+abbrev pub IsShown : Flow → Outline → Obligation → Shown → Type 0
+IsShown flow outline o (shown.Tree t) = IsTreeOf flow outline o t
+IsShown flow outline o (shown.Broken x) = (x.obligation ≡ o) × IsCounterexample flow outline x
 
 -- each obligation that is noted has the tree with its number
 abbrev pub NotedHaveTrees : Flow → Outline → List Tree → List (Obligation × ℕ) → Type 0
@@ -44,11 +48,10 @@ NotedHaveTrees flow outline trees noted = (x : Obligation × ℕ) → Contains n
     → (t : Tree) × (slice_get trees x.1 ≡ Some t) × IsTreeOf flow outline x.0 t
 
 -- a tree for the obligation, so that what is noted has trees among those that there are with it
-abbrev pub AddsTreeAt : Flow → Outline → Obligation → List Tree → List (Obligation × ℕ) → Result Tree Counterexample
-    → Type 0
-AddsTreeAt flow outline o trees noted (Ok t) =
+abbrev pub AddsShown : Flow → Outline → Obligation → List Tree → List (Obligation × ℕ) → Shown → Type 0
+AddsShown flow outline o trees noted (shown.Tree t) =
     IsTreeOf flow outline o t × NotedHaveTrees flow outline (trees ++ t ∷ []) noted
-AddsTreeAt flow outline o trees noted (Err x) = IsTreeAt flow outline o (Err x)
+AddsShown flow outline o trees noted (shown.Broken x) = IsShown flow outline o (shown.Broken x)
 
 -- one tree for each of these obligations, in order
 abbrev pub AreTreesFor : Flow → Outline → List Obligation → List Tree → Type 0
@@ -58,6 +61,6 @@ AreTreesFor flow outline (o ∷ os) [] = ⊥
 AreTreesFor flow outline (o ∷ os) (t ∷ ts) = IsTreeOf flow outline o t × AreTreesFor flow outline os ts
 
 -- one for each obligation, or what breaks the least that isn't kept
-abbrev pub AreTreesOrBroken : Flow → Outline → Result (List Tree) Counterexample → Type 0
-AreTreesOrBroken flow outline (Ok ts) = AreTreesFor flow outline (obligations flow outline) ts
-AreTreesOrBroken flow outline (Err x) = IsLeastOpen flow outline x.obligation × IsCounterexample flow outline x
+abbrev pub AreShown : Flow → Outline → AllShown → Type 0
+AreShown flow outline (all_shown.Trees ts) = AreTreesFor flow outline (obligations flow outline) ts
+AreShown flow outline (all_shown.Broken x) = IsLeastOpen flow outline x.obligation × IsCounterexample flow outline x

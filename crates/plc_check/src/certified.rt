@@ -5,7 +5,7 @@ ghost use Rattle.plc_check.specs.Certified.{IsCertified};
 ghost use Rattle.plc_check.specs.Strongest.{IsStrongestTyping};
 
 use crate::judged::Judged;
-use crate::tree::trees_of;
+use crate::tree::{AllShown, trees_of};
 use crate::verdict::{Typed, Verdict, strongest_typing, unproved_verdict};
 use plc_base::NoMemory;
 use plc_cert::Cert;
@@ -30,7 +30,7 @@ fn certify_outline(alloc: Global, judged: &Judged, typing: Typing) -> Result<Cer
     ensures { IfOk result (IsCertified judged.now) }
 {
     match trees_of(alloc, judged)? {
-        Ok(trees) => {
+        AllShown::Trees(trees) => {
             let version = certificate_version(&judged.flow, &judged.unit_outline);
             Ok(Certified::Yes(Cert {
                 version,
@@ -38,7 +38,7 @@ fn certify_outline(alloc: Global, judged: &Judged, typing: Typing) -> Result<Cer
                 trees,
             }))
         }
-        Err(found) => Ok(Certified::No(unproved_verdict(found))),
+        AllShown::Broken(found) => Ok(Certified::No(unproved_verdict(found))),
     }
 }
 

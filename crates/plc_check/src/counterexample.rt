@@ -6,7 +6,7 @@ ghost use Rattle.plc_oblig.specs.Programs.{ProgramFits, obligations_of};
 ghost use Rattle.plc_oblig.specs.Outlines.{IsKept};
 ghost use Rattle.plc_check.specs.Counterexamples.{IsCounterexampleAt, NotedAreKept};
 
-use crate::tree::solve_at;
+use crate::tree::{Shown, solve_at};
 use plc_base::NoMemory;
 use plc_ground::{GroundModel, GroundSet};
 use plc_oblig::{Annotated, Grounding, Noted, Obligation, still};
@@ -54,7 +54,7 @@ pub(crate) fn counterexample_at(
     if is_known_kept(program, kept, &obligation) {
         return Ok(None);
     }
-    let Err(found) = solve_at(memory, program, obligation)? else {
+    let Shown::Broken(found) = solve_at(memory, program, obligation)? else {
         // Only that it is found counts here, so it may have any number.
         kept.note(&obligation, 0)?;
         return Ok(None);

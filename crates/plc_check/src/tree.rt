@@ -4,7 +4,7 @@
 ghost use Rattle.std.specs.Prelude.{◌≡◌, ◌<◌, [], IfOk, Contains, Some, length, slice_get};
 ghost use Rattle.plc_setting.specs.Fit.{Fits};
 ghost use Rattle.plc_oblig.specs.Programs.{ProgramFits, obligations_of};
-ghost use Rattle.plc_check.specs.Counterexamples.{IsTreeAt, NotedHaveTrees, AddsTreeAt, AreTreesOrBroken};
+ghost use Rattle.plc_check.specs.Counterexamples.{IsShown, NotedHaveTrees, AddsShown, AreShown};
 
 use crate::counterexample::Counterexample;
 use crate::judged::Judged;
@@ -14,22 +14,40 @@ use plc_oblig::{Annotated, Grounding, Noted, Obligation, Walk, annotate};
 use plc_solve::{Answer, refute};
 use std::alloc::Global;
 
+/// What there is to show of an obligation.
+#[derive(Drop)]
+pub(crate) enum Shown {
+    /// A tree that closes its ground set.
+    Tree(Tree),
+    /// What breaks it.
+    Broken(Counterexample),
+}
+
+/// What there is to show of an outline.
+#[derive(Drop)]
+pub(crate) enum AllShown {
+    /// A tree for each obligation, in order.
+    Trees(Items<Tree>),
+    /// What breaks the least that isn't kept.
+    Broken(Counterexample),
+}
+
 /// A tree that closes the ground set of an obligation, or what breaks the obligation, as the solver answers.
 pub(crate) fn solve_at(
     memory: &mut Grounding,
     program: &Annotated<'_>,
     obligation: Obligation,
-) -> Result<Result<Tree, Counterexample>, NoMemory>
+) -> Result<Shown, NoMemory>
     requires fits { ProgramFits program.now }
-    ensures { IfOk result (IsTreeAt program.now.flow.now program.now.outline.now obligation) }
+    ensures { IfOk result (IsShown program.now.flow.now program.now.outline.now obligation) }
 {
     let set = memory.ground(program, &obligation)?;
     match refute(memory.alloc, &set) {
         Ok(Answer::Closed(tree)) => {
             memory.reuse(set);
-            Ok(Ok(tree))
+            Ok(Shown::Tree(tree))
         }
-        Ok(Answer::Open(model)) => Ok(Err(Counterexample {
+        Ok(Answer::Open(model)) => Ok(Shown::Broken(Counterexample {
             obligation,
             set,
             model,
@@ -44,13 +62,13 @@ fn make_tree(
     memory: &mut Grounding,
     program: &Annotated<'_>,
     obligation: Obligation,
-) -> Result<Result<Tree, Counterexample>, NoMemory>
+) -> Result<Shown, NoMemory>
     requires fits { ProgramFits program.now }
     requires there { Contains (obligations_of program.now) obligation }
-    ensures { IfOk result (IsTreeAt program.now.flow.now program.now.outline.now obligation) }
+    ensures { IfOk result (IsShown program.now.flow.now program.now.outline.now obligation) }
 {
     match memory.direct(program, &obligation)? {
-        Some(tree) => Ok(Ok(tree)),
+        Some(tree) => Ok(Shown::Tree(tree)),
         None => solve_at(memory, program, obligation),
     }
 }
@@ -73,21 +91,21 @@ fn tree_at(
     noted: &mut Noted,
     trees: &[Tree],
     obligation: Obligation,
-) -> Result<Result<Tree, Counterexample>, NoMemory>
+) -> Result<Shown, NoMemory>
     requires fits { ProgramFits program.now }
     requires there { Contains (obligations_of program.now) obligation }
     requires noted { NotedHaveTrees program.now.flow.now program.now.outline.now trees.now noted.old }
-    ensures { IfOk result (AddsTreeAt program.now.flow.now program.now.outline.now obligation trees.now noted.new) }
+    ensures { IfOk result (AddsShown program.now.flow.now program.now.outline.now obligation trees.now noted.new) }
 {
     if let Some(at) = noted.find(program.flow, program.outline, &obligation) {
-        return Ok(Ok(copy_of(memory.alloc, trees, at)?));
+        return Ok(Shown::Tree(copy_of(memory.alloc, trees, at)?));
     }
     match make_tree(memory, program, obligation)? {
-        Ok(tree) => {
+        Shown::Tree(tree) => {
             noted.note(&obligation, trees.len())?;
-            Ok(Ok(tree))
+            Ok(Shown::Tree(tree))
         }
-        Err(found) => Ok(Err(found)),
+        Shown::Broken(found) => Ok(Shown::Broken(found)),
     }
 }
 
@@ -98,30 +116,27 @@ fn trees_on_walk(
     program: &Annotated<'_>,
     noted: &mut Noted,
     walk: &mut Walk<'_>,
-) -> Result<Result<Items<Tree>, Counterexample>, NoMemory>
+) -> Result<AllShown, NoMemory>
     requires fits { ProgramFits program.now }
     requires begun { walk.old ≡ obligations_of program.now }
     requires none_noted { noted.old ≡ [] }
-    ensures { IfOk result (AreTreesOrBroken program.now.flow.now program.now.outline.now) }
+    ensures { IfOk result (AreShown program.now.flow.now program.now.outline.now) }
 {
     let mut trees = Items::new(memory.alloc);
     while let Some(obligation) = walk.next() {
-        let tree = tree_at(memory, program, noted, trees.as_slice(), obligation)?;
-        match tree {
-            Ok(tree) => trees.push(tree)?,
-            Err(found) => return Ok(Err(found)),
+        let shown = tree_at(memory, program, noted, trees.as_slice(), obligation)?;
+        match shown {
+            Shown::Tree(tree) => trees.push(tree)?,
+            Shown::Broken(found) => return Ok(AllShown::Broken(found)),
         }
     }
-    Ok(Ok(trees))
+    Ok(AllShown::Trees(trees))
 }
 
 /// A tree for each obligation, or what breaks the least that isn't kept.
-pub(crate) fn trees_of(
-    alloc: Global,
-    judged: &Judged,
-) -> Result<Result<Items<Tree>, Counterexample>, NoMemory>
+pub(crate) fn trees_of(alloc: Global, judged: &Judged) -> Result<AllShown, NoMemory>
     requires { Fits judged.now.flow judged.now.unit_outline }
-    ensures { IfOk result (AreTreesOrBroken judged.now.flow judged.now.unit_outline) }
+    ensures { IfOk result (AreShown judged.now.flow judged.now.unit_outline) }
 {
     let program = annotate(&judged.flow, &judged.unit_outline);
     let mut walk = Walk::new(alloc, &judged.flow, &judged.unit_outline)?;

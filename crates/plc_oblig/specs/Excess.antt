@@ -36,12 +36,14 @@ numbered_below o n = map (numbered o) (below n)
 abbrev pub others_of_point : Flow → Outline → ℕ → List Obligation
 others_of_point flow outline p = parts_from (λ k s. others_at flow outline k 0 p) 0 flow.steps
 
--- those of a kind and of the kinds after it
+-- the obligations of other threads, and of the kinds after them
 abbrev pub from_others : Flow → Outline → List Obligation
 from_others flow outline = others flow outline ++ claims flow
 
+-- those of a thread's own steps, and of the kinds after them
 abbrev pub from_owns : Flow → Outline → List Obligation
 from_owns flow outline = owns flow outline ++ from_others flow outline
 
+-- those of the entries of operations, and of the kinds after them
 abbrev pub from_enters : Flow → Outline → List Obligation
 from_enters flow outline = enters flow outline ++ from_owns flow outline

@@ -11,7 +11,9 @@ use plc_setting::program_uses_marks;
 /// A flow with an outline, of which it is known whether they use marks.
 #[derive(Clone, Copy)]
 pub struct Annotated<'a> {
+    /// The control flow of a file.
     pub flow: &'a Flow,
+    /// What is said of its nodes.
     pub outline: &'a Outline,
     /// Whether the flow or the outline uses marks.
     pub marked: bool,

@@ -1,5 +1,5 @@
 use Rattle.std.proofs.Common.{subst}
-use Rattle.plc_check.specs.Counterexamples.{IsTreeAt}
+use Rattle.plc_check.specs.Counterexamples.{IsShown}
 use Rattle.plc_check.proofs.Noting.{alike_tree, tree_more, tree_noted, tree_within}
 use Rattle.plc_check.proofs.tree.tree_at.Goals as goal
 
@@ -14,7 +14,7 @@ returns-in-Some c =
       tree_more c.args.program.now.flow.now c.args.program.now.outline.now c.args.trees.now t c.args.noted.now c.requires.noted,
     )
 
-pub returns-in_ok-note-in-Ok : goal.returns-in_ok-note-in-Ok
-returns-in_ok-note-in-Ok c =
-    let this = subst (IsTreeAt c.args.program.now.flow.now c.args.program.now.outline.now c.args.obligation) c.in-Ok.is c.in_ok-tree.ensures in
-    (this, tree_noted c.args.program.now.flow.now c.args.program.now.outline.now c.args.trees.now c.in-Ok.tree c.args.noted.now c.note.new.self c.args.obligation c.requires.noted this c.in_ok-note-in-Ok.ensures)
+pub returns-in_ok-note-in-Tree : goal.returns-in_ok-note-in-Tree
+returns-in_ok-note-in-Tree c =
+    let this = subst (IsShown c.args.program.now.flow.now c.args.program.now.outline.now c.args.obligation) c.in-Tree.is c.in_ok-tree.ensures in
+    (this, tree_noted c.args.program.now.flow.now c.args.program.now.outline.now c.args.trees.now c.in-Tree.tree c.args.noted.now c.note.new.self c.args.obligation c.requires.noted this c.in_ok-note-in-Ok.ensures)

@@ -2,7 +2,7 @@ use Rattle.std.proofs.Common.{List, [], ◌∷◌, ◌++◌, sym, subst}
 use Rattle.plc_oblig.specs.Obligations.{obligations}
 use Rattle.plc_setting.specs.declared.obligations.Obligation.{Obligation}
 use Rattle.plc_ground.specs.declared.terms.Tree.{Tree}
-use Rattle.plc_check.specs.Counterexamples.{AddsTreeAt, NotedHaveTrees}
+use Rattle.plc_check.specs.Counterexamples.{AddsShown, NotedHaveTrees}
 use Rattle.plc_check.proofs.Matching.{TreesSoFar, no_trees, one_more, kept_so_far}
 use Rattle.plc_check.proofs.Noting.{none_have}
 use Rattle.plc_check.proofs.SoFar.{is_listed}
@@ -22,18 +22,18 @@ pub loop-obligation-preserved : goal.loop-obligation-preserved
 loop-obligation-preserved c =
     let flow = c.args.program.now.flow.now in
     let outline = c.args.program.now.outline.now in
-    let added = subst (AddsTreeAt flow outline c.in-Some.obligation c.as_slice.result.now c.tree_at.new.noted) c.in-Ok.is c.in_ok-tree.ensures in
-    let have = subst (λ (ts : List Tree). NotedHaveTrees flow outline (ts ++ c.in-Ok.tree ∷ []) c.tree_at.new.noted) c.as_slice.ensures added.1 in (
+    let added = subst (AddsShown flow outline c.in-Some.obligation c.as_slice.result.now c.tree_at.new.noted) c.in-Tree.is c.in_ok-shown.ensures in
+    let have = subst (λ (ts : List Tree). NotedHaveTrees flow outline (ts ++ c.in-Tree.tree ∷ []) c.tree_at.new.noted) c.as_slice.ensures added.1 in (
       subst (TreesSoFar flow outline c.next.new.self) (sym c.in_ok-push-in-Ok.ensures.ok)
           (one_more flow outline c.loop-obligation.walk c.next.new.self c.loop-obligation.trees
-          c.in-Some.obligation c.in-Ok.tree c.loop-obligation.invariant.0 c.in-Some.ensures added.0),
+          c.in-Some.obligation c.in-Tree.tree c.loop-obligation.invariant.0 c.in-Some.ensures added.0),
       subst (λ (ts : List Tree). NotedHaveTrees flow outline ts c.tree_at.new.noted) (sym c.in_ok-push-in-Ok.ensures.ok) have,
     )
 
-pub returns-in-Err : goal.returns-in-Err
-returns-in-Err c =
-    let broken = subst (AddsTreeAt c.args.program.now.flow.now c.args.program.now.outline.now c.in-Some.obligation c.as_slice.result.now c.tree_at.new.noted) c.in-Err.is c.in_ok-tree.ensures in
-    least_broken c.args.program.now.flow.now c.args.program.now.outline.now c.loop-obligation.walk c.next.new.self c.in-Some.obligation c.in-Err.found
+pub returns-in-Broken : goal.returns-in-Broken
+returns-in-Broken c =
+    let broken = subst (AddsShown c.args.program.now.flow.now c.args.program.now.outline.now c.in-Some.obligation c.as_slice.result.now c.tree_at.new.noted) c.in-Broken.is c.in_ok-shown.ensures in
+    least_broken c.args.program.now.flow.now c.args.program.now.outline.now c.loop-obligation.walk c.next.new.self c.in-Some.obligation c.in-Broken.found
     (kept_so_far c.args.program.now.flow.now c.args.program.now.outline.now c.loop-obligation.walk c.loop-obligation.trees c.loop-obligation.invariant.0)
     c.in-Some.ensures broken
 
