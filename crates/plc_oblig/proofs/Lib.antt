@@ -1,5 +1,6 @@
 pub mod ClaimCounts
 pub mod Walking
+mod PartByPart
 mod Remaining
 mod Members
 mod Staying

@@ -91,29 +91,31 @@ pub record Walk {X : Type 0} (whole rest : List X) (i left : ℕ) : Type 0 where
   pub at : slice_get rest left ≡ slice_get whole i
   pub total : i + length rest ≡ length whole + left
 
+-- the rest begins with a part, and then more of it is left
+module _ {X : Type 0} (whole rest part more : List X) (i left : ℕ) where
+  pub part_found : (x : X) → Walk whole rest i left → rest ≡ part ++ more → slice_get part left ≡ Some x → slice_get whole i ≡ Some x
+  part_found x w is h = sym w.at ∙ ap (λ ys. slice_get ys left) is ∙ slice_left part more left x h
+
+  pub part_step : (after : ℕ) → Walk whole rest i left → rest ≡ part ++ more → left ≡ length part + after → Walk whole more i after
+  part_step after w is e = record {
+    at = sym (slice_right part more after left e) ∙ ap (λ ys. slice_get ys left) (sym is) ∙ w.at;
+    total = let l = ap length is ∙ length-append part more in let b = w.total in omega arith;
+  }
+
 pub walk_found : {A X : Type 0} (part : ℕ → A → List X) (k n : ℕ) (whole : List X) (xs items : List A) (a : A) (i left : ℕ) (x : X) →
     Walk whole (parts_from part k (drop n xs)) i left → items ≡ xs → n < length items → a ≡ get_or items n a → slice_get (part k a) left ≡ Some x → slice_get whole i ≡ Some x
-walk_found part k n whole xs items a i left x w same lt is h =
-    sym w.at ∙ ap (λ ys. slice_get ys left) (rest_is part k n xs items a same lt is) ∙ slice_left (part k a) (parts_from part (k + 1) (drop (n + 1) xs)) left x h
+walk_found part k n whole xs items a i left x w same lt is h = part_found _ _ _ _ i left x w (rest_is part k n xs items a same lt is) h
 
 pub walk_step : {A X : Type 0} (part : ℕ → A → List X) (k n : ℕ) (whole : List X) (xs items : List A) (a : A) (i left after : ℕ) →
     Walk whole (parts_from part k (drop n xs)) i left → items ≡ xs → n < length items → a ≡ get_or items n a → left ≡ length (part k a) + after →
     Walk whole (parts_from part (k + 1) (drop (n + 1) xs)) i after
-walk_step part k n whole xs items a i left after w same lt is e =
-    let r = rest_is part k n xs items a same lt is in record {
-      at = sym (slice_right (part k a) (parts_from part (k + 1) (drop (n + 1) xs)) after left e) ∙ ap (λ ys. slice_get ys left) (sym r) ∙ w.at;
-      total = let l = ap length r ∙ length-append (part k a) (parts_from part (k + 1) (drop (n + 1) xs)) in let b = w.total in omega arith;
-    }
+walk_step part k n whole xs items a i left after w same lt is e = part_step _ _ _ _ i left after w (rest_is part k n xs items a same lt is) e
 
 -- what is found in a part is found in the whole, where the part has so many items
 pub walk_within : {A X : Type 0} (part : ℕ → A → List X) (k n : ℕ) (whole : List X) (xs items : List A) (a : A) (i left : ℕ) (r : Result X ℕ) →
     Walk whole (parts_from part k (drop n xs)) i left → items ≡ xs → n < length items → a ≡ get_or items n a → left < length (part k a) → IsFoundIn (part k a) left r → IsFoundIn whole i r
 walk_within part k n whole xs items a i left (Ok x) w same lt is few h = walk_found part k n whole xs items a i left x w same lt is h
 walk_within part k n whole xs items a i left (Err e) w same lt is few h = absurd (omega arith)
-
-pub walk_end : {A X : Type 0} (part : ℕ → A → List X) (k n : ℕ) (whole : List X) (xs : List A) (i left : ℕ) →
-    Walk whole (parts_from part k (drop n xs)) i left → length xs ≤ n → i ≡ length whole + left
-walk_end part k n whole xs i left w h = let b = w.total in let e = none_left part k n xs h in omega arith
 
 -- one list after the other
 pub found_left : {X : Type 0} (xs ys : List X) (i : ℕ) (x : X) → slice_get xs i ≡ Some x → slice_get (xs ++ ys) i ≡ Some x

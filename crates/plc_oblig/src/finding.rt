@@ -1,12 +1,12 @@
 // The obligation with a number. Each kind takes away as many as it has and hands on what is left, so that
 // no obligation before it is looked at one by one.
-ghost use Rattle.std.specs.Prelude.{◌≡◌, ◌≤◌, ◌++◌, length, slice_get};
+ghost use Rattle.std.specs.Prelude.{◌≡◌, ◌<◌, ◌≤◌, ◌+◌, ◌++◌, length, map, slice_get};
 ghost use Rattle.plc_flow.specs.WellFormed.{most_step_primitives};
 ghost use Rattle.plc_setting.specs.Setting.{below};
-ghost use Rattle.plc_oblig.specs.Obligations.{starts, enters, owns, parts_from, others_at, others, claims_in};
+ghost use Rattle.plc_oblig.specs.Obligations.{starts, enters, owns, others, claims_in};
 ghost use Rattle.plc_oblig.specs.Obligations.{claims, obligations};
 ghost use Rattle.plc_setting.specs.Fit.{Fits};
-ghost use Rattle.plc_oblig.specs.Finding.{HasFewParts, IsFoundIn};
+ghost use Rattle.plc_oblig.specs.Finding.{HasFewParts, IsFoundIn, parts_of, from_part, in_part};
 
 use crate::claims::is_claim;
 use crate::counting::count_points;
@@ -28,58 +28,81 @@ fn nth_start(flow: &Flow, outline: &Outline, i: u64) -> Result<Obligation, u64>
     Err(i - count)
 }
 
-/// The obligation with a number among those of entries, or what is left of the number after these.
-fn nth_enter(flow: &Flow, outline: &Outline, i: u64) -> Result<Obligation, u64>
-    requires { HasFewParts flow.now outline.now }
-    ensures { IsFoundIn (enters flow.now outline.now) i result }
-{
-    let mut left = i;
-    for (op, gate) in flow.gates.as_slice().iter().enumerate() {
-        let count = count_at(flow, outline, gate.entry.0) as u64;
-        if left < count {
-            return Ok(Obligation::Enter {
-                op: OpId(op as u16),
-                clause: left as u16,
-            });
-        }
-        left -= count;
-    }
-    Err(left)
+/// A kind of obligations that has some at each of its parts.
+#[derive(Clone, Copy)]
+enum Kind {
+    /// On the entries of operations.
+    Entries,
+    /// On what steps lead their own threads to.
+    OwnSteps,
+    /// Of one step, at the points of another thread.
+    AtPoints(StepId),
 }
 
-/// The obligation with a number among those of own steps, or what is left of the number after these.
-fn nth_own(flow: &Flow, outline: &Outline, i: u64) -> Result<Obligation, u64>
+/// How many parts a kind has.
+fn parts_of(flow: &Flow, outline: &Outline, kind: Kind) -> u16
     requires { HasFewParts flow.now outline.now }
-    ensures { IsFoundIn (owns flow.now outline.now) i result }
+    ensures { result ≡ parts_of flow.now kind }
 {
-    let mut left = i;
-    for (step, s) in flow.steps.as_slice().iter().enumerate() {
-        let count = (outline.invariants.len() + count_at(flow, outline, s.to.0)) as u64;
-        if left < count {
-            return Ok(Obligation::Own {
-                step: StepId(step as u16),
-                clause: left as u16,
-            });
-        }
-        left -= count;
+    match kind {
+        Kind::Entries => flow.gates.len() as u16,
+        Kind::OwnSteps => flow.steps.len() as u16,
+        Kind::AtPoints(_) => flow.points,
     }
-    Err(left)
 }
 
-/// The obligation with a number among those of one step at other points, or what is left of the number after these.
-fn nth_at_points(flow: &Flow, outline: &Outline, step: StepId, i: u64) -> Result<Obligation, u64>
+/// How many obligations of a kind a part has.
+fn count_in(flow: &Flow, outline: &Outline, kind: Kind, k: u16) -> u64
+    requires few { HasFewParts flow.now outline.now }
+    requires part { k < parts_of flow.now kind }
+    ensures small { result < 65536 }
+    ensures next { from_part flow.now outline.now kind k
+        ≡ map (in_part kind k) (below result) ++ from_part flow.now outline.now kind (k + 1) }
+{
+    match kind {
+        Kind::Entries => {
+            let gate = &flow.gates.as_slice()[k as usize];
+            count_at(flow, outline, gate.entry.0) as u64
+        }
+        Kind::OwnSteps => {
+            let step = &flow.steps.as_slice()[k as usize];
+            (outline.invariants.len() + count_at(flow, outline, step.to.0)) as u64
+        }
+        Kind::AtPoints(_) => count_at(flow, outline, k) as u64,
+    }
+}
+
+/// The obligation of a kind, a part and a clause.
+fn in_part(kind: Kind, k: u16, clause: u16) -> Obligation
+    ensures { result ≡ in_part kind k clause }
+{
+    match kind {
+        Kind::Entries => Obligation::Enter {
+            op: OpId(k),
+            clause,
+        },
+        Kind::OwnSteps => Obligation::Own {
+            step: StepId(k),
+            clause,
+        },
+        Kind::AtPoints(step) => Obligation::Other {
+            step,
+            point: PointId(k),
+            clause,
+        },
+    }
+}
+
+/// The obligation with a number among those of a kind, or what is left of the number after these.
+fn nth_of_kind(flow: &Flow, outline: &Outline, kind: Kind, i: u64) -> Result<Obligation, u64>
     requires { HasFewParts flow.now outline.now }
-    ensures { IsFoundIn (parts_from (others_at flow.now outline.now step.0) 0 (below flow.now.points)) i result }
+    ensures { IsFoundIn (from_part flow.now outline.now kind 0) i result }
 {
     let mut left = i;
-    for p in 0..flow.points {
-        let count = count_at(flow, outline, p) as u64;
+    for k in 0..parts_of(flow, outline, kind) {
+        let count = count_in(flow, outline, kind, k);
         if left < count {
-            return Ok(Obligation::Other {
-                step,
-                point: PointId(p),
-                clause: left as u16,
-            });
+            return Ok(in_part(kind, k, left as u16));
         }
         left -= count;
     }
@@ -95,7 +118,7 @@ fn nth_other(flow: &Flow, outline: &Outline, i: u64) -> Result<Obligation, u64>
     let mut left = i;
     for step in 0..flow.steps.len() {
         if left < each {
-            return nth_at_points(flow, outline, StepId(step as u16), left);
+            return nth_of_kind(flow, outline, Kind::AtPoints(StepId(step as u16)), left);
         }
         left -= each;
     }
@@ -154,7 +177,7 @@ fn nth_from_own(flow: &Flow, outline: &Outline, i: u64) -> Result<Obligation, u6
     requires { HasFewParts flow.now outline.now }
     ensures { IsFoundIn (owns flow.now outline.now ++ (others flow.now outline.now ++ claims flow.now)) i result }
 {
-    match nth_own(flow, outline, i) {
+    match nth_of_kind(flow, outline, Kind::OwnSteps, i) {
         Ok(o) => Ok(o),
         Err(left) => nth_from_other(flow, outline, left),
     }
@@ -166,7 +189,7 @@ fn nth_from_enter(flow: &Flow, outline: &Outline, i: u64) -> Result<Obligation, 
     ensures { IsFoundIn (enters flow.now outline.now ++ (owns flow.now outline.now
         ++ (others flow.now outline.now ++ claims flow.now))) i result }
 {
-    match nth_enter(flow, outline, i) {
+    match nth_of_kind(flow, outline, Kind::Entries, i) {
         Ok(o) => Ok(o),
         Err(left) => nth_from_own(flow, outline, left),
     }

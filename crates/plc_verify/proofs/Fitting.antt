@@ -1,12 +1,14 @@
 -- Environments as a certificate has them, and with types of shared pointers.
-use Rattle.std.proofs.Common.{◌≡◌, ℕ, ◌+◌, ◌<◌, ◌≤◌, true, false, length, drop, get_or, Some, List, [], refl, sym, subst, ◌∙◌, arith, inl, inr}
+use Rattle.std.proofs.Common.{◌≡◌, ℕ, zero, suc, ◌+◌, ◌<◌, ◌≤◌, true, false, length, map, drop, get_or, Some, List, [], ◌∷◌, refl, sym, ap, subst, ◌∙◌, arith, inl, inr}
 use Rattle.std.specs.Prelude.{slice_get}
 use Rattle.std.proofs.lemmas.Bool.{and_parts, and_from, eq-eqb, eqb-true, cases_lt}
 use Rattle.std.proofs.lemmas.List.{length-map, get_or-map, drop_all}
 use Rattle.plc_lang.specs.declared.syntax.Op.{Op}
 use Rattle.plc_lang.specs.Locals.{pointers_of}
-use Rattle.plc_lang.specs.Skeleton.{locals_at}
+use Rattle.plc_base.specs.Mask.{within}
+use Rattle.plc_lang.specs.Skeleton.{Skeleton, locals_at}
 use Rattle.plc_auto.specs.declared.observer.Observer.{Observer}
+use Rattle.plc_auto.specs.Sets.{all_locations}
 use Rattle.plc_type.specs.declared.env.Env.{Env}
 use Rattle.plc_type.specs.Environments.{bottom}
 use Rattle.plc_xfer.specs.Typings.{IsEnvironment, env_at}
@@ -14,7 +16,7 @@ use Rattle.plc_flow.specs.declared.flow.Gate.{Gate}
 use Rattle.plc_flow.specs.declared.flow.Flow.{Flow}
 use Rattle.plc_flow.specs.Skeleton.{skeleton_of}
 use Rattle.plc_flow.specs.WellFormed.{IsWellFormed, IsPointOf}
-use Rattle.plc_verify.specs.Environments.{with_shared, completed, PointHolds, PointsHold, EntryHolds, EntriesHold, FailsAtPoint}
+use Rattle.plc_verify.specs.Environments.{with_shared, completed, PointHolds, PointsHold, EntryHolds, EntriesHold, IsFirstNarrow, FailsAtPoint}
 use Rattle.plc_verify.specs.Tests.{env_fits, IsFirstUnfit, AllFit}
 use Rattle.plc_verify.proofs.Points.{no_gate, read_gate, read_item, there, extent, begins, begins_at}
 use Rattle.plc_flow.proofs.Gates.{point_count}
@@ -34,8 +36,27 @@ no_env o n m e h x =
 pub completed_length : (flow : Flow) (envs : List Env) → length (completed flow envs) ≡ length envs
 completed_length flow envs = length-map envs (with_shared (length flow.file.shared))
 
-completed_at : (flow : Flow) (envs : List Env) (p : ℕ) → p < length envs → env_at (completed flow envs) p ≡ with_shared (length flow.file.shared) (env_at envs p)
+pub completed_at : (flow : Flow) (envs : List Env) (p : ℕ) → p < length envs → env_at (completed flow envs) p ≡ with_shared (length flow.file.shared) (env_at envs p)
 completed_at flow envs p small = get_or-map (with_shared (length flow.file.shared)) envs p (bottom 0 0) (bottom 0 0) small
+
+-- types of shared pointers leave W as it is, so each operation begins as before
+same_w : (n : ℕ) (envs : List Env) (p : ℕ) → (env_at (map (with_shared n) envs) p).w ≡ (env_at envs p).w
+same_w n [] p = refl
+same_w n (e ∷ es) zero = refl
+same_w n (e ∷ es) (suc p) = same_w n es p
+
+module _ (o : Observer) (s : Skeleton) (flow : Flow) (envs : List Env) where
+  same_entry : (p : ℕ) → within (all_locations o) (env_at (completed flow envs) p).w ≡ within (all_locations o) (env_at envs p).w
+  same_entry p = ap (within (all_locations o)) (same_w (length flow.file.shared) envs p)
+
+  entry_whole : (i : ℕ) → EntryHolds o s envs i → EntryHolds o s (completed flow envs) i
+  entry_whole i holds p at = same_entry p ∙ holds p at
+
+  pub narrow_whole : (i : ℕ) → IsFirstNarrow o s envs i → IsFirstNarrow o s (completed flow envs) i
+  narrow_whole i narrow = record {
+    before = λ j h. entry_whole j (narrow.before j h);
+    fails = λ holds. narrow.fails (λ p at. sym (same_entry p) ∙ holds p at);
+  }
 
 module _ (flow : Flow) (w : IsWellFormed flow) (o : Observer) (envs : List Env) (one_each : length envs ≡ flow.points) where
   abbrev Holds : ℕ → Type 0
@@ -47,12 +68,10 @@ module _ (flow : Flow) (w : IsWellFormed flow) (o : Observer) (envs : List Env) 
   pub points_hold : ((p : ℕ) → Holds p) → PointsHold o (skeleton_of flow) (completed flow envs)
   points_hold points = record { one_each = one_for_each; points = points }
 
-  -- the entries of what was completed are those of the environments with types of shared pointers
-  pub entries_hold : (read whole : List Env) → read ≡ whole → whole ≡ completed flow envs → ((p : ℕ) → Holds p)
-      → ((i : ℕ) → EntryHolds o (skeleton_of flow) read i) → EntriesHold o (skeleton_of flow) (completed flow envs)
-  entries_hold read whole same is points entries = record {
+  pub entries_hold : ((p : ℕ) → Holds p) → ((i : ℕ) → EntryHolds o (skeleton_of flow) envs i) → EntriesHold o (skeleton_of flow) (completed flow envs)
+  entries_hold points entries = record {
     points = points_hold points;
-    entries = subst (λ (es : List Env). (i : ℕ) → EntryHolds o (skeleton_of flow) es i) (same ∙ is) entries;
+    entries = λ i. entry_whole o (skeleton_of flow) flow envs i (entries i);
   }
 
   -- the points of the operations before number k hold

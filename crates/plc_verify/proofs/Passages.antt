@@ -31,7 +31,8 @@ use Rattle.plc_flow.specs.declared.flow.Flow.{Flow}
 use Rattle.plc_flow.specs.Skeleton.{skeleton_of, passage_of}
 use Rattle.plc_flow.specs.WellFormed.{IsWellFormed}
 use Rattle.plc_verify.specs.declared.fault.Slot.{Slot}
-use Rattle.plc_verify.specs.Environments.{PointsHold, EntryHolds, EntriesHold, StepHolds, LocalBelow, IsFirstAbove, FailsInStep, FailsAfterStep}
+use Rattle.plc_verify.specs.declared.fault.Slot.TheVariants.{W, Local}
+use Rattle.plc_verify.specs.Environments.{with_shared, PointsHold, EntryHolds, EntriesHold, StepHolds, LocalBelow, IsFirstAbove, FailsInStep, FailsAfterStep}
 use Rattle.plc_verify.specs.declared.fault.VerifyFault.{VerifyFault}
 use Rattle.plc_verify.specs.declared.steps.Outcome.{Outcome}
 use Rattle.plc_verify.specs.Tests.{NoneAbove, IsRun, MayFail}
@@ -72,6 +73,16 @@ none_above a b n all same h below = (
     | inr high ↦ past_end a b v (omega arith) same h
   ],
 )
+
+-- types of shared pointers in the second change nothing of how the first compares with it
+pub none_above_whole : (n : ℕ) (a b : Env) → NoneAbove a b → NoneAbove a (with_shared n b)
+unfolding type_of
+none_above_whole n a b none = none
+
+pub first_above_whole : (n : ℕ) (a b : Env) (var : Slot) → IsFirstAbove a b var → IsFirstAbove a (with_shared n b) var
+unfolding type_of
+first_above_whole n a b W above = above
+first_above_whole n a b (Local v) above = above
 
 types_from : (x y : List PtrType) (t u : PtrType) → length x ≡ length y → ((v : ℕ) → type_below (get_or x v t) (get_or y v u) ≡ true) → types_below x y ≡ true
 types_from [] y t u same h = refl
@@ -270,9 +281,8 @@ is_typing o flow envs w h steps = record {
     ]
 
 -- the answer on steps is the answer on the whole
-pub typed : (o : Observer) (flow : Flow) (envs read : List Env) → IsWellFormed flow → read ≡ envs → EntriesHold o (skeleton_of flow) envs → (r : Result (Unit {0}) VerifyFault)
-    → MatchResult r (λ _. (k : ℕ) → k < length flow.steps → StepHolds o (skeleton_of flow) read k) (MayFail o (skeleton_of flow) read)
+pub typed : (o : Observer) (flow : Flow) (envs : List Env) → IsWellFormed flow → EntriesHold o (skeleton_of flow) envs → (r : Result (Unit {0}) VerifyFault)
+    → MatchResult r (λ _. (k : ℕ) → k < length flow.steps → StepHolds o (skeleton_of flow) envs k) (MayFail o (skeleton_of flow) envs)
     → MatchResult r (λ _. IsTyping o (skeleton_of flow) envs) (MayFail o (skeleton_of flow) envs)
-typed o flow envs read w same entries (Ok u) h =
-    is_typing o flow envs w entries (subst (λ (es : List Env). (k : ℕ) → k < length flow.steps → StepHolds o (skeleton_of flow) es k) same h)
-typed o flow envs read w same entries (Err f) h = subst (λ (es : List Env). MayFail o (skeleton_of flow) es f) same h
+typed o flow envs w entries (Ok u) h = is_typing o flow envs w entries h
+typed o flow envs w entries (Err f) h = h

@@ -25,13 +25,16 @@ pub read_gate : (gs hs : List Gate) (k : ℕ) → gs ≡ hs → k < length hs �
 read_gate gs hs k same small =
     slice_get-get_or hs k no_gate small ∙ ap (λ (xs : List Gate). Some (get_or xs k no_gate)) (sym same)
 
--- what a function gives of a list of operations and a number, where it gives the pointer locals of the first for 0 and
--- goes on in the rest for more; `locals_there` has one of these
-by_number : (f : List Op → ℕ → ℕ) (os : List Op) (k : ℕ) (o : Op) → ((o : Op) (os : List Op) → f (o ∷ os) 0 ≡ pointers_of o)
-    → ((o : Op) (os : List Op) (k : ℕ) → f (o ∷ os) (suc k) ≡ f os k) → slice_get os k ≡ Some o → f os k ≡ pointers_of o
-by_number f [] k o first next e = absurd cc
-by_number f (x ∷ os) zero o first next e = let is : x ≡ o = cc in first x os ∙ ap pointers_of is
-by_number f (x ∷ os) (suc k) o first next e = next x os k ∙ by_number f os k o first next e
+-- how many pointer locals the operation with this number has, as `locals_there` says it
+abbrev nth_pointers : List Op → ℕ → ℕ
+nth_pointers [] k = 0
+nth_pointers (o ∷ os) zero = pointers_of o
+nth_pointers (o ∷ os) (suc k) = nth_pointers os k
+
+nth_is : (os : List Op) (k : ℕ) (o : Op) → slice_get os k ≡ Some o → nth_pointers os k ≡ pointers_of o
+nth_is [] k o e = absurd cc
+nth_is (x ∷ os) zero o e = let is : x ≡ o = cc in ap pointers_of is
+nth_is (x ∷ os) (suc k) o e = nth_is os k o e
 
 -- a point of gate k
 pub record There (flow : Flow) (o : Op) (p : ℕ) : Type 0 where
@@ -43,7 +46,7 @@ pub there : (flow : Flow) (k p : ℕ) (g : Gate) (o : Op) → IsWellFormed flow 
 there flow k p g o w e f at =
     let r = locals_there 0 flow.file.ops flow.gates flow.points k p g (sym w.gates) w.ranges e at in
     let same : p - 0 ≡ p = omega arith in
-    let locals = r.2.1 ∙ by_number _ flow.file.ops k o (λ o os. refl) (λ o os k. refl) f in
+    let locals = r.2 ∙ nth_is flow.file.ops k o f in
     record { point = r.1; locals = ap (λ (i : ℕ). get_or (pointers_by_point flow.file.ops flow.gates) i 0) (sym same) ∙ locals }
 
 -- entries are points

@@ -1,5 +1,6 @@
 // The environments of points: whether each fits its point's operation, and the types of shared pointers that a
-// certificate leaves out.
+// certificate leaves out. An environment gets these only where a step runs from it: nothing else reads them, so no list
+// of environments that have them is made.
 ghost use Rattle.std.specs.Prelude.{◌≡◌, ◌≤◌, ◌<◌, ℕ, IfOk, MatchOption, length};
 ghost use Rattle.plc_flow.specs.WellFormed.{IsWellFormed};
 ghost use Rattle.plc_flow.specs.Skeleton.{skeleton_of};
@@ -90,8 +91,8 @@ pub(crate) fn first_bad_point(flow: &Flow, observer: &Observer, envs: &[Env]) ->
     None
 }
 
-/// An environment with types of so many shared pointers, in memory of its own.
-fn with_shared(alloc: Global, shared: usize, env: &Env) -> Result<Env, NoMemory>
+/// A copy of an environment with types of so many shared pointers, in memory of its own.
+pub(crate) fn with_shared(alloc: Global, shared: usize, env: &Env) -> Result<Env, NoMemory>
     ensures { IfOk result (λ whole. whole ≡ with_shared shared env.now) }
 {
     Ok(Env {
@@ -99,16 +100,4 @@ fn with_shared(alloc: Global, shared: usize, env: &Env) -> Result<Env, NoMemory>
         locals: Items::from_vec(Vec::from_slice(alloc, env.locals.as_slice())?),
         w: env.w,
     })
-}
-
-/// The environments with types of shared pointers.
-pub(crate) fn completed(alloc: Global, flow: &Flow, envs: &[Env]) -> Result<Vec<Env>, NoMemory>
-    ensures { IfOk result (λ whole. whole.items ≡ completed flow.now envs.now) }
-{
-    let shared = flow.file.shared.len();
-    let mut whole = Vec::new(alloc);
-    for env in envs {
-        whole.push(with_shared(alloc, shared, env)?)?;
-    }
-    Ok(whole)
 }

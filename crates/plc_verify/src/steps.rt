@@ -1,11 +1,12 @@
-// The steps of a flow: each is run once from the environment of its first point, and what it leads to is
-// compared with that of its last point.
+// The steps of a flow: each is run once from the environment of its first point, with types of shared pointers, and
+// what it leads to is compared with that of its last point by W and locals, which these types leave as they are.
 ghost use Rattle.std.specs.Prelude.{◌≡◌, ◌<◌, ◌≤◌, ℕ, IfOk, MatchOption, MatchResult, length};
 ghost use Rattle.plc_xfer.specs.Rules.{FitsObserver};
-ghost use Rattle.plc_verify.specs.Environments.{IsFirstAbove};
+ghost use Rattle.plc_verify.specs.Environments.{with_shared, IsFirstAbove};
 ghost use Rattle.plc_verify.specs.Tests.{IsRun, NoneAbove};
 ghost use Rattle.plc_verify.specs.Candidate.{CanTakeSteps, StepHoldsOf, MayFailOf};
 
+use crate::environments::with_shared;
 use crate::fault::{Slot, VerifyFault};
 use plc_auto::Observer;
 use plc_base::{NoMemory, StepId};
@@ -24,7 +25,8 @@ pub(crate) enum Outcome {
     FailsAt(u16),
 }
 
-/// Environments that are said to be those of the points of a flow, under an observer.
+/// Environments that are said to be those of the points of a flow, under an observer. They are those of a certificate,
+/// without types of shared pointers.
 #[derive(Clone, Copy)]
 pub(crate) struct Candidate<'a> {
     pub flow: &'a Flow,
@@ -32,13 +34,19 @@ pub(crate) struct Candidate<'a> {
     pub envs: &'a [Env],
 }
 
-/// Runs the primitives of a step, and then interference, from an environment.
-fn run(alloc: Global, env: &Env, prims: &[Prim], observer: &Observer) -> Result<Outcome, NoMemory>
+/// Runs the primitives of a step, and then interference, from an environment with types of so many shared pointers.
+fn run(
+    alloc: Global,
+    shared: usize,
+    env: &Env,
+    prims: &[Prim],
+    observer: &Observer,
+) -> Result<Outcome, NoMemory>
     requires short { length prims.now < 65536 }
-    requires fits { FitsObserver observer.now env.now }
-    ensures { IfOk result (λ run. IsRun observer.now env.now prims.now run) }
+    requires fits { FitsObserver observer.now (with_shared shared env.now) }
+    ensures { IfOk result (λ run. IsRun observer.now (with_shared shared env.now) prims.now run) }
 {
-    let mut reached = env.copy(alloc)?;
+    let mut reached = with_shared(alloc, shared, env)?;
     for (i, prim) in prims.iter().enumerate() {
         if let Err(_) = condition(&reached, prim, observer) {
             return Ok(Outcome::FailsAt(i as u16));
@@ -80,7 +88,9 @@ fn verify_step(alloc: Global, candidate: &Candidate<'_>, k: usize) -> Result<(),
     let from = &envs[step.from.0 as usize];
     let to = &envs[step.to.0 as usize];
     let id = StepId(k as u16);
-    match run(alloc, from, step.prims.as_slice(), candidate.observer)? {
+    let shared = candidate.flow.file.shared.len();
+    let prims = step.prims.as_slice();
+    match run(alloc, shared, from, prims, candidate.observer)? {
         Outcome::FailsAt(prim) => Err(VerifyFault::TypeAt { step: id, prim }),
         Outcome::LeadsTo(reached) => match first_above(&reached, to) {
             Some(var) => Err(VerifyFault::FlowAt { step: id, var }),

@@ -8,7 +8,7 @@ ghost use Rattle.plc_xfer.specs.Typings.{IsTyping};
 ghost use Rattle.plc_verify.specs.Environments.{completed, EntryHolds, IsFirstNarrow};
 ghost use Rattle.plc_verify.specs.Tests.{MayFail};
 
-use crate::environments::{completed, first_bad_point};
+use crate::environments::first_bad_point;
 use crate::fault::{Slot, VerifyFault};
 use crate::steps::{Candidate, verify_steps};
 use plc_auto::Observer;
@@ -57,14 +57,13 @@ pub(crate) fn verify_typing(
     if let Some(point) = first_bad_point(flow, observer, envs) {
         return Err(VerifyFault::EnvAt { point });
     }
-    let envs = completed(alloc, flow, envs)?;
-    if let Some(op) = first_narrow_entry(flow, observer, &envs) {
+    if let Some(op) = first_narrow_entry(flow, observer, envs) {
         return Err(VerifyFault::EntryAt { op, var: Slot::W });
     }
     let candidate = Candidate {
         flow,
         observer,
-        envs: &envs,
+        envs,
     };
     verify_steps(alloc, &candidate)
 }

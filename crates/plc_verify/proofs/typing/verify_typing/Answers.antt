@@ -1,8 +1,7 @@
-use Rattle.std.proofs.Common.{List, refl, sym, subst, ◌∙◌}
-use Rattle.plc_type.specs.declared.env.Env.{Env}
+use Rattle.std.proofs.Common.{refl, sym}
 use Rattle.plc_flow.specs.Skeleton.{skeleton_of}
-use Rattle.plc_verify.specs.Environments.{completed, EntriesHold, IsFirstNarrow}
-use Rattle.plc_verify.proofs.Fitting.{completed_length, points_hold, entries_hold}
+use Rattle.plc_verify.specs.Environments.{completed}
+use Rattle.plc_verify.proofs.Fitting.{completed_length, points_hold, entries_hold, narrow_whole}
 use Rattle.plc_verify.proofs.Passages.{typed}
 use Rattle.plc_verify.proofs.typing.verify_typing.Goals as goal
 use Rattle.plc_flow.proofs.Gates.{point_count}
@@ -18,7 +17,7 @@ pub returns-in-Some-first_narrow_entry : goal.returns-in-Some-first_narrow_entry
 returns-in-Some-first_narrow_entry c = (
   record {
     points = points_hold c.args.flow.now c.requires.flow c.args.observer.now c.args.envs.now c.if-envs-flow.false c.in_default.ensures;
-    narrow = subst (λ (es : List Env). IsFirstNarrow c.args.observer.now (skeleton_of c.args.flow.now) es c.in-Some-first_narrow_entry.op.0) (c.deref.ensures.value ∙ c.in_ok-envs.ensures) c.in-Some-first_narrow_entry.ensures;
+    narrow = narrow_whole c.args.observer.now (skeleton_of c.args.flow.now) c.args.flow.now c.args.envs.now c.in-Some-first_narrow_entry.op.0 c.in-Some-first_narrow_entry.ensures;
   },
   refl,
 )
@@ -27,14 +26,11 @@ pub verify_steps-requires : goal.verify_steps-requires
 verify_steps-requires c = record {
   flow = c.requires.flow;
   file = c.requires.file;
-  entries = subst (λ (es : List Env). EntriesHold c.args.observer.now (skeleton_of c.args.flow.now) es) (sym (c.deref-2.ensures.value ∙ c.in_ok-envs.ensures))
-      (entries_hold c.args.flow.now c.requires.flow c.args.observer.now c.args.envs.now c.if-envs-flow.false c.deref.result.now _
-      c.deref.ensures.value c.in_ok-envs.ensures c.in_default.ensures c.in_default-first_narrow_entry.ensures);
+  entries = entries_hold c.args.flow.now c.requires.flow c.args.observer.now c.args.envs.now c.if-envs-flow.false c.in_default.ensures c.in_default-first_narrow_entry.ensures;
 }
 
 pub returns : goal.returns
 returns c =
-    typed c.args.observer.now c.args.flow.now (completed c.args.flow.now c.args.envs.now) c.deref-2.result.now c.requires.flow (c.deref-2.ensures.value ∙ c.in_ok-envs.ensures)
-    (entries_hold c.args.flow.now c.requires.flow c.args.observer.now c.args.envs.now c.if-envs-flow.false c.deref.result.now _
-    c.deref.ensures.value c.in_ok-envs.ensures c.in_default.ensures c.in_default-first_narrow_entry.ensures)
+    typed c.args.observer.now c.args.flow.now (completed c.args.flow.now c.args.envs.now) c.requires.flow
+    (entries_hold c.args.flow.now c.requires.flow c.args.observer.now c.args.envs.now c.if-envs-flow.false c.in_default.ensures c.in_default-first_narrow_entry.ensures)
     c.verify_steps.result c.verify_steps.ensures
