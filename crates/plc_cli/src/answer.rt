@@ -18,6 +18,16 @@ pub struct Answer {
     pub text: Vec<u8>,
 }
 
+/// The answer that refuses bytes with this text.
+pub(crate) fn refuse(text: Vec<u8>) -> Answer
+    ensures { result ≡ record { status = refused; text = text } }
+{
+    Answer {
+        status: REFUSED,
+        text,
+    }
+}
+
 /// The answer to words of no listed form. The one error is that memory runs out.
 pub fn words_refusal(alloc: Global) -> Result<Answer, NoMemory>
     ensures { IfOk result (λ answer. (answer.status ≡ bad_words) × (answer.text.items ≡ words_refused_text)) }
@@ -47,8 +57,5 @@ pub fn refusal(alloc: Global, fault: &LoadFault) -> Result<Answer, NoMemory>
     ensures answer { IfOk result (λ answer. (answer.status ≡ refused) × (answer.text.items ≡ load_fault_text fault.now)) }
     ensures told { IfOk result (λ _. fault.now ≢ Memory) }
 {
-    Ok(Answer {
-        status: REFUSED,
-        text: load_fault_text(alloc, fault)?,
-    })
+    Ok(refuse(load_fault_text(alloc, fault)?))
 }

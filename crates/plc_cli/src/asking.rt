@@ -40,17 +40,8 @@ pub(crate) trait PairQuestion {
     /// Whether a status and a text are due for a file that was loaded and the bytes of the second.
     ghost due: { Self → AJudged → List ℕ → ℕ → List ℕ → Type 0 };
 
-    /// The most bytes that the second file may have.
-    fn most(&self) -> usize
-        ensures { result ≡ limit self.now };
-
     /// The answer to a file that was loaded and the bytes of the second.
-    fn answer_second(
-        &self,
-        alloc: Global,
-        judged: Judged,
-        second: &[u8],
-    ) -> Result<Answer, NoMemory>
+    fn answer(&self, alloc: Global, judged: Judged, second: &[u8]) -> Result<Answer, NoMemory>
         requires fits { Fits judged.flow judged.unit_outline }
         requires short { length second.now ≤ limit self.now }
         ensures { IfOk result (λ answer. due self.now judged second.now answer.status answer.text.items) };
@@ -117,26 +108,28 @@ fn answer_both<Q: PairQuestion>(
         bytes.now answer.status answer.text.items) }
 {
     match load(alloc, bytes) {
-        Ok(judged) => question.answer_second(alloc, judged, second),
+        Ok(judged) => question.answer(alloc, judged, second),
         Err(fault) => refusal(alloc, &fault),
     }
 }
 
-/// The answer to a command with two files.
+/// The answer to a command with two files, of which the second is read up to the question's limit.
 pub(crate) fn answer_pair<F: Files, Q: PairQuestion>(
     alloc: Global,
     files: &mut F,
     file: &str,
     second: &str,
+    most: usize,
     question: &Q,
 ) -> Result<Answer, NoMemory>
+    requires { most ≡ Q.limit question.now }
     ensures kept { FilesAreKept (F.known files.old) (F.known files.new) }
     ensures due { IfOk result (λ answer. IsDueForPair (F.known files.old) (F.known files.new)
         file.now second.now (Q.limit question.now)
         (λ bytes more. IsAnsweredFile (λ u. Q.due question.now (judged_of u) more)
         bytes answer.status answer.text.items) answer.status answer.text.items) }
 {
-    match read_both(alloc, files, file, second, question.most())? {
+    match read_both(alloc, files, file, second, most)? {
         Contents::Read(bytes, more) => answer_both(alloc, &bytes, &more, question),
         Contents::Unread(answer) => Ok(answer),
     }

@@ -1,7 +1,7 @@
 // The certificate of a file that is safe, and the law that it is accepted.
 ghost use Rattle.std.specs.Prelude.{◌≡◌, IfOk};
 ghost use Rattle.plc_texts.specs.Certificates.{certificate_line};
-ghost use Rattle.plc_cli.specs.Certificates.{IsCertifiedAs, certified_status, certified_text};
+ghost use Rattle.plc_cli.specs.Certificates.{IsCertifiedAs};
 ghost use Rattle.plc_cli.specs.Laws.{CertifiedFilesVerify};
 ghost use Rattle.plc_cli.specs.Statuses.{holds};
 
@@ -25,21 +25,6 @@ fn certificate_answer(alloc: Global, cert: &Cert) -> Result<Answer, NoMemory>
     })
 }
 
-/// The answer that says what there is to show of a file.
-fn certified_answer(
-    alloc: Global,
-    judged: &Judged,
-    certified: &Certified,
-) -> Result<Answer, NoMemory>
-    ensures { IfOk result (λ answer. (answer.status ≡ certified_status certified.now)
-        × (answer.text.items ≡ certified_text judged.now certified.now)) }
-{
-    match certified {
-        Certified::Yes(cert) => certificate_answer(alloc, cert),
-        Certified::No(verdict) => verdict_answer(alloc, judged, verdict),
-    }
-}
-
 /// The question for the certificate of a file, or for the verdict on one that has none.
 #[derive(Drop)]
 pub(crate) struct ForCertificate;
@@ -48,10 +33,10 @@ impl Question for ForCertificate {
     ghost due = { λ _ judged. IsCertifiedAs judged };
 
     fn answer(&self, alloc: Global, judged: &Judged) -> Result<Answer, NoMemory> {
-        let certified = certify(alloc, judged)?;
-        let answer = certified_answer(alloc, judged, &certified);
-        drop(certified);
-        answer
+        match certify(alloc, judged)? {
+            Certified::Yes(cert) => certificate_answer(alloc, &cert),
+            Certified::No(verdict) => verdict_answer(alloc, judged, verdict),
+        }
     }
 }
 

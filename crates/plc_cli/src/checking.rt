@@ -20,9 +20,7 @@ impl Question for ForVerdict {
 
     fn answer(&self, alloc: Global, judged: &Judged) -> Result<Answer, NoMemory> {
         let verdict = check(alloc, judged)?;
-        let answer = verdict_answer(alloc, judged, &verdict);
-        drop(verdict);
-        answer
+        verdict_answer(alloc, judged, verdict)
     }
 }
 
@@ -73,17 +71,20 @@ pub fn verdict_text(
     }
 }
 
-/// The answer that says a verdict.
+/// The answer that says a verdict, which ends with it.
 pub(crate) fn verdict_answer(
     alloc: Global,
     judged: &Judged,
-    verdict: &Verdict,
+    verdict: Verdict,
 ) -> Result<Answer, NoMemory>
-    ensures { IfOk result (λ answer. (answer.status ≡ verdict_status verdict.now)
-        × (answer.text.items ≡ verdict_text judged.now verdict.now)) }
+    ensures { IfOk result (λ answer. (answer.status ≡ verdict_status verdict)
+        × (answer.text.items ≡ verdict_text judged.now verdict)) }
 {
+    let status = verdict_status(&verdict);
+    let text = verdict_text(alloc, judged, &verdict);
+    drop(verdict);
     Ok(Answer {
-        status: verdict_status(verdict),
-        text: verdict_text(alloc, judged, verdict)?,
+        status,
+        text: text?,
     })
 }

@@ -18,12 +18,12 @@ ghost use Rattle.plc_cli.specs.Verdicts.{verdict_status};
 ghost use Rattle.plc_cli.specs.Views.{AreReadClaims, AreReadTokens};
 ghost use Rattle.plc_cli.specs.declared.locating.ReadClaims.TheVariants.{Refused};
 
-use crate::answer::Answer;
+use crate::answer::{Answer, refuse};
 use crate::asking::PairQuestion;
 use crate::checking::{verdict_status, verdict_text};
-use crate::status::{FAILS, REFUSED};
+use crate::status::FAILS;
 use plc_at::{AtFault, ClaimFault, LocationClaim, extend, read_claims};
-use plc_base::{Items, LARGEST_FILE, NoMemory, What1};
+use plc_base::{Items, NoMemory, What1};
 use plc_check::{Judged, OutlineFault, Typed, Verdict, check, strongest_typing, with_outline};
 use plc_lex::{LexFault, Token, tokens};
 use plc_logic::Outline;
@@ -83,10 +83,7 @@ fn judge_claims(alloc: Global, judged: Judged, claims: &[LocationClaim]) -> Resu
 fn limit_answer(alloc: Global, what: What1, count: u32) -> Result<Answer, NoMemory>
     ensures { IfOk result (λ answer. (answer.status ≡ refused) × (answer.text.items ≡ limit_text what count)) }
 {
-    Ok(Answer {
-        status: REFUSED,
-        text: limit_text(alloc, what, count)?,
-    })
+    Ok(refuse(limit_text(alloc, what, count)?))
 }
 
 /// The answer where a claim isn't located.
@@ -194,10 +191,7 @@ enum ReadClaims {
 fn refuse_claims(text: Vec<u8>) -> ReadClaims
     ensures { result ≡ Refused (record { status = refused; text = text }) }
 {
-    ReadClaims::Refused(Answer {
-        status: REFUSED,
-        text,
-    })
+    ReadClaims::Refused(refuse(text))
 }
 
 /// The claims that tokens spell.
@@ -234,16 +228,7 @@ impl PairQuestion for ForLocations {
 
     ghost due = { λ _ judged second. IsLocationAnswered judged second };
 
-    fn most(&self) -> usize {
-        LARGEST_FILE
-    }
-
-    fn answer_second(
-        &self,
-        alloc: Global,
-        judged: Judged,
-        second: &[u8],
-    ) -> Result<Answer, NoMemory> {
+    fn answer(&self, alloc: Global, judged: Judged, second: &[u8]) -> Result<Answer, NoMemory> {
         match claims_of(alloc, &judged, second)? {
             ReadClaims::Claims(claims) => answer_claims(alloc, judged, claims.as_slice()),
             ReadClaims::Refused(answer) => Ok(answer),

@@ -18,7 +18,7 @@ use crate::status::{NO_MEMORY, UNWRITTEN};
 use crate::suggesting::ForSuggestions;
 use crate::verifying::ForValidity;
 use crate::words::{Request, request_of};
-use plc_base::NoMemory;
+use plc_base::{LARGEST_CERTIFICATE, LARGEST_FILE, NoMemory};
 use plc_outside::{Files, Sink, SinkFault, write_text};
 use plc_reclaim::Reclaimer;
 use std::alloc::Global;
@@ -42,7 +42,14 @@ fn answer_to<F: Files>(
         Some(Request::Certify { file }) => answer_file(alloc, files, file, ForCertificate),
         Some(Request::Print { file }) => answer_file(alloc, files, file, ForText),
         Some(Request::Verify { file, certificate }) => {
-            answer_pair(alloc, files, file, certificate, &ForValidity)
+            answer_pair(
+                alloc,
+                files,
+                file,
+                certificate,
+                LARGEST_CERTIFICATE,
+                &ForValidity,
+            )
         }
         Some(
             Request::Replay {
@@ -54,7 +61,7 @@ fn answer_to<F: Files>(
         Some(Request::Sample { copies, line }) => judge_sample(alloc, copies, line),
         Some(Request::Suggest { file }) => answer_file(alloc, files, file, ForSuggestions),
         Some(Request::Locate { file, claims }) => {
-            answer_pair(alloc, files, file, claims, &ForLocations)
+            answer_pair(alloc, files, file, claims, LARGEST_FILE, &ForLocations)
         }
         None => words_refusal(alloc),
     }

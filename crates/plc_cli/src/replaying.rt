@@ -7,9 +7,9 @@ ghost use Rattle.plc_cli.specs.Answer.{IsReplayOf, IsScheduleAnswered, IsEndOf, 
 ghost use Rattle.plc_cli.specs.Reads.{FilesAreKept, IsDueForPair};
 ghost use Rattle.plc_cli.specs.Statuses.{end_status};
 
-use crate::answer::{Answer, refusal};
+use crate::answer::{Answer, refusal, refuse};
 use crate::reading::{Contents, read_both};
-use crate::status::{FAILS, HOLDS, REFUSED};
+use crate::status::{FAILS, HOLDS};
 use plc_base::{LARGEST_SCHEDULE, NoMemory};
 use plc_check::{Judged, load};
 use plc_outside::Files;
@@ -95,10 +95,7 @@ fn answer_schedule_bytes(
             answer_schedule(alloc, recorded, reclaimer)
         }
         Err(SchedFault::Memory) => Err(NoMemory),
-        Err(fault) => Ok(Answer {
-            status: REFUSED,
-            text: schedule_fault_text(alloc, fault)?,
-        }),
+        Err(fault) => Ok(refuse(schedule_fault_text(alloc, fault)?)),
     }
 }
 

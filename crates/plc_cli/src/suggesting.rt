@@ -3,47 +3,16 @@
 ghost use Rattle.std.specs.Prelude.{◌≡◌, IfOk};
 ghost use Rattle.plc_cli.specs.Suggestions.{IsSuggestionAnswered, suggestion_status, suggestion_text};
 
-use crate::answer::Answer;
+use crate::answer::{Answer, refuse};
 use crate::asking::Question;
-use crate::status::{FAILS, HOLDS, REFUSED};
+use crate::status::{FAILS, HOLDS};
 use plc_base::NoMemory;
 use plc_check::Judged;
 use plc_suggest::{SuggestFault, Suggestion, suggest};
 use plc_texts::{FailedCondition, insufficient_text, spots_limit_text, suggested_text};
-use std::alloc::{AllocError, Global};
+use std::alloc::Global;
 
-/// The status of a suggestion: that of a failure where no claims are enough.
-fn suggestion_status(suggestion: &Suggestion) -> u8
-    ensures { result ≡ suggestion_status suggestion.now }
-{
-    match suggestion {
-        Suggestion::Found(_) => HOLDS,
-        Suggestion::Insufficient { .. } => FAILS,
-    }
-}
-
-/// The text of a suggestion.
-fn suggestion_text(
-    alloc: Global,
-    judged: &Judged,
-    suggestion: &Suggestion,
-) -> Result<Vec<u8>, AllocError>
-    ensures { IfOk result (λ text. text.items ≡ suggestion_text judged.now suggestion.now) }
-{
-    match suggestion {
-        Suggestion::Found(spots) => suggested_text(alloc, &judged.flow, spots.as_slice()),
-        Suggestion::Insufficient { step, prim, fault } => {
-            let failed = FailedCondition {
-                step: *step,
-                prim: *prim,
-                fault: *fault,
-            };
-            insufficient_text(alloc, &judged.flow, failed)
-        }
-    }
-}
-
-/// The answer that says a suggestion.
+/// The answer that says a suggestion: it fails where no claims are enough.
 fn suggestion_answer(
     alloc: Global,
     judged: &Judged,
@@ -52,10 +21,23 @@ fn suggestion_answer(
     ensures { IfOk result (λ answer. (answer.status ≡ suggestion_status suggestion.now)
         × (answer.text.items ≡ suggestion_text judged.now suggestion.now)) }
 {
-    Ok(Answer {
-        status: suggestion_status(suggestion),
-        text: suggestion_text(alloc, judged, suggestion)?,
-    })
+    match suggestion {
+        Suggestion::Found(spots) => Ok(Answer {
+            status: HOLDS,
+            text: suggested_text(alloc, &judged.flow, spots.as_slice())?,
+        }),
+        Suggestion::Insufficient { step, prim, fault } => {
+            let failed = FailedCondition {
+                step: *step,
+                prim: *prim,
+                fault: *fault,
+            };
+            Ok(Answer {
+                status: FAILS,
+                text: insufficient_text(alloc, &judged.flow, failed)?,
+            })
+        }
+    }
 }
 
 /// The question for the claims that a file lacks.
@@ -72,10 +54,7 @@ impl Question for ForSuggestions {
                 drop(suggestion);
                 answer
             }
-            Err(SuggestFault::TooMany { count }) => Ok(Answer {
-                status: REFUSED,
-                text: spots_limit_text(alloc, count)?,
-            }),
+            Err(SuggestFault::TooMany { count }) => Ok(refuse(spots_limit_text(alloc, count)?)),
             Err(SuggestFault::Memory) => Err(NoMemory),
         }
     }

@@ -4,10 +4,10 @@ ghost use Rattle.plc_base.specs.Limits.{largest_certificate};
 ghost use Rattle.plc_setting.specs.Fit.{Fits};
 ghost use Rattle.plc_cli.specs.Certificates.{IsCertificateAnswered, IsCertificateJudged};
 
-use crate::answer::Answer;
+use crate::answer::{Answer, refuse};
 use crate::asking::PairQuestion;
-use crate::status::{FAILS, HOLDS, REFUSED};
-use plc_base::{LARGEST_CERTIFICATE, NoMemory};
+use crate::status::{FAILS, HOLDS};
+use plc_base::NoMemory;
 use plc_cert::{Cert, CertFault, read};
 use plc_check::Judged;
 use plc_texts::{certificate_fault_text, invalid_text, verified_text};
@@ -49,10 +49,7 @@ fn answer_certificate(alloc: Global, judged: &Judged, bytes: &[u8]) -> Result<An
     match read(alloc, bytes) {
         Ok(cert) => judge_certificate(alloc, judged, &cert),
         Err(CertFault::Memory) => Err(NoMemory),
-        Err(fault) => Ok(Answer {
-            status: REFUSED,
-            text: certificate_fault_text(alloc, fault)?,
-        }),
+        Err(fault) => Ok(refuse(certificate_fault_text(alloc, fault)?)),
     }
 }
 
@@ -64,16 +61,7 @@ impl PairQuestion for ForValidity {
 
     ghost due = { λ _ judged second. IsCertificateAnswered judged second };
 
-    fn most(&self) -> usize {
-        LARGEST_CERTIFICATE
-    }
-
-    fn answer_second(
-        &self,
-        alloc: Global,
-        judged: Judged,
-        second: &[u8],
-    ) -> Result<Answer, NoMemory> {
+    fn answer(&self, alloc: Global, judged: Judged, second: &[u8]) -> Result<Answer, NoMemory> {
         let answer = answer_certificate(alloc, &judged, second);
         drop(judged);
         answer

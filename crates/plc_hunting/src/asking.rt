@@ -57,31 +57,25 @@ fn hunt_with(
     hunt_under(alloc, bytes, Frees::Picked(drawing), seed, &mut judging)
 }
 
+// The same with two new values of this reclaimer. A type parameter can't stand for it: the two become values of a
+// trait, and such a value is made of a type that is known.
+macro_rules! hunt_with_two {
+    ($reclaimer:ident, $alloc:expr, $bytes:expr, $seed:expr) => {{
+        let drawing = Box::new($alloc, $reclaimer::new($alloc))?;
+        let judging = Box::new($alloc, $reclaimer::new($alloc))?;
+        hunt_with($alloc, $bytes, $seed, drawing, judging)
+    }};
+}
+
 /// The answer to the bytes of a file.
 fn hunt_bytes(alloc: Global, bytes: &[u8], freeing: Freeing, seed: u32) -> Result<Hunted, NoMemory>
     requires { length bytes.now ≤ largest_file }
 {
     match freeing {
-        Freeing::Leak => {
-            let drawing = Box::new(alloc, Leak::new(alloc))?;
-            let judging = Box::new(alloc, Leak::new(alloc))?;
-            hunt_with(alloc, bytes, seed, drawing, judging)
-        }
-        Freeing::List => {
-            let drawing = Box::new(alloc, ByList::new(alloc))?;
-            let judging = Box::new(alloc, ByList::new(alloc))?;
-            hunt_with(alloc, bytes, seed, drawing, judging)
-        }
-        Freeing::Hazard => {
-            let drawing = Box::new(alloc, Hazard::new(alloc))?;
-            let judging = Box::new(alloc, Hazard::new(alloc))?;
-            hunt_with(alloc, bytes, seed, drawing, judging)
-        }
-        Freeing::Epoch => {
-            let drawing = Box::new(alloc, Epoch::new(alloc))?;
-            let judging = Box::new(alloc, Epoch::new(alloc))?;
-            hunt_with(alloc, bytes, seed, drawing, judging)
-        }
+        Freeing::Leak => hunt_with_two!(Leak, alloc, bytes, seed),
+        Freeing::List => hunt_with_two!(ByList, alloc, bytes, seed),
+        Freeing::Hazard => hunt_with_two!(Hazard, alloc, bytes, seed),
+        Freeing::Epoch => hunt_with_two!(Epoch, alloc, bytes, seed),
         Freeing::Any => hunt_freely(alloc, bytes, seed),
     }
 }

@@ -1,9 +1,15 @@
+use Rattle.plc_check.specs.declared.certified.Certified.TheVariants.{Yes, No}
 use Rattle.plc_check.specs.Certified.{IsCertified}
 use Rattle.plc_cli.specs.Certificates.{certified_status, certified_text}
 use Rattle.plc_cli.proofs.Answering.{if_told}
 use Rattle.plc_cli.proofs.certifying.ForCertificateQuestion.answer.Goals as goal
 
-pub returns : goal.returns
-returns c =
-    if_told c.certified_answer.result (IsCertified c.args.judged.now) certified_status (certified_text c.args.judged.now)
-    c.in_ok-certified.certified c.in_ok-certified.ensures c.certified_answer.ensures
+pub returns-in-Yes : goal.returns-in-Yes
+returns-in-Yes c =
+    if_told c.certificate_answer.result (IsCertified c.args.judged.now) certified_status (certified_text c.args.judged.now)
+    (Yes c.in-Yes.cert) c.in-Yes.ensures c.certificate_answer.ensures
+
+pub returns-in-No : goal.returns-in-No
+returns-in-No c =
+    if_told c.verdict_answer.result (IsCertified c.args.judged.now) certified_status (certified_text c.args.judged.now)
+    (No c.in-No.verdict) c.in-No.ensures c.verdict_answer.ensures
