@@ -1,13 +1,13 @@
 // Whole files, each with its canonical text or its first fault.
 use crate::tests::tables::{Answers, assert_rows};
-use crate::tests::texts::push_printed;
+use crate::tests::texts::{canonical, push_came};
 use std::alloc::{AllocError, Global};
 
 struct PrintedFile;
 
 impl Answers for PrintedFile {
     fn push(&self, alloc: Global, answer: &mut String, text: &str) -> Result<(), AllocError> {
-        push_printed(alloc, answer, text, 0)
+        push_came(answer, canonical(alloc, text), 0)
     }
 }
 

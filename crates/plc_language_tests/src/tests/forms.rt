@@ -1,6 +1,6 @@
 // Syntax alone: each form of the grammar, and how deep blocks may stand, beside what the parser says of it.
 use crate::tests::tables::{Answers, assert_answer, assert_lines};
-use crate::tests::texts::{ForTokens, Lexed, number, push_fate, push_repeated};
+use crate::tests::texts::{ForTokens, Lexed, fate, number, push_came, push_repeated};
 use plc_lex::Token;
 use plc_syntax::syntax;
 use std::alloc::{AllocError, Global};
@@ -49,7 +49,7 @@ fn push_nested(text: &mut String, depth: u32, inside: &str) -> Result<(), AllocE
 fn push_both(alloc: Global, answer: &mut String, text: &str) -> Result<(), AllocError> {
     Lexed(SyntaxAlone).push(alloc, answer, text)?;
     answer.push_str(" and ")?;
-    push_fate(alloc, answer, text, 0)
+    push_came(answer, fate(alloc, text), 0)
 }
 
 // What syntax alone and the parser answer to so many loops within one another, and a text in the innermost.

@@ -1,7 +1,7 @@
 // Outlines and their items over one file, each with its fate. Places count from the outline's or the item's first
 // token.
 use crate::tests::tables::{Answers, assert_lines};
-use crate::tests::texts::{count_tokens, push_fate, push_repeated};
+use crate::tests::texts::{count_tokens, fate, push_came, push_repeated};
 use plc_base::What1;
 use std::alloc::{AllocError, Global};
 
@@ -18,7 +18,7 @@ op pop() { ptr t; ptr s; loop { label d; } choose { } or { retire(t) during e; }
 
 // What a file comes to that begins with the stack.
 fn push_fate_after(alloc: Global, answer: &mut String, text: &str) -> Result<(), AllocError> {
-    push_fate(alloc, answer, text, count_tokens(alloc, STACK))
+    push_came(answer, fate(alloc, text), count_tokens(alloc, STACK))
 }
 
 // What an outline of the stack comes to, of which a part stands between two texts.

@@ -1,13 +1,17 @@
 // Statements, each with its canonical text or its first fault, in a file that has names of each kind. Places
 // count from the statement's first token.
 use crate::tests::tables::{Answers, assert_rows};
-use crate::tests::texts::{BEFORE, count_tokens, middle, push_printed};
+use crate::tests::texts::{BEFORE, canonical, count_tokens, middle, push_came};
 use std::alloc::{AllocError, Global};
 
 // The file of statements printed, or the fault, counted from the first of them.
 fn push_whole(alloc: Global, whole: &mut String, statement: &str) -> Result<(), AllocError> {
     let text = format!(in alloc; "{BEFORE}{statement} }} op g() {{ }}")?;
-    push_printed(alloc, whole, text.as_str(), count_tokens(alloc, BEFORE))
+    push_came(
+        whole,
+        canonical(alloc, text.as_str()),
+        count_tokens(alloc, BEFORE),
+    )
 }
 
 // The canonical text of statements, or their fault.

@@ -34,13 +34,27 @@ fn is_printed_again(alloc: Global, text: &[u8]) -> bool {
     }
 }
 
-// A canonical text, which is printed again from itself.
-fn push_canonical(alloc: Global, answer: &mut String, text: &[u8]) -> Result<(), AllocError> {
+// A text that is printed again from itself.
+fn printed_again(alloc: Global, text: &[u8]) -> Result<String, AllocError> {
     if is_printed_again(alloc, text) {
-        answer.push_str(str::from_utf8(text).unwrap_or(""))
+        String::from_str(alloc, str::from_utf8(text).unwrap_or(""))
     } else {
-        answer.push_str("not printed again")
+        String::from_str(alloc, "not printed again")
     }
+}
+
+// The canonical text of a file.
+pub(crate) fn canonical(alloc: Global, text: &str) -> Result<String, ParseFault> {
+    let printed = printed(alloc, text)?;
+    let again = printed_again(alloc, &printed);
+    drop(printed);
+    Ok(again?)
+}
+
+// One word for each file.
+pub(crate) fn fate(alloc: Global, text: &str) -> Result<String, ParseFault> {
+    drop(read(alloc, text)?);
+    Ok(String::from_str(alloc, "unit")?)
 }
 
 // A fault, with its place counted after so many tokens.
@@ -58,6 +72,18 @@ fn push_fault(answer: &mut String, fault: &ParseFault, before: u32) -> Result<()
     };
     let place = at.saturating_sub(before);
     write!(answer, "{name} {place}")
+}
+
+// What a file comes to, or its fault, with its place counted after so many tokens.
+pub(crate) fn push_came(
+    answer: &mut String,
+    came: Result<String, ParseFault>,
+    before: u32,
+) -> Result<(), AllocError> {
+    match came {
+        Ok(text) => answer.push_str(text.as_str()),
+        Err(fault) => push_fault(answer, &fault, before),
+    }
 }
 
 // What the tokens of a text come to.
@@ -80,35 +106,6 @@ impl<T: ForTokens> Answers for Lexed<T> {
             Ok(all) => self.0.push_for(alloc, answer, &all),
             Err(fault) => write!(answer, "{fault:?}"),
         }
-    }
-}
-
-// The canonical text of a file, or its fault.
-pub(crate) fn push_printed(
-    alloc: Global,
-    answer: &mut String,
-    text: &str,
-    before: u32,
-) -> Result<(), AllocError> {
-    match printed(alloc, text) {
-        Ok(text) => push_canonical(alloc, answer, &text),
-        Err(fault) => push_fault(answer, &fault, before),
-    }
-}
-
-// One word for each file, or its fault.
-pub(crate) fn push_fate(
-    alloc: Global,
-    answer: &mut String,
-    text: &str,
-    before: u32,
-) -> Result<(), AllocError> {
-    match read(alloc, text) {
-        Ok(unit) => {
-            drop(unit);
-            answer.push_str("unit")
-        }
-        Err(fault) => push_fault(answer, &fault, before),
     }
 }
 

@@ -4,7 +4,7 @@ ghost use Rattle.plc_flow.specs.WellFormed.{FlowFits};
 ghost use Rattle.plc_flow.specs.WellSorted.{FlowIsWellSorted};
 ghost use Rattle.plc_gc.specs.Position.{IsOfRun};
 
-use crate::tests::loading::{Asked, answered};
+use crate::tests::loading::{Runs, ran};
 use plc_base::{FieldId, Items, NoMemory, OpId};
 use plc_check::Judged;
 use plc_flow::Flow;
@@ -209,35 +209,21 @@ fn answers(
     Ok(text)
 }
 
-// The answers of a run with two threads, which owns the one configuration.
-fn run_text(alloc: Global, judged: &Judged, lines: &str) -> Result<String, NoMemory>
-    requires fits { FlowFits judged.now.flow }
-    requires sorted { FlowIsWellSorted judged.now.flow }
-{
-    match GcConfig::start(alloc, &judged.flow, 2) {
-        Ok(mut config) => {
-            let text = answers(alloc, judged, &mut config, lines);
-            drop(config);
-            text
+// A garbage-collected run alone.
+struct Collected;
+
+impl Runs for Collected {
+    fn transcript(&self, alloc: Global, judged: &Judged, lines: &str) -> Result<String, NoMemory> {
+        match GcConfig::start(alloc, &judged.flow, 2) {
+            Ok(mut config) => {
+                let text = answers(alloc, judged, &mut config, lines);
+                drop(config);
+                text
+            }
+            Err(StartFault::NoStart) => Ok(String::from_str(alloc, "no start")?),
+            Err(StartFault::Memory) => Err(NoMemory),
         }
-        Err(StartFault::NoStart) => Ok(String::from_str(alloc, "no start")?),
-        Err(StartFault::Memory) => Err(NoMemory),
     }
-}
-
-#[derive(Clone, Copy)]
-struct Run<'a> {
-    lines: &'a str,
-}
-
-impl<'a> Asked for Run<'a> {
-    fn answer(&self, alloc: Global, judged: &Judged) -> Result<String, NoMemory> {
-        run_text(alloc, judged, self.lines)
-    }
-}
-
-fn ran(alloc: Global, file: &str, lines: &str) -> Result<String, NoMemory> {
-    answered(alloc, file, &Run { lines })
 }
 
 // One thread pushes a node; then it pushes a second one while the other thread pops and retires the first, so that
@@ -312,20 +298,20 @@ invariants 0 1 2 => yyyyy
 #[test]
 fn runs_of_a_stack(rt: HostRuntime) -> Result<(), NoMemory> {
     let file = HAZARDS.concat(rt.alloc())?;
-    text_is(&rt, ran(rt.alloc(), file.as_str(), RUN), RUN)
+    text_is(&rt, ran(rt.alloc(), file.as_str(), &Collected, RUN), RUN)
 }
 
 // A blocked `init`, and one that writes an auxiliary field of null.
 #[test]
 fn runs_begin(rt: HostRuntime) -> Result<(), NoMemory> {
     let file = "struct N { ptr f; } shared T; init { T.f := null; }";
-    text_is(&rt, ran(rt.alloc(), file, "places"), "no start")?;
+    text_is(&rt, ran(rt.alloc(), file, &Collected, "places"), "no start")?;
     let file =
         "struct N { ptr f; } shared T; ghost g { a, b }; init { ghost T.g := b; } outline { inv T.g == b; \
          inv T.g == a; }";
     text_is(
         &rt,
-        ran(rt.alloc(), file, "places\ninvariants 0\n"),
+        ran(rt.alloc(), file, &Collected, "places\ninvariants 0\n"),
         "places =>  Top=0\ninvariants 0 => yn\n",
     )
 }

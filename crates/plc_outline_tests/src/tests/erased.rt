@@ -6,7 +6,7 @@ ghost use Rattle.plc_gc.specs.Position.{IsOfRun};
 ghost use Rattle.plc_run.specs.Position.{IsOfRun as IsOfMemoryRun};
 
 use crate::tests::collected::move_of;
-use crate::tests::loading::{Asked, answered};
+use crate::tests::loading::{Runs, ran};
 use plc_base::NoMemory;
 use plc_check::Judged;
 use plc_gc::GcConfig;
@@ -110,34 +110,20 @@ fn run_beside(
     }
 }
 
-// The answers of both runs with two threads.
-fn run_text(alloc: Global, judged: &Judged, lines: &str) -> Result<String, NoMemory>
-    requires fits { FlowFits judged.now.flow }
-    requires sorted { FlowIsWellSorted judged.now.flow }
-{
-    match Config::start(alloc, &judged.flow, &judged.observer, 2) {
-        Ok(mut config) => {
-            let text = run_beside(alloc, judged, lines, &mut config);
-            drop(config);
-            text
+// A run in memory and the garbage-collected run beside it.
+pub(crate) struct Both;
+
+impl Runs for Both {
+    fn transcript(&self, alloc: Global, judged: &Judged, lines: &str) -> Result<String, NoMemory> {
+        match Config::start(alloc, &judged.flow, &judged.observer, 2) {
+            Ok(mut config) => {
+                let text = run_beside(alloc, judged, lines, &mut config);
+                drop(config);
+                text
+            }
+            Err(_) => Err(NoMemory),
         }
-        Err(_) => Err(NoMemory),
     }
-}
-
-#[derive(Clone, Copy)]
-struct BothRuns<'a> {
-    lines: &'a str,
-}
-
-impl<'a> Asked for BothRuns<'a> {
-    fn answer(&self, alloc: Global, judged: &Judged) -> Result<String, NoMemory> {
-        run_text(alloc, judged, self.lines)
-    }
-}
-
-pub(crate) fn ran(alloc: Global, file: &str, lines: &str) -> Result<String, NoMemory> {
-    answered(alloc, file, &BothRuns { lines })
 }
 
 const STACK: &str = "struct Node { ptr next; }
@@ -183,5 +169,5 @@ step 0 0 => Done Done
 
 #[test]
 fn a_used_address_has_its_last_node(rt: HostRuntime) -> Result<(), NoMemory> {
-    text_is(&rt, ran(rt.alloc(), STACK, RUN), RUN)
+    text_is(&rt, ran(rt.alloc(), STACK, &Both, RUN), RUN)
 }
