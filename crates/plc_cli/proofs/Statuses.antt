@@ -1,6 +1,6 @@
 -- The status that is due is never one that says how the writing went, and that of an answer never one that says how
 -- a read went.
-use Rattle.std.proofs.Common.{◌≡◌, ◌≤◌, inl, inr, ℕ, List, [], Option, Some, None, refl, sym, ap, arith, append-nil}
+use Rattle.std.proofs.Common.{◌≤◌, inl, inr, ℕ, List, [], Option, Some, None, refl, sym, ap, arith, append-nil}
 use Rattle.plc_outside.specs.Known.{KnownFiles, KnownSink}
 use Rattle.plc_outside.specs.Outside.{Appends, AppendsPart}
 use Rattle.plc_reclaim.specs.Meanings.{Meanings}

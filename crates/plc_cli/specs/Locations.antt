@@ -103,7 +103,7 @@ IsAnsweredWith j outline claims status text =
     IsOutlineLimitTold j.flow outline status text ⊎ IsVerdictTold (outlined j outline) claims status text
 
 -- the outline that is extended by the claims under the strongest typing answers them
-pub record IsLocatedAs (j : Judged) (claims : List LocationClaim) (status : ℕ) (text : List ℕ) : Type 0 where
+pub record AreAnsweredExtended (j : Judged) (claims : List LocationClaim) (status : ℕ) (text : List ℕ) : Type 0 where
   pub typing : List Env
   pub extends : AreExtended j claims typing
   pub answer : IsAnsweredWith j (extended_of j typing claims) claims status text
@@ -112,7 +112,7 @@ pub record IsLocatedAs (j : Judged) (claims : List LocationClaim) (status : ℕ)
 abbrev pub AreClaimsAnswered : Judged → List LocationClaim → ℕ → List ℕ → Type 0
 AreClaimsAnswered j claims status text =
     IsUntypedAs j status text ⊎ IsUnlocatedAs j claims status text ⊎ HasTooManyItems j claims status text
-    ⊎ IsLocatedAs j claims status text
+    ⊎ AreAnsweredExtended j claims status text
 
 -- ---- the bytes of claims
 

@@ -54,7 +54,8 @@ fn load_fault_text(alloc: Global, fault: &LoadFault) -> Result<Vec<u8>, NoMemory
 /// The answer to a file that is refused. The one error is that memory runs out, be it that it did when the file was
 /// loaded.
 pub fn refusal(alloc: Global, fault: &LoadFault) -> Result<Answer, NoMemory>
-    ensures answer { IfOk result (λ answer. (answer.status ≡ refused) × (answer.text.items ≡ load_fault_text fault.now)) }
+    ensures answer { IfOk result (λ answer.
+        (answer.status ≡ refused) × (answer.text.items ≡ load_fault_text fault.now)) }
     ensures told { IfOk result (λ _. fault.now ≢ Memory) }
 {
     Ok(refuse(load_fault_text(alloc, fault)?))

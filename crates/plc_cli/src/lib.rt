@@ -13,8 +13,9 @@
 //! pointer or passes it to `retire`, and a second retire where it hands over an address that is
 //! retired already.
 //!
-//! `run` promises, as the clause `headline`, that where it ends with 0 for the words `check` and a
-//! name, the bytes that the read of that name gave spell a program, no run of which has such a step.
+//! `run` promises, as the clause `headline` (a field of `Runs`, which has all its clauses), that where it
+//! ends with 0 for the words `check` and a name, the bytes that the read of that name gave spell a
+//! program, no run of which has such a step.
 //! This is so of every file, whatever its program retires and whatever its steps claim: the flow has a
 //! typing by the written rules, and its outline holds, so that each claim is true where it is made; from
 //! these two it follows (`plc_joint`). So it is of real files too, whose content no clause can tell: the

@@ -32,7 +32,9 @@ fn end_status(end: &End) -> u8
 /// A schedule that was read for a file that was loaded: what it leads to is a matter of the reclaimer alone.
 #[derive(Clone, Copy)]
 pub struct Recorded<'a> {
+    /// The file.
     pub judged: &'a Judged,
+    /// What was read of the schedule.
     pub schedule: &'a Schedule,
 }
 

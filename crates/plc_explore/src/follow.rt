@@ -11,7 +11,7 @@ use std::alloc::Global;
 
 /// A recorded run among so many threads, and which of its moves are kept.
 #[derive(Drop)]
-pub struct Recorded {
+pub struct RacingRun {
     pub threads: u32,
     pub moves: Vec<Move>,
     pub kept: Vec<bool>,
@@ -89,7 +89,7 @@ fn make_again(program: &Program, run: &mut Running, m: &Move) -> Result<Met, NoM
 fn follow_from(
     program: &Program,
     run: &mut Running,
-    recorded: &Recorded,
+    recorded: &RacingRun,
     way: &mut Way,
 ) -> Result<Option<usize>, NoMemory>
     requires { IsRunOf program.now run.old.config }
@@ -117,7 +117,7 @@ pub fn follow(
     alloc: Global,
     program: &Program,
     frees: &mut Frees,
-    recorded: &Recorded,
+    recorded: &RacingRun,
     way: &mut Way,
 ) -> Result<Option<usize>, NoMemory>
     requires { MayRun program.now }

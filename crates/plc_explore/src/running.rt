@@ -1,5 +1,5 @@
-// A run as it goes on. Whoever draws one, makes one short or tells of its race makes its moves here, so that whoever says
-// what is freed hears all that happens.
+// A run as it goes on. Whoever draws one, makes one short or tells of its race makes its moves here, so that whoever
+// says what is freed hears all that happens.
 ghost use Rattle.std.specs.Prelude.{◌<◌, IfOk, IfSome};
 ghost use Rattle.plc_explore.specs.Running.{IsIndexed, IsRunOf, MayRun};
 

@@ -4,7 +4,7 @@
 // from the beginning (delta debugging, Zeller 1999).
 ghost use Rattle.plc_explore.specs.Running.{MayRun};
 
-use crate::follow::{Recorded, Stand, Way, follow};
+use crate::follow::{RacingRun, Stand, Way, follow};
 use crate::frees::Frees;
 use crate::program::Program;
 use crate::running::mover;
@@ -17,7 +17,7 @@ use std::alloc::Global;
 #[derive(Drop)]
 struct Shortening {
     alloc: Global,
-    run: Recorded,
+    run: RacingRun,
     way: Way,
 }
 
@@ -211,7 +211,7 @@ fn renumbered(met: &mut Vec<u32>, m: Move) -> Result<Move, NoMemory> {
 }
 
 /// The moves that are kept, with threads numbered in the order in which they move first.
-fn kept_moves(alloc: Global, run: Recorded) -> Result<Trail, NoMemory> {
+fn kept_moves(alloc: Global, run: RacingRun) -> Result<Trail, NoMemory> {
     let mut met = Vec::new(alloc);
     let mut moves = Items::new(alloc);
     for (m, kept) in run.moves.into_iter().zip(run.kept.into_iter()) {
@@ -238,7 +238,7 @@ pub fn shorten(
     let moves = trail.moves.into_vec();
     let mut s = Shortening {
         alloc,
-        run: Recorded {
+        run: RacingRun {
             threads: trail.threads,
             kept: vec![in alloc; true; moves.len()]?,
             moves,
