@@ -14,6 +14,21 @@ use plc_texts::{certificate_fault_text, invalid_text, verified_text};
 use plc_verify::{VerifyFault, verify};
 use std::alloc::Global;
 
+/// The question whether the bytes of a second file are a certificate that is valid for a file.
+pub(crate) struct ForValidity;
+
+impl PairQuestion for ForValidity {
+    ghost limit = { λ _. largest_certificate };
+
+    ghost due = { λ _ judged second. IsCertificateAnswered judged second };
+
+    fn answer(&self, alloc: Global, judged: Judged, second: &[u8]) -> Result<Answer, NoMemory> {
+        let answer = answer_certificate(alloc, &judged, second);
+        drop(judged);
+        answer
+    }
+}
+
 /// The answer to a certificate that was read.
 fn judge_certificate(alloc: Global, judged: &Judged, cert: &Cert) -> Result<Answer, NoMemory>
     requires { Fits judged.now.flow judged.now.unit_outline }
@@ -50,20 +65,5 @@ fn answer_certificate(alloc: Global, judged: &Judged, bytes: &[u8]) -> Result<An
         Ok(cert) => judge_certificate(alloc, judged, &cert),
         Err(CertFault::Memory) => Err(NoMemory),
         Err(fault) => Ok(refuse(certificate_fault_text(alloc, fault)?)),
-    }
-}
-
-/// The question whether the bytes of a second file are a certificate that is valid for a file.
-pub(crate) struct ForValidity;
-
-impl PairQuestion for ForValidity {
-    ghost limit = { λ _. largest_certificate };
-
-    ghost due = { λ _ judged second. IsCertificateAnswered judged second };
-
-    fn answer(&self, alloc: Global, judged: Judged, second: &[u8]) -> Result<Answer, NoMemory> {
-        let answer = answer_certificate(alloc, &judged, second);
-        drop(judged);
-        answer
     }
 }

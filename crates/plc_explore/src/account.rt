@@ -163,9 +163,9 @@ fn account_of(
 /// Follows moves to their race, and says what is known of it.
 fn account_from(
     program: &Program,
+    moves: &[Move],
     run: &mut Running,
     notes: &mut Notes,
-    moves: &[Move],
 ) -> Result<Option<Account>, NoMemory>
     requires indexed { IsIndexed program.now }
     requires of_run { IsRunOf program.now run.old.config }
@@ -206,7 +206,7 @@ pub fn follow_to_race(
         freed: Vec::new(alloc),
     };
     match Running::begin(alloc, program, frees, trail.threads.max(1))? {
-        Some(mut run) => account_from(program, &mut run, &mut notes, trail.moves.as_slice()),
+        Some(mut run) => account_from(program, trail.moves.as_slice(), &mut run, &mut notes),
         None => Ok(None),
     }
 }

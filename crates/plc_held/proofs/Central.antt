@@ -111,13 +111,13 @@ module _ (flow : Flow) (outline : Outline) (o : Obligation) (acting owner : ℕ)
     new = refl;
     bound = λ i. refl;
     yes = refl;
+    no = refl;
     nobody = refl;
     me = refl;
     you = refl;
     value = λ v. refl;
     number = λ n. refl;
     maps = λ m. refl;
-    no = refl;
     shared_marks = λ i. refl;
     my_marks = λ k. refl;
     other_marks = λ k. refl;

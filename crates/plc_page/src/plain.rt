@@ -24,6 +24,13 @@ pub struct Lines {
     pub text: Vec<u8>,
 }
 
+/// A file by its name in the lines, and its bytes.
+#[derive(Clone, Copy)]
+struct Named<'a> {
+    name: &'a [u8],
+    bytes: &'a [u8],
+}
+
 /// The place at which a line points.
 fn push_place(out: &mut Vec<u8>, name: &[u8], line: u32) -> Result<(), AllocError> {
     push_bytes(out, name)?;
@@ -66,15 +73,21 @@ fn line_of_clause(judged: &Judged, clauses: &Clauses, o: &Obligation) -> u32 {
 /// The line of an obligation that stays open.
 fn push_open(
     out: &mut Vec<u8>,
-    name: &[u8],
+    file: Named,
     judged: &Judged,
-    bytes: &[u8],
     clauses: &Clauses,
     open: &Counterexample,
 ) -> Result<(), AllocError> {
     let o = &open.obligation;
-    push_place(out, name, line_of_obligation(judged, clauses, o))?;
-    push_obligation(out, &judged.flow, &judged.unit_outline, clauses, bytes, o)?;
+    push_place(out, file.name, line_of_obligation(judged, clauses, o))?;
+    push_obligation(
+        out,
+        &judged.flow,
+        &judged.unit_outline,
+        clauses,
+        file.bytes,
+        o,
+    )?;
     push(out, "\n")
 }
 
@@ -91,19 +104,18 @@ fn push_end(out: &mut Vec<u8>, name: &[u8], all: bool) -> Result<(), AllocError>
 fn push_all_open(
     out: &mut Vec<u8>,
     alloc: Global,
-    name: &[u8],
+    file: Named,
     judged: &Judged,
-    bytes: &[u8],
 ) -> Result<(), NoMemory>
-    requires short { length bytes.now ≤ largest_file }
+    requires short { length file.bytes.now ≤ largest_file }
     requires fits { Fits judged.now.flow judged.now.unit_outline }
 {
-    let clauses = clauses_in(alloc, bytes)?;
+    let clauses = clauses_in(alloc, file.bytes)?;
     let open = open_obligations(alloc, judged, MOST_SHOWN)?;
     for found in open.found.as_slice() {
-        push_open(out, name, judged, bytes, &clauses, found)?;
+        push_open(out, file, judged, &clauses, found)?;
     }
-    push_end(out, name, open.all)?;
+    push_end(out, file.name, open.all)?;
     Ok(())
 }
 
@@ -164,38 +176,32 @@ fn push_suggestions(
 fn push_verdict(
     out: &mut Vec<u8>,
     alloc: Global,
-    name: &[u8],
+    file: Named,
     judged: &Judged,
-    bytes: &[u8],
     verdict: &Verdict,
 ) -> Result<(), NoMemory>
-    requires short { length bytes.now ≤ largest_file }
+    requires short { length file.bytes.now ≤ largest_file }
     requires fits { Fits judged.now.flow judged.now.unit_outline }
 {
     match verdict {
         Verdict::Safe { .. } => Ok(()),
         Verdict::Untyped { step, prim, fault } => {
-            push_failure(out, name, &judged.flow, *step, *prim, *fault)?;
-            push_suggestions(out, alloc, name, judged)?;
+            push_failure(out, file.name, &judged.flow, *step, *prim, *fault)?;
+            push_suggestions(out, alloc, file.name, judged)?;
             Ok(())
         }
-        Verdict::Unproved { .. } => push_all_open(out, alloc, name, judged, bytes),
+        Verdict::Unproved { .. } => push_all_open(out, alloc, file, judged),
     }
 }
 
 /// The lines of a file that was loaded.
-fn judged_lines(
-    alloc: Global,
-    name: &[u8],
-    bytes: &[u8],
-    judged: &Judged,
-) -> Result<Lines, NoMemory>
-    requires short { length bytes.now ≤ largest_file }
+fn judged_lines(alloc: Global, file: Named, judged: &Judged) -> Result<Lines, NoMemory>
+    requires short { length file.bytes.now ≤ largest_file }
     requires fits { Fits judged.now.flow judged.now.unit_outline }
 {
     let verdict = check(alloc, judged)?;
     let mut text = Vec::new(alloc);
-    push_verdict(&mut text, alloc, name, judged, bytes, &verdict)?;
+    push_verdict(&mut text, alloc, file, judged, &verdict)?;
     Ok(Lines {
         status: verdict_status(&verdict),
         text,
@@ -203,15 +209,10 @@ fn judged_lines(
 }
 
 /// The lines of a file that is refused.
-fn refused_lines(
-    alloc: Global,
-    name: &[u8],
-    bytes: &[u8],
-    fault: &LoadFault,
-) -> Result<Lines, NoMemory> {
+fn refused_lines(alloc: Global, file: Named, fault: &LoadFault) -> Result<Lines, NoMemory> {
     let answer = refusal(alloc, fault)?;
     let mut text = Vec::new(alloc);
-    push_place(&mut text, name, line_of_refusal(bytes, fault))?;
+    push_place(&mut text, file.name, line_of_refusal(file.bytes, fault))?;
     push_bytes(&mut text, &answer.text)?;
     Ok(Lines {
         status: answer.status,
@@ -220,18 +221,19 @@ fn refused_lines(
 }
 
 /// What `check` answers to a file, by its bytes, in lines for editors and tools: `NAME:LINE: SENTENCE`. A safe file has
-/// no line. Of the obligations that stay open at most 200 are said. The status is that of `check`. The one error is that
-/// memory runs out.
+/// no line. Of the obligations that stay open at most 200 are said. The status is that of `check`. The one error is
+/// that memory runs out.
 pub fn plain_lines(alloc: Global, name: &[u8], bytes: &[u8]) -> Result<Lines, NoMemory>
     requires { length bytes.now ≤ largest_file }
 {
+    let file = Named { name, bytes };
     match load(alloc, bytes) {
         Ok(judged) => {
-            let lines = judged_lines(alloc, name, bytes, &judged);
+            let lines = judged_lines(alloc, file, &judged);
             drop(judged);
             lines
         }
         Err(LoadFault::Memory) => Err(NoMemory),
-        Err(fault) => refused_lines(alloc, name, bytes, &fault),
+        Err(fault) => refused_lines(alloc, file, &fault),
     }
 }

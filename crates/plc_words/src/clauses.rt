@@ -14,15 +14,6 @@ use plc_logic::Outline;
 use plc_setting::{Obligation, is_labelled, stands_at};
 use std::alloc::Global;
 
-/// A clause of an outline.
-#[derive(Clone, Copy, PartialEq, Eq)]
-pub enum ClauseId {
-    /// An invariant, by its number among the outline's invariants.
-    Invariant(u16),
-    /// A clause at points, by the number of its item among the outline's items.
-    Item(u16),
-}
-
 /// Where something stands in the file.
 #[derive(Clone, Copy)]
 pub struct Placed {
@@ -39,6 +30,15 @@ pub struct Clauses {
     pub invariants: Items<Placed>,
     /// One for each clause at points, from the word `over` or `at` to before the semicolon.
     pub items: Items<Placed>,
+}
+
+/// A clause of an outline.
+#[derive(Clone, Copy, PartialEq, Eq)]
+pub enum ClauseId {
+    /// An invariant, by its number among the outline's invariants.
+    Invariant(u16),
+    /// A clause at points, by the number of its item among the outline's items.
+    Item(u16),
 }
 
 /// An item of the outline as far as it was read.
