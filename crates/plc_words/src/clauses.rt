@@ -14,15 +14,6 @@ use plc_logic::Outline;
 use plc_setting::{Obligation, is_labelled, stands_at};
 use std::alloc::Global;
 
-/// Where something stands in the file.
-#[derive(Clone, Copy)]
-pub struct Placed {
-    /// From its first token to the end of its last one.
-    pub span: Span,
-    /// The line of its first token.
-    pub line: u32,
-}
-
 /// Where the clauses of an outline stand in the file.
 #[derive(Drop)]
 pub struct Clauses {
@@ -30,6 +21,15 @@ pub struct Clauses {
     pub invariants: Items<Placed>,
     /// One for each clause at points, from the word `over` or `at` to before the semicolon.
     pub items: Items<Placed>,
+}
+
+/// Where something stands in the file.
+#[derive(Clone, Copy)]
+pub struct Placed {
+    /// From its first token to the end of its last one.
+    pub span: Span,
+    /// The line of its first token.
+    pub line: u32,
 }
 
 /// A clause of an outline.
