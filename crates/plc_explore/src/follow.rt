@@ -12,9 +12,12 @@ use std::alloc::Global;
 /// A recorded run among so many threads, and which of its moves are kept.
 #[derive(Drop)]
 pub struct RacingRun {
-    pub threads: u32,
+    /// The moves.
     pub moves: Vec<Move>,
+    /// Whether each is kept.
     pub kept: Vec<bool>,
+    /// How many threads there are.
+    pub threads: u32,
 }
 
 /// Where a thread stood before a move of its own: the number of the move, the thread, and the point, if it was in an
