@@ -17,4 +17,4 @@ returns-in-Some c =
 pub returns-in_ok-note-in-Tree : goal.returns-in_ok-note-in-Tree
 returns-in_ok-note-in-Tree c =
     let this = subst (IsShown c.args.program.now.flow.now c.args.program.now.outline.now c.args.obligation) c.in-Tree.is c.in_ok-tree.ensures in
-    (this, tree_noted c.args.program.now.flow.now c.args.program.now.outline.now c.args.trees.now c.in-Tree.tree c.args.noted.now c.note.new.self c.args.obligation c.requires.noted this c.in_ok-note-in-Ok.ensures)
+    (this, tree_noted c.args.program.now.flow.now c.args.program.now.outline.now c.args.trees.now c.in-Tree.tree c.args.noted.now c.note.new.self c.args.obligation c.requires.noted this c.in_ok-note-in-Tree.ensures)

@@ -24,10 +24,10 @@ loop-obligation-preserved c =
     let outline = c.args.program.now.outline.now in
     let added = subst (AddsShown flow outline c.in-Some.obligation c.as_slice.result.now c.tree_at.new.noted) c.in-Tree.is c.in_ok-shown.ensures in
     let have = subst (λ (ts : List Tree). NotedHaveTrees flow outline (ts ++ c.in-Tree.tree ∷ []) c.tree_at.new.noted) c.as_slice.ensures added.1 in (
-      subst (TreesSoFar flow outline c.next.new.self) (sym c.in_ok-push-in-Ok.ensures.ok)
+      subst (TreesSoFar flow outline c.next.new.self) (sym c.in_ok-push-in-Tree.ensures.ok)
           (one_more flow outline c.loop-obligation.walk c.next.new.self c.loop-obligation.trees
           c.in-Some.obligation c.in-Tree.tree c.loop-obligation.invariant.0 c.in-Some.ensures added.0),
-      subst (λ (ts : List Tree). NotedHaveTrees flow outline ts c.tree_at.new.noted) (sym c.in_ok-push-in-Ok.ensures.ok) have,
+      subst (λ (ts : List Tree). NotedHaveTrees flow outline ts c.tree_at.new.noted) (sym c.in_ok-push-in-Tree.ensures.ok) have,
     )
 
 pub returns-in-Broken : goal.returns-in-Broken
