@@ -11,7 +11,8 @@ use plc_outside::{Files, Sink};
 use plc_reclaim::{ByList, Epoch, Hazard, Leak, Reclaimer};
 use std::alloc::{AllocError, Global};
 
-/// The status of `run` under these four.
+/// The status of `run` under these four. Each of them is a parameter, since it becomes a value of the trait in the call
+/// that hands it on, and what it acts as is known of its own type alone.
 fn run_under<F: Files, S: Sink>(
     alloc: Global,
     words: &[String],
