@@ -11,9 +11,11 @@ use Rattle.plc_outside.specs.Reading.{Reading}
 use Rattle.plc_reclaim.specs.Meanings.{Meanings}
 use Rattle.plc_texts.specs.Refusals.{read_too_long_text}
 use Rattle.plc_cli.specs.Answer.{IsReplayOf, IsDueFor, IsWritten, Outcome}
+use Rattle.plc_cli.specs.Certificates.{IsVerificationOf}
 use Rattle.plc_cli.specs.Completeness.{files_of, AreTold, AreShort, NoneRose, IsAnswerOf, IsAnswered, IsToldTooLong}
 use Rattle.plc_cli.specs.Completeness.{HasRoom, LacksRoom, Completeness, HonestRunsAreAnswered}
 use Rattle.plc_cli.specs.Reads.{IsUnread, IsDueForFile, IsDueForPair}
+use Rattle.plc_cli.specs.Locations.{IsLocationOf}
 use Rattle.plc_cli.specs.Requests.{Request, Check, Certify, Print, Verify, Replay, Sample, Suggest, Locate}
 use Rattle.plc_cli.specs.Statuses.{unread, unwritten, no_memory}
 use Rattle.plc_cli.proofs.Statuses.{check_low, certify_low, print_low, verify_low, replay_low, sample_low}
@@ -138,21 +140,24 @@ module _ (old new : KnownFiles) (status : ℕ) (text : List ℕ) where
     due_is : (request : Option Request) → AreFine request → IsDueFor reclaimers request old new status text →
         IsDue request
     due_is None fine refused = inr ((refused.status_is, refused.text_is), omega (arith, refused.status_is))
-    due_is (Some (Check name)) fine due = one_file _ fine name _ (check_low status text) refl due
-    due_is (Some (Certify name)) fine due = one_file _ fine name _ (certify_low status text) refl due
-    due_is (Some (Print name)) fine due = one_file _ fine name _ (print_low status text) refl due
+    due_is (Some (Check name)) fine due = one_file (Some (Check name)) fine name _ (check_low status text) refl due
+    due_is (Some (Certify name)) fine due = one_file (Some (Certify name)) fine name _ (certify_low status text) refl due
+    due_is (Some (Print name)) fine due = one_file (Some (Print name)) fine name _ (print_low status text) refl due
     due_is (Some (Verify name certificate)) fine due =
-        two_files _ fine name certificate largest_certificate _ (verify_low status text)
-        (0, omega arith, refl) (1, omega arith, refl) due
+        two_files (Some (Verify name certificate)) fine name certificate largest_certificate
+        (λ bytes more. IsVerificationOf bytes more status text)
+        (verify_low status text) (0, omega arith, refl) (1, omega arith, refl) due
     due_is (Some (Replay file schedule number)) fine replay =
         replay_due file schedule number replay.reclaimer replay.there
-        (two_files _ fine file schedule largest_schedule _ (replay_low status text replay.reclaimer)
-        (0, omega arith, refl) (1, omega arith, refl) replay.due)
+        (two_files (Some (Replay file schedule number)) fine file schedule largest_schedule
+        (λ bytes more. IsReplayOf replay.reclaimer bytes more status text)
+        (replay_low status text replay.reclaimer) (0, omega arith, refl) (1, omega arith, refl) replay.due)
     due_is (Some (Sample k n)) fine sample = inr (sample.answer, sample_low status text k n sample.answer)
-    due_is (Some (Suggest name)) fine due = one_file _ fine name _ (suggest_low status text) refl due
+    due_is (Some (Suggest name)) fine due = one_file (Some (Suggest name)) fine name _ (suggest_low status text) refl due
     due_is (Some (Locate name claims)) fine due =
-        two_files _ fine name claims largest_file _ (locate_low status text)
-        (0, omega arith, refl) (1, omega arith, refl) due
+        two_files (Some (Locate name claims)) fine name claims largest_file
+        (λ bytes more. IsLocationOf bytes more status text)
+        (locate_low status text) (0, omega arith, refl) (1, omega arith, refl) due
 
 -- ---- what is written
 
