@@ -11,4 +11,5 @@ mod marks;
 mod obligations;
 mod sets;
 mod solver;
+mod texts;
 mod whole_sets;

@@ -8,5 +8,6 @@ mod reclaimers;
 mod replays;
 mod schedules;
 mod suggestions;
+mod texts;
 mod types;
 mod typings;

@@ -1,5 +1,5 @@
-//! What several crates of tests share: the texts of two stacks, files that are loaded, and whether a text is the one
-//! that is wanted. It has no tests of its own.
+//! What several crates of tests share: the texts of two stacks, files that are loaded, and texts that are put together.
+//! It has no tests of its own.
 #![tactic(auto)]
 
 mod loading;
@@ -8,4 +8,4 @@ mod texts;
 
 pub use loading::loaded;
 pub use stacks::{EPOCHS, HAZARDS};
-pub use texts::{put, row_is, text_is};
+pub use texts::put;

@@ -1,7 +1,6 @@
-// Texts that are wanted. A test hands its texts on, and owns none at its own ends: what a function has to show at each
-// of its ends while it owns one costs more than all else that a test says.
+// Texts that are put together. Whether one is wanted is asked by each crate of tests: what may end a program stands in no
+// library.
 use std::alloc::AllocError;
-use std::process::Abort;
 
 /// Puts a piece at the end of a text. It takes the piece, so that who writes the text owns nothing beside it.
 pub fn put<E: Drop + From<AllocError>>(
@@ -9,22 +8,5 @@ pub fn put<E: Drop + From<AllocError>>(
     piece: Result<String, E>,
 ) -> Result<(), E> {
     text.push_str(piece?.as_str())?;
-    Ok(())
-}
-
-/// Fails a test where a text isn't the one that is wanted.
-pub fn text_is<E: Drop>(rt: &impl Abort, text: Result<String, E>, want: &str) -> Result<(), E> {
-    row_is(rt, "", text, want)
-}
-
-/// Fails a test where the text of a row isn't the one that is wanted.
-pub fn row_is<E: Drop>(
-    rt: &impl Abort,
-    row: &str,
-    text: Result<String, E>,
-    want: &str,
-) -> Result<(), E> {
-    let text = text?;
-    assert_eq!(rt; text.as_str(), want, "{row}");
     Ok(())
 }

@@ -5,11 +5,12 @@ ghost use Rattle.plc_setting.specs.Fit.{Fits};
 
 use crate::tests::deep::{DEEP, DEEP_MARKED};
 use crate::tests::loading::{Asked, answered};
+use crate::tests::texts::text_is;
 use plc_base::{Items, LARGEST_FILE, NoMemory};
 use plc_check::{Judged, LoadFault, load};
 use plc_ground::{GroundSet, Lit};
 use plc_oblig::{Obligation, clauses, ground, nth};
-use plc_testing::{HAZARDS, text_is};
+use plc_testing::HAZARDS;
 use std::alloc::{AllocError, Global};
 
 // Sums over sets, and the most clauses that one has.

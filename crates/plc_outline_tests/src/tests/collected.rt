@@ -5,12 +5,13 @@ ghost use Rattle.plc_flow.specs.WellSorted.{FlowIsWellSorted};
 ghost use Rattle.plc_gc.specs.Position.{IsOfRun};
 
 use crate::tests::loading::{Runs, ran};
+use crate::tests::texts::text_is;
 use plc_base::{FieldId, Items, NoMemory, OpId};
 use plc_check::Judged;
 use plc_flow::Flow;
 use plc_gc::{GcConfig, holds};
 use plc_logic::{Clause, Item, Outline};
-use plc_testing::{HAZARDS, put, text_is};
+use plc_testing::{HAZARDS, put};
 use plc_threads::{Move, Place, StartFault};
 use std::alloc::{AllocError, Global};
 

@@ -7,12 +7,13 @@ ghost use Rattle.plc_run.specs.Position.{IsOfRun as IsOfMemoryRun};
 
 use crate::tests::collected::move_of;
 use crate::tests::loading::{Runs, ran};
+use crate::tests::texts::text_is;
 use plc_base::NoMemory;
 use plc_check::Judged;
 use plc_gc::GcConfig;
 use plc_mem::Memory;
 use plc_run::Config;
-use plc_testing::{put, text_is};
+use plc_testing::put;
 use plc_threads::Place;
 use std::alloc::{AllocError, Global};
 

@@ -1,8 +1,8 @@
 // A garbage-collected run that speaks of marks, beside the run in memory.
 use crate::tests::erased::Both;
 use crate::tests::loading::ran;
+use crate::tests::texts::text_is;
 use plc_base::NoMemory;
-use plc_testing::text_is;
 
 // `carry` hands a mark on, `empty` marks null, and `renew` refreshes.
 const MARKED: &str = "struct Node { ptr next; }

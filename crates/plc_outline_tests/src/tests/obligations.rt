@@ -5,12 +5,13 @@ ghost use Rattle.plc_setting.specs.Fit.{Fits};
 
 use crate::tests::deep::DEEP;
 use crate::tests::loading::{Asked, answered};
+use crate::tests::texts::text_is;
 use plc_base::NoMemory;
 use plc_check::Judged;
 use plc_flow::Flow;
 use plc_logic::Outline;
 use plc_oblig::{Obligation, count, nth};
-use plc_testing::{EPOCHS, HAZARDS, put, text_is};
+use plc_testing::{EPOCHS, HAZARDS, put};
 use std::alloc::{AllocError, Global};
 
 fn obligation_text(alloc: Global, o: Obligation) -> Result<String, AllocError> {

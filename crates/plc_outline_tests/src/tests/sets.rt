@@ -7,12 +7,13 @@ use crate::tests::checksums::{OF_DEEP, OF_DEEP_MARKED, OF_HAZARDS};
 use crate::tests::deep::{DEEP, DEEP_MARKED};
 use crate::tests::loading::{Asked, answered};
 use crate::tests::marked_sets::MARKED_SETS;
+use crate::tests::texts::text_is;
 use crate::tests::whole_sets::{CLAIM, DEEP_START, ENTER, OTHER, OWN, START};
 use plc_base::{NoMemory, What1};
 use plc_check::Judged;
 use plc_ground::{GroundSet, GroundTerm, Lit, Map, Sort, Symbol};
 use plc_oblig::{Obligation, clauses, ground, nth};
-use plc_testing::{HAZARDS, put, text_is};
+use plc_testing::{HAZARDS, put};
 use std::alloc::{AllocError, Global};
 
 fn symbol_text(alloc: Global, symbol: Symbol) -> Result<String, AllocError> {

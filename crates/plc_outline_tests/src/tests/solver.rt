@@ -1,12 +1,12 @@
 // Ground sets, trees, models and the solver, with verdicts that were found by hand from the definitions. Terms
 // are numbered by their places; `0=1 or 2!=3; -` are two clauses, the second without a literal.
+use crate::tests::texts::text_is;
 use plc_base::{FieldId, Items, NoMemory};
 use plc_ground::{
     GroundModel, GroundSet, GroundTerm, Lit, Map, Node, Sort, Symbol, Tree, closes, is_model,
     is_well_formed,
 };
 use plc_solve::{Answer, refute};
-use plc_testing::text_is;
 use std::alloc::{AllocError, Global};
 
 // A number that a text writes.

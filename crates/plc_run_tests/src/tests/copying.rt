@@ -2,11 +2,12 @@
 ghost use Rattle.plc_flow.specs.WellFormed.{FlowFits};
 
 use crate::tests::moves::{config_of, places_text};
+use crate::tests::texts::text_is;
 use plc_base::NoMemory;
 use plc_check::Judged;
 use plc_flow::Flow;
 use plc_mem::{Locals, Memory};
-use plc_testing::{loaded, put, text_is};
+use plc_testing::{loaded, put};
 use std::alloc::{AllocError, Global};
 
 const LINKED: &str =

@@ -1,8 +1,9 @@
 // Drawn moves over marked pointers, beside a model of its own: two shared pointers and a field of each of two nodes,
 // each a number and a mark. The model says which side of each test goes, and what is left at the end.
 use crate::tests::moves::ran;
+use crate::tests::texts::row_is;
 use plc_base::NoMemory;
-use plc_testing::{put, row_is};
+use plc_testing::put;
 use std::alloc::{AllocError, Global};
 
 // An operation for each way to change a pointer, then one for each test. The first two make the nodes 1 and 2.

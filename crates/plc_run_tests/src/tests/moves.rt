@@ -3,13 +3,14 @@ ghost use Rattle.std.specs.Prelude.{IfOk};
 ghost use Rattle.plc_flow.specs.WellFormed.{FlowFits};
 ghost use Rattle.plc_run.specs.Position.{IsOfRun};
 
+use crate::tests::texts::text_is;
 use plc_auto::{Event, Observer};
 use plc_base::{FieldId, Items, NoMemory, OpId};
 use plc_check::Judged;
 use plc_flow::Flow;
 use plc_mem::Memory;
 use plc_run::{Config, Moved};
-use plc_testing::{loaded, put, text_is};
+use plc_testing::{loaded, put};
 use plc_threads::{Move, Place};
 use std::alloc::{AllocError, Global};
 use std::process::Abort;

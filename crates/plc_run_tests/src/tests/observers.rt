@@ -2,9 +2,10 @@
 ghost use Rattle.std.specs.Prelude.{◌<◌};
 ghost use Rattle.plc_auto.specs.Table.{count_of};
 
+use crate::tests::texts::{row_is, text_is};
 use plc_auto::{EvKind, Observer};
 use plc_base::{FuncId, LocId, Mask};
-use plc_testing::{put, row_is, text_is};
+use plc_testing::put;
 use std::alloc::{AllocError, Global};
 
 const FIRST: FuncId = FuncId(1);

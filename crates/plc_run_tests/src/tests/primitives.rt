@@ -1,8 +1,9 @@
 // What each primitive comes to and what it leaves, by the written table, where the shared pointer is null, valid,
 // and invalid.
 use crate::tests::moves::ran;
+use crate::tests::texts::{row_is, text_is};
 use plc_base::NoMemory;
-use plc_testing::{put, row_is, text_is};
+use plc_testing::put;
 use std::alloc::{AllocError, Global};
 
 // A statement as the one step of operation 2, whose parameters are 3 and 5. A `new` of it takes the address 1.

@@ -3,10 +3,11 @@ ghost use Rattle.std.specs.Prelude.{drop, slice_get, codes, OnOk};
 ghost use Rattle.plc_reclaim.specs.Rows.{ActsAs, list_row};
 
 use crate::tests::moves::{number, numbers};
+use crate::tests::texts::text_is;
 use plc_auto::{Event, Scheme};
 use plc_base::{FuncId, NoMemory};
 use plc_reclaim::{ByList, Leak, Reclaimer};
-use plc_testing::{put, text_is};
+use plc_testing::put;
 use std::alloc::Global;
 
 // Picks the addresses of a list one after the other, whatever it is handed.

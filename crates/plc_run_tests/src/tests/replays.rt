@@ -4,12 +4,13 @@ ghost use Rattle.plc_flow.specs.WellFormed.{FlowFits};
 use crate::tests::moves::numbers;
 use crate::tests::reclaimers::Listed;
 use crate::tests::schedules::read;
+use crate::tests::texts::{row_is, text_is};
 use plc_base::{MOST_THREADS, NoMemory, What1};
 use plc_check::Judged;
 use plc_reclaim::{ByList, Leak, Reclaimer};
 use plc_replay::replay;
 use plc_sched::Schedule;
-use plc_testing::{loaded, row_is, text_is};
+use plc_testing::loaded;
 use std::alloc::Global;
 
 // What a schedule comes to under a reclaimer.

@@ -1,7 +1,8 @@
 // Schedules with their entries, or the first line that is none.
+use crate::tests::texts::{row_is, text_is};
 use plc_base::LARGEST_SCHEDULE;
 use plc_sched::{Entry, SchedFault, Schedule, read_schedule};
-use plc_testing::{put, row_is, text_is};
+use plc_testing::put;
 use std::alloc::{AllocError, Global};
 
 // An entry, as its line would be written.

@@ -6,13 +6,14 @@ ghost use Rattle.std.specs.Prelude.{◌≡◌, ◌≤◌, IfOk, length};
 ghost use Rattle.plc_lang.specs.Fit.{FileFits};
 ghost use Rattle.plc_flow.specs.WellFormed.{IsWellFormed, most_step_primitives};
 
+use crate::tests::texts::row_is;
 use plc_auto::Observer;
 use plc_base::{Items, NoMemory, OpId, StepId};
 use plc_flow::{Flow, Step};
 use plc_infer::{InferFault, infer};
 use plc_lang::{Prim, Var, count_pointers};
 use plc_suggest::{Spot, SuggestFault, Suggestion, suggest};
-use plc_testing::{EPOCHS, HAZARDS, loaded, put, row_is};
+use plc_testing::{EPOCHS, HAZARDS, loaded, put};
 use std::alloc::{AllocError, Global};
 
 // The most primitives that a step may have, with the claims in front of them.

@@ -4,10 +4,10 @@ ghost use Rattle.std.specs.Prelude.{IfOk};
 ghost use Rattle.plc_xfer.specs.Rules.{FitsObserver};
 
 use crate::tests::observers::{push_set, set_of};
+use crate::tests::texts::{row_is, text_is};
 use plc_auto::Observer;
 use plc_base::{FieldId, FuncId, Items, Mask, NoMemory};
 use plc_lang::{Arg, GhostVal, Num, Prim, Rel, Var};
-use plc_testing::{row_is, text_is};
 use plc_type::{Env, Guar, PtrType, below, env_below, env_join, join};
 use plc_xfer::{TypeFault, apply, condition, interfere};
 use std::alloc::{AllocError, Global};
