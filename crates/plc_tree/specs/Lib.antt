@@ -1,0 +1,2 @@
+-- words of private functions alone
+pub mod Forms

@@ -1,0 +1,5 @@
+//! A file as a tree.
+#![tactic(auto)]
+
+/// Scratch.
+pub fn scratch() {}
