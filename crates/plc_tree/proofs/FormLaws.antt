@@ -708,7 +708,7 @@ struct_law n = then_word Struct (then_form name_law (λ k. then_symbol OpenBrace
     then_symbol CloseBrace (last (λ q. refl))))))
 
 -- what stands before the operations
-abbrev heading_then : Spells trees.FileTree
+abbrev pub heading_then : Spells trees.FileTree
 heading_then f q = trees.struct_then f.name f.fields (each_then trees.shared_then f.pointers
     (each_then trees.function_then f.functions (maybe_then trees.watch_then f.watched
     (each_then trees.ghost_then f.ghosts (maybe_then trees.init_then f.starts q)))))

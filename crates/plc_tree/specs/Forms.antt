@@ -779,10 +779,21 @@ struct_of m at ts = word_of Struct at ts >> λ at ts. name_of at ts >>= λ n at 
 abbrev pub heading_of : ℕ → ℕ → List TokenKind → Read FileTree
 heading_of m at ts = struct_of m at ts >>= λ s at ts. pointers_of m at ts >>= λ ps at ts.
     functions_of m at ts >>= λ fs at ts. watch_of at ts >>= λ w at ts.
-    ghosts_of m at ts >>= λ gs at ts. init_of m at ts >>= λ i at ts. Ok (record {
-      name = s.0; fields = s.1; pointers = ps; functions = fs; watched = w; ghosts = gs; starts = i; ops = [];
-      outlined = None;
-    }, at, ts)
+    ghosts_of m at ts >>= λ gs at ts. init_of m at ts >>= λ i at ts. Ok (
+      record {
+        name = s.0;
+        fields = s.1;
+        pointers = ps;
+        functions = fs;
+        watched = w;
+        ghosts = gs;
+        starts = i;
+        ops = [];
+        outlined = None;
+      },
+      at,
+      ts,
+    )
 
 -- a file
 abbrev pub file_of : ℕ → ℕ → List TokenKind → Read FileTree
