@@ -128,7 +128,8 @@ fn fault_before(alloc: Global, tokens: &[Token], place: usize) -> SyntaxFault
     match whole(alloc, &tokens[..place + 1]) {
         Ok(_) => deep,
         Err(Fault::Syntax { at }) => {
-            if at as usize <= place {
+            let is_up_to = at as usize <= place;
+            if is_up_to {
                 SyntaxFault::Syntax { at }
             } else {
                 deep

@@ -1,5 +1,5 @@
-// The forms that hold no blocks and stand in no file but in an outline or a list. They borrow the bytes of
-// names from the tokens. Forms of statements are those of `plc_forms`.
+// Forms for which `plc_forms` has no type: those of an outline, and declarations that hold a list. They
+// borrow the bytes of names from the tokens, so only their lists take memory.
 
 use plc_base::Items;
 use plc_forms::Place;
