@@ -13,7 +13,8 @@ use Rattle.plc_lex.specs.declared.token.Symbol.TheVariants.{Colon, Less}
 use Rattle.plc_syntax.specs.Trees as trees
 use Rattle.plc_syntax.specs.Trees.{Text, each_then, maybe_then, word_if_then}
 use Rattle.plc_tree.specs.Forms as forms
-use Rattle.plc_tree.proofs.Laws.{Tokens, Spells, Reader, same, Law, Early, Choice, takes, leaves, last, fault, early_fault}
+use Rattle.plc_tree.proofs.Laws.{Tokens, Spells, Reader, same, Law, Early, Choice, takes, leaves, last, fault}
+use Rattle.plc_tree.proofs.Laws.{early_fault}
 use Rattle.plc_tree.proofs.Laws.{led_law, early_led, then_form, then_whole, within, any_fuel, then_symbol, then_word}
 use Rattle.plc_tree.proofs.Laws.{a_name, a_name_fits, name_then, name_law, number_then, number_law, listed, list_law}
 
@@ -24,7 +25,8 @@ dot_choice : {n : ℕ} (k : Text) (t : TokenKind)
 dot_choice k (Symbol Dot) = takes _ (λ m. refl) (then_form name_law (λ f. last (λ q. refl)))
 dot_choice k _ = leaves (λ m. refl)
 
-place_of_name_law : {n : ℕ} (k : Text) → Law n trees.place_then (λ q. Name k ∷ q) (λ m at ts. forms.place_of_name k at ts)
+place_of_name_law : {n : ℕ} (k : Text)
+    → Law n trees.place_then (λ q. Name k ∷ q) (λ m at ts. forms.place_of_name k at ts)
 place_of_name_law k = led_law (dot_choice k) (last (λ q. refl))
 
 place_law : {n : ℕ} → Law n trees.place_then same (λ m at ts. forms.place_of at ts)
@@ -454,7 +456,8 @@ functions_law : (n : ℕ) → Law n (λ fs q. each_then trees.function_then fs q
 functions_law = list_law forms.begins_function function_begun (any_fuel function_law)
 
 hazard_law : {n : ℕ} → Law n trees.scheme_then (λ q. Word Hazard ∷ q) (λ m at ts. forms.hazard_of at ts)
-hazard_law = then_symbol OpenParen (then_form name_law (λ f. then_symbol CloseParen (then_symbol Semicolon (last (λ q. refl)))))
+hazard_law = then_symbol OpenParen (then_form name_law (λ f. then_symbol CloseParen (then_symbol Semicolon
+    (last (λ q. refl)))))
 
 epoch_law : {n : ℕ} → Law n trees.scheme_then (λ q. Word Epoch ∷ q) (λ m at ts. forms.epoch_of at ts)
 epoch_law = then_symbol OpenParen (then_form name_law (λ e. then_symbol Comma (then_form name_law (λ l.
@@ -535,7 +538,8 @@ parameters_law = led_law parameters_choice (last (λ q. refl))
 
 op_tail_law : (n : ℕ) → Law n trees.op_then (λ q. Word Op ∷ q) (λ m at ts. forms.op_tail_of m at ts)
 op_tail_law n = then_form name_law (λ k. then_symbol OpenParen (then_form parameters_law (λ ps. then_symbol CloseParen
-    (then_symbol OpenBrace (then_form (fields_law n) (λ ls. then_form (block_law (blocks n)) (λ b. last (λ q. refl))))))))
+    (then_symbol OpenBrace (then_form (fields_law n) (λ ls. then_form (block_law (blocks n)) (λ b.
+    last (λ q. refl))))))))
 
 op_choice : {n : ℕ} (t : TokenKind) → Choice n trees.op_then same (λ m. forms.op_next m) t
 op_choice (Word Op) = takes _ (λ m. refl) (op_tail_law _)

@@ -581,7 +581,8 @@ module _ {X Y : Type 0} (s : Spells X) (cons : X → Y → Y) (nil : Y) (list : 
         broken n s same list same item others at ts e h
         (sample n list (λ q. s h.tree q) (others h.tree) l (others_law h.tree))
 
-    no_item : (at : ℕ) (ts : Tokens) → ((q : Tokens) → SameHead ts q → first_is begins q ≡ false) → first_is begins ts ≡ false
+    no_item : (at : ℕ) (ts : Tokens) → ((q : Tokens) → SameHead ts q → first_is begins q ≡ false)
+        → first_is begins ts ≡ false
         → Is list same items (suc n) at ts (items (suc n) at ts)
     no_item at ts alike none =
         subst (λ o. Is list same items (suc n) at ts o)

@@ -1,6 +1,6 @@
 -- Braces as they are counted, and the fault of tokens that were cut off after the first block too deep.
-use Rattle.std.proofs.Common.{◌≡◌, ◌∙◌, ◌+◌, ◌-◌, ◌<◌, ◌≤◌, ℕ, Bool, cond, List, [], ◌∷◌, ◌++◌, length, take, get_or, map}
-use Rattle.std.proofs.Common.{refl, sym, ap, subst, arith, inl, inr}
+use Rattle.std.proofs.Common.{◌≡◌, ◌∙◌, ◌+◌, ◌-◌, ◌<◌, ◌≤◌, ℕ, Bool, cond, List, [], ◌∷◌, ◌++◌, length, take, get_or}
+use Rattle.std.proofs.Common.{map, refl, sym, ap, subst, arith, inl, inr}
 use Rattle.std.specs.List.{count_by}
 use Rattle.std.proofs.lemmas.Bool.{cases_eq}
 use Rattle.std.proofs.lemmas.List.{append-nil, take_more, take_all, take-take, take-map, length-map, length-take}
@@ -28,8 +28,8 @@ one_more tokens place token e h =
     take_more (kinds tokens) place token.kind (let l = kinds_length tokens in omega arith)
     ∙ ap (λ k. take place (kinds tokens) ++ k ∷ []) (kind_at tokens place token e h)
 
-count_more : (p : TokenKind → Bool) (tokens : List Token) (place : ℕ) (token : Token) → token ≡ get_or tokens place token
-    → place < length tokens → count_by p (take (place + 1) (kinds tokens))
+count_more : (p : TokenKind → Bool) (tokens : List Token) (place : ℕ) (token : Token)
+    → token ≡ get_or tokens place token → place < length tokens → count_by p (take (place + 1) (kinds tokens))
     ≡ count_by p (take place (kinds tokens)) + count_by p (token.kind ∷ [])
 count_more p tokens place token e h =
     ap (count_by p) (one_more tokens place token e h)

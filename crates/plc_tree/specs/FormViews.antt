@@ -1,5 +1,5 @@
--- The trees of declarations and of the forms of an outline. Names are those of the tokens, so a form stands for the tree
--- with their bytes.
+-- The trees of declarations and of the forms of an outline. Names are those of the tokens, so a form stands for
+-- the tree with their bytes.
 use Rattle.std.specs.Prelude.{List, map, Option, Some, None}
 use Rattle.plc_syntax.specs.Trees.{Text, GhostKindTree, OneOf, OfThreads, GhostTree, Auxiliary, TermTree, PlaceTerm}
 use Rattle.plc_syntax.specs.Trees.{NullTerm, NumberTerm, MeTerm, NoneTerm, FlagTree, RetiredFlag, MarkedFlag}

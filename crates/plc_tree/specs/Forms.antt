@@ -19,8 +19,9 @@ use Rattle.plc_lex.specs.declared.token.Symbol.TheVariants.{Assign, Refresh, Equ
 use Rattle.plc_lex.specs.declared.token.Symbol.TheVariants.{CloseBrace, OpenParen, CloseParen, Semicolon, Comma, Dot}
 use Rattle.plc_lex.specs.declared.token.Symbol.TheVariants.{Colon, Less}
 use Rattle.plc_syntax.specs.Trees.{Text, FieldTree, PointerField, DataField, FunctionTree, Declares, WatchTree}
-use Rattle.plc_syntax.specs.Trees.{UseHazard, UseEpoch, GhostKindTree, OneOf, OfThreads, GhostTree, Auxiliary, PlaceTree}
-use Rattle.plc_syntax.specs.Trees.{PlaceOf, AtomTree, NullAtom, NumberAtom, NameAtom, ValueTree, NullValue, NewValue}
+use Rattle.plc_syntax.specs.Trees.{UseHazard, UseEpoch, GhostKindTree, OneOf, OfThreads, GhostTree, Auxiliary}
+use Rattle.plc_syntax.specs.Trees.{PlaceTree, PlaceOf, AtomTree, NullAtom, NumberAtom, NameAtom, ValueTree}
+use Rattle.plc_syntax.specs.Trees.{NullValue, NewValue}
 use Rattle.plc_syntax.specs.Trees.{NumberValue, MarkValue, UnmarkValue, PlaceValue, SetTree, SetName, SetField}
 use Rattle.plc_syntax.specs.Trees.{RefreshName, RefreshField, GhostValueTree, NameGhost, MeGhost, NoneGhost}
 use Rattle.plc_syntax.specs.Trees.{GhostSetTree, SetGhost, InitialTree, InitialSet, InitialGhost, Comparison, SameAs}

@@ -124,16 +124,17 @@ fn fault_before(alloc: Global, tokens: &[Token], place: usize) -> SyntaxFault
     requires within { place < length tokens.now }
     ensures { FaultsUpTo (kinds tokens.now) place result }
 {
-    let deep = SyntaxFault::Nesting { at: place as u32 };
     match whole(alloc, &tokens[..place + 1]) {
-        Ok(_) => deep,
+        Ok(file) => {
+            drop(file);
+            SyntaxFault::Nesting { at: place as u32 }
+        }
         Err(Fault::Syntax { at }) => {
             let is_up_to = at as usize <= place;
             if is_up_to {
-                SyntaxFault::Syntax { at }
-            } else {
-                deep
+                return SyntaxFault::Syntax { at };
             }
+            SyntaxFault::Nesting { at: place as u32 }
         }
         Err(Fault::Memory) => SyntaxFault::Memory,
     }

@@ -10,8 +10,8 @@ returns-then-not-begins g c =
     let l = c.loop-i in
     let t = g.T.Listed in
     let more : c.args.most - l.i ≡ suc (c.args.most - 1 - l.i) = omega (arith, c.loop-i-test.true) in
-    list_end t.tree t.starts t.of (c.args.most - l.i) (c.args.most - 1 - l.i) l.rest.at (kinds l.rest.tokens.now) l.items _
-    more (sym c.begins.ensures ∙ c.if-not-begins.true) l.invariant
+    list_end t.tree t.starts t.of (c.args.most - l.i) (c.args.most - 1 - l.i) l.rest.at (kinds l.rest.tokens.now)
+    l.items _ more (sym c.begins.ensures ∙ c.if-not-begins.true) l.invariant
 
 pub returns-in_err-item : goal.returns-in_err-item
 returns-in_err-item g c =
