@@ -1,0 +1,31 @@
+//! A file as a tree, over `plc_lex`'s tokens and the grammar of `plc_syntax`. The layer above uses
+//! `file_tree`: the tree whose spelling the tokens are, or the fault at the least token with which no
+//! file begins any more, or at the brace of the first block that stands within 64 others.
+#![tactic(auto)]
+
+mod auxiliary;
+mod block;
+mod clause;
+mod condition;
+mod declaration;
+mod fault;
+mod file;
+mod form;
+mod front;
+mod initial;
+mod list;
+mod name;
+mod nesting;
+mod operation;
+mod outline;
+mod primitive;
+mod statement;
+mod tree;
+mod value;
+
+pub use file::{File, Heading, Struct, file_tree};
+pub use form::{
+    Auxiliary, AuxiliaryKind, Bound, Clause, Flag, Item, Literal, Outline, Shared, Term,
+};
+pub use operation::{Operation, Parameters};
+pub use tree::{Block, Stmt};

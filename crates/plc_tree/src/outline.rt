@@ -1,0 +1,117 @@
+// Items, and the outline.
+ghost use Rattle.std.specs.Prelude.{◌≡◌, ◌+◌};
+ghost use Rattle.plc_syntax.specs.Syntax.{kinds};
+ghost use Rattle.plc_tree.specs.Forms.{over_of, at_of, begins_item, item_of, depth_of, outline_tail_of, outlined_of};
+ghost use Rattle.plc_tree.specs.FormViews.{item_tree, outline_tree, outlined_tree};
+ghost use Rattle.plc_tree.specs.Answers.{Gives};
+
+use crate::clause::clause_at;
+use crate::form::{Item, Outline};
+use crate::front::{Read, first, name_at, number_at, stuck, symbol_at};
+use crate::list::{Listed, list_at};
+use plc_forms::Rest;
+use plc_lex::{Keyword, Symbol, TokenKind};
+use std::alloc::Global;
+
+/// An item over an operation, from after its word.
+fn over_at<'a>(alloc: Global, most: usize, rest: Rest<'a>) -> Read<'a, Item<'a>>
+    ensures { Gives item_tree result (over_of most rest.entry.at (kinds rest.entry.tokens.now)) }
+{
+    let (name, after) = name_at(rest)?;
+    let after = symbol_at(after, Symbol::Colon)?;
+    let (clause, after) = clause_at(alloc, most, after)?;
+    Ok((Item::Over(name, clause), after))
+}
+
+/// An item at labels, from after its word.
+fn at_at<'a>(alloc: Global, most: usize, rest: Rest<'a>) -> Read<'a, Item<'a>>
+    ensures { Gives item_tree result (at_of most rest.entry.at (kinds rest.entry.tokens.now)) }
+{
+    let (name, after) = name_at(rest)?;
+    let (others, after) = list_at(alloc, most, after)?;
+    let after = symbol_at(after, Symbol::Colon)?;
+    let (clause, after) = clause_at(alloc, most, after)?;
+    Ok((Item::At(name, others, clause), after))
+}
+
+/// An item.
+fn item_at<'a>(alloc: Global, most: usize, rest: Rest<'a>) -> Read<'a, Item<'a>>
+    ensures { Gives item_tree result (item_of most rest.entry.at (kinds rest.entry.tokens.now)) }
+{
+    match first(rest) {
+        Some((TokenKind::Word(Keyword::Inv), after)) => {
+            let (clause, after) = clause_at(alloc, most, after)?;
+            Ok((Item::Invariant(clause), after))
+        }
+        Some((TokenKind::Word(Keyword::Over), after)) => over_at(alloc, most, after),
+        Some((TokenKind::Word(Keyword::At), after)) => at_at(alloc, most, after),
+        _ => Err(stuck(rest)),
+    }
+}
+
+/// The depth, which may be left out.
+fn depth_at<'a>(rest: Rest<'a>) -> Read<'a, Option<u32>>
+    ensures { Gives (λ d. d) result (depth_of rest.entry.at (kinds rest.entry.tokens.now)) }
+{
+    match first(rest) {
+        Some((TokenKind::Word(Keyword::Depth), after)) => {
+            let (depth, after) = number_at(after)?;
+            let after = symbol_at(after, Symbol::Semicolon)?;
+            Ok((Some(depth), after))
+        }
+        _ => Ok((None, rest)),
+    }
+}
+
+/// An outline, from after its word.
+fn outline_tail_at<'a>(alloc: Global, most: usize, rest: Rest<'a>) -> Read<'a, Outline<'a>>
+    ensures { Gives outline_tree result (outline_tail_of most rest.entry.at (kinds rest.entry.tokens.now)) }
+{
+    let after = symbol_at(rest, Symbol::OpenBrace)?;
+    let (depth, after) = depth_at(after)?;
+    let (items, after) = list_at(alloc, most, after)?;
+    let after = symbol_at(after, Symbol::CloseBrace)?;
+    Ok((Outline { depth, items }, after))
+}
+
+/// An outline, which may be left out.
+pub fn outlined_at<'a>(alloc: Global, most: usize, rest: Rest<'a>) -> Read<'a, Option<Outline<'a>>>
+    ensures { Gives outlined_tree result (outlined_of most rest.entry.at (kinds rest.entry.tokens.now)) }
+{
+    match first(rest) {
+        Some((TokenKind::Word(Keyword::Outline), after)) => {
+            let (outline, after) = outline_tail_at(alloc, most, after)?;
+            Ok((Some(outline), after))
+        }
+        _ => Ok((None, rest)),
+    }
+}
+
+impl<'a> Listed<'a> for Item<'a> {
+    ghost use Rattle.plc_syntax.specs.Trees.{ItemTree};
+    ghost use Rattle.plc_tree.specs.Forms.{begins_item, item_of};
+    ghost use Rattle.plc_tree.specs.FormViews.{item_tree};
+
+    ghost Tree = { ItemTree };
+
+    ghost tree = { item_tree };
+
+    ghost starts = { begins_item };
+
+    ghost of = { λ m at ts. item_of m at ts };
+
+    fn begins(kind: &TokenKind) -> bool
+        ensures { result ≡ begins_item kind.now }
+    {
+        matches!(
+            kind,
+            TokenKind::Word(Keyword::Inv | Keyword::Over | Keyword::At)
+        )
+    }
+
+    fn read(alloc: Global, most: usize, rest: Rest<'a>) -> Read<'a, Item<'a>>
+        ensures { Gives item_tree result (item_of most rest.entry.at (kinds rest.entry.tokens.now)) }
+    {
+        item_at(alloc, most, rest)
+    }
+}
