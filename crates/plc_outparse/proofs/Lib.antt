@@ -1,7 +1,4 @@
-pub mod Repeated
-pub mod FormsOfTrees
-pub mod Lengths
-pub mod Law
-pub mod Exact
 pub mod Fits
+pub mod InTurn
 pub mod Marked
+pub mod Sizes

@@ -43,14 +43,14 @@ LeavesAny (Ok y) = AnyLeft y.2
 LeavesAny (Err at) = Unit {0}
 
 -- tokens that are left aren't none
-not_none : {X : Type 0} (x y : X) (p q : ℕ) (t : TokenKind) (us : Tokens)
+pub not_none : {X : Type 0} (x y : X) (p q : ℕ) (t : TokenKind) (us : Tokens)
     → let left : Read X = Ok (x, p, t ∷ us) in let right : Read X = Ok (y, q, []) in left ≡ right → ⊥
 not_none x y p q t us e = subst (λ o. LeavesAny o) e tt
 
 module _ {X : Type 0} (s : Spells X) (f : Reader X) (law : (n : ℕ) → Law n s same f)
     (again : (x : X) → Gets (λ m. f m 0 (s x [])) x []) where
   -- what is spelled by a tree is read as it, whatever the fuel is more
-  no_other : (n : ℕ) (x : X) (ts : Tokens) (answer : Read X) → s x [] ≡ ts
+  pub no_other : (n : ℕ) (x : X) (ts : Tokens) (answer : Read X) → s x [] ≡ ts
       → ((m : ℕ) → n ≤ m → f m 0 ts ≡ answer) → (after : ℕ) × (answer ≡ Ok (x, after, []))
   no_other n x ts answer e alike =
       let h = again x in
@@ -126,7 +126,7 @@ module _ {X : Type 0} (s : Spells X) (f : Reader X) (law : (n : ℕ) → Law n s
       front : take after ts ≡ h.passed
       front = ap (λ (k : ℕ). take k ts) at_end ∙ ap (take (length h.passed)) h.split ∙ take_passed h.passed (t ∷ r)
 
-  answer_is : (ts : Tokens) (n : ℕ) (o : Read X) → n ≡ fuel ts → f n 0 ts ≡ o → Is s same f (fuel ts) 0 ts o
+  pub answer_is : (ts : Tokens) (n : ℕ) (o : Read X) → n ≡ fuel ts → f n 0 ts ≡ o → Is s same f (fuel ts) 0 ts o
   answer_is ts n o l e = subst (λ o. Is s same f (fuel ts) 0 ts o) (ap (λ (m : ℕ). f m 0 ts) (sym l) ∙ e)
       (law (fuel ts) 0 ts (omega arith))
 

@@ -6,9 +6,9 @@ use Rattle.plc_syntax.specs.declared.fault.SyntaxFault.TheVariants.{Syntax, Nest
 use Rattle.plc_syntax.specs.Answer.{IsExactly}
 use Rattle.plc_syntax.specs.Nesting.{NoneTooDeep, NoneTooDeepBefore, SyntaxFaultAt, NestingFaultAt}
 use Rattle.plc_syntax.specs.Syntax.{IsFile, FaultAt}
-use Rattle.plc_syntax.proofs.Places.{faults_one}
 use Rattle.plc_tree.specs.Answers.{IsFirstTooDeep, FaultsUpTo}
 use Rattle.plc_tree.specs.Whole.{IsReadWhere}
+use Rattle.plc_tree.proofs.Places.{faults_one}
 
 -- what the three clauses say of an answer
 pub record IsRight {A : Type 0} (ts : List TokenKind) (answer : Result A SyntaxFault) : Type 0 where

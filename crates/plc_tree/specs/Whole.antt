@@ -1,7 +1,16 @@
--- How a clause says that a value is answered exactly where something holds, whichever value it is.
-use Rattle.std.specs.Prelude.{◌≡◌, ◌⊎◌, Result, Ok, Err}
+-- How clauses say what an answer is due to, whichever tree it is.
+use Rattle.std.specs.Prelude.{◌≡◌, ◌⊎◌, List, Result, Ok, Err}
+use Rattle.plc_lex.specs.declared.token.TokenKind.{TokenKind}
+use Rattle.plc_syntax.specs.Syntax.{OutlineFaultAt}
+use Rattle.plc_tree.specs.declared.fault.Fault.{Fault}
+use Rattle.plc_tree.specs.declared.fault.Fault.TheVariants as faults
 
 -- a value is answered only where the fact holds, and there one is answered or memory ran out
 pub record IsReadWhere {A E : Type 0} (memory : E) (answer : Result A E) (fact : Type 0) : Type 0 where
   pub only : (x : A) → answer ≡ Ok x → fact
   pub always : fact → ((x : A) × (answer ≡ Ok x)) ⊎ (answer ≡ Err memory)
+
+-- no outline stands at the front, and the fault is at the place with which that is known, unless memory ran out
+abbrev pub OutlineStops : List TokenKind → Fault → Type 0
+OutlineStops ts (faults.Syntax at) = OutlineFaultAt ts at
+OutlineStops ts faults.Memory = Unit {0}

@@ -13,9 +13,11 @@ mod file;
 mod form;
 mod front;
 mod initial;
+
 mod list;
 mod name;
 mod nesting;
+mod one_fault;
 mod operation;
 mod outline;
 mod primitive;
@@ -23,9 +25,12 @@ mod statement;
 mod tree;
 mod value;
 
+pub use fault::Fault;
 pub use file::{File, Heading, Struct, file_tree};
 pub use form::{
     Auxiliary, AuxiliaryKind, Bound, Clause, Flag, Item, Literal, Outline, Shared, Term,
 };
+pub use one_fault::syntax_faults_are_one;
 pub use operation::{Operation, Parameters};
+pub use outline::outline_tree;
 pub use tree::{Block, Stmt};

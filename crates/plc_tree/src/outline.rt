@@ -1,16 +1,20 @@
 // Items, and the outline.
-ghost use Rattle.std.specs.Prelude.{◌≡◌, ◌+◌};
+ghost use Rattle.std.specs.Prelude.{◌≡◌, ◌+◌, ◌<◌, ◌^◌, length, IfOk, IfErr};
 ghost use Rattle.plc_syntax.specs.Syntax.{kinds};
-ghost use Rattle.plc_tree.specs.Forms.{over_of, at_of, begins_item, item_of, depth_of, outline_tail_of, outlined_of};
+ghost use Rattle.plc_syntax.specs.Trees.{outline_then};
+ghost use Rattle.plc_tree.specs.Forms.{over_of, at_of, begins_item, item_of, depth_of, outline_tail_of, outline_of};
+ghost use Rattle.plc_tree.specs.Forms.{outlined_of};
 ghost use Rattle.plc_tree.specs.FormViews.{item_tree, outline_tree, outlined_tree};
 ghost use Rattle.plc_tree.specs.Answers.{Gives};
+ghost use Rattle.plc_tree.specs.Whole.{OutlineStops};
 
 use crate::clause::clause_at;
+use crate::fault::Fault;
 use crate::form::{Item, Outline};
-use crate::front::{Read, first, name_at, number_at, stuck, symbol_at};
+use crate::front::{Read, first, name_at, number_at, stuck, symbol_at, word_at};
 use crate::list::{Listed, list_at};
 use plc_forms::Rest;
-use plc_lex::{Keyword, Symbol, TokenKind};
+use plc_lex::{Keyword, Symbol, Token, TokenKind};
 use std::alloc::Global;
 
 /// An item over an operation, from after its word.
@@ -72,6 +76,30 @@ fn outline_tail_at<'a>(alloc: Global, most: usize, rest: Rest<'a>) -> Read<'a, O
     let (items, after) = list_at(alloc, most, after)?;
     let after = symbol_at(after, Symbol::CloseBrace)?;
     Ok((Outline { depth, items }, after))
+}
+
+/// An outline.
+fn outline_at<'a>(alloc: Global, most: usize, rest: Rest<'a>) -> Read<'a, Outline<'a>>
+    ensures { Gives outline_tree result (outline_of most rest.entry.at (kinds rest.entry.tokens.now)) }
+{
+    outline_tail_at(alloc, most, word_at(rest, Keyword::Outline)?)
+}
+
+/// The outline at the front of tokens, and the tokens after its closing brace, whatever they are. Where
+/// none stands there the fault is `Syntax`, at the least token with which none begins any more, or
+/// after the last one where the tokens begin an outline.
+pub fn outline_tree<'a>(
+    alloc: Global,
+    tokens: &'a [Token],
+) -> Result<(Outline<'a>, &'a [Token]), Fault>
+    requires { length tokens.now < 2 ^ 32 }
+    ensures tree { IfOk result (λ r. kinds tokens.now ≡ outline_then (outline_tree r.0) (kinds r.1.now)) }
+    ensures fault { IfErr result (OutlineStops (kinds tokens.now)) }
+{
+    match outline_at(alloc, tokens.len() + 1, Rest { tokens, at: 0 }) {
+        Ok((outline, rest)) => Ok((outline, rest.tokens)),
+        Err(fault) => Err(fault),
+    }
 }
 
 /// An outline, which may be left out.
