@@ -1,4 +1,5 @@
+pub mod AtFront
 pub mod Fits
 pub mod InTurn
+pub mod Lengths
 pub mod Marked
-pub mod Sizes

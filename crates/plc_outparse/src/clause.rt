@@ -135,7 +135,7 @@ fn add_literal(
     form: LiteralForm,
 ) -> Result<u32, ParseFault>
     requires locals { length reach.now.locals.now ≤ most_locals }
-    requires place { at + 1 + literal_size (literal_tree form) < 2 ^ 32 }
+    requires place { at + (1 + literal_size (literal_tree form)) < 2 ^ 32 }
     ensures read { Gives (λ after. (literals.new, after)) result
         (literal_step (reach_of reach.now) (literals.old, at) (literal_tree form.entry)) }
     ensures place { IfOk result (λ after. after ≡ at + 1 + literal_size (literal_tree form.entry)) }

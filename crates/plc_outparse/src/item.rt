@@ -87,8 +87,10 @@ fn add_item(
     let is_full = parts.items.len() == What1::Items.most() as usize;
     match form {
         ItemForm::Invariant(clause) => add_invariant(alloc, context.scope, parts, at, clause),
-        ItemForm::Over(..) | ItemForm::At(..) if is_full => Err(ParseFault::past(What1::Items)),
         ItemForm::Over(name, clause) => {
+            if is_full {
+                return Err(ParseFault::past(What1::Items));
+            }
             let op = op_at(context, *name, at + 1)?;
             let (clause, after) = clause_in(alloc, context, op as usize, at + 3, clause)?;
             let site = Site::Over(OpId(op));
@@ -96,6 +98,9 @@ fn add_item(
             Ok(after)
         }
         ItemForm::At(name, others, clause) => {
+            if is_full {
+                return Err(ParseFault::past(What1::Items));
+            }
             let (labels, op, after) = labels(alloc, context, at + 1, *name, others.as_slice())?;
             let (clause, after) = clause_in(alloc, context, op, after, clause)?;
             let site = Site::At(labels);

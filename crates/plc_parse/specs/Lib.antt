@@ -6,5 +6,6 @@ pub mod Marks
 -- words of private functions alone
 pub mod Growth
 pub mod Kinds
+pub mod Parts
 pub mod Sizes
 pub mod Views

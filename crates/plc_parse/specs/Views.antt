@@ -5,9 +5,11 @@ use Rattle.plc_scope.specs.declared.fault.ParseFault.{ParseFault}
 use Rattle.plc_scope.specs.declared.scope.Scope.{Scope}
 use Rattle.plc_scope.specs.Answers.{Gives}
 use Rattle.plc_scope.specs.Scope.{◌>>=◌}
+use Rattle.plc_parse.specs.declared.file.Declared.{Declared}
 use Rattle.plc_parse.specs.declared.file.Front.{Front}
 use Rattle.plc_parse.specs.Growth.{CanLabel, GrowsByLabels, AddsLocals}
 use Rattle.plc_parse.specs.Meaning.{counted, before, allocates}
+use Rattle.plc_parse.specs.Parts.{DeclaredParts, FrontParts}
 
 -- labels can be declared, and so many tokens from a place on have places
 pub record CanMean (scope : Scope) (at size : ℕ) : Type 0 where
@@ -35,3 +37,11 @@ abbrev pub with_form : List Primitive → Bool → ℕ → Result (Option Primit
 with_form ks has_new at m = do
   k ← counted (length ks) has_new at m
   Ok (ks ++ before k [], has_new || allocates k)
+
+-- the declarations before those of auxiliary fields, as the definitions have them
+abbrev pub declared_of : Declared → DeclaredParts
+declared_of d = (d.fields, d.shared, d.functions)
+
+-- what stands before the operations, as the definitions have it
+abbrev pub front_of : Front → FrontParts
+front_of f = (declared_of f.declared, f.observer, f.ghosts, f.init)

@@ -1,5 +1,4 @@
-// The declarations of a file but those of auxiliary fields and operations. Each is judged as soon as it
-// is read.
+// The declarations of a file but those of auxiliary fields and operations.
 ghost use Rattle.std.specs.Prelude.{◌≡◌, ◌+◌, ◌<◌, ◌≤◌, ◌^◌, IfOk, length};
 ghost use Rattle.plc_base.specs.Limits.{most};
 ghost use Rattle.plc_forms.specs.Sizes.{function_size};
@@ -7,14 +6,15 @@ ghost use Rattle.plc_forms.specs.Views.{field_tree, function_tree};
 ghost use Rattle.plc_scope.specs.Answers.{Gives, HasRoom, GrowsBy};
 ghost use Rattle.plc_scope.specs.Scope.{declared};
 ghost use Rattle.plc_parse.specs.Growth.{AddsNames, KeepsLists};
-ghost use Rattle.plc_parse.specs.Kinds.{fields, shared_pointers, functions};
 ghost use Rattle.plc_parse.specs.Meaning.{field_means, shared_means, function_means};
 
-use crate::lists::{Listed, Turn};
+use crate::lists::Listed;
+use crate::sizes::function_size;
 use plc_base::{FieldId, FuncId, What1};
-use plc_forms::{Declaration, Function, Rest, declaration_at, function_at, shared_at};
+use plc_forms::{Declaration, Function};
 use plc_lang::{Field, Func};
 use plc_scope::{Binding, ParseFault, Scope};
+use plc_tree::Shared;
 use std::alloc::Global;
 
 /// Declares one name, as [`Scope::declare`] does.
@@ -66,20 +66,30 @@ fn declare_field(
     }
 }
 
-/// The fields of the struct.
-pub struct Fields;
+impl<'a> Listed for Declaration<'a> {
+    ghost use Rattle.plc_parse.specs.Kinds.{fields};
 
-impl Listed for Fields {
     type Item = Field;
 
     ghost kind = { fields };
 
-    fn next<'a>(_: Global, scope: &mut Scope, count: usize, start: Rest<'a>) -> Turn<'a, Field> {
-        let Some((declaration, after)) = declaration_at(start) else {
-            return Ok(None);
-        };
-        let item = declare_field(scope, count, start.at, declaration)?;
-        Ok(Some((item, after)))
+    fn declare(
+        &self,
+        _alloc: Global,
+        scope: &mut Scope,
+        count: usize,
+        at: u32,
+    ) -> Result<(Field, u32), ParseFault>
+        requires few { count ≤ fields.limit }
+        requires room { HasRoom scope.old fields.names }
+        requires place { at + fields.size (fields.tree self.now) < 2 ^ 32 }
+        ensures few { IfOk result (λ _. count < fields.limit) }
+        ensures read { Gives (λ r. (r.0, scope.new, r.1)) result (fields.means scope.old count at (fields.tree self.now)) }
+        ensures place { IfOk result (λ r. r.1 ≡ at + fields.size (fields.tree self.now)) }
+        ensures declares { IfOk result (λ _. AddsNames scope.old scope.new fields.names) }
+    {
+        let item = declare_field(scope, count, at, *self)?;
+        Ok((item, at + 3))
     }
 }
 
@@ -98,20 +108,30 @@ fn declare_shared(scope: &mut Scope, count: usize, at: u32, name: &[u8]) -> Resu
     declare(scope, name, at + 1, Binding::Shared(count as u16))
 }
 
-/// The shared pointers, by the numbers of their names.
-pub struct SharedPointers;
+impl<'a> Listed for Shared<'a> {
+    ghost use Rattle.plc_parse.specs.Kinds.{shared_pointers};
 
-impl Listed for SharedPointers {
     type Item = u16;
 
     ghost kind = { shared_pointers };
 
-    fn next<'a>(_: Global, scope: &mut Scope, count: usize, start: Rest<'a>) -> Turn<'a, u16> {
-        let Some((name, after)) = shared_at(start) else {
-            return Ok(None);
-        };
-        let item = declare_shared(scope, count, start.at, name)?;
-        Ok(Some((item, after)))
+    fn declare(
+        &self,
+        _alloc: Global,
+        scope: &mut Scope,
+        count: usize,
+        at: u32,
+    ) -> Result<(u16, u32), ParseFault>
+        requires few { count ≤ shared_pointers.limit }
+        requires room { HasRoom scope.old shared_pointers.names }
+        requires place { at + shared_pointers.size (shared_pointers.tree self.now) < 2 ^ 32 }
+        ensures few { IfOk result (λ _. count < shared_pointers.limit) }
+        ensures read { Gives (λ r. (r.0, scope.new, r.1)) result (shared_pointers.means scope.old count at (shared_pointers.tree self.now)) }
+        ensures place { IfOk result (λ r. r.1 ≡ at + shared_pointers.size (shared_pointers.tree self.now)) }
+        ensures declares { IfOk result (λ _. AddsNames scope.old scope.new shared_pointers.names) }
+    {
+        let item = declare_shared(scope, count, at, self.name)?;
+        Ok((item, at + 3))
     }
 }
 
@@ -139,19 +159,29 @@ fn declare_function(
     Ok(Func { name, pointer })
 }
 
-/// The functions beside `retire`.
-pub struct Functions;
+impl<'a> Listed for Function<'a> {
+    ghost use Rattle.plc_parse.specs.Kinds.{functions};
 
-impl Listed for Functions {
     type Item = Func;
 
     ghost kind = { functions };
 
-    fn next<'a>(_: Global, scope: &mut Scope, count: usize, start: Rest<'a>) -> Turn<'a, Func> {
-        let Some((function, after)) = function_at(start) else {
-            return Ok(None);
-        };
-        let item = declare_function(scope, count, start.at, function)?;
-        Ok(Some((item, after)))
+    fn declare(
+        &self,
+        _alloc: Global,
+        scope: &mut Scope,
+        count: usize,
+        at: u32,
+    ) -> Result<(Func, u32), ParseFault>
+        requires few { count ≤ functions.limit }
+        requires room { HasRoom scope.old functions.names }
+        requires place { at + functions.size (functions.tree self.now) < 2 ^ 32 }
+        ensures few { IfOk result (λ _. count < functions.limit) }
+        ensures read { Gives (λ r. (r.0, scope.new, r.1)) result (functions.means scope.old count at (functions.tree self.now)) }
+        ensures place { IfOk result (λ r. r.1 ≡ at + functions.size (functions.tree self.now)) }
+        ensures declares { IfOk result (λ _. AddsNames scope.old scope.new functions.names) }
+    {
+        let item = declare_function(scope, count, at, *self)?;
+        Ok((item, at + function_size(*self)))
     }
 }

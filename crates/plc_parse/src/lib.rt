@@ -1,11 +1,12 @@
-//! From tokens to the unit that they spell, on `plc_syntax`'s trees, over which the meaning is defined;
-//! the layer above uses that `parse` answers the one unit that the tokens spell, or their fault at the
-//! least token.
+//! From tokens to the unit that they spell, over `plc_tree`'s trees, on which the meaning is defined; the
+//! layer above uses that `parse` answers the one unit that the tokens spell, or their fault at the least
+//! token.
 #![tactic(auto)]
 
 mod auxiliary;
 mod block;
 mod declaration;
+mod file;
 mod heading;
 mod lines;
 mod lists;
@@ -13,6 +14,7 @@ mod local;
 mod marks;
 mod operation;
 mod reading;
+mod sizes;
 mod statement;
 mod step;
 mod unit;

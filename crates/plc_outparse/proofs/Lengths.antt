@@ -15,7 +15,7 @@ use Rattle.plc_forms.specs.Sizes.{place_size}
 use Rattle.plc_outparse.specs.Sizes.{term_size, flag_size, literal_size, bound_size, depth_size, or_literals_size}
 use Rattle.plc_outparse.specs.Sizes.{clause_line_size, item_size, items_size, outline_size}
 
-place_long : (p : PlaceTree) (q : List TokenKind) → length (place_then p q) ≡ place_size p + length q
+pub place_long : (p : PlaceTree) (q : List TokenKind) → length (place_then p q) ≡ place_size p + length q
 place_long (PlaceOf n None) q = omega arith
 place_long (PlaceOf n (Some f)) q = omega arith
 
@@ -44,7 +44,7 @@ literal_long (EqualityLiteral a false b) q =
 
 literals_long : (ls : List LiteralTree) (q : List TokenKind)
     → length (each_then or_literal_then ls q) ≡ or_literals_size ls + length q
-literals_long [] q = refl
+literals_long [] q = omega arith
 literals_long (l ∷ ls) q =
     let size = sum_by-cons (λ k. 1 + literal_size k) l ls in
     let first = literal_long l (each_then or_literal_then ls q) in
@@ -52,7 +52,7 @@ literals_long (l ∷ ls) q =
     omega (arith, size, first, others)
 
 bound_long : (b : BoundTree) (q : List TokenKind) → length (bound_then b q) ≡ bound_size b + length q
-bound_long NoBound q = refl
+bound_long NoBound q = omega arith
 bound_long (AllOf n None) q = omega arith
 bound_long (AllOf n (Some m)) q = omega arith
 
@@ -65,9 +65,9 @@ clause_long (Claims b l others) q =
     let more = literals_long others (Symbol symbols.Semicolon ∷ q) in
     omega (arith, bound, first, more)
 
-names_long : (ns : List Text) (q : List TokenKind)
+pub names_long : (ns : List Text) (q : List TokenKind)
     → length (each_then comma_name_then ns q) ≡ 2 * length ns + length q
-names_long [] q = refl
+names_long [] q = omega arith
 names_long (n ∷ ns) q = let others = names_long ns q in omega (arith, others)
 
 item_long : (x : ItemTree) (q : List TokenKind) → length (item_then x q) ≡ item_size x + length q
@@ -80,7 +80,7 @@ item_long (AtItem n ns c) q =
 
 items_long : (xs : List ItemTree) (q : List TokenKind)
     → length (each_then item_then xs q) ≡ items_size xs + length q
-items_long [] q = refl
+items_long [] q = omega arith
 items_long (x ∷ xs) q =
     let size = sum_by-cons item_size x xs in
     let first = item_long x (each_then item_then xs q) in
@@ -88,7 +88,7 @@ items_long (x ∷ xs) q =
     omega (arith, size, first, others)
 
 depth_long : (d : Option ℕ) (q : List TokenKind) → length (maybe_then depth_then d q) ≡ depth_size d + length q
-depth_long None q = refl
+depth_long None q = omega arith
 depth_long (Some n) q = omega arith
 
 pub outline_long : (o : OutlineTree) (q : List TokenKind) → length (outline_then o q) ≡ outline_size o + length q
