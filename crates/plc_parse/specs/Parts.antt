@@ -46,6 +46,13 @@ body_means lines s at f = do
   outline ← outlined_means ops.1 ops.0 ops.2 f.outlined
   Ok (ops.0, outline, ops.1)
 
+-- the parts after the struct's name
+unfoldable pub parts_mean : List ℕ → Scope → FileTree → Result (FrontParts × List Op × Outline × Scope) ParseFault
+parts_mean lines s f = do
+  front ← front_means s 3 f
+  ended ← body_means lines front.1 front.2 f
+  Ok (front.0, ended.0, ended.1, ended.2)
+
 -- the unit of these parts
 abbrev pub unit_from : FrontParts → List Op × Outline × Scope → FileUnit
 unit_from f b = record {

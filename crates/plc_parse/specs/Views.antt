@@ -1,6 +1,7 @@
 -- How the program's answers are seen.
-use Rattle.std.specs.Prelude.{◌≡◌, ◌+◌, ◌<◌, ◌^◌, ℕ, Bool, List, [], ◌∷◌, ◌++◌, length, Option, Result, Ok, IfOk}
+use Rattle.std.specs.Prelude.{◌≡◌, ◌||◌, ◌+◌, ◌<◌, ◌^◌, ℕ, Bool, List, [], ◌∷◌, ◌++◌, length, Option, Result, Ok, IfOk}
 use Rattle.plc_lang.specs.declared.syntax.Primitive.{Primitive}
+use Rattle.plc_lang.specs.Statements.{Statements, Blocks, And}
 use Rattle.plc_scope.specs.declared.fault.ParseFault.{ParseFault}
 use Rattle.plc_scope.specs.declared.scope.Scope.{Scope}
 use Rattle.plc_scope.specs.Answers.{Gives}
@@ -8,7 +9,8 @@ use Rattle.plc_scope.specs.Scope.{◌>>=◌}
 use Rattle.plc_parse.specs.declared.file.Declared.{Declared}
 use Rattle.plc_parse.specs.declared.file.Front.{Front}
 use Rattle.plc_parse.specs.Growth.{CanLabel, GrowsByLabels, AddsLocals}
-use Rattle.plc_parse.specs.Meaning.{counted, before, allocates}
+use Rattle.plc_syntax.specs.Trees.{Text, OrTree}
+use Rattle.plc_parse.specs.Meaning.{counted, before, allocates, or_means, values_mean}
 use Rattle.plc_parse.specs.Parts.{DeclaredParts, FrontParts}
 
 -- labels can be declared, and so many tokens from a place on have places
@@ -45,3 +47,16 @@ declared_of d = (d.fields, d.shared, d.functions)
 -- what stands before the operations, as the definitions have it
 abbrev pub front_of : Front → FrontParts
 front_of f = (declared_of f.declared, f.observer, f.ghosts, f.init)
+
+-- the blocks of a choice whose first two are known
+unfoldable pub choices_mean : List ℕ → Scope → Bool → ℕ → Statements → Statements → OrTree
+    → Result (Blocks × Scope × ℕ) ParseFault
+choices_mean lines s in_loop at first second os = do
+  others ← or_means lines s in_loop at os
+  Ok (And first (And second others.0), others.1, others.2)
+
+-- the values of an auxiliary field whose first is known
+unfoldable pub values_with : Scope → ℕ → ℕ → ℕ → List Text → Result (List ℕ × Scope × ℕ) ParseFault
+values_with s g first at names = do
+  others ← values_mean s g 1 at names
+  Ok (first ∷ others.0, others.1, others.2)

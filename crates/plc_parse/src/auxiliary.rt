@@ -1,14 +1,14 @@
 // Auxiliary fields. One is a thread or one of its values, whose names are declared with it.
-ghost use Rattle.std.specs.Prelude.{◌≡◌, ◌+◌, ◌-◌, ◌*◌, ◌<◌, ◌≤◌, ◌^◌, IfOk, Ok, ◌∷◌, length, map};
+ghost use Rattle.std.specs.Prelude.{◌≡◌, ◌+◌, ◌-◌, ◌*◌, ◌<◌, ◌≤◌, ◌^◌, IfOk, length, map};
 ghost use Rattle.plc_base.specs.Limits.{most};
 ghost use Rattle.plc_forms.specs.Views.{text_of};
 ghost use Rattle.plc_scope.specs.Answers.{Gives, HasRoom};
-ghost use Rattle.plc_scope.specs.Scope.{◌>>=◌};
-ghost use Rattle.plc_syntax.specs.Trees.{Auxiliary, OneOf};
+ghost use Rattle.plc_syntax.specs.Trees.{Auxiliary as AuxiliaryTree, OneOf};
 ghost use Rattle.plc_tree.specs.FormViews.{auxiliary_tree};
 ghost use Rattle.plc_parse.specs.Growth.{AddsNames, ghost_names};
-ghost use Rattle.plc_parse.specs.Meaning.{value_means, values_mean, ghost_means};
+ghost use Rattle.plc_parse.specs.Meaning.{value_means, ghost_means};
 ghost use Rattle.plc_parse.specs.Sizes.{ghost_size};
+ghost use Rattle.plc_parse.specs.Views.{values_with};
 
 use crate::declaration::declare;
 use crate::heading::Heading;
@@ -54,7 +54,7 @@ fn declare_values(
     requires room { HasRoom scope.old (most What1.Values) }
     requires place { start + 2 * length (map text_of others.now) < 2 ^ 32 }
     ensures read { Gives (λ r. (r.0, scope.new, r.1)) result
-        (values_mean scope.old owner 1 start (map text_of others.now) >>= λ vs. Ok (first ∷ vs.0, vs.1, vs.2)) }
+        (values_with scope.old owner first start (map text_of others.now)) }
     ensures place { IfOk result (λ r. r.1 ≡ start + 2 * length (map text_of others.now)) }
     ensures declares { IfOk result (λ _. AddsNames scope.old scope.new (most What1.Values - 1)) }
 {
@@ -70,6 +70,7 @@ fn declare_values(
 }
 
 /// An auxiliary field that is one of its values; and the place after it.
+#[tactic(auto, unfolding(crate::specs::Views::values_with))]
 fn declare_of_values(
     alloc: Global,
     scope: &mut Scope,
@@ -82,7 +83,7 @@ fn declare_of_values(
     requires place { head.at + 6 + 2 * length (map text_of others.now) < 2 ^ 32 }
     ensures read { Gives (λ r. (r.0, scope.new, r.1)) result
         (ghost_means scope.old head.entry.count head.entry.at
-        (Auxiliary head.entry.name.now (OneOf first.now (map text_of others.now)))) }
+        (AuxiliaryTree head.entry.name.now (OneOf first.now (map text_of others.now)))) }
     ensures place { IfOk result (λ r. r.1 ≡ head.entry.at + 6 + 2 * length (map text_of others.now)) }
     ensures declares { IfOk result (λ _. AddsNames scope.old scope.new (most What1.Values + 1)) }
 {

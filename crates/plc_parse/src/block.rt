@@ -1,17 +1,15 @@
 // Statements and the blocks in them, each with the place after it. How deep blocks stand within one another was judged
 // before, so the recursion is 65 deep at most.
-ghost use Rattle.std.specs.Prelude.{◌+◌, ◌<◌, ◌^◌, map, Ok};
-ghost use Rattle.plc_lang.specs.Statements.{And};
+ghost use Rattle.std.specs.Prelude.{◌+◌, ◌<◌, ◌^◌, map};
 ghost use Rattle.plc_lang.specs.Views.{statement_of, blocks_of};
 ghost use Rattle.plc_forms.specs.Sizes.{condition_size};
 ghost use Rattle.plc_forms.specs.Views.{condition_tree};
-ghost use Rattle.plc_scope.specs.Scope.{◌>>=◌};
 ghost use Rattle.plc_syntax.specs.Trees.{IfStatement, ChooseStatement, LoopStatement};
 ghost use Rattle.plc_tree.specs.Views.{else_tree, ors_tree, statement_tree};
-ghost use Rattle.plc_parse.specs.Meaning.{statement_means, statements_mean, else_means, or_means};
+ghost use Rattle.plc_parse.specs.Meaning.{statement_means, statements_mean, else_means};
 ghost use Rattle.plc_parse.specs.Sizes.{statement_size, statements_size, else_size, ors_size};
 ghost use Rattle.plc_parse.specs.Units.{lines_of};
-ghost use Rattle.plc_parse.specs.Views.{CanMean, MeansHere};
+ghost use Rattle.plc_parse.specs.Views.{CanMean, MeansHere, choices_mean};
 
 use crate::lines::line_at;
 use crate::sizes::condition_size;
@@ -110,9 +108,8 @@ fn choices(
 ) -> Result<(Vec<Block>, u32), ParseFault>
     requires { CanMean scope.old start (ors_size (ors_tree others.now)) }
     ensures { MeansHere (λ bs. blocks_of bs.items)
-        (or_means (lines_of context.entry.tokens.now) scope.old context.entry.in_loop start (ors_tree others.now)
-        >>= λ z. Ok (And first.entry (And second.entry z.0), z.1, z.2)) scope.old scope.new start
-        (ors_size (ors_tree others.now)) result }
+        (choices_mean (lines_of context.entry.tokens.now) scope.old context.entry.in_loop start first second
+        (ors_tree others.now)) scope.old scope.new start (ors_size (ors_tree others.now)) result }
 {
     let mut choices = Vec::new(context.alloc);
     choices.push(first)?;
@@ -128,6 +125,7 @@ fn choices(
 
 /// A choice, and the place after it.
 #[cycle(block)]
+#[tactic(auto, unfolding(crate::specs::Views::choices_mean))]
 fn choose_statement(
     context: Context,
     scope: &mut Scope,

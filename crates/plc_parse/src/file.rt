@@ -3,18 +3,19 @@
 ghost use Rattle.std.specs.Prelude.{◌≡◌, ◌≤◌, ◌<◌, ◌^◌, ◌+◌, ◌-◌, ◌*◌, ◌∷◌, Some, Ok, [], length, IfOk, map};
 ghost use Rattle.std.specs.List.{sum_by};
 ghost use Rattle.plc_base.specs.Limits.{most, most_names};
+ghost use Rattle.plc_base.specs.declared.limits.What1.TheVariants as limits;
 ghost use Rattle.plc_forms.specs.Sizes.{watch_size, function_size};
 ghost use Rattle.plc_forms.specs.Views.{watch_tree, function_tree, field_tree};
 ghost use Rattle.plc_outparse.specs.Answers.{OpsFit};
 ghost use Rattle.plc_scope.specs.Answers.{Gives, HasRoom};
-ghost use Rattle.plc_scope.specs.Scope.{◌>>=◌, most_locals};
+ghost use Rattle.plc_scope.specs.Scope.{most_locals};
 ghost use Rattle.plc_tree.specs.FileViews.{heading_tree, file_tree, operation_tree};
 ghost use Rattle.plc_tree.specs.FormViews.{shared_name, watched_tree, starts_tree, outlined_tree};
 ghost use Rattle.plc_parse.specs.Growth.{AddsNames, op_names, most_labels, ghost_names, front_names};
 ghost use Rattle.plc_parse.specs.Meaning.{retire, watch_means, init_means, op_means, listed, outlined_means, file_means};
 ghost use Rattle.plc_parse.specs.Meaning.{field_means, shared_means, function_means};
 ghost use Rattle.plc_parse.specs.Sizes.{field_size, shared_size, watched_size, init_size, op_size, outlined_size, file_size};
-ghost use Rattle.plc_parse.specs.Parts.{DeclaredParts, declared_mean, FrontParts, front_means, body_means, unit_from};
+ghost use Rattle.plc_parse.specs.Parts.{DeclaredParts, declared_mean, FrontParts, front_means, body_means, parts_mean, unit_from};
 ghost use Rattle.plc_parse.specs.Units.{lines_of};
 ghost use Rattle.plc_parse.specs.Views.{declared_of, front_of};
 
@@ -22,7 +23,7 @@ use crate::declaration::declare;
 use crate::lists::declare_all;
 use crate::operation::operations;
 use crate::sizes::watch_size;
-use crate::step::step;
+use crate::step::step_of;
 use crate::unit::Unit;
 use plc_auto::Observer;
 use plc_base::Items;
@@ -58,7 +59,7 @@ fn declarations(
     at: u32,
     form: &Heading,
 ) -> Result<(Declared, u32), ParseFault>
-    requires room { HasRoom scope.old (most What1.Fields + most What1.Shared + most What1.Calls + 1) }
+    requires room { HasRoom scope.old (most limits.Fields + most limits.Shared + most limits.Calls + 1) }
     requires place { at + 1 + sum_by field_size (map field_tree form.now.node.fields)
         + sum_by shared_size (map shared_name form.now.pointers)
         + sum_by function_size (map function_tree form.now.functions) < 2 ^ 32 }
@@ -68,7 +69,7 @@ fn declarations(
         + sum_by shared_size (map shared_name form.now.pointers)
         + sum_by function_size (map function_tree form.now.functions)) }
     ensures declares { IfOk result (λ _. AddsNames scope.old scope.new
-        (most What1.Fields + most What1.Shared + most What1.Calls)) }
+        (most limits.Fields + most limits.Shared + most limits.Calls)) }
 {
     let (fields, after) = declare_all(alloc, scope, at, form.node.fields.as_slice())?;
     let (shared, after) = declare_all(alloc, scope, after + 1, form.pointers.as_slice())?;
@@ -128,7 +129,7 @@ fn starts(
 {
     match form {
         Some(forms) => {
-            let (primitives, after) = step(alloc, scope, at + 2, forms.as_slice())?;
+            let (primitives, after) = step_of(alloc, scope, at + 2, forms.as_slice())?;
             Ok((primitives, after + 1))
         }
         None => Ok((Items::new(alloc), at)),
@@ -181,7 +182,7 @@ pub struct Front {
 
 /// What stands before the operations, after the struct's name and its brace; and the place after it.
 #[tactic(auto, unfolding(crate::specs::Parts::front_means))]
-fn front(
+fn before_operations(
     alloc: Global,
     scope: &mut Scope,
     at: u32,
@@ -189,7 +190,7 @@ fn front(
 ) -> Result<(Front, u32), ParseFault>
     requires room { HasRoom scope.old (front_names + ghost_names) }
     requires locals { scope.old.locals ≡ [] }
-    requires place { at + file_size (heading_tree form.now) < 2 ^ 32 }
+    requires place { at + file_size (heading_tree form.now) < 2 ^ 32 + 3 }
     ensures read { Gives (λ r. (front_of r.0, scope.new, r.1)) result
         (front_means scope.old at (heading_tree form.now)) }
     ensures place { IfOk result (λ r. r.1 + 3 ≡ at + file_size (heading_tree form.now)) }
@@ -221,7 +222,7 @@ fn body(
     at: u32,
     form: &FileForm,
 ) -> Result<(Items<Op>, Outline), ParseFault>
-    requires room { HasRoom scope.old (op_names * (most What1.Ops + 1) + most_labels + 1) }
+    requires room { HasRoom scope.old (op_names * (most limits.Ops + 1) + most_labels + 1) }
     requires locals { scope.old.locals ≡ [] }
     requires labels { scope.old.labels ≡ [] }
     requires place { at + sum_by op_size (map operation_tree form.now.operations)
@@ -262,6 +263,7 @@ fn unit(scope: Scope, front: Front, ops: Items<Op>, outline: Outline) -> Result<
 }
 
 /// The parts of a file after its struct's name. The scope stays with the caller, which ends it.
+#[tactic(auto, unfolding(crate::specs::Parts::parts_mean, crate::specs::Parts::front_means, crate::specs::Parts::declared_mean))]
 fn parts(
     alloc: Global,
     scope: &mut Scope,
@@ -273,10 +275,9 @@ fn parts(
     requires labels { scope.old.labels ≡ [] }
     requires place { file_size (file_tree form.now) < 2 ^ 32 }
     ensures { Gives (λ r. (front_of r.0, r.1, r.2, scope.new)) result
-        (front_means scope.old 3 (file_tree form.now) >>= λ f.
-        body_means (lines_of tokens.now) f.1 f.2 (file_tree form.now) >>= λ b. Ok (f.0, b.0, b.1, b.2)) }
+        (parts_mean (lines_of tokens.now) scope.old (file_tree form.now)) }
 {
-    let (front, after) = front(alloc, scope, 3, &form.heading)?;
+    let (front, after) = before_operations(alloc, scope, 3, &form.heading)?;
     match body(alloc, scope, tokens, after, form) {
         Ok((ops, outline)) => Ok((front, ops, outline)),
         Err(fault) => Err(fault),
@@ -285,7 +286,7 @@ fn parts(
 
 /// The unit that a file's tree means, with the lines of its tokens.
 #[tactic(auto, unfolding(crate::specs::Meaning::file_means))]
-pub fn file(alloc: Global, tokens: &[Token], form: &FileForm) -> Result<Unit, ParseFault>
+pub fn file_unit(alloc: Global, tokens: &[Token], form: &FileForm) -> Result<Unit, ParseFault>
     requires { file_size (file_tree form.now) < 2 ^ 32 }
     ensures { Gives (λ unit. unit) result (file_means (lines_of tokens.now) (file_tree form.now)) }
 {

@@ -1,9 +1,9 @@
 // The operations: each is its name, its parameters, its locals and a block.
-ghost use Rattle.std.specs.Prelude.{◌≡◌, ◌+◌, ◌*◌, ◌<◌, ◌≤◌, ◌^◌, [], ◌∷◌, ◌++◌, length, Ok, IfOk, map};
+ghost use Rattle.std.specs.Prelude.{◌≡◌, ◌+◌, ◌*◌, ◌<◌, ◌≤◌, ◌^◌, [], length, IfOk, map};
 ghost use Rattle.std.specs.List.{sum_by};
 ghost use Rattle.plc_base.specs.Limits.{most};
 ghost use Rattle.plc_scope.specs.Answers.{Gives, HasRoom};
-ghost use Rattle.plc_scope.specs.Scope.{◌>>=◌, most_locals};
+ghost use Rattle.plc_scope.specs.Scope.{most_locals};
 ghost use Rattle.plc_outparse.specs.Answers.{OpsFit};
 ghost use Rattle.plc_tree.specs.FileViews.{operation_tree};
 ghost use Rattle.plc_parse.specs.Growth.{CanOperate, GrowsByOps, op_names, most_labels};
@@ -63,31 +63,6 @@ fn operation(
     Ok((op, after + 1))
 }
 
-/// An operation, added to those before; and the place after it.
-fn add_operation(
-    alloc: Global,
-    scope: &mut Scope,
-    tokens: &[Token],
-    ops: &mut Items<Op>,
-    at: u32,
-    form: &Operation,
-) -> Result<u32, ParseFault>
-    requires fit { OpsFit ops.old }
-    requires room { CanOperate scope.old }
-    requires place { at + op_size (operation_tree form.now) < 2 ^ 32 }
-    ensures read { Gives (λ after. (ops.new, scope.new, after)) result
-        (op_means (lines_of tokens.now) scope.old (length ops.old) at (operation_tree form.now)
-        >>= λ o. Ok (ops.old ++ o.0 ∷ [], o.1, o.2)) }
-    ensures fit { IfOk result (λ _. OpsFit ops.new) }
-    ensures one { IfOk result (λ _. length ops.new ≡ length ops.old + 1) }
-    ensures grows { IfOk result (λ _. GrowsByOps scope.old scope.new op_names) }
-    ensures place { IfOk result (λ after. after ≡ at + op_size (operation_tree form.now)) }
-{
-    let (op, after) = operation(alloc, scope, tokens, ops.len(), at, form)?;
-    ops.push(op)?;
-    Ok(after)
-}
-
 /// The operations, from a place on; and the place after the last one.
 pub fn operations(
     alloc: Global,
@@ -109,7 +84,9 @@ pub fn operations(
     let mut ops = Items::new(alloc);
     let mut at = start;
     for form in forms {
-        at = add_operation(alloc, scope, tokens, &mut ops, at, form)?;
+        let (op, after) = operation(alloc, scope, tokens, ops.len(), at, form)?;
+        ops.push(op)?;
+        at = after;
     }
     Ok((ops, at))
 }

@@ -12,7 +12,7 @@ ghost use Rattle.plc_parse.specs.declared.unit.Unit.{Unit as FileUnit};
 ghost use Rattle.plc_parse.specs.Fit.{ObserverFits, UnitsFit};
 ghost use Rattle.plc_parse.specs.Units.{IsUnitOf, IsFaultOf, UnitsAreUnique, FaultsAreOne};
 
-use crate::file::file;
+use crate::file::file_unit;
 use crate::unit::Unit;
 use plc_base::What1;
 use plc_lex::Token;
@@ -43,7 +43,7 @@ pub fn parse(alloc: Global, tokens: &[Token]) -> Result<Unit, ParseFault>
     ensures outline { IfOk result (λ unit. OutlineFits unit.file unit.outline) }
 {
     match file_tree(alloc, tokens) {
-        Ok(form) => file(alloc, tokens, &form),
+        Ok(form) => file_unit(alloc, tokens, &form),
         Err(SyntaxFault::Syntax { at }) => Err(ParseFault::Syntax { at }),
         Err(SyntaxFault::Nesting { .. }) => Err(ParseFault::past(What1::Nesting)),
         Err(SyntaxFault::Memory) => Err(ParseFault::Memory),

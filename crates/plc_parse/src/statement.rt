@@ -14,7 +14,7 @@ ghost use Rattle.plc_parse.specs.Sizes.{primitives_size};
 ghost use Rattle.plc_parse.specs.Views.{MeansHere};
 
 use crate::sizes::{call_size, during_size, primitive_size};
-use crate::step::step;
+use crate::step::step_of;
 use plc_base::What1;
 use plc_forms::{Call, Primitive};
 use plc_lang::Stmt;
@@ -71,9 +71,8 @@ pub fn label(scope: &mut Scope, at: u32, name: &[u8]) -> Result<(Stmt, u32), Par
 /// A `break`, which must be in a loop, and the place after it.
 pub fn break_statement(in_loop: bool, at: u32) -> Result<(Stmt, u32), ParseFault>
     requires { at + 2 < 2 ^ 32 }
-    ensures read { (lines : List ℕ) (s : Scope) → Gives (λ r. (statement_of r.0, s, r.1)) result
-        (statement_means lines s in_loop at BreakStatement) }
-    ensures place { IfOk result (λ r. r.1 ≡ at + 2) }
+    ensures { (lines : List ℕ) (s : Scope) → CanLabel s → MeansHere statement_of
+        (statement_means lines s in_loop at BreakStatement) s s at 2 result }
 {
     if in_loop {
         Ok((Stmt::Break, at + 2))
@@ -89,13 +88,13 @@ pub fn atomic(
     at: u32,
     forms: &[Primitive],
 ) -> Result<(Stmt, u32), ParseFault>
-    requires locals { length scope.now.locals ≤ most_locals }
-    requires place { at + 3 + primitives_size (map primitive_tree forms.now) < 2 ^ 32 }
-    ensures read { (lines : List ℕ) (in_loop : Bool) → Gives (λ r. (statement_of r.0, scope.now, r.1)) result
-        (statement_means lines scope.now in_loop at (AtomicStatement (map primitive_tree forms.now))) }
-    ensures place { IfOk result (λ r. r.1 ≡ at + 3 + primitives_size (map primitive_tree forms.now)) }
+    requires room { CanLabel scope.now }
+    requires place { at + (3 + primitives_size (map primitive_tree forms.now)) < 2 ^ 32 }
+    ensures { (lines : List ℕ) (in_loop : Bool) → MeansHere statement_of
+        (statement_means lines scope.now in_loop at (AtomicStatement (map primitive_tree forms.now)))
+        scope.now scope.now at (3 + primitives_size (map primitive_tree forms.now)) result }
 {
-    let (primitives, after) = step(alloc, scope, at + 2, forms)?;
+    let (primitives, after) = step_of(alloc, scope, at + 2, forms)?;
     Ok((Stmt::Atomic(primitives), after + 1))
 }
 
@@ -132,11 +131,11 @@ pub fn primitive_statement(
     at: u32,
     form: Primitive,
 ) -> Result<(Stmt, u32), ParseFault>
-    requires locals { length scope.now.locals ≤ most_locals }
-    requires place { at + primitive_size (primitive_tree form) + 1 < 2 ^ 32 }
-    ensures read { (lines : List ℕ) (in_loop : Bool) → Gives (λ r. (statement_of r.0, scope.now, r.1)) result
-        (statement_means lines scope.now in_loop at (PrimitiveStatement (primitive_tree form.entry))) }
-    ensures place { IfOk result (λ r. r.1 ≡ at + primitive_size (primitive_tree form.entry) + 1) }
+    requires room { CanLabel scope.now }
+    requires place { at + (primitive_size (primitive_tree form) + 1) < 2 ^ 32 }
+    ensures { (lines : List ℕ) (in_loop : Bool) → MeansHere statement_of
+        (statement_means lines scope.now in_loop at (PrimitiveStatement (primitive_tree form.entry)))
+        scope.now scope.now at (primitive_size (primitive_tree form.entry) + 1) result }
 {
     let after = at + primitive_size(form) + 1;
     match primitive(scope, at, form)? {

@@ -14,7 +14,7 @@ ghost use Rattle.plc_parse.specs.Views.{with_form};
 
 use crate::sizes::{initial_size, primitive_size};
 use plc_base::{Items, What1};
-use plc_forms::{Initial, Primitive};
+use plc_forms::{Initial, Primitive as PrimitiveForm};
 use plc_lang::{Prim, is_new};
 use plc_scope::{ParseFault, Scope, initial, primitive};
 use std::alloc::Global;
@@ -102,14 +102,14 @@ pub trait StepForm: Copy {
     fn meaning(self, scope: &Scope, at: u32) -> Result<Option<Prim>, ParseFault>
         requires locals { length scope.now.locals ≤ most_locals }
         requires place { at + kind.size (kind.tree self) < 2 ^ 32 }
-        ensures { Gives (λ k. k) result (kind.means scope.now at (kind.tree self.entry)) };
+        ensures { Gives (λ k. k) result (kind.means scope.now at (kind.tree self)) };
 
     /// How many tokens the form has, without its semicolon.
     fn size(self) -> u32
-        ensures { result ≡ kind.size (kind.tree self.entry) };
+        ensures { result ≡ kind.size (kind.tree self) };
 }
 
-impl<'a> StepForm for Primitive<'a> {
+impl<'a> StepForm for PrimitiveForm<'a> {
     ghost use Rattle.plc_forms.specs.Sizes.{primitive_size};
     ghost use Rattle.plc_forms.specs.Views.{primitive_tree};
     ghost use Rattle.plc_scope.specs.Primitives.{primitive_means};
@@ -156,7 +156,7 @@ impl<'a> StepForm for Initial<'a> {
 }
 
 /// The primitives of a step, from a place on, and the place after the last one's semicolon.
-pub fn step<F: StepForm>(
+pub fn step_of<F: StepForm>(
     alloc: Global,
     scope: &Scope,
     start: u32,

@@ -41,3 +41,9 @@ bind_stops e r f h = ap (λ x. x >>= f) h
 pub fails_along : {A : Type 0} (e : ParseFault) (r s : Result A ParseFault) → r ≡ s → FailsAs e r → FailsAs e s
 fails_along faults.Memory r s p h = tt
 fails_along e r s p h = sym p ∙ h
+
+-- what goes on with a value fails where it failed before
+pub fails_before : {A B : Type 0} (e : ParseFault) (m : Result A ParseFault) (f : A → B) → FailsAs e (m >>= λ x. Ok (f x)) → FailsAs e m
+fails_before faults.Memory m f h = tt
+fails_before e (Ok x) f h = absurd cc
+fails_before e (Err g) f h = let same : g ≡ e = cc in ap Err same

@@ -1,16 +1,8 @@
-//! The syntax of a file: its grammar as trees with their spelling, over `plc_lex`'s tokens. The layer
-//! above uses `syntax`: tokens that it accepts have a tree, and a fault is at the least token with
-//! which no file begins any more, or at the brace of the first block that stands within 64 others.
+//! The syntax of a file: its grammar as trees with their spelling, over `plc_lex`'s tokens, and what the
+//! words of its rules say: which tokens are a file's, where others stop being so, and how deep blocks stand
+//! within one another. All of it is definitions and laws on them; `plc_tree` reads tokens by it.
 #![tactic(auto)]
 
-mod expected;
-mod fault;
-mod machine;
-mod marks;
-mod nesting;
-mod recognizer;
-mod table;
+mod laws;
 
-pub use fault::SyntaxFault;
-pub use marks::trees_spell_their_marks;
-pub use recognizer::{depth_is_that_of_braces, outline_fault, syntax, syntax_faults_are_one};
+pub use laws::{depth_is_that_of_braces, trees_spell_their_marks};

@@ -9,7 +9,7 @@ use Rattle.plc_lex.specs.declared.token.TokenKind.{TokenKind}
 use Rattle.plc_syntax.specs.Faults.{SyntaxFaultsAreOne}
 use Rattle.plc_syntax.specs.Nesting.{NoneTooDeep, SyntaxFaultAt, NestingFaultAt}
 use Rattle.plc_syntax.specs.Syntax.{AreWhole, Begin, StopAt, IsFile, FaultAt}
-use Rattle.plc_syntax.specs.Trees.{file_then, outline_then}
+use Rattle.plc_syntax.specs.Trees.{FileTree, file_then, file_tokens, outline_then}
 use Rattle.plc_tree.specs.Forms.{Read, file_of, outline_of}
 use Rattle.plc_tree.proofs.Again.{Gets, file_gets, outline_gets}
 use Rattle.plc_tree.proofs.Exact.{fuel, no_other, not_none}
@@ -88,6 +88,18 @@ module _ {X : Type 0} (s : Spells X) (f : Reader X) (law : (n : ℕ) → Law n s
   ]
 
 -- ---- of a file and of an outline
+
+abbrev read_or : FileTree → Read FileTree → FileTree
+read_or other (Ok r) = r.0
+read_or other (Err at) = other
+
+-- tokens are those of one tree at most: both trees are what is read
+pub file_is_one : (a b : FileTree) → file_tokens a ≡ file_tokens b → a ≡ b
+file_is_one a b e =
+    let g = file_gets a 0 in
+    let h = file_gets b 0 in
+    let m = g.fuel + h.fuel in
+    ap (read_or a) (sym (g.reads m (omega arith)) ∙ ap (file_of m 0) e ∙ h.reads m (omega arith))
 
 one_file_fault : (ts : Tokens) (a b : ℕ) → FaultAt ts a → FaultAt ts b → a ≡ b
 one_file_fault = one_fault file_then file_of file_law (λ x. file_gets x 0)

@@ -1,8 +1,8 @@
 -- How the program's answers speak of what the specification reads.
 use Rattle.std.specs.Prelude.{◌≡◌, ◌<◌, ◌≤◌, ◌+◌, ◌⊎◌, ℕ, List, length, take, Result, Ok, Err}
 use Rattle.plc_lex.specs.declared.token.TokenKind.{TokenKind}
-use Rattle.plc_syntax.specs.declared.fault.SyntaxFault.{SyntaxFault}
-use Rattle.plc_syntax.specs.declared.fault.SyntaxFault.TheVariants as answers
+use Rattle.plc_tree.specs.declared.fault.SyntaxFault.{SyntaxFault}
+use Rattle.plc_tree.specs.declared.fault.SyntaxFault.TheVariants as answers
 use Rattle.plc_syntax.specs.Nesting.{TooDeepAt, NoneTooDeepBefore}
 use Rattle.plc_syntax.specs.Syntax.{kinds, BeginsFile, FaultAt}
 use Rattle.plc_forms.specs.declared.rest.Rest.{Rest}

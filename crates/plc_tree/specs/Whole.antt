@@ -5,6 +5,11 @@ use Rattle.plc_syntax.specs.Syntax.{OutlineFaultAt}
 use Rattle.plc_tree.specs.declared.fault.Fault.{Fault}
 use Rattle.plc_tree.specs.declared.fault.Fault.TheVariants as faults
 
+-- the answer is the wanted one only where the fact holds, and there it is the wanted one or memory ran out
+pub record IsExactly {A E : Type 0} (memory : E) (answer wanted : Result A E) (fact : Type 0) : Type 0 where
+  pub only : answer ≡ wanted → fact
+  pub always : fact → (answer ≡ wanted) ⊎ (answer ≡ Err memory)
+
 -- a value is answered only where the fact holds, and there one is answered or memory ran out
 pub record IsReadWhere {A E : Type 0} (memory : E) (answer : Result A E) (fact : Type 0) : Type 0 where
   pub only : (x : A) → answer ≡ Ok x → fact

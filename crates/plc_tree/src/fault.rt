@@ -1,4 +1,4 @@
-// Why a reader reads no tree. That memory ran out is the one answer that no contract ties to a cause.
+// Why tokens are refused. That memory ran out is the one answer that no contract ties to a cause.
 ghost use Rattle.std.specs.Prelude.{◌≡◌};
 ghost use Rattle.plc_tree.specs.declared.fault.Fault.TheVariants.{Memory};
 
@@ -9,6 +9,18 @@ use std::alloc::{AllocError, AllocFailed};
 pub enum Fault {
     /// No tree's tokens begin with those up to and with this one.
     Syntax { at: u32 },
+    /// Memory ran out.
+    Memory,
+}
+
+/// Why the tokens of a whole file are refused. A place counts tokens from 0.
+#[derive(Clone, Copy, Debug, PartialEq, Eq)]
+pub enum SyntaxFault {
+    /// No file's tokens begin with those up to and with this one; the number of tokens where they
+    /// begin a file and are none.
+    Syntax { at: u32 },
+    /// This brace begins the first block that stands within 64 others.
+    Nesting { at: u32 },
     /// Memory ran out.
     Memory,
 }

@@ -3,18 +3,17 @@
 // its brace and read. A fault at or before the brace is the fault of the syntax, and with any other
 // answer the tokens up to the brace begin a file. So no reader of forms counts blocks.
 ghost use Rattle.std.specs.Prelude.{◌≡◌, ◌+◌, ◌<◌, ◌^◌, ℕ, [], length, IfOk, IfErr};
-ghost use Rattle.plc_syntax.specs.Answer.{IsExactly};
 ghost use Rattle.plc_syntax.specs.Nesting.{NoneTooDeep, SyntaxFaultAt, NestingFaultAt};
 ghost use Rattle.plc_syntax.specs.Syntax.{kinds, IsFile};
 ghost use Rattle.plc_syntax.specs.Trees.{file_tokens};
 ghost use Rattle.plc_tree.specs.Forms.{struct_of, heading_of, file_of};
 ghost use Rattle.plc_tree.specs.FileViews.{struct_parts, heading_tree, file_tree};
 ghost use Rattle.plc_tree.specs.Answers.{Gives, StopsThere, FaultsUpTo};
-ghost use Rattle.plc_tree.specs.Whole.{IsReadWhere};
+ghost use Rattle.plc_tree.specs.Whole.{IsExactly, IsReadWhere};
 
 use crate::auxiliary::init_at;
 use crate::declaration::watch_at;
-use crate::fault::Fault;
+use crate::fault::{Fault, SyntaxFault};
 use crate::form::{Auxiliary, Outline, Shared};
 use crate::front::{Read, name_at, stuck, symbol_at, word_at};
 use crate::list::list_at;
@@ -24,7 +23,6 @@ use crate::outline::outlined_at;
 use plc_base::Items;
 use plc_forms::{Declaration, Function, Initial, Rest, Watch};
 use plc_lex::{Keyword, Symbol, Token};
-use plc_syntax::SyntaxFault;
 use std::alloc::Global;
 
 /// The struct of a file: the name of nodes, and their fields.

@@ -25,7 +25,7 @@ mod statement;
 mod tree;
 mod value;
 
-pub use fault::Fault;
+pub use fault::{Fault, SyntaxFault};
 pub use file::{File, Heading, Struct, file_tree};
 pub use form::{
     Auxiliary, AuxiliaryKind, Bound, Clause, Flag, Item, Literal, Outline, Shared, Term,

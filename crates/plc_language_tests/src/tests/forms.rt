@@ -2,7 +2,7 @@
 use crate::tests::tables::{Answers, assert_answer, assert_lines};
 use crate::tests::texts::{ForTokens, Lexed, fate, number, push_came, push_repeated};
 use plc_lex::Token;
-use plc_syntax::syntax;
+use plc_tree::{SyntaxFault, file_tree};
 use std::alloc::{AllocError, Global};
 
 // Each form of the grammar at least once.
@@ -35,7 +35,10 @@ impl ForTokens for SyntaxAlone {
         answer: &mut String,
         all: &[Token],
     ) -> Result<(), AllocError> {
-        let fate = syntax(alloc, all);
+        let fate: Result<(), SyntaxFault> = match file_tree(alloc, all) {
+            Ok(_file) => Ok(()),
+            Err(fault) => Err(fault),
+        };
         write!(answer, "{fate:?}")
     }
 }
