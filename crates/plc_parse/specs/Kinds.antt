@@ -23,8 +23,8 @@ use Rattle.plc_parse.specs.Growth.{ghost_names}
 use Rattle.plc_parse.specs.Meaning.{field_means, shared_means, function_means, ghost_means}
 use Rattle.plc_parse.specs.Sizes.{field_size, shared_size, ghost_size}
 
--- the tree of a declaration's form, what it means after so many at a place, how many tokens it has, how many of its kind
--- there may be, and how many names each may declare
+-- the tree of a declaration's form, what it means after so many at a place, how many tokens it has, how many of its
+-- kind there may be, and how many names each may declare
 pub record Kind (F Y : Type 0) : Type 1 where
   pub Tree : Type 0
   pub tree : F → Tree

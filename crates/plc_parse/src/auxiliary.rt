@@ -150,7 +150,8 @@ impl<'a> Listed for Auxiliary<'a> {
         requires room { HasRoom scope.old auxiliary_fields.names }
         requires place { at + auxiliary_fields.size (auxiliary_fields.tree self.now) < 2 ^ 32 }
         ensures few { IfOk result (λ _. count < auxiliary_fields.limit) }
-        ensures read { Gives (λ r. (r.0, scope.new, r.1)) result (auxiliary_fields.means scope.old count at (auxiliary_fields.tree self.now)) }
+        ensures read { Gives (λ r. (r.0, scope.new, r.1)) result
+            (auxiliary_fields.means scope.old count at (auxiliary_fields.tree self.now)) }
         ensures place { IfOk result (λ r. r.1 ≡ at + auxiliary_fields.size (auxiliary_fields.tree self.now)) }
         ensures declares { IfOk result (λ _. AddsNames scope.old scope.new auxiliary_fields.names) }
     {

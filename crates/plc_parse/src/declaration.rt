@@ -84,7 +84,8 @@ impl<'a> Listed for Declaration<'a> {
         requires room { HasRoom scope.old fields.names }
         requires place { at + fields.size (fields.tree self.now) < 2 ^ 32 }
         ensures few { IfOk result (λ _. count < fields.limit) }
-        ensures read { Gives (λ r. (r.0, scope.new, r.1)) result (fields.means scope.old count at (fields.tree self.now)) }
+        ensures read { Gives (λ r. (r.0, scope.new, r.1)) result
+            (fields.means scope.old count at (fields.tree self.now)) }
         ensures place { IfOk result (λ r. r.1 ≡ at + fields.size (fields.tree self.now)) }
         ensures declares { IfOk result (λ _. AddsNames scope.old scope.new fields.names) }
     {
@@ -126,7 +127,8 @@ impl<'a> Listed for Shared<'a> {
         requires room { HasRoom scope.old shared_pointers.names }
         requires place { at + shared_pointers.size (shared_pointers.tree self.now) < 2 ^ 32 }
         ensures few { IfOk result (λ _. count < shared_pointers.limit) }
-        ensures read { Gives (λ r. (r.0, scope.new, r.1)) result (shared_pointers.means scope.old count at (shared_pointers.tree self.now)) }
+        ensures read { Gives (λ r. (r.0, scope.new, r.1)) result
+            (shared_pointers.means scope.old count at (shared_pointers.tree self.now)) }
         ensures place { IfOk result (λ r. r.1 ≡ at + shared_pointers.size (shared_pointers.tree self.now)) }
         ensures declares { IfOk result (λ _. AddsNames scope.old scope.new shared_pointers.names) }
     {
@@ -177,7 +179,8 @@ impl<'a> Listed for Function<'a> {
         requires room { HasRoom scope.old functions.names }
         requires place { at + functions.size (functions.tree self.now) < 2 ^ 32 }
         ensures few { IfOk result (λ _. count < functions.limit) }
-        ensures read { Gives (λ r. (r.0, scope.new, r.1)) result (functions.means scope.old count at (functions.tree self.now)) }
+        ensures read { Gives (λ r. (r.0, scope.new, r.1)) result
+            (functions.means scope.old count at (functions.tree self.now)) }
         ensures place { IfOk result (λ r. r.1 ≡ at + functions.size (functions.tree self.now)) }
         ensures declares { IfOk result (λ _. AddsNames scope.old scope.new functions.names) }
     {
