@@ -43,7 +43,6 @@ use Rattle.plc_syntax.specs.declared.form.Initial.{Initial}
 use Rattle.plc_syntax.specs.declared.form.Initial.TheVariants as initials
 use Rattle.plc_syntax.specs.declared.form.Argument.{Argument}
 use Rattle.plc_syntax.specs.declared.form.Argument.TheVariants as arguments
-use Rattle.plc_syntax.specs.declared.form.Call.{Call}
 use Rattle.plc_syntax.specs.declared.form.Shared.{Shared}
 use Rattle.plc_syntax.specs.declared.form.Term.{Term}
 use Rattle.plc_syntax.specs.declared.form.Term.TheVariants as terms
@@ -156,10 +155,6 @@ argument_tree arguments.None = NoArgument
 argument_tree arguments.Null = NullArgument
 argument_tree (arguments.Name n) = NameArgument n.now
 argument_tree (arguments.Active n) = ActiveArgument n.now
-
--- a function's name and its argument
-abbrev pub call_tree : Call → Text × ArgumentTree
-call_tree c = (c.name.now, argument_tree c.argument)
 
 -- ---- outlines
 
