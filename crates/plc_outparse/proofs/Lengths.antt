@@ -11,7 +11,7 @@ use Rattle.plc_syntax.specs.Trees.{LiteralTree, FlagLiteral, NotLiteral, Equalit
 use Rattle.plc_syntax.specs.Trees.{BoundTree, NoBound, AllOf, bound_then, ClauseTree, Claims, clause_then, ItemTree}
 use Rattle.plc_syntax.specs.Trees.{InvariantItem, OverItem, AtItem, item_then, OutlineTree, Outlined, outline_then}
 use Rattle.plc_syntax.specs.Trees.{each_then, maybe_then, comma_name_then, depth_then}
-use Rattle.plc_forms.specs.Sizes.{place_size}
+use Rattle.plc_syntax.specs.Sizes.{place_size}
 use Rattle.plc_outparse.specs.Sizes.{term_size, flag_size, literal_size, bound_size, depth_size, or_literals_size}
 use Rattle.plc_outparse.specs.Sizes.{clause_line_size, item_size, items_size, outline_size}
 

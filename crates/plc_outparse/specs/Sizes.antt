@@ -5,7 +5,7 @@ use Rattle.plc_syntax.specs.Trees.{TermTree, PlaceTerm, NullTerm, NumberTerm, Me
 use Rattle.plc_syntax.specs.Trees.{MarkedFlag, LiteralTree, FlagLiteral, NotLiteral, EqualityLiteral}
 use Rattle.plc_syntax.specs.Trees.{BoundTree, NoBound, AllOf, ClauseTree, Claims, ItemTree, InvariantItem, OverItem}
 use Rattle.plc_syntax.specs.Trees.{AtItem, OutlineTree, Outlined}
-use Rattle.plc_forms.specs.Sizes.{place_size}
+use Rattle.plc_syntax.specs.Sizes.{place_size}
 
 -- a side of an equation
 abbrev pub term_size : TermTree → ℕ

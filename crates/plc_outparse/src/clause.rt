@@ -1,13 +1,13 @@
 // Clauses: their quantified names, which differ from all names in reach, and their literals.
 ghost use Rattle.std.specs.Prelude.{◌≡◌, ◌+◌, ◌<◌, ◌≤◌, ◌^◌, Result, [], IfOk, length, map};
 ghost use Rattle.plc_base.specs.Names.{place_of};
-ghost use Rattle.plc_forms.specs.Views.{text_or_none};
+ghost use Rattle.plc_syntax.specs.Views.{text_or_none, literal_tree, bound_tree};
 ghost use Rattle.plc_logic.specs.declared.clause.Literal.{Literal};
 ghost use Rattle.plc_scope.specs.declared.fault.ParseFault.{ParseFault};
 ghost use Rattle.plc_scope.specs.Answers.{Gives};
 ghost use Rattle.plc_scope.specs.Scope.{most_locals, if_new, with_last};
 ghost use Rattle.plc_scope.specs.Limits.{stands_at};
-ghost use Rattle.plc_tree.specs.FormViews.{literal_tree, bound_tree, clause_tree};
+ghost use Rattle.plc_tree.specs.FormViews.{clause_tree};
 ghost use Rattle.plc_outparse.specs.Context.{HasRoomForBound};
 ghost use Rattle.plc_outparse.specs.Meaning.{counted, literal_step, in_turn, none_bound, bound_with, second_bound};
 ghost use Rattle.plc_outparse.specs.Meaning.{bound_means, clause_means, clause_line_means};
@@ -20,7 +20,8 @@ use plc_base::{Items, MOST_BOUND, Names, What1};
 use plc_lang::Local;
 use plc_logic::{Clause, Literal};
 use plc_scope::{ParseFault, Scope, add_name};
-use plc_tree::{Bound as BoundForm, Clause as ClauseForm, Literal as LiteralForm};
+use plc_syntax::{Bound as BoundForm, Literal as LiteralForm};
+use plc_tree::Clause as ClauseForm;
 use std::alloc::Global;
 
 /// A quantified name that differs from those before.

@@ -14,11 +14,11 @@ ghost use Rattle.plc_outparse.specs.Sizes.{depth_size, outline_size};
 use crate::context::Context;
 use crate::item::{Parts, add_items};
 use plc_base::Items;
-use plc_forms::Rest;
 use plc_lang::{Op, labels_by_op};
 use plc_logic::Outline;
 use plc_scope::{ParseFault, Scope};
-use plc_tree::{Fault, Outline as OutlineForm, outline_tree};
+use plc_syntax::{Fault, Rest};
+use plc_tree::{Outline as OutlineForm, outline_tree};
 use std::alloc::Global;
 
 /// The depth, whose word stands at the place.

@@ -4,7 +4,7 @@ ghost use Rattle.std.specs.Prelude.{◌≡◌, ◌+◌, ◌*◌, ◌<◌, ◌≤
 ghost use Rattle.plc_base.specs.Limits.{most};
 ghost use Rattle.plc_base.specs.declared.limits.What1.TheVariants as limits;
 ghost use Rattle.plc_base.specs.Names.{place_of};
-ghost use Rattle.plc_forms.specs.Views.{text_of};
+ghost use Rattle.plc_syntax.specs.Views.{text_of};
 ghost use Rattle.plc_scope.specs.Answers.{Gives};
 ghost use Rattle.plc_scope.specs.Scope.{most_locals};
 ghost use Rattle.plc_outparse.specs.Context.{HasFewLabels, IsWithinLimits};

@@ -2,8 +2,8 @@
 // an equation has to be of the first one's sort.
 ghost use Rattle.std.specs.Prelude.{◌≡◌, ◌+◌, ◌<◌, ◌≤◌, ◌^◌, length, Option, Some, None};
 ghost use Rattle.plc_syntax.specs.Trees.{PlaceOf, RetiredFlag, MarkedFlag};
-ghost use Rattle.plc_forms.specs.Sizes.{place_size};
-ghost use Rattle.plc_forms.specs.Views.{place_tree};
+ghost use Rattle.plc_syntax.specs.Sizes.{place_size};
+ghost use Rattle.plc_syntax.specs.Views.{place_tree, term_tree, flag_tree, literal_tree};
 ghost use Rattle.plc_scope.specs.Answers.{Gives};
 ghost use Rattle.plc_scope.specs.Scope.{most_locals};
 ghost use Rattle.plc_outparse.specs.Meaning.{place_means, me_means, term_means, sort_place, second_means};
@@ -11,14 +11,12 @@ ghost use Rattle.plc_outparse.specs.Meaning.{pointer_means, flag_means, literal_
 ghost use Rattle.plc_outparse.specs.Reach.{base_term, as_term, as_field, as_pointer, as_pointer_field};
 ghost use Rattle.plc_outparse.specs.Sizes.{term_size, flag_size, literal_size};
 ghost use Rattle.plc_outparse.specs.Views.{reach_of};
-ghost use Rattle.plc_tree.specs.FormViews.{term_tree, flag_tree, literal_tree};
 
 use crate::kind::Kind;
 use crate::reach::{Reach, base_at, kind_at};
-use plc_forms::Place;
 use plc_logic::{Base, Literal, Sort, Term};
 use plc_scope::ParseFault;
-use plc_tree::{Flag as FlagForm, Literal as LiteralForm, Term as TermForm};
+use plc_syntax::{Flag as FlagForm, Literal as LiteralForm, Place, Term as TermForm};
 
 /// The term that a base alone is.
 fn base_term(base: Base) -> Term

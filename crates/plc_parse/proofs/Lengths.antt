@@ -9,7 +9,7 @@ use Rattle.plc_lex.specs.declared.token.TokenKind.TheVariants.{Word, Name, Symbo
 use Rattle.plc_lex.specs.declared.token.Symbol.TheVariants as symbols
 use Rattle.plc_syntax.specs.Trees as trees
 use Rattle.plc_syntax.specs.Trees.{each_then, maybe_then}
-use Rattle.plc_forms.specs.Sizes as sizes
+use Rattle.plc_syntax.specs.Sizes as sizes
 use Rattle.plc_outparse.proofs.Lengths.{place_long, names_long, outline_long}
 use Rattle.plc_parse.specs.Sizes as parts
 

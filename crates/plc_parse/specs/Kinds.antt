@@ -7,15 +7,15 @@ use Rattle.plc_lang.specs.declared.syntax.Func.{Func}
 use Rattle.plc_lang.specs.declared.syntax.Ghost.{Ghost}
 use Rattle.plc_lang.specs.declared.syntax.Primitive.{Primitive}
 use Rattle.plc_syntax.specs.Trees.{Text, FieldTree, FunctionTree, GhostTree, PrimitiveTree, InitialTree}
-use Rattle.plc_forms.specs.declared.form.Declaration.{Declaration}
-use Rattle.plc_forms.specs.declared.form.Function.{Function}
-use Rattle.plc_forms.specs.declared.form.Initial.{Initial}
-use Rattle.plc_forms.specs.declared.form.Primitive.{Primitive as PrimitiveForm}
-use Rattle.plc_forms.specs.Sizes.{primitive_size, initial_size, function_size}
-use Rattle.plc_forms.specs.Views.{field_tree, function_tree, primitive_tree, initial_tree}
+use Rattle.plc_syntax.specs.declared.form.Declaration.{Declaration}
+use Rattle.plc_syntax.specs.declared.form.Function.{Function}
+use Rattle.plc_syntax.specs.declared.form.Initial.{Initial}
+use Rattle.plc_syntax.specs.declared.form.Primitive.{Primitive as PrimitiveForm}
+use Rattle.plc_syntax.specs.Sizes.{primitive_size, initial_size, function_size}
+use Rattle.plc_syntax.specs.Views.{field_tree, function_tree, primitive_tree, initial_tree, shared_name}
 use Rattle.plc_tree.specs.declared.form.Auxiliary.{Auxiliary}
-use Rattle.plc_tree.specs.declared.form.Shared.{Shared}
-use Rattle.plc_tree.specs.FormViews.{shared_name, auxiliary_tree}
+use Rattle.plc_syntax.specs.declared.form.Shared.{Shared}
+use Rattle.plc_tree.specs.FormViews.{auxiliary_tree}
 use Rattle.plc_scope.specs.Primitives.{primitive_means, initial_means}
 use Rattle.plc_scope.specs.declared.fault.ParseFault.{ParseFault}
 use Rattle.plc_scope.specs.declared.scope.Scope.{Scope}

@@ -7,8 +7,8 @@ use Rattle.plc_syntax.specs.Trees.{StatementTree, PrimitiveStatement, AtomicStat
 use Rattle.plc_syntax.specs.Trees.{ChooseStatement, LoopStatement, BreakStatement, ReturnStatement, LabelStatement}
 use Rattle.plc_syntax.specs.Trees.{BlockTree, NoStatement, Then, ElseTree, NoElse, ElseBlock, OrTree, NoOr, OrBlock}
 use Rattle.plc_syntax.specs.Trees.{OpTree, Operates, OutlineTree, FileTree}
-use Rattle.plc_forms.specs.Sizes.{initial_size, primitive_size, condition_size, call_size, during_size, function_size}
-use Rattle.plc_forms.specs.Sizes.{watch_size}
+use Rattle.plc_syntax.specs.Sizes.{initial_size, primitive_size, condition_size, call_size, during_size, function_size}
+use Rattle.plc_syntax.specs.Sizes.{watch_size}
 use Rattle.plc_outparse.specs.Sizes.{outline_size}
 
 -- primitives in order, each with its semicolon

@@ -1,7 +1,7 @@
 // Auxiliary fields. One is a thread or one of its values, whose names are declared with it.
 ghost use Rattle.std.specs.Prelude.{◌≡◌, ◌+◌, ◌-◌, ◌*◌, ◌<◌, ◌≤◌, ◌^◌, IfOk, length, map};
 ghost use Rattle.plc_base.specs.Limits.{most};
-ghost use Rattle.plc_forms.specs.Views.{text_of};
+ghost use Rattle.plc_syntax.specs.Views.{text_of};
 ghost use Rattle.plc_scope.specs.Answers.{Gives, HasRoom};
 ghost use Rattle.plc_syntax.specs.Trees.{Auxiliary as AuxiliaryTree, OneOf};
 ghost use Rattle.plc_tree.specs.FormViews.{auxiliary_tree};

@@ -2,8 +2,8 @@
 // before, so the recursion is 65 deep at most.
 ghost use Rattle.std.specs.Prelude.{◌+◌, ◌<◌, ◌^◌, map};
 ghost use Rattle.plc_lang.specs.Views.{statement_of, blocks_of};
-ghost use Rattle.plc_forms.specs.Sizes.{condition_size};
-ghost use Rattle.plc_forms.specs.Views.{condition_tree};
+ghost use Rattle.plc_syntax.specs.Sizes.{condition_size};
+ghost use Rattle.plc_syntax.specs.Views.{condition_tree};
 ghost use Rattle.plc_syntax.specs.Trees.{IfStatement, ChooseStatement, LoopStatement};
 ghost use Rattle.plc_tree.specs.Views.{else_tree, ors_tree, statement_tree};
 ghost use Rattle.plc_parse.specs.Meaning.{statement_means, statements_mean, else_means};
@@ -14,10 +14,10 @@ ghost use Rattle.plc_parse.specs.Views.{CanMean, MeansHere, choices_mean};
 use crate::lines::line_at;
 use crate::sizes::condition_size;
 use crate::statement::{atomic, break_statement, call_statement, label, primitive_statement};
-use plc_forms::{Call, Condition};
 use plc_lang::{Block, Line, Stmt};
 use plc_lex::Token;
 use plc_scope::{ParseFault, Scope, condition};
+use plc_syntax::{Call, Condition};
 use plc_tree::{Block as BlockForm, Stmt as StmtForm};
 use std::alloc::Global;
 

@@ -1,8 +1,8 @@
 // The declarations of a file but those of auxiliary fields and operations.
 ghost use Rattle.std.specs.Prelude.{◌≡◌, ◌+◌, ◌<◌, ◌≤◌, ◌^◌, IfOk, length};
 ghost use Rattle.plc_base.specs.Limits.{most};
-ghost use Rattle.plc_forms.specs.Sizes.{function_size};
-ghost use Rattle.plc_forms.specs.Views.{field_tree, function_tree};
+ghost use Rattle.plc_syntax.specs.Sizes.{function_size};
+ghost use Rattle.plc_syntax.specs.Views.{field_tree, function_tree};
 ghost use Rattle.plc_scope.specs.Answers.{Gives, HasRoom, GrowsBy};
 ghost use Rattle.plc_scope.specs.Scope.{declared};
 ghost use Rattle.plc_parse.specs.Growth.{AddsNames, KeepsLists};
@@ -11,10 +11,9 @@ ghost use Rattle.plc_parse.specs.Meaning.{field_means, shared_means, function_me
 use crate::lists::Listed;
 use crate::sizes::function_size;
 use plc_base::{FieldId, FuncId, What1};
-use plc_forms::{Declaration, Function};
 use plc_lang::{Field, Func};
 use plc_scope::{Binding, ParseFault, Scope};
-use plc_tree::Shared;
+use plc_syntax::{Declaration, Function, Shared};
 use std::alloc::Global;
 
 /// Declares one name, as [`Scope::declare`] does.

@@ -1,7 +1,7 @@
 // The parameters and locals of an operation. A parameter is its name alone; a local is a declaration.
 ghost use Rattle.std.specs.Prelude.{◌≡◌, ◌+◌, ◌*◌, ◌<◌, ◌^◌, IfOk, length, map};
 ghost use Rattle.std.specs.List.{sum_by};
-ghost use Rattle.plc_forms.specs.Views.{text_of, field_tree};
+ghost use Rattle.plc_syntax.specs.Views.{text_of, field_tree};
 ghost use Rattle.plc_scope.specs.Answers.{Gives, HasRoomForLocals, GrowsByLocals};
 ghost use Rattle.plc_scope.specs.Scope.{declared_parameter, declared_local};
 ghost use Rattle.plc_tree.specs.FileViews.{parameters_names};
@@ -10,8 +10,8 @@ ghost use Rattle.plc_parse.specs.Meaning.{local_means, others_mean, parameters_m
 ghost use Rattle.plc_parse.specs.Sizes.{field_size, parameters_size};
 ghost use Rattle.plc_parse.specs.Views.{DeclaresLocals};
 
-use plc_forms::Declaration;
 use plc_scope::{ParseFault, Scope};
+use plc_syntax::Declaration;
 use plc_tree::Parameters;
 
 /// Declares one parameter.

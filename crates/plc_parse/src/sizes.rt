@@ -1,13 +1,13 @@
 // How many tokens forms have, so that a place after a form is the place before it and its size.
 ghost use Rattle.std.specs.Prelude.{◌≡◌};
-ghost use Rattle.plc_forms.specs.Sizes.{place_size, value_size, set_size, refresh_size, initial_size, test_size};
-ghost use Rattle.plc_forms.specs.Sizes.{condition_size, primitive_size, call_size, during_size, function_size};
-ghost use Rattle.plc_forms.specs.Sizes.{watch_size};
-ghost use Rattle.plc_forms.specs.Views.{text_or_none, place_tree, value_tree, set_tree, refresh_tree, initial_tree};
-ghost use Rattle.plc_forms.specs.Views.{test_tree, condition_tree, primitive_tree, argument_tree, function_tree};
-ghost use Rattle.plc_forms.specs.Views.{watch_tree};
+ghost use Rattle.plc_syntax.specs.Sizes.{place_size, value_size, set_size, refresh_size, initial_size, test_size};
+ghost use Rattle.plc_syntax.specs.Sizes.{condition_size, primitive_size, call_size, during_size, function_size};
+ghost use Rattle.plc_syntax.specs.Sizes.{watch_size};
+ghost use Rattle.plc_syntax.specs.Views.{text_or_none, place_tree, value_tree, set_tree, refresh_tree, initial_tree};
+ghost use Rattle.plc_syntax.specs.Views.{test_tree, condition_tree, primitive_tree, argument_tree, function_tree};
+ghost use Rattle.plc_syntax.specs.Views.{watch_tree};
 
-use plc_forms::{
+use plc_syntax::{
     Argument, Condition, Function, Initial, Place, Primitive, Refresh, Set, Test, Value, Watch,
 };
 

@@ -1,8 +1,8 @@
 // Statements that hold no block of statements.
 ghost use Rattle.std.specs.Prelude.{◌≡◌, ◌+◌, ◌<◌, ◌≤◌, ◌^◌, ℕ, Bool, List, IfOk, length, map};
 ghost use Rattle.plc_lang.specs.Views.{statement_of};
-ghost use Rattle.plc_forms.specs.Sizes.{call_size, during_size, primitive_size};
-ghost use Rattle.plc_forms.specs.Views.{text_or_none, argument_tree, primitive_tree};
+ghost use Rattle.plc_syntax.specs.Sizes.{call_size, during_size, primitive_size};
+ghost use Rattle.plc_syntax.specs.Views.{text_or_none, argument_tree, primitive_tree};
 ghost use Rattle.plc_scope.specs.declared.scope.Scope.{Scope};
 ghost use Rattle.plc_scope.specs.Answers.{Gives};
 ghost use Rattle.plc_scope.specs.Scope.{most_locals};
@@ -16,9 +16,9 @@ ghost use Rattle.plc_parse.specs.Views.{MeansHere};
 use crate::sizes::{call_size, during_size, primitive_size};
 use crate::step::step_of;
 use plc_base::What1;
-use plc_forms::{Call, Primitive};
 use plc_lang::Stmt;
 use plc_scope::{ParseFault, Scope, call, primitive};
+use plc_syntax::{Call, Primitive};
 use std::alloc::Global;
 
 /// Declares a label after the word at a place, and answers its number.

@@ -14,9 +14,9 @@ ghost use Rattle.plc_parse.specs.Views.{with_form};
 
 use crate::sizes::{initial_size, primitive_size};
 use plc_base::{Items, What1};
-use plc_forms::{Initial, Primitive as PrimitiveForm};
 use plc_lang::{Prim, is_new};
 use plc_scope::{ParseFault, Scope, initial, primitive};
+use plc_syntax::{Initial, Primitive as PrimitiveForm};
 use std::alloc::Global;
 
 /// The primitives of a step so far, and whether one of them allocates.
@@ -110,8 +110,8 @@ pub trait StepForm: Copy {
 }
 
 impl<'a> StepForm for PrimitiveForm<'a> {
-    ghost use Rattle.plc_forms.specs.Sizes.{primitive_size};
-    ghost use Rattle.plc_forms.specs.Views.{primitive_tree};
+    ghost use Rattle.plc_syntax.specs.Sizes.{primitive_size};
+    ghost use Rattle.plc_syntax.specs.Views.{primitive_tree};
     ghost use Rattle.plc_scope.specs.Primitives.{primitive_means};
     ghost use Rattle.plc_parse.specs.Kinds.{atomic_forms};
 
@@ -133,8 +133,8 @@ impl<'a> StepForm for PrimitiveForm<'a> {
 }
 
 impl<'a> StepForm for Initial<'a> {
-    ghost use Rattle.plc_forms.specs.Sizes.{initial_size};
-    ghost use Rattle.plc_forms.specs.Views.{initial_tree};
+    ghost use Rattle.plc_syntax.specs.Sizes.{initial_size};
+    ghost use Rattle.plc_syntax.specs.Views.{initial_tree};
     ghost use Rattle.plc_scope.specs.Primitives.{initial_means};
     ghost use Rattle.plc_parse.specs.Kinds.{initial_forms};
 

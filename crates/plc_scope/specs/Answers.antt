@@ -1,7 +1,7 @@
 -- How the program's answers speak of what the specification says, what is left of the tokens, and how the list of names
 -- grows.
 use Rattle.std.specs.Prelude.{◌≡◌, ◌+◌, ◌≤◌, ◌<◌, ℕ, length, Result, Ok, Err}
-use Rattle.plc_forms.specs.declared.rest.Rest.{Rest}
+use Rattle.plc_syntax.specs.declared.rest.Rest.{Rest}
 use Rattle.plc_scope.specs.declared.fault.ParseFault.{ParseFault}
 use Rattle.plc_scope.specs.declared.fault.ParseFault.TheVariants as faults
 use Rattle.plc_scope.specs.declared.scope.Scope.{Scope}

@@ -1,3 +1,6 @@
+pub mod Again
 pub mod Braced
+pub mod Combinators
 pub mod Depths
+pub mod FormLaws
 pub mod Marked

@@ -1,6 +1,11 @@
+-- the grammar, and what contracts of public calls say
+pub mod Answers
 pub mod Depth
 pub mod Faults
+pub mod Forms
 pub mod Marks
 pub mod Nesting
+pub mod Sizes
 pub mod Syntax
 pub mod Trees
+pub mod Views

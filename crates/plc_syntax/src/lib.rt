@@ -1,8 +1,44 @@
-//! The syntax of a file: its grammar as trees with their spelling, over `plc_lex`'s tokens, and what the
-//! words of its rules say: which tokens are a file's, where others stop being so, and how deep blocks stand
-//! within one another. All of it is definitions and laws on them; `plc_tree` reads tokens by it.
+//! The syntax of a file, over `plc_lex`'s tokens: its grammar as trees with their spelling, what the words of
+//! its rules say (which tokens are a file's, where others stop being so, and how deep blocks stand within one
+//! another), and a reader of each form that holds no list. `plc_tree` reads lists, blocks and whole files with
+//! them: each answers the tree that is read at the front of tokens by `specs/Forms.antt`.
 #![tactic(auto)]
 
+mod call;
+mod clause;
+mod condition;
+mod declaration;
+mod fault;
+mod form;
+mod front;
+mod initial;
 mod laws;
+mod name;
+mod primitive;
+mod rest;
+mod value;
 
+pub use call::{argument_at, during_at};
+pub use clause::{
+    all_at, bound_at, depth_at, equality_at, equation_at, flag_at, literal_at, marked_at,
+    or_literal_at, retired_at, second_at, term_at,
+};
+pub use condition::{
+    active_word_at, cas_at, cas_condition_at, compared_at, condition_at, name_or_null_at,
+    named_condition_at, relation_at, test_at,
+};
+pub use declaration::{
+    epoch_at, field_at, function_at, hazard_at, pointer_word_at, scheme_at, shared_at, watch_at,
+};
+pub use fault::Fault;
+pub use form::{
+    Argument, Atom, Bound, Call, Cas, Condition, Declaration, Flag, Function, GhostSet, GhostValue,
+    Initial, Literal, Place, Primitive, Refresh, Relation, Set, Shared, Term, Test, Value, Watch,
+};
+pub use front::{Read, first, name_at, number_at, stuck, symbol_at, word_at};
+pub use initial::{initial_at, set_field_at, set_of_name_at};
 pub use laws::{depth_is_that_of_braces, trees_spell_their_marks};
+pub use name::comma_name_at;
+pub use primitive::{field_tail_at, ghost_set_at, named_tail_at, primitive_at, primitive_line_at};
+pub use rest::Rest;
+pub use value::{atom_at, ghost_value_at, place_at, place_of_name_at, value_at};

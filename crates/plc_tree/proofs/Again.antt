@@ -1,212 +1,39 @@
--- The readers read every tree of a form, whatever stands after it, given fuel: a row for each constructor. Only what
--- may be left out asks that what follows is no beginning of it.
-use Rattle.std.proofs.Common.{◌≡◌, ◌∙◌, ◌+◌, ◌<◌, ◌≤◌, ℕ, zero, suc, Bool, true, false, cond, Option, Some, None}
-use Rattle.std.proofs.Common.{List, [], ◌∷◌, Ok, Err, refl, sym, ap, subst, arith}
-use Rattle.plc_lex.specs.declared.token.TokenKind.{TokenKind}
-use Rattle.plc_lex.specs.declared.token.TokenKind.TheVariants.{Word, Name, Number, Symbol}
+-- The readers of forms that hold lists or blocks read every tree, whatever stands after it, given fuel: a row for each
+-- constructor. Only what may be left out asks that what follows is no beginning of it.
+use Rattle.std.proofs.Common.{◌≡◌, ◌+◌, ℕ, false, Option, Some, None, List, [], ◌∷◌, Ok, refl}
+use Rattle.plc_lex.specs.declared.token.TokenKind.TheVariants.{Word, Symbol}
 use Rattle.plc_lex.specs.declared.token.Keyword.TheVariants as words
-use Rattle.plc_lex.specs.declared.token.Symbol.TheVariants.{Assign, OpenBrace, CloseBrace, CloseParen, Semicolon}
-use Rattle.plc_lex.specs.declared.token.Symbol.TheVariants.{Comma, Dot, Colon}
+use Rattle.plc_lex.specs.declared.token.Symbol.TheVariants.{OpenBrace, CloseBrace, CloseParen, Semicolon, Colon}
 use Rattle.plc_syntax.specs.Trees as trees
-use Rattle.plc_syntax.specs.Trees.{Text, each_then, maybe_then, word_if_then}
+use Rattle.plc_syntax.specs.Trees.{Text, each_then, maybe_then}
+use Rattle.plc_syntax.proofs.Combinators.{Tokens, Reader}
+use Rattle.plc_syntax.specs.Forms.{first_is, comma_name_of, primitive_line_of, initial_of, field_of, shared_of}
+use Rattle.plc_syntax.specs.Forms.{function_of, watch_next, or_literal_of, depth_next}
+use Rattle.plc_syntax.proofs.Again.{Gets, done, then, one_more, gets_by, where_true, where_false, Leaves, left_out}
+use Rattle.plc_syntax.proofs.Again.{list_gets, NoDot, condition_gets, primitive_gets, line_gets, initial_gets}
+use Rattle.plc_syntax.proofs.Again.{literal_gets, bound_of_literal, bound_gets, depth_gets, function_gets, watch_gets}
 use Rattle.plc_tree.specs.Forms as forms
-use Rattle.plc_tree.specs.Forms.{Read, Next, ◌>>=◌, ◌>>◌, led, chosen, first_is, list_of}
-use Rattle.plc_tree.proofs.Laws.{Tokens, Spells, Reader}
-use Rattle.plc_tree.proofs.FormLaws.{block_then, line_begun, initial_begun, statement_begun, field_begun}
-use Rattle.plc_tree.proofs.FormLaws.{heading_then, function_begun, ghost_begun, op_begun, item_begun}
-
--- with so much fuel and more, this tree is read and these tokens are left
-pub record Gets {X : Type 0} (o : ℕ → Read X) (x : X) (r : Tokens) : Type 0 where
-  pub fuel : ℕ
-  pub after : ℕ
-  pub reads : (m : ℕ) → fuel ≤ m → o m ≡ Ok (x, after, r)
-
-done : {X : Type 0} {x : X} {at : ℕ} {r : Tokens} → Gets (λ m. Ok (x, at, r)) x r
-done {at = at} = record { fuel = 0; after = at; reads = λ m l. refl }
-
-then : {A X : Type 0} {o : ℕ → Read A} {a : A} {us : Tokens} {x : X} {r : Tokens}
-    (k : ℕ → A → ℕ → Tokens → Read X) → Gets o a us → ((at : ℕ) → Gets (λ m. k m a at us) x r)
-    → Gets (λ m. o m >>= λ a at ts. k m a at ts) x r
-then k h g = let h2 = g h.after in record {
-  fuel = h.fuel + h2.fuel;
-  after = h2.after;
-  reads = λ m l. ap (λ o. o >>= λ a at ts. k m a at ts) (h.reads m (omega arith)) ∙ h2.reads m (omega arith);
-}
-
-one_more : {X : Type 0} {o : ℕ → Read X} {x : X} {r : Tokens} → Gets (λ m. o (suc m)) x r → Gets o x r
-one_more {X = X} {o = o} {x = x} {r = r} h = record { fuel = suc h.fuel; after = h.after; reads = by }
-  where
-    by : (m : ℕ) → suc h.fuel ≤ m → o m ≡ Ok (x, h.after, r)
-    by zero l = absurd (omega arith)
-    by (suc m) l = h.reads m (omega arith)
-
-gets_by : {X : Type 0} {o p : ℕ → Read X} {x : X} {r : Tokens} → ((m : ℕ) → o m ≡ p m) → Gets p x r → Gets o x r
-gets_by e h = record { fuel = h.fuel; after = h.after; reads = λ m l. e m ∙ h.reads m l }
-
-where_true : {X : Type 0} {b : Bool} {o : ℕ → Read X} {x : X} {r : Tokens} (p : ℕ → Read X) → b ≡ true → Gets o x r
-    → Gets (λ m. cond b (o m) (p m)) x r
-where_true {o = o} p e h = gets_by (λ m. ap (λ b. cond b (o m) (p m)) e) h
-
-where_false : {X : Type 0} {b : Bool} {p : ℕ → Read X} {x : X} {r : Tokens} (o : ℕ → Read X) → b ≡ false
-    → Gets p x r → Gets (λ m. cond b (o m) (p m)) x r
-where_false {p = p} o e h = gets_by (λ m. ap (λ b. cond b (o m) (p m)) e) h
-
--- what follows doesn't begin a form
-abbrev Leaves : {X : Type 0} → Next X → Tokens → Type 0
-Leaves next [] = Unit {0}
-Leaves next (t ∷ ts) = next t ≡ None
-
-left_out : {X : Type 0} (next : Next X) (other : Read X) (at : ℕ) (r : Tokens) → Leaves next r
-    → led next other at r ≡ other
-left_out next other at [] h = refl
-left_out next other at (t ∷ ts) h = ap (λ o. chosen o other (at + 1) ts) h
-
--- a list, where each item is read before others of it
-module _ {X : Type 0} (s : Spells X) (begins : TokenKind → Bool) (item : Reader X)
-    (begun : (x : X) (q : Tokens) → first_is begins (s x q) ≡ true) (r : Tokens) (none : first_is begins r ≡ false)
-    (each : (x : X) (at : ℕ) (xs : List X)
-    → Gets (λ m. item m at (s x (each_then s xs r))) x (each_then s xs r)) where
-  list_gets : (xs : List X) (at : ℕ) → Gets (λ m. list_of begins item m at (each_then s xs r)) xs r
-  unfolding list_of
-  list_gets [] at = one_more (where_false _ none done)
-  list_gets (x ∷ xs) at = one_more (where_true _ (begun x (each_then s xs r)) (then _ (each x at xs) (λ p.
-      then _ (list_gets xs p) (λ p. done))))
+use Rattle.plc_tree.proofs.FormLaws.{block_then, line_begun, initial_begun, statement_begun, field_begun, heading_then}
+use Rattle.plc_tree.proofs.FormLaws.{function_begun, ghost_begun, op_begun, item_begun}
 
 names_get : (ks : List Text) (at : ℕ) (r : Tokens) → first_is forms.begins_comma_name r ≡ false
     → Gets (λ m. forms.comma_names_of m at (each_then trees.comma_name_then ks r)) ks r
-names_get ks at r none = list_gets trees.comma_name_then forms.begins_comma_name (λ m at ts. forms.comma_name_of at ts)
+names_get ks at r none = list_gets trees.comma_name_then forms.begins_comma_name (λ m at ts. comma_name_of at ts)
     (λ k q. refl) r none (λ k at ks. done) ks at
 
--- ---- places and values
-
--- what follows is no dot
-abbrev NoDot : Tokens → Type 0
-NoDot r = (k : Text) → Leaves (forms.dot_next k) r
-
-place_gets : (k : Text) (f : Option Text) (at : ℕ) (r : Tokens) → NoDot r
-    → Gets (λ m. forms.place_of_name k at (maybe_then trees.dot_name_then f r)) (trees.PlaceOf k f) r
-place_gets k None at r h = gets_by (λ m. left_out (forms.dot_next k) (Ok (trees.PlaceOf k None, at, r)) at r (h k)) done
-place_gets k (Some f) at r h = done
-
-value_gets : (v : trees.ValueTree) (at : ℕ) (r : Tokens)
-    → Gets (λ m. forms.value_of at (trees.value_then v (Symbol Semicolon ∷ r))) v (Symbol Semicolon ∷ r)
-value_gets trees.NullValue at r = done
-value_gets trees.NewValue at r = done
-value_gets (trees.NumberValue k) at r = done
-value_gets (trees.MarkValue k) at r = done
-value_gets (trees.UnmarkValue k) at r = done
-value_gets (trees.PlaceValue (trees.PlaceOf k f)) at r =
-    then _ (place_gets k f (at + 1) (Symbol Semicolon ∷ r) (λ k. refl)) (λ p. done)
-
-atom_gets : (a : trees.AtomTree) (at : ℕ) (r : Tokens) → Gets (λ m. forms.atom_of at (trees.atom_then a r)) a r
-atom_gets trees.NullAtom at r = done
-atom_gets (trees.NumberAtom k) at r = done
-atom_gets (trees.NameAtom k) at r = done
-
-ghost_value_gets : (v : trees.GhostValueTree) (at : ℕ) (r : Tokens)
-    → Gets (λ m. forms.ghost_value_of at (trees.ghost_value_then v r)) v r
-ghost_value_gets (trees.NameGhost k) at r = done
-ghost_value_gets trees.MeGhost at r = done
-ghost_value_gets trees.NoneGhost at r = done
-
-ghost_set_gets : (k g : Text) (v : trees.GhostValueTree) (at : ℕ) (r : Tokens)
-    → Gets (λ m. forms.ghost_set_of at (Name k ∷ Symbol Dot ∷ Name g ∷ Symbol Assign
-    ∷ trees.ghost_value_then v r)) (trees.SetGhost k g v) r
-ghost_set_gets k g v at r = then _ (ghost_value_gets v (at + 1 + 1 + 1 + 1) r) (λ p. done)
-
--- ---- tests and conditions
-
-comparison_gets : (c : trees.Comparison) (at : ℕ) (r : Tokens)
-    → Gets (λ m. forms.comparison_of at (Symbol (trees.comparison_symbol c) ∷ r)) c r
-comparison_gets trees.SameAs at r = done
-comparison_gets trees.OtherThan at r = done
-comparison_gets trees.LessThan at r = done
-comparison_gets trees.NotLessThan at r = done
-
-compared_gets : (k : Text) (c : trees.Comparison) (a : trees.AtomTree) (at : ℕ) (r : Tokens)
-    → Gets (λ m. forms.compared_of k at (Symbol (trees.comparison_symbol c) ∷ trees.atom_then a r))
-    (trees.Compares k c a) r
-compared_gets k c a at r = then _ (comparison_gets c at (trees.atom_then a r)) (λ p.
-    then _ (atom_gets a p r) (λ p. done))
-
-test_gets : (t : trees.TestTree) (at : ℕ) (r : Tokens) → Gets (λ m. forms.test_of at (trees.test_then t r)) t r
-test_gets (trees.MarkedTest k) at r = done
-test_gets (trees.UnmarkedTest k) at r = done
-test_gets (trees.Compares k c a) at r = compared_gets k c a (at + 1) r
-
-name_or_null_gets : (x : Option Text) (at : ℕ) (r : Tokens)
-    → Gets (λ m. forms.name_or_null_of at (trees.name_or_null_then x r)) x r
-name_or_null_gets (Some k) at r = done
-name_or_null_gets None at r = done
-
-cas_gets : (w : Bool) (k : Text) (x y : Option Text) (at : ℕ) (r : Tokens)
-    → Gets (λ m. forms.cas_of w at (Name k ∷ Symbol Comma ∷ trees.name_or_null_then x
-    (Symbol Comma ∷ trees.name_or_null_then y (Symbol CloseParen ∷ r)))) (trees.CasCondition w k x y) r
-cas_gets w k x y at r =
-    then _ (name_or_null_gets x (at + 1 + 1) (Symbol Comma ∷ trees.name_or_null_then y (Symbol CloseParen ∷ r)))
-    (λ p. then _ (name_or_null_gets y (p + 1) (Symbol CloseParen ∷ r)) (λ p. done))
-
--- a test of a name is a condition of it
-compared_condition_gets : (k : Text) (c : trees.Comparison) (a : trees.AtomTree) (at : ℕ) (r : Tokens)
-    → Gets (λ m. forms.condition_of at (trees.test_then (trees.Compares k c a) r))
-    (trees.TestCondition (trees.Compares k c a)) r
-compared_condition_gets k trees.SameAs a at r = then _ (compared_gets k trees.SameAs a (at + 1) r) (λ p. done)
-compared_condition_gets k trees.OtherThan a at r = then _ (compared_gets k trees.OtherThan a (at + 1) r) (λ p. done)
-compared_condition_gets k trees.LessThan a at r = then _ (compared_gets k trees.LessThan a (at + 1) r) (λ p. done)
-compared_condition_gets k trees.NotLessThan a at r =
-    then _ (compared_gets k trees.NotLessThan a (at + 1) r) (λ p. done)
-
-condition_gets : (c : trees.ConditionTree) (at : ℕ) (r : Tokens)
-    → Gets (λ m. forms.condition_of at (trees.condition_then c (Symbol CloseParen ∷ r))) c (Symbol CloseParen ∷ r)
-condition_gets (trees.TestCondition (trees.MarkedTest k)) at r = done
-condition_gets (trees.TestCondition (trees.UnmarkedTest k)) at r = done
-condition_gets (trees.TestCondition (trees.Compares k c a)) at r =
-    compared_condition_gets k c a at (Symbol CloseParen ∷ r)
-condition_gets (trees.RefreshCondition k (trees.PlaceOf p f)) at r =
-    then _ (place_gets p f (at + 1 + 1 + 1) (Symbol CloseParen ∷ r) (λ k. refl)) (λ p. done)
-condition_gets (trees.CasCondition false k x y) at r = cas_gets false k x y (at + 1 + 1) (Symbol CloseParen ∷ r)
-condition_gets (trees.CasCondition true k x y) at r = cas_gets true k x y (at + 1 + 1 + 1) (Symbol CloseParen ∷ r)
-
 -- ---- primitives, in an atomic block and as statements
-
-primitive_gets : (p : trees.PrimitiveTree) (at : ℕ) (r : Tokens)
-    → Gets (λ m. forms.primitive_of at (trees.primitive_then p (Symbol Semicolon ∷ r))) p (Symbol Semicolon ∷ r)
-primitive_gets (trees.SetPrimitive (trees.SetName k v)) at r = then _ (value_gets v (at + 1 + 1) r) (λ p. done)
-primitive_gets (trees.SetPrimitive (trees.SetField k f a)) at r =
-    then _ (atom_gets a (at + 1 + 1 + 1 + 1) (Symbol Semicolon ∷ r)) (λ p. done)
-primitive_gets (trees.RefreshPrimitive (trees.RefreshName k (trees.PlaceOf p f))) at r =
-    then _ (place_gets p f (at + 1 + 1 + 1) (Symbol Semicolon ∷ r) (λ k. refl)) (λ p. done)
-primitive_gets (trees.RefreshPrimitive (trees.RefreshField k f q)) at r = done
-primitive_gets (trees.GhostPrimitive (trees.SetGhost k g v)) at r =
-    then _ (ghost_set_gets k g v (at + 1) (Symbol Semicolon ∷ r)) (λ p. done)
-primitive_gets (trees.ActivePrimitive k) at r = done
-primitive_gets (trees.AssumePrimitive t) at r = then _ (test_gets t (at + 1) (Symbol Semicolon ∷ r)) (λ p. done)
-primitive_gets trees.SkipPrimitive at r = done
-
-line_gets : (p : trees.PrimitiveTree) (at : ℕ) (r : Tokens)
-    → Gets (λ m. forms.primitive_line_of at (trees.primitive_line_then p r)) p r
-line_gets p at r = then _ (primitive_gets p at r) (λ q. done)
 
 primitives_get : (ps : List trees.PrimitiveTree) (at : ℕ) (r : Tokens)
     → Gets (λ m. forms.primitives_of m at (each_then trees.primitive_line_then ps (Symbol CloseBrace ∷ r))) ps
     (Symbol CloseBrace ∷ r)
 primitives_get ps at r = list_gets trees.primitive_line_then forms.begins_primitive
-    (λ m at ts. forms.primitive_line_of at ts) line_begun (Symbol CloseBrace ∷ r) refl
+    (λ m at ts. primitive_line_of at ts) line_begun (Symbol CloseBrace ∷ r) refl
     (λ p at ps. line_gets p at (each_then trees.primitive_line_then ps (Symbol CloseBrace ∷ r))) ps at
-
-initial_gets : (i : trees.InitialTree) (at : ℕ) (r : Tokens)
-    → Gets (λ m. forms.initial_of at (trees.initial_then i r)) i r
-initial_gets (trees.InitialSet (trees.SetName k v)) at r =
-    then _ (then _ (value_gets v (at + 1 + 1) r) (λ p. done)) (λ p. done)
-initial_gets (trees.InitialSet (trees.SetField k f a)) at r =
-    then _ (then _ (atom_gets a (at + 1 + 1 + 1 + 1) (Symbol Semicolon ∷ r)) (λ p. done)) (λ p. done)
-initial_gets (trees.InitialGhost (trees.SetGhost k g v)) at r =
-    then _ (ghost_set_gets k g v (at + 1) (Symbol Semicolon ∷ r)) (λ p. done)
 
 initials_get : (is : List trees.InitialTree) (at : ℕ) (r : Tokens)
     → Gets (λ m. forms.initials_of m at (each_then trees.initial_then is (Symbol CloseBrace ∷ r))) is
     (Symbol CloseBrace ∷ r)
-initials_get is at r = list_gets trees.initial_then forms.begins_initial (λ m at ts. forms.initial_of at ts)
+initials_get is at r = list_gets trees.initial_then forms.begins_initial (λ m at ts. initial_of at ts)
     initial_begun (Symbol CloseBrace ∷ r) refl
     (λ i at is. initial_gets i at (each_then trees.initial_then is (Symbol CloseBrace ∷ r))) is at
 
@@ -336,10 +163,10 @@ block_gets b at r = closed_gets b at r (statements_get b at r)
 
 fields_get : (fs : List trees.FieldTree) (at : ℕ) (r : Tokens) → first_is forms.begins_field r ≡ false
     → Gets (λ m. forms.fields_of m at (each_then trees.field_then fs r)) fs r
-fields_get fs at r none = list_gets trees.field_then forms.begins_field (λ m at ts. forms.field_of at ts) field_begun r
+fields_get fs at r none = list_gets trees.field_then forms.begins_field (λ m at ts. field_of at ts) field_begun r
     none (λ f at fs. field_gets f at (each_then trees.field_then fs r)) fs at
   where
-    field_gets : (f : trees.FieldTree) (at : ℕ) (q : Tokens) → Gets (λ m. forms.field_of at (trees.field_then f q)) f q
+    field_gets : (f : trees.FieldTree) (at : ℕ) (q : Tokens) → Gets (λ m. field_of at (trees.field_then f q)) f q
     field_gets (trees.PointerField k) at q = done
     field_gets (trees.DataField k) at q = done
 
@@ -356,49 +183,6 @@ op_gets (trees.Operates k ps ls b) at r =
 
 -- ---- clauses of an outline
 
-term_gets : (a : trees.TermTree) (at : ℕ) (r : Tokens) → NoDot r
-    → Gets (λ m. forms.term_of at (trees.term_then a r)) a r
-term_gets (trees.PlaceTerm (trees.PlaceOf k f)) at r h = then _ (place_gets k f (at + 1) r h) (λ p. done)
-term_gets trees.NullTerm at r h = done
-term_gets (trees.NumberTerm k) at r h = done
-term_gets trees.MeTerm at r h = done
-term_gets trees.NoneTerm at r h = done
-
-equality_gets : (e : Bool) (at : ℕ) (r : Tokens)
-    → Gets (λ m. forms.equality_of at (Symbol (trees.equality_symbol e) ∷ r)) e r
-equality_gets true at r = done
-equality_gets false at r = done
-
-equality_is_no_dot : (e : Bool) (r : Tokens) → NoDot (Symbol (trees.equality_symbol e) ∷ r)
-equality_is_no_dot true r k = refl
-equality_is_no_dot false r k = refl
-
-flag_gets : (f : trees.FlagTree) (at : ℕ) (r : Tokens) → Gets (λ m. forms.flag_of at (trees.flag_then f r)) f r
-flag_gets (trees.RetiredFlag k) at r = done
-flag_gets (trees.MarkedFlag (trees.PlaceOf k f)) at r =
-    then _ (place_gets k f (at + 1 + 1 + 1) (Symbol CloseParen ∷ r) (λ k. refl)) (λ p. done)
-
-equation_gets : (a : trees.TermTree) (e : Bool) (b : trees.TermTree) (at : ℕ) (r : Tokens) → NoDot r
-    → Gets (λ m. forms.equation_of at (trees.literal_then (trees.EqualityLiteral a e b) r))
-    (trees.EqualityLiteral a e b) r
-equation_gets a e b at r h =
-    let other = trees.term_then b r in
-    then _ (term_gets a at (Symbol (trees.equality_symbol e) ∷ other) (equality_is_no_dot e other)) (λ p.
-    then _ (equality_gets e p other) (λ p. then _ (term_gets b p r h) (λ p. done)))
-
-literal_gets : (l : trees.LiteralTree) (at : ℕ) (r : Tokens) → NoDot r
-    → Gets (λ m. forms.literal_of at (trees.literal_then l r)) l r
-literal_gets (trees.FlagLiteral (trees.RetiredFlag k)) at r h = done
-literal_gets (trees.FlagLiteral (trees.MarkedFlag p)) at r h =
-    then _ (flag_gets (trees.MarkedFlag p) at r) (λ p. done)
-literal_gets (trees.NotLiteral f) at r h = then _ (flag_gets f (at + 1) r) (λ p. done)
-literal_gets (trees.EqualityLiteral (trees.PlaceTerm (trees.PlaceOf k f)) e b) at r h =
-    equation_gets (trees.PlaceTerm (trees.PlaceOf k f)) e b at r h
-literal_gets (trees.EqualityLiteral trees.NullTerm e b) at r h = equation_gets trees.NullTerm e b at r h
-literal_gets (trees.EqualityLiteral (trees.NumberTerm k) e b) at r h = equation_gets (trees.NumberTerm k) e b at r h
-literal_gets (trees.EqualityLiteral trees.MeTerm e b) at r h = equation_gets trees.MeTerm e b at r h
-literal_gets (trees.EqualityLiteral trees.NoneTerm e b) at r h = equation_gets trees.NoneTerm e b at r h
-
 -- what follows a literal is no dot
 or_is_no_dot : (ls : List trees.LiteralTree) (r : Tokens)
     → NoDot (each_then trees.or_literal_then ls (Symbol Semicolon ∷ r))
@@ -408,26 +192,10 @@ or_is_no_dot (l ∷ ls) r k = refl
 or_literals_get : (ls : List trees.LiteralTree) (at : ℕ) (r : Tokens)
     → Gets (λ m. forms.or_literals_of m at (each_then trees.or_literal_then ls (Symbol Semicolon ∷ r))) ls
     (Symbol Semicolon ∷ r)
-or_literals_get ls at r = list_gets trees.or_literal_then forms.begins_or (λ m at ts. forms.or_literal_of at ts)
+or_literals_get ls at r = list_gets trees.or_literal_then forms.begins_or (λ m at ts. or_literal_of at ts)
     (λ l q. refl) (Symbol Semicolon ∷ r) refl
     (λ l at ls. literal_gets l (at + 1) (each_then trees.or_literal_then ls (Symbol Semicolon ∷ r)) (or_is_no_dot ls r))
     ls at
-
-bound_of_literal : (l : trees.LiteralTree) (q : Tokens) → Leaves forms.bound_next (trees.literal_then l q)
-bound_of_literal (trees.FlagLiteral (trees.RetiredFlag k)) q = refl
-bound_of_literal (trees.FlagLiteral (trees.MarkedFlag p)) q = refl
-bound_of_literal (trees.NotLiteral f) q = refl
-bound_of_literal (trees.EqualityLiteral (trees.PlaceTerm (trees.PlaceOf k f)) e b) q = refl
-bound_of_literal (trees.EqualityLiteral trees.NullTerm e b) q = refl
-bound_of_literal (trees.EqualityLiteral (trees.NumberTerm k) e b) q = refl
-bound_of_literal (trees.EqualityLiteral trees.MeTerm e b) q = refl
-bound_of_literal (trees.EqualityLiteral trees.NoneTerm e b) q = refl
-
-bound_gets : (b : trees.BoundTree) (at : ℕ) (r : Tokens) → Leaves forms.bound_next r
-    → Gets (λ m. forms.bound_of at (trees.bound_then b r)) b r
-bound_gets trees.NoBound at r h = gets_by (λ m. left_out forms.bound_next (Ok (trees.NoBound, at, r)) at r h) done
-bound_gets (trees.AllOf k None) at r h = done
-bound_gets (trees.AllOf k (Some j)) at r h = done
 
 clause_gets : (c : trees.ClauseTree) (at : ℕ) (r : Tokens)
     → Gets (λ m. forms.clause_of m at (trees.clause_then c (Symbol Semicolon ∷ r))) c r
@@ -453,16 +221,11 @@ items_get is at r = list_gets trees.item_then forms.begins_item (λ m at ts. for
 
 -- items and a closing brace are no depth
 no_depth : (is : List trees.ItemTree) (r : Tokens)
-    → Leaves forms.depth_next (each_then trees.item_then is (Symbol CloseBrace ∷ r))
+    → Leaves depth_next (each_then trees.item_then is (Symbol CloseBrace ∷ r))
 no_depth [] r = refl
 no_depth (trees.InvariantItem c ∷ is) r = refl
 no_depth (trees.OverItem k c ∷ is) r = refl
 no_depth (trees.AtItem k ks c ∷ is) r = refl
-
-depth_gets : (d : Option ℕ) (at : ℕ) (r : Tokens) → Leaves forms.depth_next r
-    → Gets (λ m. forms.depth_of at (maybe_then trees.depth_then d r)) d r
-depth_gets None at r h = gets_by (λ m. left_out forms.depth_next (Ok (None, at, r)) at r h) done
-depth_gets (Some d) at r h = done
 
 pub outline_gets : (o : trees.OutlineTree) (at : ℕ) (r : Tokens)
     → Gets (λ m. forms.outline_of m at (trees.outline_then o r)) o r
@@ -471,20 +234,6 @@ outline_gets (trees.Outlined d is) at r =
     then _ (items_get is p r) (λ p. done))
 
 -- ---- declarations
-
-function_gets : (f : trees.FunctionTree) (at : ℕ) (r : Tokens)
-    → Gets (λ m. forms.function_of at (trees.function_then f r)) f r
-function_gets (trees.Declares k true) at r = done
-function_gets (trees.Declares k false) at r = done
-
-scheme_gets : (w : trees.WatchTree) (at : ℕ) (r : Tokens) → Gets (λ m. forms.scheme_of at (trees.scheme_then w r)) w r
-scheme_gets (trees.UseHazard f) at r = done
-scheme_gets (trees.UseEpoch e l) at r = done
-
-watch_gets : (w : Option trees.WatchTree) (at : ℕ) (r : Tokens) → Leaves forms.watch_next r
-    → Gets (λ m. forms.watch_of at (maybe_then trees.watch_then w r)) w r
-watch_gets None at r h = gets_by (λ m. left_out forms.watch_next (Ok (None, at, r)) at r h) done
-watch_gets (Some w) at r h = then _ (scheme_gets w (at + 1) r) (λ p. done)
 
 ghost_gets : (g : trees.GhostTree) (at : ℕ) (r : Tokens) → Gets (λ m. forms.ghost_of m at (trees.ghost_then g r)) g r
 ghost_gets (trees.Auxiliary k (trees.OneOf v vs)) at r =
@@ -551,9 +300,9 @@ no_function : (f : trees.FileTree) → first_is forms.begins_function (maybe_the
 no_function f = watch_is (λ ts. first_is forms.begins_function ts ≡ false) refl (λ us. refl) (λ us. refl) (λ us. refl)
     (λ us. refl) (λ us. refl) f.watched f.ghosts f.starts f.ops f.outlined
 
-no_watch : (f : trees.FileTree) → Leaves forms.watch_next (each_then trees.ghost_then f.ghosts
+no_watch : (f : trees.FileTree) → Leaves watch_next (each_then trees.ghost_then f.ghosts
     (maybe_then trees.init_then f.starts (each_then trees.op_then f.ops (maybe_then trees.outline_then f.outlined []))))
-no_watch f = ghosts_are (λ ts. Leaves forms.watch_next ts) tt (λ us. refl) (λ us. refl) (λ us. refl) (λ us. refl)
+no_watch f = ghosts_are (λ ts. Leaves watch_next ts) tt (λ us. refl) (λ us. refl) (λ us. refl) (λ us. refl)
     f.ghosts f.starts f.ops f.outlined
 
 no_ghost : (f : trees.FileTree) → first_is forms.begins_ghost (maybe_then trees.init_then f.starts
@@ -586,12 +335,12 @@ ghosts_get gs at r none = list_gets trees.ghost_then forms.begins_ghost (λ m at
 
 functions_get : (fs : List trees.FunctionTree) (at : ℕ) (r : Tokens) → first_is forms.begins_function r ≡ false
     → Gets (λ m. forms.functions_of m at (each_then trees.function_then fs r)) fs r
-functions_get fs at r none = list_gets trees.function_then forms.begins_function (λ m at ts. forms.function_of at ts)
+functions_get fs at r none = list_gets trees.function_then forms.begins_function (λ m at ts. function_of at ts)
     function_begun r none (λ f at fs. function_gets f at (each_then trees.function_then fs r)) fs at
 
 pointers_get : (ps : List Text) (at : ℕ) (r : Tokens) → first_is forms.begins_shared r ≡ false
     → Gets (λ m. forms.pointers_of m at (each_then trees.shared_then ps r)) ps r
-pointers_get ps at r none = list_gets trees.shared_then forms.begins_shared (λ m at ts. forms.shared_of at ts)
+pointers_get ps at r none = list_gets trees.shared_then forms.begins_shared (λ m at ts. shared_of at ts)
     (λ k q. refl) r none (λ k at ks. done) ps at
 
 struct_gets : (k : Text) (fs : List trees.FieldTree) (at : ℕ) (r : Tokens)

@@ -1,16 +1,16 @@
 -- An outline at the front of tokens is read whatever stands after it, and where none is read none stands there.
-use Rattle.std.proofs.Common.{◌≡◌, ◌∙◌, ◌+◌, ◌≤◌, ℕ, [], ◌∷◌, Ok, Err, refl, sym, ap, arith}
+use Rattle.std.proofs.Common.{◌≡◌, ◌∙◌, ◌+◌, ℕ, [], ◌∷◌, Ok, Err, refl, sym, ap, arith}
 use Rattle.plc_syntax.specs.Syntax.{HasOutline}
 use Rattle.plc_syntax.specs.Trees.{OutlineTree, outline_then}
-use Rattle.plc_tree.specs.declared.fault.Fault.{Fault}
-use Rattle.plc_tree.specs.declared.fault.Fault.TheVariants as faults
-use Rattle.plc_tree.specs.Answers.{FailsAs}
+use Rattle.plc_syntax.specs.declared.fault.Fault.{Fault}
+use Rattle.plc_syntax.specs.declared.fault.Fault.TheVariants as faults
+use Rattle.plc_syntax.specs.Answers.{FailsAs}
+use Rattle.plc_syntax.proofs.Combinators.{Tokens, same, SameHead, Stuck}
 use Rattle.plc_tree.specs.Forms.{outline_of}
 use Rattle.plc_tree.specs.Whole.{OutlineStops}
 use Rattle.plc_tree.proofs.Again.{outline_gets}
 use Rattle.plc_tree.proofs.Exact.{fuel, answer_is, stuck_answer}
 use Rattle.plc_tree.proofs.FormLaws.{outline_law}
-use Rattle.plc_tree.proofs.Laws.{Tokens, same, SameHead, Stuck}
 
 head_same : (ts : Tokens) → SameHead ts ts
 head_same [] = refl
@@ -19,7 +19,8 @@ head_same (t ∷ ts) = (ts, refl)
 pub outline_there : (ts : Tokens) (n : ℕ) (x : OutlineTree) (after : ℕ) (r : Tokens) → n ≡ fuel ts
     → outline_of n 0 ts ≡ Ok (x, after, r) → ts ≡ outline_then x r
 outline_there ts n x after r l e =
-    let h = (answer_is outline_then outline_of outline_law (λ x. outline_gets x 0 []) ts n (Ok (x, after, r)) l e).read in
+    let h = (answer_is outline_then outline_of outline_law (λ x. outline_gets x 0 []) ts n (Ok (x, after, r)) l
+    e).read in
     h.split ∙ sym (h.spelled r)
 
 -- what is refused is refused with any more fuel, and an outline's tokens are read with enough

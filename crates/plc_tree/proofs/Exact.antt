@@ -6,15 +6,18 @@ use Rattle.std.proofs.lemmas.Bool.{eqb-true}
 use Rattle.std.proofs.lemmas.List.{append_assoc, append-nil, length-append}
 use Rattle.plc_lex.specs.declared.token.TokenKind.{TokenKind}
 use Rattle.plc_lex.specs.declared.token.Token.{Token}
-use Rattle.plc_syntax.specs.Syntax.{kinds, AreWhole, Begin, StopAt}
+use Rattle.plc_syntax.specs.Syntax.{kinds, Begin, StopAt}
 use Rattle.plc_syntax.specs.Trees.{FileTree, file_then}
-use Rattle.plc_tree.specs.declared.fault.Fault.{Fault}
-use Rattle.plc_tree.specs.declared.fault.Fault.TheVariants as faults
-use Rattle.plc_tree.specs.Answers.{FailsAs, StopsThere}
-use Rattle.plc_tree.specs.Forms.{Read, file_of}
-use Rattle.plc_tree.proofs.Again.{Gets, file_gets}
+use Rattle.plc_syntax.specs.declared.fault.Fault.{Fault}
+use Rattle.plc_syntax.specs.declared.fault.Fault.TheVariants as faults
+use Rattle.plc_syntax.specs.Answers.{FailsAs}
+use Rattle.plc_syntax.specs.Forms.{Read}
+use Rattle.plc_syntax.proofs.Again.{Gets}
+use Rattle.plc_syntax.proofs.Combinators.{Tokens, Spells, Reader, same, SameHead, Whole, Stuck, Is, Law}
+use Rattle.plc_tree.specs.Answers.{StopsThere}
+use Rattle.plc_tree.specs.Forms.{file_of}
+use Rattle.plc_tree.proofs.Again.{file_gets}
 use Rattle.plc_tree.proofs.FormLaws.{file_law}
-use Rattle.plc_tree.proofs.Laws.{Tokens, Spells, Reader, same, SameHead, Whole, Stuck, Is, Law}
 
 -- fuel for all of the tokens
 abbrev pub fuel : Tokens → ℕ

@@ -2,7 +2,6 @@ pub mod Again
 pub mod AtFront
 pub mod Exact
 pub mod FormLaws
-pub mod Laws
 pub mod Loops
 pub mod Nested
 pub mod Places

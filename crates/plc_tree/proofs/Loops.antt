@@ -1,14 +1,15 @@
 -- A list that a loop reads: the items so far, before what is still to be read. One law for all lists; then the lists.
-use Rattle.std.proofs.Common.{◌≡◌, ◌∙◌, ℕ, zero, suc, Bool, true, false, cond, List, [], ◌∷◌, ◌++◌, Result, Ok, Err}
-use Rattle.std.proofs.Common.{map, refl, sym, ap}
+use Rattle.std.proofs.Common.{◌≡◌, ◌∙◌, ℕ, suc, Bool, true, false, cond, List, [], ◌∷◌, ◌++◌, Ok, Err, map, refl, sym}
+use Rattle.std.proofs.Common.{ap}
 use Rattle.plc_lex.specs.declared.token.TokenKind.{TokenKind}
-use Rattle.plc_tree.specs.declared.fault.Fault.{Fault}
-use Rattle.plc_tree.specs.declared.fault.Fault.TheVariants as faults
-use Rattle.plc_tree.specs.declared.tree.Stmt.{Stmt}
+use Rattle.plc_syntax.specs.declared.fault.Fault.{Fault}
+use Rattle.plc_syntax.specs.declared.fault.Fault.TheVariants as faults
 use Rattle.plc_syntax.specs.Trees.{StatementTree, BlockTree, NoStatement, Then, OrTree, NoOr, OrBlock}
-use Rattle.plc_tree.specs.Forms.{Read, ◌>>=◌, first_is, list_of, begins_statement, begins_or, or_block_of}
-use Rattle.plc_tree.specs.Forms.{statement_of, statements_of, ors_of, block_of}
-use Rattle.plc_tree.specs.Answers.{FailsAs}
+use Rattle.plc_syntax.specs.Forms.{Read, ◌>>=◌, first_is, list_of}
+use Rattle.plc_syntax.specs.Answers.{FailsAs}
+use Rattle.plc_tree.specs.declared.tree.Stmt.{Stmt}
+use Rattle.plc_tree.specs.Forms.{begins_statement, begins_or, or_block_of, statement_of, statements_of, ors_of}
+use Rattle.plc_tree.specs.Forms.{block_of}
 use Rattle.plc_tree.specs.Views.{statement_tree, block_tree, ors_tree}
 
 abbrev Tokens : Type 0

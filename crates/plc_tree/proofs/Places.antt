@@ -1,20 +1,22 @@
 -- Of the answers one holds, at one place: what begins a tree's tokens begins them from any of its prefixes on, so that
 -- two faults can't be at two places. For any reader with the law that reads every tree again.
-use Rattle.std.proofs.Common.{◌≡◌, ◌⊎◌, ◌∙◌, ◌+◌, ◌<◌, ◌≤◌, ℕ, List, [], ◌∷◌, ◌++◌, length, take, drop, Ok, Err}
-use Rattle.std.proofs.Common.{refl, sym, ap, subst, arith, inl, inr}
+use Rattle.std.proofs.Common.{◌≡◌, ◌⊎◌, ◌∙◌, ◌+◌, ◌<◌, ◌≤◌, ℕ, [], ◌∷◌, ◌++◌, length, take, drop, Ok, Err, refl, sym}
+use Rattle.std.proofs.Common.{ap, subst, arith, inl, inr}
 use Rattle.std.proofs.lemmas.Bool.{cases_lt, cases_order}
 use Rattle.std.proofs.lemmas.List.{append_assoc, append-nil, take-append-drop, take-take}
 use Rattle.std.proofs.lemmas.Option.{slice_get_within}
 use Rattle.plc_lex.specs.declared.token.TokenKind.{TokenKind}
 use Rattle.plc_syntax.specs.Faults.{SyntaxFaultsAreOne}
-use Rattle.plc_syntax.specs.Nesting.{NoneTooDeep, SyntaxFaultAt, NestingFaultAt}
+use Rattle.plc_syntax.specs.Nesting.{SyntaxFaultAt, NestingFaultAt}
 use Rattle.plc_syntax.specs.Syntax.{AreWhole, Begin, StopAt, IsFile, FaultAt}
 use Rattle.plc_syntax.specs.Trees.{FileTree, file_then, file_tokens, outline_then}
-use Rattle.plc_tree.specs.Forms.{Read, file_of, outline_of}
-use Rattle.plc_tree.proofs.Again.{Gets, file_gets, outline_gets}
+use Rattle.plc_syntax.specs.Forms.{Read}
+use Rattle.plc_syntax.proofs.Again.{Gets}
+use Rattle.plc_syntax.proofs.Combinators.{Tokens, Spells, Reader, same, SameHead, Whole, Stuck, Is, Law}
+use Rattle.plc_tree.specs.Forms.{file_of, outline_of}
+use Rattle.plc_tree.proofs.Again.{file_gets, outline_gets}
 use Rattle.plc_tree.proofs.Exact.{fuel, no_other, not_none}
 use Rattle.plc_tree.proofs.FormLaws.{file_law, outline_law}
-use Rattle.plc_tree.proofs.Laws.{Tokens, Spells, Reader, same, SameHead, Whole, Stuck, Is, Law}
 
 module _ {X : Type 0} (s : Spells X) (f : Reader X) (law : (n : ℕ) → Law n s same f)
     (again : (x : X) → Gets (λ m. f m 0 (s x [])) x []) where
@@ -36,8 +38,13 @@ module _ {X : Type 0} (s : Spells X) (f : Reader X) (law : (n : ℕ) → Law n s
       → Begin s p ⊎ NoneBegins p
   when_stuck p place h [] e =
       let front = h.split ∙ ap (λ us. h.passed ++ us) e ∙ append-nil h.passed in
-      inl (h.tree, h.rest, h.fine, h.goes_on [] ∙ ap (λ us. h.passed ++ us) (append-nil h.rest)
-      ∙ ap (λ us. us ++ h.rest) (sym front))
+      inl (
+        h.tree,
+        h.rest,
+        h.fine,
+        h.goes_on [] ∙ ap (λ us. h.passed ++ us) (append-nil h.rest)
+            ∙ ap (λ us. us ++ h.rest) (sym front),
+      )
   when_stuck p place h (t ∷ r) e = inr (not_begun p h.passed t r (λ us. Err place)
       (h.split ∙ ap (λ us. h.passed ++ us) e)
       (λ m q k. h.alike m (t ∷ q) k (subst (λ us. SameHead us (t ∷ q)) (sym e) (q, refl))) (λ x a q e. cc))

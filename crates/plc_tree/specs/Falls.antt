@@ -1,11 +1,11 @@
 -- A block within a statement is smaller than the block in which the statement stands.
-use Rattle.std.specs.Prelude.{◌+◌, ◌≤◌, List, [], ◌∷◌, Option, Some, None}
+use Rattle.std.specs.Prelude.{◌+◌, ◌≤◌, List, [], ◌∷◌, Some, None}
 use Rattle.std.proofs.Common.{arith}
 use denote.Param.Weighed.{most}
+use Rattle.plc_syntax.specs.Trees.{BlockTree}
 use Rattle.plc_tree.specs.declared.tree.Stmt.{Stmt}
 use Rattle.plc_tree.specs.declared.tree.Stmt.TheVariants as stmts
 use Rattle.plc_tree.specs.declared.tree.Block.TheDeep.{deep-Stmt}
-use Rattle.plc_syntax.specs.Trees.{BlockTree}
 use Rattle.plc_tree.specs.Postorder.{statement_size, block_size, ors_size}
 use Rattle.plc_tree.specs.Views.{statement_tree, block_tree, ors_tree}
 

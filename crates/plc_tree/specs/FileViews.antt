@@ -1,14 +1,14 @@
 -- The trees of operations and of a file.
 use Rattle.std.specs.Prelude.{List, [], ◌∷◌, map, None}
 use Rattle.plc_syntax.specs.Trees.{Text, FieldTree, OpTree, Operates, FileTree}
-use Rattle.plc_forms.specs.Views.{text_of, field_tree, function_tree}
+use Rattle.plc_syntax.specs.Views.{text_of, field_tree, function_tree, shared_name, watched_tree}
 use Rattle.plc_tree.specs.declared.operation.Parameters.{Parameters}
 use Rattle.plc_tree.specs.declared.operation.Parameters.TheVariants as parameters
 use Rattle.plc_tree.specs.declared.operation.Operation.{Operation}
 use Rattle.plc_tree.specs.declared.file.Struct.{Struct}
 use Rattle.plc_tree.specs.declared.file.Heading.{Heading}
 use Rattle.plc_tree.specs.declared.file.File.{File}
-use Rattle.plc_tree.specs.FormViews.{shared_name, auxiliary_tree, watched_tree, starts_tree, outlined_tree}
+use Rattle.plc_tree.specs.FormViews.{auxiliary_tree, starts_tree, outlined_tree}
 
 -- the names of parameters
 abbrev pub parameters_names : Parameters → List Text

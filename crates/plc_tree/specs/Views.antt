@@ -1,10 +1,9 @@
 -- The trees of the program's forms. Names are those of the tokens, so a form stands for the tree with their bytes.
 use Rattle.std.specs.Prelude.{List, [], ◌∷◌, Option, Some, None, map}
-use Rattle.plc_syntax.specs.Trees.{Text, FileTree, StatementTree, PrimitiveStatement, AtomicStatement, CallStatement}
-use Rattle.plc_syntax.specs.Trees.{IfStatement, ChooseStatement, LoopStatement, BreakStatement, ReturnStatement}
-use Rattle.plc_syntax.specs.Trees.{LabelStatement, BlockTree, NoStatement, Then, ElseTree, NoElse, ElseBlock, OrTree}
-use Rattle.plc_syntax.specs.Trees.{NoOr, OrBlock}
-use Rattle.plc_forms.specs.Views.{text_or_none, primitive_tree, condition_tree, argument_tree}
+use Rattle.plc_syntax.specs.Trees.{StatementTree, PrimitiveStatement, AtomicStatement, CallStatement, IfStatement}
+use Rattle.plc_syntax.specs.Trees.{ChooseStatement, LoopStatement, BreakStatement, ReturnStatement, LabelStatement}
+use Rattle.plc_syntax.specs.Trees.{BlockTree, NoStatement, Then, ElseTree, NoElse, ElseBlock, OrTree, NoOr, OrBlock}
+use Rattle.plc_syntax.specs.Views.{text_or_none, primitive_tree, condition_tree, argument_tree}
 use Rattle.plc_tree.specs.declared.tree.Stmt.{Stmt}
 use Rattle.plc_tree.specs.declared.tree.Stmt.TheVariants as stmts
 

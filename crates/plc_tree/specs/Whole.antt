@@ -2,8 +2,8 @@
 use Rattle.std.specs.Prelude.{◌≡◌, ◌⊎◌, List, Result, Ok, Err}
 use Rattle.plc_lex.specs.declared.token.TokenKind.{TokenKind}
 use Rattle.plc_syntax.specs.Syntax.{OutlineFaultAt}
-use Rattle.plc_tree.specs.declared.fault.Fault.{Fault}
-use Rattle.plc_tree.specs.declared.fault.Fault.TheVariants as faults
+use Rattle.plc_syntax.specs.declared.fault.Fault.{Fault}
+use Rattle.plc_syntax.specs.declared.fault.Fault.TheVariants as faults
 
 -- the answer is the wanted one only where the fact holds, and there it is the wanted one or memory ran out
 pub record IsExactly {A E : Type 0} (memory : E) (answer wanted : Result A E) (fact : Type 0) : Type 0 where

@@ -1,18 +1,17 @@
 // Auxiliary fields, and the init block.
-ghost use Rattle.std.specs.Prelude.{◌≡◌, ◌+◌, map};
+ghost use Rattle.std.specs.Prelude.{◌≡◌, map};
 ghost use Rattle.plc_syntax.specs.Syntax.{kinds};
-ghost use Rattle.plc_forms.specs.Views.{initial_tree};
+ghost use Rattle.plc_syntax.specs.Views.{initial_tree};
+ghost use Rattle.plc_syntax.specs.Answers.{Gives};
 ghost use Rattle.plc_tree.specs.Forms.{values_of, ghost_kind_of, ghost_tail_of, begins_ghost, ghost_of, init_tail_of};
 ghost use Rattle.plc_tree.specs.Forms.{init_of};
 ghost use Rattle.plc_tree.specs.FormViews.{kind_tree, auxiliary_tree, starts_tree};
-ghost use Rattle.plc_tree.specs.Answers.{Gives};
 
 use crate::form::{Auxiliary, AuxiliaryKind};
-use crate::front::{Read, first, name_at, stuck, symbol_at};
 use crate::list::{Listed, list_at};
 use plc_base::Items;
-use plc_forms::{Initial, Rest};
 use plc_lex::{Keyword, Symbol, TokenKind};
+use plc_syntax::{Initial, Read, Rest, first, name_at, stuck, symbol_at};
 use std::alloc::Global;
 
 /// The values of an auxiliary field, from after the opening brace.

@@ -1,19 +1,18 @@
 // Blocks, and the statements that hold blocks. Each statement takes a token, so fewer stand after and
 // within one another than there are tokens: `most` is above that number, and ends the recursion. How
 // deep blocks are nested is judged before, on the tokens, so that the recursion is 65 deep at most.
-ghost use Rattle.std.specs.Prelude.{◌≡◌, ◌+◌};
+ghost use Rattle.std.specs.Prelude.{◌≡◌};
 ghost use Rattle.plc_syntax.specs.Syntax.{kinds};
-ghost use Rattle.plc_tree.specs.Forms.{begins_statement, begins_or, first_is, braced_of, loop_of, else_of, if_of};
-ghost use Rattle.plc_tree.specs.Forms.{or_block_of, ors_of, choose_of, statement_of, statements_of, block_of};
-ghost use Rattle.plc_tree.specs.Answers.{Gives};
+ghost use Rattle.plc_syntax.specs.Forms.{first_is};
+ghost use Rattle.plc_syntax.specs.Answers.{Gives};
+ghost use Rattle.plc_tree.specs.Forms.{begins_statement, begins_or, braced_of, loop_of, else_of, if_of, or_block_of};
+ghost use Rattle.plc_tree.specs.Forms.{ors_of, choose_of, statement_of, statements_of, block_of};
 ghost use Rattle.plc_tree.specs.Views.{statement_tree, else_tree, ors_tree};
 
-use crate::condition::condition_at;
-use crate::front::{Read, first, stuck, symbol_at, word_at};
 use crate::statement::{atomic_at, ended_at, label_at, named_statement_at, step_at};
 use crate::tree::{Block, Stmt};
-use plc_forms::Rest;
 use plc_lex::{Keyword, Symbol, TokenKind};
+use plc_syntax::{Read, Rest, condition_at, first, stuck, symbol_at, word_at};
 use std::alloc::Global;
 
 /// Whether a statement that is no primitive begins with a word.

@@ -1,17 +1,4 @@
-// Why tokens are refused. That memory ran out is the one answer that no contract ties to a cause.
-ghost use Rattle.std.specs.Prelude.{◌≡◌};
-ghost use Rattle.plc_tree.specs.declared.fault.Fault.TheVariants.{Memory};
-
-use std::alloc::{AllocError, AllocFailed};
-
-/// Why no tree is read. A place counts tokens from 0.
-#[derive(Clone, Copy)]
-pub enum Fault {
-    /// No tree's tokens begin with those up to and with this one.
-    Syntax { at: u32 },
-    /// Memory ran out.
-    Memory,
-}
+// The faults of a whole file: beside those of a reader, a block that stands too deep.
 
 /// Why the tokens of a whole file are refused. A place counts tokens from 0.
 #[derive(Clone, Copy, Debug, PartialEq, Eq)]
@@ -23,20 +10,4 @@ pub enum SyntaxFault {
     Nesting { at: u32 },
     /// Memory ran out.
     Memory,
-}
-
-impl From<AllocError> for Fault {
-    ghost from_gives = { λ _ e. e ≡ Memory };
-
-    fn from(_e: AllocError) -> Fault {
-        Fault::Memory
-    }
-}
-
-impl<T: Drop> From<AllocFailed<T>> for Fault {
-    ghost from_gives = { λ _ e. e ≡ Memory };
-
-    fn from(_e: AllocFailed<T>) -> Fault {
-        Fault::Memory
-    }
 }

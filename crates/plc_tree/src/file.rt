@@ -2,27 +2,29 @@
 // another is judged before, on the tokens: where a block stands too deep, the tokens are cut off after
 // its brace and read. A fault at or before the brace is the fault of the syntax, and with any other
 // answer the tokens up to the brace begin a file. So no reader of forms counts blocks.
-ghost use Rattle.std.specs.Prelude.{◌≡◌, ◌+◌, ◌<◌, ◌^◌, ℕ, [], length, IfOk, IfErr};
+ghost use Rattle.std.specs.Prelude.{◌≡◌, ◌+◌, ◌<◌, ◌^◌, ℕ, length, IfOk, IfErr};
 ghost use Rattle.plc_syntax.specs.Nesting.{NoneTooDeep, SyntaxFaultAt, NestingFaultAt};
 ghost use Rattle.plc_syntax.specs.Syntax.{kinds, IsFile};
 ghost use Rattle.plc_syntax.specs.Trees.{file_tokens};
+ghost use Rattle.plc_syntax.specs.Answers.{Gives};
 ghost use Rattle.plc_tree.specs.Forms.{struct_of, heading_of, file_of};
 ghost use Rattle.plc_tree.specs.FileViews.{struct_parts, heading_tree, file_tree};
-ghost use Rattle.plc_tree.specs.Answers.{Gives, StopsThere, FaultsUpTo};
+ghost use Rattle.plc_tree.specs.Answers.{StopsThere, FaultsUpTo};
 ghost use Rattle.plc_tree.specs.Whole.{IsExactly, IsReadWhere};
 
 use crate::auxiliary::init_at;
-use crate::declaration::watch_at;
-use crate::fault::{Fault, SyntaxFault};
-use crate::form::{Auxiliary, Outline, Shared};
-use crate::front::{Read, name_at, stuck, symbol_at, word_at};
+use crate::fault::SyntaxFault;
+use crate::form::{Auxiliary, Outline};
 use crate::list::list_at;
 use crate::nesting::first_too_deep;
 use crate::operation::Operation;
 use crate::outline::outlined_at;
 use plc_base::Items;
-use plc_forms::{Declaration, Function, Initial, Rest, Watch};
 use plc_lex::{Keyword, Symbol, Token};
+use plc_syntax::{
+    Declaration, Fault, Function, Initial, Read, Rest, Shared, Watch, name_at, stuck, symbol_at,
+    watch_at, word_at,
+};
 use std::alloc::Global;
 
 /// The struct of a file: the name of nodes, and their fields.

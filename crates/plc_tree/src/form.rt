@@ -1,14 +1,7 @@
-// Forms for which `plc_forms` has no type: those of an outline, and declarations that hold a list. They
-// borrow the bytes of names from the tokens, so only their lists take memory.
+// Forms that hold a list. They borrow the bytes of names from the tokens, so only their lists take memory.
 
 use plc_base::Items;
-use plc_forms::Place;
-
-/// A shared pointer, by its name.
-#[derive(Clone, Copy)]
-pub struct Shared<'a> {
-    pub name: &'a [u8],
-}
+use plc_syntax::{Bound, Literal};
 
 /// What an auxiliary field holds.
 #[derive(Drop)]
@@ -24,40 +17,6 @@ pub enum AuxiliaryKind<'a> {
 pub struct Auxiliary<'a> {
     pub name: &'a [u8],
     pub kind: AuxiliaryKind<'a>,
-}
-
-/// A side of an equation.
-#[derive(Clone, Copy)]
-pub enum Term<'a> {
-    Place(Place<'a>),
-    Null,
-    Number(u32),
-    Me,
-    None,
-}
-
-/// What a literal says of a node or of a place.
-#[derive(Clone, Copy)]
-pub enum Flag<'a> {
-    Retired(&'a [u8]),
-    Marked(Place<'a>),
-}
-
-/// A literal.
-#[derive(Clone, Copy)]
-pub enum Literal<'a> {
-    Flag(Flag<'a>),
-    /// The flag is denied.
-    Not(Flag<'a>),
-    /// Two sides, and whether they are said to be equal.
-    Equation(Term<'a>, bool, Term<'a>),
-}
-
-/// The quantified names of a clause.
-#[derive(Clone, Copy)]
-pub enum Bound<'a> {
-    None,
-    All(&'a [u8], Option<&'a [u8]>),
 }
 
 /// A clause: its quantified names, its first literal, and the others.

@@ -6,30 +6,21 @@
 mod auxiliary;
 mod block;
 mod clause;
-mod condition;
-mod declaration;
 mod fault;
 mod file;
 mod form;
-mod front;
-mod initial;
-
+mod leaf;
 mod list;
-mod name;
 mod nesting;
 mod one_fault;
 mod operation;
 mod outline;
-mod primitive;
 mod statement;
 mod tree;
-mod value;
 
-pub use fault::{Fault, SyntaxFault};
+pub use fault::SyntaxFault;
 pub use file::{File, Heading, Struct, file_tree};
-pub use form::{
-    Auxiliary, AuxiliaryKind, Bound, Clause, Flag, Item, Literal, Outline, Shared, Term,
-};
+pub use form::{Auxiliary, AuxiliaryKind, Clause, Item, Outline};
 pub use one_fault::syntax_faults_are_one;
 pub use operation::{Operation, Parameters};
 pub use outline::outline_tree;

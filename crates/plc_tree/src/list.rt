@@ -3,20 +3,19 @@
 // above that number, and ends the loop.
 ghost use Rattle.std.specs.Prelude.{◌≡◌, ◌+◌, map};
 ghost use Rattle.plc_syntax.specs.Syntax.{kinds};
-ghost use Rattle.plc_tree.specs.Forms.{first_is, list_of};
-ghost use Rattle.plc_tree.specs.Answers.{Gives};
+ghost use Rattle.plc_syntax.specs.Forms.{first_is, list_of};
+ghost use Rattle.plc_syntax.specs.Answers.{Gives};
 
-use crate::front::{Read, first, stuck};
 use plc_base::Items;
-use plc_forms::Rest;
 use plc_lex::TokenKind;
+use plc_syntax::{Read, Rest, first, stuck};
 use std::alloc::Global;
 
 /// What a list is made of.
 pub trait Listed<'a>: Sized + Drop {
     ghost use Rattle.std.specs.Prelude.{ℕ, Bool, List};
     ghost use Rattle.plc_lex.specs.declared.token.TokenKind.{TokenKind as Kind};
-    ghost use Rattle.plc_tree.specs.Forms.{Read as ReadAs};
+    ghost use Rattle.plc_syntax.specs.Forms.{Read as ReadAs};
 
     ghost Tree: { Type 0 };
 

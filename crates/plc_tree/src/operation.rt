@@ -1,17 +1,16 @@
 // An operation.
-ghost use Rattle.std.specs.Prelude.{◌≡◌, ◌+◌};
+ghost use Rattle.std.specs.Prelude.{◌≡◌};
 ghost use Rattle.plc_syntax.specs.Syntax.{kinds};
+ghost use Rattle.plc_syntax.specs.Answers.{Gives};
 ghost use Rattle.plc_tree.specs.Forms.{parameters_of, op_tail_of, begins_op, op_of};
 ghost use Rattle.plc_tree.specs.FileViews.{parameters_names, operation_tree};
-ghost use Rattle.plc_tree.specs.Answers.{Gives};
 
 use crate::block::block_at;
-use crate::front::{Read, first, name_at, stuck, symbol_at};
 use crate::list::{Listed, list_at};
 use crate::tree::Block;
 use plc_base::Items;
-use plc_forms::{Declaration, Rest};
 use plc_lex::{Keyword, Symbol, TokenKind};
+use plc_syntax::{Declaration, Read, Rest, first, name_at, stuck, symbol_at};
 use std::alloc::Global;
 
 /// The parameters of an operation, of which there may be none.

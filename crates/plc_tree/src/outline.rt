@@ -2,19 +2,16 @@
 ghost use Rattle.std.specs.Prelude.{◌≡◌, ◌+◌, ◌<◌, ◌^◌, length, IfOk, IfErr};
 ghost use Rattle.plc_syntax.specs.Syntax.{kinds};
 ghost use Rattle.plc_syntax.specs.Trees.{outline_then};
-ghost use Rattle.plc_tree.specs.Forms.{over_of, at_of, begins_item, item_of, depth_of, outline_tail_of, outline_of};
-ghost use Rattle.plc_tree.specs.Forms.{outlined_of};
+ghost use Rattle.plc_syntax.specs.Answers.{Gives};
+ghost use Rattle.plc_tree.specs.Forms.{over_of, at_of, begins_item, item_of, outline_tail_of, outline_of, outlined_of};
 ghost use Rattle.plc_tree.specs.FormViews.{item_tree, outline_tree, outlined_tree};
-ghost use Rattle.plc_tree.specs.Answers.{Gives};
 ghost use Rattle.plc_tree.specs.Whole.{OutlineStops};
 
 use crate::clause::clause_at;
-use crate::fault::Fault;
 use crate::form::{Item, Outline};
-use crate::front::{Read, first, name_at, number_at, stuck, symbol_at, word_at};
 use crate::list::{Listed, list_at};
-use plc_forms::Rest;
 use plc_lex::{Keyword, Symbol, Token, TokenKind};
+use plc_syntax::{Fault, Read, Rest, depth_at, first, name_at, stuck, symbol_at, word_at};
 use std::alloc::Global;
 
 /// An item over an operation, from after its word.
@@ -50,20 +47,6 @@ fn item_at<'a>(alloc: Global, most: usize, rest: Rest<'a>) -> Read<'a, Item<'a>>
         Some((TokenKind::Word(Keyword::Over), after)) => over_at(alloc, most, after),
         Some((TokenKind::Word(Keyword::At), after)) => at_at(alloc, most, after),
         _ => Err(stuck(rest)),
-    }
-}
-
-/// The depth, which may be left out.
-fn depth_at<'a>(rest: Rest<'a>) -> Read<'a, Option<u32>>
-    ensures { Gives (λ d. d) result (depth_of rest.entry.at (kinds rest.entry.tokens.now)) }
-{
-    match first(rest) {
-        Some((TokenKind::Word(Keyword::Depth), after)) => {
-            let (depth, after) = number_at(after)?;
-            let after = symbol_at(after, Symbol::Semicolon)?;
-            Ok((Some(depth), after))
-        }
-        _ => Ok((None, rest)),
     }
 }
 

@@ -1,47 +1,16 @@
 // Statements that hold no blocks of statements.
-ghost use Rattle.std.specs.Prelude.{◌≡◌, ◌+◌};
 ghost use Rattle.plc_syntax.specs.Syntax.{kinds};
-ghost use Rattle.plc_forms.specs.Views.{text_or_none, argument_tree};
-ghost use Rattle.plc_tree.specs.Forms.{argument_of, during_of, call_of, named_statement_of, atomic_of, ended_of};
-ghost use Rattle.plc_tree.specs.Forms.{label_of, step_of};
-ghost use Rattle.plc_tree.specs.Answers.{Gives};
+ghost use Rattle.plc_syntax.specs.Answers.{Gives};
+ghost use Rattle.plc_tree.specs.Forms.{call_of, named_statement_of, atomic_of, ended_of, label_of, step_of};
 ghost use Rattle.plc_tree.specs.Views.{statement_tree};
 
-use crate::front::{Read, first, name_at, symbol_at};
 use crate::list::list_at;
-use crate::primitive::{named_tail_at, primitive_line_at};
 use crate::tree::Stmt;
-use plc_forms::{Argument, Rest};
-use plc_lex::{Keyword, Symbol, TokenKind};
+use plc_lex::{Symbol, TokenKind};
+use plc_syntax::{
+    Read, Rest, argument_at, during_at, first, name_at, named_tail_at, primitive_line_at, symbol_at,
+};
 use std::alloc::Global;
-
-/// What stands between the parentheses of a call.
-fn argument_at<'a>(rest: Rest<'a>) -> Read<'a, Argument<'a>>
-    ensures { Gives argument_tree result (argument_of rest.entry.at (kinds rest.entry.tokens.now)) }
-{
-    match first(rest) {
-        Some((TokenKind::Word(Keyword::Null), after)) => Ok((Argument::Null, after)),
-        Some((TokenKind::Name(name), after)) => Ok((Argument::Name(name.as_slice()), after)),
-        Some((TokenKind::Word(Keyword::Active), after)) => {
-            let (name, after) = name_at(after)?;
-            Ok((Argument::Active(name), after))
-        }
-        _ => Ok((Argument::None, rest)),
-    }
-}
-
-/// The label between a call and its return, which may be left out.
-fn during_at<'a>(rest: Rest<'a>) -> Read<'a, Option<&'a [u8]>>
-    ensures { Gives text_or_none result (during_of rest.entry.at (kinds rest.entry.tokens.now)) }
-{
-    match first(rest) {
-        Some((TokenKind::Word(Keyword::During), after)) => {
-            let (name, after) = name_at(after)?;
-            Ok((Some(name), after))
-        }
-        _ => Ok((None, rest)),
-    }
-}
 
 /// A call, from after its opening parenthesis.
 fn call_at<'a>(name: &'a [u8], rest: Rest<'a>) -> Read<'a, Stmt<'a>>

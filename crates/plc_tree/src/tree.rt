@@ -4,7 +4,7 @@ ghost use Rattle.std.specs.Prelude.{◌≡◌};
 ghost use Rattle.plc_tree.specs.Views.{block_tree};
 
 use plc_base::Items;
-use plc_forms::{Argument, Condition, Primitive};
+use plc_syntax::{Argument, Condition, Primitive};
 use std::marker::Model;
 
 /// A statement.

@@ -1,6 +1,6 @@
 use Rattle.std.proofs.Common.{◌∙◌, ◌+◌, refl, arith}
 use Rattle.std.proofs.lemmas.Result.{err_from_is_err_and}
-use Rattle.plc_tree.specs.FormViews.{literal_tree}
+use Rattle.plc_syntax.specs.Views.{literal_tree}
 use Rattle.plc_scope.proofs.Turns.{size_fits, size_end}
 use Rattle.plc_outparse.specs.Meaning.{literal_step}
 use Rattle.plc_outparse.specs.Sizes.{literal_size}

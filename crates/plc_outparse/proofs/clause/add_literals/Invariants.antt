@@ -1,5 +1,5 @@
 use Rattle.std.proofs.Common.{◌≡◌, ◌+◌, ◌*◌, drop, length, map}
-use Rattle.plc_tree.specs.FormViews.{literal_tree}
+use Rattle.plc_syntax.specs.Views.{literal_tree}
 use Rattle.plc_outparse.specs.Meaning.{literal_step}
 use Rattle.plc_outparse.specs.Sizes.{literal_size, or_literals_size}
 use Rattle.plc_outparse.specs.Views.{reach_of}

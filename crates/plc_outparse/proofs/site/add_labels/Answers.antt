@@ -1,6 +1,6 @@
 use Rattle.std.proofs.Common.{◌∙◌, ◌+◌, refl, arith}
 use Rattle.std.proofs.lemmas.Result.{err_from_is_err_and}
-use Rattle.plc_forms.specs.Views.{text_of}
+use Rattle.plc_syntax.specs.Views.{text_of}
 use Rattle.plc_outparse.specs.Meaning.{label_step}
 use Rattle.plc_scope.proofs.Turns.{count_turn, count_end}
 use Rattle.plc_outparse.proofs.InTurn.{taken, refused, all_taken}

@@ -1,5 +1,5 @@
 use Rattle.std.proofs.Common.{◌≡◌, ◌+◌, ◌*◌, drop, length, map}
-use Rattle.plc_forms.specs.Views.{text_of}
+use Rattle.plc_syntax.specs.Views.{text_of}
 use Rattle.plc_outparse.specs.Meaning.{label_step}
 use Rattle.plc_outparse.specs.Meaning.{in_turn}
 use Rattle.plc_outparse.proofs.InTurn.{from_place}

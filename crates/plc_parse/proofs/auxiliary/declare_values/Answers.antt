@@ -1,7 +1,7 @@
 use Rattle.std.proofs.Common.{◌≡◌, ◌∙◌, ◌+◌, ◌<◌, ◌∷◌, [], ℕ, drop, length, Ok, refl, ap, arith}
 use Rattle.std.proofs.lemmas.List.{length-append}
 use Rattle.std.proofs.lemmas.Result.{err_from_is_err_and}
-use Rattle.plc_forms.specs.Views.{text_of}
+use Rattle.plc_syntax.specs.Views.{text_of}
 use Rattle.plc_scope.specs.Scope.{◌>>=◌}
 use Rattle.plc_scope.proofs.Sequence.{bind_stops}
 use Rattle.plc_scope.proofs.Turns.{ahead, makes, makes_none, made, count_turn}

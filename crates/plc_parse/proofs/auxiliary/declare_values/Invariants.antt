@@ -1,5 +1,5 @@
 use Rattle.std.proofs.Common.{◌≡◌, ◌+◌, ◌*◌, ◌≤◌, [], ◌∷◌, ◌++◌, drop, length, map}
-use Rattle.plc_forms.specs.Views.{text_of}
+use Rattle.plc_syntax.specs.Views.{text_of}
 use Rattle.plc_scope.proofs.Turns.{ahead}
 use Rattle.plc_parse.specs.Growth.{KeepsLists}
 use Rattle.plc_parse.proofs.Loops.{one_declared, all_declared, values_from, one_value, values_go}

@@ -1,6 +1,6 @@
 use Rattle.std.proofs.Common.{◌∙◌, ◌+◌, Ok, refl, ap, arith}
 use Rattle.std.proofs.lemmas.Result.{err_from_is_err_and}
-use Rattle.plc_forms.specs.Views.{field_tree}
+use Rattle.plc_syntax.specs.Views.{field_tree}
 use Rattle.plc_scope.specs.Scope.{◌>>=◌}
 use Rattle.plc_scope.proofs.Sequence.{bind_stops}
 use Rattle.plc_scope.proofs.Turns.{stop, size_least}

@@ -1,6 +1,6 @@
 use Rattle.std.proofs.Common.{◌≡◌, ◌+◌, drop, map}
 use Rattle.std.specs.List.{sum_by}
-use Rattle.plc_forms.specs.Views.{field_tree}
+use Rattle.plc_syntax.specs.Views.{field_tree}
 use Rattle.plc_scope.specs.Answers.{GrowsByLocals}
 use Rattle.plc_parse.specs.Sizes.{field_size}
 use Rattle.plc_parse.proofs.Loops.{locals_from}

@@ -1,5 +1,5 @@
 use Rattle.std.proofs.Common.{◌≡◌, ◌+◌, ◌*◌, drop, length, map}
-use Rattle.plc_forms.specs.Views.{text_of}
+use Rattle.plc_syntax.specs.Views.{text_of}
 use Rattle.plc_scope.specs.Answers.{GrowsByLocals}
 use Rattle.plc_parse.proofs.Loops.{others_from}
 use Rattle.plc_parse.proofs.local.declare_others.Given as goal

@@ -3,8 +3,8 @@ use Rattle.std.proofs.lemmas.Result.{err_from_is_err_and}
 use Rattle.plc_syntax.specs.Syntax.{kinds}
 use Rattle.plc_syntax.specs.Trees.{BlockTree}
 use Rattle.plc_tree.specs.Forms.{ors_of, statements_of}
-use Rattle.plc_tree.proofs.Loops.{blocks_before, ors_turn, ors_end, ors_stop, ors_out}
-use Rattle.plc_tree.proofs.Loops.{statements_before, statements_turn, statements_end, statements_stop, statements_out}
+use Rattle.plc_tree.proofs.Loops.{blocks_before, ors_turn, ors_end, ors_stop, ors_out, statements_before}
+use Rattle.plc_tree.proofs.Loops.{statements_turn, statements_end, statements_stop, statements_out}
 use Rattle.plc_tree.proofs.block.+block.Goals as goal
 
 pub statements_at-returns-then-not-begins_statement : goal.statements_at-returns-then-not-begins_statement

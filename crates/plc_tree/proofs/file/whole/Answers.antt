@@ -1,4 +1,4 @@
-use Rattle.std.proofs.Common.{◌≡◌, ◌∙◌, sym, arith}
+use Rattle.std.proofs.Common.{◌∙◌, sym, arith}
 use Rattle.plc_syntax.specs.Syntax.{kinds}
 use Rattle.plc_tree.specs.FileViews.{file_tree}
 use Rattle.plc_tree.proofs.Exact.{file_whole, file_left, stuck_there, none_left, some_left}

@@ -1,7 +1,7 @@
 use Rattle.std.proofs.Common.{◌≡◌, ◌∙◌, ◌+◌, ◌-◌, ℕ, suc, ◌∷◌, [], ◌++◌, sym, ap, arith}
 use Rattle.std.proofs.lemmas.Result.{err_from_is_err_and}
 use Rattle.plc_syntax.specs.Syntax.{kinds}
-use Rattle.plc_tree.specs.Forms.{list_of}
+use Rattle.plc_syntax.specs.Forms.{list_of}
 use Rattle.plc_tree.proofs.Loops.{before, list_turn, list_end, list_stop, list_out}
 use Rattle.plc_tree.proofs.list.list_at.Goals as goal
 

@@ -1,6 +1,6 @@
 use Rattle.std.proofs.Common.{◌≡◌, ◌-◌, ◌∷◌}
 use Rattle.plc_syntax.specs.Syntax.{kinds}
-use Rattle.plc_tree.specs.Forms.{list_of}
+use Rattle.plc_syntax.specs.Forms.{list_of}
 use Rattle.plc_tree.proofs.Loops.{before}
 use Rattle.plc_tree.proofs.list.list_at.Given as goal
 

@@ -1,20 +1,18 @@
 // Primitives, as statements and in atomic blocks.
-ghost use Rattle.std.specs.Prelude.{◌≡◌, ◌+◌};
 ghost use Rattle.plc_syntax.specs.Syntax.{kinds};
-ghost use Rattle.plc_forms.specs.Views.{primitive_tree, ghost_set_tree};
-ghost use Rattle.plc_tree.specs.Forms.{field_tail_of, named_tail_of, ghost_set_of, primitive_of, primitive_line_of};
-ghost use Rattle.plc_tree.specs.Answers.{Gives};
+ghost use Rattle.plc_syntax.specs.Views.{primitive_tree, ghost_set_tree};
+ghost use Rattle.plc_syntax.specs.Forms.{field_tail_of, named_tail_of, ghost_set_of, primitive_of, primitive_line_of};
+ghost use Rattle.plc_syntax.specs.Answers.{Gives};
 
 use crate::condition::test_at;
+use crate::form::{GhostSet, Primitive, Refresh, Set};
 use crate::front::{Read, first, name_at, stuck, symbol_at};
-use crate::list::Listed;
+use crate::rest::Rest;
 use crate::value::{atom_at, ghost_value_at, place_at, value_at};
-use plc_forms::{GhostSet, Primitive, Refresh, Rest, Set};
 use plc_lex::{Keyword, Symbol, TokenKind};
-use std::alloc::Global;
 
 /// What follows a name, a dot and a field on the left.
-fn field_tail_at<'a>(name: &'a [u8], field: &'a [u8], rest: Rest<'a>) -> Read<'a, Primitive<'a>>
+pub fn field_tail_at<'a>(name: &'a [u8], field: &'a [u8], rest: Rest<'a>) -> Read<'a, Primitive<'a>>
     ensures { Gives primitive_tree result
         (field_tail_of name.now field.now rest.entry.at (kinds rest.entry.tokens.now)) }
 {
@@ -65,7 +63,7 @@ pub fn ghost_set_at<'a>(rest: Rest<'a>) -> Read<'a, GhostSet<'a>>
 }
 
 /// A primitive, without its semicolon.
-fn primitive_at<'a>(rest: Rest<'a>) -> Read<'a, Primitive<'a>>
+pub fn primitive_at<'a>(rest: Rest<'a>) -> Read<'a, Primitive<'a>>
     ensures { Gives primitive_tree result (primitive_of rest.entry.at (kinds rest.entry.tokens.now)) }
 {
     match first(rest) {
@@ -93,36 +91,4 @@ pub fn primitive_line_at<'a>(rest: Rest<'a>) -> Read<'a, Primitive<'a>>
 {
     let (primitive, after) = primitive_at(rest)?;
     Ok((primitive, symbol_at(after, Symbol::Semicolon)?))
-}
-
-impl<'a> Listed<'a> for Primitive<'a> {
-    ghost use Rattle.plc_syntax.specs.Trees.{PrimitiveTree};
-    ghost use Rattle.plc_forms.specs.Views.{primitive_tree};
-    ghost use Rattle.plc_tree.specs.Forms.{begins_primitive, primitive_line_of};
-
-    ghost Tree = { PrimitiveTree };
-
-    ghost tree = { primitive_tree };
-
-    ghost starts = { begins_primitive };
-
-    ghost of = { λ m at ts. primitive_line_of at ts };
-
-    fn begins(kind: &TokenKind) -> bool
-        ensures { result ≡ begins_primitive kind.now }
-    {
-        matches!(
-            kind,
-            TokenKind::Name(_)
-                | TokenKind::Word(
-                    Keyword::Ghost | Keyword::Active | Keyword::Assume | Keyword::Skip
-                )
-        )
-    }
-
-    fn read(_alloc: Global, _most: usize, rest: Rest<'a>) -> Read<'a, Primitive<'a>>
-        ensures { Gives primitive_tree result (primitive_line_of rest.entry.at (kinds rest.entry.tokens.now)) }
-    {
-        primitive_line_at(rest)
-    }
 }

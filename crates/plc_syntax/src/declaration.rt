@@ -1,23 +1,18 @@
 // What a file declares before its operations: fields, shared pointers, functions of the reclaimer and
 // what it watches.
-ghost use Rattle.std.specs.Prelude.{◌≡◌, ◌+◌};
 ghost use Rattle.plc_syntax.specs.Syntax.{kinds};
-ghost use Rattle.plc_forms.specs.Views.{text_of, field_tree, function_tree, watch_tree};
-ghost use Rattle.plc_tree.specs.Forms.{begins_field, field_of, begins_shared};
-ghost use Rattle.plc_tree.specs.Forms.{shared_of, pointer_word_of, begins_function, function_of, hazard_of, epoch_of};
-ghost use Rattle.plc_tree.specs.Forms.{scheme_of, watch_of};
-ghost use Rattle.plc_tree.specs.FormViews.{shared_name, watched_tree};
-ghost use Rattle.plc_tree.specs.Answers.{Gives};
+ghost use Rattle.plc_syntax.specs.Views.{field_tree, function_tree, watch_tree, shared_name, watched_tree};
+ghost use Rattle.plc_syntax.specs.Forms.{field_of, shared_of, pointer_word_of, function_of, hazard_of, epoch_of};
+ghost use Rattle.plc_syntax.specs.Forms.{scheme_of, watch_of};
+ghost use Rattle.plc_syntax.specs.Answers.{Gives};
 
-use crate::form::Shared;
+use crate::form::{Declaration, Function, Shared, Watch};
 use crate::front::{Read, first, name_at, stuck, symbol_at, word_at};
-use crate::list::Listed;
-use plc_forms::{Declaration, Function, Rest, Watch};
+use crate::rest::Rest;
 use plc_lex::{Keyword, Symbol, TokenKind};
-use std::alloc::Global;
 
 /// A field of the struct or a local.
-fn field_at<'a>(rest: Rest<'a>) -> Read<'a, Declaration<'a>>
+pub fn field_at<'a>(rest: Rest<'a>) -> Read<'a, Declaration<'a>>
     ensures { Gives field_tree result (field_of rest.entry.at (kinds rest.entry.tokens.now)) }
 {
     match first(rest) {
@@ -36,7 +31,7 @@ fn field_at<'a>(rest: Rest<'a>) -> Read<'a, Declaration<'a>>
 }
 
 /// A shared pointer.
-fn shared_at<'a>(rest: Rest<'a>) -> Read<'a, Shared<'a>>
+pub fn shared_at<'a>(rest: Rest<'a>) -> Read<'a, Shared<'a>>
     ensures { Gives shared_name result (shared_of rest.entry.at (kinds rest.entry.tokens.now)) }
 {
     let after = word_at(rest, Keyword::Shared)?;
@@ -46,7 +41,7 @@ fn shared_at<'a>(rest: Rest<'a>) -> Read<'a, Shared<'a>>
 }
 
 /// "ptr", which may be left out.
-fn pointer_word_at<'a>(rest: Rest<'a>) -> Read<'a, bool>
+pub fn pointer_word_at<'a>(rest: Rest<'a>) -> Read<'a, bool>
     ensures { Gives (λ b. b) result (pointer_word_of rest.entry.at (kinds rest.entry.tokens.now)) }
 {
     match first(rest) {
@@ -56,7 +51,7 @@ fn pointer_word_at<'a>(rest: Rest<'a>) -> Read<'a, bool>
 }
 
 /// A function of the reclaimer.
-fn function_at<'a>(rest: Rest<'a>) -> Read<'a, Function<'a>>
+pub fn function_at<'a>(rest: Rest<'a>) -> Read<'a, Function<'a>>
     ensures { Gives function_tree result (function_of rest.entry.at (kinds rest.entry.tokens.now)) }
 {
     let after = word_at(rest, Keyword::Call)?;
@@ -73,7 +68,7 @@ fn function_at<'a>(rest: Rest<'a>) -> Read<'a, Function<'a>>
 }
 
 /// The function of hazard pointers, from after its word.
-fn hazard_at<'a>(rest: Rest<'a>) -> Read<'a, Watch<'a>>
+pub fn hazard_at<'a>(rest: Rest<'a>) -> Read<'a, Watch<'a>>
     ensures { Gives watch_tree result (hazard_of rest.entry.at (kinds rest.entry.tokens.now)) }
 {
     let after = symbol_at(rest, Symbol::OpenParen)?;
@@ -84,7 +79,7 @@ fn hazard_at<'a>(rest: Rest<'a>) -> Read<'a, Watch<'a>>
 }
 
 /// The two functions of epochs, from after the word.
-fn epoch_at<'a>(rest: Rest<'a>) -> Read<'a, Watch<'a>>
+pub fn epoch_at<'a>(rest: Rest<'a>) -> Read<'a, Watch<'a>>
     ensures { Gives watch_tree result (epoch_of rest.entry.at (kinds rest.entry.tokens.now)) }
 {
     let after = symbol_at(rest, Symbol::OpenParen)?;
@@ -97,7 +92,7 @@ fn epoch_at<'a>(rest: Rest<'a>) -> Read<'a, Watch<'a>>
 }
 
 /// What is watched, from after "use".
-fn scheme_at<'a>(rest: Rest<'a>) -> Read<'a, Watch<'a>>
+pub fn scheme_at<'a>(rest: Rest<'a>) -> Read<'a, Watch<'a>>
     ensures { Gives watch_tree result (scheme_of rest.entry.at (kinds rest.entry.tokens.now)) }
 {
     match first(rest) {
@@ -117,83 +112,5 @@ pub fn watch_at<'a>(rest: Rest<'a>) -> Read<'a, Option<Watch<'a>>>
             Ok((Some(watch), after))
         }
         _ => Ok((None, rest)),
-    }
-}
-
-impl<'a> Listed<'a> for Declaration<'a> {
-    ghost use Rattle.plc_syntax.specs.Trees.{FieldTree};
-    ghost use Rattle.plc_forms.specs.Views.{field_tree};
-    ghost use Rattle.plc_tree.specs.Forms.{begins_field, field_of};
-
-    ghost Tree = { FieldTree };
-
-    ghost tree = { field_tree };
-
-    ghost starts = { begins_field };
-
-    ghost of = { λ m at ts. field_of at ts };
-
-    fn begins(kind: &TokenKind) -> bool
-        ensures { result ≡ begins_field kind.now }
-    {
-        matches!(kind, TokenKind::Word(Keyword::Ptr | Keyword::Data))
-    }
-
-    fn read(_alloc: Global, _most: usize, rest: Rest<'a>) -> Read<'a, Declaration<'a>>
-        ensures { Gives field_tree result (field_of rest.entry.at (kinds rest.entry.tokens.now)) }
-    {
-        field_at(rest)
-    }
-}
-
-impl<'a> Listed<'a> for Shared<'a> {
-    ghost use Rattle.plc_syntax.specs.Trees.{Text};
-    ghost use Rattle.plc_tree.specs.Forms.{begins_shared, shared_of};
-    ghost use Rattle.plc_tree.specs.FormViews.{shared_name};
-
-    ghost Tree = { Text };
-
-    ghost tree = { shared_name };
-
-    ghost starts = { begins_shared };
-
-    ghost of = { λ m at ts. shared_of at ts };
-
-    fn begins(kind: &TokenKind) -> bool
-        ensures { result ≡ begins_shared kind.now }
-    {
-        matches!(kind, TokenKind::Word(Keyword::Shared))
-    }
-
-    fn read(_alloc: Global, _most: usize, rest: Rest<'a>) -> Read<'a, Shared<'a>>
-        ensures { Gives shared_name result (shared_of rest.entry.at (kinds rest.entry.tokens.now)) }
-    {
-        shared_at(rest)
-    }
-}
-
-impl<'a> Listed<'a> for Function<'a> {
-    ghost use Rattle.plc_syntax.specs.Trees.{FunctionTree};
-    ghost use Rattle.plc_forms.specs.Views.{function_tree};
-    ghost use Rattle.plc_tree.specs.Forms.{begins_function, function_of};
-
-    ghost Tree = { FunctionTree };
-
-    ghost tree = { function_tree };
-
-    ghost starts = { begins_function };
-
-    ghost of = { λ m at ts. function_of at ts };
-
-    fn begins(kind: &TokenKind) -> bool
-        ensures { result ≡ begins_function kind.now }
-    {
-        matches!(kind, TokenKind::Word(Keyword::Call))
-    }
-
-    fn read(_alloc: Global, _most: usize, rest: Rest<'a>) -> Read<'a, Function<'a>>
-        ensures { Gives function_tree result (function_of rest.entry.at (kinds rest.entry.tokens.now)) }
-    {
-        function_at(rest)
     }
 }

@@ -1,20 +1,18 @@
 // The assignments of the init block.
-ghost use Rattle.std.specs.Prelude.{◌≡◌, ◌+◌};
 ghost use Rattle.plc_syntax.specs.Syntax.{kinds};
-ghost use Rattle.plc_forms.specs.Views.{set_tree, initial_tree};
-ghost use Rattle.plc_tree.specs.Forms.{set_field_of, set_of_name, initial_of};
-ghost use Rattle.plc_tree.specs.Answers.{Gives};
+ghost use Rattle.plc_syntax.specs.Views.{set_tree, initial_tree};
+ghost use Rattle.plc_syntax.specs.Forms.{set_field_of, set_of_name, initial_of};
+ghost use Rattle.plc_syntax.specs.Answers.{Gives};
 
+use crate::form::{Initial, Set};
 use crate::front::{Read, first, name_at, stuck, symbol_at};
-use crate::list::Listed;
 use crate::primitive::ghost_set_at;
+use crate::rest::Rest;
 use crate::value::{atom_at, value_at};
-use plc_forms::{Initial, Rest, Set};
 use plc_lex::{Keyword, Symbol, TokenKind};
-use std::alloc::Global;
 
 /// An assignment to a field, from after the field's name.
-fn set_field_at<'a>(name: &'a [u8], field: &'a [u8], rest: Rest<'a>) -> Read<'a, Set<'a>>
+pub fn set_field_at<'a>(name: &'a [u8], field: &'a [u8], rest: Rest<'a>) -> Read<'a, Set<'a>>
     ensures { Gives set_tree result (set_field_of name.now field.now rest.entry.at (kinds rest.entry.tokens.now)) }
 {
     let after = symbol_at(rest, Symbol::Assign)?;
@@ -23,7 +21,7 @@ fn set_field_at<'a>(name: &'a [u8], field: &'a [u8], rest: Rest<'a>) -> Read<'a,
 }
 
 /// An assignment, from after its first name.
-fn set_of_name_at<'a>(name: &'a [u8], rest: Rest<'a>) -> Read<'a, Set<'a>>
+pub fn set_of_name_at<'a>(name: &'a [u8], rest: Rest<'a>) -> Read<'a, Set<'a>>
     ensures { Gives set_tree result (set_of_name name.now rest.entry.at (kinds rest.entry.tokens.now)) }
 {
     match first(rest) {
@@ -40,7 +38,7 @@ fn set_of_name_at<'a>(name: &'a [u8], rest: Rest<'a>) -> Read<'a, Set<'a>>
 }
 
 /// An assignment and its semicolon.
-fn initial_at<'a>(rest: Rest<'a>) -> Read<'a, Initial<'a>>
+pub fn initial_at<'a>(rest: Rest<'a>) -> Read<'a, Initial<'a>>
     ensures { Gives initial_tree result (initial_of rest.entry.at (kinds rest.entry.tokens.now)) }
 {
     match first(rest) {
@@ -55,31 +53,5 @@ fn initial_at<'a>(rest: Rest<'a>) -> Read<'a, Initial<'a>>
             Ok((Initial::Ghost(set), after))
         }
         _ => Err(stuck(rest)),
-    }
-}
-
-impl<'a> Listed<'a> for Initial<'a> {
-    ghost use Rattle.plc_syntax.specs.Trees.{InitialTree};
-    ghost use Rattle.plc_forms.specs.Views.{initial_tree};
-    ghost use Rattle.plc_tree.specs.Forms.{begins_initial, initial_of};
-
-    ghost Tree = { InitialTree };
-
-    ghost tree = { initial_tree };
-
-    ghost starts = { begins_initial };
-
-    ghost of = { λ m at ts. initial_of at ts };
-
-    fn begins(kind: &TokenKind) -> bool
-        ensures { result ≡ begins_initial kind.now }
-    {
-        matches!(kind, TokenKind::Name(_) | TokenKind::Word(Keyword::Ghost))
-    }
-
-    fn read(_alloc: Global, _most: usize, rest: Rest<'a>) -> Read<'a, Initial<'a>>
-        ensures { Gives initial_tree result (initial_of rest.entry.at (kinds rest.entry.tokens.now)) }
-    {
-        initial_at(rest)
     }
 }

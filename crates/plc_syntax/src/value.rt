@@ -1,12 +1,12 @@
 // Places, and what is put into names, fields and auxiliary fields.
-ghost use Rattle.std.specs.Prelude.{◌≡◌, ◌+◌};
 ghost use Rattle.plc_syntax.specs.Syntax.{kinds};
-ghost use Rattle.plc_forms.specs.Views.{place_tree, value_tree, atom_tree, ghost_value_tree};
-ghost use Rattle.plc_tree.specs.Forms.{place_of_name, place_of, value_of, atom_of, ghost_value_of};
-ghost use Rattle.plc_tree.specs.Answers.{Gives};
+ghost use Rattle.plc_syntax.specs.Views.{place_tree, value_tree, atom_tree, ghost_value_tree};
+ghost use Rattle.plc_syntax.specs.Forms.{place_of_name, place_of, value_of, atom_of, ghost_value_of};
+ghost use Rattle.plc_syntax.specs.Answers.{Gives};
 
+use crate::form::{Atom, GhostValue, Place, Value};
 use crate::front::{Read, first, name_at, stuck};
-use plc_forms::{Atom, GhostValue, Place, Rest, Value};
+use crate::rest::Rest;
 use plc_lex::{Keyword, Symbol, TokenKind};
 
 /// A place, from after its name.

@@ -1,9 +1,9 @@
 -- What a reader reads are the tokens of a tree, or the beginning of one up to the first token that doesn't fit; and to
 -- what it read neither what comes after that token makes a difference nor more fuel. Readers that are put together of
 -- such readers are such readers: the law of each is found by its shape.
-use Rattle.std.proofs.Common.{◌≡◌, ◌∙◌, ◌+◌, ◌<◌, ◌≤◌, ℕ, zero, suc, Bool, true, false, cond, Option, Some, None}
-use Rattle.std.proofs.Common.{List, [], ◌∷◌, ◌++◌, length, Ok, Err, refl, sym, ap, subst, arith, rules, lit≤}
-use Rattle.std.proofs.lemmas.List.{append_assoc, append-nil, length-append}
+use Rattle.std.proofs.Common.{◌≡◌, ◌∙◌, ◌+◌, ◌<◌, ◌≤◌, ℕ, zero, suc, Bool, true, false, cond, Some, None, List, [], ◌∷◌}
+use Rattle.std.proofs.Common.{◌++◌, length, Ok, Err, refl, sym, ap, subst, arith, rules, lit≤}
+use Rattle.std.proofs.lemmas.List.{append_assoc, length-append}
 use Rattle.std.specs.List.{AllByRecursion}
 use denote.Enum.Bare.{sameb, same_true}
 use Rattle.plc_lex.specs.contracts.token.Symbol as punctuation
@@ -15,8 +15,8 @@ use Rattle.plc_lex.specs.declared.token.Symbol.{Symbol as Punctuation}
 use Rattle.plc_lex.specs.Characters.{keyword_of, keywords}
 use Rattle.plc_lex.specs.Spelling.{IsKind, IsName}
 use Rattle.plc_syntax.specs.Trees.{Text, each_then}
-use Rattle.plc_tree.specs.Forms.{Read, Pass, ◌>>=◌, ◌>>◌, Next, chosen, led, first_is, list_of, word_of, symbol_of}
-use Rattle.plc_tree.specs.Forms.{name_next, name_of, number_next, number_of}
+use Rattle.plc_syntax.specs.Forms.{Read, Pass, ◌>>=◌, ◌>>◌, Next, chosen, led, first_is, list_of, word_of, symbol_of}
+use Rattle.plc_syntax.specs.Forms.{name_next, name_of, number_next, number_of}
 
 abbrev pub Tokens : Type 0
 Tokens = List TokenKind

@@ -8,6 +8,12 @@ pub enum Declaration<'a> {
     Data(&'a [u8]),
 }
 
+/// A shared pointer, by its name.
+#[derive(Clone, Copy)]
+pub struct Shared<'a> {
+    pub name: &'a [u8],
+}
+
 /// What the reclaimer watches.
 #[derive(Clone, Copy)]
 pub enum Watch<'a> {
@@ -153,4 +159,38 @@ pub enum Argument<'a> {
 pub struct Call<'a> {
     pub name: &'a [u8],
     pub argument: Argument<'a>,
+}
+
+/// A side of an equation.
+#[derive(Clone, Copy)]
+pub enum Term<'a> {
+    Place(Place<'a>),
+    Null,
+    Number(u32),
+    Me,
+    None,
+}
+
+/// What a literal says of a node or of a place.
+#[derive(Clone, Copy)]
+pub enum Flag<'a> {
+    Retired(&'a [u8]),
+    Marked(Place<'a>),
+}
+
+/// A literal.
+#[derive(Clone, Copy)]
+pub enum Literal<'a> {
+    Flag(Flag<'a>),
+    /// The flag is denied.
+    Not(Flag<'a>),
+    /// Two sides, and whether they are said to be equal.
+    Equation(Term<'a>, bool, Term<'a>),
+}
+
+/// The quantified names of a clause.
+#[derive(Clone, Copy)]
+pub enum Bound<'a> {
+    None,
+    All(&'a [u8], Option<&'a [u8]>),
 }

@@ -2,12 +2,12 @@
 // stands there in its stead.
 ghost use Rattle.std.specs.Prelude.{◌≡◌, ◌+◌, ◌∷◌, [], MatchOption, IfSome};
 ghost use Rattle.plc_syntax.specs.Syntax.{kinds};
-ghost use Rattle.plc_forms.specs.Views.{text_of};
-ghost use Rattle.plc_tree.specs.Forms.{word_of, symbol_of, name_of, number_of};
-ghost use Rattle.plc_tree.specs.Answers.{Gives, Passes};
+ghost use Rattle.plc_syntax.specs.Views.{text_of};
+ghost use Rattle.plc_syntax.specs.Forms.{word_of, symbol_of, name_of, number_of};
+ghost use Rattle.plc_syntax.specs.Answers.{Gives, Passes};
 
 use crate::fault::Fault;
-use plc_forms::Rest;
+use crate::rest::Rest;
 use plc_lex::{Keyword, Symbol, TokenKind};
 
 /// A tree and what stands after it, or why there is none.

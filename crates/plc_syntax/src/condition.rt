@@ -1,18 +1,18 @@
 // Tests and the conditions of `if`.
-ghost use Rattle.std.specs.Prelude.{◌≡◌, ◌+◌};
 ghost use Rattle.plc_syntax.specs.Syntax.{kinds};
-ghost use Rattle.plc_forms.specs.Views.{text_or_none, relation_tree, test_tree, cas_tree, condition_tree};
-ghost use Rattle.plc_tree.specs.Forms.{comparison_of, compared_of, test_of, name_or_null_of, active_word_of, cas_of};
-ghost use Rattle.plc_tree.specs.Forms.{cas_condition_of, named_condition_of, condition_of};
-ghost use Rattle.plc_tree.specs.Answers.{Gives};
+ghost use Rattle.plc_syntax.specs.Views.{text_or_none, relation_tree, test_tree, cas_tree, condition_tree};
+ghost use Rattle.plc_syntax.specs.Forms.{comparison_of, compared_of, test_of, name_or_null_of, active_word_of, cas_of};
+ghost use Rattle.plc_syntax.specs.Forms.{cas_condition_of, named_condition_of, condition_of};
+ghost use Rattle.plc_syntax.specs.Answers.{Gives};
 
+use crate::form::{Cas, Condition, Relation, Test};
 use crate::front::{Read, first, name_at, stuck, symbol_at};
+use crate::rest::Rest;
 use crate::value::{atom_at, place_at};
-use plc_forms::{Cas, Condition, Relation, Rest, Test};
 use plc_lex::{Keyword, Symbol, TokenKind};
 
 /// What stands between the sides of a test.
-fn relation_at<'a>(rest: Rest<'a>) -> Read<'a, Relation>
+pub fn relation_at<'a>(rest: Rest<'a>) -> Read<'a, Relation>
     ensures { Gives relation_tree result (comparison_of rest.entry.at (kinds rest.entry.tokens.now)) }
 {
     match first(rest) {
@@ -25,7 +25,7 @@ fn relation_at<'a>(rest: Rest<'a>) -> Read<'a, Relation>
 }
 
 /// A comparison, from after its name.
-fn compared_at<'a>(name: &'a [u8], rest: Rest<'a>) -> Read<'a, Test<'a>>
+pub fn compared_at<'a>(name: &'a [u8], rest: Rest<'a>) -> Read<'a, Test<'a>>
     ensures { Gives test_tree result (compared_of name.now rest.entry.at (kinds rest.entry.tokens.now)) }
 {
     let (relation, after) = relation_at(rest)?;
@@ -57,7 +57,7 @@ pub fn test_at<'a>(rest: Rest<'a>) -> Read<'a, Test<'a>>
 }
 
 /// A name, or `null`.
-fn name_or_null_at<'a>(rest: Rest<'a>) -> Read<'a, Option<&'a [u8]>>
+pub fn name_or_null_at<'a>(rest: Rest<'a>) -> Read<'a, Option<&'a [u8]>>
     ensures { Gives text_or_none result (name_or_null_of rest.entry.at (kinds rest.entry.tokens.now)) }
 {
     match first(rest) {
@@ -68,7 +68,7 @@ fn name_or_null_at<'a>(rest: Rest<'a>) -> Read<'a, Option<&'a [u8]>>
 }
 
 /// "active", which may be left out.
-fn active_word_at<'a>(rest: Rest<'a>) -> Read<'a, bool>
+pub fn active_word_at<'a>(rest: Rest<'a>) -> Read<'a, bool>
     ensures { Gives (λ b. b) result (active_word_of rest.entry.at (kinds rest.entry.tokens.now)) }
 {
     match first(rest) {
@@ -78,7 +78,7 @@ fn active_word_at<'a>(rest: Rest<'a>) -> Read<'a, bool>
 }
 
 /// The three pointers of a cas and the parenthesis after them.
-fn cas_at<'a>(is_active: bool, rest: Rest<'a>) -> Read<'a, Cas<'a>>
+pub fn cas_at<'a>(is_active: bool, rest: Rest<'a>) -> Read<'a, Cas<'a>>
     ensures { Gives cas_tree result (cas_of is_active rest.entry.at (kinds rest.entry.tokens.now)) }
 {
     let (name, after) = name_at(rest)?;
@@ -97,7 +97,7 @@ fn cas_at<'a>(is_active: bool, rest: Rest<'a>) -> Read<'a, Cas<'a>>
 }
 
 /// A cas, from after its word.
-fn cas_condition_at<'a>(rest: Rest<'a>) -> Read<'a, Condition<'a>>
+pub fn cas_condition_at<'a>(rest: Rest<'a>) -> Read<'a, Condition<'a>>
     ensures { Gives condition_tree result (cas_condition_of rest.entry.at (kinds rest.entry.tokens.now)) }
 {
     let after = symbol_at(rest, Symbol::OpenParen)?;
@@ -107,7 +107,7 @@ fn cas_condition_at<'a>(rest: Rest<'a>) -> Read<'a, Condition<'a>>
 }
 
 /// A condition, from after its name.
-fn named_condition_at<'a>(name: &'a [u8], rest: Rest<'a>) -> Read<'a, Condition<'a>>
+pub fn named_condition_at<'a>(name: &'a [u8], rest: Rest<'a>) -> Read<'a, Condition<'a>>
     ensures { Gives condition_tree result (named_condition_of name.now rest.entry.at (kinds rest.entry.tokens.now)) }
 {
     match first(rest) {
