@@ -174,7 +174,9 @@ fn statement(
             };
             call_statement(scope, at, form, *during)
         }
-        StmtForm::If { condition, yes, no } => if_statement(context, scope, at, *condition, yes, no),
+        StmtForm::If { condition, yes, no } => if_statement(
+            context, scope, at, *condition, yes, no,
+        ),
         StmtForm::Choose {
             first,
             second,

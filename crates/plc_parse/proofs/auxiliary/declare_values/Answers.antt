@@ -16,7 +16,7 @@ returns-in_err-number-clause-read c =
     let l = c.loop-name in
     let p = err_from_is_err_and c.from_residual-in_err-number.result c.from_residual-in_err-number.ensures.1 in
     rw (p.1, p.2) (makes_none (values_from c.args.owner text_of) (one_value c.args.owner text_of) one_declared all_declared
-          (values_go c.args.owner text_of) (l.scope, length l.values, l.at) c.args.others.now l.name-index _ _ l.values
+    (values_go c.args.owner text_of) (l.scope, length l.values, l.at) c.args.others.now l.name-index _ _ l.values
     _ _ refl c.loop-name-test.true (bind_stops _ _ (λ f. Ok (f.0, (f.1, length l.values + 1, l.at + 2)))
     (rw c.len.ensures at c.in_err-number.ensures.read)) l.invariant.read)
 
@@ -52,6 +52,6 @@ unfolding values_with
 returns-clause-read c =
     let l = c.loop-name in
     made (values_from c.args.owner text_of) (one_value c.args.owner text_of) one_declared all_declared
-          (values_go c.args.owner text_of) (l.scope, length l.values, l.at) c.args.others.now l.name-index l.values _ c.loop-name-test.false
+    (values_go c.args.owner text_of) (l.scope, length l.values, l.at) c.args.others.now l.name-index l.values _ c.loop-name-test.false
     l.invariant.read
     ∙ ap (λ o. Ok o) (all_of l.values l.scope l.at)

@@ -38,17 +38,23 @@ loop-form-preserved g c =
     record {
       place = omega (arith, left, l.invariant.place, c.size.ensures);
       read = ap (λ s. ahead (forms_from means k.size k.tree) (one_form means k.size k.tree) form_made forms_made
-    (forms_go means k.size k.tree) new.primitives (forms_from means k.size k.tree s
+          (forms_go means k.size k.tree) new.primitives (forms_from means k.size k.tree s
           (drop (l.form-index + 1) c.args.forms.now)))
           (ap (λ (n : ℕ). (n, new.has_new, l.at + (c.size.result + 1))) long
           ∙ ap (λ (b : Bool). (length l.step.primitives + count_of a.prim, b, l.at + (c.size.result + 1))) a.new
           ∙ ap (λ (n : ℕ). (length l.step.primitives + count_of a.prim, l.step.has_new || allocates a.prim, n)) after)
           ∙ makes (forms_from means k.size k.tree) (one_form means k.size k.tree) form_made forms_made
-    (forms_go means k.size k.tree) (length l.step.primitives, l.step.has_new, l.at) _ c.args.forms.now l.form-index item _
+          (forms_go means k.size k.tree) (length l.step.primitives, l.step.has_new, l.at) _ c.args.forms.now l.form-index item _
           l.step.primitives new.primitives a.prim c.form-item.is c.loop-form-test.true
           (λ o. ap (λ ks. (ks ++ o.0, o.1)) a.primitives
           ∙ ap (λ ks. (ks, o.1)) (one_form_more l.step.primitives a.prim o.0))
-          (ap (λ r. r >>= λ q. Ok (q, (length l.step.primitives + count_of q, l.step.has_new || allocates q,
-          l.at + k.size (k.tree item) + 1))) a.is)
+          (ap (λ r. r >>= λ q. Ok (
+            q,
+            (
+              length l.step.primitives + count_of q,
+              l.step.has_new || allocates q,
+              l.at + k.size (k.tree item) + 1,
+            ),
+          )) a.is)
           ∙ l.invariant.read;
     }
