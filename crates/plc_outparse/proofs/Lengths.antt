@@ -1,9 +1,8 @@
 -- The sizes of the forms of an outline are the numbers of their tokens.
-use Rattle.std.proofs.Common.{◌≡◌, ◌∙◌, ◌+◌, ◌*◌, ℕ, true, false, List, [], ◌∷◌, length, Option, Some, None, refl, ap, arith}
+use Rattle.std.proofs.Common.{◌≡◌, ◌+◌, ◌*◌, ℕ, true, false, List, [], ◌∷◌, length, Option, Some, None, arith}
 use Rattle.std.proofs.lemmas.List.Sums.{sum_by-cons}
 use Rattle.plc_lex.specs.declared.token.TokenKind.{TokenKind}
-use Rattle.plc_lex.specs.declared.token.TokenKind.TheVariants.{Word, Symbol}
-use Rattle.plc_lex.specs.declared.token.Keyword.TheVariants as words
+use Rattle.plc_lex.specs.declared.token.TokenKind.TheVariants.{Symbol}
 use Rattle.plc_lex.specs.declared.token.Symbol.TheVariants as symbols
 use Rattle.plc_syntax.specs.Trees.{Text, PlaceTree, PlaceOf, place_then, TermTree, PlaceTerm, NullTerm, NumberTerm}
 use Rattle.plc_syntax.specs.Trees.{MeTerm, NoneTerm, term_then, FlagTree, RetiredFlag, MarkedFlag, flag_then}

@@ -1,7 +1,7 @@
-use Rattle.std.proofs.Common.{◌≡◌, ◌+◌, ◌*◌, drop, length, map}
+use Rattle.std.proofs.Common.{◌≡◌, ◌+◌, drop, map}
 use Rattle.plc_syntax.specs.Views.{literal_tree}
 use Rattle.plc_outparse.specs.Meaning.{literal_step}
-use Rattle.plc_outparse.specs.Sizes.{literal_size, or_literals_size}
+use Rattle.plc_outparse.specs.Sizes.{or_literals_size}
 use Rattle.plc_outparse.specs.Views.{reach_of}
 use Rattle.plc_outparse.specs.Meaning.{in_turn}
 use Rattle.plc_outparse.proofs.InTurn.{from_place}

@@ -1,8 +1,8 @@
-use Rattle.std.proofs.Common.{◌∙◌, ◌+◌, refl, arith}
+use Rattle.std.proofs.Common.{◌∙◌, arith}
 use Rattle.std.proofs.lemmas.Result.{err_from_is_err_and}
 use Rattle.plc_tree.specs.FormViews.{item_tree}
 use Rattle.plc_outparse.specs.Meaning.{item_step}
-use Rattle.plc_outparse.specs.Sizes.{item_size, items_size}
+use Rattle.plc_outparse.specs.Sizes.{item_size}
 use Rattle.plc_scope.proofs.Turns.{size_turn, size_end}
 use Rattle.plc_outparse.proofs.InTurn.{taken, refused, all_taken}
 use Rattle.plc_outparse.proofs.item.add_items.Goals as goal

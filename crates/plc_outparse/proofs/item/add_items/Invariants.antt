@@ -1,7 +1,7 @@
-use Rattle.std.proofs.Common.{◌≡◌, ◌+◌, ◌*◌, drop, length, map}
+use Rattle.std.proofs.Common.{◌≡◌, ◌+◌, drop, map}
 use Rattle.plc_tree.specs.FormViews.{item_tree}
 use Rattle.plc_outparse.specs.Meaning.{item_step}
-use Rattle.plc_outparse.specs.Sizes.{item_size, items_size}
+use Rattle.plc_outparse.specs.Sizes.{items_size}
 use Rattle.plc_outparse.specs.Meaning.{in_turn}
 use Rattle.plc_outparse.proofs.InTurn.{from_place}
 use Rattle.plc_outparse.proofs.item.add_items.Given as goal
