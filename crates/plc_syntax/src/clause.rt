@@ -8,7 +8,7 @@ ghost use Rattle.plc_syntax.specs.Answers.{Gives};
 use crate::form::{Bound, Flag, Literal, Term};
 use crate::front::{Read, first, name_at, number_at, stuck, symbol_at, word_at};
 use crate::rest::Rest;
-use crate::value::{place_at, place_of_name_at};
+use crate::statement::{place_at, place_of_name_at};
 use plc_lex::{Keyword, Symbol, TokenKind};
 
 /// A side of an equation.

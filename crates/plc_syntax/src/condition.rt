@@ -8,7 +8,7 @@ ghost use Rattle.plc_syntax.specs.Answers.{Gives};
 use crate::form::{Cas, Condition, Relation, Test};
 use crate::front::{Read, first, name_at, stuck, symbol_at};
 use crate::rest::Rest;
-use crate::value::{atom_at, place_at};
+use crate::statement::{atom_at, place_at};
 use plc_lex::{Keyword, Symbol, TokenKind};
 
 /// What stands between the sides of a test.

@@ -1,9 +1,9 @@
-// Single tokens at the front. Each reader takes what it names, or answers the place of the token that
+// Single tokens at the front, and a name after its comma. Each reader takes what it names, or answers the place of the token that
 // stands there in its stead.
 ghost use Rattle.std.specs.Prelude.{◌≡◌, ◌+◌, ◌∷◌, [], MatchOption, IfSome};
 ghost use Rattle.plc_syntax.specs.Syntax.{kinds};
 ghost use Rattle.plc_syntax.specs.Views.{text_of};
-ghost use Rattle.plc_syntax.specs.Forms.{word_of, symbol_of, name_of, number_of};
+ghost use Rattle.plc_syntax.specs.Forms.{word_of, symbol_of, name_of, number_of, comma_name_of};
 ghost use Rattle.plc_syntax.specs.Answers.{Gives, Passes};
 
 use crate::fault::Fault;
@@ -61,6 +61,16 @@ pub fn name_at<'a>(rest: Rest<'a>) -> Read<'a, &'a [u8]>
 {
     match first(rest) {
         Some((TokenKind::Name(name), after)) => Ok((name.as_slice(), after)),
+        _ => Err(stuck(rest)),
+    }
+}
+
+/// A name after its comma: a further parameter, value or label.
+pub fn comma_name_at<'a>(rest: Rest<'a>) -> Read<'a, &'a [u8]>
+    ensures { Gives text_of result (comma_name_of rest.entry.at (kinds rest.entry.tokens.now)) }
+{
+    match first(rest) {
+        Some((TokenKind::Symbol(Symbol::Comma), after)) => name_at(after),
         _ => Err(stuck(rest)),
     }
 }

@@ -4,21 +4,16 @@
 //! them: each answers the tree that is read at the front of tokens by `specs/Forms.antt`.
 #![tactic(auto)]
 
-mod call;
 mod clause;
 mod condition;
 mod declaration;
 mod fault;
 mod form;
 mod front;
-mod initial;
 mod laws;
-mod name;
-mod primitive;
 mod rest;
-mod value;
+mod statement;
 
-pub use call::{argument_at, during_at};
 pub use clause::{
     all_at, bound_at, depth_at, equality_at, equation_at, flag_at, literal_at, marked_at,
     or_literal_at, retired_at, second_at, term_at,
@@ -28,17 +23,18 @@ pub use condition::{
     named_condition_at, relation_at, test_at,
 };
 pub use declaration::{
-    epoch_at, field_at, function_at, hazard_at, pointer_word_at, scheme_at, shared_at, watch_at,
+    epoch_at, field_at, function_at, hazard_at, initial_at, pointer_word_at, scheme_at,
+    set_field_at, set_of_name_at, shared_at, watch_at,
 };
 pub use fault::Fault;
 pub use form::{
     Argument, Atom, Bound, Call, Cas, Condition, Declaration, Flag, Function, GhostSet, GhostValue,
     Initial, Literal, Place, Primitive, Refresh, Relation, Set, Shared, Term, Test, Value, Watch,
 };
-pub use front::{Read, first, name_at, number_at, stuck, symbol_at, word_at};
-pub use initial::{initial_at, set_field_at, set_of_name_at};
+pub use front::{Read, comma_name_at, first, name_at, number_at, stuck, symbol_at, word_at};
 pub use laws::{depth_is_that_of_braces, trees_spell_their_marks};
-pub use name::comma_name_at;
-pub use primitive::{field_tail_at, ghost_set_at, named_tail_at, primitive_at, primitive_line_at};
 pub use rest::Rest;
-pub use value::{atom_at, ghost_value_at, place_at, place_of_name_at, value_at};
+pub use statement::{
+    argument_at, atom_at, during_at, field_tail_at, ghost_set_at, ghost_value_at, named_tail_at,
+    place_at, place_of_name_at, primitive_at, primitive_line_at, value_at,
+};
