@@ -21,6 +21,16 @@ pub record Means (s : Scope) (ops : List Op) (at : ℕ) (ts : List TokenKind)
   pub is_outline : IsOutline ts tree after
   pub is : outline_means s ops at tree ≡ meaning
 
+-- at most one outline stands at the front of tokens, so they have one meaning and one rest, and where they have none
+-- no outline stands there
+pub record OutlinesAreOne : Type 0 where
+  pub meaning : (s : Scope) (ops : List Op) (at : ℕ) (ts : List TokenKind) (m n : Result (Outline × ℕ) ParseFault)
+      (r q : List TokenKind) → Means s ops at ts m r → Means s ops at ts n q → m ≡ n
+  pub rest : (ts : List TokenKind) (a b : OutlineTree) (r q : List TokenKind) → IsOutline ts a r → IsOutline ts b q
+      → r ≡ q
+  pub not_both : (ts : List TokenKind) (place : ℕ) (a : OutlineTree) (r : List TokenKind) → OutlineFaultAt ts place
+      → IsOutline ts a r → ⊥
+
 -- the fault that they are answered with: of syntax at the place where none can stand there any more, else that of
 -- the meaning; memory may run out anywhere
 pub data IsPartFault (s : Scope) (ops : List Op) (at : ℕ) (ts : List TokenKind) (e : ParseFault) : Type 0 where

@@ -13,5 +13,5 @@ mod reach;
 mod site;
 mod term;
 
-pub use laws::outlines_fit;
+pub use laws::{outlines_are_one, outlines_fit};
 pub use outline::{outline_meaning, read_outline};

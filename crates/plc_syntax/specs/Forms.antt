@@ -1,6 +1,6 @@
 -- What is read at the front of tokens: a tree, the place after it and the tokens from there on, or the place of the
--- first token that doesn't fit. Each form decides by its first token. A number ends the recursion of what has parts of
--- any number: each of them takes a token, so where it is above that of the tokens it makes no difference.
+-- first token that doesn't fit. Each form decides by its first token. A list is read for `plc_tree`, whose forms
+-- hold them: a number ends its recursion, and makes no difference where it is above that of the tokens.
 use Rattle.std.specs.Prelude.{ℕ, ◌+◌, zero, suc, Bool, true, false, cond, if◌then◌else◌, Option, Some, None, List, []}
 use Rattle.std.specs.Prelude.{◌∷◌, Result, Ok, Err}
 use denote.Enum.Bare.{sameb}

@@ -1,6 +1,6 @@
 -- Of the answers one holds, at one place: what begins a tree's tokens begins them from any of its prefixes on, so that
 -- two faults can't be at two places. For any reader with the law that reads every tree again.
-use Rattle.std.proofs.Common.{◌≡◌, ◌⊎◌, ◌∙◌, ◌+◌, ◌<◌, ◌≤◌, ℕ, [], ◌∷◌, ◌++◌, length, take, drop, Ok, Err, refl, sym}
+use Rattle.std.proofs.Common.{◌≡◌, ◌⊎◌, ◌×◌, ◌∙◌, ◌+◌, ◌<◌, ◌≤◌, ℕ, [], ◌∷◌, ◌++◌, length, take, drop, Ok, Err, refl, sym}
 use Rattle.std.proofs.Common.{ap, subst, arith, inl, inr}
 use Rattle.std.proofs.lemmas.Bool.{cases_lt, cases_order}
 use Rattle.std.proofs.lemmas.List.{append_assoc, append-nil, take-append-drop, take-take}
@@ -9,7 +9,7 @@ use Rattle.plc_lex.specs.declared.token.TokenKind.{TokenKind}
 use Rattle.plc_syntax.specs.Faults.{SyntaxFaultsAreOne}
 use Rattle.plc_syntax.specs.Nesting.{SyntaxFaultAt, NestingFaultAt}
 use Rattle.plc_syntax.specs.Syntax.{AreWhole, Begin, StopAt, IsFile, FaultAt}
-use Rattle.plc_syntax.specs.Trees.{FileTree, file_then, file_tokens, outline_then}
+use Rattle.plc_syntax.specs.Trees.{FileTree, OutlineTree, file_then, file_tokens, outline_then}
 use Rattle.plc_syntax.specs.Forms.{Read}
 use Rattle.plc_syntax.proofs.Again.{Gets}
 use Rattle.plc_syntax.proofs.Combinators.{Tokens, Spells, Reader, same, SameHead, Whole, Stuck, Is, Law}
@@ -96,17 +96,24 @@ module _ {X : Type 0} (s : Spells X) (f : Reader X) (law : (n : ℕ) → Law n s
 
 -- ---- of a file and of an outline
 
-abbrev read_or : FileTree → Read FileTree → FileTree
-read_or other (Ok r) = r.0
+abbrev read_or : {X : Type 0} → X × Tokens → Read X → X × Tokens
+read_or other (Ok r) = (r.0, r.2)
 read_or other (Err at) = other
 
--- tokens are those of one tree at most: both trees are what is read
+-- tokens begin with one tree at most: both trees are what is read
+one_front : {X : Type 0} (f : Reader X) (ts us : Tokens) (a b : X) (r q : Tokens) → ts ≡ us
+    → Gets (λ m. f m 0 ts) a r → Gets (λ m. f m 0 us) b q → (a, r) ≡ (b, q)
+one_front f ts us a b r q e g h =
+    let m = g.fuel + h.fuel in
+    ap (read_or (a, r)) (sym (g.reads m (omega arith)) ∙ ap (f m 0) e ∙ h.reads m (omega arith))
+
 pub file_is_one : (a b : FileTree) → file_tokens a ≡ file_tokens b → a ≡ b
 file_is_one a b e =
-    let g = file_gets a 0 in
-    let h = file_gets b 0 in
-    let m = g.fuel + h.fuel in
-    ap (read_or a) (sym (g.reads m (omega arith)) ∙ ap (file_of m 0) e ∙ h.reads m (omega arith))
+    ap (λ p. p.0) (one_front file_of (file_tokens a) (file_tokens b) a b [] [] e (file_gets a 0) (file_gets b 0))
+
+pub outline_is_one : (a b : OutlineTree) (r q : Tokens) → outline_then a r ≡ outline_then b q → (a, r) ≡ (b, q)
+outline_is_one a b r q e =
+    one_front outline_of (outline_then a r) (outline_then b q) a b r q e (outline_gets a 0 r) (outline_gets b 0 q)
 
 one_file_fault : (ts : Tokens) (a b : ℕ) → FaultAt ts a → FaultAt ts b → a ≡ b
 one_file_fault = one_fault file_then file_of file_law (λ x. file_gets x 0)

@@ -1,14 +1,13 @@
 // Auxiliary fields, and the init block.
-ghost use Rattle.std.specs.Prelude.{◌≡◌, map};
+ghost use Rattle.std.specs.Prelude.{map};
 ghost use Rattle.plc_syntax.specs.Syntax.{kinds};
 ghost use Rattle.plc_syntax.specs.Views.{initial_tree};
 ghost use Rattle.plc_syntax.specs.Answers.{Gives};
-ghost use Rattle.plc_tree.specs.Forms.{values_of, ghost_kind_of, ghost_tail_of, begins_ghost, ghost_of, init_tail_of};
-ghost use Rattle.plc_tree.specs.Forms.{init_of};
+ghost use Rattle.plc_tree.specs.Forms.{values_of, ghost_kind_of, ghost_tail_of, ghost_of, init_tail_of, init_of};
 ghost use Rattle.plc_tree.specs.FormViews.{kind_tree, auxiliary_tree, starts_tree};
 
 use crate::form::{Auxiliary, AuxiliaryKind};
-use crate::list::{Listed, list_at};
+use crate::list::list_at;
 use plc_base::Items;
 use plc_lex::{Keyword, Symbol, TokenKind};
 use plc_syntax::{Initial, Read, Rest, first, name_at, stuck, symbol_at};
@@ -46,7 +45,7 @@ fn ghost_tail_at<'a>(alloc: Global, most: usize, rest: Rest<'a>) -> Read<'a, Aux
 }
 
 /// An auxiliary field.
-fn ghost_at<'a>(alloc: Global, most: usize, rest: Rest<'a>) -> Read<'a, Auxiliary<'a>>
+pub fn ghost_at<'a>(alloc: Global, most: usize, rest: Rest<'a>) -> Read<'a, Auxiliary<'a>>
     ensures { Gives auxiliary_tree result (ghost_of most rest.entry.at (kinds rest.entry.tokens.now)) }
 {
     match first(rest) {
@@ -80,31 +79,5 @@ pub fn init_at<'a>(
             Ok((Some(sets), after))
         }
         _ => Ok((None, rest)),
-    }
-}
-
-impl<'a> Listed<'a> for Auxiliary<'a> {
-    ghost use Rattle.plc_syntax.specs.Trees.{GhostTree};
-    ghost use Rattle.plc_tree.specs.Forms.{begins_ghost, ghost_of};
-    ghost use Rattle.plc_tree.specs.FormViews.{auxiliary_tree};
-
-    ghost Tree = { GhostTree };
-
-    ghost tree = { auxiliary_tree };
-
-    ghost starts = { begins_ghost };
-
-    ghost of = { λ m at ts. ghost_of m at ts };
-
-    fn begins(kind: &TokenKind) -> bool
-        ensures { result ≡ begins_ghost kind.now }
-    {
-        matches!(kind, TokenKind::Word(Keyword::Ghost))
-    }
-
-    fn read(alloc: Global, most: usize, rest: Rest<'a>) -> Read<'a, Auxiliary<'a>>
-        ensures { Gives auxiliary_tree result (ghost_of most rest.entry.at (kinds rest.entry.tokens.now)) }
-    {
-        ghost_at(alloc, most, rest)
     }
 }

@@ -1,6 +1,7 @@
 // Blocks, and the statements that hold blocks. Each statement takes a token, so fewer stand after and
 // within one another than there are tokens: `most` is above that number, and ends the recursion. How
-// deep blocks are nested is judged before, on the tokens, so that the recursion is 65 deep at most.
+// deep blocks are nested is judged before, on the tokens, so that the recursion is 66 deep at most: the body of
+// an operation, 64 blocks within it, and the one that stands too deep.
 ghost use Rattle.std.specs.Prelude.{◌≡◌};
 ghost use Rattle.plc_syntax.specs.Syntax.{kinds};
 ghost use Rattle.plc_syntax.specs.Forms.{first_is};
@@ -9,13 +10,13 @@ ghost use Rattle.plc_tree.specs.Forms.{begins_statement, begins_or, braced_of, l
 ghost use Rattle.plc_tree.specs.Forms.{ors_of, choose_of, statement_of, statements_of, block_of};
 ghost use Rattle.plc_tree.specs.Views.{statement_tree, else_tree, ors_tree};
 
-use crate::statement::{atomic_at, ended_at, label_at, named_statement_at, step_at};
+use crate::statement::{atomic_at, ended_at, label_at, named_statement_at, primitive_statement_at};
 use crate::tree::{Block, Stmt};
 use plc_lex::{Keyword, Symbol, TokenKind};
 use plc_syntax::{Read, Rest, condition_at, first, stuck, symbol_at, word_at};
 use std::alloc::Global;
 
-/// Whether a statement that is no primitive begins with a word.
+/// Whether a statement begins with a word.
 fn is_statement_word(word: Keyword) -> bool
     ensures { result ≡ begins_statement (TokenKind.Word word) }
 {
@@ -180,7 +181,7 @@ fn statement_at<'a>(alloc: Global, most: usize, rest: Rest<'a>) -> Read<'a, Stmt
         Some((TokenKind::Word(Keyword::Break), after)) => ended_at(Stmt::Break, after),
         Some((TokenKind::Word(Keyword::Return), after)) => ended_at(Stmt::Return, after),
         Some((TokenKind::Word(Keyword::Label), after)) => label_at(after),
-        _ => step_at(rest),
+        _ => primitive_statement_at(rest),
     }
 }
 

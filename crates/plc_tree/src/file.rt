@@ -1,7 +1,7 @@
 // The file: the public reader, and the pieces of which a file is made. How deep blocks stand within one
 // another is judged before, on the tokens: where a block stands too deep, the tokens are cut off after
-// its brace and read. A fault at or before the brace is the fault of the syntax, and with any other
-// answer the tokens up to the brace begin a file. So no reader of forms counts blocks.
+// its brace and read. A fault at or before the brace is the fault of the syntax; with a fault after it
+// or a tree the tokens up to the brace begin a file. So no reader of forms counts blocks.
 ghost use Rattle.std.specs.Prelude.{◌≡◌, ◌+◌, ◌<◌, ◌^◌, ℕ, length, IfOk, IfErr};
 ghost use Rattle.plc_syntax.specs.Nesting.{NoneTooDeep, SyntaxFaultAt, NestingFaultAt};
 ghost use Rattle.plc_syntax.specs.Syntax.{kinds, IsFile};
@@ -30,26 +30,37 @@ use std::alloc::Global;
 /// The struct of a file: the name of nodes, and their fields.
 #[derive(Drop)]
 pub struct Struct<'a> {
+    /// How it is called.
     pub name: &'a [u8],
+    /// The fields of a node.
     pub fields: Items<Declaration<'a>>,
 }
 
 /// What stands before the operations of a file.
 #[derive(Drop)]
 pub struct Heading<'a> {
+    /// What a node is.
     pub node: Struct<'a>,
+    /// The shared pointers.
     pub pointers: Items<Shared<'a>>,
+    /// The functions of the reclaimer that operations call.
     pub functions: Items<Function<'a>>,
+    /// What the reclaimer watches, which may be left out.
     pub watched: Option<Watch<'a>>,
+    /// The auxiliary fields.
     pub auxiliaries: Items<Auxiliary<'a>>,
+    /// The init block, which may be left out.
     pub starts: Option<Items<Initial<'a>>>,
 }
 
 /// A file as a tree. It borrows the bytes of names from the tokens.
 #[derive(Drop)]
 pub struct File<'a> {
+    /// What stands before the operations.
     pub heading: Heading<'a>,
+    /// The operations in order.
     pub operations: Items<Operation<'a>>,
+    /// The outline, which may be left out.
     pub outline: Option<Outline<'a>>,
 }
 
@@ -102,7 +113,7 @@ fn file_at<'a>(alloc: Global, most: usize, rest: Rest<'a>) -> Read<'a, File<'a>>
 }
 
 /// The tree of tokens, however deep its blocks stand.
-fn whole<'a>(alloc: Global, tokens: &'a [Token]) -> Result<File<'a>, Fault>
+fn whole_file<'a>(alloc: Global, tokens: &'a [Token]) -> Result<File<'a>, Fault>
     requires { length tokens.now < 2 ^ 32 }
     ensures tree { IfOk result (λ file. file_tokens (file_tree file) ≡ kinds tokens.now) }
     ensures fault { IfErr result (StopsThere (kinds tokens.now)) }
@@ -119,12 +130,12 @@ fn whole<'a>(alloc: Global, tokens: &'a [Token]) -> Result<File<'a>, Fault>
 }
 
 /// The fault of tokens, once a block stands too deep at a place and none before.
-fn fault_before(alloc: Global, tokens: &[Token], place: usize) -> SyntaxFault
+fn fault_up_to(alloc: Global, tokens: &[Token], place: usize) -> SyntaxFault
     requires size { length tokens.now < 2 ^ 32 }
     requires within { place < length tokens.now }
     ensures { FaultsUpTo (kinds tokens.now) place result }
 {
-    match whole(alloc, &tokens[..place + 1]) {
+    match whole_file(alloc, &tokens[..place + 1]) {
         Ok(file) => {
             drop(file);
             SyntaxFault::Nesting { at: place as u32 }
@@ -153,9 +164,9 @@ pub fn file_tree<'a>(alloc: Global, tokens: &'a [Token]) -> Result<File<'a>, Syn
         (NestingFaultAt (kinds tokens.now) at) }
 {
     if let Some(place) = first_too_deep(tokens) {
-        return Err(fault_before(alloc, tokens, place));
+        return Err(fault_up_to(alloc, tokens, place));
     }
-    match whole(alloc, tokens) {
+    match whole_file(alloc, tokens) {
         Ok(file) => Ok(file),
         Err(Fault::Syntax { at }) => Err(SyntaxFault::Syntax { at }),
         Err(Fault::Memory) => Err(SyntaxFault::Memory),

@@ -15,21 +15,27 @@ pub enum AuxiliaryKind<'a> {
 /// An auxiliary field.
 #[derive(Drop)]
 pub struct Auxiliary<'a> {
+    /// How it is called.
     pub name: &'a [u8],
+    /// What it holds.
     pub kind: AuxiliaryKind<'a>,
 }
 
-/// A clause: its quantified names, its first literal, and the others.
+/// A clause, which holds where one of its literals does.
 #[derive(Drop)]
 pub struct Clause<'a> {
+    /// The quantified names.
     pub bound: Bound<'a>,
+    /// The first literal.
     pub first: Literal<'a>,
+    /// The others in order.
     pub others: Items<Literal<'a>>,
 }
 
 /// An item of an outline.
 #[derive(Drop)]
 pub enum Item<'a> {
+    /// Everywhere.
     Invariant(Clause<'a>),
     /// Over an operation, by its name.
     Over(&'a [u8], Clause<'a>),
@@ -37,9 +43,11 @@ pub enum Item<'a> {
     At(&'a [u8], Items<&'a [u8]>, Clause<'a>),
 }
 
-/// An outline: its depth, which may be left out, and its items.
+/// An outline.
 #[derive(Drop)]
 pub struct Outline<'a> {
+    /// Its depth, which may be left out.
     pub depth: Option<u32>,
+    /// Its items in order.
     pub items: Items<Item<'a>>,
 }

@@ -17,12 +17,16 @@ pub trait Listed<'a>: Sized + Drop {
     ghost use Rattle.plc_lex.specs.declared.token.TokenKind.{TokenKind as Kind};
     ghost use Rattle.plc_syntax.specs.Forms.{Read as ReadAs};
 
+    // the trees of items
     ghost Tree: { Type 0 };
 
+    // an item's tree
     ghost tree: { Self → Tree };
 
+    // whether an item begins with a token
     ghost starts: { Kind → Bool };
 
+    // what is read at the front of tokens as an item
     ghost of: { ℕ → ℕ → List Kind → ReadAs Tree };
 
     /// Whether an item begins with a token.

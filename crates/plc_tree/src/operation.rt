@@ -1,12 +1,11 @@
 // An operation.
-ghost use Rattle.std.specs.Prelude.{◌≡◌};
 ghost use Rattle.plc_syntax.specs.Syntax.{kinds};
 ghost use Rattle.plc_syntax.specs.Answers.{Gives};
-ghost use Rattle.plc_tree.specs.Forms.{parameters_of, op_tail_of, begins_op, op_of};
+ghost use Rattle.plc_tree.specs.Forms.{parameters_of, op_tail_of, op_of};
 ghost use Rattle.plc_tree.specs.FileViews.{parameters_names, operation_tree};
 
 use crate::block::block_at;
-use crate::list::{Listed, list_at};
+use crate::list::list_at;
 use crate::tree::Block;
 use plc_base::Items;
 use plc_lex::{Keyword, Symbol, TokenKind};
@@ -16,6 +15,7 @@ use std::alloc::Global;
 /// The parameters of an operation, of which there may be none.
 #[derive(Drop)]
 pub enum Parameters<'a> {
+    /// None.
     None,
     /// The first, and the others.
     Some(&'a [u8], Items<&'a [u8]>),
@@ -24,9 +24,13 @@ pub enum Parameters<'a> {
 /// An operation.
 #[derive(Drop)]
 pub struct Operation<'a> {
+    /// How it is called.
     pub name: &'a [u8],
+    /// Its parameters.
     pub parameters: Parameters<'a>,
+    /// What it declares before its statements.
     pub locals: Items<Declaration<'a>>,
+    /// Its statements.
     pub body: Block<'a>,
 }
 
@@ -64,37 +68,11 @@ fn op_tail_at<'a>(alloc: Global, most: usize, rest: Rest<'a>) -> Read<'a, Operat
 }
 
 /// An operation.
-fn op_at<'a>(alloc: Global, most: usize, rest: Rest<'a>) -> Read<'a, Operation<'a>>
+pub fn op_at<'a>(alloc: Global, most: usize, rest: Rest<'a>) -> Read<'a, Operation<'a>>
     ensures { Gives operation_tree result (op_of most rest.entry.at (kinds rest.entry.tokens.now)) }
 {
     match first(rest) {
         Some((TokenKind::Word(Keyword::Op), after)) => op_tail_at(alloc, most, after),
         _ => Err(stuck(rest)),
-    }
-}
-
-impl<'a> Listed<'a> for Operation<'a> {
-    ghost use Rattle.plc_syntax.specs.Trees.{OpTree};
-    ghost use Rattle.plc_tree.specs.Forms.{begins_op, op_of};
-    ghost use Rattle.plc_tree.specs.FileViews.{operation_tree};
-
-    ghost Tree = { OpTree };
-
-    ghost tree = { operation_tree };
-
-    ghost starts = { begins_op };
-
-    ghost of = { λ m at ts. op_of m at ts };
-
-    fn begins(kind: &TokenKind) -> bool
-        ensures { result ≡ begins_op kind.now }
-    {
-        matches!(kind, TokenKind::Word(Keyword::Op))
-    }
-
-    fn read(alloc: Global, most: usize, rest: Rest<'a>) -> Read<'a, Operation<'a>>
-        ensures { Gives operation_tree result (op_of most rest.entry.at (kinds rest.entry.tokens.now)) }
-    {
-        op_at(alloc, most, rest)
     }
 }

@@ -3,19 +3,19 @@ ghost use Rattle.std.specs.Prelude.{◌≡◌, ◌+◌, ◌<◌, ◌^◌, length
 ghost use Rattle.plc_syntax.specs.Syntax.{kinds};
 ghost use Rattle.plc_syntax.specs.Trees.{outline_then};
 ghost use Rattle.plc_syntax.specs.Answers.{Gives};
-ghost use Rattle.plc_tree.specs.Forms.{over_of, at_of, begins_item, item_of, outline_tail_of, outline_of, outlined_of};
+ghost use Rattle.plc_tree.specs.Forms.{over_of, at_of, item_of, outline_tail_of, outline_of, outlined_of};
 ghost use Rattle.plc_tree.specs.FormViews.{item_tree, outline_tree, outlined_tree};
 ghost use Rattle.plc_tree.specs.Whole.{OutlineStops};
 
 use crate::clause::clause_at;
 use crate::form::{Item, Outline};
-use crate::list::{Listed, list_at};
+use crate::list::list_at;
 use plc_lex::{Keyword, Symbol, Token, TokenKind};
 use plc_syntax::{Fault, Read, Rest, depth_at, first, name_at, stuck, symbol_at, word_at};
 use std::alloc::Global;
 
 /// An item over an operation, from after its word.
-fn over_at<'a>(alloc: Global, most: usize, rest: Rest<'a>) -> Read<'a, Item<'a>>
+fn over_item_at<'a>(alloc: Global, most: usize, rest: Rest<'a>) -> Read<'a, Item<'a>>
     ensures { Gives item_tree result (over_of most rest.entry.at (kinds rest.entry.tokens.now)) }
 {
     let (name, after) = name_at(rest)?;
@@ -25,7 +25,7 @@ fn over_at<'a>(alloc: Global, most: usize, rest: Rest<'a>) -> Read<'a, Item<'a>>
 }
 
 /// An item at labels, from after its word.
-fn at_at<'a>(alloc: Global, most: usize, rest: Rest<'a>) -> Read<'a, Item<'a>>
+fn at_item_at<'a>(alloc: Global, most: usize, rest: Rest<'a>) -> Read<'a, Item<'a>>
     ensures { Gives item_tree result (at_of most rest.entry.at (kinds rest.entry.tokens.now)) }
 {
     let (name, after) = name_at(rest)?;
@@ -36,7 +36,7 @@ fn at_at<'a>(alloc: Global, most: usize, rest: Rest<'a>) -> Read<'a, Item<'a>>
 }
 
 /// An item.
-fn item_at<'a>(alloc: Global, most: usize, rest: Rest<'a>) -> Read<'a, Item<'a>>
+pub fn item_at<'a>(alloc: Global, most: usize, rest: Rest<'a>) -> Read<'a, Item<'a>>
     ensures { Gives item_tree result (item_of most rest.entry.at (kinds rest.entry.tokens.now)) }
 {
     match first(rest) {
@@ -44,8 +44,8 @@ fn item_at<'a>(alloc: Global, most: usize, rest: Rest<'a>) -> Read<'a, Item<'a>>
             let (clause, after) = clause_at(alloc, most, after)?;
             Ok((Item::Invariant(clause), after))
         }
-        Some((TokenKind::Word(Keyword::Over), after)) => over_at(alloc, most, after),
-        Some((TokenKind::Word(Keyword::At), after)) => at_at(alloc, most, after),
+        Some((TokenKind::Word(Keyword::Over), after)) => over_item_at(alloc, most, after),
+        Some((TokenKind::Word(Keyword::At), after)) => at_item_at(alloc, most, after),
         _ => Err(stuck(rest)),
     }
 }
@@ -95,34 +95,5 @@ pub fn outlined_at<'a>(alloc: Global, most: usize, rest: Rest<'a>) -> Read<'a, O
             Ok((Some(outline), after))
         }
         _ => Ok((None, rest)),
-    }
-}
-
-impl<'a> Listed<'a> for Item<'a> {
-    ghost use Rattle.plc_syntax.specs.Trees.{ItemTree};
-    ghost use Rattle.plc_tree.specs.Forms.{begins_item, item_of};
-    ghost use Rattle.plc_tree.specs.FormViews.{item_tree};
-
-    ghost Tree = { ItemTree };
-
-    ghost tree = { item_tree };
-
-    ghost starts = { begins_item };
-
-    ghost of = { λ m at ts. item_of m at ts };
-
-    fn begins(kind: &TokenKind) -> bool
-        ensures { result ≡ begins_item kind.now }
-    {
-        matches!(
-            kind,
-            TokenKind::Word(Keyword::Inv | Keyword::Over | Keyword::At)
-        )
-    }
-
-    fn read(alloc: Global, most: usize, rest: Rest<'a>) -> Read<'a, Item<'a>>
-        ensures { Gives item_tree result (item_of most rest.entry.at (kinds rest.entry.tokens.now)) }
-    {
-        item_at(alloc, most, rest)
     }
 }

@@ -71,7 +71,7 @@ pub fn label_at<'a>(rest: Rest<'a>) -> Read<'a, Stmt<'a>>
 }
 
 /// A primitive as a statement.
-pub fn step_at<'a>(rest: Rest<'a>) -> Read<'a, Stmt<'a>>
+pub fn primitive_statement_at<'a>(rest: Rest<'a>) -> Read<'a, Stmt<'a>>
     ensures { Gives statement_tree result (step_of rest.entry.at (kinds rest.entry.tokens.now)) }
 {
     let (primitive, after) = primitive_line_at(rest)?;

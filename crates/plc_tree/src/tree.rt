@@ -11,26 +11,35 @@ use std::marker::Model;
 #[cycle(tree)]
 #[derive(Drop)]
 pub enum Stmt<'a> {
+    /// A primitive.
     Primitive(Primitive<'a>),
+    /// Primitives in one step.
     Atomic(Items<Primitive<'a>>),
+    /// A call of a function of the reclaimer, with the label between it and its return.
     Call {
         name: &'a [u8],
         argument: Argument<'a>,
         during: Option<&'a [u8]>,
     },
+    /// Either of two blocks, of which the second may be left out.
     If {
         condition: Condition<'a>,
         yes: Block<'a>,
         no: Option<Block<'a>>,
     },
+    /// Any of two blocks or more.
     Choose {
         first: Block<'a>,
         second: Block<'a>,
         others: Vec<Block<'a>>,
     },
+    /// A block again and again, until it is left.
     Loop(Block<'a>),
+    /// The end of the innermost loop.
     Break,
+    /// The end of the operation.
     Return,
+    /// A label of the point where it stands.
     Label(&'a [u8]),
 }
 

@@ -6,11 +6,11 @@ use Rattle.plc_tree.proofs.file.file_tree.Goals as goal
 
 pub returns-in-Some-clause-syntax : goal.returns-in-Some-clause-syntax
 returns-in-Some-clause-syntax c = (deep_is_right {A = File} (kinds c.args.tokens.now) c.in-Some.place
-    c.fault_before.result c.in-Some.ensures c.fault_before.ensures).syntax_fault
+    c.fault_up_to.result c.in-Some.ensures c.fault_up_to.ensures).syntax_fault
 
 pub returns-in-Some-clause-nesting : goal.returns-in-Some-clause-nesting
 returns-in-Some-clause-nesting c = (deep_is_right {A = File} (kinds c.args.tokens.now) c.in-Some.place
-    c.fault_before.result c.in-Some.ensures c.fault_before.ensures).nesting_fault
+    c.fault_up_to.result c.in-Some.ensures c.fault_up_to.ensures).nesting_fault
 
 pub returns-in-Ok-clause-file : goal.returns-in-Ok-clause-file
 returns-in-Ok-clause-file c = (read_is_right (kinds c.args.tokens.now) c.in-Ok.file

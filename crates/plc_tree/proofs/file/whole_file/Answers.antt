@@ -3,7 +3,7 @@ use Rattle.plc_syntax.specs.Syntax.{kinds}
 use Rattle.plc_tree.specs.FileViews.{file_tree}
 use Rattle.plc_tree.proofs.Exact.{file_whole, file_left, stuck_there, none_left, some_left}
 use Rattle.plc_tree.proofs.Nested.{kinds_length}
-use Rattle.plc_tree.proofs.file.whole.Goals as goal
+use Rattle.plc_tree.proofs.file.whole_file.Goals as goal
 
 pub returns-then-is_empty-clause-tree : goal.returns-then-is_empty-clause-tree
 returns-then-is_empty-clause-tree c =

@@ -1,4 +1,4 @@
-// The forms without lists of which lists are made: with which token each begins, and its reader.
+// What lists are made of: with which token an item begins, and its reader.
 ghost use Rattle.std.specs.Prelude.{◌≡◌};
 ghost use Rattle.plc_syntax.specs.Syntax.{kinds};
 ghost use Rattle.plc_syntax.specs.Views.{text_of, primitive_tree, initial_tree, field_tree, function_tree, shared_name};
@@ -7,8 +7,15 @@ ghost use Rattle.plc_syntax.specs.Forms.{comma_name_of, primitive_line_of, initi
 ghost use Rattle.plc_syntax.specs.Forms.{function_of, or_literal_of};
 ghost use Rattle.plc_syntax.specs.Answers.{Gives};
 ghost use Rattle.plc_tree.specs.Forms.{begins_comma_name, begins_field, begins_shared, begins_function, begins_or};
+ghost use Rattle.plc_tree.specs.Forms.{begins_ghost, ghost_of, begins_item, item_of, begins_op, op_of};
+ghost use Rattle.plc_tree.specs.FormViews.{auxiliary_tree, item_tree};
+ghost use Rattle.plc_tree.specs.FileViews.{operation_tree};
 
+use crate::auxiliary::ghost_at;
+use crate::form::{Auxiliary, Item};
 use crate::list::Listed;
+use crate::operation::{Operation, op_at};
+use crate::outline::item_at;
 use plc_lex::{Keyword, Symbol, TokenKind};
 use plc_syntax::{
     Declaration, Function, Initial, Literal, Primitive, Read, Rest, Shared, comma_name_at,
@@ -208,5 +215,86 @@ impl<'a> Listed<'a> for Literal<'a> {
         ensures { Gives literal_tree result (or_literal_of rest.entry.at (kinds rest.entry.tokens.now)) }
     {
         or_literal_at(rest)
+    }
+}
+
+impl<'a> Listed<'a> for Auxiliary<'a> {
+    ghost use Rattle.plc_syntax.specs.Trees.{GhostTree};
+    ghost use Rattle.plc_tree.specs.Forms.{begins_ghost, ghost_of};
+    ghost use Rattle.plc_tree.specs.FormViews.{auxiliary_tree};
+
+    ghost Tree = { GhostTree };
+
+    ghost tree = { auxiliary_tree };
+
+    ghost starts = { begins_ghost };
+
+    ghost of = { λ m at ts. ghost_of m at ts };
+
+    fn begins(kind: &TokenKind) -> bool
+        ensures { result ≡ begins_ghost kind.now }
+    {
+        matches!(kind, TokenKind::Word(Keyword::Ghost))
+    }
+
+    fn read(alloc: Global, most: usize, rest: Rest<'a>) -> Read<'a, Auxiliary<'a>>
+        ensures { Gives auxiliary_tree result (ghost_of most rest.entry.at (kinds rest.entry.tokens.now)) }
+    {
+        ghost_at(alloc, most, rest)
+    }
+}
+
+impl<'a> Listed<'a> for Item<'a> {
+    ghost use Rattle.plc_syntax.specs.Trees.{ItemTree};
+    ghost use Rattle.plc_tree.specs.Forms.{begins_item, item_of};
+    ghost use Rattle.plc_tree.specs.FormViews.{item_tree};
+
+    ghost Tree = { ItemTree };
+
+    ghost tree = { item_tree };
+
+    ghost starts = { begins_item };
+
+    ghost of = { λ m at ts. item_of m at ts };
+
+    fn begins(kind: &TokenKind) -> bool
+        ensures { result ≡ begins_item kind.now }
+    {
+        matches!(
+            kind,
+            TokenKind::Word(Keyword::Inv | Keyword::Over | Keyword::At)
+        )
+    }
+
+    fn read(alloc: Global, most: usize, rest: Rest<'a>) -> Read<'a, Item<'a>>
+        ensures { Gives item_tree result (item_of most rest.entry.at (kinds rest.entry.tokens.now)) }
+    {
+        item_at(alloc, most, rest)
+    }
+}
+
+impl<'a> Listed<'a> for Operation<'a> {
+    ghost use Rattle.plc_syntax.specs.Trees.{OpTree};
+    ghost use Rattle.plc_tree.specs.Forms.{begins_op, op_of};
+    ghost use Rattle.plc_tree.specs.FileViews.{operation_tree};
+
+    ghost Tree = { OpTree };
+
+    ghost tree = { operation_tree };
+
+    ghost starts = { begins_op };
+
+    ghost of = { λ m at ts. op_of m at ts };
+
+    fn begins(kind: &TokenKind) -> bool
+        ensures { result ≡ begins_op kind.now }
+    {
+        matches!(kind, TokenKind::Word(Keyword::Op))
+    }
+
+    fn read(alloc: Global, most: usize, rest: Rest<'a>) -> Read<'a, Operation<'a>>
+        ensures { Gives operation_tree result (op_of most rest.entry.at (kinds rest.entry.tokens.now)) }
+    {
+        op_at(alloc, most, rest)
     }
 }

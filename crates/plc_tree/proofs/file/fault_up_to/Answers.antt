@@ -1,7 +1,7 @@
 use Rattle.std.proofs.Common.{◌≤◌, refl, arith}
 use Rattle.plc_tree.specs.FileViews.{file_tree}
 use Rattle.plc_tree.proofs.Nested.{cut_is_file, cut_fault, cut_begins}
-use Rattle.plc_tree.proofs.file.fault_before.Goals as goal
+use Rattle.plc_tree.proofs.file.fault_up_to.Goals as goal
 
 pub returns-then-is_up_to : goal.returns-then-is_up_to
 returns-then-is_up_to c =
