@@ -17,8 +17,7 @@ use crate::unit::Unit;
 use plc_base::What1;
 use plc_lex::Token;
 use plc_scope::ParseFault;
-use plc_syntax::SyntaxFault;
-use plc_tree::file_tree;
+use plc_tree::{SyntaxFault, file_tree};
 use std::alloc::Global;
 
 /// The unit that tokens spell, or their fault. The syntax goes first over the whole file, with the

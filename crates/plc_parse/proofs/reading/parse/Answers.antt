@@ -1,5 +1,5 @@
 use Rattle.std.proofs.Common.{◌≡◌, ◌∙◌, Err, length, ap, refl, arith}
-use Rattle.plc_syntax.specs.declared.fault.SyntaxFault.TheVariants as syntax
+use Rattle.plc_tree.specs.declared.fault.SyntaxFault.TheVariants as syntax
 use Rattle.plc_tree.specs.FileViews.{file_tree}
 use Rattle.plc_tree.proofs.Nested.{kinds_length}
 use Rattle.plc_scope.specs.declared.fault.ParseFault.TheVariants as faults
