@@ -12,11 +12,12 @@ ghost use Rattle.plc_parse.specs.Units.{lines_of};
 ghost use Rattle.plc_parse.specs.Views.{CanMean, MeansHere, choices_mean};
 
 use crate::lines::line_at;
+use crate::placed::Placed;
 use crate::sizes::condition_size;
 use crate::statement::{atomic, break_statement, call_statement, label, primitive_statement};
 use plc_lang::{Block, Line, Stmt};
 use plc_lex::Token;
-use plc_scope::{ParseFault, Scope, condition};
+use plc_scope::{Scope, condition};
 use plc_syntax::{Call, Condition};
 use plc_tree::{Block as BlockForm, Stmt as StmtForm};
 use std::alloc::Global;
@@ -32,12 +33,7 @@ pub struct Context<'a> {
 
 /// A loop, and the place after it.
 #[cycle(block)]
-fn loop_statement(
-    context: Context,
-    scope: &mut Scope,
-    at: u32,
-    block: &BlockForm,
-) -> Result<(Stmt, u32), ParseFault>
+fn loop_statement(context: Context, scope: &mut Scope, at: u32, block: &BlockForm) -> Placed<Stmt>
     requires { CanMean scope.old at (statement_size (LoopStatement block.now)) }
     ensures { MeansHere statement_of
         (statement_means (lines_of context.entry.tokens.now) scope.old context.entry.in_loop at
@@ -58,7 +54,7 @@ fn else_block(
     scope: &mut Scope,
     at: u32,
     block: &Option<BlockForm>,
-) -> Result<(Block, u32), ParseFault>
+) -> Placed<Block>
     requires { CanMean scope.old at (else_size (else_tree block.now)) }
     ensures { MeansHere (λ b. b)
         (else_means (lines_of context.entry.tokens.now) scope.old context.entry.in_loop at (else_tree block.now))
@@ -82,7 +78,7 @@ fn if_statement(
     form: Condition,
     yes: &BlockForm,
     no: &Option<BlockForm>,
-) -> Result<(Stmt, u32), ParseFault>
+) -> Placed<Stmt>
     requires { CanMean scope.old at (statement_size (IfStatement (condition_tree form) yes.now (else_tree no.now))) }
     ensures { MeansHere statement_of
         (statement_means (lines_of context.entry.tokens.now) scope.old context.entry.in_loop at
@@ -105,7 +101,7 @@ fn choices(
     second: Block,
     start: u32,
     others: &[BlockForm],
-) -> Result<(Vec<Block>, u32), ParseFault>
+) -> Placed<Vec<Block>>
     requires { CanMean scope.old start (ors_size (ors_tree others.now)) }
     ensures { MeansHere (λ bs. blocks_of bs.items)
         (choices_mean (lines_of context.entry.tokens.now) scope.old context.entry.in_loop start first second
@@ -133,7 +129,7 @@ fn choose_statement(
     first: &BlockForm,
     second: &BlockForm,
     others: &[BlockForm],
-) -> Result<(Stmt, u32), ParseFault>
+) -> Placed<Stmt>
     requires { CanMean scope.old at
         (statement_size (ChooseStatement first.now second.now (ors_tree others.now))) }
     ensures { MeansHere statement_of
@@ -149,12 +145,7 @@ fn choose_statement(
 
 /// A statement, and the place after it.
 #[cycle(block)]
-fn statement(
-    context: Context,
-    scope: &mut Scope,
-    at: u32,
-    stmt: &StmtForm,
-) -> Result<(Stmt, u32), ParseFault>
+fn statement(context: Context, scope: &mut Scope, at: u32, stmt: &StmtForm) -> Placed<Stmt>
     requires { CanMean scope.old at (statement_size (statement_tree stmt.now)) }
     ensures { MeansHere statement_of
         (statement_means (lines_of context.entry.tokens.now) scope.old context.entry.in_loop at
@@ -196,7 +187,7 @@ pub fn statements(
     scope: &mut Scope,
     start: u32,
     block: &BlockForm,
-) -> Result<(Block, u32), ParseFault>
+) -> Placed<Block>
     requires { CanMean scope.old start (statements_size block.now) }
     ensures { MeansHere (λ b. b)
         (statements_mean (lines_of context.entry.tokens.now) scope.old context.entry.in_loop start block.now)
