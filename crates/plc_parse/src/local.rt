@@ -2,9 +2,9 @@
 ghost use Rattle.std.specs.Prelude.{◌≡◌, ◌+◌, ◌*◌, ◌<◌, ◌^◌, IfOk, length, map};
 ghost use Rattle.std.specs.List.{sum_by};
 ghost use Rattle.plc_syntax.specs.Views.{text_of, field_tree};
+ghost use Rattle.plc_tree.specs.FileViews.{parameters_names};
 ghost use Rattle.plc_scope.specs.Answers.{Gives, HasRoomForLocals, GrowsByLocals};
 ghost use Rattle.plc_scope.specs.Scope.{declared_parameter, declared_local};
-ghost use Rattle.plc_tree.specs.FileViews.{parameters_names};
 ghost use Rattle.plc_parse.specs.Growth.{AddsLocals};
 ghost use Rattle.plc_parse.specs.Meaning.{local_means, others_mean, parameters_mean, locals_mean};
 ghost use Rattle.plc_parse.specs.Sizes.{field_size, parameters_size};

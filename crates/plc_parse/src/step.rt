@@ -3,12 +3,12 @@
 ghost use Rattle.std.specs.Prelude.{◌≡◌, ◌==◌, ◌+◌, ◌<◌, ◌≤◌, ◌^◌, if◌then◌else◌, Option, Some};
 ghost use Rattle.std.specs.Prelude.{Result, Ok, [], false, IfOk, length, map};
 ghost use Rattle.std.specs.List.{sum_by};
-ghost use Rattle.plc_lang.specs.declared.syntax.Primitive.{Primitive};
 ghost use Rattle.plc_base.specs.Limits.{most};
-ghost use Rattle.plc_scope.specs.declared.fault.ParseFault.{ParseFault};
+ghost use Rattle.plc_lang.specs.declared.syntax.Primitive.{Primitive};
 ghost use Rattle.plc_scope.specs.Answers.{Gives};
-ghost use Rattle.plc_scope.specs.Scope.{most_locals};
 ghost use Rattle.plc_scope.specs.Limits.{stands_at};
+ghost use Rattle.plc_scope.specs.Scope.{most_locals};
+ghost use Rattle.plc_scope.specs.declared.fault.ParseFault.{ParseFault};
 ghost use Rattle.plc_parse.specs.Kinds.{atomic_forms, initial_forms};
 ghost use Rattle.plc_parse.specs.Meaning.{forms_mean};
 ghost use Rattle.plc_parse.specs.Views.{with_form};
