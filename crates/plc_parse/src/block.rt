@@ -1,15 +1,15 @@
 // Statements and the blocks in them, each with the place after it. How deep blocks stand within one another was judged
 // before, so the recursion is 65 deep at most.
 ghost use Rattle.std.specs.Prelude.{◌+◌, ◌<◌, ◌^◌, map};
-ghost use Rattle.plc_lang.specs.Views.{statement_of, blocks_of};
+ghost use Rattle.plc_lang.specs.Views.{blocks_of};
 ghost use Rattle.plc_syntax.specs.Sizes.{condition_size};
 ghost use Rattle.plc_syntax.specs.Views.{condition_tree};
 ghost use Rattle.plc_syntax.specs.Trees.{IfStatement, ChooseStatement, LoopStatement};
 ghost use Rattle.plc_tree.specs.Views.{else_tree, ors_tree, statement_tree};
-ghost use Rattle.plc_parse.specs.Meaning.{statement_means, statements_mean, else_means};
+ghost use Rattle.plc_parse.specs.Meaning.{statements_mean, else_means};
 ghost use Rattle.plc_parse.specs.Sizes.{statement_size, statements_size, else_size, ors_size};
 ghost use Rattle.plc_parse.specs.Units.{lines_of};
-ghost use Rattle.plc_parse.specs.Views.{CanMean, MeansHere, choices_mean};
+ghost use Rattle.plc_parse.specs.Views.{CanMean, MeansHere, MeansStatement, choices_mean};
 
 use crate::lines::line_at;
 use crate::placed::Placed;
@@ -35,9 +35,8 @@ pub struct Context<'a> {
 #[cycle(block)]
 fn loop_statement(context: Context, scope: &mut Scope, at: u32, block: &BlockForm) -> Placed<Stmt>
     requires { CanMean scope.old at (statement_size (LoopStatement block.now)) }
-    ensures { MeansHere statement_of
-        (statement_means (lines_of context.entry.tokens.now) scope.old context.entry.in_loop at
-        (LoopStatement block.now)) scope.old scope.new at (statement_size (LoopStatement block.now)) result }
+    ensures { MeansStatement (lines_of context.entry.tokens.now) context.entry.in_loop
+        (LoopStatement block.now) scope.old scope.new at result }
 {
     let body = Context {
         in_loop: true,
@@ -80,10 +79,8 @@ fn if_statement(
     no: &Option<BlockForm>,
 ) -> Placed<Stmt>
     requires { CanMean scope.old at (statement_size (IfStatement (condition_tree form) yes.now (else_tree no.now))) }
-    ensures { MeansHere statement_of
-        (statement_means (lines_of context.entry.tokens.now) scope.old context.entry.in_loop at
-        (IfStatement (condition_tree form.entry) yes.now (else_tree no.now))) scope.old scope.new at
-        (statement_size (IfStatement (condition_tree form.entry) yes.now (else_tree no.now))) result }
+    ensures { MeansStatement (lines_of context.entry.tokens.now) context.entry.in_loop
+        (IfStatement (condition_tree form.entry) yes.now (else_tree no.now)) scope.old scope.new at result }
 {
     let cond = condition(scope, at + 2, form)?;
     let (yes, after) = statements(context, scope, at + 2 + condition_size(form) + 2, yes)?;
@@ -132,10 +129,8 @@ fn choose_statement(
 ) -> Placed<Stmt>
     requires { CanMean scope.old at
         (statement_size (ChooseStatement first.now second.now (ors_tree others.now))) }
-    ensures { MeansHere statement_of
-        (statement_means (lines_of context.entry.tokens.now) scope.old context.entry.in_loop at
-        (ChooseStatement first.now second.now (ors_tree others.now))) scope.old scope.new at
-        (statement_size (ChooseStatement first.now second.now (ors_tree others.now))) result }
+    ensures { MeansStatement (lines_of context.entry.tokens.now) context.entry.in_loop
+        (ChooseStatement first.now second.now (ors_tree others.now)) scope.old scope.new at result }
 {
     let (first, after) = statements(context, scope, at + 2, first)?;
     let (second, after) = statements(context, scope, after + 3, second)?;
@@ -147,9 +142,8 @@ fn choose_statement(
 #[cycle(block)]
 fn statement(context: Context, scope: &mut Scope, at: u32, stmt: &StmtForm) -> Placed<Stmt>
     requires { CanMean scope.old at (statement_size (statement_tree stmt.now)) }
-    ensures { MeansHere statement_of
-        (statement_means (lines_of context.entry.tokens.now) scope.old context.entry.in_loop at
-        (statement_tree stmt.now)) scope.old scope.new at (statement_size (statement_tree stmt.now)) result }
+    ensures { MeansStatement (lines_of context.entry.tokens.now) context.entry.in_loop
+        (statement_tree stmt.now) scope.old scope.new at result }
 {
     match stmt {
         StmtForm::Primitive(form) => primitive_statement(scope, at, *form),
