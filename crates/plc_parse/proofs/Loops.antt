@@ -13,6 +13,7 @@ use Rattle.plc_scope.specs.declared.fault.ParseFault.{ParseFault}
 use Rattle.plc_scope.specs.declared.scope.Scope.{Scope}
 use Rattle.plc_scope.specs.Scope.{◌>>=◌}
 use Rattle.plc_scope.proofs.Sequence.{bind_joins}
+use Rattle.plc_scope.proofs.Turns.{ahead}
 use Rattle.plc_syntax.specs.Trees.{Text, BlockTree}
 use Rattle.plc_tree.specs.declared.tree.Stmt.{Stmt}
 use Rattle.plc_tree.specs.Views.{statement_tree, block_tree, ors_tree}
@@ -95,6 +96,26 @@ one_block_more (y ∷ ys) x b = ap (And y) (one_block_more ys x b)
 pub all_blocks : (xs : List Statements) → blocks_before xs NoBlock ≡ blocks_of xs
 all_blocks [] = refl
 all_blocks (x ∷ xs) = ap (And x) (all_blocks xs)
+
+-- ---- what the loops keep
+
+module _ (lines : List ℕ) (in_loop : Bool) where
+  -- the lines made and those from a place on are a whole block's
+  abbrev pub LinesAreAhead : List Line → Scope × ℕ → List Stmt → Scope × ℕ → List Stmt → Type 0
+  LinesAreAhead made at rest start whole =
+      ahead (statements_from lines in_loop) (one_statement lines in_loop) line_made lines_made
+      (statements_go lines in_loop) made (statements_from lines in_loop at rest)
+      ≡ statements_from lines in_loop start whole
+
+  -- the blocks before others, as those that were made
+  abbrev pub with_blocks : List Statements → Result (Blocks × Scope × ℕ) ParseFault → Result (Blocks × Scope × ℕ) ParseFault
+  with_blocks = ahead (ors_from lines in_loop) (one_block lines in_loop) block_made blocks_made (ors_go lines in_loop)
+
+  -- the blocks made and those from a place on are the first ones and all others
+  abbrev pub BlocksAreAhead : List Statements → Scope × ℕ → List BlockTree → List Statements → Scope × ℕ → List BlockTree
+      → Type 0
+  BlocksAreAhead made at rest first start whole =
+      with_blocks made (ors_from lines in_loop at rest) ≡ with_blocks first (ors_from lines in_loop start whole)
 
 -- ---- declarations
 

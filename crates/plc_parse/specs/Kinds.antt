@@ -33,38 +33,23 @@ pub record Kind (F Y : Type 0) : Type 1 where
   pub limit : ℕ
   pub names : ℕ
 
+-- a kind of which each declares one name
+abbrev pub named : {F Y : Type 0} (T : Type 0) → (F → T) → (Scope → ℕ → ℕ → T → Result (Y × Scope × ℕ) ParseFault)
+    → (T → ℕ) → ℕ → Kind F Y
+named T tree means size limit =
+    record { Tree = T; tree = tree; means = means; size = size; limit = limit; names = 1 }
+
 -- the fields of the struct
 abbrev pub fields : Kind Declaration Field
-fields = record {
-  Tree = FieldTree;
-  tree = field_tree;
-  means = field_means;
-  size = field_size;
-  limit = most limits.Fields;
-  names = 1;
-}
+fields = named FieldTree field_tree field_means field_size (most limits.Fields)
 
 -- the shared pointers, by the numbers of their names
 abbrev pub shared_pointers : Kind Shared ℕ
-shared_pointers = record {
-  Tree = Text;
-  tree = shared_name;
-  means = shared_means;
-  size = shared_size;
-  limit = most limits.Shared;
-  names = 1;
-}
+shared_pointers = named Text shared_name shared_means shared_size (most limits.Shared)
 
 -- the functions beside `retire`
 abbrev pub functions : Kind Function Func
-functions = record {
-  Tree = FunctionTree;
-  tree = function_tree;
-  means = function_means;
-  size = function_size;
-  limit = most limits.Calls;
-  names = 1;
-}
+functions = named FunctionTree function_tree function_means function_size (most limits.Calls)
 
 -- the auxiliary fields
 abbrev pub auxiliary_fields : Kind Auxiliary Ghost

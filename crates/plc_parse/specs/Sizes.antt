@@ -15,19 +15,8 @@ use Rattle.plc_outparse.specs.Sizes.{outline_size}
 abbrev pub primitives_size : List PrimitiveTree → ℕ
 primitives_size ps = sum_by (λ p. primitive_size p + 1) ps
 
--- a statement, and the statements of a block without its braces
+-- the statements of a block without its braces, and a statement
 abbrev mutual
-  pub statement_size : StatementTree → ℕ
-  statement_size (PrimitiveStatement p) = primitive_size p + 1
-  statement_size (AtomicStatement ps) = 3 + primitives_size ps
-  statement_size (CallStatement f a d) = call_size a + during_size d + 1
-  statement_size (IfStatement c b e) = 5 + condition_size c + statements_size b + else_size e
-  statement_size (ChooseStatement a b os) = 6 + statements_size a + statements_size b + ors_size os
-  statement_size (LoopStatement b) = 3 + statements_size b
-  statement_size BreakStatement = 2
-  statement_size ReturnStatement = 2
-  statement_size (LabelStatement n) = 3
-
   pub statements_size : BlockTree → ℕ
   statements_size NoStatement = 0
   statements_size (Then s b) = statement_size s + statements_size b
@@ -39,6 +28,17 @@ abbrev mutual
   pub ors_size : OrTree → ℕ
   ors_size NoOr = 0
   ors_size (OrBlock b os) = 3 + statements_size b + ors_size os
+
+  pub statement_size : StatementTree → ℕ
+  statement_size (PrimitiveStatement p) = primitive_size p + 1
+  statement_size (AtomicStatement ps) = 3 + primitives_size ps
+  statement_size (CallStatement f a d) = call_size a + during_size d + 1
+  statement_size (IfStatement c b e) = 5 + condition_size c + statements_size b + else_size e
+  statement_size (ChooseStatement a b os) = 6 + statements_size a + statements_size b + ors_size os
+  statement_size (LoopStatement b) = 3 + statements_size b
+  statement_size BreakStatement = 2
+  statement_size ReturnStatement = 2
+  statement_size (LabelStatement n) = 3
 
 -- a field of the struct or a local
 abbrev pub field_size : FieldTree → ℕ

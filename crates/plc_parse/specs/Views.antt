@@ -1,7 +1,9 @@
 -- How the program's answers are seen.
 use Rattle.std.specs.Prelude.{◌≡◌, ◌||◌, ◌+◌, ◌<◌, ◌^◌, ℕ, Bool, List, [], ◌∷◌, ◌++◌, length, Option, Result, Ok, IfOk}
 use Rattle.plc_lang.specs.declared.syntax.Primitive.{Primitive}
+use Rattle.plc_lang.specs.declared.syntax.Stmt.{Stmt}
 use Rattle.plc_lang.specs.Statements.{Statements, Blocks, And}
+use Rattle.plc_lang.specs.Views.{statement_of}
 use Rattle.plc_scope.specs.declared.fault.ParseFault.{ParseFault}
 use Rattle.plc_scope.specs.declared.scope.Scope.{Scope}
 use Rattle.plc_scope.specs.Answers.{Gives}
@@ -9,9 +11,10 @@ use Rattle.plc_scope.specs.Scope.{◌>>=◌}
 use Rattle.plc_parse.specs.declared.file.Declared.{Declared}
 use Rattle.plc_parse.specs.declared.file.Front.{Front}
 use Rattle.plc_parse.specs.Growth.{CanLabel, GrowsByLabels, AddsLocals}
-use Rattle.plc_syntax.specs.Trees.{Text, OrTree}
-use Rattle.plc_parse.specs.Meaning.{counted, before, allocates, or_means, values_mean}
+use Rattle.plc_syntax.specs.Trees.{Text, StatementTree, OrTree}
+use Rattle.plc_parse.specs.Meaning.{counted, before, allocates, statement_means, or_means, values_mean}
 use Rattle.plc_parse.specs.Parts.{DeclaredParts, FrontParts}
+use Rattle.plc_parse.specs.Sizes.{statement_size}
 
 -- labels can be declared, and so many tokens from a place on have places
 pub record CanMean (scope : Scope) (at size : ℕ) : Type 0 where
@@ -25,6 +28,11 @@ pub record MeansHere {X A : Type 0} (seen : X → A) (meant : Result (A × Scope
   pub read : Gives (λ r. (seen r.0, new, r.1)) answer meant
   pub labels : IfOk answer (λ r. GrowsByLabels old new)
   pub place : IfOk answer (λ r. r.1 ≡ at + size)
+
+-- a statement at a place is answered as it is meant
+abbrev pub MeansStatement : List ℕ → Bool → StatementTree → (old new : Scope) → ℕ → Result (Stmt × ℕ) ParseFault → Type 0
+MeansStatement lines in_loop s old new at answer =
+    MeansHere statement_of (statement_means lines old in_loop at s) old new at (statement_size s) answer
 
 -- locals are declared as is meant, and the place after them is so many tokens on
 pub record DeclaresLocals (meant : Result (Scope × ℕ) ParseFault) (old new : Scope) (at size : ℕ)

@@ -6,6 +6,7 @@ ghost use Rattle.plc_scope.specs.Answers.{Gives, HasRoom};
 ghost use Rattle.plc_syntax.specs.Trees.{Auxiliary as AuxiliaryTree, OneOf};
 ghost use Rattle.plc_tree.specs.FormViews.{auxiliary_tree};
 ghost use Rattle.plc_parse.specs.Growth.{AddsNames, ghost_names};
+ghost use Rattle.plc_parse.specs.Kinds.{auxiliary_fields};
 ghost use Rattle.plc_parse.specs.Meaning.{value_means, ghost_means};
 ghost use Rattle.plc_parse.specs.Sizes.{ghost_size};
 ghost use Rattle.plc_parse.specs.Views.{values_with};
@@ -13,6 +14,7 @@ ghost use Rattle.plc_parse.specs.Views.{values_with};
 use crate::declaration::declare;
 use crate::heading::Heading;
 use crate::lists::Listed;
+use crate::placed::Placed;
 use plc_base::{Items, What1};
 use plc_lang::Ghost;
 use plc_scope::{Binding, ParseFault, Scope};
@@ -49,7 +51,7 @@ fn declare_values(
     first: u16,
     start: u32,
     others: &[&[u8]],
-) -> Result<(Items<u16>, u32), ParseFault>
+) -> Placed<Items<u16>>
     requires owner { owner < most What1.Ghosts }
     requires room { HasRoom scope.old (most What1.Values) }
     requires place { start + 2 * length (map text_of others.now) < 2 ^ 32 }
@@ -77,7 +79,7 @@ fn declare_of_values(
     head: Heading,
     first: &[u8],
     others: &[&[u8]],
-) -> Result<(Ghost, u32), ParseFault>
+) -> Placed<Ghost>
     requires limit { head.count < most What1.Ghosts }
     requires room { HasRoom scope.old ghost_names }
     requires place { head.at + 6 + 2 * length (map text_of others.now) < 2 ^ 32 }
@@ -101,7 +103,7 @@ fn declare_auxiliary(
     count: usize,
     at: u32,
     form: &Auxiliary,
-) -> Result<(Ghost, u32), ParseFault>
+) -> Placed<Ghost>
     requires limit { count ≤ most What1.Ghosts }
     requires room { HasRoom scope.old ghost_names }
     requires place { at + ghost_size (auxiliary_tree form.now) < 2 ^ 32 }
@@ -133,28 +135,11 @@ fn declare_auxiliary(
 }
 
 impl<'a> Listed for Auxiliary<'a> {
-    ghost use Rattle.plc_parse.specs.Kinds.{auxiliary_fields};
-
     type Item = Ghost;
 
     ghost kind = { auxiliary_fields };
 
-    fn declare(
-        &self,
-        alloc: Global,
-        scope: &mut Scope,
-        count: usize,
-        at: u32,
-    ) -> Result<(Ghost, u32), ParseFault>
-        requires few { count ≤ auxiliary_fields.limit }
-        requires room { HasRoom scope.old auxiliary_fields.names }
-        requires place { at + auxiliary_fields.size (auxiliary_fields.tree self.now) < 2 ^ 32 }
-        ensures few { IfOk result (λ _. count < auxiliary_fields.limit) }
-        ensures read { Gives (λ r. (r.0, scope.new, r.1)) result
-            (auxiliary_fields.means scope.old count at (auxiliary_fields.tree self.now)) }
-        ensures place { IfOk result (λ r. r.1 ≡ at + auxiliary_fields.size (auxiliary_fields.tree self.now)) }
-        ensures declares { IfOk result (λ _. AddsNames scope.old scope.new auxiliary_fields.names) }
-    {
+    fn declare(&self, alloc: Global, scope: &mut Scope, count: usize, at: u32) -> Placed<Ghost> {
         declare_auxiliary(alloc, scope, count, at, self)
     }
 }

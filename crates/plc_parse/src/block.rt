@@ -1,22 +1,23 @@
 // Statements and the blocks in them, each with the place after it. How deep blocks stand within one another was judged
 // before, so the recursion is 65 deep at most.
 ghost use Rattle.std.specs.Prelude.{◌+◌, ◌<◌, ◌^◌, map};
-ghost use Rattle.plc_lang.specs.Views.{statement_of, blocks_of};
+ghost use Rattle.plc_lang.specs.Views.{blocks_of};
 ghost use Rattle.plc_syntax.specs.Sizes.{condition_size};
 ghost use Rattle.plc_syntax.specs.Views.{condition_tree};
 ghost use Rattle.plc_syntax.specs.Trees.{IfStatement, ChooseStatement, LoopStatement};
 ghost use Rattle.plc_tree.specs.Views.{else_tree, ors_tree, statement_tree};
-ghost use Rattle.plc_parse.specs.Meaning.{statement_means, statements_mean, else_means};
+ghost use Rattle.plc_parse.specs.Meaning.{statements_mean, else_means};
 ghost use Rattle.plc_parse.specs.Sizes.{statement_size, statements_size, else_size, ors_size};
 ghost use Rattle.plc_parse.specs.Units.{lines_of};
-ghost use Rattle.plc_parse.specs.Views.{CanMean, MeansHere, choices_mean};
+ghost use Rattle.plc_parse.specs.Views.{CanMean, MeansHere, MeansStatement, choices_mean};
 
 use crate::lines::line_at;
+use crate::placed::Placed;
 use crate::sizes::condition_size;
 use crate::statement::{atomic, break_statement, call_statement, label, primitive_statement};
 use plc_lang::{Block, Line, Stmt};
 use plc_lex::Token;
-use plc_scope::{ParseFault, Scope, condition};
+use plc_scope::{Scope, condition};
 use plc_syntax::{Call, Condition};
 use plc_tree::{Block as BlockForm, Stmt as StmtForm};
 use std::alloc::Global;
@@ -32,16 +33,10 @@ pub struct Context<'a> {
 
 /// A loop, and the place after it.
 #[cycle(block)]
-fn loop_statement(
-    context: Context,
-    scope: &mut Scope,
-    at: u32,
-    block: &BlockForm,
-) -> Result<(Stmt, u32), ParseFault>
+fn loop_statement(context: Context, scope: &mut Scope, at: u32, block: &BlockForm) -> Placed<Stmt>
     requires { CanMean scope.old at (statement_size (LoopStatement block.now)) }
-    ensures { MeansHere statement_of
-        (statement_means (lines_of context.entry.tokens.now) scope.old context.entry.in_loop at
-        (LoopStatement block.now)) scope.old scope.new at (statement_size (LoopStatement block.now)) result }
+    ensures { MeansStatement (lines_of context.entry.tokens.now) context.entry.in_loop
+        (LoopStatement block.now) scope.old scope.new at result }
 {
     let body = Context {
         in_loop: true,
@@ -58,7 +53,7 @@ fn else_block(
     scope: &mut Scope,
     at: u32,
     block: &Option<BlockForm>,
-) -> Result<(Block, u32), ParseFault>
+) -> Placed<Block>
     requires { CanMean scope.old at (else_size (else_tree block.now)) }
     ensures { MeansHere (λ b. b)
         (else_means (lines_of context.entry.tokens.now) scope.old context.entry.in_loop at (else_tree block.now))
@@ -82,12 +77,10 @@ fn if_statement(
     form: Condition,
     yes: &BlockForm,
     no: &Option<BlockForm>,
-) -> Result<(Stmt, u32), ParseFault>
+) -> Placed<Stmt>
     requires { CanMean scope.old at (statement_size (IfStatement (condition_tree form) yes.now (else_tree no.now))) }
-    ensures { MeansHere statement_of
-        (statement_means (lines_of context.entry.tokens.now) scope.old context.entry.in_loop at
-        (IfStatement (condition_tree form.entry) yes.now (else_tree no.now))) scope.old scope.new at
-        (statement_size (IfStatement (condition_tree form.entry) yes.now (else_tree no.now))) result }
+    ensures { MeansStatement (lines_of context.entry.tokens.now) context.entry.in_loop
+        (IfStatement (condition_tree form.entry) yes.now (else_tree no.now)) scope.old scope.new at result }
 {
     let cond = condition(scope, at + 2, form)?;
     let (yes, after) = statements(context, scope, at + 2 + condition_size(form) + 2, yes)?;
@@ -105,7 +98,7 @@ fn choices(
     second: Block,
     start: u32,
     others: &[BlockForm],
-) -> Result<(Vec<Block>, u32), ParseFault>
+) -> Placed<Vec<Block>>
     requires { CanMean scope.old start (ors_size (ors_tree others.now)) }
     ensures { MeansHere (λ bs. blocks_of bs.items)
         (choices_mean (lines_of context.entry.tokens.now) scope.old context.entry.in_loop start first second
@@ -133,13 +126,11 @@ fn choose_statement(
     first: &BlockForm,
     second: &BlockForm,
     others: &[BlockForm],
-) -> Result<(Stmt, u32), ParseFault>
+) -> Placed<Stmt>
     requires { CanMean scope.old at
         (statement_size (ChooseStatement first.now second.now (ors_tree others.now))) }
-    ensures { MeansHere statement_of
-        (statement_means (lines_of context.entry.tokens.now) scope.old context.entry.in_loop at
-        (ChooseStatement first.now second.now (ors_tree others.now))) scope.old scope.new at
-        (statement_size (ChooseStatement first.now second.now (ors_tree others.now))) result }
+    ensures { MeansStatement (lines_of context.entry.tokens.now) context.entry.in_loop
+        (ChooseStatement first.now second.now (ors_tree others.now)) scope.old scope.new at result }
 {
     let (first, after) = statements(context, scope, at + 2, first)?;
     let (second, after) = statements(context, scope, after + 3, second)?;
@@ -149,16 +140,10 @@ fn choose_statement(
 
 /// A statement, and the place after it.
 #[cycle(block)]
-fn statement(
-    context: Context,
-    scope: &mut Scope,
-    at: u32,
-    stmt: &StmtForm,
-) -> Result<(Stmt, u32), ParseFault>
+fn statement(context: Context, scope: &mut Scope, at: u32, stmt: &StmtForm) -> Placed<Stmt>
     requires { CanMean scope.old at (statement_size (statement_tree stmt.now)) }
-    ensures { MeansHere statement_of
-        (statement_means (lines_of context.entry.tokens.now) scope.old context.entry.in_loop at
-        (statement_tree stmt.now)) scope.old scope.new at (statement_size (statement_tree stmt.now)) result }
+    ensures { MeansStatement (lines_of context.entry.tokens.now) context.entry.in_loop
+        (statement_tree stmt.now) scope.old scope.new at result }
 {
     match stmt {
         StmtForm::Primitive(form) => primitive_statement(scope, at, *form),
@@ -196,7 +181,7 @@ pub fn statements(
     scope: &mut Scope,
     start: u32,
     block: &BlockForm,
-) -> Result<(Block, u32), ParseFault>
+) -> Placed<Block>
     requires { CanMean scope.old start (statements_size block.now) }
     ensures { MeansHere (λ b. b)
         (statements_mean (lines_of context.entry.tokens.now) scope.old context.entry.in_loop start block.now)

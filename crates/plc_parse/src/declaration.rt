@@ -6,19 +6,21 @@ ghost use Rattle.plc_syntax.specs.Views.{field_tree, function_tree};
 ghost use Rattle.plc_scope.specs.Answers.{Gives, HasRoom, GrowsBy};
 ghost use Rattle.plc_scope.specs.Scope.{declared};
 ghost use Rattle.plc_parse.specs.Growth.{AddsNames, KeepsLists};
+ghost use Rattle.plc_parse.specs.Kinds.{fields, shared_pointers, functions};
 ghost use Rattle.plc_parse.specs.Meaning.{field_means, shared_means, function_means};
 
 use crate::lists::Listed;
+use crate::placed::Placed;
 use crate::sizes::function_size;
 use plc_base::{FieldId, FuncId, What1};
 use plc_lang::{Field, Func};
-use plc_scope::{Binding, ParseFault, Scope};
+use plc_scope::{Binding, Meaning, ParseFault, Scope};
 use plc_syntax::{Declaration, Function, Shared};
 use std::alloc::Global;
 
 /// Declares one name, as [`Scope::declare`] does.
 #[tactic(auto, using(crate::proofs::Growth::declared_lists))]
-pub fn declare(scope: &mut Scope, name: &[u8], at: u32, binding: Binding) -> Result<u16, ParseFault>
+pub fn declare(scope: &mut Scope, name: &[u8], at: u32, binding: Binding) -> Meaning<u16>
     requires { HasRoom scope.old 1 }
     ensures number { IfOk result (λ number. number ≡ length scope.old.names.names) }
     ensures read { Gives (λ _. scope.new) result (declared scope.old name.now at binding) }
@@ -29,25 +31,20 @@ pub fn declare(scope: &mut Scope, name: &[u8], at: u32, binding: Binding) -> Res
 }
 
 /// One field, with so many before it.
-fn declare_field(
-    scope: &mut Scope,
-    count: usize,
-    at: u32,
-    declaration: Declaration,
-) -> Result<Field, ParseFault>
+fn declare_field(scope: &mut Scope, count: usize, at: u32, form: Declaration) -> Meaning<Field>
     requires limit { count ≤ most What1.Fields }
     requires room { HasRoom scope.old 1 }
     requires place { at + 3 < 2 ^ 32 }
     ensures limit { IfOk result (λ _. count < most What1.Fields) }
     ensures read { Gives (λ field. (field, scope.new, at + 3)) result
-        (field_means scope.old count at (field_tree declaration.entry)) }
+        (field_means scope.old count at (field_tree form.entry)) }
     ensures declares { IfOk result (λ _. AddsNames scope.old scope.new 1) }
 {
     if count == What1::Fields.most() as usize {
         return Err(ParseFault::past(What1::Fields));
     }
     let id = FieldId(count as u16);
-    match declaration {
+    match form {
         Declaration::Pointer(name) => {
             let name = declare(scope, name, at + 1, Binding::PointerField(id))?;
             Ok(Field {
@@ -65,36 +62,8 @@ fn declare_field(
     }
 }
 
-impl<'a> Listed for Declaration<'a> {
-    ghost use Rattle.plc_parse.specs.Kinds.{fields};
-
-    type Item = Field;
-
-    ghost kind = { fields };
-
-    fn declare(
-        &self,
-        _alloc: Global,
-        scope: &mut Scope,
-        count: usize,
-        at: u32,
-    ) -> Result<(Field, u32), ParseFault>
-        requires few { count ≤ fields.limit }
-        requires room { HasRoom scope.old fields.names }
-        requires place { at + fields.size (fields.tree self.now) < 2 ^ 32 }
-        ensures few { IfOk result (λ _. count < fields.limit) }
-        ensures read { Gives (λ r. (r.0, scope.new, r.1)) result
-            (fields.means scope.old count at (fields.tree self.now)) }
-        ensures place { IfOk result (λ r. r.1 ≡ at + fields.size (fields.tree self.now)) }
-        ensures declares { IfOk result (λ _. AddsNames scope.old scope.new fields.names) }
-    {
-        let item = declare_field(scope, count, at, *self)?;
-        Ok((item, at + 3))
-    }
-}
-
 /// One shared pointer, with so many before it; the number of its name.
-fn declare_shared(scope: &mut Scope, count: usize, at: u32, name: &[u8]) -> Result<u16, ParseFault>
+fn declare_shared(scope: &mut Scope, count: usize, at: u32, name: &[u8]) -> Meaning<u16>
     requires limit { count ≤ most What1.Shared }
     requires room { HasRoom scope.old 1 }
     requires place { at + 3 < 2 ^ 32 }
@@ -108,41 +77,8 @@ fn declare_shared(scope: &mut Scope, count: usize, at: u32, name: &[u8]) -> Resu
     declare(scope, name, at + 1, Binding::Shared(count as u16))
 }
 
-impl<'a> Listed for Shared<'a> {
-    ghost use Rattle.plc_parse.specs.Kinds.{shared_pointers};
-
-    type Item = u16;
-
-    ghost kind = { shared_pointers };
-
-    fn declare(
-        &self,
-        _alloc: Global,
-        scope: &mut Scope,
-        count: usize,
-        at: u32,
-    ) -> Result<(u16, u32), ParseFault>
-        requires few { count ≤ shared_pointers.limit }
-        requires room { HasRoom scope.old shared_pointers.names }
-        requires place { at + shared_pointers.size (shared_pointers.tree self.now) < 2 ^ 32 }
-        ensures few { IfOk result (λ _. count < shared_pointers.limit) }
-        ensures read { Gives (λ r. (r.0, scope.new, r.1)) result
-            (shared_pointers.means scope.old count at (shared_pointers.tree self.now)) }
-        ensures place { IfOk result (λ r. r.1 ≡ at + shared_pointers.size (shared_pointers.tree self.now)) }
-        ensures declares { IfOk result (λ _. AddsNames scope.old scope.new shared_pointers.names) }
-    {
-        let item = declare_shared(scope, count, at, self.name)?;
-        Ok((item, at + 3))
-    }
-}
-
 /// One function, with so many before it beside `retire`.
-fn declare_function(
-    scope: &mut Scope,
-    count: usize,
-    at: u32,
-    function: Function,
-) -> Result<Func, ParseFault>
+fn declare_function(scope: &mut Scope, count: usize, at: u32, function: Function) -> Meaning<Func>
     requires limit { count ≤ most What1.Calls }
     requires room { HasRoom scope.old 1 }
     requires place { at + 1 < 2 ^ 32 }
@@ -160,30 +96,35 @@ fn declare_function(
     Ok(Func { name, pointer })
 }
 
-impl<'a> Listed for Function<'a> {
-    ghost use Rattle.plc_parse.specs.Kinds.{functions};
+impl<'a> Listed for Declaration<'a> {
+    type Item = Field;
 
+    ghost kind = { fields };
+
+    fn declare(&self, _alloc: Global, scope: &mut Scope, count: usize, at: u32) -> Placed<Field> {
+        let field = declare_field(scope, count, at, *self)?;
+        Ok((field, at + 3))
+    }
+}
+
+impl<'a> Listed for Shared<'a> {
+    type Item = u16;
+
+    ghost kind = { shared_pointers };
+
+    fn declare(&self, _alloc: Global, scope: &mut Scope, count: usize, at: u32) -> Placed<u16> {
+        let name = declare_shared(scope, count, at, self.name)?;
+        Ok((name, at + 3))
+    }
+}
+
+impl<'a> Listed for Function<'a> {
     type Item = Func;
 
     ghost kind = { functions };
 
-    fn declare(
-        &self,
-        _alloc: Global,
-        scope: &mut Scope,
-        count: usize,
-        at: u32,
-    ) -> Result<(Func, u32), ParseFault>
-        requires few { count ≤ functions.limit }
-        requires room { HasRoom scope.old functions.names }
-        requires place { at + functions.size (functions.tree self.now) < 2 ^ 32 }
-        ensures few { IfOk result (λ _. count < functions.limit) }
-        ensures read { Gives (λ r. (r.0, scope.new, r.1)) result
-            (functions.means scope.old count at (functions.tree self.now)) }
-        ensures place { IfOk result (λ r. r.1 ≡ at + functions.size (functions.tree self.now)) }
-        ensures declares { IfOk result (λ _. AddsNames scope.old scope.new functions.names) }
-    {
-        let item = declare_function(scope, count, at, *self)?;
-        Ok((item, at + function_size(*self)))
+    fn declare(&self, _alloc: Global, scope: &mut Scope, count: usize, at: u32) -> Placed<Func> {
+        let func = declare_function(scope, count, at, *self)?;
+        Ok((func, at + function_size(*self)))
     }
 }

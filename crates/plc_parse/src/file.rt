@@ -25,6 +25,7 @@ ghost use Rattle.plc_parse.specs.Views.{declared_of, front_of};
 use crate::declaration::declare;
 use crate::lists::declare_all;
 use crate::operation::operations;
+use crate::placed::Placed;
 use crate::sizes::watch_size;
 use crate::step::step_of;
 use crate::unit::Unit;
@@ -56,12 +57,7 @@ pub struct Declared {
 /// The fields of the struct, from a place on, and then the shared pointers and the functions; and the place
 /// after them.
 #[tactic(auto, unfolding(crate::specs::Parts::declared_mean))]
-fn declarations(
-    alloc: Global,
-    scope: &mut Scope,
-    at: u32,
-    form: &Heading,
-) -> Result<(Declared, u32), ParseFault>
+fn declarations(alloc: Global, scope: &mut Scope, at: u32, form: &Heading) -> Placed<Declared>
     requires room { HasRoom scope.old (most limits.Fields + most limits.Shared + most limits.Calls + 1) }
     requires place { at + 1 + sum_by field_size (map field_tree form.now.node.fields)
         + sum_by shared_size (map shared_name form.now.pointers)
@@ -103,7 +99,7 @@ fn observer(scope: &Scope, at: u32, watch: Watch) -> Result<Observer, ParseFault
 }
 
 /// The observer, which is plain where the file names none; and the place after it.
-fn watched(scope: &Scope, at: u32, watch: Option<Watch>) -> Result<(Observer, u32), ParseFault>
+fn watched(scope: &Scope, at: u32, watch: Option<Watch>) -> Placed<Observer>
     requires locals { length scope.now.locals ≤ most_locals }
     requires place { at + watched_size (watched_tree watch) < 2 ^ 32 }
     ensures read { Gives (λ r. (r.0, r.1)) result (watch_means scope.now at (watched_tree watch.entry)) }
@@ -124,7 +120,7 @@ fn starts(
     scope: &Scope,
     at: u32,
     form: &Option<Items<Initial>>,
-) -> Result<(Items<Prim>, u32), ParseFault>
+) -> Placed<Items<Prim>>
     requires locals { length scope.now.locals ≤ most_locals }
     requires place { at + init_size (starts_tree form.now) < 2 ^ 32 }
     ensures read { Gives (λ r. (r.0, r.1)) result (init_means scope.now at (starts_tree form.now)) }
@@ -185,12 +181,7 @@ pub struct Front {
 
 /// What stands before the operations, after the struct's name and its brace; and the place after it.
 #[tactic(auto, unfolding(crate::specs::Parts::front_means))]
-fn before_operations(
-    alloc: Global,
-    scope: &mut Scope,
-    at: u32,
-    form: &Heading,
-) -> Result<(Front, u32), ParseFault>
+fn before_operations(alloc: Global, scope: &mut Scope, at: u32, form: &Heading) -> Placed<Front>
     requires room { HasRoom scope.old (front_names + ghost_names) }
     requires locals { scope.old.locals ≡ [] }
     requires place { at + file_size (heading_tree form.now) < 2 ^ 32 + 3 }

@@ -13,6 +13,7 @@ mod lists;
 mod local;
 mod marks;
 mod operation;
+mod placed;
 mod reading;
 mod sizes;
 mod statement;

@@ -6,8 +6,9 @@ ghost use Rattle.plc_scope.specs.Answers.{Gives, HasRoom};
 ghost use Rattle.plc_parse.specs.Growth.{AddsNames};
 ghost use Rattle.plc_parse.specs.Meaning.{listed};
 
+use crate::placed::Placed;
 use plc_base::Items;
-use plc_scope::{ParseFault, Scope};
+use plc_scope::Scope;
 use std::alloc::Global;
 
 /// A form that is declared among others of its kind.
@@ -22,13 +23,7 @@ pub trait Listed: Sized {
     ghost kind: { Kind Self Self.Item };
 
     /// Declares what stands at a place, with so many before it; and the place after it.
-    fn declare(
-        &self,
-        alloc: Global,
-        scope: &mut Scope,
-        count: usize,
-        at: u32,
-    ) -> Result<(Self::Item, u32), ParseFault>
+    fn declare(&self, alloc: Global, scope: &mut Scope, count: usize, at: u32) -> Placed<Self::Item>
         requires few { count ≤ kind.limit }
         requires room { HasRoom scope.old kind.names }
         requires place { at + kind.size (kind.tree self.now) < 2 ^ 32 }
@@ -44,7 +39,7 @@ pub fn declare_all<L: Listed>(
     scope: &mut Scope,
     start: u32,
     forms: &[L],
-) -> Result<(Items<L::Item>, u32), ParseFault>
+) -> Placed<Items<L::Item>>
     requires room { HasRoom scope.old (L.kind.names * (L.kind.limit + 1)) }
     requires place { start + sum_by L.kind.size (map L.kind.tree forms.now) < 2 ^ 32 }
     ensures read { Gives (λ r. (r.0, scope.new, r.1)) result

@@ -2,21 +2,21 @@
 ghost use Rattle.std.specs.Prelude.{◌≡◌, ◌+◌, ◌*◌, ◌<◌, ◌^◌, IfOk, length, map};
 ghost use Rattle.std.specs.List.{sum_by};
 ghost use Rattle.plc_syntax.specs.Views.{text_of, field_tree};
+ghost use Rattle.plc_tree.specs.FileViews.{parameters_names};
 ghost use Rattle.plc_scope.specs.Answers.{Gives, HasRoomForLocals, GrowsByLocals};
 ghost use Rattle.plc_scope.specs.Scope.{declared_parameter, declared_local};
-ghost use Rattle.plc_tree.specs.FileViews.{parameters_names};
 ghost use Rattle.plc_parse.specs.Growth.{AddsLocals};
 ghost use Rattle.plc_parse.specs.Meaning.{local_means, others_mean, parameters_mean, locals_mean};
 ghost use Rattle.plc_parse.specs.Sizes.{field_size, parameters_size};
 ghost use Rattle.plc_parse.specs.Views.{DeclaresLocals};
 
-use plc_scope::{ParseFault, Scope};
+use plc_scope::{Meaning, Scope};
 use plc_syntax::Declaration;
 use plc_tree::Parameters;
 
 /// Declares one parameter.
 #[tactic(auto, using(crate::proofs::Growth::parameter_labels))]
-fn declare_parameter(scope: &mut Scope, name: &[u8], at: u32) -> Result<(), ParseFault>
+fn declare_parameter(scope: &mut Scope, name: &[u8], at: u32) -> Meaning<()>
     requires { HasRoomForLocals scope.old }
     ensures read { Gives (λ _. scope.new) result (declared_parameter scope.old name.now at) }
     ensures names { IfOk result (λ _. GrowsByLocals scope.old scope.new) }
@@ -26,7 +26,7 @@ fn declare_parameter(scope: &mut Scope, name: &[u8], at: u32) -> Result<(), Pars
 }
 
 /// The parameters after the first, from a place on; and the place after the last one.
-fn declare_others(scope: &mut Scope, start: u32, names: &[&[u8]]) -> Result<u32, ParseFault>
+fn declare_others(scope: &mut Scope, start: u32, names: &[&[u8]]) -> Meaning<u32>
     requires room { HasRoomForLocals scope.old }
     requires place { start + 2 * length (map text_of names.now) < 2 ^ 32 }
     ensures { DeclaresLocals (others_mean scope.old start (map text_of names.now)) scope.old scope.new start
@@ -41,11 +41,7 @@ fn declare_others(scope: &mut Scope, start: u32, names: &[&[u8]]) -> Result<u32,
 }
 
 /// The parameters, of which there may be none; and the place after the last one.
-pub fn declare_parameters(
-    scope: &mut Scope,
-    at: u32,
-    parameters: &Parameters,
-) -> Result<u32, ParseFault>
+pub fn declare_parameters(scope: &mut Scope, at: u32, parameters: &Parameters) -> Meaning<u32>
     requires room { HasRoomForLocals scope.old }
     requires place { at + parameters_size (parameters_names parameters.now) < 2 ^ 32 }
     ensures { DeclaresLocals (parameters_mean scope.old at (parameters_names parameters.now)) scope.old scope.new at
@@ -62,7 +58,7 @@ pub fn declare_parameters(
 
 /// Declares one local that is no parameter.
 #[tactic(auto, using(crate::proofs::Growth::local_labels))]
-fn declare_name(scope: &mut Scope, name: &[u8], at: u32, pointer: bool) -> Result<(), ParseFault>
+fn declare_name(scope: &mut Scope, name: &[u8], at: u32, pointer: bool) -> Meaning<()>
     requires { HasRoomForLocals scope.old }
     ensures read { Gives (λ _. scope.new) result (declared_local scope.old name.now at pointer) }
     ensures names { IfOk result (λ _. GrowsByLocals scope.old scope.new) }
@@ -72,7 +68,7 @@ fn declare_name(scope: &mut Scope, name: &[u8], at: u32, pointer: bool) -> Resul
 }
 
 /// Declares the local of a declaration, which stands at the place.
-fn declare_local(scope: &mut Scope, at: u32, declaration: Declaration) -> Result<(), ParseFault>
+fn declare_local(scope: &mut Scope, at: u32, declaration: Declaration) -> Meaning<()>
     requires room { HasRoomForLocals scope.old }
     requires place { at + 1 < 2 ^ 32 }
     ensures read { Gives (λ _. scope.new) result (local_means scope.old at (field_tree declaration.entry)) }
@@ -85,11 +81,7 @@ fn declare_local(scope: &mut Scope, at: u32, declaration: Declaration) -> Result
 }
 
 /// The locals that are no parameters, from a place on; and the place after the last one.
-pub fn declare_locals(
-    scope: &mut Scope,
-    start: u32,
-    locals: &[Declaration],
-) -> Result<u32, ParseFault>
+pub fn declare_locals(scope: &mut Scope, start: u32, locals: &[Declaration]) -> Meaning<u32>
     requires room { HasRoomForLocals scope.old }
     requires place { start + sum_by field_size (map field_tree locals.now) < 2 ^ 32 }
     ensures { DeclaresLocals (locals_mean scope.old start (map field_tree locals.now)) scope.old scope.new start

@@ -2,10 +2,10 @@
 ghost use Rattle.std.specs.Prelude.{◌≡◌, ◌+◌, ◌*◌, ◌<◌, ◌≤◌, ◌^◌, [], length, IfOk, map};
 ghost use Rattle.std.specs.List.{sum_by};
 ghost use Rattle.plc_base.specs.Limits.{most};
+ghost use Rattle.plc_tree.specs.FileViews.{operation_tree};
 ghost use Rattle.plc_scope.specs.Answers.{Gives, HasRoom};
 ghost use Rattle.plc_scope.specs.Scope.{most_locals};
 ghost use Rattle.plc_outparse.specs.Answers.{OpsFit};
-ghost use Rattle.plc_tree.specs.FileViews.{operation_tree};
 ghost use Rattle.plc_parse.specs.Growth.{CanOperate, GrowsByOps, op_names, most_labels};
 ghost use Rattle.plc_parse.specs.Meaning.{op_means, listed};
 ghost use Rattle.plc_parse.specs.Sizes.{op_size};
@@ -15,6 +15,7 @@ use crate::block::{Context, statements};
 use crate::declaration::declare;
 use crate::lines::line_at;
 use crate::local::{declare_locals, declare_parameters};
+use crate::placed::Placed;
 use plc_base::{Items, What1};
 use plc_lang::Op;
 use plc_lex::Token;
@@ -31,7 +32,7 @@ fn operation(
     count: usize,
     at: u32,
     form: &Operation,
-) -> Result<(Op, u32), ParseFault>
+) -> Placed<Op>
     requires limit { count ≤ most What1.Ops }
     requires room { CanOperate scope.old }
     requires place { at + op_size (operation_tree form.now) < 2 ^ 32 }
@@ -70,7 +71,7 @@ pub fn operations(
     tokens: &[Token],
     start: u32,
     forms: &[Operation],
-) -> Result<(Items<Op>, u32), ParseFault>
+) -> Placed<Items<Op>>
     requires room { HasRoom scope.old (op_names * (most What1.Ops + 1) + most_labels + 1) }
     requires locals { scope.old.locals ≡ [] }
     requires labels { scope.old.labels ≡ [] }

@@ -1,14 +1,14 @@
 // How many tokens forms have, so that a place after a form is the place before it and its size.
 ghost use Rattle.std.specs.Prelude.{◌≡◌};
-ghost use Rattle.plc_syntax.specs.Sizes.{place_size, value_size, set_size, refresh_size, initial_size, test_size};
+ghost use Rattle.plc_syntax.specs.Sizes.{place_size, value_size, set_size, refresh_size, test_size};
 ghost use Rattle.plc_syntax.specs.Sizes.{condition_size, primitive_size, call_size, during_size, function_size};
 ghost use Rattle.plc_syntax.specs.Sizes.{watch_size};
-ghost use Rattle.plc_syntax.specs.Views.{text_or_none, place_tree, value_tree, set_tree, refresh_tree, initial_tree};
+ghost use Rattle.plc_syntax.specs.Views.{text_or_none, place_tree, value_tree, set_tree, refresh_tree};
 ghost use Rattle.plc_syntax.specs.Views.{test_tree, condition_tree, primitive_tree, argument_tree, function_tree};
 ghost use Rattle.plc_syntax.specs.Views.{watch_tree};
 
 use plc_syntax::{
-    Argument, Condition, Function, Initial, Place, Primitive, Refresh, Set, Test, Value, Watch,
+    Argument, Condition, Function, Place, Primitive, Refresh, Set, Test, Value, Watch,
 };
 
 /// How many tokens a place has.
@@ -33,7 +33,7 @@ fn value_size(value: Value) -> u32
 }
 
 /// How many tokens an assignment has.
-fn set_size(set: Set) -> u32
+pub fn set_size(set: Set) -> u32
     ensures { result ≡ set_size (set_tree set.entry) }
 {
     match set {
@@ -49,16 +49,6 @@ fn refresh_size(refresh: Refresh) -> u32
     match refresh {
         Refresh::Name(_, place) => 2 + place_size(place),
         Refresh::Field(..) => 5,
-    }
-}
-
-/// How many tokens an assignment of `init` has, without its semicolon.
-pub fn initial_size(initial: Initial) -> u32
-    ensures { result ≡ initial_size (initial_tree initial.entry) }
-{
-    match initial {
-        Initial::Set(set) => set_size(set),
-        Initial::Ghost(_) => 6,
     }
 }
 

@@ -13,6 +13,7 @@ ghost use Rattle.plc_parse.specs.Meaning.{label_means, during_means, statement_m
 ghost use Rattle.plc_parse.specs.Sizes.{primitives_size};
 ghost use Rattle.plc_parse.specs.Views.{MeansHere};
 
+use crate::placed::Placed;
 use crate::sizes::{call_size, during_size, primitive_size};
 use crate::step::step_of;
 use plc_base::What1;
@@ -58,7 +59,7 @@ fn declare_during(
 }
 
 /// A label, and the place after it.
-pub fn label(scope: &mut Scope, at: u32, name: &[u8]) -> Result<(Stmt, u32), ParseFault>
+pub fn label(scope: &mut Scope, at: u32, name: &[u8]) -> Placed<Stmt>
     requires room { CanLabel scope.old }
     requires place { at + 3 < 2 ^ 32 }
     ensures { (lines : List ℕ) (in_loop : Bool) → MeansHere statement_of
@@ -69,7 +70,7 @@ pub fn label(scope: &mut Scope, at: u32, name: &[u8]) -> Result<(Stmt, u32), Par
 }
 
 /// A `break`, which must be in a loop, and the place after it.
-pub fn break_statement(in_loop: bool, at: u32) -> Result<(Stmt, u32), ParseFault>
+pub fn break_statement(in_loop: bool, at: u32) -> Placed<Stmt>
     requires { at + 2 < 2 ^ 32 }
     ensures { (lines : List ℕ) (s : Scope) → CanLabel s → MeansHere statement_of
         (statement_means lines s in_loop at BreakStatement) s s at 2 result }
@@ -82,12 +83,7 @@ pub fn break_statement(in_loop: bool, at: u32) -> Result<(Stmt, u32), ParseFault
 }
 
 /// An atomic block, and the place after it.
-pub fn atomic(
-    alloc: Global,
-    scope: &Scope,
-    at: u32,
-    forms: &[Primitive],
-) -> Result<(Stmt, u32), ParseFault>
+pub fn atomic(alloc: Global, scope: &Scope, at: u32, forms: &[Primitive]) -> Placed<Stmt>
     requires room { CanLabel scope.now }
     requires place { at + (3 + primitives_size (map primitive_tree forms.now)) < 2 ^ 32 }
     ensures { (lines : List ℕ) (in_loop : Bool) → MeansHere statement_of
@@ -99,12 +95,7 @@ pub fn atomic(
 }
 
 /// A call, and the place after it.
-pub fn call_statement(
-    scope: &mut Scope,
-    at: u32,
-    form: Call,
-    during: Option<&[u8]>,
-) -> Result<(Stmt, u32), ParseFault>
+pub fn call_statement(scope: &mut Scope, at: u32, form: Call, during: Option<&[u8]>) -> Placed<Stmt>
     requires room { CanLabel scope.old }
     requires place { at + call_size (argument_tree form.argument) + during_size (text_or_none during) + 1 < 2 ^ 32 }
     ensures { (lines : List ℕ) (in_loop : Bool) → MeansHere statement_of
@@ -126,11 +117,7 @@ pub fn call_statement(
 }
 
 /// One primitive, and the place after its semicolon.
-pub fn primitive_statement(
-    scope: &Scope,
-    at: u32,
-    form: Primitive,
-) -> Result<(Stmt, u32), ParseFault>
+pub fn primitive_statement(scope: &Scope, at: u32, form: Primitive) -> Placed<Stmt>
     requires room { CanLabel scope.now }
     requires place { at + (primitive_size (primitive_tree form) + 1) < 2 ^ 32 }
     ensures { (lines : List ℕ) (in_loop : Bool) → MeansHere statement_of

@@ -3,19 +3,21 @@
 ghost use Rattle.std.specs.Prelude.{◌≡◌, ◌==◌, ◌+◌, ◌<◌, ◌≤◌, ◌^◌, if◌then◌else◌, Option, Some};
 ghost use Rattle.std.specs.Prelude.{Result, Ok, [], false, IfOk, length, map};
 ghost use Rattle.std.specs.List.{sum_by};
-ghost use Rattle.plc_lang.specs.declared.syntax.Primitive.{Primitive};
 ghost use Rattle.plc_base.specs.Limits.{most};
-ghost use Rattle.plc_scope.specs.declared.fault.ParseFault.{ParseFault};
+ghost use Rattle.plc_lang.specs.declared.syntax.Primitive.{Primitive};
 ghost use Rattle.plc_scope.specs.Answers.{Gives};
-ghost use Rattle.plc_scope.specs.Scope.{most_locals};
 ghost use Rattle.plc_scope.specs.Limits.{stands_at};
+ghost use Rattle.plc_scope.specs.Scope.{most_locals};
+ghost use Rattle.plc_scope.specs.declared.fault.ParseFault.{ParseFault};
+ghost use Rattle.plc_parse.specs.Kinds.{atomic_forms, initial_forms};
 ghost use Rattle.plc_parse.specs.Meaning.{forms_mean};
 ghost use Rattle.plc_parse.specs.Views.{with_form};
 
-use crate::sizes::{initial_size, primitive_size};
+use crate::placed::Placed;
+use crate::sizes::{primitive_size, set_size};
 use plc_base::{Items, What1};
 use plc_lang::{Prim, is_new};
-use plc_scope::{ParseFault, Scope, initial, primitive};
+use plc_scope::{Meaning, ParseFault, Scope, initial, primitive};
 use plc_syntax::{Initial, Primitive as PrimitiveForm};
 use std::alloc::Global;
 
@@ -63,7 +65,7 @@ impl Step {
 
     /// What a form at a place means, added. The limit's place is the form's first token, so a fault of
     /// that token goes before it.
-    fn add(&mut self, at: u32, meaning: Result<Option<Prim>, ParseFault>) -> Result<(), ParseFault>
+    fn add(&mut self, at: u32, meaning: Meaning<Option<Prim>>) -> Result<(), ParseFault>
         ensures { (said : Result (Option Primitive) ParseFault) → Gives (λ k. k) meaning said
             → Gives (λ _. (self.new.primitives, self.new.has_new)) result
             (with_form self.old.primitives self.old.has_new at said) }
@@ -99,7 +101,7 @@ pub trait StepForm: Copy {
     ghost kind: { FormKind Self };
 
     /// What the form means at a place.
-    fn meaning(self, scope: &Scope, at: u32) -> Result<Option<Prim>, ParseFault>
+    fn meaning(self, scope: &Scope, at: u32) -> Meaning<Option<Prim>>
         requires locals { length scope.now.locals ≤ most_locals }
         requires place { at + kind.size (kind.tree self) < 2 ^ 32 }
         ensures { Gives (λ k. k) result (kind.means scope.now at (kind.tree self)) };
@@ -110,48 +112,29 @@ pub trait StepForm: Copy {
 }
 
 impl<'a> StepForm for PrimitiveForm<'a> {
-    ghost use Rattle.plc_syntax.specs.Sizes.{primitive_size};
-    ghost use Rattle.plc_syntax.specs.Views.{primitive_tree};
-    ghost use Rattle.plc_scope.specs.Primitives.{primitive_means};
-    ghost use Rattle.plc_parse.specs.Kinds.{atomic_forms};
-
     ghost kind = { atomic_forms };
 
-    fn meaning(self, scope: &Scope, at: u32) -> Result<Option<Prim>, ParseFault>
-        requires locals { length scope.now.locals ≤ most_locals }
-        requires place { at + primitive_size (primitive_tree self) < 2 ^ 32 }
-        ensures { Gives (λ k. k) result (primitive_means scope.now at (primitive_tree self.entry)) }
-    {
+    fn meaning(self, scope: &Scope, at: u32) -> Meaning<Option<Prim>> {
         primitive(scope, at, self)
     }
 
-    fn size(self) -> u32
-        ensures { result ≡ primitive_size (primitive_tree self.entry) }
-    {
+    fn size(self) -> u32 {
         primitive_size(self)
     }
 }
 
 impl<'a> StepForm for Initial<'a> {
-    ghost use Rattle.plc_syntax.specs.Sizes.{initial_size};
-    ghost use Rattle.plc_syntax.specs.Views.{initial_tree};
-    ghost use Rattle.plc_scope.specs.Primitives.{initial_means};
-    ghost use Rattle.plc_parse.specs.Kinds.{initial_forms};
-
     ghost kind = { initial_forms };
 
-    fn meaning(self, scope: &Scope, at: u32) -> Result<Option<Prim>, ParseFault>
-        requires locals { length scope.now.locals ≤ most_locals }
-        requires place { at + initial_size (initial_tree self) < 2 ^ 32 }
-        ensures { Gives (λ k. k) result (initial_means scope.now at (initial_tree self.entry)) }
-    {
+    fn meaning(self, scope: &Scope, at: u32) -> Meaning<Option<Prim>> {
         initial(scope, at, self)
     }
 
-    fn size(self) -> u32
-        ensures { result ≡ initial_size (initial_tree self.entry) }
-    {
-        initial_size(self)
+    fn size(self) -> u32 {
+        match self {
+            Initial::Set(set) => set_size(set),
+            Initial::Ghost(_) => 6,
+        }
     }
 }
 
@@ -161,7 +144,7 @@ pub fn step_of<F: StepForm>(
     scope: &Scope,
     start: u32,
     forms: &[F],
-) -> Result<(Items<Prim>, u32), ParseFault>
+) -> Placed<Items<Prim>>
     requires locals { length scope.now.locals ≤ most_locals }
     requires place { start + sum_by (λ x. F.kind.size x + 1) (map F.kind.tree forms.now) < 2 ^ 32 }
     ensures read { Gives (λ r. (r.0, r.1)) result

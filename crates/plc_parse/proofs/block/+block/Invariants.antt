@@ -1,11 +1,9 @@
 use Rattle.std.proofs.Common.{◌≡◌, ◌+◌, ◌*◌, ◌≤◌, [], ◌∷◌, drop}
 use Rattle.plc_tree.specs.Views.{else_tree, ors_tree, statement_tree, block_tree}
-use Rattle.plc_scope.proofs.Turns.{ahead}
 use Rattle.plc_parse.specs.Growth.{CanLabel, GrowsByLabels}
 use Rattle.plc_parse.specs.Sizes.{statement_size, statements_size, else_size, ors_size}
 use Rattle.plc_parse.specs.Units.{lines_of}
-use Rattle.plc_parse.proofs.Loops.{line_made, lines_made, statements_from, one_statement, statements_go}
-use Rattle.plc_parse.proofs.Loops.{block_made, blocks_made, ors_from, one_block, ors_go}
+use Rattle.plc_parse.proofs.Loops.{LinesAreAhead, BlocksAreAhead}
 use Rattle.plc_parse.proofs.block.+block.Given as goal
 
 abbrev pub decreases-statement : goal.decreases-statement
@@ -31,32 +29,22 @@ decreases-choose_statement l =
     8 * (statements_size l.first.now + statements_size l.second.now + ors_size (ors_tree l.others.now)) + 9
 
 abbrev pub invariant-statements-loop-stmt : goal.invariant-statements-loop-stmt
-invariant-statements-loop-stmt l =
-    let lines = lines_of l.context.tokens.now in
-    let in_loop = l.context.in_loop in
-    record {
-      room : CanLabel l.scope;
-      grows : GrowsByLabels l.fn.scope l.scope;
-      after : l.fn.start ≤ l.at;
-      place : l.at + statements_size (block_tree (drop l.stmt-index l.stmt-items))
-          ≡ l.fn.start + statements_size (block_tree l.stmt-items);
-      read : ahead (statements_from lines in_loop) (one_statement lines in_loop) line_made lines_made
-          (statements_go lines in_loop) l.lines.items
-          (statements_from lines in_loop (l.scope, l.at) (drop l.stmt-index l.stmt-items))
-          ≡ statements_from lines in_loop (l.fn.scope, l.fn.start) l.stmt-items;
-    }
+invariant-statements-loop-stmt l = record {
+  room : CanLabel l.scope;
+  grows : GrowsByLabels l.fn.scope l.scope;
+  after : l.fn.start ≤ l.at;
+  place : l.at + statements_size (block_tree (drop l.stmt-index l.stmt-items))
+      ≡ l.fn.start + statements_size (block_tree l.stmt-items);
+  read : LinesAreAhead (lines_of l.context.tokens.now) l.context.in_loop l.lines.items (l.scope, l.at)
+      (drop l.stmt-index l.stmt-items) (l.fn.scope, l.fn.start) l.stmt-items;
+}
 
 abbrev pub invariant-choices-loop-block : goal.invariant-choices-loop-block
-invariant-choices-loop-block l =
-    let lines = lines_of l.context.tokens.now in
-    let in_loop = l.context.in_loop in
-    record {
-      room : CanLabel l.scope;
-      grows : GrowsByLabels l.fn.scope l.scope;
-      after : l.fn.start ≤ l.at;
-      place : l.at + ors_size (ors_tree (drop l.block-index l.others)) ≡ l.fn.start + ors_size (ors_tree l.fn.others);
-      read : ahead (ors_from lines in_loop) (one_block lines in_loop) block_made blocks_made (ors_go lines in_loop)
-          l.choices.items (ors_from lines in_loop (l.scope, l.at) (drop l.block-index l.others))
-          ≡ ahead (ors_from lines in_loop) (one_block lines in_loop) block_made blocks_made (ors_go lines in_loop)
-          (l.fn.first ∷ l.fn.second ∷ []) (ors_from lines in_loop (l.fn.scope, l.fn.start) l.fn.others);
-    }
+invariant-choices-loop-block l = record {
+  room : CanLabel l.scope;
+  grows : GrowsByLabels l.fn.scope l.scope;
+  after : l.fn.start ≤ l.at;
+  place : l.at + ors_size (ors_tree (drop l.block-index l.others)) ≡ l.fn.start + ors_size (ors_tree l.fn.others);
+  read : BlocksAreAhead (lines_of l.context.tokens.now) l.context.in_loop l.choices.items (l.scope, l.at)
+      (drop l.block-index l.others) (l.fn.first ∷ l.fn.second ∷ []) (l.fn.scope, l.fn.start) l.fn.others;
+}

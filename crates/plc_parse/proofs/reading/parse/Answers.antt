@@ -16,42 +16,25 @@ file_unit-requires c =
     let kinds = kinds_length c.args.tokens.now in
     omega (arith, long, same, kinds, c.requires)
 
-pub returns-in-Ok-clause-ok : goal.returns-in-Ok-clause-ok
-returns-in-Ok-clause-ok c = unit_is c.args.tokens.now (file_tree c.in-Ok.form) c.in-Ok.ensures.tree
-    (c.in-Ok.ensures.file.only c.in-Ok.form refl).1 c.file_unit.result c.file_unit.ensures
-
-pub returns-in-Ok-clause-spelled : goal.returns-in-Ok-clause-spelled
-returns-in-Ok-clause-spelled c unit is = no_other_fault c.args.tokens.now (file_tree c.in-Ok.form)
-    c.in-Ok.ensures.tree (c.in-Ok.ensures.file.only c.in-Ok.form refl).1 c.file_unit.result unit c.file_unit.ensures is
-
-pub returns-in-Ok-clause-fault : goal.returns-in-Ok-clause-fault
-returns-in-Ok-clause-fault c = fault_is c.args.tokens.now (file_tree c.in-Ok.form) c.in-Ok.ensures.tree
-    (c.in-Ok.ensures.file.only c.in-Ok.form refl).1 c.file_unit.result c.file_unit.ensures
-
-pub returns-in-Ok-clause-fits : goal.returns-in-Ok-clause-fits
-returns-in-Ok-clause-fits c = fits_of c.args.tokens.now c.file_unit.result (unit_is c.args.tokens.now
-    (file_tree c.in-Ok.form) c.in-Ok.ensures.tree (c.in-Ok.ensures.file.only c.in-Ok.form refl).1 c.file_unit.result
-    c.file_unit.ensures)
-
-pub returns-in-Ok-clause-named : goal.returns-in-Ok-clause-named
-returns-in-Ok-clause-named c = named_of c.args.tokens.now c.file_unit.result (unit_is c.args.tokens.now
-    (file_tree c.in-Ok.form) c.in-Ok.ensures.tree (c.in-Ok.ensures.file.only c.in-Ok.form refl).1 c.file_unit.result
-    c.file_unit.ensures)
-
-pub returns-in-Ok-clause-sorted : goal.returns-in-Ok-clause-sorted
-returns-in-Ok-clause-sorted c = sorted_of c.args.tokens.now c.file_unit.result (unit_is c.args.tokens.now
-    (file_tree c.in-Ok.form) c.in-Ok.ensures.tree (c.in-Ok.ensures.file.only c.in-Ok.form refl).1 c.file_unit.result
-    c.file_unit.ensures)
-
-pub returns-in-Ok-clause-observer : goal.returns-in-Ok-clause-observer
-returns-in-Ok-clause-observer c = observer_of c.args.tokens.now c.file_unit.result (unit_is c.args.tokens.now
-    (file_tree c.in-Ok.form) c.in-Ok.ensures.tree (c.in-Ok.ensures.file.only c.in-Ok.form refl).1 c.file_unit.result
-    c.file_unit.ensures)
-
-pub returns-in-Ok-clause-outline : goal.returns-in-Ok-clause-outline
-returns-in-Ok-clause-outline c = outline_of c.args.tokens.now c.file_unit.result (unit_is c.args.tokens.now
-    (file_tree c.in-Ok.form) c.in-Ok.ensures.tree (c.in-Ok.ensures.file.only c.in-Ok.form refl).1 c.file_unit.result
-    c.file_unit.ensures)
+pub returns-in-Ok : goal.returns-in-Ok
+returns-in-Ok c =
+    let tokens = c.args.tokens.now in
+    let tree = file_tree c.in-Ok.form in
+    let spelled = c.in-Ok.ensures.tree in
+    let shallow = (c.in-Ok.ensures.file.only c.in-Ok.form refl).1 in
+    let unit = c.file_unit.result in
+    let gives = c.file_unit.ensures in
+    let is = unit_is tokens tree spelled shallow unit gives in
+    record {
+      ok = is;
+      spelled = λ u other. no_other_fault tokens tree spelled shallow unit u gives other;
+      fault = fault_is tokens tree spelled shallow unit gives;
+      fits = fits_of tokens unit is;
+      named = named_of tokens unit is;
+      sorted = sorted_of tokens unit is;
+      observer = observer_of tokens unit is;
+      outline = outline_of tokens unit is;
+    }
 
 pub returns-in-Err-Syntax-clause-fault : goal.returns-in-Err-Syntax-clause-fault
 returns-in-Err-Syntax-clause-fault c =
