@@ -1,5 +1,5 @@
 -- From what a tree means to what the tokens spell.
-use Rattle.std.proofs.Common.{◌≡◌, ◌∙◌, List, Result, Ok, Err, IfOk, IfErr, refl, ap, sym, subst}
+use Rattle.std.proofs.Common.{◌≡◌, ◌∙◌, List, Result, Ok, Err, IfOk, IfErr, refl, ap, sym}
 use Rattle.plc_lex.specs.declared.token.Token.{Token}
 use Rattle.plc_lang.specs.Fit.{FileFits, NamesWhatIsThere}
 use Rattle.plc_lang.specs.WellSorted.{FileIsWellSorted}

@@ -3,7 +3,7 @@
 use Rattle.std.proofs.Common.{◌≡◌, ◌∙◌, ◌+◌, ◌||◌, ℕ, Bool, List, [], ◌∷◌, ◌++◌, map, length, Option, Some, None, Result, Ok}
 use Rattle.std.proofs.Common.{Err, refl, sym, ap, append_assoc, arith}
 use Rattle.std.proofs.lemmas.List.{append-nil, length-append}
-use Rattle.plc_syntax.specs.Views.{text_of, field_tree}
+use Rattle.plc_syntax.specs.Views.{field_tree}
 use Rattle.plc_syntax.specs.declared.form.Declaration.{Declaration}
 use Rattle.plc_lang.specs.declared.syntax.Line.{Line}
 use Rattle.plc_lang.specs.declared.syntax.Primitive.{Primitive}

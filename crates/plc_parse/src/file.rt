@@ -12,12 +12,11 @@ ghost use Rattle.plc_scope.specs.Scope.{most_locals};
 ghost use Rattle.plc_tree.specs.FileViews.{heading_tree, file_tree, operation_tree};
 ghost use Rattle.plc_tree.specs.FormViews.{starts_tree, outlined_tree};
 ghost use Rattle.plc_parse.specs.Growth.{AddsNames, op_names, most_labels, ghost_names, front_names};
-ghost use Rattle.plc_parse.specs.Meaning.{retire, watch_means, init_means, op_means, listed, outlined_means};
+ghost use Rattle.plc_parse.specs.Meaning.{retire, watch_means, init_means, outlined_means};
 ghost use Rattle.plc_parse.specs.Meaning.{file_means};
-ghost use Rattle.plc_parse.specs.Meaning.{field_means, shared_means, function_means};
 ghost use Rattle.plc_parse.specs.Sizes.{field_size, shared_size, watched_size, init_size, op_size, outlined_size};
 ghost use Rattle.plc_parse.specs.Sizes.{file_size};
-ghost use Rattle.plc_parse.specs.Parts.{DeclaredParts, declared_mean, FrontParts, front_means, body_means, parts_mean};
+ghost use Rattle.plc_parse.specs.Parts.{declared_mean, front_means, body_means, parts_mean};
 ghost use Rattle.plc_parse.specs.Parts.{unit_from};
 ghost use Rattle.plc_parse.specs.Units.{lines_of};
 ghost use Rattle.plc_parse.specs.Views.{declared_of, front_of};
@@ -47,9 +46,12 @@ const RETIRE: Func = Func {
 
 /// The declarations of a file before those of auxiliary fields.
 #[derive(Drop)]
-pub struct Declared {
+struct Declared {
+    /// The fields of the struct.
     fields: Items<Field>,
+    /// The names of the shared pointers.
     shared: Items<u16>,
+    /// The functions without `retire`.
     functions: Items<Func>,
 }
 
@@ -176,10 +178,14 @@ fn outlined(
 
 /// What stands before the operations.
 #[derive(Drop)]
-pub struct Front {
+struct Front {
+    /// The fields, the shared pointers and the functions.
     declared: Declared,
+    /// What is watched.
     observer: Observer,
+    /// The auxiliary fields.
     ghosts: Items<Ghost>,
+    /// The primitives of `init`.
     init: Items<Prim>,
 }
 
@@ -266,7 +272,8 @@ fn unit(scope: Scope, front: Front, ops: Items<Op>, outline: Outline) -> Result<
 }
 
 /// The parts of a file after its struct's name. The scope stays with the caller, which ends it.
-#[tactic(auto, unfolding(crate::specs::Parts::parts_mean, crate::specs::Parts::front_means, crate::specs::Parts::declared_mean))]
+#[tactic(auto, unfolding(crate::specs::Parts::parts_mean, crate::specs::Parts::front_means,
+    crate::specs::Parts::declared_mean))]
 fn parts(
     alloc: Global,
     scope: &mut Scope,

@@ -3,10 +3,6 @@ ghost use Rattle.std.specs.Prelude.{◌≡◌, ◌<◌, ◌^◌, length, IfOk, I
 ghost use Rattle.plc_lang.specs.Fit.{FileFits, NamesWhatIsThere};
 ghost use Rattle.plc_lang.specs.WellSorted.{FileIsWellSorted};
 ghost use Rattle.plc_logic.specs.Fit.{OutlineFits};
-ghost use Rattle.plc_scope.specs.Answers.{Gives};
-ghost use Rattle.plc_syntax.specs.Nesting.{NoneTooDeep};
-ghost use Rattle.plc_syntax.specs.Syntax.{kinds, IsFile};
-ghost use Rattle.plc_syntax.specs.Trees.{file_tokens};
 ghost use Rattle.plc_tree.specs.FileViews.{file_tree};
 ghost use Rattle.plc_parse.specs.declared.unit.Unit.{Unit as FileUnit};
 ghost use Rattle.plc_parse.specs.Fit.{ObserverFits, UnitsFit};

@@ -1,4 +1,4 @@
-use Rattle.std.proofs.Common.{◌≡◌, ◌∙◌, ◌+◌, ◌++◌, ◌∷◌, [], ℕ, List, Ok, refl, sym, ap, arith}
+use Rattle.std.proofs.Common.{◌∙◌, ◌+◌, [], ℕ, List, Ok, sym, ap, arith}
 use Rattle.std.proofs.lemmas.Result.{err_from_is_err_and}
 use Rattle.plc_lang.specs.declared.syntax.Line.{Line}
 use Rattle.plc_lang.specs.Statements.{Statements, Blocks, Then}
@@ -8,7 +8,7 @@ use Rattle.plc_parse.specs.Views.{choices_mean}
 use Rattle.plc_lang.specs.Views.{statement_of}
 use Rattle.plc_syntax.specs.Trees.{BlockTree}
 use Rattle.plc_tree.specs.declared.tree.Stmt.{Stmt}
-use Rattle.plc_tree.specs.Views.{block_tree, ors_tree, statement_tree}
+use Rattle.plc_tree.specs.Views.{block_tree, ors_tree}
 use Rattle.plc_scope.specs.Scope.{◌>>=◌}
 use Rattle.plc_scope.proofs.Sequence.{bind_stops}
 use Rattle.plc_scope.proofs.Turns.{left_at, makes, makes_none, made}

@@ -1,11 +1,9 @@
-use Rattle.std.proofs.Common.{◌∙◌, ◌+◌, Ok, refl, ap, arith}
+use Rattle.std.proofs.Common.{◌+◌, Ok, refl, arith}
 use Rattle.std.proofs.lemmas.Result.{err_from_is_err_and}
 use Rattle.plc_syntax.specs.Views.{field_tree}
-use Rattle.plc_scope.specs.Scope.{◌>>=◌}
 use Rattle.plc_scope.proofs.Sequence.{bind_stops}
 use Rattle.plc_scope.proofs.Turns.{stop, size_least}
 use Rattle.plc_parse.specs.Sizes.{field_size}
-use Rattle.plc_parse.proofs.Growth.{locals_then}
 use Rattle.plc_parse.proofs.Loops.{locals_from, one_local, locals_go}
 use Rattle.plc_parse.proofs.local.declare_locals.Goals as goal
 

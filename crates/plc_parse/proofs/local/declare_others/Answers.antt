@@ -1,7 +1,7 @@
 use Rattle.std.proofs.Common.{◌∙◌, ◌+◌, Ok, refl, ap, arith}
 use Rattle.std.proofs.lemmas.Result.{err_from_is_err_and}
 use Rattle.plc_syntax.specs.Views.{text_of}
-use Rattle.plc_scope.specs.Scope.{◌>>=◌, declared_parameter}
+use Rattle.plc_scope.specs.Scope.{◌>>=◌}
 use Rattle.plc_scope.proofs.Sequence.{bind_stops}
 use Rattle.plc_scope.proofs.Turns.{turn, stop, end, count_turn, count_end}
 use Rattle.plc_parse.proofs.Growth.{locals_then}

@@ -1,4 +1,4 @@
-use Rattle.std.proofs.Common.{◌≡◌, ◌+◌, ◌*◌, ◌∷◌, ◌++◌, drop, length, map}
+use Rattle.std.proofs.Common.{◌≡◌, ◌+◌, ◌*◌, drop, length, map}
 use Rattle.std.specs.List.{sum_by}
 use Rattle.plc_outparse.specs.Answers.{OpsFit}
 use Rattle.plc_scope.proofs.Turns.{ahead}

@@ -1,4 +1,4 @@
-use Rattle.std.proofs.Common.{◌≡◌, ◌+◌, ◌++◌, false, drop, length, map}
+use Rattle.std.proofs.Common.{◌≡◌, ◌+◌, false, drop, length, map}
 use Rattle.std.specs.List.{sum_by}
 use Rattle.plc_scope.proofs.Turns.{ahead}
 use Rattle.plc_parse.proofs.Loops.{form_made, forms_made, forms_from, one_form, forms_go}
