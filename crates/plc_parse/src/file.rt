@@ -105,7 +105,11 @@ fn observer(scope: &Scope, at: u32, watch: Watch) -> Result<Observer, ParseFault
 }
 
 /// The observer, which is plain where the file names none; and the place after it.
-fn watched(scope: &Scope, at: u32, watch: Option<Watch>) -> Result<(Observer, u32), ParseFault>
+fn observer_or_plain(
+    scope: &Scope,
+    at: u32,
+    watch: Option<Watch>,
+) -> Result<(Observer, u32), ParseFault>
     requires locals { length scope.now.locals ≤ most_locals }
     requires place { at + watched_size (watched_tree watch) < 2 ^ 32 }
     ensures read { Gives (λ r. (r.0, r.1)) result (watch_means scope.now at (watched_tree watch.entry)) }
@@ -121,7 +125,7 @@ fn watched(scope: &Scope, at: u32, watch: Option<Watch>) -> Result<(Observer, u3
 }
 
 /// The primitives of `init`, which may be left out; and the place after it.
-fn starts(
+fn init_primitives(
     alloc: Global,
     scope: &Scope,
     at: u32,
@@ -150,8 +154,8 @@ fn with_retire(functions: Items<Func>) -> Result<Items<Func>, ParseFault>
     Ok(Items::from_vec(all))
 }
 
-/// The outline, which may be left out.
-fn outlined(
+/// The outline, which is empty where the file has none.
+fn outline_or_empty(
     alloc: Global,
     scope: &Scope,
     ops: &[Op],
@@ -206,9 +210,9 @@ fn before_operations(
     ensures declares { IfOk result (λ _. AddsNames scope.old scope.new front_names) }
 {
     let (declared, after) = declarations(alloc, scope, at, form)?;
-    let (observer, after) = watched(scope, after, form.watched)?;
+    let (observer, after) = observer_or_plain(scope, after, form.watched)?;
     let (ghosts, after) = declare_all(alloc, scope, after, form.auxiliaries.as_slice())?;
-    match starts(alloc, scope, after, &form.starts) {
+    match init_primitives(alloc, scope, after, &form.starts) {
         Ok((init, after)) => {
             let front = Front {
                 declared,
@@ -224,7 +228,7 @@ fn before_operations(
 
 /// The operations, from a place on, and the outline.
 #[tactic(auto, unfolding(crate::specs::Parts::body_means))]
-fn body(
+fn operations_and_outline(
     alloc: Global,
     scope: &mut Scope,
     tokens: &[Token],
@@ -240,7 +244,7 @@ fn body(
         (body_means (lines_of tokens.now) scope.old at (file_tree form.now)) }
 {
     let (ops, after) = operations(alloc, scope, tokens, at, form.operations.as_slice())?;
-    let outline = outlined(alloc, scope, ops.as_slice(), after, &form.outline)?;
+    let outline = outline_or_empty(alloc, scope, ops.as_slice(), after, &form.outline)?;
     Ok((ops, outline))
 }
 
@@ -288,7 +292,7 @@ fn parts(
         (parts_mean (lines_of tokens.now) scope.old (file_tree form.now)) }
 {
     let (front, after) = before_operations(alloc, scope, 3, &form.heading)?;
-    match body(alloc, scope, tokens, after, form) {
+    match operations_and_outline(alloc, scope, tokens, after, form) {
         Ok((ops, outline)) => Ok((front, ops, outline)),
         Err(fault) => Err(fault),
     }
