@@ -276,8 +276,7 @@ fn unit(scope: Scope, front: Front, ops: Items<Op>, outline: Outline) -> Result<
 }
 
 /// The parts of a file after its struct's name. The scope stays with the caller, which ends it.
-#[tactic(auto, unfolding(crate::specs::Parts::parts_mean, crate::specs::Parts::front_means,
-    crate::specs::Parts::declared_mean))]
+#[tactic(auto, using(crate::proofs::Grouped::front_of_heading), unfolding(crate::specs::Parts::parts_mean))]
 fn parts(
     alloc: Global,
     scope: &mut Scope,
