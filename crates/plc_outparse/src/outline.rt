@@ -2,13 +2,13 @@
 // tokens.
 ghost use Rattle.std.specs.Prelude.{◌≡◌, ◌+◌, ◌<◌, ◌^◌, IfOk, IfErr, Ok};
 ghost use Rattle.plc_lang.specs.Labels.{labels_by_op};
-ghost use Rattle.plc_scope.specs.Answers.{Gives, Within};
+ghost use Rattle.plc_scope.specs.Answers.{Gives};
 ghost use Rattle.plc_syntax.specs.Syntax.{kinds};
 ghost use Rattle.plc_tree.specs.FormViews.{outline_tree};
 ghost use Rattle.plc_outparse.specs.Answers.{OpsFit};
 ghost use Rattle.plc_outparse.specs.Context.{HasFewLabels, IsWithinLimits};
 ghost use Rattle.plc_outparse.specs.Meaning.{depth_means, outline_means};
-ghost use Rattle.plc_outparse.specs.Outlines.{Means, IsPartFault};
+ghost use Rattle.plc_outparse.specs.Outlines.{Means, IsPartFault, Within};
 ghost use Rattle.plc_outparse.specs.Sizes.{depth_size, outline_size};
 
 use crate::context::Context;

@@ -9,10 +9,18 @@ use Rattle.plc_scope.specs.Answers.{FailsAs}
 use Rattle.plc_scope.specs.Scope.{◌>>=◌, first_scope, declared}
 use Rattle.plc_scope.proofs.Sequence.{bind_joins, bind_same, bind_within, bind_stops, fails_along}
 use Rattle.plc_syntax.specs.Trees.{FileTree}
+use Rattle.plc_tree.specs.declared.file.File.{File}
+use Rattle.plc_tree.specs.FileViews.{heading_tree, file_tree}
 use Rattle.plc_parse.specs.declared.unit.Unit.{Unit as FileUnit}
 use Rattle.plc_parse.specs.Meaning.{listed, field_means, shared_means, function_means, ghost_means, watch_means}
 use Rattle.plc_parse.specs.Meaning.{init_means, op_means, outlined_means, file_means}
 use Rattle.plc_parse.specs.Parts.{FrontParts, declared_mean, front_means, body_means, parts_mean, unit_from}
+
+-- what stands before the operations is the heading's alone
+pub front_of_heading : (s : Scope) (at : ℕ) (form : File)
+    → front_means s at (heading_tree form.heading) ≡ front_means s at (file_tree form)
+unfolding front_means declared_mean
+front_of_heading s at form = refl
 
 module _ (lines : List ℕ) (f : FileTree) where
   -- the operations and the outline after what stands before them

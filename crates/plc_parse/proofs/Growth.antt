@@ -7,7 +7,7 @@ use Rattle.plc_scope.specs.declared.scope.Scope.{Scope}
 use Rattle.plc_scope.specs.declared.binding.Binding.{Binding}
 use Rattle.plc_scope.specs.declared.binding.Binding.TheVariants.{Taken}
 use Rattle.plc_scope.specs.Scope.{◌>>=◌, if_new, with_name, with_label, declared, declared_label, declared_local, declared_parameter}
-use Rattle.plc_scope.specs.Answers.{GrowsBy, HasRoomForLocals, GrowsByLocals}
+use Rattle.plc_scope.specs.Answers.{HasRoomForLocals, GrowsByLocals}
 use Rattle.plc_lang.specs.declared.syntax.Op.{Op}
 use Rattle.plc_outparse.specs.Answers.{OpsFit}
 use Rattle.plc_parse.specs.Growth.{most_labels, KeepsLists, CanLabel, GrowsByLabels, GrowsByOps}
@@ -54,9 +54,6 @@ can_still_label a b h g = record { locals = rw g.locals h.locals; labels = g.lab
 
 pub ops_then : (a b c : Scope) (n k : ℕ) → n + 33 ≡ k → GrowsByOps a b n → GrowsByOps b c 33 → GrowsByOps a c k
 ops_then a b c n k e g h = record { locals = h.locals; labels = h.labels; names = omega (arith, g.names, h.names); limit = h.limit ∙ g.limit }
-
-pub grows_then : (a b c : Scope) (n m k : ℕ) → n + m ≤ k → GrowsBy a b n → GrowsBy b c m → GrowsBy a c k
-grows_then a b c n m k le g h = record { names = omega (arith, g.names, h.names); limit = h.limit ∙ g.limit }
 
 pub lists_then : (a b c : Scope) → KeepsLists a b → KeepsLists b c → KeepsLists a c
 lists_then a b c g h = record { locals = h.locals ∙ g.locals; labels = h.labels ∙ g.labels }

@@ -50,7 +50,7 @@ pub record GrowsByLabels (old new : Scope) : Type 0 where
 abbrev pub op_names : ℕ
 op_names = most_locals + 1
 
--- an operation can be read: there is room for its names, all labels and one past them, and locals of none before are
+-- an operation can be declared: there is room for its names, all labels and one past them, and no local before it is
 -- in reach
 pub record CanOperate (scope : Scope) : Type 0 where
   pub locals : scope.locals ≡ []

@@ -11,8 +11,8 @@ ghost use Rattle.plc_parse.specs.Meaning.{value_means, ghost_means};
 ghost use Rattle.plc_parse.specs.Sizes.{ghost_size};
 ghost use Rattle.plc_parse.specs.Views.{values_with};
 
+use crate::auxiliary_name::AuxiliaryName;
 use crate::declaration::declare;
-use crate::heading::Heading;
 use crate::lists::Listed;
 use crate::placed::Placed;
 use plc_base::{Items, What1};
@@ -76,7 +76,7 @@ fn declare_values(
 fn declare_of_values(
     alloc: Global,
     scope: &mut Scope,
-    head: Heading,
+    head: AuxiliaryName,
     first: &[u8],
     others: &[&[u8]],
 ) -> Placed<Ghost>
@@ -124,7 +124,7 @@ fn declare_auxiliary(
             Ok((Ghost { name, values }, at + 4))
         }
         AuxiliaryKind::OneOf(first, others) => {
-            let head = Heading {
+            let head = AuxiliaryName {
                 count,
                 at,
                 name: form.name,

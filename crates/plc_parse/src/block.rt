@@ -1,6 +1,6 @@
 // Statements and the blocks in them, each with the place after it. How deep blocks stand within one another was judged
 // before, so the recursion is 65 deep at most.
-ghost use Rattle.std.specs.Prelude.{◌+◌, ◌<◌, ◌^◌, map};
+ghost use Rattle.std.specs.Prelude.{◌+◌, ◌<◌};
 ghost use Rattle.plc_lang.specs.Views.{blocks_of};
 ghost use Rattle.plc_syntax.specs.Sizes.{condition_size};
 ghost use Rattle.plc_syntax.specs.Views.{condition_tree};
@@ -25,9 +25,11 @@ use std::alloc::Global;
 /// What stands around statements.
 #[derive(Clone, Copy)]
 pub struct Context<'a> {
+    /// Where lists of statements are allocated.
     pub alloc: Global,
     /// All tokens of the file, whose lines are those of the statements.
     pub tokens: &'a [Token],
+    /// Whether a loop stands around, so that `break` may stand here.
     pub in_loop: bool,
 }
 
@@ -88,8 +90,8 @@ fn if_statement(
     Ok((Stmt::If { cond, yes, no }, after))
 }
 
-/// The blocks of a choice, of which the first two were read, with those after them from a place on; and the place
-/// after the last one.
+/// The blocks of a choice: the first two, whose meaning is known, and those after them, from a place on; and the
+/// place after the last one.
 #[cycle(block)]
 fn choices(
     context: Context,

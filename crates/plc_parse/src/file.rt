@@ -12,12 +12,11 @@ ghost use Rattle.plc_scope.specs.Scope.{most_locals};
 ghost use Rattle.plc_tree.specs.FileViews.{heading_tree, file_tree, operation_tree};
 ghost use Rattle.plc_tree.specs.FormViews.{starts_tree, outlined_tree};
 ghost use Rattle.plc_parse.specs.Growth.{AddsNames, op_names, most_labels, ghost_names, front_names};
-ghost use Rattle.plc_parse.specs.Meaning.{retire, watch_means, init_means, op_means, listed, outlined_means};
+ghost use Rattle.plc_parse.specs.Meaning.{retire, watch_means, init_means, outlined_means};
 ghost use Rattle.plc_parse.specs.Meaning.{file_means};
-ghost use Rattle.plc_parse.specs.Meaning.{field_means, shared_means, function_means};
 ghost use Rattle.plc_parse.specs.Sizes.{field_size, shared_size, watched_size, init_size, op_size, outlined_size};
 ghost use Rattle.plc_parse.specs.Sizes.{file_size};
-ghost use Rattle.plc_parse.specs.Parts.{DeclaredParts, declared_mean, FrontParts, front_means, body_means, parts_mean};
+ghost use Rattle.plc_parse.specs.Parts.{declared_mean, front_means, body_means, parts_mean};
 ghost use Rattle.plc_parse.specs.Parts.{unit_from};
 ghost use Rattle.plc_parse.specs.Units.{lines_of};
 ghost use Rattle.plc_parse.specs.Views.{declared_of, front_of};
@@ -48,9 +47,12 @@ const RETIRE: Func = Func {
 
 /// The declarations of a file before those of auxiliary fields.
 #[derive(Drop)]
-pub struct Declared {
+struct Declared {
+    /// The fields of the struct.
     fields: Items<Field>,
+    /// The names of the shared pointers.
     shared: Items<u16>,
+    /// The functions without `retire`.
     functions: Items<Func>,
 }
 
@@ -99,7 +101,7 @@ fn observer(scope: &Scope, at: u32, watch: Watch) -> Result<Observer, ParseFault
 }
 
 /// The observer, which is plain where the file names none; and the place after it.
-fn watched(scope: &Scope, at: u32, watch: Option<Watch>) -> Placed<Observer>
+fn observer_or_plain(scope: &Scope, at: u32, watch: Option<Watch>) -> Placed<Observer>
     requires locals { length scope.now.locals ≤ most_locals }
     requires place { at + watched_size (watched_tree watch) < 2 ^ 32 }
     ensures read { Gives (λ r. (r.0, r.1)) result (watch_means scope.now at (watched_tree watch.entry)) }
@@ -115,7 +117,7 @@ fn watched(scope: &Scope, at: u32, watch: Option<Watch>) -> Placed<Observer>
 }
 
 /// The primitives of `init`, which may be left out; and the place after it.
-fn starts(
+fn init_primitives(
     alloc: Global,
     scope: &Scope,
     at: u32,
@@ -144,8 +146,8 @@ fn with_retire(functions: Items<Func>) -> Result<Items<Func>, ParseFault>
     Ok(Items::from_vec(all))
 }
 
-/// The outline, which may be left out.
-fn outlined(
+/// The outline, which is empty where the file has none.
+fn outline_or_empty(
     alloc: Global,
     scope: &Scope,
     ops: &[Op],
@@ -172,10 +174,14 @@ fn outlined(
 
 /// What stands before the operations.
 #[derive(Drop)]
-pub struct Front {
+struct Front {
+    /// The fields, the shared pointers and the functions.
     declared: Declared,
+    /// What is watched.
     observer: Observer,
+    /// The auxiliary fields.
     ghosts: Items<Ghost>,
+    /// The primitives of `init`.
     init: Items<Prim>,
 }
 
@@ -191,9 +197,9 @@ fn before_operations(alloc: Global, scope: &mut Scope, at: u32, form: &Heading) 
     ensures declares { IfOk result (λ _. AddsNames scope.old scope.new front_names) }
 {
     let (declared, after) = declarations(alloc, scope, at, form)?;
-    let (observer, after) = watched(scope, after, form.watched)?;
+    let (observer, after) = observer_or_plain(scope, after, form.watched)?;
     let (ghosts, after) = declare_all(alloc, scope, after, form.auxiliaries.as_slice())?;
-    match starts(alloc, scope, after, &form.starts) {
+    match init_primitives(alloc, scope, after, &form.starts) {
         Ok((init, after)) => {
             let front = Front {
                 declared,
@@ -209,7 +215,7 @@ fn before_operations(alloc: Global, scope: &mut Scope, at: u32, form: &Heading) 
 
 /// The operations, from a place on, and the outline.
 #[tactic(auto, unfolding(crate::specs::Parts::body_means))]
-fn body(
+fn operations_and_outline(
     alloc: Global,
     scope: &mut Scope,
     tokens: &[Token],
@@ -225,7 +231,7 @@ fn body(
         (body_means (lines_of tokens.now) scope.old at (file_tree form.now)) }
 {
     let (ops, after) = operations(alloc, scope, tokens, at, form.operations.as_slice())?;
-    let outline = outlined(alloc, scope, ops.as_slice(), after, &form.outline)?;
+    let outline = outline_or_empty(alloc, scope, ops.as_slice(), after, &form.outline)?;
     Ok((ops, outline))
 }
 
@@ -257,7 +263,7 @@ fn unit(scope: Scope, front: Front, ops: Items<Op>, outline: Outline) -> Result<
 }
 
 /// The parts of a file after its struct's name. The scope stays with the caller, which ends it.
-#[tactic(auto, unfolding(crate::specs::Parts::parts_mean, crate::specs::Parts::front_means, crate::specs::Parts::declared_mean))]
+#[tactic(auto, using(crate::proofs::Grouped::front_of_heading), unfolding(crate::specs::Parts::parts_mean))]
 fn parts(
     alloc: Global,
     scope: &mut Scope,
@@ -272,7 +278,7 @@ fn parts(
         (parts_mean (lines_of tokens.now) scope.old (file_tree form.now)) }
 {
     let (front, after) = before_operations(alloc, scope, 3, &form.heading)?;
-    match body(alloc, scope, tokens, after, form) {
+    match operations_and_outline(alloc, scope, tokens, after, form) {
         Ok((ops, outline)) => Ok((front, ops, outline)),
         Err(fault) => Err(fault),
     }

@@ -1,13 +1,13 @@
-//! From tokens to the unit that they spell, over `plc_tree`'s trees, on which the meaning is defined; the
-//! layer above uses that `parse` answers the one unit that the tokens spell, or their fault at the least
-//! token.
+//! From tokens to the unit that they spell: the meaning is defined on the grammar's trees of `plc_syntax`, and
+//! worked out on `plc_tree`'s, which are their form in memory; the layer above uses that `parse` answers the one
+//! unit that the tokens spell, or their fault at the least token.
 #![tactic(auto)]
 
 mod auxiliary;
+mod auxiliary_name;
 mod block;
 mod declaration;
 mod file;
-mod heading;
 mod lines;
 mod lists;
 mod local;

@@ -20,6 +20,7 @@ pub trait Listed: Sized {
 
     type Item: Drop;
 
+    /// What all declarations of the kind share: their limit, names, size and meaning.
     ghost kind: { Kind Self Self.Item };
 
     /// Declares what stands at a place, with so many before it; and the place after it.

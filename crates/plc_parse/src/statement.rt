@@ -1,11 +1,10 @@
 // Statements that hold no block of statements.
-ghost use Rattle.std.specs.Prelude.{◌≡◌, ◌+◌, ◌<◌, ◌≤◌, ◌^◌, ℕ, Bool, List, IfOk, length, map};
+ghost use Rattle.std.specs.Prelude.{◌+◌, ◌<◌, ◌^◌, ℕ, Bool, List, IfOk, map};
 ghost use Rattle.plc_lang.specs.Views.{statement_of};
 ghost use Rattle.plc_syntax.specs.Sizes.{call_size, during_size, primitive_size};
 ghost use Rattle.plc_syntax.specs.Views.{text_or_none, argument_tree, primitive_tree};
 ghost use Rattle.plc_scope.specs.declared.scope.Scope.{Scope};
 ghost use Rattle.plc_scope.specs.Answers.{Gives};
-ghost use Rattle.plc_scope.specs.Scope.{most_locals};
 ghost use Rattle.plc_syntax.specs.Trees.{PrimitiveStatement, AtomicStatement, CallStatement, BreakStatement};
 ghost use Rattle.plc_syntax.specs.Trees.{LabelStatement};
 ghost use Rattle.plc_parse.specs.Growth.{CanLabel, GrowsByLabels};

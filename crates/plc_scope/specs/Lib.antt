@@ -4,6 +4,5 @@ pub mod Primitives
 pub mod Answers
 pub mod Limits
 pub mod Views
--- what contracts say for the crates above alone
 -- words of private functions alone
 pub mod Reused
