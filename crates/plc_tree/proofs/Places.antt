@@ -1,6 +1,6 @@
 -- Of the answers one holds, at one place: what begins a tree's tokens begins them from any of its prefixes on, so that
 -- two faults can't be at two places. For any reader with the law that reads every tree again.
-use Rattle.std.proofs.Common.{◌≡◌, ◌⊎◌, ◌×◌, ◌∙◌, ◌+◌, ◌<◌, ◌≤◌, ℕ, [], ◌∷◌, ◌++◌, length, take, drop, Ok, Err, refl, sym}
+use Rattle.std.proofs.Common.{◌≡◌, ◌⊎◌, ◌∙◌, ◌+◌, ◌<◌, ◌≤◌, ℕ, [], ◌∷◌, ◌++◌, length, take, drop, Ok, Err, refl, sym}
 use Rattle.std.proofs.Common.{ap, subst, arith, inl, inr}
 use Rattle.std.proofs.lemmas.Bool.{cases_lt, cases_order}
 use Rattle.std.proofs.lemmas.List.{append_assoc, append-nil, take-append-drop, take-take}
@@ -102,7 +102,7 @@ read_or other (Err at) = other
 
 -- tokens begin with one tree at most: both trees are what is read
 one_front : {X : Type 0} (f : Reader X) (ts us : Tokens) (a b : X) (r q : Tokens) → ts ≡ us
-    → Gets (λ m. f m 0 ts) a r → Gets (λ m. f m 0 us) b q → (a, r) ≡ (b, q)
+    → Gets (λ m. f m 0 ts) a r → Gets (λ m. f m 0 us) b q → ◌≡◌ {A = X × Tokens} (a, r) (b, q)
 one_front f ts us a b r q e g h =
     let m = g.fuel + h.fuel in
     ap (read_or (a, r)) (sym (g.reads m (omega arith)) ∙ ap (f m 0) e ∙ h.reads m (omega arith))
@@ -111,7 +111,8 @@ pub file_is_one : (a b : FileTree) → file_tokens a ≡ file_tokens b → a ≡
 file_is_one a b e =
     ap (λ p. p.0) (one_front file_of (file_tokens a) (file_tokens b) a b [] [] e (file_gets a 0) (file_gets b 0))
 
-pub outline_is_one : (a b : OutlineTree) (r q : Tokens) → outline_then a r ≡ outline_then b q → (a, r) ≡ (b, q)
+pub outline_is_one : (a b : OutlineTree) (r q : Tokens) → outline_then a r ≡ outline_then b q
+    → ◌≡◌ {A = OutlineTree × Tokens} (a, r) (b, q)
 outline_is_one a b r q e =
     one_front outline_of (outline_then a r) (outline_then b q) a b r q e (outline_gets a 0 r) (outline_gets b 0 q)
 

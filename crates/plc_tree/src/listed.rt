@@ -1,4 +1,5 @@
 // What lists are made of: with which token an item begins, and its reader.
+ghost use Rattle.std.specs.Prelude.{◌≡◌};
 ghost use Rattle.plc_syntax.specs.Trees.{Text, PrimitiveTree, InitialTree, FieldTree, FunctionTree, LiteralTree};
 ghost use Rattle.plc_syntax.specs.Trees.{GhostTree, ItemTree, OpTree};
 ghost use Rattle.plc_syntax.specs.Views.{text_of, primitive_tree, initial_tree, field_tree, shared_name};
@@ -32,7 +33,9 @@ impl<'a> Listed<'a> for &'a [u8] {
 
     ghost of = { λ m at ts. comma_name_of at ts };
 
-    fn begins(kind: &TokenKind) -> bool {
+    fn begins(kind: &TokenKind) -> bool
+        ensures { result ≡ begins_comma_name kind.now }
+    {
         matches!(kind, TokenKind::Symbol(Symbol::Comma))
     }
 
@@ -50,7 +53,9 @@ impl<'a> Listed<'a> for Primitive<'a> {
 
     ghost of = { λ m at ts. primitive_line_of at ts };
 
-    fn begins(kind: &TokenKind) -> bool {
+    fn begins(kind: &TokenKind) -> bool
+        ensures { result ≡ begins_primitive kind.now }
+    {
         matches!(
             kind,
             TokenKind::Name(_)
@@ -74,7 +79,9 @@ impl<'a> Listed<'a> for Initial<'a> {
 
     ghost of = { λ m at ts. initial_of at ts };
 
-    fn begins(kind: &TokenKind) -> bool {
+    fn begins(kind: &TokenKind) -> bool
+        ensures { result ≡ begins_initial kind.now }
+    {
         matches!(kind, TokenKind::Name(_) | TokenKind::Word(Keyword::Ghost))
     }
 
@@ -92,7 +99,9 @@ impl<'a> Listed<'a> for Declaration<'a> {
 
     ghost of = { λ m at ts. field_of at ts };
 
-    fn begins(kind: &TokenKind) -> bool {
+    fn begins(kind: &TokenKind) -> bool
+        ensures { result ≡ begins_field kind.now }
+    {
         matches!(kind, TokenKind::Word(Keyword::Ptr | Keyword::Data))
     }
 
@@ -110,7 +119,9 @@ impl<'a> Listed<'a> for Shared<'a> {
 
     ghost of = { λ m at ts. shared_of at ts };
 
-    fn begins(kind: &TokenKind) -> bool {
+    fn begins(kind: &TokenKind) -> bool
+        ensures { result ≡ begins_shared kind.now }
+    {
         matches!(kind, TokenKind::Word(Keyword::Shared))
     }
 
@@ -128,7 +139,9 @@ impl<'a> Listed<'a> for Function<'a> {
 
     ghost of = { λ m at ts. function_of at ts };
 
-    fn begins(kind: &TokenKind) -> bool {
+    fn begins(kind: &TokenKind) -> bool
+        ensures { result ≡ begins_function kind.now }
+    {
         matches!(kind, TokenKind::Word(Keyword::Call))
     }
 
@@ -146,7 +159,9 @@ impl<'a> Listed<'a> for Literal<'a> {
 
     ghost of = { λ m at ts. or_literal_of at ts };
 
-    fn begins(kind: &TokenKind) -> bool {
+    fn begins(kind: &TokenKind) -> bool
+        ensures { result ≡ begins_or kind.now }
+    {
         matches!(kind, TokenKind::Word(Keyword::Or))
     }
 
@@ -164,7 +179,9 @@ impl<'a> Listed<'a> for Auxiliary<'a> {
 
     ghost of = { λ m at ts. ghost_of m at ts };
 
-    fn begins(kind: &TokenKind) -> bool {
+    fn begins(kind: &TokenKind) -> bool
+        ensures { result ≡ begins_ghost kind.now }
+    {
         matches!(kind, TokenKind::Word(Keyword::Ghost))
     }
 
@@ -182,7 +199,9 @@ impl<'a> Listed<'a> for Item<'a> {
 
     ghost of = { λ m at ts. item_of m at ts };
 
-    fn begins(kind: &TokenKind) -> bool {
+    fn begins(kind: &TokenKind) -> bool
+        ensures { result ≡ begins_item kind.now }
+    {
         matches!(
             kind,
             TokenKind::Word(Keyword::Inv | Keyword::Over | Keyword::At)
@@ -203,7 +222,9 @@ impl<'a> Listed<'a> for Operation<'a> {
 
     ghost of = { λ m at ts. op_of m at ts };
 
-    fn begins(kind: &TokenKind) -> bool {
+    fn begins(kind: &TokenKind) -> bool
+        ensures { result ≡ begins_op kind.now }
+    {
         matches!(kind, TokenKind::Word(Keyword::Op))
     }
 
