@@ -3,7 +3,6 @@ ghost use Rattle.std.specs.Prelude.{◌≡◌, ◌<◌, ◌^◌, length, IfOk, I
 ghost use Rattle.plc_lang.specs.Fit.{FileFits, NamesWhatIsThere};
 ghost use Rattle.plc_lang.specs.WellSorted.{FileIsWellSorted};
 ghost use Rattle.plc_logic.specs.Fit.{OutlineFits};
-ghost use Rattle.plc_tree.specs.FileViews.{file_tree};
 ghost use Rattle.plc_parse.specs.declared.unit.Unit.{Unit as FileUnit};
 ghost use Rattle.plc_parse.specs.Fit.{ObserverFits, UnitsFit};
 ghost use Rattle.plc_parse.specs.Units.{IsUnitOf, IsFaultOf, UnitsAreUnique, FaultsAreOne};
