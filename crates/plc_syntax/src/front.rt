@@ -1,5 +1,5 @@
-// Single tokens at the front, and a name after its comma. Each reader takes what it names, or answers the place of the token that
-// stands there in its stead.
+// Single tokens at the front, and a name after its comma. Each reader takes what it names, or answers the
+// place of the token that stands there in its stead.
 ghost use Rattle.std.specs.Prelude.{◌≡◌, ◌+◌, ◌∷◌, [], MatchOption, IfSome};
 ghost use Rattle.plc_syntax.specs.Syntax.{kinds};
 ghost use Rattle.plc_syntax.specs.Views.{text_of};
